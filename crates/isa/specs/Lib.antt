@@ -1,0 +1,4 @@
+pub mod Words
+pub mod Encodings
+pub mod Machine
+pub mod Calls
