@@ -1,2 +1,113 @@
-//! To be written.
+//! Logs of runs as definitions: what a log holds, its one text in bytes, and the first fault of bytes
+//! that are no log. The format is this project's own (docs/FORMATS.md).
+//!
+//! What there is to read stands in specs/.
 #![tactic(auto)]
+
+use std::marker::Model;
+
+/// Bytes, seen as their list.
+#[derive(Drop)]
+pub struct Data {
+    bytes: Vec<u8>,
+}
+
+impl Model for Data {
+    ghost use Rattle.std.specs.Prelude.{List, ℕ};
+
+    ghost Value = { List ℕ };
+
+    ghost view = { λ d. d.bytes.items };
+}
+
+ghost use Rattle.std.specs.Prelude.{◌≡◌, length};
+
+impl Data {
+    /// The bytes of a vector. It takes no memory.
+    pub fn from_vec(bytes: Vec<u8>) -> Data
+        ensures { result ≡ bytes.items }
+    {
+        Data { bytes }
+    }
+
+    /// The bytes.
+    pub fn as_slice(&self) -> &[u8]
+        ensures { result.now ≡ self.now }
+    {
+        self.bytes.as_slice()
+    }
+
+    /// How many bytes there are.
+    pub fn len(&self) -> usize
+        ensures { result ≡ length self.now }
+    {
+        self.bytes.len()
+    }
+
+    /// The vector of the bytes. It takes no memory.
+    pub fn into_vec(self) -> Vec<u8>
+        ensures { result.items ≡ self }
+    {
+        self.bytes
+    }
+}
+
+/// What a guest call got. `at` is the number of steps done before it, and so the call's own step number.
+#[derive(Drop)]
+pub enum CallRecord {
+    /// A read: its arguments channel, address and length, the result, and as many bytes as a positive
+    /// result says. A negative result is -9 or -14.
+    Read {
+        at: u32,
+        args: [u32; 3],
+        result: i32,
+        bytes: Data,
+    },
+    /// A write, alike: the bytes are those that the guest wrote.
+    Write {
+        at: u32,
+        args: [u32; 3],
+        result: i32,
+        bytes: Data,
+    },
+    /// The clock's answer.
+    Clock {
+        at: u32,
+        value: u64,
+    },
+    /// A call of another number.
+    Other {
+        at: u32,
+        number: u32,
+    },
+}
+
+/// How a run ended.
+#[derive(Clone, Copy, Debug, PartialEq, Eq)]
+pub enum RunEnd {
+    /// The exit call was step number `at`; it counts as a step.
+    Exit { at: u32, code: u32 },
+    /// After `at` steps the instruction at `pc` trapped, with the exception code `kind`.
+    Trap { at: u32, kind: u32, pc: u32 },
+    /// The run was cut off after `at` steps.
+    Limit { at: u32 },
+}
+
+/// The faults of bytes that are no log, by number: Magic is 1, Trailing is 7.
+#[derive(Clone, Copy, Debug, PartialEq, Eq)]
+pub enum LogKind {
+    /// The bytes don't begin with `JETLOG1` and a line feed.
+    Magic,
+    /// The header isn't whole, its pages aren't 1 to 4096, or its inputs are above 16.
+    Header,
+    /// The bytes end without an end record, or within a record.
+    Short,
+    /// A record's tag isn't 1 to 7.
+    Tag,
+    /// A record's step number isn't above that of the record before.
+    Order,
+    /// A read's or write's result, or a trap's kind, is none that there is.
+    Result,
+    /// There are bytes behind the end record.
+    Trailing,
+}
