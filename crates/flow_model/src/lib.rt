@@ -1,2 +1,65 @@
-//! To be written.
+//! Information flow as definitions: locations, source and sink bytes, the steps of a trace, which
+//! locations' content flows where in one step, and the origins of each location at each time.
+//!
+//! What there is to read stands in specs/. These definitions know no log and no program: a trace is a
+//! plain list of steps.
 #![tactic(auto)]
+
+pub mod laws;
+
+use isa::{CallKind, Instr};
+
+/// Where a byte of a run lies: lane 0 to 3 (the lowest byte is lane 0) of a register 1 to 31, or an
+/// address of memory. Registers come first, by number and lane, and then memory by place.
+#[derive(Clone, Copy, Debug, PartialEq, Eq, PartialOrd, Ord)]
+pub enum Loc {
+    Reg { number: u8, lane: u8 },
+    Mem { place: u32 },
+}
+
+/// The byte of this offset among all bytes that a run read on a channel, counted from 0. The order is
+/// by channel and then offset.
+#[derive(Clone, Copy, Debug, PartialEq, Eq, PartialOrd, Ord)]
+pub struct SourceByte {
+    pub channel: u8,
+    pub offset: u32,
+}
+
+/// The byte of this offset among all bytes that a run wrote on a channel, counted from 0. The order is
+/// by channel and then offset.
+#[derive(Clone, Copy, Debug, PartialEq, Eq, PartialOrd, Ord)]
+pub struct SinkByte {
+    pub channel: u8,
+    pub offset: u32,
+}
+
+/// Which flows count.
+#[derive(Clone, Copy, Debug, PartialEq, Eq)]
+pub enum Rule {
+    /// Moves alone.
+    Copy,
+    /// Moves, and whatever is computed from an operand.
+    Compute,
+}
+
+/// A step of a trace: its number, counted from 0, the instruction, the effective address of a load or a
+/// store (0 otherwise), and the guest call, where the step was one.
+#[derive(Clone, Copy, Debug, PartialEq, Eq)]
+pub struct StepSeen {
+    pub number: u64,
+    pub instr: Instr,
+    pub place: u32,
+    pub call: Option<CallSeen>,
+}
+
+/// A guest call of a trace. Of a read or a write, `channel` and `place` are the first two arguments,
+/// `length` is the number of bytes moved, and `offset` the channel's offset of the first of them; the
+/// last two are 0 where none is moved. All four are 0 for the other kinds.
+#[derive(Clone, Copy, Debug, PartialEq, Eq)]
+pub struct CallSeen {
+    pub kind: CallKind,
+    pub channel: u32,
+    pub place: u32,
+    pub offset: u32,
+    pub length: u32,
+}
