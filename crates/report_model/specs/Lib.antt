@@ -1,0 +1,4 @@
+pub mod Query
+pub mod Grammar
+pub mod Rows
+pub mod Text

@@ -1,2 +1,38 @@
-//! To be written.
+//! Queries and reports as definitions: the query language, the rows that a query asks for, and the
+//! text of a report.
+//!
+//! What there is to read stands in specs/. These definitions know no log and no program: rows are
+//! those of a plain list of steps.
 #![tactic(auto)]
+
+use thiserror::Error;
+
+/// The faults of a query's text. In a line the first that holds, in this order; NoRule comes after all
+/// lines.
+#[derive(Clone, Copy, Debug, PartialEq, Eq, Error)]
+pub enum QueryKind {
+    /// A byte other than tab and 0x20 to 0x7e, outside a comment.
+    #[error("a byte that no line may have")]
+    BadByte,
+    /// The first word is none of `rule`, `source` and `sink`; or a rule's name is no rule.
+    #[error("an unknown word")]
+    Word,
+    /// Too few or too many words.
+    #[error("too few or too many words")]
+    Count,
+    /// A word that stands for a number is none: 1 to 10 decimal digits, at most 4294967295.
+    #[error("a word that is no number")]
+    Number,
+    /// A channel above 15.
+    #[error("a channel above 15")]
+    Channel,
+    /// A range that ends before it begins.
+    #[error("a range that ends before it begins")]
+    Range,
+    /// A second `rule` line.
+    #[error("a second rule")]
+    SecondRule,
+    /// No `rule` line.
+    #[error("no rule")]
+    NoRule,
+}
