@@ -1,0 +1,4 @@
+pub mod Guests
+pub mod Reports
+pub mod Divergences
+pub mod Queries
