@@ -1,3 +1,4 @@
+pub mod Headline
 pub mod Guests
 pub mod Reports
 pub mod Divergences
