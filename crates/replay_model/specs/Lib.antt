@@ -1,0 +1,4 @@
+pub mod Run
+pub mod Comparison
+pub mod Fits
+pub mod Summary

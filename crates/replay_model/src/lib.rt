@@ -1,2 +1,41 @@
-//! To be written.
+//! Replays as definitions: the trace of a program under a log, where the two first differ, and which
+//! logs fit a program.
+//!
+//! What there is to read stands in specs/.
 #![tactic(auto)]
+
+/// What is compared at a step, in this order.
+#[derive(Clone, Copy, Debug, PartialEq, Eq)]
+pub enum Field {
+    /// What happens: 0 a plain step, 1 to 5 a read, a write, the clock, another call and the exit, 6 a
+    /// trap.
+    Event,
+    /// The first argument of a read or a write.
+    A0,
+    /// The second argument.
+    A1,
+    /// The third argument.
+    A2,
+    /// The result of a read or a write.
+    Result,
+    /// A byte of a write, counted from 0.
+    Byte(u32),
+    /// The number of another call.
+    Number,
+    /// The exit code.
+    Code,
+    /// The exception code of a trap.
+    Kind,
+    /// The pc of a trap.
+    Pc,
+}
+
+/// The first difference between a log and its program: the step, the field, what the log keeps and
+/// what the program shows. Fields that are numbers of 32 bits are as they are; only results go below 0.
+#[derive(Clone, Copy, Debug, PartialEq, Eq)]
+pub struct Divergence {
+    pub step: u32,
+    pub field: Field,
+    pub kept: i64,
+    pub seen: i64,
+}

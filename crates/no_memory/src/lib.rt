@@ -1,0 +1,22 @@
+//! Want of memory, as an answer.
+#![tactic(auto)]
+
+use std::alloc::{AllocError, AllocFailed};
+use thiserror::Error;
+
+/// A growth was refused: there is not enough memory.
+#[derive(Clone, Copy, Debug, PartialEq, Eq, Error)]
+#[error("out of memory")]
+pub struct NoMemory;
+
+impl From<AllocError> for NoMemory {
+    fn from(_: AllocError) -> NoMemory {
+        NoMemory
+    }
+}
+
+impl<T: Drop> From<AllocFailed<T>> for NoMemory {
+    fn from(_: AllocFailed<T>) -> NoMemory {
+        NoMemory
+    }
+}

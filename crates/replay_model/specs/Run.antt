@@ -1,0 +1,114 @@
+-- A run under a log: the machine's steps, each call answered from the log's next record.
+use Rattle.std.specs.Prelude.{ℕ, zero, suc, ◌+◌, ◌==◌, if◌then◌else◌, List, [], ◌∷◌, length, drop, replicate, Option, Some, None, slice_index, slice_set}
+use Rattle.isa.specs.declared.Instr.TheVariants.{Ecall, Ebreak}
+use Rattle.isa.specs.declared.Call.{Call}
+use Rattle.isa.specs.declared.CallKind.{CallKind}
+use Rattle.isa.specs.declared.CallKind.TheVariants as kind
+use Rattle.isa.specs.Machine.{State, Outcome, Retired, Called, Trapped, next, Fetch, Fetched, OutsideWindow, Illegal, fetch, place_of}
+use Rattle.isa.specs.Calls.{channel_of, buffer_of, after_read, after_write, after_clock, after_other, after_exit}
+use Rattle.log_model.specs.declared.CallRecord.{CallRecord}
+use Rattle.log_model.specs.declared.CallRecord.TheVariants.{Read, Write, Clock, Other}
+use Rattle.log_model.specs.Logs.{Log, steps}
+use Rattle.flow_model.specs.declared.StepSeen.{StepSeen}
+use Rattle.flow_model.specs.declared.CallSeen.{CallSeen}
+
+-- where a run stands: how many steps are done, the machine, the records that are left, and how many bytes were read
+-- and written on each of the 16 channels
+pub record Moment : Type 0 where
+  pub time : ℕ
+  pub state : State
+  pub left : List CallRecord
+  pub read : List ℕ
+  pub written : List ℕ
+
+abbrev pub start : State → Log → Moment
+start s log = record { time = 0; state = s; left = log.records; read = replicate 16 0; written = replicate 16 0 }
+
+-- a channel's count goes up by n
+abbrev pub counted : List ℕ → ℕ → ℕ → List ℕ
+counted counts channel n = slice_set counts channel (slice_index counts channel + n)
+
+-- the moment after a call that the record answers
+abbrev pub answered : Moment → CallRecord → Moment
+answered m (Read at args result bytes) = record m {
+  time = m.time + 1;
+  state = after_read m.state (buffer_of args) result bytes;
+  left = drop 1 m.left;
+  read = counted m.read (channel_of args) (length bytes);
+}
+answered m (Write at args result bytes) = record m {
+  time = m.time + 1;
+  state = after_write m.state result;
+  left = drop 1 m.left;
+  written = counted m.written (channel_of args) (length bytes);
+}
+answered m (Clock at value) = record m { time = m.time + 1; state = after_clock m.state value; left = drop 1 m.left }
+answered m (Other at number) = record m { time = m.time + 1; state = after_other m.state; left = drop 1 m.left }
+
+-- with no record left, the call is the exit
+abbrev pub after_call : Moment → List CallRecord → Moment
+after_call m [] = record m { time = m.time + 1; state = after_exit m.state }
+after_call m (r ∷ rs) = answered m r
+
+-- a trap leaves the moment as it is
+abbrev pub after_outcome : Moment → Outcome → Moment
+after_outcome m (Retired s) = record m { time = m.time + 1; state = s }
+after_outcome m (Called call) = after_call m m.left
+after_outcome m (Trapped kind) = m
+
+-- the moment one step later
+abbrev pub advance : Moment → Moment
+advance m = after_outcome m (next m.state)
+
+-- ---- the steps
+
+-- a read or a write that moved n bytes, of which the first has the offset that the channel's count says
+abbrev pub transfer : CallKind → List ℕ → List ℕ → ℕ → CallSeen
+transfer kind args counts n = record {
+  kind = kind;
+  channel = channel_of args;
+  place = buffer_of args;
+  offset = if n == 0 then 0 else slice_index counts (channel_of args);
+  length = n;
+}
+
+abbrev pub simple_call : CallKind → CallSeen
+simple_call kind = record { kind = kind; channel = 0; place = 0; offset = 0; length = 0 }
+
+abbrev pub call_seen : Moment → List CallRecord → CallSeen
+call_seen m [] = simple_call kind.Exit
+call_seen m (Read at args result bytes ∷ rs) = transfer kind.Read args m.read (length bytes)
+call_seen m (Write at args result bytes ∷ rs) = transfer kind.Write args m.written (length bytes)
+call_seen m (Clock at value ∷ rs) = simple_call kind.Clock
+call_seen m (Other at number ∷ rs) = simple_call kind.Other
+
+-- where the run stands still no step is done; what is written down here is never used
+abbrev pub no_step : ℕ → StepSeen
+no_step t = record { number = t; instr = Ebreak; place = 0; call = None }
+
+abbrev pub plain_step : ℕ → State → Fetch → StepSeen
+plain_step t s (Fetched i) = record { number = t; instr = i; place = place_of s i; call = None }
+plain_step t s OutsideWindow = no_step t
+plain_step t s Illegal = no_step t
+
+abbrev pub step_by : Moment → Outcome → StepSeen
+step_by m (Retired s) = plain_step m.time m.state (fetch m.state)
+step_by m (Called call) = record { number = m.time; instr = Ecall; place = 0; call = Some (call_seen m m.left) }
+step_by m (Trapped kind) = no_step m.time
+
+-- the step done at a moment
+abbrev pub step_of : Moment → StepSeen
+step_of m = step_by m (next m.state)
+
+-- the next n steps, and the moment behind them
+abbrev pub steps_from : ℕ → Moment → List StepSeen
+steps_from zero m = []
+steps_from (suc n) m = step_of m ∷ steps_from n (advance m)
+
+abbrev pub moment_after : ℕ → Moment → Moment
+moment_after zero m = m
+moment_after (suc n) m = moment_after n (advance m)
+
+-- the steps of a run that begins in this state
+abbrev pub trace : State → Log → List StepSeen
+trace s log = steps_from (steps log) (start s log)
