@@ -1,14 +1,17 @@
 //! The machine.
 
-ghost use Rattle.std.specs.Prelude.{◌≡◌, ℕ, ◌+◌, ◌^◌, ◌≤◌, Some, None, IfSome, IsSome, ◌↔◌, IsTrue, ◌⊎◌, length, true, false};
+ghost use Rattle.std.specs.Prelude.{◌≡◌, ℕ, ◌+◌, ◌^◌, ◌≤◌, Some, None, Err, IfOk, IfSome, IsSome, ◌↔◌, IsTrue, ◌⊎◌, length, true, false};
+ghost use Rattle.elf_model.specs.Window.{start_of};
 ghost use Rattle.isa.specs.Machine.{in_window, bytes_at};
 ghost use Rattle.isa.specs.Calls.{refusal};
 ghost use Rattle.rv_machine.specs.Hart.{running, IsStep, IsAnswer, answered};
 
 use crate::state::{Done, HartState, address_of};
-use crate::{Reply, Stepped};
+use crate::{MachineFault, Reply, Stepped};
+use elf_image::Image;
 use isa::Call;
 use rv_decode::decode;
+use std::alloc::Global;
 use std::marker::Model;
 
 /// The exception code of a fetch outside the window.
@@ -33,6 +36,27 @@ impl Model for Machine {
 }
 
 impl Machine {
+    /// A machine before the first step of an image: its window has this many pages of 4096 bytes, 1 to 4096,
+    /// from the image's base on, the pc is the entry, x2 is 16 below the window's end, and all other registers
+    /// and all bytes that no segment brings are 0.
+    ///
+    /// The fault is `Window` exactly where the window can't hold the image: it would end past 2^32, or a
+    /// segment ends past it. Else want of memory is `NoMemory`.
+    pub fn new(alloc: Global, image: &Image, pages: u32) -> Result<Machine, MachineFault>
+        requires some { 1 ≤ pages }
+        requires most { pages ≤ 4096 }
+        ensures starts { IfOk result (λ m. (start_of image.now pages ≡ Some m.state) × (m.waits ≡ false)) }
+        ensures window { (result ≡ Err MachineFault.Window) ↔ (start_of image.now pages ≡ None) }
+    {
+        match HartState::start(alloc, image, pages) {
+            Ok(state) => Ok(Machine {
+                state,
+                waits: false,
+            }),
+            Err(fault) => Err(fault),
+        }
+    }
+
     /// Makes one step, where no call waits. A trap changes nothing, and a call waits for [`Machine::answer`].
     pub fn step(&mut self) -> Stepped
         requires { self.old.waits ≡ false }

@@ -6,9 +6,23 @@
 
 mod hart;
 mod state;
+#[cfg(test)]
+mod tests;
 
 pub use hart::Machine;
-use isa::{Call, Instr};
+pub use isa::{Call, CallKind, Instr};
+use thiserror::Error;
+
+/// Why there is no machine for an image.
+#[derive(Debug, Drop, Error)]
+pub enum MachineFault {
+    /// The window can't hold the image: it would end past 2^32, or a segment ends past it.
+    #[error("the window can't hold the image")]
+    Window,
+    /// Want of memory.
+    #[error("out of memory")]
+    NoMemory,
+}
 
 /// What a step came to.
 #[derive(Clone, Copy, Debug, PartialEq, Eq)]

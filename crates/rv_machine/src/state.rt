@@ -10,6 +10,7 @@ use std::marker::Model;
 mod calls;
 mod effects;
 mod memory;
+mod start;
 
 /// The exception codes of a step that was fetched.
 const MISALIGNED_TARGET: u32 = 0;
