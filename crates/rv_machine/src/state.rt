@@ -1,7 +1,7 @@
 //! The state of a hart: pc, registers and the window of memory.
 
 ghost use Rattle.std.specs.Prelude.{◌≡◌, ℕ, ◌+◌, ◌^◌, ◌<◌, ◌≤◌, length};
-ghost use Rattle.isa.specs.Machine.{reg, moved_on, moved_on_with, address_of};
+ghost use Rattle.isa.specs.Machine.{reg, moved_on, moved_on_with, is_aligned, address_of};
 ghost use Rattle.rv_machine.specs.Effects.{IsSmall, Executes};
 
 use isa::Effect;
@@ -46,6 +46,13 @@ pub enum Done {
     Retired,
     Called,
     Trapped(u32),
+}
+
+/// Whether a jump can land there: instructions are four bytes long.
+fn is_aligned(target: u32) -> bool
+    ensures { result ≡ is_aligned target }
+{
+    target % 4 == 0
 }
 
 /// The effective address of a load or a store, and 0 for other effects.
@@ -108,7 +115,7 @@ impl HartState {
                 Done::Retired
             }
             Effect::Jump { rd, target } => {
-                if target % 4 != 0 {
+                if !is_aligned(target) {
                     return Done::Trapped(MISALIGNED_TARGET);
                 }
                 self.set(rd, self.pc.wrapping_add(4));
@@ -120,7 +127,7 @@ impl HartState {
                     self.advance();
                     return Done::Retired;
                 }
-                if target % 4 != 0 {
+                if !is_aligned(target) {
                     return Done::Trapped(MISALIGNED_TARGET);
                 }
                 self.pc = target;
