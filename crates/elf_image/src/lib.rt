@@ -3,6 +3,7 @@
 #![tactic(auto)]
 
 mod fields;
+mod file;
 mod program_header;
 mod loaded;
 

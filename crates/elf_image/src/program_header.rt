@@ -1,6 +1,6 @@
 //! One entry of the program header table (gABI, "Program Header").
 
-ghost use Rattle.std.specs.Prelude.{◌≡◌, ◌+◌, ◌*◌, ◌≤◌, length};
+ghost use Rattle.std.specs.Prelude.{◌≡◌, ◌+◌, ◌*◌, ◌<◌, ◌≤◌, length};
 ghost use Rattle.std.specs.Iterator.{YieldsFirst, item_count};
 ghost use Rattle.elf_model.specs.Image.{is_dynamic, is_loaded, is_segment_wrong, holds_address, e_phoff, e_phnum, program_header, program_headers};
 
@@ -94,7 +94,7 @@ pub struct ProgramHeaders<'a> {
 }
 
 impl<'a> Model for ProgramHeaders<'a> {
-    ghost use Rattle.std.specs.Prelude.{◌≡◌, ◌+◌, ◌-◌, ◌*◌, ◌≤◌, List, length, map};
+    ghost use Rattle.std.specs.Prelude.{◌≡◌, ◌+◌, ◌-◌, ◌*◌, ◌<◌, ◌≤◌, List, length, map};
     ghost use Rattle.std.specs.List.{range_with_len};
     ghost use Rattle.elf_model.specs.Image.{ProgramHeader as Header, program_header, e_phoff};
 
@@ -102,7 +102,7 @@ impl<'a> Model for ProgramHeaders<'a> {
 
     ghost view = { λ p. map (program_header p.file.now) (range_with_len p.next (p.count - p.next)) };
 
-    ghost invariant = { λ p. (p.table ≡ e_phoff p.file.now) × (p.table + 32 * p.count ≤ length p.file.now) × (p.next ≤ p.count) };
+    ghost invariant = { λ p. (p.table ≡ e_phoff p.file.now) × (0 < p.count → p.table + 32 * p.count ≤ length p.file.now) × (p.next ≤ p.count) };
 }
 
 impl<'a> ProgramHeaders<'a> {
@@ -110,7 +110,7 @@ impl<'a> ProgramHeaders<'a> {
     pub fn new(file: &'a [u8], table: usize, count: u16) -> Self
         requires place { table ≡ e_phoff file.now }
         requires count { count ≡ e_phnum file.now }
-        requires inside { table + 32 * count ≤ length file.now }
+        requires inside { 0 < count → table + 32 * count ≤ length file.now }
         ensures { result ≡ program_headers file.entry.now }
     {
         ProgramHeaders { file, table, next: 0, count }

@@ -1,0 +1,103 @@
+//! A file that is looked at as an ELF file (gABI, "ELF Header").
+
+ghost use Rattle.std.specs.Prelude.{◌≡◌, ◌≤◌, length, IfOk, IfErr, Some, None};
+ghost use Rattle.elf_model.specs.Image.{first_true, is_table_wrong, program_headers};
+ghost use Rattle.elf_image.specs.Faults.{header_faults, is_header_wrong};
+
+use crate::fields::{half_at, word_at};
+use crate::program_header::ProgramHeaders;
+use elf_model::ImageFault;
+use std::marker::Model;
+
+/// The size of an ELF header.
+const HEADER_SIZE: u16 = 52;
+/// The size of an entry of the program header table.
+const ENTRY_SIZE: u16 = 32;
+const MAGIC: [u8; 4] = [0x7f, b'E', b'L', b'F'];
+/// ELFCLASS32, ELFDATA2LSB and EV_CURRENT.
+const CLASS: [u8; 3] = [1, 1, 1];
+const ET_EXEC: u16 = 2;
+const EM_RISCV: u16 = 243;
+const EV_CURRENT: u32 = 1;
+
+/// A file with a sound ELF header, whose program header table lies in the file.
+#[derive(Drop)]
+pub struct ElfFile<'a> {
+    bytes: &'a [u8],
+    entry: u32,
+    table: usize,
+    count: u16,
+}
+
+impl<'a> Model for ElfFile<'a> {
+    ghost use Rattle.std.specs.Prelude.{◌≡◌, ℕ, ◌+◌, ◌*◌, ◌<◌, ◌≤◌, List, length};
+    ghost use Rattle.elf_model.specs.Image.{e_entry, e_phoff, e_phnum};
+
+    ghost Value = { List ℕ };
+
+    ghost view = { λ f. f.bytes.now };
+
+    ghost invariant = { λ f. (f.entry ≡ e_entry f.bytes.now) × (f.table ≡ e_phoff f.bytes.now) × (f.count ≡ e_phnum f.bytes.now) × (0 < f.count → f.table + 32 * f.count ≤ length f.bytes.now) };
+}
+
+/// Whether the entries aren't of 32 bytes or don't all lie in the file; never where there are none.
+fn is_table_wrong(bytes: &[u8]) -> bool
+    requires { 52 ≤ length bytes.now }
+    ensures { result ≡ is_table_wrong bytes.now }
+{
+    let count = half_at(bytes, 44);
+    if count == 0 {
+        return false;
+    }
+    let size = usize::from(ENTRY_SIZE) * usize::from(count);
+    half_at(bytes, 42) != ENTRY_SIZE || bytes.len() < word_at(bytes, 28) as usize + size
+}
+
+/// Whether the version, a size or the table is wrong.
+fn is_header_wrong(bytes: &[u8]) -> bool
+    requires { 52 ≤ length bytes.now }
+    ensures { result ≡ is_header_wrong bytes.now }
+{
+    word_at(bytes, 20) != EV_CURRENT
+        || half_at(bytes, 40) != HEADER_SIZE
+        || is_table_wrong(bytes)
+}
+
+impl<'a> ElfFile<'a> {
+    /// The file behind these bytes, or the first fault of its ELF header.
+    pub fn open(bytes: &'a [u8]) -> Result<Self, ImageFault>
+        ensures ok { IfOk result (λ f. (f ≡ bytes.entry.now) × (first_true (header_faults bytes.entry.now) ≡ None)) }
+        ensures err { IfErr result (λ e. first_true (header_faults bytes.entry.now) ≡ Some e) }
+    {
+        if bytes.len() < usize::from(HEADER_SIZE) {
+            return Err(ImageFault::Short);
+        }
+        if &bytes[..4] != MAGIC.as_slice() {
+            return Err(ImageFault::Magic);
+        }
+        if &bytes[4..7] != CLASS.as_slice() {
+            return Err(ImageFault::Class);
+        }
+        if half_at(bytes, 16) != ET_EXEC {
+            return Err(ImageFault::Kind);
+        }
+        if half_at(bytes, 18) != EM_RISCV {
+            return Err(ImageFault::Machine);
+        }
+        if is_header_wrong(bytes) {
+            return Err(ImageFault::Header);
+        }
+        Ok(ElfFile {
+            bytes,
+            entry: word_at(bytes, 24),
+            table: word_at(bytes, 28) as usize,
+            count: half_at(bytes, 44),
+        })
+    }
+
+    pub fn program_headers(&self) -> ProgramHeaders<'a>
+        ensures { result ≡ program_headers self.now }
+    {
+        ProgramHeaders::new(self.bytes, self.table, self.count)
+    }
+}
