@@ -1,8 +1,9 @@
 //! A file that is looked at as an ELF file (gABI, "ELF Header").
 
-ghost use Rattle.std.specs.Prelude.{◌≡◌, ◌≤◌, length, IfOk, IfErr, Some, None};
-ghost use Rattle.elf_model.specs.Image.{first_true, is_table_wrong, program_headers};
-ghost use Rattle.elf_image.specs.Faults.{header_faults, is_header_wrong};
+ghost use Rattle.std.specs.Prelude.{◌≡◌, ◌≤◌, ◌==◌, length, IfOk, IfErr, OnOk, Some, None};
+ghost use Rattle.std.specs.List.{list_any};
+ghost use Rattle.elf_model.specs.Image.{e_entry, first_true, holds_address, is_any_segment_wrong, is_dynamic, is_table_wrong, loaded_headers, program_headers};
+ghost use Rattle.elf_image.specs.Faults.{header_faults, is_header_wrong, table_faults};
 
 use crate::fields::{half_at, word_at};
 use crate::program_header::ProgramHeaders;
@@ -99,5 +100,61 @@ impl<'a> ElfFile<'a> {
         ensures { result ≡ program_headers self.now }
     {
         ProgramHeaders::new(self.bytes, self.table, self.count)
+    }
+
+    /// The first fault of the program header table.
+    pub fn check_table(&self) -> Result<(), ImageFault>
+        ensures ok { OnOk result (first_true (table_faults self.now) ≡ None) }
+        ensures err { IfErr result (λ e. first_true (table_faults self.now) ≡ Some e) }
+    {
+        if self.is_dynamic() {
+            return Err(ImageFault::Dynamic);
+        }
+        if self.has_wrong_segment() {
+            return Err(ImageFault::Segment);
+        }
+        if self.has_no_segment() {
+            return Err(ImageFault::NoSegment);
+        }
+        if self.entry % 4 != 0 || !self.holds_entry() {
+            return Err(ImageFault::Entry);
+        }
+        Ok(())
+    }
+
+    fn is_dynamic(&self) -> bool
+        ensures { result ≡ list_any is_dynamic (program_headers self.now) }
+    {
+        self.program_headers().any(|header| header.is_dynamic())
+    }
+
+    fn has_wrong_segment(&self) -> bool
+        ensures { result ≡ is_any_segment_wrong (length self.now) 0 (loaded_headers self.now) }
+    {
+        let mut end_before = 0;
+        for header in self.program_headers() {
+            if header.is_loaded() {
+                if header.is_wrong(self.bytes.len(), end_before) {
+                    return true;
+                }
+                end_before = header.end();
+            }
+        }
+        false
+    }
+
+    fn has_no_segment(&self) -> bool
+        ensures { result ≡ (length (loaded_headers self.now) == 0) }
+    {
+        !self.program_headers().any(|header| header.is_loaded())
+    }
+
+    /// Whether the entry point lies in a loaded segment.
+    fn holds_entry(&self) -> bool
+        ensures { result ≡ list_any (holds_address (e_entry self.now)) (loaded_headers self.now) }
+    {
+        self.program_headers()
+            .filter(|header| header.is_loaded())
+            .any(|header| header.holds_address(self.entry))
     }
 }
