@@ -1,5 +1,6 @@
 -- A table of entries, read from the front.
-use Rattle.std.proofs.Common.{◌≡◌, ℕ, suc, ◌+◌, ◌-◌, ◌<◌, Bool, true, false, not, ◌||◌, if◌then◌else◌, List, [], ◌∷◌, length, refl, ap, sym, ◌∙◌, map, arith}
+use Rattle.std.proofs.Common.{◌≡◌, ℕ, suc, ◌+◌, ◌-◌, ◌<◌, Bool, true, false, not, ◌||◌, cond, List, [], ◌∷◌, length, refl, ap, sym, ◌∙◌, map, arith}
+use Rattle.std.proofs.lemmas.Bool.Decides.{nat_tests}
 use Rattle.std.specs.Prelude.{◌==◌}
 use Rattle.std.specs.List.{filter, list_any, range_with_len}
 
@@ -12,4 +13,10 @@ map_range_next f a b x below is =
 -- no element passes where the list of those that pass is empty
 pub length-filter-is_zero : {X : Type 0} (p : X → Bool) (xs : List X) → not (list_any p xs) ≡ (length (filter p xs) == 0)
 length-filter-is_zero p [] = refl
-length-filter-is_zero p (x ∷ xs) = elim (p x) as (λ b. not (b || list_any p xs) ≡ (length (if b then x ∷ filter p xs else filter p xs) == 0)) [ true ↦ refl | false ↦ length-filter-is_zero p xs ]
+length-filter-is_zero p (x ∷ xs) = by_head (p x) (length-filter-is_zero p xs) where
+  is_none : (n : ℕ) → false ≡ (suc n == 0)
+  is_none n = grind (arith, nat_tests)
+
+  by_head : (b : Bool) → not (list_any p xs) ≡ (length (filter p xs) == 0) → not (b || list_any p xs) ≡ (length (cond b (x ∷ filter p xs) (filter p xs)) == 0)
+  by_head true rest = is_none (length (filter p xs))
+  by_head false rest = rest
