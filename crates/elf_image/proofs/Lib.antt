@@ -1,2 +1,4 @@
 pub mod FirstTrue
+pub mod Segments
 pub mod Tables
+pub mod Whole

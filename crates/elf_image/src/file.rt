@@ -1,13 +1,16 @@
 //! A file that is looked at as an ELF file (gABI, "ELF Header").
 
-ghost use Rattle.std.specs.Prelude.{◌≡◌, ◌≤◌, ◌==◌, length, IfOk, IfErr, OnOk, Some, None};
+ghost use Rattle.std.specs.Prelude.{◌≡◌, ◌≤◌, ◌==◌, length, map, take, drop, false, IfOk, IfErr, OnOk, Some, None};
 ghost use Rattle.std.specs.List.{list_any};
-ghost use Rattle.elf_model.specs.Image.{e_entry, first_true, holds_address, is_any_segment_wrong, is_dynamic, is_table_wrong, loaded_headers, program_headers};
+ghost use Rattle.elf_model.specs.Image.{e_entry, first_true, holds_address, is_any_segment_wrong, is_dynamic, is_table_wrong, loaded_headers, program_headers, segment};
+ghost use Rattle.elf_image.specs.Layout.{IsInFile};
 ghost use Rattle.elf_image.specs.Faults.{header_faults, is_header_wrong, table_faults};
 
 use crate::fields::{half_at, word_at};
-use crate::program_header::ProgramHeaders;
+use crate::loaded::Segment;
+use crate::program_header::{ProgramHeader, ProgramHeaders};
 use elf_model::ImageFault;
+use std::alloc::{AllocError, Global};
 use std::marker::Model;
 
 /// The size of an ELF header.
@@ -100,6 +103,46 @@ impl<'a> ElfFile<'a> {
         ensures { result ≡ program_headers self.now }
     {
         ProgramHeaders::new(self.bytes, self.table, self.count)
+    }
+
+    pub fn entry(&self) -> u32
+        ensures { result ≡ e_entry self.now }
+    {
+        self.entry
+    }
+
+    /// The loaded segments, each with its own copy of its bytes.
+    pub fn segments(&self, alloc: Global) -> Result<Vec<Segment>, AllocError>
+        requires { is_any_segment_wrong (length self.now) 0 (loaded_headers self.now) ≡ false }
+        ensures { IfOk result (λ v. v.items ≡ map (segment self.now) (loaded_headers self.now)) }
+    {
+        let mut segments = Vec::new(alloc);
+        for header in self.program_headers() {
+            if header.is_loaded() {
+                segments.push(self.segment(alloc, &header)?)?;
+            }
+        }
+        Ok(segments)
+    }
+
+    fn segment(&self, alloc: Global, header: &ProgramHeader) -> Result<Segment, AllocError>
+        requires { IsInFile (length self.now) header.now }
+        ensures { IfOk result (λ s. s ≡ segment self.now header.now) }
+    {
+        let bytes = Vec::from_slice(alloc, self.file_bytes(header))?;
+        Ok(Segment::new(header.p_vaddr, bytes, header.p_memsz))
+    }
+
+    /// The bytes of the file for an entry. Where it has none, `p_offset` isn't looked at.
+    fn file_bytes(&self, header: &ProgramHeader) -> &'a [u8]
+        requires { IsInFile (length self.now) header.now }
+        ensures { result.now ≡ take header.now.p_filesz (drop header.now.p_offset self.now) }
+    {
+        if header.p_filesz == 0 {
+            return &[];
+        }
+        let start = header.p_offset as usize;
+        &self.bytes[start..start + header.p_filesz as usize]
     }
 
     /// The first fault of the program header table.

@@ -6,6 +6,8 @@ mod fields;
 mod file;
 mod program_header;
 mod loaded;
+mod loader;
 
 pub use elf_model::ImageFault;
 pub use loaded::{Image, Segment};
+pub use loader::load;

@@ -1,9 +1,12 @@
 //! The image of a program file: its segments, as they are loaded.
 
 ghost use Rattle.std.specs.Prelude.{◌≡◌};
-ghost use Rattle.elf_image.specs.Layout.{IsLaidOut};
+ghost use Rattle.elf_image.specs.Layout.{IsLaidOut, based};
+ghost use Rattle.elf_model.specs.Image.{lowest};
 
 use std::marker::Model;
+
+const PAGE_SIZE: u32 = 4096;
 
 /// A loaded segment: bytes of the file, and zeros after them up to its size (gABI, "Program
 /// Loading").
@@ -23,6 +26,12 @@ impl Model for Segment {
 }
 
 impl Segment {
+    pub(crate) fn new(place: u32, bytes: Vec<u8>, size: u32) -> Self
+        ensures { result ≡ record { place = place; bytes = bytes.items; size = size } }
+    {
+        Segment { place, bytes, size }
+    }
+
     /// The address of the first byte, `p_vaddr`.
     pub fn place(&self) -> u32
         ensures { result ≡ self.now.place }
@@ -65,7 +74,29 @@ impl Model for Image {
     ghost invariant = { λ i. IsLaidOut record { base = i.base; entry = i.entry; segments = i.segments.items } };
 }
 
+/// The address of the first segment, which is the lowest.
+fn lowest(segments: &[Segment]) -> u32
+    ensures { result ≡ lowest segments.now }
+{
+    match segments {
+        [] => 0,
+        [first, ..] => first.place,
+    }
+}
+
 impl Image {
+    pub(crate) fn new(entry: u32, segments: Vec<Segment>) -> Self
+        requires { IsLaidOut (based entry segments.items) }
+        ensures { result ≡ based entry segments.items }
+    {
+        let base = lowest(&segments) / PAGE_SIZE * PAGE_SIZE;
+        Image {
+            base,
+            entry,
+            segments,
+        }
+    }
+
     /// The lowest address of a segment, rounded down to a multiple of 4096.
     pub fn base(&self) -> u32
         ensures { result ≡ self.now.base }
