@@ -1,4 +1,3 @@
-pub mod FirstTrue
+pub mod FaultLemmas
 pub mod Segments
 pub mod Tables
-pub mod Whole

@@ -4,9 +4,9 @@
 
 mod fields;
 mod file;
-mod program_header;
 mod loaded;
 mod loader;
+mod program_header;
 
 pub use elf_model::ImageFault;
 pub use loaded::{Image, Segment};

@@ -1,6 +1,6 @@
 //! From the bytes of a file to its image.
 
-ghost use Rattle.std.specs.Prelude.{◌≡◌, ◌^◌, ◌≤◌, ◌⊎◌, length, IfOk, IfErr, Ok, Err};
+ghost use Rattle.std.specs.Prelude.{◌≡◌, ◌⊎◌, IfOk, IfErr, Ok, Err};
 ghost use Rattle.elf_model.specs.Image.{image};
 
 use crate::file::ElfFile;
@@ -8,13 +8,12 @@ use crate::loaded::Image;
 use elf_model::ImageFault;
 use std::alloc::Global;
 
-/// The image of a program file of at most 2^26 bytes (System V gABI, "Program Loading").
+/// The image of a program file (System V gABI, "Program Loading").
 ///
 /// A file has an image exactly where none of the ten faults of `ImageFault` holds. The first one
 /// that does, in the order of their declaration, is the error; `NoMemory` comes only where the
 /// bytes of the segments can't be kept.
 pub fn load(alloc: Global, bytes: &[u8]) -> Result<Image, ImageFault>
-    requires { length bytes.now ≤ 2 ^ 26 }
     ensures found { IfOk result (λ im. image bytes.now ≡ Ok im) }
     ensures fault { IfErr result (λ e. (e ≡ ImageFault.NoMemory) ⊎ (image bytes.now ≡ Err e)) }
 {

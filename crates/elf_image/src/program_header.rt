@@ -8,7 +8,9 @@ use crate::fields::word_at;
 use std::marker::Model;
 
 const PT_LOAD: u32 = 1;
+
 const PT_DYNAMIC: u32 = 2;
+
 const PT_INTERP: u32 = 3;
 
 /// The fields that loading looks at, under their names in the gABI.
@@ -113,7 +115,12 @@ impl<'a> ProgramHeaders<'a> {
         requires inside { 0 < count → table + 32 * count ≤ length file.now }
         ensures { result ≡ program_headers file.entry.now }
     {
-        ProgramHeaders { file, table, next: 0, count }
+        ProgramHeaders {
+            file,
+            table,
+            next: 0,
+            count,
+        }
     }
 }
 

@@ -2,7 +2,7 @@ use Rattle.std.proofs.Common.{◌≡◌, ap, inr, length, sym, Some, ◌∙◌}
 use Rattle.std.proofs.lemmas.Result.{err_from_is_err_and}
 use Rattle.elf_model.specs.Image.{first_true}
 use Rattle.elf_image.specs.Faults.{table_faults}
-use Rattle.elf_image.proofs.Whole.{header_fault, table_fault, no_segment_wrong}
+use Rattle.elf_image.proofs.FaultLemmas.{header_fault, table_fault, no_segment_wrong}
 use Rattle.elf_image.proofs.Segments.{laid_out}
 use Rattle.elf_image.proofs.loader.load.Goals as goal
 

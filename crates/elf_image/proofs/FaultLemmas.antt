@@ -1,8 +1,10 @@
--- A file's image or fault, from the faults of its header and of its table.
-use Rattle.std.proofs.Common.{◌≡◌, ℕ, zero, suc, Bool, true, false, cond, if◌then◌else◌, List, [], ◌∷◌, length, take, drop, Option, Some, None, Result, Ok, Err, refl, ap, sym, ◌∙◌}
+-- The first fault of a file, from those of its header and of its table.
+use Rattle.std.proofs.Common.{◌≡◌, ℕ, zero, suc, Bool, true, false, not, nat_eq, nat_lt, if◌then◌else◌, List, [], ◌∷◌, length, take, drop, Option, Some, None, Result, Ok, Err, refl, ap, sym, ◌∙◌}
+use Rattle.std.specs.Str.{bytes_eq}
 use Rattle.elf_model.specs.declared.ImageFault.{ImageFault}
-use Rattle.elf_model.specs.Image.{Image, first_true, faults, image, image_of, unless_faulty, is_any_segment_wrong, loaded_headers}
-use Rattle.elf_image.specs.Faults.{header_faults, table_faults}
+use Rattle.elf_model.specs.declared.ImageFault.TheVariants.{Header}
+use Rattle.elf_model.specs.Image.{e_type, e_machine, first_true, faults, image, image_of, unless_faulty, is_any_segment_wrong, loaded_headers}
+use Rattle.elf_image.specs.Faults.{header_faults, is_header_wrong, table_faults}
 
 module _ {X : Type 0} where
   -- where the first tests are all false, the rest decides
@@ -26,6 +28,10 @@ module _ {X : Type 0} where
   second_false true b x y rest e = cc
   second_false false true x y rest e = cc
   second_false false false x y rest e = refl
+
+-- where the tests before it are false, the last test of the header decides
+pub last_of_header : (file : List ℕ) (b : Bool) → nat_lt (length file) 52 ≡ false → not (bytes_eq (take 4 file) (0x7f ∷ 0x45 ∷ 0x4c ∷ 0x46 ∷ [])) ≡ false → not (bytes_eq (take 3 (drop 4 file)) (1 ∷ 1 ∷ 1 ∷ [])) ≡ false → not (nat_eq (e_type file) 2) ≡ false → not (nat_eq (e_machine file) 243) ≡ false → is_header_wrong file ≡ b → first_true (header_faults file) ≡ (if b then Some Header else None)
+last_of_header file b long magic class kind machine header = rw (long, magic, class, kind, machine, header) refl
 
 pub header_fault : (file : List ℕ) (e : ImageFault) → first_true (header_faults file) ≡ Some e → image file ≡ Err e
 header_fault file e h = ap (unless_faulty file) (first_true-some 6 (faults file) e h)
