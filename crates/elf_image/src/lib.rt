@@ -11,3 +11,6 @@ mod program_header;
 pub use elf_model::ImageFault;
 pub use loaded::{Image, Segment};
 pub use loader::load;
+
+#[cfg(test)]
+mod tests;

@@ -1,0 +1,163 @@
+//! Files that are loaded or refused, with what the gABI says of each.
+
+use crate::{ImageFault, load};
+use std::alloc::{AllocError, Global};
+use std::test::Fail;
+
+/// A file of one segment at 0x10000, which copies four bytes from channel 0 to channel 1: 13 words
+/// of ELF header, 8 of program header, 12 of instructions.
+const COPY_FOUR: [u32; 33] = [
+    0x464c457f, 0x00010101, 0, 0, 0x00f30002, 1, 0x10000, 52, 0, 0, 0x00200034, 1, 0, // ELF header
+    1, 84, 0x10000, 0x10000, 48, 48, 7, 4, // program header
+    0x000105b7, 0x10058593, 0x00000513, 0x00400613, 0x03f00893, 0x00000073, 0x00100513, 0x04000893,
+    0x00000073, 0x00000513, 0x05d00893, 0x00000073,
+];
+
+// The places of fields, in words.
+const TYPE_AND_MACHINE: usize = 4;
+
+const VERSION: usize = 5;
+
+const ENTRY: usize = 6;
+
+const PHOFF: usize = 7;
+
+const SIZES: usize = 10;
+
+const PHNUM: usize = 11;
+
+const P_TYPE: usize = 13;
+
+const P_OFFSET: usize = 14;
+
+const P_VADDR: usize = 15;
+
+const P_FILESZ: usize = 17;
+
+const P_MEMSZ: usize = 18;
+
+fn file_of(alloc: Global, words: &[u32]) -> Result<Vec<u8>, AllocError> {
+    let mut file = Vec::new(alloc);
+    for word in words {
+        file.extend_from_slice(&word.to_le_bytes())?;
+    }
+    Ok(file)
+}
+
+/// The fault of a file, if it has one.
+fn fault(alloc: Global, file: &[u8]) -> Option<ImageFault> {
+    load(alloc, file).err()
+}
+
+#[test]
+fn copy_four_is_loaded(rt: HostRuntime) -> Result<(), Fail> {
+    let file = file_of(rt.alloc(), &COPY_FOUR)?;
+    let image = load(rt.alloc(), &file)?;
+    assert_eq!(rt; image.base(), 0x10000);
+    assert_eq!(rt; image.entry(), 0x10000);
+    assert_eq!(rt; image.segments().len(), 1);
+    let segment = &image.segments()[0];
+    assert_eq!(rt; segment.place(), 0x10000);
+    assert_eq!(rt; segment.size(), 48);
+    assert_eq!(rt; file.len(), 132);
+    assert_eq!(rt; segment.bytes(), &file[84..]);
+    Ok(())
+}
+
+#[test]
+fn the_base_begins_a_page(rt: HostRuntime) -> Result<(), Fail> {
+    let mut words = COPY_FOUR;
+    words[P_VADDR] = 0x20ff0;
+    words[ENTRY] = 0x20ff4;
+    let image = load(rt.alloc(), &file_of(rt.alloc(), &words)?)?;
+    assert_eq!(rt; image.base(), 0x20000);
+    assert_eq!(rt; image.entry(), 0x20ff4);
+    Ok(())
+}
+
+#[test]
+fn each_prefix_has_its_fault(rt: HostRuntime) -> Result<(), Fail> {
+    let file = file_of(rt.alloc(), &COPY_FOUR)?;
+    assert_eq!(rt; file.len(), 132);
+    for length in 0..133 {
+        let want = match length {
+            0..52 => Some(ImageFault::Short),
+            52..84 => Some(ImageFault::Header),
+            84..132 => Some(ImageFault::Segment),
+            _ => None,
+        };
+        assert_eq!(rt; fault(rt.alloc(), &file[..length]), want, "at {length}");
+    }
+    Ok(())
+}
+
+#[test]
+fn each_changed_word_has_its_fault(rt: HostRuntime) -> Result<(), Fail> {
+    let cases = [
+        (0, 0x464c4500, Some(ImageFault::Magic)),
+        (1, 0x00010102, Some(ImageFault::Class)),
+        (1, 0x00010201, Some(ImageFault::Class)),
+        (1, 0x00020101, Some(ImageFault::Class)),
+        (TYPE_AND_MACHINE, 0x00f30003, Some(ImageFault::Kind)),
+        (TYPE_AND_MACHINE, 0x003e0002, Some(ImageFault::Machine)),
+        (VERSION, 2, Some(ImageFault::Header)),
+        (SIZES, 0x00200035, Some(ImageFault::Header)),
+        (SIZES, 0x00280034, Some(ImageFault::Header)),
+        (PHOFF, 0xffffffff, Some(ImageFault::Header)),
+        (PHNUM, 0xffff, Some(ImageFault::Header)),
+        (PHNUM, 0, Some(ImageFault::NoSegment)),
+        (P_TYPE, 2, Some(ImageFault::Dynamic)),
+        (P_TYPE, 3, Some(ImageFault::Dynamic)),
+        (P_TYPE, 4, Some(ImageFault::NoSegment)),
+        (P_OFFSET, 0xffffffff, Some(ImageFault::Segment)),
+        (P_VADDR, 0xfffffff0, Some(ImageFault::Segment)),
+        (P_FILESZ, 49, Some(ImageFault::Segment)),
+        (P_MEMSZ, 47, Some(ImageFault::Segment)),
+        (P_MEMSZ, 8192, None),
+        (ENTRY, 0x10002, Some(ImageFault::Entry)),
+        (ENTRY, 0x10030, Some(ImageFault::Entry)),
+    ];
+    for (at, word, want) in cases {
+        let mut words = COPY_FOUR;
+        assert!(rt; at < 33);
+        words[at] = word;
+        let file = file_of(rt.alloc(), &words)?;
+        assert_eq!(rt; fault(rt.alloc(), &file), want, "at {at} {word}");
+    }
+    Ok(())
+}
+
+#[test]
+fn a_second_entry_is_looked_at_as_the_first(rt: HostRuntime) -> Result<(), Fail> {
+    // the first entry's p_memsz, which has to be 48 at least, and the second entry
+    let cases = [
+        (48, [0x70000003, 0, 0, 0, 0, 0, 0, 0], None),
+        (48, [2, 0, 0, 0, 0, 0, 0, 0], Some(ImageFault::Dynamic)),
+        (47, [2, 0, 0, 0, 0, 0, 0, 0], Some(ImageFault::Dynamic)),
+        (47, [0, 0, 0, 0, 0, 0, 0, 0], Some(ImageFault::Segment)),
+        (48, [1, 0, 0, 0, 0, 0, 0, 0], None),
+        (48, [1, 0, 0x10030, 0, 4, 4, 0, 0], None),
+        (
+            48,
+            [1, 0, 0x1002f, 0, 4, 4, 0, 0],
+            Some(ImageFault::Segment),
+        ),
+        (48, [1, 0xffffffff, 0x20000, 0, 0, 4, 0, 0], None),
+    ];
+    for (size, second, want) in cases {
+        let mut first = COPY_FOUR;
+        first[PHNUM] = 2;
+        first[P_OFFSET] = 116;
+        first[P_MEMSZ] = size;
+        let mut file = file_of(rt.alloc(), &first[..21])?;
+        file.extend_from_slice(&file_of(rt.alloc(), &second)?)?;
+        file.extend_from_slice(&file_of(rt.alloc(), &first[21..])?)?;
+        assert_eq!(rt; file.len(), 164);
+        assert_eq!(rt;
+            fault(rt.alloc(), &file),
+            want,
+            "with {size} and {second:?}"
+        );
+    }
+    Ok(())
+}
