@@ -2,15 +2,15 @@
 
 use crate::{ImageFault, load};
 use std::alloc::{AllocError, Global};
+use std::process::Abort;
 use std::test::Fail;
 
 /// A file of one segment at 0x10000, which copies four bytes from channel 0 to channel 1: 13 words
 /// of ELF header, 8 of program header, 12 of instructions.
-const COPY_FOUR: [u32; 33] = [
-    0x464c457f, 0x00010101, 0, 0, 0x00f30002, 1, 0x10000, 52, 0, 0, 0x00200034, 1, 0, // ELF header
-    1, 84, 0x10000, 0x10000, 48, 48, 7, 4, // program header
-    0x000105b7, 0x10058593, 0x00000513, 0x00400613, 0x03f00893, 0x00000073, 0x00100513, 0x04000893,
-    0x00000073, 0x00000513, 0x05d00893, 0x00000073,
+static COPY_FOUR: [u32; 33] = [
+    0x464c457f, 0x00010101, 0, 0, 0x00f30002, 1, 0x10000, 52, 0, 0, 0x00200034, 1, 0, 1, 84,
+    0x10000, 0x10000, 48, 48, 7, 4, 0x000105b7, 0x10058593, 0x00000513, 0x00400613, 0x03f00893,
+    0x00000073, 0x00100513, 0x04000893, 0x00000073, 0x00000513, 0x05d00893, 0x00000073,
 ];
 
 // The places of fields, in words.
@@ -36,48 +36,58 @@ const P_FILESZ: usize = 17;
 
 const P_MEMSZ: usize = 18;
 
-fn file_of(alloc: Global, words: &[u32]) -> Result<Vec<u8>, AllocError> {
+/// The file with some words changed, and words put in before the instructions.
+fn changed(
+    alloc: Global,
+    changes: &[(usize, u32)],
+    entries: &[u32],
+) -> Result<Vec<u8>, AllocError> {
+    let mut words = Vec::from_slice(alloc, &COPY_FOUR[..21])?;
+    words.extend_from_slice(entries)?;
+    words.extend_from_slice(&COPY_FOUR[21..])?;
+    for &(at, word) in changes {
+        if let Some(field) = words.get_mut(at) {
+            *field = word;
+        }
+    }
     let mut file = Vec::new(alloc);
-    for word in words {
+    for word in &words {
         file.extend_from_slice(&word.to_le_bytes())?;
     }
     Ok(file)
 }
 
-/// The fault of a file, if it has one.
-fn fault(alloc: Global, file: &[u8]) -> Option<ImageFault> {
-    load(alloc, file).err()
-}
-
-#[test]
-fn copy_four_is_loaded(rt: HostRuntime) -> Result<(), Fail> {
-    let file = file_of(rt.alloc(), &COPY_FOUR)?;
-    let image = load(rt.alloc(), &file)?;
-    assert_eq!(rt; image.base(), 0x10000);
-    assert_eq!(rt; image.entry(), 0x10000);
-    assert_eq!(rt; image.segments().len(), 1);
-    let segment = &image.segments()[0];
-    assert_eq!(rt; segment.place(), 0x10000);
-    assert_eq!(rt; segment.size(), 48);
-    assert_eq!(rt; file.len(), 132);
-    assert_eq!(rt; segment.bytes(), &file[84..]);
+/// The changed file has this fault, or is loaded.
+fn assert_fault(
+    rt: &impl Abort,
+    alloc: Global,
+    changes: &[(usize, u32)],
+    entries: &[u32],
+    want: Option<ImageFault>,
+) -> Result<(), AllocError> {
+    let file = changed(alloc, changes, entries)?;
+    assert_eq!(rt; load(alloc, &file).err(), want, "{changes:?} {entries:?}");
     Ok(())
 }
 
 #[test]
-fn the_base_begins_a_page(rt: HostRuntime) -> Result<(), Fail> {
-    let mut words = COPY_FOUR;
-    words[P_VADDR] = 0x20ff0;
-    words[ENTRY] = 0x20ff4;
-    let image = load(rt.alloc(), &file_of(rt.alloc(), &words)?)?;
+fn a_sound_file_is_loaded(rt: HostRuntime) -> Result<(), Fail> {
+    let file = changed(rt.alloc(), &[(P_VADDR, 0x20ff0), (ENTRY, 0x20ff4)], &[])?;
+    let image = load(rt.alloc(), &file)?;
     assert_eq!(rt; image.base(), 0x20000);
     assert_eq!(rt; image.entry(), 0x20ff4);
+    let segments = image.segments();
+    assert_eq!(rt; segments.len(), 1);
+    assert_eq!(rt; segments[0].place(), 0x20ff0);
+    assert_eq!(rt; segments[0].size(), 48);
+    assert_eq!(rt; file.len(), 132);
+    assert_eq!(rt; segments[0].bytes(), &file[84..]);
     Ok(())
 }
 
 #[test]
 fn each_prefix_has_its_fault(rt: HostRuntime) -> Result<(), Fail> {
-    let file = file_of(rt.alloc(), &COPY_FOUR)?;
+    let file = changed(rt.alloc(), &[], &[])?;
     assert_eq!(rt; file.len(), 132);
     for length in 0..133 {
         let want = match length {
@@ -86,7 +96,11 @@ fn each_prefix_has_its_fault(rt: HostRuntime) -> Result<(), Fail> {
             84..132 => Some(ImageFault::Segment),
             _ => None,
         };
-        assert_eq!(rt; fault(rt.alloc(), &file[..length]), want, "at {length}");
+        assert_eq!(rt;
+            load(rt.alloc(), &file[..length]).err(),
+            want,
+            "at {length}"
+        );
     }
     Ok(())
 }
@@ -118,18 +132,13 @@ fn each_changed_word_has_its_fault(rt: HostRuntime) -> Result<(), Fail> {
         (ENTRY, 0x10030, Some(ImageFault::Entry)),
     ];
     for (at, word, want) in cases {
-        let mut words = COPY_FOUR;
-        assert!(rt; at < 33);
-        words[at] = word;
-        let file = file_of(rt.alloc(), &words)?;
-        assert_eq!(rt; fault(rt.alloc(), &file), want, "at {at} {word}");
+        assert_fault(&rt, rt.alloc(), &[(at, word)], &[], want)?;
     }
     Ok(())
 }
 
 #[test]
-fn a_second_entry_is_looked_at_as_the_first(rt: HostRuntime) -> Result<(), Fail> {
-    // the first entry's p_memsz, which has to be 48 at least, and the second entry
+fn a_second_entry_counts_as_the_first(rt: HostRuntime) -> Result<(), Fail> {
     let cases = [
         (48, [0x70000003, 0, 0, 0, 0, 0, 0, 0], None),
         (48, [2, 0, 0, 0, 0, 0, 0, 0], Some(ImageFault::Dynamic)),
@@ -145,19 +154,8 @@ fn a_second_entry_is_looked_at_as_the_first(rt: HostRuntime) -> Result<(), Fail>
         (48, [1, 0xffffffff, 0x20000, 0, 0, 4, 0, 0], None),
     ];
     for (size, second, want) in cases {
-        let mut first = COPY_FOUR;
-        first[PHNUM] = 2;
-        first[P_OFFSET] = 116;
-        first[P_MEMSZ] = size;
-        let mut file = file_of(rt.alloc(), &first[..21])?;
-        file.extend_from_slice(&file_of(rt.alloc(), &second)?)?;
-        file.extend_from_slice(&file_of(rt.alloc(), &first[21..])?)?;
-        assert_eq!(rt; file.len(), 164);
-        assert_eq!(rt;
-            fault(rt.alloc(), &file),
-            want,
-            "with {size} and {second:?}"
-        );
+        let changes = [(PHNUM, 2), (P_OFFSET, 116), (P_MEMSZ, size)];
+        assert_fault(&rt, rt.alloc(), &changes, &second, want)?;
     }
     Ok(())
 }
