@@ -66,7 +66,7 @@ fn assert_fault(
     want: Option<ImageFault>,
 ) -> Result<(), AllocError> {
     let file = changed(alloc, changes, entries)?;
-    assert_eq!(rt; load(alloc, &file).err(), want, "{changes:?} {entries:?}");
+    assert_eq!(rt; load(alloc, &file).err(), want);
     Ok(())
 }
 
