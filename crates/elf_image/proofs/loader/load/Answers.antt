@@ -1,4 +1,4 @@
-use Rattle.std.proofs.Common.{◌≡◌, ap, inr, length, sym, Some, ◌∙◌}
+use Rattle.std.proofs.Common.{ap, inr, length, sym, ◌∙◌}
 use Rattle.std.proofs.lemmas.Result.{err_from_is_err_and}
 use Rattle.elf_model.specs.Image.{first_true}
 use Rattle.elf_image.specs.Faults.{table_faults}
