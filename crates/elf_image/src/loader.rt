@@ -10,9 +10,8 @@ use std::alloc::Global;
 
 /// The image of a program file (System V gABI, "Program Loading").
 ///
-/// A file has an image exactly where none of the ten faults of `ImageFault` holds. The first one
-/// that does, in the order of their declaration, is the error; `NoMemory` comes only where the
-/// bytes of the segments can't be kept.
+/// A file has an image exactly where none of the ten faults of `ImageFault` holds. Else the error is
+/// the first that does, in the order of their declaration. `NoMemory` is for want of memory alone.
 pub fn load(alloc: Global, bytes: &[u8]) -> Result<Image, ImageFault>
     ensures found { IfOk result (λ im. image bytes.now ≡ Ok im) }
     ensures fault { IfErr result (λ e. (e ≡ ImageFault.NoMemory) ⊎ (image bytes.now ≡ Err e)) }
