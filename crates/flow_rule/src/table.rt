@@ -1,7 +1,8 @@
 //! The flow table: which locations' content flows where, instruction by instruction, and what a guest
 //! call empties.
 
-ghost use Rattle.std.specs.Prelude.{◌≡◌, ◌≤◌, ◌+◌, [], ◌∷◌};
+ghost use Rattle.std.specs.Prelude.{◌≡◌, pos, if◌then◌else◌, ◌≤◌, ◌+◌, [], ◌∷◌};
+ghost use Rattle.std.specs.Ordering.{int_eq};
 ghost use Rattle.flow_model.specs.declared.Loc.TheVariants.{Mem};
 ghost use Rattle.flow_model.specs.Flow as model;
 ghost use Rattle.flow_rule.specs.Locations.{few_locs};
@@ -28,8 +29,7 @@ pub fn flow(instr: &Instr, place: u32, rule: Rule) -> Flow
         Instr::Sh { rs2, .. } => to_memory(place, 2, lane_by_lane(rs2)),
         Instr::Sw { rs2, .. } => to_memory(place, 4, lane_by_lane(rs2)),
 
-        Instr::Addi { rd, rs1, imm: 0 } => to_register(rd, lane_by_lane(rs1)),
-        Instr::Addi { rd, rs1, .. } => to_register(rd, computed(rule, all_lanes_of(rs1))),
+        Instr::Addi { rd, rs1, imm } => to_register(rd, added_immediate(rule, rs1, imm)),
         Instr::Add { rd, rs1, rs2 } => to_register(rd, moved_or(rs1, rs2, computed(rule, all_lanes(rs1, rs2)))),
         Instr::Or { rd, rs1, rs2 } | Instr::Xor { rd, rs1, rs2 } => {
             to_register(rd, moved_or(rs1, rs2, computed(rule, each_lane(rs1, rs2))))
@@ -106,8 +106,9 @@ fn to_memory(address: u32, count: u8, origins: Origins) -> Flow
     Flow::new(Targets::Memory { address, count }, origins)
 }
 
+/// No target has an origin.
 fn nothing() -> Origins
-    ensures { by_lane (origins_at result) ≡ by_lane model.nothing }
+    ensures { result ≡ Origins.Same Many.Empty }
 {
     Origins::Same(Many::Empty)
 }
@@ -132,6 +133,17 @@ fn moved_or(a: u8, b: u8, otherwise: Origins) -> Origins
         lane_by_lane(a)
     } else {
         otherwise
+    }
+}
+
+/// With an immediate of 0 an addition is a move.
+fn added_immediate(rule: Rule, number: u8, imm: i32) -> Origins
+    ensures { by_lane (origins_at result) ≡ by_lane (if int_eq imm (pos 0) then model.lane number else model.computed rule (λ i. model.lanes number)) }
+{
+    if imm == 0 {
+        lane_by_lane(number)
+    } else {
+        computed(rule, all_lanes_of(number))
     }
 }
 
