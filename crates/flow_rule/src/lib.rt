@@ -19,3 +19,6 @@ pub enum Message {
     Close(Loc),
     End { whole: bool },
 }
+
+#[cfg(test)]
+mod tests;
