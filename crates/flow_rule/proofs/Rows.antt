@@ -37,7 +37,7 @@ pub moved_or_row : (rule : Rule) (d a b : ℕ) (g : ℕ → List Loc) (o p q : O
     → row ≡ to_register d (origins_at q) → row ≡ to_register d (moved_or a b (computed rule g))
 moved_or_row rule d a b g o p q row e h m r =
     r ∙ to_register_same d (origins_at q) (moved_or a b (computed rule g))
-        (m ∙ moved_or_same a b (origins_at p) (computed rule g) (h ∙ computed_same rule (origins_at o) g e))
+    (m ∙ moved_or_same a b (origins_at p) (computed rule g) (h ∙ computed_same rule (origins_at o) g e))
 
 -- the row of an instruction that is known
 pub row_of : {i j : Instr} (rule : Rule) (place : ℕ) (row : List Target) → i ≡ j → row ≡ flow rule j place → row ≡ flow rule i place

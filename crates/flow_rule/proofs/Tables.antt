@@ -1,12 +1,11 @@
 -- Tables of targets, entry by entry. The table is a list that is known to be one.
-use Rattle.std.proofs.Common.{◌≡◌, ◌≢◌, ℕ, zero, suc, ◌+◌, ◌<◌, ◌≤◌, List, [], length, map, refl, arith, ap, sym, ◌∙◌}
-use Rattle.std.specs.Prelude.{slice_get, Some, Option, Bool, if◌then◌else◌}
+use Rattle.std.proofs.Common.{◌≡◌, ◌≢◌, ℕ, ◌+◌, ◌<◌, ◌≤◌, List, [], length, map, arith, ap, sym, ◌∙◌}
+use Rattle.std.specs.Prelude.{slice_get, Some, Bool, if◌then◌else◌}
 use Rattle.std.specs.Option.{option_map}
 use Rattle.std.specs.List.{range_with_len}
 use Rattle.std.proofs.lemmas.Bool.{ne_eqb}
 use Rattle.std.proofs.lemmas.Option.{slice_get-map, slice_get-get_or}
 use Rattle.std.proofs.lemmas.List.FromFn.{length-map-range_with_len, get_or-map-range_with_len}
-use Rattle.flow_model.specs.declared.Loc.{Loc}
 use Rattle.flow_model.specs.Flow.{Target}
 use Rattle.flow_rule.specs.declared.flows.Targets.{Targets}
 use Rattle.flow_rule.specs.declared.flows.Origins.{Origins}
@@ -31,7 +30,7 @@ pub entry_is : {X : Type 0} (part : Target → X) (targets : Targets) (origins :
 entry_is part targets origins xs i e h =
     let within : i < count_of targets = omega (arith, length_is targets origins xs e) in
     ap (λ (ys : List Target). slice_get (map part ys) i) (sym e) ∙ slice_get-map part (table_of targets origins) i
-        ∙ ap (option_map part) (slice_get-made _ (count_of targets) i within)
+    ∙ ap (option_map part) (slice_get-made _ (count_of targets) i within)
 
 pub loc_is : (targets : Targets) (origins : Origins) (xs : List Target) (i : ℕ) → table_of targets origins ≡ xs → i < length xs
     → slice_get (map (λ (t : Target). t.loc) xs) i ≡ Some (target_at targets i)

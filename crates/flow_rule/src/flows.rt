@@ -76,10 +76,21 @@ impl Flow {
         ensures { slice_get (map (λ t. t.loc) self.now) i ≡ Some result }
     {
         match self.targets {
-            Targets::Register(number) => Loc::Reg { number, lane: i as u8 },
-            Targets::TwoRegisters(first, _) if i < 4 => Loc::Reg { number: first, lane: i as u8 },
-            Targets::TwoRegisters(_, second) => Loc::Reg { number: second, lane: (i - 4) as u8 },
-            Targets::Memory { address, .. } => Loc::Mem { place: address.wrapping_add(i as u32) },
+            Targets::Register(number) => Loc::Reg {
+                number,
+                lane: i as u8,
+            },
+            Targets::TwoRegisters(first, _) if i < 4 => Loc::Reg {
+                number: first,
+                lane: i as u8,
+            },
+            Targets::TwoRegisters(_, second) => Loc::Reg {
+                number: second,
+                lane: (i - 4) as u8,
+            },
+            Targets::Memory { address, .. } => Loc::Mem {
+                place: address.wrapping_add(i as u32),
+            },
         }
     }
 

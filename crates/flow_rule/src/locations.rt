@@ -71,7 +71,10 @@ impl Many {
         if amount == 0 || value == amount {
             return Many::lanes(value);
         }
-        let lowest = Loc::Reg { number: amount, lane: 0 };
+        let lowest = Loc::Reg {
+            number: amount,
+            lane: 0,
+        };
         if value == 0 {
             return Many::One([lowest]);
         }
@@ -137,6 +140,9 @@ impl Few {
             return Few::lane(a, lane);
         }
         let (low, high) = if a < b { (a, b) } else { (b, a) };
-        Few::Two([Loc::Reg { number: low, lane }, Loc::Reg { number: high, lane }])
+        Few::Two([
+            Loc::Reg { number: low, lane },
+            Loc::Reg { number: high, lane },
+        ])
     }
 }

@@ -30,7 +30,10 @@ pub fn flow(instr: &Instr, place: u32, rule: Rule) -> Flow
         Instr::Sw { rs2, .. } => to_memory(place, 4, lane_by_lane(rs2)),
 
         Instr::Addi { rd, rs1, imm } => to_register(rd, added_immediate(rule, rs1, imm)),
-        Instr::Add { rd, rs1, rs2 } => to_register(rd, moved_or(rs1, rs2, computed(rule, all_lanes(rs1, rs2)))),
+        Instr::Add { rd, rs1, rs2 } => to_register(
+            rd,
+            moved_or(rs1, rs2, computed(rule, all_lanes(rs1, rs2))),
+        ),
         Instr::Or { rd, rs1, rs2 } | Instr::Xor { rd, rs1, rs2 } => {
             to_register(rd, moved_or(rs1, rs2, computed(rule, each_lane(rs1, rs2))))
         }
@@ -47,15 +50,19 @@ pub fn flow(instr: &Instr, place: u32, rule: Rule) -> Flow
             to_register(rd, computed(rule, shifted_lanes(rs1, rs2)))
         }
         Instr::Slt { rd, rs1, rs2 } | Instr::Sltu { rd, rs1, rs2 } => {
-            to_register(rd, computed(rule, Origins::First(Many::all_lanes(rs1, rs2))))
+            to_register(
+                rd,
+                computed(rule, Origins::First(Many::all_lanes(rs1, rs2))),
+            )
         }
         Instr::Slti { rd, rs1, .. } | Instr::Sltiu { rd, rs1, .. } => {
             to_register(rd, computed(rule, Origins::First(Many::lanes(rs1))))
         }
 
-        Instr::Lui { rd, .. } | Instr::Auipc { rd, .. } | Instr::Jal { rd, .. } | Instr::Jalr { rd, .. } => {
-            to_register(rd, nothing())
-        }
+        Instr::Lui { rd, .. }
+        | Instr::Auipc { rd, .. }
+        | Instr::Jal { rd, .. }
+        | Instr::Jalr { rd, .. } => { to_register(rd, nothing()) }
         Instr::Beq { .. }
         | Instr::Bne { .. }
         | Instr::Blt { .. }
@@ -217,7 +224,9 @@ fn loaded_byte(address: u32, count: u32, i: u32) -> Few
 fn byte(address: u32, i: u32) -> Few
     ensures { few_locs result ≡ Mem (model.wrap (address + i)) ∷ [] }
 {
-    Few::One([Loc::Mem { place: address.wrapping_add(i) }])
+    Few::One([Loc::Mem {
+        place: address.wrapping_add(i),
+    }])
 }
 
 /// A load of `count` bytes that extends the sign: the lanes above are computed from the highest byte.

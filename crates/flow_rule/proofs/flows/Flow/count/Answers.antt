@@ -1,4 +1,4 @@
-use Rattle.std.proofs.Common.{◌≡◌, ap, sym, ◌∙◌}
+use Rattle.std.proofs.Common.{ap, sym, ◌∙◌}
 use Rattle.flow_rule.specs.Flows.{count_of}
 use Rattle.flow_rule.proofs.Tables.{length_is}
 use Rattle.flow_rule.proofs.flows.Flow.count.Goals as goal

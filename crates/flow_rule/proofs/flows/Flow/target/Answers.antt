@@ -1,4 +1,4 @@
-use Rattle.std.proofs.Common.{◌≡◌, ◌<◌, arith, ap, ◌∙◌, Some}
+use Rattle.std.proofs.Common.{arith, ap, ◌∙◌, Some}
 use Rattle.flow_rule.specs.Flows.{target_at}
 use Rattle.flow_rule.proofs.Tables.{loc_is, index_small}
 use Rattle.flow_rule.proofs.flows.Flow.target.Goals as goal
