@@ -1,6 +1,7 @@
 //! Short lists of locations, on the stack, each ascending and without repeats.
 
 ghost use Rattle.std.specs.Prelude.{◌≡◌, ◌≤◌, ◌++◌, length};
+ghost use Rattle.flow_model.specs.declared.Loc.TheVariants.{Reg};
 ghost use Rattle.flow_model.specs.Flow as model;
 ghost use Rattle.flow_rule.specs.Locations.{many_locs, few_locs, four_lanes};
 
@@ -35,10 +36,10 @@ impl Many {
         ensures { many_locs result ≡ model.lanes number }
     {
         if number == 0 {
-            return Many::Empty;
+            Many::Empty
+        } else {
+            Many::Four(four(number))
         }
-        let [a, b, c, d] = four(number);
-        Many::Four([a, b, c, d])
     }
 
     /// All lanes of two registers.
@@ -71,10 +72,7 @@ impl Many {
         if amount == 0 || value == amount {
             return Many::lanes(value);
         }
-        let lowest = Loc::Reg {
-            number: amount,
-            lane: 0,
-        };
+        let lowest = register_lane(amount, 0);
         if value == 0 {
             return Many::One([lowest]);
         }
@@ -91,11 +89,17 @@ fn four(number: u8) -> [Loc; 4]
     ensures { result ≡ four_lanes number }
 {
     [
-        Loc::Reg { number, lane: 0 },
-        Loc::Reg { number, lane: 1 },
-        Loc::Reg { number, lane: 2 },
-        Loc::Reg { number, lane: 3 },
+        register_lane(number, 0),
+        register_lane(number, 1),
+        register_lane(number, 2),
+        register_lane(number, 3),
     ]
+}
+
+fn register_lane(number: u8, lane: u8) -> Loc
+    ensures { result ≡ Reg number lane }
+{
+    Loc::Reg { number, lane }
 }
 
 /// At most two locations: as many as one lane of two registers.
@@ -125,7 +129,7 @@ impl Few {
         if number == 0 {
             Few::Empty
         } else {
-            Few::One([Loc::Reg { number, lane }])
+            Few::One([register_lane(number, lane)])
         }
     }
 
@@ -140,9 +144,6 @@ impl Few {
             return Few::lane(a, lane);
         }
         let (low, high) = if a < b { (a, b) } else { (b, a) };
-        Few::Two([
-            Loc::Reg { number: low, lane },
-            Loc::Reg { number: high, lane },
-        ])
+        Few::Two([register_lane(low, lane), register_lane(high, lane)])
     }
 }

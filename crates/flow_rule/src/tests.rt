@@ -73,181 +73,74 @@ fn loads_and_stores_take_bytes_in_order(rt: HostRuntime) {
     let byte: Rows = &[&[0x50, 0xfe], &[0x51], &[0x52], &[0x53]];
     let signed_byte: Rows = &[&[0x50, 0xfe], &[0x51, 0xfe], &[0x52, 0xfe], &[0x53, 0xfe]];
     let stored: Rows = &[&[0xfe, 0x70], &[0xff, 0x71], &[0x00, 0x72], &[0x01, 0x73]];
-    let emptied: Rows = &[&[0xfe], &[0xff]];
+    let cleared: Rows = &[&[0xfe], &[0xff]];
+    let (rd, rs1, rs2, imm) = (5, 6, 7, 0);
     have_rows(
         &rt,
         &[
-            (
-                Instr::Lw {
-                    rd: 5,
-                    rs1: 6,
-                    imm: 0,
-                },
-                word,
-                word,
-            ),
-            (
-                Instr::Lhu {
-                    rd: 5,
-                    rs1: 6,
-                    imm: 0,
-                },
-                half,
-                half,
-            ),
-            (
-                Instr::Lh {
-                    rd: 5,
-                    rs1: 6,
-                    imm: 0,
-                },
-                half,
-                signed_half,
-            ),
-            (
-                Instr::Lbu {
-                    rd: 5,
-                    rs1: 6,
-                    imm: 0,
-                },
-                byte,
-                byte,
-            ),
-            (
-                Instr::Lb {
-                    rd: 5,
-                    rs1: 6,
-                    imm: 0,
-                },
-                byte,
-                signed_byte,
-            ),
-            (
-                Instr::Sw {
-                    rs1: 6,
-                    rs2: 7,
-                    imm: 0,
-                },
-                stored,
-                stored,
-            ),
-            (
-                Instr::Sh {
-                    rs1: 6,
-                    rs2: 0,
-                    imm: 0,
-                },
-                emptied,
-                emptied,
-            ),
+            (Instr::Lw { rd, rs1, imm }, word, word),
+            (Instr::Lhu { rd, rs1, imm }, half, half),
+            (Instr::Lh { rd, rs1, imm }, half, signed_half),
+            (Instr::Lbu { rd, rs1, imm }, byte, byte),
+            (Instr::Lb { rd, rs1, imm }, byte, signed_byte),
+            (Instr::Sw { rs1, rs2, imm }, stored, stored),
+            (Instr::Sh { rs1, rs2: 0, imm }, cleared, cleared),
         ],
     );
 }
 
 #[test]
-fn moves_keep_lanes_and_bits_stay_in_them(rt: HostRuntime) {
+fn moves_and_bitwise_operations_stay_in_their_lanes(rt: HostRuntime) {
+    let (rd, rs1, rs2, imm) = (5, 9, 7, 0);
     have_rows(
         &rt,
         &[
-            (
-                Instr::Addi {
-                    rd: 5,
-                    rs1: 7,
-                    imm: 0,
-                },
-                FROM_X7,
-                FROM_X7,
-            ),
-            (
-                Instr::Add {
-                    rd: 5,
-                    rs1: 0,
-                    rs2: 7,
-                },
-                FROM_X7,
-                FROM_X7,
-            ),
-            (
-                Instr::Or {
-                    rd: 5,
-                    rs1: 7,
-                    rs2: 0,
-                },
-                FROM_X7,
-                FROM_X7,
-            ),
-            (
-                Instr::Xor {
-                    rd: 5,
-                    rs1: 0,
-                    rs2: 0,
-                },
-                EMPTIED,
-                EMPTIED,
-            ),
-            (
-                Instr::Xor {
-                    rd: 5,
-                    rs1: 9,
-                    rs2: 7,
-                },
-                EMPTIED,
-                FROM_BOTH,
-            ),
-            (
-                Instr::Or {
-                    rd: 5,
-                    rs1: 7,
-                    rs2: 7,
-                },
-                EMPTIED,
-                FROM_X7,
-            ),
-            (
-                Instr::And {
-                    rd: 5,
-                    rs1: 7,
-                    rs2: 9,
-                },
-                EMPTIED,
-                FROM_BOTH,
-            ),
-            (
-                Instr::And {
-                    rd: 5,
-                    rs1: 7,
-                    rs2: 0,
-                },
-                EMPTIED,
-                FROM_X7,
-            ),
-            (
-                Instr::Xori {
-                    rd: 5,
-                    rs1: 7,
-                    imm: 0,
-                },
-                EMPTIED,
-                FROM_X7,
-            ),
+            (Instr::Addi { rd, rs1: 7, imm }, FROM_X7, FROM_X7),
+            (Instr::Add { rd, rs1: 0, rs2 }, FROM_X7, FROM_X7),
+            (Instr::Or { rd, rs1: 0, rs2 }, FROM_X7, FROM_X7),
+            (Instr::Xor { rd, rs1: 0, rs2: 0 }, EMPTIED, EMPTIED),
+            (Instr::Xor { rd, rs1, rs2 }, EMPTIED, FROM_BOTH),
+            (Instr::Or { rd, rs1, rs2 }, EMPTIED, FROM_BOTH),
+            (Instr::And { rd, rs1: 7, rs2 }, EMPTIED, FROM_X7),
+            (Instr::And { rd, rs1: 0, rs2 }, EMPTIED, FROM_X7),
+            (Instr::Xori { rd, rs1: 7, imm }, EMPTIED, FROM_X7),
         ],
     );
 }
 
 #[test]
-fn sums_shifts_and_comparisons_take_all_lanes(rt: HostRuntime) {
-    let upper: Rows = &[
+fn sums_and_shifts_take_all_lanes(rt: HostRuntime) {
+    let amount_above: Rows = &[
         &[0x50, 0x70, 0x71, 0x72, 0x73, 0x90],
         &[0x51, 0x70, 0x71, 0x72, 0x73, 0x90],
         &[0x52, 0x70, 0x71, 0x72, 0x73, 0x90],
         &[0x53, 0x70, 0x71, 0x72, 0x73, 0x90],
     ];
-    let lower: Rows = &[
+    let amount_below: Rows = &[
         &[0x50, 0x70, 0x90, 0x91, 0x92, 0x93],
         &[0x51, 0x70, 0x90, 0x91, 0x92, 0x93],
         &[0x52, 0x70, 0x90, 0x91, 0x92, 0x93],
         &[0x53, 0x70, 0x90, 0x91, 0x92, 0x93],
     ];
+    let (rd, rs1, rs2, imm, amount) = (5, 7, 9, 1, 8);
+    have_rows(
+        &rt,
+        &[
+            (Instr::Add { rd, rs1, rs2 }, EMPTIED, FROM_ALL),
+            (Instr::Sub { rd, rs1: 9, rs2: 7 }, EMPTIED, FROM_ALL),
+            (Instr::Sub { rd, rs1, rs2: 0 }, EMPTIED, FROM_ALL_OF_X7),
+            (Instr::Add { rd, rs1, rs2: 7 }, EMPTIED, FROM_ALL_OF_X7),
+            (Instr::Addi { rd, rs1, imm }, EMPTIED, FROM_ALL_OF_X7),
+            (Instr::Srai { rd, rs1, amount }, EMPTIED, FROM_ALL_OF_X7),
+            (Instr::Sll { rd, rs1, rs2 }, EMPTIED, amount_above),
+            (Instr::Sra { rd, rs1: 9, rs2: 7 }, EMPTIED, amount_below),
+            (Instr::Srl { rd, rs1, rs2: 7 }, EMPTIED, FROM_ALL_OF_X7),
+        ],
+    );
+}
+
+#[test]
+fn other_instructions_and_calls_have_few_origins(rt: HostRuntime) {
     let compared: Rows = &[
         &[0x50, 0x70, 0x71, 0x72, 0x73, 0x90, 0x91, 0x92, 0x93],
         &[0x51],
@@ -255,145 +148,16 @@ fn sums_shifts_and_comparisons_take_all_lanes(rt: HostRuntime) {
         &[0x53],
     ];
     let compared_alone: Rows = &[&[0x50, 0x70, 0x71, 0x72, 0x73], &[0x51], &[0x52], &[0x53]];
+    let (rd, rs1, rs2, imm) = (5, 7, 9, 0);
     have_rows(
         &rt,
         &[
-            (
-                Instr::Add {
-                    rd: 5,
-                    rs1: 7,
-                    rs2: 9,
-                },
-                EMPTIED,
-                FROM_ALL,
-            ),
-            (
-                Instr::Sub {
-                    rd: 5,
-                    rs1: 9,
-                    rs2: 7,
-                },
-                EMPTIED,
-                FROM_ALL,
-            ),
-            (
-                Instr::Sub {
-                    rd: 5,
-                    rs1: 7,
-                    rs2: 0,
-                },
-                EMPTIED,
-                FROM_ALL_OF_X7,
-            ),
-            (
-                Instr::Add {
-                    rd: 5,
-                    rs1: 7,
-                    rs2: 7,
-                },
-                EMPTIED,
-                FROM_ALL_OF_X7,
-            ),
-            (
-                Instr::Addi {
-                    rd: 5,
-                    rs1: 7,
-                    imm: 1,
-                },
-                EMPTIED,
-                FROM_ALL_OF_X7,
-            ),
-            (
-                Instr::Srai {
-                    rd: 5,
-                    rs1: 7,
-                    amount: 8,
-                },
-                EMPTIED,
-                FROM_ALL_OF_X7,
-            ),
-            (
-                Instr::Sll {
-                    rd: 5,
-                    rs1: 7,
-                    rs2: 9,
-                },
-                EMPTIED,
-                upper,
-            ),
-            (
-                Instr::Sra {
-                    rd: 5,
-                    rs1: 9,
-                    rs2: 7,
-                },
-                EMPTIED,
-                lower,
-            ),
-            (
-                Instr::Srl {
-                    rd: 5,
-                    rs1: 7,
-                    rs2: 7,
-                },
-                EMPTIED,
-                FROM_ALL_OF_X7,
-            ),
-            (
-                Instr::Sltu {
-                    rd: 5,
-                    rs1: 9,
-                    rs2: 7,
-                },
-                EMPTIED,
-                compared,
-            ),
-            (
-                Instr::Slti {
-                    rd: 5,
-                    rs1: 7,
-                    imm: 0,
-                },
-                EMPTIED,
-                compared_alone,
-            ),
-        ],
-    );
-}
-
-#[test]
-fn other_instructions_and_calls_empty_or_touch_nothing(rt: HostRuntime) {
-    have_rows(
-        &rt,
-        &[
-            (Instr::Lui { rd: 5, imm: 4096 }, EMPTIED, EMPTIED),
-            (
-                Instr::Jalr {
-                    rd: 5,
-                    rs1: 7,
-                    imm: 0,
-                },
-                EMPTIED,
-                EMPTIED,
-            ),
-            (
-                Instr::Add {
-                    rd: 0,
-                    rs1: 7,
-                    rs2: 9,
-                },
-                NO_ROW,
-                NO_ROW,
-            ),
-            (
-                Instr::Beq {
-                    rs1: 7,
-                    rs2: 9,
-                    imm: 8,
-                },
-                NO_ROW,
-                NO_ROW,
-            ),
+            (Instr::Sltu { rd, rs1, rs2 }, EMPTIED, compared),
+            (Instr::Slti { rd, rs1, imm }, EMPTIED, compared_alone),
+            (Instr::Lui { rd, imm }, EMPTIED, EMPTIED),
+            (Instr::Jalr { rd, rs1, imm }, EMPTIED, EMPTIED),
+            (Instr::Add { rd: 0, rs1, rs2 }, NO_ROW, NO_ROW),
+            (Instr::Beq { rs1, rs2, imm }, NO_ROW, NO_ROW),
             (Instr::Fence { kept: 0 }, NO_ROW, NO_ROW),
             (Instr::Ecall, NO_ROW, NO_ROW),
         ],
@@ -402,7 +166,7 @@ fn other_instructions_and_calls_empty_or_touch_nothing(rt: HostRuntime) {
     has_rows(&rt, &cleared(CallKind::Read), x10);
     has_rows(&rt, &cleared(CallKind::Other), x10);
     has_rows(&rt, &cleared(CallKind::Exit), NO_ROW);
-    let both: Rows = &[
+    let x10_x11: Rows = &[
         &[0xa0],
         &[0xa1],
         &[0xa2],
@@ -412,5 +176,5 @@ fn other_instructions_and_calls_empty_or_touch_nothing(rt: HostRuntime) {
         &[0xb2],
         &[0xb3],
     ];
-    has_rows(&rt, &cleared(CallKind::Clock), both);
+    has_rows(&rt, &cleared(CallKind::Clock), x10_x11);
 }
