@@ -1,13 +1,13 @@
 -- Laws of origins.
-use Rattle.std.proofs.Common.{◌≡◌, ℕ, zero, suc, List, [], ◌∷◌, refl, Bool, true, cond}
+use Rattle.std.proofs.Common.{◌≡◌, ℕ, zero, suc, List, [], ◌∷◌, refl, ap, ap₂, sym, ◌∙◌, Bool, true, false, cond}
 use Rattle.std.specs.Prelude.{Option, Some, None}
 use Rattle.flow_model.specs.declared.Loc.{Loc}
 use Rattle.flow_model.specs.declared.SourceByte.{SourceByte}
 use Rattle.flow_model.specs.declared.StepSeen.{StepSeen}
 use Rattle.flow_model.specs.declared.CallSeen.{CallSeen}
-use Rattle.flow_model.specs.Sets.{source_cmp, Ascends}
-use Rattle.flow_model.specs.Flow.{from}
-use Rattle.flow_model.specs.Origins.{Policy, origins, introduced, fresh, byte_at, gathered, after_step, step_at}
+use Rattle.flow_model.specs.Sets.{union, source_cmp, Ascends}
+use Rattle.flow_model.specs.Flow.{from, is_received, from_call}
+use Rattle.flow_model.specs.Origins.{Policy, origins, introduced, fresh, fresh_by, byte_at, gathered, after_step, step_at}
 use Rattle.flow_model.proofs.Ascending.{Ascends-union}
 use Rattle.flow_model.proofs.Orders.{source_total}
 

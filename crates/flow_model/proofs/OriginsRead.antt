@@ -35,9 +35,6 @@ steps_keep_origins policy trace s t l le h = by (t - s) t (omega arith) h where
 
 -- ---- a byte that a read received
 
-union_none : (xs : List SourceByte) → union source_cmp [] xs ≡ xs
-union_none xs = refl
-
 introduced_alone : (policy : Policy) (b : SourceByte) → union source_cmp (introduced policy b) [] ≡ introduced policy b
 introduced_alone policy b = by (policy.introduces b) where
   by : (c : Bool) → union source_cmp (cond c (b ∷ []) []) [] ≡ cond c (b ∷ []) []
