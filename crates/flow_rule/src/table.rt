@@ -62,7 +62,7 @@ pub fn flow(instr: &Instr, place: u32, rule: Rule) -> Flow
         Instr::Lui { rd, .. }
         | Instr::Auipc { rd, .. }
         | Instr::Jal { rd, .. }
-        | Instr::Jalr { rd, .. } => { to_register(rd, nothing()) }
+        | Instr::Jalr { rd, .. } => to_register(rd, nothing()),
         Instr::Beq { .. }
         | Instr::Bne { .. }
         | Instr::Blt { .. }
@@ -237,7 +237,7 @@ fn signed_load(rule: Rule, address: u32, count: u32) -> Origins
     match rule {
         Rule::Copy => loaded(address, count),
         Rule::Compute => Origins::Each([
-            byte(address, 0.min(count - 1)),
+            byte(address, 0),
             byte(address, 1.min(count - 1)),
             byte(address, 2.min(count - 1)),
             byte(address, 3.min(count - 1)),
