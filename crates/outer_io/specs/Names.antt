@@ -1,0 +1,8 @@
+-- Names kept one behind another in a buffer, with their lengths.
+use Rattle.std.specs.Prelude.{ℕ, List, [], ◌∷◌, take, drop}
+use Rattle.outer_io.specs.Files.{Text}
+
+-- the names of these lengths, one after another
+abbrev pub names_in : List ℕ → List ℕ → List Text
+names_in bytes [] = []
+names_in bytes (n ∷ lengths) = take n bytes ∷ names_in (drop n bytes) lengths
