@@ -27,7 +27,7 @@ mod memory_store;
 mod sink;
 mod store;
 mod sure_sink;
-//mod sure_store;
+mod sure_store;
 mod whole;
 
 pub use clock::Clock;
@@ -40,5 +40,5 @@ pub use memory_store::MemoryStore;
 pub use sink::Sink;
 pub use store::{Failed, Store};
 pub use sure_sink::SureSink;
-//pub use sure_store::SureStore;
+pub use sure_store::SureStore;
 pub use whole::{ReadWhole, WriteFault, read_whole, write_whole};
