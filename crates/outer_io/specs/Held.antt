@@ -39,3 +39,8 @@ files_of held = record {
 -- as a store tells them in which a missing file is an empty one
 abbrev pub sure_files_of : Held → Files
 sure_files_of held = record (files_of held) { file = λ name. Some (unwrap_or (content_of held.files name) []) }
+
+-- what a sink tells that never fails, and the room that it has left
+pub record Written : Type 0 where
+  pub written : Option (List ℕ)
+  pub room : ℕ

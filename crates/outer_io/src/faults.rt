@@ -1,5 +1,6 @@
 // What the stores and sinks count.
-ghost use Rattle.std.specs.Prelude.{◌≡◌, ◌≤◌, ◌-◌, ◌^◌};
+ghost use Rattle.std.specs.Prelude.{◌≡◌, ◌≤◌, ◌+◌, ◌-◌, ◌^◌, ◌==◌, min, is_err};
+ghost use Rattle.std.specs.List.{list_any};
 ghost use Rattle.outer_io.specs.Faults.{HasCause, Rose};
 
 use crate::store::Failed;
@@ -50,6 +51,9 @@ impl Calls {
     // Counts a call, which fails if its number is one of those.
     pub fn begin(&mut self) -> Result<(), Failed>
         ensures cause { HasCause self.old.faults.count self.new.faults.count result }
+        ensures due { is_err result ≡ list_any (λ n. n == self.old.number) self.old.failing.items }
+        ensures number { self.new.number ≡ min (self.old.number + 1) (2 ^ 64 - 1) }
+        ensures failing { self.new.failing ≡ self.old.failing }
     {
         let number = self.number;
         self.number = number.saturating_add(1);

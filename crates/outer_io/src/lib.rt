@@ -28,6 +28,8 @@ mod sink;
 mod store;
 mod sure_sink;
 mod sure_store;
+#[cfg(test)]
+mod tests;
 mod whole;
 
 pub use clock::Clock;

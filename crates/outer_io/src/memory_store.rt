@@ -57,7 +57,7 @@ impl MemoryStore {
 impl Store for MemoryStore {
     ghost files = { λ s. Some (files_of s.folder) };
 
-    ghost asked = { λ s. s.asked };
+    ghost asked = { λ s. s.asked.names };
 
     ghost is_open = { λ s. s.is_open };
 

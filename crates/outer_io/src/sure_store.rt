@@ -42,7 +42,7 @@ impl SureStore {
 impl Store for SureStore {
     ghost files = { λ s. if s.is_lost then None else Some (sure_files_of s.folder) };
 
-    ghost asked = { λ s. s.asked };
+    ghost asked = { λ s. s.asked.names };
 
     ghost is_open = { λ s. s.is_open };
 

@@ -2,8 +2,8 @@ use Rattle.std.proofs.Common.{◌≡◌, rules, ◌++◌, ◌∷◌, [], false, 
 use Rattle.outer_io.proofs.NamesLemmas.{names_in-append}
 use Rattle.outer_io.proofs.asked_names.AskedNames.note.Goals as goal
 
-pub returns : goal.returns
-returns c =
+pub returns-clause-names : goal.returns-clause-names
+returns-clause-names c =
     let kept : c.self.inside.is_lost ≡ false = c.if-self.false in
     let bytes : c.extend_from_slice.new.self.items ≡ c.self.inside.bytes.items ++ c.args.name.now = search rules in
     let lengths : c.push.new.self.items ≡ c.self.inside.lengths.items ++ length c.args.name.now ∷ [] = search rules in
