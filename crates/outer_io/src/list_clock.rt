@@ -1,9 +1,11 @@
 // A clock that answers a list.
-ghost use Rattle.std.specs.Prelude.{◌≡◌, ◌+◌, [], None, Some, IfOk, if◌then◌else◌};
-ghost use Rattle.outer_io.specs.ListClock.{answers_of, answer_of};
+ghost use Rattle.std.specs.Prelude.{◌≡◌, ◌<◌, ◌+◌, ◌-◌, ◌^◌, ◌∷◌, [], Some, false, IfOk};
+ghost use Rattle.outer_io.specs.Tells.{Tells, Gains};
+ghost use Rattle.outer_io.specs.ListClock.{answer_of, told_answers};
 
 use crate::clock::Clock;
 use std::alloc::{AllocError, Global};
+use std::marker::Model;
 
 /// A clock in memory: it answers a list, and then the list's last item again and again, or 0 where
 /// the list is empty. It tells its first 2^64 - 1 answers.
@@ -14,11 +16,20 @@ pub struct ListClock {
     is_lost: bool,
 }
 
+impl Model for ListClock {
+    ghost use Rattle.outer_io.specs.ListClock.{Answering};
+
+    ghost Value = { Answering };
+
+    ghost view = { λ c. record { list = c.list.items; answered = c.answered; is_lost = c.is_lost } };
+}
+
 impl ListClock {
     /// A clock that answers this list. It fails where there is no memory to copy the list.
     #[tactic(auto, using(crate::proofs::ClockLemmas::answers_none))]
     pub fn new(alloc: Global, list: &[u64]) -> Result<ListClock, AllocError>
-        ensures { IfOk result (λ clock. ⟦<ListClock as Clock>⟧.answers clock ≡ Some []) }
+        ensures clock { IfOk result (λ clock. clock ≡ record { list = list.now; answered = 0; is_lost = false }) }
+        ensures told { IfOk result (λ clock. told_answers clock ≡ Some []) }
     {
         Ok(ListClock {
             list: list.to_vec(alloc)?,
@@ -29,10 +40,15 @@ impl ListClock {
 }
 
 impl Clock for ListClock {
-    ghost answers = { λ c. if c.is_lost then None else Some (answers_of c.list.items c.answered) };
+    ghost answers = { told_answers };
 
     #[tactic(auto, using(crate::proofs::ClockLemmas::answers_next))]
-    fn now(&mut self) -> u64 {
+    fn now(&mut self) -> u64
+        ensures told { Tells (told_answers self.old) (told_answers self.new) (Gains (result ∷ [])) }
+        ensures answer { result ≡ answer_of self.old.list self.old.answered }
+        ensures list { self.new.list ≡ self.old.list }
+        ensures next { self.old.answered < 2 ^ 64 - 1 → self.new ≡ record self.old { answered = self.old.answered + 1 } }
+    {
         let answer = answer_at(&self.list, self.answered);
         if self.answered == u64::MAX {
             self.is_lost = true;

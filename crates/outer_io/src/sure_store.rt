@@ -53,6 +53,8 @@ impl Store for SureStore {
     fn begin_read(&mut self, name: &str) -> Result<(), Failed> {
         self.asked.note(name);
         if !self.folder.begin_read(name) {
+            // There is no room for the name, so no file has it: an empty one is read.
+            self.folder.begin_read("");
             self.is_lost = true;
         }
         self.is_open = true;
@@ -72,6 +74,7 @@ impl Store for SureStore {
     fn create(&mut self, name: &str) -> Result<(), Failed> {
         self.asked.note(name);
         if !self.folder.create(name) {
+            self.folder.create("");
             self.is_lost = true;
         }
         self.is_created = true;

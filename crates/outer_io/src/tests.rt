@@ -253,3 +253,8 @@ fn nanoseconds_since_1970(rt: HostRuntime) {
     }
     assert!(rt; MachineClock::new(rt).now() > 1_577_836_800_000_000_000);
 }
+
+#[test]
+fn an_open_gate_lets_in() {
+    OpenGate.enter(0);
+}
