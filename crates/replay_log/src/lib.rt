@@ -2,9 +2,13 @@
 #![tactic(auto)]
 
 mod fault;
+mod front;
+mod header;
 mod kept;
-
 mod reading;
+mod records;
+mod tags;
+mod words;
 
 pub use fault::LogFault;
 pub use kept::Log;
