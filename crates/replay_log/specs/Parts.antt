@@ -1,12 +1,10 @@
 -- What the parts of reading give: the header, and what is behind it.
-use Rattle.std.specs.Prelude.{◌≡◌, ℕ, ◌≤◌, ◌++◌, List, length, take, drop, Option, Some, None}
+use Rattle.std.specs.Prelude.{◌≡◌, ℕ, ◌<◌, ◌≤◌, ◌++◌, List, length, drop, Some, None}
 use Rattle.std.specs.List.{flat_map, AllByRecursion}
 use Rattle.log_model.specs.declared.CallRecord.{CallRecord}
 use Rattle.log_model.specs.declared.RunEnd.{RunEnd}
 use Rattle.log_model.specs.Logs.{magic, word32, end_at, record_text, end_text, least_after, IsRecord, IsEnd, Rise}
 use Rattle.log_model.specs.Faults.{header_fault}
-use Rattle.replay_log.specs.declared.fault.LogFault.{LogFault}
-use Rattle.replay_log.specs.declared.fault.LogFault.TheVariants.{At, NoMemory}
 use Rattle.replay_log.specs.declared.header.Header.{Header}
 
 -- the header of the bytes, which has no fault
@@ -14,13 +12,10 @@ pub record IsHeader (bytes : List ℕ) (header : Header) : Type 0 where
   pub none : header_fault bytes ≡ None
   pub pages : (1 ≤ header.pages) × (header.pages ≤ 4096)
   pub inputs : header.inputs ≤ 16
-  pub enough : 48 ≤ length bytes
-  pub text : take 48 bytes ≡ magic ++ header.digest ++ word32 header.pages ++ word32 header.inputs
-
--- the fault that is told is that of the header
-abbrev pub IsHeaderFault : List ℕ → LogFault → Type 0
-IsHeaderFault bytes (At kind offset) = header_fault bytes ≡ Some (kind, offset)
-IsHeaderFault bytes NoMemory = ⊥
+  pub whole : 48 ≤ length bytes
+  pub digest : length header.digest ≡ 32
+  pub digest_bytes : AllByRecursion (λ b. b < 256) header.digest
+  pub text : bytes ≡ magic ++ header.digest ++ word32 header.pages ++ word32 header.inputs ++ drop 48 bytes
 
 -- the records and the end, which are all that is behind the header
 pub record IsBody (bytes : List ℕ) (records : List CallRecord) (end : RunEnd) : Type 0 where

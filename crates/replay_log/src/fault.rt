@@ -1,6 +1,10 @@
 //! Why bytes were not read as a log.
 
+ghost use Rattle.std.specs.Prelude.{◌≡◌};
+ghost use Rattle.replay_log.specs.declared.fault.LogFault.TheVariants.{NoMemory};
+
 use log_model::LogKind;
+use std::alloc::AllocFailed;
 use thiserror::Error;
 
 /// Why `read_log` gave no log.
@@ -13,4 +17,12 @@ pub enum LogFault {
     /// There was no memory for the log.
     #[error("out of memory")]
     NoMemory,
+}
+
+impl<T: Drop> From<AllocFailed<T>> for LogFault {
+    ghost from_gives = { λ _ fault. fault ≡ NoMemory };
+
+    fn from(_failed: AllocFailed<T>) -> LogFault {
+        LogFault::NoMemory
+    }
 }

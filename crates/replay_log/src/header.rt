@@ -1,7 +1,8 @@
 //! The header of a log.
 
 ghost use Rattle.std.specs.Prelude.{IfOk, IfErr};
-ghost use Rattle.replay_log.specs.Parts.{IsHeader, IsHeaderFault};
+ghost use Rattle.replay_log.specs.Answers.{IsTold};
+ghost use Rattle.replay_log.specs.Parts.{IsHeader};
 
 use crate::fault::LogFault;
 use crate::words::word_at;
@@ -23,7 +24,7 @@ pub struct Header {
 /// Reads the header: eight bytes of magic, the digest, the pages and the inputs.
 pub fn header_of(bytes: &[u8]) -> Result<Header, LogFault>
     ensures ok { IfOk result (IsHeader bytes.now) }
-    ensures fault { IfErr result (IsHeaderFault bytes.now) }
+    ensures fault { IfErr result (IsTold bytes.now) }
 {
     if !bytes.starts_with(&MAGIC) {
         return Err(LogFault::At { kind: LogKind::Magic, offset: 0 });

@@ -45,7 +45,7 @@ fn body_of(alloc: Global, bytes: &[u8]) -> Result<(Vec<CallRecord>, RunEnd), Log
         match item {
             Item::Call(call) => {
                 least = u64::from(step_of(&call)) + 1;
-                records.push(call).map_err(|_| LogFault::NoMemory)?;
+                records.push(call)?;
                 rest = after;
             }
             Item::End(end) => {
@@ -59,6 +59,23 @@ fn body_of(alloc: Global, bytes: &[u8]) -> Result<(Vec<CallRecord>, RunEnd), Log
     }
 }
 
+fn log_of(alloc: Global, bytes: &[u8]) -> Result<Log, LogFault>
+    requires { length bytes.now ≤ 2 ^ 26 }
+    ensures ok { IfOk result (λ log. (bytes.now ≡ log_text log) × IsLog log) }
+    ensures fault { IfErr result (IsTold bytes.now) }
+{
+    let header = header_of(bytes)?;
+    let (records, end) = body_of(alloc, bytes)?;
+    Ok(Log::new(
+        header.pages,
+        header.inputs,
+        header.digest,
+        records,
+        end,
+        bytes.len() as u64,
+    ))
+}
+
 /// Reads the log that these bytes are, or tells the first fault that is met from the front, with its offset.
 pub fn read_log(alloc: Global, bytes: &[u8]) -> Result<Log, LogFault>
     requires { length bytes.now ≤ 2 ^ 26 }
@@ -69,7 +86,5 @@ pub fn read_log(alloc: Global, bytes: &[u8]) -> Result<Log, LogFault>
     // Where the bytes are a log's text, that log is read, unless memory runs out.
     ensures only { (log : LogOf) → IsLog log → bytes.now ≡ log_text log → MatchResult result (λ l. l ≡ log) (λ e. e ≡ NoMemory) }
 {
-    let header = header_of(bytes)?;
-    let (records, end) = body_of(alloc, bytes)?;
-    Ok(Log::new(header.pages, header.inputs, header.digest, records, end, bytes.len() as u64))
+    log_of(alloc, bytes)
 }
