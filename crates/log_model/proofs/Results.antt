@@ -2,10 +2,10 @@
 use Rattle.std.proofs.Common.{◌≡◌, ℕ, zero, suc, ◌+◌, ◌-◌, ◌^◌, ◌<◌, ◌≤◌, ◌⊎◌, Bool, true, false, not, ◌&&◌, ◌||◌, cond, eqb, ltb, leb, ℤ, pos, negsuc, ◌≤ℤ◌, ◌<ℤ◌, refl, sym, ap, ◌∙◌, arith, inl, inr}
 use Rattle.std.specs.Prelude.{nat_lt, ◌==◌, if◌then◌else◌}
 use Rattle.std.specs.Int.{w32, cast_signed, cast_unsigned}
-use Rattle.std.proofs.lemmas.Bool.{cases_lt, cases_eq, ltb-true, lt-ltb, le-ltb, eq-eqb, le-leb, leb-true, eqb-true, or_cases, and_parts, not-false}
+use Rattle.std.proofs.lemmas.Bool.{cases_lt, cases_eq, ltb-true, lt-ltb, le-ltb, eq-eqb, le-leb, leb-true, eqb-true, or_cases, or_left, or_right, and_from, and_parts, not-false, not_from_true}
 use Rattle.std.proofs.lemmas.Int.{ints}
-use Rattle.log_model.specs.Logs.{IsRefusal, moved_length}
-use Rattle.log_model.specs.Faults.{is_refusal, is_read_result_wrong, is_write_result_wrong}
+use Rattle.log_model.specs.Logs.{IsRefusal, IsTrapKind, moved_length}
+use Rattle.log_model.specs.Faults.{is_refusal, is_read_result_wrong, is_write_result_wrong, is_trap_kind_wrong}
 
 -- ---- from the word to the signed number
 
@@ -49,3 +49,48 @@ write_result_of asked w h e =
         let p = and_parts (eqb w asked) (ltb w (2 ^ 31)) r in
         inr (natural_of w (ltb-true w (2 ^ 31) p.1) ∙ ap pos (eqb-true w asked p.0))
     ]
+
+-- ---- from the signed number to the word
+
+-- a refusal, or a number of bytes
+abbrev pub IsOutcome : ℤ → Type 0
+IsOutcome z = IsRefusal z ⊎ (pos 0 ≤ℤ z)
+
+pub word_of_below : (z : ℤ) → z <ℤ pos (2 ^ 31) → cast_unsigned w32 z < 2 ^ 32
+word_of_below (pos n) h = omega (arith, ints)
+word_of_below (negsuc n) h = omega (arith, ints)
+
+pub word_of_moved : (z : ℤ) → z <ℤ pos (2 ^ 31) → IsOutcome z → (if nat_lt (cast_unsigned w32 z) (2 ^ 31) then cast_unsigned w32 z else 0) ≡ moved_length z
+word_of_moved z h (inl (inl e)) = rw e refl
+word_of_moved z h (inl (inr e)) = rw e refl
+word_of_moved (pos n) h (inr p) = let below : n < 2 ^ 31 = omega (arith, ints) in rw (lt-ltb n (2 ^ 31) below) refl
+word_of_moved (negsuc n) h (inr p) = absurd (omega (arith, ints))
+
+pub cast_again : (z : ℤ) → z <ℤ pos (2 ^ 31) → IsOutcome z → cast_signed w32 (cast_unsigned w32 z) ≡ z
+cast_again z h (inl (inl e)) = rw e refl
+cast_again z h (inl (inr e)) = rw e refl
+cast_again (pos n) h (inr p) = omega (arith, ints)
+cast_again (negsuc n) h (inr p) = absurd (omega (arith, ints))
+
+pub read_is_right : (asked : ℕ) (z : ℤ) → z <ℤ pos (2 ^ 31) → IsRefusal z ⊎ ((pos 0 ≤ℤ z) × (z ≤ℤ pos asked)) → is_read_result_wrong asked (cast_unsigned w32 z) ≡ false
+read_is_right asked z h (inl (inl e)) = rw e refl
+read_is_right asked z h (inl (inr e)) = rw e refl
+read_is_right asked (pos n) h (inr p) =
+    let most : n ≤ asked = omega (arith, ints, p.1) in
+    let below : n < 2 ^ 31 = omega (arith, ints) in
+    not_from_true _ (or_right (is_refusal n) (leb n asked && ltb n (2 ^ 31)) (and_from _ _ (le-leb n asked most) (lt-ltb n (2 ^ 31) below)))
+read_is_right asked (negsuc n) h (inr p) = absurd (omega (arith, ints, p.0))
+
+pub write_is_right : (asked : ℕ) (z : ℤ) → z <ℤ pos (2 ^ 31) → IsRefusal z ⊎ (z ≡ pos asked) → is_write_result_wrong asked (cast_unsigned w32 z) ≡ false
+write_is_right asked z h (inl (inl e)) = rw e refl
+write_is_right asked z h (inl (inr e)) = rw e refl
+write_is_right asked (pos n) h (inr p) =
+    let same : n ≡ asked = omega (arith, ints, p) in
+    let below : n < 2 ^ 31 = omega (arith, ints) in
+    not_from_true _ (or_right (is_refusal n) (eqb n asked && ltb n (2 ^ 31)) (and_from _ _ (eq-eqb n asked same) (lt-ltb n (2 ^ 31) below)))
+write_is_right asked (negsuc n) h (inr p) = absurd (omega (arith, ints, p))
+
+pub kind_is_right : (k : ℕ) → IsTrapKind k → is_trap_kind_wrong k ≡ false
+kind_is_right k (inl h) = not_from_true _ (or_left (leb k 3 || eqb k 5) (eqb k 7) (or_left (leb k 3) (eqb k 5) (le-leb k 3 h)))
+kind_is_right k (inr (inl e)) = rw e refl
+kind_is_right k (inr (inr e)) = rw e refl
