@@ -1,3 +1,4 @@
 mod Taken
 mod Headers
 mod Steps
+mod Whole
