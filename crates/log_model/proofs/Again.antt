@@ -1,9 +1,9 @@
 -- The text of a record, whatever follows it, is that of no other record, and has no fault.
-use Rattle.std.proofs.Common.{◌≡◌, ℕ, ◌+◌, ◌^◌, ◌<◌, ◌≤◌, ◌⊎◌, Bool, true, false, ◌||◌, List, [], ◌∷◌, ◌++◌, length, get_or, take, drop, Some, None, ℤ, pos, ◌≤ℤ◌, refl, sym, ap, subst, ◌∙◌, arith, inl, inr}
+use Rattle.std.proofs.Common.{◌≡◌, ℕ, ◌+◌, ◌^◌, ◌<◌, ◌≤◌, ◌⊎◌, false, List, [], ◌∷◌, ◌++◌, length, get_or, take, drop, None, ℤ, pos, ◌≤ℤ◌, refl, sym, ap, subst, ◌∙◌, arith, inl, inr}
 use Rattle.std.specs.Prelude.{◌==◌, nat_lt, if◌then◌else◌}
 use Rattle.std.specs.List.{flat_map}
-use Rattle.std.specs.Int.{w32, w64, cast_signed, cast_unsigned, from_le_bytes}
-use Rattle.std.proofs.lemmas.Bool.{le-ltb, ne_eqb, or_from}
+use Rattle.std.specs.Int.{w32, cast_signed, cast_unsigned}
+use Rattle.std.proofs.lemmas.Bool.{le-ltb, ne_eqb}
 use Rattle.std.proofs.lemmas.Int.{ints}
 use Rattle.std.proofs.lemmas.List.{take_at, drop_at, length-append}
 use Rattle.std.proofs.lemmas.Nat.{from_le_bytes-to_le_bytes_4, from_le_bytes-to_le_bytes_8}
@@ -11,8 +11,8 @@ use Rattle.log_model.specs.declared.CallRecord.{CallRecord}
 use Rattle.log_model.specs.declared.CallRecord.TheVariants.{Read, Write, Clock, Other}
 use Rattle.log_model.specs.declared.RunEnd.{RunEnd}
 use Rattle.log_model.specs.declared.RunEnd.TheVariants.{Exit, Trap, Limit}
-use Rattle.log_model.specs.Logs.{word32, signed32, at_of, end_at, record_text, end_text, moved_length, IsTransfer, IsRecord, IsEnd, IsRefusal, IsTrapKind}
-use Rattle.log_model.specs.Faults.{tag_of, word, fixed_length, data_length, is_result_wrong, is_read_result_wrong, is_write_result_wrong, record_fault}
+use Rattle.log_model.specs.Logs.{word32, signed32, at_of, end_at, record_text, end_text, IsTransfer, IsRecord, IsEnd, IsRefusal, IsTrapKind}
+use Rattle.log_model.specs.Faults.{tag_of, word, fixed_length, data_length, is_result_wrong, record_fault}
 use Rattle.log_model.proofs.Words.{long}
 use Rattle.log_model.proofs.Results.{IsOutcome, word_of_below, word_of_moved, cast_again, read_is_right, write_is_right, kind_is_right}
 

@@ -1,10 +1,10 @@
 -- Bytes are taken apart in one way.
-use Rattle.std.proofs.Common.{◌≡◌, ℕ, ◌+◌, ◌-◌, ◌<◌, ◌≤◌, List, [], ◌∷◌, ◌++◌, length, take, drop, Option, Some, None, refl, sym, ap, ap₂, subst, ◌∙◌, append_assoc, arith}
+use Rattle.std.proofs.Common.{◌≡◌, ℕ, ◌+◌, ◌≤◌, List, [], ◌∷◌, ◌++◌, Some, None, refl, sym, ap, ap₂, subst, ◌∙◌, append_assoc}
 use Rattle.std.specs.List.{flat_map, AllByRecursion}
 use Rattle.log_model.specs.declared.CallRecord.{CallRecord}
 use Rattle.log_model.specs.declared.RunEnd.{RunEnd}
 use Rattle.log_model.specs.declared.LogKind.{LogKind}
-use Rattle.log_model.specs.Logs.{at_of, end_at, record_text, end_text, least_after, IsRecord, IsEnd, Rise}
+use Rattle.log_model.specs.Logs.{at_of, record_text, end_text, least_after, IsRecord, IsEnd, Rise}
 use Rattle.log_model.specs.Faults.{record_fault}
 use Rattle.log_model.proofs.Again.{record_of, end_of, behind, record_again, end_again, no_end}
 

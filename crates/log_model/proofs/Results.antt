@@ -1,8 +1,8 @@
 -- Results as numbers of 32 bits, and as signed numbers.
-use Rattle.std.proofs.Common.{◌≡◌, ℕ, zero, suc, ◌+◌, ◌-◌, ◌^◌, ◌<◌, ◌≤◌, ◌⊎◌, Bool, true, false, not, ◌&&◌, ◌||◌, cond, eqb, ltb, leb, ℤ, pos, negsuc, ◌≤ℤ◌, ◌<ℤ◌, refl, sym, ap, ◌∙◌, arith, inl, inr}
-use Rattle.std.specs.Prelude.{nat_lt, ◌==◌, if◌then◌else◌}
+use Rattle.std.proofs.Common.{◌≡◌, ℕ, ◌-◌, ◌^◌, ◌<◌, ◌≤◌, ◌⊎◌, true, false, ◌&&◌, ◌||◌, eqb, ltb, leb, ℤ, pos, negsuc, ◌≤ℤ◌, ◌<ℤ◌, refl, ap, ◌∙◌, arith, inl, inr}
+use Rattle.std.specs.Prelude.{nat_lt, if◌then◌else◌}
 use Rattle.std.specs.Int.{w32, cast_signed, cast_unsigned}
-use Rattle.std.proofs.lemmas.Bool.{cases_lt, cases_eq, ltb-true, lt-ltb, le-ltb, eq-eqb, le-leb, leb-true, eqb-true, or_cases, or_left, or_right, and_from, and_parts, not-false, not_from_true}
+use Rattle.std.proofs.lemmas.Bool.{cases_lt, ltb-true, lt-ltb, le-ltb, eq-eqb, le-leb, leb-true, eqb-true, or_cases, or_left, or_right, and_from, and_parts, not-false, not_from_true}
 use Rattle.std.proofs.lemmas.Int.{ints}
 use Rattle.log_model.specs.Logs.{IsRefusal, IsTrapKind, moved_length}
 use Rattle.log_model.specs.Faults.{is_refusal, is_read_result_wrong, is_write_result_wrong, is_trap_kind_wrong}
@@ -35,10 +35,10 @@ read_result_of asked w h e =
     elim (or_cases (is_refusal w) (leb w asked && ltb w (2 ^ 31)) (not-false _ e)) [
       | inl r ↦ inl (refusal_of w r)
       | inr r ↦
-        let p = and_parts (leb w asked) (ltb w (2 ^ 31)) r in
-        let below = ltb-true w (2 ^ 31) p.1 in
-        let most = leb-true w asked p.0 in
-        inr (omega (arith, ints), omega (arith, ints))
+          let p = and_parts (leb w asked) (ltb w (2 ^ 31)) r in
+          let below = ltb-true w (2 ^ 31) p.1 in
+          let most = leb-true w asked p.0 in
+          inr (omega (arith, ints), omega (arith, ints))
     ]
 
 pub write_result_of : (asked w : ℕ) → w < 2 ^ 32 → is_write_result_wrong asked w ≡ false → IsRefusal (cast_signed w32 w) ⊎ (cast_signed w32 w ≡ pos asked)
@@ -46,8 +46,8 @@ write_result_of asked w h e =
     elim (or_cases (is_refusal w) (eqb w asked && ltb w (2 ^ 31)) (not-false _ e)) [
       | inl r ↦ inl (refusal_of w r)
       | inr r ↦
-        let p = and_parts (eqb w asked) (ltb w (2 ^ 31)) r in
-        inr (natural_of w (ltb-true w (2 ^ 31) p.1) ∙ ap pos (eqb-true w asked p.0))
+          let p = and_parts (eqb w asked) (ltb w (2 ^ 31)) r in
+          inr (natural_of w (ltb-true w (2 ^ 31) p.1) ∙ ap pos (eqb-true w asked p.0))
     ]
 
 -- ---- from the signed number to the word

@@ -1,12 +1,10 @@
 -- Each log has one text, bytes with a fault are no log's text, and bytes have one fault.
-use Rattle.std.proofs.Common.{◌≡◌, ℕ, ◌-◌, ◌<◌, ◌≤◌, List, [], ◌++◌, length, take, drop, Option, Some, None, refl, sym, ap, subst, ◌∙◌, arith}
-use Rattle.std.specs.List.{flat_map}
+use Rattle.std.proofs.Common.{◌≡◌, ℕ, ◌-◌, ◌≤◌, List, [], ◌++◌, length, take, drop, Some, None, refl, sym, ap, subst, ◌∙◌, arith}
 use Rattle.std.proofs.lemmas.List.{append-nil}
 use Rattle.log_model.specs.declared.CallRecord.{CallRecord}
 use Rattle.log_model.specs.declared.RunEnd.{RunEnd}
 use Rattle.log_model.specs.declared.LogKind.{LogKind}
-use Rattle.log_model.specs.declared.LogKind.TheVariants.{Trailing}
-use Rattle.log_model.specs.Logs.{Log, IsLog, log_text, record_text, end_text, end_at, least_after, IsEnd}
+use Rattle.log_model.specs.Logs.{Log, IsLog, log_text, end_text, end_at, least_after, IsEnd}
 use Rattle.log_model.specs.Faults.{word, header_fault, record_fault, IsRead, HasFault, InHeader, InRecord, BehindEnd}
 use Rattle.log_model.proofs.Again.{end_again}
 use Rattle.log_model.proofs.HeaderAgain.{log_again}

@@ -1,12 +1,12 @@
 -- The first fault of bytes that are no log, and its offset.
-use Rattle.std.specs.Prelude.{◌≡◌, ℕ, ◌+◌, ◌-◌, ◌^◌, ◌<◌, ◌≤◌, ◌==◌, nat_eq, nat_lt, nat_le, Bool, true, false, not, ◌&&◌, ◌||◌, if◌then◌else◌, List, [], ◌∷◌, ◌++◌, length, take, drop, Option, Some, None, slice_index}
+use Rattle.std.specs.Prelude.{◌≡◌, ℕ, ◌+◌, ◌-◌, ◌^◌, ◌<◌, ◌≤◌, ◌==◌, nat_eq, nat_lt, nat_le, Bool, not, ◌&&◌, ◌||◌, if◌then◌else◌, List, [], ◌∷◌, ◌++◌, length, take, drop, Option, Some, None, slice_index}
 use Rattle.std.specs.List.{flat_map, AllByRecursion, starts_with}
 use Rattle.std.specs.Int.{w32, from_le_bytes}
 use Rattle.log_model.specs.declared.CallRecord.{CallRecord}
 use Rattle.log_model.specs.declared.RunEnd.{RunEnd}
 use Rattle.log_model.specs.declared.LogKind.{LogKind}
 use Rattle.log_model.specs.declared.LogKind.TheVariants.{Magic, Header, Short, Tag, Order, Result, Trailing}
-use Rattle.log_model.specs.Logs.{magic, at_of, end_at, record_text, end_text, least_after, IsRecord, IsEnd, Rise}
+use Rattle.log_model.specs.Logs.{magic, end_at, record_text, end_text, least_after, IsRecord, IsEnd, Rise}
 
 -- the name beside the first test that is true
 abbrev pub first_true : {X : Type 0} → List (Bool × X) → Option X

@@ -1,5 +1,5 @@
 -- What was taken apart at the front is the text of the record that is put together.
-use Rattle.std.proofs.Common.{◌≡◌, ℕ, ◌+◌, ◌^◌, ◌<◌, ◌≤◌, Bool, false, ◌||◌, leb, eqb, List, [], ◌∷◌, ◌++◌, length, take, drop, ℤ, to_z, of_z, SFits, refl, sym, ap, subst, ◌∙◌, arith, rules, inl, inr, get_or}
+use Rattle.std.proofs.Common.{◌≡◌, ℕ, ◌+◌, ◌^◌, ◌<◌, ◌≤◌, false, ◌||◌, leb, eqb, List, [], ◌∷◌, ◌++◌, length, drop, ℤ, to_z, of_z, SFits, refl, sym, ap, subst, ◌∙◌, arith, rules, inl, inr, get_or}
 use Rattle.std.specs.Prelude.{nat_lt, if◌then◌else◌}
 use Rattle.std.specs.List.{AllByRecursion}
 use Rattle.std.specs.Int.{w32, cast_signed}

@@ -2,8 +2,6 @@
 use Rattle.std.specs.Prelude.{◌≡◌, ℕ, ◌≤◌, ◌++◌, List, length, drop, false, Some}
 use Rattle.log_model.specs.Logs.{at_of, end_at, record_text, end_text, IsRecord, IsEnd}
 use Rattle.log_model.specs.Faults.{tag_of, word, fixed_length, data_length, is_result_wrong, record_fault}
-use Rattle.replay_log.specs.declared.tags.Tag.{Tag}
-use Rattle.replay_log.specs.declared.tags.Tag.TheVariants as tags
 use Rattle.replay_log.specs.declared.records.Item.{Item}
 use Rattle.replay_log.specs.declared.records.Item.TheVariants.{Call, End}
 use Rattle.replay_log.specs.declared.records.Refused.{Refused}

@@ -24,8 +24,7 @@ pub struct Front<'a> {
 fn is_refusal(word: u32) -> bool
     ensures { result ≡ is_refusal_word word }
 {
-    let result_of = word.cast_signed();
-    result_of == -9 || result_of == -14
+    matches!(word.cast_signed(), -9 | -14)
 }
 
 /// Whether the result of a read or a write, or the kind of a trap, is none that there is.

@@ -11,7 +11,7 @@ use log_model::LogKind;
 const MAGIC: [u8; 8] = *b"JETLOG1\n";
 
 /// The number of bytes of the header.
-const LENGTH: usize = 48;
+pub const HEADER_LENGTH: usize = 48;
 
 /// The fields of the header.
 #[derive(Drop)]
@@ -27,18 +27,30 @@ pub fn header_of(bytes: &[u8]) -> Result<Header, LogFault>
     ensures fault { IfErr result (IsTold bytes.now) }
 {
     if !bytes.starts_with(&MAGIC) {
-        return Err(LogFault::At { kind: LogKind::Magic, offset: 0 });
+        return Err(LogFault::At {
+            kind: LogKind::Magic,
+            offset: 0,
+        });
     }
-    if bytes.len() < LENGTH {
-        return Err(LogFault::At { kind: LogKind::Header, offset: 8 });
+    if bytes.len() < HEADER_LENGTH {
+        return Err(LogFault::At {
+            kind: LogKind::Header,
+            offset: 8,
+        });
     }
     let pages = word_at(bytes, 40);
     if pages == 0 || pages > 4096 {
-        return Err(LogFault::At { kind: LogKind::Header, offset: 40 });
+        return Err(LogFault::At {
+            kind: LogKind::Header,
+            offset: 40,
+        });
     }
     let inputs = word_at(bytes, 44);
     if inputs > 16 {
-        return Err(LogFault::At { kind: LogKind::Header, offset: 44 });
+        return Err(LogFault::At {
+            kind: LogKind::Header,
+            offset: 44,
+        });
     }
     let mut digest = [0; 32];
     digest.copy_from_slice(&bytes[8..40]);

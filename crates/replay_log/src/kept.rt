@@ -32,7 +32,14 @@ impl Model for Log {
 }
 
 impl Log {
-    pub(crate) fn new(pages: u32, inputs: u32, digest: [u8; 32], records: Vec<CallRecord>, end: RunEnd, size: u64) -> Log
+    pub(crate) fn new(
+        pages: u32,
+        inputs: u32,
+        digest: [u8; 32],
+        records: Vec<CallRecord>,
+        end: RunEnd,
+        size: u64,
+    ) -> Log
         requires { IsKept record { pages = pages; inputs = inputs; digest = digest; records = records.items; end = end } size }
         ensures { result ≡ record { pages = pages; inputs = inputs; digest = digest; records = records.items; end = end } }
     {

@@ -8,9 +8,9 @@ ghost use Rattle.replay_log.specs.Parts.{IsBody};
 ghost use Rattle.replay_log.specs.declared.fault.LogFault.TheVariants.{NoMemory};
 
 use crate::fault::LogFault;
-use crate::header::header_of;
+use crate::header::{HEADER_LENGTH, header_of};
 use crate::kept::Log;
-use crate::records::{item_of, Item};
+use crate::records::{Item, item_of};
 use log_model::{CallRecord, LogKind, RunEnd};
 use std::alloc::Global;
 
@@ -35,7 +35,7 @@ fn body_of(alloc: Global, bytes: &[u8]) -> Result<(Vec<CallRecord>, RunEnd), Log
 {
     let mut records = Vec::new(alloc);
     let mut least = 0;
-    let mut rest = &bytes[48..];
+    let mut rest = &bytes[HEADER_LENGTH..];
     loop {
         let offset = (bytes.len() - rest.len()) as u64;
         let (item, after) = match item_of(alloc, least, rest) {
@@ -53,12 +53,16 @@ fn body_of(alloc: Global, bytes: &[u8]) -> Result<(Vec<CallRecord>, RunEnd), Log
                     return Ok((records, end));
                 }
                 let offset = (bytes.len() - after.len()) as u64;
-                return Err(LogFault::At { kind: LogKind::Trailing, offset });
+                return Err(LogFault::At {
+                    kind: LogKind::Trailing,
+                    offset,
+                });
             }
         }
     }
 }
 
+/// The log or the fault, as `read_log` answers it.
 fn log_of(alloc: Global, bytes: &[u8]) -> Result<Log, LogFault>
     requires { length bytes.now ≤ 2 ^ 26 }
     ensures ok { IfOk result (λ log. (bytes.now ≡ log_text log) × IsLog log) }

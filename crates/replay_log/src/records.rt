@@ -6,7 +6,7 @@ ghost use Rattle.replay_log.specs.declared.records.Refused.TheVariants.{Faulty, 
 ghost use Rattle.replay_log.specs.Records.{told_at, IsTaken, IsRefused};
 
 use crate::fault::LogFault;
-use crate::front::{front_of, Front};
+use crate::front::{Front, front_of};
 use crate::tags::Tag;
 use crate::words::{long_at, word_at};
 use log_model::{CallRecord, Data, LogKind, RunEnd};
@@ -83,10 +83,23 @@ pub fn item_of(alloc: Global, least: u64, rest: &[u8]) -> Result<(Item, &[u8]), 
             result: word_at(rest, 17).cast_signed(),
             bytes: Data::from_vec(Vec::from_slice(alloc, front.bytes)?),
         }),
-        Tag::Clock => Item::Call(CallRecord::Clock { at, value: long_at(rest, 5) }),
-        Tag::Other => Item::Call(CallRecord::Other { at, number: word_at(rest, 5) }),
-        Tag::Exit => Item::End(RunEnd::Exit { at, code: word_at(rest, 5) }),
-        Tag::Trap => Item::End(RunEnd::Trap { at, kind: word_at(rest, 5), pc: word_at(rest, 9) }),
+        Tag::Clock => Item::Call(CallRecord::Clock {
+            at,
+            value: long_at(rest, 5),
+        }),
+        Tag::Other => Item::Call(CallRecord::Other {
+            at,
+            number: word_at(rest, 5),
+        }),
+        Tag::Exit => Item::End(RunEnd::Exit {
+            at,
+            code: word_at(rest, 5),
+        }),
+        Tag::Trap => Item::End(RunEnd::Trap {
+            at,
+            kind: word_at(rest, 5),
+            pc: word_at(rest, 9),
+        }),
         Tag::Limit => Item::End(RunEnd::Limit { at }),
     };
     Ok((item, front.after))

@@ -22,8 +22,8 @@ returns-clause-ok c =
 pub returns-then-not-starts_with-clause-fault : goal.returns-then-not-starts_with-clause-fault
 returns-then-not-starts_with-clause-fault c = InHeader (search rules)
 
-pub returns-then-bytes-lt-LENGTH-clause-fault : goal.returns-then-bytes-lt-LENGTH-clause-fault
-returns-then-bytes-lt-LENGTH-clause-fault c = InHeader (search rules)
+pub returns-then-bytes-lt-HEADER_LENGTH-clause-fault : goal.returns-then-bytes-lt-HEADER_LENGTH-clause-fault
+returns-then-bytes-lt-HEADER_LENGTH-clause-fault c = InHeader (search rules)
 
 pub returns-then-pages-eq0-clause-fault : goal.returns-then-pages-eq0-clause-fault
 returns-then-pages-eq0-clause-fault c = InHeader (search rules)

@@ -1,4 +1,4 @@
-use Rattle.std.proofs.Common.{sym, ap, subst, arith, ◌∙◌, ◌+◌}
+use Rattle.std.proofs.Common.{sym, subst, arith}
 use Rattle.std.proofs.lemmas.Bool.{eqb-true, eqb-false}
 use Rattle.replay_log.specs.Records.{IsTaken}
 use Rattle.replay_log.specs.declared.records.Item.{Item}
