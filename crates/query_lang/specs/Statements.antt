@@ -1,12 +1,12 @@
 -- What the words of a line say.
-use Rattle.std.specs.Prelude.{◌≡◌, ℕ, Bool, true, false, ◌&&◌, not, is_some, List, [], ◌∷◌, map, codes, Option, Some, None, IfSome, if◌then◌else◌}
+use Rattle.std.specs.Prelude.{◌≡◌, ℕ, Bool, true, false, ◌&&◌, not, is_some, ◌==◌, ◌||◌, length, List, [], ◌∷◌, map, codes, Option, Some, None, IfSome, if◌then◌else◌}
 use Rattle.std.specs.List.{filter}
 use Rattle.std.specs.Str.{bytes_eq}
 use Rattle.flow_model.specs.declared.Rule.{Rule}
 use Rattle.report_model.specs.declared.QueryKind.{QueryKind}
 use Rattle.report_model.specs.declared.QueryKind.TheVariants.{SecondRule}
 use Rattle.report_model.specs.Query.{Choice}
-use Rattle.report_model.specs.Grammar.{is_rule, is_source, is_sink, chooses_bytes, choice_of, rule_named, word_at, statement_fault}
+use Rattle.report_model.specs.Grammar.{is_rule, is_source, is_sink, chooses_bytes, choice_of, rule_named, word_at, statement_fault, words_fault, is_all}
 use Rattle.query_lang.specs.declared.statement.Statement.{Statement}
 use Rattle.query_lang.specs.declared.statement.Statement.TheVariants.{RuleIs, Source, Sink}
 use Rattle.query_lang.specs.declared.statement.Operands.{Operands}
@@ -52,3 +52,15 @@ abbrev pub AreOperands : List (List ℕ) → Operands → Type 0
 AreOperands ws operands.All = (word : List ℕ) × (ws ≡ word ∷ []) × (is_all_word word ≡ true)
 AreOperands ws (operands.Channel channel) = (ws ≡ channel.now ∷ []) × (is_all_word channel.now ≡ false)
 AreOperands ws (operands.Range channel from past) = (ws ≡ channel.now ∷ from.now ∷ past.now ∷ []) × (is_all_word channel.now ≡ false)
+
+-- there are neither 1 nor 3 words behind the keyword, or 3 of which the first is `all`
+abbrev pub is_count_wrong_behind : List ℕ → List (List ℕ) → Bool
+is_count_wrong_behind keyword ws = not ((length (keyword ∷ ws) == 2) || ((length (keyword ∷ ws) == 4) && not (is_all (keyword ∷ ws))))
+
+-- the words are at fault, and first by this
+abbrev pub IsFaultOf : List (List ℕ) → QueryKind → Type 0
+IsFaultOf ws kind = (after_rule : Bool) → words_fault after_rule ws ≡ Some kind
+
+-- the words choose this, and are not at fault
+abbrev pub IsChoiceOf : List (List ℕ) → Choice → Type 0
+IsChoiceOf ws choice = (choice_of ws ≡ choice) × ((after_rule : Bool) → words_fault after_rule ws ≡ None)

@@ -1,6 +1,7 @@
 //! The words of a line.
 
 ghost use Rattle.std.specs.Prelude.{◌≡◌, not, position};
+ghost use Rattle.std.specs.List.{list_any};
 ghost use Rattle.std.specs.Iterator.{YieldsFirstBy, item_count};
 ghost use Rattle.report_model.specs.Grammar.{words};
 ghost use Rattle.report_model.specs.Grammar.{is_blank as is_blank_byte};
@@ -15,10 +16,17 @@ fn is_blank(byte: u8) -> bool
 }
 
 /// Whether no line but a comment may have the byte.
-pub fn is_bad_byte(byte: u8) -> bool
+fn is_bad_byte(byte: u8) -> bool
     ensures { result ≡ is_bad byte }
 {
     !(byte == b'\t' || (b' '..=b'~').contains(&byte))
+}
+
+/// Whether the line has a byte that only a comment may have.
+pub fn has_bad_byte(line: &[u8]) -> bool
+    ensures { result ≡ list_any is_bad line.now }
+{
+    line.iter().any(|byte| is_bad_byte(*byte))
 }
 
 /// Where the first byte stands that is no blank.
