@@ -1,6 +1,6 @@
 -- What the crate's choices stand for.
-use Rattle.std.specs.Prelude.{ℕ, Bool, true, false, List, [], ◌∷◌, ◌++◌, map, Option, Some, None}
-use Rattle.report_model.specs.Query.{Choice, Offsets}
+use Rattle.std.specs.Prelude.{◌≡◌, ℕ, Bool, true, false, List, [], ◌∷◌, ◌++◌, map, Option, Some, None}
+use Rattle.report_model.specs.Query.{Choice, Offsets, chooses}
 use Rattle.query_lang.specs.declared.choice.Offsets.{Offsets as PlainOffsets}
 use Rattle.query_lang.specs.declared.choice.Span.{Span}
 use Rattle.query_lang.specs.declared.choice.Choice.{Choice as PlainChoice}
@@ -28,3 +28,7 @@ if_all false = []
 -- each byte where that is said, and the spans
 abbrev pub choices_of : Bool → List Span → List Choice
 choices_of all spans = if_all all ++ map span_choice spans
+
+-- they choose the same bytes
+abbrev pub SameChoices : List Choice → List Choice → Type 0
+SameChoices xs ys = (c o : ℕ) → chooses xs c o ≡ chooses ys c o

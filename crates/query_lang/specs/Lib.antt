@@ -1,3 +1,5 @@
 pub mod Parts
 pub mod Choices
 pub mod Statements
+pub mod Drafts
+pub mod Answers

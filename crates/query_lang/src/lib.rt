@@ -6,11 +6,17 @@
 #![tactic(auto)]
 
 mod choice;
+mod chosen;
+mod draft;
 mod fault;
 mod lines;
 mod number;
+mod parser;
+mod query;
 mod statement;
 mod words;
 
 pub use fault::QueryFault;
+pub use parser::parse;
+pub use query::Query;
 pub use report_model::QueryKind;
