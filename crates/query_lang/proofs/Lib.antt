@@ -2,3 +2,5 @@ pub mod WordLemmas
 pub mod LineLemmas
 pub mod NumberLemmas
 pub mod StatementLemmas
+pub mod ParseLemmas
+pub mod ChoiceLemmas

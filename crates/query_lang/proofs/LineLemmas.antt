@@ -35,7 +35,7 @@ all_one_part : (xs : List ℕ) → position_or_len is_lf xs ≡ length xs → sl
 all_one_part [] h = refl
 all_one_part (x ∷ xs) h = by (all_one_part xs) (is_lf x) h where
   by : (position_or_len is_lf xs ≡ length xs → slice_split is_lf xs ≡ xs ∷ []) → (b : Bool) → cond (not b) (1 + position_or_len is_lf xs) 0 ≡ length (x ∷ xs)
-    → cond b ([] ∷ slice_split is_lf xs) (onto_first x (slice_split is_lf xs)) ≡ (x ∷ xs) ∷ []
+      → cond b ([] ∷ slice_split is_lf xs) (onto_first x (slice_split is_lf xs)) ≡ (x ∷ xs) ∷ []
   by ih true h = absurd (omega arith)
   by ih false h = ap (onto_first x) (ih (omega arith))
 
@@ -63,11 +63,13 @@ without_last_cr-is (x ∷ []) = by (nat_eq x 0x0d) where
 without_last_cr-is (x ∷ y ∷ xs) = by (without_last_cr-is (y ∷ xs)) where
   less : length (x ∷ y ∷ xs) - 1 ≡ suc (length (y ∷ xs) - 1)
   less = omega arith
+
   onto : (b : Bool) (n : ℕ) → x ∷ cond b (take n (y ∷ xs)) (y ∷ xs) ≡ cond b (x ∷ take n (y ∷ xs)) (x ∷ y ∷ xs)
   onto true n = refl
   onto false n = refl
+
   by : without_last_cr (y ∷ xs) ≡ cond (bytes_eq (drop (length (y ∷ xs) - 1) (y ∷ xs)) (0x0d ∷ [])) (take (length (y ∷ xs) - 1) (y ∷ xs)) (y ∷ xs)
-    → x ∷ without_last_cr (y ∷ xs) ≡ cond (bytes_eq (drop (length (x ∷ y ∷ xs) - 1) (x ∷ y ∷ xs)) (0x0d ∷ [])) (take (length (x ∷ y ∷ xs) - 1) (x ∷ y ∷ xs)) (x ∷ y ∷ xs)
+      → x ∷ without_last_cr (y ∷ xs) ≡ cond (bytes_eq (drop (length (x ∷ y ∷ xs) - 1) (x ∷ y ∷ xs)) (0x0d ∷ [])) (take (length (x ∷ y ∷ xs) - 1) (x ∷ y ∷ xs)) (x ∷ y ∷ xs)
   by ih = rw (less, ih) (onto (bytes_eq (drop (length (y ∷ xs) - 1) (y ∷ xs)) (0x0d ∷ [])) (length (y ∷ xs) - 1))
 
 -- ---- by what a search for a line feed answers
@@ -75,11 +77,11 @@ without_last_cr-is (x ∷ y ∷ xs) = by (without_last_cr-is (y ∷ xs)) where
 pub lines_behind : (xs : List ℕ) (i : ℕ) → position is_lf xs ≡ Some i → lines xs ≡ without_last_cr (take i xs) ∷ lines (drop (i + 1) xs)
 lines_behind xs i h = by (nat_lt (position_or_len is_lf xs) (length xs)) refl h where
   by : (b : Bool) → nat_lt (position_or_len is_lf xs) (length xs) ≡ b → cond b (Some (position_or_len is_lf xs)) None ≡ Some i
-    → lines xs ≡ without_last_cr (take i xs) ∷ lines (drop (i + 1) xs)
+      → lines xs ≡ without_last_cr (take i xs) ∷ lines (drop (i + 1) xs)
   by true e h =
-    let found : position_or_len is_lf xs ≡ i = cc in
-    let within : position_or_len is_lf xs < length xs = grind (arith, nat_tests) in
-    subst (λ (n : ℕ). lines xs ≡ without_last_cr (take n xs) ∷ lines (drop (n + 1) xs)) found (lines_first xs within)
+      let found : position_or_len is_lf xs ≡ i = cc in
+      let within : position_or_len is_lf xs < length xs = grind (arith, nat_tests) in
+      subst (λ (n : ℕ). lines xs ≡ without_last_cr (take n xs) ∷ lines (drop (n + 1) xs)) found (lines_first xs within)
   by false e h = cc
 
 pub one_line : (xs : List ℕ) → position is_lf xs ≡ None → lines xs ≡ xs ∷ []

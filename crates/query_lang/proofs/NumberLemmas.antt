@@ -26,6 +26,7 @@ pub no_number : (word : List ℕ) → 4294967295 < digits_value 10 word → numb
 no_number word h = by (nat_lt 0 (length word) && nat_le (length word) 10 && all_ascii_digits word) (nat_le (digits_value 10 word) 4294967295) test where
   test : nat_le (digits_value 10 word) 4294967295 ≡ false
   test = grind (arith, nat_tests)
+
   by : (a b : Bool) → b ≡ false → cond (a && b) (Some (digits_value 10 word)) None ≡ None
   by true b e = rw e refl
   by false b e = refl

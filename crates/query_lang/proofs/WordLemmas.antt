@@ -26,9 +26,9 @@ pub parts_of : (xs : List ℕ) → (others : List (List ℕ)) × (slice_split is
 parts_of [] = ([], refl, refl)
 parts_of (x ∷ xs) = by (parts_of xs) (is_blank x) refl where
   by : (others : List (List ℕ)) × (slice_split is_blank xs ≡ first_word xs ∷ others) × (filter has_bytes others ≡ words (behind_word xs))
-    → (b : Bool) → is_blank x ≡ b
-    → (others : List (List ℕ)) × (cond b ([] ∷ slice_split is_blank xs) (onto_first x (slice_split is_blank xs)) ≡ take (cond (not b) (1 + position_or_len is_blank xs) 0) (x ∷ xs) ∷ others)
-    × (filter has_bytes others ≡ words (drop (cond (not b) (1 + position_or_len is_blank xs) 0) (x ∷ xs)))
+      → (b : Bool) → is_blank x ≡ b
+      → (others : List (List ℕ)) × (cond b ([] ∷ slice_split is_blank xs) (onto_first x (slice_split is_blank xs)) ≡ take (cond (not b) (1 + position_or_len is_blank xs) 0) (x ∷ xs) ∷ others)
+      × (filter has_bytes others ≡ words (drop (cond (not b) (1 + position_or_len is_blank xs) 0) (x ∷ xs)))
   by ih true e = (slice_split is_blank xs, refl, rw e refl)
   by ih false e = (ih.0, rw (ih.1, one_more (position_or_len is_blank xs)) refl, rw (one_more (position_or_len is_blank xs)) ih.2)
 
@@ -40,8 +40,8 @@ pub nothing_left : (xs : List ℕ) → length (first_word (from_word xs)) ≡ 0 
 nothing_left [] h = refl
 nothing_left (x ∷ xs) h = by (nothing_left xs) (is_blank x) refl h where
   by : (length (first_word (from_word xs)) ≡ 0 → from_word xs ≡ []) → (b : Bool) → is_blank x ≡ b
-    → length (first_word (drop (cond (not (not b)) (1 + position_or_len (λ c. not (is_blank c)) xs) 0) (x ∷ xs))) ≡ 0
-    → drop (cond (not (not b)) (1 + position_or_len (λ c. not (is_blank c)) xs) 0) (x ∷ xs) ≡ []
+      → length (first_word (drop (cond (not (not b)) (1 + position_or_len (λ c. not (is_blank c)) xs) 0) (x ∷ xs))) ≡ 0
+      → drop (cond (not (not b)) (1 + position_or_len (λ c. not (is_blank c)) xs) 0) (x ∷ xs) ≡ []
   by ih true e h = rw (one_more (position_or_len (λ c. not (is_blank c)) xs)) (ih (rw (one_more (position_or_len (λ c. not (is_blank c)) xs)) at h))
   by ih false e h = let k = rw (e, one_more (position_or_len is_blank xs)) at h in absurd (omega (arith, k))
 

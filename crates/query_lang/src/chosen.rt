@@ -1,7 +1,8 @@
 //! The bytes that a query chooses.
 
-ghost use Rattle.std.specs.Prelude.{◌≡◌, false, [], ◌∷◌, ◌++◌, IfOk, OnOk};
-ghost use Rattle.query_lang.specs.Choices.{choices_of, choice_shown, SameChoices};
+ghost use Rattle.std.specs.Prelude.{◌≡◌, [], ◌∷◌, ◌++◌, IfOk, OnOk};
+ghost use Rattle.std.specs.List.{list_any};
+ghost use Rattle.query_lang.specs.Choices.{choices_of, choice_shown, span_choice, SameChoices};
 ghost use Rattle.report_model.specs.Query.{chooses};
 
 use crate::choice::{Choice, Span};
@@ -59,7 +60,7 @@ impl Model for Chosen {
 
 /// Whether one of the spans has the byte.
 fn is_in_span(spans: &[Span], channel: u8, offset: u32) -> bool
-    ensures { result ≡ chooses (choices_of false spans.now) channel offset }
+    ensures { result ≡ list_any (λ span. chooses (span_choice span ∷ []) channel offset) spans.now }
 {
     spans.iter().any(|span| span.has(channel, offset))
 }

@@ -27,5 +27,8 @@ pub fn split_line(text: &[u8]) -> (&[u8], Option<&[u8]>)
     let Some(end) = line_feed_in(text) else {
         return (text, None);
     };
-    (without_carriage_return(&text[..end]), Some(&text[end + 1..]))
+    (
+        without_carriage_return(&text[..end]),
+        Some(&text[end + 1..]),
+    )
 }

@@ -145,11 +145,13 @@ fn choice_of(operands: Words<'_>) -> Result<Choice, QueryKind>
         None => Err(QueryKind::Count),
         Some(Operands::All) => Ok(Choice::All),
         Some(Operands::Channel(channel)) => Ok(Choice::Span(whole_channel(channel)?)),
-        Some(Operands::Range {
-            channel,
-            from,
-            past,
-        }) => Ok(Choice::Span(range_of(channel, from, past)?)),
+        Some(
+            Operands::Range {
+                channel,
+                from,
+                past,
+            },
+        ) => Ok(Choice::Span(range_of(channel, from, past)?)),
     }
 }
 
