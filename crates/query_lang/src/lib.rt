@@ -20,3 +20,6 @@ pub use fault::QueryFault;
 pub use parser::parse;
 pub use query::Query;
 pub use report_model::QueryKind;
+
+#[cfg(test)]
+mod tests;
