@@ -4,3 +4,4 @@ pub mod NumberLemmas
 pub mod StatementLemmas
 pub mod ParseLemmas
 pub mod ChoiceLemmas
+pub mod SpanLemmas

@@ -1,8 +1,9 @@
 //! The bytes that a query chooses.
 
-ghost use Rattle.std.specs.Prelude.{◌≡◌, [], ◌∷◌, ◌++◌, IfOk, OnOk};
-ghost use Rattle.std.specs.List.{list_any};
-ghost use Rattle.query_lang.specs.Choices.{choices_of, choice_shown, span_choice, SameChoices};
+ghost use Rattle.std.specs.Prelude.{◌≡◌, [], ◌∷◌, ◌++◌, length, IfOk, OnOk, AllPairs};
+ghost use Rattle.std.specs.List.{list_any, AllAdjacentBelow};
+ghost use Rattle.query_lang.specs.Choices.{choices_of, choice_shown, SameChoices};
+ghost use Rattle.query_lang.specs.Spans.{span_has, NotAfter, Precedes, SameBytes};
 ghost use Rattle.report_model.specs.Query.{chooses};
 
 use crate::choice::{Choice, Span};
@@ -41,6 +42,47 @@ impl Gathered {
     }
 }
 
+/// The spans by channel and start.
+fn sort(mut spans: Vec<Span>) -> Vec<Span>
+    ensures ascend { AllAdjacentBelow NotAfter result.items (length result.items) }
+    ensures same { SameBytes result.items spans.items }
+{
+    spans.sort_unstable();
+    spans
+}
+
+/// The bytes of spans that ascend, as spans that lie apart.
+fn merged(alloc: Global, spans: &[Span]) -> Result<Vec<Span>, AllocError>
+    requires { AllAdjacentBelow NotAfter spans.now (length spans.now) }
+    ensures apart { IfOk result (λ kept. AllPairs Precedes kept.items) }
+    ensures same { IfOk result (λ kept. SameBytes kept.items spans.now) }
+{
+    let mut kept = Vec::new(alloc);
+    let Some((first, others)) = spans.split_first() else {
+        return Ok(kept);
+    };
+    let mut last = *first;
+    for span in others {
+        if last.reaches(span) {
+            last = last.joined(span);
+        } else {
+            kept.push(last)?;
+            last = *span;
+        }
+    }
+    kept.push(last)?;
+    Ok(kept)
+}
+
+/// Whether one of spans that lie apart has the byte.
+fn is_in_spans(spans: &[Span], channel: u8, offset: u32) -> bool
+    requires { AllPairs Precedes spans.now }
+    ensures { result ≡ list_any (span_has channel offset) spans.now }
+{
+    let started = spans.partition_point(|span| span.starts_by(channel, offset));
+    started > 0 && spans[started - 1].has(channel, offset)
+}
+
 /// Bytes by channel and offset.
 #[derive(Drop)]
 pub struct Chosen {
@@ -49,37 +91,32 @@ pub struct Chosen {
 }
 
 impl Model for Chosen {
-    ghost use Rattle.std.specs.Prelude.{List};
+    ghost use Rattle.std.specs.Prelude.{List, AllPairs};
     ghost use Rattle.report_model.specs.Query.{Choice};
     ghost use Rattle.query_lang.specs.Choices.{choices_of};
+    ghost use Rattle.query_lang.specs.Spans.{Precedes};
 
     ghost Value = { List Choice };
 
     ghost view = { λ c. choices_of c.all c.spans.items };
-}
 
-/// Whether one of the spans has the byte.
-fn is_in_span(spans: &[Span], channel: u8, offset: u32) -> bool
-    ensures { result ≡ list_any (λ span. chooses (span_choice span ∷ []) channel offset) spans.now }
-{
-    spans.iter().any(|span| span.has(channel, offset))
+    ghost invariant = { λ c. AllPairs Precedes c.spans.items };
 }
 
 impl Chosen {
     /// What was gathered.
-    pub fn of(gathered: Gathered) -> Result<Chosen, AllocError>
+    pub fn of(alloc: Global, gathered: Gathered) -> Result<Chosen, AllocError>
         ensures { IfOk result (λ chosen. SameChoices chosen (choices_of gathered.all gathered.spans.items)) }
     {
-        Ok(Chosen {
-            all: gathered.all,
-            spans: gathered.spans,
-        })
+        let Gathered { all, spans } = gathered;
+        let spans = merged(alloc, &sort(spans))?;
+        Ok(Chosen { all, spans })
     }
 
     /// Whether the byte is chosen.
     pub fn has(&self, channel: u8, offset: u32) -> bool
         ensures { result ≡ chooses self.now channel offset }
     {
-        self.all || is_in_span(&self.spans, channel, offset)
+        self.all || is_in_spans(&self.spans, channel, offset)
     }
 }

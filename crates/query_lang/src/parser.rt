@@ -13,7 +13,7 @@ use report_model::QueryKind;
 use std::alloc::Global;
 
 /// The query of which all lines were taken up.
-fn finish(draft: Draft) -> Result<Query, QueryFault>
+fn finish(alloc: Global, draft: Draft) -> Result<Query, QueryFault>
     ensures ok { IfOk result (IsFinished draft) }
     ensures fault { IfErr result (IsUnfinished draft) }
 {
@@ -26,8 +26,8 @@ fn finish(draft: Draft) -> Result<Query, QueryFault>
         line: 0,
         kind: QueryKind::NoRule,
     })?;
-    let sources = Chosen::of(sources).map_err(|_| QueryFault::NoMemory)?;
-    let sinks = Chosen::of(sinks).map_err(|_| QueryFault::NoMemory)?;
+    let sources = Chosen::of(alloc, sources).map_err(|_| QueryFault::NoMemory)?;
+    let sinks = Chosen::of(alloc, sinks).map_err(|_| QueryFault::NoMemory)?;
     Ok(Query::new(rule, sources, sinks))
 }
 
@@ -49,5 +49,5 @@ pub fn parse(alloc: Global, text: &[u8]) -> Result<Query, QueryFault>
         draft.take_up(number, line)?;
         left = behind;
     }
-    finish(draft)
+    finish(alloc, draft)
 }
