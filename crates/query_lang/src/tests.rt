@@ -7,6 +7,7 @@ use std::process::Abort;
 
 /// The text stands for no query, by this fault of this line.
 fn is_refused(rt: &impl Abort, alloc: Global, text: &[u8], line: u32, kind: QueryKind) {
+    assert!(rt; text.len() < 4096);
     match parse(alloc, text) {
         Ok(_) => assert!(rt; false, "{text:?} was read"),
         Err(QueryFault::NoMemory) => assert!(rt; false, "out of memory"),
@@ -32,6 +33,7 @@ fn is_read(
     sources: &[(u8, u32)],
     sinks: &[(u8, u32)],
 ) {
+    assert!(rt; text.len() < 4096);
     match parse(alloc, text) {
         Err(_) => assert!(rt; false, "{text:?} was refused"),
         Ok(query) => {
