@@ -1,8 +1,8 @@
 -- What is known of an effect before it is carried out, and how that went.
-use Rattle.std.specs.Prelude.{◌≡◌, ℕ, ◌<◌, ◌≤◌, Bool, true, false, ◌⊎◌, IsTrue}
+use Rattle.std.specs.Prelude.{◌≡◌, ◌<◌, ◌≤◌, ◌⊎◌, IsTrue}
 use Rattle.isa.specs.declared.Effect.{Effect}
 use Rattle.isa.specs.declared.Effect.TheVariants.{SetRegister, Jump, Branch, Load, Store, MoveOn, EnvironmentCall, Breakpoint}
-use Rattle.isa.specs.Machine.{State, Outcome, Retired, Called, Trapped, execute, call_of}
+use Rattle.isa.specs.Machine.{State, Retired, Called, Trapped, execute, call_of}
 use Rattle.rv_machine.specs.declared.state.Done.{Done}
 use Rattle.rv_machine.specs.declared.state.Done.TheVariants as done
 

@@ -4,7 +4,7 @@ use Rattle.isa.specs.declared.Instr.{Instr}
 use Rattle.isa.specs.declared.Call.{Call}
 use Rattle.isa.specs.declared.CallKind.TheVariants as kind
 use Rattle.isa.specs.Encodings.{Fits}
-use Rattle.isa.specs.Machine.{State, Outcome, Retired, Called, Trapped, next, Fetched, fetch, place_of, reg, in_window, call_of}
+use Rattle.isa.specs.Machine.{State, Retired, Called, Trapped, next, Fetched, fetch, place_of, reg, in_window, call_of}
 use Rattle.isa.specs.Calls.{after_read, after_write, after_clock, after_other, after_exit}
 use Rattle.rv_machine.specs.declared.Stepped.{Stepped}
 use Rattle.rv_machine.specs.declared.Stepped.TheVariants as stepped
