@@ -37,14 +37,17 @@ abbrev pub written_in : ℕ → Option CallSeen → ℕ
 written_in channel None = 0
 written_in channel (Some call) = written_by_kind channel call call.kind
 
+-- what the calls of these steps have in all
+abbrev pub total : (Option CallSeen → ℕ) → List StepSeen → ℕ
+total f [] = 0
+total f (s ∷ ss) = f s.call + total f ss
+
 -- the bytes that these steps read, and wrote, on a channel
 abbrev pub read_on : ℕ → List StepSeen → ℕ
-read_on channel [] = 0
-read_on channel (s ∷ ss) = read_in channel s.call + read_on channel ss
+read_on channel ss = total (read_in channel) ss
 
 abbrev pub written_on : ℕ → List StepSeen → ℕ
-written_on channel [] = 0
-written_on channel (s ∷ ss) = written_in channel s.call + written_on channel ss
+written_on channel ss = total (written_in channel) ss
 
 -- the offset of a read that moves bytes is how many bytes the steps before it read on its channel, and that of a write
 -- how many they wrote on its channel

@@ -15,7 +15,7 @@ use Rattle.replay_model.proofs.Agreement.{same_kind}
 use Rattle.replayer.specs.declared.difference.Difference.{Difference}
 use Rattle.replayer.specs.Differences.{IsFirst, arguments_compared}
 use Rattle.replayer.proofs.Firsts.{first_then, first_behind, first_before}
-use Rattle.replayer.proofs.Transfers.{IsHeld, write_held, length_held}
+use Rattle.replay_model.proofs.Transfers.{IsHeld, write_held, length_held}
 
 -- a call that waits in a state, of this kind, with the refusal that it has there
 pub record IsWaiting (s : State) (inputs : ℕ) (k : CallKind) (call : Call) (refused : ℤ) : Type 0 where

@@ -26,7 +26,7 @@ use Rattle.rv_machine.specs.declared.Stepped.{Stepped}
 use Rattle.rv_machine.specs.declared.Stepped.TheVariants.{Plain, Called, Trapped}
 use Rattle.replayer.specs.Steps.{Moves, IsDue, IsReady, IsFinished, IsSeenIn}
 use Rattle.replayer.proofs.Calls.{called_is}
-use Rattle.replayer.proofs.Transfers.{IsHeld, read_held, write_held, same_arguments, SameArguments}
+use Rattle.replay_model.proofs.Transfers.{IsHeld, read_held, write_held, same_arguments, SameArguments}
 
 -- ---- a record that agrees is due
 

@@ -11,7 +11,7 @@ use Rattle.log_model.specs.Logs.{IsRecord}
 use Rattle.replay_model.specs.Comparison.{allowed, bytes_compared}
 use Rattle.replay_model.specs.Comparison.{result as result_compared}
 use Rattle.replayer.specs.Differences.{IsFirst, compared_of}
-use Rattle.replayer.proofs.Transfers.{length_held}
+use Rattle.replay_model.proofs.Transfers.{length_held}
 use Rattle.replayer.proofs.Comparing.{IsWaiting, read_fields, write_differs, write_fields, write_is_held}
 use Rattle.replayer.proofs.run.Run.compare_call.Goals as goal
 

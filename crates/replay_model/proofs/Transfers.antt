@@ -15,9 +15,6 @@ use Rattle.replay_model.specs.declared.Field.TheVariants as field
 use Rattle.replay_model.specs.Comparison.{Compared, compared, first_different, arguments, arguments_of, allowed, unless_negative, bytes_compared, fields, CallOf}
 use Rattle.replay_model.specs.Comparison.{result as result_compared}
 use Rattle.replay_model.proofs.Agreement.{first_agrees, rest_agrees}
-use Rattle.replayer.specs.declared.difference.Difference.{Difference}
-use Rattle.replayer.specs.Differences.{IsFirst, compared_of, arguments_compared}
-use Rattle.replayer.proofs.Firsts.{first_then, first_behind, first_before}
 
 -- ---- the window
 
