@@ -1,0 +1,4 @@
+pub mod Agreement
+pub mod Track
+pub mod Transfers
+pub mod Offsets

@@ -4,6 +4,8 @@
 //! What there is to read stands in specs/.
 #![tactic(auto)]
 
+pub mod laws;
+
 /// What is compared at a step, in this order.
 #[derive(Clone, Copy, Debug, PartialEq, Eq)]
 pub enum Field {

@@ -1,0 +1,8 @@
+pub mod Jobs
+pub mod Ranges
+pub mod Positions
+pub mod Differences
+pub mod Steps
+pub mod Cursors
+pub mod Nexts
+pub mod Checks

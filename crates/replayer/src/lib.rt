@@ -1,2 +1,21 @@
-//! To be written.
+//! Replays of recorded runs: whether a log fits a program, and the steps of the run that it records.
+//!
+//! What there is to know of a run stands in `replay_model`'s definitions: its trace, where a log first
+//! differs from its program, and which logs fit.
 #![tactic(auto)]
+
+mod cursor;
+mod difference;
+mod divergence;
+mod fault;
+mod job;
+mod run;
+
+pub use cursor::{Cursor, Next};
+pub use fault::CheckFault;
+pub use flow_model::{CallSeen, StepSeen};
+pub use job::{Job, ReplaySummary};
+pub use replay_model::{Divergence, Field};
+
+#[cfg(test)]
+mod tests;

@@ -1,0 +1,101 @@
+-- One step of a check, against what the log has next.
+use Rattle.std.proofs.Common.{◌≡◌, ℕ, suc, ◌+◌, ◌^◌, ◌<◌, ◌≤◌, ◌⊎◌, inl, inr, Bool, true, false, List, [], ◌∷◌, Option, Some, None, refl, arith, ap, sym, ◌∙◌, subst}
+use Rattle.std.specs.Prelude.{nat_lt, if◌then◌else◌}
+use Rattle.std.proofs.lemmas.Bool.{ltb-true, ltb-false}
+use Rattle.isa.specs.Machine.{State}
+use Rattle.log_model.specs.declared.CallRecord.{CallRecord}
+use Rattle.log_model.specs.declared.RunEnd.{RunEnd}
+use Rattle.log_model.specs.declared.RunEnd.TheVariants.{Exit, Trap, Limit}
+use Rattle.log_model.specs.Logs.{Log, IsEnd, Rise, least_after, at_of, end_at, steps_by, steps}
+use Rattle.replay_model.specs.Run.{Moment}
+use Rattle.replay_model.specs.Comparison.{Compared, Expected, PlainStep, CallOf, EndOf, expected, first_different, difference, difference_at}
+use Rattle.replay_model.specs.Track.{IsOnTrack}
+use Rattle.replay_model.proofs.Track.{moment}
+use Rattle.replayer.specs.Steps.{compares, is_limit, expected_of}
+use Rattle.replayer.specs.declared.run.Expected.{Expected as Expects}
+use Rattle.replayer.specs.declared.run.Expected.TheVariants as expects
+
+-- ---- what is due
+
+plain_or_end : (b : Bool) (end e : RunEnd) → (if b then PlainStep else EndOf end) ≡ EndOf e → b ≡ false
+plain_or_end true end e h = cc
+plain_or_end false end e h = refl
+
+plain_or_call : (b : Bool) (r : CallRecord) (e : RunEnd) → (if b then PlainStep else CallOf r) ≡ EndOf e → ⊥
+plain_or_call true r e h = cc
+plain_or_call false r e h = cc
+
+end_due_by : (t : ℕ) (left : List CallRecord) (end e : RunEnd) → expected t left end ≡ EndOf e → end_at end ≤ t
+end_due_by t [] end e h = ltb-false t (end_at end) (plain_or_end (nat_lt t (end_at end)) end e h)
+end_due_by t (r ∷ rs) end e h = absurd (plain_or_call (nat_lt t (at_of r)) r e h)
+
+-- the end comes at its time
+pub end_due : (log : Log) (m : Moment) (x : Expected) (e : RunEnd) → x ≡ expected m.time m.left log.end → x ≡ EndOf e → end_at log.end ≤ m.time
+end_due log m x e h i = end_due_by m.time m.left log.end e (sym h ∙ i)
+
+least_rises : (t : ℕ) (rs : List CallRecord) → Rise t rs → t ≤ least_after t rs
+least_rises t [] h = omega arith
+least_rises t (r ∷ rs) h = let later = least_rises (at_of r + 1) rs h.1 in let first = h.0 in omega arith
+
+end_not_due : (b : Bool) (end : RunEnd) → ((e : RunEnd) → (if b then PlainStep else EndOf end) ≡ EndOf e → ⊥) → b ≡ true
+end_not_due true end h = refl
+end_not_due false end h = absurd (h end refl)
+
+before_end_by : (log : Log) (t : ℕ) (s : State) (left : List CallRecord) (read written : List ℕ) → IsOnTrack log (moment t s left read written) → ((e : RunEnd) → expected t left log.end ≡ EndOf e → ⊥) → t < end_at log.end
+before_end_by log t s [] read written on h = ltb-true t (end_at log.end) (end_not_due (nat_lt t (end_at log.end)) log.end h)
+before_end_by log t s (r ∷ rs) read written on h =
+    let first = on.rise.0 in
+    let later = least_rises (at_of r + 1) rs on.rise.1 in
+    let last = on.ends_after in
+    omega arith
+
+-- before the end something else is due
+pub before_end : (log : Log) (m : Moment) (x : Expected) → IsOnTrack log m → x ≡ expected m.time m.left log.end → ((e : RunEnd) → x ≡ EndOf e → ⊥) → m.time < end_at log.end
+before_end log m x on h none = before_end_by log m.time m.state m.left m.read m.written on (λ e i. none e (h ∙ i))
+
+pub end_within : (end : RunEnd) → end_at end ≤ steps_by end
+end_within (Exit at code) = omega arith
+end_within (Trap at kind pc) = omega arith
+end_within (Limit at) = omega arith
+
+pub steps_within : (end : RunEnd) → steps_by end ≤ end_at end + 1
+steps_within (Exit at code) = omega arith
+steps_within (Trap at kind pc) = omega arith
+steps_within (Limit at) = omega arith
+
+-- ---- what differs
+
+compared_at : (m : Moment) (inputs : ℕ) (x : Expected) → is_limit x ≡ false → difference_at m inputs x ≡ first_different (compares m.state inputs x)
+compared_at m inputs PlainStep h = refl
+compared_at m inputs (CallOf r) h = refl
+compared_at m inputs (EndOf (Exit at code)) h = refl
+compared_at m inputs (EndOf (Trap at kind pc)) h = refl
+compared_at m inputs (EndOf (Limit at)) h = cc
+
+-- at the limit nothing is compared; elsewhere the first difference is that of all that is compared
+pub difference_is : (log : Log) (m : Moment) (inputs : ℕ) (x : Expected) (o : Option Compared) → inputs ≡ log.inputs → x ≡ expected m.time m.left log.end → is_limit x ≡ false → first_different (compares m.state inputs x) ≡ o → difference log m ≡ o
+difference_is log m inputs x o i e l h =
+    ap (difference_at m log.inputs) (sym e) ∙ ap (λ (n : ℕ). difference_at m n x) (sym i) ∙ compared_at m inputs x l ∙ h
+
+limit_by : (m : Moment) (inputs : ℕ) (x : Expected) → is_limit x ≡ true → (difference_at m inputs x ≡ None) × ((e : RunEnd) × (x ≡ EndOf e))
+limit_by m inputs PlainStep h = cc
+limit_by m inputs (CallOf r) h = cc
+limit_by m inputs (EndOf (Exit at code)) h = cc
+limit_by m inputs (EndOf (Trap at kind pc)) h = cc
+limit_by m inputs (EndOf (Limit at)) h = (refl, (Limit at, refl))
+
+pub limit_ends : (log : Log) (m : Moment) (x : Expected) → x ≡ expected m.time m.left log.end → is_limit x ≡ true → (difference log m ≡ None) × (end_at log.end ≤ m.time)
+limit_ends log m x e h =
+    let limit = limit_by m log.inputs x h in
+    (ap (difference_at m log.inputs) (sym e) ∙ limit.0, end_due log m x limit.1.0 e limit.1.1)
+
+-- an end that is expected is one
+pub end_expected : (x : Expects) (e : RunEnd) → expected_of x ≡ EndOf e → x ≡ expects.End e
+end_expected expects.PlainStep e h = cc
+end_expected (expects.Call r) e h = cc
+end_expected (expects.End end) e h = let same : end ≡ e = cc in ap (λ (y : RunEnd). expects.End y) same
+
+pub end_small : (end : RunEnd) → IsEnd end → end_at end < 2 ^ 32
+end_small (Exit at code) h = h.0
+end_small (Trap at kind pc) h = h.0
+end_small (Limit at) h = h

@@ -1,0 +1,151 @@
+//! A program and a log that fits it.
+
+ghost use Rattle.std.specs.Prelude.{◌≡◌, ◌≤◌, ◌^◌, length, IfOk, IfErr, Ok};
+ghost use Rattle.elf_model.specs.Image.{image as image_of_file};
+ghost use Rattle.log_model.specs.Logs.{steps, steps_by};
+ghost use Rattle.replay_model.specs.Summary.{calls, bytes_read, bytes_written};
+ghost use Rattle.rv_machine.specs.Hart.{running};
+ghost use Rattle.replayer.specs.Jobs.{IsJob};
+ghost use Rattle.replayer.specs.Checks.{IsChecked, IsCause};
+
+use crate::divergence::first_divergence;
+use crate::fault::CheckFault;
+use elf_image::Image;
+use log_model::{CallRecord, RunEnd};
+use no_memory::NoMemory;
+use replay_log::Log;
+use rv_machine::{Machine, MachineFault};
+use sha2::{Digest, Sha256};
+use std::alloc::Global;
+use std::marker::Model;
+
+/// A program's image with a log that fits the program: the log has the program's digest, a window of the
+/// log's pages can hold the image, and the run under the log differs from it nowhere.
+#[derive(Drop)]
+pub struct Job {
+    image: Image,
+    log: Log,
+}
+
+/// What a log says of its run, in numbers: the steps, the calls before the end, the bytes that they read and
+/// wrote, and how the run ended.
+#[derive(Clone, Copy, Debug, PartialEq, Eq)]
+pub struct ReplaySummary {
+    pub steps: u64,
+    pub calls: u64,
+    pub read: u64,
+    pub written: u64,
+    pub end: RunEnd,
+}
+
+impl Model for Job {
+    ghost use Rattle.replayer.specs.Jobs.{Job as JobOf};
+
+    ghost Value = { JobOf };
+
+    ghost use Rattle.elf_model.specs.Window.{start_of};
+    ghost use Rattle.replayer.specs.Jobs.{begun, IsKept};
+
+    ghost view = { λ j. record { start = begun (start_of j.image j.log.pages); log = j.log } };
+
+    ghost invariant = { λ j. IsKept j.image j.log };
+}
+
+/// The number of steps of a run that ended so. The exit call is a step.
+fn steps_of(end: RunEnd) -> u64
+    ensures { result ≡ steps_by end }
+{
+    match end {
+        RunEnd::Exit { at, .. } => u64::from(at) + 1,
+        RunEnd::Trap { at, .. } => u64::from(at),
+        RunEnd::Limit { at } => u64::from(at),
+    }
+}
+
+impl Job {
+    /// Checks that a log fits a program, of which `image` is the image.
+    ///
+    /// The digests are compared first: `WrongProgram` says that they differ. `Window` says that a window of
+    /// the log's pages can't hold the image. `Diverged` tells the first difference between the log and the
+    /// program's run under it. After a fault nothing is kept.
+    pub fn check(alloc: Global, program: &[u8], image: Image, log: Log) -> Result<Job, CheckFault>
+        requires { image_of_file program.now ≡ Ok image }
+        ensures ok { IfOk result (λ job. IsChecked program.now image log job) }
+        ensures fault { IfErr result (λ f. IsCause program.now image log f) }
+    {
+        log.form();
+        let kept = log.digest();
+        let seen = Sha256::digest(program);
+        if kept != seen {
+            return Err(CheckFault::WrongProgram { kept, seen });
+        }
+        let pages = log.pages();
+        let machine = match Machine::new(alloc, &image, pages) {
+            Ok(machine) => machine,
+            Err(MachineFault::Window) => return Err(CheckFault::Window { pages }),
+            Err(MachineFault::NoMemory) => return Err(CheckFault::NoMemory),
+        };
+        let _size = log.size();
+        match first_divergence(machine, &log) {
+            Some(divergence) => Err(CheckFault::Diverged(divergence)),
+            None => Ok(Job { image, log }),
+        }
+    }
+
+    /// The number of steps of the run, at most 2^32. The exit call is a step, a trapping instruction isn't.
+    pub fn steps(&self) -> u64
+        ensures { result ≡ steps self.now.log }
+    {
+        steps_of(self.log.end())
+    }
+
+    /// The log.
+    pub fn log(&self) -> &Log
+        ensures { result.now ≡ self.now.log }
+    {
+        &self.log
+    }
+
+    /// What the log says of the run, in numbers.
+    pub fn summary(&self) -> ReplaySummary
+        ensures { result ≡ record { steps = steps self.now.log; calls = calls self.now.log; read = bytes_read self.now.log; written = bytes_written self.now.log; end = self.now.log.end } }
+    {
+        let records = self.log.records();
+        let mut read = 0;
+        let mut written = 0;
+        for call in records {
+            match call {
+                CallRecord::Read { bytes, .. } => read += bytes.len() as u64,
+                CallRecord::Write { bytes, .. } => written += bytes.len() as u64,
+                CallRecord::Clock { .. } => {}
+                CallRecord::Other { .. } => {}
+            }
+        }
+        ReplaySummary {
+            steps: self.steps(),
+            calls: records.len() as u64,
+            read,
+            written,
+            end: self.log.end(),
+        }
+    }
+
+    /// Does nothing: it says what is true of each job.
+    pub fn form(&self)
+        ensures { IsJob self.now }
+    {
+        let _ = &self.log;
+    }
+
+    /// A machine in the state that the run begins in.
+    pub(crate) fn machine(&self, alloc: Global) -> Result<Machine, NoMemory>
+        ensures { IfOk result (λ m. m ≡ running self.now.start) }
+    {
+        self.log.form();
+        match Machine::new(alloc, &self.image, self.log.pages()) {
+            Ok(machine) => Ok(machine),
+            Err(MachineFault::Window) => unreachable!(),
+            Err(MachineFault::NoMemory) => Err(NoMemory),
+        }
+    }
+}
