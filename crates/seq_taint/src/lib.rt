@@ -1,2 +1,5 @@
-//! To be written.
+//! Taint analysis, one step after another: which source bytes the content of each location came from, and
+//! so the sources of each output byte that a query asks for.
 #![tactic(auto)]
+
+mod source_set;
