@@ -5,6 +5,8 @@
 //! are those of the RISC-V Unprivileged ISA manual.
 #![tactic(auto)]
 
+mod fitting;
+
 /// One variant for each instruction of RV32I ("RV32I Base Integer Instruction Set").
 ///
 /// Registers are below 32. Immediates are sign-extended, as they are added or compared; those of

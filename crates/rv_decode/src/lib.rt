@@ -1,2 +1,17 @@
-//! To be written.
+//! RV32I's instruction words: [`decode`] reads the instruction of a word, [`encode`] writes the word of an
+//! instruction.
+//!
+//! Each is the other's inverse: `decode` of what `encode` wrote is the instruction, and `encode` of what
+//! `decode` read is the word. The formats are those of "Base Instruction Formats" and "Immediate Encoding
+//! Variants" of the RISC-V Unprivileged ISA manual.
 #![tactic(auto)]
+
+mod decoder;
+mod encoder;
+mod fields;
+#[cfg(test)]
+mod tests;
+
+pub use decoder::decode;
+pub use encoder::encode;
+pub use isa::{CallKind, Instr};
