@@ -1,1 +1,3 @@
 pub mod Members
+pub mod Locations
+pub mod Shadows

@@ -2,4 +2,5 @@
 //! so the sources of each output byte that a query asks for.
 #![tactic(auto)]
 
+mod shadow;
 mod source_set;
