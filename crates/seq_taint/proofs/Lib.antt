@@ -1,3 +1,4 @@
 pub mod Unions
 pub mod Sources
 pub mod Tables
+pub mod Flows

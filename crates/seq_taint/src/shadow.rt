@@ -2,13 +2,19 @@
 
 ghost use Rattle.std.specs.Prelude.{◌≡◌, ◌+◌, ◌*◌, ◌<◌, ◌≤◌, [], length, drop, if◌then◌else◌, IfOk, OnOk};
 ghost use Rattle.std.specs.Option.{unwrap_or, option_copied};
-ghost use Rattle.flow_model.specs.Flow.{origins_by, loc_eq};
-ghost use Rattle.flow_model.specs.Origins.{gathered};
-ghost use Rattle.seq_taint.specs.Locations.{IsLocation, AreLocations, IsTable};
+ghost use Rattle.flow_model.specs.Flow.{origins_by, loc_eq, from_call};
+ghost use Rattle.flow_model.specs.Origins.{gathered, introduced as introduced_by, byte_at, fresh_by, after_step};
+ghost use Rattle.flow_model.specs.Sets.{union, source_cmp};
+ghost use Rattle.replayer.specs.Ranges.{IsInRange, IsCallInRange};
+ghost use Rattle.report_model.specs.Query.{policy_of};
+ghost use Rattle.seq_taint.specs.Locations.{IsLocation, AreLocations, IsTable, is_among};
 
 use crate::source_set::SourceSet;
-use flow_rule::{Flow, Loc};
+use flow_model::{CallSeen, StepSeen};
+use flow_rule::{Flow, Loc, SourceByte, cleared, flow};
+use isa::CallKind;
 use no_memory::NoMemory;
+use query_lang::Query;
 use std::alloc::Global;
 use std::collections::HashMap;
 
@@ -109,6 +115,52 @@ impl Shadow {
         let set = self.gather(flow.origins(first))?;
         self.assign_from(flow, first + 1)?;
         self.assign(flow.target(first), set)
+    }
+
+    /// Puts the source bytes that the query chooses at the bytes that a read received, and none at the others.
+    fn receive(&mut self, call: &CallSeen, query: &Query) -> Result<(), NoMemory>
+        requires in_range { IsCallInRange (Some call.now) }
+        ensures { OnOk result (Holds self.new (λ l. if is_among call.now.place call.now.length l then introduced_by (policy_of query.now) (byte_at call.now l) else held self.old l)) }
+    {
+        for i in 0..call.length {
+            let byte = SourceByte { channel: call.channel as u8, offset: call.offset + i };
+            self.assign(Loc::Mem { place: call.place + i }, introduced(byte, query))?;
+        }
+        Ok(())
+    }
+
+    /// A guest call empties the registers of its result, and a read puts source bytes into memory.
+    fn call(&mut self, call: &CallSeen, query: &Query) -> Result<(), NoMemory>
+        requires { IsCallInRange (Some call.now) }
+        ensures { OnOk result (Holds self.new (λ l. union source_cmp (fresh_by (policy_of query.now) (Some call.now) l) (gathered (held self.old) (from_call call.now l)))) }
+    {
+        self.assign_from(&cleared(call.kind), 0)?;
+        match call.kind {
+            CallKind::Read => self.receive(call, query),
+            CallKind::Write | CallKind::Clock | CallKind::Other | CallKind::Exit => Ok(()),
+        }
+    }
+
+    /// Goes on by one step.
+    pub fn step(&mut self, step: &StepSeen, query: &Query) -> Result<(), NoMemory>
+        requires { IsInRange step.now }
+        ensures { OnOk result (Holds self.new (after_step (policy_of query.now) (Some step.now) (held self.old))) }
+    {
+        match &step.call {
+            None => self.assign_from(&flow(&step.instr, step.place, query.rule()), 0),
+            Some(call) => self.call(call, query),
+        }
+    }
+}
+
+/// The set that a source byte brings in: itself where the query chooses it.
+fn introduced(byte: SourceByte, query: &Query) -> SourceSet
+    ensures { result ≡ introduced_by (policy_of query.now) byte }
+{
+    if query.source_has(byte) {
+        SourceSet::of(byte)
+    } else {
+        SourceSet::new()
     }
 }
 
