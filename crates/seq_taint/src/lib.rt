@@ -2,5 +2,9 @@
 //! so the sources of each output byte that a query asks for.
 #![tactic(auto)]
 
+mod analysis;
 mod shadow;
+mod sinks;
 mod source_set;
+
+pub use analysis::sequential;
