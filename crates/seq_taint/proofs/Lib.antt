@@ -4,3 +4,4 @@ pub mod Tables
 pub mod Flows
 pub mod Steps
 pub mod Written
+pub mod Distinct
