@@ -3,6 +3,7 @@
 ghost use Rattle.std.specs.Prelude.{◌≡◌, IfOk};
 ghost use Rattle.replayer.specs.Jobs.{trace_of};
 ghost use Rattle.report_model.specs.Rows.{rows_as_written};
+ghost use Rattle.sink_collect.specs.Distinct.{AreDistinct};
 
 use crate::shadow::Shadow;
 use crate::sinks::collect;
@@ -16,7 +17,11 @@ use std::alloc::Global;
 /// that it came from.
 pub fn sequential(alloc: Global, job: &Job, query: &Query) -> Result<Vec<SinkSet>, NoMemory>
     ensures rows { IfOk result (λ sets. sets.items ≡ rows_as_written query.now (trace_of job.now)) }
+
+    // No output byte stands twice.
+    ensures distinct { IfOk result (λ sets. AreDistinct sets.items) }
 {
+    job.form();
     let mut cursor = Cursor::start(alloc, job)?;
     let mut shadow = Shadow::new(alloc)?;
     let mut sets = Vec::new(alloc);

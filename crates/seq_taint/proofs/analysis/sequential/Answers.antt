@@ -5,11 +5,14 @@ use Rattle.flow_model.specs.Origins.{step_at, origins}
 use Rattle.replay_model.specs.Run.{start}
 use Rattle.replayer.specs.Jobs.{Job, trace_of}
 use Rattle.report_model.specs.Query.{policy_of}
-use Rattle.report_model.specs.Rows.{Row, written_in, written_from}
+use Rattle.report_model.specs.Rows.{Row, written_in, written_from, rows_as_written}
+use Rattle.replay_model.proofs.Offsets.{offsets_count, writes_apart}
+use Rattle.sink_collect.specs.Distinct.{AreDistinct}
 use Rattle.seq_taint.specs.Shadows.{Holds}
 use Rattle.seq_taint.specs.Sinks.{rows_now}
 use Rattle.seq_taint.proofs.Steps.{one_more}
 use Rattle.seq_taint.proofs.Written.{rows_of, more_rows, all_rows}
+use Rattle.seq_taint.proofs.Distinct.{distinct_rows}
 use Rattle.seq_taint.proofs.analysis.sequential.Goals as goal
 
 pub loop-step-preserved : goal.loop-step-preserved
@@ -48,6 +51,10 @@ loop-step-init c =
 
 pub returns : goal.returns
 returns c =
+    let q = c.args.query.now in
     let job = c.args.job.now in
+    let trace = trace_of job in
     let done : c.loop-step.cursor.time ≡ steps job.log = c.in_default.ensures.done ∙ ap (λ (j : Job). steps j.log) c.loop-step.invariant.job in
-    record { rows = c.loop-step.invariant.rows ∙ all_rows c.args.query.now (steps job.log) (start job.start job.log) c.loop-step.cursor.time done }
+    let rows : c.loop-step.sets.items ≡ rows_as_written q trace = c.loop-step.invariant.rows ∙ all_rows q (steps job.log) (start job.start job.log) c.loop-step.cursor.time done in
+    let count = offsets_count job.start job.log c.form.ensures.form c.form.ensures.small c.form.ensures.agrees in
+    record { rows = rows; distinct = subst AreDistinct (sym rows) (distinct_rows q trace (record { follow = writes_apart trace count })) }
