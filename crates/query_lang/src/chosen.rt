@@ -92,7 +92,7 @@ fn is_in_spans(spans: &[Span], channel: u8, offset: u32) -> bool
     started > 0 && spans[started - 1].has(channel, offset)
 }
 
-/// Bytes by channel and offset.
+/// Bytes by channel and offset: all of them, or those of spans that ascend and lie apart.
 #[derive(Drop)]
 pub struct Chosen {
     all: bool,
@@ -113,9 +113,10 @@ impl Model for Chosen {
 }
 
 impl Chosen {
-    /// What was gathered.
+    /// The bytes that were gathered.
     pub fn of(alloc: Global, gathered: Gathered) -> Result<Chosen, AllocError>
-        ensures { IfOk result (λ chosen. SameChoices chosen (choices_of gathered.all gathered.spans.items)) }
+        ensures { IfOk result (λ chosen.
+            SameChoices chosen (choices_of gathered.all gathered.spans.items)) }
     {
         let Gathered { all, spans } = gathered;
         let spans = merged(alloc, &sort(spans))?;

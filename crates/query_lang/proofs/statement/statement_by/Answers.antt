@@ -1,4 +1,4 @@
-use Rattle.std.proofs.Common.{◌≡◌, true, sym, ◌∙◌, codes}
+use Rattle.std.proofs.Common.{◌≡◌, true, codes}
 use Rattle.std.specs.Str.{bytes_eq}
 use Rattle.report_model.specs.Grammar.{words}
 use Rattle.query_lang.proofs.StatementLemmas.{rule_says}
