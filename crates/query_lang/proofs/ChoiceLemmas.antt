@@ -2,7 +2,7 @@
 use Rattle.std.proofs.Common.{◌≡◌, ℕ, List, [], ◌∷◌, refl, ap, sym, ◌∙◌, Bool, true, false}
 use Rattle.std.specs.Prelude.{map, ◌||◌, ◌&&◌}
 use Rattle.std.specs.List.{list_any}
-use Rattle.report_model.specs.Query.{Choice, chooses, is_channel, is_within}
+use Rattle.report_model.specs.Query.{chooses, is_channel, is_within}
 use Rattle.query_lang.specs.declared.choice.Span.{Span}
 use Rattle.query_lang.specs.Choices.{choices_of, span_choice, SameChoices}
 use Rattle.query_lang.specs.Spans.{span_has, SameBytes}

@@ -1,13 +1,13 @@
 -- What is read so far, and what the definition gives for the rest, is what it gives for all.
 use Rattle.std.proofs.Common.{◌≡◌, ℕ, ◌+◌, ◌<◌, ◌≤◌, List, [], ◌∷◌, ◌++◌, length, refl, ap, sym, ◌∙◌, Bool, true, false, cond, Bor, arith}
-use Rattle.std.specs.Prelude.{Option, Some, None, Ok, Err, map, is_some, ◌||◌, ◌&&◌, MatchOption, IfSome}
+use Rattle.std.specs.Prelude.{Option, Some, None, Err, map, is_some, ◌||◌, ◌&&◌, MatchOption, IfSome}
 use Rattle.std.specs.List.{filter}
 use Rattle.std.proofs.lemmas.List.{append_assoc, append-nil}
 use Rattle.std.proofs.lemmas.List.Folds.{list_any-append}
 use Rattle.report_model.specs.declared.QueryKind.{QueryKind}
 use Rattle.report_model.specs.declared.QueryKind.TheVariants.{NoRule}
 use Rattle.report_model.specs.Query.{Choice, Query, chooses, is_channel, is_within}
-use Rattle.report_model.specs.Grammar.{lines, lines_fault, line_fault, or_later, statement, is_rule, is_source, is_sink, choice_of, rule_of, query, unless_faulty, query_of}
+use Rattle.report_model.specs.Grammar.{lines, lines_fault, or_later, statement, is_rule, is_source, is_sink, choice_of, rule_of, query, unless_faulty, query_of}
 use Rattle.query_lang.specs.declared.draft.Draft.{Draft}
 use Rattle.query_lang.specs.declared.fault.QueryFault.{QueryFault}
 use Rattle.query_lang.specs.declared.fault.QueryFault.TheVariants.{At, NoMemory}

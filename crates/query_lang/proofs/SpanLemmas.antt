@@ -1,8 +1,8 @@
 -- The order of spans, and searches in spans that lie apart.
-use Rattle.std.proofs.Common.{◌≡◌, ℕ, suc, ◌+◌, ◌-◌, ◌<◌, ◌≤◌, ◌≢◌, ◌⊎◌, inl, inr, List, [], ◌∷◌, ◌++◌, length, get_or, drop, refl, ap, sym, ◌∙◌, subst, Bool, true, false, arith}
+use Rattle.std.proofs.Common.{◌≡◌, ℕ, suc, ◌+◌, ◌-◌, ◌<◌, ◌≤◌, ◌≢◌, inl, inr, List, [], ◌∷◌, ◌++◌, length, get_or, drop, refl, ap, sym, ◌∙◌, subst, Bool, true, false, arith}
 use Rattle.std.specs.Prelude.{Option, Some, None, ◌==◌, ◌&&◌, ◌||◌, AllPairs, nat_lt, nat_le}
 use Rattle.std.specs.List.{list_any, AllAdjacentBelow}
-use Rattle.std.specs.List.Sorted.{IsPartitionedBy, IsPartitionPoint}
+use Rattle.std.specs.List.Sorted.{IsPartitionedBy}
 use Rattle.std.proofs.lemmas.Bool.Decides.{nat_tests}
 use Rattle.std.proofs.lemmas.List.Folds.{list_any-append, list_any_none, list_any_at}
 use Rattle.std.proofs.lemmas.List.{get_or_default, at_drop_more, append_assoc}
@@ -11,7 +11,7 @@ use Rattle.std.proofs.lemmas.Grind.{common_steps}
 use Rattle.std.proofs.Math.ListN.{drop_of_length-le}
 use Rattle.query_lang.specs.declared.choice.Offsets.{Offsets}
 use Rattle.query_lang.specs.declared.choice.Span.{Span}
-use Rattle.query_lang.specs.Spans.{start_of, starts_by, span_has, reaches, reach_to, NotAfter, EndBefore, Precedes, IsAtStartOf, HasBoth, SameBytes}
+use Rattle.query_lang.specs.Spans.{start_of, starts_by, span_has, reaches, reach_to, NotAfter, EndBefore, Precedes, IsAtStartOf, HasBoth, SameBytes, StartUpTo}
 
 -- ---- order
 
@@ -154,14 +154,11 @@ partitioned xs c o h i j d le b started = by (nat_lt i j) refl where
   by true e = let less : i < j = grind (arith, nat_tests) in starts_before c o (get_or xs i d) (get_or xs j d) (h i j d less b) started
   by false e = let same : i ≡ j = grind (arith, nat_tests) in at same
 
-abbrev pub IsStartPoint : List Span → ℕ → ℕ → ℕ → Type 0
-IsStartPoint xs c o n = IsPartitionPoint (λ s. starts_by c o s ≡ true) (λ s. starts_by c o s ≡ false) xs n
-
-pub none_has : (xs : List Span) (c o n : ℕ) → IsStartPoint xs c o n → n ≡ 0 → list_any (span_has c o) xs ≡ false
+pub none_has : (xs : List Span) (c o n : ℕ) → StartUpTo c o xs n → n ≡ 0 → list_any (span_has c o) xs ≡ false
 none_has xs c o n point zero = list_any_none (span_has c o) xs (λ k d b. has_started c o (get_or xs k d) (point.1 k d (omega arith) b))
 
 -- of the spans that start by a byte only the last may have it
-pub last_has : (xs : List Span) (c o n : ℕ) (e : Span) → IsStartPoint xs c o n → AllPairs Precedes xs → 0 < n → n ≤ length xs → span_has c o (get_or xs (n - 1) e) ≡ list_any (span_has c o) xs
+pub last_has : (xs : List Span) (c o n : ℕ) (e : Span) → StartUpTo c o xs n → AllPairs Precedes xs → 0 < n → n ≤ length xs → span_has c o (get_or xs (n - 1) e) ≡ list_any (span_has c o) xs
 last_has xs c o n e point apart some within = by (span_has c o (get_or xs (n - 1) e)) refl where
   others : (k : ℕ) (d : Span) → k < length xs → k ≢ n - 1 → span_has c o (get_or xs k d) ≡ false
   others k d b other = elsewhere (nat_lt k n) refl where

@@ -1,17 +1,16 @@
 -- What the words of a line say, and their faults.
-use Rattle.std.proofs.Common.{◌≡◌, ℕ, List, [], ◌∷◌, refl, ap, sym, ◌∙◌, subst, Bool, true, false, cond}
-use Rattle.std.specs.Prelude.{Option, Some, None, codes, map, not, ◌&&◌, ◌||◌, if◌then◌else◌}
-use Rattle.std.specs.List.{filter, list_any}
+use Rattle.std.proofs.Common.{◌≡◌, ℕ, List, ◌∷◌, refl, ◌∙◌, Bool, true, false, cond}
+use Rattle.std.specs.Prelude.{Some, None, codes, ◌&&◌, if◌then◌else◌}
+use Rattle.std.specs.List.{list_any}
 use Rattle.std.specs.Str.{bytes_eq}
 use Rattle.std.specs.Cmp.Lexicographic.{bytes_decides}
 use Rattle.flow_model.specs.declared.Rule.{Rule}
-use Rattle.report_model.specs.declared.QueryKind.{QueryKind}
-use Rattle.report_model.specs.declared.QueryKind.TheVariants.{BadByte, Count, SecondRule}
-use Rattle.report_model.specs.Grammar.{is_source, is_sink, choice_of, words, words_fault, line_fault, statement, statement_fault, is_comment, is_bad_byte, rule_named, word_at}
+use Rattle.report_model.specs.declared.QueryKind.TheVariants.{Count, SecondRule}
+use Rattle.report_model.specs.Grammar.{words, words_fault, line_fault, statement, statement_fault, is_comment, is_bad_byte, rule_named, word_at}
 use Rattle.query_lang.specs.declared.statement.Statement.TheVariants.{RuleIs}
-use Rattle.query_lang.specs.Statements.{Says, ChoosesBytes, IsFaultOf, is_count_wrong_behind}
+use Rattle.query_lang.specs.Statements.{Says, ChoosesBytes, IsFaultOf, is_wrong_count_behind}
 
-pub count_fault : (keyword : List ℕ) (ws : List (List ℕ)) → ChoosesBytes keyword → is_count_wrong_behind keyword ws ≡ true → IsFaultOf (keyword ∷ ws) Count
+pub count_fault : (keyword : List ℕ) (ws : List (List ℕ)) → ChoosesBytes keyword → is_wrong_count_behind keyword ws ≡ true → IsFaultOf (keyword ∷ ws) Count
 count_fault keyword ws k h after_rule = rw (k.other, k.one, h) refl
 
 same_after : (after_rule : Bool) → cond after_rule (Some SecondRule) None ≡ cond (after_rule && true) (Some SecondRule) None

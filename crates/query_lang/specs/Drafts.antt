@@ -1,5 +1,5 @@
 -- What the lines of a text say, one after the other.
-use Rattle.std.specs.Prelude.{◌≡◌, ℕ, Bool, true, false, ◌||◌, is_some, List, [], ◌∷◌, ◌++◌, map, Option, Some, None}
+use Rattle.std.specs.Prelude.{◌≡◌, ℕ, ◌||◌, is_some, List, [], ◌∷◌, ◌++◌, map, Option, Some, None}
 use Rattle.std.specs.List.{filter}
 use Rattle.flow_model.specs.declared.Rule.{Rule}
 use Rattle.report_model.specs.declared.QueryKind.TheVariants.{NoRule}

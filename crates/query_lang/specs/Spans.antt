@@ -1,6 +1,7 @@
 -- Spans, and their order.
 use Rattle.std.specs.Prelude.{◌≡◌, ℕ, ◌<◌, ◌≤◌, ◌⊎◌, ◌==◌, nat_lt, nat_le, ◌&&◌, ◌||◌, Bool, true, false, List, [], ◌∷◌, Option, Some, None}
 use Rattle.std.specs.List.{list_any}
+use Rattle.std.specs.List.Sorted.{IsPartitionPoint}
 use Rattle.report_model.specs.Query.{chooses}
 use Rattle.query_lang.specs.declared.choice.Offsets.{Offsets}
 use Rattle.query_lang.specs.declared.choice.Span.{Span}
@@ -52,3 +53,7 @@ HasBoth s t both = (c o : ℕ) → span_has c o both ≡ (span_has c o s || span
 -- they have the same bytes
 abbrev pub SameBytes : List Span → List Span → Type 0
 SameBytes xs ys = (c o : ℕ) → list_any (span_has c o) xs ≡ list_any (span_has c o) ys
+
+-- the first n of the spans start by the byte, and the others behind it
+abbrev pub StartUpTo : ℕ → ℕ → List Span → ℕ → Type 0
+StartUpTo c o spans n = IsPartitionPoint (λ s. starts_by c o s ≡ true) (λ s. starts_by c o s ≡ false) spans n

@@ -1,9 +1,9 @@
 //! The bytes that a query chooses.
 
-ghost use Rattle.std.specs.Prelude.{◌≡◌, [], ◌∷◌, ◌++◌, length, IfOk, OnOk, AllPairs};
+ghost use Rattle.std.specs.Prelude.{◌≡◌, ◌≤◌, [], ◌∷◌, ◌++◌, length, IfOk, OnOk, AllPairs};
 ghost use Rattle.std.specs.List.{list_any, AllAdjacentBelow};
 ghost use Rattle.query_lang.specs.Choices.{choices_of, choice_shown, SameChoices};
-ghost use Rattle.query_lang.specs.Spans.{span_has, NotAfter, Precedes, SameBytes};
+ghost use Rattle.query_lang.specs.Spans.{span_has, NotAfter, Precedes, SameBytes, StartUpTo};
 ghost use Rattle.report_model.specs.Query.{chooses};
 
 use crate::choice::{Choice, Span};
@@ -74,16 +74,25 @@ fn merged(alloc: Global, spans: &[Span]) -> Result<Vec<Span>, AllocError>
     Ok(kept)
 }
 
-/// Whether one of spans that lie apart has the byte.
+/// How many spans start at the byte or before it, of spans that lie apart.
+fn count_started(spans: &[Span], channel: u8, offset: u32) -> usize
+    requires { AllPairs Precedes spans.now }
+    ensures bound { result ≤ length spans.now }
+    ensures point { StartUpTo channel offset spans.now result }
+{
+    spans.partition_point(|span| span.starts_by(channel, offset))
+}
+
+/// Whether one of spans that lie apart has the byte: of those that start by it only the last may.
 fn is_in_spans(spans: &[Span], channel: u8, offset: u32) -> bool
     requires { AllPairs Precedes spans.now }
     ensures { result ≡ list_any (span_has channel offset) spans.now }
 {
-    let started = spans.partition_point(|span| span.starts_by(channel, offset));
+    let started = count_started(spans, channel, offset);
     started > 0 && spans[started - 1].has(channel, offset)
 }
 
-/// Bytes by channel and offset.
+/// Bytes by channel and offset: all of them, or those of spans that ascend and lie apart.
 #[derive(Drop)]
 pub struct Chosen {
     all: bool,
@@ -104,9 +113,10 @@ impl Model for Chosen {
 }
 
 impl Chosen {
-    /// What was gathered.
+    /// The bytes that were gathered.
     pub fn of(alloc: Global, gathered: Gathered) -> Result<Chosen, AllocError>
-        ensures { IfOk result (λ chosen. SameChoices chosen (choices_of gathered.all gathered.spans.items)) }
+        ensures { IfOk result (λ chosen.
+            SameChoices chosen (choices_of gathered.all gathered.spans.items)) }
     {
         let Gathered { all, spans } = gathered;
         let spans = merged(alloc, &sort(spans))?;

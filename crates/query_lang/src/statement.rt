@@ -1,12 +1,11 @@
 //! What a line says.
 
-ghost use Rattle.std.specs.Prelude.{◌≡◌, ℕ, Bool, true, List, ◌∷◌, codes, Option, Some, None, if◌then◌else◌, IfOk, IfErr, OnOk, MatchOption, MatchResult, ◌<◌, false, []};
-ghost use Rattle.std.specs.Str.{bytes_eq};
-ghost use Rattle.report_model.specs.Grammar.{words, words_fault, line_fault, statement_fault, word_at};
-ghost use Rattle.report_model.specs.Grammar.{choice_of as choice_by, rule_named as rule_by_name, statement as statement_by_words};
-ghost use Rattle.report_model.specs.declared.QueryKind.TheVariants.{Channel, SecondRule};
+ghost use Rattle.std.specs.Prelude.{◌≡◌, ◌<◌, ◌∷◌, [], false, Some, IfOk, IfErr, OnOk, MatchOption, MatchResult};
+ghost use Rattle.report_model.specs.Grammar.{words};
+ghost use Rattle.report_model.specs.Grammar.{rule_named as rule_by_name, statement as statement_by_words};
+ghost use Rattle.report_model.specs.declared.QueryKind.TheVariants.{Channel};
 ghost use Rattle.query_lang.specs.Choices.{choice_shown, span_choice};
-ghost use Rattle.query_lang.specs.Statements.{Says, ChoosesBytes, AreOperands, IsChoiceOf, IsFaultOf, is_all_word, is_count_wrong_behind};
+ghost use Rattle.query_lang.specs.Statements.{Says, AreOperands, HasWrongCount, IsRuleBehind, IsRuleFault, IsChoiceBehind, IsChoiceFault, IsFaultOf, IsLineFault, HasCleanBytes, is_all_word};
 
 use crate::choice::{Choice, Offsets, Span};
 use crate::number::number_of;
@@ -49,11 +48,9 @@ fn rule_named(name: &[u8]) -> Option<Rule>
 
 /// The rule that the words behind `rule` name.
 fn rule_of(mut operands: Words<'_>) -> Result<Rule, QueryKind>
-    ensures ok { IfOk result (λ rule. (keyword : List ℕ) → bytes_eq keyword (codes "rule") ≡ true → (after_rule : Bool)
-        → (words_fault after_rule (keyword ∷ words operands.entry.rest.now) ≡ (if after_rule then Some SecondRule else None))
-        × (rule_by_name (word_at (keyword ∷ words operands.entry.rest.now) 1) ≡ Some rule)) }
-    ensures fault { IfErr result (λ kind. (keyword : List ℕ) → bytes_eq keyword (codes "rule") ≡ true → (after_rule : Bool)
-        → words_fault after_rule (keyword ∷ words operands.entry.rest.now) ≡ Some kind) }
+    ensures { MatchResult result
+        (IsRuleBehind (words operands.entry.rest.now))
+        (IsRuleFault (words operands.entry.rest.now)) }
 {
     let Some(name) = operands.next() else {
         return Err(QueryKind::Count);
@@ -70,7 +67,7 @@ fn rule_of(mut operands: Words<'_>) -> Result<Rule, QueryKind>
 /// The words behind `source` or `sink`, where they are as many as there may be.
 fn operands_of<'a>(mut operands: Words<'a>) -> Option<Operands<'a>>
     ensures { MatchOption result
-        ((keyword : List ℕ) → is_count_wrong_behind keyword (words operands.entry.rest.now) ≡ true)
+        (HasWrongCount (words operands.entry.rest.now))
         (AreOperands (words operands.entry.rest.now)) }
 {
     let first = operands.next()?;
@@ -95,7 +92,9 @@ fn operands_of<'a>(mut operands: Words<'a>) -> Option<Operands<'a>>
 
 /// A channel from 0 to 15.
 fn channel_of(number: u32) -> Result<u8, QueryKind>
-    ensures { MatchResult result (λ channel. (channel ≡ number) × (number < 16)) (λ kind. (kind ≡ Channel) × (15 < number)) }
+    ensures { MatchResult result
+        (λ channel. (channel ≡ number) × (number < 16))
+        (λ kind. (kind ≡ Channel) × (15 < number)) }
 {
     match u8::try_from(number) {
         Ok(channel) if channel < 16 => Ok(channel),
@@ -105,9 +104,10 @@ fn channel_of(number: u32) -> Result<u8, QueryKind>
 
 /// All bytes of a channel.
 fn whole_channel(channel: &[u8]) -> Result<Span, QueryKind>
+    requires { is_all_word channel.now ≡ false }
     ensures { MatchResult result
-        (λ span. (keyword : List ℕ) → ChoosesBytes keyword → is_all_word channel.now ≡ false → IsChoiceOf (keyword ∷ channel.now ∷ []) (span_choice span))
-        (λ kind. (keyword : List ℕ) → ChoosesBytes keyword → is_all_word channel.now ≡ false → IsFaultOf (keyword ∷ channel.now ∷ []) kind) }
+        (λ span. IsChoiceBehind (channel.now ∷ []) (span_choice span))
+        (IsChoiceFault (channel.now ∷ [])) }
 {
     let channel = number_of(channel).ok_or(QueryKind::Number)?;
     Ok(Span {
@@ -118,9 +118,10 @@ fn whole_channel(channel: &[u8]) -> Result<Span, QueryKind>
 
 /// The bytes of a channel from one offset up to another.
 fn range_of(channel: &[u8], from: &[u8], past: &[u8]) -> Result<Span, QueryKind>
+    requires { is_all_word channel.now ≡ false }
     ensures { MatchResult result
-        (λ span. (keyword : List ℕ) → ChoosesBytes keyword → is_all_word channel.now ≡ false → IsChoiceOf (keyword ∷ channel.now ∷ from.now ∷ past.now ∷ []) (span_choice span))
-        (λ kind. (keyword : List ℕ) → ChoosesBytes keyword → is_all_word channel.now ≡ false → IsFaultOf (keyword ∷ channel.now ∷ from.now ∷ past.now ∷ []) kind) }
+        (λ span. IsChoiceBehind (channel.now ∷ from.now ∷ past.now ∷ []) (span_choice span))
+        (IsChoiceFault (channel.now ∷ from.now ∷ past.now ∷ [])) }
 {
     let channel = number_of(channel).ok_or(QueryKind::Number)?;
     let from = number_of(from).ok_or(QueryKind::Number)?;
@@ -138,8 +139,8 @@ fn range_of(channel: &[u8], from: &[u8], past: &[u8]) -> Result<Span, QueryKind>
 /// What the words behind `source` or `sink` choose.
 fn choice_of(operands: Words<'_>) -> Result<Choice, QueryKind>
     ensures { MatchResult result
-        (λ choice. (keyword : List ℕ) → ChoosesBytes keyword → IsChoiceOf (keyword ∷ words operands.entry.rest.now) (choice_shown choice))
-        (λ kind. (keyword : List ℕ) → ChoosesBytes keyword → IsFaultOf (keyword ∷ words operands.entry.rest.now) kind) }
+        (λ choice. IsChoiceBehind (words operands.entry.rest.now) (choice_shown choice))
+        (IsChoiceFault (words operands.entry.rest.now)) }
 {
     match operands_of(operands) {
         None => Err(QueryKind::Count),
@@ -176,8 +177,8 @@ fn statement_by(keyword: &[u8], operands: Words<'_>) -> Result<Statement, QueryK
 /// What a line says, or its first fault. A comment and an empty line say nothing.
 pub fn statement_of(line: &[u8]) -> Result<Option<Statement>, QueryKind>
     ensures said { IfOk result (Says (statement_by_words line.now)) }
-    ensures clean { OnOk result ((after_rule : Bool) → line_fault after_rule line.now ≡ statement_fault after_rule (statement_by_words line.now)) }
-    ensures fault { IfErr result (λ kind. (after_rule : Bool) → line_fault after_rule line.now ≡ Some kind) }
+    ensures clean { OnOk result (HasCleanBytes line.now) }
+    ensures fault { IfErr result (IsLineFault line.now) }
 {
     if is_comment(line) {
         return Ok(None);

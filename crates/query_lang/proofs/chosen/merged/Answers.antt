@@ -1,6 +1,5 @@
-use Rattle.std.proofs.Common.{◌≡◌, false, None, sym, ◌∙◌}
+use Rattle.std.proofs.Common.{None, sym, ◌∙◌}
 use Rattle.query_lang.specs.declared.choice.Span.{Span}
-use Rattle.query_lang.specs.Spans.{reaches}
 use Rattle.query_lang.proofs.SpanLemmas.{merging_begins, merging_joins, merging_keeps, merging_ends}
 use Rattle.query_lang.proofs.chosen.merged.Goals as goal
 use Rattle.query_lang.proofs.chosen.merged.Goals.{then-reaches, else-reaches+in_ok-push}

@@ -1,8 +1,7 @@
-use Rattle.std.proofs.Common.{◌≡◌, sym, ◌∙◌, ap, Bool, List}
+use Rattle.std.proofs.Common.{sym, ◌∙◌, ap, Bool, List}
 use Rattle.std.specs.Prelude.{◌||◌}
 use Rattle.std.specs.List.{list_any}
 use Rattle.report_model.specs.Query.{Choice, chooses}
-use Rattle.query_lang.specs.declared.choice.Span.{Span}
 use Rattle.query_lang.specs.Spans.{span_has}
 use Rattle.query_lang.proofs.ChoiceLemmas.{chosen_is}
 use Rattle.query_lang.proofs.chosen.Chosen.has.Goals as goal

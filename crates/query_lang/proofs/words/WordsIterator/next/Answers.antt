@@ -1,7 +1,5 @@
-use Rattle.std.proofs.Common.{◌≡◌, ◌<◌, length, ◌∷◌, arith, ap, rules}
-use Rattle.std.proofs.lemmas.Grind.{common_steps}
+use Rattle.std.proofs.Common.{◌≡◌, ◌<◌, length, arith, ap}
 use Rattle.std.proofs.lemmas.Bool.Decides.{nat_tests}
-use Rattle.report_model.specs.Grammar.{words}
 use Rattle.query_lang.proofs.WordLemmas.{no_words, next_word}
 use Rattle.query_lang.proofs.words.WordsIterator.next.Goals as goal
 
