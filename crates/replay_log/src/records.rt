@@ -6,7 +6,7 @@ ghost use Rattle.replay_log.specs.declared.records.Refused.TheVariants.{Faulty, 
 ghost use Rattle.replay_log.specs.Records.{told_at, IsTaken, IsRefused};
 
 use crate::fault::LogFault;
-use crate::front::{Front, front_of};
+use crate::front::front_of;
 use crate::tags::Tag;
 use crate::words::{long_at, word_at};
 use log_model::{CallRecord, Data, LogKind, RunEnd};
