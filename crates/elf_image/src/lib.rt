@@ -1,2 +1,16 @@
-//! To be written.
+//! Program files: ELF32, little-endian, for RISC-V (System V gABI, "Object Files" and "Program
+//! Loading"). `load` gives the image of a file, or the first fault that it has.
 #![tactic(auto)]
+
+mod fields;
+mod file;
+mod loaded;
+mod loader;
+mod program_header;
+
+pub use elf_model::ImageFault;
+pub use loaded::{Image, Segment};
+pub use loader::load;
+
+#[cfg(test)]
+mod tests;

@@ -1,3 +1,4 @@
 pub mod Sets
 pub mod Flow
 pub mod Origins
+pub mod OriginLaws

@@ -1,2 +1,24 @@
-//! To be written.
+//! Which locations' content flows where in one step of a run: the flow table of RV32I and of the guest
+//! calls, and the messages that carry locations and source bytes between the parts of an analysis.
 #![tactic(auto)]
+
+mod flows;
+mod locations;
+mod table;
+
+pub use flow_model::{Loc, Rule, SinkByte, SourceByte};
+pub use flows::Flow;
+pub use table::{cleared, flow};
+
+/// What the parts of an analysis send each other: a question for a location's origins, one of its source
+/// bytes, the end of a location's source bytes, and the end of all, which says whether nothing was lost.
+#[derive(Clone, Copy, Debug, PartialEq, Eq)]
+pub enum Message {
+    Ask(Loc),
+    Byte(SourceByte),
+    Close(Loc),
+    End { whole: bool },
+}
+
+#[cfg(test)]
+mod tests;

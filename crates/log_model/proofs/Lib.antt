@@ -1,0 +1,6 @@
+pub mod Words
+pub mod Results
+pub mod Again
+pub mod Once
+pub mod HeaderAgain
+pub mod Unique

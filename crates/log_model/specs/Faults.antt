@@ -1,13 +1,12 @@
 -- The first fault of bytes that are no log, and its offset.
-use Rattle.std.specs.Prelude.{◌≡◌, ℕ, ◌+◌, ◌-◌, ◌^◌, ◌<◌, ◌≤◌, ◌==◌, nat_lt, nat_le, Bool, true, false, not, ◌&&◌, ◌||◌, if◌then◌else◌, List, [], ◌∷◌, ◌++◌, length, take, drop, Option, Some, None, slice_index}
-use Rattle.std.specs.List.{flat_map, AllByRecursion}
+use Rattle.std.specs.Prelude.{◌≡◌, ℕ, ◌+◌, ◌-◌, ◌^◌, ◌<◌, ◌≤◌, ◌==◌, nat_eq, nat_lt, nat_le, Bool, not, ◌&&◌, ◌||◌, if◌then◌else◌, List, [], ◌∷◌, ◌++◌, length, take, drop, Option, Some, None, slice_index}
+use Rattle.std.specs.List.{flat_map, AllByRecursion, starts_with}
 use Rattle.std.specs.Int.{w32, from_le_bytes}
-use Rattle.std.specs.Str.{bytes_eq}
 use Rattle.log_model.specs.declared.CallRecord.{CallRecord}
 use Rattle.log_model.specs.declared.RunEnd.{RunEnd}
 use Rattle.log_model.specs.declared.LogKind.{LogKind}
 use Rattle.log_model.specs.declared.LogKind.TheVariants.{Magic, Header, Short, Tag, Order, Result, Trailing}
-use Rattle.log_model.specs.Logs.{magic, at_of, end_at, record_text, end_text, least_after, IsRecord, IsEnd, Rise}
+use Rattle.log_model.specs.Logs.{magic, end_at, record_text, end_text, least_after, IsRecord, IsEnd, Rise}
 
 -- the name beside the first test that is true
 abbrev pub first_true : {X : Type 0} → List (Bool × X) → Option X
@@ -26,7 +25,7 @@ are_pages_wrong pages = (pages == 0) || nat_lt 4096 pages
 -- the first fault of the header, with its offset
 abbrev pub header_fault : List ℕ → Option (LogKind × ℕ)
 header_fault bytes = first_true (
-    (not (bytes_eq (take 8 bytes) magic), (Magic, 0)) ∷
+    (not (starts_with nat_eq bytes magic), (Magic, 0)) ∷
     (nat_lt (length bytes) 48, (Header, 8)) ∷
     (are_pages_wrong (word bytes 40), (Header, 40)) ∷
     (nat_lt 16 (word bytes 44), (Header, 44)) ∷ []

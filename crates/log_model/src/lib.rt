@@ -4,6 +4,8 @@
 //! What there is to read stands in specs/.
 #![tactic(auto)]
 
+pub mod laws;
+
 use std::marker::Model;
 
 /// Bytes, seen as their list.

@@ -1,0 +1,5 @@
+pub mod TellsLemmas
+pub mod Reading
+pub mod NamesLemmas
+pub mod ClockLemmas
+pub mod FolderLemmas

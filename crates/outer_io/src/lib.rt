@@ -1,2 +1,46 @@
-//! To be written.
+//! The outside of a program: files by name, a place to write to, a clock and a gate.
+//!
+//! A program that reaches the outside through the four traits [`Store`], [`Sink`], [`Clock`] and
+//! [`Gate`] can be proved over what these tell, run over memory, and run on the machine.
+//!
+//! - **Told or not.** What an object of the outside holds is a ghost member that it may not tell. A
+//!   clause over it says: where it is still told after the call, it was told before, and the two are
+//!   so related. What isn't told before a call isn't told after it.
+//! - **Faults.** A store and a sink have a count of faults, which never falls and stands still at its
+//!   last value, 2^64 - 1. A call fails only where the count rose in that call, or stood there.
+//!
+//! [`MemoryStore`], [`SureStore`], [`MemorySink`], [`SureSink`], [`ListClock`] and [`OpenGate`] are
+//! in memory. They reserve their room when they are made, so their calls take no memory.
+//! [`FileStore`], [`OutSink`] and [`MachineClock`] are the machine's. They are trusted, and tell nothing.
 #![tactic(auto)]
+
+mod asked_names;
+mod clock;
+mod faults;
+mod folder;
+mod gate;
+mod list_clock;
+mod machine;
+mod memory_file;
+mod memory_sink;
+mod memory_store;
+mod sink;
+mod store;
+mod sure_sink;
+mod sure_store;
+#[cfg(test)]
+mod tests;
+mod whole;
+
+pub use clock::Clock;
+pub use gate::{Gate, OpenGate};
+pub use list_clock::ListClock;
+pub use machine::{FileStore, MachineClock, OutSink};
+pub use memory_file::MemoryFile;
+pub use memory_sink::MemorySink;
+pub use memory_store::MemoryStore;
+pub use sink::Sink;
+pub use store::{Failed, Store};
+pub use sure_sink::SureSink;
+pub use sure_store::SureStore;
+pub use whole::{ReadWhole, WriteFault, read_whole, write_whole};

@@ -1,0 +1,6 @@
+pub mod Parts
+pub mod Choices
+pub mod Spans
+pub mod Statements
+pub mod Drafts
+pub mod Answers

@@ -1,2 +1,25 @@
-//! To be written.
+//! The query language: which source bytes taint, which sink bytes are reported, and the rule by which
+//! taint propagates.
+//!
+//! `parse` gives the query that a text stands for, or the number of the first faulty line and the first
+//! of its faults. What a text stands for is defined in report_model.
 #![tactic(auto)]
+
+mod choice;
+mod chosen;
+mod draft;
+mod fault;
+mod lines;
+mod number;
+mod parser;
+mod query;
+mod statement;
+mod words;
+
+pub use fault::QueryFault;
+pub use parser::parse;
+pub use query::Query;
+pub use report_model::QueryKind;
+
+#[cfg(test)]
+mod tests;

@@ -1,0 +1,4 @@
+mod Taken
+mod Headers
+mod Steps
+mod Whole

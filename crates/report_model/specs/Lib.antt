@@ -2,3 +2,4 @@ pub mod Query
 pub mod Grammar
 pub mod Rows
 pub mod Text
+pub mod RowLaws

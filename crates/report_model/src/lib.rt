@@ -5,6 +5,8 @@
 //! those of a plain list of steps.
 #![tactic(auto)]
 
+pub mod laws;
+
 use thiserror::Error;
 
 /// The faults of a query's text. In a line the first that holds, in this order; NoRule comes after all

@@ -1,0 +1,3 @@
+pub mod Hart
+pub mod Effects
+pub mod Start

@@ -1,2 +1,53 @@
-//! To be written.
+//! One RV32I hart over one window of memory, changed in place.
+//!
+//! A step is that of "RV32I Base Integer Instruction Set" of the RISC-V Unprivileged ISA manual. A call to
+//! the execution environment (ECALL) makes the machine wait until it is answered.
 #![tactic(auto)]
+
+mod hart;
+mod state;
+#[cfg(test)]
+mod tests;
+
+pub use hart::Machine;
+pub use isa::{Call, CallKind, Instr};
+use thiserror::Error;
+
+/// Why there is no machine for an image.
+#[derive(Debug, Drop, Error)]
+pub enum MachineFault {
+    /// The window can't hold the image: it would end past 2^32, or a segment ends past it.
+    #[error("the window can't hold the image")]
+    Window,
+    /// Want of memory.
+    #[error("out of memory")]
+    NoMemory,
+}
+
+/// What a step came to.
+#[derive(Clone, Copy, Debug, PartialEq, Eq)]
+pub enum Stepped {
+    /// The instruction retired. `place` is the effective address of a load or a store, and 0 for others.
+    Plain { instr: Instr, place: u32 },
+    /// The guest calls its execution environment. The machine waits for the answer.
+    Called(Call),
+    /// The step trapped, and changed nothing. `kind` is the exception's code: 0 misaligned target, 1 fetch
+    /// outside the window, 2 illegal instruction, 3 breakpoint, 5 load and 7 store outside the window. `pc`
+    /// is that of the instruction.
+    Trapped { kind: u32, pc: u32 },
+}
+
+/// The answer to a guest call, of the call's own kind.
+#[derive(Clone, Copy)]
+pub enum Reply<'a> {
+    /// The result goes to x10, and the bytes to memory from the address in x11 on.
+    Read { result: i32, bytes: &'a [u8] },
+    /// The result goes to x10.
+    Write { result: i32 },
+    /// The low half goes to x10, the high half to x11.
+    Clock { value: u64 },
+    /// A call that the environment doesn't have: -38 goes to x10.
+    Other,
+    /// The call's step is done, and no register is set.
+    Exit,
+}

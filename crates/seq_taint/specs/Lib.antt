@@ -1,0 +1,4 @@
+pub mod Members
+pub mod Locations
+pub mod Shadows
+pub mod Sinks

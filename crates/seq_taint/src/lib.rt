@@ -1,2 +1,10 @@
-//! To be written.
+//! Taint analysis, one step after another: which source bytes the content of each location came from, and
+//! so the sources of each output byte that a query asks for.
 #![tactic(auto)]
+
+mod analysis;
+mod shadow;
+mod sinks;
+mod source_set;
+
+pub use analysis::sequential;

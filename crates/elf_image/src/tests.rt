@@ -1,0 +1,161 @@
+//! Files that are loaded or refused, with what the gABI says of each.
+
+use crate::{ImageFault, load};
+use std::alloc::{AllocError, Global};
+use std::process::Abort;
+use std::test::Fail;
+
+/// A file of one segment at 0x10000, which copies four bytes from channel 0 to channel 1: 13 words
+/// of ELF header, 8 of program header, 12 of instructions.
+static COPY_FOUR: [u32; 33] = [
+    0x464c457f, 0x00010101, 0, 0, 0x00f30002, 1, 0x10000, 52, 0, 0, 0x00200034, 1, 0, 1, 84,
+    0x10000, 0x10000, 48, 48, 7, 4, 0x000105b7, 0x10058593, 0x00000513, 0x00400613, 0x03f00893,
+    0x00000073, 0x00100513, 0x04000893, 0x00000073, 0x00000513, 0x05d00893, 0x00000073,
+];
+
+// The places of fields, in words.
+const TYPE_AND_MACHINE: usize = 4;
+
+const VERSION: usize = 5;
+
+const ENTRY: usize = 6;
+
+const PHOFF: usize = 7;
+
+const SIZES: usize = 10;
+
+const PHNUM: usize = 11;
+
+const P_TYPE: usize = 13;
+
+const P_OFFSET: usize = 14;
+
+const P_VADDR: usize = 15;
+
+const P_FILESZ: usize = 17;
+
+const P_MEMSZ: usize = 18;
+
+/// The file with some words changed, and words put in before the instructions.
+fn changed(
+    alloc: Global,
+    changes: &[(usize, u32)],
+    entries: &[u32],
+) -> Result<Vec<u8>, AllocError> {
+    let mut words = Vec::from_slice(alloc, &COPY_FOUR[..21])?;
+    words.extend_from_slice(entries)?;
+    words.extend_from_slice(&COPY_FOUR[21..])?;
+    for &(at, word) in changes {
+        if let Some(field) = words.get_mut(at) {
+            *field = word;
+        }
+    }
+    let mut file = Vec::new(alloc);
+    for word in &words {
+        file.extend_from_slice(&word.to_le_bytes())?;
+    }
+    Ok(file)
+}
+
+/// The changed file has this fault, or is loaded.
+fn assert_fault(
+    rt: &impl Abort,
+    alloc: Global,
+    changes: &[(usize, u32)],
+    entries: &[u32],
+    want: Option<ImageFault>,
+) -> Result<(), AllocError> {
+    let file = changed(alloc, changes, entries)?;
+    assert_eq!(rt; load(alloc, &file).err(), want);
+    Ok(())
+}
+
+#[test]
+fn a_sound_file_is_loaded(rt: HostRuntime) -> Result<(), Fail> {
+    let file = changed(rt.alloc(), &[(P_VADDR, 0x20ff0), (ENTRY, 0x20ff4)], &[])?;
+    let image = load(rt.alloc(), &file)?;
+    assert_eq!(rt; image.base(), 0x20000);
+    assert_eq!(rt; image.entry(), 0x20ff4);
+    let segments = image.segments();
+    assert_eq!(rt; segments.len(), 1);
+    assert_eq!(rt; segments[0].place(), 0x20ff0);
+    assert_eq!(rt; segments[0].size(), 48);
+    assert_eq!(rt; file.len(), 132);
+    assert_eq!(rt; segments[0].bytes(), &file[84..]);
+    Ok(())
+}
+
+#[test]
+fn each_prefix_has_its_fault(rt: HostRuntime) -> Result<(), Fail> {
+    let file = changed(rt.alloc(), &[], &[])?;
+    assert_eq!(rt; file.len(), 132);
+    for length in 0..133 {
+        let want = match length {
+            0..52 => Some(ImageFault::Short),
+            52..84 => Some(ImageFault::Header),
+            84..132 => Some(ImageFault::Segment),
+            _ => None,
+        };
+        assert_eq!(rt;
+            load(rt.alloc(), &file[..length]).err(),
+            want,
+            "at {length}"
+        );
+    }
+    Ok(())
+}
+
+#[test]
+fn each_changed_word_has_its_fault(rt: HostRuntime) -> Result<(), Fail> {
+    let cases = [
+        (0, 0x464c4500, Some(ImageFault::Magic)),
+        (1, 0x00010102, Some(ImageFault::Class)),
+        (1, 0x00010201, Some(ImageFault::Class)),
+        (1, 0x00020101, Some(ImageFault::Class)),
+        (TYPE_AND_MACHINE, 0x00f30003, Some(ImageFault::Kind)),
+        (TYPE_AND_MACHINE, 0x003e0002, Some(ImageFault::Machine)),
+        (VERSION, 2, Some(ImageFault::Header)),
+        (SIZES, 0x00200035, Some(ImageFault::Header)),
+        (SIZES, 0x00280034, Some(ImageFault::Header)),
+        (PHOFF, 0xffffffff, Some(ImageFault::Header)),
+        (PHNUM, 0xffff, Some(ImageFault::Header)),
+        (PHNUM, 0, Some(ImageFault::NoSegment)),
+        (P_TYPE, 2, Some(ImageFault::Dynamic)),
+        (P_TYPE, 3, Some(ImageFault::Dynamic)),
+        (P_TYPE, 4, Some(ImageFault::NoSegment)),
+        (P_OFFSET, 0xffffffff, Some(ImageFault::Segment)),
+        (P_VADDR, 0xfffffff0, Some(ImageFault::Segment)),
+        (P_FILESZ, 49, Some(ImageFault::Segment)),
+        (P_MEMSZ, 47, Some(ImageFault::Segment)),
+        (P_MEMSZ, 8192, None),
+        (ENTRY, 0x10002, Some(ImageFault::Entry)),
+        (ENTRY, 0x10030, Some(ImageFault::Entry)),
+    ];
+    for (at, word, want) in cases {
+        assert_fault(&rt, rt.alloc(), &[(at, word)], &[], want)?;
+    }
+    Ok(())
+}
+
+#[test]
+fn a_second_entry_counts_as_the_first(rt: HostRuntime) -> Result<(), Fail> {
+    let cases = [
+        (48, [0x70000003, 0, 0, 0, 0, 0, 0, 0], None),
+        (48, [2, 0, 0, 0, 0, 0, 0, 0], Some(ImageFault::Dynamic)),
+        (47, [2, 0, 0, 0, 0, 0, 0, 0], Some(ImageFault::Dynamic)),
+        (47, [0, 0, 0, 0, 0, 0, 0, 0], Some(ImageFault::Segment)),
+        (48, [1, 0, 0, 0, 0, 0, 0, 0], None),
+        (48, [1, 0, 0x10030, 0, 4, 4, 0, 0], None),
+        (
+            48,
+            [1, 0, 0x1002f, 0, 4, 4, 0, 0],
+            Some(ImageFault::Segment),
+        ),
+        (48, [1, 0xffffffff, 0x20000, 0, 0, 4, 0, 0], None),
+    ];
+    for (size, second, want) in cases {
+        let changes = [(PHNUM, 2), (P_OFFSET, 116), (P_MEMSZ, size)];
+        assert_fault(&rt, rt.alloc(), &changes, &second, want)?;
+    }
+    Ok(())
+}

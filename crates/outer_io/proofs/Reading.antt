@@ -1,0 +1,72 @@
+-- The calls of one reading of a file, one after another.
+use Rattle.std.proofs.Common.{◌≡◌, ◌∙◌, ap, sym, ℕ, ◌+◌, ◌≤◌, ◌<◌, List, [], ◌∷◌, ◌++◌, length, take, drop, Option, Some, None, IsSome, unwrap_or, refl, arith, append_assoc, append-nil, length-take, length-append, take-append-drop, take-add}
+use Rattle.outer_io.specs.Tells.{IsPrefix}
+use Rattle.outer_io.specs.Files.{Files, Text, KeepsFiles, BeginsRead, Takes, rest_of}
+use Rattle.outer_io.specs.ReadWhole.{HasContent, IsLonger}
+
+-- these bytes of the file are taken, and more may follow
+pub record IsReading (name : Text) (bytes : List ℕ) (old new : Files) : Type 0 where
+  pub keeps : KeepsFiles old new
+  pub reading : new.reading ≡ name
+  pub taken : new.taken ≡ bytes
+  pub content : List ℕ
+  pub is_there : new.file name ≡ Some content
+  pub front : IsPrefix bytes content
+
+pub keeps-then : (x y z : Files) → KeepsFiles x y → KeepsFiles y z → KeepsFiles x z
+keeps-then x y z p q = record { file = q.file ∙ p.file; writing = q.writing ∙ p.writing; put = q.put ∙ p.put }
+
+some_content : (o : Option (List ℕ)) → IsSome o → (content : List ℕ) × (o ≡ Some content)
+some_content None h = cc
+some_content (Some content) h = (content, refl)
+
+pub begins : (name : Text) (x y : Files) → BeginsRead name x y → IsReading name [] x y
+begins name x y b =
+    let there = some_content (y.file name) b.is_there in
+    record { keeps = b.keeps; reading = b.reading; taken = b.taken; content = there.0; is_there = there.1; front = refl }
+
+-- what is left is what stands behind the bytes taken
+left_behind : (name : Text) (bytes : List ℕ) (x y : Files) → (r : IsReading name bytes x y) → rest_of y ≡ drop (length bytes) r.content
+left_behind name bytes x y r =
+    let there : y.file y.reading ≡ Some r.content = ap (λ n. y.file n) r.reading ∙ r.is_there in
+    rw (there, r.taken) refl
+
+-- a prefix of what stands behind a prefix makes it longer
+prefix_longer : (front got whole : List ℕ) → IsPrefix front whole → IsPrefix got (drop (length front) whole) → IsPrefix (front ++ got) whole
+prefix_longer front got whole p q =
+    ap (λ n. take n whole) (length-append front got) ∙ take-add (length front) (length got) whole ∙ ap (λ w. w ++ take (length got) (drop (length front) whole)) p ∙ ap (λ w. front ++ w) q
+
+pub reads_on : (name : Text) (bytes got : List ℕ) (room : ℕ) (x y z : Files)
+    → IsReading name bytes x y → Takes room got y z → IsReading name (bytes ++ got) x z
+reads_on name bytes got room x y z r t =
+    let next : IsPrefix got (drop (length bytes) r.content) = rw (← left_behind name bytes x y r) t.next in
+    record {
+      keeps = keeps-then x y z r.keeps t.keeps;
+      reading = t.reading ∙ r.reading;
+      taken = t.taken ∙ ap (λ w. w ++ got) r.taken;
+      content = r.content;
+      is_there = ap (λ f. f name) t.keeps.file ∙ r.is_there;
+      front = prefix_longer bytes got r.content r.front next;
+    }
+
+pub ends : (name : Text) (bytes got : List ℕ) (room : ℕ) (x y z : Files)
+    → IsReading name bytes x y → Takes room got y z → 0 < room → length got ≡ 0 → HasContent name bytes x z
+ends name bytes got room x y z r t has_room none =
+    let rest : drop (length bytes) r.content ≡ [] = sym (left_behind name bytes x y r) ∙ t.at_end has_room none in
+    let whole : r.content ≡ bytes =
+    sym (take-append-drop (length bytes) r.content) ∙ ap (λ w. take (length bytes) r.content ++ w) rest ∙ append-nil (take (length bytes) r.content) ∙ r.front in
+    ap (λ f. f name) t.keeps.file ∙ r.is_there ∙ ap Some whole
+
+prefix_is_short : (front whole : List ℕ) → IsPrefix front whole → length front ≤ length whole
+prefix_is_short front whole p =
+    let same : length (take (length front) whole) ≡ length front = ap length p in
+    omega (arith, same, length-take (length front) whole)
+
+pub is_longer : (name : Text) (bytes : List ℕ) (max : ℕ) (x y : Files)
+    → IsReading name bytes x y → length bytes ≡ max + 1 → IsLonger name max x y
+is_longer name bytes max x y r long =
+    let short : length bytes ≤ length r.content = prefix_is_short bytes r.content r.front in
+    record { content = r.content; is_there = r.is_there; longer = omega arith; reading = r.reading; taken = ap length r.taken ∙ long }
+
+pub keeps_of : (name : Text) (bytes : List ℕ) (x y : Files) → IsReading name bytes x y → KeepsFiles x y
+keeps_of name bytes x y r = r.keeps

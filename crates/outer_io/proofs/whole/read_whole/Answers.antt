@@ -1,0 +1,59 @@
+use Rattle.std.proofs.Common.{rules, arith, ◌≡◌, ◌≤◌, ◌<◌, ◌∷◌, [], ◌++◌, ◌∙◌, ap, sym, subst, refl, ℕ, ◌+◌, ◌-◌, List, length, take, drop, Option, length-append, length-take, length-drop}
+use Rattle.std.proofs.lemmas.List.{take-append-le}
+use Rattle.outer_io.specs.Tells.{Tells, Gains}
+use Rattle.outer_io.specs.Files.{Files, KeepsFiles, TakesNone, Takes, BeginsRead}
+use Rattle.outer_io.specs.ReadWhole.{IsLonger, HasContent}
+use Rattle.outer_io.proofs.TellsLemmas.{tells-then, tells-map, tells-gains-none}
+use Rattle.outer_io.proofs.Reading.{IsReading, begins, reads_on, ends, is_longer, keeps_of}
+use Rattle.outer_io.proofs.whole.read_whole.Goals as goal
+
+pub loop-piece-init : goal.loop-piece-init
+loop-piece-init g c = record {
+  small = omega (arith, c.new-bytes.ensures.len);
+  buffer = search rules;
+  later = c.begin_read.ensures.cause.later;
+  last = c.begin_read.ensures.cause.last;
+  open_now = c.in-Ok.ensures.open;
+  created = c.begin_read.ensures.created;
+  asked = c.begin_read.ensures.asked;
+  told = rw c.new-bytes.ensures.items (tells-map _ _ (BeginsRead c.args.name.now) (IsReading c.args.name.now []) (begins c.args.name.now) c.in-Ok.ensures.ok);
+}
+
+pub returns-then-count-eq0-clause-content : goal.returns-then-count-eq0-clause-content
+returns-then-count-eq0-clause-content g c =
+    let name = c.args.name.now in
+    let bytes = c.loop-piece.bytes.items in
+    let room : ℕ = c.min-room.result in
+    tells-then _ _ _ (IsReading name bytes) _ (HasContent name bytes)
+    (λ x y z r t. ends name bytes _ _ x y z r t
+    (omega (arith, length-take room c.loop-piece.piece)) (omega (arith, length-take c.in-Ok-read.count c.read.new.into))) c.loop-piece.invariant.told c.in-Ok-read.ensures.ok
+
+pub loop-piece-preserved : goal.loop-piece-preserved
+loop-piece-preserved g c =
+    let name = c.args.name.now in
+    let bytes = c.loop-piece.bytes.items in
+    let n : ℕ = c.in-Ok-read.count in
+    let into : List ℕ = c.read.new.into in
+    let room : ℕ = c.min-room.result in
+    let fits : n ≤ length into = omega (arith, c.in-Ok-read.ensures.count, c.read.auto.into) in
+    let taken = length-take room c.loop-piece.piece in
+    let items : c.extend_from_slice.new.self.items ≡ bytes ++ take n into =
+    c.in-Ok-extend_from_slice.ensures.items ∙ ap (λ w. bytes ++ w) (take-append-le n into _ fits) in
+    record {
+      small = omega (arith, ap length items, length-append bytes (take n into), length-take n into, c.in-Ok-read.ensures.count, taken, c.in-Ok-extend_from_slice.ensures.len);
+      buffer = omega (arith, length-append into (drop room c.loop-piece.piece), length-drop room c.loop-piece.piece, taken, c.read.auto.into);
+      later = omega (arith, c.in-Ok-read.ensures.cause.later);
+      last = λ high. c.in-Ok-read.ensures.cause.last (omega (arith, high, c.loop-piece.invariant.later)) ∙ c.loop-piece.invariant.last high;
+      open_now = c.in-Ok-read.ensures.open ∙ c.loop-piece.invariant.open_now;
+      created = c.in-Ok-read.ensures.created ∙ c.loop-piece.invariant.created;
+      asked = tells-gains-none _ _ _ (name ∷ []) c.loop-piece.invariant.asked c.in-Ok-read.ensures.asked;
+      told = rw items (tells-then _ _ _ (IsReading name bytes) _ (IsReading name (bytes ++ take n into))
+          (λ x y z r t. reads_on name bytes (take n into) _ x y z r t) c.loop-piece.invariant.told c.in-Ok-read.ensures.ok);
+    }
+
+pub returns-clause-cause : goal.returns-clause-cause
+returns-clause-cause g c = (
+  omega arith,
+  tells-map _ _ (IsReading c.args.name.now c.loop-piece.bytes.items) (IsLonger c.args.name.now c.args.max)
+      (λ x y r. is_longer c.args.name.now c.loop-piece.bytes.items c.args.max x y r (omega arith)) c.loop-piece.invariant.told,
+)

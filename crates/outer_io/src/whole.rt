@@ -1,0 +1,97 @@
+// Whole files and whole texts, over calls that move a piece.
+ghost use Rattle.std.specs.Prelude.{◌≡◌, ◌≤◌, ◌-◌, ◌^◌, ◌∷◌, [], vec_len, IfOk, IfErr, OnOk, OnErr};
+ghost use Rattle.outer_io.specs.Faults.{HasCause};
+ghost use Rattle.outer_io.specs.Tells.{Tells, Gains, GainsPrefix};
+ghost use Rattle.outer_io.specs.Files.{KeepsFiles};
+ghost use Rattle.outer_io.specs.ReadWhole.{HasContent, ReadCause};
+
+use crate::sink::Sink;
+use crate::store::Store;
+use std::alloc::Global;
+use thiserror::Error;
+
+/// Why a file was not read whole.
+#[derive(Debug, PartialEq, Drop, Error)]
+pub enum ReadWhole {
+    /// The store failed.
+    #[error("the store failed")]
+    ReadFault,
+    /// This many bytes were taken, one more than are allowed.
+    #[error("more than {0} bytes")]
+    TooLong(usize),
+    /// There is no memory for the bytes.
+    #[error("out of memory")]
+    NoMemory,
+}
+
+/// The sink failed before all bytes were written.
+#[derive(Debug, PartialEq, Drop, Error)]
+#[error("the sink failed")]
+pub struct WriteFault;
+
+// How many bytes one read takes at most.
+const PIECE: usize = 65536;
+
+/// Reads the file of this name to its end. `max` is how many bytes it may have, at most 2^26.
+///
+/// It asks the store for this name alone, once, and then reads pieces of at most 65,536 bytes, and
+/// at most `max + 1` bytes in all.
+///
+/// - `ReadFault`: the store failed; its count of faults rose, or stands at 2^64 - 1.
+/// - `TooLong(taken)`: the file has more than `max` bytes, of which `taken`, `max + 1`, were taken.
+/// - `NoMemory`: there is no memory for the bytes.
+pub fn read_whole<S: Store>(
+    alloc: Global,
+    store: &mut S,
+    name: &str,
+    max: usize,
+) -> Result<Vec<u8>, ReadWhole>
+    requires { max ≤ 2 ^ 26 }
+    ensures short { IfOk result (λ bytes. vec_len bytes ≤ max) }
+    ensures content { IfOk result (λ bytes. Tells (S.files store.old) (S.files store.new) (HasContent name.now bytes.items)) }
+    ensures cause { IfErr result (ReadCause name.now max (S.files store.old) (S.files store.new) (S.faults store.old) (S.faults store.new)) }
+    ensures keeps { Tells (S.files store.old) (S.files store.new) KeepsFiles }
+    ensures asked { Tells (S.asked store.old) (S.asked store.new) (Gains (name.now ∷ [])) }
+    ensures created { S.is_created store.new ≡ S.is_created store.old }
+    ensures later { S.faults store.old ≤ S.faults store.new }
+    ensures last { 2 ^ 64 - 1 ≤ S.faults store.old → S.faults store.new ≡ S.faults store.old }
+{
+    let Ok(()) = store.begin_read(name) else {
+        return Err(ReadWhole::ReadFault);
+    };
+    let mut buffer = vec![in alloc; 0u8; PIECE].map_err(|_| ReadWhole::NoMemory)?;
+    let piece = buffer.as_mut_slice();
+    let mut bytes = Vec::new(alloc);
+    while bytes.len() <= max {
+        let room = PIECE.min(max + 1 - bytes.len());
+        let Ok(count) = store.read(&mut piece[..room]) else {
+            return Err(ReadWhole::ReadFault);
+        };
+        if count == 0 {
+            return Ok(bytes);
+        }
+        let Ok(()) = bytes.extend_from_slice(&piece[..count]) else {
+            return Err(ReadWhole::NoMemory);
+        };
+    }
+    Err(ReadWhole::TooLong(bytes.len()))
+}
+
+/// Writes all the bytes.
+///
+/// It fails where the sink failed; its count of faults then rose, or stands at 2^64 - 1, and what
+/// went out is a prefix of the bytes.
+pub fn write_whole<O: Sink>(sink: &mut O, bytes: &[u8]) -> Result<(), WriteFault>
+    ensures cause { HasCause (O.faults sink.old) (O.faults sink.new) result }
+    ensures ok { OnOk result (Tells (O.written sink.old) (O.written sink.new) (Gains bytes.now)) }
+    ensures err { OnErr result (Tells (O.written sink.old) (O.written sink.new) (GainsPrefix bytes.now)) }
+{
+    let mut rest = bytes;
+    while !rest.is_empty() {
+        let Ok(count) = sink.put(rest) else {
+            return Err(WriteFault);
+        };
+        rest = &rest[count..];
+    }
+    Ok(())
+}

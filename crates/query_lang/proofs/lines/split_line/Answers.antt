@@ -1,0 +1,10 @@
+use Rattle.std.proofs.Common.{sym, ◌∙◌, ◌+◌}
+use Rattle.query_lang.proofs.LineLemmas.{lines_behind, one_line, all_behind}
+use Rattle.query_lang.proofs.lines.split_line.Goals as goal
+
+pub returns-in_default-clause-lines : goal.returns-in_default-clause-lines
+returns-in_default-clause-lines c = one_line c.args.text.now (sym c.line_feed_in.ensures ∙ c.in_default.is)
+
+pub returns-clause-lines : goal.returns-clause-lines
+returns-clause-lines c =
+    rw (all_behind c.args.text.now (c.in-Some.end + 1), c.without_carriage_return.ensures) (lines_behind c.args.text.now c.in-Some.end (sym c.line_feed_in.ensures ∙ c.in-Some.is))

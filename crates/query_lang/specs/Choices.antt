@@ -1,0 +1,34 @@
+-- What the crate's choices stand for.
+use Rattle.std.specs.Prelude.{◌≡◌, ℕ, Bool, true, false, List, [], ◌∷◌, ◌++◌, map, Option, Some, None}
+use Rattle.report_model.specs.Query.{Choice, Offsets, chooses}
+use Rattle.query_lang.specs.declared.choice.Offsets.{Offsets as PlainOffsets}
+use Rattle.query_lang.specs.declared.choice.Span.{Span}
+use Rattle.query_lang.specs.declared.choice.Choice.{Choice as PlainChoice}
+use Rattle.query_lang.specs.declared.choice.Choice.TheVariants as plain
+
+abbrev pub offsets_of : Option PlainOffsets → Option Offsets
+offsets_of None = None
+offsets_of (Some o) = Some (record { from = o.from; past = o.past })
+
+abbrev pub span_choice : Span → Choice
+span_choice s = record { channel = Some s.channel; offsets = offsets_of s.offsets }
+
+-- each byte
+abbrev pub everything : Choice
+everything = record { channel = None; offsets = None }
+
+abbrev pub choice_shown : PlainChoice → Choice
+choice_shown plain.All = everything
+choice_shown (plain.Span s) = span_choice s
+
+abbrev pub if_all : Bool → List Choice
+if_all true = everything ∷ []
+if_all false = []
+
+-- each byte where that is said, and the spans
+abbrev pub choices_of : Bool → List Span → List Choice
+choices_of all spans = if_all all ++ map span_choice spans
+
+-- they choose the same bytes
+abbrev pub SameChoices : List Choice → List Choice → Type 0
+SameChoices xs ys = (c o : ℕ) → chooses xs c o ≡ chooses ys c o

@@ -1,0 +1,59 @@
+//! What the lines so far say.
+
+ghost use Rattle.std.specs.Prelude.{◌≡◌, None, [], IfErr, OnOk};
+ghost use Rattle.query_lang.specs.Drafts.{gathered, TakesUp, IsFaultIn};
+
+use crate::chosen::Gathered;
+use crate::fault::QueryFault;
+use crate::statement::{Statement, statement_of};
+use flow_model::Rule;
+use report_model::QueryKind;
+use std::alloc::Global;
+
+/// What the lines so far say.
+#[derive(Drop)]
+pub struct Draft {
+    pub rule: Option<Rule>,
+    pub sources: Gathered,
+    pub sinks: Gathered,
+}
+
+impl Draft {
+    /// Nothing.
+    pub fn new(alloc: Global) -> Self
+        ensures rule { result.rule ≡ None }
+        ensures sources { gathered result.sources ≡ [] }
+        ensures sinks { gathered result.sinks ≡ [] }
+    {
+        Draft {
+            rule: None,
+            sources: Gathered::new(alloc),
+            sinks: Gathered::new(alloc),
+        }
+    }
+
+    /// Takes up what the line of this number says.
+    pub fn take_up(&mut self, number: u32, line: &[u8]) -> Result<(), QueryFault>
+        ensures ok { OnOk result (TakesUp self.old line.now self.new) }
+        ensures fault { IfErr result (IsFaultIn number self.old line.now) }
+    {
+        let statement = statement_of(line).map_err(|kind| QueryFault::At { line: number, kind })?;
+        match statement {
+            None => Ok(()),
+            Some(Statement::RuleIs(_)) if self.rule.is_some() => Err(QueryFault::At {
+                line: number,
+                kind: QueryKind::SecondRule,
+            }),
+            Some(Statement::RuleIs(rule)) => {
+                self.rule = Some(rule);
+                Ok(())
+            }
+            Some(Statement::Source(choice)) => {
+                self.sources.add(choice).map_err(|_| QueryFault::NoMemory)
+            }
+            Some(Statement::Sink(choice)) => {
+                self.sinks.add(choice).map_err(|_| QueryFault::NoMemory)
+            }
+        }
+    }
+}

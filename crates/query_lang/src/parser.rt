@@ -1,0 +1,53 @@
+//! From a text to a query.
+
+ghost use Rattle.std.specs.Prelude.{◌≡◌, ◌≤◌, ◌^◌, length, IfOk, IfErr};
+ghost use Rattle.query_lang.specs.Answers.{Asks, IsTold};
+ghost use Rattle.query_lang.specs.Drafts.{IsFinished, IsUnfinished};
+
+use crate::chosen::Chosen;
+use crate::draft::Draft;
+use crate::fault::QueryFault;
+use crate::lines::split_line;
+use crate::query::Query;
+use report_model::QueryKind;
+use std::alloc::Global;
+
+/// The query of which all lines were taken up.
+fn finish(alloc: Global, draft: Draft) -> Result<Query, QueryFault>
+    ensures ok { IfOk result (IsFinished draft) }
+    ensures fault { IfErr result (IsUnfinished draft) }
+{
+    let Draft {
+        rule,
+        sources,
+        sinks,
+    } = draft;
+    let rule = rule.ok_or(QueryFault::At {
+        line: 0,
+        kind: QueryKind::NoRule,
+    })?;
+    let sources = Chosen::of(alloc, sources).map_err(|_| QueryFault::NoMemory)?;
+    let sinks = Chosen::of(alloc, sinks).map_err(|_| QueryFault::NoMemory)?;
+    Ok(Query::new(rule, sources, sinks))
+}
+
+/// The query that a text of at most 2^26 bytes stands for.
+///
+/// A text that stands for none has a first faulty line, and that line a first fault, in the order of the
+/// kinds: the answer is `At` with both. `NoMemory` says that there was no memory for the query.
+pub fn parse(alloc: Global, text: &[u8]) -> Result<Query, QueryFault>
+    requires { length text.now ≤ 2 ^ 26 }
+    ensures read { IfOk result (Asks text.now) }
+    ensures fault { IfErr result (IsTold text.now) }
+{
+    let mut draft = Draft::new(alloc);
+    let mut number = 0;
+    let mut left = Some(text);
+    while let Some(part) = left {
+        let (line, behind) = split_line(part);
+        number += 1;
+        draft.take_up(number, line)?;
+        left = behind;
+    }
+    finish(alloc, draft)
+}

@@ -1,0 +1,194 @@
+//! What a line says.
+
+ghost use Rattle.std.specs.Prelude.{◌≡◌, ◌<◌, ◌∷◌, [], false, Some, IfOk, IfErr, OnOk, MatchOption, MatchResult};
+ghost use Rattle.report_model.specs.Grammar.{words};
+ghost use Rattle.report_model.specs.Grammar.{rule_named as rule_by_name, statement as statement_by_words};
+ghost use Rattle.report_model.specs.declared.QueryKind.TheVariants.{Channel};
+ghost use Rattle.query_lang.specs.Choices.{choice_shown, span_choice};
+ghost use Rattle.query_lang.specs.Statements.{Says, AreOperands, HasWrongCount, IsRuleBehind, IsRuleFault, IsChoiceBehind, IsChoiceFault, IsFaultOf, IsLineFault, HasCleanBytes, is_all_word};
+
+use crate::choice::{Choice, Offsets, Span};
+use crate::number::number_of;
+use crate::words::{Words, has_bad_byte, is_comment};
+use flow_model::Rule;
+use report_model::QueryKind;
+
+/// What a line says that is neither empty nor a comment.
+#[derive(Clone, Copy)]
+pub enum Statement {
+    RuleIs(Rule),
+    Source(Choice),
+    Sink(Choice),
+}
+
+/// The words behind `source` or `sink`.
+#[derive(Clone, Copy)]
+pub enum Operands<'a> {
+    All,
+    Channel(&'a [u8]),
+    Range {
+        channel: &'a [u8],
+        from: &'a [u8],
+        past: &'a [u8],
+    },
+}
+
+/// The rule of this name.
+fn rule_named(name: &[u8]) -> Option<Rule>
+    ensures { result ≡ rule_by_name name.now }
+{
+    if name == b"copy".as_slice() {
+        Some(Rule::Copy)
+    } else if name == b"compute".as_slice() {
+        Some(Rule::Compute)
+    } else {
+        None
+    }
+}
+
+/// The rule that the words behind `rule` name.
+fn rule_of(mut operands: Words<'_>) -> Result<Rule, QueryKind>
+    ensures { MatchResult result
+        (IsRuleBehind (words operands.entry.rest.now))
+        (IsRuleFault (words operands.entry.rest.now)) }
+{
+    let Some(name) = operands.next() else {
+        return Err(QueryKind::Count);
+    };
+    let Some(rule) = rule_named(name) else {
+        return Err(QueryKind::Word);
+    };
+    match operands.next() {
+        None => Ok(rule),
+        Some(_) => Err(QueryKind::Count),
+    }
+}
+
+/// The words behind `source` or `sink`, where they are as many as there may be.
+fn operands_of<'a>(mut operands: Words<'a>) -> Option<Operands<'a>>
+    ensures { MatchOption result
+        (HasWrongCount (words operands.entry.rest.now))
+        (AreOperands (words operands.entry.rest.now)) }
+{
+    let first = operands.next()?;
+    let is_all = first == b"all".as_slice();
+    let Some(from) = operands.next() else {
+        return Some(if is_all {
+            Operands::All
+        } else {
+            Operands::Channel(first)
+        });
+    };
+    let past = operands.next()?;
+    if is_all || operands.next().is_some() {
+        return None;
+    }
+    Some(Operands::Range {
+        channel: first,
+        from,
+        past,
+    })
+}
+
+/// A channel from 0 to 15.
+fn channel_of(number: u32) -> Result<u8, QueryKind>
+    ensures { MatchResult result
+        (λ channel. (channel ≡ number) × (number < 16))
+        (λ kind. (kind ≡ Channel) × (15 < number)) }
+{
+    match u8::try_from(number) {
+        Ok(channel) if channel < 16 => Ok(channel),
+        _ => Err(QueryKind::Channel),
+    }
+}
+
+/// All bytes of a channel.
+fn whole_channel(channel: &[u8]) -> Result<Span, QueryKind>
+    requires { is_all_word channel.now ≡ false }
+    ensures { MatchResult result
+        (λ span. IsChoiceBehind (channel.now ∷ []) (span_choice span))
+        (IsChoiceFault (channel.now ∷ [])) }
+{
+    let channel = number_of(channel).ok_or(QueryKind::Number)?;
+    Ok(Span {
+        channel: channel_of(channel)?,
+        offsets: None,
+    })
+}
+
+/// The bytes of a channel from one offset up to another.
+fn range_of(channel: &[u8], from: &[u8], past: &[u8]) -> Result<Span, QueryKind>
+    requires { is_all_word channel.now ≡ false }
+    ensures { MatchResult result
+        (λ span. IsChoiceBehind (channel.now ∷ from.now ∷ past.now ∷ []) (span_choice span))
+        (IsChoiceFault (channel.now ∷ from.now ∷ past.now ∷ [])) }
+{
+    let channel = number_of(channel).ok_or(QueryKind::Number)?;
+    let from = number_of(from).ok_or(QueryKind::Number)?;
+    let past = number_of(past).ok_or(QueryKind::Number)?;
+    let channel = channel_of(channel)?;
+    if from > past {
+        return Err(QueryKind::Range);
+    }
+    Ok(Span {
+        channel,
+        offsets: Some(Offsets { from, past }),
+    })
+}
+
+/// What the words behind `source` or `sink` choose.
+fn choice_of(operands: Words<'_>) -> Result<Choice, QueryKind>
+    ensures { MatchResult result
+        (λ choice. IsChoiceBehind (words operands.entry.rest.now) (choice_shown choice))
+        (IsChoiceFault (words operands.entry.rest.now)) }
+{
+    match operands_of(operands) {
+        None => Err(QueryKind::Count),
+        Some(Operands::All) => Ok(Choice::All),
+        Some(Operands::Channel(channel)) => Ok(Choice::Span(whole_channel(channel)?)),
+        Some(
+            Operands::Range {
+                channel,
+                from,
+                past,
+            },
+        ) => Ok(Choice::Span(range_of(channel, from, past)?)),
+    }
+}
+
+/// What a line says that begins with the keyword.
+fn statement_by(keyword: &[u8], operands: Words<'_>) -> Result<Statement, QueryKind>
+    ensures { MatchResult result
+        (λ statement. Says (keyword.now ∷ words operands.entry.rest.now) (Some statement))
+        (IsFaultOf (keyword.now ∷ words operands.entry.rest.now)) }
+{
+    if keyword == b"rule".as_slice() {
+        return Ok(Statement::RuleIs(rule_of(operands)?));
+    }
+    if keyword == b"source".as_slice() {
+        return Ok(Statement::Source(choice_of(operands)?));
+    }
+    if keyword == b"sink".as_slice() {
+        return Ok(Statement::Sink(choice_of(operands)?));
+    }
+    Err(QueryKind::Word)
+}
+
+/// What a line says, or its first fault. A comment and an empty line say nothing.
+pub fn statement_of(line: &[u8]) -> Result<Option<Statement>, QueryKind>
+    ensures said { IfOk result (Says (statement_by_words line.now)) }
+    ensures clean { OnOk result (HasCleanBytes line.now) }
+    ensures fault { IfErr result (IsLineFault line.now) }
+{
+    if is_comment(line) {
+        return Ok(None);
+    }
+    if has_bad_byte(line) {
+        return Err(QueryKind::BadByte);
+    }
+    let mut words = Words { rest: line };
+    match words.next() {
+        None => Ok(None),
+        Some(keyword) => Ok(Some(statement_by(keyword, words)?)),
+    }
+}

@@ -1,0 +1,50 @@
+//! The kinds of records.
+
+ghost use Rattle.std.specs.Prelude.{◌≡◌, ◌<◌, ◌⊎◌, MatchOption};
+ghost use Rattle.log_model.specs.Faults.{fixed_length};
+ghost use Rattle.replay_log.specs.Tags.{number};
+
+/// The kind of a record, which its first byte says.
+#[derive(Clone, Copy)]
+pub enum Tag {
+    Read,
+    Write,
+    Clock,
+    Other,
+    Exit,
+    Trap,
+    Limit,
+}
+
+impl Tag {
+    /// The kind with this number, 1 to 7.
+    pub fn of(byte: u8) -> Option<Tag>
+        ensures { MatchOption result ((byte ≡ 0) ⊎ (7 < byte)) (λ tag. number tag ≡ byte) }
+    {
+        match byte {
+            1 => Some(Tag::Read),
+            2 => Some(Tag::Write),
+            3 => Some(Tag::Clock),
+            4 => Some(Tag::Other),
+            5 => Some(Tag::Exit),
+            6 => Some(Tag::Trap),
+            7 => Some(Tag::Limit),
+            _ => None,
+        }
+    }
+
+    /// How many bytes the tag and the fixed fields take.
+    pub fn fixed_length(self) -> usize
+        ensures { result ≡ fixed_length (number self) }
+    {
+        match self {
+            Tag::Read => 21,
+            Tag::Write => 21,
+            Tag::Clock => 13,
+            Tag::Other => 9,
+            Tag::Exit => 9,
+            Tag::Trap => 13,
+            Tag::Limit => 5,
+        }
+    }
+}

@@ -1,0 +1,196 @@
+use super::*;
+use std::alloc::{AllocError, Global};
+use std::process::Abort;
+use std::test::Fail;
+
+/// The log of a run that reads four bytes, writes them and exits. The digest is 0, 1, 2 .. 31.
+const LOG: [u8; 107] = [
+    0x4a, 0x45, 0x54, 0x4c, 0x4f, 0x47, 0x31, 0x0a, //
+    0, 1, 2, 3, 4, 5, 6, 7, 8, 9, 10, 11, 12, 13, 14, 15, //
+    16, 17, 18, 19, 20, 21, 22, 23, 24, 25, 26, 27, 28, 29, 30, 31, //
+    1, 0, 0, 0, 1, 0, 0, 0, //
+    1, 5, 0, 0, 0, 0, 0, 0, 0, 0, 1, 1, 0, 4, 0, 0, 0, 4, 0, 0, 0, 0x41, 0x42, 0x43, 0x44, //
+    2, 8, 0, 0, 0, 1, 0, 0, 0, 0, 1, 1, 0, 4, 0, 0, 0, 4, 0, 0, 0, 0x41, 0x42, 0x43, 0x44, //
+    5, 0x0b, 0, 0, 0, 0, 0, 0, 0,
+];
+
+/// A clock call at step 3 and a call of number 42 at step 4.
+const CALLS: [u8; 22] = [
+    3, 3, 0, 0, 0, 2, 0, 0, 0, 1, 0, 0, 0, //
+    4, 4, 0, 0, 0, 42, 0, 0, 0,
+];
+
+/// A trap at step 5, of kind 2 at 0x10000.
+const TRAP: [u8; 13] = [6, 5, 0, 0, 0, 2, 0, 0, 0, 0, 0, 1, 0];
+
+/// The log's first bytes, others in place of as many, and the log's last ones.
+fn changed(alloc: Global, at: usize, by: &[u8]) -> Result<Vec<u8>, AllocError> {
+    let mut bytes = Vec::from_slice(alloc, &LOG[..at.min(LOG.len())])?;
+    bytes.extend_from_slice(by)?;
+    let behind = at.saturating_add(by.len()).min(LOG.len());
+    bytes.extend_from_slice(&LOG[behind..])?;
+    Ok(bytes)
+}
+
+/// The header, and other bytes behind it.
+fn headed(alloc: Global, parts: &[&[u8]]) -> Result<Vec<u8>, AllocError> {
+    let mut bytes = Vec::from_slice(alloc, &LOG[..48])?;
+    for part in parts {
+        bytes.extend_from_slice(part)?;
+    }
+    Ok(bytes)
+}
+
+/// The first fault of the bytes, if they are no log.
+fn fault_of(rt: &impl Abort, alloc: Global, bytes: &[u8]) -> Option<(LogKind, u64)> {
+    assert!(rt; bytes.len() <= 1 << 26);
+    match read_log(alloc, bytes) {
+        Ok(_) => None,
+        Err(LogFault::At { kind, offset }) => Some((kind, offset)),
+        Err(LogFault::NoMemory) => panic!(rt; "there is memory"),
+    }
+}
+
+fn is_read(record: &CallRecord, step: u32, asked: &[u32], moved: i32, read: &[u8]) -> bool {
+    match record {
+        CallRecord::Read {
+            at,
+            args,
+            result,
+            bytes,
+        } => {
+            *at == step && args.as_slice() == asked && *result == moved && bytes.as_slice() == read
+        }
+        _ => false,
+    }
+}
+
+fn is_write(record: &CallRecord, step: u32, asked: &[u32], moved: i32, written: &[u8]) -> bool {
+    match record {
+        CallRecord::Write {
+            at,
+            args,
+            result,
+            bytes,
+        } => {
+            *at == step
+                && args.as_slice() == asked
+                && *result == moved
+                && bytes.as_slice() == written
+        }
+        _ => false,
+    }
+}
+
+fn is_clock(record: &CallRecord, step: u32, answer: u64) -> bool {
+    match record {
+        CallRecord::Clock { at, value } => *at == step && *value == answer,
+        _ => false,
+    }
+}
+
+fn is_other(record: &CallRecord, step: u32, call: u32) -> bool {
+    match record {
+        CallRecord::Other { at, number } => *at == step && *number == call,
+        _ => false,
+    }
+}
+
+/// The fault of the log's first bytes, so many of them.
+fn fault_of_front(length: usize) -> Option<(LogKind, u64)> {
+    match length {
+        0..=7 => Some((LogKind::Magic, 0)),
+        8..=47 => Some((LogKind::Header, 8)),
+        48..=72 => Some((LogKind::Short, 48)),
+        73..=97 => Some((LogKind::Short, 73)),
+        98..=106 => Some((LogKind::Short, 98)),
+        _ => None,
+    }
+}
+
+#[test]
+fn each_front_of_a_log_has_its_fault(rt: HostRuntime) {
+    for length in 0..=LOG.len() {
+        assert_eq!(rt;
+            fault_of(&rt, rt.alloc(), &LOG[..length]),
+            fault_of_front(length)
+        );
+    }
+}
+
+#[test]
+fn each_change_of_a_log_has_its_fault(rt: HostRuntime) -> Result<(), Fail> {
+    let cases: [(usize, &[u8], LogKind, u64); 9] = [
+        (
+            61,
+            &[255, 255, 255, 255, 255, 255, 255, 127],
+            LogKind::Short,
+            48,
+        ),
+        (61, &[4, 0, 0, 0, 5], LogKind::Result, 48),
+        (74, &[5], LogKind::Order, 73),
+        (73, &[9], LogKind::Tag, 73),
+        (90, &[3], LogKind::Result, 73),
+        (107, &[0], LogKind::Trailing, 107),
+        (40, &[0, 0], LogKind::Header, 40),
+        (40, &[1, 16], LogKind::Header, 40),
+        (44, &[17], LogKind::Header, 44),
+    ];
+    for (at, by, kind, offset) in cases {
+        let bytes = changed(rt.alloc(), at, by)?;
+        assert_eq!(rt; fault_of(&rt, rt.alloc(), &bytes), Some((kind, offset)));
+    }
+    let trap_kind_4 = headed(rt.alloc(), &[&TRAP[..5], &[4], &TRAP[6..]])?;
+    assert_eq!(rt;
+        fault_of(&rt, rt.alloc(), &trap_kind_4),
+        Some((LogKind::Result, 48))
+    );
+    Ok(())
+}
+
+#[test]
+fn a_log_is_read(rt: HostRuntime) {
+    let Ok(log) = read_log(rt.alloc(), &LOG) else {
+        panic!(rt; "the bytes are a log");
+    };
+    assert!(rt; log.pages() == 1);
+    assert!(rt; log.inputs() == 1);
+    assert!(rt; log.size() == 107);
+    assert!(rt; log.digest().as_slice() == &LOG[8..40]);
+    assert!(rt; log.end() == RunEnd::Exit { at: 11, code: 0 });
+    let records = log.records();
+    assert!(rt; records.len() == 2);
+    assert!(rt; is_read(&records[0], 5, &[0, 0x10100, 4], 4, b"ABCD"));
+    assert!(rt; is_write(&records[1], 8, &[1, 0x10100, 4], 4, b"ABCD"));
+}
+
+#[test]
+fn clock_and_other_calls_and_a_trap_are_read(rt: HostRuntime) -> Result<(), Fail> {
+    let bytes = headed(rt.alloc(), &[&CALLS, &TRAP])?;
+    assert!(rt; bytes.len() < 1 << 26);
+    let Ok(log) = read_log(rt.alloc(), &bytes) else {
+        panic!(rt; "the bytes are a log");
+    };
+    let end = RunEnd::Trap {
+        at: 5,
+        kind: 2,
+        pc: 0x10000,
+    };
+    assert!(rt; log.end() == end);
+    let records = log.records();
+    assert!(rt; records.len() == 2);
+    assert!(rt; is_clock(&records[0], 3, 4_294_967_298));
+    assert!(rt; is_other(&records[1], 4, 42));
+    Ok(())
+}
+
+#[test]
+fn a_cut_off_run_is_read(rt: HostRuntime) -> Result<(), Fail> {
+    let bytes = headed(rt.alloc(), &[&[7, 10, 0, 0, 0]])?;
+    assert!(rt; bytes.len() < 1 << 26);
+    let Ok(log) = read_log(rt.alloc(), &bytes) else {
+        panic!(rt; "the bytes are a log");
+    };
+    assert!(rt; log.end() == RunEnd::Limit { at: 10 });
+    Ok(())
+}

@@ -1,0 +1,23 @@
+//! Laws of the definitions: each is the contract of a function that does nothing.
+
+ghost use Rattle.report_model.specs.RowLaws.{AlikeHaveSameRows, RowsAscend, RowsWereWritten, NoRowIsMissing};
+
+/// Queries that have one rule and choose the same bytes have the same rows, over each trace.
+pub fn alike_have_same_rows()
+    ensures { AlikeHaveSameRows }
+{}
+
+/// Rows ascend by their output bytes, and so each output byte has one row.
+pub fn rows_ascend()
+    ensures { RowsAscend }
+{}
+
+/// Each row is one of the rows in the order of writing, and of an output byte that the query chooses.
+pub fn rows_were_written()
+    ensures { RowsWereWritten }
+{}
+
+/// Each output byte of the rows in the order of writing has a row.
+pub fn no_row_is_missing()
+    ensures { NoRowIsMissing }
+{}

@@ -1,0 +1,143 @@
+//! The machine.
+
+ghost use Rattle.std.specs.Prelude.{◌≡◌, ℕ, ◌+◌, ◌^◌, ◌≤◌, Some, None, Err, IfOk, IfSome, IsSome, ◌↔◌, IsTrue, ◌⊎◌, length, true, false};
+ghost use Rattle.elf_model.specs.Window.{start_of};
+ghost use Rattle.isa.specs.Machine.{in_window, bytes_at};
+ghost use Rattle.isa.specs.Calls.{refusal};
+ghost use Rattle.rv_machine.specs.Hart.{running, IsStep, IsAnswer, answered};
+
+use crate::state::{Done, HartState, address_of};
+use crate::{MachineFault, Reply, Stepped};
+use elf_image::Image;
+use isa::Call;
+use rv_decode::decode;
+use std::alloc::Global;
+use std::marker::Model;
+
+/// The exception code of a fetch outside the window.
+const FETCH_OUTSIDE: u32 = 1;
+
+/// The exception code of a word that stands for no instruction.
+const ILLEGAL_INSTRUCTION: u32 = 2;
+
+/// A hart with its window of memory, and whether a call of it waits for its answer.
+#[derive(Drop)]
+pub struct Machine {
+    state: HartState,
+    waits: bool,
+}
+
+impl Model for Machine {
+    ghost use Rattle.rv_machine.specs.Hart.{Hart};
+
+    ghost Value = { Hart };
+
+    ghost view = { λ m. record { state = m.state; waits = m.waits } };
+}
+
+impl Machine {
+    /// A machine before the first step of an image: its window has this many pages of 4096 bytes, 1 to 4096,
+    /// from the image's base on, the pc is the entry, x2 is 16 below the window's end, and all other registers
+    /// and all bytes that no segment brings are 0.
+    ///
+    /// The fault is `Window` exactly where the window can't hold the image: it would end past 2^32, or a
+    /// segment ends past it. Else want of memory is `NoMemory`.
+    pub fn new(alloc: Global, image: &Image, pages: u32) -> Result<Machine, MachineFault>
+        requires some { 1 ≤ pages }
+        requires most { pages ≤ 4096 }
+        ensures starts { IfOk result (λ m. (start_of image.now pages ≡ Some m.state) × (m.waits ≡ false)) }
+        ensures window { (result ≡ Err MachineFault.Window) ↔ (start_of image.now pages ≡ None) }
+    {
+        match HartState::start(alloc, image, pages) {
+            Ok(state) => Ok(Machine {
+                state,
+                waits: false,
+            }),
+            Err(fault) => Err(fault),
+        }
+    }
+
+    /// Makes one step, where no call waits. A trap changes nothing, and a call waits for [`Machine::answer`].
+    pub fn step(&mut self) -> Stepped
+        requires { self.old.waits ≡ false }
+        ensures { IsStep self.old.state result self.new }
+    {
+        let pc = self.state.pc();
+        if !self.state.in_window(pc, 4) {
+            return Stepped::Trapped {
+                kind: FETCH_OUTSIDE,
+                pc,
+            };
+        }
+        let Some(instr) = decode(self.state.load(pc, 4)) else {
+            return Stepped::Trapped {
+                kind: ILLEGAL_INSTRUCTION,
+                pc,
+            };
+        };
+        let effect = self.state.effect_of(&instr);
+        match self.state.execute(effect) {
+            Done::Retired => Stepped::Plain {
+                instr,
+                place: address_of(&effect),
+            },
+            Done::Called => {
+                self.waits = true;
+                Stepped::Called(self.state.call())
+            }
+            Done::Trapped(kind) => Stepped::Trapped { kind, pc },
+        }
+    }
+
+    /// Answers the call that waits, which finishes its step.
+    ///
+    /// The reply is of the call's own kind, and a read's bytes all have room in the window.
+    pub fn answer(&mut self, reply: Reply<'_>)
+        requires waits { self.old.waits ≡ true }
+        requires answers { IsAnswer self.old.state reply }
+        ensures { self.new ≡ running (answered self.old.state reply.entry) }
+    {
+        self.waits = false;
+        match reply {
+            Reply::Read { result, bytes } => self.state.after_read(result, bytes),
+            Reply::Write { result } => self.state.after_write(result),
+            Reply::Clock { value } => self.state.after_clock(value),
+            Reply::Other => self.state.after_other(),
+            Reply::Exit => self.state.advance(),
+        }
+    }
+
+    /// The `length` bytes of memory from an address on, or None where they aren't all in the window. No
+    /// bytes are in it at any address.
+    pub fn bytes(&self, place: u32, length: u32) -> Option<&[u8]>
+        ensures held { IsSome result ↔ ((length ≡ 0) ⊎ IsTrue (in_window self.now.state place length)) }
+        ensures part { IfSome result (λ part. part.now ≡ bytes_at self.now.state place length) }
+    {
+        if length == 0 {
+            Some(&[])
+        } else if self.state.in_window(place, length) {
+            Some(self.state.part(place, length))
+        } else {
+            None
+        }
+    }
+
+    /// The error number of a refused read or write: -9 where there is no such channel, -14 where the buffer
+    /// isn't wholly in the window, and 0 where the call isn't refused.
+    ///
+    /// A read's channel is one of the `inputs`, a write's is below 16. The channel is looked at first. Other
+    /// calls are never refused.
+    pub fn refusal(&self, call: &Call, inputs: u32) -> i32
+        ensures { result ≡ refusal self.now.state inputs call.now }
+    {
+        self.state.refusal(call, inputs)
+    }
+
+    /// The lowest address of the window. The window ends at most at 2^32.
+    pub fn base(&self) -> u32
+        ensures is { result ≡ self.now.state.base }
+        ensures in_space { self.now.state.base + length self.now.state.memory ≤ 2 ^ 32 }
+    {
+        self.state.base()
+    }
+}

@@ -1,0 +1,149 @@
+-- The targets and origins of an instruction that fits are locations.
+use Rattle.std.proofs.Common.{◌≡◌, ℕ, ◌+◌, ◌<◌, ◌^◌, ◌==◌, nat_lt, List, [], ◌∷◌, ◌++◌, arith, Bool, true, false, if◌then◌else◌}
+use Rattle.std.specs.Ordering.{int_eq}
+use Rattle.std.specs.declared.cmp.Ordering.{Ordering}
+use Rattle.std.specs.declared.cmp.Ordering.TheVariants.{Less, Equal, Greater}
+use Rattle.std.specs.Prelude.{pos}
+use Rattle.isa.specs.Encodings.{Fits}
+use Rattle.isa.specs.declared.Instr.{Instr}
+use Rattle.isa.specs.declared.Instr.TheVariants.{Lui, Auipc, Jal, Jalr, Beq, Bne, Blt, Bge, Bltu, Bgeu, Lb, Lh, Lw, Lbu, Lhu, Sb, Sh, Sw, Addi, Slti, Sltiu, Xori, Ori, Andi, Slli, Srli, Srai, Add, Sub, Sll, Slt, Sltu, Xor, Srl, Sra, Or, And, Fence, Ecall, Ebreak}
+use Rattle.isa.specs.declared.CallKind.{CallKind}
+use Rattle.isa.specs.declared.CallKind.TheVariants as kind
+use Rattle.flow_model.specs.declared.Loc.{Loc}
+use Rattle.flow_model.specs.declared.Loc.TheVariants.{Reg, Mem}
+use Rattle.flow_model.specs.declared.Rule.{Rule}
+use Rattle.flow_model.specs.declared.Rule.TheVariants.{Copy, Compute}
+use Rattle.flow_model.specs.Sets.{union, inserted, placed, loc_cmp}
+use Rattle.flow_model.specs.Flow.{Target, wrap, lane, lanes, to_register, to_memory, nothing, computed, in_first_lane, loaded_byte, sign_extended_byte, signed_load, moved_or, each_lane, all_lanes, shifted_lanes, flow, cleared}
+use Rattle.seq_taint.specs.Locations.{IsLocation, AreLocations, IsTable}
+
+either : (b : Bool) (xs ys : List Loc) → AreLocations xs → AreLocations ys → AreLocations (if b then xs else ys)
+either true xs ys h k = h
+either false xs ys h k = k
+
+in-inserted : (l : Loc) (ls : List Loc) → IsLocation l → AreLocations ls → AreLocations (inserted loc_cmp l ls)
+in-inserted l [] h k = (h, tt)
+in-inserted l (m ∷ ls) h k = by (in-inserted l ls h k.1) (loc_cmp l m) where
+  by : AreLocations (inserted loc_cmp l ls) → (r : Ordering) → AreLocations (placed r l m ls (inserted loc_cmp l ls))
+  by ih Less = (h, k)
+  by ih Equal = k
+  by ih Greater = (k.0, ih)
+
+in-union : (ls ms : List Loc) → AreLocations ls → AreLocations ms → AreLocations (union loc_cmp ls ms)
+in-union [] ms h k = k
+in-union (l ∷ ls) ms h k = in-inserted l (union loc_cmp ls ms) h.0 (in-union ls ms h.1 k)
+
+in-lane : (r i : ℕ) → r < 32 → i < 4 → AreLocations (lane r i)
+in-lane r i h k = either (r == 0) [] (Reg r i ∷ []) tt ((h, k), tt)
+
+in-lanes : (r : ℕ) → r < 32 → AreLocations (lanes r)
+in-lanes r h = either (r == 0) [] (Reg r 0 ∷ Reg r 1 ∷ Reg r 2 ∷ Reg r 3 ∷ []) tt ((h, omega arith), ((h, omega arith), ((h, omega arith), ((h, omega arith), tt))))
+
+-- the origins of each lane are locations
+abbrev Lanewise : (ℕ → List Loc) → Type 0
+Lanewise f = (i : ℕ) → i < 4 → AreLocations (f i)
+
+abbrev four_lanes : ℕ → (ℕ → List Loc) → List Target
+four_lanes d f = record { loc = Reg d 0; origins = f 0 } ∷ record { loc = Reg d 1; origins = f 1 } ∷ record { loc = Reg d 2; origins = f 2 } ∷ record { loc = Reg d 3; origins = f 3 } ∷ []
+
+to_register_table : (d : ℕ) (f : ℕ → List Loc) → d < 32 → Lanewise f → IsTable (to_register d f)
+to_register_table d f h k = by (d == 0) where
+  by : (b : Bool) → IsTable (if b then [] else four_lanes d f)
+  by true = tt
+  by false = ((h, omega arith), k 0 (omega arith), ((h, omega arith), k 1 (omega arith), ((h, omega arith), k 2 (omega arith), ((h, omega arith), k 3 (omega arith), tt))))
+
+in-byte : (a : ℕ) → AreLocations (Mem (wrap a) ∷ [])
+in-byte a = (omega arith, tt)
+
+in-nothing : Lanewise nothing
+in-nothing i h = tt
+
+in-computed : (rule : Rule) (f : ℕ → List Loc) → Lanewise f → Lanewise (computed rule f)
+in-computed Copy f h i k = tt
+in-computed Compute f h i k = h i k
+
+in-first : (ls : List Loc) → AreLocations ls → Lanewise (in_first_lane ls)
+in-first ls h i k = either (i == 0) ls [] h tt
+
+in-loaded : (a n : ℕ) → Lanewise (loaded_byte a n)
+in-loaded a n i h = either (nat_lt i n) (Mem (wrap (a + i)) ∷ []) [] (in-byte (a + i)) tt
+
+in-signed : (rule : Rule) (a n : ℕ) → Lanewise (signed_load rule a n)
+in-signed Copy a n i h = either (nat_lt i n) (Mem (wrap (a + i)) ∷ []) [] (in-byte (a + i)) tt
+in-signed Compute a n i h = either (nat_lt i n) _ _ (in-byte (a + i)) (in-byte _)
+
+in-moved : (a b : ℕ) (f : ℕ → List Loc) → a < 32 → b < 32 → Lanewise f → Lanewise (moved_or a b f)
+in-moved a b f h k g i l = either (a == 0) _ _ (in-lane b i k l) (either (b == 0) _ _ (in-lane a i h l) (g i l))
+
+in-lanewise : (a : ℕ) → a < 32 → Lanewise (lane a)
+in-lanewise a h i l = in-lane a i h l
+
+in-same : (ls : List Loc) → AreLocations ls → Lanewise (λ i. ls)
+in-same ls h i l = h
+
+in-each : (a b : ℕ) → a < 32 → b < 32 → Lanewise (each_lane a b)
+in-each a b h k i l = in-union (lane a i) (lane b i) (in-lane a i h l) (in-lane b i k l)
+
+in-both : (a b : ℕ) → a < 32 → b < 32 → AreLocations (union loc_cmp (lanes a) (lanes b))
+in-both a b h k = in-union (lanes a) (lanes b) (in-lanes a h) (in-lanes b k)
+
+in-shifted : (a b : ℕ) → a < 32 → b < 32 → AreLocations (union loc_cmp (lanes a) (lane b 0))
+in-shifted a b h k = in-union (lanes a) (lane b 0) (in-lanes a h) (in-lane b 0 k (omega arith))
+
+immediate_add : (rule : Rule) (a : ℕ) (b : Bool) → a < 32 → Lanewise (if b then lane a else computed rule (λ i. lanes a))
+immediate_add rule a true h = in-lanewise a h
+immediate_add rule a false h = in-computed rule (λ i. lanes a) (in-same (lanes a) (in-lanes a h))
+
+pub flow_table : (rule : Rule) (i : Instr) (place : ℕ) → Fits i → IsTable (flow rule i place)
+flow_table rule (Lw d a imm) place h = to_register_table d _ h.0 (in-loaded place 4)
+flow_table rule (Lh d a imm) place h = to_register_table d _ h.0 (in-signed rule place 2)
+flow_table rule (Lhu d a imm) place h = to_register_table d _ h.0 (in-loaded place 2)
+flow_table rule (Lb d a imm) place h = to_register_table d _ h.0 (in-signed rule place 1)
+flow_table rule (Lbu d a imm) place h = to_register_table d _ h.0 (in-loaded place 1)
+flow_table rule (Sb a b imm) place h = (omega arith, in-lane b 0 h.1 (omega arith), tt)
+flow_table rule (Sh a b imm) place h = (omega arith, in-lane b 0 h.1 (omega arith), (omega arith, in-lane b 1 h.1 (omega arith), tt))
+flow_table rule (Sw a b imm) place h =
+    (omega arith, in-lane b 0 h.1 (omega arith), (omega arith, in-lane b 1 h.1 (omega arith), (omega arith, in-lane b 2 h.1 (omega arith), (omega arith, in-lane b 3 h.1 (omega arith), tt))))
+flow_table rule (Addi d a imm) place h = to_register_table d _ h.0 (immediate_add rule a (int_eq imm (pos 0)) h.1)
+flow_table rule (Add d a b) place h = to_register_table d _ h.0 (in-moved a b _ h.1 h.2 (in-computed rule _ (in-same _ (in-both a b h.1 h.2))))
+flow_table rule (Or d a b) place h = to_register_table d _ h.0 (in-moved a b _ h.1 h.2 (in-computed rule _ (in-each a b h.1 h.2)))
+flow_table rule (Xor d a b) place h = to_register_table d _ h.0 (in-moved a b _ h.1 h.2 (in-computed rule _ (in-each a b h.1 h.2)))
+flow_table rule (And d a b) place h = to_register_table d _ h.0 (in-computed rule _ (in-each a b h.1 h.2))
+flow_table rule (Andi d a imm) place h = to_register_table d _ h.0 (in-computed rule _ (in-lanewise a h.1))
+flow_table rule (Ori d a imm) place h = to_register_table d _ h.0 (in-computed rule _ (in-lanewise a h.1))
+flow_table rule (Xori d a imm) place h = to_register_table d _ h.0 (in-computed rule _ (in-lanewise a h.1))
+flow_table rule (Sub d a b) place h = to_register_table d _ h.0 (in-computed rule _ (in-same _ (in-both a b h.1 h.2)))
+flow_table rule (Slli d a k) place h = to_register_table d _ h.0 (in-computed rule _ (in-same _ (in-lanes a h.1)))
+flow_table rule (Srli d a k) place h = to_register_table d _ h.0 (in-computed rule _ (in-same _ (in-lanes a h.1)))
+flow_table rule (Srai d a k) place h = to_register_table d _ h.0 (in-computed rule _ (in-same _ (in-lanes a h.1)))
+flow_table rule (Sll d a b) place h = to_register_table d _ h.0 (in-computed rule _ (in-same _ (in-shifted a b h.1 h.2)))
+flow_table rule (Srl d a b) place h = to_register_table d _ h.0 (in-computed rule _ (in-same _ (in-shifted a b h.1 h.2)))
+flow_table rule (Sra d a b) place h = to_register_table d _ h.0 (in-computed rule _ (in-same _ (in-shifted a b h.1 h.2)))
+flow_table rule (Slt d a b) place h = to_register_table d _ h.0 (in-computed rule _ (in-first _ (in-both a b h.1 h.2)))
+flow_table rule (Sltu d a b) place h = to_register_table d _ h.0 (in-computed rule _ (in-first _ (in-both a b h.1 h.2)))
+flow_table rule (Slti d a imm) place h = to_register_table d _ h.0 (in-computed rule _ (in-first _ (in-lanes a h.1)))
+flow_table rule (Sltiu d a imm) place h = to_register_table d _ h.0 (in-computed rule _ (in-first _ (in-lanes a h.1)))
+flow_table rule (Lui d imm) place h = to_register_table d nothing h.0 in-nothing
+flow_table rule (Auipc d imm) place h = to_register_table d nothing h.0 in-nothing
+flow_table rule (Jal d imm) place h = to_register_table d nothing h.0 in-nothing
+flow_table rule (Jalr d a imm) place h = to_register_table d nothing h.0 in-nothing
+flow_table rule (Beq a b imm) place h = tt
+flow_table rule (Bne a b imm) place h = tt
+flow_table rule (Blt a b imm) place h = tt
+flow_table rule (Bge a b imm) place h = tt
+flow_table rule (Bltu a b imm) place h = tt
+flow_table rule (Bgeu a b imm) place h = tt
+flow_table rule (Fence kept) place h = tt
+flow_table rule Ecall place h = tt
+flow_table rule Ebreak place h = tt
+
+both_tables : (ts us : List Target) → IsTable ts → IsTable us → IsTable (ts ++ us)
+both_tables [] us h k = k
+both_tables (t ∷ ts) us h k = (h.0, h.1, both_tables ts us h.2 k)
+
+pub cleared_table : (k : CallKind) → IsTable (cleared k)
+cleared_table kind.Read = to_register_table 10 nothing (omega arith) in-nothing
+cleared_table kind.Write = to_register_table 10 nothing (omega arith) in-nothing
+cleared_table kind.Other = to_register_table 10 nothing (omega arith) in-nothing
+cleared_table kind.Clock = both_tables (to_register 10 nothing) (to_register 11 nothing) (to_register_table 10 nothing (omega arith) in-nothing) (to_register_table 11 nothing (omega arith) in-nothing)
+cleared_table kind.Exit = tt

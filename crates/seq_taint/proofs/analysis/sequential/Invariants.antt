@@ -1,0 +1,20 @@
+use Rattle.std.proofs.Common.{◌≡◌, ◌≤◌, ◌-◌, ℕ, take}
+use Rattle.log_model.specs.Logs.{steps}
+use Rattle.flow_model.specs.Origins.{origins}
+use Rattle.replayer.specs.Jobs.{trace_of}
+use Rattle.report_model.specs.Query.{policy_of}
+use Rattle.report_model.specs.Rows.{written_from}
+use Rattle.seq_taint.specs.Shadows.{Holds}
+use Rattle.seq_taint.proofs.Written.{rows_of}
+use Rattle.seq_taint.proofs.analysis.sequential.Given as goal
+
+abbrev pub invariant-loop-step : goal.invariant-loop-step
+invariant-loop-step l = let t = l.cursor.time in record {
+  job : l.cursor.job ≡ l.job;
+  below : t ≤ steps l.job.log;
+  origins : Holds l.shadow (origins (policy_of l.query) (trace_of l.job) t);
+  rows : l.sets.items ≡ rows_of l.query (trace_of l.job) (written_from 0 (take t (trace_of l.job)));
+}
+
+abbrev pub decreases-loop-step : goal.decreases-loop-step
+decreases-loop-step l = steps l.job.log - l.cursor.time

@@ -1,0 +1,71 @@
+//! The sets of the output bytes that a step writes.
+
+ghost use Rattle.std.specs.Prelude.{◌≡◌, ℕ, ◌++◌, map, Some, IfOk, OnOk};
+ghost use Rattle.std.specs.List.{range_with_len};
+ghost use Rattle.replayer.specs.Ranges.{IsInRange, IsCallInRange};
+ghost use Rattle.report_model.specs.Rows.{written_in, written_byte};
+ghost use Rattle.seq_taint.specs.Locations.{IsLocation};
+ghost use Rattle.seq_taint.specs.Shadows.{held};
+ghost use Rattle.seq_taint.specs.Sinks.{rows_now};
+
+use crate::shadow::Shadow;
+use flow_model::{CallSeen, StepSeen};
+use flow_rule::{Loc, SinkByte};
+use isa::CallKind;
+use no_memory::NoMemory;
+use query_lang::Query;
+use sink_collect::SinkSet;
+use std::alloc::Global;
+
+/// Adds the sets of those bytes that a step writes and the query asks for, in the order of writing. The
+/// shadow is that before the step.
+pub fn collect(
+    alloc: Global,
+    shadow: &Shadow,
+    step: &StepSeen,
+    query: &Query,
+    sets: &mut Vec<SinkSet>,
+) -> Result<(), NoMemory>
+    requires { IsInRange step.now }
+    ensures { OnOk result (sets.new.items ≡ sets.old.items ++ rows_now query.now shadow.now (written_in step.now.number step.now.call)) }
+{
+    let Some(call) = &step.call else {
+        return Ok(());
+    };
+    match call.kind {
+        CallKind::Write => collect_written(alloc, shadow, call, query, sets),
+        CallKind::Read | CallKind::Clock | CallKind::Other | CallKind::Exit => Ok(()),
+    }
+}
+
+/// Adds the sets of the bytes of a write.
+fn collect_written(
+    alloc: Global,
+    shadow: &Shadow,
+    call: &CallSeen,
+    query: &Query,
+    sets: &mut Vec<SinkSet>,
+) -> Result<(), NoMemory>
+    requires { IsCallInRange (Some call.now) }
+    ensures { OnOk result ((t : ℕ) → sets.new.items ≡ sets.old.items ++ rows_now query.now shadow.now (map (written_byte t call.now) (range_with_len 0 call.now.length))) }
+{
+    for i in 0..call.length {
+        let sink = SinkByte { channel: call.channel as u8, offset: call.offset + i };
+        if query.sink_has(sink) {
+            sets.push(sink_set(alloc, shadow, sink, Loc::Mem { place: call.place + i })?)?;
+        }
+    }
+    Ok(())
+}
+
+/// The set of an output byte that is written from a location.
+fn sink_set(alloc: Global, shadow: &Shadow, sink: SinkByte, loc: Loc) -> Result<SinkSet, NoMemory>
+    requires { IsLocation loc }
+    ensures { IfOk result (λ set. set ≡ record { sink = sink; sources = held shadow.now loc }) }
+{
+    let sources = match shadow.sources(loc) {
+        Some(set) => set.as_slice().to_vec(alloc)?,
+        None => Vec::new(alloc),
+    };
+    Ok(SinkSet::new(sink, sources))
+}

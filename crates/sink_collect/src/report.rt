@@ -1,0 +1,73 @@
+//! A report: the sets of a replay in the order of their output bytes.
+
+ghost use Rattle.std.specs.Prelude.{◌≡◌, length, IfOk, OnOk};
+ghost use Rattle.report_model.specs.Rows.{arranged};
+ghost use Rattle.sink_collect.specs.Distinct.{AreDistinct};
+ghost use Rattle.sink_collect.specs.Pairs.{pairs, capped};
+
+use crate::sets::SinkSet;
+use no_memory::NoMemory;
+use std::alloc::Global;
+use std::marker::Model;
+
+/// The rows of a report, by channel and then offset.
+#[derive(Debug, Drop)]
+pub struct Report {
+    rows: Vec<SinkSet>,
+}
+
+impl Model for Report {
+    ghost use Rattle.std.specs.Prelude.{List};
+    ghost use Rattle.report_model.specs.Rows.{Row};
+
+    ghost Value = { List Row };
+
+    ghost view = { λ r. r.rows.items };
+}
+
+impl Report {
+    /// The rows.
+    pub fn rows(&self) -> &[SinkSet]
+        ensures { result.now ≡ self.now }
+    {
+        self.rows.as_slice()
+    }
+
+    /// How many rows there are: the lines of the report's text but for the last.
+    pub fn lines(&self) -> u64
+        ensures { result ≡ length self.now }
+    {
+        self.rows.len() as u64
+    }
+
+    /// How many source bytes the rows list in all, or 2^64 - 1 where they are more.
+    pub fn pairs(&self) -> u64
+        ensures { result ≡ capped (pairs self.now) }
+    {
+        let mut count = 0u64;
+        for row in self.rows.as_slice() {
+            count = count.saturating_add(row.sources().len() as u64);
+        }
+        count
+    }
+}
+
+/// The report of these sets: sorted by output byte. No output byte may stand twice. It gives up with
+/// NoMemory alone.
+pub fn gather(alloc: Global, sets: Vec<SinkSet>) -> Result<Report, NoMemory>
+    requires { AreDistinct sets.items }
+    ensures { IfOk result (λ report. report ≡ arranged sets.items) }
+{
+    let mut rows = sets;
+    sort(alloc, &mut rows)?;
+    Ok(Report { rows })
+}
+
+/// Sorts sets by their output bytes.
+fn sort(alloc: Global, sets: &mut [SinkSet]) -> Result<(), NoMemory>
+    requires { AreDistinct sets.old }
+    ensures { OnOk result (sets.new ≡ arranged sets.old) }
+{
+    sets.sort_by_key(alloc, |set| set.sink())?;
+    Ok(())
+}

@@ -1,0 +1,81 @@
+//! The source bytes of one output byte, and lists of those.
+
+ghost use Rattle.std.specs.Prelude.{◌≡◌};
+ghost use Rattle.flow_model.specs.Sets.{Ascends, source_cmp};
+
+use flow_model::{SinkByte, SourceByte};
+use std::marker::Model;
+
+/// An output byte with its source bytes, which ascend by channel and then offset, each once.
+#[derive(Debug, Drop)]
+pub struct SinkSet {
+    sink: SinkByte,
+    sources: Vec<SourceByte>,
+}
+
+impl Model for SinkSet {
+    ghost use Rattle.report_model.specs.Rows.{Row};
+    ghost use Rattle.flow_model.specs.Sets.{Ascends, source_cmp};
+
+    ghost Value = { Row };
+
+    ghost view = { λ s. record { sink = s.sink; sources = s.sources.items } };
+
+    ghost invariant = { λ s. Ascends source_cmp s.sources.items };
+}
+
+impl SinkSet {
+    /// The set of an output byte. It takes no memory.
+    pub fn new(sink: SinkByte, sources: Vec<SourceByte>) -> SinkSet
+        requires { Ascends source_cmp sources.items }
+        ensures { result ≡ record { sink = sink; sources = sources.items } }
+    {
+        SinkSet { sink, sources }
+    }
+
+    /// The output byte.
+    pub fn sink(&self) -> SinkByte
+        ensures { result ≡ self.now.sink }
+    {
+        self.sink
+    }
+
+    /// Its source bytes.
+    pub fn sources(&self) -> &[SourceByte]
+        ensures value { result.now ≡ self.now.sources }
+        ensures ascending { Ascends source_cmp self.now.sources }
+    {
+        self.sources.as_slice()
+    }
+}
+
+/// Sets of output bytes, seen as their list.
+#[derive(Debug, Drop)]
+pub struct SinkSets {
+    sets: Vec<SinkSet>,
+}
+
+impl Model for SinkSets {
+    ghost use Rattle.std.specs.Prelude.{List};
+    ghost use Rattle.report_model.specs.Rows.{Row};
+
+    ghost Value = { List Row };
+
+    ghost view = { λ s. s.sets.items };
+}
+
+impl SinkSets {
+    /// The sets of a vector. It takes no memory.
+    pub fn from_vec(sets: Vec<SinkSet>) -> SinkSets
+        ensures { result ≡ sets.items }
+    {
+        SinkSets { sets }
+    }
+
+    /// The vector of the sets. It takes no memory.
+    pub fn into_vec(self) -> Vec<SinkSet>
+        ensures { result.items ≡ self }
+    {
+        self.sets
+    }
+}
