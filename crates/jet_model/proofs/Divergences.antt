@@ -1,9 +1,7 @@
 -- Worked examples of divergences: one field of a fitting log is changed each time.
-use Rattle.std.proofs.Common.{◌≡◌, ℕ, List, [], ◌∷◌, refl, Option}
+use Rattle.std.proofs.Common.{◌≡◌, ℕ, List, [], ◌∷◌, refl}
 use Rattle.std.specs.Prelude.{Some, pos, negsuc}
-use Rattle.log_model.specs.Logs.{Log}
 use Rattle.log_model.specs.declared.CallRecord.TheVariants.{Read, Write}
-use Rattle.log_model.specs.declared.RunEnd.{RunEnd}
 use Rattle.log_model.specs.declared.RunEnd.TheVariants.{Exit, Trap}
 use Rattle.replay_model.specs.declared.Field.TheVariants.{Event, A0, Result, Byte, Code, Kind, Pc}
 use Rattle.jet_model.proofs.Guests.{copy_four, illegal, log_of, a_read, a_write}

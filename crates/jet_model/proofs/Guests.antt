@@ -1,13 +1,11 @@
 -- Small guests, by their instruction words, and the logs of their runs.
-use Rattle.std.specs.Prelude.{ℕ, ◌+◌, ◌*◌, List, [], ◌∷◌, ◌++◌, length, replicate, pos, negsuc, Option, Some, None}
-use Prim.Native.String.{String}
+use Rattle.std.specs.Prelude.{ℕ, ◌*◌, List, [], ◌∷◌, ◌++◌, length, replicate, pos}
 use Rattle.std.specs.List.{flat_map}
-use Rattle.isa.specs.Machine.{State}
 use Rattle.log_model.specs.Logs.{Log, word32}
 use Rattle.log_model.specs.declared.CallRecord.{CallRecord}
-use Rattle.log_model.specs.declared.CallRecord.TheVariants.{Read, Write, Clock, Other}
+use Rattle.log_model.specs.declared.CallRecord.TheVariants.{Read, Write, Clock}
 use Rattle.log_model.specs.declared.RunEnd.{RunEnd}
-use Rattle.log_model.specs.declared.RunEnd.TheVariants.{Exit, Trap, Limit}
+use Rattle.log_model.specs.declared.RunEnd.TheVariants.{Exit, Trap}
 use Rattle.sha2.specs.Sha256.{sha256}
 
 -- an ELF file of one segment at 0x10000: an ELF header, a program header, and the words

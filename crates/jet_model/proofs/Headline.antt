@@ -1,5 +1,5 @@
 -- The answer that is a report is the report of the three files.
-use Rattle.std.proofs.Common.{◌≡◌, ◌∙◌, ap, sym, refl, ℕ, List, [], ◌∷◌, Bool, true, false, nat_lt, length, ◌^◌, Option, Some, None, Result, Ok, Err}
+use Rattle.std.proofs.Common.{◌≡◌, ◌∙◌, ap, sym, refl, ℕ, List, Bool, true, false, nat_lt, length, ◌^◌, Option, Some, None, Result, Ok, Err}
 use Rattle.std.specs.Str.{bytes_eq}
 use Rattle.std.proofs.lemmas.Slice.Eq.{bytes_eq-Decides}
 use Rattle.isa.specs.Machine.{State}
@@ -18,7 +18,7 @@ use Rattle.replay_model.specs.Run.{trace}
 use Rattle.replay_model.specs.Comparison.{divergence}
 use Rattle.replay_model.specs.Fits.{Fits, beginning, start_in_image}
 use Rattle.sha2.specs.Sha256.{sha256}
-use Rattle.jet_model.specs.Answer.{Names, Answer, Missing, TooLong, NoImage, NoLog, NoQuery, WrongProgram, NoWindow, Diverges, Reports, IsReadAs, OfLength, OfFile, OfImage, OfLog, OfQuery, OfDivergence, OfStart, OfDigest, IsWorkAnswer, IsQueryAnswer, IsLogAnswer, IsProgramAnswer, IsAnswer}
+use Rattle.jet_model.specs.Answer.{Names, Answer, Reports, IsReadAs, OfLength, OfFile, OfImage, OfLog, OfQuery, OfDivergence, OfStart, OfDigest, IsWorkAnswer, IsQueryAnswer, IsLogAnswer, IsProgramAnswer, IsAnswer}
 use Rattle.jet_model.specs.Report.{report, report_begun}
 use Rattle.jet_model.specs.Headline.{IsReportOf}
 

@@ -1,9 +1,8 @@
 -- Worked examples of the query language.
-use Rattle.std.proofs.Common.{◌≡◌, ℕ, List, [], ◌∷◌, refl}
-use Rattle.std.specs.Prelude.{◌++◌, codes, Some, None, Result, Ok, Err}
+use Rattle.std.proofs.Common.{◌≡◌, [], ◌∷◌, refl}
+use Rattle.std.specs.Prelude.{◌++◌, codes, Some, Ok, Err}
 use Rattle.flow_model.specs.declared.Rule.TheVariants.{Copy, Compute}
 use Rattle.report_model.specs.declared.QueryKind.TheVariants.{BadByte, Word, Count, Number, Channel, Range, SecondRule, NoRule}
-use Rattle.report_model.specs.Query.{Query}
 use Rattle.report_model.specs.Grammar.{query}
 use Rattle.jet_model.proofs.Reports.{everything, all_by, of_lines}
 

@@ -8,7 +8,7 @@ use Rattle.isa.specs.Machine.{State}
 use Rattle.log_model.specs.Logs.{Log}
 use Rattle.flow_model.specs.declared.Rule.{Rule}
 use Rattle.flow_model.specs.declared.Rule.TheVariants.{Copy, Compute}
-use Rattle.report_model.specs.Query.{Query, Choice, Offsets}
+use Rattle.report_model.specs.Query.{Query, Choice}
 use Rattle.replay_model.specs.declared.Divergence.{Divergence}
 use Rattle.replay_model.specs.Comparison.{divergence}
 use Rattle.replay_model.specs.Fits.{beginning}

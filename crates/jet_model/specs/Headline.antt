@@ -1,5 +1,5 @@
 -- What it means that a report answers a query.
-use Rattle.std.specs.Prelude.{◌≡◌, ◌≤◌, ◌^◌, ℕ, List, length, Option, Some, Result, Ok}
+use Rattle.std.specs.Prelude.{◌≡◌, ℕ, List, Option, Some, Ok}
 use Rattle.log_model.specs.Logs.{Log, log_text, IsLog}
 use Rattle.report_model.specs.Query.{Query}
 use Rattle.report_model.specs.Grammar.{query}
