@@ -1,5 +1,5 @@
 // A store in memory that never fails.
-ghost use Rattle.std.specs.Prelude.{◌≡◌, [], None, Some, unwrap_or, IfOk, IfSome, IsSome, if◌then◌else◌};
+ghost use Rattle.std.specs.Prelude.{◌≡◌, [], None, Some, is_some, unwrap_or, IfOk, IfSome, IsSome, if◌then◌else◌};
 ghost use Rattle.outer_io.specs.Held.{content_of, entries_of, sure_files_of};
 
 use crate::asked_names::AskedNames;
@@ -36,6 +36,13 @@ impl SureStore {
             is_open: false,
             is_created: false,
         })
+    }
+
+    /// Whether the files are still told.
+    pub fn is_told(&self) -> bool
+        ensures { result ≡ is_some (⟦<SureStore as Store>⟧.files self.now) }
+    {
+        !self.is_lost
     }
 }
 

@@ -154,7 +154,9 @@ fn a_sure_store_goes_on(rt: HostRuntime) -> Result<(), Fail> {
     read_as(&rt, &mut store, "c", 5, "");
     assert_eq!(rt; put_once(&mut store, "c", b"xyz")?, 3);
     read_as(&rt, &mut store, "c", 5, "xyz");
+    assert!(rt; store.is_told());
     assert_eq!(rt; put_once(&mut store, "c", b"past the room")?, 13);
+    assert!(rt; !store.is_told());
     Ok(())
 }
 

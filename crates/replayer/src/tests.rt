@@ -1,5 +1,3 @@
-ghost use Rattle.std.specs.Prelude.{◌≤◌, ◌^◌, length};
-
 use super::*;
 use elf_image::load;
 use isa::CallKind;
@@ -111,41 +109,76 @@ fn differs(step: u32, field: Field, kept: i64, seen: i64) -> Option<Divergence> 
     })
 }
 
+/// A log with one change has this first difference.
+fn tells(
+    rt: &impl Abort,
+    alloc: Global,
+    at: usize,
+    out: usize,
+    put: &[u8],
+    told: Option<Divergence>,
+) -> Result<(), Fail> {
+    let told_first = divergence_of(rt, alloc, &COPIES, &COPIED, at, out, put)?;
+    assert!(rt; told_first == told);
+    Ok(())
+}
+
 #[test]
 fn the_first_difference_is_told(rt: HostRuntime) -> Result<(), Fail> {
     let alloc = rt.alloc();
-    let cases: [(usize, usize, &[u8], Option<Divergence>); 7] = [
-        (0, 0, &[], None),
-        (5, 1, &[1], differs(5, Field::A0, 1, 0)),
-        (1, 1, &[4], differs(4, Field::Event, 1, 0)),
-        (
-            42,
-            8,
-            &[0xf7, 0xff, 0xff, 0xff],
-            differs(8, Field::Result, -9, 4),
-        ),
-        (48, 1, &[0x58], differs(8, Field::Byte(2), 88, 67)),
-        (55, 1, &[7], differs(11, Field::Code, 7, 0)),
-        (51, 1, &[12], differs(11, Field::Event, 0, 5)),
-    ];
-    for (at, out, put, told) in cases {
-        assert_eq!(rt;
-            divergence_of(&rt, alloc, &COPIES, &COPIED, at, out, put)?,
-            told
-        );
-    }
-    let traps: [(usize, u8, Option<Divergence>); 3] = [
-        (5, 2, None),
-        (5, 3, differs(0, Field::Kind, 3, 2)),
-        (11, 0, differs(0, Field::Pc, 0, 0x10000)),
-    ];
-    for (at, put, told) in traps {
-        assert_eq!(rt;
-            divergence_of(&rt, alloc, &TRAPS, &TRAPPED, at, 1, &[put])?,
-            told
-        );
-    }
+    tells(&rt, alloc, 5, 1, &[1], differs(5, Field::A0, 1, 0))?;
+    tells(&rt, alloc, 1, 1, &[4], differs(4, Field::Event, 1, 0))?;
+    tells(
+        &rt,
+        alloc,
+        42,
+        8,
+        &[0xf7, 0xff, 0xff, 0xff],
+        differs(8, Field::Result, -9, 4),
+    )?;
+    tells(
+        &rt,
+        alloc,
+        48,
+        1,
+        &[0x58],
+        differs(8, Field::Byte(2), 88, 67),
+    )?;
+    tells(&rt, alloc, 55, 1, &[7], differs(11, Field::Code, 7, 0))?;
+    tells(&rt, alloc, 51, 1, &[12], differs(11, Field::Event, 0, 5))
+}
+
+#[test]
+fn a_trap_is_compared(rt: HostRuntime) -> Result<(), Fail> {
+    let alloc = rt.alloc();
+    let kind = divergence_of(&rt, alloc, &TRAPS, &TRAPPED, 5, 1, &[3])?;
+    assert!(rt; kind == differs(0, Field::Kind, 3, 2));
+    let pc = divergence_of(&rt, alloc, &TRAPS, &TRAPPED, 11, 1, &[0])?;
+    assert!(rt; pc == differs(0, Field::Pc, 0, 0x10000));
     Ok(())
+}
+
+/// The call of the next step.
+fn call_of_next(rt: &impl Abort, cursor: &mut Cursor<'_>) -> Option<CallSeen> {
+    match cursor.next() {
+        Next::Step(step) => step.call,
+        Next::End(_) => panic!(rt; "there is a step"),
+    }
+}
+
+/// A cursor makes plain steps and then a call.
+fn calls(rt: &impl Abort, cursor: &mut Cursor<'_>, plain: u32, kind: CallKind, channel: u32) {
+    for _ in 0..plain {
+        assert!(rt; call_of_next(rt, cursor) == None);
+    }
+    let call = CallSeen {
+        kind,
+        channel,
+        place: 0x10100,
+        offset: 0,
+        length: 4,
+    };
+    assert!(rt; call_of_next(rt, cursor) == Some(call));
 }
 
 #[test]
@@ -155,35 +188,22 @@ fn a_cursor_gives_the_steps_and_then_the_end(rt: HostRuntime) -> Result<(), Fail
     let log = log_of(alloc, program.as_slice(), &COPIED, 0, 0, &[])?;
     let job = checked(&rt, alloc, program.as_slice(), log.as_slice())??;
     let end = RunEnd::Exit { at: 11, code: 0 };
-    assert!(rt; job.steps() == 12);
-    assert!(rt; job.log().records().len() == 2);
-    assert_eq!(rt;
-        job.summary(),
-        ReplaySummary {
-            steps: 12,
-            calls: 2,
-            read: 4,
-            written: 4,
-            end
-        }
-    );
+    let summary = ReplaySummary {
+        steps: 12,
+        calls: 2,
+        read: 4,
+        written: 4,
+        end,
+    };
+    assert!(rt; job.summary() == summary);
     let mut cursor = Cursor::start(alloc, &job)?;
-    let mut moved = 0;
-    for number in 0..12 {
-        let Next::Step(step) = cursor.next() else {
-            rt.abort()
-        };
-        assert!(rt; step.number == number);
-        if let Some(call) = step.call {
-            if call.kind == CallKind::Read || call.kind == CallKind::Write {
-                moved += 1;
-                assert!(rt; call.place == 0x10100 && call.offset == 0 && call.length == 4);
-            }
-        }
+    calls(&rt, &mut cursor, 5, CallKind::Read, 0);
+    calls(&rt, &mut cursor, 2, CallKind::Write, 1);
+    for _ in 0..3 {
+        let _ = cursor.next();
     }
-    assert!(rt; moved == 2);
-    assert_eq!(rt; cursor.next(), Next::End(end));
-    assert_eq!(rt; cursor.next(), Next::End(end));
+    assert!(rt; cursor.next() == Next::End(end));
+    assert!(rt; cursor.next() == Next::End(end));
     Ok(())
 }
 

@@ -46,9 +46,10 @@ bytes_above t call c o m (suc n) h = ((λ e. let k = h e in omega arith), bytes_
 -- a byte below an offset is none of those at the offset or above
 new_for : (s : Sink) (c o : ℕ) (rs : List Sink) → s.name.channel ≡ c → s.name.offset < o → AllByRecursion (IsAbove c o) rs → IsNewFor s rs
 new_for s c o [] e h a = tt
-new_for s c o (r ∷ rs) e h a =
-    ((λ same. let at = a.0 (sym e ∙ ap (λ (b : SinkByte). b.channel) same) in let equal : s.name.offset ≡ r.name.offset = ap (λ (b : SinkByte). b.offset) same in absurd (omega arith)),
-     new_for s c o rs e h a.1)
+new_for s c o (r ∷ rs) e h a = (
+  (λ same. let at = a.0 (sym e ∙ ap (λ (b : SinkByte). b.channel) same) in let equal : s.name.offset ≡ r.name.offset = ap (λ (b : SinkByte). b.offset) same in absurd (omega arith)),
+  new_for s c o rs e h a.1,
+)
 
 later_bytes : (t : ℕ) (call : CallSeen) (i m n : ℕ) → i < m → IsNewFor (written_byte t call i) (map (written_byte t call) (range_with_len m n))
 later_bytes t call i m zero h = tt
@@ -59,10 +60,11 @@ bytes_named : (t : ℕ) (call : CallSeen) (m n : ℕ) (rest : List Sink) → m +
     → HaveNames (map (written_byte t call) (range_with_len m n) ++ rest)
 bytes_named t call m zero rest h a d = d
 bytes_named t call m (suc n) rest h a d =
-    let first = written_byte t call m in
-    (all-append _ (map (written_byte t call) (range_with_len (m + 1) n)) rest (later_bytes t call m (m + 1) n (omega arith))
-        (new_for first call.channel (call.offset + call.length) rest refl (omega arith) (a (omega arith))),
-     bytes_named t call (m + 1) n rest (omega arith) a d)
+    let first = written_byte t call m in (
+      all-append _ (map (written_byte t call) (range_with_len (m + 1) n)) rest (later_bytes t call m (m + 1) n (omega arith))
+          (new_for first call.channel (call.offset + call.length) rest refl (omega arith) (a (omega arith))),
+      bytes_named t call (m + 1) n rest (omega arith) a d,
+    )
 
 -- ---- the bytes of a trace
 
@@ -103,8 +105,8 @@ from_named : (t : ℕ) (ss : List StepSeen) → AreWritesApart ss → HaveNames 
 from_named t [] h = tt
 from_named t (s ∷ ss) h =
     in_named t s.call (written_from (t + 1) ss)
-        (λ a at w l. from_above (t + 1) ss a.channel (a.offset + a.length) (λ k b bt v m e. h.follow 0 (suc k) a b (omega arith) at bt w v l m e))
-        (from_named (t + 1) ss (record { follow = λ j k a b less. h.follow (suc j) (suc k) a b (omega arith) }))
+    (λ a at w l. from_above (t + 1) ss a.channel (a.offset + a.length) (λ k b bt v m e. h.follow 0 (suc k) a b (omega arith) at bt w v l m e))
+    (from_named (t + 1) ss (record { follow = λ j k a b less. h.follow (suc j) (suc k) a b (omega arith) }))
 
 -- ---- the rows
 

@@ -40,8 +40,10 @@ gathered_same s f h (l ∷ m ∷ ls) a = ap₂ (union source_cmp) (h.at l a.0) (
 -- a shadow that has the origins before a step of the trace has the origins after it
 pub one_more : (policy : Policy) (trace : List StepSeen) (t : ℕ) (step : StepSeen) (before after : Shadow) → step_at trace t ≡ Some step → Fits step.instr
     → Holds before (origins policy trace t) → Holds after (after_step policy (Some step) (held before)) → Holds after (origins policy trace (t + 1))
-one_more policy trace t step before after at fits h k = record { at = λ l in_range.
-    k.at l in_range
-    ∙ ap (union source_cmp (fresh policy step l)) (gathered_same before (origins policy trace t) h (from policy.rule step l) (of_step policy.rule step step.call l fits in_range))
-    ∙ ap (λ (s : Option StepSeen). after_step policy s (origins policy trace t) l) (sym at)
-    ∙ ap (λ (n : ℕ). origins policy trace n l) (sym (add-one t)) }
+one_more policy trace t step before after at fits h k = record {
+  at = λ l in_range.
+      k.at l in_range
+      ∙ ap (union source_cmp (fresh policy step l)) (gathered_same before (origins policy trace t) h (from policy.rule step l) (of_step policy.rule step step.call l fits in_range))
+      ∙ ap (λ (s : Option StepSeen). after_step policy s (origins policy trace t) l) (sym at)
+      ∙ ap (λ (n : ℕ). origins policy trace n l) (sym (add-one t));
+}

@@ -32,8 +32,10 @@ pub with_first : (old mid new : Shadow) (ts : List Target) (i : ℕ) (l : Loc) (
     → slice_get (map (λ t. t.loc) ts) i ≡ Some l → slice_get (map (λ t. t.origins) ts) i ≡ Some ls → set ≡ gathered (held old) ls
     → Holds mid (λ q. gathered (held old) (origins_by (drop (i + 1) ts) q)) → Holds new (λ q. if loc_eq l q then set else held mid q)
     → Holds new (λ q. gathered (held old) (origins_by (drop i ts) q))
-with_first old mid new ts i l ls set e f s m n = record { at = λ q in_range.
-    n.at q in_range ∙ by q in_range (loc_eq l q) refl ∙ ap (λ (us : List Target). gathered (held old) (origins_by us q)) (sym (first_target ts i l ls e f)) }
+with_first old mid new ts i l ls set e f s m n = record {
+  at = λ q in_range.
+      n.at q in_range ∙ by q in_range (loc_eq l q) refl ∙ ap (λ (us : List Target). gathered (held old) (origins_by us q)) (sym (first_target ts i l ls e f));
+}
   where
     by : (q : Loc) → IsLocation q → (b : Bool) → loc_eq l q ≡ b → (if b then set else held mid q) ≡ gathered (held old) (origins_by (record { loc = l; origins = ls } ∷ drop (i + 1) ts) q)
     by q in_range true e = s ∙ ap (λ (c : Bool). gathered (held old) (if c then ls else origins_by (drop (i + 1) ts) q)) (sym e)

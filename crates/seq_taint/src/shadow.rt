@@ -42,7 +42,11 @@ impl Shadow {
         for _ in 0..LANES {
             registers.push(SourceSet::new())?;
         }
-        Ok(Shadow { alloc, registers, memory: HashMap::new(alloc) })
+        Ok(Shadow {
+            alloc,
+            registers,
+            memory: HashMap::new(alloc),
+        })
     }
 
     /// The set at a location. A byte of memory whose set is empty has none.
@@ -123,8 +127,16 @@ impl Shadow {
         ensures { OnOk result (Holds self.new (λ l. if is_among call.now.place call.now.length l then introduced_by (policy_of query.now) (byte_at call.now l) else held self.old l)) }
     {
         for i in 0..call.length {
-            let byte = SourceByte { channel: call.channel as u8, offset: call.offset + i };
-            self.assign(Loc::Mem { place: call.place + i }, introduced(byte, query))?;
+            let byte = SourceByte {
+                channel: call.channel as u8,
+                offset: call.offset + i,
+            };
+            self.assign(
+                Loc::Mem {
+                    place: call.place + i,
+                },
+                introduced(byte, query),
+            )?;
         }
         Ok(())
     }

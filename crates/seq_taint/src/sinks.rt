@@ -50,9 +50,19 @@ fn collect_written(
     ensures { OnOk result ((t : ℕ) → sets.new.items ≡ sets.old.items ++ rows_now query.now shadow.now (map (written_byte t call.now) (range_with_len 0 call.now.length))) }
 {
     for i in 0..call.length {
-        let sink = SinkByte { channel: call.channel as u8, offset: call.offset + i };
+        let sink = SinkByte {
+            channel: call.channel as u8,
+            offset: call.offset + i,
+        };
         if query.sink_has(sink) {
-            sets.push(sink_set(alloc, shadow, sink, Loc::Mem { place: call.place + i })?)?;
+            sets.push(sink_set(
+                alloc,
+                shadow,
+                sink,
+                Loc::Mem {
+                    place: call.place + i,
+                },
+            )?)?;
         }
     }
     Ok(())

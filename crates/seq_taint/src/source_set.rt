@@ -41,14 +41,18 @@ impl SourceSet {
     pub fn new() -> Self
         ensures { result ≡ [] }
     {
-        SourceSet { members: Members::None }
+        SourceSet {
+            members: Members::None,
+        }
     }
 
     /// The set of one source byte.
     pub fn of(byte: SourceByte) -> Self
         ensures { result ≡ byte ∷ [] }
     {
-        SourceSet { members: Members::One([byte]) }
+        SourceSet {
+            members: Members::One([byte]),
+        }
     }
 
     /// The members, ascending.
@@ -94,7 +98,9 @@ impl SourceSet {
             return self.share();
         }
         let members = united(alloc, left, right)?;
-        Ok(SourceSet { members: Members::Many(Rc::new(alloc, members)?) })
+        Ok(SourceSet {
+            members: Members::Many(Rc::new(alloc, members)?),
+        })
     }
 }
 
@@ -117,7 +123,11 @@ fn is_within(few: &[SourceByte], many: &[SourceByte]) -> bool
 }
 
 /// The members of both sets in one list.
-fn united(alloc: Global, left: &[SourceByte], right: &[SourceByte]) -> Result<Vec<SourceByte>, NoMemory>
+fn united(
+    alloc: Global,
+    left: &[SourceByte],
+    right: &[SourceByte],
+) -> Result<Vec<SourceByte>, NoMemory>
     requires left { Ascends source_cmp left.now }
     requires right { Ascends source_cmp right.now }
     ensures { IfOk result (λ all. all.items ≡ union source_cmp left.now right.now) }

@@ -26,7 +26,7 @@ loop-step-preserved c =
     let same_steps : steps c.loop-step.cursor.job.log ≡ steps c.args.job.now.log = ap (λ (j : Job). steps j.log) c.loop-step.invariant.job in
     let at : step_at trace t ≡ Some step = subst (λ (j : Job). step_at (trace_of j) t ≡ Some step) c.loop-step.invariant.job made.step in
     let sets : c.collect.new.sets.items ≡ c.loop-step.sets.items ++ rows_now q c.loop-step.shadow (written_in t step.call) =
-        c.in_ok-collect.ensures ∙ ap (λ (n : ℕ). c.loop-step.sets.items ++ rows_now q c.loop-step.shadow (written_in n step.call)) made.number in
+    c.in_ok-collect.ensures ∙ ap (λ (n : ℕ). c.loop-step.sets.items ++ rows_now q c.loop-step.shadow (written_in n step.call)) made.number in
     let rows = more_rows q trace t c.loop-step.shadow c.loop-step.invariant.origins step at c.loop-step.sets.items c.collect.new.sets.items c.loop-step.invariant.rows sets in
     let held_later = one_more (policy_of q) trace t step c.loop-step.shadow c.step.new.self at made.in_range.fits c.loop-step.invariant.origins c.in_ok-step.ensures in
     record {

@@ -12,9 +12,9 @@ loop-i-preserved c = λ t.
     let places = (c.requires (omega arith)).places in
     let within : call.place + i < 2 ^ 32 = omega (arith, places) in
     elim c.if-sink_has.branch [
-      then-sink_has+in_ok-sink_set+in_ok-push w ↦
-        ap (λ v. v.items) w.sets-is ∙ taken_up q shadow t call i c.args.sets.now.items c.loop-i.sets.items (c.loop-i.invariant t) (sym c.sink_has.ensures ∙ w.if-sink_has.true) within
-            w.in_ok-sink_set.field-0 w.in_ok-sink_set.ensures w.push.new.self.items w.in_ok-push.ensures.items
-    | else-sink_has w ↦
-        ap (λ v. v.items) w.sets-is ∙ passed_over q shadow t call i c.args.sets.now.items c.loop-i.sets.items (c.loop-i.invariant t) (sym c.sink_has.ensures ∙ w.if-sink_has.false)
+      | then-sink_has+in_ok-sink_set+in_ok-push w ↦
+          ap (λ v. v.items) w.sets-is ∙ taken_up q shadow t call i c.args.sets.now.items c.loop-i.sets.items (c.loop-i.invariant t) (sym c.sink_has.ensures ∙ w.if-sink_has.true) within
+          w.in_ok-sink_set.field-0 w.in_ok-sink_set.ensures w.push.new.self.items w.in_ok-push.ensures.items
+      | else-sink_has w ↦
+          ap (λ v. v.items) w.sets-is ∙ passed_over q shadow t call i c.args.sets.now.items c.loop-i.sets.items (c.loop-i.invariant t) (sym c.sink_has.ensures ∙ w.if-sink_has.false)
     ]

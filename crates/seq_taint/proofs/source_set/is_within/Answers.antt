@@ -12,10 +12,10 @@ loop-byte-preserved c =
     let none : SourceByte = record { channel = 0; offset = 0 } in
     let first : ℕ → List SourceByte = λ n. union source_cmp (take n few) many in
     elim c.if-found-few.branch [
-      then-found-few+in-Equal w ↦ record {
+      | then-found-few+in-Equal w ↦ record {
         in_range = omega arith;
         found = ap first w.found-is ∙ found_more few many c.loop-byte.found c.loop-byte.byte-index none c.requires w.if-found-few.true c.loop-byte-test.true w.in-Equal.ensures c.loop-byte.invariant.found;
       }
-    | then-found-few+in-Greater w ↦ record { in_range = omega arith; found = ap first w.found-is ∙ c.loop-byte.invariant.found }
-    | else-found-few w ↦ record { in_range = omega arith; found = ap first w.found-is ∙ c.loop-byte.invariant.found }
+      | then-found-few+in-Greater w ↦ record { in_range = omega arith; found = ap first w.found-is ∙ c.loop-byte.invariant.found }
+      | else-found-few w ↦ record { in_range = omega arith; found = ap first w.found-is ∙ c.loop-byte.invariant.found }
     ]

@@ -37,9 +37,9 @@ returns c =
     let left = c.args.left.now in
     let right = c.args.right.now in
     let rest = c.in_ok-extend_from_slice-2.ensures.items
-        ∙ ap₂ (λ (xs ys : List SourceByte). xs ++ ys) (c.in_ok-extend_from_slice.ensures.items ∙ ap (λ (xs : List SourceByte). c.loop-i.all.items ++ xs) (take_rest left c.loop-i.i)) (take_rest right c.loop-i.j) in
+    ∙ ap₂ (λ (xs ys : List SourceByte). xs ++ ys) (c.in_ok-extend_from_slice.ensures.items ∙ ap (λ (xs : List SourceByte). c.loop-i.all.items ++ xs) (take_rest left c.loop-i.i)) (take_rest right c.loop-i.j) in
     let m = c.loop-i.invariant.merged in
     rest ∙ elim c.loop-i-test.branch [
-      then-loop-i-test+else-j-right w ↦ rest_of_left c.loop-i.all.items left right _ c.loop-i.i c.loop-i.j m c.requires.left w.if-j-right.false
-    | else-loop-i-test w ↦ rest_of_right c.loop-i.all.items left right _ c.loop-i.i c.loop-i.j m w.loop-i-test.false
+      | then-loop-i-test+else-j-right w ↦ rest_of_left c.loop-i.all.items left right _ c.loop-i.i c.loop-i.j m c.requires.left w.if-j-right.false
+      | else-loop-i-test w ↦ rest_of_right c.loop-i.all.items left right _ c.loop-i.i c.loop-i.j m w.loop-i-test.false
     ]

@@ -10,9 +10,9 @@ returns-then-is_within-2 c =
     let left = c.as_slice-left.result.now in
     let right = c.as_slice-right.result.now in
     let within : union source_cmp left right ≡ left =
-        union_comm source_total source_same left right c.as_slice-left.ensures.ascending c.as_slice-right.ensures.ascending ∙ c.if-is_within-2.ensures refl in
+    union_comm source_total source_same left right c.as_slice-left.ensures.ascending c.as_slice-right.ensures.ascending ∙ c.if-is_within-2.ensures refl in
     let whole : c.args.self.now ≡ union source_cmp c.args.self.now c.args.other.now =
-        sym (ap₂ (union source_cmp) (sym c.as_slice-left.ensures.value) (sym c.as_slice-right.ensures.value) ∙ within ∙ c.as_slice-left.ensures.value) in
+    sym (ap₂ (union source_cmp) (sym c.as_slice-left.ensures.value) (sym c.as_slice-right.ensures.value) ∙ within ∙ c.as_slice-left.ensures.value) in
     subst (λ (s : List SourceByte). IfOk c.share-then-is_within-2.result (λ set. set ≡ s)) whole c.share-then-is_within-2.ensures
 
 pub invariant_of-result : goal.invariant_of-result
