@@ -1,4 +1,4 @@
--- What the parts of a command answer.
+-- What the parts of a command answer, and why.
 use Rattle.std.specs.Prelude.{◌^◌, ℕ, List, Option, Result, Ok, Err, Vec}
 use Rattle.std.specs.declared.alloc.Global.{Global}
 use Rattle.outer_io.specs.Faults.{Rose}
@@ -9,12 +9,42 @@ use Rattle.jet_model.specs.Answer.{Answer, TooLong, NoImage, NoLog, NoQuery, Wro
 use Rattle.jet_cli.specs.declared.refusal.Refusal.{Refusal}
 use Rattle.jet_cli.specs.declared.refusal.Refusal.TheVariants as refusal
 
+-- why a command ends as it does: the files ask for this answer; the store failed, or the output; or memory is wanting
+pub data Cause : Type 0 where
+  Asked : Answer → Cause
+  StoreFailed : Cause
+  OutputFailed : Cause
+  WantsMemory : Cause
+
+abbrev pub cause_of : Refusal → Cause
+cause_of (refusal.Image fault) = Asked (NoImage fault)
+cause_of (refusal.Window pages) = Asked (NoWindow pages)
+cause_of (refusal.Log kind offset) = Asked (NoLog kind offset)
+cause_of (refusal.Program kept seen) = Asked (WrongProgram kept seen)
+cause_of (refusal.Diverged d) = Asked (Diverges d)
+cause_of (refusal.Query line kind) = Asked (NoQuery line kind)
+cause_of refusal.TooLong = Asked TooLong
+cause_of refusal.ReadFault = StoreFailed
+cause_of refusal.WriteFault = OutputFailed
+cause_of refusal.NoMemory = WantsMemory
+
+-- a report is asked for too
+abbrev pub cause_by : Result (Vec ℕ Global) Refusal → Cause
+cause_by (Ok report) = Asked (Reports report.items)
+cause_by (Err r) = cause_of r
+
 -- this is what the files ask for, by a relation between the files by name and the answer
 pub record Asks (judge : (Text → Option (List ℕ)) → Answer → Type 0) (answer : Answer) (old new : Files) : Type 0 where
   pub judged : judge new.file answer
 
--- why a file was not read: `old` and `new` are what the store told before and after, `before` and `now` the counts of its
--- faults
+-- the cause holds: `old` and `new` are what the store told before and after, `before` and `now` the counts of its faults
+abbrev pub Holds : ((Text → Option (List ℕ)) → Answer → Type 0) → Option Files → Option Files → ℕ → ℕ → Cause → Type 0
+Holds judge old new before now (Asked answer) = Tells old new (Asks judge answer)
+Holds judge old new before now StoreFailed = Rose before now
+Holds judge old new before now OutputFailed = ⊥
+Holds judge old new before now WantsMemory = Unit {0}
+
+-- why a file was not read
 abbrev pub FileCause : Text → Option Files → Option Files → ℕ → ℕ → Refusal → Type 0
 FileCause name old new before now refusal.TooLong = Tells old new (IsLonger name (2 ^ 26))
 FileCause name old new before now refusal.ReadFault = Rose before now
@@ -26,24 +56,6 @@ FileCause name old new before now (refusal.Program kept seen) = ⊥
 FileCause name old new before now (refusal.Diverged d) = ⊥
 FileCause name old new before now (refusal.Query line kind) = ⊥
 FileCause name old new before now refusal.WriteFault = ⊥
-
--- why the files gave no report
-abbrev pub RefusalCause : ((Text → Option (List ℕ)) → Answer → Type 0) → Option Files → Option Files → ℕ → ℕ → Refusal → Type 0
-RefusalCause judge old new before now refusal.ReadFault = Rose before now
-RefusalCause judge old new before now refusal.WriteFault = ⊥
-RefusalCause judge old new before now refusal.NoMemory = Unit {0}
-RefusalCause judge old new before now refusal.TooLong = Tells old new (Asks judge TooLong)
-RefusalCause judge old new before now (refusal.Image fault) = Tells old new (Asks judge (NoImage fault))
-RefusalCause judge old new before now (refusal.Window pages) = Tells old new (Asks judge (NoWindow pages))
-RefusalCause judge old new before now (refusal.Log kind offset) = Tells old new (Asks judge (NoLog kind offset))
-RefusalCause judge old new before now (refusal.Program kept seen) = Tells old new (Asks judge (WrongProgram kept seen))
-RefusalCause judge old new before now (refusal.Diverged d) = Tells old new (Asks judge (Diverges d))
-RefusalCause judge old new before now (refusal.Query line kind) = Tells old new (Asks judge (NoQuery line kind))
-
--- what the files gave: a report, or why there is none
-abbrev pub Answers : ((Text → Option (List ℕ)) → Answer → Type 0) → Option Files → Option Files → ℕ → ℕ → Result (Vec ℕ Global) Refusal → Type 0
-Answers judge old new before now (Ok report) = Tells old new (Asks judge (Reports report.items))
-Answers judge old new before now (Err refusal) = RefusalCause judge old new before now refusal
 
 -- ---- a whole command
 
@@ -70,19 +82,13 @@ pub record WritesPart (judge : (Text → Option (List ℕ)) → Answer → Type 
   pub gains : Tells out_old out_new (GainsPrefix report)
 
 -- why a command gave up
-abbrev pub GivesUp : ((Text → Option (List ℕ)) → Answer → Type 0) → Outside → Outside → Refusal → Type 0
-GivesUp judge old new refusal.ReadFault = Rose old.faults new.faults
-GivesUp judge old new refusal.WriteFault = Rose old.out_faults new.out_faults × Tells old.files new.files (WritesPart judge old.written new.written)
-GivesUp judge old new refusal.NoMemory = Unit {0}
-GivesUp judge old new refusal.TooLong = Tells old.files new.files (Asks judge TooLong)
-GivesUp judge old new (refusal.Image fault) = Tells old.files new.files (Asks judge (NoImage fault))
-GivesUp judge old new (refusal.Window pages) = Tells old.files new.files (Asks judge (NoWindow pages))
-GivesUp judge old new (refusal.Log kind offset) = Tells old.files new.files (Asks judge (NoLog kind offset))
-GivesUp judge old new (refusal.Program kept seen) = Tells old.files new.files (Asks judge (WrongProgram kept seen))
-GivesUp judge old new (refusal.Diverged d) = Tells old.files new.files (Asks judge (Diverges d))
-GivesUp judge old new (refusal.Query line kind) = Tells old.files new.files (Asks judge (NoQuery line kind))
+abbrev pub GivesUp : ((Text → Option (List ℕ)) → Answer → Type 0) → Outside → Outside → Cause → Type 0
+GivesUp judge old new (Asked answer) = Tells old.files new.files (Asks judge answer)
+GivesUp judge old new StoreFailed = Rose old.faults new.faults
+GivesUp judge old new OutputFailed = Rose old.out_faults new.out_faults × Tells old.files new.files (WritesPart judge old.written new.written)
+GivesUp judge old new WantsMemory = Unit {0}
 
 -- how a command ended
 abbrev pub Ends : ((Text → Option (List ℕ)) → Answer → Type 0) → Outside → Outside → Result (Unit {0}) Refusal → Type 0
 Ends judge old new (Ok done) = Tells old.files new.files (WritesReport judge old.written new.written)
-Ends judge old new (Err refusal) = GivesUp judge old new refusal
+Ends judge old new (Err r) = GivesUp judge old new (cause_of r)

@@ -6,15 +6,15 @@ ghost use Rattle.outer_io.specs.Tells.{Tells, Gains, GainsPrefix};
 ghost use Rattle.outer_io.specs.Files.{KeepsFiles};
 ghost use Rattle.jet_model.specs.Answer.{OfFile, IsQueryAnswer, IsLogAnswer, IsAnswer};
 ghost use Rattle.jet_cli.specs.Words.{named};
-ghost use Rattle.jet_cli.specs.Outcome.{Answers, Ends, outside};
+ghost use Rattle.jet_cli.specs.Outcome.{Holds, cause_by, Ends, outside};
 
 use crate::files::read_file;
 use crate::refusal::Refusal;
 use crate::work::report;
-use elf_image::{Image, ImageFault, load};
+use elf_image::{Image, load};
 use outer_io::{Sink, Store, write_whole};
-use query_lang::{QueryFault, parse};
-use replay_log::{Log, LogFault, read_log};
+use query_lang::parse;
+use replay_log::{Log, read_log};
 use std::alloc::Global;
 
 /// The query, of a program and a log that were read.
@@ -28,7 +28,7 @@ fn answer_query<S: Store>(
 ) -> Result<Vec<u8>, Refusal>
     requires image { image_of_file program.now ≡ Ok image }
     requires short { length program.now ≤ 2 ^ 26 }
-    ensures answers { Answers (λ file. OfFile (file query.now) (IsQueryAnswer program.now image log)) (S.files store.old) (S.files store.new) (S.faults store.old) (S.faults store.new) result }
+    ensures answers { Holds (λ file. OfFile (file query.now) (IsQueryAnswer program.now image log)) (S.files store.old) (S.files store.new) (S.faults store.old) (S.faults store.new) (cause_by result) }
     ensures keeps { Tells (S.files store.old) (S.files store.new) KeepsFiles }
     ensures asked { Tells (S.asked store.old) (S.asked store.new) (Gains (query.now ∷ [])) }
     ensures later { S.faults store.old ≤ S.faults store.new }
@@ -36,8 +36,7 @@ fn answer_query<S: Store>(
     let bytes = read_file(alloc, store, query)?;
     match parse(alloc, &bytes) {
         Ok(query) => report(alloc, program, image, log, &query),
-        Err(QueryFault::At { line, kind }) => Err(Refusal::Query { line, kind }),
-        Err(QueryFault::NoMemory) => Err(Refusal::NoMemory),
+        Err(fault) => Err(Refusal::of_query(fault)),
     }
 }
 
@@ -52,7 +51,7 @@ fn answer_log<S: Store>(
 ) -> Result<Vec<u8>, Refusal>
     requires image { image_of_file program.now ≡ Ok image }
     requires short { length program.now ≤ 2 ^ 26 }
-    ensures answers { Answers (λ file. OfFile (file log.now) (IsLogAnswer file query.now program.now image)) (S.files store.old) (S.files store.new) (S.faults store.old) (S.faults store.new) result }
+    ensures answers { Holds (λ file. OfFile (file log.now) (IsLogAnswer file query.now program.now image)) (S.files store.old) (S.files store.new) (S.faults store.old) (S.faults store.new) (cause_by result) }
     ensures keeps { Tells (S.files store.old) (S.files store.new) KeepsFiles }
     ensures asked { Tells (S.asked store.old) (S.asked store.new) (GainsPrefix (log.now ∷ query.now ∷ [])) }
     ensures all { OnOk result (Tells (S.asked store.old) (S.asked store.new) (Gains (log.now ∷ query.now ∷ []))) }
@@ -61,8 +60,7 @@ fn answer_log<S: Store>(
     let bytes = read_file(alloc, store, log)?;
     match read_log(alloc, &bytes) {
         Ok(log) => answer_query(alloc, store, query, program, image, log),
-        Err(LogFault::At { kind, offset }) => Err(Refusal::Log { kind, offset }),
-        Err(LogFault::NoMemory) => Err(Refusal::NoMemory),
+        Err(fault) => Err(Refusal::of_log(fault)),
     }
 }
 
@@ -74,7 +72,7 @@ fn answer<S: Store>(
     log: &str,
     query: &str,
 ) -> Result<Vec<u8>, Refusal>
-    ensures answers { Answers (λ file. IsAnswer file (named program.now log.now query.now)) (S.files store.old) (S.files store.new) (S.faults store.old) (S.faults store.new) result }
+    ensures answers { Holds (λ file. IsAnswer file (named program.now log.now query.now)) (S.files store.old) (S.files store.new) (S.faults store.old) (S.faults store.new) (cause_by result) }
     ensures keeps { Tells (S.files store.old) (S.files store.new) KeepsFiles }
     ensures asked { Tells (S.asked store.old) (S.asked store.new) (GainsPrefix (program.now ∷ log.now ∷ query.now ∷ [])) }
     ensures all { OnOk result (Tells (S.asked store.old) (S.asked store.new) (Gains (program.now ∷ log.now ∷ query.now ∷ []))) }
@@ -83,8 +81,7 @@ fn answer<S: Store>(
     let bytes = read_file(alloc, store, program)?;
     match load(alloc, &bytes) {
         Ok(image) => answer_log(alloc, store, log, query, &bytes, image),
-        Err(ImageFault::NoMemory) => Err(Refusal::NoMemory),
-        Err(fault) => Err(Refusal::Image(fault)),
+        Err(fault) => Err(Refusal::of_program(fault)),
     }
 }
 

@@ -1,9 +1,13 @@
 //! Why a command gave up, and the status that it ends with.
 ghost use Rattle.std.specs.Prelude.{◌≡◌};
+ghost use Rattle.jet_cli.specs.Outcome.{cause_of};
+ghost use Rattle.jet_cli.specs.Refusals.{image_cause, log_cause, query_cause};
 ghost use Rattle.jet_cli.specs.Statuses.{status_of};
 
 use elf_model::ImageFault;
 use log_model::LogKind;
+use query_lang::QueryFault;
+use replay_log::LogFault;
 use replay_model::Divergence;
 use report_model::QueryKind;
 
@@ -33,6 +37,35 @@ pub enum Refusal {
 }
 
 impl Refusal {
+    /// Why a file is no image.
+    pub fn of_program(fault: ImageFault) -> Refusal
+        ensures { cause_of result ≡ image_cause fault }
+    {
+        match fault {
+            ImageFault::NoMemory => Refusal::NoMemory,
+            fault => Refusal::Image(fault),
+        }
+    }
+
+    /// Why bytes are no log.
+    pub fn of_log(fault: LogFault) -> Refusal
+        ensures { cause_of result ≡ log_cause fault }
+    {
+        match fault {
+            LogFault::At { kind, offset } => Refusal::Log { kind, offset },
+            LogFault::NoMemory => Refusal::NoMemory,
+        }
+    }
+
+    /// Why a text is no query.
+    pub fn of_query(fault: QueryFault) -> Refusal
+        ensures { cause_of result ≡ query_cause fault }
+    {
+        match fault {
+            QueryFault::At { line, kind } => Refusal::Query { line, kind },
+            QueryFault::NoMemory => Refusal::NoMemory,
+        }
+    }
     /// The status that a command ends with.
     pub fn status(&self) -> u8
         ensures code { result ≡ status_of self.now }

@@ -1,0 +1,3 @@
+pub mod Judging
+pub mod Working
+pub mod Ending
