@@ -1,9 +1,8 @@
 -- The offsets of a trace's calls count the bytes that the run moves.
-use Rattle.std.proofs.Common.{◌≡◌, ℕ, zero, suc, ◌+◌, ◌^◌, ◌<◌, ◌≤◌, ◌⊎◌, inl, inr, Bool, true, false, cond, eqb, List, [], ◌∷◌, ◌++◌, length, take, replicate, ℤ, pos, negsuc, Option, Some, None, refl, arith, ap, sym, ◌∙◌, subst, get_or, set, get_or-set_same, get_or-set_other, add-zero, add-one, zero-add, add_assoc}
+use Rattle.std.proofs.Common.{◌≡◌, ℕ, zero, suc, ◌+◌, ◌^◌, ◌<◌, ◌≤◌, ◌⊎◌, inl, inr, Bool, List, [], ◌∷◌, length, take, Option, Some, None, refl, arith, ap, sym, ◌∙◌, subst, get_or, get_or-set_same, get_or-set_other, add-zero, zero-add, add_assoc}
 use Rattle.std.specs.Prelude.{◌==◌, if◌then◌else◌}
 use Rattle.std.proofs.lemmas.Bool.{cases_lt, cases_eq, eq-eqb, ne_eqb}
 use Rattle.std.proofs.lemmas.List.{set_past}
-use Rattle.isa.specs.declared.Call.{Call}
 use Rattle.isa.specs.declared.CallKind.{CallKind}
 use Rattle.isa.specs.declared.CallKind.TheVariants as kind
 use Rattle.isa.specs.Machine.{State, Outcome, Retired, Called, Trapped, next, Fetch, Fetched, OutsideWindow, Illegal, fetch, reg, bytes_at}
@@ -16,12 +15,12 @@ use Rattle.log_model.specs.declared.RunEnd.TheVariants.{Exit, Trap, Limit}
 use Rattle.flow_model.specs.declared.StepSeen.{StepSeen}
 use Rattle.flow_model.specs.declared.CallSeen.{CallSeen}
 use Rattle.flow_model.specs.Origins.{step_at}
-use Rattle.replay_model.specs.Run.{Moment, start, advance, after_outcome, answered, after_call, counted, moment_after, transfer, call_seen, plain_step, step_by, step_of, steps_from, trace}
+use Rattle.replay_model.specs.Run.{Moment, start, advance, after_outcome, answered, counted, moment_after, transfer, call_seen, plain_step, step_by, step_of, steps_from, trace}
 use Rattle.replay_model.specs.Comparison.{divergence, divergence_from, difference, PlainStep, CallOf, bytes_compared}
 use Rattle.replay_model.specs.Offsets.{call_at, read_in, written_in, written_by_kind, total, read_on, written_on, OffsetsCount}
 use Rattle.replay_model.specs.Track.{IsOnTrack}
 use Rattle.replay_model.proofs.Agreement.{CallAgrees, call_agrees, plain_agrees, expects_plain_at_end, expects_plain_before, expects_call, agrees_at, later_agrees}
-use Rattle.replay_model.proofs.Track.{moment, agrees_with, advance_call, stays_on, on_track_start}
+use Rattle.replay_model.proofs.Track.{moment, agrees_with, advance_call, stays_on, on_track_start, zeros}
 use Rattle.replay_model.proofs.Transfers.{read_held, write_held}
 
 -- ---- the steps of a trace, by their times
@@ -169,15 +168,10 @@ length-steps_from : (n : ℕ) (m : Moment) → length (steps_from n m) ≡ n
 length-steps_from zero m = refl
 length-steps_from (suc n) m = ap suc (length-steps_from n (advance m))
 
-steps_within : (end : RunEnd) → steps_by end ≤ end_at end + 1
+pub steps_within : (end : RunEnd) → steps_by end ≤ end_at end + 1
 steps_within (Exit at code) = omega arith
 steps_within (Trap at kind pc) = omega arith
 steps_within (Limit at) = omega arith
-
-zeros : (n c : ℕ) → get_or {A = ℕ} (replicate {A = ℕ} n 0) c 0 ≡ 0
-zeros zero c = refl
-zeros (suc n) zero = refl
-zeros (suc n) (suc c) = zeros n c
 
 pub offsets_count : (s : State) (log : Log) → IsLog log → length (log_text log) ≤ 2 ^ 26 → divergence s log ≡ None → OffsetsCount (trace s log)
 offsets_count s log form small d =

@@ -1,22 +1,21 @@
 -- What is true of each moment of a run up to the end, where nothing differs.
-use Rattle.std.proofs.Common.{◌≡◌, ℕ, zero, suc, ◌+◌, ◌-◌, ◌*◌, ◌^◌, ◌<◌, ◌≤◌, ◌≢◌, ◌⊎◌, inl, inr, Bool, true, false, List, [], ◌∷◌, ◌++◌, length, replicate, drop, ℤ, pos, Option, Some, None, refl, arith, ap, sym, ◌∙◌, subst, get_or, set, get_or-set_same, get_or-set_other, add-zero, add-one, zero-add, length-append}
-use Rattle.std.specs.List.{AllByRecursion, flat_map}
+use Rattle.std.proofs.Common.{◌≡◌, ℕ, zero, suc, ◌+◌, ◌^◌, ◌<◌, ◌≤◌, ◌⊎◌, inl, inr, List, [], ◌∷◌, ◌++◌, length, replicate, None, refl, arith, ap, sym, ◌∙◌, subst, get_or, get_or-set_same, get_or-set_other, add-zero, zero-add, length-append}
+use Rattle.std.specs.List.{flat_map}
 use Rattle.std.proofs.lemmas.List.Concat.{flat_map-cons}
 use Rattle.std.proofs.lemmas.Bool.{cases_lt, cases_eq}
 use Rattle.std.proofs.Math.ListN.{length-set}
 use Rattle.std.proofs.lemmas.List.{set_past}
-use Rattle.isa.specs.Machine.{State, Outcome, Retired, Called, Trapped, next}
+use Rattle.isa.specs.Machine.{State, Retired, Called, next}
 use Rattle.isa.specs.Calls.{channel_of}
 use Rattle.isa.specs.declared.Call.{Call}
 use Rattle.log_model.specs.declared.CallRecord.{CallRecord}
 use Rattle.log_model.specs.declared.CallRecord.TheVariants.{Read, Write, Clock, Other}
-use Rattle.log_model.specs.declared.RunEnd.{RunEnd}
-use Rattle.log_model.specs.Logs.{Log, IsLog, log_text, record_text, header_text, end_text, word32, signed32, IsRecord, Rise, least_after, at_of, end_at}
+use Rattle.log_model.specs.Logs.{Log, IsLog, log_text, record_text, header_text, end_text, word32, signed32, Rise, least_after, at_of, end_at}
 use Rattle.replay_model.specs.Run.{Moment, start, advance, after_outcome, after_call, answered, counted, moment_after}
-use Rattle.replay_model.specs.Comparison.{Expected, PlainStep, CallOf, EndOf, expected, difference_at, difference, divergence_from, divergence}
+use Rattle.replay_model.specs.Comparison.{Expected, PlainStep, CallOf, expected, difference_at, difference, divergence_from, divergence}
 use Rattle.replay_model.specs.Summary.{read_by, written_by}
 use Rattle.replay_model.specs.Track.{still_read, still_written, HasRoom, IsOnTrack}
-use Rattle.replay_model.proofs.Agreement.{expects_plain_at_end, expects_plain_before, expects_call, plain_agrees, call_agrees, CallAgrees, agrees_at, later_agrees}
+use Rattle.replay_model.proofs.Agreement.{expects_plain_at_end, expects_plain_before, expects_call, plain_agrees, call_agrees, agrees_at, later_agrees}
 
 abbrev pub moment : ℕ → State → List CallRecord → List ℕ → List ℕ → Moment
 moment t s left read written = record { time = t; state = s; left = left; read = read; written = written }
@@ -149,7 +148,7 @@ on_track_from log (suc n) (suc k) m on d h b =
     let same : (advance m).time + k ≡ m.time + suc k = omega arith in
     record { on = there.on; time = there.time ∙ same }
 
-zeros : (n c : ℕ) → get_or {A = ℕ} (replicate {A = ℕ} n 0) c 0 ≡ 0
+pub zeros : (n c : ℕ) → get_or {A = ℕ} (replicate {A = ℕ} n 0) c 0 ≡ 0
 zeros zero c = refl
 zeros (suc n) zero = refl
 zeros (suc n) (suc c) = zeros n c

@@ -1,18 +1,14 @@
 -- A read or a write that moves bytes, and that doesn't differ from its record.
-use Rattle.std.proofs.Common.{◌≡◌, ℕ, ◌+◌, ◌-◌, ◌^◌, ◌<◌, ◌≤◌, ◌⊎◌, inl, inr, Bool, true, false, List, [], ◌∷◌, ◌++◌, length, take, drop, get_or, ℤ, pos, negsuc, Option, Some, None, Result, Ok, Err, refl, arith, ap, sym, ◌∙◌, subst, length-take, length-drop}
-use Rattle.std.specs.Prelude.{◌==◌, nat_lt, nat_le, not, ◌&&◌, if◌then◌else◌, ◌≤ℤ◌, IsTrue}
+use Rattle.std.proofs.Common.{◌≡◌, ℕ, ◌+◌, ◌-◌, ◌<◌, ◌≤◌, ◌⊎◌, inl, inr, Bool, true, false, List, [], ◌∷◌, ◌++◌, length, take, drop, get_or, ℤ, pos, negsuc, None, refl, arith, ap, sym, subst, length-take, length-drop}
+use Rattle.std.specs.Prelude.{◌==◌, nat_lt, nat_le, not, if◌then◌else◌, ◌≤ℤ◌, IsTrue}
 use Rattle.std.proofs.lemmas.Int.{ints}
 use Rattle.std.proofs.lemmas.Bool.{ltb-true, leb-true, eqb-true, le-leb, and_parts, and_from}
-use Rattle.isa.specs.declared.Call.{Call}
-use Rattle.isa.specs.declared.CallKind.{CallKind}
-use Rattle.isa.specs.declared.CallKind.TheVariants as kind
-use Rattle.isa.specs.Machine.{State, reg, in_window, bytes_at, call_of}
-use Rattle.isa.specs.Calls.{channel_of, buffer_of, length_of, refusal_of, refusal_by, refusal}
-use Rattle.log_model.specs.declared.CallRecord.{CallRecord}
-use Rattle.log_model.specs.declared.CallRecord.TheVariants.{Read, Write, Clock, Other}
-use Rattle.log_model.specs.Logs.{IsRecord, IsTransfer, IsRefusal, moved_length}
+use Rattle.isa.specs.Machine.{State, reg, in_window, bytes_at}
+use Rattle.isa.specs.Calls.{channel_of, buffer_of, length_of, refusal_of}
+use Rattle.log_model.specs.declared.CallRecord.TheVariants.{Read, Write}
+use Rattle.log_model.specs.Logs.{IsRecord, IsRefusal, moved_length}
 use Rattle.replay_model.specs.declared.Field.TheVariants as field
-use Rattle.replay_model.specs.Comparison.{Compared, compared, first_different, arguments, arguments_of, allowed, unless_negative, bytes_compared, fields, CallOf}
+use Rattle.replay_model.specs.Comparison.{Compared, compared, first_different, arguments, arguments_of, allowed, fields, CallOf}
 use Rattle.replay_model.specs.Comparison.{result as result_compared}
 use Rattle.replay_model.proofs.Agreement.{first_agrees, rest_agrees}
 

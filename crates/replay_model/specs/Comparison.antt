@@ -1,9 +1,8 @@
 -- Where a log and its program first differ.
-use Rattle.std.specs.Prelude.{◌≡◌, ℕ, zero, suc, ◌+◌, ◌==◌, nat_lt, Bool, true, false, if◌then◌else◌, List, [], ◌∷◌, ◌++◌, length, ℤ, pos, negsuc, Option, Some, None, slice_index}
+use Rattle.std.specs.Prelude.{◌≡◌, ℕ, zero, suc, ◌+◌, nat_lt, if◌then◌else◌, List, [], ◌∷◌, ◌++◌, length, ℤ, pos, negsuc, Option, Some, None, slice_index}
 use Rattle.std.specs.Ordering.{int_eq}
 use Rattle.isa.specs.Machine.{State, Outcome, Retired, Called, Trapped, next, reg, bytes_at}
-use Rattle.isa.specs.Calls.{channel_of, buffer_of, length_of, refusal_of}
-use Rattle.isa.specs.declared.Call.{Call}
+use Rattle.isa.specs.Calls.{refusal_of}
 use Rattle.isa.specs.declared.CallKind.{CallKind}
 use Rattle.isa.specs.declared.CallKind.TheVariants as kind
 use Rattle.log_model.specs.declared.CallRecord.{CallRecord}

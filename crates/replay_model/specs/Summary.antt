@@ -1,5 +1,5 @@
 -- What a log says of its run, in numbers.
-use Rattle.std.specs.Prelude.{ℕ, List, [], ◌∷◌, length, sum_by}
+use Rattle.std.specs.Prelude.{ℕ, length, sum_by}
 use Rattle.log_model.specs.declared.CallRecord.{CallRecord}
 use Rattle.log_model.specs.declared.CallRecord.TheVariants.{Read, Write, Clock, Other}
 use Rattle.log_model.specs.Logs.{Log}

@@ -1,10 +1,9 @@
 -- A call is the one of its state.
-use Rattle.std.proofs.Common.{◌≡◌, ℕ, Bool, true, false, Option, Some, None, refl, ap, sym, ◌∙◌}
-use Rattle.isa.specs.declared.Instr.{Instr}
+use Rattle.std.proofs.Common.{◌≡◌, ℕ, Bool, true, false}
 use Rattle.isa.specs.declared.Call.{Call}
 use Rattle.isa.specs.declared.Effect.{Effect}
 use Rattle.isa.specs.declared.Effect.TheVariants.{SetRegister, Jump, Branch, Load, Store, MoveOn, EnvironmentCall, Breakpoint}
-use Rattle.isa.specs.Machine.{State, Outcome, Retired, Called, Trapped, next, Fetch, Fetched, OutsideWindow, Illegal, fetch, effect_of, execute, outcome_of, landed, loaded, stored, branched, is_aligned, in_window, jumped, call_of}
+use Rattle.isa.specs.Machine.{State, Called, next, Fetch, Fetched, OutsideWindow, Illegal, fetch, effect_of, execute, outcome_of, landed, loaded, stored, branched, is_aligned, in_window, jumped, call_of}
 
 landing_calls : (b : Bool) (s : State) (call : Call) → landed b s ≡ Called call → ⊥
 landing_calls true s call e = cc

@@ -1,12 +1,12 @@
 -- One step of a check, against what the log has next.
-use Rattle.std.proofs.Common.{◌≡◌, ℕ, suc, ◌+◌, ◌^◌, ◌<◌, ◌≤◌, ◌⊎◌, inl, inr, Bool, true, false, List, [], ◌∷◌, Option, Some, None, refl, arith, ap, sym, ◌∙◌, subst}
+use Rattle.std.proofs.Common.{◌≡◌, ℕ, ◌+◌, ◌^◌, ◌<◌, ◌≤◌, Bool, true, false, List, [], ◌∷◌, Option, None, refl, arith, ap, sym, ◌∙◌}
 use Rattle.std.specs.Prelude.{nat_lt, if◌then◌else◌}
 use Rattle.std.proofs.lemmas.Bool.{ltb-true, ltb-false}
 use Rattle.isa.specs.Machine.{State}
 use Rattle.log_model.specs.declared.CallRecord.{CallRecord}
 use Rattle.log_model.specs.declared.RunEnd.{RunEnd}
 use Rattle.log_model.specs.declared.RunEnd.TheVariants.{Exit, Trap, Limit}
-use Rattle.log_model.specs.Logs.{Log, IsEnd, Rise, least_after, at_of, end_at, steps_by, steps}
+use Rattle.log_model.specs.Logs.{Log, IsEnd, Rise, least_after, at_of, end_at, steps_by}
 use Rattle.replay_model.specs.Run.{Moment}
 use Rattle.replay_model.specs.Comparison.{Compared, Expected, PlainStep, CallOf, EndOf, expected, first_different, difference, difference_at}
 use Rattle.replay_model.specs.Track.{IsOnTrack}
@@ -57,11 +57,6 @@ pub end_within : (end : RunEnd) → end_at end ≤ steps_by end
 end_within (Exit at code) = omega arith
 end_within (Trap at kind pc) = omega arith
 end_within (Limit at) = omega arith
-
-pub steps_within : (end : RunEnd) → steps_by end ≤ end_at end + 1
-steps_within (Exit at code) = omega arith
-steps_within (Trap at kind pc) = omega arith
-steps_within (Limit at) = omega arith
 
 -- ---- what differs
 

@@ -1,5 +1,5 @@
 -- Comparing a call with its record, field after field.
-use Rattle.std.proofs.Common.{◌≡◌, ℕ, ◌<◌, ◌≤◌, ◌⊎◌, inl, inr, List, [], ◌∷◌, ◌++◌, length, get_or, ℤ, Option, Some, None, Result, Ok, Err, refl, arith, ap, sym, ◌∙◌, subst}
+use Rattle.std.proofs.Common.{◌≡◌, ℕ, ◌<◌, ◌≤◌, ◌⊎◌, inl, inr, List, [], ◌∷◌, ◌++◌, length, get_or, ℤ, Option, Some, None, Result, Ok, Err, arith, ap, sym, ◌∙◌, subst}
 use Rattle.std.specs.Prelude.{IsTrue}
 use Rattle.std.proofs.lemmas.Bool.{cases_lt}
 use Rattle.isa.specs.declared.Call.{Call}
@@ -7,7 +7,7 @@ use Rattle.isa.specs.declared.CallKind.{CallKind}
 use Rattle.isa.specs.declared.CallKind.TheVariants as kind
 use Rattle.isa.specs.Machine.{State, reg, in_window, bytes_at, call_of}
 use Rattle.isa.specs.Calls.{refusal_of, refusal_by, refusal}
-use Rattle.log_model.specs.declared.CallRecord.TheVariants.{Read, Write, Clock, Other}
+use Rattle.log_model.specs.declared.CallRecord.TheVariants.{Read, Write}
 use Rattle.log_model.specs.Logs.{IsRecord}
 use Rattle.replay_model.specs.Comparison.{Compared, first_different, arguments, arguments_of, allowed, bytes_compared, fields, CallOf, call_event}
 use Rattle.replay_model.specs.Comparison.{result as result_compared}
@@ -15,7 +15,7 @@ use Rattle.replay_model.proofs.Agreement.{same_kind}
 use Rattle.replayer.specs.declared.difference.Difference.{Difference}
 use Rattle.replayer.specs.Differences.{IsFirst, arguments_compared}
 use Rattle.replayer.proofs.Firsts.{first_then, first_behind, first_before}
-use Rattle.replay_model.proofs.Transfers.{IsHeld, write_held, length_held}
+use Rattle.replay_model.proofs.Transfers.{write_held}
 
 -- a call that waits in a state, of this kind, with the refusal that it has there
 pub record IsWaiting (s : State) (inputs : ℕ) (k : CallKind) (call : Call) (refused : ℤ) : Type 0 where

@@ -1,8 +1,6 @@
 -- The record at the front answers the call that waits, where nothing differs.
-use Rattle.std.proofs.Common.{◌≡◌, ℕ, suc, ◌+◌, ◌^◌, ◌<◌, ◌≤◌, ◌⊎◌, inl, inr, Bool, true, false, List, [], ◌∷◌, ◌++◌, length, get_or, ℤ, Option, Some, None, refl, arith, ap, ap₂, sym, ◌∙◌, subst}
-use Rattle.std.specs.Prelude.{IsTrue}
+use Rattle.std.proofs.Common.{◌≡◌, ℕ, ◌+◌, ◌<◌, ◌≤◌, ◌⊎◌, inl, inr, List, [], ◌∷◌, length, Some, None, refl, arith, ap, sym, ◌∙◌, subst}
 use Rattle.std.proofs.lemmas.Bool.{cases_lt}
-use Rattle.isa.specs.declared.Instr.{Instr}
 use Rattle.isa.specs.declared.Instr.TheVariants.{Ecall}
 use Rattle.isa.specs.declared.Call.{Call}
 use Rattle.isa.specs.declared.CallKind.{CallKind}
@@ -19,14 +17,14 @@ use Rattle.flow_model.specs.declared.StepSeen.{StepSeen}
 use Rattle.replay_model.specs.Run.{Moment, advance, after_outcome, step_of, step_by, plain_step, after_call, call_seen}
 use Rattle.replay_model.specs.Comparison.{CallOf, EndOf, PlainStep, difference, difference_at, bytes_compared, result, allowed, arguments_of}
 use Rattle.replay_model.specs.Track.{still_read, still_written, HasRoom, IsOnTrack}
-use Rattle.replay_model.proofs.Agreement.{CallAgrees, call_agrees, plain_agrees, exit_agrees, trap_agrees, expects_plain_at_end, expects_plain_before, expects_call, expects_end, kind_by}
+use Rattle.replay_model.proofs.Agreement.{CallAgrees, call_agrees, plain_agrees, exit_agrees, expects_plain_at_end, expects_plain_before, expects_call, expects_end}
 use Rattle.replay_model.proofs.Track.{moment, agrees_with}
-use Rattle.rv_machine.specs.Hart.{Hart, IsStep, IsPlainStep, IsCallStep, IsTrapStep, waiting}
+use Rattle.rv_machine.specs.Hart.{Hart, IsStep, waiting}
 use Rattle.rv_machine.specs.declared.Stepped.{Stepped}
 use Rattle.rv_machine.specs.declared.Stepped.TheVariants.{Plain, Called, Trapped}
 use Rattle.replayer.specs.Steps.{Moves, IsDue, IsReady, IsFinished, IsSeenIn}
 use Rattle.replayer.proofs.Calls.{called_is}
-use Rattle.replay_model.proofs.Transfers.{IsHeld, read_held, write_held, same_arguments, SameArguments}
+use Rattle.replay_model.proofs.Transfers.{IsHeld, read_held, write_held, same_arguments}
 
 -- ---- a record that agrees is due
 

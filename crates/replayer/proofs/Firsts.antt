@@ -1,5 +1,5 @@
 -- One comparison after another.
-use Rattle.std.proofs.Common.{◌≡◌, ◌≢◌, ℕ, suc, ◌+◌, ◌<◌, ◌≤◌, length, drop, get_or, drop-cons, add-one, arith, Bool, true, false, List, [], ◌∷◌, ◌++◌, ℤ, Option, Some, None, Result, Ok, Err, refl, ap, sym, ◌∙◌}
+use Rattle.std.proofs.Common.{◌≡◌, ℕ, suc, ◌+◌, ◌<◌, ◌≤◌, length, drop, get_or, drop-cons, add-one, arith, Bool, true, false, List, [], ◌∷◌, ◌++◌, Some, None, Result, Ok, Err, refl, ap, ◌∙◌}
 use Rattle.std.specs.Prelude.{if◌then◌else◌}
 use Rattle.std.proofs.lemmas.List.{drop_all}
 use Rattle.replay_model.specs.declared.Field.TheVariants as field
@@ -9,7 +9,7 @@ use Rattle.std.proofs.lemmas.Bool.{false_from_ne_true}
 use Rattle.replay_model.specs.Comparison.{Compared, compared, first_different, bytes_compared}
 use Rattle.replay_model.proofs.Agreement.{first_agrees}
 use Rattle.replayer.specs.declared.difference.Difference.{Difference}
-use Rattle.replayer.specs.Differences.{IsFirst, compared_of}
+use Rattle.replayer.specs.Differences.{IsFirst}
 
 pub first_same : (c : Compared) (cs : List Compared) → c.kept ≡ c.seen → first_different (c ∷ cs) ≡ first_different cs
 first_same c cs e = ap (λ (b : Bool). if b then first_different cs else Some c) ((Decides-int_eq c.kept c.seen).1 e)

@@ -1,5 +1,5 @@
 -- A check, step after step.
-use Rattle.std.proofs.Common.{◌≡◌, ℕ, suc, ◌+◌, ◌-◌, ◌^◌, ◌<◌, ◌≤◌, false, List, length, replicate, Option, Some, None, Ok, Err, refl, arith, ap, sym, ◌∙◌, subst}
+use Rattle.std.proofs.Common.{◌≡◌, ℕ, suc, ◌+◌, ◌-◌, ◌^◌, ◌<◌, ◌≤◌, false, List, length, replicate, Option, Some, None, Ok, arith, ap, sym, ◌∙◌, subst}
 use Rattle.isa.specs.Machine.{State}
 use Rattle.log_model.specs.declared.CallRecord.{CallRecord}
 use Rattle.log_model.specs.Logs.{Log, IsLog, log_text, end_at}
@@ -10,7 +10,7 @@ use Rattle.replay_model.specs.Track.{IsOnTrack}
 use Rattle.replay_model.proofs.Track.{stays_on, on_track_start}
 use Rattle.replayer.specs.Steps.{moment_of, IsCheckedStep}
 use Rattle.replayer.specs.declared.run.Run.{Run}
-use Rattle.replayer.specs.declared.run.Checked.TheVariants.{Advanced, Ended}
+use Rattle.replayer.specs.declared.run.Checked.TheVariants.{Advanced}
 
 -- so many steps are checked: nothing differs in them, so the first difference from here on is that of the whole run
 pub record IsChecking (log : Log) (s : State) (i : ℕ) (run : Run) : Type 0 where

@@ -1,16 +1,14 @@
 -- The step that a job's run makes at a time, and the moment behind it.
-use Rattle.std.proofs.Common.{◌≡◌, ℕ, zero, suc, ◌+◌, ◌^◌, ◌<◌, ◌≤◌, List, [], ◌∷◌, Option, Some, None, refl, arith, ap, sym, ◌∙◌, subst, add-one, false}
+use Rattle.std.proofs.Common.{◌≡◌, ℕ, suc, ◌+◌, ◌<◌, List, [], ◌∷◌, Some, refl, arith, ap, sym, ◌∙◌, subst, false}
 use Rattle.log_model.specs.declared.CallRecord.{CallRecord}
 use Rattle.log_model.specs.declared.CallRecord.TheVariants.{Read, Write, Clock, Other}
-use Rattle.log_model.specs.Logs.{Log, end_at, steps}
+use Rattle.log_model.specs.Logs.{end_at, steps}
 use Rattle.flow_model.specs.declared.StepSeen.{StepSeen}
 use Rattle.flow_model.specs.Origins.{step_at}
 use Rattle.replay_model.specs.Run.{Moment, start, advance, moment_after, step_of, after_call}
-use Rattle.replay_model.specs.Comparison.{difference}
-use Rattle.replay_model.specs.Track.{IsOnTrack}
 use Rattle.replay_model.proofs.Agreement.{agrees_at}
-use Rattle.replay_model.proofs.Track.{on_track_at, IsOnTrackAt}
-use Rattle.replay_model.proofs.Offsets.{step_at_from, moment_later}
+use Rattle.replay_model.proofs.Track.{on_track_at}
+use Rattle.replay_model.proofs.Offsets.{step_at_from, moment_later, steps_within}
 use Rattle.rv_machine.specs.Hart.{Hart, IsStep}
 use Rattle.rv_machine.specs.declared.Stepped.{Stepped}
 use Rattle.rv_machine.specs.declared.Stepped.TheVariants.{Plain, Called, Trapped}
@@ -18,8 +16,7 @@ use Rattle.replayer.specs.Jobs.{Job, IsJob, trace_of}
 use Rattle.replayer.specs.Cursors.{IsCursor}
 use Rattle.replayer.specs.Steps.{moment_of, IsFinished}
 use Rattle.replayer.specs.declared.run.Run.{Run}
-use Rattle.replayer.proofs.Checking.{steps_within}
-use Rattle.replayer.proofs.Dues.{Goes, goes, done, IsDone, stepped_to}
+use Rattle.replayer.proofs.Dues.{Goes, goes, done, stepped_to}
 
 goes_at : (job : Job) (k : ℕ) → IsJob job → k < steps job.log → Goes (moment_after k (start job.start job.log))
 goes_at job k is below =

@@ -1,5 +1,5 @@
 -- What the answers of a check say of the program and the log.
-use Rattle.std.specs.Prelude.{◌≡◌, ◌≢◌, ℕ, List, Option, Some, None}
+use Rattle.std.specs.Prelude.{◌≡◌, ◌≢◌, ℕ, List, Some, None}
 use Rattle.isa.specs.Machine.{State}
 use Rattle.elf_model.specs.Image.{Image}
 use Rattle.elf_model.specs.Window.{start_of}

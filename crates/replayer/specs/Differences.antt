@@ -1,5 +1,5 @@
 -- Comparing what a log keeps with what its program shows, up to the first difference.
-use Rattle.std.specs.Prelude.{◌≡◌, ℕ, List, [], ◌∷◌, Option, Some, None, Result, Ok, Err, slice_index}
+use Rattle.std.specs.Prelude.{◌≡◌, ℕ, List, [], ◌∷◌, Some, None, Result, Ok, Err, slice_index}
 use Rattle.replay_model.specs.Comparison.{Compared, compared, first_different}
 use Rattle.replay_model.specs.declared.Field.TheVariants as field
 use Rattle.replayer.specs.declared.difference.Difference.{Difference}

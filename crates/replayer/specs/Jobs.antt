@@ -1,5 +1,5 @@
 -- What is seen of a job: the state that its run begins in, and the log that fits it.
-use Rattle.std.specs.Prelude.{◌≡◌, ℕ, ◌≤◌, ◌^◌, List, [], length, Option, Some, None}
+use Rattle.std.specs.Prelude.{◌≡◌, ◌≤◌, ◌^◌, List, [], length, Option, Some, None}
 use Rattle.isa.specs.Machine.{State}
 use Rattle.log_model.specs.Logs.{Log, IsLog, log_text}
 use Rattle.elf_model.specs.Image.{Image}

@@ -1,10 +1,10 @@
 -- What a cursor gives next.
-use Rattle.std.specs.Prelude.{◌≡◌, ℕ, ◌+◌, ◌<◌, Option, Some}
+use Rattle.std.specs.Prelude.{◌≡◌, ◌+◌, ◌<◌, Some}
 use Rattle.log_model.specs.declared.RunEnd.{RunEnd}
 use Rattle.log_model.specs.Logs.{steps}
 use Rattle.flow_model.specs.declared.StepSeen.{StepSeen}
 use Rattle.flow_model.specs.Origins.{step_at}
-use Rattle.replayer.specs.Jobs.{Job, trace_of}
+use Rattle.replayer.specs.Jobs.{trace_of}
 use Rattle.replayer.specs.Ranges.{IsInRange}
 use Rattle.replayer.specs.declared.cursor.Next.{Next}
 use Rattle.replayer.specs.declared.cursor.Next.TheVariants.{Step, End}

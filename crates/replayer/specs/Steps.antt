@@ -1,11 +1,10 @@
 -- The steps that a run under a log is made of.
-use Rattle.std.specs.Prelude.{◌≡◌, ℕ, ◌+◌, ◌^◌, ◌<◌, ◌≤◌, Bool, true, false, IsTrue, List, [], ◌∷◌, length, ℤ, Option, Some, None, Result, Ok, Err, slice_index}
+use Rattle.std.specs.Prelude.{◌≡◌, ℕ, ◌+◌, ◌^◌, ◌<◌, ◌≤◌, Bool, true, false, IsTrue, List, [], ◌∷◌, length, Some, None, Result, Ok, Err, slice_index}
 use Rattle.isa.specs.Machine.{State, reg, in_window, call_of, next}
 use Rattle.isa.specs.Machine as machine
 use Rattle.isa.specs.Calls.{channel_of, buffer_of}
 use Rattle.isa.specs.Encodings.{Fits}
 use Rattle.isa.specs.declared.Instr.TheVariants.{Ecall}
-use Rattle.isa.specs.declared.CallKind.{CallKind}
 use Rattle.isa.specs.declared.CallKind.TheVariants as kind
 use Rattle.log_model.specs.declared.CallRecord.{CallRecord}
 use Rattle.log_model.specs.declared.CallRecord.TheVariants.{Read, Write, Clock, Other}
@@ -17,7 +16,7 @@ use Rattle.replay_model.specs.Comparison.{Compared, compared, at_step, call_even
 use Rattle.replay_model.specs.Comparison as model
 use Rattle.replay_model.specs.declared.Field.TheVariants as field
 use Rattle.replay_model.specs.declared.Divergence.{Divergence}
-use Rattle.rv_machine.specs.Hart.{Hart, IsStep}
+use Rattle.rv_machine.specs.Hart.{Hart}
 use Rattle.rv_machine.specs.declared.Stepped.{Stepped}
 use Rattle.rv_machine.specs.declared.Stepped.TheVariants.{Plain, Called, Trapped}
 use Rattle.replayer.specs.declared.run.Run.{Run}
@@ -25,7 +24,6 @@ use Rattle.replayer.specs.declared.run.Checked.{Checked}
 use Rattle.replayer.specs.declared.run.Checked.TheVariants.{Advanced, Ended}
 use Rattle.replayer.specs.declared.run.Expected.{Expected}
 use Rattle.replayer.specs.declared.run.Expected.TheVariants as expects
-use Rattle.replayer.specs.declared.difference.Difference.{Difference}
 
 -- the moment at which a run stands
 abbrev pub moment_of : Run → Moment

@@ -62,7 +62,6 @@ impl<'a> Cursor<'a> {
         if self.run.time == self.job.steps() {
             return Next::End(self.job.log().end());
         }
-        self.job.form();
         let stepped = self.run.machine.step();
         Next::Step(self.run.finish(stepped))
     }

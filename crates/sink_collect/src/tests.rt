@@ -1,3 +1,5 @@
+ghost use Rattle.std.specs.Prelude.{◌≡◌, IfOk};
+
 use crate::{Report, SinkSet, gather, text};
 use flow_model::{SinkByte, SourceByte};
 use std::alloc::Global;
@@ -5,7 +7,9 @@ use std::process::Abort;
 use std::test::Fail;
 
 /// The set of an output byte with at most one source byte on channel 0.
-fn set(alloc: Global, channel: u8, offset: u32, source: Option<u32>) -> Result<SinkSet, Fail> {
+fn set(alloc: Global, channel: u8, offset: u32, source: Option<u32>) -> Result<SinkSet, Fail>
+    ensures { IfOk result (λ s. s.sink ≡ record { channel = channel; offset = offset }) }
+{
     let mut sources = Vec::new(alloc);
     if let Some(offset) = source {
         sources.push(SourceByte { channel: 0, offset })?;

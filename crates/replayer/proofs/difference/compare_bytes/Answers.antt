@@ -1,6 +1,6 @@
-use Rattle.std.proofs.Common.{◌≡◌, ℕ, ◌+◌, List, ◌∷◌, [], drop, get_or, refl, ap, sym, ◌∙◌, None}
+use Rattle.std.proofs.Common.{◌≡◌, ◌+◌, ◌∷◌, [], drop, get_or, ap, sym, ◌∙◌}
 use Rattle.std.proofs.lemmas.Result.{err_from_is_err_and}
-use Rattle.replay_model.specs.Comparison.{Compared, compared, first_different, bytes_compared}
+use Rattle.replay_model.specs.Comparison.{compared, first_different, bytes_compared}
 use Rattle.replay_model.specs.declared.Field.TheVariants as field
 use Rattle.replayer.specs.Differences.{compared_of}
 use Rattle.replayer.proofs.Firsts.{first_behind, first_before, bytes_step, bytes_done}

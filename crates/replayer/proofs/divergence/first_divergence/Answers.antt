@@ -1,4 +1,4 @@
-use Rattle.std.proofs.Common.{◌≡◌, ℕ, ◌+◌, ◌<◌, ◌≤◌, refl, arith, ap, ◌∙◌}
+use Rattle.std.proofs.Common.{◌≡◌, ◌+◌, ◌<◌, ◌≤◌, refl, arith, ap, ◌∙◌}
 use Rattle.log_model.specs.Logs.{end_at}
 use Rattle.replayer.proofs.Loops.{checking_start, checking_more, checking_ends, checking_differs, checking_over}
 use Rattle.replayer.proofs.divergence.first_divergence.Goals as goal

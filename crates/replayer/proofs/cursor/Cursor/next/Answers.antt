@@ -1,6 +1,5 @@
-use Rattle.std.proofs.Common.{◌≡◌, ℕ, ◌+◌, ◌<◌, ◌≤◌, Some, refl, arith, ap, sym, ◌∙◌}
+use Rattle.std.proofs.Common.{◌≡◌, ℕ, ◌+◌, ◌<◌, arith, ap}
 use Rattle.log_model.specs.Logs.{steps}
-use Rattle.replayer.specs.Positions.{CursorAt}
 use Rattle.replayer.specs.Steps.{moment_of}
 use Rattle.replayer.proofs.Dues.{ready, stepped_to}
 use Rattle.replayer.proofs.Stepping.{cursor_goes, cursor_moves, cursor_step, finished_time, finished_number}

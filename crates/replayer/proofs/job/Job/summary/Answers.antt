@@ -1,7 +1,6 @@
-use Rattle.std.proofs.Common.{◌≡◌, ℕ, ◌+◌, ◌^◌, ◌<◌, ◌≤◌, length, take, get_or, arith, ap, sym, ◌∙◌, subst}
-use Rattle.std.specs.Prelude.{sum_by}
+use Rattle.std.proofs.Common.{◌≡◌, arith, ap, sym, ◌∙◌}
 use Rattle.replay_model.specs.Summary.{read_by, written_by}
-use Rattle.replayer.proofs.Summaries.{read_fits, written_fits, read_next, written_next}
+use Rattle.replayer.proofs.Summaries.{read_next, written_next}
 use Rattle.replayer.proofs.job.Job.summary.Goals as goal
 
 pub overflow_add-read : goal.overflow_add-read

@@ -1,10 +1,10 @@
-use Rattle.std.proofs.Common.{◌≡◌, ℕ, ◌+◌, ◌<◌, ◌≤◌, None, Some, true, false, refl, arith, ap, sym, ◌∙◌, subst}
+use Rattle.std.proofs.Common.{◌≡◌, ℕ, ◌<◌, None, Some, arith, ap, sym, ◌∙◌, subst}
 use Rattle.log_model.specs.Logs.{end_at}
 use Rattle.replay_model.specs.Run.{Moment}
-use Rattle.replay_model.specs.Comparison.{expected, difference, at_step}
+use Rattle.replay_model.specs.Comparison.{expected, at_step}
 use Rattle.replayer.specs.Differences.{compared_of}
 use Rattle.replayer.specs.Steps.{moment_of, expected_of, IsReady, IsFinished}
-use Rattle.replayer.proofs.Checking.{end_expected, end_small, end_due, before_end, end_within, difference_is, limit_ends}
+use Rattle.replayer.proofs.Checking.{end_expected, end_small, end_due, before_end, end_within, difference_is}
 use Rattle.replayer.proofs.Dues.{goes, ready, done}
 use Rattle.replayer.proofs.run.Run.check_step.Goals as goal
 

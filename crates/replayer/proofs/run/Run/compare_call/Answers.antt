@@ -1,4 +1,4 @@
-use Rattle.std.proofs.Common.{rules, ◌≡◌, ℕ, ◌⊎◌, List, [], ◌∷◌, length, None, Ok, get_or, true, false, refl, subst, w32, to_z, of_z, ap, sym, ◌∙◌}
+use Rattle.std.proofs.Common.{rules, ◌≡◌, ℕ, ◌⊎◌, [], ◌∷◌, length, get_or, true, false, refl, subst, w32, ap, sym, ◌∙◌}
 use Rattle.std.specs.Prelude.{IsTrue}
 use Rattle.std.proofs.lemmas.Bool.{false≢true}
 use Rattle.std.proofs.lemmas.Int.{to_z-of_z}
@@ -6,8 +6,6 @@ use Rattle.std.proofs.lemmas.Result.{err_from_is_err_and}
 use mir.Val.{SFits}
 use Rattle.isa.specs.declared.CallKind.TheVariants as kind
 use Rattle.isa.specs.Machine.{in_window, bytes_at}
-use Rattle.log_model.specs.declared.CallRecord.TheVariants.{Read, Write}
-use Rattle.log_model.specs.Logs.{IsRecord}
 use Rattle.replay_model.specs.Comparison.{allowed, bytes_compared}
 use Rattle.replay_model.specs.Comparison.{result as result_compared}
 use Rattle.replayer.specs.Differences.{IsFirst, compared_of}
