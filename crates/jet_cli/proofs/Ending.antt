@@ -1,13 +1,12 @@
 -- From how a command ended to its status, and back.
-use Rattle.std.proofs.Common.{◌≡◌, ◌∙◌, sym, refl, subst, arith, ℕ, ◌<◌, ◌-◌, ◌^◌, ◌⊎◌, inl, inr, List, Option, Some, None, Result, Ok, Err}
+use Rattle.std.proofs.Common.{◌≡◌, ◌∙◌, sym, refl, subst, arith, ℕ, ◌⊎◌, inl, inr, List, Option, Some, None, Result, Ok, Err}
 use Rattle.outer_io.specs.Tells.{Tells}
 use Rattle.outer_io.specs.Files.{Files, Text}
 use Rattle.outer_io.proofs.TellsLemmas.{tells-map}
 use Rattle.jet_model.specs.Answer.{Answer, Names, TooLong, NoImage, NoLog, NoQuery, WrongProgram, NoWindow, Diverges, Reports, IsAnswer}
-use Rattle.jet_model.specs.Headline.{IsReportOf}
 use Rattle.jet_model.proofs.Headline.{answer-is_report}
 use Rattle.jet_model.proofs.OneAnswer.{one_answer}
-use Rattle.jet_cli.specs.Outcome.{Asks, Outside, WritesReport, WritesPart, GivesUp, Ends, cause_of}
+use Rattle.jet_cli.specs.Outcome.{Asks, Outside, WritesReport, WritesPart, Ends}
 use Rattle.jet_cli.specs.Statuses.{status_of, status_by, status_for, Judged, AsksFor, IsReported, Reported, ReportedInPart, IsUndisturbed}
 use Rattle.jet_cli.specs.declared.refusal.Refusal.{Refusal}
 use Rattle.jet_cli.specs.declared.refusal.Refusal.TheVariants as refusal

@@ -8,7 +8,7 @@ use Rattle.log_model.specs.declared.LogKind.{LogKind}
 use Rattle.log_model.specs.Logs.{Log, log_text, IsLog}
 use Rattle.log_model.specs.Faults.{HasFault}
 use Rattle.report_model.specs.declared.QueryKind.{QueryKind}
-use Rattle.report_model.specs.Query.{Query, Alike}
+use Rattle.report_model.specs.Query.{Query}
 use Rattle.report_model.specs.Grammar.{query}
 use Rattle.query_lang.specs.Answers.{Asks as QueryRead, IsTold as QueryTold}
 use Rattle.query_lang.specs.declared.fault.QueryFault.{QueryFault}
@@ -23,9 +23,9 @@ use Rattle.outer_io.specs.Tells.{Tells, Gains, GainsPrefix, IsPrefix}
 use Rattle.outer_io.specs.Files.{Files, Text, KeepsFiles}
 use Rattle.outer_io.specs.ReadWhole.{HasContent, IsLonger}
 use Rattle.outer_io.proofs.TellsLemmas.{tells-then, tells-map, tells-gains, gains-gains, gains-prefix}
-use Rattle.jet_model.specs.Answer.{Answer, TooLong, NoImage, NoLog, NoQuery, IsReadAs, OfLength, OfFile, OfImage, OfLog, OfQuery, IsWorkAnswer, IsQueryAnswer, IsLogAnswer, IsProgramAnswer, IsAnswer, Names}
-use Rattle.jet_cli.specs.Outcome.{Cause, Asked, StoreFailed, OutputFailed, WantsMemory, cause_of, cause_by, Asks, Holds, FileCause}
-use Rattle.jet_cli.specs.Work.{IsWorkCause, WorkHolds}
+use Rattle.jet_model.specs.Answer.{Answer, TooLong, NoImage, NoLog, NoQuery, OfLength, OfFile, OfImage, OfQuery, IsWorkAnswer, IsQueryAnswer, IsLogAnswer, IsProgramAnswer, IsAnswer, Names}
+use Rattle.jet_cli.specs.Outcome.{Cause, Asked, StoreFailed, OutputFailed, WantsMemory, cause_of, Asks, Holds, FileCause}
+use Rattle.jet_cli.specs.Work.{WorkHolds}
 use Rattle.jet_cli.specs.declared.refusal.Refusal.{Refusal}
 use Rattle.jet_cli.specs.declared.refusal.Refusal.TheVariants as refusal
 
@@ -100,7 +100,7 @@ pub query_answered : (name program : List ℕ) (im : Image) (log : Log) (bytes :
 query_answered name program im log bytes kept f g a b h short asks (Asked p) w =
     found (λ file. OfFile (file name) (IsQueryAnswer program im log)) (HasContent name bytes) f g p
     (λ x y r. file_there (y.file name) bytes (IsQueryAnswer program im log) p r short
-      (subst (λ (q : Result Query (ℕ × QueryKind)). OfQuery q (IsWorkAnswer program im log) p) (sym asks.stands) (w asks.written asks.alike))) h
+    (subst (λ (q : Result Query (ℕ × QueryKind)). OfQuery q (IsWorkAnswer program im log) p) (sym asks.stands) (w asks.written asks.alike))) h
 query_answered name program im log bytes kept f g a b h short asks StoreFailed w = absurd (w asks.written asks.alike)
 query_answered name program im log bytes kept f g a b h short asks OutputFailed w = absurd (w asks.written asks.alike)
 query_answered name program im log bytes kept f g a b h short asks WantsMemory w = tt
@@ -111,7 +111,7 @@ no_query : (name program : List ℕ) (im : Image) (log : Log) (bytes : List ℕ)
 no_query name program im log bytes line kind f g there short e =
     found (λ file. OfFile (file name) (IsQueryAnswer program im log)) (HasContent name bytes) f g (NoQuery line kind)
     (λ x y r. file_there (y.file name) bytes (IsQueryAnswer program im log) (NoQuery line kind) r short
-      (subst (λ (q : Result Query (ℕ × QueryKind)). OfQuery q (IsWorkAnswer program im log) (NoQuery line kind)) (sym e) refl)) there
+    (subst (λ (q : Result Query (ℕ × QueryKind)). OfQuery q (IsWorkAnswer program im log) (NoQuery line kind)) (sym e) refl)) there
 
 pub query_refused : (name program : List ℕ) (im : Image) (log : Log) (bytes : List ℕ) (f g : Option Files) (a b : ℕ)
     → Tells f g (HasContent name bytes) → length bytes ≤ 2 ^ 26 → (fault : QueryFault) → QueryTold bytes fault
@@ -156,7 +156,7 @@ program_answered names bytes im f g h a b c there short loaded keeps up down =
     later (λ file. IsAnswer file names) (λ file. OfFile (file names.log) (IsLogAnswer file names.query bytes im)) (HasContent names.program bytes)
     f g h a b c
     (λ x y z r k p j. file_there (z.file names.program) bytes (IsProgramAnswer z.file names) p (ap (λ (m : Text → Option (List ℕ)). m names.program) k.file ∙ r) short
-      (subst (λ (i : Result Image ImageFault). OfImage i (λ i. OfFile (z.file names.log) (IsLogAnswer z.file names.query bytes i)) p) (sym loaded) j))
+    (subst (λ (i : Result Image ImageFault). OfImage i (λ i. OfFile (z.file names.log) (IsLogAnswer z.file names.query bytes i)) p) (sym loaded) j))
     there keeps up down
 
 no_image : (names : Names) (bytes : List ℕ) (fault : ImageFault) (f g : Option Files)
@@ -165,7 +165,7 @@ no_image : (names : Names) (bytes : List ℕ) (fault : ImageFault) (f g : Option
 no_image names bytes fault f g there short e =
     found (λ file. IsAnswer file names) (HasContent names.program bytes) f g (NoImage fault)
     (λ x y r. file_there (y.file names.program) bytes (IsProgramAnswer y.file names) (NoImage fault) r short
-      (subst (λ (i : Result Image ImageFault). OfImage i (λ i. OfFile (y.file names.log) (IsLogAnswer y.file names.query bytes i)) (NoImage fault)) (sym e) refl)) there
+    (subst (λ (i : Result Image ImageFault). OfImage i (λ i. OfFile (y.file names.log) (IsLogAnswer y.file names.query bytes i)) (NoImage fault)) (sym e) refl)) there
 
 told_image : (names : Names) (bytes : List ℕ) (fault : ImageFault) (f g : Option Files)
     → Tells f g (HasContent names.program bytes) → length bytes ≤ 2 ^ 26 → (fault ≡ NoMemory → ⊥) → (fault ≡ NoMemory) ⊎ (image bytes ≡ Err fault)

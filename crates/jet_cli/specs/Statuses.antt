@@ -1,5 +1,5 @@
 -- The statuses that a command ends with.
-use Rattle.std.specs.Prelude.{◌≡◌, ◌^◌, ◌-◌, ◌<◌, ◌⊎◌, ℕ, List, Option, Some, None, Result, Ok, Err}
+use Rattle.std.specs.Prelude.{◌≡◌, ◌^◌, ◌-◌, ◌<◌, ℕ, List, Option, Some, None, Result, Ok, Err}
 use Rattle.outer_io.specs.Tells.{Tells, Gains, GainsPrefix}
 use Rattle.outer_io.specs.Files.{Files, Text}
 use Rattle.jet_model.specs.Answer.{Answer, Names, Missing, TooLong, NoImage, NoLog, NoQuery, WrongProgram, NoWindow, Diverges, Reports, IsAnswer}

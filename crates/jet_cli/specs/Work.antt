@@ -3,7 +3,7 @@ use Rattle.std.specs.Prelude.{ℕ, List}
 use Rattle.elf_model.specs.Image.{Image}
 use Rattle.log_model.specs.Logs.{Log}
 use Rattle.report_model.specs.Query.{Query, Alike}
-use Rattle.jet_model.specs.Answer.{Answer, IsWorkAnswer}
+use Rattle.jet_model.specs.Answer.{IsWorkAnswer}
 use Rattle.jet_cli.specs.Outcome.{Cause, Asked, StoreFailed, OutputFailed, WantsMemory}
 
 -- the work gives an answer, or memory is wanting

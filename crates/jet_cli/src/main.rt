@@ -5,6 +5,8 @@ mod files;
 mod jet;
 mod query;
 mod refusal;
+#[cfg(test)]
+mod tests;
 mod work;
 
 use outer_io::{FileStore, MachineClock, OpenGate, OutSink};

@@ -1,4 +1,4 @@
-use Rattle.std.proofs.Common.{◌≡◌, ◌∙◌, sym, arith}
+use Rattle.std.proofs.Common.{◌∙◌, sym, arith}
 use Rattle.jet_cli.specs.Outcome.{outside}
 use Rattle.jet_cli.proofs.Ending.{report, asked, part, complete, by_status}
 use Rattle.jet_cli.proofs.jet.jet.Goals as goal

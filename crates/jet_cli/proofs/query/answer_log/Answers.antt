@@ -1,4 +1,4 @@
-use Rattle.std.proofs.Common.{◌≡◌, subst, sym, ◌∙◌, List, ℕ}
+use Rattle.std.proofs.Common.{subst, sym, ◌∙◌, List, ℕ}
 use Rattle.replay_log.specs.Answers.{IsTold}
 use Rattle.outer_io.proofs.TellsLemmas.{tells-gains}
 use Rattle.jet_cli.proofs.Judging.{log_answered, log_refused, asked-whole, if_any, by_cause}
@@ -20,4 +20,4 @@ pub returns-in-Err-clause-answers : goal.returns-in-Err-clause-answers
 returns-in-Err-clause-answers g c =
     by_cause _ _ _ _ _ _ _ c.of_log.ensures
     (log_refused _ _ _ _ c.in_ok-bytes.bytes.items _ _ _ _ c.in_ok-bytes.ensures.content c.in_ok-bytes.ensures.short _
-      (subst (λ (t : List ℕ). IsTold t c.in-Err.fault) c.deref.ensures.value c.in-Err.ensures.fault))
+    (subst (λ (t : List ℕ). IsTold t c.in-Err.fault) c.deref.ensures.value c.in-Err.ensures.fault))

@@ -1,6 +1,5 @@
-use Rattle.std.proofs.Common.{subst, sym, List, ℕ}
+use Rattle.std.proofs.Common.{subst, List, ℕ}
 use Rattle.query_lang.specs.Answers.{Asks, IsTold}
-use Rattle.jet_cli.specs.Outcome.{Cause, Holds}
 use Rattle.jet_cli.proofs.Judging.{query_answered, query_refused, by_cause}
 use Rattle.jet_cli.proofs.query.answer_query.Goals as goal
 
@@ -13,4 +12,4 @@ pub returns-in-Err-clause-answers : goal.returns-in-Err-clause-answers
 returns-in-Err-clause-answers g c =
     by_cause _ _ _ _ _ _ _ c.of_query.ensures
     (query_refused _ _ _ _ c.in_ok-bytes.bytes.items _ _ _ _ c.in_ok-bytes.ensures.content c.in_ok-bytes.ensures.short _
-      (subst (λ (t : List ℕ). IsTold t c.in-Err.fault) c.deref.ensures.value c.in-Err.ensures.fault))
+    (subst (λ (t : List ℕ). IsTold t c.in-Err.fault) c.deref.ensures.value c.in-Err.ensures.fault))
