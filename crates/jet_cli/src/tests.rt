@@ -246,6 +246,47 @@ fn what_is_amiss_is_refused(rt: HostRuntime) -> Result<(), Fail> {
     assert_query(&rt, good, log_good, "rule copy\nsink 1 3 2\n", 6, "")
 }
 
+/// A run of the four-byte copy with one byte of its records changed: the read's channel, its step, the exit's
+/// code and its step.
+#[test]
+fn a_changed_field_diverges(rt: HostRuntime) -> Result<(), Fail> {
+    let alloc = rt.alloc();
+    let good = program(alloc, COPY_FOUR.code)?;
+    for (place, value) in [(5, 1), (1, 4), (55, 7), (51, 12)] {
+        let mut changed = records(alloc, &COPY_FOUR, b"ABCD")?;
+        if place < changed.len() {
+            changed[place] = value;
+        }
+        let log = log(alloc, &good, 1, 1, &changed)?;
+        assert_query(&rt, text(alloc, &good)?, log, COPY, 5, "")?;
+    }
+    Ok(())
+}
+
+/// A write that the log has as refused, and traps of another kind and at another pc.
+#[test]
+fn a_changed_call_or_trap_diverges(rt: HostRuntime) -> Result<(), Fail> {
+    let alloc = rt.alloc();
+    let good = program(alloc, COPY_FOUR.code)?;
+    let mut refused = Vec::new(alloc);
+    push_transfer(&mut refused, 1, 5, [0, 0x10100, 4], b"ABCD")?;
+    refused.push(2)?;
+    push_words(&mut refused, [8, 1, 0x10100, 4, 0xffff_fff7].as_slice())?;
+    refused.push(5)?;
+    push_words(&mut refused, [11, 0].as_slice())?;
+    let log_refused = log(alloc, &good, 1, 1, &refused)?;
+    assert_query(&rt, good, log_refused, COPY, 5, "")?;
+    for (kind, pc) in [(3, BASE), (2, 0)] {
+        let illegal = program(alloc, [0].as_slice())?;
+        let mut records = Vec::new(alloc);
+        records.push(6)?;
+        push_words(&mut records, [0, kind, pc].as_slice())?;
+        let log = log(alloc, &illegal, 1, 0, &records)?;
+        assert_query(&rt, illegal, log, COPY, 5, "")?;
+    }
+    Ok(())
+}
+
 /// The second read of the log fails; an out that takes ten bytes fails at its second put.
 #[test]
 fn failures_of_the_outside_are_told(rt: HostRuntime) -> Result<(), Fail> {
