@@ -1,6 +1,12 @@
--- What is true of a log that is held, with the size that is held beside it.
-use Rattle.std.specs.Prelude.{◌≡◌, ℕ, ◌≤◌, ◌^◌, length}
+-- A log put together, and what is true of one that is held, with the size that is held beside it.
+use Rattle.std.specs.Prelude.{◌≡◌, ℕ, ◌≤◌, ◌^◌, List, length}
+use Rattle.log_model.specs.declared.CallRecord.{CallRecord}
+use Rattle.log_model.specs.declared.RunEnd.{RunEnd}
 use Rattle.log_model.specs.Logs.{Log, IsLog, log_text}
+
+-- the log of these parts
+abbrev pub log_of_parts : ℕ → ℕ → List ℕ → List CallRecord → RunEnd → Log
+log_of_parts pages inputs digest records end = record { pages = pages; inputs = inputs; digest = digest; records = records; end = end }
 
 pub record IsKept (log : Log) (size : ℕ) : Type 0 where
   pub form : IsLog log

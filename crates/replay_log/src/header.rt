@@ -8,7 +8,8 @@ use crate::fault::LogFault;
 use crate::words::word_at;
 use log_model::LogKind;
 
-const MAGIC: [u8; 8] = *b"JETLOG1\n";
+/// The first bytes of each log.
+pub const MAGIC: [u8; 8] = *b"JETLOG1\n";
 
 /// The number of bytes of the header.
 pub const HEADER_LENGTH: usize = 48;

@@ -2,7 +2,7 @@
 
 ghost use Rattle.std.specs.Prelude.{◌≡◌, ◌≤◌, ◌^◌, length};
 ghost use Rattle.log_model.specs.Logs.{log_text, IsLog};
-ghost use Rattle.replay_log.specs.Kept.{IsKept};
+ghost use Rattle.replay_log.specs.Kept.{log_of_parts};
 
 use log_model::{CallRecord, RunEnd};
 use std::marker::Model;
@@ -32,7 +32,9 @@ impl Model for Log {
 }
 
 impl Log {
-    pub(crate) fn new(
+    /// The log of these parts: a log's form is theirs, and `size` is the length of its text in bytes, at most 2^26.
+    /// It takes no memory.
+    pub fn from_parts(
         pages: u32,
         inputs: u32,
         digest: [u8; 32],
@@ -40,8 +42,10 @@ impl Log {
         end: RunEnd,
         size: u64,
     ) -> Log
-        requires { IsKept record { pages = pages; inputs = inputs; digest = digest; records = records.items; end = end } size }
-        ensures { result ≡ record { pages = pages; inputs = inputs; digest = digest; records = records.items; end = end } }
+        requires form { IsLog (log_of_parts pages inputs digest records.items end) }
+        requires size { size ≡ length (log_text (log_of_parts pages inputs digest records.items end)) }
+        requires limit { size ≤ 2 ^ 26 }
+        ensures { result ≡ log_of_parts pages inputs digest records.items end }
     {
         Log {
             pages,

@@ -1,19 +1,26 @@
-//! Logs of runs (docs/FORMATS.md): `read_log` gives the log that bytes are, or their first fault.
+//! Logs of runs (docs/FORMATS.md): `read_log` gives the log that bytes are, or their first fault, and `write_log`
+//! the bytes that a log is.
 #![tactic(auto)]
 
 mod fault;
 mod front;
 mod header;
 mod kept;
+pub mod laws;
+mod lengths;
 mod reading;
 mod records;
 mod tags;
 mod words;
+mod writing;
 
 pub use fault::LogFault;
+pub use header::HEADER_LENGTH;
 pub use kept::Log;
+pub use lengths::{end_length, record_length};
 pub use log_model::{CallRecord, Data, LogKind, RunEnd};
 pub use reading::read_log;
+pub use writing::write_log;
 
 #[cfg(test)]
 mod tests;

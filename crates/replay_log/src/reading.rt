@@ -70,7 +70,7 @@ fn log_of(alloc: Global, bytes: &[u8]) -> Result<Log, LogFault>
 {
     let header = header_of(bytes)?;
     let (records, end) = body_of(alloc, bytes)?;
-    Ok(Log::new(
+    Ok(Log::from_parts(
         header.pages,
         header.inputs,
         header.digest,

@@ -33,6 +33,21 @@ impl Tag {
         }
     }
 
+    /// The kind's number.
+    pub fn number(self) -> u8
+        ensures { result ≡ number self }
+    {
+        match self {
+            Tag::Read => 1,
+            Tag::Write => 2,
+            Tag::Clock => 3,
+            Tag::Other => 4,
+            Tag::Exit => 5,
+            Tag::Trap => 6,
+            Tag::Limit => 7,
+        }
+    }
+
     /// How many bytes the tag and the fixed fields take.
     pub fn fixed_length(self) -> usize
         ensures { result ≡ fixed_length (number self) }

@@ -23,6 +23,14 @@ const CALLS: [u8; 22] = [
 /// A trap at step 5, of kind 2 at 0x10000.
 const TRAP: [u8; 13] = [6, 5, 0, 0, 0, 2, 0, 0, 0, 0, 0, 1, 0];
 
+/// A read at step 0 on a channel that there isn't, a write at step 1 from outside the window, and a read at step 2
+/// at the channel's end.
+const UNMOVED: [u8; 63] = [
+    1, 0, 0, 0, 0, 9, 0, 0, 0, 0, 1, 1, 0, 4, 0, 0, 0, 0xf7, 0xff, 0xff, 0xff, //
+    2, 1, 0, 0, 0, 1, 0, 0, 0, 0, 0, 0, 0x80, 4, 0, 0, 0, 0xf2, 0xff, 0xff, 0xff, //
+    1, 2, 0, 0, 0, 0, 0, 0, 0, 0, 1, 1, 0, 4, 0, 0, 0, 0, 0, 0, 0,
+];
+
 /// The log's first bytes, others in place of as many, and the log's last ones.
 fn changed(alloc: Global, at: usize, by: &[u8]) -> Result<Vec<u8>, AllocError> {
     let mut bytes = Vec::from_slice(alloc, &LOG[..at.min(LOG.len())])?;
@@ -49,6 +57,16 @@ fn fault_of(rt: &impl Abort, alloc: Global, bytes: &[u8]) -> Option<(LogKind, u6
         Err(LogFault::At { kind, offset }) => Some((kind, offset)),
         Err(LogFault::NoMemory) => panic!(rt; "there is memory"),
     }
+}
+
+/// The length of a log's text, counted by its parts.
+fn length_of(log: &Log) -> u64 {
+    let mut length = HEADER_LENGTH as u64;
+    log.form();
+    for record in log.records() {
+        length = length.saturating_add(record_length(record));
+    }
+    length.saturating_add(end_length(log.end()))
 }
 
 fn is_read(record: &CallRecord, step: u32, asked: &[u32], moved: i32, read: &[u8]) -> bool {
@@ -192,5 +210,54 @@ fn a_cut_off_run_is_read(rt: HostRuntime) -> Result<(), Fail> {
         panic!(rt; "the bytes are a log");
     };
     assert!(rt; log.end() == RunEnd::Limit { at: 10 });
+    Ok(())
+}
+
+#[test]
+fn each_log_is_written_in_its_bytes(rt: HostRuntime) -> Result<(), Fail> {
+    let trap = RunEnd::Trap {
+        at: 5,
+        kind: 2,
+        pc: 0x10000,
+    };
+    let cases: [(&[&[u8]], usize, RunEnd); 3] = [
+        (&[&LOG[48..]], 2, RunEnd::Exit { at: 11, code: 0 }),
+        (&[&CALLS, &TRAP], 2, trap),
+        (&[&UNMOVED, &[7, 10, 0, 0, 0]], 3, RunEnd::Limit { at: 10 }),
+    ];
+    for (parts, calls, end) in cases {
+        let bytes = headed(rt.alloc(), parts)?;
+        assert!(rt; bytes.len() < 1 << 26);
+        let Ok(log) = read_log(rt.alloc(), &bytes) else {
+            panic!(rt; "the bytes are a log");
+        };
+        assert!(rt; log.records().len() == calls);
+        assert!(rt; log.end() == end);
+        assert!(rt; length_of(&log) == log.size());
+        let Ok(written) = write_log(rt.alloc(), &log) else {
+            panic!(rt; "there is memory");
+        };
+        assert!(rt; written == bytes);
+    }
+    Ok(())
+}
+
+#[test]
+fn a_log_of_parts_is_written(rt: HostRuntime) -> Result<(), Fail> {
+    let mut records = Vec::new(rt.alloc());
+    records.push(CallRecord::Other { at: 4, number: 42 })?;
+    let log = Log::from_parts(1, 0, [7; 32], records, RunEnd::Limit { at: 9 }, 62);
+    let Ok(written) = write_log(rt.alloc(), &log) else {
+        panic!(rt; "there is memory");
+    };
+    let text = [
+        0x4a, 0x45, 0x54, 0x4c, 0x4f, 0x47, 0x31, 0x0a, //
+        7, 7, 7, 7, 7, 7, 7, 7, 7, 7, 7, 7, 7, 7, 7, 7, //
+        7, 7, 7, 7, 7, 7, 7, 7, 7, 7, 7, 7, 7, 7, 7, 7, //
+        1, 0, 0, 0, 0, 0, 0, 0, //
+        4, 4, 0, 0, 0, 42, 0, 0, 0, //
+        7, 9, 0, 0, 0,
+    ];
+    assert!(rt; written.as_slice() == text.as_slice());
     Ok(())
 }
