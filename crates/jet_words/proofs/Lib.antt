@@ -1,0 +1,5 @@
+pub mod NoFault
+pub mod HelpRefused
+pub mod Taken
+pub mod Values
+pub mod Examples

@@ -1,0 +1,26 @@
+use Rattle.std.proofs.Common.{rules, ◌≡◌, ◌∙◌, ap, sym, map, string_bytes, true, false, List, IsErrOf, is_some}
+use Rattle.clap.specs.Words.{Text, takes}
+use Rattle.jet_words.specs.CommandLine.{jet_app}
+use Rattle.jet_words.specs.Words.{asked_by}
+use Rattle.jet_words.specs.declared.words.WordsFault.TheVariants.{Usage}
+use Rattle.jet_words.proofs.Taken.{asked-of_taken, asks-where-taken, taken_asks}
+use Rattle.jet_words.proofs.words.read_words.Goals as goal
+
+-- words that are taken ask for something
+pub unreachable-requires : goal.unreachable-requires
+unreachable-requires c =
+    let asks = taken_asks (map string_bytes c.args.words.now) c.in_ok-matches.ensures.taken in
+    let rows = c.in_ok-matches.ensures.subcommand in
+    let none = c.in-None.ensures in
+    let bad : false ≡ true = ap is_some none ∙ ap (λ r. is_some (asked_by r)) rows ∙ asks in cc
+
+pub returns-in_err-matches-clause-nothing : goal.returns-in_err-matches-clause-nothing
+returns-in_err-matches-clause-nothing c =
+    let words : List Text = map string_bytes c.args.words.now in
+    let refused : IsErrOf c.from_residual.result Usage → takes jet_app words ≡ false = search rules in
+    λ usage. (asks-where-taken words).1 (refused usage)
+
+pub returns-clause-command : goal.returns-clause-command
+returns-clause-command c =
+    let words : List Text = map string_bytes c.args.words.now in
+    asked-of_taken words c.in_ok-matches.ensures.taken ∙ ap asked_by (sym c.in_ok-matches.ensures.subcommand) ∙ sym c.in-Some.ensures
