@@ -1,0 +1,12 @@
+//! Why a command gives up: the status that it ends with, and the line that it prints on standard error.
+//! Nothing here takes memory or can fail.
+#![tactic(auto)]
+
+mod line;
+mod names;
+mod refusal;
+#[cfg(test)]
+mod tests;
+
+pub use line::Line;
+pub use refusal::Refusal;
