@@ -1,4 +1,5 @@
 pub mod Headline
+pub mod Reported
 pub mod OneAnswer
 pub mod Guests
 pub mod Reports

@@ -1,5 +1,5 @@
 -- What it means that a report answers a query.
-use Rattle.std.specs.Prelude.{◌≡◌, ℕ, List, Option, Some, Ok}
+use Rattle.std.specs.Prelude.{◌≡◌, ◌≤◌, ◌^◌, ℕ, List, length, Option, Some, None, Ok}
 use Rattle.log_model.specs.Logs.{Log, log_text, IsLog}
 use Rattle.report_model.specs.Query.{Query}
 use Rattle.report_model.specs.Grammar.{query}
@@ -20,3 +20,14 @@ pub record IsReportOf (file : List ℕ → Option (List ℕ)) (names : Names) (t
   pub is_query : query query_text ≡ Ok asked
   pub fits : Fits program log
   pub reports : text ≡ report program log asked
+
+-- a file has at most 2 ^ 26 bytes
+abbrev pub IsShort : Option (List ℕ) → Type 0
+IsShort None = Unit {0}
+IsShort (Some bytes) = length bytes ≤ 2 ^ 26
+
+-- each of the three named files
+pub record AreShort (file : List ℕ → Option (List ℕ)) (names : Names) : Type 0 where
+  pub program : IsShort (file names.program)
+  pub log : IsShort (file names.log)
+  pub query : IsShort (file names.query)
