@@ -17,20 +17,17 @@ use Rattle.replay_log.specs.Answers.{IsTold as LogTold}
 use Rattle.replay_log.specs.declared.fault.LogFault.{LogFault}
 use Rattle.replay_log.specs.declared.fault.LogFault.TheVariants as log
 use Rattle.elf_model.specs.declared.ImageFault.TheVariants.{Short, Magic, Class, Kind, Machine, Header, Dynamic, Segment, NoSegment, Entry, NoMemory}
-use Rattle.jet_cli.specs.Refusals.{image_cause, log_cause, query_cause}
 use Rattle.outer_io.specs.Faults.{Rose}
 use Rattle.outer_io.specs.Tells.{Tells, Gains, GainsPrefix, IsPrefix}
 use Rattle.outer_io.specs.Files.{Files, Text, KeepsFiles}
 use Rattle.outer_io.specs.ReadWhole.{HasContent, IsLonger}
 use Rattle.outer_io.proofs.TellsLemmas.{tells-then, tells-map, tells-gains, gains-gains, gains-prefix}
 use Rattle.jet_model.specs.Answer.{Answer, TooLong, NoImage, NoLog, NoQuery, OfLength, OfFile, OfImage, OfQuery, IsWorkAnswer, IsQueryAnswer, IsLogAnswer, IsProgramAnswer, IsAnswer, Names}
-use Rattle.jet_cli.specs.Outcome.{Cause, Asked, StoreFailed, OutputFailed, WantsMemory, cause_of, Asks, Holds, FileCause}
+use Rattle.jet_cli.specs.Causes.{Cause, NoCommand, Answered, StoreFailed, OutputFailed, WantsMemory, cause_of, image_cause, log_cause, query_cause}
+use Rattle.jet_cli.specs.Outcome.{Judge, Asks, Holds, FileCause}
 use Rattle.jet_cli.specs.Work.{WorkHolds}
-use Rattle.jet_cli.specs.declared.refusal.Refusal.{Refusal}
-use Rattle.jet_cli.specs.declared.refusal.Refusal.TheVariants as refusal
-
-abbrev pub Judge : Type 1
-Judge = (Text → Option (List ℕ)) → Answer → Type 0
+use Rattle.jet_refusal.specs.declared.refusal.Refusal.{Refusal}
+use Rattle.jet_refusal.specs.declared.refusal.Refusal.TheVariants as refusal
 
 -- ---- one file
 
@@ -68,11 +65,12 @@ pub later : (first judge : Judge) (R : Files → Files → Type 0) (f g h : Opti
     → ((x y z : Files) → R x y → KeepsFiles y z → (p : Answer) → judge z.file p → first z.file p)
     → Tells f g R → Tells g h KeepsFiles → a ≤ b → b ≤ c
     → (cause : Cause) → Holds judge g h b c cause → Holds first f h a c cause
-later first judge R f g h a b c step found keeps up down (Asked p) k =
+later first judge R f g h a b c step found keeps up down (Answered p) k =
     tells-then f g h R (λ y z. KeepsFiles y z × Asks judge p y z) (Asks first p)
     (λ x y z r q. record { judged = step x y z r q.0 p q.1.judged }) found (both g h KeepsFiles (Asks judge p) keeps k)
 later first judge R f g h a b c step found keeps up down StoreFailed k = rose-earlier a b c up k down
 later first judge R f g h a b c step found keeps up down OutputFailed k = k
+later first judge R f g h a b c step found keeps up down NoCommand k = k
 later first judge R f g h a b c step found keeps up down WantsMemory k = tt
 
 -- what is found in one file alone
@@ -84,6 +82,7 @@ pub unread : (name : Text) (next : List ℕ → Answer → Type 0) (f g : Option
 unread name next f g a b refusal.TooLong h = found (λ file. OfFile (file name) next) (IsLonger name (2 ^ 26)) f g TooLong (λ x y l. file_long (y.file name) l.content next l.is_there l.longer) h
 unread name next f g a b refusal.ReadFault h = h
 unread name next f g a b refusal.NoMemory h = tt
+unread name next f g a b refusal.Usage h = absurd h
 unread name next f g a b (refusal.Image fault) h = absurd h
 unread name next f g a b (refusal.Window pages) h = absurd h
 unread name next f g a b (refusal.Log kind offset) h = absurd h
@@ -97,10 +96,11 @@ unread name next f g a b refusal.WriteFault h = absurd h
 pub query_answered : (name program : List ℕ) (im : Image) (log : Log) (bytes : List ℕ) (kept : Query) (f g : Option Files) (a b : ℕ)
     → Tells f g (HasContent name bytes) → length bytes ≤ 2 ^ 26 → QueryRead bytes kept
     → (cause : Cause) → WorkHolds program im log kept cause → Holds (λ file. OfFile (file name) (IsQueryAnswer program im log)) f g a b cause
-query_answered name program im log bytes kept f g a b h short asks (Asked p) w =
+query_answered name program im log bytes kept f g a b h short asks (Answered p) w =
     found (λ file. OfFile (file name) (IsQueryAnswer program im log)) (HasContent name bytes) f g p
     (λ x y r. file_there (y.file name) bytes (IsQueryAnswer program im log) p r short
     (subst (λ (q : Result Query (ℕ × QueryKind)). OfQuery q (IsWorkAnswer program im log) p) (sym asks.stands) (w asks.written asks.alike))) h
+query_answered name program im log bytes kept f g a b h short asks NoCommand w = absurd (w asks.written asks.alike)
 query_answered name program im log bytes kept f g a b h short asks StoreFailed w = absurd (w asks.written asks.alike)
 query_answered name program im log bytes kept f g a b h short asks OutputFailed w = absurd (w asks.written asks.alike)
 query_answered name program im log bytes kept f g a b h short asks WantsMemory w = tt

@@ -1,5 +1,5 @@
 pub mod Words
 pub mod Outcome
-pub mod Refusals
+pub mod Causes
 pub mod Statuses
 pub mod Work

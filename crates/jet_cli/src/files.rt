@@ -5,7 +5,7 @@ ghost use Rattle.outer_io.specs.Files.{KeepsFiles};
 ghost use Rattle.outer_io.specs.ReadWhole.{HasContent};
 ghost use Rattle.jet_cli.specs.Outcome.{FileCause};
 
-use crate::refusal::Refusal;
+use jet_refusal::Refusal;
 use outer_io::{ReadWhole, Store, read_whole};
 use std::alloc::Global;
 

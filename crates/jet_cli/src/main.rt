@@ -3,35 +3,43 @@
 
 mod files;
 mod jet;
+mod laws;
 mod query;
-mod refusal;
 #[cfg(test)]
 mod tests;
 mod work;
 
+use jet::conclude;
+use jet_refusal::Refusal;
 use outer_io::{FileStore, MachineClock, OpenGate, OutSink};
 use std::env;
 use std::io::ErrorKind;
 use std::process::ExitCode;
 
-/// The status of want of memory.
-const MEMORY: u8 = 10;
-
-/// Makes the real outside, calls `jet` and ends with its status. A word that isn't UTF-8 is a faulty
+/// The words of the command line, of which the first is the program's name. A word that isn't UTF-8 is a faulty
 /// command line.
-fn main(rt: HostRuntime) -> ExitCode {
+fn words_of(rt: HostRuntime) -> Result<Vec<String>, Refusal> {
     let args = match env::args(&rt) {
         Ok(args) => args,
-        Err(error) if error.kind() == ErrorKind::OutOfMemory => return ExitCode::from(MEMORY),
-        Err(_) => return ExitCode::from(jet::USAGE),
+        Err(error) if error.kind() == ErrorKind::OutOfMemory => return Err(Refusal::NoMemory),
+        Err(_) => return Err(Refusal::Usage),
     };
     let words: Result<Vec<String>, _> = args.collect(rt.alloc());
-    let Ok(words) = words else {
-        return ExitCode::from(MEMORY);
+    match words {
+        Ok(words) => Ok(words),
+        Err(_) => Err(Refusal::NoMemory),
+    }
+}
+
+/// Makes the real outside, calls `jet` and ends with its status.
+fn main(rt: HostRuntime) -> ExitCode {
+    let mut err = OutSink::new(rt.stderr());
+    let words = match words_of(rt) {
+        Ok(words) => words,
+        Err(refusal) => return ExitCode::from(conclude(&mut err, Err(refusal))),
     };
     let mut store = FileStore::new(rt);
     let mut out = OutSink::new(rt.stdout());
-    let mut err = OutSink::new(rt.stderr());
     let mut clock = MachineClock::new(rt);
     let status = jet::jet(
         &rt, &words, &mut store, &mut out, &mut err, &mut clock, &OpenGate,

@@ -1,21 +1,42 @@
 //! The command `query`: the three files are read and judged one after another, and the report is
 //! written.
-ghost use Rattle.std.specs.Prelude.{◌≡◌, ◌≤◌, ◌^◌, ◌∷◌, [], Ok, length, IfOk, IfErr, OnOk};
+ghost use Rattle.std.specs.Prelude.{◌≡◌, ◌≤◌, ◌^◌, ◌∷◌, [], Ok, Err, length, IfOk, IfErr, OnOk};
 ghost use Rattle.elf_model.specs.Image.{image as image_of_file};
 ghost use Rattle.outer_io.specs.Tells.{Tells, Gains, GainsPrefix};
 ghost use Rattle.outer_io.specs.Files.{KeepsFiles};
 ghost use Rattle.jet_model.specs.Answer.{OfFile, IsQueryAnswer, IsLogAnswer, IsAnswer};
 ghost use Rattle.jet_cli.specs.Words.{named};
-ghost use Rattle.jet_cli.specs.Outcome.{Holds, cause_by, Ends, outside};
+ghost use Rattle.jet_cli.specs.Causes.{cause_by, cause_of, log_cause, query_cause};
+ghost use Rattle.jet_cli.specs.Outcome.{Holds, Ends, outside};
 
 use crate::files::read_file;
-use crate::refusal::Refusal;
 use crate::work::report;
 use elf_image::{Image, load};
+use jet_refusal::Refusal;
 use outer_io::{Sink, Store, write_whole};
-use query_lang::parse;
-use replay_log::{Log, read_log};
+use query_lang::{QueryFault, parse};
+use replay_log::{Log, LogFault, read_log};
 use std::alloc::Global;
+
+/// Why bytes are no log.
+fn of_log(fault: LogFault) -> Refusal
+    ensures { cause_of result ≡ log_cause fault }
+{
+    match fault {
+        LogFault::At { kind, offset } => Refusal::Log { kind, offset },
+        LogFault::NoMemory => Refusal::NoMemory,
+    }
+}
+
+/// Why a text is no query.
+fn of_query(fault: QueryFault) -> Refusal
+    ensures { cause_of result ≡ query_cause fault }
+{
+    match fault {
+        QueryFault::At { line, kind } => Refusal::Query { line, kind },
+        QueryFault::NoMemory => Refusal::NoMemory,
+    }
+}
 
 /// The query, of a program and a log that were read.
 fn answer_query<S: Store>(
@@ -36,7 +57,7 @@ fn answer_query<S: Store>(
     let bytes = read_file(alloc, store, query)?;
     match parse(alloc, &bytes) {
         Ok(query) => report(alloc, program, image, log, &query),
-        Err(fault) => Err(Refusal::of_query(fault)),
+        Err(fault) => Err(of_query(fault)),
     }
 }
 
@@ -60,7 +81,7 @@ fn answer_log<S: Store>(
     let bytes = read_file(alloc, store, log)?;
     match read_log(alloc, &bytes) {
         Ok(log) => answer_query(alloc, store, query, program, image, log),
-        Err(fault) => Err(Refusal::of_log(fault)),
+        Err(fault) => Err(of_log(fault)),
     }
 }
 
@@ -81,7 +102,7 @@ fn answer<S: Store>(
     let bytes = read_file(alloc, store, program)?;
     match load(alloc, &bytes) {
         Ok(image) => answer_log(alloc, store, log, query, &bytes, image),
-        Err(fault) => Err(Refusal::of_program(fault)),
+        Err(fault) => Err(Refusal::Image(fault)),
     }
 }
 
@@ -101,6 +122,7 @@ pub fn run<S: Store, O: Sink>(
     ensures asked { Tells (S.asked store.old) (S.asked store.new) (GainsPrefix (program.now ∷ log.now ∷ query.now ∷ [])) }
     ensures all { OnOk result (Tells (S.asked store.old) (S.asked store.new) (Gains (program.now ∷ log.now ∷ query.now ∷ []))) }
     ensures silent { IfErr result (λ e. (e ≡ Refusal.WriteFault → ⊥) → out.new ≡ out.old) }
+    ensures command { result ≡ Err Refusal.Usage → ⊥ }
 {
     let report = answer(alloc, store, program, log, query)?;
     match write_whole(out, &report) {

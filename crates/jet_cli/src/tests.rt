@@ -1,15 +1,15 @@
 //! Queries over files in memory, from their words to the report.
 
 mod guests;
+mod outside;
+mod refusals;
 
 use crate::jet::jet;
 use guests::{
     ADD_WORDS, COPY_FOUR, Guest, LESS_THAN, LOAD_SIGNED, LOAD_UNSIGNED, OVERWRITE, UNALIGNED,
     XOR_WORDS,
 };
-use outer_io::{
-    ListClock, MemoryFile, MemorySink, MemoryStore, OpenGate, Sink, Store, SureSink, SureStore,
-};
+use outer_io::{ListClock, MemoryFile, MemorySink, MemoryStore, OpenGate, Sink, Store};
 use sha2::{Digest, Sha256};
 use std::alloc::{AllocError, Global};
 use std::process::Abort;
@@ -83,23 +83,18 @@ fn records(alloc: Global, guest: &Guest, written: &[u8]) -> Result<Vec<u8>, Allo
     Ok(out)
 }
 
-fn text(alloc: Global, bytes: &[u8]) -> Result<Vec<u8>, AllocError> {
-    bytes.to_vec(alloc)
-}
-
 /// The files `prog`, `log` and `query`.
 fn files(
     alloc: Global,
-    program: Vec<u8>,
-    log: Vec<u8>,
-    query: &str,
+    program: &[u8],
+    log: &[u8],
+    query: &[u8],
 ) -> Result<Vec<MemoryFile>, AllocError> {
-    let query = text(alloc, query.as_bytes())?;
     let mut files = Vec::new(alloc);
     for (name, bytes) in [("prog", program), ("log", log), ("query", query)] {
         files.push(MemoryFile {
             name: String::from_str(alloc, name)?,
-            bytes,
+            bytes: bytes.to_vec(alloc)?,
         })?;
     }
     Ok(files)
@@ -113,35 +108,64 @@ fn words(alloc: Global, list: &[&str]) -> Result<Vec<String>, AllocError> {
     Ok(words)
 }
 
+/// How a query ended: the status, and what it wrote to the two outputs.
+#[derive(Clone, Copy)]
+struct Ending<'a> {
+    status: u8,
+    out: &'a str,
+    err: &'a str,
+}
+
+impl Ending<'_> {
+    /// A report was written.
+    fn report(out: &str) -> Ending<'_> {
+        Ending {
+            status: 0,
+            out,
+            err: "",
+        }
+    }
+
+    /// The query was refused with this line.
+    fn refusal(status: u8, err: &str) -> Ending<'_> {
+        Ending {
+            status,
+            out: "",
+            err,
+        }
+    }
+}
+
 /// The status of the query of `prog`, `log` and `query`.
-fn status_of<R: AllocGlobal, S: Store, O: Sink>(
+fn status_of<R: AllocGlobal, S: Store, O: Sink, E: Sink>(
     rt: &R,
     store: &mut S,
     out: &mut O,
+    err: &mut E,
 ) -> Result<u8, AllocError> {
     let alloc = rt.alloc();
     let words = words(alloc, ["jet", "query", "prog", "log", "query"].as_slice())?;
-    let mut err = MemorySink::new(alloc, Vec::new(alloc), 256, 256)?;
     let mut clock = ListClock::new(alloc, &[])?;
-    Ok(jet(rt, &words, store, out, &mut err, &mut clock, &OpenGate))
+    Ok(jet(rt, &words, store, out, err, &mut clock, &OpenGate))
 }
 
-/// A query of these files gives this status and writes this.
+/// A query of these files ends so.
 fn assert_query<R: AllocGlobal + Abort>(
     rt: &R,
-    program: Vec<u8>,
-    log: Vec<u8>,
-    query: &str,
-    status: u8,
-    written: &str,
+    program: &[u8],
+    log: &[u8],
+    query: &[u8],
+    ending: Ending<'_>,
 ) -> Result<(), Fail> {
     let alloc = rt.alloc();
     let files = files(alloc, program, log, query)?;
     let mut store = MemoryStore::new(alloc, files, Vec::new(alloc), 65536, 0)?;
     let mut out = MemorySink::new(alloc, Vec::new(alloc), 65536, 70000)?;
-    let answer = status_of(rt, &mut store, &mut out)?;
-    assert_eq!(rt; answer, status);
-    assert_eq!(rt; out.bytes(), written.as_bytes());
+    let mut err = MemorySink::new(alloc, Vec::new(alloc), 65536, 256)?;
+    let status = status_of(rt, &mut store, &mut out, &mut err)?;
+    assert_eq!(rt; status, ending.status);
+    assert_eq!(rt; out.bytes(), ending.out.as_bytes());
+    assert_eq!(rt; err.bytes(), ending.err.as_bytes());
     Ok(())
 }
 
@@ -156,7 +180,7 @@ fn assert_report<R: AllocGlobal + Abort>(
     let program = program(alloc, guest.code)?;
     let records = records(alloc, guest, guest.write.bytes)?;
     let log = log(alloc, &program, guest.pages, 1, &records)?;
-    assert_query(rt, program, log, query, 0, report)
+    assert_query(rt, &program, &log, query.as_bytes(), Ending::report(report))
 }
 
 #[test]
@@ -219,136 +243,14 @@ fn a_run_may_end_by_a_trap(rt: HostRuntime) -> Result<(), Fail> {
         records.push(6)?;
         push_words(&mut records, [0, kind, BASE].as_slice())?;
         let log = log(alloc, &program, 1, 0, &records)?;
-        assert_query(&rt, program, log, COPY, 0, "end 0\n")?;
+        assert_query(
+            &rt,
+            &program,
+            &log,
+            COPY.as_bytes(),
+            Ending::report("end 0\n"),
+        )?;
     }
-    Ok(())
-}
-
-/// The four-byte copy with another written byte, a log that goes on, a log of another program, a cut
-/// program, a cut log and a query that is none: each is refused, and nothing is written.
-#[test]
-fn what_is_amiss_is_refused(rt: HostRuntime) -> Result<(), Fail> {
-    let alloc = rt.alloc();
-    let good = program(alloc, COPY_FOUR.code)?;
-    let records_good = records(alloc, &COPY_FOUR, b"ABCD")?;
-    let log_good = log(alloc, &good, 1, 1, &records_good)?;
-    let records_other = records(alloc, &COPY_FOUR, b"ABXD")?;
-    let diverging = log(alloc, &good, 1, 1, &records_other)?;
-    assert_query(&rt, text(alloc, &good)?, diverging, COPY, 5, "")?;
-    let other = program(alloc, ADD_WORDS.code)?;
-    assert_query(&rt, other, text(alloc, &log_good)?, COPY, 5, "")?;
-    let mut longer = text(alloc, &log_good)?;
-    longer.push(0)?;
-    assert_query(&rt, text(alloc, &good)?, longer, COPY, 4, "")?;
-    assert_query(&rt, text(alloc, &good)?, Vec::new(alloc), COPY, 4, "")?;
-    let short = text(alloc, b"\x7fELF")?;
-    assert_query(&rt, short, text(alloc, &log_good)?, COPY, 3, "")?;
-    assert_query(&rt, good, log_good, "rule copy\nsink 1 3 2\n", 6, "")
-}
-
-/// A run of the four-byte copy with one byte of its records changed: the read's channel, its step, the exit's
-/// code and its step.
-#[test]
-fn a_changed_field_diverges(rt: HostRuntime) -> Result<(), Fail> {
-    let alloc = rt.alloc();
-    let good = program(alloc, COPY_FOUR.code)?;
-    for (place, value) in [(5, 1), (1, 4), (55, 7), (51, 12)] {
-        let mut changed = records(alloc, &COPY_FOUR, b"ABCD")?;
-        if place < changed.len() {
-            changed[place] = value;
-        }
-        let log = log(alloc, &good, 1, 1, &changed)?;
-        assert_query(&rt, text(alloc, &good)?, log, COPY, 5, "")?;
-    }
-    Ok(())
-}
-
-/// A write that the log has as refused, and traps of another kind and at another pc.
-#[test]
-fn a_changed_call_or_trap_diverges(rt: HostRuntime) -> Result<(), Fail> {
-    let alloc = rt.alloc();
-    let good = program(alloc, COPY_FOUR.code)?;
-    let mut refused = Vec::new(alloc);
-    push_transfer(&mut refused, 1, 5, [0, 0x10100, 4], b"ABCD")?;
-    refused.push(2)?;
-    push_words(&mut refused, [8, 1, 0x10100, 4, 0xffff_fff7].as_slice())?;
-    refused.push(5)?;
-    push_words(&mut refused, [11, 0].as_slice())?;
-    let log_refused = log(alloc, &good, 1, 1, &refused)?;
-    assert_query(&rt, good, log_refused, COPY, 5, "")?;
-    for (kind, pc) in [(3, BASE), (2, 0)] {
-        let illegal = program(alloc, [0].as_slice())?;
-        let mut records = Vec::new(alloc);
-        records.push(6)?;
-        push_words(&mut records, [0, kind, pc].as_slice())?;
-        let log = log(alloc, &illegal, 1, 0, &records)?;
-        assert_query(&rt, illegal, log, COPY, 5, "")?;
-    }
-    Ok(())
-}
-
-/// The second read of the log fails; an out that takes ten bytes fails at its second put.
-#[test]
-fn failures_of_the_outside_are_told(rt: HostRuntime) -> Result<(), Fail> {
-    let alloc = rt.alloc();
-    let words = "1:0 0:0\n1:";
-    for (call, put, status, written) in [(4, 9, 7, ""), (99, 1, 8, words)] {
-        let program = program(alloc, COPY_FOUR.code)?;
-        let records = records(alloc, &COPY_FOUR, b"ABCD")?;
-        let log = log(alloc, &program, 1, 1, &records)?;
-        let files = files(alloc, program, log, COPY)?;
-        let failing = [call].as_slice().to_vec(alloc)?;
-        let mut store = MemoryStore::new(alloc, files, failing, 65536, 0)?;
-        let mut out = MemorySink::new(alloc, [put].as_slice().to_vec(alloc)?, 10, 70000)?;
-        let answer = status_of(&rt, &mut store, &mut out)?;
-        assert_eq!(rt; answer, status);
-        assert_eq!(rt; out.bytes(), written.as_bytes());
-    }
-    Ok(())
-}
-
-#[test]
-fn a_sure_outside_gives_the_same(rt: HostRuntime) -> Result<(), Fail> {
-    let alloc = rt.alloc();
-    let program = program(alloc, COPY_FOUR.code)?;
-    let records = records(alloc, &COPY_FOUR, b"ABCD")?;
-    let log = log(alloc, &program, 1, 1, &records)?;
-    let mut store = SureStore::new(alloc, files(alloc, program, log, COPY)?, 0)?;
-    let mut out = SureSink::new(alloc, 100)?;
-    let answer = status_of(&rt, &mut store, &mut out)?;
-    assert_eq!(rt; answer, 0);
-    assert_eq!(rt;
-        out.bytes(),
-        b"1:0 0:0\n1:1 0:1\n1:2 0:2\n1:3 0:3\nend 4\n".as_slice()
-    );
-    Ok(())
-}
-
-/// Other words are a usage error, and a missing file is a failure of the store.
-#[test]
-fn words_and_names_are_looked_at(rt: HostRuntime) -> Result<(), Fail> {
-    let alloc = rt.alloc();
-    let lists: [&[&str]; 4] = [
-        &["jet"],
-        &["jet", "replay", "prog", "log", "query"],
-        &["jet", "query", "prog", "log"],
-        &["jet", "query", "prog", "log", "query", "more"],
-    ];
-    for list in lists {
-        let mut store = MemoryStore::new(alloc, Vec::new(alloc), Vec::new(alloc), 8, 0)?;
-        let mut out = MemorySink::new(alloc, Vec::new(alloc), 8, 8)?;
-        let mut err = MemorySink::new(alloc, Vec::new(alloc), 8, 8)?;
-        let mut clock = ListClock::new(alloc, &[])?;
-        let list = words(alloc, list)?;
-        let answer = jet(
-            &rt, &list, &mut store, &mut out, &mut err, &mut clock, &OpenGate,
-        );
-        assert_eq!(rt; answer, 2);
-    }
-    let mut store = MemoryStore::new(alloc, Vec::new(alloc), Vec::new(alloc), 8, 0)?;
-    let mut out = MemorySink::new(alloc, Vec::new(alloc), 8, 8)?;
-    let answer = status_of(&rt, &mut store, &mut out)?;
-    assert_eq!(rt; answer, 7);
     Ok(())
 }
 
@@ -396,5 +298,11 @@ fn a_long_copy_is_followed(rt: HostRuntime) -> Result<(), Fail> {
     records.push(5)?;
     push_words(&mut records, [25014, 0].as_slice())?;
     let log = log(alloc, &program, 5, 1, &records)?;
-    assert_query(&rt, program, log, COPY, 0, &report)
+    assert_query(
+        &rt,
+        &program,
+        &log,
+        COPY.as_bytes(),
+        Ending::report(&report),
+    )
 }

@@ -6,11 +6,11 @@ ghost use Rattle.replayer.specs.Checks.{IsChecked};
 ghost use Rattle.replayer.specs.Jobs.{trace_of};
 ghost use Rattle.report_model.specs.Rows.{rows};
 ghost use Rattle.report_model.specs.Text.{report_text};
-ghost use Rattle.jet_cli.specs.Outcome.{cause_of, cause_by};
+ghost use Rattle.jet_cli.specs.Causes.{cause_of, cause_by};
 ghost use Rattle.jet_cli.specs.Work.{IsWorkCause, WorkHolds};
 
-use crate::refusal::Refusal;
 use elf_image::Image;
+use jet_refusal::Refusal;
 use no_memory::NoMemory;
 use query_lang::Query;
 use replay_log::Log;

@@ -2,7 +2,7 @@ use Rattle.std.proofs.Common.{◌≡◌, ◌⊎◌, Err, subst, List, ℕ}
 use Rattle.elf_model.specs.Image.{image}
 use Rattle.elf_model.specs.declared.ImageFault.TheVariants.{NoMemory}
 use Rattle.jet_cli.specs.Words.{named}
-use Rattle.jet_cli.proofs.Judging.{program_lent, program_refused, asked-first, asked-part, keeps-keeps, gains_where_ok, by_cause}
+use Rattle.jet_cli.proofs.Judging.{program_lent, program_refused, asked-first, asked-part, keeps-keeps, gains_where_ok}
 use Rattle.jet_cli.proofs.query.answer.Goals as goal
 
 pub returns-in-Ok-clause-answers : goal.returns-in-Ok-clause-answers
@@ -22,9 +22,9 @@ returns-in-Ok-clause-all g c = gains_where_ok c.answer_log.result _ _ _ _ _ c.in
 
 pub returns : goal.returns
 returns g c = record {
-  answers = by_cause _ _ _ _ _ _ _ c.of_program.ensures
-      (program_refused (named c.args.program.now c.args.log.now c.args.query.now) c.in_ok-bytes.bytes.items _ _ _ _ c.in_ok-bytes.ensures.content c.in_ok-bytes.ensures.short _
-      (subst (λ (t : List ℕ). (c.in-Err.fault ≡ NoMemory) ⊎ (image t ≡ Err c.in-Err.fault)) c.deref.ensures.value c.in-Err.ensures.fault));
+  answers =
+      program_refused (named c.args.program.now c.args.log.now c.args.query.now) c.in_ok-bytes.bytes.items _ _ _ _ c.in_ok-bytes.ensures.content c.in_ok-bytes.ensures.short _
+      (subst (λ (t : List ℕ). (c.in-Err.fault ≡ NoMemory) ⊎ (image t ≡ Err c.in-Err.fault)) c.deref.ensures.value c.in-Err.ensures.fault);
   keeps = c.in_ok-bytes.ensures.keeps;
   asked = asked-first _ _ _ _ c.in_ok-bytes.ensures.asked;
   all = tt;

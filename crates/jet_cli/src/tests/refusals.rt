@@ -1,0 +1,303 @@
+//! Files that are refused, each with its status and its line.
+
+use super::guests::{ADD_WORDS, COPY_FOUR};
+use super::{BASE, COPY, Ending, assert_query, log, program, push_transfer, push_words, records};
+use sha2::{Digest, Sha256};
+use std::alloc::{AllocError, Global};
+use std::process::Abort;
+use std::test::Fail;
+
+/// The report of the four-byte copy.
+const COPIED: &str = "1:0 0:0\n1:1 0:1\n1:2 0:2\n1:3 0:3\nend 4\n";
+
+/// The program and the log of the four-byte copy.
+fn copied(alloc: Global) -> Result<(Vec<u8>, Vec<u8>), AllocError> {
+    let program = program(alloc, COPY_FOUR.code)?;
+    let records = records(alloc, &COPY_FOUR, b"ABCD")?;
+    let log = log(alloc, &program, 1, 1, &records)?;
+    Ok((program, log))
+}
+
+/// A prefix of up to so many bytes ends with this status, and this report or line.
+type Prefix = (usize, u8, &'static str);
+
+/// Prefixes of the program.
+const PROGRAMS: &[Prefix] = &[
+    (51, 3, "jet: image 1 Short\n"),
+    (83, 3, "jet: image 6 Header\n"),
+    (131, 3, "jet: image 8 Segment\n"),
+    (132, 0, COPIED),
+];
+
+/// Prefixes of the log.
+const LOGS: &[Prefix] = &[
+    (7, 4, "jet: log 1 Magic at 0\n"),
+    (47, 4, "jet: log 2 Header at 8\n"),
+    (72, 4, "jet: log 3 Short at 48\n"),
+    (97, 4, "jet: log 3 Short at 73\n"),
+    (106, 4, "jet: log 3 Short at 98\n"),
+    (107, 0, COPIED),
+];
+
+/// Prefixes of the query.
+const QUERIES: &[Prefix] = &[
+    (0, 6, "jet: query line 0 NoRule\n"),
+    (3, 6, "jet: query line 1 Word\n"),
+    (5, 6, "jet: query line 1 Count\n"),
+    (8, 6, "jet: query line 1 Word\n"),
+    (10, 0, "end 0\n"),
+    (15, 6, "jet: query line 2 Word\n"),
+    (17, 6, "jet: query line 2 Count\n"),
+    (19, 6, "jet: query line 2 Number\n"),
+    (21, 0, "end 0\n"),
+    (24, 6, "jet: query line 3 Word\n"),
+    (26, 6, "jet: query line 3 Count\n"),
+    (28, 6, "jet: query line 3 Number\n"),
+    (30, 0, COPIED),
+];
+
+/// How the file ends of which so many bytes are there.
+fn ending_of(length: usize, prefixes: &'static [Prefix]) -> Ending<'static> {
+    for &(last, status, text) in prefixes {
+        if length <= last {
+            return if status == 0 {
+                Ending::report(text)
+            } else {
+                Ending::refusal(status, text)
+            };
+        }
+    }
+    Ending::refusal(0, "longer than the whole file")
+}
+
+#[test]
+fn each_prefix_of_a_file_has_its_ending(rt: HostRuntime) -> Result<(), Fail> {
+    let (program, log) = copied(rt.alloc())?;
+    let query = COPY.as_bytes();
+    for length in 0..=program.len() {
+        assert_query(
+            &rt,
+            &program[..length],
+            &log,
+            query,
+            ending_of(length, PROGRAMS),
+        )?;
+    }
+    for length in 0..=log.len() {
+        assert_query(
+            &rt,
+            &program,
+            &log[..length],
+            query,
+            ending_of(length, LOGS),
+        )?;
+    }
+    for length in 0..=query.len() {
+        assert_query(
+            &rt,
+            &program,
+            &log,
+            &query[..length],
+            ending_of(length, QUERIES),
+        )?;
+    }
+    Ok(())
+}
+
+/// Bytes that are put in place of those at an offset.
+type Patch = (usize, &'static [u8]);
+
+/// Other bytes in the program, and the line of its status 3.
+const CHANGED_PROGRAMS: &[(Patch, &str)] = &[
+    ((28, b"\xff\xff\xff\xff"), "jet: image 6 Header\n"),
+    ((56, b"\xff\xff\xff\xff"), "jet: image 8 Segment\n"),
+    ((60, b"\xf0\xff\xff\xff"), "jet: image 8 Segment\n"),
+    ((24, b"\x02\0\x01\0"), "jet: image 10 Entry\n"),
+    ((24, b"\x30\0\x01\0"), "jet: image 10 Entry\n"),
+    ((52, b"\x02"), "jet: image 7 Dynamic\n"),
+    ((52, b"\x04"), "jet: image 9 NoSegment\n"),
+];
+
+/// Other bytes in the log, its status and its line: faults of the form, and divergences.
+const CHANGED_LOGS: &[(Patch, u8, &str)] = &[
+    (
+        (61, b"\xff\xff\xff\xff\xff\xff\xff\x7f"),
+        4,
+        "jet: log 3 Short at 48\n",
+    ),
+    ((65, b"\x05"), 4, "jet: log 6 Result at 48\n"),
+    ((74, b"\x05"), 4, "jet: log 5 Order at 73\n"),
+    ((73, b"\x09"), 4, "jet: log 4 Tag at 73\n"),
+    ((96, b"X"), 5, "jet: diverged at 8 byte 2 kept 88 seen 67\n"),
+    ((53, b"\x01"), 5, "jet: diverged at 5 a0 kept 1 seen 0\n"),
+    ((49, b"\x04"), 5, "jet: diverged at 4 event kept 1 seen 0\n"),
+    (
+        (103, b"\x07"),
+        5,
+        "jet: diverged at 11 code kept 7 seen 0\n",
+    ),
+    (
+        (99, b"\x0c"),
+        5,
+        "jet: diverged at 11 event kept 0 seen 5\n",
+    ),
+];
+
+fn patched(alloc: Global, bytes: &[u8], patch: Patch) -> Result<Vec<u8>, AllocError> {
+    let mut changed = bytes.to_vec(alloc)?;
+    let (offset, patch) = patch;
+    for (i, byte) in patch.iter().enumerate() {
+        let place = offset.wrapping_add(i);
+        if place < changed.len() {
+            changed[place] = *byte;
+        }
+    }
+    Ok(changed)
+}
+
+#[test]
+fn changed_bytes_are_refused(rt: HostRuntime) -> Result<(), Fail> {
+    let alloc = rt.alloc();
+    let (program, log) = copied(alloc)?;
+    for &(patch, line) in CHANGED_PROGRAMS {
+        let changed = patched(alloc, &program, patch)?;
+        assert_query(
+            &rt,
+            &changed,
+            &log,
+            COPY.as_bytes(),
+            Ending::refusal(3, line),
+        )?;
+    }
+    for &(patch, status, line) in CHANGED_LOGS {
+        let changed = patched(alloc, &log, patch)?;
+        assert_query(
+            &rt,
+            &program,
+            &changed,
+            COPY.as_bytes(),
+            Ending::refusal(status, line),
+        )?;
+    }
+    let mut longer = log.as_slice().to_vec(alloc)?;
+    longer.push(0)?;
+    assert_query(
+        &rt,
+        &program,
+        &longer,
+        COPY.as_bytes(),
+        Ending::refusal(4, "jet: log 7 Trailing at 107\n"),
+    )
+}
+
+/// A write that the log has as refused, and traps of another kind and at another pc.
+#[test]
+fn a_changed_call_or_trap_diverges(rt: HostRuntime) -> Result<(), Fail> {
+    let alloc = rt.alloc();
+    let good = program(alloc, COPY_FOUR.code)?;
+    let mut refused = Vec::new(alloc);
+    push_transfer(&mut refused, 1, 5, [0, 0x10100, 4], b"ABCD")?;
+    refused.push(2)?;
+    push_words(&mut refused, [8, 1, 0x10100, 4, 0xffff_fff7].as_slice())?;
+    refused.push(5)?;
+    push_words(&mut refused, [11, 0].as_slice())?;
+    let log_refused = log(alloc, &good, 1, 1, &refused)?;
+    let line = "jet: diverged at 8 result kept -9 seen 4\n";
+    assert_query(
+        &rt,
+        &good,
+        &log_refused,
+        COPY.as_bytes(),
+        Ending::refusal(5, line),
+    )?;
+    for (kind, pc, line) in [
+        (3, BASE, "jet: diverged at 0 kind kept 3 seen 2\n"),
+        (2, 0, "jet: diverged at 0 pc kept 0 seen 65536\n"),
+    ] {
+        let illegal = program(alloc, [0].as_slice())?;
+        let mut records = Vec::new(alloc);
+        records.push(6)?;
+        push_words(&mut records, [0, kind, pc].as_slice())?;
+        let log = log(alloc, &illegal, 1, 0, &records)?;
+        assert_query(
+            &rt,
+            &illegal,
+            &log,
+            COPY.as_bytes(),
+            Ending::refusal(5, line),
+        )?;
+    }
+    Ok(())
+}
+
+/// Queries, and the line of their status 6.
+const FAULTY_QUERIES: &[(&[u8], &str)] = &[
+    (b"rule copy\nsink 1 3 2\n", "jet: query line 2 Range\n"),
+    (b"sink 16", "jet: query line 1 Channel\n"),
+    (b"source 0 5", "jet: query line 1 Count\n"),
+    (b"rule cop", "jet: query line 1 Word\n"),
+    (b"rule x y", "jet: query line 1 Word\n"),
+    (b"rule copy x", "jet: query line 1 Count\n"),
+    (b"rule", "jet: query line 1 Count\n"),
+    (b"source all 1 2", "jet: query line 1 Count\n"),
+    (b"source al", "jet: query line 1 Number\n"),
+    (b"source 0 5 4294967296", "jet: query line 1 Number\n"),
+    (b"sink 16 3 2", "jet: query line 1 Channel\n"),
+    (b"rule copy\nrule copy\n", "jet: query line 2 SecondRule\n"),
+    (b"#\xff\nsink all", "jet: query line 0 NoRule\n"),
+    (b"\x07", "jet: query line 1 BadByte\n"),
+];
+
+#[test]
+fn faulty_queries_are_told(rt: HostRuntime) -> Result<(), Fail> {
+    let (program, log) = copied(rt.alloc())?;
+    for &(query, line) in FAULTY_QUERIES {
+        assert_query(&rt, &program, &log, query, Ending::refusal(6, line))?;
+    }
+    Ok(())
+}
+
+/// The program with a second program header behind the first, of a type that isn't loaded.
+fn with_two_headers(alloc: Global, program: &[u8]) -> Result<Vec<u8>, AllocError> {
+    let mut two = Vec::new(alloc);
+    for (i, byte) in program.iter().enumerate() {
+        if i == 84 {
+            push_words(&mut two, [0x7000_0003, 0, 0, 0, 0, 0, 0, 0].as_slice())?;
+        }
+        two.push(*byte)?;
+    }
+    let counted = patched(alloc, &two, (44, b"\x02"))?;
+    patched(alloc, &counted, (56, b"\x74"))
+}
+
+/// A log of another program; a segment that ends behind the window; and a program header of another type, which
+/// is skipped.
+#[test]
+fn the_program_is_held_against_the_log(rt: HostRuntime) -> Result<(), Fail> {
+    let alloc = rt.alloc();
+    let (good, log_good) = copied(alloc)?;
+    let other = program(alloc, ADD_WORDS.code)?;
+    let kept = hex::encode(alloc, Sha256::digest(&good))?;
+    let seen = hex::encode(alloc, Sha256::digest(&other))?;
+    let line = format!(in alloc; "jet: program kept {kept} seen {seen}\n")?;
+    assert_query(
+        &rt,
+        &other,
+        &log_good,
+        COPY.as_bytes(),
+        Ending::refusal(5, &line),
+    )?;
+    let records = records(alloc, &COPY_FOUR, b"ABCD")?;
+    let wide = patched(alloc, &good, (72, b"\0\x20\0\0"))?;
+    let log_wide = log(alloc, &wide, 1, 1, &records)?;
+    assert_query(
+        &rt,
+        &wide,
+        &log_wide,
+        COPY.as_bytes(),
+        Ending::refusal(3, "jet: window 1\n"),
+    )?;
+    let two = with_two_headers(alloc, &good)?;
+    let log_two = log(alloc, &two, 1, 1, &records)?;
+    assert_query(&rt, &two, &log_two, COPY.as_bytes(), Ending::report(COPIED))
+}

@@ -1,0 +1,56 @@
+// Refuses one allocation of a program, for docs/MEMORY.md: preloaded, it answers no memory to the call of this number
+// (FAIL_ALLOC, counted from 1) among malloc, calloc, realloc, posix_memalign and aligned_alloc. Without FAIL_ALLOC it
+// refuses nothing, and at the end it prints on standard error how many calls there were.
+#define _GNU_SOURCE
+#include <dlfcn.h>
+#include <errno.h>
+#include <stdio.h>
+#include <stdlib.h>
+
+static unsigned long calls;
+
+static int is_refused(void) {
+    const char *number = getenv("FAIL_ALLOC");
+    calls++;
+    return number && calls == strtoul(number, 0, 10);
+}
+
+#define NEXT(name) ((__typeof__(&name))dlsym(RTLD_NEXT, #name))
+
+void *malloc(size_t size) {
+    static void *(*next)(size_t);
+    if (!next) next = NEXT(malloc);
+    return is_refused() ? NULL : next(size);
+}
+
+void *calloc(size_t count, size_t size) {
+    static void *(*next)(size_t, size_t);
+    if (!next) next = NEXT(calloc);
+    return is_refused() ? NULL : next(count, size);
+}
+
+void *realloc(void *block, size_t size) {
+    static void *(*next)(void *, size_t);
+    if (!next) next = NEXT(realloc);
+    return is_refused() ? NULL : next(block, size);
+}
+
+void *aligned_alloc(size_t align, size_t size) {
+    static void *(*next)(size_t, size_t);
+    if (!next) next = NEXT(aligned_alloc);
+    return is_refused() ? NULL : next(align, size);
+}
+
+int posix_memalign(void **block, size_t align, size_t size) {
+    static int (*next)(void **, size_t, size_t);
+    if (!next) next = NEXT(posix_memalign);
+    return is_refused() ? ENOMEM : next(block, align, size);
+}
+
+__attribute__((destructor)) static void tell(void) {
+    if (!getenv("FAIL_ALLOC")) {
+        char line[64];
+        int length = snprintf(line, sizeof line, "allocations: %lu\n", calls);
+        if (length > 0) fwrite(line, 1, (size_t)length, stderr);
+    }
+}
