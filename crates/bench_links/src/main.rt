@@ -1,0 +1,114 @@
+//! How fast two threads pass messages: over the ring of `epoch_link`, over `rtrb`, and through a queue under a lock.
+//!
+//! Standard output tells how many messages came in order, standard error how long they took. An argument is the
+//! number of rounds, of which the fastest counts.
+#![tactic(auto)]
+
+mod ends;
+
+use ends::{Locked, Sends, Takes};
+use rtrb::RingBuffer;
+use std::alloc::{AllocError, Global};
+use std::collections::VecDeque;
+use std::sync::{Mutex, Wait};
+use std::thread::Threads;
+use std::time::{Clock, Duration, Instant};
+use std::{env, io, thread};
+
+const MESSAGES: u64 = 1_000_000;
+
+const CAPACITY: u32 = 1024;
+
+// Tries until the message is sent.
+fn send_one<S: Sends>(sender: &mut S, number: u64) {
+    for _ in 0..u64::MAX {
+        if sender.send(number) {
+            return;
+        }
+        thread::yield_now();
+    }
+}
+
+// Tries until a message comes.
+fn take_one<T: Takes>(taker: &mut T) -> Option<u64> {
+    for _ in 0..u64::MAX {
+        if let Some(number) = taker.take() {
+            return Some(number);
+        }
+        thread::yield_now();
+    }
+    None
+}
+
+fn send_all<S: Sends + Drop>(mut sender: S) {
+    for number in 0..MESSAGES {
+        send_one(&mut sender, number);
+    }
+}
+
+// How many messages came in order.
+fn take_all<T: Takes + Drop>(mut taker: T) -> u64 {
+    let mut in_order = 0u64;
+    for number in 0..MESSAGES {
+        if take_one(&mut taker) == Some(number) {
+            in_order = in_order.saturating_add(1);
+        }
+    }
+    in_order
+}
+
+// Passes all messages from one thread to another, and answers how many came in order and how long it took.
+fn pass<R: Threads + Clock, S: Sends + Send + Drop, T: Takes + Send + Drop>(
+    rt: &R,
+    sender: S,
+    taker: T,
+) -> io::Result<(u64, Duration)> {
+    let start = Instant::now(rt)?;
+    let ((), in_order) = thread::join(rt, move || send_all(sender), move || take_all(taker));
+    Ok((in_order, start.elapsed(rt)?))
+}
+
+fn over_ring<R: Threads + Clock>(rt: &R, alloc: Global) -> io::Result<(u64, Duration)> {
+    let Ok((producer, consumer)) = epoch_link::ring(alloc, CAPACITY) else {
+        return Err(AllocError.into());
+    };
+    pass(rt, producer, consumer)
+}
+
+fn over_rtrb<R: Threads + Clock>(rt: &R, alloc: Global) -> io::Result<(u64, Duration)> {
+    let (producer, consumer) = RingBuffer::new(alloc, CAPACITY as usize)?;
+    pass(rt, producer, consumer)
+}
+
+fn under_lock<R: Threads + Clock + Wait + Sync>(
+    rt: &R,
+    alloc: Global,
+) -> io::Result<(u64, Duration)> {
+    let queue = Mutex::new(VecDeque::with_capacity(alloc, CAPACITY as usize)?);
+    let queue = &queue;
+    pass(rt, Locked { rt, queue }, Locked { rt, queue })
+}
+
+fn main(rt: HostRuntime) -> io::Result<()> {
+    let alloc = rt.alloc();
+    let mut rounds = 1u32;
+    if let Some(word) = env::args(&rt)?.nth(1) {
+        rounds = word.as_str().parse().unwrap_or(1);
+    }
+    let mut fastest = [Duration::MAX; 3];
+    for _ in 0..rounds {
+        let passed = [
+            over_ring(&rt, alloc)?,
+            over_rtrb(&rt, alloc)?,
+            under_lock(&rt, alloc)?,
+        ];
+        for (best, (in_order, took)) in fastest.iter_mut().zip(&passed) {
+            println!(rt; "{in_order} messages in order")?;
+            *best = (*best).min(*took);
+        }
+    }
+    for (name, best) in ["ring", "rtrb", "lock"].iter().zip(&fastest) {
+        eprintln!(rt; "{name}: {} us", best.as_micros())?;
+    }
+    Ok(())
+}

@@ -1,0 +1,6 @@
+pub mod Link
+pub mod ListLink
+pub mod Words
+pub mod Ring
+pub mod Ends
+pub mod Kept

@@ -1,0 +1,12 @@
+//! Links between epochs: bounded queues whose two ends may lie in two threads.
+#![tactic(auto)]
+
+mod link;
+mod list_link;
+mod ring_link;
+#[cfg(test)]
+mod tests;
+
+pub use link::{Inlet, Outlet, Popped, Pushed};
+pub use list_link::ListLink;
+pub use ring_link::{Consumer, Left, Producer, close, ring};

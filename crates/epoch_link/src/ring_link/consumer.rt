@@ -1,0 +1,74 @@
+// The end of a ring that pops.
+ghost use Rattle.std.specs.Prelude.{◌≡◌, ◌≢◌, ◌+◌, ◌≤◌, [], ◌∷◌, ◌++◌, length, true};
+ghost use Rattle.epoch_link.specs.Link.{OnItem, IfItem, OnEmpty, Rose};
+ghost use Rattle.epoch_link.specs.Words.{word_of};
+ghost use Rattle.epoch_link.specs.Ends.{AtPop};
+
+use crate::link::{Inlet, Popped};
+use crate::ring_link::end::End;
+use std::marker::Model;
+
+/// The end of a ring that pops. It may move to another thread, and there is no other one.
+#[derive(Drop)]
+pub struct Consumer<T: Drop> {
+    pub(crate) end: End<T>,
+}
+
+impl<T: Drop> Model for Consumer<T> {
+    ghost use Rattle.std.specs.Prelude.{None};
+    ghost use Rattle.epoch_link.specs.Ends.{Consuming, AtPop};
+
+    ghost Value = { Consuming T };
+
+    ghost view = { λ c. record {
+      link = c.end.seat.table_id;
+      capacity = c.end.capacity;
+      got = c.end.seat.me.0.got;
+      refusals = c.end.refusals;
+      tail = c.end.seat.me.0.tail;
+      looks = c.end.seat.me.0.pop_looks;
+    } };
+
+    ghost invariant = { λ c. AtPop c.end.seat.me c.end.capacity c.end.count c.end.slot None };
+}
+
+impl<T: Drop> Consumer<T> {
+    /// Takes the next item, or answers Empty where the ring held none at this call's one look at the word tail.
+    ///
+    /// It waits for nothing, and takes no memory.
+    pub fn pop(&mut self) -> Popped<T>
+        ensures one_look { (self.new.looks ≡ self.old.looks + 1) × (self.new.link ≡ self.old.link) × (self.new.capacity ≡ self.old.capacity) }
+        ensures item { IfItem result (λ x. (self.new.got ≡ self.old.got ++ x ∷ []) × (self.new.refusals ≡ self.old.refusals)) }
+        ensures found { OnItem result (self.new.tail ≢ word_of (length self.old.got)) }
+        ensures empty { OnEmpty result ((self.new.tail ≡ word_of (length self.old.got)) × (self.new.got ≡ self.old.got)) }
+        ensures later { self.old.refusals ≤ self.new.refusals }
+        ensures counted { OnEmpty result (Rose self.old.refusals self.new.refusals) }
+    {
+        let tail = self.end.load_tail();
+        if tail == self.end.count {
+            self.end.refusals = self.end.refusals.saturating_add(1);
+            return Popped::Empty;
+        }
+        Popped::Item(self.end.receive())
+    }
+}
+
+impl<T: Drop> Inlet<T> for Consumer<T> {
+    ghost use Rattle.std.specs.Prelude.{[], None};
+
+    ghost got = { λ c. c.got };
+
+    ghost link = { λ c. c.link };
+
+    ghost capacity = { λ c. c.capacity };
+
+    ghost other = { λ _. [] };
+
+    ghost refusals = { λ c. c.refusals };
+
+    ghost ready = { λ _. None };
+
+    fn pop(&mut self) -> Popped<T> {
+        Consumer::pop(self)
+    }
+}
