@@ -1,0 +1,20 @@
+//! Tasks on a board, which workers give turns until each is ended.
+//!
+//! A board is a queue of tasks that several workers share. [`Board::work`] answers every task that
+//! was handed in, each once, in order of number, each ended and led from its own start, whatever the
+//! number of workers and however their steps fall.
+#![tactic(auto)]
+
+mod board;
+mod filling;
+mod pool;
+mod steps;
+mod task;
+#[cfg(test)]
+mod tests;
+mod turning;
+mod view;
+mod worker;
+
+pub use board::{Board, MOST_TASKS, MOST_WORKERS};
+pub use task::{Task, Turn};
