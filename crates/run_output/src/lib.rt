@@ -1,0 +1,11 @@
+//! What is written of a run from its log alone: its numbers as five lines, and the bytes of an output
+//! channel.
+#![tactic(auto)]
+
+mod output;
+mod summary;
+#[cfg(test)]
+mod tests;
+
+pub use output::output_on;
+pub use summary::{Numbers, summary_text};
