@@ -1,0 +1,7 @@
+pub mod Entries
+pub mod Tapes
+pub mod Transfers
+pub mod Sources
+pub mod Steps
+pub mod Runs
+pub mod Captures

@@ -1,0 +1,17 @@
+//! Why there is no log of a run.
+
+use thiserror::Error;
+
+/// Why [`crate::capture`] gave no log.
+#[derive(Debug, PartialEq, Drop, Error)]
+pub enum CaptureFault {
+    /// A window of these pages can't hold the image. Nothing was run.
+    #[error("the window can't hold the image")]
+    Window,
+    /// The log of the whole run has this many bytes, which are more than 2^26.
+    #[error("the log has {0} bytes")]
+    LogTooLong(u64),
+    /// Want of memory.
+    #[error("out of memory")]
+    NoMemory,
+}

@@ -1,0 +1,70 @@
+//! Capturing a run.
+
+ghost use Rattle.std.specs.Prelude.{◌≡◌, ◌≤◌, ◌^◌, ◌↔◌, None, Ok, Err, length, IfOk, IfErr};
+ghost use Rattle.std.specs.List.{All};
+ghost use Rattle.elf_model.specs.Image.{image as image_of_file};
+ghost use Rattle.elf_model.specs.Window.{start_of};
+ghost use Rattle.replay_model.specs.Fits.{Fits};
+ghost use Rattle.call_record.specs.Sources.{contents};
+ghost use Rattle.call_record.specs.Captures.{IsCaptured, IsCause};
+
+use crate::fault::CaptureFault;
+use crate::recorder::Recorder;
+use crate::source::Source;
+use elf_image::Image;
+use outer_io::Clock;
+use replay_log::Log;
+use rv_machine::{Machine, MachineFault};
+use sha2::{Digest, Sha256};
+use std::alloc::Global;
+
+/// Runs a program, of which `image` is the image, and gives the log of the run.
+///
+/// The window has this many pages of 4096 bytes, 1 to 4096. There are at most 16 inputs, each of at most 2^26 bytes:
+/// input c is what the guest reads on channel c. A read gets the next bytes of its channel, at most as many as it asks
+/// for and at most `piece`. The clock is asked once for each clock call of the guest, and at no other time. The run is
+/// cut off once `steps` steps are done.
+///
+/// The log fits the program. The faults are: `Window`, exactly where the window can't hold the image; and
+/// `LogTooLong`, where the log of the whole run has more than 2^26 bytes, with their number. Else want of memory is
+/// `NoMemory`.
+pub fn capture<K: Clock>(
+    alloc: Global,
+    program: &[u8],
+    image: &Image,
+    pages: u32,
+    inputs: &[Vec<u8>],
+    clock: &mut K,
+    piece: u32,
+    steps: u32,
+) -> Result<Log, CaptureFault>
+    requires image { image_of_file program.now ≡ Ok image.now }
+    requires some { 1 ≤ pages }
+    requires most { pages ≤ 4096 }
+    requires few { length inputs.now ≤ 16 }
+    requires short { All (λ v. length v.items ≤ 2 ^ 26) inputs.now }
+    ensures captured { IfOk result (IsCaptured (record { program = program.now; pages = pages; inputs = contents inputs.now; piece = piece; steps = steps }) (K.answers clock.old) (K.answers clock.new)) }
+    ensures fits { IfOk result (Fits program.now) }
+    ensures window { (result ≡ Err CaptureFault.Window) ↔ (start_of image.now pages ≡ None) }
+    ensures cause { IfErr result (IsCause (record { program = program.now; pages = pages; inputs = contents inputs.now; piece = piece; steps = steps }) image.now (K.answers clock.old) (K.answers clock.new)) }
+{
+    // The contract of `segments` says how they lie.
+    let _segments = image.segments();
+    let machine = match Machine::new(alloc, image, pages) {
+        Ok(machine) => machine,
+        Err(MachineFault::Window) => return Err(CaptureFault::Window),
+        Err(MachineFault::NoMemory) => return Err(CaptureFault::NoMemory),
+    };
+    let mut recorder = Recorder::new(alloc, machine);
+    let source = Source { inputs, piece };
+    let end = match recorder.run(alloc, &source, clock, steps) {
+        Ok(end) => end,
+        Err(_) => return Err(CaptureFault::NoMemory),
+    };
+    let Recorder {
+        machine: _,
+        offsets: _,
+        tape,
+    } = recorder;
+    tape.into_log(pages, inputs.len() as u32, Sha256::digest(program), end)
+}

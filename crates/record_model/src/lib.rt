@@ -1,0 +1,6 @@
+//! Recordings as definitions: the one log that recording a run gives.
+//!
+//! What there is to read stands in specs/. proofs/ has worked examples, which the checker computes.
+#![tactic(auto)]
+
+pub mod laws;
