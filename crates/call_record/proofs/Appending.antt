@@ -1,12 +1,8 @@
 -- One more record behind others.
-use Rattle.std.proofs.Common.{◌≡◌, ℕ, ◌+◌, ◌≤◌, ◌<◌, ◌⊎◌, inl, inr, List, [], ◌∷◌, ◌++◌, length, get_or, refl, arith, ap, sym, ◌∙◌, subst, append_assoc, append-nil, zero-add, add_assoc, length-append, get_or-set_same, get_or-set_other}
-use Rattle.std.specs.Prelude.{◌==◌, if◌then◌else◌}
+use Rattle.std.proofs.Common.{◌≡◌, ℕ, ◌+◌, ◌≤◌, List, [], ◌∷◌, ◌++◌, length, refl, arith, ap, sym, ◌∙◌, subst, append_assoc, append-nil, zero-add, add_assoc, length-append}
 use Rattle.std.specs.List.{AllByRecursion, flat_map}
-use Rattle.std.proofs.lemmas.Bool.{cases_lt, cases_eq, eq-eqb, ne_eqb}
-use Rattle.std.proofs.lemmas.List.{set_past}
 use Rattle.log_model.specs.declared.CallRecord.{CallRecord}
 use Rattle.log_model.specs.Logs.{at_of, Rise, least_after, record_text}
-use Rattle.replay_model.specs.Run.{counted}
 use Rattle.record_model.specs.Recorded.{AllReadOn, ReadsOn, total_read_on, read_on, clock_values, clock_values_of}
 
 pub all_push : (P : CallRecord → Type 0) (rs : List CallRecord) (r : CallRecord) → AllByRecursion P rs → P r → AllByRecursion P (rs ++ r ∷ [])
@@ -41,21 +37,3 @@ text_push (x ∷ xs) r =
     ∙ ap (λ n. length (record_text x) + n) (text_push xs r)
     ∙ sym (add_assoc (length (record_text x)) (length (flat_map record_text xs)) (length (record_text r)))
     ∙ ap (λ n. n + length (record_text r)) (sym (length-append (record_text x) (flat_map record_text xs)))
-
--- ---- counts
-
-nothing_past : (counts : List ℕ) (channel n : ℕ) → (0 < n → channel < length counts) → length counts ≤ channel → (0 < n) ⊎ (n ≤ 0) → n ≡ 0
-nothing_past counts channel n h b (inl some) = let below = h some in absurd (omega arith)
-nothing_past counts channel n h b (inr none) = omega arith
-
-counted_by : (counts : List ℕ) (channel n c : ℕ) → (0 < n → channel < length counts) → (channel < length counts) ⊎ (length counts ≤ channel) → (channel ≡ c) ⊎ (channel ≡ c → ⊥) → get_or (counted counts channel n) c 0 ≡ get_or counts c 0 + (if channel == c then n else 0)
-counted_by counts channel n c h (inl b) (inl e) = rw (sym e, eq-eqb channel channel refl, get_or-set_same counts channel (get_or counts channel 0 + n) 0 b) refl
-counted_by counts channel n c h (inr b) (inl e) =
-    let none : n ≡ 0 = nothing_past counts channel n h b (cases_lt 0 n) in
-    rw (set_past counts channel (get_or counts channel 0 + n) b, eq-eqb channel c e, none) (omega arith)
-counted_by counts channel n c h (inl b) (inr e) = rw (get_or-set_other counts channel c (get_or counts channel 0 + n) 0 (λ i. e (sym i)), ne_eqb channel c e) (omega arith)
-counted_by counts channel n c h (inr b) (inr e) = rw (get_or-set_other counts channel c (get_or counts channel 0 + n) 0 (λ i. e (sym i)), ne_eqb channel c e) (omega arith)
-
--- a channel's count goes up by what the call moves, and the others stay
-pub counted_on : (counts : List ℕ) (channel n c : ℕ) → (0 < n → channel < length counts) → get_or (counted counts channel n) c 0 ≡ get_or counts c 0 + (if channel == c then n else 0)
-counted_on counts channel n c h = counted_by counts channel n c h (cases_lt channel (length counts)) (cases_eq channel c)

@@ -15,7 +15,7 @@ use Rattle.replay_model.specs.declared.Field.TheVariants as field
 use Rattle.replay_model.specs.Run.{Moment, start, advance, answered, after_outcome}
 use Rattle.replay_model.specs.Comparison.{Compared, compared, first_different, PlainStep, CallOf, EndOf, expected, kept_event, call_event, seen_event, fields, trap_kind, difference, difference_at, or_later, divergence_from, divergence, IsLawful}
 use Rattle.replay_model.proofs.Agreement.{expects_plain_at_end, expects_plain_before, expects_call, expects_end}
-use Rattle.replay_model.proofs.Track.{moment}
+use Rattle.replay_model.proofs.Track.{moment, least_rises}
 use Rattle.record_model.specs.Recorded.{AllReadOn, ReadsOn}
 use Rattle.call_record.specs.Steps.{IsEndIn}
 use Rattle.call_record.proofs.Appending.{all_push, rise_push, least_push, reads_push}
@@ -80,10 +80,6 @@ later_rise t (r ∷ rs) rise = let first = rise.0 in (omega arith, rise.1)
 later_least : (t n : ℕ) (more : List CallRecord) → least_after (t + 1) more ≤ n → least_after t more ≤ n
 later_least t n [] h = omega arith
 later_least t n (r ∷ rs) h = h
-
-least_rises : (t : ℕ) (more : List CallRecord) → Rise t more → t ≤ least_after t more
-least_rises t [] rise = omega arith
-least_rises t (r ∷ rs) rise = let later = least_rises (at_of r + 1) rs rise.1 in let first = rise.0 in omega arith
 
 expects_plain : (t : ℕ) (more : List CallRecord) (end : RunEnd) → Rise (t + 1) more → least_after (t + 1) more ≤ end_at end → expected t more end ≡ PlainStep
 expects_plain t [] end rise last = expects_plain_at_end t end (omega arith)

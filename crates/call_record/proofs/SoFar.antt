@@ -25,7 +25,8 @@ use Rattle.call_record.specs.Runs.{IsFresh, IsRunOf, IsWhole}
 use Rattle.call_record.specs.declared.source.Source.{Source}
 use Rattle.call_record.specs.declared.tape.Tape.{Tape}
 use Rattle.call_record.specs.declared.recorder.Recorder.{Recorder}
-use Rattle.call_record.proofs.Appending.{total_push, values_push, text_push, counted_on}
+use Rattle.call_record.proofs.Appending.{total_push, values_push, text_push}
+use Rattle.replay_model.proofs.Offsets.{counted_on}
 use Rattle.call_record.proofs.Continuing.{IsRecordedTo, recorded_none, recorded_plain, recorded_call, recorded_end, stop_agrees, same_state}
 use Rattle.call_record.proofs.Calls.{read_channel, got_within}
 use Rattle.call_record.proofs.Windows.{overwritten_length, overwritten_none, window_start, step_keeps}

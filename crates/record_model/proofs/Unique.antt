@@ -17,8 +17,8 @@ use Rattle.replay_model.specs.Comparison.{Compared, compared, first_different, P
 use Rattle.replay_model.specs.Comparison.{result as result_compared}
 use Rattle.elf_model.specs.Image.{image}
 use Rattle.replay_model.specs.Fits.{start_in_image}
-use Rattle.replay_model.proofs.Agreement.{first_agrees, rest_agrees, expects_plain_at_end, expects_plain_before, expects_call, expects_end, plain_agrees, call_agrees, exit_agrees, trap_agrees, agrees_at, later_agrees, kind_by}
-use Rattle.replay_model.proofs.Track.{moment, agrees_with}
+use Rattle.replay_model.proofs.Agreement.{first_agrees, rest_agrees, expects_plain_at_end, expects_plain_before, expects_call, expects_end, plain_agrees, call_agrees, exit_agrees, trap_agrees, agrees_at, later_agrees, kind_by, event_by}
+use Rattle.replay_model.proofs.Track.{moment, agrees_with, least_rises}
 use Rattle.replay_model.proofs.Transfers.{same_arguments, write_held, length_held}
 use Rattle.record_model.specs.Recorded.{AllReadOn, ReadsOn, GetsPart, part_of, total_read_on, clock_values, EndsBy, IsRecorded}
 
@@ -194,10 +194,6 @@ record IsRest (inputs : List (List ℕ)) (piece steps : ℕ) (log : Log) (before
   pub written : List ℕ
   pub agrees : divergence_from log (end_at log.end + 1 - t) (moment t s left read written) ≡ None
 
-least_rises : (t : ℕ) (left : List CallRecord) → Rise t left → t ≤ least_after t left
-least_rises t [] rise = omega arith
-least_rises t (r ∷ rs) rise = let later = least_rises (at_of r + 1) rs rise.1 in let first = rise.0 in omega arith
-
 -- nothing differs now, nor from the next moment on
 now_agrees : (log : Log) (t : ℕ) (m : Moment) → t ≤ end_at log.end → divergence_from log (end_at log.end + 1 - t) m ≡ None → (difference log m ≡ None) × (divergence_from log (end_at log.end + 1 - (t + 1)) (advance m) ≡ None)
 now_agrees log t m below d =
@@ -331,12 +327,6 @@ next_by inputs piece steps log before (r ∷ rs) t s rest = by (cases_lt t (at_o
         inr (inl (next_call inputs piece steps log before r rs t s (omega arith) rest (agrees_with log m (CallOf r) (expects_call t r rs log.end late) both.0) both.1))
 
 -- ---- two logs of one run
-
-event_by : (r : CallRecord) → call_event (kind_by r) ≡ kept_event (CallOf r)
-event_by (Read at args result bytes) = refl
-event_by (Write at args result bytes) = refl
-event_by (Clock at value) = refl
-event_by (Other at number) = refl
 
 no_exit : (r : CallRecord) → kind_by r ≡ kind.Exit → ⊥
 no_exit (Read at args result bytes) e = cc

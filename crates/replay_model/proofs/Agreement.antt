@@ -116,7 +116,8 @@ kind_by (Write at args result bytes) = kind.Write
 kind_by (Clock at value) = kind.Clock
 kind_by (Other at number) = kind.Other
 
-event_by : (r : CallRecord) → call_event (kind_by r) ≡ kept_event (CallOf r)
+-- a record is expected as a call of its kind
+pub event_by : (r : CallRecord) → call_event (kind_by r) ≡ kept_event (CallOf r)
 event_by (Read at args result bytes) = refl
 event_by (Write at args result bytes) = refl
 event_by (Clock at value) = refl

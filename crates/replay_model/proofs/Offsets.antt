@@ -85,7 +85,8 @@ counted_by counts channel n c h (inr b) (inl e) =
 counted_by counts channel n c h (inl b) (inr e) = rw (get_or-set_other counts channel c (get_or counts channel 0 + n) 0 (λ i. e (sym i)), ne_eqb channel c e) (omega arith)
 counted_by counts channel n c h (inr b) (inr e) = rw (get_or-set_other counts channel c (get_or counts channel 0 + n) 0 (λ i. e (sym i)), ne_eqb channel c e) (omega arith)
 
-counted_on : (counts : List ℕ) (channel n c : ℕ) → (0 < n → channel < length counts) → get_or (counted counts channel n) c 0 ≡ get_or counts c 0 + (if channel == c then n else 0)
+-- a channel's count goes up by what the call moves, and the others stay
+pub counted_on : (counts : List ℕ) (channel n c : ℕ) → (0 < n → channel < length counts) → get_or (counted counts channel n) c 0 ≡ get_or counts c 0 + (if channel == c then n else 0)
 counted_on counts channel n c h = counted_by counts channel n c h (cases_lt channel (length counts)) (cases_eq channel c)
 
 reads_called : (log : Log) (m : Moment) (r : CallRecord) (rs : List CallRecord) (c : ℕ) → log.inputs ≤ 16 → IsRecord r → length m.read ≡ 16 → CallAgrees m log.inputs r → get_or (answered m r).read c 0 ≡ get_or m.read c 0 + read_in c (Some (call_seen m (r ∷ rs)))

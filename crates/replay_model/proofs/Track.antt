@@ -17,6 +17,11 @@ use Rattle.replay_model.specs.Summary.{read_by, written_by}
 use Rattle.replay_model.specs.Track.{still_read, still_written, HasRoom, IsOnTrack}
 use Rattle.replay_model.proofs.Agreement.{expects_plain_at_end, expects_plain_before, expects_call, plain_agrees, call_agrees, agrees_at, later_agrees}
 
+-- records that rise from a time on end no earlier
+pub least_rises : (t : ℕ) (rs : List CallRecord) → Rise t rs → t ≤ least_after t rs
+least_rises t [] rise = omega arith
+least_rises t (r ∷ rs) rise = let later = least_rises (at_of r + 1) rs rise.1 in let first = rise.0 in omega arith
+
 abbrev pub moment : ℕ → State → List CallRecord → List ℕ → List ℕ → Moment
 moment t s left read written = record { time = t; state = s; left = left; read = read; written = written }
 

@@ -6,11 +6,11 @@ use Rattle.isa.specs.Machine.{State}
 use Rattle.log_model.specs.declared.CallRecord.{CallRecord}
 use Rattle.log_model.specs.declared.RunEnd.{RunEnd}
 use Rattle.log_model.specs.declared.RunEnd.TheVariants.{Exit, Trap, Limit}
-use Rattle.log_model.specs.Logs.{Log, IsEnd, Rise, least_after, at_of, end_at, steps_by}
+use Rattle.log_model.specs.Logs.{Log, IsEnd, at_of, end_at, steps_by}
 use Rattle.replay_model.specs.Run.{Moment}
 use Rattle.replay_model.specs.Comparison.{Compared, Expected, PlainStep, CallOf, EndOf, expected, first_different, difference, difference_at}
 use Rattle.replay_model.specs.Track.{IsOnTrack}
-use Rattle.replay_model.proofs.Track.{moment}
+use Rattle.replay_model.proofs.Track.{moment, least_rises}
 use Rattle.replayer.specs.Steps.{compares, is_limit, expected_of}
 use Rattle.replayer.specs.declared.run.Expected.{Expected as Expects}
 use Rattle.replayer.specs.declared.run.Expected.TheVariants as expects
@@ -32,10 +32,6 @@ end_due_by t (r ∷ rs) end e h = absurd (plain_or_call (nat_lt t (at_of r)) r e
 -- the end comes at its time
 pub end_due : (log : Log) (m : Moment) (x : Expected) (e : RunEnd) → x ≡ expected m.time m.left log.end → x ≡ EndOf e → end_at log.end ≤ m.time
 end_due log m x e h i = end_due_by m.time m.left log.end e (sym h ∙ i)
-
-least_rises : (t : ℕ) (rs : List CallRecord) → Rise t rs → t ≤ least_after t rs
-least_rises t [] h = omega arith
-least_rises t (r ∷ rs) h = let later = least_rises (at_of r + 1) rs h.1 in let first = h.0 in omega arith
 
 end_not_due : (b : Bool) (end : RunEnd) → ((e : RunEnd) → (if b then PlainStep else EndOf end) ≡ EndOf e → ⊥) → b ≡ true
 end_not_due true end h = refl

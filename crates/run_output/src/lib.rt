@@ -8,4 +8,4 @@ mod summary;
 mod tests;
 
 pub use output::output_on;
-pub use summary::{Numbers, summary_text};
+pub use summary::summary_text;

@@ -6,18 +6,8 @@ ghost use Rattle.run_output.specs.Summary.{number_line, trap_line, end_line, num
 use itoa::Buffer;
 use log_model::RunEnd;
 use no_memory::NoMemory;
+use replayer::ReplaySummary;
 use std::alloc::Global;
-
-/// The numbers of a run: the steps, the calls before the end, the bytes that they read and wrote, and how the
-/// run ended.
-#[derive(Clone, Copy, Debug, PartialEq, Eq)]
-pub struct Numbers {
-    pub steps: u64,
-    pub calls: u64,
-    pub read: u64,
-    pub written: u64,
-    pub end: RunEnd,
-}
 
 /// The length of the longest text: its names, blanks and line feeds, four numbers of 20 digits and two of 10.
 const MOST_BYTES: usize = 140;
@@ -61,7 +51,7 @@ fn push_end(out: &mut Vec<u8>, end: RunEnd) -> Result<(), NoMemory>
 /// The five lines of these numbers: `steps N`, `calls N`, `read N`, `written N`, and `end exit CODE`,
 /// `end trap KIND PC` or `end limit`, each with a line feed. All numbers are decimals. It gives up with
 /// NoMemory alone.
-pub fn summary_text(alloc: Global, numbers: &Numbers) -> Result<Vec<u8>, NoMemory>
+pub fn summary_text(alloc: Global, numbers: &ReplaySummary) -> Result<Vec<u8>, NoMemory>
     ensures { IfOk result (λ text. text.items ≡
         numbers_text numbers.now.steps numbers.now.calls numbers.now.read numbers.now.written
         numbers.now.end) }

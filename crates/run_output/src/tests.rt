@@ -1,12 +1,13 @@
-use crate::{Numbers, output_on, summary_text};
+use crate::{output_on, summary_text};
 use log_model::{CallRecord, Data, RunEnd};
+use replayer::ReplaySummary;
 use std::alloc::Global;
 use std::test::Fail;
 
 /// Numbers, and their text.
-static TEXTS: [(Numbers, &'static str); 3] = [
+static TEXTS: [(ReplaySummary, &'static str); 3] = [
     (
-        Numbers {
+        ReplaySummary {
             steps: 12,
             calls: 2,
             read: 4,
@@ -16,7 +17,7 @@ static TEXTS: [(Numbers, &'static str); 3] = [
         "steps 12\ncalls 2\nread 4\nwritten 4\nend exit 0\n",
     ),
     (
-        Numbers {
+        ReplaySummary {
             steps: 0,
             calls: 0,
             read: 0,
@@ -30,7 +31,7 @@ static TEXTS: [(Numbers, &'static str); 3] = [
         "steps 0\ncalls 0\nread 0\nwritten 0\nend trap 2 65536\n",
     ),
     (
-        Numbers {
+        ReplaySummary {
             steps: 4294967295,
             calls: 18446744073709551615,
             read: 1,

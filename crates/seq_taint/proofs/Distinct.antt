@@ -9,7 +9,7 @@ use Rattle.flow_model.specs.declared.CallSeen.{CallSeen}
 use Rattle.flow_model.specs.declared.SinkByte.{SinkByte}
 use Rattle.replay_model.specs.Offsets.{call_at}
 use Rattle.report_model.specs.Query.{Query, has_sink}
-use Rattle.report_model.specs.Rows.{Sink, Row, row, written_byte, written_by, written_in, written_from, rows_as_written}
+use Rattle.report_model.specs.Rows.{Sink, row, written_byte, written_by, written_in, written_from, rows_as_written}
 use Rattle.sink_collect.specs.Distinct.{IsApartFrom, AreDistinct}
 
 -- the writes of a trace follow each other on each channel

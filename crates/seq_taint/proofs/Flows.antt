@@ -1,5 +1,5 @@
 -- The targets and origins of an instruction that fits are locations.
-use Rattle.std.proofs.Common.{◌≡◌, ℕ, ◌+◌, ◌<◌, ◌^◌, ◌==◌, nat_lt, List, [], ◌∷◌, ◌++◌, arith, Bool, true, false, if◌then◌else◌}
+use Rattle.std.proofs.Common.{ℕ, ◌+◌, ◌<◌, ◌==◌, nat_lt, List, [], ◌∷◌, ◌++◌, arith, Bool, true, false, if◌then◌else◌}
 use Rattle.std.specs.Ordering.{int_eq}
 use Rattle.std.specs.declared.cmp.Ordering.{Ordering}
 use Rattle.std.specs.declared.cmp.Ordering.TheVariants.{Less, Equal, Greater}
@@ -14,7 +14,7 @@ use Rattle.flow_model.specs.declared.Loc.TheVariants.{Reg, Mem}
 use Rattle.flow_model.specs.declared.Rule.{Rule}
 use Rattle.flow_model.specs.declared.Rule.TheVariants.{Copy, Compute}
 use Rattle.flow_model.specs.Sets.{union, inserted, placed, loc_cmp}
-use Rattle.flow_model.specs.Flow.{Target, wrap, lane, lanes, to_register, to_memory, nothing, computed, in_first_lane, loaded_byte, sign_extended_byte, signed_load, moved_or, each_lane, all_lanes, shifted_lanes, flow, cleared}
+use Rattle.flow_model.specs.Flow.{Target, wrap, lane, lanes, to_register, nothing, computed, in_first_lane, loaded_byte, signed_load, moved_or, each_lane, flow, cleared}
 use Rattle.seq_taint.specs.Locations.{IsLocation, AreLocations, IsTable}
 
 either : (b : Bool) (xs ys : List Loc) → AreLocations xs → AreLocations ys → AreLocations (if b then xs else ys)

@@ -1,5 +1,5 @@
 -- What a shadow keeps after one step of a trace.
-use Rattle.std.proofs.Common.{◌≡◌, ℕ, zero, suc, ◌+◌, List, [], ◌∷◌, refl, ap, ap₂, sym, ◌∙◌, Bool, true, false, if◌then◌else◌, add-one}
+use Rattle.std.proofs.Common.{◌≡◌, ℕ, ◌+◌, List, [], ◌∷◌, refl, ap, ap₂, sym, ◌∙◌, Bool, true, false, if◌then◌else◌, add-one}
 use Rattle.std.specs.Prelude.{Option, Some, None}
 use Rattle.isa.specs.Encodings.{Fits}
 use Rattle.flow_model.specs.declared.Loc.{Loc}

@@ -1,7 +1,6 @@
 -- A table of targets, one target after another.
-use Rattle.std.proofs.Common.{◌≡◌, ℕ, zero, suc, ◌+◌, List, [], ◌∷◌, map, drop, refl, arith, ap, sym, ◌∙◌, subst, Bool, true, false, cond, if◌then◌else◌, OnOk, Result}
-use Rattle.std.specs.Prelude.{Option, Some, None, slice_get}
-use Rattle.std.proofs.lemmas.Result.{on_ok_weaker}
+use Rattle.std.proofs.Common.{◌≡◌, ℕ, zero, suc, ◌+◌, List, [], ◌∷◌, map, drop, refl, arith, ap, sym, ◌∙◌, subst, Bool, true, false, if◌then◌else◌}
+use Rattle.std.specs.Prelude.{Some, slice_get}
 use Rattle.flow_model.specs.declared.Loc.{Loc}
 use Rattle.flow_model.specs.declared.SourceByte.{SourceByte}
 use Rattle.flow_model.specs.Flow.{Target, origins_by, loc_eq}

@@ -1,5 +1,5 @@
 -- What a shadow of registers and memory stands for.
-use Rattle.std.specs.Prelude.{◌≡◌, ℕ, ◌+◌, ◌*◌, nat_eq, List, [], slice_index_or, Option, Some, None}
+use Rattle.std.specs.Prelude.{◌≡◌, ◌+◌, ◌*◌, nat_eq, List, [], slice_index_or}
 use Rattle.std.specs.Option.{unwrap_or}
 use Rattle.std.specs.HashMap.{get}
 use Rattle.flow_model.specs.declared.Loc.{Loc}

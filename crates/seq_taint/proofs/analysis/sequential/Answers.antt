@@ -1,11 +1,11 @@
-use Rattle.std.proofs.Common.{◌≡◌, ℕ, ◌+◌, ◌++◌, List, arith, ap, sym, ◌∙◌, subst, take}
-use Rattle.std.specs.Prelude.{Option, Some}
+use Rattle.std.proofs.Common.{◌≡◌, ℕ, ◌+◌, ◌++◌, arith, ap, sym, ◌∙◌, subst, take}
+use Rattle.std.specs.Prelude.{Some}
 use Rattle.log_model.specs.Logs.{steps}
 use Rattle.flow_model.specs.Origins.{step_at, origins}
 use Rattle.replay_model.specs.Run.{start}
 use Rattle.replayer.specs.Jobs.{Job, trace_of}
 use Rattle.report_model.specs.Query.{policy_of}
-use Rattle.report_model.specs.Rows.{Row, written_in, written_from, rows_as_written}
+use Rattle.report_model.specs.Rows.{written_in, written_from, rows_as_written}
 use Rattle.replay_model.proofs.Offsets.{offsets_count, writes_apart}
 use Rattle.sink_collect.specs.Distinct.{AreDistinct}
 use Rattle.seq_taint.specs.Shadows.{Holds}

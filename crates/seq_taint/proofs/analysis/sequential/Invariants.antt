@@ -1,4 +1,4 @@
-use Rattle.std.proofs.Common.{◌≡◌, ◌≤◌, ◌-◌, ℕ, take}
+use Rattle.std.proofs.Common.{◌≡◌, ◌≤◌, ◌-◌, take}
 use Rattle.log_model.specs.Logs.{steps}
 use Rattle.flow_model.specs.Origins.{origins}
 use Rattle.replayer.specs.Jobs.{trace_of}

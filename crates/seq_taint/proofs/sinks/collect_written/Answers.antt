@@ -1,4 +1,4 @@
-use Rattle.std.proofs.Common.{◌≡◌, ap, sym, ◌∙◌, arith, ℕ, ◌+◌, ◌<◌, ◌^◌}
+use Rattle.std.proofs.Common.{ap, sym, ◌∙◌, arith, ◌+◌, ◌<◌, ◌^◌}
 use Rattle.seq_taint.proofs.Written.{passed_over, taken_up}
 use Rattle.seq_taint.proofs.sinks.collect_written.Goals as goal
 use Rattle.seq_taint.proofs.sinks.collect_written.Goals.{then-sink_has+in_ok-sink_set+in_ok-push, else-sink_has}

@@ -1,4 +1,4 @@
-use Rattle.std.proofs.Common.{◌≡◌, arith, ap, ◌∙◌, length, take, List, ℕ}
+use Rattle.std.proofs.Common.{arith, ap, ◌∙◌, take, List, ℕ}
 use Rattle.flow_model.specs.declared.SourceByte.{SourceByte}
 use Rattle.flow_model.specs.Sets.{union, source_cmp}
 use Rattle.seq_taint.proofs.Sources.{found_more}

@@ -1,4 +1,4 @@
-use Rattle.std.proofs.Common.{◌≡◌, arith, ap, ap₂, ◌∙◌, length, drop, ◌++◌, List}
+use Rattle.std.proofs.Common.{arith, ap, ap₂, ◌∙◌, ◌++◌, List}
 use Rattle.std.proofs.lemmas.List.{take_rest}
 use Rattle.flow_model.specs.declared.SourceByte.{SourceByte}
 use Rattle.seq_taint.proofs.Sources.{more_left, more_right, more_of_both, rest_of_left, rest_of_right}

@@ -1,4 +1,3 @@
-use Rattle.std.proofs.Common.{◌≡◌}
 use Rattle.std.proofs.lemmas.Result.{on_ok_weaker}
 use Rattle.seq_taint.proofs.Tables.{origins_located, with_first}
 use Rattle.seq_taint.proofs.shadow.Shadow.+assign_from.Goals as goal
