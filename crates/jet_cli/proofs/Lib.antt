@@ -1,3 +1,5 @@
-pub mod Judging
 pub mod Working
+pub mod Recording
+pub mod Answering
+pub mod Keeping
 pub mod Ending

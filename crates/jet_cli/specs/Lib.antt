@@ -1,5 +1,6 @@
 pub mod Words
-pub mod Outcome
 pub mod Causes
+pub mod Hearing
+pub mod Writing
+pub mod Ending
 pub mod Statuses
-pub mod Work

@@ -1,10 +1,11 @@
 //! `jet` answers, of a recorded run, from which input bytes each output byte came.
 #![tactic(auto)]
 
-mod files;
+mod answer;
+mod command;
 mod jet;
 mod laws;
-mod query;
+mod record;
 #[cfg(test)]
 mod tests;
 mod work;

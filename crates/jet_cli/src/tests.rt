@@ -1,8 +1,10 @@
-//! Queries over files in memory, from their words to the report.
+//! Commands over files in memory, from their words to what they write.
 
 mod guests;
 mod outside;
+mod record;
 mod refusals;
+mod runs;
 
 use crate::jet::jet;
 use guests::{
@@ -18,6 +20,15 @@ use std::test::Fail;
 const COPY: &str = "rule copy\nsource all\nsink all\n";
 
 const COMPUTE: &str = "rule compute\nsource all\nsink all\n";
+
+/// The report of the four-byte copy.
+const COPIED: &str = "1:0 0:0\n1:1 0:1\n1:2 0:2\n1:3 0:3\nend 4\n";
+
+/// The words of a query.
+const QUERY: &str = "jet query prog log query";
+
+/// The time that the clock tells.
+const TIME: u64 = 0x1_0000_0002;
 
 /// The address that code is loaded at.
 const BASE: u32 = 0x10000;
@@ -83,6 +94,97 @@ fn records(alloc: Global, guest: &Guest, written: &[u8]) -> Result<Vec<u8>, Allo
     Ok(out)
 }
 
+/// A record of a log, or its end. All transfers are with the buffer at 0x10100.
+#[derive(Clone, Copy)]
+enum Entry {
+    /// The step, the channel, the length asked for, and the bytes.
+    Read(u32, u32, u32, &'static [u8]),
+    Write(u32, u32, u32, &'static [u8]),
+    /// The tag, the step, the channel and the length of a read or a write that failed with -9.
+    Refused(u8, u32, u32, u32),
+    /// The step, and the time that was told.
+    Time(u32, u64),
+    /// The step and the code.
+    Exit(u32, u32),
+    /// The step, the kind and the pc.
+    Trap(u32, u32, u32),
+    /// The number of steps.
+    Limit(u32),
+}
+
+fn push_entry(out: &mut Vec<u8>, entry: Entry) -> Result<(), AllocError> {
+    match entry {
+        Entry::Read(at, channel, asked, bytes) => {
+            push_transfer(out, 1, at, [channel, 0x10100, asked], bytes)
+        }
+        Entry::Write(at, channel, asked, bytes) => {
+            push_transfer(out, 2, at, [channel, 0x10100, asked], bytes)
+        }
+        Entry::Refused(tag, at, channel, asked) => {
+            out.push(tag)?;
+            push_words(out, [at, channel, 0x10100, asked, 0xffff_fff7].as_slice())
+        }
+        Entry::Time(at, time) => {
+            out.push(3)?;
+            push_words(out, [at].as_slice())?;
+            out.extend_from_slice(&time.to_le_bytes())
+        }
+        Entry::Exit(at, code) => {
+            out.push(5)?;
+            push_words(out, [at, code].as_slice())
+        }
+        Entry::Trap(at, kind, pc) => {
+            out.push(6)?;
+            push_words(out, [at, kind, pc].as_slice())
+        }
+        Entry::Limit(at) => {
+            out.push(7)?;
+            push_words(out, [at].as_slice())
+        }
+    }
+}
+
+/// A log of these records.
+fn log_of(
+    alloc: Global,
+    program: &[u8],
+    pages: u32,
+    inputs: u32,
+    entries: &[Entry],
+) -> Result<Vec<u8>, AllocError> {
+    let mut records = Vec::new(alloc);
+    for entry in entries {
+        push_entry(&mut records, *entry)?;
+    }
+    log(alloc, program, pages, inputs, &records)
+}
+
+/// Bytes that are put in place of those at an offset.
+type Patch = (usize, &'static [u8]);
+
+/// The bytes, with others from an offset on.
+fn patched(alloc: Global, bytes: &[u8], patch: Patch) -> Result<Vec<u8>, AllocError> {
+    let mut changed = bytes.to_vec(alloc)?;
+    let (offset, patch) = patch;
+    for (i, byte) in patch.iter().enumerate() {
+        let place = offset.wrapping_add(i);
+        if place < changed.len() {
+            changed[place] = *byte;
+        }
+    }
+    Ok(changed)
+}
+
+/// Adds a file.
+fn push_file(files: &mut Vec<MemoryFile>, name: &str, bytes: &[u8]) -> Result<(), AllocError> {
+    let alloc = *files.allocator();
+    files.push(MemoryFile {
+        name: String::from_str(alloc, name)?,
+        bytes: bytes.to_vec(alloc)?,
+    })?;
+    Ok(())
+}
+
 /// The files `prog`, `log` and `query`.
 fn files(
     alloc: Global,
@@ -91,24 +193,22 @@ fn files(
     query: &[u8],
 ) -> Result<Vec<MemoryFile>, AllocError> {
     let mut files = Vec::new(alloc);
-    for (name, bytes) in [("prog", program), ("log", log), ("query", query)] {
-        files.push(MemoryFile {
-            name: String::from_str(alloc, name)?,
-            bytes: bytes.to_vec(alloc)?,
-        })?;
-    }
+    push_file(&mut files, "prog", program)?;
+    push_file(&mut files, "log", log)?;
+    push_file(&mut files, "query", query)?;
     Ok(files)
 }
 
-fn words(alloc: Global, list: &[&str]) -> Result<Vec<String>, AllocError> {
+/// The words of a line.
+fn words(alloc: Global, line: &str) -> Result<Vec<String>, AllocError> {
     let mut words = Vec::new(alloc);
-    for word in list {
+    for word in line.split(' ') {
         words.push(String::from_str(alloc, word)?)?;
     }
     Ok(words)
 }
 
-/// How a query ended: the status, and what it wrote to the two outputs.
+/// How a command ended: the status, and what it wrote to the two outputs.
 #[derive(Clone, Copy)]
 struct Ending<'a> {
     status: u8,
@@ -117,7 +217,7 @@ struct Ending<'a> {
 }
 
 impl Ending<'_> {
-    /// A report was written.
+    /// This was written.
     fn report(out: &str) -> Ending<'_> {
         Ending {
             status: 0,
@@ -126,7 +226,7 @@ impl Ending<'_> {
         }
     }
 
-    /// The query was refused with this line.
+    /// The command was refused with this line.
     fn refusal(status: u8, err: &str) -> Ending<'_> {
         Ending {
             status,
@@ -136,17 +236,50 @@ impl Ending<'_> {
     }
 }
 
-/// The status of the query of `prog`, `log` and `query`.
+/// The status of the command of these words.
 fn status_of<R: AllocGlobal, S: Store, O: Sink, E: Sink>(
     rt: &R,
+    line: &str,
     store: &mut S,
     out: &mut O,
     err: &mut E,
 ) -> Result<u8, AllocError> {
     let alloc = rt.alloc();
-    let words = words(alloc, ["jet", "query", "prog", "log", "query"].as_slice())?;
-    let mut clock = ListClock::new(alloc, &[])?;
+    let words = words(alloc, line)?;
+    let mut clock = ListClock::new(alloc, [TIME].as_slice())?;
     Ok(jet(rt, &words, store, out, err, &mut clock, &OpenGate))
+}
+
+/// The command of these words ends so over this store.
+fn assert_ends<R: AllocGlobal + Abort, S: Store>(
+    rt: &R,
+    line: &str,
+    store: &mut S,
+    ending: Ending<'_>,
+) -> Result<(), Fail> {
+    let alloc = rt.alloc();
+    let mut out = MemorySink::new(alloc, Vec::new(alloc), 65536, 70000)?;
+    let mut err = MemorySink::new(alloc, Vec::new(alloc), 65536, 256)?;
+    let status = status_of(rt, line, store, &mut out, &mut err)?;
+    assert_eq!(rt; status, ending.status, "{line}");
+    assert_eq!(rt; out.bytes(), ending.out.as_bytes());
+    assert_eq!(rt; err.bytes(), ending.err.as_bytes());
+    Ok(())
+}
+
+/// The command of these words ends so over these files.
+fn assert_command<R: AllocGlobal + Abort>(
+    rt: &R,
+    line: &str,
+    program: &[u8],
+    log: &[u8],
+    query: &[u8],
+    ending: Ending<'_>,
+) -> Result<(), Fail> {
+    let alloc = rt.alloc();
+    let files = files(alloc, program, log, query)?;
+    let mut store = MemoryStore::new(alloc, files, Vec::new(alloc), 65536, 0)?;
+    assert_ends(rt, line, &mut store, ending)
 }
 
 /// A query of these files ends so.
@@ -157,16 +290,7 @@ fn assert_query<R: AllocGlobal + Abort>(
     query: &[u8],
     ending: Ending<'_>,
 ) -> Result<(), Fail> {
-    let alloc = rt.alloc();
-    let files = files(alloc, program, log, query)?;
-    let mut store = MemoryStore::new(alloc, files, Vec::new(alloc), 65536, 0)?;
-    let mut out = MemorySink::new(alloc, Vec::new(alloc), 65536, 70000)?;
-    let mut err = MemorySink::new(alloc, Vec::new(alloc), 65536, 256)?;
-    let status = status_of(rt, &mut store, &mut out, &mut err)?;
-    assert_eq!(rt; status, ending.status);
-    assert_eq!(rt; out.bytes(), ending.out.as_bytes());
-    assert_eq!(rt; err.bytes(), ending.err.as_bytes());
-    Ok(())
+    assert_command(rt, QUERY, program, log, query, ending)
 }
 
 /// The report of a guest's run.
@@ -185,8 +309,7 @@ fn assert_report<R: AllocGlobal + Abort>(
 
 #[test]
 fn moves_are_followed(rt: HostRuntime) -> Result<(), Fail> {
-    let copied = "1:0 0:0\n1:1 0:1\n1:2 0:2\n1:3 0:3\nend 4\n";
-    assert_report(&rt, &COPY_FOUR, COPY, copied)?;
+    assert_report(&rt, &COPY_FOUR, COPY, COPIED)?;
     assert_report(&rt, &ADD_WORDS, COPY, "1:0\n1:1\n1:2\n1:3\nend 4\n")?;
     assert_report(&rt, &LOAD_SIGNED, COPY, "1:0 0:0\n1:1\n1:2\n1:3\nend 4\n")?;
     assert_report(&rt, &OVERWRITE, COPY, "1:0\nend 1\n")?;

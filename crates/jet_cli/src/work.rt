@@ -1,39 +1,36 @@
-//! The work of a query whose three files are well: the log is fitted to its program, the run is replayed
-//! with its taint, and the report is made.
-ghost use Rattle.std.specs.Prelude.{◌≡◌, ◌≤◌, ◌^◌, Ok, length, IfOk, IfErr};
+//! The work over a program and a log that were read: the log is fitted to its program, the run is replayed, and a text is
+//! made of it.
+ghost use Rattle.std.specs.Prelude.{◌≡◌, ℕ, List, Ok, IfOk, IfErr};
 ghost use Rattle.elf_model.specs.Image.{image as image_of_file};
-ghost use Rattle.replayer.specs.Checks.{IsChecked};
-ghost use Rattle.replayer.specs.Jobs.{trace_of};
+ghost use Rattle.isa.specs.Machine.{State};
+ghost use Rattle.report_model.specs.Query.{Query as QueryOf, Alike};
 ghost use Rattle.report_model.specs.Rows.{rows};
 ghost use Rattle.report_model.specs.Text.{report_text};
-ghost use Rattle.jet_cli.specs.Causes.{cause_of, cause_by};
-ghost use Rattle.jet_cli.specs.Work.{IsWorkCause, WorkHolds};
+ghost use Rattle.replayer.specs.Checks.{IsChecked};
+ghost use Rattle.replayer.specs.Jobs.{trace_of};
+ghost use Rattle.run_output.specs.Summary.{summary_text as summary_text_of};
+ghost use Rattle.run_output.specs.Output.{output_on as output_of};
+ghost use Rattle.jet_model.specs.Answer.{IsRunAnswer, report_from};
+ghost use Rattle.jet_files.specs.Causes.{cause_of, cause_by};
+ghost use Rattle.jet_files.specs.Outcome.{WorkHolds};
 
 use elf_image::Image;
+use jet_files::{Program, Run};
 use jet_refusal::Refusal;
 use no_memory::NoMemory;
 use query_lang::Query;
 use replay_log::Log;
 use replayer::{CheckFault, Job};
+use run_output::{output_on, summary_text};
 use seq_taint::sequential;
 use sink_collect::{gather, text};
 use std::alloc::Global;
 
-/// The report's text: that of the rows of the query over the run.
-fn report_of(alloc: Global, job: &Job, query: &Query) -> Result<Vec<u8>, NoMemory>
-    ensures { IfOk result (λ text. text.items ≡ report_text (rows query.now (trace_of job.now))) }
-{
-    let sets = sequential(alloc, job, query)?;
-    let report = gather(alloc, sets)?;
-    text(alloc, &report)
-}
-
 /// The log fitted to its program.
 fn fitted(alloc: Global, program: &[u8], image: Image, log: Log) -> Result<Job, Refusal>
     requires image { image_of_file program.now ≡ Ok image }
-    requires short { length program.now ≤ 2 ^ 26 }
     ensures ok { IfOk result (λ job. IsChecked program.now image log job) }
-    ensures err { IfErr result (λ r. (q : _) → IsWorkCause program.now image log q (cause_of r)) }
+    ensures err { IfErr result (λ r. (given : State → List ℕ) → WorkHolds (IsRunAnswer program.now image log given) (cause_of r)) }
 {
     match Job::check(alloc, program, image, log) {
         Ok(job) => Ok(job),
@@ -44,23 +41,53 @@ fn fitted(alloc: Global, program: &[u8], image: Image, log: Log) -> Result<Job, 
     }
 }
 
-/// Fits the log, replays it and makes the report's text.
-pub fn report(
-    alloc: Global,
-    program: &[u8],
-    image: Image,
-    log: Log,
-    query: &Query,
-) -> Result<Vec<u8>, Refusal>
-    requires image { image_of_file program.now ≡ Ok image }
-    requires short { length program.now ≤ 2 ^ 26 }
-    ensures { WorkHolds program.now image log query.now (cause_by result) }
+/// The report's text: that of the rows of the query over the run.
+fn report_of(alloc: Global, job: &Job, query: &Query) -> Result<Vec<u8>, NoMemory>
+    ensures { IfOk result (λ text. text.items ≡ report_text (rows query.now (trace_of job.now))) }
 {
-    match fitted(alloc, program, image, log) {
-        Ok(job) => match report_of(alloc, &job, query) {
-            Ok(text) => Ok(text),
-            Err(NoMemory) => Err(Refusal::NoMemory),
-        },
-        Err(refusal) => Err(refusal),
+    let sets = sequential(alloc, job, query)?;
+    let report = gather(alloc, sets)?;
+    text(alloc, &report)
+}
+
+/// The report of a query over the run, for each query that asks for the same.
+pub fn report(alloc: Global, run: Run, query: &Query) -> Result<Vec<u8>, Refusal>
+    requires image { image_of_file run.program.bytes.items ≡ Ok run.program.image }
+    ensures { WorkHolds (λ answer. (q : QueryOf) → Alike query.now q → IsRunAnswer run.program.bytes.items run.program.image run.log (report_from run.log q) answer) (cause_by result) }
+{
+    let Run { program, log } = run;
+    let Program { bytes, image } = program;
+    let job = fitted(alloc, &bytes, image, log)?;
+    match report_of(alloc, &job, query) {
+        Ok(text) => Ok(text),
+        Err(NoMemory) => Err(Refusal::NoMemory),
+    }
+}
+
+/// The numbers of the run, as text.
+pub fn summary(alloc: Global, run: Run) -> Result<Vec<u8>, Refusal>
+    requires image { image_of_file run.program.bytes.items ≡ Ok run.program.image }
+    ensures { WorkHolds (IsRunAnswer run.program.bytes.items run.program.image run.log (λ start. summary_text_of run.log)) (cause_by result) }
+{
+    let Run { program, log } = run;
+    let Program { bytes, image } = program;
+    let job = fitted(alloc, &bytes, image, log)?;
+    match summary_text(alloc, &job.summary()) {
+        Ok(text) => Ok(text),
+        Err(NoMemory) => Err(Refusal::NoMemory),
+    }
+}
+
+/// What the run wrote on a channel.
+pub fn output(alloc: Global, run: Run, channel: u32) -> Result<Vec<u8>, Refusal>
+    requires image { image_of_file run.program.bytes.items ≡ Ok run.program.image }
+    ensures { WorkHolds (IsRunAnswer run.program.bytes.items run.program.image run.log (λ start. output_of channel run.log)) (cause_by result) }
+{
+    let Run { program, log } = run;
+    let Program { bytes, image } = program;
+    let job = fitted(alloc, &bytes, image, log)?;
+    match output_on(alloc, job.log().records(), channel) {
+        Ok(bytes) => Ok(bytes),
+        Err(NoMemory) => Err(Refusal::NoMemory),
     }
 }

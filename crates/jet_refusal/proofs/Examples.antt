@@ -49,6 +49,10 @@ an_empty_query = refl
 a_long_file : line_of refusal.TooLong ≡ codes "jet: limit file\n"
 a_long_file = refl
 
+a_long_log : line_of (refusal.LogTooLong 83558562) ≡ codes "jet: limit log 83558562\n"
+unfolding digits
+a_long_log = refl
+
 a_fault_of_reading : line_of refusal.ReadFault ≡ codes "jet: read fault\n"
 a_fault_of_reading = refl
 

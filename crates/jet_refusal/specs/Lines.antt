@@ -68,6 +68,10 @@ log_fault_name log.Trailing = codes "7 Trailing"
 abbrev pub log_fault_text : LogKind → ℕ → List ℕ
 log_fault_text kind offset = codes "log " ++ log_fault_name kind ++ codes " at " ++ decimal offset
 
+-- the log of a run that is recorded would have so many bytes
+abbrev pub log_limit_text : ℕ → List ℕ
+log_limit_text size = codes "limit log " ++ decimal size
+
 -- ---- the log and the program together
 
 -- the digest that the log keeps and the program's, in lower-case hexadecimal digits

@@ -30,4 +30,5 @@ status_of (refusal.Query line kind) = 6
 status_of refusal.ReadFault = 7
 status_of refusal.WriteFault = 8
 status_of refusal.TooLong = 9
+status_of (refusal.LogTooLong size) = 9
 status_of refusal.NoMemory = 10

@@ -31,9 +31,11 @@ pub enum Refusal {
     Query { line: u32, kind: QueryKind },
     /// A file has more than 2^26 bytes.
     TooLong,
+    /// The log of the run has so many bytes, more than 2^26.
+    LogTooLong(u64),
     /// The store failed while a file was read.
     ReadFault,
-    /// The output failed.
+    /// The output failed, or the store while a file was written.
     WriteFault,
     /// There is not enough memory.
     NoMemory,
@@ -56,6 +58,7 @@ impl Refusal {
             Refusal::ReadFault => 7,
             Refusal::WriteFault => 8,
             Refusal::TooLong => 9,
+            Refusal::LogTooLong(_) => 9,
             Refusal::NoMemory => 10,
         }
     }
@@ -90,6 +93,10 @@ fn push_text(line: &mut Line, refusal: &Refusal)
         Refusal::Diverged(divergence) => push_divergence(line, divergence),
         Refusal::Query { line: number, kind } => push_query(line, *number, *kind),
         Refusal::TooLong => line.push_str("limit file"),
+        Refusal::LogTooLong(size) => {
+            line.push_str("limit log ");
+            line.push_number(*size);
+        }
         Refusal::ReadFault => line.push_str("read fault"),
         Refusal::WriteFault => line.push_str("write fault"),
         Refusal::NoMemory => line.push_str("memory"),

@@ -76,6 +76,11 @@ fn each_refusal_has_its_status_and_line(rt: HostRuntime) -> Result<(), Fail> {
         (Refusal::ReadFault, 7, "jet: read fault\n"),
         (Refusal::WriteFault, 8, "jet: write fault\n"),
         (Refusal::TooLong, 9, "jet: limit file\n"),
+        (
+            Refusal::LogTooLong(18446744073709551615),
+            9,
+            "jet: limit log 18446744073709551615\n",
+        ),
         (Refusal::NoMemory, 10, "jet: memory\n"),
         (Refusal::Image(ImageFault::NoMemory), 10, "jet: memory\n"),
     ];

@@ -51,7 +51,19 @@ found_asks word words (s ∷ subs) all e =
 
 entered_asks : (stop : Option (Text × List Text)) → no_help stop ≡ true → is_some (entered (built jet_app) stop) ≡ true → is_some (asked_by (entered (built jet_app) stop)) ≡ true
 entered_asks None n e = cc
-entered_asks (Some p) n e = found_asks p.0 p.1 (built jet_app).subs (λ a rows. refl, (λ a rows. absurd (is_help p.0 (or_false _ false refl a) n), tt)) e
+entered_asks (Some p) n e = found_asks p.0 p.1 (built jet_app).subs (
+  λ a rows. refl,
+  (
+    λ a rows. refl,
+    (
+      λ a rows. refl,
+      (
+        λ a rows. refl,
+        (λ a rows. absurd (is_help p.0 (or_false _ false refl a) n), tt),
+      ),
+    ),
+  ),
+) e
 
 pub taken_asks : (words : List Text) → takes jet_app words ≡ true → is_some (asked_by (subcommand_of jet_app words)) ≡ true
 taken_asks words e =

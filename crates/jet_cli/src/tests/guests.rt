@@ -19,21 +19,24 @@ pub struct Guest {
 }
 
 /// Reads four bytes and writes them.
+pub const COPY_CODE: &[u32] = &[
+    0x0001_05b7,
+    0x1005_8593,
+    0x0000_0513,
+    0x0040_0613,
+    0x03f0_0893,
+    0x0000_0073,
+    0x0010_0513,
+    0x0400_0893,
+    0x0000_0073,
+    0x0000_0513,
+    0x05d0_0893,
+    0x0000_0073,
+];
+
+/// The run of that.
 pub const COPY_FOUR: Guest = Guest {
-    code: &[
-        0x0001_05b7,
-        0x1005_8593,
-        0x0000_0513,
-        0x0040_0613,
-        0x03f0_0893,
-        0x0000_0073,
-        0x0010_0513,
-        0x0400_0893,
-        0x0000_0073,
-        0x0000_0513,
-        0x05d0_0893,
-        0x0000_0073,
-    ],
+    code: COPY_CODE,
     pages: 1,
     read: Moved {
         at: 5,

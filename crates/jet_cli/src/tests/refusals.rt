@@ -1,14 +1,13 @@
 //! Files that are refused, each with its status and its line.
 
 use super::guests::{ADD_WORDS, COPY_FOUR};
-use super::{BASE, COPY, Ending, assert_query, log, program, push_transfer, push_words, records};
+use super::{
+    COPIED, COPY, Ending, Patch, assert_query, log, patched, program, push_words, records,
+};
 use sha2::{Digest, Sha256};
 use std::alloc::{AllocError, Global};
 use std::process::Abort;
 use std::test::Fail;
-
-/// The report of the four-byte copy.
-const COPIED: &str = "1:0 0:0\n1:1 0:1\n1:2 0:2\n1:3 0:3\nend 4\n";
 
 /// The program and the log of the four-byte copy.
 fn copied(alloc: Global) -> Result<(Vec<u8>, Vec<u8>), AllocError> {
@@ -104,9 +103,6 @@ fn each_prefix_of_a_file_has_its_ending(rt: HostRuntime) -> Result<(), Fail> {
     Ok(())
 }
 
-/// Bytes that are put in place of those at an offset.
-type Patch = (usize, &'static [u8]);
-
 /// Other bytes in the program, and the line of its status 3.
 const CHANGED_PROGRAMS: &[(Patch, &str)] = &[
     ((28, b"\xff\xff\xff\xff"), "jet: image 6 Header\n"),
@@ -119,7 +115,7 @@ const CHANGED_PROGRAMS: &[(Patch, &str)] = &[
 ];
 
 /// Other bytes in the log, its status and its line: faults of the form, and divergences.
-const CHANGED_LOGS: &[(Patch, u8, &str)] = &[
+pub const CHANGED_LOGS: &[(Patch, u8, &str)] = &[
     (
         (61, b"\xff\xff\xff\xff\xff\xff\xff\x7f"),
         4,
@@ -142,18 +138,6 @@ const CHANGED_LOGS: &[(Patch, u8, &str)] = &[
         "jet: diverged at 11 event kept 0 seen 5\n",
     ),
 ];
-
-fn patched(alloc: Global, bytes: &[u8], patch: Patch) -> Result<Vec<u8>, AllocError> {
-    let mut changed = bytes.to_vec(alloc)?;
-    let (offset, patch) = patch;
-    for (i, byte) in patch.iter().enumerate() {
-        let place = offset.wrapping_add(i);
-        if place < changed.len() {
-            changed[place] = *byte;
-        }
-    }
-    Ok(changed)
-}
 
 #[test]
 fn changed_bytes_are_refused(rt: HostRuntime) -> Result<(), Fail> {
@@ -188,46 +172,6 @@ fn changed_bytes_are_refused(rt: HostRuntime) -> Result<(), Fail> {
         COPY.as_bytes(),
         Ending::refusal(4, "jet: log 7 Trailing at 107\n"),
     )
-}
-
-/// A write that the log has as refused, and traps of another kind and at another pc.
-#[test]
-fn a_changed_call_or_trap_diverges(rt: HostRuntime) -> Result<(), Fail> {
-    let alloc = rt.alloc();
-    let good = program(alloc, COPY_FOUR.code)?;
-    let mut refused = Vec::new(alloc);
-    push_transfer(&mut refused, 1, 5, [0, 0x10100, 4], b"ABCD")?;
-    refused.push(2)?;
-    push_words(&mut refused, [8, 1, 0x10100, 4, 0xffff_fff7].as_slice())?;
-    refused.push(5)?;
-    push_words(&mut refused, [11, 0].as_slice())?;
-    let log_refused = log(alloc, &good, 1, 1, &refused)?;
-    let line = "jet: diverged at 8 result kept -9 seen 4\n";
-    assert_query(
-        &rt,
-        &good,
-        &log_refused,
-        COPY.as_bytes(),
-        Ending::refusal(5, line),
-    )?;
-    for (kind, pc, line) in [
-        (3, BASE, "jet: diverged at 0 kind kept 3 seen 2\n"),
-        (2, 0, "jet: diverged at 0 pc kept 0 seen 65536\n"),
-    ] {
-        let illegal = program(alloc, [0].as_slice())?;
-        let mut records = Vec::new(alloc);
-        records.push(6)?;
-        push_words(&mut records, [0, kind, pc].as_slice())?;
-        let log = log(alloc, &illegal, 1, 0, &records)?;
-        assert_query(
-            &rt,
-            &illegal,
-            &log,
-            COPY.as_bytes(),
-            Ending::refusal(5, line),
-        )?;
-    }
-    Ok(())
 }
 
 /// Queries, and the line of their status 6.

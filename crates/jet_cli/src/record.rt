@@ -1,0 +1,112 @@
+//! The command `record`: a program is run over its inputs, and the log of the run is made.
+ghost use Rattle.std.specs.Prelude.{◌≡◌, ◌≤◌, ◌^◌, ◌∷◌, [], Ok, length, map, IfErr, OnOk};
+ghost use Rattle.std.specs.List.{All};
+ghost use Rattle.elf_model.specs.Image.{image as image_of_file};
+ghost use Rattle.outer_io.specs.Tells.{Tells, Gains, GainsPrefix};
+ghost use Rattle.outer_io.specs.Files.{KeepsFiles};
+ghost use Rattle.call_record.specs.Sources.{contents};
+ghost use Rattle.jet_model.specs.Answer.{IsCaptureAnswer, IsRecordAnswer};
+ghost use Rattle.jet_files.specs.Causes.{cause_of, cause_by};
+ghost use Rattle.jet_files.specs.Outcome.{Holds, WorkHolds};
+ghost use Rattle.jet_cli.specs.Words.{limits_of};
+ghost use Rattle.jet_cli.specs.Causes.{capture_cause};
+ghost use Rattle.jet_cli.specs.Hearing.{Hears};
+ghost use Rattle.jet_cli.specs.Statuses.{BeforeRecording};
+
+use call_record::{CaptureFault, capture};
+use jet_files::{Program, open_inputs, open_program};
+use jet_refusal::Refusal;
+use no_memory::NoMemory;
+use outer_io::{Clock, Store};
+use replay_log::write_log;
+use std::alloc::Global;
+
+/// How a run is recorded.
+#[derive(Clone, Copy)]
+pub struct Limits {
+    /// The pages of 4096 bytes of the window, 1 to 4096.
+    pub pages: u32,
+    /// The greatest number of bytes that a read gets.
+    pub piece: u32,
+    /// The number of steps after which the run is cut off.
+    pub steps: u32,
+}
+
+/// Why a run was not recorded.
+fn of_capture(fault: CaptureFault, pages: u32) -> Refusal
+    ensures { cause_of result ≡ capture_cause pages fault }
+{
+    match fault {
+        CaptureFault::Window => Refusal::Window { pages },
+        CaptureFault::LogTooLong(size) => Refusal::LogTooLong(size),
+        CaptureFault::NoMemory => Refusal::NoMemory,
+    }
+}
+
+/// The log of the program's run over these inputs, as text.
+fn log_text<K: Clock>(
+    alloc: Global,
+    clock: &mut K,
+    program: &Program,
+    inputs: &[Vec<u8>],
+    limits: Limits,
+) -> Result<Vec<u8>, Refusal>
+    requires image { image_of_file program.now.bytes.items ≡ Ok program.now.image }
+    requires some { 1 ≤ limits.pages }
+    requires most { limits.pages ≤ 4096 }
+    requires few { length inputs.now ≤ 16 }
+    requires short { All (λ v. length v.items ≤ 2 ^ 26) inputs.now }
+    ensures answers { WorkHolds (λ answer. Hears (K.answers clock.old) (K.answers clock.new) (λ answers. IsCaptureAnswer program.now.bytes.items program.now.image (contents inputs.now) (limits_of limits.pages limits.piece limits.steps) answers answer)) (cause_by result) }
+    ensures unasked { IfErr result (λ r. BeforeRecording (cause_of r) (Tells (K.answers clock.old) (K.answers clock.new) (Gains []))) }
+{
+    let Limits {
+        pages,
+        piece,
+        steps,
+    } = limits;
+    match capture(
+        alloc,
+        &program.bytes,
+        &program.image,
+        pages,
+        inputs,
+        clock,
+        piece,
+        steps,
+    ) {
+        Ok(log) => {
+            // The contract of `size` says that the text is short enough.
+            let _size = log.size();
+            match write_log(alloc, &log) {
+                Ok(text) => Ok(text),
+                Err(NoMemory) => Err(Refusal::NoMemory),
+            }
+        }
+        Err(fault) => Err(of_capture(fault, pages)),
+    }
+}
+
+/// Reads the program and its inputs, one after another, and records the run. It gives up as reading them does, with
+/// `Window`, with `LogTooLong`, or with `NoMemory`.
+pub fn record<S: Store, K: Clock>(
+    alloc: Global,
+    store: &mut S,
+    clock: &mut K,
+    program: &str,
+    inputs: &[&str],
+    limits: Limits,
+) -> Result<Vec<u8>, Refusal>
+    requires some { 1 ≤ limits.pages }
+    requires most { limits.pages ≤ 4096 }
+    requires few { length inputs.now ≤ 16 }
+    ensures answers { Holds (λ file answer. Hears (K.answers clock.old) (K.answers clock.new) (λ answers. IsRecordAnswer file program.now (map (λ name. name.now) inputs.now) (limits_of limits.pages limits.piece limits.steps) answers answer)) (S.files store.old) (S.files store.new) (S.faults store.old) (S.faults store.new) (cause_by result) }
+    ensures keeps { Tells (S.files store.old) (S.files store.new) KeepsFiles }
+    ensures asked { Tells (S.asked store.old) (S.asked store.new) (GainsPrefix (program.now ∷ map (λ name. name.now) inputs.now)) }
+    ensures all { OnOk result (Tells (S.asked store.old) (S.asked store.new) (Gains (program.now ∷ map (λ name. name.now) inputs.now))) }
+    ensures later { S.faults store.old ≤ S.faults store.new }
+    ensures unasked { IfErr result (λ r. BeforeRecording (cause_of r) (Tells (K.answers clock.old) (K.answers clock.new) (Gains []))) }
+{
+    let program = open_program(alloc, store, program)?;
+    let inputs = open_inputs(alloc, store, inputs)?;
+    log_text(alloc, clock, &program, &inputs, limits)
+}
