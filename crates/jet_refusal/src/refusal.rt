@@ -2,8 +2,7 @@
 
 ghost use Rattle.std.specs.Prelude.{◌≡◌, ◌+◌, ◌≤◌, ◌++◌, length};
 ghost use Rattle.jet_refusal.specs.Lines.{log_fault_text, program_text, place_text, values_text, divergence_text, query_text};
-ghost use Rattle.jet_refusal.specs.Refusals.{text_of, line_of};
-ghost use Rattle.jet_refusal.specs.Statuses.{status_of};
+ghost use Rattle.jet_refusal.specs.Refusals.{status_of, text_of, line_of};
 
 use crate::line::Line;
 use crate::names::{image_text, log_fault_name, push_field, query_kind};
