@@ -1,30 +1,14 @@
 -- The status and the line of each refusal.
 use Rattle.std.specs.Prelude.{ℕ, List}
-use Rattle.elf_model.specs.declared.ImageFault.{ImageFault}
-use Rattle.elf_model.specs.declared.ImageFault.TheVariants as image
 use Rattle.jet_refusal.specs.Lines.{err_line, usage_text, image_text, window_text, log_fault_text, program_text, divergence_text, query_text, file_limit_text, log_limit_text, read_fault_text, write_fault_text, memory_text}
 use Rattle.jet_refusal.specs.declared.refusal.Refusal.{Refusal}
 use Rattle.jet_refusal.specs.declared.refusal.Refusal.TheVariants as refusal
 
 -- ---- the status that a command ends with
 
--- want of memory is no fault of an image, and has its own status
-abbrev pub image_status : ImageFault → ℕ
-image_status image.Short = 3
-image_status image.Magic = 3
-image_status image.Class = 3
-image_status image.Kind = 3
-image_status image.Machine = 3
-image_status image.Header = 3
-image_status image.Dynamic = 3
-image_status image.Segment = 3
-image_status image.NoSegment = 3
-image_status image.Entry = 3
-image_status image.NoMemory = 10
-
 abbrev pub status_of : Refusal → ℕ
 status_of refusal.Usage = 2
-status_of (refusal.Image fault) = image_status fault
+status_of (refusal.Image kind) = 3
 status_of (refusal.Window pages) = 3
 status_of (refusal.Log kind offset) = 4
 status_of (refusal.Program kept seen) = 5
@@ -40,7 +24,7 @@ status_of refusal.NoMemory = 10
 
 abbrev pub text_of : Refusal → List ℕ
 text_of refusal.Usage = usage_text
-text_of (refusal.Image fault) = image_text fault
+text_of (refusal.Image kind) = image_text kind
 text_of (refusal.Window pages) = window_text pages
 text_of (refusal.Log kind offset) = log_fault_text kind offset
 text_of (refusal.Program kept seen) = program_text kept seen
