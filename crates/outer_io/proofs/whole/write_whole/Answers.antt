@@ -12,6 +12,5 @@ loop-rest-preserved g c =
       done = w.done ++ take n r;
       whole = seam w.done _ n r w.whole;
       later = omega (arith, w.later, c.in-Ok.ensures.cause.later);
-      last = λ high. c.in-Ok.ensures.cause.last (omega (arith, high, w.later)) ∙ w.last high;
       told = tells-gains _ _ _ w.done (take n r) w.told c.in-Ok.ensures.ok;
     }

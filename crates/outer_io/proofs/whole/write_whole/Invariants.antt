@@ -7,9 +7,8 @@ abbrev pub invariant-loop-rest : goal.invariant-loop-rest
 invariant-loop-rest g l = record {
   done : List ℕ;
   whole : done ++ l.rest ≡ l.bytes;
-  later : g.O.Sink.faults l.initial.sink ≤ g.O.Sink.faults l.sink;
-  last : 2 ^ 64 - 1 ≤ g.O.Sink.faults l.initial.sink → g.O.Sink.faults l.sink ≡ g.O.Sink.faults l.initial.sink;
-  told : Tells (g.O.Sink.written l.initial.sink) (g.O.Sink.written l.sink) (Gains done);
+  later : (g.O.Sink.shown l.initial.sink).faults ≤ (g.O.Sink.shown l.sink).faults;
+  told : Tells (g.O.Sink.shown l.initial.sink).written (g.O.Sink.shown l.sink).written (Gains done);
 }
 
 abbrev pub decreases-loop-rest : goal.decreases-loop-rest
