@@ -13,7 +13,7 @@ pub record Causes : Type 1 where
 -- the one of these that the refusal is owed to. Out of memory says nothing
 abbrev pub IsOwedTo : Causes → Refusal → Type 0
 IsOwedTo causes refusal.Usage = causes.usage
-IsOwedTo causes (refusal.Image kind) = causes.files
+IsOwedTo causes (refusal.Image fault) = causes.files
 IsOwedTo causes (refusal.Window pages) = causes.files
 IsOwedTo causes (refusal.Log kind offset) = causes.files
 IsOwedTo causes (refusal.Program kept seen) = causes.files

@@ -8,7 +8,7 @@ use Rattle.jet_refusal.specs.declared.refusal.Refusal.TheVariants as refusal
 
 abbrev pub status_of : Refusal → ℕ
 status_of refusal.Usage = 2
-status_of (refusal.Image kind) = 3
+status_of (refusal.Image fault) = 3
 status_of (refusal.Window pages) = 3
 status_of (refusal.Log kind offset) = 4
 status_of (refusal.Program kept seen) = 5
@@ -24,7 +24,7 @@ status_of refusal.NoMemory = 10
 
 abbrev pub text_of : Refusal → List ℕ
 text_of refusal.Usage = usage_text
-text_of (refusal.Image kind) = image_text kind
+text_of (refusal.Image fault) = image_text fault
 text_of (refusal.Window pages) = window_text pages
 text_of (refusal.Log kind offset) = log_fault_text kind offset
 text_of (refusal.Program kept seen) = program_text kept seen

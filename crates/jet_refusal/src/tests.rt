@@ -28,11 +28,7 @@ fn each_refusal_has_its_status_and_line(rt: HostRuntime) -> Result<(), Fail> {
             3,
             "jet: image 9 NoSegment\n",
         ),
-        (
-            Refusal::Image(ImageKind::Entry),
-            3,
-            "jet: image 10 Entry\n",
-        ),
+        (Refusal::Image(ImageKind::Entry), 3, "jet: image 10 Entry\n"),
         (Refusal::Window { pages: 4096 }, 3, "jet: window 4096\n"),
         (
             Refusal::Log {
