@@ -1,4 +1,3 @@
-pub mod Ascending
 pub mod Orders
 pub mod Origins
 pub mod FlowOrder

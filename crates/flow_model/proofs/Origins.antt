@@ -5,10 +5,11 @@ use Rattle.flow_model.specs.declared.Loc.{Loc}
 use Rattle.flow_model.specs.declared.SourceByte.{SourceByte}
 use Rattle.flow_model.specs.declared.StepSeen.{StepSeen}
 use Rattle.flow_model.specs.declared.CallSeen.{CallSeen}
-use Rattle.flow_model.specs.Sets.{union, source_cmp, Ascends}
+use Rattle.sorted_set.specs.Sets.{union, Ascends}
+use Rattle.flow_model.specs.Orders.{source_cmp}
 use Rattle.flow_model.specs.Flow.{from, is_received, from_call}
 use Rattle.flow_model.specs.Origins.{Policy, origins, introduced, fresh, fresh_by, byte_at, gathered, after_step, step_at}
-use Rattle.flow_model.proofs.Ascending.{Ascends-union}
+use Rattle.sorted_set.proofs.Algebra.{Ascends-union}
 use Rattle.flow_model.proofs.Orders.{source_total}
 
 pub Ascends-gathered : (before : Loc → List SourceByte) → ((l : Loc) → Ascends source_cmp (before l)) → (ls : List Loc) → Ascends source_cmp (gathered before ls)

@@ -9,7 +9,8 @@ use Rattle.flow_model.specs.declared.Loc.{Loc}
 use Rattle.flow_model.specs.declared.SourceByte.{SourceByte}
 use Rattle.flow_model.specs.declared.StepSeen.{StepSeen}
 use Rattle.flow_model.specs.declared.CallSeen.{CallSeen}
-use Rattle.flow_model.specs.Sets.{union, inserted, placed, source_cmp}
+use Rattle.sorted_set.specs.Sets.{union, inserted, placed}
+use Rattle.flow_model.specs.Orders.{source_cmp}
 use Rattle.flow_model.specs.Flow.{from, is_received, from_instruction_or, origins_by, cleared}
 use Rattle.flow_model.specs.Origins.{Policy, origins, introduced, fresh, fresh_by, byte_at, gathered, after_step, step_at}
 use Rattle.flow_model.specs.OriginLaws.{LeavesAlone, StepKeepsOrigins, StepsKeepOrigins, ReceivedHasItsSource, WasRead, OriginsWereRead}

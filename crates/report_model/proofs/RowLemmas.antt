@@ -9,9 +9,10 @@ use Rattle.std.specs.declared.cmp.Ordering.TheVariants.{Less, Equal, Greater}
 use Rattle.std.proofs.lemmas.List.Elements.{recursion_from_All, All-from_recursion, All-contains_itself}
 use Rattle.flow_model.specs.declared.StepSeen.{StepSeen}
 use Rattle.flow_model.specs.declared.SinkByte.{SinkByte}
-use Rattle.flow_model.specs.Sets.{inserted, placed, Ascends, sink_cmp}
+use Rattle.sorted_set.specs.Sets.{inserted, placed, Ascends}
+use Rattle.flow_model.specs.Orders.{sink_cmp}
 use Rattle.flow_model.specs.Origins.{Policy, origins}
-use Rattle.flow_model.proofs.Ascending.{Ascends-inserted, has-inserted}
+use Rattle.sorted_set.proofs.Algebra.{Ascends-inserted, has-inserted}
 use Rattle.flow_model.proofs.Orders.{sink_total}
 use Rattle.report_model.specs.Query.{Query, Alike, has_sink, policy_of}
 use Rattle.report_model.specs.RowLaws.{has_row}

@@ -10,8 +10,9 @@ use Rattle.flow_model.specs.declared.SourceByte.{SourceByte}
 use Rattle.flow_model.specs.declared.SinkByte.{SinkByte}
 use Rattle.flow_model.specs.declared.StepSeen.{StepSeen}
 use Rattle.flow_model.specs.declared.CallSeen.{CallSeen}
-use Rattle.flow_model.specs.Sets.{inserted, sink_cmp}
-use Rattle.flow_model.specs.Flow.{wrap}
+use Rattle.sorted_set.specs.Sets.{inserted}
+use Rattle.flow_model.specs.Orders.{sink_cmp}
+use Rattle.isa.specs.Machine.{wrap}
 use Rattle.flow_model.specs.Origins.{origins}
 use Rattle.report_model.specs.Query.{Query, has_sink, policy_of}
 

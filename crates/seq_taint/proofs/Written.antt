@@ -11,7 +11,7 @@ use Rattle.flow_model.specs.declared.SourceByte.{SourceByte}
 use Rattle.flow_model.specs.declared.StepSeen.{StepSeen}
 use Rattle.flow_model.specs.declared.CallSeen.{CallSeen}
 use Rattle.flow_model.specs.declared.Loc.TheVariants.{Mem}
-use Rattle.flow_model.specs.Flow.{wrap}
+use Rattle.isa.specs.Machine.{wrap}
 use Rattle.flow_model.specs.Origins.{step_at, origins}
 use Rattle.report_model.specs.Query.{Query, has_sink, policy_of}
 use Rattle.report_model.specs.Rows.{Sink, Row, row, written_byte, written_by, written_in, written_from, rows_as_written}

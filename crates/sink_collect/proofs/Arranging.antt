@@ -9,8 +9,9 @@ use Rattle.std.specs.Ordering.{is_lt, nat_cmp, ordering_reverse, ordering_then}
 use Rattle.std.specs.declared.cmp.Ordering.{Ordering}
 use Rattle.std.specs.declared.cmp.Ordering.TheVariants.{Less, Equal, Greater}
 use Rattle.flow_model.specs.declared.SinkByte.{SinkByte}
-use Rattle.flow_model.specs.Sets.{inserted, placed, sink_key, sink_cmp, IsBelow, Ascends}
-use Rattle.flow_model.proofs.Ascending.{Ascends-inserted}
+use Rattle.sorted_set.specs.Sets.{inserted, placed, IsBelow, Ascends}
+use Rattle.flow_model.specs.Orders.{sink_key, sink_cmp}
+use Rattle.sorted_set.proofs.Algebra.{Ascends-inserted}
 use Rattle.flow_model.proofs.Orders.{sink_same}
 use Rattle.report_model.specs.Rows.{Row, row_cmp, arranged}
 use Rattle.sink_collect.specs.Distinct.{AreDistinct, IsApartFrom}

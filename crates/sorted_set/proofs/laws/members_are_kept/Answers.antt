@@ -1,0 +1,11 @@
+use Rattle.sorted_set.proofs.Algebra.{has-inserted, has-union, has-set_of}
+use Rattle.sorted_set.proofs.laws.members_are_kept.Goals as goal
+
+pub returns-clause-inserted : goal.returns-clause-inserted
+returns-clause-inserted g c = λ R o. has-inserted o
+
+pub returns-clause-union : goal.returns-clause-union
+returns-clause-union g c = λ R o. has-union o
+
+pub returns-clause-set_of : goal.returns-clause-set_of
+returns-clause-set_of g c = λ R o. has-set_of o
