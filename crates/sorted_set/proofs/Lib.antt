@@ -1,1 +1,2 @@
 pub mod Algebra
+mod Places

@@ -1,6 +1,6 @@
 -- Sets, as ascending lists without repeats, of any element type and by any order of it.
 use Rattle.std.specs.Prelude.{◌≡◌, Bool, List, [], ◌∷◌}
-use Rattle.std.specs.List.{list_any}
+use Rattle.std.specs.List.{list_any, list_all}
 use Rattle.std.specs.Ordering.{eq_by_cmp}
 use Rattle.std.specs.declared.cmp.Ordering.{Ordering}
 use Rattle.std.specs.declared.cmp.Ordering.TheVariants.{Less, Equal, Greater}
@@ -29,6 +29,10 @@ set_of R (x ∷ xs) = inserted R x (set_of R xs)
 -- x is a member: the order has one of the list equal to it
 abbrev pub has : {X : Type 0} → (X → X → Ordering) → X → List X → Bool
 has R x xs = list_any (eq_by_cmp R x) xs
+
+-- each of the first list is a member of the second
+abbrev pub is_within : {X : Type 0} → (X → X → Ordering) → List X → List X → Bool
+is_within R xs ys = list_all (λ x. has R x ys) xs
 
 -- x is below each of the list
 abbrev pub IsBelow : {X : Type 0} → (X → X → Ordering) → X → List X → Type 0
