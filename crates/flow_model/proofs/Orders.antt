@@ -1,4 +1,4 @@
--- The orders of locations and of source bytes.
+-- The orders of locations, source bytes and output bytes are total, and only the same tie. Crates above cite these lemmas.
 use Rattle.std.proofs.Common.{◌≡◌, ℕ, List, [], ◌∷◌, refl, ap, ap₂, sym, ◌∙◌}
 use Rattle.std.specs.Ordering.{nat_cmp}
 use Rattle.std.specs.Cmp.{IsTotalOrder, on_total}
