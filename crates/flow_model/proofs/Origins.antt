@@ -29,6 +29,3 @@ Ascends-origins policy trace (suc t) l = Ascends-after_step policy (step_at trac
 pub kept : (policy : Policy) (step : StepSeen) (before : Loc → List SourceByte) (l : Loc) → from policy.rule step l ≡ l ∷ [] → fresh policy step l ≡ []
     → after_step policy (Some step) before l ≡ before l
 kept policy step before l e f = rw (e, f) refl
-
-pub received_fresh : (policy : Policy) (call : CallSeen) (l : Loc) (b : Bool) → b ≡ true → (cond b (introduced policy (byte_at call l)) []) ≡ introduced policy (byte_at call l)
-received_fresh policy call l b e = rw e refl

@@ -4,7 +4,7 @@ use Rattle.std.specs.List.{AllByRecursion}
 use Rattle.elf_model.specs.Image.{Image, image}
 use Rattle.log_model.specs.Logs.{Log, IsLog, log_text}
 use Rattle.report_model.specs.Query.{Query}
-use Rattle.query_lang.specs.Answers.{Asks as IsReadAsQuery}
+use Rattle.query_lang.specs.Answers.{StandsFor as IsReadAsQuery}
 use Rattle.outer_io.specs.Faults.{Rose}
 use Rattle.outer_io.specs.Tells.{Tells}
 use Rattle.outer_io.specs.Files.{Files, Text}

@@ -1,6 +1,6 @@
 use Rattle.std.proofs.Common.{subst, List, ℕ}
 use Rattle.std.proofs.lemmas.Result.{err_from_is_err_and}
-use Rattle.query_lang.specs.Answers.{Asks as IsReadAsQuery, IsTold}
+use Rattle.query_lang.specs.Answers.{StandsFor as IsReadAsQuery, IsTold}
 use Rattle.jet_files.specs.Outcome.{FileAmiss, QueryAmiss, HasShort, HasQuery}
 use Rattle.jet_files.proofs.Judging.{holds_map, finds_map, file_amiss, query_refused, by_cause}
 use Rattle.jet_files.proofs.opening.open_query.Goals as goal
