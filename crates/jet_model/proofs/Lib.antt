@@ -4,4 +4,3 @@ pub mod OneAnswer
 pub mod Guests
 pub mod Reports
 pub mod Divergences
-pub mod Queries
