@@ -14,7 +14,7 @@ enum Outcome {
 }
 
 /// What `parse` answers for a text of at most 4096 bytes.
-fn outcome(alloc: Global, text: &[u8]) -> Outcome {
+fn outcome_of(alloc: Global, text: &[u8]) -> Outcome {
     if text.len() > 4096 {
         return Outcome::NoMemory;
     }
@@ -68,7 +68,7 @@ fn faulty_texts_have_their_first_fault(rt: HostRuntime) {
         (b"rule copy\nrule copy", 2, QueryKind::SecondRule),
     ];
     for (text, line, kind) in rows {
-        assert_eq!(rt; outcome(rt.alloc(), text), Outcome::At(line, kind), "{text:?}");
+        assert_eq!(rt; outcome_of(rt.alloc(), text), Outcome::At(line, kind), "{text:?}");
     }
 }
 
@@ -93,7 +93,7 @@ fn each_prefix_of_a_text_has_its_outcome(rt: HostRuntime) {
     for (first, last, expected) in rows {
         for length in first..=last {
             let prefix = text.get(..length).unwrap_or(text.as_slice());
-            assert_eq!(rt; outcome(rt.alloc(), prefix), expected, "{length}");
+            assert_eq!(rt; outcome_of(rt.alloc(), prefix), expected, "{length}");
         }
     }
 }
