@@ -2,5 +2,5 @@ pub mod Agreement
 pub mod Track
 pub mod Transfers
 pub mod Sizes
-mod Firsts
+pub mod Firsts
 pub mod Offsets
