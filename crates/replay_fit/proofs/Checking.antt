@@ -1,19 +1,21 @@
 -- One step of a check, against what the log has next.
-use Rattle.std.proofs.Common.{◌≡◌, ℕ, ◌+◌, ◌^◌, ◌<◌, ◌≤◌, Bool, true, false, List, [], ◌∷◌, Option, None, refl, arith, ap, sym, ◌∙◌}
+use Rattle.std.proofs.Common.{◌≡◌, ℕ, ◌+◌, ◌^◌, ◌<◌, ◌≤◌, Bool, true, false, List, [], ◌∷◌, Option, None, refl, arith, ap, sym, ◌∙◌, subst}
 use Rattle.std.specs.Prelude.{nat_lt, if◌then◌else◌}
+use Rattle.std.specs.List.{AllByRecursion}
 use Rattle.std.proofs.lemmas.Bool.{ltb-true, ltb-false}
 use Rattle.isa.specs.Machine.{State}
 use Rattle.log_model.specs.declared.CallRecord.{CallRecord}
 use Rattle.log_model.specs.declared.RunEnd.{RunEnd}
 use Rattle.log_model.specs.declared.RunEnd.TheVariants.{Exit, Trap, Limit}
-use Rattle.log_model.specs.Logs.{Log, IsEnd, at_of, end_at, steps_by}
+use Rattle.log_model.specs.Logs.{Log, IsRecord, IsEnd, at_of, end_at, steps_by}
 use Rattle.replay_model.specs.Run.{Moment}
 use Rattle.replay_model.specs.Comparison.{Compared, Expected, PlainStep, CallOf, EndOf, expected, first_different, difference, difference_at}
-use Rattle.replay_model.specs.Track.{IsOnTrack}
-use Rattle.replay_model.proofs.Track.{moment, least_rises}
-use Rattle.replayer.specs.Steps.{compares, is_limit, expected_of}
-use Rattle.replayer.specs.declared.run.Expected.{Expected as Expects}
-use Rattle.replayer.specs.declared.run.Expected.TheVariants as expects
+use Rattle.replay_run.specs.Runs.{RunAt, IsUnderLog}
+use Rattle.replay_run.specs.Expects.{expected_of}
+use Rattle.replay_run.proofs.Steps.{records_left}
+use Rattle.replay_run.specs.declared.expected.Expected.{Expected as Expects}
+use Rattle.replay_run.specs.declared.expected.Expected.TheVariants as expects
+use Rattle.replay_fit.specs.Comparisons.{IsFormed, compares, is_limit}
 
 -- ---- what is due
 
@@ -24,6 +26,22 @@ plain_or_end false end e h = refl
 plain_or_call : (b : Bool) (r : CallRecord) (e : RunEnd) → (if b then PlainStep else CallOf r) ≡ EndOf e → ⊥
 plain_or_call true r e h = cc
 plain_or_call false r e h = cc
+
+formed_by : (b : Bool) (q : CallRecord) → IsRecord q → IsFormed (if b then PlainStep else CallOf q)
+formed_by true q h = tt
+formed_by false q h = h
+
+plain_or_end_formed : (b : Bool) (end : RunEnd) → IsFormed (if b then PlainStep else EndOf end)
+plain_or_end_formed true end = tt
+plain_or_end_formed false end = tt
+
+formed_in : (t : ℕ) (left : List CallRecord) (end : RunEnd) → AllByRecursion IsRecord left → IsFormed (expected t left end)
+formed_in t [] end all = plain_or_end_formed (nat_lt t (end_at end)) end
+formed_in t (q ∷ qs) end all = formed_by (nat_lt t (at_of q)) q all.0
+
+-- what the log has next has the ranges of a log
+pub formed : (r : RunAt) (x : Expected) → IsUnderLog r → x ≡ expected r.moment.time r.moment.left r.log.end → IsFormed x
+formed r x under e = subst IsFormed (sym e) (formed_in r.moment.time r.moment.left r.log.end (records_left r under))
 
 end_due_by : (t : ℕ) (left : List CallRecord) (end e : RunEnd) → expected t left end ≡ EndOf e → end_at end ≤ t
 end_due_by t [] end e h = ltb-false t (end_at end) (plain_or_end (nat_lt t (end_at end)) end e h)
@@ -37,17 +55,11 @@ end_not_due : (b : Bool) (end : RunEnd) → ((e : RunEnd) → (if b then PlainSt
 end_not_due true end h = refl
 end_not_due false end h = absurd (h end refl)
 
-before_end_by : (log : Log) (t : ℕ) (s : State) (left : List CallRecord) (read written : List ℕ) → IsOnTrack log (moment t s left read written) → ((e : RunEnd) → expected t left log.end ≡ EndOf e → ⊥) → t < end_at log.end
-before_end_by log t s [] read written on h = ltb-true t (end_at log.end) (end_not_due (nat_lt t (end_at log.end)) log.end h)
-before_end_by log t s (r ∷ rs) read written on h =
-    let first = on.rise.0 in
-    let later = least_rises (at_of r + 1) rs on.rise.1 in
-    let last = on.ends_after in
-    omega arith
-
--- before the end something else is due
-pub before_end : (log : Log) (m : Moment) (x : Expected) → IsOnTrack log m → x ≡ expected m.time m.left log.end → ((e : RunEnd) → x ≡ EndOf e → ⊥) → m.time < end_at log.end
-before_end log m x on h none = before_end_by log m.time m.state m.left m.read m.written on (λ e i. none e (h ∙ i))
+-- where no record is left and the log has a step next, its end is later
+pub none_left : (log : Log) (m : Moment) (x : Expected) → x ≡ expected m.time m.left log.end → ((e : RunEnd) → x ≡ EndOf e → ⊥) → m.left ≡ [] → m.time < end_at log.end
+none_left log m x h none empty =
+    let same : x ≡ expected m.time [] log.end = h ∙ ap (λ (rs : List CallRecord). expected m.time rs log.end) empty in
+    ltb-true m.time (end_at log.end) (end_not_due (nat_lt m.time (end_at log.end)) log.end (λ e i. none e (same ∙ i)))
 
 pub end_within : (end : RunEnd) → end_at end ≤ steps_by end
 end_within (Exit at code) = omega arith

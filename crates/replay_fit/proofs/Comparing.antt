@@ -12,9 +12,9 @@ use Rattle.log_model.specs.Logs.{IsRecord}
 use Rattle.replay_model.specs.Comparison.{Compared, first_different, arguments, arguments_of, allowed, bytes_compared, fields, CallOf, call_event}
 use Rattle.replay_model.specs.Comparison.{result as result_compared}
 use Rattle.replay_model.proofs.Agreement.{same_kind}
-use Rattle.replayer.specs.declared.difference.Difference.{Difference}
-use Rattle.replayer.specs.Differences.{IsFirst, arguments_compared}
-use Rattle.replayer.proofs.Firsts.{first_then, first_behind, first_before}
+use Rattle.replay_fit.specs.declared.difference.Difference.{Difference}
+use Rattle.replay_fit.specs.Differences.{IsFirst, arguments_compared}
+use Rattle.replay_fit.proofs.Firsts.{first_then, first_behind, first_before}
 use Rattle.replay_model.proofs.Transfers.{write_held}
 
 -- a call that waits in a state, of this kind, with the refusal that it has there

@@ -8,8 +8,8 @@ use Rattle.std.proofs.lemmas.Bool.Decides.{Decides-int_eq}
 use Rattle.std.proofs.lemmas.Bool.{false_from_ne_true}
 use Rattle.replay_model.specs.Comparison.{Compared, compared, first_different, bytes_compared}
 use Rattle.replay_model.proofs.Agreement.{first_agrees}
-use Rattle.replayer.specs.declared.difference.Difference.{Difference}
-use Rattle.replayer.specs.Differences.{IsFirst}
+use Rattle.replay_fit.specs.declared.difference.Difference.{Difference}
+use Rattle.replay_fit.specs.Differences.{IsFirst}
 
 pub first_same : (c : Compared) (cs : List Compared) → c.kept ≡ c.seen → first_different (c ∷ cs) ≡ first_different cs
 first_same c cs e = ap (λ (b : Bool). if b then first_different cs else Some c) ((Decides-int_eq c.kept c.seen).1 e)

@@ -1,67 +1,77 @@
 -- A check, step after step.
-use Rattle.std.proofs.Common.{◌≡◌, ℕ, suc, ◌+◌, ◌-◌, ◌^◌, ◌<◌, ◌≤◌, false, List, length, replicate, Option, Some, None, Ok, arith, ap, sym, ◌∙◌, subst}
+use Rattle.std.proofs.Common.{◌≡◌, ℕ, suc, ◌+◌, ◌^◌, ◌<◌, ◌≤◌, ◌⊎◌, inl, inr, Bool, false, Option, Some, None, arith, ap, ap₂, sym, ◌∙◌, subst}
+use Rattle.std.proofs.lemmas.Bool.{cases_lt}
 use Rattle.isa.specs.Machine.{State}
-use Rattle.log_model.specs.declared.CallRecord.{CallRecord}
-use Rattle.log_model.specs.Logs.{Log, IsLog, log_text, end_at}
+use Rattle.log_model.specs.Logs.{Log, end_at}
 use Rattle.replay_model.specs.declared.Divergence.{Divergence}
-use Rattle.replay_model.specs.Run.{Moment, start, advance}
-use Rattle.replay_model.specs.Comparison.{Compared, difference, divergence, divergence_from, or_later, at_step}
-use Rattle.replay_model.specs.Track.{IsOnTrack}
-use Rattle.replay_model.proofs.Track.{stays_on, on_track_start}
-use Rattle.replayer.specs.Steps.{moment_of, IsCheckedStep}
-use Rattle.replayer.specs.declared.run.Run.{Run}
-use Rattle.replayer.specs.declared.run.Checked.TheVariants.{Advanced}
+use Rattle.replay_model.specs.Run.{Moment, start, advance, moment_after}
+use Rattle.replay_model.specs.Comparison.{Compared, difference, divergence, at_step}
+use Rattle.replay_model.specs.Firsts.{difference_after}
+use Rattle.replay_model.proofs.Track.{step_time}
+use Rattle.replay_model.proofs.Offsets.{moment_later}
+use Rattle.replay_model.proofs.Firsts.{none_exactly, first_exactly}
+use Rattle.replay_run.specs.Runs.{RunAt}
+use Rattle.replay_fit.specs.Checks.{IsAdvanced, IsEnded, IsDifferent}
 
--- so many steps are checked: nothing differs in them, so the first difference from here on is that of the whole run
-pub record IsChecking (log : Log) (s : State) (i : ℕ) (run : Run) : Type 0 where
-  pub goes_on : run.machine.waits ≡ false
-  pub track : IsOnTrack log (moment_of run)
-  pub time : run.time ≡ i
-  pub rest : divergence_from log (end_at log.end + 1 - i) (moment_of run) ≡ divergence s log
+-- so many steps are done, and nothing differed before any of them
+pub record IsChecking (log : Log) (s : State) (i : ℕ) (run : RunAt) : Type 0 where
+  pub same_log : run.log ≡ log
+  pub goes_on : run.waits ≡ false
+  pub here : run.moment ≡ moment_after i (start s log)
+  pub time : run.moment.time ≡ i
+  pub none_before : (k : ℕ) → k < i → difference_after k s log ≡ None
 
-pub checking_start : (log : Log) (s : State) (run : Run) (records : List CallRecord) → IsLog log → length (log_text log) ≤ 2 ^ 26 → moment_of run ≡ record { time = 0; state = s; left = records; read = replicate 16 0; written = replicate 16 0 } → run.machine.waits ≡ false → records ≡ log.records → IsChecking log s 0 run
-checking_start log s run records form small h goes_on r =
-    let at_start : moment_of run ≡ start s log = h ∙ ap (λ (rs : List CallRecord). record { time = 0; state = s; left = rs; read = replicate 16 0; written = replicate 16 0 }) r in
-    let all : end_at log.end + 1 - 0 ≡ end_at log.end + 1 = omega arith in
-    record {
-      goes_on = goes_on;
-      track = subst (IsOnTrack log) (sym at_start) (on_track_start log s form small);
-      time = ap (λ (m : Moment). m.time) at_start;
-      rest = ap (divergence_from log (end_at log.end + 1 - 0)) at_start ∙ ap (λ (n : ℕ). divergence_from log n (start s log)) all;
-    }
+pub checking_start : (log : Log) (s : State) (waits : Bool) (run : RunAt) → run ≡ record { log = log; moment = start s log; waits = waits } → waits ≡ false → IsChecking log s 0 run
+checking_start log s waits run e goes_on = record {
+  same_log = ap (λ (r : RunAt). r.log) e;
+  goes_on = ap (λ (r : RunAt). r.waits) e ∙ goes_on;
+  here = ap (λ (r : RunAt). r.moment) e;
+  time = ap (λ (r : RunAt). r.moment.time) e;
+  none_before = λ k h. absurd (omega arith);
+}
 
--- what is left to check, by the next moment
-next_rest : (log : Log) (s : State) (i : ℕ) (run : Run) (o : Option Compared) → IsChecking log s i run → i < end_at log.end + 1 → difference log (moment_of run) ≡ o → or_later run.time o (divergence_from log (end_at log.end + 1 - (i + 1)) (advance (moment_of run))) ≡ divergence s log
-next_rest log s i run o c h d =
-    let left : suc (end_at log.end + 1 - (i + 1)) ≡ end_at log.end + 1 - i = omega arith in
-    ap (λ (x : Option Compared). or_later run.time x (divergence_from log (end_at log.end + 1 - (i + 1)) (advance (moment_of run)))) (sym d)
-    ∙ ap (λ (n : ℕ). divergence_from log n (moment_of run)) left ∙ c.rest
+module _ (log : Log) (s : State) (i : ℕ) (run : RunAt) (c : IsChecking log s i run) where
+  end_is : end_at run.log.end ≡ end_at log.end
+  end_is = ap (λ (l : Log). end_at l.end) c.same_log
 
-pub checking_more : (log : Log) (s : State) (i : ℕ) (run after : Run) → IsChecking log s i run → i < end_at log.end + 1 → IsCheckedStep log (moment_of run) (Ok Advanced) (moment_of after) → after.machine.waits ≡ false → IsChecking log s (i + 1) after
-checking_more log s i run after c h checked goes_on =
-    let stays = stays_on log (moment_of run) c.track checked.2 checked.0 in
-    let now = c.time in
-    let later : (advance (moment_of run)).time ≡ run.time + 1 = stays.1 in
-    let time : after.time ≡ (advance (moment_of run)).time = ap (λ (m : Moment). m.time) checked.1 in
-    record {
-      goes_on = goes_on;
-      track = subst (IsOnTrack log) (sym checked.1) stays.0;
-      time = omega arith;
-      rest = ap (divergence_from log (end_at log.end + 1 - (i + 1))) checked.1 ∙ next_rest log s i run None c h checked.0;
-    }
+  difference_here : difference_after i s log ≡ difference run.log run.moment
+  difference_here = ap₂ difference (sym c.same_log) (sym c.here)
 
-pub checking_ends : (log : Log) (s : State) (i : ℕ) (run : Run) → IsChecking log s i run → i < end_at log.end + 1 → (difference log (moment_of run) ≡ None) × (end_at log.end ≤ run.time) → None ≡ divergence s log
-checking_ends log s i run c h checked =
-    let time = c.time in
-    let last = checked.1 in
-    let none : 0 ≡ end_at log.end + 1 - (i + 1) = omega arith in
-    ap (λ (n : ℕ). or_later run.time None (divergence_from log n (advance (moment_of run)))) none ∙ next_rest log s i run None c h checked.0
+  none_to : difference run.log run.moment ≡ None → (k : ℕ) → k < i + 1 → difference_after k s log ≡ None
+  none_to d k h = by (cases_lt k i)
+    where
+      by : (k < i) ⊎ (i ≤ k) → difference_after k s log ≡ None
+      by (inl b) = c.none_before k b
+      by (inr b) = let same : i ≡ k = omega arith in subst (λ (n : ℕ). difference_after n s log ≡ None) same (difference_here ∙ d)
 
-pub checking_differs : (log : Log) (s : State) (i : ℕ) (run : Run) (d : Divergence) → IsChecking log s i run → i < end_at log.end + 1 → (x : Compared) × (difference log (moment_of run) ≡ Some x) × (d ≡ at_step run.time x) → Some d ≡ divergence s log
-checking_differs log s i run d c h checked =
-    ap (λ (x : Divergence). Some x) checked.2 ∙ next_rest log s i run (Some checked.0) c h checked.1
+  pub checking_more : (after : RunAt) → IsAdvanced run after → IsChecking log s (i + 1) after
+  checking_more after made =
+      let next : suc i ≡ i + 1 = omega arith in
+      let time = step_time run.log run.moment made.early made.agrees in
+      record {
+        same_log = ap (λ (r : RunAt). r.log) made.moved ∙ c.same_log;
+        goes_on = ap (λ (r : RunAt). r.waits) made.moved;
+        here = ap (λ (r : RunAt). r.moment) made.moved ∙ ap advance c.here ∙ sym (moment_later i (start s log)) ∙ ap (λ (n : ℕ). moment_after n (start s log)) next;
+        time = ap (λ (r : RunAt). r.moment.time) made.moved ∙ time ∙ ap (λ (n : ℕ). n + 1) c.time;
+        none_before = none_to made.agrees;
+      }
 
-pub checking_over : (log : Log) (s : State) (i : ℕ) (run : Run) → IsChecking log s i run → end_at log.end + 1 ≤ i → None ≡ divergence s log
-checking_over log s i run c h =
-    let none : 0 ≡ end_at log.end + 1 - i = omega arith in
-    ap (λ (n : ℕ). divergence_from log n (moment_of run)) none ∙ c.rest
+  pub checking_ends : IsEnded run → None ≡ divergence s log
+  checking_ends ended =
+      let late = ended.late in
+      let time = c.time in
+      let end = end_is in
+      sym ((none_exactly s log).1 (record { none = λ k h. none_to ended.agrees k (omega arith) }))
+
+  pub checking_over : end_at log.end + 1 ≤ i → None ≡ divergence s log
+  checking_over h = sym ((none_exactly s log).1 (record { none = λ k b. c.none_before k (omega arith) }))
+
+  pub checking_differs : (d : Divergence) → i < end_at log.end + 1 → IsDifferent run d → Some d ≡ divergence s log
+  checking_differs d h different =
+      let step : d.step ≡ i = ap (λ (x : Divergence). x.step) different.divergence ∙ c.time in
+      let what : different.first ≡ record { field = d.field; kept = d.kept; seen = d.seen } = ap (λ (x : Divergence). record { field = x.field; kept = x.kept; seen = x.seen }) (sym different.divergence) in
+      sym ((first_exactly s log d).1 (record {
+        within = omega arith;
+        differs = ap (λ (n : ℕ). difference_after n s log) step ∙ difference_here ∙ different.differs ∙ ap (λ (x : Compared). Some x) what;
+        none_before = λ k b. c.none_before k (omega arith);
+      }))

@@ -2,7 +2,7 @@
 use Rattle.std.specs.Prelude.{◌≡◌, ℕ, List, [], ◌∷◌, Some, None, Result, Ok, Err, slice_index}
 use Rattle.replay_model.specs.Comparison.{Compared, compared, first_different}
 use Rattle.replay_model.specs.declared.Field.TheVariants as field
-use Rattle.replayer.specs.declared.difference.Difference.{Difference}
+use Rattle.replay_fit.specs.declared.difference.Difference.{Difference}
 
 abbrev pub compared_of : Difference → Compared
 compared_of d = record { field = d.field; kept = d.kept; seen = d.seen }

@@ -2,7 +2,7 @@
 
 ghost use Rattle.std.specs.Prelude.{◌≡◌, ◌≤◌, ◌<◌, ◌^◌, length, ◌∷◌, []};
 ghost use Rattle.replay_model.specs.Comparison.{compared, allowed, bytes_compared, result as result_compared, at_step};
-ghost use Rattle.replayer.specs.Differences.{IsFirst, arguments_compared, compared_of};
+ghost use Rattle.replay_fit.specs.Differences.{IsFirst, arguments_compared, compared_of};
 
 use replay_model::{Divergence, Field};
 

@@ -1,52 +1,50 @@
-use Rattle.std.proofs.Common.{◌≡◌, ℕ, ◌<◌, None, Some, arith, ap, sym, ◌∙◌, subst}
-use Rattle.log_model.specs.Logs.{end_at}
-use Rattle.replay_model.specs.Run.{Moment}
-use Rattle.replay_model.specs.Comparison.{expected, at_step}
-use Rattle.replayer.specs.Differences.{compared_of}
-use Rattle.replayer.specs.Steps.{moment_of, expected_of, IsReady, IsFinished}
-use Rattle.replayer.proofs.Checking.{end_expected, end_small, end_due, before_end, end_within, difference_is}
-use Rattle.replayer.proofs.Dues.{goes, ready, done}
-use Rattle.replayer.proofs.run.Run.check_step.Goals as goal
+use Rattle.std.proofs.Common.{◌≡◌, ℕ, ◌<◌, ◌≤◌, false, None, Some, arith, ap, sym, ◌∙◌, subst}
+use Rattle.log_model.specs.Logs.{Log, end_at}
+use Rattle.replay_model.specs.Run.{advance}
+use Rattle.replay_model.specs.Comparison.{difference, at_step}
+use Rattle.replay_run.specs.Runs.{RunAt, hart_of, IsReady, IsFinished}
+use Rattle.replay_run.specs.Expects.{expected_of}
+use Rattle.replay_run.proofs.Steps.{before_end, ready, done, run_is}
+use Rattle.replay_fit.specs.Differences.{compared_of}
+use Rattle.replay_fit.proofs.Checking.{formed, end_expected, end_small, end_within, none_left, difference_is}
+use Rattle.replay_fit.proofs.check.check_step.Goals as goal
 
-pub returns-in-Err-clause-checked : goal.returns-in-Err-clause-checked
-returns-in-Err-clause-checked c =
-    let m = moment_of c.args.self.now in
-    let due = c.expected-expected.ensures ∙ ap (expected m.time m.left) c.end.ensures in
-    let d = compared_of c.in-Err.difference in
-    let differs = difference_is c.args.log.now m c.inputs.result (expected_of c.expected-expected.result) (Some d) c.inputs.ensures due (sym c.is_limit.ensures ∙ c.if-is_limit.false) c.in-Err.ensures.first in
-    let time : c.step.new.self.time ≡ c.args.self.now.time = ap (λ (x : Moment). x.time) c.in-Err.ensures.rest in
-    (d, differs, c.at_step.ensures ∙ ap (λ (t : ℕ). at_step t d) time)
+pub step-requires-clause-form : goal.step-requires-clause-form
+step-requires-clause-form c = formed c.args.run.now (expected_of c.expected-expected.result) c.form.ensures c.expected-expected.ensures
 
-pub returns-in-End-clause-checked : goal.returns-in-End-clause-checked
-returns-in-End-clause-checked c =
-    let m = moment_of c.args.self.now in
-    let due = c.expected-expected.ensures ∙ ap (expected m.time m.left) c.end.ensures in
-    let agrees = difference_is c.args.log.now m c.inputs.result (expected_of c.expected-expected.result) None c.inputs.ensures due (sym c.is_limit.ensures ∙ c.if-is_limit.false) c.in-Ok.ensures.first in
-    (agrees, end_due c.args.log.now m (expected_of c.expected-expected.result) c.in-End.field-0 due (ap expected_of c.in-End.is))
+pub at_step-requires : goal.at_step-requires
+at_step-requires c = omega (arith, end_small c.args.run.now.log.end c.form.ensures.form.end, c.requires.not_over, c.time-time.ensures)
+
+pub returns-in-Err : goal.returns-in-Err
+returns-in-Err c =
+    let r = c.args.run.now in
+    let inputs = c.inputs-inputs.ensures ∙ ap (λ (l : Log). l.inputs) c.log.ensures in
+    record {
+      first = compared_of c.in-Err.difference;
+      differs = difference_is r.log r.moment c.inputs-inputs.result (expected_of c.expected-expected.result) (Some (compared_of c.in-Err.difference)) inputs c.expected-expected.ensures (sym c.is_limit.ensures ∙ c.if-is_limit.false) c.in-Err.ensures.first;
+      divergence = c.at_step.ensures ∙ ap (λ (t : ℕ). at_step t (compared_of c.in-Err.difference)) c.time-time.ensures;
+    }
 
 pub finish-requires : goal.finish-requires
 finish-requires c =
-    let m = moment_of c.args.self.now in
-    let due = c.expected-expected.ensures ∙ ap (expected m.time m.left) c.end.ensures in
-    let agrees = difference_is c.args.log.now m c.inputs.result (expected_of c.expected-expected.result) None c.inputs.ensures due (sym c.is_limit.ensures ∙ c.if-is_limit.false) c.in-Ok.ensures.first in
-    let below : m.time < end_at c.args.log.now.end = before_end c.args.log.now m (expected_of c.expected-expected.result) c.requires.track due (λ e h. c.in_default.not-End e (end_expected c.expected-expected.result e h)) in
-    let within = end_within c.args.log.now.end in
-    let hart = c.step.new.self.machine in
-    let time : c.step.new.self.time ≡ c.args.self.now.time = ap (λ (x : Moment). x.time) c.in-Ok.ensures.rest in
+    let r = c.args.run.now in
+    let inputs = c.inputs-inputs.ensures ∙ ap (λ (l : Log). l.inputs) c.log.ensures in
+    let agrees = difference_is r.log r.moment c.inputs-inputs.result (expected_of c.expected-expected.result) None inputs c.expected-expected.ensures (sym c.is_limit.ensures ∙ c.if-is_limit.false) c.in-Ok.ensures.first in
+    let early = before_end r c.form.ensures (none_left r.log r.moment (expected_of c.expected-expected.result) c.expected-expected.ensures (λ e h. c.in_default.not-End e (end_expected c.expected-expected.result e h))) in
+    let within = end_within r.log.end in
+    let time : c.step.new.run.moment.time ≡ r.moment.time = ap (λ (x : RunAt). x.moment.time) c.in-Ok.ensures.rest in
     record {
-      ready = subst (λ (x : Moment). IsReady hart x c.in-Ok.stepped) (sym c.in-Ok.ensures.rest) (ready m c.in-Ok.stepped hart (goes c.args.log.now m c.requires.form.inputs c.requires.track (omega arith) agrees) c.in-Ok.ensures.step);
-      time = omega (arith, end_small c.args.log.now.end c.requires.form.end);
+      ready = subst (λ (x : RunAt). IsReady x c.in-Ok.stepped) (sym c.in-Ok.ensures.rest) (ready r c.in-Ok.stepped (hart_of c.step.new.run) c.form.ensures (omega arith) agrees c.in-Ok.ensures.step);
+      time = omega (arith, end_small r.log.end c.form.ensures.form.end);
     }
 
 pub returns : goal.returns
 returns c =
-    let m = moment_of c.args.self.now in
-    let due = c.expected-expected.ensures ∙ ap (expected m.time m.left) c.end.ensures in
-    let agrees = difference_is c.args.log.now m c.inputs.result (expected_of c.expected-expected.result) None c.inputs.ensures due (sym c.is_limit.ensures ∙ c.if-is_limit.false) c.in-Ok.ensures.first in
-    let below : m.time < end_at c.args.log.now.end = before_end c.args.log.now m (expected_of c.expected-expected.result) c.requires.track due (λ e h. c.in_default.not-End e (end_expected c.expected-expected.result e h)) in
-    let hart = c.step.new.self.machine in
-    let finished = subst (λ (x : Moment). IsFinished x c.in-Ok.stepped c.finish.result (moment_of c.finish.new.self)) c.in-Ok.ensures.rest c.finish.ensures.finished in
-    record {
-      checked = (agrees, (done m c.in-Ok.stepped hart c.finish.result (moment_of c.finish.new.self) c.in-Ok.ensures.step finished).moved, below);
-      goes_on = λ h. c.finish.ensures.goes_on;
-    }
+    let r = c.args.run.now in
+    let inputs = c.inputs-inputs.ensures ∙ ap (λ (l : Log). l.inputs) c.log.ensures in
+    let agrees = difference_is r.log r.moment c.inputs-inputs.result (expected_of c.expected-expected.result) None inputs c.expected-expected.ensures (sym c.is_limit.ensures ∙ c.if-is_limit.false) c.in-Ok.ensures.first in
+    let early = before_end r c.form.ensures (none_left r.log r.moment (expected_of c.expected-expected.result) c.expected-expected.ensures (λ e h. c.in_default.not-End e (end_expected c.expected-expected.result e h))) in
+    let finished = subst (λ (x : RunAt). IsFinished x.moment c.in-Ok.stepped c.finish.result c.finish.new.self.moment) c.in-Ok.ensures.rest c.finish.ensures.finished in
+    let moved = (done r.moment c.in-Ok.stepped (hart_of c.step.new.run) c.finish.result c.finish.new.self.moment c.in-Ok.ensures.step finished).moved in
+    let same_log : c.finish.new.self.log ≡ r.log = c.finish.ensures.rest.0 ∙ ap (λ (x : RunAt). x.log) c.in-Ok.ensures.rest in
+    record { agrees = agrees; early = early; moved = run_is c.finish.new.self r.log (advance r.moment) false same_log moved c.finish.ensures.rest.1 }

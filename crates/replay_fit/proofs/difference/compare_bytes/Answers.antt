@@ -2,9 +2,9 @@ use Rattle.std.proofs.Common.{◌≡◌, ◌+◌, ◌∷◌, [], drop, get_or, a
 use Rattle.std.proofs.lemmas.Result.{err_from_is_err_and}
 use Rattle.replay_model.specs.Comparison.{compared, first_different, bytes_compared}
 use Rattle.replay_model.specs.declared.Field.TheVariants as field
-use Rattle.replayer.specs.Differences.{compared_of}
-use Rattle.replayer.proofs.Firsts.{first_behind, first_before, bytes_step, bytes_done}
-use Rattle.replayer.proofs.difference.compare_bytes.Goals as goal
+use Rattle.replay_fit.specs.Differences.{compared_of}
+use Rattle.replay_fit.proofs.Firsts.{first_behind, first_before, bytes_step, bytes_done}
+use Rattle.replay_fit.proofs.difference.compare_bytes.Goals as goal
 
 pub loop-i-preserved : goal.loop-i-preserved
 loop-i-preserved c =

@@ -1,6 +1,6 @@
 use Rattle.std.proofs.Common.{◌≡◌, drop}
 use Rattle.replay_model.specs.Comparison.{first_different, bytes_compared}
-use Rattle.replayer.proofs.difference.compare_bytes.Given as goal
+use Rattle.replay_fit.proofs.difference.compare_bytes.Given as goal
 
 -- the first difference among the bytes from here on is that among all
 abbrev pub invariant-loop-i : goal.invariant-loop-i
