@@ -3,3 +3,4 @@ mod Origins
 mod FlowOrder
 mod OriginsRead
 mod Members
+pub mod Located

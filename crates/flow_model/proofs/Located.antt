@@ -1,9 +1,10 @@
--- The targets and origins of an instruction that fits are locations.
-use Rattle.std.proofs.Common.{ℕ, ◌+◌, ◌<◌, ◌==◌, nat_lt, List, [], ◌∷◌, ◌++◌, arith, Bool, true, false, if◌then◌else◌}
+-- The targets and origins of an instruction that fits are locations, and so are those of a step. Crates above cite these
+-- lemmas.
+use Rattle.std.proofs.Common.{ℕ, ◌+◌, ◌<◌, ◌==◌, nat_lt, List, [], ◌∷◌, ◌++◌, zero, suc, ◌≡◌, subst, arith, Bool, true, false, if◌then◌else◌}
 use Rattle.std.specs.Ordering.{int_eq}
 use Rattle.std.specs.declared.cmp.Ordering.{Ordering}
 use Rattle.std.specs.declared.cmp.Ordering.TheVariants.{Less, Equal, Greater}
-use Rattle.std.specs.Prelude.{pos}
+use Rattle.std.specs.Prelude.{pos, Option, Some, None, map, slice_get}
 use Rattle.isa.specs.Encodings.{Fits}
 use Rattle.isa.specs.declared.Instr.{Instr}
 use Rattle.isa.specs.declared.Instr.TheVariants.{Lui, Auipc, Jal, Jalr, Beq, Bne, Blt, Bge, Bltu, Bgeu, Lb, Lh, Lw, Lbu, Lhu, Sb, Sh, Sw, Addi, Slti, Sltiu, Xori, Ori, Andi, Slli, Srli, Srai, Add, Sub, Sll, Slt, Sltu, Xor, Srl, Sra, Or, And, Fence, Ecall, Ebreak}
@@ -16,7 +17,9 @@ use Rattle.flow_model.specs.declared.Rule.TheVariants.{Copy, Compute}
 use Rattle.sorted_set.specs.Sets.{union, inserted, placed}
 use Rattle.flow_model.specs.Orders.{loc_cmp}
 use Rattle.isa.specs.Machine.{wrap}
-use Rattle.flow_model.specs.Flow.{Target, lane, lanes, to_register, nothing, computed, in_first_lane, loaded_byte, signed_load, moved_or, each_lane, flow, cleared}
+use Rattle.flow_model.specs.Flow.{Target, lane, lanes, to_register, nothing, computed, in_first_lane, loaded_byte, signed_load, moved_or, each_lane, flow, cleared, origins_by, loc_eq, is_received, from_call, from_instruction_or}
+use Rattle.flow_model.specs.declared.StepSeen.{StepSeen}
+use Rattle.flow_model.specs.declared.CallSeen.{CallSeen}
 use Rattle.flow_model.specs.Ranges.{IsLocation, AreLocations, IsTable}
 
 either : (b : Bool) (xs ys : List Loc) → AreLocations xs → AreLocations ys → AreLocations (if b then xs else ys)
@@ -149,3 +152,32 @@ cleared_table kind.Write = to_register_table 10 nothing (omega arith) in-nothing
 cleared_table kind.Other = to_register_table 10 nothing (omega arith) in-nothing
 cleared_table kind.Clock = both_tables (to_register 10 nothing) (to_register 11 nothing) (to_register_table 10 nothing (omega arith) in-nothing) (to_register_table 11 nothing (omega arith) in-nothing)
 cleared_table kind.Exit = tt
+
+pub looked_up : (ts : List Target) (l : Loc) → IsTable ts → IsLocation l → AreLocations (origins_by ts l)
+looked_up [] l a h = (h, tt)
+looked_up (t ∷ ts) l a h = by (loc_eq t.loc l) (looked_up ts l a.2 h) where
+  by : (b : Bool) → AreLocations (origins_by ts l) → AreLocations (if b then t.origins else origins_by ts l)
+  by true ih = a.1
+  by false ih = ih
+
+pub of_call : (call : CallSeen) (l : Loc) → IsLocation l → AreLocations (from_call call l)
+of_call call l h = by (is_received call l) where
+  by : (b : Bool) → AreLocations (if b then [] else origins_by (cleared call.kind) l)
+  by true = tt
+  by false = looked_up (cleared call.kind) l (cleared_table call.kind) h
+
+pub of_step : (rule : Rule) (step : StepSeen) (call : Option CallSeen) (l : Loc) → Fits step.instr → IsLocation l → AreLocations (from_instruction_or rule step call l)
+of_step rule step None l f h = looked_up (flow rule step.instr step.place) l (flow_table rule step.instr step.place f) h
+of_step rule step (Some call) l f h = of_call call l h
+
+-- the origins of a target of a table are locations
+pub origins_located : (ts : List Target) (i : ℕ) (ls : List Loc) → IsTable ts → slice_get (map (λ t. t.origins) ts) i ≡ Some ls → AreLocations ls
+origins_located [] i ls a e = cc
+origins_located (t ∷ ts) zero ls a e = let same : t.origins ≡ ls = cc in subst AreLocations same a.1
+origins_located (t ∷ ts) (suc i) ls a e = origins_located ts i ls a.2 e
+
+-- and so is a target
+pub target_located : (ts : List Target) (i : ℕ) (l : Loc) → IsTable ts → slice_get (map (λ t. t.loc) ts) i ≡ Some l → IsLocation l
+target_located [] i l a e = cc
+target_located (t ∷ ts) zero l a e = let same : t.loc ≡ l = cc in subst IsLocation same a.0
+target_located (t ∷ ts) (suc i) l a e = target_located ts i l a.2 e

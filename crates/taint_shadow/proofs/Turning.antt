@@ -1,0 +1,118 @@
+-- Labels that were made stand and mean the same, whatever is made after them.
+use Rattle.std.proofs.Common.{◌≡◌, ◌≢◌, ◌<◌, ◌^◌, ◌==◌, nat_lt, ℕ, zero, suc, ◌+◌, ◌-◌, ◌≤◌, List, [], ◌∷◌, take, drop, get_or, length, refl, arith, ap, ap₂, sym, ◌∙◌, subst, Bool, true, false, if◌then◌else◌}
+use Rattle.std.proofs.lemmas.List.{take_all}
+use Rattle.std.specs.Prelude.{Option, Some, None, map, slice_get}
+use Rattle.flow_model.specs.declared.Loc.{Loc}
+use Rattle.flow_model.specs.declared.Loc.TheVariants.{Reg, Mem}
+use Rattle.flow_model.specs.declared.CallSeen.{CallSeen}
+use Rattle.flow_model.specs.declared.SourceByte.{SourceByte}
+use Rattle.flow_model.specs.Flow.{Target, origins_by, loc_eq, distance}
+use Rattle.flow_model.specs.Origins.{Policy, byte_at}
+use Rattle.flow_model.specs.Ranges.{IsLocation, AreLocations, IsTable}
+use Rattle.taint_shadow.specs.declared.places.Places.{Places}
+use Rattle.taint_shadow.specs.Labels.{LabelWords, MakesLabel, KeepsLabels}
+use Rattle.taint_shadow.specs.Places.{kept, AreKept}
+use Rattle.taint_shadow.specs.Steps.{meaning_or, meaning_at, AreStanding, Holds, united_over, is_among, introduced}
+
+-- a table from a target on
+first_target : (ts : List Target) (i : ℕ) (l : Loc) (ls : List Loc) → slice_get (map (λ t. t.loc) ts) i ≡ Some l → slice_get (map (λ t. t.origins) ts) i ≡ Some ls
+    → drop i ts ≡ record { loc = l; origins = ls } ∷ drop (i + 1) ts
+first_target [] i l ls e f = cc
+first_target (t ∷ ts) zero l ls e f =
+    let make : Loc → List Loc → Target = λ a b. record { loc = a; origins = b } in
+    let p : t.loc ≡ l = cc in
+    let q : t.origins ≡ ls = cc in
+    ap (λ (a : Target). a ∷ ts) (ap (λ a. make a t.origins) p ∙ ap (make l) q)
+first_target (t ∷ ts) (suc i) l ls e f =
+    let next : suc i + 1 ≡ suc (i + 1) = omega arith in
+    rw next (first_target ts i l ls e f)
+
+pub first_located : (ls : List Loc) (d : Loc) → 2 ≤ length ls → AreLocations ls → IsLocation (get_or ls 0 d)
+first_located [] d h a = absurd (omega arith)
+first_located (l ∷ ls) d h a = a.0
+
+module _ {A L M : Type 0} (words : LabelWords A L M) where
+  pub keeps_then : (a b c : A) → KeepsLabels words a b → KeepsLabels words b c → KeepsLabels words a c
+  keeps_then a b c k h label was = let one = k label was in let two = h label one.stands in record { stands = two.stands; means = two.means ∙ one.means }
+
+  pub made_kept : (a b : A) (m : M) (label : L) → KeepsLabels words a b → MakesLabel words a m label → MakesLabel words b m label
+  made_kept a b m label k made = let now = k label made.stands in record { stands = now.stands; means = now.means ∙ made.means }
+
+  pub standing_kept : (a b : A) (p : Places L) → KeepsLabels words a b → AreStanding words a p → AreStanding words b p
+  standing_kept a b p k s = record { at = λ l label here is. (k label (s.at l label here is)).stands }
+
+  pub meaning_kept : (a b : A) (p : Places L) → KeepsLabels words a b → AreStanding words a p → (l : Loc) → IsLocation l → meaning_at words b p l ≡ meaning_at words a p l
+  meaning_kept a b p k s l here = by (kept p l) refl where
+    by : (o : Option L) → kept p l ≡ o → meaning_or words b o l ≡ meaning_or words a o l
+    by None e = refl
+    by (Some label) e = (k label (s.at l label here e)).means
+
+  pub holds_kept : (a b : A) (p : Places L) (f : Loc → M) → KeepsLabels words a b → AreStanding words a p → Holds words a p f → Holds words b p f
+  holds_kept a b p f k s h = record { at = λ l here. meaning_kept a b p k s l here ∙ h.at l here }
+
+  pub united_same : (f g : Loc → M) → ((l : Loc) → IsLocation l → f l ≡ g l) → (ls : List Loc) → AreLocations ls → united_over words f ls ≡ united_over words g ls
+  united_same f g same [] here = refl
+  united_same f g same (l ∷ []) here = same l here.0
+  united_same f g same (l ∷ m ∷ ls) here = ap₂ words.united (same l here.0) (united_same f g same (m ∷ ls) here.1)
+
+  -- what some locations have is what the first has with what the others have
+  pub united_first : (f : Loc → M) (ls : List Loc) (d : Loc) → 2 ≤ length ls
+      → words.united (f (get_or ls 0 d)) (united_over words f (take (length ls - 1) (drop 1 ls))) ≡ united_over words f ls
+  united_first f [] d h = absurd (omega arith)
+  united_first f (l ∷ []) d h = absurd (omega arith)
+  united_first f (l ∷ m ∷ ls) d h = ap (λ (rest : List Loc). words.united (f l) (united_over words f rest)) (take_all (length (l ∷ m ∷ ls) - 1) (m ∷ ls) (omega arith))
+
+  -- the first target's label is put in place of what the targets after it left there: the places were `mid` before the
+  -- label was put
+  pub with_first : (b : A) (mid new : Places L) (f : Loc → M) (ts : List Target) (i : ℕ) (l : Loc) (ls : List Loc) (label : L)
+      → slice_get (map (λ t. t.loc) ts) i ≡ Some l → slice_get (map (λ t. t.origins) ts) i ≡ Some ls
+      → MakesLabel words b (united_over words f ls) label
+      → Holds words b mid (λ q. united_over words f (origins_by (drop (i + 1) ts) q))
+      → AreKept new (λ q. if loc_eq l q then Some label else kept mid q)
+      → Holds words b new (λ q. united_over words f (origins_by (drop i ts) q))
+  with_first b mid new f ts i l ls label e g made m n = record {
+    at = λ q here.
+        ap (λ (o : Option L). meaning_or words b o q) (n.at q here) ∙ by q here (loc_eq l q) refl
+        ∙ ap (λ (us : List Target). united_over words f (origins_by us q)) (sym (first_target ts i l ls e g));
+  }
+    where
+      by : (q : Loc) → IsLocation q → (o : Bool) → loc_eq l q ≡ o
+          → meaning_or words b (if o then Some label else kept mid q) q ≡ united_over words f (origins_by (record { loc = l; origins = ls } ∷ drop (i + 1) ts) q)
+      by q here true is = made.means ∙ ap (λ (c : Bool). united_over words f (if c then ls else origins_by (drop (i + 1) ts) q)) (sym is)
+      by q here false is = m.at q here ∙ ap (λ (c : Bool). united_over words f (if c then ls else origins_by (drop (i + 1) ts) q)) (sym is)
+
+  -- what is kept stands after a label that stands was put
+  pub standing_put : (a : A) (old new : Places L) (l : Loc) (label : L) → AreStanding words a old → words.stands a label
+      → AreKept new (λ q. if loc_eq l q then Some label else kept old q) → AreStanding words a new
+  standing_put a old new l label s here n = record { at = λ q x in_range e. by q x in_range (loc_eq l q) (sym (n.at q in_range) ∙ e) } where
+    some_is : (x y : L) → Some x ≡ Some y → x ≡ y
+    some_is x y e = cc
+
+    by : (q : Loc) (x : L) → IsLocation q → (o : Bool) → (if o then Some label else kept old q) ≡ Some x → words.stands a x
+    by q x in_range true e = subst (words.stands a) (some_is label x e) here
+    by q x in_range false e = s.at q x in_range e
+
+  -- the label of one more received byte is put
+  pub one_received : (a : A) (old new : Places L) (policy : Policy) (call : CallSeen) (i : ℕ) (b : SourceByte) (label : L) (f : Loc → M)
+      → call.place + i < 2 ^ 32 → b ≡ record { channel = call.channel; offset = call.offset + i }
+      → MakesLabel words a (introduced words policy b) label
+      → Holds words a old (λ q. if is_among call.place i q then introduced words policy (byte_at call q) else f q)
+      → AreKept new (λ q. if loc_eq (Mem (call.place + i)) q then Some label else kept old q)
+      → Holds words a new (λ q. if is_among call.place (i + 1) q then introduced words policy (byte_at call q) else f q)
+  one_received a old new policy call i b label f inside is made m n = record { at = λ q here. ap (λ (o : Option L). meaning_or words a o q) (n.at q here) ∙ by q here } where
+    here_or : (p : ℕ) → p < 2 ^ 32 → (o : Bool) → (call.place + i == p) ≡ o
+        → meaning_or words a (if o then Some label else kept old (Mem p)) (Mem p) ≡ (if nat_lt (distance call.place p) (i + 1) then introduced words policy (byte_at call (Mem p)) else f (Mem p))
+    here_or p small true e =
+        let same : call.place + i ≡ p = grind arith in
+        let far : distance call.place p ≡ i = omega arith in
+        let last : nat_lt (distance call.place p) (i + 1) ≡ true = grind arith in
+        let name : b ≡ byte_at call (Mem p) = is ∙ ap (λ (k : ℕ). record { channel = call.channel; offset = call.offset + k }) (sym far) in
+        made.means ∙ ap (introduced words policy) name ∙ sym (ap (λ (c : Bool). if c then introduced words policy (byte_at call (Mem p)) else f (Mem p)) last)
+    here_or p small false e =
+        let apart : distance call.place p ≢ i = (λ far. let is : call.place + i ≡ p = omega arith in absurd (grind arith)) in
+        let same : nat_lt (distance call.place p) i ≡ nat_lt (distance call.place p) (i + 1) = grind arith in
+        m.at (Mem p) small ∙ ap (λ (c : Bool). if c then introduced words policy (byte_at call (Mem p)) else f (Mem p)) same
+
+    by : (q : Loc) → IsLocation q → meaning_or words a (if loc_eq (Mem (call.place + i)) q then Some label else kept old q) q ≡ (if is_among call.place (i + 1) q then introduced words policy (byte_at call q) else f q)
+    by (Reg r k) here = m.at (Reg r k) here
+    by (Mem p) here = here_or p here (call.place + i == p) refl

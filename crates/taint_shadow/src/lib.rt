@@ -1,0 +1,12 @@
+//! The shadow of registers and memory: what each location is labelled with, and how one step of a run turns the labels.
+//!
+//! It is generic over the labels: an analysis by sets of source bytes and one by nodes of a graph are two uses of it.
+#![tactic(auto)]
+
+mod labels;
+mod places;
+mod steps;
+
+pub use labels::Labels;
+pub use places::Places;
+pub use steps::{label_at, step};

@@ -1,0 +1,74 @@
+//! What is kept for locations.
+
+ghost use Rattle.std.specs.Prelude.{◌≡◌, ◌+◌, ◌*◌, ◌<◌, None, Some, length, replicate, if◌then◌else◌, IfOk, OnOk};
+ghost use Rattle.std.specs.Option.{option_copied};
+ghost use Rattle.flow_model.specs.Flow.{loc_eq};
+ghost use Rattle.flow_model.specs.Ranges.{IsLocation};
+
+use flow_model::Loc;
+use no_memory::NoMemory;
+use std::alloc::Global;
+use std::collections::HashMap;
+
+/// The lanes of 32 registers.
+const LANES: usize = 4 * 32;
+
+/// A value, or none, for each lane of the 32 registers and for each byte of memory. A byte of memory without a value takes no
+/// room.
+#[derive(Drop)]
+pub struct Places<L: Drop> {
+    registers: Vec<Option<L>>,
+    memory: HashMap<u32, L>,
+    ghost lanes: { length registers.items ≡ 4 * 32 },
+}
+
+impl<L: Drop> Places<L> {
+    ghost use Rattle.taint_shadow.specs.Places.{kept, AreKept};
+
+    /// No value for any location.
+    pub fn new(alloc: Global) -> Result<Self, NoMemory>
+        ensures { IfOk result (λ p. AreKept p (λ l. None)) }
+    {
+        let mut registers = Vec::with_capacity(alloc, LANES)?;
+        for _ in 0..LANES {
+            registers.push(None)?;
+        }
+        Ok(Places {
+            registers,
+            memory: HashMap::new(alloc),
+        })
+    }
+
+    /// The value of a location, if it has one.
+    pub fn get(&self, loc: Loc) -> Option<&L>
+        requires { IsLocation loc }
+        ensures { option_copied result ≡ kept self.now loc }
+    {
+        match loc {
+            Loc::Reg { number, lane } => self.registers[lane_index(number, lane)].as_ref(),
+            Loc::Mem { place } => self.memory.get(&place),
+        }
+    }
+
+    /// Puts a value in place of the one of a location.
+    pub fn set(&mut self, loc: Loc, value: L) -> Result<(), NoMemory>
+        requires { IsLocation loc }
+        ensures { OnOk result (AreKept self.new (λ l. if loc_eq loc l then Some value else kept self.old l)) }
+    {
+        match loc {
+            Loc::Reg { number, lane } => self.registers[lane_index(number, lane)] = Some(value),
+            Loc::Mem { place } => {
+                self.memory.insert(place, value)?;
+            }
+        }
+        Ok(())
+    }
+}
+
+/// The lanes of a register stand side by side.
+fn lane_index(number: u8, lane: u8) -> usize
+    requires { lane < 4 }
+    ensures { result ≡ 4 * number + lane }
+{
+    4 * number as usize + lane as usize
+}
