@@ -12,7 +12,7 @@ use Rattle.flow_model.specs.Ranges.{IsLocation, AreLocations, IsTable}
 use Rattle.taint_shadow.specs.declared.places.Places.{Places}
 use Rattle.taint_shadow.specs.Labels.{LabelWords, MakesLabel, KeepsLabels}
 use Rattle.taint_shadow.specs.Places.{kept, AreKept}
-use Rattle.taint_shadow.specs.Steps.{meaning_or, meaning_at, AreStanding, Holds, united_over, is_among, introduced}
+use Rattle.taint_shadow.specs.Steps.{meaning_or, meaning_at, AreStanding, Holds, IsPut, united_over, is_among, introduced}
 
 -- a table from a target on
 first_target : (ts : List Target) (i : ℕ) (l : Loc) (ls : List Loc) → slice_get (map (λ t. t.loc) ts) i ≡ Some l → slice_get (map (λ t. t.origins) ts) i ≡ Some ls
@@ -26,6 +26,13 @@ first_target (t ∷ ts) zero l ls e f =
 first_target (t ∷ ts) (suc i) l ls e f =
     let next : suc i + 1 ≡ suc (i + 1) = omega arith in
     rw next (first_target ts i l ls e f)
+
+-- what compares as equal is
+same_loc : (l q : Loc) → loc_eq l q ≡ true → l ≡ q
+same_loc (Reg r i) (Reg s j) e = let a : r ≡ s = grind arith in let b : i ≡ j = grind arith in ap₂ Reg a b
+same_loc (Reg r i) (Mem p) e = absurd (grind arith)
+same_loc (Mem p) (Reg r i) e = absurd (grind arith)
+same_loc (Mem p) (Mem q) e = let a : p ≡ q = grind arith in ap Mem a
 
 pub first_located : (ls : List Loc) (d : Loc) → 2 ≤ length ls → AreLocations ls → IsLocation (get_or ls 0 d)
 first_located [] d h a = absurd (omega arith)
@@ -62,57 +69,79 @@ module _ {A L M : Type 0} (words : LabelWords A L M) where
   united_first f (l ∷ []) d h = absurd (omega arith)
   united_first f (l ∷ m ∷ ls) d h = ap (λ (rest : List Loc). words.united (f l) (united_over words f rest)) (take_all (length (l ∷ m ∷ ls) - 1) (m ∷ ls) (omega arith))
 
-  -- the first target's label is put in place of what the targets after it left there: the places were `mid` before the
-  -- label was put
+  -- the first target's label is put in place of what the targets after it left there: the places were `mid` before that
   pub with_first : (b : A) (mid new : Places L) (f : Loc → M) (ts : List Target) (i : ℕ) (l : Loc) (ls : List Loc) (label : L)
       → slice_get (map (λ t. t.loc) ts) i ≡ Some l → slice_get (map (λ t. t.origins) ts) i ≡ Some ls
-      → MakesLabel words b (united_over words f ls) label
+      → words.means b label ≡ united_over words f ls
       → Holds words b mid (λ q. united_over words f (origins_by (drop (i + 1) ts) q))
-      → AreKept new (λ q. if loc_eq l q then Some label else kept mid q)
+      → IsPut words b l label mid new
       → Holds words b new (λ q. united_over words f (origins_by (drop i ts) q))
   with_first b mid new f ts i l ls label e g made m n = record {
-    at = λ q here.
-        ap (λ (o : Option L). meaning_or words b o q) (n.at q here) ∙ by q here (loc_eq l q) refl
-        ∙ ap (λ (us : List Target). united_over words f (origins_by us q)) (sym (first_target ts i l ls e g));
+    at = λ q here. n.meaning q here ∙ by q here (loc_eq l q) refl ∙ ap (λ (us : List Target). united_over words f (origins_by us q)) (sym (first_target ts i l ls e g));
   }
     where
       by : (q : Loc) → IsLocation q → (o : Bool) → loc_eq l q ≡ o
-          → meaning_or words b (if o then Some label else kept mid q) q ≡ united_over words f (origins_by (record { loc = l; origins = ls } ∷ drop (i + 1) ts) q)
-      by q here true is = made.means ∙ ap (λ (c : Bool). united_over words f (if c then ls else origins_by (drop (i + 1) ts) q)) (sym is)
+          → (if o then words.means b label else meaning_at words b mid q) ≡ united_over words f (origins_by (record { loc = l; origins = ls } ∷ drop (i + 1) ts) q)
+      by q here true is = made ∙ ap (λ (c : Bool). united_over words f (if c then ls else origins_by (drop (i + 1) ts) q)) (sym is)
       by q here false is = m.at q here ∙ ap (λ (c : Bool). united_over words f (if c then ls else origins_by (drop (i + 1) ts) q)) (sym is)
 
-  -- what is kept stands after a label that stands was put
-  pub standing_put : (a : A) (old new : Places L) (l : Loc) (label : L) → AreStanding words a old → words.stands a label
-      → AreKept new (λ q. if loc_eq l q then Some label else kept old q) → AreStanding words a new
-  standing_put a old new l label s here n = record { at = λ q x in_range e. by q x in_range (loc_eq l q) (sym (n.at q in_range) ∙ e) } where
-    some_is : (x y : L) → Some x ≡ Some y → x ≡ y
-    some_is x y e = cc
+  none_is : (x : L) → None ≡ Some x → ⊥
+  none_is x e = cc
 
-    by : (q : Loc) (x : L) → IsLocation q → (o : Bool) → (if o then Some label else kept old q) ≡ Some x → words.stands a x
-    by q x in_range true e = subst (words.stands a) (some_is label x e) here
-    by q x in_range false e = s.at q x in_range e
+  some_is : (x y : L) → Some x ≡ Some y → x ≡ y
+  some_is x y e = cc
+
+  -- a label is put
+  pub is_put : (a : A) (old new : Places L) (l : Loc) (label : L) → words.stands a label → AreKept new (λ q. if loc_eq l q then Some label else kept old q) → IsPut words a l label old new
+  is_put a old new l label here n = record {
+    meaning = λ q in_range. ap (λ (o : Option L). meaning_or words a o q) (n.at q in_range) ∙ meant q (loc_eq l q);
+    standing = λ s. record { at = λ q x in_range e. by s q x in_range (loc_eq l q) (sym (n.at q in_range) ∙ e) };
+  }
+    where
+      meant : (q : Loc) (o : Bool) → meaning_or words a (if o then Some label else kept old q) q ≡ (if o then words.means a label else meaning_at words a old q)
+      meant q true = refl
+      meant q false = refl
+
+      by : AreStanding words a old → (q : Loc) (x : L) → IsLocation q → (o : Bool) → (if o then Some label else kept old q) ≡ Some x → words.stands a x
+      by s q x in_range true e = subst (words.stands a) (some_is label x e) here
+      by s q x in_range false e = s.at q x in_range e
+
+  -- one that means what was there at the start isn't kept
+  pub is_removed : (a : A) (old new : Places L) (l : Loc) (label : L) → words.means a label ≡ words.untouched l → AreKept new (λ q. if loc_eq l q then None else kept old q) → IsPut words a l label old new
+  is_removed a old new l label same n = record {
+    meaning = λ q in_range. ap (λ (o : Option L). meaning_or words a o q) (n.at q in_range) ∙ meant q (loc_eq l q) refl;
+    standing = λ s. record { at = λ q x in_range e. by s q x in_range (loc_eq l q) (sym (n.at q in_range) ∙ e) };
+  }
+    where
+      meant : (q : Loc) (o : Bool) → loc_eq l q ≡ o → meaning_or words a (if o then None else kept old q) q ≡ (if o then words.means a label else meaning_at words a old q)
+      meant q true e = ap words.untouched (sym (same_loc l q e)) ∙ sym same
+      meant q false e = refl
+
+      by : AreStanding words a old → (q : Loc) (x : L) → IsLocation q → (o : Bool) → (if o then None else kept old q) ≡ Some x → words.stands a x
+      by s q x in_range true e = absurd (none_is x e)
+      by s q x in_range false e = s.at q x in_range e
 
   -- the label of one more received byte is put
   pub one_received : (a : A) (old new : Places L) (policy : Policy) (call : CallSeen) (i : ℕ) (b : SourceByte) (label : L) (f : Loc → M)
       → call.place + i < 2 ^ 32 → b ≡ record { channel = call.channel; offset = call.offset + i }
-      → MakesLabel words a (introduced words policy b) label
+      → words.means a label ≡ introduced words policy b
       → Holds words a old (λ q. if is_among call.place i q then introduced words policy (byte_at call q) else f q)
-      → AreKept new (λ q. if loc_eq (Mem (call.place + i)) q then Some label else kept old q)
+      → IsPut words a (Mem (call.place + i)) label old new
       → Holds words a new (λ q. if is_among call.place (i + 1) q then introduced words policy (byte_at call q) else f q)
-  one_received a old new policy call i b label f inside is made m n = record { at = λ q here. ap (λ (o : Option L). meaning_or words a o q) (n.at q here) ∙ by q here } where
+  one_received a old new policy call i b label f inside is made m n = record { at = λ q here. n.meaning q here ∙ by q here } where
     here_or : (p : ℕ) → p < 2 ^ 32 → (o : Bool) → (call.place + i == p) ≡ o
-        → meaning_or words a (if o then Some label else kept old (Mem p)) (Mem p) ≡ (if nat_lt (distance call.place p) (i + 1) then introduced words policy (byte_at call (Mem p)) else f (Mem p))
+        → (if o then words.means a label else meaning_at words a old (Mem p)) ≡ (if nat_lt (distance call.place p) (i + 1) then introduced words policy (byte_at call (Mem p)) else f (Mem p))
     here_or p small true e =
         let same : call.place + i ≡ p = grind arith in
         let far : distance call.place p ≡ i = omega arith in
         let last : nat_lt (distance call.place p) (i + 1) ≡ true = grind arith in
         let name : b ≡ byte_at call (Mem p) = is ∙ ap (λ (k : ℕ). record { channel = call.channel; offset = call.offset + k }) (sym far) in
-        made.means ∙ ap (introduced words policy) name ∙ sym (ap (λ (c : Bool). if c then introduced words policy (byte_at call (Mem p)) else f (Mem p)) last)
+        made ∙ ap (introduced words policy) name ∙ sym (ap (λ (c : Bool). if c then introduced words policy (byte_at call (Mem p)) else f (Mem p)) last)
     here_or p small false e =
         let apart : distance call.place p ≢ i = (λ far. let is : call.place + i ≡ p = omega arith in absurd (grind arith)) in
         let same : nat_lt (distance call.place p) i ≡ nat_lt (distance call.place p) (i + 1) = grind arith in
         m.at (Mem p) small ∙ ap (λ (c : Bool). if c then introduced words policy (byte_at call (Mem p)) else f (Mem p)) same
 
-    by : (q : Loc) → IsLocation q → meaning_or words a (if loc_eq (Mem (call.place + i)) q then Some label else kept old q) q ≡ (if is_among call.place (i + 1) q then introduced words policy (byte_at call q) else f q)
+    by : (q : Loc) → IsLocation q → (if loc_eq (Mem (call.place + i)) q then words.means a label else meaning_at words a old q) ≡ (if is_among call.place (i + 1) q then introduced words policy (byte_at call q) else f q)
     by (Reg r k) here = m.at (Reg r k) here
     by (Mem p) here = here_or p here (call.place + i == p) refl

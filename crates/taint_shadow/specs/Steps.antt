@@ -5,7 +5,7 @@ use Rattle.flow_model.specs.declared.Loc.TheVariants.{Reg, Mem}
 use Rattle.flow_model.specs.declared.SourceByte.{SourceByte}
 use Rattle.flow_model.specs.declared.StepSeen.{StepSeen}
 use Rattle.flow_model.specs.declared.CallSeen.{CallSeen}
-use Rattle.flow_model.specs.Flow.{flow, origins_by, is_received, from_call, distance}
+use Rattle.flow_model.specs.Flow.{flow, origins_by, loc_eq, is_received, from_call, distance}
 use Rattle.flow_model.specs.Origins.{Policy, byte_at}
 use Rattle.flow_model.specs.Ranges.{IsLocation}
 use Rattle.taint_shadow.specs.declared.places.Places.{Places}
@@ -33,6 +33,11 @@ module _ {A L M : Type 0} (words : LabelWords A L M) where
   -- each location means what f gives for it
   pub record Holds (labels : A) (p : Places L) (f : Loc → M) : Type 0 where
     pub at : (l : Loc) → IsLocation l → meaning_at labels p l ≡ f l
+
+  -- the location has this label now, and the others mean what they did
+  pub record IsPut (labels : A) (loc : Loc) (label : L) (old new : Places L) : Type 0 where
+    pub meaning : (l : Loc) → IsLocation l → meaning_at labels new l ≡ (if loc_eq loc l then words.means labels label else meaning_at labels old l)
+    pub standing : AreStanding labels old → AreStanding labels new
 
   -- what some locations have together
   abbrev pub united_over : (Loc → M) → List Loc → M

@@ -1,6 +1,6 @@
 //! What locations are labelled with.
 
-ghost use Rattle.std.specs.Prelude.{◌≡◌, IfOk};
+ghost use Rattle.std.specs.Prelude.{◌≡◌, IfOk, IsTrue};
 ghost use Rattle.flow_model.specs.declared.Loc.{Loc as Location};
 ghost use Rattle.flow_model.specs.declared.SourceByte.{SourceByte as Source};
 ghost use Rattle.taint_shadow.specs.Labels.{LabelWords, KeepsLabels, MakesLabel};
@@ -34,6 +34,10 @@ pub trait Labels {
     fn untouched(&mut self, loc: Loc) -> Result<Self::Label, NoMemory>
         ensures made { IfOk result (MakesLabel words self.new (words.untouched loc)) }
         ensures keeps { KeepsLabels words self.old self.new };
+
+    /// Whether the label means what the location had at the start, so that it needn't be kept.
+    fn is_untouched(&self, label: &Self::Label, loc: Loc) -> bool
+        ensures { IsTrue result → words.means self.now label.now ≡ words.untouched loc };
 
     /// The same label once more.
     fn share(&mut self, label: &Self::Label) -> Result<Self::Label, NoMemory>

@@ -63,6 +63,19 @@ impl<L: Drop> Places<L> {
         }
         Ok(())
     }
+
+    /// Takes the value of a location away.
+    pub fn remove(&mut self, loc: Loc)
+        requires { IsLocation loc }
+        ensures { AreKept self.new (λ l. if loc_eq loc l then None else kept self.old l) }
+    {
+        match loc {
+            Loc::Reg { number, lane } => self.registers[lane_index(number, lane)] = None,
+            Loc::Mem { place } => {
+                self.memory.remove(&place);
+            }
+        }
+    }
 }
 
 /// The lanes of a register stand side by side.

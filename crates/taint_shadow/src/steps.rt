@@ -7,7 +7,7 @@ ghost use Rattle.flow_model.specs.Origins.{byte_at};
 ghost use Rattle.flow_model.specs.Ranges.{IsLocation, AreLocations, IsTable, IsInRange, IsCallInRange};
 ghost use Rattle.report_model.specs.Query.{policy_of};
 ghost use Rattle.taint_shadow.specs.Labels.{MakesLabel, KeepsLabels};
-ghost use Rattle.taint_shadow.specs.Steps.{AreStanding, Holds, is_among, meaning_at, united_over, introduced as introduced_by, after_call, after};
+ghost use Rattle.taint_shadow.specs.Steps.{AreStanding, Holds, IsPut, is_among, meaning_at, united_over, introduced as introduced_by, after_call, after};
 
 use crate::labels::Labels;
 use crate::places::Places;
@@ -56,6 +56,24 @@ fn gather<A: Labels>(
     }
 }
 
+/// Puts a label in place of the one of a location. One that means what the location had at the start takes no room.
+fn put<A: Labels>(
+    labels: &A,
+    places: &mut Places<A::Label>,
+    loc: Loc,
+    label: A::Label,
+) -> Result<(), NoMemory>
+    requires location { IsLocation loc }
+    requires stands { A.words.stands labels.now label }
+    ensures { OnOk result (IsPut A.words labels.now loc label places.old places.new) }
+{
+    if labels.is_untouched(&label, loc) {
+        places.remove(loc);
+        return Ok(());
+    }
+    places.set(loc, label)
+}
+
 /// Each target of a flow, from the one of number `first` on, gets what its origins have together before any of them is
 /// labelled anew.
 fn assign_from<A: Labels>(
@@ -76,7 +94,7 @@ fn assign_from<A: Labels>(
     }
     let label = gather(labels, places, flow.origins(first))?;
     assign_from(labels, places, flow, first + 1)?;
-    places.set(flow.target(first), label)
+    put(labels, places, flow.target(first), label)
 }
 
 /// The label of what a source byte brings in: its own where the query chooses it.
@@ -114,12 +132,10 @@ fn receive<A: Labels>(
             offset: call.offset + i,
         };
         let label = introduced(labels, byte, query)?;
-        places.set(
-            Loc::Mem {
-                place: call.place + i,
-            },
-            label,
-        )?;
+        let loc = Loc::Mem {
+            place: call.place + i,
+        };
+        put(labels, places, loc, label)?;
     }
     Ok(())
 }
