@@ -1,7 +1,4 @@
-pub mod Unions
-pub mod Sources
-pub mod Tables
-pub mod Flows
-pub mod Steps
-pub mod Written
-pub mod Distinct
+mod Order
+mod Steps
+mod Written
+mod Distinct

@@ -1,50 +1,51 @@
--- What a shadow keeps after one step of a trace.
+-- What one step makes of the origins of each location.
 use Rattle.std.proofs.Common.{◌≡◌, ℕ, ◌+◌, List, [], ◌∷◌, refl, ap, ap₂, sym, ◌∙◌, Bool, true, false, if◌then◌else◌, add-one}
 use Rattle.std.specs.Prelude.{Option, Some, None}
-use Rattle.isa.specs.Encodings.{Fits}
 use Rattle.flow_model.specs.declared.Loc.{Loc}
-use Rattle.flow_model.specs.declared.Rule.{Rule}
 use Rattle.flow_model.specs.declared.SourceByte.{SourceByte}
 use Rattle.flow_model.specs.declared.StepSeen.{StepSeen}
 use Rattle.flow_model.specs.declared.CallSeen.{CallSeen}
 use Rattle.sorted_set.specs.Sets.{union}
 use Rattle.flow_model.specs.Orders.{source_cmp}
-use Rattle.flow_model.specs.Flow.{Target, flow, cleared, origins_by, loc_eq, is_received, from, from_call, from_instruction_or}
-use Rattle.flow_model.specs.Origins.{Policy, union_over, fresh, after_step, step_at, origins}
-use Rattle.flow_model.specs.Ranges.{IsLocation, AreLocations, IsTable}
-use Rattle.seq_taint.specs.Shadows.{held, Holds}
-use Rattle.seq_taint.specs.declared.shadow.Shadow.{Shadow}
-use Rattle.seq_taint.proofs.Flows.{flow_table, cleared_table}
+use Rattle.flow_model.specs.Flow.{cleared, origins_by, is_received, from_instruction_or}
+use Rattle.flow_model.specs.Origins.{Policy, union_over, introduced, byte_at, fresh_by, after_step, step_at, origins}
+use Rattle.taint_shadow.specs.Places.{AreKept}
+use Rattle.taint_shadow.specs.declared.places.Places.{Places}
+use Rattle.taint_shadow.specs.Steps.{Holds, meaning_or, united_over, introduced as brought_in, after}
+use Rattle.seq_taint.specs.Words.{set_words}
 
-looked_up : (ts : List Target) (l : Loc) → IsTable ts → IsLocation l → AreLocations (origins_by ts l)
-looked_up [] l a h = (h, tt)
-looked_up (t ∷ ts) l a h = by (loc_eq t.loc l) (looked_up ts l a.2 h) where
-  by : (b : Bool) → AreLocations (origins_by ts l) → AreLocations (if b then t.origins else origins_by ts l)
-  by true ih = a.1
-  by false ih = ih
+module _ (A : Type 0) where
+  union_same : (f : Loc → List SourceByte) (ls : List Loc) → united_over (set_words {A = A}) f ls ≡ union_over f ls
+  union_same f [] = refl
+  union_same f (l ∷ []) = refl
+  union_same f (l ∷ m ∷ ls) = ap (union source_cmp (f l)) (union_same f (m ∷ ls))
 
-of_call : (call : CallSeen) (l : Loc) → IsLocation l → AreLocations (from_call call l)
-of_call call l h = by (is_received call l) where
-  by : (b : Bool) → AreLocations (if b then [] else origins_by (cleared call.kind) l)
-  by true = tt
-  by false = looked_up (cleared call.kind) l (cleared_table call.kind) h
+  alone : (b : Bool) (s : SourceByte) → (if b then s ∷ [] else []) ≡ union source_cmp (if b then s ∷ [] else []) []
+  alone true s = refl
+  alone false s = refl
 
-of_step : (rule : Rule) (step : StepSeen) (call : Option CallSeen) (l : Loc) → Fits step.instr → IsLocation l → AreLocations (from_instruction_or rule step call l)
-of_step rule step None l f h = looked_up (flow rule step.instr step.place) l (flow_table rule step.instr step.place f) h
-of_step rule step (Some call) l f h = of_call call l h
+  -- a byte that was received has what it brings in, and every other location what flows into it
+  by_call : (policy : Policy) (f : Loc → List SourceByte) (b : SourceByte) (ls : List Loc) (o : Bool)
+      → (if o then brought_in (set_words {A = A}) policy b else united_over (set_words {A = A}) f (if o then [] else ls))
+      ≡ union source_cmp (if o then introduced policy b else []) (union_over f (if o then [] else ls))
+  by_call policy f b ls true = alone (policy.introduces b) b
+  by_call policy f b ls false = union_same f ls
 
-union_over_same : (s : Shadow) (f : Loc → List SourceByte) → Holds s f → (ls : List Loc) → AreLocations ls → union_over (held s) ls ≡ union_over f ls
-union_over_same s f h [] a = refl
-union_over_same s f h (l ∷ []) a = h.at l a.0
-union_over_same s f h (l ∷ m ∷ ls) a = ap₂ (union source_cmp) (h.at l a.0) (union_over_same s f h (m ∷ ls) a.1)
+  after_is : (policy : Policy) (step : StepSeen) (call : Option CallSeen) (f : Loc → List SourceByte) (l : Loc)
+      → after (set_words {A = A}) policy step call f l ≡ union source_cmp (fresh_by policy call l) (union_over f (from_instruction_or policy.rule step call l))
+  after_is policy step None f l = union_same f _
+  after_is policy step (Some call) f l = by_call policy f (byte_at call l) (origins_by (cleared call.kind) l) (is_received call l)
 
--- a shadow that has the origins before a step of the trace has the origins after it
-pub one_more : (policy : Policy) (trace : List StepSeen) (t : ℕ) (step : StepSeen) (before after : Shadow) → step_at trace t ≡ Some step → Fits step.instr
-    → Holds before (origins policy trace t) → Holds after (after_step policy (Some step) (held before)) → Holds after (origins policy trace (t + 1))
-one_more policy trace t step before after at fits h k = record {
-  at = λ l in_range.
-      k.at l in_range
-      ∙ ap (union source_cmp (fresh policy step l)) (union_over_same before (origins policy trace t) h (from policy.rule step l) (of_step policy.rule step step.call l fits in_range))
-      ∙ ap (λ (s : Option StepSeen). after_step policy s (origins policy trace t) l) (sym at)
-      ∙ ap (λ (n : ℕ). origins policy trace n l) (sym (add-one t));
-}
+  -- what holds the origins before a step of the trace holds those after it
+  pub one_more : (policy : Policy) (trace : List StepSeen) (t : ℕ) (step : StepSeen) (labels : A) (places : Places (List SourceByte)) → step_at trace t ≡ Some step
+      → Holds set_words labels places (after (set_words {A = A}) policy step step.call (origins policy trace t)) → Holds set_words labels places (origins policy trace (t + 1))
+  one_more policy trace t step labels places at h = record {
+    at = λ l here.
+        h.at l here ∙ after_is policy step step.call (origins policy trace t) l
+        ∙ ap (λ (s : Option StepSeen). after_step policy s (origins policy trace t) l) (sym at)
+        ∙ ap (λ (n : ℕ). origins policy trace n l) (sym (add-one t));
+  }
+
+  -- where nothing is kept, no location has a source byte
+  pub none_kept : (labels : A) (places : Places (List SourceByte)) → AreKept places (λ l. None) → Holds set_words labels places (λ l. [])
+  none_kept labels places n = record { at = λ l here. ap (λ (o : Option (List SourceByte)). meaning_or set_words labels o l) (n.at l here) }

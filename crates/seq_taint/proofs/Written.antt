@@ -16,9 +16,9 @@ use Rattle.flow_model.specs.Origins.{step_at, origins}
 use Rattle.report_model.specs.Query.{Query, has_sink, policy_of}
 use Rattle.report_model.specs.Rows.{Sink, Row, row, sink_at, sinks_of_call, sinks_of_step, sinks_from, rows_as_written}
 use Rattle.replay_model.specs.Run.{Moment, steps_from, advance}
-use Rattle.seq_taint.specs.Shadows.{held, Holds}
-use Rattle.seq_taint.specs.Sinks.{row_now, rows_now}
-use Rattle.seq_taint.specs.declared.shadow.Shadow.{Shadow}
+use Rattle.seq_taint.specs.Sinks.{row_by, rows_by}
+use Rattle.flow_model.specs.declared.Loc.{Loc}
+use Rattle.flow_model.specs.Ranges.{IsLocation}
 
 -- the rows of those output bytes that the query asks for
 abbrev pub rows_of : Query → List StepSeen → List Sink → List Row
@@ -29,32 +29,32 @@ chosen f true x = refl
 chosen f false x = refl
 
 -- one more byte of a write
-one_more_byte : (q : Query) (shadow : Shadow) (t : ℕ) (call : CallSeen) (i : ℕ)
-    → rows_now q shadow (map (sink_at t call) (range_with_len 0 (i + 1)))
-    ≡ rows_now q shadow (map (sink_at t call) (range_with_len 0 i)) ++ cond (has_sink q (sink_at t call i).name) (row_now shadow (sink_at t call i) ∷ []) []
-one_more_byte q shadow t call i =
+one_more_byte : (q : Query) (sources : Loc → List SourceByte) (t : ℕ) (call : CallSeen) (i : ℕ)
+    → rows_by q sources (map (sink_at t call) (range_with_len 0 (i + 1)))
+    ≡ rows_by q sources (map (sink_at t call) (range_with_len 0 i)) ++ cond (has_sink q (sink_at t call i).name) (row_by sources (sink_at t call i) ∷ []) []
+one_more_byte q sources t call i =
     let asked : Sink → Bool = λ s. has_sink q s.name in
-    ap (map (row_now shadow)) (filter_of_map_range_with_len_more asked (sink_at t call) 0 i i (omega arith))
-    ∙ map-append (row_now shadow) (filter asked (map (sink_at t call) (range_with_len 0 i))) (cond (asked (sink_at t call i)) (sink_at t call i ∷ []) [])
-    ∙ ap (λ (rs : List Row). rows_now q shadow (map (sink_at t call) (range_with_len 0 i)) ++ rs) (chosen (row_now shadow) (asked (sink_at t call i)) (sink_at t call i))
+    ap (map (row_by sources)) (filter_of_map_range_with_len_more asked (sink_at t call) 0 i i (omega arith))
+    ∙ map-append (row_by sources) (filter asked (map (sink_at t call) (range_with_len 0 i))) (cond (asked (sink_at t call i)) (sink_at t call i ∷ []) [])
+    ∙ ap (λ (rs : List Row). rows_by q sources (map (sink_at t call) (range_with_len 0 i)) ++ rs) (chosen (row_by sources) (asked (sink_at t call i)) (sink_at t call i))
 
 -- the rows of the first bytes of a write, and of one more
-module _ (q : Query) (shadow : Shadow) (t : ℕ) (call : CallSeen) (i : ℕ) (old sets : List Row) (e : sets ≡ old ++ rows_now q shadow (map (sink_at t call) (range_with_len 0 i))) where
-  with_byte : (b : Bool) → has_sink q (sink_at t call i).name ≡ b → (more : List Row) → more ≡ sets ++ cond b (row_now shadow (sink_at t call i) ∷ []) []
-      → more ≡ old ++ rows_now q shadow (map (sink_at t call) (range_with_len 0 (i + 1)))
+module _ (q : Query) (sources : Loc → List SourceByte) (t : ℕ) (call : CallSeen) (i : ℕ) (old sets : List Row) (e : sets ≡ old ++ rows_by q sources (map (sink_at t call) (range_with_len 0 i))) where
+  with_byte : (b : Bool) → has_sink q (sink_at t call i).name ≡ b → (more : List Row) → more ≡ sets ++ cond b (row_by sources (sink_at t call i) ∷ []) []
+      → more ≡ old ++ rows_by q sources (map (sink_at t call) (range_with_len 0 (i + 1)))
   with_byte b asked more m =
-      let last : Bool → List Row = λ c. cond c (row_now shadow (sink_at t call i) ∷ []) [] in
+      let last : Bool → List Row = λ c. cond c (row_by sources (sink_at t call i) ∷ []) [] in
       m ∙ ap₂ (λ (xs ys : List Row). xs ++ ys) e (ap last (sym asked))
-      ∙ append_assoc old (rows_now q shadow (map (sink_at t call) (range_with_len 0 i))) (last (has_sink q (sink_at t call i).name))
-      ∙ ap (λ (rs : List Row). old ++ rs) (sym (one_more_byte q shadow t call i))
+      ∙ append_assoc old (rows_by q sources (map (sink_at t call) (range_with_len 0 i))) (last (has_sink q (sink_at t call i).name))
+      ∙ ap (λ (rs : List Row). old ++ rs) (sym (one_more_byte q sources t call i))
 
-  pub passed_over : has_sink q (sink_at t call i).name ≡ false → sets ≡ old ++ rows_now q shadow (map (sink_at t call) (range_with_len 0 (i + 1)))
+  pub passed_over : has_sink q (sink_at t call i).name ≡ false → sets ≡ old ++ rows_by q sources (map (sink_at t call) (range_with_len 0 (i + 1)))
   passed_over asked = with_byte false asked sets (sym (append-nil sets))
 
-  pub taken_up : has_sink q (sink_at t call i).name ≡ true → call.place + i < 2 ^ 32 → (set : Row) → set ≡ record { sink = (sink_at t call i).name; sources = held shadow (Mem (call.place + i)) }
-      → (more : List Row) → more ≡ sets ++ set ∷ [] → more ≡ old ++ rows_now q shadow (map (sink_at t call) (range_with_len 0 (i + 1)))
+  pub taken_up : has_sink q (sink_at t call i).name ≡ true → call.place + i < 2 ^ 32 → (set : Row) → set ≡ record { sink = (sink_at t call i).name; sources = sources (Mem (call.place + i)) }
+      → (more : List Row) → more ≡ sets ++ set ∷ [] → more ≡ old ++ rows_by q sources (map (sink_at t call) (range_with_len 0 (i + 1)))
   taken_up asked within set s more m =
-      let make : ℕ → Row = λ p. record { sink = (sink_at t call i).name; sources = held shadow (Mem p) } in
+      let make : ℕ → Row = λ p. record { sink = (sink_at t call i).name; sources = sources (Mem p) } in
       let same : call.place + i ≡ wrap (call.place + i) = omega arith in
       with_byte true asked more (m ∙ ap (λ (r : Row). sets ++ r ∷ []) (s ∙ ap make same))
 
@@ -73,37 +73,37 @@ one_more_step n (s ∷ ss) (suc t) step e =
     ∙ sym (append_assoc (sinks_of_step n s.call) (sinks_from (n + 1) (take t ss)) (sinks_of_step (n + 1 + t) step.call))
     ∙ ap (λ (k : ℕ). (sinks_of_step n s.call ++ sinks_from (n + 1) (take t ss)) ++ sinks_of_step k step.call) later
 
--- a shadow that has the origins at a time gives the rows of the bytes written then
-module _ (q : Query) (trace : List StepSeen) (t : ℕ) (shadow : Shadow) (h : Holds shadow (origins (policy_of q) trace t)) where
-  of_byte : (call : CallSeen) (i : ℕ) → row_now shadow (sink_at t call i) ≡ row q trace (sink_at t call i)
+-- locations that have the origins at a time give the rows of the bytes written then
+module _ (q : Query) (trace : List StepSeen) (t : ℕ) (sources : Loc → List SourceByte) (h : (l : Loc) → IsLocation l → sources l ≡ origins (policy_of q) trace t l) where
+  of_byte : (call : CallSeen) (i : ℕ) → row_by sources (sink_at t call i) ≡ row q trace (sink_at t call i)
   of_byte call i =
-      let make : List SourceByte → Row = λ sources. record { sink = (sink_at t call i).name; sources = sources } in
-      ap make (h.at (Mem (wrap (call.place + i))) (omega arith))
+      let make : List SourceByte → Row = λ bytes. record { sink = (sink_at t call i).name; sources = bytes } in
+      ap make (h (Mem (wrap (call.place + i))) (omega arith))
 
-  of_bytes : (call : CallSeen) (is : List ℕ) → rows_now q shadow (map (sink_at t call) is) ≡ rows_of q trace (map (sink_at t call) is)
+  of_bytes : (call : CallSeen) (is : List ℕ) → rows_by q sources (map (sink_at t call) is) ≡ rows_of q trace (map (sink_at t call) is)
   of_bytes call [] = refl
   of_bytes call (i ∷ is) = by (has_sink q (sink_at t call i).name) (of_bytes call is) where
     rest : List Sink
     rest = filter (λ s. has_sink q s.name) (map (sink_at t call) is)
 
-    by : (b : Bool) → map (row_now shadow) rest ≡ map (row q trace) rest → map (row_now shadow) (cond b (sink_at t call i ∷ rest) rest) ≡ map (row q trace) (cond b (sink_at t call i ∷ rest) rest)
+    by : (b : Bool) → map (row_by sources) rest ≡ map (row q trace) rest → map (row_by sources) (cond b (sink_at t call i ∷ rest) rest) ≡ map (row q trace) (cond b (sink_at t call i ∷ rest) rest)
     by true ih = ap₂ (λ (r : Row) (rs : List Row). r ∷ rs) (of_byte call i) ih
     by false ih = ih
 
-  of_kind : (call : CallSeen) (k : CallKind) → rows_now q shadow (sinks_of_call t call k) ≡ rows_of q trace (sinks_of_call t call k)
+  of_kind : (call : CallSeen) (k : CallKind) → rows_by q sources (sinks_of_call t call k) ≡ rows_of q trace (sinks_of_call t call k)
   of_kind call kind.Write = of_bytes call (range_with_len 0 call.length)
   of_kind call kind.Read = refl
   of_kind call kind.Clock = refl
   of_kind call kind.Other = refl
   of_kind call kind.Exit = refl
 
-  of_step : (call : Option CallSeen) → rows_now q shadow (sinks_of_step t call) ≡ rows_of q trace (sinks_of_step t call)
+  of_step : (call : Option CallSeen) → rows_by q sources (sinks_of_step t call) ≡ rows_of q trace (sinks_of_step t call)
   of_step None = refl
   of_step (Some call) = of_kind call call.kind
 
   -- the rows of one more step
   pub more_rows : (step : StepSeen) → step_at trace t ≡ Some step → (sets more : List Row) → sets ≡ rows_of q trace (sinks_from 0 (take t trace))
-      → more ≡ sets ++ rows_now q shadow (sinks_of_step t step.call) → more ≡ rows_of q trace (sinks_from 0 (take (t + 1) trace))
+      → more ≡ sets ++ rows_by q sources (sinks_of_step t step.call) → more ≡ rows_of q trace (sinks_from 0 (take (t + 1) trace))
   more_rows step at sets more e m =
       let asked : Sink → Bool = λ s. has_sink q s.name in
       let so_far = sinks_from 0 (take t trace) in

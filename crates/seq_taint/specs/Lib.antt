@@ -1,4 +1,3 @@
 pub mod Members
-pub mod Locations
-pub mod Shadows
+pub mod Words
 pub mod Sinks

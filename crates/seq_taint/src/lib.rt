@@ -3,7 +3,7 @@
 #![tactic(auto)]
 
 mod analysis;
-mod shadow;
+mod labels;
 mod sinks;
 mod source_set;
 

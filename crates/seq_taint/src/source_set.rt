@@ -1,13 +1,13 @@
 //! Sets of source bytes that many locations can share.
 
-ghost use Rattle.std.specs.Prelude.{◌≡◌, [], ◌∷◌, ◌++◌, length, IfOk, IsTrue, ◌↔◌};
+ghost use Rattle.std.specs.Prelude.{◌≡◌, [], ◌∷◌, IfOk, IsTrue, ◌↔◌};
 ghost use Rattle.sorted_set.specs.Sets.{union, Ascends};
 ghost use Rattle.flow_model.specs.Orders.{source_cmp};
 
 use flow_model::SourceByte;
 use no_memory::NoMemory;
+use sorted_set::{is_subset, merged};
 use std::alloc::Global;
-use std::cmp::Ordering;
 use std::marker::Model;
 use std::rc::Rc;
 
@@ -93,67 +93,15 @@ impl SourceSet {
         ensures { IfOk result (λ set. set ≡ union source_cmp self.now other.now) }
     {
         let (left, right) = (self.as_slice(), other.as_slice());
-        if is_within(left, right) {
+        if is_subset(left, right) {
             return other.share();
         }
-        if is_within(right, left) {
+        if is_subset(right, left) {
             return self.share();
         }
-        let members = united(alloc, left, right)?;
+        let members = merged(alloc, left, right)?;
         Ok(SourceSet {
             members: Members::Many(Rc::new(alloc, members)?),
         })
     }
-}
-
-/// Tells whether all members of the first set are members of the second, by one pass over the second.
-fn is_within(few: &[SourceByte], many: &[SourceByte]) -> bool
-    requires { Ascends source_cmp many.now }
-    ensures { IsTrue result → union source_cmp few.now many.now ≡ many.now }
-{
-    let mut found = 0;
-    for byte in many {
-        if found < few.len() {
-            match few[found].cmp(byte) {
-                Ordering::Less => return false,
-                Ordering::Equal => found += 1,
-                Ordering::Greater => {}
-            }
-        }
-    }
-    found == few.len()
-}
-
-/// The members of both sets in one list.
-fn united(
-    alloc: Global,
-    left: &[SourceByte],
-    right: &[SourceByte],
-) -> Result<Vec<SourceByte>, NoMemory>
-    requires left { Ascends source_cmp left.now }
-    requires right { Ascends source_cmp right.now }
-    ensures { IfOk result (λ all. all.items ≡ union source_cmp left.now right.now) }
-{
-    let mut all = Vec::with_capacity(alloc, left.len().saturating_add(right.len()))?;
-    let (mut i, mut j) = (0, 0);
-    while i < left.len() && j < right.len() {
-        match left[i].cmp(&right[j]) {
-            Ordering::Less => {
-                all.push(left[i])?;
-                i += 1;
-            }
-            Ordering::Equal => {
-                all.push(left[i])?;
-                i += 1;
-                j += 1;
-            }
-            Ordering::Greater => {
-                all.push(right[j])?;
-                j += 1;
-            }
-        }
-    }
-    all.extend_from_slice(&left[i..])?;
-    all.extend_from_slice(&right[j..])?;
-    Ok(all)
 }

@@ -6,11 +6,12 @@ use Rattle.replay_model.specs.Run.{start}
 use Rattle.replayer.specs.Jobs.{Job, trace_of}
 use Rattle.report_model.specs.Query.{policy_of}
 use Rattle.report_model.specs.Rows.{sinks_of_step, sinks_from, rows_as_written}
-use Rattle.replay_model.proofs.Offsets.{offsets_count, writes_apart}
+use Rattle.replay_model.proofs.Offsets.{writes_apart}
 use Rattle.sink_collect.specs.Distinct.{AreDistinct}
-use Rattle.seq_taint.specs.Shadows.{Holds}
-use Rattle.seq_taint.specs.Sinks.{rows_now}
-use Rattle.seq_taint.proofs.Steps.{one_more}
+use Rattle.taint_shadow.specs.Steps.{Holds}
+use Rattle.seq_taint.specs.Words.{set_words}
+use Rattle.seq_taint.specs.Sinks.{sources_at, rows_by}
+use Rattle.seq_taint.proofs.Steps.{one_more, none_kept}
 use Rattle.seq_taint.proofs.Written.{rows_of, more_rows, all_rows}
 use Rattle.seq_taint.proofs.Distinct.{distinct_rows}
 use Rattle.seq_taint.proofs.analysis.sequential.Goals as goal
@@ -25,14 +26,15 @@ loop-step-preserved c =
     let later : c.next.new.self.time ≡ t + 1 = ap (λ k. k.time) made.moved in
     let same_steps : steps c.loop-step.cursor.job.log ≡ steps c.args.job.now.log = ap (λ (j : Job). steps j.log) c.loop-step.invariant.job in
     let at : step_at trace t ≡ Some step = subst (λ (j : Job). step_at (trace_of j) t ≡ Some step) c.loop-step.invariant.job made.step in
-    let sets : c.collect.new.sets.items ≡ c.loop-step.sets.items ++ rows_now q c.loop-step.shadow (sinks_of_step t step.call) =
-    c.in_ok-collect.ensures ∙ ap (λ (n : ℕ). c.loop-step.sets.items ++ rows_now q c.loop-step.shadow (sinks_of_step n step.call)) made.number in
-    let rows = more_rows q trace t c.loop-step.shadow c.loop-step.invariant.origins step at c.loop-step.sets.items c.collect.new.sets.items c.loop-step.invariant.rows sets in
-    let held_later = one_more (policy_of q) trace t step c.loop-step.shadow c.step.new.self at made.in_range.fits c.loop-step.invariant.origins c.in_ok-step.ensures in
+    let sets : c.collect.new.sets.items ≡ c.loop-step.sets.items ++ rows_by q (sources_at c.loop-step.places) (sinks_of_step t step.call) =
+    c.in_ok-collect.ensures ∙ ap (λ (n : ℕ). c.loop-step.sets.items ++ rows_by q (sources_at c.loop-step.places) (sinks_of_step n step.call)) made.number in
+    let rows = more_rows q trace t (sources_at c.loop-step.places) (λ l here. c.loop-step.invariant.origins.at l here) step at c.loop-step.sets.items c.collect.new.sets.items c.loop-step.invariant.rows sets in
+    let later_origins = one_more _ (policy_of q) trace t step c.step.new.labels c.step.new.places at (c.in_ok-step.ensures.holds (origins (policy_of q) trace t) c.loop-step.invariant.origins) in
     record {
       job = ap (λ k. k.job) made.moved ∙ c.loop-step.invariant.job;
       below = omega (arith, made.below, later, same_steps);
-      origins = subst (λ (n : ℕ). Holds c.step.new.self (origins (policy_of q) trace n)) (sym later) held_later;
+      standing = c.in_ok-step.ensures.standing;
+      origins = subst (λ (n : ℕ). Holds set_words c.step.new.labels c.step.new.places (origins (policy_of q) trace n)) (sym later) later_origins;
       rows = subst (λ (n : ℕ). c.collect.new.sets.items ≡ rows_of q trace (sinks_from 0 (take n trace))) (sym later) rows;
     }
 
@@ -45,7 +47,8 @@ loop-step-init c =
     record {
       job = ap (λ k. k.job) begun;
       below = omega (arith, first);
-      origins = subst (λ (n : ℕ). Holds c.in_ok-shadow.shadow (origins (policy_of q) trace n)) (sym first) (record { at = c.in_ok-shadow.ensures.at });
+      standing = record { at = λ l label here is. tt };
+      origins = subst (λ (n : ℕ). Holds set_words _ c.in_ok-places.places (origins (policy_of q) trace n)) (sym first) (none_kept _ _ c.in_ok-places.places c.in_ok-places.ensures);
       rows = subst (λ (n : ℕ). c.new-sets.result.items ≡ rows_of q trace (sinks_from 0 (take n trace))) (sym first) c.new-sets.ensures.items;
     }
 
@@ -56,5 +59,4 @@ returns c =
     let trace = trace_of job in
     let done : c.loop-step.cursor.time ≡ steps job.log = c.in_default.ensures.done ∙ ap (λ (j : Job). steps j.log) c.loop-step.invariant.job in
     let rows : c.loop-step.sets.items ≡ rows_as_written q trace = c.loop-step.invariant.rows ∙ all_rows q (steps job.log) (start job.start job.log) c.loop-step.cursor.time done in
-    let count = offsets_count job.start job.log c.form.ensures.form c.form.ensures.small c.form.ensures.agrees in
-    record { rows = rows; distinct = subst AreDistinct (sym rows) (distinct_rows q trace (record { follow = writes_apart trace count })) }
+    record { rows = rows; distinct = subst AreDistinct (sym rows) (distinct_rows q trace (writes_apart job.start job.log)) }

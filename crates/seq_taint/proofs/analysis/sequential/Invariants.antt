@@ -4,7 +4,8 @@ use Rattle.flow_model.specs.Origins.{origins}
 use Rattle.replayer.specs.Jobs.{trace_of}
 use Rattle.report_model.specs.Query.{policy_of}
 use Rattle.report_model.specs.Rows.{sinks_from}
-use Rattle.seq_taint.specs.Shadows.{Holds}
+use Rattle.taint_shadow.specs.Steps.{AreStanding, Holds}
+use Rattle.seq_taint.specs.Words.{set_words}
 use Rattle.seq_taint.proofs.Written.{rows_of}
 use Rattle.seq_taint.proofs.analysis.sequential.Given as goal
 
@@ -12,7 +13,8 @@ abbrev pub invariant-loop-step : goal.invariant-loop-step
 invariant-loop-step l = let t = l.cursor.time in record {
   job : l.cursor.job ≡ l.job;
   below : t ≤ steps l.job.log;
-  origins : Holds l.shadow (origins (policy_of l.query) (trace_of l.job) t);
+  standing : AreStanding set_words l.labels l.places;
+  origins : Holds set_words l.labels l.places (origins (policy_of l.query) (trace_of l.job) t);
   rows : l.sets.items ≡ rows_of l.query (trace_of l.job) (sinks_from 0 (take t (trace_of l.job)));
 }
 
