@@ -10,12 +10,7 @@ use crate::task::Task;
 use std::sync::Wait;
 
 /// Pushes all tasks that were handed in, in their order.
-pub fn fill<T: Task, R: Wait>(
-    rt: &R,
-    queue: &TaskQueue<T>,
-    pass: &mut WorkerPass<T>,
-    tasks: Vec<T>,
-)
+pub fn fill<T: Task, R: Wait>(rt: &R, queue: &TaskQueue<T>, pass: &mut WorkerPass<T>, tasks: Vec<T>)
     requires capacity { vec_len tasks ≤ ruled_capacity queue.now }
     requires pass { IsPassOf queue.now pass.old }
     requires numbers { AreNumbered T.words.number tasks.items }

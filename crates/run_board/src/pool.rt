@@ -119,11 +119,7 @@ fn join<T: Task>(queue: &TaskQueue<T>, worker: &mut Worker<T>, other: Worker<T>)
 }
 
 /// Joins all workers that have left to one.
-fn join_all<T: Task>(
-    queue: &TaskQueue<T>,
-    worker: &mut Worker<T>,
-    others: Vec<Worker<T>>,
-)
+fn join_all<T: Task>(queue: &TaskQueue<T>, worker: &mut Worker<T>, others: Vec<Worker<T>>)
     requires ready { IsReady T.words (ruled_capacity queue.now) (IsPassOf queue.now) worker.old }
     requires others_ready { All (IsReady T.words (ruled_capacity queue.now) (IsPassOf queue.now)) others.items }
     requires others_starts { All (KnowsStarts (view_of worker.old).starts) others.items }

@@ -12,12 +12,7 @@ use crate::worker::Worker;
 use std::sync::Wait;
 
 /// Puts the task that the worker took, and that isn't ended, back into the queue.
-fn put_back<T: Task, R: Wait>(
-    rt: &R,
-    queue: &TaskQueue<T>,
-    worker: &mut Worker<T>,
-    task: T,
-)
+fn put_back<T: Task, R: Wait>(rt: &R, queue: &TaskQueue<T>, worker: &mut Worker<T>, task: T)
     requires pass { IsPassOf queue.now worker.old.pass }
     requires taken { HasTaken T.words (view_of worker.old) worker.old.finished.items task }
     requires open_task { ¬ T.words.ended task }
@@ -34,12 +29,7 @@ fn put_back<T: Task, R: Wait>(
 
 /// Gives the task that the worker took one turn. A task that is then done is kept, any other goes
 /// back into the queue.
-fn turn_once<T: Task, R: Wait>(
-    rt: &R,
-    queue: &TaskQueue<T>,
-    worker: &mut Worker<T>,
-    mut task: T,
-)
+fn turn_once<T: Task, R: Wait>(rt: &R, queue: &TaskQueue<T>, worker: &mut Worker<T>, mut task: T)
     requires pass { IsPassOf queue.now worker.old.pass }
     requires taken { HasTaken T.words (view_of worker.old) worker.old.finished.items task }
     requires few { length (view_of worker.old).starts ≤ ruled_capacity queue.now }
@@ -56,11 +46,7 @@ fn turn_once<T: Task, R: Wait>(
 
 /// Takes a task, gives it one turn, and so on, until a pop finds the queue empty. A worker with all
 /// shares then has all tasks.
-pub fn turn_until_empty<T: Task, R: Wait>(
-    rt: &R,
-    queue: &TaskQueue<T>,
-    worker: &mut Worker<T>,
-)
+pub fn turn_until_empty<T: Task, R: Wait>(rt: &R, queue: &TaskQueue<T>, worker: &mut Worker<T>)
     requires ready { IsReady T.words (ruled_capacity queue.now) (IsPassOf queue.now) worker.old }
     ensures ready { IsReady T.words (ruled_capacity queue.now) (IsPassOf queue.now) worker.new }
     ensures follows { Follows worker.old worker.new }
