@@ -34,11 +34,11 @@ impl Task for Countdown {
     ghost use Rattle.std.specs.Prelude.{◌≡◌, ◌≤◌};
     ghost use Rattle.std.proofs.Common.{rules};
 
-    ghost number = { λ task. task.number };
-
-    ghost led_from = { λ new old. (new.left ≤ old.left) × (old.taken ≤ new.taken) };
-
-    ghost ended = { λ task. task.left ≡ 0 };
+    ghost words = { record {
+      number = λ task. task.number;
+      led_from = λ new old. (new.left ≤ old.left) × (old.taken ≤ new.taken);
+      ended = λ task. task.left ≡ 0;
+    } };
 
     fn number(&self) -> u32 {
         self.number

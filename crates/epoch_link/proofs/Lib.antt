@@ -4,3 +4,4 @@ pub mod Pops
 pub mod Seats
 pub mod Steps
 pub mod Rests
+pub mod Delivery

@@ -13,7 +13,7 @@ use Rattle.epoch_link.specs.declared.ring_link.view.View.{View}
 use Rattle.epoch_link.specs.Words.{word_of}
 use Rattle.epoch_link.specs.Ring.{item_at, Produces, Consumes, Seats, Ring, listed, Remains, seen_tail, saw_tail, got_one}
 use Rattle.epoch_link.proofs.Items.{item-past, item-behind, front, one_slot}
-use Rattle.epoch_link.proofs.Pushes.{long, lt_of_le_ne}
+use Rattle.epoch_link.proofs.Pushes.{long, lt_of_le_ne, keeps_producer, keeps_consumer}
 
 module _ {T : Type 0} where
   -- the seats after a step of the consumer
@@ -69,6 +69,8 @@ module _ {T : Type 0} where
           room = r.room;
           first = r.first;
           seats = seats_popped s.views r.producer r.consumer id r.sent r.lends r.got r.got r.next r.next me.0 (seen_tail me.0 y None) r.seats at mine me_is.1 (sym idle') refl refl refl;
+          has_producer = keeps_producer s.views r.producer id me.0 (seen_tail me.0 y None) at refl r.has_producer;
+          has_consumer = keeps_consumer s.views r.consumer id me.0 (seen_tail me.0 y None) at refl r.has_consumer;
         },
         ((λ _. refl), (λ ne. absurd (ne (r.tail_is ∙ ap word_of (let q : length r.sent ≡ length r.got = omega arith in q) ∙ sym mine_is))), told None (item-past r.delivered.held 0 (omega arith))),
       ))
@@ -99,6 +101,8 @@ module _ {T : Type 0} where
           room = r.room;
           first = λ u f. it.1 ∙ f;
           seats = seats_popped s.views r.producer r.consumer id r.sent r.lends r.got r.got r.next (Some x) me.0 (seen_tail me.0 y (Some x)) r.seats at mine me_is.1 refl refl refl refl;
+          has_producer = keeps_producer s.views r.producer id me.0 (seen_tail me.0 y (Some x)) at refl r.has_producer;
+          has_consumer = keeps_consumer s.views r.consumer id me.0 (seen_tail me.0 y (Some x)) at refl r.has_consumer;
         },
         ((λ e. absurd (differs e)), (λ _. (x, refl)), told (Some x) it.1),
       ))
@@ -136,6 +140,8 @@ module _ {T : Type 0} where
           room = λ f. omega arith;
           first = λ u f. absurd (none-some u f);
           seats = seats_popped s.views r.producer r.consumer id r.sent r.lends r.got got' r.next None v w r.seats at mine (ap₂ (λ (a b : List T). a ++ b) me_is.1 (ap listed holds_x)) refl refl refl refl;
+          has_producer = keeps_producer s.views r.producer id v w at refl r.has_producer;
+          has_consumer = keeps_consumer s.views r.consumer id v w at refl r.has_consumer;
         },
         refl,
       )

@@ -1,7 +1,7 @@
 -- The producer's steps keep the rule of the ring.
-use Rattle.std.proofs.Common.{◌≡◌, ◌≢◌, ℕ, ◌+◌, ◌%◌, ◌<◌, ◌≤◌, List, [], ◌∷◌, ◌++◌, length, get_or, set, Option, Some, None, Bool, true, false, sym, refl, ap, ap₂, ◌∙◌, subst, ⊎_elim, mod-lt, arith, length-append, length-set, lt_of_not-le, get_or-set_other, get_or-set_same}
+use Rattle.std.proofs.Common.{◌≡◌, ◌≢◌, ℕ, zero, suc, ◌+◌, ◌%◌, ◌<◌, ◌≤◌, List, [], ◌∷◌, ◌++◌, length, get_or, set, Option, Some, None, Bool, true, false, sym, refl, ap, ap₂, ◌∙◌, subst, ⊎_elim, mod-lt, arith, length-append, length-set, lt_of_not-le, get_or-set_other, get_or-set_same}
 use Rattle.std.proofs.lemmas.List.{append_assoc}
-use mathlib.Core.Option.{some, none}
+use mathlib.Core.Option.{some, none, some-injective, some-ne-none}
 use mathlib.Core.Logic.{dite}
 use native.Mathlib.Decide.{ℕ_discrete, dec_le}
 use lib.ListN.{get_elem?}
@@ -10,7 +10,7 @@ use Rattle.atomic_table.specs.Table.{State, Me, step, keeps, takes, gives, Allow
 use Rattle.atomic_table.proofs.Lists.{at_set, set_here, set_else}
 use Rattle.epoch_link.specs.declared.ring_link.view.View.{View}
 use Rattle.epoch_link.specs.Words.{word_of, distance}
-use Rattle.epoch_link.specs.Ring.{item_at, Produces, Consumes, Seats, Ring, seen_head, saw_head, sent_one}
+use Rattle.epoch_link.specs.Ring.{item_at, Produces, Consumes, Seats, HasProducer, HasConsumer, Ring, seen_head, saw_head, sent_one}
 use Rattle.epoch_link.proofs.Items.{item-append, item-last, item-past, front, distance_is, one_slot}
 
 abbrev IsFalse : Bool → Type 0
@@ -23,7 +23,33 @@ false-true e = subst IsFalse e tt
 pub lt_of_le_ne : (a b : ℕ) → a ≤ b → a ≢ b → a < b
 lt_of_le_ne a b h ne = dite (dec_le b a) (λ g. absurd (ne (omega arith))) (λ g. lt_of_not-le g)
 
+pub is_there : {A : Type 0} (l : List A) (i : ℕ) (a : A) → get_elem? l i ≡ some a → i < length l
+is_there [] i a e = absurd (some-ne-none a (sym e))
+is_there (x ∷ xs) zero a e = omega arith
+is_there (x ∷ xs) (suc i) a e = let h = is_there xs i a e in omega arith
+
 module _ {T : Type 0} where
+  -- where one view gives way to another with the same parts, the two seats still have theirs
+  pub keeps_producer : (views : List (View T)) (seat id : ℕ) (v w : View T) → get_elem? views id ≡ some v → w.produces ≡ v.produces
+      → HasProducer seat views → HasProducer seat (set views id w)
+  keeps_producer views seat id v w at same (u, here, is) = dite (ℕ_discrete seat id)
+      (λ e. (
+        w,
+        subst (λ (j : ℕ). get_elem? (set views id w) j ≡ some w) (sym e) (set_here views id w (is_there views id v at)),
+        same ∙ ap (λ (z : View T). z.produces) (some-injective v u (sym at ∙ subst (λ (j : ℕ). get_elem? views j ≡ some u) e here)) ∙ is,
+      ))
+      (λ ne. (u, set_else views id seat w ne ∙ here, is))
+
+  pub keeps_consumer : (views : List (View T)) (seat id : ℕ) (v w : View T) → get_elem? views id ≡ some v → w.consumes ≡ v.consumes
+      → HasConsumer seat views → HasConsumer seat (set views id w)
+  keeps_consumer views seat id v w at same (u, here, is) = dite (ℕ_discrete seat id)
+      (λ e. (
+        w,
+        subst (λ (j : ℕ). get_elem? (set views id w) j ≡ some w) (sym e) (set_here views id w (is_there views id v at)),
+        same ∙ ap (λ (z : View T). z.consumes) (some-injective v u (sym at ∙ subst (λ (j : ℕ). get_elem? views j ≡ some u) e here)) ∙ is,
+      ))
+      (λ ne. (u, set_else views id seat w ne ∙ here, is))
+
   -- the seats after a step of the producer
   seats_pushed : (views : List (View T)) (pseat cseat id : ℕ) (sent sent' : List T) (out out' : Bool) (got : List T) (next : Option T) (v w : View T)
       → Seats pseat sent out cseat got next views → get_elem? views id ≡ some v → v.produces ≡ true
@@ -76,6 +102,8 @@ module _ {T : Type 0} where
           room = r.room;
           first = r.first;
           seats = seats_pushed s.views r.producer r.consumer id r.sent r.sent r.lends r.lends r.got r.next me.0 (seen_head me.0 y false) r.seats at mine me_is.1 (sym idle ∙ me_is.2) refl refl refl;
+          has_producer = keeps_producer s.views r.producer id me.0 (seen_head me.0 y false) at refl r.has_producer;
+          has_consumer = keeps_consumer s.views r.consumer id me.0 (seen_head me.0 y false) at refl r.has_consumer;
         },
         ((λ _. refl), λ ne. absurd (ne (dist ∙ full))),
       ))
@@ -102,6 +130,8 @@ module _ {T : Type 0} where
           room = λ _. room;
           first = r.first;
           seats = seats_pushed s.views r.producer r.consumer id r.sent r.sent r.lends true r.got r.next me.0 (seen_head me.0 y true) r.seats at mine me_is.1 refl refl refl refl;
+          has_producer = keeps_producer s.views r.producer id me.0 (seen_head me.0 y true) at refl r.has_producer;
+          has_consumer = keeps_consumer s.views r.consumer id me.0 (seen_head me.0 y true) at refl r.has_consumer;
         },
         ((λ full. absurd (ne (sym dist ∙ full))), λ _. refl),
       ))
@@ -143,6 +173,8 @@ module _ {T : Type 0} where
           room = λ f. absurd (false-true f);
           first = λ u f. let e = r.first u f in let fr = front r.delivered.held u e in item-append r.delivered.held (x ∷ []) 0 (omega (arith, ap length fr.1)) ∙ e;
           seats = seats_pushed s.views r.producer r.consumer id r.sent sent' r.lends false r.got r.next v w r.seats at mine (ap (λ (a : List T). a ++ x ∷ []) me_is.1) refl refl refl refl;
+          has_producer = keeps_producer s.views r.producer id v w at refl r.has_producer;
+          has_consumer = keeps_consumer s.views r.consumer id v w at refl r.has_consumer;
         },
         refl,
       )

@@ -5,10 +5,10 @@ use mathlib.Core.Option.{some, some-injective, some-ne-none}
 use lib.ListN.{get_elem?}
 use Rattle.std.proofs.lemmas.Option.{none-some}
 use Rattle.atomic_table.specs.Table.{State, opening, Splits, Joins}
-use Rattle.atomic_table.proofs.Lists.{at_set, set_else}
+use Rattle.atomic_table.proofs.Lists.{at_set, set_here, set_else, at_longer, at_last}
 use Rattle.epoch_link.specs.declared.ring_link.view.View.{View}
-use Rattle.epoch_link.specs.Ring.{Produces, Consumes, Seats, Ring, opening_view, producers_part, consumers_part, joined, spent_view}
-use Rattle.epoch_link.proofs.Pushes.{false-true}
+use Rattle.epoch_link.specs.Ring.{Produces, Consumes, Seats, HasProducer, HasConsumer, Ring, opening_view, producers_part, consumers_part, joined, spent_view}
+use Rattle.epoch_link.proofs.Pushes.{false-true, is_there, keeps_producer}
 
 at_end : {A : Type 0} (l : List A) (a b : A) (j : ℕ) → get_elem? (l ++ a ∷ []) j ≡ some b → (get_elem? l j ≡ some b) ⊎ ((j ≡ length l) × (a ≡ b))
 at_end [] a b zero e = inr (refl, some-injective a b e)
@@ -46,11 +46,14 @@ module _ {T : Type 0} where
     room = λ f. absurd (false-true f);
     first = λ x f. absurd (none-some x f);
     seats = first_seat;
+    has_producer = (opening_view, refl, refl);
+    has_consumer = (opening_view, refl, refl);
   }
 
   -- other seats, under the same rule
-  reseated : (n : ℕ) (s : State (Option T) (View T)) (r : Ring n s) (pseat cseat : ℕ) (views : List (View T)) → Seats pseat r.sent r.lends cseat r.got r.next views → Ring n record { words = s.words; homes = s.homes; views = views }
-  reseated n s r pseat cseat views seats = record {
+  reseated : (n : ℕ) (s : State (Option T) (View T)) (r : Ring n s) (pseat cseat : ℕ) (views : List (View T)) → Seats pseat r.sent r.lends cseat r.got r.next views
+      → HasProducer pseat views → HasConsumer cseat views → Ring n record { words = s.words; homes = s.homes; views = views }
+  reseated n s r pseat cseat views seats producing consuming = record {
     sent = r.sent;
     got = r.got;
     lends = r.lends;
@@ -68,6 +71,8 @@ module _ {T : Type 0} where
     room = r.room;
     first = r.first;
     seats = seats;
+    has_producer = producing;
+    has_consumer = consuming;
   }
 
   pub splits : (n id : ℕ) (v : View T) → v.produces ≡ true → v.consumes ≡ true → Splits (Ring n) id v (producers_part v) (consumers_part v)
@@ -80,11 +85,17 @@ module _ {T : Type 0} where
       (at_set s.views id j (producers_part v) u old))
       (λ t. subst (Good j) t.1 ((λ f. absurd (false-true f)), (λ _. (t.0, cm.1, cm.2))))
       (at_end vs (consumers_part v) u j here))
+      (still_produces (keeps_producer s.views r.producer id v (producers_part v) at refl r.has_producer))
+      (consumers_part v, at_last vs (consumers_part v) (length vs) refl, c)
+    where
+      still_produces : HasProducer r.producer (set s.views id (producers_part v)) → HasProducer r.producer (set s.views id (producers_part v) ++ consumers_part v ∷ [])
+      still_produces (u, here, is) = (u, at_longer _ (consumers_part v ∷ []) r.producer u here, is)
 
   pub joins : (n id : ℕ) (v : View T) (other : ℕ) (w : View T) → v.produces ≡ true → w.consumes ≡ true → Joins (Ring n) id v other w (joined v w) spent_view
   joins n id v other w p c s r at two at' = let vs : List (View T) = set s.views id (joined v w) in let there = sym (set_else s.views id other (joined v w) two) ∙ at' in
       let pm = (r.seats id v at).0 p in let cm = (r.seats other w there).1 c in
       let Good : ℕ → View T → Type 0 = λ j z. (z.produces ≡ true → Produces z j r.producer r.sent r.lends) × (z.consumes ≡ true → Consumes z j id r.got r.next) in
+      let both_there : get_elem? (set vs other spent_view) id ≡ some (joined v w) = set_else vs other id spent_view (λ e. two (sym e)) ∙ set_here s.views id (joined v w) (is_there s.views id v at) in
       reseated n s r r.producer id (set vs other spent_view) (λ j u here. ⊎_elim
       (λ t. subst (Good j) t.1 ((λ f. absurd (false-true f)), (λ f. absurd (false-true f))))
       (λ o. ⊎_elim
@@ -92,3 +103,5 @@ module _ {T : Type 0} where
       (λ t. ((λ f. absurd (t.0 (((r.seats j u t.1).0 f).0 ∙ sym pm.0))), (λ f. absurd (o.0 (((r.seats j u t.1).1 f).0 ∙ sym cm.0)))))
       (at_set s.views id j (joined v w) u o.1))
       (at_set vs other j spent_view u here))
+      (joined v w, subst (λ (j : ℕ). get_elem? (set vs other spent_view) j ≡ some (joined v w)) pm.0 both_there, refl)
+      (joined v w, both_there, refl)

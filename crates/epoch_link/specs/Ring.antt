@@ -24,10 +24,18 @@ module _ {T : Type 0} where
   abbrev pub Consumes : View T → ℕ → ℕ → List T → Option T → Type 0
   Consumes v j seat got next = (j ≡ seat) × (v.got ≡ got) × (v.next ≡ next)
 
-  -- one seat has the producer's part, and one has the consumer's
+  -- no other seat than these two has the producer's part, or the consumer's
   abbrev pub Seats : ℕ → List T → Bool → ℕ → List T → Option T → List (View T) → Type 0
   Seats producer sent lends consumer got next views = (j : ℕ) (v : View T) → get_elem? views j ≡ some v
       → (v.produces ≡ true → Produces v j producer sent lends) × (v.consumes ≡ true → Consumes v j consumer got next)
+
+  -- the seat has a view with the producer's part
+  abbrev pub HasProducer : ℕ → List (View T) → Type 0
+  HasProducer seat views = (v : View T) × (get_elem? views seat ≡ some v) × (v.produces ≡ true)
+
+  -- the seat has a view with the consumer's part
+  abbrev pub HasConsumer : ℕ → List (View T) → Type 0
+  HasConsumer seat views = (v : View T) × (get_elem? views seat ≡ some v) × (v.consumes ≡ true)
 
   -- Each slot at home has the item of its position, or nothing where none was sent there yet. Out may be the slot of the next item to send and the slot of the next item to get.
   abbrev pub AtHome : ℕ → List T → Bool → List T → Option T → List (maybe.Option (Option T)) → Type 0
@@ -54,7 +62,10 @@ pub record Ring {T : Type 0} (n : ℕ) (s : State (Option T) (View T)) : Type 0 
   pub at_home : AtHome n sent lends got next s.homes
   pub room : lends ≡ true → length delivered.held < n
   pub first : (x : T) → next ≡ Some x → item_at delivered.held 0 ≡ Some x
+  -- just one seat has the producer's part, and just one the consumer's
   pub seats : Seats producer sent lends consumer got next s.views
+  pub has_producer : HasProducer producer s.views
+  pub has_consumer : HasConsumer consumer s.views
 
 abbrev pub Seated : Type 0 → Type 0
 Seated T = Me (Option T) (View T)

@@ -1,6 +1,7 @@
 //! Links between epochs: bounded queues whose two ends may lie in two threads.
 #![tactic(auto)]
 
+pub mod laws;
 mod link;
 mod list_link;
 mod ring_link;

@@ -1,4 +1,4 @@
-// The two ends of a link, as traits.
+//! The two ends of a link, as traits.
 ghost use Rattle.std.specs.Prelude.{◌≡◌, ℕ, ◌≤◌, List, [], ◌∷◌, ◌++◌, Option, Bool, false, IfSome};
 ghost use Rattle.atomic_table.specs.Seated.{TableId};
 ghost use Rattle.epoch_link.specs.Link.{OnDone, OnFull, IfFull, OnItem, IfItem, OnEmpty, Rose};

@@ -1,4 +1,4 @@
-// Both ends of a link on one thread.
+//! Both ends of a link on one thread.
 ghost use Rattle.std.specs.Prelude.{◌≡◌, ◌<◌, ◌≤◌, [], ◌∷◌, ◌++◌, length, false, true, IfOk};
 ghost use Rattle.std.specs.VecDeque.{deque_capacity};
 ghost use Rattle.epoch_link.specs.Link.{OnDone, OnFull, IfFull, OnItem, IfItem, OnEmpty, Rose, Delivered};
@@ -124,6 +124,16 @@ impl<T: Drop> ListLink<T> {
 }
 
 impl<T> ListLink<T> {
+    /// What is true of each link, which code over the traits may need: it does nothing.
+    ///
+    /// What was got is a prefix of what was sent, and the link holds the rest, which is at most its capacity, 1 to 65,536.
+    pub fn form(&self)
+        ensures delivered { Delivered self.now.sent self.now.got self.now.capacity }
+        ensures capacity { (1 ≤ self.now.capacity) × (self.now.capacity ≤ 65536) }
+    {
+        let _ = &self.table;
+    }
+
     /// Sends the item, or hands it back exactly where the link holds as many items as its capacity.
     pub fn push(&mut self, item: T) -> Pushed<T>
         ensures done { OnDone result ((held_count self.old < self.old.capacity) × (self.new ≡ record self.old { sent = self.old.sent ++ item ∷ [] })) }

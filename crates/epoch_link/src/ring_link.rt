@@ -1,4 +1,4 @@
-// A ring between two threads: one pushes and the other pops, and neither waits.
+//! A ring between two threads: one pushes and the other pops, and neither waits.
 ghost use Rattle.std.specs.Prelude.{◌≡◌, ◌≤◌, IfOk};
 ghost use Rattle.epoch_link.specs.Ends.{new_producer, new_consumer};
 

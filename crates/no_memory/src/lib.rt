@@ -1,4 +1,4 @@
-//! Want of memory, as an answer.
+//! Out of memory, as an answer.
 #![tactic(auto)]
 
 use std::alloc::{AllocError, AllocFailed};

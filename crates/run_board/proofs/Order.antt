@@ -6,7 +6,7 @@ use Rattle.std.proofs.lemmas.List.Sums.{sum_by-cons, sum_by-append}
 use Rattle.std.proofs.lemmas.List.Sorted.{sum_by-IsPermutation, All-permutation}
 use Rattle.std.proofs.lemmas.List.Elements.{All-head, All-tail}
 use Rattle.run_board.specs.declared.view.WorkerView.{WorkerView}
-use Rattle.run_board.specs.Tasks.{AreNumbered, IsLed}
+use Rattle.run_board.specs.Tasks.{TaskWords, AreNumbered, IsLed}
 use Rattle.run_board.specs.Views.{list_of}
 use Rattle.run_board.specs.Rule.{view_weight, whole_weight}
 use Rattle.run_board.specs.Workers.{Keeps}
@@ -48,45 +48,41 @@ module _ {T : Type 0} (number : T → ℕ) where
       (λ h. let e = w h in let e1 = sum_by-cons (λ t. h (number t)) x xs in let e2 = sum_by-cons h a (range_with_len (a + 1) n) in let e3 = ap h is in omega arith) in
       λ k. is k ∷ rest k
 
+module _ {T : Type 0} (words : TaskWords T) where
   -- tasks in the order of their numbers are led from the starts one by one
-  led_in_order : (led_from : T → T → Type 0) (starts news olds : List T) (a : ℕ) → map number news ≡ range_with_len a (length olds) → ((i : ℕ) → slice_get starts (a + i) ≡ slice_get olds i)
-      → All (IsLed number led_from starts) news → AllZip led_from news olds
-  led_in_order led_from starts [] [] a e at all = tt
-  led_in_order led_from starts [] (y ∷ ys) a e at all = absurd (nil_cons a (range_with_len (a + 1) (length ys)) (sym e))
-  led_in_order led_from starts (x ∷ xs) [] a e at all = absurd (nil_cons (number x) (map number xs) e)
-  led_in_order led_from starts (x ∷ xs) (y ∷ ys) a e at all =
+  led_in_order : (starts news olds : List T) (a : ℕ) → map words.number news ≡ range_with_len a (length olds) → ((i : ℕ) → slice_get starts (a + i) ≡ slice_get olds i)
+      → All (IsLed words starts) news → AllZip words.led_from news olds
+  led_in_order starts [] [] a e at all = tt
+  led_in_order starts [] (y ∷ ys) a e at all = absurd (nil_cons a (range_with_len (a + 1) (length ys)) (sym e))
+  led_in_order starts (x ∷ xs) [] a e at all = absurd (nil_cons (words.number x) (map words.number xs) e)
+  led_in_order starts (x ∷ xs) (y ∷ ys) a e at all =
       let range = range_with_len (a + 1) (length ys) in
-      let one = All-head (IsLed number led_from starts) x xs all in
-      let here : number x ≡ a + 0 = let h = head_is (number x) a (map number xs) range e in omega arith in
+      let one = All-head (IsLed words starts) x xs all in
+      let here : words.number x ≡ a + 0 = let h = head_is (words.number x) a (map words.number xs) range e in omega arith in
       let start_is : one.0 ≡ y = some_is one.0 y (sym one.1 ∙ ap (slice_get starts) here ∙ at 0) in (
-        subst (λ s. led_from x s) start_is one.2,
-        led_in_order led_from starts xs ys (a + 1) (tail_is (number x) a (map number xs) range e) (λ i. let n : (a + 1) + i ≡ a + suc i = omega arith in ap (slice_get starts) n ∙ at (suc i)) (All-tail (IsLed number led_from starts) x xs all),
+        subst (λ s. words.led_from x s) start_is one.2,
+        led_in_order starts xs ys (a + 1) (tail_is (words.number x) a (map words.number xs) range e) (λ i. let n : (a + 1) + i ≡ a + suc i = omega arith in ap (slice_get starts) n ∙ at (suc i)) (All-tail (IsLed words starts) x xs all),
       )
 
-module _ {T : Type 0} (number : T → ℕ) (led_from : T → T → Type 0) (ended : T → Type 0) where
   -- what the board answers, of the tasks handed in
   pub record IsAnswer (starts tasks : List T) : Type 0 where
-    pub order : map number tasks ≡ map number starts
-    pub are_ended : All ended tasks
-    pub are_led : AllZip led_from tasks starts
+    pub order : map words.number tasks ≡ map words.number starts
+    pub are_ended : All words.ended tasks
+    pub are_led : AllZip words.led_from tasks starts
 
-  pub is_answer : (v : WorkerView T) (finished tasks starts : List T) → Keeps number led_from ended v finished → ((h : ℕ → ℕ) → view_weight h v ≡ whole_weight (length starts) h) → v.starts ≡ starts → AreNumbered number starts
-      → IsPermutation finished tasks → IsNonDecreasingBy number tasks → IsAnswer starts tasks
+  pub is_answer : (v : WorkerView T) (finished tasks starts : List T) → Keeps words v finished → ((h : ℕ → ℕ) → view_weight h v ≡ whole_weight (length starts) h) → v.starts ≡ starts → AreNumbered words.number starts
+      → IsPermutation finished tasks → IsNonDecreasingBy words.number tasks → IsAnswer starts tasks
   is_answer v finished tasks starts k whole same numbered p up =
-      let weights : (h : ℕ → ℕ) → sum_by (λ t. h (number t)) tasks ≡ sum_by h (range_with_len 0 (length starts)) = λ h.
+      let weights : (h : ℕ → ℕ) → sum_by (λ t. h (words.number t)) tasks ≡ sum_by h (range_with_len 0 (length starts)) = λ h.
       let e0 = whole h in
-      let e1 = sum_by-append h (v.todo ++ list_of v.held) v.done in
-      let e2 = sum_by-append h v.todo (list_of v.held) in
-      let e3 = ap (sum_by h) k.filled in
-      let e4 = sum_by-append h v.done (list_of v.held) in
       let e5 = ap (sum_by h) k.numbers in
-      let e6 = sum_by-numbers number h finished in
-      let e7 = sum_by-IsPermutation (λ t. h (number t)) finished tasks p in
+      let e6 = sum_by-numbers words.number h finished in
+      let e7 = sum_by-IsPermutation (λ t. h (words.number t)) finished tasks p in
       omega arith in
-      let numbers = numbers_in_order number tasks 0 (length starts) up weights in
-      let led = All-permutation (IsLed number led_from v.starts) finished tasks p k.are_led in
+      let numbers = numbers_in_order words.number tasks 0 (length starts) up weights in
+      let led = All-permutation (IsLed words v.starts) finished tasks p k.are_led in
       record {
         order = numbers ∙ sym numbered;
-        are_ended = All-permutation ended finished tasks p k.are_ended;
-        are_led = led_in_order number led_from starts tasks starts 0 numbers (λ i. let n : 0 + i ≡ i = omega arith in ap (slice_get starts) n) (subst (λ s. All (IsLed number led_from s) tasks) same led);
+        are_ended = All-permutation words.ended finished tasks p k.are_ended;
+        are_led = led_in_order starts tasks starts 0 numbers (λ i. let n : 0 + i ≡ i = omega arith in ap (slice_get starts) n) (subst (λ s. All (IsLed words s) tasks) same led);
       }

@@ -1,7 +1,10 @@
 -- What a worker knows, before and after each step.
 use Rattle.std.specs.Prelude.{ℕ, ◌+◌, ◌-◌, Option, Some, None, List, [], ◌∷◌, ◌++◌}
-use Rattle.std.specs.List.{range_with_len}
 use Rattle.run_board.specs.declared.view.WorkerView.{WorkerView}
+
+-- all shares of a board: as many as it has workers at most
+abbrev pub whole_share : ℕ
+whole_share = 64
 
 -- the number, if there is one
 abbrev pub list_of : Option ℕ → List ℕ
@@ -13,21 +16,17 @@ module _ {T : Type 0} where
   abbrev pub taken : WorkerView T → List ℕ
   taken v = v.done ++ list_of v.held
 
-  -- all its numbers
-  abbrev pub numbers_of : WorkerView T → List ℕ
-  numbers_of v = (v.todo ++ list_of v.held) ++ v.done
+  -- a worker with these shares that took no task, and knows these tasks as handed in
+  abbrev pub filled : ℕ → List T → WorkerView T
+  filled shares starts = record { held = None; done = []; shares = shares; starts = starts }
 
   -- nothing is in the queue yet, and the first worker has all shares
-  abbrev pub opening : ℕ → ℕ → WorkerView T
-  opening tasks workers = record { todo = range_with_len 0 tasks; held = None; done = []; shares = workers; starts = [] }
+  abbrev pub opening : WorkerView T
+  opening = filled whole_share []
 
-  -- these tasks went into the queue, and one worker has so many shares
-  abbrev pub filled : ℕ → List T → WorkerView T
-  filled shares starts = record { todo = []; held = None; done = []; shares = shares; starts = starts }
-
-  -- after the push of a task that was handed in, the first of those still to go
-  abbrev pub after_fill : List ℕ → WorkerView T → T → WorkerView T
-  after_fill rest v task = record v { todo = rest; starts = v.starts ++ task ∷ [] }
+  -- after the push of a task that was handed in
+  abbrev pub after_fill : WorkerView T → T → WorkerView T
+  after_fill v task = record v { starts = v.starts ++ task ∷ [] }
 
   -- after the pop of a task of this number: the one held until then is finished
   abbrev pub after_pop : WorkerView T → ℕ → WorkerView T
@@ -47,7 +46,7 @@ module _ {T : Type 0} where
 
   -- two workers in one
   abbrev pub joined : WorkerView T → WorkerView T → WorkerView T
-  joined v w = record { todo = v.todo ++ w.todo; held = None; done = taken v ++ taken w; shares = v.shares + w.shares; starts = v.starts }
+  joined v w = record { held = None; done = taken v ++ taken w; shares = v.shares + w.shares; starts = v.starts }
 
   -- a worker that was joined to another
   abbrev pub spent : WorkerView T

@@ -1,25 +1,25 @@
 -- What workers keep.
-use Rattle.std.specs.Prelude.{◌≡◌, ℕ, ◌<◌, ◌≤◌, Some, List, [], map, All, vec_capacity}
+use Rattle.std.specs.Prelude.{◌≡◌, ℕ, ◌<◌, ◌≤◌, Some, List, [], length, map, All, Vec, vec_capacity}
 use Rattle.std.specs.List.{sum_by}
+use Rattle.std.specs.declared.alloc.Global.{Global}
 use Rattle.crossbeam_queue.specs.Passes.{Pass, view}
 use Rattle.run_board.specs.declared.view.WorkerView.{WorkerView}
 use Rattle.run_board.specs.declared.worker.Worker.{Worker}
-use Rattle.run_board.specs.Tasks.{IsLed}
+use Rattle.run_board.specs.Tasks.{TaskWords, IsLed}
 use Rattle.run_board.specs.Views.{taken, after_put_back}
 
 -- a worker that has taken part in the work keeps the tasks whose numbers it has, each ended and led from its start
-pub record Keeps {T : Type 0} (number : T → ℕ) (led_from : T → T → Type 0) (ended : T → Type 0) (v : WorkerView T) (finished : List T) : Type 0 where
-  pub filled : v.todo ≡ []
+pub record Keeps {T : Type 0} (words : TaskWords T) (v : WorkerView T) (finished : List T) : Type 0 where
   pub working : 0 < v.shares
-  pub numbers : map number finished ≡ taken v
-  pub are_ended : All ended finished
-  pub are_led : All (IsLed number led_from v.starts) finished
+  pub numbers : map words.number finished ≡ taken v
+  pub are_ended : All words.ended finished
+  pub are_led : All (IsLed words v.starts) finished
 
 -- it took this task, which isn't among those that it keeps
-pub record HasTaken {T : Type 0} (number : T → ℕ) (led_from : T → T → Type 0) (ended : T → Type 0) (v : WorkerView T) (finished : List T) (task : T) : Type 0 where
-  pub keeps : Keeps number led_from ended (after_put_back v) finished
-  pub holds : v.held ≡ Some (number task)
-  pub is_led : IsLed number led_from v.starts task
+pub record HasTaken {T : Type 0} (words : TaskWords T) (v : WorkerView T) (finished : List T) (task : T) : Type 0 where
+  pub keeps : Keeps words (after_put_back v) finished
+  pub holds : v.held ≡ Some (words.number task)
+  pub is_led : IsLed words v.starts task
 
 module _ {T : Type 0} where
   abbrev pub view_of : Worker T → WorkerView T
@@ -37,11 +37,16 @@ module _ {T : Type 0} where
   abbrev pub Agree : List (Worker T) → Type 0
   Agree workers = (starts : List T) × All (KnowsStarts starts) workers
 
--- a worker that has a pass of the queue, keeps its finished tasks, and has room for all tasks
-pub record IsReady {T : Type 0} (number : T → ℕ) (led_from : T → T → Type 0) (ended : T → Type 0) (tasks : ℕ) (is_pass : Pass T (WorkerView T) → Type 0) (worker : Worker T) : Type 0 where
+-- a worker that has a pass of the queue, whose capacity serves for all tasks, keeps its finished tasks, and has room for all
+pub record IsReady {T : Type 0} (words : TaskWords T) (capacity : ℕ) (is_pass : Pass T (WorkerView T) → Type 0) (worker : Worker T) : Type 0 where
   pub has_pass : is_pass worker.pass
-  pub keeps : Keeps number led_from ended (view_of worker) worker.finished.items
-  pub room : tasks ≤ vec_capacity worker.finished
+  pub keeps : Keeps words (view_of worker) worker.finished.items
+  pub few : length (view_of worker).starts ≤ capacity
+  pub room : capacity ≤ vec_capacity worker.finished
+
+-- an empty list with room for so many tasks
+abbrev pub HasRoomFor : {T : Type 0} → ℕ → Vec T Global → Type 0
+HasRoomFor capacity list = (list.items ≡ []) × (capacity ≤ vec_capacity list)
 
 -- the worker has the shares that it had, and knows the same tasks
 pub record Follows {T : Type 0} (old new : Worker T) : Type 0 where

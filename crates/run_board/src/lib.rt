@@ -1,8 +1,8 @@
 //! Tasks on a board, which workers give turns until each is ended.
 //!
-//! A board is a queue of tasks that several workers share. [`Board::work`] answers every task that
-//! was handed in, each once, in order of number, each ended and led from its own start, whatever the
-//! number of workers and however their steps fall.
+//! A board is a queue of tasks that several workers share. [`Board::ready`] takes all the memory, and
+//! [`Ready::work`] answers every task that was handed in, each once, in order of number, each ended and
+//! led from its own start, whatever the number of workers and however their steps fall.
 #![tactic(auto)]
 
 mod board;
@@ -16,5 +16,5 @@ mod turning;
 mod view;
 mod worker;
 
-pub use board::{Board, MOST_TASKS, MOST_WORKERS};
+pub use board::{Board, MOST_TASKS, MOST_WORKERS, Ready};
 pub use task::{Task, Turn};

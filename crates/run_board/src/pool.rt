@@ -1,65 +1,65 @@
 //! The workers of a board: made, at work at once, and joined into one.
 
-ghost use Rattle.std.specs.Prelude.{◌≡◌, ◌+◌, ◌++◌, ◌<◌, ◌≤◌, [], List, All, IfOk, length, vec_len, vec_capacity};
+ghost use Rattle.std.specs.Prelude.{◌≡◌, ◌+◌, ◌++◌, ◌<◌, ◌≤◌, [], List, All, length, vec_len, vec_capacity};
 ghost use Rattle.crossbeam_queue.specs.Passes.{view, IsPassOf, ruled_capacity};
-ghost use Rattle.run_board.specs.Views.{filled};
-ghost use Rattle.run_board.specs.Workers.{IsReady, Follows, KnowsStarts, Agree, view_of, shares_of};
+ghost use Rattle.run_board.specs.Views.{filled, whole_share};
+ghost use Rattle.run_board.specs.Workers.{IsReady, HasRoomFor, Follows, KnowsStarts, Agree, view_of, shares_of};
 
-use crate::steps::{PutBack, Shares, Sizes, TaskQueue, WorkerPass};
+use crate::steps::{PutBack, Shares, TaskQueue, WorkerPass};
 use crate::task::Task;
 use crate::turning::turn_until_empty;
 use crate::worker::Worker;
-use no_memory::NoMemory;
-use std::alloc::Global;
 use std::sync::Wait;
 use std::thread;
 use std::thread::Threads;
 
-/// All workers, each with one share and room for all tasks. The last one goes on with the opening
-/// pass and the list handed in. It gives up with NoMemory alone.
-pub fn make_pool<T: Task, N: Sizes>(
-    alloc: Global,
-    queue: &TaskQueue<T, N>,
+/// All workers, each with one of these lists, the last of which has the opening pass and all shares that the others don't
+/// have. It takes no memory.
+pub fn make_pool<T: Task>(
+    queue: &TaskQueue<T>,
     mut pass: WorkerPass<T>,
-    finished: Vec<T>,
-    workers: usize,
-) -> Result<Vec<Worker<T>>, NoMemory>
-    requires workers { (1 ≤ workers) × (workers ≡ N.workers) }
+    mut lists: Vec<Vec<T>>,
+    mut pool: Vec<Worker<T>>,
+) -> Vec<Worker<T>>
+    requires count { (1 ≤ vec_len lists) × (vec_len lists ≤ whole_share) }
+    requires lists { All (HasRoomFor (ruled_capacity queue.now)) lists.items }
+    requires empty { pool.items ≡ [] }
+    requires room { vec_len lists ≤ vec_capacity pool }
     requires pass { IsPassOf queue.now pass }
-    requires filled { view pass ≡ filled N.workers (view pass).starts }
-    requires empty { finished.items ≡ [] }
-    requires room { N.tasks ≤ vec_capacity finished }
-    ensures count { IfOk result (λ pool. vec_len pool ≡ workers) }
-    ensures ready { IfOk result (λ pool. All (IsReady T.number T.led_from T.ended N.tasks (IsPassOf queue.now)) pool.items) }
-    ensures starts { IfOk result (λ pool. All (KnowsStarts (view pass).starts) pool.items) }
-    ensures shares { IfOk result (λ pool. shares_of pool.items ≡ N.workers) }
+    requires filled { view pass ≡ filled whole_share (view pass).starts }
+    requires few { length (view pass).starts ≤ ruled_capacity queue.now }
+    ensures some { 0 < vec_len result }
+    ensures ready { All (IsReady T.words (ruled_capacity queue.now) (IsPassOf queue.now)) result.items }
+    ensures starts { All (KnowsStarts (view pass).starts) result.items }
+    ensures shares { shares_of result.items ≡ whole_share }
 {
-    let room = finished.capacity();
-    let mut pool = Vec::with_capacity(alloc, workers)?;
-    for _ in 1..workers {
-        let list = Vec::with_capacity(alloc, room)?;
+    let Some(last) = lists.pop() else {
+        unreachable!();
+    };
+    for finished in lists {
         let share = queue.another::<Shares>(&mut pass);
         pool.push_reserved(Worker {
             pass: share,
-            finished: list,
+            finished,
         });
     }
-    pool.push_reserved(Worker { pass, finished });
-    Ok(pool)
+    pool.push_reserved(Worker {
+        pass,
+        finished: last,
+    });
+    pool
 }
 
 /// All workers at once, each until its first empty pop. Where no thread can be made they go one
 /// after another.
-fn turn_at_once<T: Task, N: Sizes + Send + Sync, R: Threads + Wait + Sync>(
+fn turn_at_once<T: Task, R: Threads + Wait + Sync>(
     rt: &R,
-    queue: &TaskQueue<T, N>,
+    queue: &TaskQueue<T>,
     pool: &mut [Worker<T>],
 )
-    requires capacity { ruled_capacity queue.now ≡ N.tasks }
-    requires some_workers { 0 < N.workers }
     requires some { 0 < length pool.old }
-    requires ready { All (IsReady T.number T.led_from T.ended N.tasks (IsPassOf queue.now)) pool.old }
-    ensures ready { All (IsReady T.number T.led_from T.ended N.tasks (IsPassOf queue.now)) pool.new }
+    requires ready { All (IsReady T.words (ruled_capacity queue.now) (IsPassOf queue.now)) pool.old }
+    ensures ready { All (IsReady T.words (ruled_capacity queue.now) (IsPassOf queue.now)) pool.new }
     ensures starts { (starts : List T) → All (KnowsStarts starts) pool.old → All (KnowsStarts starts) pool.new }
     ensures shares { shares_of pool.new ≡ shares_of pool.old }
 {
@@ -69,23 +69,21 @@ fn turn_at_once<T: Task, N: Sizes + Send + Sync, R: Threads + Wait + Sync>(
         pool,
         threads,
         &|_: usize, worker: &mut Worker<T>|
-            requires { (ruled_capacity queue.now ≡ N.tasks) × (0 < N.workers) × IsReady T.number T.led_from T.ended N.tasks (IsPassOf queue.now) worker.now }
-            ensures { IsReady T.number T.led_from T.ended N.tasks (IsPassOf queue.entry.now) worker.new × Follows worker.old worker.new }
+            requires { IsReady T.words (ruled_capacity queue.now) (IsPassOf queue.now) worker.now }
+            ensures { IsReady T.words (ruled_capacity queue.entry.now) (IsPassOf queue.entry.now) worker.new × Follows worker.old worker.new }
         { turn_until_empty(rt, queue, worker) },
     );
 }
 
 /// The same, over the vector of the workers.
-fn turn_pool<T: Task, N: Sizes + Send + Sync, R: Threads + Wait + Sync>(
+fn turn_pool<T: Task, R: Threads + Wait + Sync>(
     rt: &R,
-    queue: &TaskQueue<T, N>,
+    queue: &TaskQueue<T>,
     pool: &mut Vec<Worker<T>>,
 )
-    requires capacity { ruled_capacity queue.now ≡ N.tasks }
-    requires some_workers { 0 < N.workers }
     requires some { 0 < vec_len pool.old }
-    requires ready { All (IsReady T.number T.led_from T.ended N.tasks (IsPassOf queue.now)) pool.old.items }
-    ensures ready { All (IsReady T.number T.led_from T.ended N.tasks (IsPassOf queue.now)) pool.new.items }
+    requires ready { All (IsReady T.words (ruled_capacity queue.now) (IsPassOf queue.now)) pool.old.items }
+    ensures ready { All (IsReady T.words (ruled_capacity queue.now) (IsPassOf queue.now)) pool.new.items }
     ensures starts { (starts : List T) → All (KnowsStarts starts) pool.old.items → All (KnowsStarts starts) pool.new.items }
     ensures shares { shares_of pool.new.items ≡ shares_of pool.old.items }
     ensures count { vec_len pool.new ≡ vec_len pool.old }
@@ -106,30 +104,26 @@ fn gather<T: Drop>(finished: &mut Vec<T>, others: Vec<T>)
 
 /// Joins a worker that has left to another one. The look at the queue changes nothing: it shows that
 /// one list holds the tasks of both.
-fn join<T: Task, N: Sizes>(queue: &TaskQueue<T, N>, worker: &mut Worker<T>, other: Worker<T>)
-    requires ready { IsReady T.number T.led_from T.ended N.tasks (IsPassOf queue.now) worker.old }
-    requires other_ready { IsReady T.number T.led_from T.ended N.tasks (IsPassOf queue.now) other }
+fn join<T: Task>(queue: &TaskQueue<T>, worker: &mut Worker<T>, other: Worker<T>)
+    requires ready { IsReady T.words (ruled_capacity queue.now) (IsPassOf queue.now) worker.old }
+    requires other_ready { IsReady T.words (ruled_capacity queue.now) (IsPassOf queue.now) other }
     requires other_starts { KnowsStarts (view_of worker.old).starts other }
-    ensures ready { IsReady T.number T.led_from T.ended N.tasks (IsPassOf queue.now) worker.new }
+    ensures ready { IsReady T.words (ruled_capacity queue.now) (IsPassOf queue.now) worker.new }
     ensures starts { KnowsStarts (view_of worker.old).starts worker.new }
     ensures shares { (view_of worker.new).shares ≡ (view_of worker.old).shares + (view_of other).shares }
 {
     let Worker { pass, finished } = other;
     queue.absorb::<Shares>(&mut worker.pass, pass);
-    queue.learn_as::<PutBack<N>>(&mut worker.pass);
+    queue.learn_as::<PutBack>(&mut worker.pass);
     gather(&mut worker.finished, finished);
 }
 
 /// Joins all workers that have left to one.
-fn join_all<T: Task, N: Sizes>(
-    queue: &TaskQueue<T, N>,
-    worker: &mut Worker<T>,
-    others: Vec<Worker<T>>,
-)
-    requires ready { IsReady T.number T.led_from T.ended N.tasks (IsPassOf queue.now) worker.old }
-    requires others_ready { All (IsReady T.number T.led_from T.ended N.tasks (IsPassOf queue.now)) others.items }
+fn join_all<T: Task>(queue: &TaskQueue<T>, worker: &mut Worker<T>, others: Vec<Worker<T>>)
+    requires ready { IsReady T.words (ruled_capacity queue.now) (IsPassOf queue.now) worker.old }
+    requires others_ready { All (IsReady T.words (ruled_capacity queue.now) (IsPassOf queue.now)) others.items }
     requires others_starts { All (KnowsStarts (view_of worker.old).starts) others.items }
-    ensures ready { IsReady T.number T.led_from T.ended N.tasks (IsPassOf queue.now) worker.new }
+    ensures ready { IsReady T.words (ruled_capacity queue.now) (IsPassOf queue.now) worker.new }
     ensures starts { KnowsStarts (view_of worker.old).starts worker.new }
     ensures shares { (view_of worker.new).shares ≡ (view_of worker.old).shares + shares_of others.items }
 {
@@ -139,17 +133,15 @@ fn join_all<T: Task, N: Sizes>(
 }
 
 /// All workers at once, and then one worker for them all. It takes no memory.
-pub fn run_pool<T: Task, N: Sizes + Send + Sync, R: Threads + Wait + Sync>(
+pub fn run_pool<T: Task, R: Threads + Wait + Sync>(
     rt: &R,
-    queue: &TaskQueue<T, N>,
+    queue: &TaskQueue<T>,
     mut pool: Vec<Worker<T>>,
 ) -> Worker<T>
-    requires capacity { ruled_capacity queue.now ≡ N.tasks }
-    requires some_workers { 0 < N.workers }
     requires some { 0 < vec_len pool }
-    requires ready { All (IsReady T.number T.led_from T.ended N.tasks (IsPassOf queue.now)) pool.items }
+    requires ready { All (IsReady T.words (ruled_capacity queue.now) (IsPassOf queue.now)) pool.items }
     requires agree { Agree pool.items }
-    ensures ready { IsReady T.number T.led_from T.ended N.tasks (IsPassOf queue.now) result }
+    ensures ready { IsReady T.words (ruled_capacity queue.now) (IsPassOf queue.now) result }
     ensures starts { (starts : List T) → All (KnowsStarts starts) pool.items → KnowsStarts starts result }
     ensures shares { (view_of result).shares ≡ shares_of pool.items }
 {

@@ -31,11 +31,11 @@ impl<'a, D: Door> Task for Counter<'a, D> {
     ghost use Rattle.std.specs.Prelude.{◌≡◌, ◌≤◌};
     ghost use Rattle.std.proofs.Common.{rules};
 
-    ghost number = { λ task. task.number };
-
-    ghost led_from = { λ new old. (new.door ≡ old.door) × (new.needed ≡ old.needed) × (old.taken ≤ new.taken) };
-
-    ghost ended = { λ task. task.needed ≤ task.taken };
+    ghost words = { record {
+      number = λ task. task.number;
+      led_from = λ new old. (new.door ≡ old.door) × (new.needed ≡ old.needed) × (old.taken ≤ new.taken);
+      ended = λ task. task.needed ≤ task.taken;
+    } };
 
     fn number(&self) -> u32 {
         self.number

@@ -1,4 +1,4 @@
-// The end of a ring that pops.
+//! The end of a ring that pops.
 ghost use Rattle.std.specs.Prelude.{◌≡◌, ◌≢◌, ◌+◌, ◌≤◌, [], ◌∷◌, ◌++◌, length, true};
 ghost use Rattle.epoch_link.specs.Link.{OnItem, IfItem, OnEmpty, Rose};
 ghost use Rattle.epoch_link.specs.Words.{word_of};

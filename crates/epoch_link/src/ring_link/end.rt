@@ -1,4 +1,4 @@
-// What both ends of a ring are made of.
+//! What both ends of a ring are made of.
 ghost use Rattle.std.specs.Prelude.{◌≡◌, ◌<◌, ◌≤◌};
 ghost use Rattle.std.specs.Arc.{arc_value};
 

@@ -1,4 +1,4 @@
-// What is left in a ring when both its ends are closed.
+//! What is left in a ring when both its ends are closed.
 ghost use Rattle.std.specs.Prelude.{◌≡◌, ◌≤◌, [], ◌∷◌, ◌++◌, length, IfNone, IfSome};
 ghost use Rattle.epoch_link.specs.Ends.{AtRest};
 

@@ -1,4 +1,4 @@
-// What each step on the table tells. These types are for the proofs alone.
+//! What each step on the table tells. These types are for the proofs alone.
 use crate::ring_link::view::View;
 use atomic_table::{Join, Play, Split};
 

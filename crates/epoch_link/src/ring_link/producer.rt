@@ -1,4 +1,4 @@
-// The end of a ring that pushes.
+//! The end of a ring that pushes.
 ghost use Rattle.std.specs.Prelude.{◌≡◌, ◌≢◌, ◌+◌, ◌≤◌, [], ◌∷◌, ◌++◌, length, true, false};
 ghost use Rattle.epoch_link.specs.Link.{OnDone, OnFull, IfFull, Rose};
 ghost use Rattle.epoch_link.specs.Words.{word_of, distance};

@@ -1,4 +1,4 @@
-// The steps of the two ends on their table.
+//! The steps of the two ends on their table.
 ghost use Rattle.std.specs.Prelude.{◌≡◌, ◌≢◌, ◌+◌, ◌%◌, [], ◌∷◌, ◌++◌, Some, None, true, false};
 ghost use Rattle.epoch_link.specs.Words.{word_of, distance};
 ghost use Rattle.epoch_link.specs.Ring.{seen_head, seen_tail, Remains, joined};

@@ -1,4 +1,4 @@
-// What the two ends of a ring share, and what each knows.
+//! What the two ends of a ring share, and what each knows.
 use atomic_table::{Seat, Table, TableRule};
 use std::alloc::Global;
 use std::collections::LinkedList;

@@ -1,4 +1,4 @@
-use Rattle.std.proofs.Common.{◌++◌, List, sym, ◌∙◌, subst, arith}
+use Rattle.std.proofs.Common.{◌++◌, List, length, sym, ap, ◌∙◌, subst, arith}
 use Rattle.crossbeam_queue.specs.Passes.{view}
 use Rattle.run_board.specs.declared.view.WorkerView.{WorkerView}
 use Rattle.run_board.specs.Workers.{Keeps, view_of}
@@ -7,24 +7,24 @@ use Rattle.run_board.proofs.Keeping.{keeps_both}
 use Rattle.run_board.proofs.pool.join.Goals as goal
 
 pub absorb-requires-clause-rule : goal.absorb-requires-clause-rule
-absorb-requires-clause-rule g c = joins g.T.Task.number g.T.Task.led_from g.T.Task.ended g.N.Sizes.tasks g.N.Sizes.workers _ _ _ _ c.requires.ready.keeps.working
+absorb-requires-clause-rule g c = joins g.T.Task.words _ _ _ _ c.requires.ready.keeps.working
 
 pub learn_as-requires-clause-rule : goal.learn_as-requires-clause-rule
-learn_as-requires-clause-rule g c = has_room g.T.Task.number g.T.Task.led_from g.T.Task.ended g.N.Sizes.tasks g.N.Sizes.workers _ _
+learn_as-requires-clause-rule g c =
+    has_room g.T.Task.words _ _ (omega (arith, ap (λ (v : WorkerView g.row.T.Denot). v.shares) c.absorb.ensures.rule, c.requires.ready.keeps.working))
 
 pub returns-clause-ready : goal.returns-clause-ready
 returns-clause-ready g c =
     let V : Type 0 = WorkerView g.row.T.Denot in
-    let number = g.T.Task.number in
-    let led_from = g.T.Task.led_from in
-    let ended = g.T.Task.ended in
+    let words = g.T.Task.words in
     let mine = c.requires.ready in
     let is = c.learn_as.ensures.queue.1 ∙ c.absorb.ensures.rule in
     let items = c.args.worker.now.finished.items ++ c.args.other.finished.items in
-    let both = keeps_both number led_from ended (view_of c.args.worker.now) (view_of c.args.other) c.args.worker.now.finished.items c.args.other.finished.items mine.keeps c.requires.other_ready.keeps c.requires.other_starts in
-    let keeps = subst (λ (v : V). Keeps number led_from ended v items) (sym is) both in
+    let both = keeps_both words (view_of c.args.worker.now) (view_of c.args.other) c.args.worker.now.finished.items c.args.other.finished.items mine.keeps c.requires.other_ready.keeps c.requires.other_starts in
+    let keeps = subst (λ (v : V). Keeps words v items) (sym is) both in
     record {
       has_pass = (c.learn_as.ensures.queue.0.0 ∙ c.absorb.ensures.queue.0 ∙ mine.has_pass.0, c.learn_as.ensures.queue.0.2 ∙ c.absorb.ensures.queue.2 ∙ mine.has_pass.1);
-      keeps = subst (λ (l : List g.row.T.Denot). Keeps number led_from ended (view c.learn_as.new.pass) l) (sym c.gather.ensures.items) keeps;
+      keeps = subst (λ (l : List g.row.T.Denot). Keeps words (view c.learn_as.new.pass) l) (sym c.gather.ensures.items) keeps;
+      few = omega (arith, mine.few, ap (λ (v : V). length v.starts) is);
       room = omega (arith, mine.room, c.gather.ensures.capacity);
     }

@@ -2,7 +2,7 @@ use Rattle.std.proofs.Common.{List, ap, ◌∙◌, arith}
 use Rattle.std.specs.Vec.Iter.{into_iter_items}
 use Rattle.std.proofs.lemmas.List.Sums.{sum_by-cons}
 use Rattle.std.proofs.lemmas.List.Elements.{All-rest}
-use Rattle.crossbeam_queue.specs.Passes.{IsPassOf}
+use Rattle.crossbeam_queue.specs.Passes.{IsPassOf, ruled_capacity}
 use Rattle.run_board.specs.declared.worker.Worker.{Worker}
 use Rattle.run_board.specs.Workers.{IsReady, KnowsStarts, view_of, shares_of}
 use Rattle.run_board.proofs.pool.join_all.Goals as goal
@@ -10,7 +10,7 @@ use Rattle.run_board.proofs.pool.join_all.Goals as goal
 pub loop-other-preserved : goal.loop-other-preserved
 loop-other-preserved g c =
     let W : Type 0 = Worker g.row.T.Denot in
-    let Ready : W → Type 0 = λ w. IsReady g.T.Task.number g.T.Task.led_from g.T.Task.ended g.N.Sizes.tasks (IsPassOf c.args.queue.now) w in
+    let Ready : W → Type 0 = λ w. IsReady g.T.Task.words (ruled_capacity c.args.queue.now) (IsPassOf c.args.queue.now) w in
     let known = (view_of c.args.worker.now).starts in
     let i = c.loop-other.invariant in
     let e = c.in-Some.ensures.steps.0 in

@@ -1,50 +1,68 @@
-use Rattle.std.proofs.Common.{◌≡◌, ◌<◌, ◌≤◌, List, All, sym, ap, ◌∙◌, subst, arith, lit<, vec_capacity}
-use Rattle.std.proofs.lemmas.List.Elements.{All-push}
-use Rattle.crossbeam_queue.specs.Passes.{view, IsPassOf}
+use Rattle.std.proofs.Common.{◌≡◌, ◌<◌, ◌≤◌, List, All, length, sym, ap, ◌∙◌, subst, arith, lit<, vec_capacity}
+use Rattle.std.specs.Vec.Iter.{into_iter_items}
+use Rattle.std.proofs.lemmas.List.Elements.{All-head, All-push, All-rest}
+use Rattle.crossbeam_queue.specs.Passes.{view, IsPassOf, ruled_capacity}
 use Rattle.run_board.specs.declared.view.WorkerView.{WorkerView}
 use Rattle.run_board.specs.declared.worker.Worker.{Worker}
 use Rattle.run_board.specs.Views.{filled, after_split}
-use Rattle.run_board.specs.Workers.{IsReady, KnowsStarts, shares_of}
+use Rattle.run_board.specs.Workers.{IsReady, HasRoomFor, KnowsStarts, shares_of}
+use Rattle.run_board.proofs.Lists.{All-last}
 use Rattle.run_board.proofs.KeepsRule.{splits}
 use Rattle.run_board.proofs.Keeping.{keeps_none}
 use Rattle.run_board.proofs.Joining.{shares_of-push}
 use Rattle.run_board.proofs.pool.make_pool.Goals as goal
 
 pub another-share-requires-clause-rule : goal.another-share-requires-clause-rule
-another-share-requires-clause-rule g c = splits g.T.Task.number g.T.Task.led_from g.T.Task.ended g.N.Sizes.tasks g.N.Sizes.workers _ _ (omega (arith, c.loop.invariant.left, c.loop-test.true, c.requires.workers.1))
+another-share-requires-clause-rule g c = splits g.T.Task.words _ _ (omega (arith, c.loop-finished.invariant.left, ap length c.in-Some-finished.ensures.steps.0))
 
-pub loop-preserved : goal.loop-preserved
-loop-preserved g c =
+pub loop-finished-preserved : goal.loop-finished-preserved
+loop-finished-preserved g c =
     let V : Type 0 = WorkerView g.row.T.Denot in
     let W : Type 0 = Worker g.row.T.Denot in
-    let Ready : W → Type 0 = λ w. IsReady g.T.Task.number g.T.Task.led_from g.T.Task.ended g.N.Sizes.tasks (IsPassOf c.args.queue.now) w in
-    let i = c.loop.invariant in
+    let capacity = ruled_capacity c.args.queue.now in
+    let ready : W → Type 0 = λ w. IsReady g.T.Task.words capacity (IsPassOf c.args.queue.now) w in
+    let i = c.loop-finished.invariant in
     let a = c.another-share.ensures in
     let known = (view c.args.pass).starts in
-    let worker : W = record { pass = c.another-share.result; finished = c.in_ok-list.list } in
+    let list = c.in-Some-finished.finished in
+    let worker : W = record { pass = c.another-share.result; finished = list } in
     let new_is : view c.another-share.result ≡ filled 1 known = a.rule.1 ∙ ap (λ (v : V). filled 1 v.starts) i.view_is in
-    let keeps = keeps_none g.T.Task.number g.T.Task.led_from g.T.Task.ended (view c.another-share.result) c.in_ok-list.list.items 1 known new_is (lit< tt) c.in_ok-list.ensures.items in
-    let room : g.N.Sizes.tasks ≤ vec_capacity c.in_ok-list.list = omega (arith, c.requires.room, c.capacity-room.ensures, c.in_ok-list.ensures.capacity) in
+    let steps = c.in-Some-finished.ensures.steps.0 in
+    let rest = into_iter_items c.next.new.self in
+    let has_room = All-head (HasRoomFor capacity) list rest (subst (All (HasRoomFor capacity)) steps i.lists) in
+    let keeps = keeps_none g.T.Task.words (view c.another-share.result) list.items 1 known new_is (lit< tt) has_room.0 in
     let items = c.push_reserved.ensures.items in
     let shares = ap (λ (v : V). v.shares) a.rule.0 in
+    let one = ap length steps in
+    let starts = ap (λ (v : V). length v.starts) new_is in
     record {
       pass = (a.queue.0.0 ∙ i.pass.0, a.queue.0.2 ∙ i.pass.1);
       view_is = a.rule.0 ∙ ap (λ (v : V). after_split v) i.view_is ∙ ap (λ n. filled n known) (sym shares);
-      left = omega (arith, shares, i.left, c.loop-test.true, c.requires.workers.1);
-      count = omega (arith, i.count, c.push_reserved.ensures.len);
-      room = omega (arith, i.room, c.push_reserved.ensures.capacity);
-      ready = subst (All Ready) (sym items) (All-push Ready c.loop.pool.items worker i.ready (record { has_pass = a.queue.1; keeps = keeps; room = room }));
-      starts = subst (All (KnowsStarts known)) (sym items) (All-push (KnowsStarts known) c.loop.pool.items worker i.starts (ap (λ (v : V). v.starts) new_is));
-      shares = omega (arith, i.shares, ap (λ (l : List W). shares_of l) items, shares_of-push c.loop.pool.items worker, ap (λ (v : V). v.shares) new_is);
+      left = omega (arith, shares, i.left, one);
+      lists = All-rest (HasRoomFor capacity) list rest _ steps i.lists;
+      room = omega (arith, i.room, one, c.push_reserved.ensures.len, c.push_reserved.ensures.capacity);
+      ready = subst (All ready) (sym items) (All-push ready c.loop-finished.pool.items worker i.ready (record { has_pass = a.queue.1; keeps = keeps; few = omega (arith, starts, c.requires.few); room = has_room.1 }));
+      starts = subst (All (KnowsStarts known)) (sym items) (All-push (KnowsStarts known) c.loop-finished.pool.items worker i.starts (ap (λ (v : V). v.starts) new_is));
+      shares = omega (arith, i.shares, i.left, shares, ap (λ (l : List W). shares_of l) items, shares_of-push c.loop-finished.pool.items worker, ap (λ (v : V). v.shares) new_is);
     }
 
 pub returns-clause-ready : goal.returns-clause-ready
 returns-clause-ready g c =
     let W : Type 0 = Worker g.row.T.Denot in
-    let Ready : W → Type 0 = λ w. IsReady g.T.Task.number g.T.Task.led_from g.T.Task.ended g.N.Sizes.tasks (IsPassOf c.args.queue.now) w in
-    let i = c.loop.invariant in
-    let own : W = record { pass = c.loop.pass; finished = c.args.finished } in
-    let last = c.loop.auto.counter-end in
-    let works : 0 < (view c.loop.pass).shares = omega (arith, i.left, c.requires.workers.0, c.requires.workers.1, last) in
-    let keeps = keeps_none g.T.Task.number g.T.Task.led_from g.T.Task.ended (view c.loop.pass) c.args.finished.items (view c.loop.pass).shares (view c.args.pass).starts i.view_is works c.requires.empty in
-    subst (All Ready) (sym c.push_reserved-2.ensures.items) (All-push Ready c.loop.pool.items own i.ready (record { has_pass = i.pass; keeps = keeps; room = c.requires.room }))
+    let capacity = ruled_capacity c.args.queue.now in
+    let ready : W → Type 0 = λ w. IsReady g.T.Task.words capacity (IsPassOf c.args.queue.now) w in
+    let i = c.loop-finished.invariant in
+    let own : W = record { pass = c.loop-finished.pass; finished = c.in-Some.last } in
+    let works : 0 < (view c.loop-finished.pass).shares = omega (arith, i.left) in
+    let has_room : HasRoomFor capacity c.in-Some.last = (All-last (HasRoomFor capacity) c.pop.new.self.items c.in-Some.last (subst (All (HasRoomFor capacity)) c.in-Some.ensures.items c.requires.lists)).1 in
+    let keeps = keeps_none g.T.Task.words (view c.loop-finished.pass) c.in-Some.last.items (view c.loop-finished.pass).shares (view c.args.pass).starts i.view_is works has_room.0 in
+    subst (All ready) (sym c.push_reserved-2.ensures.items) (All-push ready c.loop-finished.pool.items own i.ready (record { has_pass = i.pass; keeps = keeps; few = omega (arith, ap (λ (v : WorkerView g.row.T.Denot). length v.starts) i.view_is, c.requires.few); room = has_room.1 }))
+
+pub returns-clause-starts : goal.returns-clause-starts
+returns-clause-starts g c =
+    let V : Type 0 = WorkerView g.row.T.Denot in
+    let W : Type 0 = Worker g.row.T.Denot in
+    let i = c.loop-finished.invariant in
+    let own : W = record { pass = c.loop-finished.pass; finished = c.in-Some.last } in
+    let known = (view c.args.pass).starts in
+    subst (All (KnowsStarts known)) (sym c.push_reserved-2.ensures.items) (All-push (KnowsStarts known) c.loop-finished.pool.items own i.starts (ap (λ (v : V). v.starts) i.view_is))
