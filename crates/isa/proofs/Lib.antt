@@ -1,3 +1,4 @@
 mod Worked
 mod WorkedSteps
+mod WorkedWords
 mod ZeroRegister
