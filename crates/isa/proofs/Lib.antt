@@ -1,0 +1,4 @@
+mod Worked
+mod WorkedSteps
+mod WorkedWords
+mod ZeroRegister

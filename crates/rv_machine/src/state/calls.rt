@@ -1,4 +1,4 @@
-//! Guest calls: what a call is, whether it is refused, and the state behind it.
+//! Guest calls: what a call is, whether it is refused, and the state after it.
 
 ghost use Rattle.std.specs.Prelude.{◌≡◌, ℕ, ◌+◌, ◌<◌, length, IsTrue};
 ghost use Rattle.isa.specs.Machine.{in_window, reg, call_of, kind_of};
@@ -11,7 +11,7 @@ use isa::{Call, CallKind};
 const BAD_CHANNEL: i32 = -9;
 
 /// The buffer isn't wholly in the window.
-const BAD_ADDRESS: i32 = -14;
+const BAD_BUFFER: i32 = -14;
 
 /// There is no such call.
 const NO_SUCH_CALL: i32 = -38;
@@ -53,7 +53,7 @@ impl HartState {
         } else if size == 0 || self.in_window(buffer, size) {
             0
         } else {
-            BAD_ADDRESS
+            BAD_BUFFER
         }
     }
 
