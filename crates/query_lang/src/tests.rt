@@ -99,7 +99,11 @@ fn chooses(
 #[test]
 fn faulty_texts_have_their_first_fault(rt: HostRuntime) {
     for (text, line, kind) in &FAULTS {
-        assert_eq!(rt; outcome_of(rt.alloc(), text), Outcome::At(*line, *kind), "{text:?}");
+        assert_eq!(rt;
+            outcome_of(rt.alloc(), text),
+            Outcome::At(*line, *kind),
+            "{text:?}"
+        );
     }
 }
 
@@ -118,13 +122,22 @@ fn each_prefix_of_a_text_has_its_outcome(rt: HostRuntime) {
 fn good_texts_choose_their_bytes(rt: HostRuntime) {
     let alloc = rt.alloc();
     let of_a_channel = b"rule copy\r\nsource 0 1 2\r\n\tsink 1";
-    let channel = [(1, 0), (1, 1), (1, 4), (1, 5), (1, 6), (1, 9), (1, 4294967295)];
+    let channel = [
+        (1, 0),
+        (1, 1),
+        (1, 4),
+        (1, 5),
+        (1, 6),
+        (1, 9),
+        (1, 4294967295),
+    ];
     assert!(rt; chooses(alloc, of_a_channel, Rule::Copy, &[(0, 1)], &channel));
 
     let of_nothing = b"# any \xff\x00\n\n \t\nsource 0 5 5\n  rule  compute ";
     assert!(rt; chooses(alloc, of_nothing, Rule::Compute, &[], &[]));
 
-    let of_ranges = b"sink 0 4 6\nsink 0 5 9\nsink 15 0 1\nsink 0 1 1\nrule copy\nsource 0 9 4294967295\nsource 0 0000000000 1";
+    let of_ranges =
+        b"sink 0 4 6\nsink 0 5 9\nsink 15 0 1\nsink 0 1 1\nrule copy\nsource 0 9 4294967295\nsource 0 0000000000 1";
     let ranges = [(0, 4), (0, 5), (0, 6), (15, 0)];
     assert!(rt; chooses(alloc, of_ranges, Rule::Copy, &[(0, 0), (0, 9)], &ranges));
 }
