@@ -10,7 +10,7 @@ use Rattle.sorted_set.specs.Sets.{has}
 use Rattle.sorted_set.proofs.Algebra.{has-union, has-Contains, Contains-has}
 use Rattle.flow_model.specs.Orders.{source_cmp}
 use Rattle.flow_model.specs.Flow.{from}
-use Rattle.flow_model.specs.Origins.{Policy, origins, fresh, union_over, after_step, step_at}
+use Rattle.flow_model.specs.Origins.{Policy, origins, fresh, union_over, after_step}
 use Rattle.flow_model.specs.OriginLaws.{OriginsFlowIn, NoneAtStart}
 use Rattle.flow_model.proofs.Orders.{source_total, source_same}
 

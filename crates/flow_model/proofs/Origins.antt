@@ -1,14 +1,13 @@
 -- Laws of origins.
-use Rattle.std.proofs.Common.{◌≡◌, ℕ, zero, suc, List, [], ◌∷◌, refl, ap, ap₂, sym, ◌∙◌, Bool, true, false, cond}
+use Rattle.std.proofs.Common.{◌≡◌, ℕ, zero, suc, List, [], ◌∷◌, refl}
 use Rattle.std.specs.Prelude.{Option, Some, None}
 use Rattle.flow_model.specs.declared.Loc.{Loc}
 use Rattle.flow_model.specs.declared.SourceByte.{SourceByte}
 use Rattle.flow_model.specs.declared.StepSeen.{StepSeen}
-use Rattle.flow_model.specs.declared.CallSeen.{CallSeen}
-use Rattle.sorted_set.specs.Sets.{union, Ascends}
+use Rattle.sorted_set.specs.Sets.{Ascends}
 use Rattle.flow_model.specs.Orders.{source_cmp}
-use Rattle.flow_model.specs.Flow.{from, is_received, from_call}
-use Rattle.flow_model.specs.Origins.{Policy, origins, introduced, fresh, fresh_by, byte_at, union_over, after_step, step_at}
+use Rattle.flow_model.specs.Flow.{from}
+use Rattle.flow_model.specs.Origins.{Policy, origins, fresh, union_over, after_step, step_at}
 use Rattle.sorted_set.proofs.Algebra.{Ascends-union}
 use Rattle.flow_model.proofs.Orders.{source_total}
 

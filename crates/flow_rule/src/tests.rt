@@ -57,7 +57,9 @@ fn has_row(table: &Flow, i: usize, row: &[u32]) -> bool
     if digits(table.target(i)) != *target || locs.len() != origins.len() {
         return false;
     }
-    locs.iter().zip(origins).all(|(loc, origin)| digits(*loc) == *origin)
+    locs.iter()
+        .zip(origins)
+        .all(|(loc, origin)| digits(*loc) == *origin)
 }
 
 /// Whether the table has these rows and no others.

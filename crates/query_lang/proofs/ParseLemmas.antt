@@ -1,5 +1,5 @@
 -- What is read so far, and what the definition gives for the rest, is what it gives for all.
-use Rattle.std.proofs.Common.{◌≡◌, ℕ, ◌+◌, ◌<◌, ◌≤◌, List, [], ◌∷◌, ◌++◌, length, refl, ap, sym, ◌∙◌, Bool, true, false, cond, Bor, arith}
+use Rattle.std.proofs.Common.{◌≡◌, ℕ, ◌+◌, ◌<◌, ◌≤◌, List, [], ◌∷◌, ◌++◌, length, refl, ap, sym, ◌∙◌, Bool, true, false, Bor, arith}
 use Rattle.std.specs.Prelude.{Option, Some, None, Err, map, is_some, ◌||◌, ◌&&◌, MatchOption, IfSome}
 use Rattle.std.specs.List.{flat_map}
 use Rattle.std.proofs.lemmas.List.{append_assoc, append-nil}
@@ -12,7 +12,7 @@ use Rattle.query_lang.specs.declared.draft.Draft.{Draft}
 use Rattle.query_lang.specs.declared.fault.QueryFault.{QueryFault}
 use Rattle.query_lang.specs.declared.fault.QueryFault.TheVariants.{At, NoMemory}
 use Rattle.query_lang.specs.Choices.{SameChoices}
-use Rattle.query_lang.specs.Drafts.{TakesUp, IsFaultIn, IsFinished, IsUnfinished, gathered, rule_with}
+use Rattle.query_lang.specs.Drafts.{TakesUp, IsFaultIn, IsFinished, IsUnfinished, choices_in, rule_with}
 use Rattle.query_lang.specs.Answers.{StandsFor, IsTold}
 
 -- ---- unions of choices
@@ -37,10 +37,10 @@ size_left (Some text) = length text.now + 1
 pub record IsPartOf (text : List ℕ) (number : ℕ) (draft : Draft) (left : List (List ℕ)) : Type 0 where
   pub fault : first_fault (number + 1) (is_some draft.rule) (map read_line left) ≡ first_fault 1 false (read_lines text)
   pub rule : rule_with draft.rule (map read_line left) ≡ rule_among (read_lines text)
-  pub sources : SameChoices (gathered draft.sources ++ flat_map sources_in (map read_line left)) (flat_map sources_in (read_lines text))
-  pub sinks : SameChoices (gathered draft.sinks ++ flat_map sinks_in (map read_line left)) (flat_map sinks_in (read_lines text))
+  pub sources : SameChoices (choices_in draft.sources ++ flat_map sources_in (map read_line left)) (flat_map sources_in (read_lines text))
+  pub sinks : SameChoices (choices_in draft.sinks ++ flat_map sinks_in (map read_line left)) (flat_map sinks_in (read_lines text))
 
-pub nothing_read : (text : List ℕ) (draft : Draft) → draft.rule ≡ None → gathered draft.sources ≡ [] → gathered draft.sinks ≡ [] → IsPartOf text 0 draft (lines text)
+pub nothing_read : (text : List ℕ) (draft : Draft) → draft.rule ≡ None → choices_in draft.sources ≡ [] → choices_in draft.sinks ≡ [] → IsPartOf text 0 draft (lines text)
 nothing_read text draft r a b = record {
   fault = rw r refl;
   rule = rw r refl;
@@ -87,8 +87,8 @@ all_read text number draft q p f =
       stands = ap (λ (g : Option (ℕ × QueryKind)). unless g (query_of (read_lines text))) (sym p.fault ∙ end);
       alike = record {
         rule = sym rule ∙ p.rule;
-        sources = λ c o. f.sources c o ∙ ap (λ (xs : List Choice). chooses xs c o) (sym (append-nil (gathered draft.sources))) ∙ p.sources c o;
-        sinks = λ c o. f.sinks c o ∙ ap (λ (xs : List Choice). chooses xs c o) (sym (append-nil (gathered draft.sinks))) ∙ p.sinks c o;
+        sources = λ c o. f.sources c o ∙ ap (λ (xs : List Choice). chooses xs c o) (sym (append-nil (choices_in draft.sources))) ∙ p.sources c o;
+        sinks = λ c o. f.sinks c o ∙ ap (λ (xs : List Choice). chooses xs c o) (sym (append-nil (choices_in draft.sinks))) ∙ p.sinks c o;
       };
     }
 

@@ -7,12 +7,13 @@ use Rattle.report_model.specs.Query.{Choice, Query}
 use Rattle.report_model.specs.Grammar.{Statement, line_fault, rule_in, sources_in, sinks_in, rule_among}
 use Rattle.query_lang.specs.declared.fault.QueryFault.{QueryFault}
 use Rattle.query_lang.specs.declared.fault.QueryFault.TheVariants.{At, NoMemory}
-use Rattle.query_lang.specs.declared.chosen.Gathered.{Gathered}
+use Rattle.query_lang.specs.declared.chosen.Selection.{Selection}
 use Rattle.query_lang.specs.declared.draft.Draft.{Draft}
 use Rattle.query_lang.specs.Choices.{choices_of, SameChoices}
 
-abbrev pub gathered : Gathered → List Choice
-gathered g = choices_of g.all g.spans.items
+-- what the lines so far choose
+abbrev pub choices_in : Selection → List Choice
+choices_in g = choices_of g.all g.spans.items
 
 -- the rule so far, or else that of the lines that are left
 abbrev pub rule_with : Option Rule → List (Result (Option Statement) QueryKind) → Rule
@@ -24,8 +25,8 @@ pub record TakesUp (old : Draft) (line : Result (Option Statement) QueryKind) (n
   pub clean : line_fault (is_some old.rule) line ≡ None
   pub after_rule : is_some new.rule ≡ (is_some old.rule || is_some (rule_in line))
   pub rule : (left : List (Result (Option Statement) QueryKind)) → rule_with old.rule (line ∷ left) ≡ rule_with new.rule left
-  pub sources : SameChoices (gathered new.sources) (gathered old.sources ++ sources_in line)
-  pub sinks : SameChoices (gathered new.sinks) (gathered old.sinks ++ sinks_in line)
+  pub sources : SameChoices (choices_in new.sources) (choices_in old.sources ++ sources_in line)
+  pub sinks : SameChoices (choices_in new.sinks) (choices_in old.sinks ++ sinks_in line)
 
 -- the line with this number is at fault
 abbrev pub IsFaultIn : ℕ → Draft → Result (Option Statement) QueryKind → QueryFault → Type 0
@@ -35,8 +36,8 @@ IsFaultIn number draft line NoMemory = Unit {0}
 -- the query has the draft's rule, and chooses what it does
 pub record IsFinished (draft : Draft) (q : Query) : Type 0 where
   pub rule : draft.rule ≡ Some q.rule
-  pub sources : SameChoices q.sources (gathered draft.sources)
-  pub sinks : SameChoices q.sinks (gathered draft.sinks)
+  pub sources : SameChoices q.sources (choices_in draft.sources)
+  pub sinks : SameChoices q.sinks (choices_in draft.sinks)
 
 -- no line named a rule
 abbrev pub IsUnfinished : Draft → QueryFault → Type 0

@@ -12,17 +12,17 @@ use std::marker::Model;
 
 /// What the lines so far choose.
 #[derive(Drop)]
-pub struct Gathered {
+pub struct Selection {
     pub all: bool,
     pub spans: Vec<Span>,
 }
 
-impl Gathered {
+impl Selection {
     /// Nothing.
     pub fn new(alloc: Global) -> Self
         ensures { choices_of result.all result.spans.items ≡ [] }
     {
-        Gathered {
+        Selection {
             all: false,
             spans: Vec::new(alloc),
         }
@@ -113,12 +113,12 @@ impl Model for Chosen {
 }
 
 impl Chosen {
-    /// The bytes that were gathered.
-    pub fn of(alloc: Global, gathered: Gathered) -> Result<Chosen, AllocError>
+    /// The bytes of a selection.
+    pub fn of(alloc: Global, selection: Selection) -> Result<Chosen, AllocError>
         ensures { IfOk result (λ chosen.
-            SameChoices chosen (choices_of gathered.all gathered.spans.items)) }
+            SameChoices chosen (choices_of selection.all selection.spans.items)) }
     {
-        let Gathered { all, spans } = gathered;
+        let Selection { all, spans } = selection;
         let spans = merged(alloc, &sort(spans))?;
         Ok(Chosen { all, spans })
     }

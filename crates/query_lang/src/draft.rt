@@ -2,9 +2,9 @@
 
 ghost use Rattle.std.specs.Prelude.{◌≡◌, None, [], IfErr, OnOk};
 ghost use Rattle.report_model.specs.Grammar.{read_line};
-ghost use Rattle.query_lang.specs.Drafts.{gathered, TakesUp, IsFaultIn};
+ghost use Rattle.query_lang.specs.Drafts.{choices_in, TakesUp, IsFaultIn};
 
-use crate::chosen::Gathered;
+use crate::chosen::Selection;
 use crate::fault::QueryFault;
 use crate::statement::{Statement, statement_of};
 use flow_model::Rule;
@@ -15,21 +15,21 @@ use std::alloc::Global;
 #[derive(Drop)]
 pub struct Draft {
     pub rule: Option<Rule>,
-    pub sources: Gathered,
-    pub sinks: Gathered,
+    pub sources: Selection,
+    pub sinks: Selection,
 }
 
 impl Draft {
     /// Nothing.
     pub fn new(alloc: Global) -> Self
         ensures rule { result.rule ≡ None }
-        ensures sources { gathered result.sources ≡ [] }
-        ensures sinks { gathered result.sinks ≡ [] }
+        ensures sources { choices_in result.sources ≡ [] }
+        ensures sinks { choices_in result.sinks ≡ [] }
     {
         Draft {
             rule: None,
-            sources: Gathered::new(alloc),
-            sinks: Gathered::new(alloc),
+            sources: Selection::new(alloc),
+            sinks: Selection::new(alloc),
         }
     }
 

@@ -1,20 +1,15 @@
 -- Laws of rows. Crates above cite these lemmas.
-use Rattle.std.proofs.Common.{◌≡◌, ℕ, List, [], ◌∷◌, refl, ap, ◌∙◌, Bool, true, false, cond, map}
-use Rattle.std.specs.Prelude.{◌||◌}
-use Rattle.std.specs.Ordering.{is_eq}
+use Rattle.std.proofs.Common.{◌≡◌, List, [], ◌∷◌, refl, Bool, true, false, cond, map}
 use Rattle.std.specs.List.{filter, All, AllByRecursion, Contains}
 use Rattle.std.specs.Cmp.{IsTotalOrder, on_total}
-use Rattle.std.specs.declared.cmp.Ordering.{Ordering}
-use Rattle.std.specs.declared.cmp.Ordering.TheVariants.{Less, Equal, Greater}
 use Rattle.std.proofs.lemmas.List.Elements.{recursion_from_All, All-from_recursion, All-contains_itself}
 use Rattle.flow_model.specs.declared.StepSeen.{StepSeen}
 use Rattle.flow_model.specs.declared.SinkByte.{SinkByte}
 use Rattle.sorted_set.specs.Sets.{set_of, Ascends}
-use Rattle.flow_model.specs.Orders.{sink_cmp}
 use Rattle.flow_model.specs.Origins.{Policy, origins}
 use Rattle.sorted_set.proofs.Algebra.{Ascends-set_of, has-set_of, All-set_of}
 use Rattle.flow_model.proofs.Orders.{sink_total}
-use Rattle.report_model.specs.Query.{Query, Alike, has_sink, policy_of}
+use Rattle.report_model.specs.Query.{Query, Alike, has_sink}
 use Rattle.report_model.specs.RowLaws.{has_row}
 use Rattle.report_model.specs.Rows.{Sink, Row, row, rows, rows_as_written, sinks_from, row_cmp}
 

@@ -1,5 +1,5 @@
 -- The query language: the query that a text stands for, or its first fault with the number of the line.
-use Rattle.std.specs.Prelude.{ℕ, ◌+◌, ◌==◌, nat_lt, nat_le, Bool, true, false, not, ◌&&◌, ◌||◌, if◌then◌else◌, List, [], ◌∷◌, map, length, codes, Option, Some, None, is_some, unwrap_or, Result, Ok, Err}
+use Rattle.std.specs.Prelude.{ℕ, ◌+◌, ◌==◌, nat_lt, nat_le, Bool, false, not, ◌&&◌, ◌||◌, if◌then◌else◌, List, [], ◌∷◌, map, length, codes, Option, Some, None, is_some, unwrap_or, Result, Ok, Err}
 use Rattle.std.specs.List.{filter, flat_map, list_any, slice_split}
 use Rattle.std.specs.Str.{bytes_eq, all_ascii_digits}
 use Rattle.std.specs.Str.Parse.{digits_value}
@@ -8,7 +8,7 @@ use Rattle.flow_model.specs.declared.Rule.{Rule}
 use Rattle.flow_model.specs.declared.Rule.TheVariants.{Copy, Compute}
 use Rattle.report_model.specs.declared.QueryKind.{QueryKind}
 use Rattle.report_model.specs.declared.QueryKind.TheVariants.{BadByte, Word, Count, Number, Channel, Range, SecondRule, NoRule}
-use Rattle.report_model.specs.Query.{Query, Choice, Offsets}
+use Rattle.report_model.specs.Query.{Query, Choice}
 
 -- ---- lines and words
 

@@ -1,5 +1,5 @@
 -- Queries, and which bytes they choose.
-use Rattle.std.specs.Prelude.{◌≡◌, ℕ, ◌==◌, nat_lt, nat_le, Bool, true, ◌&&◌, List, [], ◌∷◌, Option, Some, None}
+use Rattle.std.specs.Prelude.{◌≡◌, ℕ, ◌==◌, nat_lt, nat_le, Bool, true, ◌&&◌, List, Option, Some, None}
 use Rattle.std.specs.List.{list_any}
 use Rattle.flow_model.specs.declared.Rule.{Rule}
 use Rattle.flow_model.specs.declared.SourceByte.{SourceByte}

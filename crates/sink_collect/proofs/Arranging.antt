@@ -1,5 +1,5 @@
 -- Rows of which no two have the same output byte, once they are sorted by output byte, are the set of them.
-use Rattle.std.proofs.Common.{◌≡◌, List, [], ◌∷◌, Bool, false, refl, ap, sym, subst}
+use Rattle.std.proofs.Common.{◌≡◌, List, [], ◌∷◌, Bool, false, refl, sym, subst}
 use Rattle.std.specs.List.{AllByRecursion, IsDistinct}
 use Rattle.std.specs.List.Sorted.{IsSortedBy, IsPermutation}
 use Rattle.std.specs.Cmp.{IsTotalOrder, on_total}
