@@ -2,7 +2,7 @@
 
 ghost use Rattle.std.specs.Prelude.{◌≡◌, ◌≤◌, ◌^◌, nat_lt, if◌then◌else◌, length, IfOk, IfErr};
 ghost use Rattle.std.specs.Int.{w32, cast_unsigned};
-ghost use Rattle.log_model.specs.Faults.{fixed_length, data_length, is_result_wrong, record_fault};
+ghost use Rattle.log_model.specs.Faults.{fixed_length, data_length, is_read_result_wrong, is_write_result_wrong, is_trap_kind_wrong, is_result_wrong, record_fault};
 ghost use Rattle.log_model.specs.Faults.{is_refusal as is_refusal_word};
 ghost use Rattle.replay_log.specs.Tags.{number};
 ghost use Rattle.replay_log.specs.Records.{ArePartsOf};
@@ -27,23 +27,36 @@ fn is_refusal(word: u32) -> bool
     matches!(word.cast_signed(), -9 | -14)
 }
 
+/// Whether a read of at most so many bytes has no such result.
+fn is_read_result_wrong(requested: u32, moved: u32) -> bool
+    ensures { result ≡ is_read_result_wrong requested moved }
+{
+    !(is_refusal(moved) || (moved <= requested && moved < 1 << 31))
+}
+
+/// Whether a write of so many bytes has no such result.
+fn is_write_result_wrong(requested: u32, moved: u32) -> bool
+    ensures { result ≡ is_write_result_wrong requested moved }
+{
+    !(is_refusal(moved) || (moved == requested && moved < 1 << 31))
+}
+
+/// Whether no trap has this kind.
+fn is_trap_kind_wrong(kind: u32) -> bool
+    ensures { result ≡ is_trap_kind_wrong kind }
+{
+    !matches!(kind, 0..=3 | 5 | 7)
+}
+
 /// Whether the result of a read or a write, or the kind of a trap, is none that there is.
 fn is_outcome_wrong(tag: Tag, rest: &[u8]) -> bool
     requires { fixed_length (number tag) ≤ length rest.now }
     ensures { result ≡ is_result_wrong (number tag) rest.now }
 {
     match tag {
-        Tag::Read => {
-            let requested = word_at(rest, 13);
-            let moved = word_at(rest, 17);
-            !(is_refusal(moved) || (moved <= requested && moved < 1 << 31))
-        }
-        Tag::Write => {
-            let requested = word_at(rest, 13);
-            let moved = word_at(rest, 17);
-            !(is_refusal(moved) || (moved == requested && moved < 1 << 31))
-        }
-        Tag::Trap => !matches!(word_at(rest, 5), 0..=3 | 5 | 7),
+        Tag::Read => is_read_result_wrong(word_at(rest, 13), word_at(rest, 17)),
+        Tag::Write => is_write_result_wrong(word_at(rest, 13), word_at(rest, 17)),
+        Tag::Trap => is_trap_kind_wrong(word_at(rest, 5)),
         Tag::Clock => false,
         Tag::Other => false,
         Tag::Exit => false,
