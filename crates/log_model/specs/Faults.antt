@@ -23,8 +23,8 @@ header_fault bytes = first_true (
     (nat_lt 16 (word_at bytes 44), (Header, 44)) ∷ []
     )
 
--- ---- a record, at the front of the bytes that are left: a tag, the step number in bytes 1 to 4, and then of a read or a
--- write the arguments from 5, 9 and 13 and the result from 17, of a trap its kind from 5
+-- ---- a record, at the front of the bytes that are left: a tag, the step number in bytes 1 to 4, and then of a read or
+-- a write the arguments from 5, 9 and 13 and the result from 17, of a trap its kind from 5
 
 abbrev pub tag_of : List ℕ → ℕ
 tag_of rest = slice_index rest 0
@@ -83,5 +83,8 @@ pub record IsRead (bytes : List ℕ) (records : List CallRecord) (rest : List �
 -- Bytes have this fault at this offset: in the header; in the record after whole records; or after an end record
 pub data HasFault (bytes : List ℕ) : LogKind → ℕ → Type 0 where
   InHeader : {kind : LogKind} {offset : ℕ} → header_fault bytes ≡ Some (kind, offset) → HasFault bytes kind offset
-  InRecord : {kind : LogKind} (records : List CallRecord) (rest : List ℕ) → IsRead bytes records rest → record_fault (least_after 0 records) rest ≡ Some kind → HasFault bytes kind (length bytes - length rest)
-  AfterEnd : (records : List CallRecord) (end : RunEnd) (rest : List ℕ) → IsRead bytes records (end_text end ++ rest) → IsEnd end → least_after 0 records ≤ end_at end → 0 < length rest → HasFault bytes Trailing (length bytes - length rest)
+  InRecord : {kind : LogKind} (records : List CallRecord) (rest : List ℕ) → IsRead bytes records rest
+      → record_fault (least_after 0 records) rest ≡ Some kind → HasFault bytes kind (length bytes - length rest)
+  AfterEnd : (records : List CallRecord) (end : RunEnd) (rest : List ℕ) → IsRead bytes records (end_text end ++ rest)
+      → IsEnd end → least_after 0 records ≤ end_at end → 0 < length rest
+      → HasFault bytes Trailing (length bytes - length rest)

@@ -103,7 +103,8 @@ pub record IsTransfer (args : List ℕ) (result : ℤ) (bytes : List ℕ) : Type
 -- a read moves at most the length requested, a write all of it
 abbrev pub IsRecord : CallRecord → Type 0
 IsRecord (Read at args result bytes) =
-    (at < 2 ^ 32) × IsTransfer args result bytes × (IsRefusal result ⊎ ((pos 0 ≤ℤ result) × (result ≤ℤ pos (slice_index args 2))))
+    (at < 2 ^ 32) × IsTransfer args result bytes ×
+    (IsRefusal result ⊎ ((pos 0 ≤ℤ result) × (result ≤ℤ pos (slice_index args 2))))
 IsRecord (Write at args result bytes) =
     (at < 2 ^ 32) × IsTransfer args result bytes × (IsRefusal result ⊎ (result ≡ pos (slice_index args 2)))
 IsRecord (Clock at value) = (at < 2 ^ 32) × (value < 2 ^ 64)

@@ -6,7 +6,8 @@ use Rattle.log_model.specs.Logs.{Log, IsLog, log_text}
 
 -- the log of these parts
 abbrev pub log_of_parts : ℕ → ℕ → List ℕ → List CallRecord → RunEnd → Log
-log_of_parts pages inputs digest records end = record { pages = pages; inputs = inputs; digest = digest; records = records; end = end }
+log_of_parts pages inputs digest records end =
+    record { pages = pages; inputs = inputs; digest = digest; records = records; end = end }
 
 pub record IsLogOfSize (log : Log) (size : ℕ) : Type 0 where
   pub form : IsLog log

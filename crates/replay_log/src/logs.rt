@@ -24,11 +24,11 @@ impl Model for Log {
 
     ghost Value = { LogOf };
 
-    ghost use Rattle.replay_log.specs.Logs.{IsLogOfSize};
+    ghost use Rattle.replay_log.specs.Logs.{IsLogOfSize, log_of_parts};
 
-    ghost view = { λ l. record { pages = l.pages; inputs = l.inputs; digest = l.digest; records = l.records.items; end = l.end } };
+    ghost view = { λ l. log_of_parts l.pages l.inputs l.digest l.records.items l.end };
 
-    ghost invariant = { λ l. IsLogOfSize record { pages = l.pages; inputs = l.inputs; digest = l.digest; records = l.records.items; end = l.end } l.size };
+    ghost invariant = { λ l. IsLogOfSize (log_of_parts l.pages l.inputs l.digest l.records.items l.end) l.size };
 }
 
 impl Log {

@@ -60,12 +60,11 @@ fn body_of(alloc: Global, bytes: &[u8]) -> Result<(Vec<CallRecord>, RunEnd), Log
     }
 }
 
-/// Reads the log that these bytes are the text of, or tells the first fault that is met from the front, with its
-/// offset.
+/// Reads the log that these bytes are the text of. Otherwise it answers `At` with the first fault that is met from the
+/// front and its offset in bytes, or NoMemory where memory runs out.
 pub fn read_log(alloc: Global, bytes: &[u8]) -> Result<Log, LogFault>
     requires { length bytes.now ≤ 2 ^ 26 }
     ensures ok { IfOk result (λ log. log_of bytes.now ≡ Ok log) }
-    // Nothing is said where memory runs out.
     ensures fault { IfErr result (IsFaultOf (log_of bytes.now)) }
 {
     let header = header_of(bytes)?;
