@@ -1,5 +1,5 @@
--- The bytes that a run moved on its channels, as the records of its calls tell them. Counts and offsets are the lengths of
--- these lists.
+-- The bytes that a run moved on its channels, as the records of its calls tell them. Counts and offsets are the
+-- lengths of these lists.
 use Rattle.std.specs.Prelude.{ℕ, ◌==◌, Bool, false, if◌then◌else◌, List, [], slice_index}
 use Rattle.std.specs.List.{flat_map}
 use Rattle.log_model.specs.declared.CallRecord.{CallRecord}

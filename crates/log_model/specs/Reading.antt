@@ -63,8 +63,9 @@ abbrev pub with_end : RunEnd → ℕ → List ℕ → Result Body (LogKind × �
 with_end end offset [] = Ok ([], end)
 with_end end offset (byte ∷ bytes) = Err (Trailing, offset)
 
--- The bytes from this offset on: the fault of the record at the front; or else that record and what follows it, up to the
--- end. The first step number has to be at least `least`. There are at most `most` records: as many as bytes are enough.
+-- The bytes from this offset on: the fault of the record at the front; or else that record and what follows it, up to
+-- the end. The first step number has to be at least `least`. There are at most `most` records: as many as there are
+-- bytes is enough.
 unfoldable pub body_of : (most least offset : ℕ) → List ℕ → Result Body (LogKind × ℕ)
 body_of zero least offset rest = Err (Short, offset)
 body_of (suc most) least offset rest =
@@ -82,7 +83,13 @@ body_of (suc most) least offset rest =
 
 -- the log with this header, these calls and this end
 abbrev pub with_header : List ℕ → Body → Log
-with_header header body = record { pages = word_at header 40; inputs = word_at header 44; digest = take 32 (drop 8 header); records = body.0; end = body.1 }
+with_header header body = record {
+  pages = word_at header 40;
+  inputs = word_at header 44;
+  digest = take 32 (drop 8 header);
+  records = body.0;
+  end = body.1;
+}
 
 -- the header's fault; or else the log with what is read after the header
 unfoldable pub log_of : List ℕ → Result Log (LogKind × ℕ)

@@ -4,11 +4,11 @@ ghost use Rattle.std.specs.Prelude.{◌≡◌, ◌≤◌, ◌^◌, length, Ok, I
 ghost use Rattle.log_model.specs.Logs.{at_of};
 ghost use Rattle.log_model.specs.Reading.{log_of};
 ghost use Rattle.replay_log.specs.Answers.{IsFaultOf};
-ghost use Rattle.replay_log.specs.Parts.{body};
+ghost use Rattle.replay_log.specs.Header.{body};
 
 use crate::fault::LogFault;
 use crate::header::{HEADER_LENGTH, header_of};
-use crate::kept::Log;
+use crate::logs::Log;
 use crate::records::item_of;
 use log_model::{CallRecord, Item, LogKind, RunEnd};
 use std::alloc::Global;
@@ -37,8 +37,8 @@ fn body_of(alloc: Global, bytes: &[u8]) -> Result<(Vec<CallRecord>, RunEnd), Log
     loop {
         let offset = (bytes.len() - rest.len()) as u64;
         let (item, after) = match item_of(alloc, least, rest) {
-            Ok(taken) => taken,
-            Err(refused) => return Err(refused.told_at(offset)),
+            Ok(first) => first,
+            Err(fault) => return Err(fault.at_offset(offset)),
         };
         match item {
             Item::Call(call) => {
@@ -60,12 +60,11 @@ fn body_of(alloc: Global, bytes: &[u8]) -> Result<(Vec<CallRecord>, RunEnd), Log
     }
 }
 
-/// Reads the log that these bytes are the text of, or tells the first fault that is met from the front, with its
-/// offset.
+/// Reads the log that these bytes are the text of. Otherwise it answers `At` with the first fault that is met from the
+/// front and its offset in bytes, or NoMemory where memory runs out.
 pub fn read_log(alloc: Global, bytes: &[u8]) -> Result<Log, LogFault>
     requires { length bytes.now ≤ 2 ^ 26 }
     ensures ok { IfOk result (λ log. log_of bytes.now ≡ Ok log) }
-    // Nothing is said where memory runs out.
     ensures fault { IfErr result (IsFaultOf (log_of bytes.now)) }
 {
     let header = header_of(bytes)?;

@@ -35,12 +35,12 @@ const UNMOVED: [u8; 63] = [
 fn changed(alloc: Global, at: usize, by: &[u8]) -> Result<Vec<u8>, AllocError> {
     let mut bytes = Vec::from_slice(alloc, &LOG[..at.min(LOG.len())])?;
     bytes.extend_from_slice(by)?;
-    let behind = at.saturating_add(by.len()).min(LOG.len());
-    bytes.extend_from_slice(&LOG[behind..])?;
+    let after = at.saturating_add(by.len()).min(LOG.len());
+    bytes.extend_from_slice(&LOG[after..])?;
     Ok(bytes)
 }
 
-/// The header, and other bytes behind it.
+/// The header, and other bytes after it.
 fn headed(alloc: Global, parts: &[&[u8]]) -> Result<Vec<u8>, AllocError> {
     let mut bytes = Vec::from_slice(alloc, &LOG[..48])?;
     for part in parts {
@@ -69,53 +69,25 @@ fn length_of(log: &Log) -> u64 {
     length.saturating_add(end_length(log.end()))
 }
 
-fn is_read(record: &CallRecord, step: u32, asked: &[u32], moved: i32, read: &[u8]) -> bool {
-    match record {
-        CallRecord::Read {
-            at,
-            args,
-            result,
-            bytes,
-        } => {
-            *at == step && args.as_slice() == asked && *result == moved && bytes.as_slice() == read
-        }
-        _ => false,
-    }
-}
-
-fn is_write(record: &CallRecord, step: u32, asked: &[u32], moved: i32, written: &[u8]) -> bool {
-    match record {
-        CallRecord::Write {
-            at,
-            args,
-            result,
-            bytes,
-        } => {
-            *at == step
-                && args.as_slice() == asked
-                && *result == moved
-                && bytes.as_slice() == written
-        }
-        _ => false,
-    }
-}
-
-fn is_clock(record: &CallRecord, step: u32, answer: u64) -> bool {
-    match record {
-        CallRecord::Clock { at, value } => *at == step && *value == answer,
-        _ => false,
-    }
-}
-
-fn is_other(record: &CallRecord, step: u32, call: u32) -> bool {
-    match record {
-        CallRecord::Other { at, number } => *at == step && *number == call,
-        _ => false,
-    }
+/// The bytes that are written of the log that these bytes are, with the number of its calls, its end and the length
+/// of its text.
+fn written_again(
+    rt: &impl Abort,
+    alloc: Global,
+    bytes: &[u8],
+) -> Option<(Vec<u8>, usize, RunEnd, u64)> {
+    assert!(rt; bytes.len() <= 1 << 26);
+    let Ok(log) = read_log(alloc, bytes) else {
+        return None;
+    };
+    let Ok(written) = write_log(alloc, &log) else {
+        return None;
+    };
+    Some((written, log.records().len(), log.end(), length_of(&log)))
 }
 
 /// The fault of the log's first bytes, so many of them.
-fn fault_of_front(length: usize) -> Option<(LogKind, u64)> {
+fn fault_of_prefix(length: usize) -> Option<(LogKind, u64)> {
     match length {
         0..=7 => Some((LogKind::Magic, 0)),
         8..=47 => Some((LogKind::Header, 8)),
@@ -127,126 +99,63 @@ fn fault_of_front(length: usize) -> Option<(LogKind, u64)> {
 }
 
 #[test]
-fn each_front_of_a_log_has_its_fault(rt: HostRuntime) {
+fn each_prefix_of_a_log_has_its_fault(rt: HostRuntime) {
     for length in 0..=LOG.len() {
-        assert_eq!(rt;
-            fault_of(&rt, rt.alloc(), &LOG[..length]),
-            fault_of_front(length)
-        );
+        let fault = fault_of(&rt, rt.alloc(), &LOG[..length]);
+        assert_eq!(rt; fault, fault_of_prefix(length));
     }
 }
 
 #[test]
 fn each_change_of_a_log_has_its_fault(rt: HostRuntime) -> Result<(), Fail> {
+    let longest = &[255, 255, 255, 255, 255, 255, 255, 127];
     let cases: [(usize, &[u8], LogKind, u64); 9] = [
-        (
-            61,
-            &[255, 255, 255, 255, 255, 255, 255, 127],
-            LogKind::Short,
-            48,
-        ),
-        (61, &[4, 0, 0, 0, 5], LogKind::Result, 48),
-        (74, &[5], LogKind::Order, 73),
-        (73, &[9], LogKind::Tag, 73),
-        (90, &[3], LogKind::Result, 73),
-        (107, &[0], LogKind::Trailing, 107),
         (40, &[0, 0], LogKind::Header, 40),
         (40, &[1, 16], LogKind::Header, 40),
         (44, &[17], LogKind::Header, 44),
+        (61, longest, LogKind::Short, 48),
+        (61, &[4, 0, 0, 0, 5], LogKind::Result, 48),
+        (73, &[9], LogKind::Tag, 73),
+        (74, &[5], LogKind::Order, 73),
+        (90, &[3], LogKind::Result, 73),
+        (107, &[0], LogKind::Trailing, 107),
     ];
     for (at, by, kind, offset) in cases {
         let bytes = changed(rt.alloc(), at, by)?;
         assert_eq!(rt; fault_of(&rt, rt.alloc(), &bytes), Some((kind, offset)));
     }
-    let trap_kind_4 = headed(rt.alloc(), &[&TRAP[..5], &[4], &TRAP[6..]])?;
-    assert_eq!(rt;
-        fault_of(&rt, rt.alloc(), &trap_kind_4),
-        Some((LogKind::Result, 48))
-    );
-    Ok(())
-}
-
-#[test]
-fn a_log_is_read(rt: HostRuntime) {
-    let Ok(log) = read_log(rt.alloc(), &LOG) else {
-        panic!(rt; "the bytes are a log");
-    };
-    assert!(rt; log.pages() == 1);
-    assert!(rt; log.inputs() == 1);
-    assert!(rt; log.size() == 107);
-    assert!(rt; log.digest().as_slice() == &LOG[8..40]);
-    assert!(rt; log.end() == RunEnd::Exit { at: 11, code: 0 });
-    let records = log.records();
-    assert!(rt; records.len() == 2);
-    assert!(rt; is_read(&records[0], 5, &[0, 0x10100, 4], 4, b"ABCD"));
-    assert!(rt; is_write(&records[1], 8, &[1, 0x10100, 4], 4, b"ABCD"));
-}
-
-#[test]
-fn clock_and_other_calls_and_a_trap_are_read(rt: HostRuntime) -> Result<(), Fail> {
-    let bytes = headed(rt.alloc(), &[&CALLS, &TRAP])?;
-    assert!(rt; bytes.len() < 1 << 26);
-    let Ok(log) = read_log(rt.alloc(), &bytes) else {
-        panic!(rt; "the bytes are a log");
-    };
-    let end = RunEnd::Trap {
-        at: 5,
-        kind: 2,
-        pc: 0x10000,
-    };
-    assert!(rt; log.end() == end);
-    let records = log.records();
-    assert!(rt; records.len() == 2);
-    assert!(rt; is_clock(&records[0], 3, 4_294_967_298));
-    assert!(rt; is_other(&records[1], 4, 42));
-    Ok(())
-}
-
-#[test]
-fn a_cut_off_run_is_read(rt: HostRuntime) -> Result<(), Fail> {
-    let bytes = headed(rt.alloc(), &[&[7, 10, 0, 0, 0]])?;
-    assert!(rt; bytes.len() < 1 << 26);
-    let Ok(log) = read_log(rt.alloc(), &bytes) else {
-        panic!(rt; "the bytes are a log");
-    };
-    assert!(rt; log.end() == RunEnd::Limit { at: 10 });
     Ok(())
 }
 
 #[test]
 fn each_log_is_written_in_its_bytes(rt: HostRuntime) -> Result<(), Fail> {
+    let exit = RunEnd::Exit { at: 11, code: 0 };
     let trap = RunEnd::Trap {
         at: 5,
         kind: 2,
         pc: 0x10000,
     };
     let cases: [(&[&[u8]], usize, RunEnd); 3] = [
-        (&[&LOG[48..]], 2, RunEnd::Exit { at: 11, code: 0 }),
+        (&[&LOG[48..]], 2, exit),
         (&[&CALLS, &TRAP], 2, trap),
         (&[&UNMOVED, &[7, 10, 0, 0, 0]], 3, RunEnd::Limit { at: 10 }),
     ];
     for (parts, calls, end) in cases {
         let bytes = headed(rt.alloc(), parts)?;
-        assert!(rt; bytes.len() < 1 << 26);
-        let Ok(log) = read_log(rt.alloc(), &bytes) else {
-            panic!(rt; "the bytes are a log");
-        };
-        assert!(rt; log.records().len() == calls);
-        assert!(rt; log.end() == end);
-        assert!(rt; length_of(&log) == log.size());
-        let Ok(written) = write_log(rt.alloc(), &log) else {
-            panic!(rt; "there is memory");
-        };
-        assert!(rt; written == bytes);
+        let length = bytes.len() as u64;
+        let written = written_again(&rt, rt.alloc(), &bytes);
+        assert_eq!(rt; written, Some((bytes, calls, end, length)));
     }
     Ok(())
 }
 
 #[test]
-fn a_log_of_parts_is_written(rt: HostRuntime) -> Result<(), Fail> {
+fn a_log_has_its_parts(rt: HostRuntime) -> Result<(), Fail> {
     let mut records = Vec::new(rt.alloc());
     records.push(CallRecord::Other { at: 4, number: 42 })?;
     let log = Log::from_parts(1, 0, [7; 32], records, RunEnd::Limit { at: 9 }, 62);
+    assert_eq!(rt; (log.pages(), log.inputs(), log.size()), (1, 0, 62));
+    assert!(rt; log.digest() == [7; 32]);
     let Ok(written) = write_log(rt.alloc(), &log) else {
         panic!(rt; "there is memory");
     };
