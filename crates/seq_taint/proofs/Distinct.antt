@@ -7,15 +7,10 @@ use Rattle.isa.specs.declared.CallKind.TheVariants as kind
 use Rattle.flow_model.specs.declared.StepSeen.{StepSeen}
 use Rattle.flow_model.specs.declared.CallSeen.{CallSeen}
 use Rattle.flow_model.specs.declared.SinkByte.{SinkByte}
-use Rattle.replay_model.specs.Offsets.{call_at}
+use Rattle.replay_model.specs.Offsets.{call_at, AreWritesApart}
 use Rattle.report_model.specs.Query.{Query, has_sink}
 use Rattle.report_model.specs.Rows.{Sink, row, written_byte, written_by, written_in, written_from, rows_as_written}
 use Rattle.sink_collect.specs.Distinct.{IsApartFrom, AreDistinct}
-
--- the writes of a trace follow each other on each channel
-pub record AreWritesApart (trace : List StepSeen) : Type 0 where
-  pub follow : (j k : ℕ) (a b : CallSeen) → j < k → call_at trace j ≡ Some a → call_at trace k ≡ Some b → a.kind ≡ kind.Write → b.kind ≡ kind.Write
-      → 0 < a.length → 0 < b.length → a.channel ≡ b.channel → a.offset + a.length ≤ b.offset
 
 -- the names of output bytes, each unlike those behind it
 abbrev IsNewFor : Sink → List Sink → Type 0

@@ -6,7 +6,7 @@ use Rattle.replay_model.specs.Run.{start}
 use Rattle.replayer.specs.Jobs.{Job, trace_of}
 use Rattle.report_model.specs.Query.{policy_of}
 use Rattle.report_model.specs.Rows.{written_in, written_from, rows_as_written}
-use Rattle.replay_model.proofs.Offsets.{offsets_count, writes_apart}
+use Rattle.replay_model.proofs.Offsets.{writes_apart}
 use Rattle.sink_collect.specs.Distinct.{AreDistinct}
 use Rattle.seq_taint.specs.Shadows.{Holds}
 use Rattle.seq_taint.specs.Sinks.{rows_now}
@@ -56,5 +56,4 @@ returns c =
     let trace = trace_of job in
     let done : c.loop-step.cursor.time ≡ steps job.log = c.in_default.ensures.done ∙ ap (λ (j : Job). steps j.log) c.loop-step.invariant.job in
     let rows : c.loop-step.sets.items ≡ rows_as_written q trace = c.loop-step.invariant.rows ∙ all_rows q (steps job.log) (start job.start job.log) c.loop-step.cursor.time done in
-    let count = offsets_count job.start job.log c.form.ensures.form c.form.ensures.small c.form.ensures.agrees in
-    record { rows = rows; distinct = subst AreDistinct (sym rows) (distinct_rows q trace (record { follow = writes_apart trace count })) }
+    record { rows = rows; distinct = subst AreDistinct (sym rows) (distinct_rows q trace (writes_apart job.start job.log)) }

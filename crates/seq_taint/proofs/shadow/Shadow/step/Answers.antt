@@ -1,5 +1,5 @@
 use Rattle.std.proofs.Common.{sym, subst}
-use Rattle.seq_taint.specs.Locations.{IsTable}
+use Rattle.flow_model.specs.Ranges.{IsTable}
 use Rattle.seq_taint.proofs.Flows.{flow_table}
 use Rattle.seq_taint.proofs.shadow.Shadow.step.Goals as goal
 
