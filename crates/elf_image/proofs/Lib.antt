@@ -1,3 +1,3 @@
-pub mod FaultLemmas
-pub mod Segments
-pub mod Tables
+mod FaultLemmas
+mod Segments
+mod Tables

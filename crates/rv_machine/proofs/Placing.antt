@@ -1,5 +1,5 @@
 -- Segments in a window: those that an image places, and that end in the window, have room in it; a loop over them
--- lays them out one by one.
+-- lays them out one by one. Crates above cite this lemma.
 use Rattle.std.proofs.Common.{◌≡◌, ℕ, ◌+◌, ◌≤◌, nat_le, true, List, get_or, arith}
 use Rattle.std.specs.List.{All, list_all}
 use Rattle.std.proofs.lemmas.Bool.{leb-true}
