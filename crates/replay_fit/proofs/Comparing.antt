@@ -14,7 +14,7 @@ use Rattle.replay_model.specs.Comparison.{result as result_compared}
 use Rattle.replay_model.proofs.Agreement.{same_kind}
 use Rattle.replay_fit.specs.declared.difference.Difference.{Difference}
 use Rattle.replay_fit.specs.Differences.{IsFirst, arguments_compared}
-use Rattle.replay_fit.proofs.Firsts.{first_then, first_behind, first_before}
+use Rattle.replay_fit.proofs.Sequences.{first_then, first_after, first_before}
 use Rattle.replay_model.proofs.Transfers.{write_held}
 
 -- a call that waits in a state, of this kind, with the refusal that it has there
@@ -44,12 +44,12 @@ pub write_differs : (s : State) (inputs at : ℕ) (args : List ℕ) (kept : ℤ)
 write_differs s inputs at args kept bytes call refused d w a h =
     let here = result_compared kept (allowed (refusal_of s 16 (arguments_of s)) kept (reg s 12)) in
     let rest = bytes_compared 0 bytes (bytes_at s (reg s 11) (length bytes)) in
-    first_behind (arguments s args) (here ∷ rest) (arguments_agree s args call None w.call_is a) ∙ first_before (here ∷ []) rest d (result_agrees s inputs kept call refused (Some d) w h)
+    first_after (arguments s args) (here ∷ rest) (arguments_agree s args call None w.call_is a) ∙ first_before (here ∷ []) rest d (result_agrees s inputs kept call refused (Some d) w h)
 
 above_bytes : (s : State) (inputs : ℕ) (args : List ℕ) (kept : ℤ) (call : Call) (refused : ℤ) (rest : List Compared) → IsWaiting s inputs kind.Write call refused → first_different (arguments_compared args call.args) ≡ None → first_different (result_compared kept (allowed refused kept (get_or call.args 2 0)) ∷ []) ≡ None → first_different (arguments s args ++ result_compared kept (allowed (refusal_of s 16 (arguments_of s)) kept (reg s 12)) ∷ rest) ≡ first_different rest
 above_bytes s inputs args kept call refused rest w a h =
     let here = result_compared kept (allowed (refusal_of s 16 (arguments_of s)) kept (reg s 12)) in
-    first_behind (arguments s args) (here ∷ rest) (arguments_agree s args call None w.call_is a) ∙ first_behind (here ∷ []) rest (result_agrees s inputs kept call refused None w h)
+    first_after (arguments s args) (here ∷ rest) (arguments_agree s args call None w.call_is a) ∙ first_after (here ∷ []) rest (result_agrees s inputs kept call refused None w h)
 
 moved : {T : Type 0} (r : Result T Difference) (cs ds : List Compared) → first_different cs ≡ first_different ds → IsFirst ds r → IsFirst cs r
 moved (Ok u) cs ds e h = e ∙ h

@@ -1,4 +1,4 @@
-mod Firsts
+mod Sequences
 mod Comparing
 mod Checking
 mod Loops

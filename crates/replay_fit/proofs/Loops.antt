@@ -11,7 +11,7 @@ use Rattle.replay_model.proofs.Track.{step_time}
 use Rattle.replay_model.proofs.Offsets.{moment_later}
 use Rattle.replay_model.proofs.Firsts.{none_exactly, first_exactly}
 use Rattle.replay_run.specs.Runs.{RunAt}
-use Rattle.replay_fit.specs.Checks.{IsAdvanced, IsEnded, IsDifferent}
+use Rattle.replay_fit.specs.CheckedSteps.{IsAdvanced, IsEnded, IsDifferent}
 
 -- so many steps are done, and nothing differed before any of them
 pub record IsChecking (log : Log) (s : State) (i : ℕ) (run : RunAt) : Type 0 where

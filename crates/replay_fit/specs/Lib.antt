@@ -1,3 +1,3 @@
 pub mod Differences
 pub mod Comparisons
-pub mod Checks
+pub mod CheckedSteps

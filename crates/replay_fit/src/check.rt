@@ -8,7 +8,7 @@ ghost use Rattle.replay_run.specs.Expects.{expected_of};
 ghost use Rattle.replay_run.specs.Runs.{hart_of, with_hart};
 ghost use Rattle.replay_fit.specs.Differences.{IsFirst};
 ghost use Rattle.replay_fit.specs.Comparisons.{IsFormed, compares};
-ghost use Rattle.replay_fit.specs.Checks.{IsChecked};
+ghost use Rattle.replay_fit.specs.CheckedSteps.{IsStepChecked};
 
 use crate::compare::{compare, is_limit, kept_code, seen_code};
 use crate::difference::{Difference, compare_words};
@@ -44,7 +44,7 @@ fn step(run: &mut Run<'_>, expected: &Expected<'_>, inputs: u32) -> Result<Stepp
 fn check_step(run: &mut Run<'_>) -> Result<Checked, Divergence>
     requires goes_on { run.old.waits ≡ false }
     requires not_over { run.old.moment.time ≤ end_at run.old.log.end }
-    ensures { IsChecked run.old result run.new }
+    ensures { IsStepChecked run.old result run.new }
 {
     run.form();
     let time = run.time();

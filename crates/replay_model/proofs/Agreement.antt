@@ -1,4 +1,4 @@
--- What it says of a moment that nothing differs there.
+-- What follows for a moment where nothing differs. Crates above cite these lemmas.
 use Rattle.std.proofs.Common.{◌≡◌, ℕ, zero, suc, ◌+◌, ◌<◌, ◌≤◌, Bool, true, false, List, [], ◌∷◌, ◌++◌, pos, Option, Some, None, refl, arith, ap, sym, ◌∙◌}
 use Rattle.std.specs.Prelude.{◌==◌, if◌then◌else◌}
 use Rattle.std.specs.Ordering.{int_eq}
@@ -24,7 +24,7 @@ tested : (b : Bool) (rest : Option Compared) (c : Compared) → (if b then rest 
 tested true rest c e = (refl, e)
 tested false rest c e = (cc, cc)
 
--- where nothing differs, the first doesn't, and nothing behind it does
+-- where nothing differs, the first doesn't, and nothing after it does
 pub first_agrees : (c : Compared) (cs : List Compared) → first_different (c ∷ cs) ≡ None → (c.kept ≡ c.seen) × (first_different cs ≡ None)
 first_agrees c cs e =
     let both = tested (int_eq c.kept c.seen) (first_different cs) c e in

@@ -18,7 +18,7 @@ use Rattle.flow_model.specs.Origins.{step_at}
 use Rattle.replay_model.specs.Run.{Moment, start, advance, after_outcome, after_call, moment_after, transfer, call_seen, plain_step, step_by, step_of, steps_from, trace}
 use Rattle.replay_model.specs.Comparison.{divergence}
 use Rattle.replay_model.specs.Offsets.{call_at, records_before, OffsetsCount, AreWritesApart}
-use Rattle.replay_model.proofs.Sizes.{moved_with}
+use Rattle.log_model.proofs.Moved.{length-written-push}
 use Rattle.replay_model.proofs.Track.{done_is, on_track_at}
 
 -- ---- the steps of a trace, by their times
@@ -80,7 +80,7 @@ write_by m (Write at args result bytes ∷ rs) call e k h = subst (λ (x : CallS
     here some =
         let offset = transfer_offset kind.Write args (written channel m.done) (length bytes) some in
         let own : written_by channel (Write at args result bytes) ≡ bytes = ap (λ (b : Bool). if b then bytes else []) (eq-eqb channel channel refl) in
-        record { offset_is = offset; after_is = omega (arith, moved_with (written_by channel) m.done (Write at args result bytes), ap length own) }
+        record { offset_is = offset; after_is = omega (arith, length-written-push channel m.done (Write at args result bytes), ap length own) }
 write_by m (Read at args result bytes ∷ rs) call e k h = let other : kind.Read ≡ kind.Write = ap (λ (x : CallSeen). x.kind) e ∙ k in cc
 write_by m (Clock at value ∷ rs) call e k h = let other : kind.Clock ≡ kind.Write = ap (λ (x : CallSeen). x.kind) e ∙ k in cc
 write_by m (Other at number ∷ rs) call e k h = let other : kind.Other ≡ kind.Write = ap (λ (x : CallSeen). x.kind) e ∙ k in cc
@@ -129,7 +129,7 @@ offsets_count s log form d =
 -- what is written stays written
 grows_called : (channel : ℕ) (m : Moment) (left : List CallRecord) → length (written channel m.done) ≤ length (written channel (after_call m left).done)
 grows_called channel m [] = omega arith
-grows_called channel m (r ∷ rs) = omega (arith, moved_with (written_by channel) m.done r)
+grows_called channel m (r ∷ rs) = omega (arith, length-written-push channel m.done r)
 
 grows : (channel : ℕ) (m : Moment) (o : Outcome) → length (written channel m.done) ≤ length (written channel (after_outcome m o).done)
 grows channel m (Retired s) = omega arith

@@ -1,10 +1,10 @@
--- A read or a write that moves bytes, and that doesn't differ from its record.
+-- A read or a write that moves bytes, and that doesn't differ from its record. Crates above cite these lemmas.
 use Rattle.std.proofs.Common.{◌≡◌, ℕ, ◌+◌, ◌-◌, ◌<◌, ◌≤◌, ◌⊎◌, inl, inr, Bool, true, false, List, [], ◌∷◌, ◌++◌, length, take, drop, get_or, ℤ, pos, negsuc, None, refl, arith, ap, sym, subst, length-take, length-drop}
 use Rattle.std.specs.Prelude.{◌==◌, nat_lt, nat_le, not, if◌then◌else◌, ◌≤ℤ◌, IsTrue}
 use Rattle.std.proofs.lemmas.Int.{ints}
 use Rattle.std.proofs.lemmas.Bool.{ltb-true, leb-true, eqb-true, le-leb, and_parts, and_from}
 use Rattle.isa.specs.Machine.{State, reg, in_window, bytes_at}
-use Rattle.isa.specs.Calls.{channel_of, buffer_of, length_of, refusal_of}
+use Rattle.isa.specs.Calls.{channel_of, buffer_of, length_of, bad_channel, bad_buffer, not_refused, refusal_of}
 use Rattle.log_model.specs.declared.CallRecord.TheVariants.{Read, Write}
 use Rattle.log_model.specs.Logs.{IsRecord, IsRefusal, moved_length}
 use Rattle.replay_model.specs.declared.Field.TheVariants as field
@@ -26,7 +26,7 @@ window_end s place n w = leb-true (place + n) (s.base + length s.memory) (and_pa
 window_start : (s : State) (place n : ℕ) → IsTrue (in_window s place n) → s.base ≤ place
 window_start s place n w = leb-true s.base place (and_parts (nat_le s.base place) (nat_le (place + n) (s.base + length s.memory)) w).0
 
--- as many bytes as were asked for
+-- as many bytes as were requested
 pub length_held : (s : State) (place n : ℕ) → (n ≡ 0) ⊎ IsTrue (in_window s place n) → length (bytes_at s place n) ≡ n
 length_held s place n (inl e) =
     let short : length (take n (drop (place - s.base) s.memory)) ≤ n = omega (arith, length-take n (drop (place - s.base) s.memory)) in omega arith
@@ -38,7 +38,7 @@ length_held s place n (inr w) =
 
 -- ---- a call that isn't refused
 
-unrefused : (known none held : Bool) (k : ℕ) → (if not known then negsuc 8 else if none then pos 0 else if held then pos 0 else negsuc 13) ≡ pos k → (known ≡ true) × ((none ≡ true) ⊎ (held ≡ true))
+unrefused : (known none held : Bool) (k : ℕ) → (if not known then bad_channel else if none then not_refused else if held then not_refused else bad_buffer) ≡ pos k → (known ≡ true) × ((none ≡ true) ⊎ (held ≡ true))
 unrefused false none held k e = cc
 unrefused true true held k e = (refl, inl refl)
 unrefused true false true k e = (refl, inr refl)
@@ -80,8 +80,8 @@ held_by s channels args kept (pos k) bytes whole same size room r e h =
 -- a transfer that moves bytes isn't refused
 pub transfer_held : (s : State) (channels : ℕ) (args : List ℕ) (kept : ℤ) (bytes : List ℕ) (whole : ℕ) (rest : List Compared) → length bytes ≡ moved_length kept → moved_length kept ≤ length_of args → first_different (arguments s args ++ result_compared kept (allowed (refusal_of s channels (arguments_of s)) kept whole) ∷ rest) ≡ None → 0 < length bytes → IsHeld s channels args (length bytes)
 transfer_held s channels args kept bytes whole rest size room d h =
-    let behind = rest_agrees (arguments s args) (result_compared kept (allowed (refusal_of s channels (arguments_of s)) kept whole) ∷ rest) d in
-    let same = first_agrees (result_compared kept (allowed (refusal_of s channels (arguments_of s)) kept whole)) rest behind in
+    let later = rest_agrees (arguments s args) (result_compared kept (allowed (refusal_of s channels (arguments_of s)) kept whole) ∷ rest) d in
+    let same = first_agrees (result_compared kept (allowed (refusal_of s channels (arguments_of s)) kept whole)) rest later in
     held_by s channels args kept (refusal_of s channels (arguments_of s)) bytes whole (same_arguments s args (result_compared kept (allowed (refusal_of s channels (arguments_of s)) kept whole) ∷ rest) d) size room refl same.0 h
 
 -- ---- what a record's ranges say

@@ -10,7 +10,7 @@ use Rattle.sha2.specs.Sha256.{sha256}
 
 abbrev pub start_in_image : Result Image ImageKind → ℕ → Option State
 start_in_image (Ok im) pages = start_of im pages
-start_in_image (Err kind) pages = None
+start_in_image (Err fault) pages = None
 
 -- the state that the program begins in, where it is an image that the log's window can hold
 abbrev pub beginning : List ℕ → Log → Option State

@@ -18,7 +18,7 @@ pub record IsStepAt (before : CursorAt) (s : StepSeen) (after : CursorAt) : Type
   pub moved : after ≡ record before { time = before.time + 1 }
   pub in_range : IsInRange s
 
--- behind all steps it is the log's end, again and again
+-- after all steps it is the log's end, again and again
 pub record IsEndAt (before : CursorAt) (e : RunEnd) (after : CursorAt) : Type 0 where
   pub done : before.time ≡ steps before.job.log
   pub end : e ≡ before.job.log.end

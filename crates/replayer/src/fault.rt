@@ -3,7 +3,7 @@
 use replay_model::Divergence;
 use thiserror::Error;
 
-/// Why [`crate::Job::check`] gave no job: the first of these that holds, or want of memory.
+/// Why [`crate::Job::check`] gave no job: the first of these that holds, or out of memory.
 #[derive(Debug, Drop, Error)]
 pub enum CheckFault {
     /// The log is of another program: the digest that it keeps, and the SHA-256 digest (FIPS 180-4) of the

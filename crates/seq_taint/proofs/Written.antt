@@ -15,7 +15,8 @@ use Rattle.isa.specs.Machine.{wrap}
 use Rattle.flow_model.specs.Origins.{step_at, origins}
 use Rattle.report_model.specs.Query.{Query, has_sink, policy_of}
 use Rattle.report_model.specs.Rows.{Sink, Row, row, sink_at, sinks_of_call, sinks_of_step, sinks_from, rows_as_written}
-use Rattle.replay_model.specs.Run.{Moment, steps_from, advance}
+use Rattle.replay_model.specs.Run.{Moment, steps_from}
+use Rattle.replay_model.proofs.Offsets.{length-steps_from}
 use Rattle.seq_taint.specs.Sinks.{row_by, rows_by}
 use Rattle.flow_model.specs.declared.Loc.{Loc}
 use Rattle.flow_model.specs.Ranges.{IsLocation}
@@ -112,10 +113,6 @@ module _ (q : Query) (trace : List StepSeen) (t : ℕ) (sources : Loc → List S
       ∙ sym (map-append (row q trace) (filter asked so_far) (filter asked (sinks_of_step t step.call)))
       ∙ ap (map (row q trace)) (sym (filter-append asked so_far (sinks_of_step t step.call)))
       ∙ ap (rows_of q trace) (sym (one_more_step 0 trace t step at ∙ ap (λ (k : ℕ). so_far ++ sinks_of_step k step.call) here))
-
-length-steps_from : (n : ℕ) (m : Moment) → length (steps_from n m) ≡ n
-length-steps_from zero m = refl
-length-steps_from (suc n) m = ap suc (length-steps_from n (advance m))
 
 -- the rows of all steps
 pub all_rows : (q : Query) (n : ℕ) (m : Moment) (t : ℕ) → t ≡ n → rows_of q (steps_from n m) (sinks_from 0 (take t (steps_from n m))) ≡ rows_as_written q (steps_from n m)

@@ -3,7 +3,7 @@ use Rattle.std.proofs.lemmas.Result.{err_from_is_err_and}
 use Rattle.replay_model.specs.Comparison.{compared, first_different, bytes_compared}
 use Rattle.replay_model.specs.declared.Field.TheVariants as field
 use Rattle.replay_fit.specs.Differences.{compared_of}
-use Rattle.replay_fit.proofs.Firsts.{first_behind, first_before, bytes_step, bytes_done}
+use Rattle.replay_fit.proofs.Sequences.{first_after, first_before, bytes_step, bytes_done}
 use Rattle.replay_fit.proofs.difference.compare_bytes.Goals as goal
 
 pub loop-i-preserved : goal.loop-i-preserved
@@ -13,7 +13,7 @@ loop-i-preserved c =
     let step = bytes_step c.loop-i.i c.args.kept.now c.args.seen.now c.from.result c.from-in-loop-i.result c.loop-i-test.true c.requires.same one other in
     let rest = bytes_compared (c.loop-i.i + 1) (drop (c.loop-i.i + 1) c.args.kept.now) (drop (c.loop-i.i + 1) c.args.seen.now) in
     let here = compared (field.Byte c.loop-i.i) c.from.result c.from-in-loop-i.result in
-    sym (ap first_different step ∙ first_behind (here ∷ []) rest c.in_ok-compare_words.ensures) ∙ c.loop-i.invariant
+    sym (ap first_different step ∙ first_after (here ∷ []) rest c.in_ok-compare_words.ensures) ∙ c.loop-i.invariant
 
 pub returns-in_err-compare_words : goal.returns-in_err-compare_words
 returns-in_err-compare_words c =

@@ -18,14 +18,14 @@ pub first_other : (c : Compared) (cs : List Compared) → (c.kept ≡ c.seen →
 first_other c cs e =
     ap (λ (b : Bool). if b then first_different cs else Some c) (false_from_ne_true (int_eq c.kept c.seen) (λ t. e ((Decides-int_eq c.kept c.seen).0 t)))
 
--- where none of some fields differs, the first difference is among those behind them
-pub first_behind : (cs ds : List Compared) → first_different cs ≡ None → first_different (cs ++ ds) ≡ first_different ds
-first_behind [] ds e = refl
-first_behind (c ∷ cs) ds e =
+-- where none of some fields differs, the first difference is among those after them
+pub first_after : (cs ds : List Compared) → first_different cs ≡ None → first_different (cs ++ ds) ≡ first_different ds
+first_after [] ds e = refl
+first_after (c ∷ cs) ds e =
     let here = first_agrees c cs e in
-    first_same c (cs ++ ds) here.0 ∙ first_behind cs ds here.1
+    first_same c (cs ++ ds) here.0 ∙ first_after cs ds here.1
 
--- a difference among some fields is the first, whatever is behind them
+-- a difference among some fields is the first, whatever comes after them
 pub first_before : (cs ds : List Compared) (d : Compared) → first_different cs ≡ Some d → first_different (cs ++ ds) ≡ Some d
 first_before [] ds d e = cc
 first_before (c ∷ cs) ds d e = by (first_before cs ds d) (int_eq c.kept c.seen) e
@@ -35,8 +35,8 @@ first_before (c ∷ cs) ds d e = by (first_before cs ds d) (int_eq c.kept c.seen
     by ih false e = e
 
 pub first_then : {T : Type 0} (cs ds : List Compared) (r : Result T Difference) → first_different cs ≡ None → IsFirst ds r → IsFirst (cs ++ ds) r
-first_then cs ds (Ok u) e h = first_behind cs ds e ∙ h
-first_then cs ds (Err d) e h = first_behind cs ds e ∙ h
+first_then cs ds (Ok u) e h = first_after cs ds e ∙ h
+first_then cs ds (Err d) e h = first_after cs ds e ∙ h
 
 pub bytes_step : (i : ℕ) (kept seen : List ℕ) (k s : ℕ) → i < length kept → length seen ≡ length kept → k ≡ get_or kept i 0 → s ≡ get_or seen i 0 → bytes_compared i (drop i kept) (drop i seen) ≡ compared (field.Byte i) k s ∷ bytes_compared (i + 1) (drop (i + 1) kept) (drop (i + 1) seen)
 bytes_step i kept seen k s h e ek es =

@@ -25,7 +25,7 @@ pub record IsDifferent (before : RunAt) (d : Divergence) : Type 0 where
   pub differs : difference before.log before.moment ≡ Some first
   pub divergence : d ≡ at_step before.moment.time first
 
-abbrev pub IsChecked : RunAt → Result Checked Divergence → RunAt → Type 0
-IsChecked before (Ok Advanced) after = IsAdvanced before after
-IsChecked before (Ok Ended) after = IsEnded before
-IsChecked before (Err d) after = IsDifferent before d
+abbrev pub IsStepChecked : RunAt → Result Checked Divergence → RunAt → Type 0
+IsStepChecked before (Ok Advanced) after = IsAdvanced before after
+IsStepChecked before (Ok Ended) after = IsEnded before
+IsStepChecked before (Err d) after = IsDifferent before d
