@@ -84,6 +84,11 @@ part_within inputs piece offset args h =
     let rest = length-drop offset (input_of inputs (channel_of args)) in
     omega arith
 
+-- a transfer moves no more than the whole
+pub bytes_few : (refused : ℤ) (whole : List ℕ) → length (bytes_of refused whole) ≤ length whole
+bytes_few (negsuc n) whole = omega arith
+bytes_few (pos n) whole = omega arith
+
 -- ---- the ranges of a log
 
 -- the arguments are words, the bytes are bytes, and their number fits
@@ -131,7 +136,7 @@ transfer_lawful s refused whole n rest same =
     ∙ passed third (result ∷ rest) refl
     ∙ passed result rest (allowed_is refused whole n) ∙ same
 
-read_lawful : (t : ℕ) (s : State) (channels : ℕ) (part : List ℕ) → IsLawful s channels (read_record t s channels part)
+pub read_lawful : (t : ℕ) (s : State) (channels : ℕ) (part : List ℕ) → IsLawful s channels (read_record t s channels part)
 read_lawful t s channels part = transfer_lawful s (refusal_of s channels (arguments_of s)) part 0 [] refl
 
 write_bytes : (s : State) (refused : ℤ) → CanBe refused → (refused ≡ pos 0 → length (bytes_at s (reg s 11) (reg s 12)) ≡ reg s 12)

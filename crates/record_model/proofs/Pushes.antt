@@ -1,9 +1,10 @@
 -- One more record after others.
-use Rattle.std.proofs.Common.{◌≡◌, ℕ, ◌+◌, ◌≤◌, List, [], ◌∷◌, ◌++◌, refl, ap, sym, ◌∙◌, subst, append_assoc, append-nil}
+use Rattle.std.proofs.Common.{◌≡◌, ℕ, ◌+◌, length, length-append, ◌≤◌, List, [], ◌∷◌, ◌++◌, refl, ap, sym, ◌∙◌, subst, append_assoc, append-nil}
 use Rattle.std.specs.List.{AllByRecursion, flat_map}
 use Rattle.std.proofs.lemmas.Grind.{flat_map-append}
 use Rattle.log_model.specs.declared.CallRecord.{CallRecord}
 use Rattle.log_model.specs.Logs.{at_of, Rise, least_after}
+use Rattle.log_model.specs.Moved.{received, received_by}
 use Rattle.record_model.specs.Recorded.{AllReadNext, ReadsNext, clock_values, clock_values_of}
 
 pub all_push : (P : CallRecord → Type 0) (rs : List CallRecord) (r : CallRecord) → AllByRecursion P rs → P r → AllByRecursion P (rs ++ r ∷ [])
@@ -25,3 +26,8 @@ reads_push inputs piece before (x ∷ xs) r all here =
 
 pub values_push : (rs : List CallRecord) (r : CallRecord) → clock_values (rs ++ r ∷ []) ≡ clock_values rs ++ clock_values_of r
 values_push rs r = flat_map-append clock_values_of rs (r ∷ []) ∙ ap (λ (w : List ℕ). clock_values rs ++ w) (append-nil (clock_values_of r))
+
+pub length-received-push : (channel : ℕ) (rs : List CallRecord) (r : CallRecord) → length (received channel (rs ++ r ∷ [])) ≡ length (received channel rs) + length (received_by channel r)
+length-received-push channel rs r =
+    ap length (flat_map-append (received_by channel) rs (r ∷ []) ∙ ap (λ (w : List ℕ). received channel rs ++ w) (append-nil (received_by channel r)))
+    ∙ length-append (received channel rs) (received_by channel r)

@@ -1,10 +1,13 @@
 -- A run so far: its calls have their records, and nothing differs up to here, whatever a log goes on with. Crates above cite
 -- these lemmas.
-use Rattle.std.proofs.Common.{◌≡◌, ℕ, suc, ◌+◌, ◌-◌, ◌≤◌, List, [], ◌∷◌, ◌++◌, length, pos, Option, None, refl, arith, ap, sym, ◌∙◌, subst, append_assoc, append-nil}
+use Rattle.std.proofs.Common.{◌≡◌, ℕ, suc, ◌+◌, ◌-◌, ◌≤◌, Bool, true, false, get_or, List, [], ◌∷◌, ◌++◌, length, pos, negsuc, Option, None, refl, arith, ap, sym, ◌∙◌, subst, append_assoc, append-nil}
+use Rattle.std.specs.Prelude.{◌==◌, if◌then◌else◌}
 use Rattle.std.specs.List.{AllByRecursion}
+use Rattle.std.proofs.lemmas.Bool.{eqb-true}
 use Rattle.isa.specs.Machine.{State, Outcome, Retired, Called, next, reg}
 use Rattle.isa.specs.declared.Call.{Call}
 use Rattle.log_model.specs.declared.CallRecord.{CallRecord}
+use Rattle.log_model.specs.declared.CallRecord.TheVariants.{Read, Write, Clock, Other}
 use Rattle.log_model.specs.declared.RunEnd.{RunEnd}
 use Rattle.log_model.specs.declared.RunEnd.TheVariants.{Exit, Trap, Limit}
 use Rattle.log_model.specs.Logs.{Log, IsRecord, Rise, least_after, at_of, end_at}
@@ -13,10 +16,11 @@ use Rattle.replay_model.specs.Run.{Moment, start, advance, state_after, after_ou
 use Rattle.replay_model.specs.Comparison.{Compared, compared, first_different, PlainStep, CallOf, EndOf, expected, kept_event, call_event, seen_event, fields, trap_kind, difference, difference_at, or_later, divergence_from, divergence, IsLawful}
 use Rattle.replay_model.proofs.Agreement.{expects_plain_at_end, expects_plain_before, expects_call, expects_end}
 use Rattle.replay_model.proofs.Track.{moment, least_rises}
-use Rattle.record_model.specs.Recorded.{AllReadNext}
+use Rattle.log_model.specs.Moved.{received, received_by}
+use Rattle.record_model.specs.Recorded.{AllReadNext, input_of, part_of}
 use Rattle.record_model.specs.Calls.{EndsIn}
-use Rattle.record_model.proofs.Calls.{IsHere, passed}
-use Rattle.record_model.proofs.Pushes.{all_push, rise_push, least_push, reads_push}
+use Rattle.record_model.proofs.Calls.{IsHere, passed, part_within}
+use Rattle.record_model.proofs.Pushes.{all_push, rise_push, least_push, reads_push, length-received-push}
 
 -- these records were made by the first t steps, which end in the state s
 pub record RunsTo (start : State) (inputs : List (List ℕ)) (piece : ℕ) (done : List CallRecord) (t : ℕ) (s : State) : Type 0 where
@@ -24,6 +28,7 @@ pub record RunsTo (start : State) (inputs : List (List ℕ)) (piece : ℕ) (done
   pub rise : Rise 0 done
   pub before : least_after 0 done ≤ t
   pub reads : AllReadNext inputs piece [] done
+  pub within : (c : ℕ) → length (received c done) ≤ length (input_of inputs c)
   pub goes_on : (log : Log) (more : List CallRecord) → log.inputs ≡ length inputs → log.records ≡ done ++ more → Rise t more → least_after t more ≤ end_at log.end → divergence_from log (end_at log.end + 1 - t) (moment t s done more) ≡ None → divergence start log ≡ None
 
 -- where nothing differs at a moment, and nothing from the next one on, nothing differs from it on
@@ -47,6 +52,7 @@ runs_none s inputs piece = record {
   rise = tt;
   before = omega arith;
   reads = tt;
+  within = λ c. omega arith;
   goes_on = λ log more i e rise last h. begin s log more e h;
 }
 
@@ -73,6 +79,7 @@ runs_plain start inputs piece done t s after e so_far = record {
   rise = so_far.rise;
   before = let earlier = so_far.before in omega arith;
   reads = so_far.reads;
+  within = so_far.within;
   goes_on = λ log more i w rise last h.
       let m = moment t s done more in
       let reach = least_rises (t + 1) more rise in
@@ -81,6 +88,27 @@ runs_plain start inputs piece done t s after e so_far = record {
 }
 
 -- ---- a call
+
+nothing : (b : Bool) (xs ys : List ℕ) → length xs ≡ 0 → length ys ≡ 0 → length (if b then xs else ys) ≡ 0
+nothing true xs ys p q = p
+nothing false xs ys p q = q
+
+-- no more is received on a channel than its input has
+received_within : (inputs : List (List ℕ)) (piece : ℕ) (before : List CallRecord) (t : ℕ) (s : State) (r : CallRecord) (c : ℕ) → IsHere inputs piece before t s r → ((d : ℕ) → length (received d before) ≤ length (input_of inputs d)) → length (received c before) + length (received_by c r) ≤ length (input_of inputs c)
+received_within inputs piece before t s (Read at args (pos n) bytes) c here within = by (get_or args 0 0 == c) refl
+  where
+    by : (b : Bool) → (get_or args 0 0 == c) ≡ b → length (received c before) + length (if b then bytes else []) ≤ length (input_of inputs c)
+    by true e =
+        let all : length bytes ≡ length (part_of inputs piece (length (received (get_or args 0 0) before)) args) = ap length here.reads in
+        let most = part_within inputs piece (length (received (get_or args 0 0) before)) args (within (get_or args 0 0)) in
+        subst (λ (d : ℕ). length (received d before) + length bytes ≤ length (input_of inputs d)) (eqb-true (get_or args 0 0) c e) (omega arith)
+    by false e = let h = within c in omega arith
+received_within inputs piece before t s (Read at args (negsuc n) bytes) c here within =
+    let none = nothing (get_or args 0 0 == c) bytes [] here.form.1.whole refl in let h = within c in omega arith
+received_within inputs piece before t s (Write at args result bytes) c here within =
+    let none = nothing (get_or args 0 0 == c) [] [] refl refl in let h = within c in omega arith
+received_within inputs piece before t s (Clock at value) c here within = let h = within c in omega arith
+received_within inputs piece before t s (Other at number) c here within = let h = within c in omega arith
 
 call_same : (m : Moment) (inputs : ℕ) (r : CallRecord) (call : Call) → next m.state ≡ Called call → call_event call.kind ≡ kept_event (CallOf r) → IsLawful m.state inputs r → difference_at m inputs (CallOf r) ≡ None
 call_same m inputs r call e k lawful =
@@ -97,6 +125,7 @@ runs_call start inputs piece done t s r call e k here so_far =
       rise = rise_push 0 done r so_far.rise (omega arith);
       before = omega arith;
       reads = reads_push inputs piece [] done r so_far.reads here.reads;
+      within = λ c. let pushed = length-received-push c done r in let most = received_within inputs piece done t s r c here so_far.within in omega arith;
       goes_on = λ log more i w rise last h.
           let m = moment t s done (r ∷ more) in
           let rises : Rise (at_of r + 1) more = subst (λ (n : ℕ). Rise (n + 1) more) (sym at) rise in
