@@ -14,14 +14,14 @@ use Rattle.log_model.specs.declared.CallRecord.{CallRecord}
 use Rattle.log_model.specs.declared.RunEnd.{RunEnd}
 use Rattle.log_model.specs.Logs.{Log, IsLog, log_text, record_text, end_text}
 use Rattle.replay_model.specs.Fits.{Fits, start_in_image}
-use Rattle.record_model.specs.Recorded.{IsRecorded, clock_values}
+use Rattle.record_model.specs.Recorded.{Setting, IsRecorded, clock_values}
 use Rattle.replay_log.proofs.Texts.{text_length}
 use Rattle.sha2.specs.Sha256.{sha256}
 use Rattle.sha2.proofs.Facts256.{length-sha256}
 use Rattle.call_record.specs.Sources.{contents, IsSource}
 use Rattle.call_record.specs.Tapes.{Holds, log_with, log_of, IsComplete, IsTooLongWith}
 use Rattle.call_record.specs.Runs.{IsRunOf, IsWhole}
-use Rattle.call_record.specs.Captures.{Setting, IsCaptured, IsCause}
+use Rattle.call_record.specs.Captures.{IsCaptured, IsCause}
 use Rattle.call_record.specs.declared.source.Source.{Source}
 use Rattle.call_record.specs.declared.tape.Tape.{Tape}
 use Rattle.call_record.specs.declared.fault.CaptureFault.{CaptureFault}
@@ -40,13 +40,16 @@ is_source source few short = record { few = few; short = λ c. short_by source.i
 
 -- ---- the log
 
--- what a run is recorded with
+-- how the run begins
 pub record Begins (program : List ℕ) (im : Image) (pages : ℕ) (source : Source) (s : State) : Type 0 where
   pub image_is : image program ≡ Ok im
   pub starts : start_of im pages ≡ Some s
   pub some : 1 ≤ pages
   pub most : pages ≤ 4096
   pub few : length source.inputs.now ≤ 16
+
+abbrev pub setting : List ℕ → ℕ → Source → ℕ → Setting
+setting program pages source steps = record { program = program; pages = pages; inputs = contents source.inputs.now; piece = source.piece; steps = steps }
 
 abbrev pub whole_log : List ℕ → ℕ → Source → List CallRecord → RunEnd → Log
 whole_log program pages source records end = log_with pages (length source.inputs.now) (sha256 program) records end
@@ -63,22 +66,22 @@ whole_form program im pages source s steps end records begins run = record {
   ends_after = run.ends_after;
 }
 
-pub whole_recorded : (program : List ℕ) (im : Image) (pages : ℕ) (source : Source) (s : State) (steps : ℕ) (end : RunEnd) (records : List CallRecord) → Begins program im pages source s → IsRunOf s source steps end records → IsRecorded program pages (contents source.inputs.now) (clock_values records) source.piece steps (whole_log program pages source records end)
+pub whole_recorded : (program : List ℕ) (im : Image) (pages : ℕ) (source : Source) (s : State) (steps : ℕ) (end : RunEnd) (records : List CallRecord) → Begins program im pages source s → IsRunOf s source steps end records → IsRecorded (setting program pages source steps) (clock_values records) (whole_log program pages source records end)
 whole_recorded program im pages source s steps end records begins run =
     let log = whole_log program pages source records end in
     record {
-      form = whole_form program im pages source s steps end records begins run;
-      pages_are = refl;
-      channels = sym (length-map source.inputs.now (λ (v : Vec ℕ). v.items));
+      is_log = whole_form program im pages source s steps end records begins run;
+      has_pages = refl;
+      has_channels = sym (length-map source.inputs.now (λ (v : Vec ℕ). v.items));
       fits = record {
         start = s;
         digest = refl;
         begins = ap (λ (r : Result Image ImageKind). start_in_image r pages) begins.image_is ∙ begins.starts;
         agrees = run.agrees log refl refl refl;
       };
-      reads = run.reads;
-      clock = refl;
-      ends = run.ends;
+      reads_inputs = run.reads;
+      has_answers = refl;
+      ends_within = run.ends;
     }
 
 pub whole_size : (program : List ℕ) (im : Image) (pages : ℕ) (source : Source) (s : State) (steps : ℕ) (end : RunEnd) (tape : Tape) (records : List CallRecord) → Begins program im pages source s → IsRunOf s source steps end records → Holds tape records → tape.size + length (end_text end) ≡ length (log_text (whole_log program pages source records end))
@@ -102,9 +105,6 @@ complete program im pages source s steps digest end tape records begins run hold
       counted = whole_size program im pages source s steps end tape records begins run holds;
     } in
     subst (λ (log : Log). IsComplete log tape.size) (sym (kept_all program pages source digest end tape records e holds small)) there
-
-abbrev pub setting : List ℕ → ℕ → Source → ℕ → Setting
-setting program pages source steps = record { program = program; pages = pages; inputs = contents source.inputs.now; piece = source.piece; steps = steps }
 
 pub whole_captured : (program : List ℕ) (im : Image) (pages : ℕ) (source : Source) (s : State) (steps : ℕ) (end : RunEnd) (tape : Tape) (told told_after : Option (List ℕ)) → Begins program im pages source s → (whole : IsWhole s source steps end tape told told_after) → IsCaptured (setting program pages source steps) told told_after (whole_log program pages source whole.records end)
 whole_captured program im pages source s steps end tape told told_after begins whole = record {

@@ -63,7 +63,7 @@ pub fn capture<K: Clock>(
     };
     let Recorder {
         machine: _,
-        offsets: _,
+        counts: _,
         tape,
     } = recorder;
     tape.into_log(pages, inputs.len() as u32, Sha256::digest(program), end)

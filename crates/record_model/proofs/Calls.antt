@@ -1,9 +1,8 @@
 -- The record that a call gets is lawful, has the ranges of a log and reads on; and each record that does is this one.
 -- Crates above cite these lemmas.
-use Rattle.std.proofs.Common.{◌≡◌, ℕ, ◌+◌, ◌^◌, ◌<◌, ◌≤◌, ◌⊎◌, inl, inr, Bool, true, false, List, [], ◌∷◌, ◌++◌, length, get_or, drop, ℤ, pos, negsuc, None, Option, Some, refl, arith, ap, sym, ◌∙◌, subst, length-take, length-drop}
-use Rattle.std.specs.Prelude.{◌==◌, nat_lt, not, min, if◌then◌else◌, ◌≤ℤ◌, ◌<ℤ◌, IsTrue, slice_index}
+use Rattle.std.proofs.Common.{◌≡◌, ℕ, ◌+◌, ◌^◌, ◌<◌, ◌≤◌, ◌⊎◌, inl, inr, Bool, true, false, List, [], ◌∷◌, ◌++◌, length, get_or, drop, ℤ, pos, negsuc, None, Some, refl, arith, ap, sym, ◌∙◌, subst, length-take, length-drop}
+use Rattle.std.specs.Prelude.{◌==◌, nat_lt, not, min, if◌then◌else◌, ◌≤ℤ◌, IsTrue, slice_index}
 use Rattle.std.specs.List.{AllByRecursion}
-use Rattle.std.specs.Ordering.{int_eq}
 use Rattle.std.proofs.lemmas.Int.{ints}
 use Rattle.std.proofs.lemmas.Bool.{cases_lt, eqb-true}
 use Rattle.std.proofs.lemmas.Bool.Decides.{Decides-int_eq}
@@ -36,7 +35,7 @@ same_bytes i (b ∷ bs) = passed (compared (field.Byte i) b b) (bytes_compared (
 -- ---- the refusal
 
 -- a refusal, or none
-abbrev CanBe : ℤ → Type 0
+abbrev pub CanBe : ℤ → Type 0
 CanBe refused = IsRefusal refused ⊎ (refused ≡ pos 0)
 
 refusal_by : (known none held : Bool) → CanBe (if not known then negsuc 8 else if none then pos 0 else if held then pos 0 else negsuc 13)
@@ -45,14 +44,14 @@ refusal_by true true held = inr refl
 refusal_by true false true = inr refl
 refusal_by true false false = inl (inr refl)
 
-can_be : (s : State) (channels : ℕ) → CanBe (refusal_of s channels (arguments_of s))
+pub can_be : (s : State) (channels : ℕ) → CanBe (refusal_of s channels (arguments_of s))
 can_be s channels = refusal_by (nat_lt (reg s 10) channels) (reg s 12 == 0) (in_window s (reg s 11) (reg s 12))
 
 refused_is : (n : ℕ) → CanBe (negsuc n) → IsRefusal (negsuc n)
 refused_is n (inl h) = h
 refused_is n (inr e) = cc
 
-none_is : (n : ℕ) → CanBe (pos n) → pos n ≡ pos 0
+pub none_is : (n : ℕ) → CanBe (pos n) → pos n ≡ pos 0
 none_is n (inl (inl e)) = cc
 none_is n (inl (inr e)) = cc
 none_is n (inr e) = e

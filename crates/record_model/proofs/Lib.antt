@@ -1,5 +1,5 @@
 pub mod Calls
-mod Pushes
+pub mod Pushes
 pub mod Runs
 pub mod Unique
 mod Examples

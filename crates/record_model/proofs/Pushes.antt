@@ -1,9 +1,9 @@
--- One more record after others.
+-- One more record after others. Crates above cite these lemmas.
 use Rattle.std.proofs.Common.{◌≡◌, ℕ, ◌+◌, length, length-append, ◌≤◌, List, [], ◌∷◌, ◌++◌, refl, ap, sym, ◌∙◌, subst, append_assoc, append-nil}
 use Rattle.std.specs.List.{AllByRecursion, flat_map}
 use Rattle.std.proofs.lemmas.Grind.{flat_map-append}
 use Rattle.log_model.specs.declared.CallRecord.{CallRecord}
-use Rattle.log_model.specs.Logs.{at_of, Rise, least_after}
+use Rattle.log_model.specs.Logs.{at_of, Rise, least_after, record_text}
 use Rattle.log_model.specs.Moved.{received, received_by}
 use Rattle.record_model.specs.Recorded.{AllReadNext, ReadsNext, clock_values, clock_values_of}
 
@@ -31,3 +31,8 @@ pub length-received-push : (channel : ℕ) (rs : List CallRecord) (r : CallRecor
 length-received-push channel rs r =
     ap length (flat_map-append (received_by channel) rs (r ∷ []) ∙ ap (λ (w : List ℕ). received channel rs ++ w) (append-nil (received_by channel r)))
     ∙ length-append (received channel rs) (received_by channel r)
+
+pub text_push : (rs : List CallRecord) (r : CallRecord) → length (flat_map record_text (rs ++ r ∷ [])) ≡ length (flat_map record_text rs) + length (record_text r)
+text_push rs r =
+    ap length (flat_map-append record_text rs (r ∷ []) ∙ ap (λ (w : List ℕ). flat_map record_text rs ++ w) (append-nil (record_text r)))
+    ∙ length-append (flat_map record_text rs) (record_text r)

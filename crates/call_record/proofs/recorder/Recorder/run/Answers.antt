@@ -3,7 +3,7 @@ use Rattle.std.specs.Prelude.{OnErr}
 use Rattle.log_model.specs.declared.RunEnd.{RunEnd}
 use Rattle.record_model.specs.Recorded.{clock_values}
 use Rattle.outer_io.proofs.TellsLemmas.{tells-gains}
-use Rattle.call_record.specs.Steps.{IsStepOf, Gained}
+use Rattle.call_record.specs.Steps.{point_of, IsStepOf, Gained}
 use Rattle.call_record.proofs.SoFar.{IsSoFar, so_far_none, so_far_more, so_far_stops, so_far_cut}
 use Rattle.call_record.proofs.recorder.Recorder.run.Goals as goal
 
@@ -29,7 +29,7 @@ returns-in-Some-clause-ok g c =
     let told = g.K.Clock.answers c.args.clock.now in
     let told_now = g.K.Clock.answers c.loop-at.clock in
     let told_after = g.K.Clock.answers c.step.new.clock in
-    let stops = subst (λ (o : Option RunEnd). IsStepOf c.args.source.now c.loop-at.at o c.loop-at.self c.step.new.self told_now told_after) c.in-Some.is c.in_ok-end.ensures.ok in
+    let stops = subst (λ (o : Option RunEnd). IsStepOf c.args.source.now c.loop-at.at o (point_of c.loop-at.self) c.step.new.self told_now told_after) c.in-Some.is c.in_ok-end.ensures.ok in
     so_far_stops c.args.self.now.machine.state c.args.source.now told told_now told_after c.loop-at.at c.args.steps c.loop-at.self c.step.new.self c.in-Some.end c.loop-at-test.true (omega arith) c.loop-at.invariant stops
 
 pub loop-at-preserved : goal.loop-at-preserved
@@ -37,8 +37,8 @@ loop-at-preserved g c =
     let told = g.K.Clock.answers c.args.clock.now in
     let told_now = g.K.Clock.answers c.loop-at.clock in
     let told_after = g.K.Clock.answers c.step.new.clock in
-    let on = subst (λ (o : Option RunEnd). IsStepOf c.args.source.now c.loop-at.at o c.loop-at.self c.step.new.self told_now told_after) c.in_default.is c.in_ok-end.ensures.ok in
-    so_far_more c.args.self.now.machine.state c.args.source.now told told_now told_after c.loop-at.at c.loop-at.self c.step.new.self c.requires.source c.loop-at.invariant on
+    let on = subst (λ (o : Option RunEnd). IsStepOf c.args.source.now c.loop-at.at o (point_of c.loop-at.self) c.step.new.self told_now told_after) c.in_default.is c.in_ok-end.ensures.ok in
+    so_far_more c.args.self.now.machine.state c.args.source.now told told_now told_after c.loop-at.at c.loop-at.self c.step.new.self c.loop-at.invariant on
 
 pub returns-clause-ok : goal.returns-clause-ok
 returns-clause-ok g c =
