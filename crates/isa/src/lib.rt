@@ -6,6 +6,7 @@
 #![tactic(auto)]
 
 mod fitting;
+pub mod laws;
 
 /// One variant for each instruction of RV32I ("RV32I Base Integer Instruction Set").
 ///
