@@ -1,5 +1,4 @@
 pub mod Jobs
-pub mod Ranges
 pub mod Positions
 pub mod Differences
 pub mod Steps

@@ -8,7 +8,7 @@ ghost use Rattle.replay_model.specs.Comparison.{expected, kept_event, seen_event
 ghost use Rattle.rv_machine.specs.Hart.{IsStep, running};
 ghost use Rattle.replayer.specs.Differences.{IsFirst, compared_of};
 ghost use Rattle.replay_model.specs.Track.{IsOnTrack};
-ghost use Rattle.replayer.specs.Ranges.{IsInRange};
+ghost use Rattle.flow_model.specs.Ranges.{IsInRange};
 ghost use Rattle.replayer.specs.Steps.{IsCheckedStep, moment_of, expected_of, IsDue, IsReady, IsFinished, event_of, IsSeenIn, IsFormed, compares, is_limit as limited};
 
 use crate::difference::{

@@ -10,7 +10,7 @@ use Rattle.flow_model.specs.declared.CallSeen.{CallSeen}
 use Rattle.flow_model.specs.Sets.{union, source_cmp}
 use Rattle.flow_model.specs.Flow.{Target, flow, cleared, origins_by, loc_eq, is_received, from, from_call, from_instruction_or}
 use Rattle.flow_model.specs.Origins.{Policy, gathered, fresh, after_step, step_at, origins}
-use Rattle.seq_taint.specs.Locations.{IsLocation, AreLocations, IsTable}
+use Rattle.flow_model.specs.Ranges.{IsLocation, AreLocations, IsTable}
 use Rattle.seq_taint.specs.Shadows.{held, Holds}
 use Rattle.seq_taint.specs.declared.shadow.Shadow.{Shadow}
 use Rattle.seq_taint.proofs.Flows.{flow_table, cleared_table}
