@@ -17,7 +17,8 @@ word_fits n = (omega arith, (omega arith, (omega arith, (omega arith, tt))))
 words_fit : (h : List ℕ) (n : ℕ) → AreBytes (digest_bytes h n)
 unfolding digest_bytes
 words_fit h zero = tt
-words_fit h (suc n) = both (digest_bytes h n) (to_be_bytes w32 (get_or h n 0)) (words_fit h n) (word_fits (get_or h n 0))
+words_fit h (suc n) = both (digest_bytes h n) (to_be_bytes w32 (get_or h n 0)) (words_fit h n)
+    (word_fits (get_or h n 0))
 
 pub digest_fits : (message : List ℕ) → AllByRecursion (λ b. b < 256) (sha256 message)
 unfolding sha256

@@ -23,7 +23,7 @@ use Rattle.outer_io.specs.Tells.{Tells, Gains}
 use Rattle.outer_io.proofs.TellsLemmas.{tells-gains, tells-gains-none}
 use Rattle.call_record.specs.Sources.{contents}
 use Rattle.call_record.specs.Tapes.{Holds, Adds}
-use Rattle.call_record.specs.Steps.{Point, point_of, IsSafe, due, IsPlain, IsCall, GoesOn, Stops}
+use Rattle.call_record.specs.Steps.{Point, point_of, IsSafe, due_record, IsPlain, IsCall, GoesOn, Stops}
 use Rattle.call_record.specs.Runs.{IsFresh, IsRunOf, IsWhole}
 use Rattle.call_record.specs.declared.source.Source.{Source}
 use Rattle.call_record.specs.declared.tape.Tape.{Tape}
@@ -32,7 +32,8 @@ use Rattle.call_record.proofs.Calls.{text_short}
 use Rattle.call_record.proofs.Windows.{overwritten_length, overwritten_none, window_start, step_keeps}
 
 -- the first t steps of a run that begins in a state are recorded
-pub record IsSoFar (start : State) (source : Source) (told : Option (List ℕ)) (t : ℕ) (r : Recorder) (told_now : Option (List ℕ)) : Type 0 where
+pub record IsSoFar (start : State) (source : Source) (told : Option (List ℕ)) (t : ℕ) (r : Recorder)
+    (told_now : Option (List ℕ)) : Type 0 where
   pub records : List CallRecord
   pub runs : RunsTo start (contents source.inputs.now) source.piece records t r.machine.state
   pub holds : Holds r.tape records
@@ -52,7 +53,8 @@ zeros zero c = refl
 zeros (suc n) zero = refl
 zeros (suc n) (suc c) = zeros n c
 
-pub so_far_none : (source : Source) (r : Recorder) (told : Option (List ℕ)) → IsFresh r → r.machine.waits ≡ false → length r.machine.state.memory ≤ 2 ^ 24 → IsSoFar r.machine.state source told 0 r told
+pub so_far_none : (source : Source) (r : Recorder) (told : Option (List ℕ)) → IsFresh r → r.machine.waits ≡ false
+    → length r.machine.state.memory ≤ 2 ^ 24 → IsSoFar r.machine.state source told 0 r told
 so_far_none source r told fresh goes_on window =
     let none : (c : ℕ) → get_or r.counts c 0 ≡ 0 = λ c. ap (λ (w : List ℕ). get_or w c 0) fresh.counts ∙ zeros 16 c in
     let size = fresh.size in
@@ -68,7 +70,9 @@ so_far_none source r told fresh goes_on window =
 
 -- ---- a plain step
 
-plain_more : (start : State) (source : Source) (told told_now told_after : Option (List ℕ)) (t : ℕ) (r after : Recorder) (values : List ℕ) → IsSoFar start source told t r told_now → Tells told_now told_after (Gains values) → IsPlain values (point_of r) after → IsSoFar start source told (t + 1) after told_after
+plain_more : (start : State) (source : Source) (told told_now told_after : Option (List ℕ)) (t : ℕ) (r after : Recorder)
+    (values : List ℕ) → IsSoFar start source told t r told_now → Tells told_now told_after (Gains values)
+    → IsPlain values (point_of r) after → IsSoFar start source told (t + 1) after told_after
 plain_more start source told told_now told_after t r after values so_far gained plain =
     let room = so_far.safe.room in
     let size = ap (λ (x : Tape). x.size) plain.tape in
@@ -76,28 +80,34 @@ plain_more start source told told_now told_after t r after values so_far gained 
     let kept = step_keeps r.machine.state after.machine.state plain.retired in
     record {
       records = so_far.records;
-      runs = runs_plain start (contents source.inputs.now) source.piece so_far.records t r.machine.state after.machine.state plain.retired so_far.runs;
+      runs = runs_plain start (contents source.inputs.now) source.piece so_far.records t r.machine.state
+          after.machine.state plain.retired so_far.runs;
       holds = subst (λ (x : Tape). Holds x so_far.records) (sym plain.tape) so_far.holds;
       counts = λ c. ap (λ (w : List ℕ). get_or w c 0) plain.counts ∙ so_far.counts c;
       goes_on = plain.goes_on;
       safe = record {
         window = omega arith;
-        within = λ c. subst (λ (w : List ℕ). get_or w c 0 ≤ length (input_of (contents source.inputs.now) c)) (sym plain.counts) (so_far.safe.within c);
+        within = λ c. subst (λ (w : List ℕ). get_or w c 0 ≤ length (input_of (contents source.inputs.now) c))
+            (sym plain.counts) (so_far.safe.within c);
         room = omega arith;
       };
-      gained = tells-gains-none told told_now told_after (clock_values so_far.records) so_far.gained (subst (λ (w : List ℕ). Tells told_now told_after (Gains w)) plain.no_values gained);
+      gained = tells-gains-none told told_now told_after (clock_values so_far.records) so_far.gained
+          (subst (λ (w : List ℕ). Tells told_now told_after (Gains w)) plain.no_values gained);
     }
 
 -- ---- a call
 
-read_window : (s : State) (place : ℕ) (bytes : List ℕ) → (0 < length bytes → (s.base ≤ place) × (place + length bytes ≤ s.base + length s.memory)) → (0 < length bytes) ⊎ (length bytes ≤ 0) → length (overwritten s.memory (place - s.base) bytes) ≡ length s.memory
+read_window : (s : State) (place : ℕ) (bytes : List ℕ)
+    → (0 < length bytes → (s.base ≤ place) × (place + length bytes ≤ s.base + length s.memory))
+    → (0 < length bytes) ⊎ (length bytes ≤ 0) → length (overwritten s.memory (place - s.base) bytes) ≡ length s.memory
 read_window s place bytes held (inl some) =
     let above = (held some).0 in
     let below = (held some).1 in
     overwritten_length s.memory (place - s.base) bytes (omega arith)
 read_window s place bytes held (inr none) = overwritten_none s.memory (place - s.base) bytes (omega arith)
 
-window_after : (inputs : List (List ℕ)) (piece : ℕ) (before : List CallRecord) (t : ℕ) (s : State) (r : CallRecord) → IsHere inputs piece before t s r → length (state_after s r).memory ≡ length s.memory
+window_after : (inputs : List (List ℕ)) (piece : ℕ) (before : List CallRecord) (t : ℕ) (s : State) (r : CallRecord)
+    → IsHere inputs piece before t s r → length (state_after s r).memory ≡ length s.memory
 window_after inputs piece before t s (Read at args result bytes) here =
     read_window s (buffer_of args) bytes (λ h.
     let held = read_held s (length inputs) at args result bytes here.form here.lawful h in
@@ -109,7 +119,8 @@ window_after inputs piece before t s (Write at args result bytes) here = refl
 window_after inputs piece before t s (Clock at value) here = refl
 window_after inputs piece before t s (Other at number) here = refl
 
-holds_more : (before after : Tape) (records : List CallRecord) (r : CallRecord) → Holds before records → Adds before r after → Holds after (records ++ r ∷ [])
+holds_more : (before after : Tape) (records : List CallRecord) (r : CallRecord) → Holds before records
+    → Adds before r after → Holds after (records ++ r ∷ [])
 holds_more before after records r holds adds =
     let counted = holds.counted in
     let more = adds.counted in
@@ -120,29 +131,41 @@ holds_more before after records r holds adds =
     }
 
 -- the record of a call is the one after those so far
-here_now : (source : Source) (t : ℕ) (values : List ℕ) (p : Point) (records : List CallRecord) (made : CallRecord) → ((c : ℕ) → get_or p.counts c 0 ≡ length (received c records)) → made ≡ due source t values p → IsRecord made → IsHere (contents source.inputs.now) source.piece records t p.state made
+here_now : (source : Source) (t : ℕ) (values : List ℕ) (p : Point) (records : List CallRecord) (made : CallRecord)
+    → ((c : ℕ) → get_or p.counts c 0 ≡ length (received c records)) → made ≡ due_record source t values p
+    → IsRecord made → IsHere (contents source.inputs.now) source.piece records t p.state made
 here_now source t values p records made counts e form =
     let s = p.state in
     let inputs = contents source.inputs.now in
     let next : CallRecord = next_record inputs source.piece records values t s (call_of s).kind in
-    let is : made ≡ next = e ∙ ap (λ (n : ℕ). record_at inputs source.piece n values t s (call_of s).kind) (counts (reg s 10)) in
-    subst (IsHere inputs source.piece records t s) (sym is) (next_here inputs source.piece records values t s (call_of s).kind (subst IsRecord is form))
+    let is : made ≡ next = e ∙ ap (λ (n : ℕ). record_at inputs source.piece n values t s (call_of s).kind)
+        (counts (reg s 10)) in
+    subst (IsHere inputs source.piece records t s) (sym is)
+        (next_here inputs source.piece records values t s (call_of s).kind (subst IsRecord is form))
 
-call_more : (start : State) (source : Source) (told told_now told_after : Option (List ℕ)) (t : ℕ) (r after : Recorder) (values : List ℕ) → IsSoFar start source told t r told_now → Tells told_now told_after (Gains values) → IsCall source t values (point_of r) after → IsSoFar start source told (t + 1) after told_after
+call_more : (start : State) (source : Source) (told told_now told_after : Option (List ℕ)) (t : ℕ) (r after : Recorder)
+    (values : List ℕ) → IsSoFar start source told t r told_now → Tells told_now told_after (Gains values)
+    → IsCall source t values (point_of r) after → IsSoFar start source told (t + 1) after told_after
 call_more start source told told_now told_after t r after values so_far gained call =
     let made = call.records.made in
     let keeps = call.records.keeps in
     let s = r.machine.state in
     let inputs = contents source.inputs.now in
-    let here = here_now source t values (point_of r) so_far.records made so_far.counts call.records.is_due call.records.form in
+    let here = here_now source t values (point_of r) so_far.records made so_far.counts call.records.is_due
+        call.records.form in
     let state : after.machine.state ≡ state_after s made = ap (λ (h : Hart). h.state) keeps.machine in
-    let runs = runs_call start inputs source.piece so_far.records t s made (call_of s) call.called call.records.kind_is here so_far.runs in
-    let counts : (c : ℕ) → get_or after.counts c 0 ≡ length (received c (so_far.records ++ made ∷ [])) = λ c. keeps.counts c ∙ ap (λ (n : ℕ). n + length (received_by c made)) (so_far.counts c) ∙ sym (length-received-push c so_far.records made) in
+    let runs = runs_call start inputs source.piece so_far.records t s made (call_of s) call.called call.records.kind_is
+        here so_far.runs in
+    let counts : (c : ℕ) → get_or after.counts c 0
+        ≡ length (received c (so_far.records ++ made ∷ [])) = λ c. keeps.counts c
+        ∙ ap (λ (n : ℕ). n + length (received_by c made)) (so_far.counts c)
+        ∙ sym (length-received-push c so_far.records made) in
     let window = so_far.safe.window in
     let room = so_far.safe.room in
     let short = text_short made call.records.form in
     let size = keeps.tape.counted in
-    let memory : length after.machine.state.memory ≡ length s.memory = ap (λ (x : State). length x.memory) state ∙ window_after inputs source.piece so_far.records t s made here in
+    let memory : length after.machine.state.memory ≡ length s.memory = ap (λ (x : State). length x.memory) state
+        ∙ window_after inputs source.piece so_far.records t s made here in
     record {
       records = so_far.records ++ made ∷ [];
       runs = subst (RunsTo start inputs source.piece (so_far.records ++ made ∷ []) (t + 1)) (sym state) runs;
@@ -154,26 +177,35 @@ call_more start source told told_now told_after t r after values so_far gained c
         within = λ c. let up = counts c in let below = runs.within c in omega arith;
         room = omega arith;
       };
-      gained = subst (λ (w : List ℕ). Tells told told_after (Gains w)) (ap (λ (w : List ℕ). clock_values so_far.records ++ w) (sym call.records.values_are) ∙ sym (values_push so_far.records made))
+      gained = subst (λ (w : List ℕ). Tells told told_after (Gains w))
+          (ap (λ (w : List ℕ). clock_values so_far.records ++ w) (sym call.records.values_are)
+          ∙ sym (values_push so_far.records made))
           (tells-gains told told_now told_after (clock_values so_far.records) values so_far.gained gained);
     }
 
 -- one more step
-pub so_far_more : (start : State) (source : Source) (told told_now told_after : Option (List ℕ)) (t : ℕ) (r after : Recorder) → IsSoFar start source told t r told_now → GoesOn source t (point_of r) after told_now told_after → IsSoFar start source told (t + 1) after told_after
+pub so_far_more : (start : State) (source : Source) (told told_now told_after : Option (List ℕ)) (t : ℕ)
+    (r after : Recorder) → IsSoFar start source told t r told_now
+    → GoesOn source t (point_of r) after told_now told_after → IsSoFar start source told (t + 1) after told_after
 so_far_more start source told told_now told_after t r after so_far on = by on.step
   where
-    by : IsPlain on.values (point_of r) after ⊎ IsCall source t on.values (point_of r) after → IsSoFar start source told (t + 1) after told_after
+    by : IsPlain on.values (point_of r) after ⊎ IsCall source t on.values (point_of r) after
+        → IsSoFar start source told (t + 1) after told_after
     by (inl plain) = plain_more start source told told_now told_after t r after on.values so_far on.gained plain
     by (inr call) = call_more start source told told_now told_after t r after on.values so_far on.gained call
 
 -- ---- the end
 
-ends_by : (s : State) (t steps : ℕ) (end : RunEnd) → t < steps → EndsIn s t end → (end_at end ≡ t) × EndsWithin steps end
+ends_by : (s : State) (t steps : ℕ) (end : RunEnd) → t < steps → EndsIn s t end
+    → (end_at end ≡ t) × EndsWithin steps end
 ends_by s t steps (Exit at code) early stop = let at_is = stop.0 in (at_is, omega arith)
 ends_by s t steps (Trap at kind pc) early stop = let at_is = stop.0 in (at_is, omega arith)
 ends_by s t steps (Limit at) early stop = absurd stop
 
-ended : (start : State) (source : Source) (told told_now : Option (List ℕ)) (t steps : ℕ) (r : Recorder) (end : RunEnd) → IsEnd end → (end_at end ≡ t) × EndsWithin steps end → (so_far : IsSoFar start source told t r told_now) → ((log : Log) → log.inputs ≡ length (contents source.inputs.now) → log.records ≡ so_far.records → log.end ≡ end → divergence start log ≡ None) → IsRunOf start source steps end so_far.records
+ended : (start : State) (source : Source) (told told_now : Option (List ℕ)) (t steps : ℕ) (r : Recorder) (end : RunEnd)
+    → IsEnd end → (end_at end ≡ t) × EndsWithin steps end → (so_far : IsSoFar start source told t r told_now)
+    → ((log : Log) → log.inputs ≡ length (contents source.inputs.now) → log.records ≡ so_far.records → log.end ≡ end
+    → divergence start log ≡ None) → IsRunOf start source steps end so_far.records
 ended start source told told_now t steps r end form by so_far agrees =
     let before = so_far.runs.before in
     let at = by.0 in
@@ -188,21 +220,27 @@ ended start source told told_now t steps r end form by so_far agrees =
     }
 
 -- the run ends before its steps are done
-pub so_far_stops : (start : State) (source : Source) (told told_now told_after : Option (List ℕ)) (t steps : ℕ) (r after : Recorder) (end : RunEnd) → t < steps → steps < 2 ^ 32 → IsSoFar start source told t r told_now → Stops t end (point_of r) after told_now told_after → IsWhole start source steps end after.tape told told_after
+pub so_far_stops : (start : State) (source : Source) (told told_now told_after : Option (List ℕ)) (t steps : ℕ)
+    (r after : Recorder) (end : RunEnd) → t < steps → steps < 2 ^ 32 → IsSoFar start source told t r told_now
+    → Stops t end (point_of r) after told_now told_after → IsWhole start source steps end after.tape told told_after
 so_far_stops start source told told_now told_after t steps r after end early small so_far stops =
     let room = so_far.safe.room in
     let size = ap (λ (x : Tape). x.size) stops.tape in
     record {
       records = so_far.records;
-      run = ended start source told told_now t steps r end stops.form (ends_by r.machine.state t steps end early stops.ends_in) so_far
-          (runs_end start (contents source.inputs.now) source.piece so_far.records t r.machine.state end stops.ends_in so_far.runs);
+      run = ended start source told told_now t steps r end stops.form
+          (ends_by r.machine.state t steps end early stops.ends_in) so_far
+          (runs_end start (contents source.inputs.now) source.piece so_far.records t r.machine.state end stops.ends_in
+              so_far.runs);
       holds = subst (λ (x : Tape). Holds x so_far.records) (sym stops.tape) so_far.holds;
       gained = tells-gains-none told told_now told_after (clock_values so_far.records) so_far.gained stops.gained;
       room = omega arith;
     }
 
 -- the steps are done
-pub so_far_cut : (start : State) (source : Source) (told told_now : Option (List ℕ)) (steps : ℕ) (r : Recorder) → steps < 2 ^ 32 → IsSoFar start source told steps r told_now → IsWhole start source steps (Limit steps) r.tape told told_now
+pub so_far_cut : (start : State) (source : Source) (told told_now : Option (List ℕ)) (steps : ℕ) (r : Recorder)
+    → steps < 2 ^ 32 → IsSoFar start source told steps r told_now
+    → IsWhole start source steps (Limit steps) r.tape told told_now
 so_far_cut start source told told_now steps r small so_far =
     let room = so_far.safe.room in
     record {

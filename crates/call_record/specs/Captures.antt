@@ -1,13 +1,20 @@
 -- What the answers of capturing a run say.
 use Rattle.std.specs.Prelude.{◌≡◌, ℕ, ◌^◌, ◌<◌, List, [], length, Option, None}
+use Rattle.std.specs.Global.{Vec}
 use Rattle.elf_model.specs.Image.{Image}
 use Rattle.elf_model.specs.Window.{start_of}
 use Rattle.log_model.specs.Logs.{Log, log_text}
 use Rattle.record_model.specs.Recorded.{Setting, IsRecorded}
 use Rattle.outer_io.specs.Tells.{Tells, Gains}
+use Rattle.call_record.specs.Sources.{contents}
 use Rattle.call_record.specs.Steps.{Gained}
 use Rattle.call_record.specs.declared.fault.CaptureFault.{CaptureFault}
 use Rattle.call_record.specs.declared.fault.CaptureFault.TheVariants.{Window, LogTooLong, NoMemory}
+
+-- the setting that the arguments of a capture say
+abbrev pub setting_of : List ℕ → ℕ → List (Vec ℕ) → ℕ → ℕ → Setting
+setting_of program pages inputs piece steps = record
+    { program = program; pages = pages; inputs = contents inputs; piece = piece; steps = steps }
 
 -- the log is that of the run, with the answers that the clock gave
 pub record IsCaptured (s : Setting) (told told_after : Option (List ℕ)) (log : Log) : Type 0 where

@@ -49,8 +49,8 @@ pub record IsCalled (hart : Hart) (call : Call) : Type 0 where
 -- ---- calls
 
 -- the record of the call in this state after t steps, where the clock gives these answers
-abbrev pub due : Source → ℕ → List ℕ → Point → CallRecord
-due source t values p =
+abbrev pub due_record : Source → ℕ → List ℕ → Point → CallRecord
+due_record source t values p =
     let s = p.state in
     record_at (contents source.inputs.now) source.piece (slice_index p.counts (reg s 10)) values t s (call_of s).kind
 
@@ -65,7 +65,7 @@ pub record Records (source : Source) (t : ℕ) (values : List ℕ) (before : Poi
   pub made : CallRecord
   pub kind_is : call_event (call_of before.state).kind ≡ kept_event (CallOf made)
   pub form : IsRecord made
-  pub is_due : made ≡ due source t values before
+  pub is_due : made ≡ due_record source t values before
   pub values_are : clock_values_of made ≡ values
   pub keeps : Keeps made before after
 
@@ -83,13 +83,15 @@ pub record IsCall (source : Source) (t : ℕ) (values : List ℕ) (before : Poin
   pub records : Records source t values before after
 
 -- one more step was recorded
-pub record GoesOn (source : Source) (t : ℕ) (before : Point) (after : Recorder) (told told_after : Option (List ℕ)) : Type 0 where
+pub record GoesOn (source : Source) (t : ℕ) (before : Point) (after : Recorder) (told told_after : Option (List ℕ)) :
+    Type 0 where
   pub values : List ℕ
   pub gained : Tells told told_after (Gains values)
   pub step : IsPlain values before after ⊎ IsCall source t values before after
 
 -- the run ended before another step, or by one that is no call to record
-pub record Stops (t : ℕ) (end : RunEnd) (before : Point) (after : Recorder) (told told_after : Option (List ℕ)) : Type 0 where
+pub record Stops (t : ℕ) (end : RunEnd) (before : Point) (after : Recorder) (told told_after : Option (List ℕ)) : Type 0
+    where
   pub gained : Tells told told_after (Gains [])
   pub ends_in : EndsIn before.state t end
   pub form : IsEnd end

@@ -20,7 +20,8 @@ pub record Holds (tape : Tape) (records : List CallRecord) : Type 0 where
   pub kept : tape.size ≤ 2 ^ 26 → tape.records.items ≡ records
 
 abbrev pub log_with : ℕ → ℕ → List ℕ → List CallRecord → RunEnd → Log
-log_with pages inputs digest records end = record { pages = pages; inputs = inputs; digest = digest; records = records; end = end }
+log_with pages inputs digest records end = record
+    { pages = pages; inputs = inputs; digest = digest; records = records; end = end }
 
 -- the log of the records that a tape keeps
 abbrev pub log_of : Tape → ℕ → ℕ → List ℕ → RunEnd → Log

@@ -50,7 +50,8 @@ fn count_of(counts: &[usize; 16], channel: u32) -> usize
 
 /// The bytes of memory that a write takes: none where its buffer isn't wholly in the window.
 fn written(machine: &Machine, place: u32, count: u32) -> &[u8]
-    ensures part { (count ≡ 0) ⊎ IsTrue (in_window machine.now.state place count) → result.now ≡ bytes_at machine.now.state place count }
+    ensures part { (count ≡ 0) ⊎ IsTrue (in_window machine.now.state place count)
+        → result.now ≡ bytes_at machine.now.state place count }
     ensures short { length result.now ≤ length machine.now.state.memory }
 {
     match machine.bytes(place, count) {
@@ -173,7 +174,8 @@ impl Recorder {
         requires called { IsCalled self.old.machine call.now }
         requires source { IsSource source.now }
         requires safe { IsSafe source.now at (point_of self.old) }
-        ensures ok { IfOk result (λ end. IsStepOf source.now at end (point_of self.old) self.new (K.answers clock.old) (K.answers clock.new)) }
+        ensures ok { IfOk result (λ end. IsStepOf source.now at end (point_of self.old) self.new
+            (K.answers clock.old) (K.answers clock.new)) }
         ensures gained { OnErr result (Gained (K.answers clock.old) (K.answers clock.new)) }
     {
         match call.kind {
@@ -211,7 +213,8 @@ impl Recorder {
         requires goes_on { self.old.machine.waits ≡ false }
         requires source { IsSource source.now }
         requires safe { IsSafe source.now at (point_of self.old) }
-        ensures ok { IfOk result (λ end. IsStepOf source.now at end (point_of self.old) self.new (K.answers clock.old) (K.answers clock.new)) }
+        ensures ok { IfOk result (λ end. IsStepOf source.now at end (point_of self.old) self.new
+            (K.answers clock.old) (K.answers clock.new)) }
         ensures gained { OnErr result (Gained (K.answers clock.old) (K.answers clock.new)) }
     {
         match self.machine.step() {
@@ -233,7 +236,8 @@ impl Recorder {
         requires fresh { IsFresh self.old }
         requires goes_on { self.old.machine.waits ≡ false }
         requires window { length self.old.machine.state.memory ≤ 2 ^ 24 }
-        ensures ok { IfOk result (λ end. IsWhole self.old.machine.state source.now steps end self.new.tape (K.answers clock.old) (K.answers clock.new)) }
+        ensures ok { IfOk result (λ end. IsWhole self.old.machine.state source.now steps end self.new.tape
+            (K.answers clock.old) (K.answers clock.new)) }
         ensures gained { OnErr result (Gained (K.answers clock.old) (K.answers clock.new)) }
     {
         for at in 0..steps {

@@ -15,6 +15,8 @@ returns-in_ok-other-in-Other-clause-ok g c =
       gained = tells_none (g.K.Clock.answers c.args.clock.now);
       step = inr (record {
         called = c.requires.called.called;
-        records = other_records c.args.source.now c.args.at (point_of c.args.self.now) call.number _ (omega arith) number (sym kind ∙ c.in-Other.is) (ap (λ (x : Call). x.number) c.requires.called.call_is) c.in_ok-other-in-Other.ensures;
+        records = other_records c.args.source.now c.args.at (point_of c.args.self.now) call.number _ (omega arith)
+            number (sym kind ∙ c.in-Other.is) (ap (λ (x : Call). x.number) c.requires.called.call_is)
+            c.in_ok-other-in-Other.ensures;
       });
     }
