@@ -35,11 +35,14 @@ pub values_push : (rs : List CallRecord) (r : CallRecord)
 values_push rs r = flat_map-append clock_values_of rs (r ∷ [])
     ∙ ap (λ (w : List ℕ). clock_values rs ++ w) (append-nil (clock_values_of r))
 
+pub received-push : (channel : ℕ) (rs : List CallRecord) (r : CallRecord)
+    → received channel (rs ++ r ∷ []) ≡ received channel rs ++ received_by channel r
+received-push channel rs r = flat_map-append (received_by channel) rs (r ∷ [])
+    ∙ ap (λ (w : List ℕ). received channel rs ++ w) (append-nil (received_by channel r))
+
 pub length-received-push : (channel : ℕ) (rs : List CallRecord) (r : CallRecord)
     → length (received channel (rs ++ r ∷ [])) ≡ length (received channel rs) + length (received_by channel r)
-length-received-push channel rs r =
-    ap length (flat_map-append (received_by channel) rs (r ∷ [])
-        ∙ ap (λ (w : List ℕ). received channel rs ++ w) (append-nil (received_by channel r)))
+length-received-push channel rs r = ap length (received-push channel rs r)
     ∙ length-append (received channel rs) (received_by channel r)
 
 pub text_push : (rs : List CallRecord) (r : CallRecord)

@@ -29,7 +29,6 @@ pub record RunsTo (start : State) (inputs : List (List ℕ)) (piece : ℕ) (done
   pub rise : Rise 0 done
   pub before : least_after 0 done ≤ t
   pub reads : AllReadNext inputs piece [] done
-  pub within : (c : ℕ) → length (received c done) ≤ length (input_of inputs c)
   pub goes_on : (log : Log) (more : List CallRecord) → log.inputs ≡ length inputs → log.records ≡ done ++ more
       → Rise t more → least_after t more ≤ end_at log.end
       → divergence_from log (end_at log.end + 1 - t) (moment t s done more) ≡ None → divergence start log ≡ None
@@ -62,7 +61,6 @@ runs_none s inputs piece = record {
   rise = tt;
   before = omega arith;
   reads = tt;
-  within = λ c. omega arith;
   goes_on = λ log more i e rise last h. begin s log more e h;
 }
 
@@ -91,7 +89,6 @@ runs_plain start inputs piece done t s after e so_far = record {
   rise = so_far.rise;
   before = let earlier = so_far.before in omega arith;
   reads = so_far.reads;
-  within = so_far.within;
   goes_on = λ log more i w rise last h.
       let m = moment t s done more in
       let reach = least_rises (t + 1) more rise in
@@ -102,33 +99,6 @@ runs_plain start inputs piece done t s after e so_far = record {
 }
 
 -- ---- a call
-
-nothing : (b : Bool) (xs ys : List ℕ) → length xs ≡ 0 → length ys ≡ 0 → length (if b then xs else ys) ≡ 0
-nothing true xs ys p q = p
-nothing false xs ys p q = q
-
--- no more is received on a channel than its input has
-received_within : (inputs : List (List ℕ)) (piece : ℕ) (before : List CallRecord) (t : ℕ) (s : State) (r : CallRecord)
-    (c : ℕ) → IsHere inputs piece before t s r → ((d : ℕ) → length (received d before) ≤ length (input_of inputs d))
-    → length (received c before) + length (received_by c r) ≤ length (input_of inputs c)
-received_within inputs piece before t s (Read at args (pos n) bytes) c here within = by (get_or args 0 0 == c) refl
-  where
-    by : (b : Bool) → (get_or args 0 0 == c) ≡ b
-        → length (received c before) + length (if b then bytes else []) ≤ length (input_of inputs c)
-    by true e =
-        let all : length bytes ≡ length (part_of inputs piece (length (received (get_or args 0 0) before)) args) = ap
-            length here.reads in
-        let most = part_within inputs piece (length (received (get_or args 0 0) before)) args
-            (within (get_or args 0 0)) in
-        subst (λ (d : ℕ). length (received d before) + length bytes ≤ length (input_of inputs d))
-            (eqb-true (get_or args 0 0) c e) (omega arith)
-    by false e = let h = within c in omega arith
-received_within inputs piece before t s (Read at args (negsuc n) bytes) c here within =
-    let none = nothing (get_or args 0 0 == c) bytes [] here.form.1.whole refl in let h = within c in omega arith
-received_within inputs piece before t s (Write at args result bytes) c here within =
-    let none = nothing (get_or args 0 0 == c) [] [] refl refl in let h = within c in omega arith
-received_within inputs piece before t s (Clock at value) c here within = let h = within c in omega arith
-received_within inputs piece before t s (Other at number) c here within = let h = within c in omega arith
 
 call_same : (m : Moment) (inputs : ℕ) (r : CallRecord) (call : Call) → next m.state ≡ Called call
     → call_event call.kind ≡ kept_event (CallOf r) → IsLawful m.state inputs r
@@ -151,8 +121,6 @@ runs_call start inputs piece done t s r call e k here so_far =
       rise = rise_push 0 done r so_far.rise (omega arith);
       before = omega arith;
       reads = reads_push inputs piece [] done r so_far.reads here.reads;
-      within = λ c. let pushed = length-received-push c done r in let most = received_within inputs piece done t s r c
-          here so_far.within in omega arith;
       goes_on = λ log more i w rise last h.
           let m = moment t s done (r ∷ more) in
           let rises : Rise (at_of r + 1) more = subst (λ (n : ℕ). Rise (n + 1) more) (sym at) rise in

@@ -69,3 +69,7 @@ pub record IsRecorded (s : Setting) (answers : List ℕ) (log : Log) : Type 0 wh
   pub reads_inputs : AllReadNext s.inputs s.piece [] log.records
   pub has_answers : clock_values log.records ≡ answers
   pub ends_within : EndsWithin s.steps log.end
+
+-- these bytes are the first of an input
+abbrev pub IsFrontOf : List ℕ → List ℕ → Type 0
+IsFrontOf front whole = take (length front) whole ≡ front
