@@ -1,3 +1,5 @@
 pub mod Logs
 pub mod Faults
 pub mod Moved
+pub mod Reading
+pub mod Laws

@@ -95,6 +95,15 @@ pub enum RunEnd {
     Limit { at: u32 },
 }
 
+/// What one record of a log says.
+#[derive(Drop)]
+pub enum Item {
+    /// A guest call.
+    Call(CallRecord),
+    /// The end of the run.
+    End(RunEnd),
+}
+
 /// The faults of bytes that are no log, by number: Magic is 1, Trailing is 7.
 #[derive(Clone, Copy, Debug, PartialEq, Eq)]
 pub enum LogKind {
@@ -110,6 +119,6 @@ pub enum LogKind {
     Order,
     /// A read's or write's result, or a trap's kind, is none that there is.
     Result,
-    /// There are bytes behind the end record.
+    /// There are bytes after the end record.
     Trailing,
 }
