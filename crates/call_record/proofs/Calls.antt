@@ -11,11 +11,11 @@ use Rattle.isa.specs.declared.CallKind.{CallKind}
 use Rattle.isa.specs.declared.CallKind.TheVariants as kind
 use Rattle.log_model.specs.declared.CallRecord.{CallRecord}
 use Rattle.log_model.specs.declared.CallRecord.TheVariants.{Read, Write, Clock, Other}
-use Rattle.log_model.specs.Logs.{IsRecord, moved_length, record_text}
+use Rattle.log_model.specs.Logs.{IsBytes, IsRecord, record_text}
 use Rattle.replay_model.specs.Run.{state_after}
 use Rattle.replay_model.specs.Comparison.{arguments_of, call_event, IsLawful}
 use Rattle.replay_model.proofs.Transfers.{IsHeld, read_held}
-use Rattle.replay_log.proofs.Texts.{transfer_length}
+use Rattle.log_model.proofs.Texts.{transfer_length, data_below}
 use Rattle.record_model.specs.Recorded.{part_of}
 use Rattle.record_model.specs.Calls.{result_of, bytes_of, read_record, write_record, record_at}
 use Rattle.record_model.proofs.Calls.{CanBe, can_be, none_is, Moves, read_form, write_form, read_lawful, part_few, part_within, bytes_few, unrefused_held}
@@ -57,15 +57,11 @@ got_at source t values p k made kind e form = record {
 
 -- ---- how long a record's text is
 
-moved_below : (result : ℤ) → result <ℤ pos (2 ^ 31) → moved_length result < 2 ^ 31
-moved_below (pos n) h = omega (arith, ints)
-moved_below (negsuc n) h = omega arith
-
 pub text_short : (r : CallRecord) → IsRecord r → length (record_text r) ≤ 2 ^ 32
 text_short (Read at args result bytes) is = omega
-    (arith, transfer_length 1 at args result bytes is.1, is.1.whole, moved_below result is.1.fits)
+    (arith, transfer_length 1 at args result bytes is.1, data_below args result bytes is.1)
 text_short (Write at args result bytes) is = omega
-    (arith, transfer_length 2 at args result bytes is.1, is.1.whole, moved_below result is.1.fits)
+    (arith, transfer_length 2 at args result bytes is.1, data_below args result bytes is.1)
 text_short (Clock at value) is = omega arith
 text_short (Other at number) is = omega arith
 
@@ -126,7 +122,7 @@ bytes_in a o x y t b p e = cc
 -- a read that waits gets what the recorder computes
 pub read_got : (source : Source) (t : ℕ) (r : Recorder) (call : Call) (outcome : ℤ) (bytes : List ℕ) → IsSource source
     → IsSafe source t (point_of r) → t < 2 ^ 32 → WaitsFor r.machine call kind.Read
-    → AllByRecursion (λ n. n < 2 ^ 32) call.args → AllByRecursion (λ b. b < 256) bytes
+    → AllByRecursion (λ n. n < 2 ^ 32) call.args → IsBytes bytes
     → IsRead source r call outcome bytes → IsGot source t [] (point_of r) (Read t call.args outcome bytes)
 read_got source t r call outcome bytes is_source safe early waits words are_bytes read =
     let s = r.machine.state in
@@ -138,7 +134,7 @@ read_got source t r call outcome bytes is_source safe early waits words are_byte
     let most = is_source.short (reg s 10) in
     let moves : Moves s refused (whole_of source r) = record {
       words = subst (AllByRecursion (λ n. n < 2 ^ 32)) (args_are s call waits.call_is) words;
-      are_bytes = subst (AllByRecursion (λ b. b < 256))
+      are_bytes = subst IsBytes
           (bytes_in call.args outcome bytes (bytes_of refused (whole_of source r)) t (arguments_of s)
           (result_of refused (whole_of source r)) is) are_bytes;
       small = omega arith;
@@ -262,7 +258,7 @@ written_in a o x y t b p e = cc
 -- a write that waits gets what the recorder computes
 pub write_got : (source : Source) (t : ℕ) (r : Recorder) (call : Call) (outcome : ℤ) (bytes : List ℕ)
     → IsSafe source t (point_of r) → t < 2 ^ 32 → WaitsFor r.machine call kind.Write
-    → AllByRecursion (λ n. n < 2 ^ 32) call.args → AllByRecursion (λ b. b < 256) bytes → IsWritten r call outcome bytes
+    → AllByRecursion (λ n. n < 2 ^ 32) call.args → IsBytes bytes → IsWritten r call outcome bytes
     → IsGot source t [] (point_of r) (Write t call.args outcome bytes)
 write_got source t r call outcome bytes safe early waits words are_bytes written =
     let s = r.machine.state in
@@ -274,7 +270,7 @@ write_got source t r call outcome bytes safe early waits words are_bytes written
     let few = length-take (reg s 12) (drop (reg s 11 - s.base) s.memory) in
     let moves : Moves s refused whole = record {
       words = subst (AllByRecursion (λ n. n < 2 ^ 32)) (args_are s call waits.call_is) words;
-      are_bytes = subst (AllByRecursion (λ b. b < 256))
+      are_bytes = subst IsBytes
           (written_in call.args outcome bytes (bytes_of refused whole) t (arguments_of s) (result_of refused whole) is)
           are_bytes;
       small = omega arith;

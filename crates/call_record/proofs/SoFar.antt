@@ -16,7 +16,9 @@ use Rattle.replay_model.proofs.Transfers.{read_held, window_end}
 use Rattle.record_model.specs.Recorded.{input_of, clock_values, EndsWithin}
 use Rattle.record_model.specs.Calls.{record_at, EndsIn}
 use Rattle.record_model.proofs.Calls.{next_record, IsHere, next_here}
-use Rattle.record_model.proofs.Pushes.{length-received-push, values_push, text_push}
+use Rattle.record_model.proofs.Pushes.{values_push, text_push}
+use Rattle.log_model.proofs.Moved.{length-received-push}
+use Rattle.record_model.proofs.Fronts.{received-within}
 use Rattle.record_model.proofs.Runs.{RunsTo, runs_none, runs_plain, runs_call, runs_end, runs_cut}
 use Rattle.rv_machine.specs.Hart.{Hart}
 use Rattle.outer_io.specs.Tells.{Tells, Gains}
@@ -174,7 +176,8 @@ call_more start source told told_now told_after t r after values so_far gained c
       goes_on = ap (λ (h : Hart). h.waits) keeps.machine;
       safe = record {
         window = omega arith;
-        within = λ c. let up = counts c in let below = runs.within c in omega arith;
+        within = λ c. let up = counts c in let below = received-within inputs source.piece (so_far.records ++ made ∷ [])
+            runs.form runs.reads c in omega arith;
         room = omega arith;
       };
       gained = subst (λ (w : List ℕ). Tells told told_after (Gains w))

@@ -1,7 +1,7 @@
 //! What a read or a write gets.
 
 ghost use Rattle.std.specs.Prelude.{◌≡◌, ◌^◌, ◌<◌, length};
-ghost use Rattle.std.specs.List.{AllByRecursion};
+ghost use Rattle.log_model.specs.Logs.{IsBytes};
 ghost use Rattle.record_model.specs.Calls.{result_of, bytes_of};
 
 /// The result of a read or a write, and the bytes that it moves.
@@ -17,7 +17,7 @@ impl<'a> Transfer<'a> {
         requires { length bytes.now < 2 ^ 31 }
         ensures outcome { result.outcome ≡ result_of refusal bytes.now }
         ensures bytes { result.bytes.now ≡ bytes_of refusal bytes.now }
-        ensures are_bytes { AllByRecursion (λ b. b < 256) result.bytes.now }
+        ensures are_bytes { IsBytes result.bytes.now }
     {
         if refusal < 0 {
             return Transfer {

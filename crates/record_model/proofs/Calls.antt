@@ -12,7 +12,7 @@ use Rattle.isa.specs.Machine.{State, reg, in_window, bytes_at}
 use Rattle.isa.specs.Calls.{channel_of, buffer_of, length_of, refusal_of}
 use Rattle.log_model.specs.declared.CallRecord.{CallRecord}
 use Rattle.log_model.specs.declared.CallRecord.TheVariants.{Read, Write, Clock, Other}
-use Rattle.log_model.specs.Logs.{IsRecord, IsRefusal, IsTransfer, at_of, moved_length}
+use Rattle.log_model.specs.Logs.{IsBytes, IsRecord, IsRefusal, IsTransfer, at_of, moved_length}
 use Rattle.log_model.specs.Moved.{received}
 use Rattle.replay_model.specs.declared.Field.TheVariants as field
 use Rattle.replay_model.specs.Comparison.{Compared, compared, first_different, CallOf, fields, arguments, arguments_of, allowed, bytes_compared, IsLawful}
@@ -103,7 +103,7 @@ bytes_few (pos n) whole = omega arith
 -- the arguments are words, the bytes are bytes, and their number fits
 pub record Moves (s : State) (refused : ℤ) (whole : List ℕ) : Type 0 where
   pub words : AllByRecursion (λ n. n < 2 ^ 32) (arguments_of s)
-  pub are_bytes : AllByRecursion (λ b. b < 256) (bytes_of refused whole)
+  pub are_bytes : IsBytes (bytes_of refused whole)
   pub small : length whole < 2 ^ 31
 
 transfer_form : (s : State) (refused : ℤ) (whole : List ℕ) → Moves s refused whole

@@ -10,8 +10,8 @@ use Rattle.log_model.specs.declared.CallRecord.{CallRecord}
 use Rattle.log_model.specs.declared.CallRecord.TheVariants.{Read, Write, Clock, Other}
 use Rattle.log_model.specs.Logs.{Log, IsRecord}
 use Rattle.log_model.specs.Moved.{received, received_by}
+use Rattle.log_model.proofs.Moved.{received-push}
 use Rattle.record_model.specs.Recorded.{Setting, IsRecorded, AllReadNext, ReadsNext, IsFrontOf, input_of, part_of}
-use Rattle.record_model.proofs.Pushes.{received-push}
 
 -- the next bytes after the first ones
 next_bytes : (front whole bytes : List ℕ) (m : ℕ) → bytes ≡ take m (drop (length front) whole) → IsFrontOf front whole

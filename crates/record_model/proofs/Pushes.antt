@@ -3,23 +3,8 @@ use Rattle.std.proofs.Common.{◌≡◌, ℕ, ◌+◌, length, length-append, �
 use Rattle.std.specs.List.{AllByRecursion, flat_map}
 use Rattle.std.proofs.lemmas.Grind.{flat_map-append}
 use Rattle.log_model.specs.declared.CallRecord.{CallRecord}
-use Rattle.log_model.specs.Logs.{at_of, Rise, least_after, record_text}
-use Rattle.log_model.specs.Moved.{received, received_by}
+use Rattle.log_model.specs.Logs.{record_text}
 use Rattle.record_model.specs.Recorded.{AllReadNext, ReadsNext, clock_values, clock_values_of}
-
-pub all_push : (P : CallRecord → Type 0) (rs : List CallRecord) (r : CallRecord) → AllByRecursion P rs → P r
-    → AllByRecursion P (rs ++ r ∷ [])
-all_push P [] r all here = (here, tt)
-all_push P (x ∷ xs) r all here = (all.0, all_push P xs r all.1 here)
-
-pub rise_push : (least : ℕ) (rs : List CallRecord) (r : CallRecord) → Rise least rs → least_after least rs ≤ at_of r
-    → Rise least (rs ++ r ∷ [])
-rise_push least [] r rise above = (above, tt)
-rise_push least (x ∷ xs) r rise above = (rise.0, rise_push (at_of x + 1) xs r rise.1 above)
-
-pub least_push : (least : ℕ) (rs : List CallRecord) (r : CallRecord) → least_after least (rs ++ r ∷ []) ≡ at_of r + 1
-least_push least [] r = refl
-least_push least (x ∷ xs) r = least_push (at_of x + 1) xs r
 
 pub reads_push : (inputs : List (List ℕ)) (piece : ℕ) (before rs : List CallRecord) (r : CallRecord)
     → AllReadNext inputs piece before rs → ReadsNext inputs piece (before ++ rs) r
@@ -34,16 +19,6 @@ pub values_push : (rs : List CallRecord) (r : CallRecord)
     → clock_values (rs ++ r ∷ []) ≡ clock_values rs ++ clock_values_of r
 values_push rs r = flat_map-append clock_values_of rs (r ∷ [])
     ∙ ap (λ (w : List ℕ). clock_values rs ++ w) (append-nil (clock_values_of r))
-
-pub received-push : (channel : ℕ) (rs : List CallRecord) (r : CallRecord)
-    → received channel (rs ++ r ∷ []) ≡ received channel rs ++ received_by channel r
-received-push channel rs r = flat_map-append (received_by channel) rs (r ∷ [])
-    ∙ ap (λ (w : List ℕ). received channel rs ++ w) (append-nil (received_by channel r))
-
-pub length-received-push : (channel : ℕ) (rs : List CallRecord) (r : CallRecord)
-    → length (received channel (rs ++ r ∷ [])) ≡ length (received channel rs) + length (received_by channel r)
-length-received-push channel rs r = ap length (received-push channel rs r)
-    ∙ length-append (received channel rs) (received_by channel r)
 
 pub text_push : (rs : List CallRecord) (r : CallRecord)
     → length (flat_map record_text (rs ++ r ∷ [])) ≡ length (flat_map record_text rs) + length (record_text r)

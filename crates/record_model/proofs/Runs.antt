@@ -16,11 +16,11 @@ use Rattle.replay_model.specs.Run.{Moment, start, advance, state_after, after_ou
 use Rattle.replay_model.specs.Comparison.{Compared, compared, first_different, PlainStep, CallOf, EndOf, expected, kept_event, call_event, seen_event, fields, trap_kind, difference, difference_at, or_later, divergence_from, divergence, IsLawful}
 use Rattle.replay_model.proofs.Agreement.{expects_plain_at_end, expects_plain_before, expects_call, expects_end}
 use Rattle.replay_model.proofs.Track.{moment, least_rises}
-use Rattle.log_model.specs.Moved.{received, received_by}
+use Rattle.log_model.proofs.Records.{all_push, rise_push, least_push}
 use Rattle.record_model.specs.Recorded.{AllReadNext, input_of, part_of}
 use Rattle.record_model.specs.Calls.{EndsIn}
 use Rattle.record_model.proofs.Calls.{IsHere, passed, part_within}
-use Rattle.record_model.proofs.Pushes.{all_push, rise_push, least_push, reads_push, length-received-push}
+use Rattle.record_model.proofs.Pushes.{reads_push}
 
 -- these records were made by the first t steps, which end in the state s
 pub record RunsTo (start : State) (inputs : List (List ℕ)) (piece : ℕ) (done : List CallRecord) (t : ℕ) (s : State) :
