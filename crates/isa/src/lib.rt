@@ -65,7 +65,7 @@ pub enum Effect {
         rd: u8,
         value: u32,
     },
-    /// The pc gets the target, and a register the address behind the instruction.
+    /// The pc gets the target, and a register the address after the instruction.
     Jump {
         rd: u8,
         target: u32,
