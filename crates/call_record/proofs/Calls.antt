@@ -105,16 +105,16 @@ read_is source t r call outcome bytes waits read =
     let args = args_are s call waits.call_is in
     let channels : read.channels ≡ length inputs = read.channels_are ∙ sym (length-map source.inputs.now _) in
     let refused_is = read_refusal r.machine call read.refused read.channels (length inputs) waits read.refused_is
-        channels in
+    channels in
     let part_is : read.part ≡ whole_of source r = read.part_is
-        ∙ ap (λ (w : List ℕ). part_of inputs source.piece (get_or r.counts (get_or w 0 0) 0) w) args in
+    ∙ ap (λ (w : List ℕ). part_of inputs source.piece (get_or r.counts (get_or w 0 0) 0) w) args in
     read_by t call.args (arguments_of s) outcome
-        (result_of (refusal_of s (length inputs) (arguments_of s)) (whole_of source r)) bytes
-        (bytes_of (refusal_of s (length inputs) (arguments_of s)) (whole_of source r)) args
+    (result_of (refusal_of s (length inputs) (arguments_of s)) (whole_of source r)) bytes
+    (bytes_of (refusal_of s (length inputs) (arguments_of s)) (whole_of source r)) args
     (read.outcome_is ∙ ap (λ (z : ℤ). result_of z read.part) refused_is
-        ∙ ap (result_of (refusal_of s (length inputs) (arguments_of s))) part_is)
+    ∙ ap (result_of (refusal_of s (length inputs) (arguments_of s))) part_is)
     (read.bytes_are ∙ ap (λ (z : ℤ). bytes_of z read.part) refused_is
-        ∙ ap (bytes_of (refusal_of s (length inputs) (arguments_of s))) part_is)
+    ∙ ap (bytes_of (refusal_of s (length inputs) (arguments_of s))) part_is)
 
 bytes_in : (a : List ℕ) (o : ℤ) (x y : List ℕ) (t : ℕ) (b : List ℕ) (p : ℤ) → Read t a o x ≡ Read t b p y → x ≡ y
 bytes_in a o x y t b p e = cc
@@ -140,8 +140,8 @@ read_got source t r call outcome bytes is_source safe early waits words are_byte
       small = omega arith;
     } in
     got_at source t [] (point_of r) kind.Read (Read t call.args outcome bytes) waits.kind_is is
-        (read_form t s (length inputs) (whole_of source r) early (part_few inputs source.piece there (arguments_of s))
-        moves)
+    (read_form t s (length inputs) (whole_of source r) early (part_few inputs source.piece there (arguments_of s))
+    moves)
 
 -- a read that moves bytes isn't refused
 read_moves : (source : Source) (t : ℕ) (r : Recorder) (call : Call) (outcome : ℤ) (bytes : List ℕ)
@@ -150,10 +150,10 @@ read_moves : (source : Source) (t : ℕ) (r : Recorder) (call : Call) (outcome :
 read_moves source t r call outcome bytes waits read form some =
     let s = r.machine.state in
     let lawful = subst (IsLawful s (length (contents source.inputs.now)))
-        (sym (read_is source t r call outcome bytes waits read))
-        (read_lawful t s (length (contents source.inputs.now)) (whole_of source r)) in
+    (sym (read_is source t r call outcome bytes waits read))
+    (read_lawful t s (length (contents source.inputs.now)) (whole_of source r)) in
     subst (λ (n : ℕ). IsHeld s n call.args (length bytes)) (length-map source.inputs.now _)
-        (read_held s (length (contents source.inputs.now)) t call.args outcome bytes form lawful some)
+    (read_held s (length (contents source.inputs.now)) t call.args outcome bytes form lawful some)
 
 -- its bytes have room in the window
 pub read_room : (source : Source) (t : ℕ) (r : Recorder) (call : Call) (outcome : ℤ) (bytes : List ℕ)
@@ -172,7 +172,7 @@ read_counts source t r call outcome bytes is_source safe waits read form some =
     let channel = (read_moves source t r call outcome bytes waits read form some).channel in
     let most = is_source.short (channel_of call.args) in
     let within = part_within (contents source.inputs.now) source.piece (get_or r.counts (channel_of call.args) 0)
-        call.args (safe.within (channel_of call.args)) in
+    call.args (safe.within (channel_of call.args)) in
     let all = ap length read.part_is in
     let moved = ap length read.bytes_are in
     let bound = bytes_few read.refused read.part in
@@ -211,7 +211,7 @@ write_refusal : (hart : Hart) (call : Call) (refused : ℤ) (channels : ℕ) →
     → refused ≡ refusal hart.state channels call → refused ≡ refusal_of hart.state 16 (arguments_of hart.state)
 write_refusal hart call refused channels waits e =
     e ∙ ap (refusal hart.state channels) waits.call_is
-        ∙ ap (λ (k : CallKind). refusal_by hart.state channels k (arguments_of hart.state)) waits.kind_is
+    ∙ ap (λ (k : CallKind). refusal_by hart.state channels k (arguments_of hart.state)) waits.kind_is
 
 write_by : (t : ℕ) (args args_t : List ℕ) (result result_t : ℤ) (bytes bytes_t : List ℕ) → args ≡ args_t
     → result ≡ result_t → bytes ≡ bytes_t → Write t args result bytes ≡ Write t args_t result_t bytes_t
@@ -246,7 +246,7 @@ write_is t r call outcome bytes waits written =
     let whole : List ℕ = bytes_at s (reg s 11) (reg s 12) in
     let refused_is = write_refusal r.machine call written.refused written.channels waits written.refused_is in
     let there = subst (λ (w : List ℕ). (get_or w 2 0 ≡ 0) ⊎ IsTrue (in_window s (get_or w 1 0) (get_or w 2 0))
-        → written.part ≡ bytes_at s (get_or w 1 0) (get_or w 2 0)) args written.part_is in
+    → written.part ≡ bytes_at s (get_or w 1 0) (get_or w 2 0)) args written.part_is in
     let same = moved_same refused written.part whole (can_be s 16) (λ e. there (unrefused_held s 16 e)) in
     write_by t call.args (arguments_of s) outcome (result_of refused whole) bytes (bytes_of refused whole) args
     (written.outcome_is ∙ ap (λ (z : ℤ). result_of z written.part) refused_is ∙ same.0)
@@ -276,7 +276,7 @@ write_got source t r call outcome bytes safe early waits words are_bytes written
       small = omega arith;
     } in
     got_at source t [] (point_of r) kind.Write (Write t call.args outcome bytes) waits.kind_is is
-        (write_form t s early moves)
+    (write_form t s early moves)
 
 nothing : (b : Bool) (xs ys : List ℕ) → length xs ≡ 0 → length ys ≡ 0 → length (if b then xs else ys) ≡ 0
 nothing true xs ys p q = p
@@ -294,8 +294,12 @@ write_records source t r call outcome bytes hart tape waits got machine adds = r
   form = got.form;
   is_due = got.is_due;
   values_are = refl;
-  keeps = record { machine = machine; counts = λ c. let none = nothing (get_or call.args 0 0 == c) [] [] refl refl in
-      omega arith; tape = adds };
+  keeps = record {
+    machine = machine;
+    counts = λ c. let none = nothing (get_or call.args 0 0 == c) [] [] refl refl in
+        omega arith;
+    tape = adds;
+  };
 }
 
 -- ---- other calls

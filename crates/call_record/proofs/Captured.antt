@@ -38,8 +38,11 @@ short_by (v ∷ vs) (suc c) all = short_by vs c all.1
 
 pub is_source : (source : Source) → length source.inputs.now ≤ 16
     → All (λ (v : Vec ℕ). length v.items ≤ 2 ^ 26) source.inputs.now → IsSource source
-is_source source few short = record { few = few; short = λ c. short_by source.inputs.now c
-    (recursion_from_All (λ (v : Vec ℕ). length v.items ≤ 2 ^ 26) source.inputs.now short) }
+is_source source few short = record {
+  few = few;
+  short = λ c. short_by source.inputs.now c
+      (recursion_from_All (λ (v : Vec ℕ). length v.items ≤ 2 ^ 26) source.inputs.now short);
+}
 
 -- ---- the log
 
@@ -118,7 +121,7 @@ complete program im pages source s steps digest end tape records begins run hold
       counted = whole_size program im pages source s steps end tape records begins run holds;
     } in
     subst (λ (log : Log). IsComplete log tape.size)
-        (sym (kept_all program pages source digest end tape records e holds small)) there
+    (sym (kept_all program pages source digest end tape records e holds small)) there
 
 pub whole_captured : (program : List ℕ) (im : Image) (pages : ℕ) (source : Source) (s : State) (steps : ℕ)
     (end : RunEnd) (tape : Tape) (told told_after : Option (List ℕ)) → Begins program im pages source s
@@ -147,7 +150,7 @@ ok_captured program im pages source s steps digest end tape told told_after (Ok 
     let small = made.1 in
     let all = kept_all program pages source digest end tape whole.records e whole.holds (omega arith) in
     subst (IsCaptured (setting_of program pages source.inputs.now source.piece steps) told told_after)
-        (sym (made.0 ∙ all)) (whole_captured program im pages source s steps end tape told told_after begins whole)
+    (sym (made.0 ∙ all)) (whole_captured program im pages source s steps end tape told told_after begins whole)
 ok_captured program im pages source s steps digest end tape told told_after (Err f) begins e whole made = made
 
 too_long : (program : List ℕ) (im : Image) (pages : ℕ) (source : Source) (s : State) (steps : ℕ) (end : RunEnd)

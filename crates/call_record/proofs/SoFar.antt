@@ -141,9 +141,9 @@ here_now source t values p records made counts e form =
     let inputs = contents source.inputs.now in
     let next : CallRecord = next_record inputs source.piece records values t s (call_of s).kind in
     let is : made ≡ next = e ∙ ap (λ (n : ℕ). record_at inputs source.piece n values t s (call_of s).kind)
-        (counts (reg s 10)) in
+    (counts (reg s 10)) in
     subst (IsHere inputs source.piece records t s) (sym is)
-        (next_here inputs source.piece records values t s (call_of s).kind (subst IsRecord is form))
+    (next_here inputs source.piece records values t s (call_of s).kind (subst IsRecord is form))
 
 call_more : (start : State) (source : Source) (told told_now told_after : Option (List ℕ)) (t : ℕ) (r after : Recorder)
     (values : List ℕ) → IsSoFar start source told t r told_now → Tells told_now told_after (Gains values)
@@ -154,20 +154,20 @@ call_more start source told told_now told_after t r after values so_far gained c
     let s = r.machine.state in
     let inputs = contents source.inputs.now in
     let here = here_now source t values (point_of r) so_far.records made so_far.counts call.records.is_due
-        call.records.form in
+    call.records.form in
     let state : after.machine.state ≡ state_after s made = ap (λ (h : Hart). h.state) keeps.machine in
     let runs = runs_call start inputs source.piece so_far.records t s made (call_of s) call.called call.records.kind_is
-        here so_far.runs in
+    here so_far.runs in
     let counts : (c : ℕ) → get_or after.counts c 0
-        ≡ length (received c (so_far.records ++ made ∷ [])) = λ c. keeps.counts c
-        ∙ ap (λ (n : ℕ). n + length (received_by c made)) (so_far.counts c)
-        ∙ sym (length-received-push c so_far.records made) in
+    ≡ length (received c (so_far.records ++ made ∷ [])) = λ c. keeps.counts c
+    ∙ ap (λ (n : ℕ). n + length (received_by c made)) (so_far.counts c)
+    ∙ sym (length-received-push c so_far.records made) in
     let window = so_far.safe.window in
     let room = so_far.safe.room in
     let short = text_short made call.records.form in
     let size = keeps.tape.counted in
     let memory : length after.machine.state.memory ≡ length s.memory = ap (λ (x : State). length x.memory) state
-        ∙ window_after inputs source.piece so_far.records t s made here in
+    ∙ window_after inputs source.piece so_far.records t s made here in
     record {
       records = so_far.records ++ made ∷ [];
       runs = subst (RunsTo start inputs source.piece (so_far.records ++ made ∷ []) (t + 1)) (sym state) runs;
@@ -234,7 +234,7 @@ so_far_stops start source told told_now told_after t steps r after end early sma
       run = ended start source told told_now t steps r end stops.form
           (ends_by r.machine.state t steps end early stops.ends_in) so_far
           (runs_end start (contents source.inputs.now) source.piece so_far.records t r.machine.state end stops.ends_in
-              so_far.runs);
+          so_far.runs);
       holds = subst (λ (x : Tape). Holds x so_far.records) (sym stops.tape) so_far.holds;
       gained = tells-gains-none told told_now told_after (clock_values so_far.records) so_far.gained stops.gained;
       room = omega arith;

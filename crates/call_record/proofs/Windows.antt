@@ -69,10 +69,10 @@ store_keeps : (s after : State) (b : Bool) (address n v : ℕ) → in_window s a
 store_keeps s after true address n v w e =
     let within = window_end s address n w in
     let above = leb-true s.base address (and_parts (nat_le s.base address)
-        (nat_le (address + n) (s.base + length s.memory)) w).0 in
+    (nat_le (address + n) (s.base + length s.memory)) w).0 in
     let few = low_short n v in
     let there : length (overwritten s.memory (address - s.base) (low_bytes n v))
-        ≡ length s.memory = overwritten_length s.memory (address - s.base) (low_bytes n v) (omega arith) in
+    ≡ length s.memory = overwritten_length s.memory (address - s.base) (low_bytes n v) (omega arith) in
     kept s after _ e ∙ there
   where
     kept : (s after x : State) → Retired x ≡ Retired after → length after.memory ≡ length x.memory
@@ -109,7 +109,7 @@ laid_length base n memory (s ∷ ss) e all =
     let above = all.0.above_base in
     let below = all.0.below_end in
     laid_length base n (overwritten memory (s.place - base) s.bytes) ss
-        (overwritten_length memory (s.place - base) s.bytes (omega arith) ∙ e) all.1
+    (overwritten_length memory (s.place - base) s.bytes (omega arith) ∙ e) all.1
 
 state_is : (s after : State) → Some s ≡ Some after → s ≡ after
 state_is s after e = cc
@@ -120,12 +120,12 @@ start_by : (im : Image) (pages : ℕ) (s : State) (b : Bool) → IsLaidOut im �
 start_by im pages s true laid holds e =
     let past = im.base + pages * 4096 in
     let ends = (and_parts (nat_le past (2 ^ 32))
-        (list_all (λ (x : LoadedSegment). nat_le (x.place + x.size) past) im.segments) holds).1 in
+    (list_all (λ (x : LoadedSegment). nat_le (x.place + x.size) past) im.segments) holds).1 in
     let room = have_room im.base past im.segments laid.placed ends in
     let memory = laid_out im.base (replicate (pages * 4096) 0) im.segments in
     memory_same (start_in im pages memory) s (state_is (start_in im pages memory) s e)
     ∙ laid_length im.base (pages * 4096) (replicate (pages * 4096) 0) im.segments (length-replicate (pages * 4096) 0)
-        (recursion_from_All (HasRoom im.base past) im.segments room)
+    (recursion_from_All (HasRoom im.base past) im.segments room)
 start_by im pages s false laid holds e = cc
 
 -- a run begins in a window of so many pages

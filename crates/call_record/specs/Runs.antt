@@ -22,15 +22,15 @@ pub record IsFresh (r : Recorder) : Type 0 where
 
 -- these records and this end are those of the run that begins in this state, in every log that has them
 pub record IsRunOf (start : State) (source : Source) (steps : ℕ) (end : RunEnd) (records : List CallRecord) : Type 0
-    where
-  pub form : AllByRecursion IsRecord records
-  pub end_form : IsEnd end
-  pub rise : Rise 0 records
-  pub ends_after : least_after 0 records ≤ end_at end
-  pub reads : AllReadNext (contents source.inputs.now) source.piece [] records
-  pub ends : EndsWithin steps end
-  pub agrees : (log : Log) → log.inputs ≡ length source.inputs.now → log.records ≡ records → log.end ≡ end
-      → divergence start log ≡ None
+  where
+    pub form : AllByRecursion IsRecord records
+    pub end_form : IsEnd end
+    pub rise : Rise 0 records
+    pub ends_after : least_after 0 records ≤ end_at end
+    pub reads : AllReadNext (contents source.inputs.now) source.piece [] records
+    pub ends : EndsWithin steps end
+    pub agrees : (log : Log) → log.inputs ≡ length source.inputs.now → log.records ≡ records → log.end ≡ end
+        → divergence start log ≡ None
 
 -- the run was recorded to its end
 pub record IsWhole (start : State) (source : Source) (steps : ℕ) (end : RunEnd) (tape : Tape)

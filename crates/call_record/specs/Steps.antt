@@ -91,11 +91,11 @@ pub record GoesOn (source : Source) (t : ℕ) (before : Point) (after : Recorder
 
 -- the run ended before another step, or by one that is no call to record
 pub record Stops (t : ℕ) (end : RunEnd) (before : Point) (after : Recorder) (told told_after : Option (List ℕ)) : Type 0
-    where
-  pub gained : Tells told told_after (Gains [])
-  pub ends_in : EndsIn before.state t end
-  pub form : IsEnd end
-  pub tape : after.tape ≡ before.tape
+  where
+    pub gained : Tells told told_after (Gains [])
+    pub ends_in : EndsIn before.state t end
+    pub form : IsEnd end
+    pub tape : after.tape ≡ before.tape
 
 abbrev pub IsStepOf : Source → ℕ → Option RunEnd → Point → Recorder → Option (List ℕ) → Option (List ℕ) → Type 0
 IsStepOf source t None before after told told_after = GoesOn source t before after told told_after

@@ -53,3 +53,19 @@ received_fits channel log = moved_fits (received_by channel) (λ r. if_fits (is_
 
 pub written_fits : (channel : ℕ) (log : Log) → length (written channel log.records) ≤ length (log_text log)
 written_fits channel log = moved_fits (written_by channel) (λ r. if_fits (is_on channel r) (written_of r) (length (record_text r)) (written_of_fits r)) log
+
+-- ---- the number of records
+
+some_text : (r : CallRecord) → 1 ≤ length (record_text r)
+some_text (Read at args result bytes) = omega arith
+some_text (Write at args result bytes) = omega arith
+some_text (Clock at value) = omega arith
+some_text (Other at number) = omega arith
+
+few_records : (rs : List CallRecord) → length rs ≤ length (flat_map record_text rs)
+few_records [] = omega arith
+few_records (r ∷ rs) = rw (flat_map-cons record_text r rs) (omega (arith, length-append (record_text r) (flat_map record_text rs), some_text r, few_records rs))
+
+pub records_fit_text : (log : Log) → length log.records ≤ length (log_text log)
+records_fit_text log =
+    omega (arith, few_records log.records, length-append (header_text log) (flat_map record_text log.records), length-append (header_text log ++ flat_map record_text log.records) (end_text log.end))

@@ -18,15 +18,20 @@ run-requires-clause-source g c = is_source (record { inputs = c.args.inputs; pie
 pub run-requires-clause-window : goal.run-requires-clause-window
 run-requires-clause-window g c =
     let size = start_window c.args.image.now c.args.pages c.new-recorder.result.machine.state
-        c.segments-segments.ensures.laid_out (state g (goal.at.run-requires-clause-window g c).After-new-recorder) in
+    c.segments-segments.ensures.laid_out (state g (goal.at.run-requires-clause-window g c).After-new-recorder) in
     let most = c.requires.most in
     omega arith
 
 begins : (g : Over) (c : After-new-recorder g)
     → Begins c.args.program.now c.args.image.now c.args.pages (record { inputs = c.args.inputs; piece = c.args.piece })
     c.new-recorder.result.machine.state
-begins g c = record { image_is = c.requires.image; starts = state g c; some = c.requires.some; most = c.requires.most;
-    few = c.requires.few }
+begins g c = record {
+  image_is = c.requires.image;
+  starts = state g c;
+  some = c.requires.some;
+  most = c.requires.most;
+  few = c.requires.few;
+}
 
 pub into_log-requires-clause-room : goal.into_log-requires-clause-room
 into_log-requires-clause-room g c = c.in-Ok-run.ensures.ok.room
@@ -35,22 +40,22 @@ pub into_log-requires-clause-complete : goal.into_log-requires-clause-complete
 into_log-requires-clause-complete g c =
     let whole = c.in-Ok-run.ensures.ok in
     complete c.args.program.now c.args.image.now c.args.pages (record { inputs = c.args.inputs; piece = c.args.piece })
-        c.new-recorder.result.machine.state c.args.steps c.digest.result c.in-Ok-run.end c.run.new.self.tape
-        whole.records (begins g (goal.at.into_log-requires-clause-complete g c).After-new-recorder) whole.run
-        whole.holds c.digest.ensures
+    c.new-recorder.result.machine.state c.args.steps c.digest.result c.in-Ok-run.end c.run.new.self.tape
+    whole.records (begins g (goal.at.into_log-requires-clause-complete g c).After-new-recorder) whole.run
+    whole.holds c.digest.ensures
 
 pub returns-clause-captured : goal.returns-clause-captured
 returns-clause-captured g c =
     ok_captured c.args.program.now c.args.image.now c.args.pages
-        (record { inputs = c.args.inputs; piece = c.args.piece }) c.new-recorder.result.machine.state c.args.steps
-        c.digest.result c.in-Ok-run.end c.run.new.self.tape (g.K.Clock.answers c.args.clock.now)
-        (g.K.Clock.answers c.run.new.clock) c.into_log.result
-        (begins g (goal.at.returns-clause-captured g c).After-new-recorder) c.digest.ensures c.in-Ok-run.ensures.ok
-        c.into_log.ensures.ok
+    (record { inputs = c.args.inputs; piece = c.args.piece }) c.new-recorder.result.machine.state c.args.steps
+    c.digest.result c.in-Ok-run.end c.run.new.self.tape (g.K.Clock.answers c.args.clock.now)
+    (g.K.Clock.answers c.run.new.clock) c.into_log.result
+    (begins g (goal.at.returns-clause-captured g c).After-new-recorder) c.digest.ensures c.in-Ok-run.ensures.ok
+    c.into_log.ensures.ok
 
 pub returns-clause-cause : goal.returns-clause-cause
 returns-clause-cause g c =
     err_cause c.args.program.now c.args.image.now c.args.pages (record { inputs = c.args.inputs; piece = c.args.piece })
-        c.new-recorder.result.machine.state c.args.steps c.in-Ok-run.end c.run.new.self.tape
-        (g.K.Clock.answers c.args.clock.now) (g.K.Clock.answers c.run.new.clock) c.into_log.result
-        (begins g (goal.at.returns-clause-cause g c).After-new-recorder) c.in-Ok-run.ensures.ok c.into_log.ensures.fault
+    c.new-recorder.result.machine.state c.args.steps c.in-Ok-run.end c.run.new.self.tape
+    (g.K.Clock.answers c.args.clock.now) (g.K.Clock.answers c.run.new.clock) c.into_log.result
+    (begins g (goal.at.returns-clause-cause g c).After-new-recorder) c.in-Ok-run.ensures.ok c.into_log.ensures.fault

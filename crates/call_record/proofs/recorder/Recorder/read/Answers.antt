@@ -18,11 +18,11 @@ computed c =
     let f : SFits w32 c.refusal-refusal.result = search rules in
     let source = c.args.source.now in
     let outcome_is : c.unless_refused-transfer.result.outcome
-        ≡ result_of c.refusal-refusal.result c.part.result.now = rw (to_z-of_z w32 c.refusal-refusal.result f) at
-        c.unless_refused-transfer.ensures.outcome in
+    ≡ result_of c.refusal-refusal.result c.part.result.now = rw (to_z-of_z w32 c.refusal-refusal.result f) at
+    c.unless_refused-transfer.ensures.outcome in
     let bytes_are : c.unless_refused-transfer.result.bytes.now
-        ≡ bytes_of c.refusal-refusal.result c.part.result.now = rw (to_z-of_z w32 c.refusal-refusal.result f) at
-        c.unless_refused-transfer.ensures.bytes in
+    ≡ bytes_of c.refusal-refusal.result c.part.result.now = rw (to_z-of_z w32 c.refusal-refusal.result f) at
+    c.unless_refused-transfer.ensures.bytes in
     record {
       refused = c.refusal-refusal.result;
       channels = c.channels.result;
@@ -46,29 +46,31 @@ got c =
     let second : get_or args 1 0 < 2 ^ 32 = search rules in
     let third : get_or args 2 0 < 2 ^ 32 = search rules in
     read_got c.args.source.now c.args.at c.args.self.now c.args.call.now c.unless_refused-transfer.result.outcome
-        c.unless_refused-transfer.result.bytes.now
+    c.unless_refused-transfer.result.bytes.now
     c.requires.source c.requires.safe (omega arith) c.requires.waits (words_are args size first second third)
-        c.unless_refused-transfer.ensures.are_bytes (computed c)
+    c.unless_refused-transfer.ensures.are_bytes (computed c)
 
 pub count-requires : goal.count-requires
 count-requires c =
     let at = (goal.at.count-requires c).After-unless_refused-transfer in
     read_counts c.args.source.now c.args.at c.args.self.now c.args.call.now c.unless_refused-transfer.result.outcome
-        c.unless_refused-transfer.result.bytes.now c.requires.source c.requires.safe c.requires.waits (computed at)
-        (got at).form
+    c.unless_refused-transfer.result.bytes.now c.requires.source c.requires.safe c.requires.waits (computed at)
+    (got at).form
 
 pub add-requires-clause-form : goal.add-requires-clause-form
 add-requires-clause-form c =
     let f : SFits w32 c.unless_refused-transfer.result.outcome = search rules in
     rw (to_z-of_z w32 c.unless_refused-transfer.result.outcome f)
-        ((got (goal.at.add-requires-clause-form c).After-unless_refused-transfer).form)
+    ((got (goal.at.add-requires-clause-form c).After-unless_refused-transfer).form)
 
 pub answer-requires-clause-answers : goal.answer-requires-clause-answers
 answer-requires-clause-answers c =
-    let at = (goal.at.answer-requires-clause-answers c).After-unless_refused-transfer in
-    (c.requires.waits.kind_is, read_room c.args.source.now c.args.at c.args.self.now c.args.call.now
-        c.unless_refused-transfer.result.outcome c.unless_refused-transfer.result.bytes.now c.requires.waits
-        (computed at) (got at).form)
+    let at = (goal.at.answer-requires-clause-answers c).After-unless_refused-transfer in (
+      c.requires.waits.kind_is,
+      read_room c.args.source.now c.args.at c.args.self.now c.args.call.now
+          c.unless_refused-transfer.result.outcome c.unless_refused-transfer.result.bytes.now c.requires.waits
+          (computed at) (got at).form,
+    )
 
 pub returns : goal.returns
 returns c =
@@ -77,8 +79,8 @@ returns c =
     let f : SFits w32 outcome = search rules in
     let same = to_z-of_z w32 outcome f in
     let adds : Adds c.args.self.now.tape (Read c.args.at c.args.call.now.args outcome bytes) c.add.new.self = rw same at
-        c.in_ok-add.ensures in
+    c.in_ok-add.ensures in
     let after = rw same at c.answer.ensures in
     read_records c.args.source.now c.args.at c.args.self.now c.args.call.now outcome bytes c.answer.new.self
-        c.count.new.counts c.add.new.self c.requires.waits (got (goal.at.returns c).After-unless_refused-transfer) after
-        c.count.ensures adds
+    c.count.new.counts c.add.new.self c.requires.waits (got (goal.at.returns c).After-unless_refused-transfer) after
+    c.count.ensures adds

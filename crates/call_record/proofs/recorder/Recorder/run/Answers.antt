@@ -23,8 +23,11 @@ returns-in_err-end-clause-gained g c =
     let before : List ℕ = clock_values c.loop-at.invariant.records in
     let last : Gained told_now told_after = c.in_err-end.ensures.gained in
     on_err (Gained told told_after) c.from_residual.result
-    (record { values = before ++ last.values; gained = tells-gains told told_now told_after before last.values
-        c.loop-at.invariant.gained last.gained })
+    (record {
+      values = before ++ last.values;
+      gained = tells-gains told told_now told_after before last.values
+          c.loop-at.invariant.gained last.gained;
+    })
 
 pub returns-in-Some-clause-ok : goal.returns-in-Some-clause-ok
 returns-in-Some-clause-ok g c =
@@ -32,9 +35,9 @@ returns-in-Some-clause-ok g c =
     let told_now = g.K.Clock.answers c.loop-at.clock in
     let told_after = g.K.Clock.answers c.step.new.clock in
     let stops = subst (λ (o : Option RunEnd). IsStepOf c.args.source.now c.loop-at.at o (point_of c.loop-at.self)
-        c.step.new.self told_now told_after) c.in-Some.is c.in_ok-end.ensures.ok in
+    c.step.new.self told_now told_after) c.in-Some.is c.in_ok-end.ensures.ok in
     so_far_stops c.args.self.now.machine.state c.args.source.now told told_now told_after c.loop-at.at c.args.steps
-        c.loop-at.self c.step.new.self c.in-Some.end c.loop-at-test.true (omega arith) c.loop-at.invariant stops
+    c.loop-at.self c.step.new.self c.in-Some.end c.loop-at-test.true (omega arith) c.loop-at.invariant stops
 
 pub loop-at-preserved : goal.loop-at-preserved
 loop-at-preserved g c =
@@ -42,9 +45,9 @@ loop-at-preserved g c =
     let told_now = g.K.Clock.answers c.loop-at.clock in
     let told_after = g.K.Clock.answers c.step.new.clock in
     let on = subst (λ (o : Option RunEnd). IsStepOf c.args.source.now c.loop-at.at o (point_of c.loop-at.self)
-        c.step.new.self told_now told_after) c.in_default.is c.in_ok-end.ensures.ok in
+    c.step.new.self told_now told_after) c.in_default.is c.in_ok-end.ensures.ok in
     so_far_more c.args.self.now.machine.state c.args.source.now told told_now told_after c.loop-at.at c.loop-at.self
-        c.step.new.self c.loop-at.invariant on
+    c.step.new.self c.loop-at.invariant on
 
 pub returns-clause-ok : goal.returns-clause-ok
 returns-clause-ok g c =
@@ -54,6 +57,6 @@ returns-clause-ok g c =
     let within = c.loop-at.auto.at-end in
     let done : c.loop-at.at ≡ c.args.steps = omega arith in
     let so_far = subst (λ (n : ℕ). IsSoFar c.args.self.now.machine.state c.args.source.now told n c.loop-at.self
-        told_now) done c.loop-at.invariant in
+    told_now) done c.loop-at.invariant in
     so_far_cut c.args.self.now.machine.state c.args.source.now told told_now c.args.steps c.loop-at.self (omega arith)
-        so_far
+    so_far

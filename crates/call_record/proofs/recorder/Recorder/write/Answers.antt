@@ -21,15 +21,15 @@ got c =
     let third : get_or args 2 0 < 2 ^ 32 = search rules in
     let f : SFits w32 c.refusal-refusal.result = search rules in
     let outcome_is : c.unless_refused-transfer.result.outcome
-        ≡ result_of c.refusal-refusal.result c.written.result.now = rw (to_z-of_z w32 c.refusal-refusal.result f) at
-        c.unless_refused-transfer.ensures.outcome in
+    ≡ result_of c.refusal-refusal.result c.written.result.now = rw (to_z-of_z w32 c.refusal-refusal.result f) at
+    c.unless_refused-transfer.ensures.outcome in
     let bytes_are : c.unless_refused-transfer.result.bytes.now
-        ≡ bytes_of c.refusal-refusal.result c.written.result.now = rw (to_z-of_z w32 c.refusal-refusal.result f) at
-        c.unless_refused-transfer.ensures.bytes in
+    ≡ bytes_of c.refusal-refusal.result c.written.result.now = rw (to_z-of_z w32 c.refusal-refusal.result f) at
+    c.unless_refused-transfer.ensures.bytes in
     write_got c.args.source.now c.args.at c.args.self.now c.args.call.now c.unless_refused-transfer.result.outcome
-        c.unless_refused-transfer.result.bytes.now
+    c.unless_refused-transfer.result.bytes.now
     c.requires.safe (omega arith) c.requires.waits (words_are args size first second third)
-        c.unless_refused-transfer.ensures.are_bytes
+    c.unless_refused-transfer.ensures.are_bytes
     (record {
       refused = c.refusal-refusal.result;
       channels = c.channels.result;
@@ -44,7 +44,7 @@ pub add-requires-clause-form : goal.add-requires-clause-form
 add-requires-clause-form c =
     let f : SFits w32 c.unless_refused-transfer.result.outcome = search rules in
     rw (to_z-of_z w32 c.unless_refused-transfer.result.outcome f)
-        ((got (goal.at.add-requires-clause-form c).After-unless_refused-transfer).form)
+    ((got (goal.at.add-requires-clause-form c).After-unless_refused-transfer).form)
 
 pub returns : goal.returns
 returns c =
@@ -53,7 +53,7 @@ returns c =
     let f : SFits w32 outcome = search rules in
     let same = to_z-of_z w32 outcome f in
     let adds : Adds c.args.self.now.tape (Write c.args.at c.args.call.now.args outcome bytes) c.add.new.self = rw same
-        at c.in_ok-add.ensures in
+    at c.in_ok-add.ensures in
     let after = rw same at c.answer.ensures in
     write_records c.args.source.now c.args.at c.args.self.now c.args.call.now outcome bytes c.answer.new.self
-        c.add.new.self c.requires.waits (got (goal.at.returns c).After-unless_refused-transfer) after adds
+    c.add.new.self c.requires.waits (got (goal.at.returns c).After-unless_refused-transfer) after adds
