@@ -111,104 +111,110 @@ fn expected(alloc: Global, program: &[u8], case: &Case) -> Result<Vec<u8>, Fail>
     Ok(text)
 }
 
-static CASES: [Case; 8] = [
-    // The first four bytes of the input.
-    Case {
-        code: &COPIES,
-        input: b"ABCDEFG",
-        inputs: 1,
-        piece: 1 << 24,
-        steps: 12,
-        records: &[
-            1, 5, 0, 0, 0, 0, 0, 0, 0, 0, 1, 1, 0, 4, 0, 0, 0, 4, 0, 0, 0, 0x41, 0x42, 0x43, 0x44, //
-            2, 8, 0, 0, 0, 1, 0, 0, 0, 0, 1, 1, 0, 4, 0, 0, 0, 4, 0, 0, 0, 0x41, 0x42, 0x43, 0x44, //
-            5, 11, 0, 0, 0, 0, 0, 0, 0,
-        ],
-    },
-    // A read gets two bytes at most.
-    Case {
-        code: &COPIES,
-        input: b"ABCDEFG",
-        inputs: 1,
-        piece: 2,
-        steps: u32::MAX,
-        records: &[
-            1, 5, 0, 0, 0, 0, 0, 0, 0, 0, 1, 1, 0, 4, 0, 0, 0, 2, 0, 0, 0, 0x41, 0x42, //
-            2, 8, 0, 0, 0, 1, 0, 0, 0, 0, 1, 1, 0, 4, 0, 0, 0, 4, 0, 0, 0, 0x41, 0x42, 0, 0, //
-            5, 11, 0, 0, 0, 0, 0, 0, 0,
-        ],
-    },
-    // A piece of no bytes: the read gets none. The run is cut off after it.
-    Case {
-        code: &COPIES,
-        input: b"ABCDEFG",
-        inputs: 1,
-        piece: 0,
-        steps: 6,
-        records: &[
-            1, 5, 0, 0, 0, 0, 0, 0, 0, 0, 1, 1, 0, 4, 0, 0, 0, 0, 0, 0, 0, //
-            7, 6, 0, 0, 0,
-        ],
-    },
-    // There is no channel 0.
-    Case {
-        code: &COPIES,
-        input: b"",
-        inputs: 0,
-        piece: 1 << 24,
-        steps: u32::MAX,
-        records: &[
-            1, 5, 0, 0, 0, 0, 0, 0, 0, 0, 1, 1, 0, 4, 0, 0, 0, 0xf7, 0xff, 0xff, 0xff, //
-            2, 8, 0, 0, 0, 1, 0, 0, 0, 0, 1, 1, 0, 4, 0, 0, 0, 4, 0, 0, 0, 0, 0, 0, 0, //
-            5, 11, 0, 0, 0, 0, 0, 0, 0,
-        ],
-    },
-    // The clock's low and high half.
-    Case {
-        code: &READS_THE_CLOCK,
-        input: b"",
-        inputs: 0,
-        piece: 1 << 24,
-        steps: u32::MAX,
-        records: &[
-            3, 3, 0, 0, 0, 2, 0, 0, 0, 1, 0, 0, 0, //
-            2, 10, 0, 0, 0, 1, 0, 0, 0, 0, 1, 1, 0, 8, 0, 0, 0, 8, 0, 0, 0, 2, 0, 0, 0, 1, 0, 0, 0, //
-            5, 13, 0, 0, 0, 0, 0, 0, 0,
-        ],
-    },
-    // Cut off before the read, and before the first step.
-    Case {
-        code: &COPIES,
-        input: b"ABCD",
-        inputs: 1,
-        piece: 1 << 24,
-        steps: 5,
-        records: &[7, 5, 0, 0, 0],
-    },
-    Case {
-        code: &COPIES,
-        input: b"ABCD",
-        inputs: 1,
-        piece: 1 << 24,
-        steps: 0,
-        records: &[7, 0, 0, 0, 0],
-    },
-    // An illegal word.
-    Case {
-        code: &TRAPS,
-        input: b"",
-        inputs: 1,
-        piece: 1 << 24,
-        steps: 1,
-        records: &[6, 0, 0, 0, 0, 2, 0, 0, 0, 0, 0, 1, 0],
-    },
-];
+/// Runs and the texts of their logs.
+fn cases() -> [Case; 8] {
+    [
+        // The first four bytes of the input.
+        Case {
+            code: &COPIES,
+            input: b"ABCDEFG",
+            inputs: 1,
+            piece: 1 << 24,
+            steps: 12,
+            records: &[
+                1, 5, 0, 0, 0, 0, 0, 0, 0, 0, 1, 1, 0, 4, 0, 0, 0, 4, 0, 0, 0, 0x41, 0x42, 0x43,
+                0x44, //
+                2, 8, 0, 0, 0, 1, 0, 0, 0, 0, 1, 1, 0, 4, 0, 0, 0, 4, 0, 0, 0, 0x41, 0x42, 0x43,
+                0x44, //
+                5, 11, 0, 0, 0, 0, 0, 0, 0,
+            ],
+        },
+        // A read gets two bytes at most.
+        Case {
+            code: &COPIES,
+            input: b"ABCDEFG",
+            inputs: 1,
+            piece: 2,
+            steps: u32::MAX,
+            records: &[
+                1, 5, 0, 0, 0, 0, 0, 0, 0, 0, 1, 1, 0, 4, 0, 0, 0, 2, 0, 0, 0, 0x41, 0x42, //
+                2, 8, 0, 0, 0, 1, 0, 0, 0, 0, 1, 1, 0, 4, 0, 0, 0, 4, 0, 0, 0, 0x41, 0x42, 0, 0, //
+                5, 11, 0, 0, 0, 0, 0, 0, 0,
+            ],
+        },
+        // A piece of no bytes: the read gets none. The run is cut off after it.
+        Case {
+            code: &COPIES,
+            input: b"ABCDEFG",
+            inputs: 1,
+            piece: 0,
+            steps: 6,
+            records: &[
+                1, 5, 0, 0, 0, 0, 0, 0, 0, 0, 1, 1, 0, 4, 0, 0, 0, 0, 0, 0, 0, //
+                7, 6, 0, 0, 0,
+            ],
+        },
+        // There is no channel 0.
+        Case {
+            code: &COPIES,
+            input: b"",
+            inputs: 0,
+            piece: 1 << 24,
+            steps: u32::MAX,
+            records: &[
+                1, 5, 0, 0, 0, 0, 0, 0, 0, 0, 1, 1, 0, 4, 0, 0, 0, 0xf7, 0xff, 0xff, 0xff, //
+                2, 8, 0, 0, 0, 1, 0, 0, 0, 0, 1, 1, 0, 4, 0, 0, 0, 4, 0, 0, 0, 0, 0, 0, 0, //
+                5, 11, 0, 0, 0, 0, 0, 0, 0,
+            ],
+        },
+        // The clock's low and high half.
+        Case {
+            code: &READS_THE_CLOCK,
+            input: b"",
+            inputs: 0,
+            piece: 1 << 24,
+            steps: u32::MAX,
+            records: &[
+                3, 3, 0, 0, 0, 2, 0, 0, 0, 1, 0, 0, 0, //
+                2, 10, 0, 0, 0, 1, 0, 0, 0, 0, 1, 1, 0, 8, 0, 0, 0, 8, 0, 0, 0, 2, 0, 0, 0, 1, 0,
+                0, 0, //
+                5, 13, 0, 0, 0, 0, 0, 0, 0,
+            ],
+        },
+        // Cut off before the read, and before the first step.
+        Case {
+            code: &COPIES,
+            input: b"ABCD",
+            inputs: 1,
+            piece: 1 << 24,
+            steps: 5,
+            records: &[7, 5, 0, 0, 0],
+        },
+        Case {
+            code: &COPIES,
+            input: b"ABCD",
+            inputs: 1,
+            piece: 1 << 24,
+            steps: 0,
+            records: &[7, 0, 0, 0, 0],
+        },
+        // An illegal word.
+        Case {
+            code: &TRAPS,
+            input: b"",
+            inputs: 1,
+            piece: 1 << 24,
+            steps: 1,
+            records: &[6, 0, 0, 0, 0, 2, 0, 0, 0, 0, 0, 1, 0],
+        },
+    ]
+}
 
 /// Runs and their logs, byte by byte.
 #[test]
 fn logs_of_runs(rt: HostRuntime) -> Result<(), Fail> {
     let alloc = rt.alloc();
-    for case in &CASES {
+    for case in cases() {
         let program = program(alloc, case.code)?;
         let log = captured(
             &rt,
@@ -221,7 +227,7 @@ fn logs_of_runs(rt: HostRuntime) -> Result<(), Fail> {
             case.steps,
         )??;
         let text = write_log(alloc, &log)?;
-        let expected = expected(alloc, &program, case)?;
+        let expected = expected(alloc, &program, &case)?;
         assert_eq!(rt; text.as_slice(), expected.as_slice());
     }
     Ok(())
