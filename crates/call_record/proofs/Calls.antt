@@ -1,8 +1,7 @@
 -- Calls that the recorder answers.
 use Rattle.std.proofs.Common.{◌≡◌, ℕ, ◌+◌, ◌-◌, ◌^◌, ◌<◌, ◌≤◌, ◌⊎◌, Bool, true, false, List, [], ◌∷◌, length, get_or, drop, length-take, length-drop, ℤ, pos, negsuc, refl, arith, ap, sym, ◌∙◌, subst}
-use Rattle.std.specs.Prelude.{IsTrue, ◌==◌, ◌<ℤ◌, if◌then◌else◌}
+use Rattle.std.specs.Prelude.{IsTrue, ◌==◌, if◌then◌else◌}
 use Rattle.std.specs.List.{AllByRecursion}
-use Rattle.std.proofs.lemmas.Int.{ints}
 use Rattle.std.proofs.lemmas.List.{length-map}
 use Rattle.isa.specs.Machine.{State, reg, in_window, bytes_at, call_of}
 use Rattle.isa.specs.Calls.{channel_of, refusal_of, refusal, refusal_by}

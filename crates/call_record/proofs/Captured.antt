@@ -13,7 +13,7 @@ use Rattle.elf_model.specs.Window.{start_of}
 use Rattle.log_model.specs.declared.CallRecord.{CallRecord}
 use Rattle.log_model.specs.declared.RunEnd.{RunEnd}
 use Rattle.log_model.specs.Logs.{Log, IsLog, log_text, record_text, end_text}
-use Rattle.replay_model.specs.Fits.{Fits, start_in_image}
+use Rattle.replay_model.specs.Fits.{start_in_image}
 use Rattle.record_model.specs.Recorded.{IsRecorded, clock_values}
 use Rattle.log_model.proofs.Texts.{text_length}
 use Rattle.sha2.specs.Sha256.{sha256}

@@ -83,7 +83,7 @@ pub part_few : (inputs : List (List ℕ)) (piece offset : ℕ) (args : List ℕ)
     → length (part_of inputs piece offset args) ≤ length_of args
 part_few inputs piece offset args =
     let short = length-take (min (length_of args) piece) (drop offset (input_of inputs (channel_of args))) in omega
-        arith
+    arith
 
 pub part_within : (inputs : List (List ℕ)) (piece offset : ℕ) (args : List ℕ)
     → offset ≤ length (input_of inputs (channel_of args))
@@ -110,8 +110,14 @@ transfer_form : (s : State) (refused : ℤ) (whole : List ℕ) → Moves s refus
     → IsTransfer (arguments_of s) (result_of refused whole) (bytes_of refused whole)
 transfer_form s (negsuc n) whole m = record
     { three = refl; words = m.words; fits = omega (arith, ints); whole = refl; are_bytes = m.are_bytes }
-transfer_form s (pos n) whole m = record { three = refl; words = m.words; fits = let small = m.small in omega
-    (arith, ints); whole = refl; are_bytes = m.are_bytes }
+transfer_form s (pos n) whole m = record {
+  three = refl;
+  words = m.words;
+  fits = let small = m.small in omega
+      (arith, ints);
+  whole = refl;
+  are_bytes = m.are_bytes;
+}
 
 read_range : (refused : ℤ) (whole : List ℕ) (most : ℕ) → CanBe refused → length whole ≤ most
     → IsRefusal (result_of refused whole) ⊎ ((pos 0 ≤ℤ result_of refused whole) × (result_of refused whole ≤ℤ pos most))
@@ -168,15 +174,15 @@ write_bytes s (negsuc n) can all = refl
 write_bytes s (pos n) can all =
     let whole : List ℕ = bytes_at s (reg s 11) (reg s 12) in
     ap (λ (k : ℕ). first_different (bytes_compared 0 whole (bytes_at s (reg s 11) k))) (all (none_is n can))
-        ∙ same_bytes 0 whole
+    ∙ same_bytes 0 whole
 
 write_lawful : (t : ℕ) (s : State) (inputs : ℕ) → IsLawful s inputs (write_record t s)
 write_lawful t s inputs =
     let refused : ℤ = refusal_of s 16 (arguments_of s) in
     let whole : List ℕ = bytes_at s (reg s 11) (reg s 12) in
     transfer_lawful s refused whole (reg s 12)
-        (bytes_compared 0 (bytes_of refused whole) (bytes_at s (reg s 11) (length (bytes_of refused whole))))
-        (write_bytes s refused (can_be s 16) (write_whole s 16))
+    (bytes_compared 0 (bytes_of refused whole) (bytes_at s (reg s 11) (length (bytes_of refused whole))))
+    (write_bytes s refused (can_be s 16) (write_whole s 16))
 
 other_lawful : (t : ℕ) (s : State) (inputs : ℕ) → IsLawful s inputs (Other t (reg s 17))
 other_lawful t s inputs = passed (compared field.Number (reg s 17) (reg s 17)) [] refl
@@ -209,8 +215,13 @@ pub next_here : (inputs : List (List ℕ)) (piece : ℕ) (before : List CallReco
     → IsHere inputs piece before t s (next_record inputs piece before answers t s k)
 next_here inputs piece before answers t s kind.Read form =
     let part : List ℕ = part_of inputs piece (length (received (reg s 10) before)) (arguments_of s) in
-    record { time = refl; form = form; lawful = read_lawful t s (length inputs) part; reads = read_next inputs piece
-        before t s (refusal_of s (length inputs) (arguments_of s)) }
+    record {
+      time = refl;
+      form = form;
+      lawful = read_lawful t s (length inputs) part;
+      reads = read_next inputs piece
+          before t s (refusal_of s (length inputs) (arguments_of s));
+    }
 next_here inputs piece before answers t s kind.Write form = record
     { time = refl; form = form; lawful = write_lawful t s (length inputs); reads = tt }
 next_here inputs piece before answers t s kind.Clock form = record
@@ -238,7 +249,7 @@ arguments_are : (s : State) (args : List ℕ) (rest : List Compared) → length 
 arguments_are s args rest three d =
     let same = same_arguments s args rest d in
     three_are args three ∙ three_by (channel_of args) (buffer_of args) (length_of args) (reg s 10) (reg s 11) (reg s 12)
-        same.first same.second same.third
+    same.first same.second same.third
 
 no_bytes : (bytes : List ℕ) → length bytes ≡ 0 → bytes ≡ []
 no_bytes [] e = refl
@@ -277,9 +288,9 @@ read_is inputs piece answers before t s at args kept bytes here =
     let same = arguments_are s args (result ∷ []) here.form.1.three here.lawful in
     let result_is = (first_agrees result [] (rest_agrees (arguments s args) (result ∷ []) here.lawful)).0 in
     let got = got_is refused kept bytes (part (arguments_of s)) 0 here.form.1.whole result_is
-        (λ n e. part_at inputs piece before at args kept bytes n e here.reads ∙ ap part same) in
+    (λ n e. part_at inputs piece before at args kept bytes n e here.reads ∙ ap part same) in
     read_by at t args (arguments_of s) kept (result_of refused (part (arguments_of s))) bytes
-        (bytes_of refused (part (arguments_of s))) here.time same got.0 got.1
+    (bytes_of refused (part (arguments_of s))) here.time same got.0 got.1
 
 bytes_equal : (i : ℕ) (bs cs : List ℕ) → length bs ≡ length cs → first_different (bytes_compared i bs cs) ≡ None
     → bs ≡ cs
@@ -303,7 +314,7 @@ written_is s channels at args kept bytes form d =
     let result = result_compared kept (allowed (refusal_of s 16 (arguments_of s)) kept (reg s 12)) in
     let after = (first_agrees result compares (rest_agrees (arguments s args) (result ∷ compares) d)).1 in
     let long : length (bytes_at s (reg s 11) (length bytes))
-        ≡ length bytes = by compares (cases_lt 0 (length bytes)) d in
+    ≡ length bytes = by compares (cases_lt 0 (length bytes)) d in
     bytes_equal 0 bytes (bytes_at s (reg s 11) (length bytes)) (sym long) after
   where
     by : (compares : List Compared) → (0 < length bytes) ⊎ (length bytes ≤ 0)
@@ -336,9 +347,9 @@ write_is inputs piece answers before t s at args kept bytes here =
     let result_is = (first_agrees result compares (rest_agrees (arguments s args) (result ∷ compares) here.lawful)).0 in
     let there = written_is s (length inputs) at args kept bytes here.form here.lawful in
     let got = got_is refused kept bytes whole (reg s 12) here.form.1.whole result_is
-        (λ n e. there ∙ ap (bytes_at s (reg s 11)) (all_moved s at args kept bytes n here.form same e)) in
+    (λ n e. there ∙ ap (bytes_at s (reg s 11)) (all_moved s at args kept bytes n here.form same e)) in
     write_by at t args (arguments_of s) kept (result_of refused whole) bytes (bytes_of refused whole) here.time same
-        got.0 got.1
+    got.0 got.1
 
 other_is : (t at number : ℕ) (s : State) → at ≡ t
     → first_different (compared field.Number number (reg s 17) ∷ []) ≡ None → Other at number ≡ Other t (reg s 17)

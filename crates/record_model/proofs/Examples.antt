@@ -15,11 +15,11 @@ use Rattle.record_model.specs.Recorded.{AllReadNext, EndsWithin}
 abbrev copy_four : List ℕ
 copy_four = let size = word32 48 in
     0x7f ∷ 0x45 ∷ 0x4c ∷ 0x46 ∷ 1 ∷ 1 ∷ 1 ∷ replicate 9 0 ++ 2 ∷ 0 ∷ 243 ∷ 0 ∷ word32 1 ++ word32 0x10000 ++ word32 52
-        ++ word32 0 ++
+    ++ word32 0 ++
     word32 0 ++ 52 ∷ 0 ∷ 32 ∷ 0 ∷ 1 ∷ replicate 7 0 ++
     word32 1 ++ word32 84 ++ word32 0x10000 ++ word32 0x10000 ++ size ++ size ++ word32 7 ++ word32 4 ++
     flat_map word32 (0x000105b7 ∷ 0x10058593 ∷ 0x00000513 ∷ 0x00400613 ∷ 0x03f00893 ∷ 0x00000073 ∷ 0x00100513 ∷
-        0x04000893 ∷ 0x00000073 ∷ 0x00000513 ∷ 0x05d00893 ∷ 0x00000073 ∷ [])
+    0x04000893 ∷ 0x00000073 ∷ 0x00000513 ∷ 0x05d00893 ∷ 0x00000073 ∷ [])
 
 abbrev input : List ℕ
 input = 0x41 ∷ 0x42 ∷ 0x43 ∷ 0x44 ∷ 0x45 ∷ 0x46 ∷ 0x47 ∷ []

@@ -1,5 +1,5 @@
 -- What is received on a channel is the first of its input. Crates above cite these lemmas.
-use Rattle.std.proofs.Common.{◌≡◌, ℕ, ◌+◌, ◌-◌, ◌≤◌, Bool, true, false, List, [], ◌∷◌, ◌++◌, length, get_or, take, drop, pos, negsuc, refl, arith, ap, sym, ◌∙◌, subst, append_assoc, append-nil, length-append, length-take}
+use Rattle.std.proofs.Common.{◌≡◌, ℕ, ◌≤◌, Bool, true, false, List, [], ◌∷◌, ◌++◌, length, get_or, take, drop, pos, negsuc, refl, arith, ap, sym, ◌∙◌, subst, append_assoc, append-nil, length-append, length-take}
 use Rattle.std.specs.Prelude.{◌==◌, if◌then◌else◌, min}
 use Rattle.std.specs.List.{AllByRecursion}
 use Rattle.std.proofs.Math.Seq.{take-add, take-append_seam}
@@ -11,7 +11,7 @@ use Rattle.log_model.specs.declared.CallRecord.TheVariants.{Read, Write, Clock, 
 use Rattle.log_model.specs.Logs.{Log, IsRecord}
 use Rattle.log_model.specs.Moved.{received, received_by}
 use Rattle.log_model.proofs.Moved.{received-push}
-use Rattle.record_model.specs.Recorded.{Setting, IsRecorded, AllReadNext, ReadsNext, IsFrontOf, input_of, part_of}
+use Rattle.record_model.specs.Recorded.{Setting, IsRecorded, AllReadNext, ReadsNext, IsFrontOf, input_of}
 
 -- the next bytes after the first ones
 next_bytes : (front whole bytes : List ℕ) (m : ℕ) → bytes ≡ take m (drop (length front) whole) → IsFrontOf front whole
@@ -50,7 +50,7 @@ one_more inputs piece before (Read at args (pos n) bytes) c form next front = by
     by false e = no_more (received c before) (input_of inputs c) [] refl (front c)
 one_more inputs piece before (Read at args (negsuc n) bytes) c form next front =
     no_more (received c before) (input_of inputs c) _
-        (either (get_or args 0 0 == c) bytes [] (no_bytes bytes form.1.whole) refl) (front c)
+    (either (get_or args 0 0 == c) bytes [] (no_bytes bytes form.1.whole) refl) (front c)
 one_more inputs piece before (Write at args result bytes) c form next front =
     no_more (received c before) (input_of inputs c) _ (either (get_or args 0 0 == c) [] [] refl refl) (front c)
 one_more inputs piece before (Clock at value) c form next front = no_more (received c before) (input_of inputs c) []
@@ -67,7 +67,7 @@ all_more inputs piece before (r ∷ rs) form reads front c =
     subst (λ (w : List CallRecord). IsFrontOf (received c w) (input_of inputs c)) (append_assoc before (r ∷ []) rs)
     (all_more inputs piece (before ++ r ∷ []) rs form.1 reads.1
     (λ d. subst (λ (w : List ℕ). IsFrontOf w (input_of inputs d)) (sym (received-push d before r))
-        (one_more inputs piece before r d form.0 reads.0 front)) c)
+    (one_more inputs piece before r d form.0 reads.0 front)) c)
 
 pub received-front : (inputs : List (List ℕ)) (piece : ℕ) (records : List CallRecord) → AllByRecursion IsRecord records
     → AllReadNext inputs piece [] records → (c : ℕ) → IsFrontOf (received c records) (input_of inputs c)

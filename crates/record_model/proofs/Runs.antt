@@ -1,13 +1,10 @@
 -- A run so far: its calls have their records, and nothing differs up to here, whatever a log goes on with. Crates above
 -- cite these lemmas.
-use Rattle.std.proofs.Common.{◌≡◌, ℕ, suc, ◌+◌, ◌-◌, ◌≤◌, Bool, true, false, get_or, List, [], ◌∷◌, ◌++◌, length, pos, negsuc, Option, None, refl, arith, ap, sym, ◌∙◌, subst, append_assoc, append-nil}
-use Rattle.std.specs.Prelude.{◌==◌, if◌then◌else◌}
+use Rattle.std.proofs.Common.{◌≡◌, ℕ, suc, ◌+◌, ◌-◌, ◌≤◌, List, [], ◌∷◌, ◌++◌, length, pos, Option, None, refl, arith, ap, sym, ◌∙◌, subst, append_assoc, append-nil}
 use Rattle.std.specs.List.{AllByRecursion}
-use Rattle.std.proofs.lemmas.Bool.{eqb-true}
 use Rattle.isa.specs.Machine.{State, Outcome, Retired, Called, next, reg}
 use Rattle.isa.specs.declared.Call.{Call}
 use Rattle.log_model.specs.declared.CallRecord.{CallRecord}
-use Rattle.log_model.specs.declared.CallRecord.TheVariants.{Read, Write, Clock, Other}
 use Rattle.log_model.specs.declared.RunEnd.{RunEnd}
 use Rattle.log_model.specs.declared.RunEnd.TheVariants.{Exit, Trap, Limit}
 use Rattle.log_model.specs.Logs.{Log, IsRecord, Rise, least_after, at_of, end_at}
@@ -17,9 +14,9 @@ use Rattle.replay_model.specs.Comparison.{Compared, compared, first_different, P
 use Rattle.replay_model.proofs.Agreement.{expects_plain_at_end, expects_plain_before, expects_call, expects_end}
 use Rattle.replay_model.proofs.Track.{moment, least_rises}
 use Rattle.log_model.proofs.Records.{all_push, rise_push, least_push}
-use Rattle.record_model.specs.Recorded.{AllReadNext, input_of, part_of}
+use Rattle.record_model.specs.Recorded.{AllReadNext}
 use Rattle.record_model.specs.Calls.{EndsIn}
-use Rattle.record_model.proofs.Calls.{IsHere, passed, part_within}
+use Rattle.record_model.proofs.Calls.{IsHere, passed}
 use Rattle.record_model.proofs.Pushes.{reads_push}
 
 -- these records were made by the first t steps, which end in the state s
@@ -41,8 +38,8 @@ one_more log t m after below same moves rest =
     let n : ℕ = end_at log.end + 1 - (t + 1) in
     let e : end_at log.end + 1 - t ≡ suc n = omega arith in
     let here : divergence_from log (suc n) m ≡ None = ap
-        (λ (d : Option Compared). or_later m.time d (divergence_from log n (advance m))) same
-        ∙ ap (divergence_from log n) moves ∙ rest in
+    (λ (d : Option Compared). or_later m.time d (divergence_from log n (advance m))) same
+    ∙ ap (divergence_from log n) moves ∙ rest in
     subst (λ (k : ℕ). divergence_from log k m ≡ None) (sym e) here
 
 -- ---- the start
@@ -52,8 +49,8 @@ begin : (s : State) (log : Log) (records : List CallRecord) → log.records ≡ 
 begin s log records e h =
     let n : end_at log.end + 1 - 0 ≡ end_at log.end + 1 = omega arith in
     subst (λ (k : ℕ). divergence_from log k (start s log) ≡ None) n
-        (subst (λ (w : List CallRecord). divergence_from log (end_at log.end + 1 - 0) (moment 0 s [] w) ≡ None) (sym e)
-        h)
+    (subst (λ (w : List CallRecord). divergence_from log (end_at log.end + 1 - 0) (moment 0 s [] w) ≡ None) (sym e)
+    h)
 
 pub runs_none : (s : State) (inputs : List (List ℕ)) (piece : ℕ) → RunsTo s inputs piece [] 0 s
 runs_none s inputs piece = record {
@@ -93,9 +90,9 @@ runs_plain start inputs piece done t s after e so_far = record {
       let m = moment t s done more in
       let reach = least_rises (t + 1) more rise in
       let same : difference log m ≡ None = ap (difference_at m log.inputs) (expects_plain t more log.end rise last)
-          ∙ plain_same m log.inputs after e in
+      ∙ plain_same m log.inputs after e in
       so_far.goes_on log more i w (later_rise t more rise) (later_least t (end_at log.end) more last)
-          (one_more log t m (moment (t + 1) after done more) (omega arith) same (ap (after_outcome m) e) h);
+      (one_more log t m (moment (t + 1) after done more) (omega arith) same (ap (after_outcome m) e) h);
 }
 
 -- ---- a call
@@ -106,7 +103,7 @@ call_same : (m : Moment) (inputs : ℕ) (r : CallRecord) (call : Call) → next 
 call_same m inputs r call e k lawful =
     let seen : kept_event (CallOf r) ≡ seen_event (next m.state) = sym k ∙ sym (ap seen_event e) in
     passed (compared field.Event (kept_event (CallOf r)) (seen_event (next m.state))) (fields m.state inputs (CallOf r))
-        (ap pos seen) ∙ lawful
+    (ap pos seen) ∙ lawful
 
 pub runs_call : (start : State) (inputs : List (List ℕ)) (piece : ℕ) (done : List CallRecord) (t : ℕ) (s : State)
     (r : CallRecord) (call : Call) → next s ≡ Called call → call_event call.kind ≡ kept_event (CallOf r)
@@ -125,16 +122,16 @@ runs_call start inputs piece done t s r call e k here so_far =
           let m = moment t s done (r ∷ more) in
           let rises : Rise (at_of r + 1) more = subst (λ (n : ℕ). Rise (n + 1) more) (sym at) rise in
           let lasts : least_after (at_of r + 1) more ≤ end_at log.end = subst
-              (λ (n : ℕ). least_after (n + 1) more ≤ end_at log.end) (sym at) last in
+          (λ (n : ℕ). least_after (n + 1) more ≤ end_at log.end) (sym at) last in
           let reach = least_rises (t + 1) more rise in
           let late : at_of r ≤ t = omega arith in
           let due : t ≤ at_of r = omega arith in
           let lawful = subst (λ (n : ℕ). IsLawful s n r) (sym i) here.lawful in
           let same : difference log m ≡ None = ap (difference_at m log.inputs) (expects_call t r more log.end late)
-              ∙ call_same m log.inputs r call e k lawful in
+          ∙ call_same m log.inputs r call e k lawful in
           so_far.goes_on log (r ∷ more) i (w ∙ append_assoc done (r ∷ []) more) (due, rises) lasts
-              (one_more log t m (moment (t + 1) (state_after s r) (done ++ r ∷ []) more) (omega arith) same
-              (ap (after_outcome m) e) h);
+          (one_more log t m (moment (t + 1) (state_after s r) (done ++ r ∷ []) more) (omega arith) same
+          (ap (after_outcome m) e) h);
     }
 
 -- ---- the end
@@ -145,13 +142,13 @@ end_same : (t : ℕ) (m : Moment) (inputs : ℕ) (end : RunEnd) → EndsIn m.sta
 end_same t m inputs (Exit at code) stop =
     let seen : 5 ≡ seen_event (next m.state) = sym (ap call_event stop.2) ∙ sym (ap seen_event stop.1) in
     passed (compared field.Event 5 (seen_event (next m.state))) (compared field.Code code (reg m.state 10) ∷ [])
-        (ap pos seen)
+    (ap pos seen)
     ∙ passed (compared field.Code code (reg m.state 10)) [] (ap pos stop.3)
 end_same t m inputs (Trap at k pc) stop =
     let seen : 6 ≡ seen_event (next m.state) = sym (ap seen_event stop.1) in
     let same : k ≡ trap_kind (next m.state) = sym (ap trap_kind stop.1) in
     passed (compared field.Event 6 (seen_event (next m.state)))
-        (compared field.Kind k (trap_kind (next m.state)) ∷ compared field.Pc pc m.state.pc ∷ []) (ap pos seen)
+    (compared field.Kind k (trap_kind (next m.state)) ∷ compared field.Pc pc m.state.pc ∷ []) (ap pos seen)
     ∙ passed (compared field.Kind k (trap_kind (next m.state))) (compared field.Pc pc m.state.pc ∷ []) (ap pos same)
     ∙ passed (compared field.Pc pc m.state.pc) [] (ap pos stop.2)
 end_same t m inputs (Limit at) stop = absurd stop
@@ -166,11 +163,11 @@ runs_out start inputs piece done t s end at agrees so_far log i w e =
     let late : end_at log.end ≤ t = omega arith in
     let same : difference log m ≡ None =
     ap (difference_at m log.inputs) (expects_end t log.end late) ∙ ap (λ (n : ℕ). difference_at m n (EndOf log.end)) i
-        ∙ ap (λ (x : RunEnd). difference_at m (length inputs) (EndOf x)) e ∙ agrees in
+    ∙ ap (λ (x : RunEnd). difference_at m (length inputs) (EndOf x)) e ∙ agrees in
     let one : end_at log.end + 1 - t ≡ 1 = omega arith in
     let here : divergence_from log 1 m ≡ None = ap (λ (d : Option Compared). or_later m.time d None) same in
     so_far.goes_on log [] i (w ∙ sym (append-nil done)) tt (omega arith)
-        (subst (λ (k : ℕ). divergence_from log k m ≡ None) (sym one) here)
+    (subst (λ (k : ℕ). divergence_from log k m ≡ None) (sym one) here)
 
 ends_at : (s : State) (t : ℕ) (end : RunEnd) → EndsIn s t end → end_at end ≡ t
 ends_at s t (Exit at code) stop = stop.0

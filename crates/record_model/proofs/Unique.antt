@@ -23,15 +23,15 @@ use Rattle.record_model.proofs.Calls.{next_record, IsHere, IsTheOne, answers_aft
 -- ---- the rest of a recorded log, after t steps and these calls
 
 record IsRest (st : Setting) (log : Log) (answers : List ℕ) (t : ℕ) (s : State) (before left : List CallRecord) : Type 0
-    where
-  channels : log.inputs ≡ length st.inputs
-  form : AllByRecursion IsRecord left
-  rise : Rise t left
-  ends_after : least_after t left ≤ end_at log.end
-  reads : AllReadNext st.inputs st.piece before left
-  has_answers : clock_values left ≡ answers
-  ends : EndsWithin st.steps log.end
-  agrees : divergence_from log (end_at log.end + 1 - t) (moment t s before left) ≡ None
+  where
+    channels : log.inputs ≡ length st.inputs
+    form : AllByRecursion IsRecord left
+    rise : Rise t left
+    ends_after : least_after t left ≤ end_at log.end
+    reads : AllReadNext st.inputs st.piece before left
+    has_answers : clock_values left ≡ answers
+    ends : EndsWithin st.steps log.end
+    agrees : divergence_from log (end_at log.end + 1 - t) (moment t s before left) ≡ None
 
 -- nothing is left, and the log ends so
 record IsEnded (log : Log) (left : List CallRecord) (end : RunEnd) : Type 0 where
@@ -111,11 +111,11 @@ on_call st log answers t s before r rs rest at d later =
     let call = call_agrees m log.inputs r d in
     let lawful = subst (λ (n : ℕ). IsLawful s n r) rest.channels call.lawful in
     let here : IsHere st.inputs st.piece before t s r = record
-        { time = at; form = rest.form.0; lawful = lawful; reads = rest.reads.0 } in
+    { time = at; form = rest.form.0; lawful = lawful; reads = rest.reads.0 } in
     let one : IsTheOne st.inputs st.piece answers before t s r rs = record_is st.inputs st.piece answers before t s r rs
-        here rest.has_answers in
+    here rest.has_answers in
     let after : IsRest st log (answers_after answers (kind_by r)) (t + 1) (state_after s r) (before ++ r ∷ []) rs =
-        record {
+    record {
       channels = rest.channels;
       form = rest.form.1;
       rise = subst (λ (x : ℕ). Rise (x + 1) rs) at rest.rise.1;
@@ -134,7 +134,7 @@ on_call st log answers t s before r rs rest at d later =
     } in
     subst (GoesOn st log answers t s before (r ∷ rs)) (sym call.calls)
     (subst (GoesOnCalled st log answers t s before (r ∷ rs)) (sym call.kind)
-        (answered_goes st log answers t s before (r ∷ rs) r answered))
+    (answered_goes st log answers t s before (r ∷ rs) r answered))
 
 on_end : (st : Setting) (log : Log) (answers : List ℕ) (t : ℕ) (s : State) (before : List CallRecord) (end : RunEnd)
     → log.end ≡ end → end_at end ≡ t → t < st.steps → EndsWithin st.steps end
@@ -143,12 +143,12 @@ on_end st log answers t s before (Exit at code) e here early ends d =
     let m = moment t s before [] in
     let exit = exit_agrees m log.inputs at code d in
     let same = (first_agrees (compared field.Event 5 (seen_event (next s))) (compared field.Code code (reg s 10) ∷ [])
-        d).1 in
+    d).1 in
     let code_is : pos code ≡ pos (reg s 10) = (first_agrees (compared field.Code code (reg s 10)) [] same).0 in
     let end_is : Exit at code ≡ Exit t (reg s 10) = cc in
     let ended : IsEnded log [] (Exit t (reg s 10)) = record { none = refl; end_is = e ∙ end_is } in
     subst (GoesOn st log answers t s before []) (sym exit.1)
-        (subst (GoesOnCalled st log answers t s before []) (sym exit.2) ended)
+    (subst (GoesOnCalled st log answers t s before []) (sym exit.2) ended)
 on_end st log answers t s before (Trap at k pc) e here early ends d =
     let m = moment t s before [] in
     let trap = trap_agrees m log.inputs at k pc d in
@@ -172,13 +172,13 @@ goes_on st log answers t s before [] early rest = by (cases_lt t (end_at log.end
         let m = moment t s before [] in
         let both = now_agrees log t m rest.ends_after rest.agrees in
         on_plain st log answers t s before [] rest tt (omega arith)
-            (agrees_with log m PlainStep (expects_plain_at_end t log.end before_end) both.0) both.1
+        (agrees_with log m PlainStep (expects_plain_at_end t log.end before_end) both.0) both.1
     by (inr late) =
         let m = moment t s before [] in
         let both = now_agrees log t m rest.ends_after rest.agrees in
         let last = rest.ends_after in
         on_end st log answers t s before log.end refl (omega arith) early rest.ends
-            (agrees_with log m (EndOf log.end) (expects_end t log.end late) both.0)
+        (agrees_with log m (EndOf log.end) (expects_end t log.end late) both.0)
 goes_on st log answers t s before (r ∷ rs) early rest = by (cases_lt t (at_of r))
   where
     by : (t < at_of r) ⊎ (at_of r ≤ t) → GoesOn st log answers t s before (r ∷ rs) (next s)
@@ -188,7 +188,7 @@ goes_on st log answers t s before (r ∷ rs) early rest = by (cases_lt t (at_of 
         let last = rest.ends_after in
         let both = now_agrees log t m (omega arith) rest.agrees in
         on_plain st log answers t s before (r ∷ rs) rest (omega arith, rest.rise.1) rest.ends_after
-            (agrees_with log m PlainStep (expects_plain_before t r rs log.end before_call) both.0) both.1
+        (agrees_with log m PlainStep (expects_plain_before t r rs log.end before_call) both.0) both.1
     by (inr due) =
         let m = moment t s before (r ∷ rs) in
         let reach = least_rises t (r ∷ rs) rest.rise in
@@ -196,7 +196,7 @@ goes_on st log answers t s before (r ∷ rs) early rest = by (cases_lt t (at_of 
         let first = rest.rise.0 in
         let both = now_agrees log t m (omega arith) rest.agrees in
         on_call st log answers t s before r rs rest (omega arith)
-            (agrees_with log m (CallOf r) (expects_call t r rs log.end due) both.0) both.1
+        (agrees_with log m (CallOf r) (expects_call t r rs log.end due) both.0) both.1
 
 -- once all steps are done, no record is left, and the run is cut off
 cut_end : (steps : ℕ) (end : RunEnd) → steps ≤ end_at end → EndsWithin steps end → end ≡ Limit steps
@@ -241,7 +241,7 @@ same_answered : (st : Setting) (a b : Log) (k : ℕ) → AreSame st a b k
 same_answered st a b k later answers t s before left rest c e x y =
     let r = next_record st.inputs st.piece before answers t s c in
     let same = later (answers_after answers c) (t + 1) (state_after s r) (before ++ r ∷ []) x.others y.others
-        (omega arith) x.rest y.rest in
+    (omega arith) x.rest y.rest in
     record { records = x.left_is ∙ ap (λ (w : List CallRecord). r ∷ w) same.records ∙ sym y.left_is; end = same.end }
 
 same_called : (st : Setting) (a b : Log) (k : ℕ) → AreSame st a b k
@@ -271,10 +271,10 @@ same_rest : (st : Setting) (a b : Log) (k : ℕ) → AreSame st a b k
 same_rest st a b zero answers t s before left rest e x y =
     let done : t ≡ st.steps = omega arith in
     same_ended a b left rest (Limit st.steps) (cut_off st a answers t s before left done x)
-        (cut_off st b answers t s before rest done y)
+    (cut_off st b answers t s before rest done y)
 same_rest st a b (suc k) answers t s before left rest e x y =
     same_next st a b k (same_rest st a b k) answers t s before left rest (next s) e
-        (goes_on st a answers t s before left (omega arith) x) (goes_on st b answers t s before rest (omega arith) y)
+    (goes_on st a answers t s before left (omega arith) x) (goes_on st b answers t s before rest (omega arith) y)
 
 -- ---- whole logs
 
@@ -314,11 +314,11 @@ pub one_recording : (st : Setting) (answers : List ℕ) (a b : Log) → IsRecord
 one_recording st answers a b x y =
     let same_pages = x.has_pages ∙ sym y.has_pages in
     let begins : Some y.fits.start ≡ Some x.fits.start = sym y.fits.begins
-        ∙ ap (start_in_image (image st.program)) (sym same_pages) ∙ x.fits.begins in
+    ∙ ap (start_in_image (image st.program)) (sym same_pages) ∙ x.fits.begins in
     let start_is = same_start y.fits.start x.fits.start begins in
     let rest_a = whole_rest st answers a x.fits.start x x.fits.agrees in
     let rest_b = whole_rest st answers b x.fits.start y
-        (subst (λ (s : State). divergence s b ≡ None) start_is y.fits.agrees) in
+    (subst (λ (s : State). divergence s b ≡ None) start_is y.fits.agrees) in
     let same = same_rest st a b st.steps answers 0 x.fits.start [] a.records b.records (omega arith) rest_a rest_b in
     log_is a b same_pages (x.has_channels ∙ sym y.has_channels) (x.fits.digest ∙ sym y.fits.digest) same.records
-        same.end
+    same.end
