@@ -14,6 +14,7 @@
 //! [`FileStore`], [`OutSink`] and [`MachineClock`] are the machine's. They are trusted, and tell nothing.
 #![tactic(auto)]
 
+mod buffer;
 mod clock;
 mod faults;
 mod folder;
