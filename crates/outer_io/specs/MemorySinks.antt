@@ -45,7 +45,10 @@ abbrev pub StaysWithinRoom : SureWritten → Type 0
 StaysWithinRoom s = s.is_lost ≡ false
 
 abbrev pub sure_write : List ℕ → SureWritten → Option ℕ × SureWritten
-sure_write piece s = (Some (length piece), record {
-  buffer = if nat_le (length piece) s.buffer.room then after_push piece s.buffer else s.buffer;
-  is_lost = s.is_lost || not (nat_le (length piece) s.buffer.room);
-})
+sure_write piece s = (
+  Some (length piece),
+  record {
+    buffer = if nat_le (length piece) s.buffer.room then after_push piece s.buffer else s.buffer;
+    is_lost = s.is_lost || not (nat_le (length piece) s.buffer.room);
+  },
+)

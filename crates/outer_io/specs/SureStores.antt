@@ -27,34 +27,46 @@ abbrev pub fitting : Text → Text
 fitting name = if name_fits name then name else []
 
 abbrev pub sure_begin_read : Text → SureStored → Bool × SureStored
-sure_begin_read name s = (true, record s {
-  held = after_begin_read (fitting name) s.held;
-  opened = after_note name s.opened;
-  is_lost = s.is_lost || not (name_fits name);
-  is_open = true;
-})
+sure_begin_read name s = (
+  true,
+  record s {
+    held = after_begin_read (fitting name) s.held;
+    opened = after_note name s.opened;
+    is_lost = s.is_lost || not (name_fits name);
+    is_open = true;
+  },
+)
 
 -- into a buffer of this room
 abbrev pub sure_read : ℕ → SureStored → Option ℕ × SureStored
 sure_read room s = let n = count_read room (2 ^ 64 - 1) s.held in (Some n, record s { held = after_read n s.held })
 
 abbrev pub sure_create : Text → SureStored → Bool × SureStored
-sure_create name s = (true, record s {
-  held = after_create (fitting name) s.held;
-  opened = after_note name s.opened;
-  is_lost = s.is_lost || not (name_fits name);
-  is_created = true;
-})
+sure_create name s = (
+  true,
+  record s {
+    held = after_create (fitting name) s.held;
+    opened = after_note name s.opened;
+    is_lost = s.is_lost || not (name_fits name);
+    is_created = true;
+  },
+)
 
 abbrev pub sure_put : List ℕ → SureStored → Option ℕ × SureStored
-sure_put piece s = (Some (length piece), record s {
-  held = if put_fits piece s.held then after_put piece s.held else s.held;
-  is_lost = s.is_lost || not (put_fits piece s.held);
-})
+sure_put piece s = (
+  Some (length piece),
+  record s {
+    held = if put_fits piece s.held then after_put piece s.held else s.held;
+    is_lost = s.is_lost || not (put_fits piece s.held);
+  },
+)
 
 abbrev pub sure_finish : SureStored → Bool × SureStored
-sure_finish s = (true, record s {
-  held = if file_fits s.held then after_finish s.held else s.held;
-  is_lost = s.is_lost || not (file_fits s.held);
-  is_created = false;
-})
+sure_finish s = (
+  true,
+  record s {
+    held = if file_fits s.held then after_finish s.held else s.held;
+    is_lost = s.is_lost || not (file_fits s.held);
+    is_created = false;
+  },
+)

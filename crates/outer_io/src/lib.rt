@@ -19,6 +19,7 @@ mod clock;
 mod faults;
 mod folder;
 mod gate;
+pub mod laws;
 mod list_clock;
 mod machine;
 mod memory_file;
