@@ -9,8 +9,9 @@ pub mod Calls
 pub mod Names
 pub mod NamesRoom
 pub mod Held
-pub mod FolderRoom
+pub mod FilesRoom
 pub mod MemoryStores
 pub mod SureStores
 pub mod MemorySinks
 pub mod ListClock
+pub mod Machine

@@ -1,8 +1,9 @@
 -- Sinks in memory: what a put answers, and the sink after it.
 use Rattle.std.specs.Prelude.{◌≡◌, ℕ, ◌||◌, not, min, nat_le, Bool, false, List, take, length, Option, Some, None, if◌then◌else◌}
+use Rattle.outer_io.specs.Faults.{shown_count}
 use Rattle.outer_io.specs.Shown.{SinkShown}
 use Rattle.outer_io.specs.Buffered.{Buffered, after_push}
-use Rattle.outer_io.specs.Calls.{Calling, goes_through, after_call, faults_shown}
+use Rattle.outer_io.specs.Calls.{Calling, goes_through, after_call}
 
 -- ---- one whose puts can fail
 
@@ -15,7 +16,7 @@ pub record MemoryWritten : Type 0 where
   pub piece : ℕ
 
 abbrev pub memory_sink_shown : MemoryWritten → SinkShown
-memory_sink_shown s = record { written = Some s.buffer.bytes; faults = faults_shown s.calls }
+memory_sink_shown s = record { written = Some s.buffer.bytes; faults = shown_count s.calls.faults }
 
 abbrev pub write_if : Bool → List ℕ → MemoryWritten → Option ℕ × MemoryWritten
 write_if went moved s = (

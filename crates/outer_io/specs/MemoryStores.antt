@@ -1,10 +1,11 @@
 -- A store in memory whose calls can fail: what each call answers, and the store after it.
 use Rattle.std.specs.Prelude.{ℕ, ◌&&◌, min, Bool, true, false, List, take, length, Option, Some, None, is_some, if◌then◌else◌}
 use Rattle.outer_io.specs.Files.{Text}
+use Rattle.outer_io.specs.Faults.{shown_count}
 use Rattle.outer_io.specs.Shown.{StoreShown}
 use Rattle.outer_io.specs.Held.{Held, content_of, files_of, name_fits, put_fits, file_fits, count_read, after_begin_read, after_read, after_create, after_put, after_finish}
 use Rattle.outer_io.specs.Names.{Opened, after_note}
-use Rattle.outer_io.specs.Calls.{Calling, goes_through, after_call, faults_shown}
+use Rattle.outer_io.specs.Calls.{Calling, goes_through, after_call}
 
 pub record MemoryStored : Type 0 where
   -- the files, what is being read and what is being written, and the room for more
@@ -19,7 +20,7 @@ pub record MemoryStored : Type 0 where
   pub is_created : Bool
 
 abbrev pub memory_store_shown : MemoryStored → StoreShown
-memory_store_shown s = record { files = Some (files_of s.held); opened = s.opened.names; faults = faults_shown s.calls }
+memory_store_shown s = record { files = Some (files_of s.held); opened = s.opened.names; faults = shown_count s.calls.faults }
 
 -- ---- a file is opened: it fails where there is none of the name, or the name is too long
 

@@ -1,6 +1,6 @@
 -- The room that is kept for names.
 use Rattle.std.specs.Prelude.{◌≡◌, ◌≤◌, sum, length, vec_capacity}
-use Rattle.outer_io.specs.declared.opened_names.OpenedNames.TheInside.{Inside}
+use Rattle.outer_io.specs.declared.memory.names.OpenedNames.TheInside.{Inside}
 
 pub record IsRoomy (a : Inside) : Type 0 where
   pub whole : sum a.lengths.items ≡ length a.bytes.items

@@ -7,10 +7,9 @@ ghost use Rattle.outer_io.specs.Names.{has_room_for, after_note};
 ghost use Rattle.outer_io.specs.SureStores.{StaysWithinRoom, sure_begin_read, sure_read, sure_create, sure_put, sure_finish};
 ghost use Rattle.outer_io.specs.MemorySinks.{StaysWithinRoom as SinkStaysWithinRoom, sure_write};
 
+use crate::memory::{SureSink, SureStore};
 use crate::sink::Sink;
 use crate::store::Store;
-use crate::sure_sink::SureSink;
-use crate::sure_store::SureStore;
 
 /// A sure store tells its files while it stays within its room, and it does where there is room for what a call asks. It
 /// never fails.

@@ -1,9 +1,9 @@
--- The room that a folder keeps, so that its calls take no memory.
+-- The room that is kept for files, so that their calls take no memory.
 use Rattle.std.specs.Prelude.{◌≡◌, ◌≤◌, ◌+◌, ℕ, [], length, vec_len, vec_capacity, string_bytes}
 use Rattle.std.specs.String.{string_capacity}
 use Rattle.std.specs.List.{AllByRecursion}
-use Rattle.outer_io.specs.declared.memory_file.MemoryFile.{MemoryFile}
-use Rattle.outer_io.specs.declared.folder.Folder.TheInside.{Inside}
+use Rattle.outer_io.specs.declared.memory.file.MemoryFile.{MemoryFile}
+use Rattle.outer_io.specs.declared.memory.files.MemoryFiles.TheInside.{Inside}
 
 -- room for a name and for a file of so many bytes
 pub record HasRoom (room : ℕ) (file : MemoryFile) : Type 0 where

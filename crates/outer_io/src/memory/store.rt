@@ -6,10 +6,10 @@ ghost use Rattle.outer_io.specs.Held.{entries_of, held_of};
 ghost use Rattle.outer_io.specs.Names.{no_names};
 ghost use Rattle.outer_io.specs.MemoryStores.{memory_store_shown, memory_begin_read, memory_read, memory_create, memory_put, memory_finish};
 
-use crate::faults::Calls;
-use crate::folder::{Folder, name_has_room};
-use crate::memory_file::MemoryFile;
-use crate::opened_names::OpenedNames;
+use crate::memory::calls::Calls;
+use crate::memory::file::MemoryFile;
+use crate::memory::files::{MemoryFiles, name_has_room};
+use crate::memory::names::OpenedNames;
 use crate::store::{Failed, Store};
 use std::alloc::{AllocError, Global};
 use std::marker::Model;
@@ -20,7 +20,7 @@ use std::marker::Model;
 /// bytes, and the finish of a file after eight were finished.
 #[derive(Drop)]
 pub struct MemoryStore {
-    folder: Folder,
+    files: MemoryFiles,
     opened: OpenedNames,
     calls: Calls,
     piece: usize,
@@ -34,7 +34,7 @@ impl Model for MemoryStore {
 
     ghost Value = { MemoryStored };
 
-    ghost view = { λ s. record { held = s.folder; opened = s.opened; calls = s.calls; piece = s.piece; is_open = s.is_open; is_created = s.is_created } };
+    ghost view = { λ s. record { held = s.files; opened = s.opened; calls = s.calls; piece = s.piece; is_open = s.is_open; is_created = s.is_created } };
 
     ghost invariant = { λ s. 0 < s.piece };
 }
@@ -63,7 +63,7 @@ impl MemoryStore {
         }) }
     {
         Ok(MemoryStore {
-            folder: Folder::new(alloc, files, room)?,
+            files: MemoryFiles::new(alloc, files, room)?,
             opened: OpenedNames::new(alloc)?,
             calls: Calls::new(failing),
             piece,
@@ -93,18 +93,18 @@ impl Store for MemoryStore {
     ghost counted = { λ s. Prim.omega arith };
 
     fn begin_read(&mut self, name: &str) -> Result<(), Failed> {
-        let can = self.folder.can_read(name);
+        let can = self.files.can_read(name);
         self.is_open = false;
         self.opened.note(name);
         self.calls.count(can)?;
-        self.folder.begin_read(name);
+        self.files.begin_read(name);
         self.is_open = true;
         Ok(())
     }
 
     fn read(&mut self, into: &mut [u8]) -> Result<usize, Failed> {
         self.calls.count(true)?;
-        Ok(self.folder.read(into, self.piece))
+        Ok(self.files.read(into, self.piece))
     }
 
     fn create(&mut self, name: &str) -> Result<(), Failed> {
@@ -112,24 +112,24 @@ impl Store for MemoryStore {
         self.is_created = false;
         self.opened.note(name);
         self.calls.count(can)?;
-        self.folder.create(name);
+        self.files.create(name);
         self.is_created = true;
         Ok(())
     }
 
     fn put(&mut self, piece: &[u8]) -> Result<usize, Failed> {
         let moved = &piece[..piece.len().min(self.piece)];
-        let can = self.folder.can_put(moved);
+        let can = self.files.can_put(moved);
         self.calls.count(can)?;
-        self.folder.put(moved);
+        self.files.put(moved);
         Ok(moved.len())
     }
 
     fn finish(&mut self) -> Result<(), Failed> {
-        let can = self.folder.can_finish();
+        let can = self.files.can_finish();
         self.is_created = false;
         self.calls.count(can)?;
-        self.folder.finish();
+        self.files.finish();
         Ok(())
     }
 }

@@ -4,9 +4,9 @@ ghost use Rattle.std.specs.Prelude.{◌≡◌, ◌≤◌, ◌<◌, ◌&&◌, [],
 ghost use Rattle.std.specs.List.{AllByRecursion};
 ghost use Rattle.std.specs.String.{string_capacity};
 ghost use Rattle.outer_io.specs.Held.{entries_of, content_of, held_of, left_of, count_read, name_fits, put_fits, file_fits, after_begin_read, after_read, after_create, after_put, after_finish};
-ghost use Rattle.outer_io.specs.FolderRoom.{IsSpare, IsWithin};
+ghost use Rattle.outer_io.specs.FilesRoom.{IsSpare, IsWithin};
 
-use crate::memory_file::MemoryFile;
+use crate::memory::file::MemoryFile;
 use std::alloc::{AllocError, Global};
 use std::marker::Model;
 use std::mem;
@@ -18,7 +18,7 @@ const SPARES: usize = 8;
 
 /// The files, the newest first, and the room for what is read and written. Its calls take no memory.
 #[derive(Drop)]
-pub struct Folder {
+pub struct MemoryFiles {
     files: Vec<MemoryFile>,
     spares: Vec<MemoryFile>,
     reading: String,
@@ -28,13 +28,13 @@ pub struct Folder {
     longest: usize,
 }
 
-impl Model for Folder {
+impl Model for MemoryFiles {
     ghost use Rattle.std.specs.Prelude.{length, string_bytes};
     ghost use Rattle.outer_io.specs.Held.{Held, entries_of};
 
     ghost Value = { Held };
 
-    ghost use Rattle.outer_io.specs.FolderRoom.{IsRoomy};
+    ghost use Rattle.outer_io.specs.FilesRoom.{IsRoomy};
 
     ghost view = { λ f. record { files = entries_of f.files.items; reading = string_bytes f.reading; taken = f.taken.items; writing = string_bytes f.draft.name; put = f.draft.bytes.items; room = f.room; files_left = length f.spares.items } };
 
@@ -115,14 +115,18 @@ pub fn name_has_room(name: &str) -> bool
     name.len() <= NAME_BYTES
 }
 
-impl Folder {
+impl MemoryFiles {
     /// These files, of which the first of a name counts, and room for files of so many bytes.
-    pub fn new(alloc: Global, mut files: Vec<MemoryFile>, room: usize) -> Result<Folder, AllocError>
-        ensures { IfOk result (λ folder. folder ≡ held_of (entries_of files.items) room) }
+    pub fn new(
+        alloc: Global,
+        mut files: Vec<MemoryFile>,
+        room: usize,
+    ) -> Result<MemoryFiles, AllocError>
+        ensures { IfOk result (λ held. held ≡ held_of (entries_of files.items) room) }
     {
         files.reserve(SPARES)?;
         let longest = longest_of(&files, room);
-        Ok(Folder {
+        Ok(MemoryFiles {
             spares: all_spares(alloc, room)?,
             reading: String::with_capacity(alloc, NAME_BYTES)?,
             taken: Vec::with_capacity(alloc, longest)?,

@@ -6,9 +6,9 @@ ghost use Rattle.outer_io.specs.Held.{entries_of, held_of};
 ghost use Rattle.outer_io.specs.Names.{no_names};
 ghost use Rattle.outer_io.specs.SureStores.{sure_store_shown, StaysWithinRoom, sure_begin_read, sure_read, sure_create, sure_put, sure_finish};
 
-use crate::folder::{Folder, name_has_room};
-use crate::memory_file::MemoryFile;
-use crate::opened_names::OpenedNames;
+use crate::memory::file::MemoryFile;
+use crate::memory::files::{MemoryFiles, name_has_room};
+use crate::memory::names::OpenedNames;
 use crate::store::{Failed, Store};
 use std::alloc::{AllocError, Global};
 use std::marker::Model;
@@ -19,7 +19,7 @@ use std::marker::Model;
 /// name of more than 4,096 bytes, or the finish of a file after eight were finished.
 #[derive(Drop)]
 pub struct SureStore {
-    folder: Folder,
+    files: MemoryFiles,
     opened: OpenedNames,
     is_lost: bool,
     is_open: bool,
@@ -31,7 +31,7 @@ impl Model for SureStore {
 
     ghost Value = { SureStored };
 
-    ghost view = { λ s. record { held = s.folder; opened = s.opened; is_lost = s.is_lost; is_open = s.is_open; is_created = s.is_created } };
+    ghost view = { λ s. record { held = s.files; opened = s.opened; is_lost = s.is_lost; is_open = s.is_open; is_created = s.is_created } };
 }
 
 impl SureStore {
@@ -47,7 +47,7 @@ impl SureStore {
         }) }
     {
         Ok(SureStore {
-            folder: Folder::new(alloc, files, room)?,
+            files: MemoryFiles::new(alloc, files, room)?,
             opened: OpenedNames::new(alloc)?,
             is_lost: false,
             is_open: false,
@@ -85,10 +85,10 @@ impl Store for SureStore {
     fn begin_read(&mut self, name: &str) -> Result<(), Failed> {
         self.opened.note(name);
         if name_has_room(name) {
-            self.folder.begin_read(name);
+            self.files.begin_read(name);
         } else {
             // There is no room for the name: the file of the empty name is read.
-            self.folder.begin_read("");
+            self.files.begin_read("");
             self.is_lost = true;
         }
         self.is_open = true;
@@ -96,15 +96,15 @@ impl Store for SureStore {
     }
 
     fn read(&mut self, into: &mut [u8]) -> Result<usize, Failed> {
-        Ok(self.folder.read(into, usize::MAX))
+        Ok(self.files.read(into, usize::MAX))
     }
 
     fn create(&mut self, name: &str) -> Result<(), Failed> {
         self.opened.note(name);
         if name_has_room(name) {
-            self.folder.create(name);
+            self.files.create(name);
         } else {
-            self.folder.create("");
+            self.files.create("");
             self.is_lost = true;
         }
         self.is_created = true;
@@ -112,8 +112,8 @@ impl Store for SureStore {
     }
 
     fn put(&mut self, piece: &[u8]) -> Result<usize, Failed> {
-        if self.folder.can_put(piece) {
-            self.folder.put(piece);
+        if self.files.can_put(piece) {
+            self.files.put(piece);
         } else {
             self.is_lost = true;
         }
@@ -121,8 +121,8 @@ impl Store for SureStore {
     }
 
     fn finish(&mut self) -> Result<(), Failed> {
-        if self.folder.can_finish() {
-            self.folder.finish();
+        if self.files.can_finish() {
+            self.files.finish();
         } else {
             self.is_lost = true;
         }

@@ -4,7 +4,7 @@ ghost use Rattle.std.specs.Prelude.{◌≡◌, [], false, IfOk};
 ghost use Rattle.std.proofs.Common.{arith};
 ghost use Rattle.outer_io.specs.MemorySinks.{sure_sink_shown, sure_write};
 
-use crate::buffer::Buffer;
+use crate::memory::buffer::Buffer;
 use crate::sink::Sink;
 use crate::store::Failed;
 use std::alloc::{AllocError, Global};

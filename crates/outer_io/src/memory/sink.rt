@@ -4,8 +4,8 @@ ghost use Rattle.std.specs.Prelude.{◌≡◌, ◌<◌, [], IfOk};
 ghost use Rattle.std.proofs.Common.{arith};
 ghost use Rattle.outer_io.specs.MemorySinks.{memory_sink_shown, memory_write};
 
-use crate::buffer::Buffer;
-use crate::faults::Calls;
+use crate::memory::buffer::Buffer;
+use crate::memory::calls::Calls;
 use crate::sink::Sink;
 use crate::store::Failed;
 use std::alloc::{AllocError, Global};
