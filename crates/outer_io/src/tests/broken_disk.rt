@@ -1,5 +1,7 @@
 //! A disk of which each file opens and takes what is written, and then fails.
 
+ghost use Rattle.std.specs.Prelude.{IsErr};
+
 use std::alloc::Allocator;
 use std::fs::{Metadata, OpenFile, OpenOptions};
 use std::io;
@@ -13,7 +15,9 @@ pub struct BrokenDisk;
 #[derive(Drop)]
 pub struct BrokenFile;
 
-fn broken<T>() -> io::Result<T> {
+fn broken<T>() -> io::Result<T>
+    ensures { IsErr result }
+{
     Err(io::Error::from(io::ErrorKind::Other))
 }
 

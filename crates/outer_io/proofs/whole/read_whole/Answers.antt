@@ -1,4 +1,4 @@
-use Rattle.std.proofs.Common.{rules, arith, ◌≡◌, ◌≤◌, ◌<◌, ◌∷◌, [], ◌++◌, ◌∙◌, ap, sym, subst, refl, ℕ, ◌+◌, ◌-◌, List, length, take, drop, Option, length-append, length-take, length-drop}
+use Rattle.std.proofs.Common.{rules, arith, ◌≡◌, ◌≤◌, ◌<◌, ◌∷◌, [], ◌++◌, ◌∙◌, ap, sym, subst, refl, ℕ, Bool, ◌+◌, ◌-◌, List, length, take, drop, Option, length-append, length-take, length-drop}
 use Rattle.std.proofs.lemmas.List.{take-append-le}
 use Rattle.outer_io.specs.Tells.{Tells, Gains}
 use Rattle.outer_io.specs.Files.{Files, KeepsFiles, TakesNone, Takes, BeginsRead}
@@ -37,13 +37,13 @@ loop-piece-preserved g c =
     let fits : n ≤ length into = omega (arith, c.in-Ok-read.ensures.count, c.read.auto.into) in
     let taken = length-take room c.loop-piece.piece in
     let items : c.extend_from_slice.new.self.items ≡ bytes ++ take n into =
-    c.in-Ok-extend_from_slice.ensures.items ∙ ap (λ w. bytes ++ w) (take-append-le n into _ fits) in
+    ◌∙◌ {A = List ℕ} c.in-Ok-extend_from_slice.ensures.items (ap (λ w. bytes ++ w) (take-append-le n into _ fits)) in
     record {
       small = omega (arith, ap length items, length-append bytes (take n into), length-take n into, c.in-Ok-read.ensures.count, taken, c.in-Ok-extend_from_slice.ensures.len);
       buffer = omega (arith, length-append into (drop room c.loop-piece.piece), length-drop room c.loop-piece.piece, taken, c.read.auto.into);
       later = omega (arith, c.in-Ok-read.ensures.cause.later);
-      open_now = c.in-Ok-read.ensures.open ∙ c.loop-piece.invariant.open_now;
-      created = c.in-Ok-read.ensures.created ∙ c.loop-piece.invariant.created;
+      open_now = ◌∙◌ {A = Bool} c.in-Ok-read.ensures.open c.loop-piece.invariant.open_now;
+      created = ◌∙◌ {A = Bool} c.in-Ok-read.ensures.created c.loop-piece.invariant.created;
       opened = tells-gains-none _ _ _ (name ∷ []) c.loop-piece.invariant.opened c.in-Ok-read.ensures.opened;
       told = rw items (tells-then _ _ _ (IsReading name bytes) _ (IsReading name (bytes ++ take n into))
           (λ x y z r t. reads_on name bytes (take n into) _ x y z r t) c.loop-piece.invariant.told c.in-Ok-read.ensures.ok);
