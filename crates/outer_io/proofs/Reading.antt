@@ -1,5 +1,5 @@
 -- The calls of one reading of a file, one after another.
-use Rattle.std.proofs.Common.{◌≡◌, ◌∙◌, ap, sym, ℕ, ◌+◌, ◌≤◌, ◌<◌, List, [], ◌∷◌, ◌++◌, length, take, drop, Option, Some, None, IsSome, unwrap_or, refl, arith, append_assoc, append-nil, length-take, length-append, take-append-drop, take-add, inl, inr}
+use Rattle.std.proofs.Common.{◌≡◌, ◌∙◌, ap, sym, ℕ, ◌+◌, ◌≤◌, ◌<◌, List, [], ◌++◌, length, take, drop, Option, Some, None, IsSome, refl, arith, append-nil, length-take, length-append, take-append-drop, take-add, inl, inr}
 use Rattle.outer_io.specs.Tells.{IsPrefix}
 use Rattle.outer_io.specs.Files.{Files, Text, KeepsFiles, BeginsRead, Takes, TakesNone, rest_of}
 use Rattle.outer_io.specs.ReadWhole.{HasContent, IsLonger, TakesAtMost}

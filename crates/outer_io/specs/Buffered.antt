@@ -1,5 +1,5 @@
 -- Bytes in a buffer, and the room for more.
-use Rattle.std.specs.Prelude.{ℕ, ◌-◌, List, [], ◌++◌, length, Option, Some, None, Bool, nat_le, if◌then◌else◌}
+use Rattle.std.specs.Prelude.{ℕ, ◌-◌, List, ◌++◌, length}
 
 pub record Buffered : Type 0 where
   pub bytes : List ℕ

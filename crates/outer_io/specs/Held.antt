@@ -1,5 +1,5 @@
 -- Files held in memory.
-use Rattle.std.specs.Prelude.{◌≡◌, ◌<◌, ◌≤◌, ℕ, ◌+◌, ◌-◌, Bool, ◌&&◌, nat_le, nat_lt, min, List, [], ◌∷◌, ◌++◌, length, map, take, drop, Option, Some, None, is_some, unwrap_or, string_bytes, if◌then◌else◌}
+use Rattle.std.specs.Prelude.{ℕ, ◌+◌, ◌-◌, Bool, nat_le, nat_lt, min, List, [], ◌∷◌, ◌++◌, length, map, take, drop, Option, Some, None, unwrap_or, string_bytes, if◌then◌else◌}
 use Rattle.std.specs.Str.{bytes_eq}
 use Rattle.outer_io.specs.Files.{Files, Text}
 use Rattle.outer_io.specs.declared.memory.file.MemoryFile.{MemoryFile}

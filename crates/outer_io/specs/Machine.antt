@@ -1,5 +1,5 @@
 -- What is known of the machine's files and of a writer: they tell nothing of what they hold.
-use Rattle.std.specs.Prelude.{ℕ, Bool, false, None}
+use Rattle.std.specs.Prelude.{ℕ, Bool, None}
 use Rattle.outer_io.specs.Faults.{shown_count}
 use Rattle.outer_io.specs.Shown.{StoreShown, SinkShown}
 

@@ -1,10 +1,9 @@
-use Rattle.std.proofs.Common.{rules, arith, ◌≡◌, ◌≤◌, ◌<◌, ◌∷◌, [], ◌++◌, ◌∙◌, ap, sym, subst, refl, ℕ, Bool, ◌+◌, ◌-◌, List, length, take, drop, Option, length-append, length-take, length-drop}
+use Rattle.std.proofs.Common.{rules, arith, ◌≡◌, ◌≤◌, ◌∷◌, [], ◌++◌, ◌∙◌, ap, ℕ, Bool, ◌+◌, List, length, take, drop, length-append, length-take, length-drop}
 use Rattle.std.proofs.lemmas.List.{take-append-le}
-use Rattle.outer_io.specs.Tells.{Tells, Gains}
-use Rattle.outer_io.specs.Files.{Files, KeepsFiles, TakesNone, Takes, BeginsRead}
+use Rattle.outer_io.specs.Files.{TakesNone, Takes, BeginsRead}
 use Rattle.outer_io.specs.ReadWhole.{IsLonger, HasContent, TakesAtMost}
 use Rattle.outer_io.proofs.TellsLemmas.{tells-then, tells-map, tells-gains-none}
-use Rattle.outer_io.proofs.Reading.{IsReading, begins, reads_on, ends, is_longer, keeps_of, most-none, most-begun, most-read, most-failed, most-taken}
+use Rattle.outer_io.proofs.Reading.{IsReading, begins, reads_on, ends, is_longer, most-none, most-begun, most-read, most-failed, most-taken}
 use Rattle.outer_io.proofs.whole.read_whole.Goals as goal
 
 pub loop-piece-init : goal.loop-piece-init
