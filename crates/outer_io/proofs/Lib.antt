@@ -3,4 +3,4 @@ mod Reading
 mod Writing
 mod NamesLemmas
 mod ClockLemmas
-mod FolderLemmas
+mod ContentLemmas

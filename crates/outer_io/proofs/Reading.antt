@@ -1,8 +1,8 @@
 -- The calls of one reading of a file, one after another.
-use Rattle.std.proofs.Common.{◌≡◌, ◌∙◌, ap, sym, ℕ, ◌+◌, ◌≤◌, ◌<◌, List, [], ◌∷◌, ◌++◌, length, take, drop, Option, Some, None, IsSome, unwrap_or, refl, arith, append_assoc, append-nil, length-take, length-append, take-append-drop, take-add}
+use Rattle.std.proofs.Common.{◌≡◌, ◌∙◌, ap, sym, ℕ, ◌+◌, ◌≤◌, ◌<◌, List, [], ◌++◌, length, take, drop, Option, Some, None, IsSome, refl, arith, append-nil, length-take, length-append, take-append-drop, take-add, inl, inr}
 use Rattle.outer_io.specs.Tells.{IsPrefix}
-use Rattle.outer_io.specs.Files.{Files, Text, KeepsFiles, BeginsRead, Takes, rest_of}
-use Rattle.outer_io.specs.ReadWhole.{HasContent, IsLonger}
+use Rattle.outer_io.specs.Files.{Files, Text, KeepsFiles, BeginsRead, Takes, TakesNone, rest_of}
+use Rattle.outer_io.specs.ReadWhole.{HasContent, IsLonger, TakesAtMost}
 
 -- these bytes of the file are taken, and more may follow
 pub record IsReading (name : Text) (bytes : List ℕ) (old new : Files) : Type 0 where
@@ -25,13 +25,13 @@ begins name x y b =
     let there = some_content (y.file name) b.is_there in
     record { keeps = b.keeps; reading = b.reading; taken = b.taken; content = there.0; is_there = there.1; front = refl }
 
--- what is left is what stands behind the bytes taken
-left_behind : (name : Text) (bytes : List ℕ) (x y : Files) → (r : IsReading name bytes x y) → rest_of y ≡ drop (length bytes) r.content
-left_behind name bytes x y r =
+-- what is left is what stands after the bytes taken
+left_after : (name : Text) (bytes : List ℕ) (x y : Files) → (r : IsReading name bytes x y) → rest_of y ≡ drop (length bytes) r.content
+left_after name bytes x y r =
     let there : y.file y.reading ≡ Some r.content = ap (λ n. y.file n) r.reading ∙ r.is_there in
     rw (there, r.taken) refl
 
--- a prefix of what stands behind a prefix makes it longer
+-- a prefix of what stands after a prefix makes it longer
 prefix_longer : (front got whole : List ℕ) → IsPrefix front whole → IsPrefix got (drop (length front) whole) → IsPrefix (front ++ got) whole
 prefix_longer front got whole p q =
     ap (λ n. take n whole) (length-append front got) ∙ take-add (length front) (length got) whole ∙ ap (λ w. w ++ take (length got) (drop (length front) whole)) p ∙ ap (λ w. front ++ w) q
@@ -39,7 +39,7 @@ prefix_longer front got whole p q =
 pub reads_on : (name : Text) (bytes got : List ℕ) (room : ℕ) (x y z : Files)
     → IsReading name bytes x y → Takes room got y z → IsReading name (bytes ++ got) x z
 reads_on name bytes got room x y z r t =
-    let next : IsPrefix got (drop (length bytes) r.content) = rw (← left_behind name bytes x y r) t.next in
+    let next : IsPrefix got (drop (length bytes) r.content) = rw (← left_after name bytes x y r) t.next in
     record {
       keeps = keeps-then x y z r.keeps t.keeps;
       reading = t.reading ∙ r.reading;
@@ -52,7 +52,7 @@ reads_on name bytes got room x y z r t =
 pub ends : (name : Text) (bytes got : List ℕ) (room : ℕ) (x y z : Files)
     → IsReading name bytes x y → Takes room got y z → 0 < room → length got ≡ 0 → HasContent name bytes x z
 ends name bytes got room x y z r t has_room none =
-    let rest : drop (length bytes) r.content ≡ [] = sym (left_behind name bytes x y r) ∙ t.at_end has_room none in
+    let rest : drop (length bytes) r.content ≡ [] = sym (left_after name bytes x y r) ∙ t.at_end has_room none in
     let whole : r.content ≡ bytes =
     sym (take-append-drop (length bytes) r.content) ∙ ap (λ w. take (length bytes) r.content ++ w) rest ∙ append-nil (take (length bytes) r.content) ∙ r.front in
     ap (λ f. f name) t.keeps.file ∙ r.is_there ∙ ap Some whole
@@ -70,3 +70,29 @@ is_longer name bytes max x y r long =
 
 pub keeps_of : (name : Text) (bytes : List ℕ) (x y : Files) → IsReading name bytes x y → KeepsFiles x y
 keeps_of name bytes x y r = r.keeps
+
+-- ---- at most so many bytes are taken
+
+pub most-none : (name : Text) (most : ℕ) (x y : Files) → TakesNone x y → TakesAtMost name most x y
+most-none name most x y p = inl (p.reading, p.taken)
+
+pub most-begun : (name : Text) (most : ℕ) (x y : Files) → BeginsRead name x y → TakesAtMost name most x y
+most-begun name most x y p =
+    let none : length y.taken ≡ 0 = ap length p.taken in
+    inr (p.reading, omega (arith, none))
+
+pub most-read : (name : Text) (bytes : List ℕ) (most : ℕ) (x y : Files) → length bytes ≤ most → IsReading name bytes x y → TakesAtMost name most x y
+most-read name bytes most x y few r =
+    let taken : length y.taken ≡ length bytes = ap length r.taken in
+    inr (r.reading, omega (arith, taken, few))
+
+pub most-failed : (name : Text) (bytes : List ℕ) (most : ℕ) (x y z : Files) → length bytes ≤ most → IsReading name bytes x y → TakesNone y z → TakesAtMost name most x z
+most-failed name bytes most x y z few r p =
+    let taken : length z.taken ≡ length bytes = ap length (p.taken ∙ r.taken) in
+    inr (p.reading ∙ r.reading, omega (arith, taken, few))
+
+pub most-taken : (name : Text) (bytes got : List ℕ) (room most : ℕ) (x y z : Files)
+    → length bytes + length got ≤ most → IsReading name bytes x y → Takes room got y z → TakesAtMost name most x z
+most-taken name bytes got room most x y z few r p =
+    let taken : length z.taken ≡ length (bytes ++ got) = ap length (p.taken ∙ ap (λ w. w ++ got) r.taken) in
+    inr (p.reading ∙ r.reading, omega (arith, taken, few, length-append bytes got))

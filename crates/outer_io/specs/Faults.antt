@@ -1,5 +1,13 @@
 -- A count of faults, and the answers that it allows.
-use Rattle.std.specs.Prelude.{◌≡◌, ◌<◌, ◌≤◌, ◌-◌, ◌^◌, ℕ, Result, IsErr}
+use Rattle.std.specs.Prelude.{◌<◌, ◌≤◌, ◌+◌, ◌-◌, ◌^◌, min, ℕ, Result, IsErr}
+
+-- one more, of a count that stands still at its last value
+abbrev pub count_on : ℕ → ℕ
+count_on n = min (n + 1) (2 ^ 64 - 1)
+
+-- a count as it is shown
+abbrev pub shown_count : ℕ → ℕ
+shown_count n = min n (2 ^ 64 - 1)
 
 -- the count rose, or it stood at its last value
 abbrev pub Rose : ℕ → ℕ → Type 0

@@ -59,7 +59,7 @@ pub record Creates (name : Text) (old new : Files) : Type 0 where
   pub writing : new.writing ≡ name
   pub put : new.put ≡ []
 
--- these bytes are put behind those that were
+-- these bytes are put after those that were
 pub record Puts (piece : List ℕ) (old new : Files) : Type 0 where
   pub keeps : KeepsOthers old.writing old new
   pub writing : new.writing ≡ old.writing

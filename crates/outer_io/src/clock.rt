@@ -1,4 +1,5 @@
-// A clock that can't fail.
+//! A clock that can't fail.
+
 ghost use Rattle.std.specs.Prelude.{◌∷◌, [], List, ℕ, Option};
 ghost use Rattle.outer_io.specs.Tells.{Tells, Gains};
 

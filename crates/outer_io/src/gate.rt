@@ -1,4 +1,4 @@
-// A gate that each epoch's analysis enters as it begins.
+//! A gate that each epoch's analysis enters as it begins.
 
 /// A gate that each epoch's analysis enters as it begins, so that a test can hold one back.
 pub trait Gate: Sync {

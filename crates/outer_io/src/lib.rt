@@ -8,6 +8,8 @@
 //!   so related. What isn't told before a call isn't told after it.
 //! - **Faults.** A store and a sink have a count of faults, which never falls and stands still at its
 //!   last value, 2^64 - 1. A call fails only where the count rose in that call, or stood there.
+//! - **What a form gives.** Each call of a store and a sink has a relation of its arguments, its answer and
+//!   the object before and after it, by which a form in memory says all. The machine's say nothing by it.
 //!
 //! [`MemoryStore`], [`SureStore`], [`MemorySink`], [`SureSink`], [`ListClock`] and [`OpenGate`] are
 //! in memory. They reserve their room when they are made, so their calls take no memory.
@@ -16,31 +18,20 @@
 
 mod clock;
 mod faults;
-mod folder;
 mod gate;
-mod list_clock;
+pub mod laws;
 mod machine;
-mod memory_file;
-mod memory_sink;
-mod memory_store;
-mod opened_names;
+mod memory;
 mod sink;
 mod store;
-mod sure_sink;
-mod sure_store;
 #[cfg(test)]
 mod tests;
 mod whole;
 
 pub use clock::Clock;
 pub use gate::{Gate, OpenGate};
-pub use list_clock::ListClock;
 pub use machine::{FileStore, MachineClock, OutSink};
-pub use memory_file::MemoryFile;
-pub use memory_sink::MemorySink;
-pub use memory_store::MemoryStore;
+pub use memory::{ListClock, MemoryFile, MemorySink, MemoryStore, SureSink, SureStore};
 pub use sink::Sink;
 pub use store::{Failed, Store};
-pub use sure_sink::SureSink;
-pub use sure_store::SureStore;
 pub use whole::{ReadWhole, WriteFault, read_whole, write_file, write_whole};

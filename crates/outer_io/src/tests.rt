@@ -1,11 +1,18 @@
+//! The forms in memory on their happy path, each failing once, and the machine's.
+
+mod broken_disk;
+
 use super::*;
+use broken_disk::BrokenDisk;
 use std::alloc::{AllocError, Global};
-use std::process::Abort;
 use std::test::Fail;
 use std::time::Duration;
 use std::{fs, io};
 
-// Two files, one of five bytes and an empty one.
+/// No call has this number.
+const NEVER: u64 = 99;
+
+/// Two files, one of five bytes and an empty one.
 fn files(alloc: Global) -> Result<Vec<MemoryFile>, AllocError> {
     let mut files = Vec::new(alloc);
     for (name, bytes) in [("a", "abcde"), ("b", "")] {
@@ -17,13 +24,13 @@ fn files(alloc: Global) -> Result<Vec<MemoryFile>, AllocError> {
     Ok(files)
 }
 
-// Those files, moved two bytes at a time.
+/// Those files, moved two bytes at a time.
 fn memory(alloc: Global, failing: u64, room: usize) -> Result<MemoryStore, AllocError> {
     let failing = [failing].as_slice().to_vec(alloc)?;
     MemoryStore::new(alloc, files(alloc)?, failing, 2, room)
 }
 
-// One call of each kind and the reading of a missing file, and how many of the calls went through.
+/// One call of each kind and the reading of a missing file, and how many of the calls went through.
 fn six_calls<S: Store>(store: &mut S) -> usize {
     let mut buffer = [0u8; 8];
     let Ok(()) = store.begin_read("a") else {
@@ -47,34 +54,113 @@ fn six_calls<S: Store>(store: &mut S) -> usize {
     6
 }
 
+/// How many of those calls go through where the call of this number fails.
+fn calls_that_go(alloc: Global, failing: u64, room: usize) -> Result<usize, AllocError> {
+    let mut store = memory(alloc, failing, room)?;
+    Ok(six_calls(&mut store))
+}
+
 #[test]
 fn calls_fail_by_number_and_past_the_room(rt: HostRuntime) -> Result<(), Fail> {
-    let alloc = rt.alloc();
-    for (failing, room, went) in [
+    for (failing, room, count) in [
         (0, 2, 0),
         (1, 2, 1),
         (2, 2, 2),
         (3, 2, 3),
         (4, 2, 4),
-        (6, 2, 5),
-        (6, 1, 3),
+        (NEVER, 2, 5),
+        (NEVER, 1, 3),
     ] {
-        let mut store = memory(alloc, failing, room)?;
-        assert_eq!(rt; six_calls(&mut store), went, "call {failing}");
+        assert!(rt;
+            calls_that_go(rt.alloc(), failing, room)? == count,
+            "call {failing}"
+        );
     }
-    assert_eq!(rt; six_calls(&mut SureStore::new(alloc, files(alloc)?, 1)?), 6);
     Ok(())
 }
 
-// Puts this content once into the file of this name.
-fn put_once<S: Store>(store: &mut S, name: &str, content: &[u8]) -> Result<usize, Failed> {
-    store.create(name)?;
-    let count = store.put(content)?;
-    store.finish()?;
-    Ok(count)
+/// Whether the file is read whole so.
+fn is_read<S: Store>(
+    alloc: Global,
+    store: &mut S,
+    name: &str,
+    max: u16,
+    want: Result<&str, ReadWhole>,
+) -> bool {
+    match read_whole(alloc, store, name, usize::from(max)) {
+        Ok(bytes) => match want {
+            Ok(text) => bytes.as_slice() == text.as_bytes(),
+            Err(_) => false,
+        },
+        Err(fault) => match want {
+            Ok(_) => false,
+            Err(expected) => fault == expected,
+        },
+    }
 }
 
-// Replaces `a` after a read of two bytes, and reads on.
+/// The same of a store in memory of which the call of this number fails.
+fn is_read_in_memory(
+    alloc: Global,
+    failing: u64,
+    name: &str,
+    max: u16,
+    want: Result<&str, ReadWhole>,
+) -> Result<bool, AllocError> {
+    let mut store = memory(alloc, failing, 0)?;
+    Ok(is_read(alloc, &mut store, name, max, want))
+}
+
+#[test]
+fn whole_files_are_read(rt: HostRuntime) -> Result<(), Fail> {
+    for (failing, name, max, want) in [
+        (NEVER, "a", 5, Ok("abcde")),
+        (NEVER, "b", 0, Ok("")),
+        (NEVER, "a", 4, Err(ReadWhole::TooLong(5))),
+        (2, "a", 5, Err(ReadWhole::ReadFault)),
+        (4, "a", 5, Err(ReadWhole::ReadFault)),
+        (NEVER, "c", 5, Err(ReadWhole::ReadFault)),
+    ] {
+        assert!(rt;
+            is_read_in_memory(rt.alloc(), failing, name, max, want)?,
+            "{name} {max}"
+        );
+    }
+    Ok(())
+}
+
+/// Whether the file `a` is written so, where the call of this number fails, and has this content then.
+fn is_written(
+    alloc: Global,
+    failing: u64,
+    room: usize,
+    want: Result<(), WriteFault>,
+    content: &str,
+) -> Result<bool, AllocError> {
+    let mut store = memory(alloc, failing, room)?;
+    let written = write_file(&mut store, "a", b"vwxyz");
+    Ok(written == want && is_read(alloc, &mut store, "a", 5, Ok(content)))
+}
+
+#[test]
+fn whole_files_are_written(rt: HostRuntime) -> Result<(), Fail> {
+    for (failing, room, want, content) in [
+        (0, 5, Err(WriteFault), "abcde"),
+        (1, 5, Err(WriteFault), "abcde"),
+        (3, 5, Err(WriteFault), "abcde"),
+        (4, 5, Err(WriteFault), "abcde"),
+        (NEVER, 4, Err(WriteFault), "abcde"),
+        (NEVER, 5, Ok(()), "vwxyz"),
+    ] {
+        assert!(rt;
+            is_written(rt.alloc(), failing, room, want, content)?,
+            "call {failing}"
+        );
+    }
+    Ok(())
+}
+
+/// Replaces `a` after a read of two bytes, and reads on.
 fn read_on<S: Store>(store: &mut S, new: &[u8], rest: &mut [u8]) -> Result<usize, Failed> {
     store.begin_read("a")?;
     let mut buffer = [0u8; 2];
@@ -85,162 +171,144 @@ fn read_on<S: Store>(store: &mut S, new: &[u8], rest: &mut [u8]) -> Result<usize
     store.read(rest)
 }
 
+/// How many bytes are read on, after those two, where so many are moved at a time.
+fn bytes_read_on(alloc: Global, new: &[u8], rest: &mut [u8]) -> Result<usize, Fail> {
+    let mut store = SureStore::new(alloc, files(alloc)?, 9)?;
+    Ok(read_on(&mut store, new, rest)?)
+}
+
 #[test]
 fn a_replaced_file_is_read_on_in_its_new_bytes(rt: HostRuntime) -> Result<(), Fail> {
-    let alloc = rt.alloc();
     for (new, rest) in [("vwxyz", "xyz"), ("v", "")] {
         let mut buffer = [0u8; 8];
-        let mut store = SureStore::new(alloc, files(alloc)?, 9)?;
-        let count = read_on(&mut store, new.as_bytes(), &mut buffer)?;
-        assert_eq!(rt; &buffer[..count.min(8)], rest.as_bytes());
-    }
-    let mut buffer = [0u8; 8];
-    assert_eq!(rt;
-        read_on(&mut memory(alloc, 9, 9)?, b"vwxyz", &mut buffer)?,
-        0
-    );
-    Ok(())
-}
-
-// Reads a file whole, and compares its content or the fault.
-fn read_as<S: Store>(
-    rt: &(impl Abort + Alloc<A = Global>),
-    store: &mut S,
-    name: &str,
-    max: usize,
-    want: &str,
-) {
-    assert!(rt; max < 1000);
-    match read_whole(rt.alloc(), store, name, max) {
-        Ok(bytes) => assert_eq!(rt; bytes.as_slice(), want.as_bytes()),
-        Err(ReadWhole::ReadFault) => assert_eq!(rt; "read fault", want),
-        Err(ReadWhole::TooLong(taken)) => {
-            assert_eq!(rt; "too long", want);
-            assert_eq!(rt; taken, max + 1);
-        }
-        Err(ReadWhole::NoMemory) => panic!(rt; "no memory"),
-    }
-}
-
-#[test]
-fn whole_files_are_read(rt: HostRuntime) -> Result<(), Fail> {
-    for (failing, name, max, want) in [
-        (9, "a", 5, "abcde"),
-        (9, "b", 0, ""),
-        (9, "a", 4, "too long"),
-        (2, "a", 5, "read fault"),
-        (4, "a", 5, "read fault"),
-        (9, "c", 5, "read fault"),
-    ] {
-        let mut store = memory(rt.alloc(), failing, 0)?;
-        read_as(&rt, &mut store, name, max, want);
+        let count = bytes_read_on(rt.alloc(), new.as_bytes(), &mut buffer)?;
+        assert!(rt; &buffer[..count.min(8)] == rest.as_bytes());
     }
     Ok(())
 }
 
-#[test]
-fn files_are_written(rt: HostRuntime) -> Result<(), Fail> {
-    let alloc = rt.alloc();
-    let mut store = memory(alloc, 9, 5)?;
-    assert_eq!(rt; put_once(&mut store, "c", b"xyz")?, 2);
-    read_as(&rt, &mut store, "c", 5, "xy");
-    Ok(())
-}
-
-// Writes the file `a`, and compares what came of it and its content then.
-fn write_as<S: Store>(
-    rt: &(impl Abort + Alloc<A = Global>),
-    store: &mut S,
-    want: Result<(), WriteFault>,
-    content: &str,
-) {
-    assert_eq!(rt; write_file(store, "a", b"vwxyz"), want);
-    read_as(rt, store, "a", 5, content);
-}
-
-#[test]
-fn whole_files_are_written(rt: HostRuntime) -> Result<(), Fail> {
-    for (failing, room, want, content) in [
-        (0, 5, Err(WriteFault), "abcde"),
-        (1, 5, Err(WriteFault), "abcde"),
-        (3, 5, Err(WriteFault), "abcde"),
-        (4, 5, Err(WriteFault), "abcde"),
-        (99, 4, Err(WriteFault), "abcde"),
-        (99, 5, Ok(()), "vwxyz"),
-    ] {
-        let mut store = memory(rt.alloc(), failing, room)?;
-        write_as(&rt, &mut store, want, content);
-    }
-    Ok(())
+/// Whether a sure store with room for three bytes still tells its files, once this was written.
+fn is_told_after(alloc: Global, text: &[u8]) -> Result<bool, AllocError> {
+    let mut store = SureStore::new(alloc, files(alloc)?, 3)?;
+    let written = write_file(&mut store, "c", text);
+    Ok(written.is_ok() && is_read(alloc, &mut store, "missing", 5, Ok("")) && store.is_told())
 }
 
 #[test]
 fn a_sure_store_goes_on(rt: HostRuntime) -> Result<(), Fail> {
-    let alloc = rt.alloc();
-    let mut store = SureStore::new(alloc, files(alloc)?, 3)?;
-    read_as(&rt, &mut store, "c", 5, "");
-    assert_eq!(rt; put_once(&mut store, "c", b"xyz")?, 3);
-    read_as(&rt, &mut store, "c", 5, "xyz");
-    assert!(rt; store.is_told());
-    assert_eq!(rt; put_once(&mut store, "c", b"past the room")?, 13);
-    assert!(rt; !store.is_told());
+    assert!(rt; is_told_after(rt.alloc(), b"xyz")?);
+    assert!(rt; !is_told_after(rt.alloc(), b"past the room")?);
     Ok(())
+}
+
+/// Whether a text of sixteen bytes, ten of them a put, is written so, where the put of this number fails.
+fn is_text_written(
+    alloc: Global,
+    failing: u64,
+    room: usize,
+    want: Result<(), WriteFault>,
+    written: &str,
+) -> Result<bool, AllocError> {
+    let failing = [failing].as_slice().to_vec(alloc)?;
+    let mut sink = MemorySink::new(alloc, failing, 10, room)?;
+    let answer = write_whole(&mut sink, b"1:0 0:0\n1:1 0:1\n");
+    Ok(answer == want && sink.bytes() == written.as_bytes())
 }
 
 #[test]
 fn whole_texts_are_written(rt: HostRuntime) -> Result<(), Fail> {
-    let alloc = rt.alloc();
     for (failing, room, want, written) in [
-        (9, 16, Ok(()), "1:0 0:0\n1:1 0:1\n"),
+        (NEVER, 16, Ok(()), "1:0 0:0\n1:1 0:1\n"),
         (1, 16, Err(WriteFault), "1:0 0:0\n1:"),
-        (9, 12, Err(WriteFault), "1:0 0:0\n1:"),
+        (NEVER, 12, Err(WriteFault), "1:0 0:0\n1:"),
     ] {
-        let mut sink = MemorySink::new(alloc, [failing].as_slice().to_vec(alloc)?, 10, room)?;
-        assert_eq!(rt; write_whole(&mut sink, b"1:0 0:0\n1:1 0:1\n"), want);
-        assert_eq!(rt; sink.bytes(), written.as_bytes());
+        assert!(rt;
+            is_text_written(rt.alloc(), failing, room, want, written)?,
+            "put {failing}"
+        );
     }
+    Ok(())
+}
+
+/// What a sure sink with room for four bytes has written after this and a text past the room.
+fn sure_bytes(alloc: Global, text: &[u8]) -> Result<bool, AllocError> {
     let mut sink = SureSink::new(alloc, 4)?;
-    assert_eq!(rt; write_whole(&mut sink, b"abcd"), Ok(()));
-    assert_eq!(rt; sink.bytes(), b"abcd".as_slice());
-    assert_eq!(rt; write_whole(&mut sink, b"past the room"), Ok(()));
+    let first = write_whole(&mut sink, text);
+    let past = write_whole(&mut sink, b"past the room");
+    Ok(first.is_ok() && past.is_ok() && sink.bytes() == text)
+}
+
+#[test]
+fn a_sure_sink_goes_on(rt: HostRuntime) -> Result<(), Fail> {
+    assert!(rt; sure_bytes(rt.alloc(), b"abcd")?);
     Ok(())
 }
 
 #[test]
 fn a_list_clock_goes_on_with_its_last_answer(rt: HostRuntime) -> Result<(), Fail> {
-    let alloc = rt.alloc();
-    let mut clock = ListClock::new(alloc, [5, 4_294_967_298].as_slice())?;
+    let mut clock = ListClock::new(rt.alloc(), [5, 4_294_967_298].as_slice())?;
     for want in [5, 4_294_967_298, 4_294_967_298, 4_294_967_298] {
-        assert_eq!(rt; clock.now(), want);
+        assert!(rt; clock.now() == want);
     }
-    assert_eq!(rt; ListClock::new(alloc, [].as_slice())?.now(), 0);
+    let mut empty = ListClock::new(rt.alloc(), [].as_slice())?;
+    assert!(rt; empty.now() == 0);
     Ok(())
+}
+
+/// Whether the machine's files are read and written so: one is made, read and too long, and another is missing.
+fn is_made(rt: HostRuntime) -> bool {
+    let alloc = rt.alloc();
+    let mut store = FileStore::new(rt);
+    write_file(&mut store, "made", b"xyz").is_ok()
+        && is_read(alloc, &mut store, "made", 3, Ok("xyz"))
+        && is_read(alloc, &mut store, "made", 2, Err(ReadWhole::TooLong(3)))
+        && is_read(alloc, &mut store, "missing", 2, Err(ReadWhole::ReadFault))
 }
 
 #[test]
 fn files_of_the_machine(rt: HostRuntime) -> Result<(), Fail> {
-    let mut store = FileStore::new(rt);
-    assert_eq!(rt; write_file(&mut store, "made", b"xyz"), Ok(()));
-    for (name, max, want) in [
-        ("made", 3, "xyz"),
-        ("made", 2, "too long"),
-        ("missing", 2, "read fault"),
-    ] {
-        read_as(&rt, &mut store, name, max, want);
-    }
+    assert!(rt; is_made(rt));
     fs::remove_file(&rt, "made")?;
     Ok(())
+}
+
+/// Whether this name opens, and then its reading fails.
+fn only_reading_fails<S: Store>(store: &mut S, name: &str) -> bool {
+    let mut buffer = [0u8; 8];
+    let Ok(()) = store.begin_read(name) else {
+        return false;
+    };
+    store.read(&mut buffer).is_err()
+}
+
+/// Whether a file is made and takes three bytes, and then its end fails.
+fn only_the_end_fails<S: Store>(store: &mut S) -> bool {
+    let Ok(()) = store.create("a") else {
+        return false;
+    };
+    let Ok(_) = store.put(b"xyz") else {
+        return false;
+    };
+    store.finish().is_err()
+}
+
+/// A folder opens, and can't be read.
+#[test]
+fn a_failing_disk_is_a_fault(rt: HostRuntime) {
+    assert!(rt; only_reading_fails(&mut FileStore::new(rt), "."));
+    assert!(rt; only_reading_fails(&mut FileStore::new(BrokenDisk), "a"));
+    assert!(rt; only_the_end_fails(&mut FileStore::new(BrokenDisk)));
 }
 
 #[test]
 fn a_writer_of_the_machine(rt: HostRuntime) -> Result<(), Fail> {
     let long = vec![in rt.alloc(); 7u8; 3_000_000]?;
     let mut sink = OutSink::new(fs::create(&rt, "written")?);
-    assert_eq!(rt; write_whole(&mut sink, &long), Ok(()));
+    assert!(rt; write_whole(&mut sink, &long).is_ok());
     let read = read_whole(rt.alloc(), &mut FileStore::new(rt), "written", 3_000_000)?;
     assert!(rt; read == long);
     let mut reader = OutSink::new(fs::open(&rt, "written")?);
-    assert_eq!(rt; write_whole(&mut reader, b"xyz"), Err(WriteFault));
+    assert!(rt; write_whole(&mut reader, b"xyz").is_err());
     fs::remove_file(&rt, "written")?;
     Ok(())
 }
@@ -249,10 +317,10 @@ fn a_writer_of_the_machine(rt: HostRuntime) -> Result<(), Fail> {
 fn a_full_writer_is_a_fault(rt: HostRuntime) {
     let mut bytes = [0u8; 4];
     let mut sink = OutSink::new(bytes.as_mut_slice());
-    assert_eq!(rt; write_whole(&mut sink, b"abcdef"), Err(WriteFault));
+    assert!(rt; write_whole(&mut sink, b"abcdef").is_err());
 }
 
-// A clock that stands still, or can't be read.
+/// A clock that stands still, or can't be read.
 #[derive(Drop)]
 struct Stopped(Option<u64>);
 
@@ -278,7 +346,7 @@ fn nanoseconds_since_1970(rt: HostRuntime) {
         (Some(18_446_744_074), u64::MAX),
         (None, 0),
     ] {
-        assert_eq!(rt; MachineClock::new(Stopped(seconds)).now(), want);
+        assert!(rt; MachineClock::new(Stopped(seconds)).now() == want);
     }
     assert!(rt; MachineClock::new(rt).now() > 1_577_836_800_000_000_000);
 }

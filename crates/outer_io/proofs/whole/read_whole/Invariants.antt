@@ -1,4 +1,4 @@
-use Rattle.std.proofs.Common.{◌≡◌, ◌≤◌, ◌+◌, ◌-◌, ◌^◌, ◌∷◌, [], ℕ, List, length, true}
+use Rattle.std.proofs.Common.{◌≡◌, ◌≤◌, ◌+◌, ◌-◌, ◌∷◌, [], length, true}
 use Rattle.outer_io.specs.Tells.{Tells, Gains}
 use Rattle.outer_io.proofs.Reading.{IsReading}
 use Rattle.outer_io.proofs.whole.read_whole.Given as goal

@@ -1,4 +1,5 @@
-// A clock that answers a list.
+//! A clock that answers a list.
+
 ghost use Rattle.std.specs.Prelude.{◌≡◌, ◌<◌, ◌+◌, ◌-◌, ◌^◌, ◌∷◌, [], Some, false, IfOk};
 ghost use Rattle.outer_io.specs.Tells.{Tells, Gains};
 ghost use Rattle.outer_io.specs.ListClock.{answer_of, told_answers};
