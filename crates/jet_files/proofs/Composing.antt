@@ -1,12 +1,11 @@
 -- Outcomes of calls made one after another. Crates above cite these lemmas.
-use Rattle.std.proofs.Common.{◌≡◌, ◌∙◌, subst, ℕ, ◌≤◌, Option, Result, Ok, Err}
+use Rattle.std.proofs.Common.{◌≡◌, ◌∙◌, subst, ◌≤◌, Option, Result, Ok, Err}
 use Rattle.outer_io.specs.Faults.{Rose}
 use Rattle.outer_io.specs.Tells.{Tells}
 use Rattle.outer_io.specs.Files.{Files, KeepsFiles}
 use Rattle.outer_io.specs.Shown.{StoreShown}
 use Rattle.outer_io.proofs.TellsLemmas.{tells-then, tells-map, tells-both, rose-earlier}
 use Rattle.jet_refusal.specs.declared.refusal.Refusal.{Refusal}
-use Rattle.jet_refusal.specs.Causes.{Causes, IsOwedTo}
 use Rattle.jet_refusal.proofs.Causes.{IsOwedTo-map}
 use Rattle.jet_model.specs.Outcomes.{and_then}
 use Rattle.jet_model.specs.Contents.{Contents}

@@ -7,9 +7,9 @@ use Rattle.outer_io.specs.Files.{Text}
 use Rattle.outer_io.specs.Shown.{StoreShown}
 use Rattle.outer_io.proofs.TellsLemmas.{tells-map, tells-gains, gains-prefix}
 use Rattle.jet_refusal.specs.declared.refusal.Refusal.{Refusal}
-use Rattle.jet_model.specs.Contents.{Contents, file_at, inputs_at}
+use Rattle.jet_model.specs.Contents.{file_at, inputs_at}
 use Rattle.jet_model.proofs.Files.{inputs_at-push, inputs_at-stops}
-use Rattle.jet_files.specs.Outcome.{Found, Follows, Comes}
+use Rattle.jet_files.specs.Outcome.{Follows, Comes}
 use Rattle.jet_files.proofs.Composing.{Keeps, found-then, follows-then, follows-stops}
 
 -- the names that are lent

@@ -1,4 +1,4 @@
-use Rattle.std.proofs.Common.{arith, ◌≡◌, ◌≤◌, ◌^◌, ◌∷◌, ◌++◌, [], ap, sym, refl, subst, ℕ, List, length, Ok, Err, Vec, Bor}
+use Rattle.std.proofs.Common.{arith, ◌≡◌, ◌≤◌, ◌^◌, ◌∷◌, ◌++◌, [], ap, sym, refl, subst, ℕ, List, length, Ok, Vec, Bor}
 use Rattle.std.specs.declared.alloc.Global.{Global}
 use Rattle.std.proofs.lemmas.List.{length_push, take_all}
 use Rattle.std.proofs.lemmas.List.Elements.{All-nil, All-push, All-same}

@@ -1,4 +1,4 @@
-use Rattle.std.proofs.Common.{arith, Ok, Err}
+use Rattle.std.proofs.Common.{arith}
 use Rattle.log_model.specs.Logs.{IsBytes}
 use Rattle.log_model.proofs.Words.{IsBytes-each}
 use Rattle.jet_model.proofs.Files.{log_in-log}

@@ -1,9 +1,7 @@
-use Rattle.std.proofs.Common.{[], ◌∷◌, ℕ, List, Ok, Err, refl}
+use Rattle.std.proofs.Common.{[], ◌∷◌, Err, refl}
 use Rattle.std.proofs.lemmas.Result.{err_from_is_err_and}
 use Rattle.outer_io.proofs.TellsLemmas.{tells-gains}
-use Rattle.log_model.specs.Logs.{Log}
-use Rattle.jet_model.specs.Outcomes.{and_then}
-use Rattle.jet_model.specs.Contents.{Contents, Program, program_at, log_at}
+use Rattle.jet_model.specs.Contents.{program_at, log_at}
 use Rattle.jet_files.specs.Views.{program_of}
 use Rattle.jet_files.proofs.Composing.{comes-stops, comes-then, comes-work}
 use Rattle.jet_files.proofs.Names.{keeps-keeps, opened-whole}
