@@ -6,3 +6,4 @@ mod Guests
 mod Reports
 mod Divergences
 mod Queries
+mod Commands
