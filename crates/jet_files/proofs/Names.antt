@@ -1,5 +1,5 @@
 -- What a store keeps, and the names handed to it, over calls made one after another. Crates above cite these lemmas.
-use Rattle.std.proofs.Common.{◌≡◌, ◌∙◌, ap, refl, List, length, take, ◌++◌, [], append-nil, length-append, Option, Result, Ok, Err, OnOk}
+use Rattle.std.proofs.Common.{◌∙◌, ap, refl, List, length, take, ◌++◌, [], append-nil, length-append, Option, Result, Ok, Err, OnOk}
 use Rattle.std.proofs.Math.Seq.{take-append-add}
 use Rattle.outer_io.specs.Tells.{Tells, Gains, GainsPrefix, IsPrefix}
 use Rattle.outer_io.specs.Files.{Files, KeepsFiles}

@@ -15,7 +15,7 @@ use Rattle.query_lang.specs.declared.fault.QueryFault.{QueryFault}
 use Rattle.query_lang.specs.declared.fault.QueryFault.TheVariants as query
 use Rattle.jet_refusal.specs.declared.refusal.Refusal.{Refusal}
 use Rattle.jet_refusal.specs.declared.refusal.Refusal.TheVariants as refusal
-use Rattle.jet_model.specs.Contents.{program_in, log_in, query_in, Contents, file_at, query_at}
+use Rattle.jet_model.specs.Contents.{program_in, log_in, query_in, file_at, query_at}
 use Rattle.jet_model.proofs.AndThen.{and_then-ok, and_then-err}
 use Rattle.jet_model.proofs.Files.{program_in-fault, log_in-fault, query_in-query, query_in-fault}
 use Rattle.outer_io.specs.Shown.{StoreShown}

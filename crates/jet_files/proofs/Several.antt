@@ -7,9 +7,9 @@ use Rattle.outer_io.specs.Files.{Text}
 use Rattle.outer_io.specs.Shown.{StoreShown}
 use Rattle.outer_io.proofs.TellsLemmas.{tells-map, tells-gains, gains-prefix}
 use Rattle.jet_refusal.specs.declared.refusal.Refusal.{Refusal}
-use Rattle.jet_model.specs.Contents.{Contents, file_at, inputs_at}
+use Rattle.jet_model.specs.Contents.{file_at, inputs_at}
 use Rattle.jet_model.proofs.Files.{inputs_at-push, inputs_at-stops}
-use Rattle.jet_files.specs.Outcome.{Found, Follows, Comes}
+use Rattle.jet_files.specs.Outcome.{Follows, Comes}
 use Rattle.jet_files.proofs.Composing.{Keeps, found-then, follows-then, follows-stops}
 
 -- the names that are lent
@@ -59,7 +59,7 @@ inputs_stop names i d contents f g h r inside found keeps up next =
     let x : Text = (get_or names i d).now in
     let rest = texts (drop (i + 1) names) in
     let refused : Follows (λ file (answer : Result (List (List ℕ)) Refusal). file_at file x ≡ Err r) g h (Err r) =
-        follows-stops (λ file answer. file_at file x ≡ answer) (λ file (answer : Result (List (List ℕ)) Refusal). file_at file x ≡ Err r) g h r (λ file e. e) next in
+    follows-stops (λ file answer. file_at file x ≡ answer) (λ file (answer : Result (List (List ℕ)) Refusal). file_at file x ≡ Err r) g h r (λ file e. e) next in
     subst (λ (whole : List Text). Comes (λ file. inputs_at file whole) f h (Err r)) (texts-split names i d inside)
     (follows-then (λ file answer. inputs_at file front ≡ answer) (λ file (answer : Result (List (List ℕ)) Refusal). file_at file x ≡ Err r)
     (λ file (answer : Result (List (List ℕ)) Refusal). inputs_at file (front ++ x ∷ rest) ≡ Err r) contents f g h

@@ -1,6 +1,6 @@
-//! Files in memory, read and written.
+//! Files in memory, read.
 use super::*;
-use elf_model::ImageFault;
+use elf_model::ImageKind;
 use flow_model::SourceByte;
 use jet_refusal::Refusal;
 use log_model::LogKind;
@@ -20,8 +20,7 @@ const LOG: &[u8] =
 
 const QUERY: &[u8] = b"rule copy\nsource 0 1 2\nsink all\n";
 
-/// Twenty-five bytes.
-pub const TEXT: &[u8] = b"abcdefghijklmnopqrstuvwxy";
+const TEXT: &[u8] = b"abcdefghijklmnopqrstuvwxy";
 
 const FILES: &[(&str, &[u8])] = &[
     ("program", PROGRAM),
@@ -47,22 +46,14 @@ fn files(alloc: Global) -> Result<Vec<MemoryFile>, AllocError> {
     Ok(files)
 }
 
-/// The files, moved ten bytes at a time. The call of this number fails.
-pub fn store(alloc: Global, failing: u64) -> Result<MemoryStore, AllocError> {
+/// The files, read 64 bytes at a time. The call of this number fails.
+fn store(alloc: Global, failing: u64) -> Result<MemoryStore, AllocError> {
     let failing = [failing].as_slice().to_vec(alloc)?;
-    MemoryStore::new(alloc, files(alloc)?, failing, 10, 100)
+    MemoryStore::new(alloc, files(alloc)?, failing, 64, 0)
 }
 
 /// No call has this number.
-pub const NEVER: u64 = 1000;
-
-/// What a file holds.
-pub fn content<S: Store>(alloc: Global, store: &mut S, name: &str) -> Result<Vec<u8>, Fail> {
-    match read_file(alloc, store, name) {
-        Ok(bytes) => Ok(bytes),
-        Err(_) => Err(Fail::new("refused")),
-    }
-}
+const NEVER: u64 = 1000;
 
 /// How a command reads files.
 #[derive(Clone, Copy)]
@@ -87,7 +78,7 @@ fn refusal_of<S: Store>(alloc: Global, store: &mut S, opening: Opening) -> Optio
     }
 }
 
-const IMAGE: Refusal = Refusal::Image(ImageFault::Short);
+const IMAGE: Refusal = Refusal::Image(ImageKind::Short);
 
 const NO_LOG: Refusal = Refusal::Log {
     kind: LogKind::Magic,
@@ -99,25 +90,27 @@ const NO_QUERY: Refusal = Refusal::Query {
     kind: QueryKind::Word,
 };
 
+const NO_FILE: Refusal = Refusal::ReadFault;
+
 /// What is read, and why it can't be.
 const OPENINGS: &[(Opening, Option<Refusal>)] = &[
     (Opening::File("text"), None),
-    (Opening::File("none"), Some(Refusal::ReadFault)),
+    (Opening::File("none"), Some(NO_FILE)),
     (Opening::Program("program"), None),
-    (Opening::Program("none"), Some(Refusal::ReadFault)),
+    (Opening::Program("none"), Some(NO_FILE)),
     (Opening::Program("cut"), Some(IMAGE)),
     (Opening::Log("log"), None),
-    (Opening::Log("none"), Some(Refusal::ReadFault)),
+    (Opening::Log("none"), Some(NO_FILE)),
     (Opening::Log("text"), Some(NO_LOG)),
     (Opening::Run("program", "log"), None),
-    (Opening::Run("none", "text"), Some(Refusal::ReadFault)),
+    (Opening::Run("none", "text"), Some(NO_FILE)),
     (Opening::Run("cut", "text"), Some(IMAGE)),
     (Opening::Run("program", "text"), Some(NO_LOG)),
     (Opening::Query("query"), None),
-    (Opening::Query("none"), Some(Refusal::ReadFault)),
+    (Opening::Query("none"), Some(NO_FILE)),
     (Opening::Query("wrong"), Some(NO_QUERY)),
     (Opening::Inputs(&["text", "log"]), None),
-    (Opening::Inputs(&["text", "none"]), Some(Refusal::ReadFault)),
+    (Opening::Inputs(&["text", "none"]), Some(NO_FILE)),
 ];
 
 /// Why the files can't be read so, where the call of this number fails.
@@ -127,12 +120,21 @@ fn refusal_at(alloc: Global, failing: u64, opening: Opening) -> Result<Option<Re
 }
 
 #[test]
-fn files_are_judged(rt: HostRuntime) -> Result<(), Fail> {
-    let alloc = rt.alloc();
+fn files_are_read_or_refused(rt: HostRuntime) -> Result<(), Fail> {
     for &(opening, expected) in OPENINGS {
-        assert_eq!(rt; refusal_at(alloc, NEVER, opening)?, expected);
-        assert_eq!(rt; refusal_at(alloc, 1, opening)?, Some(Refusal::ReadFault));
+        assert_eq!(rt; refusal_at(rt.alloc(), NEVER, opening)?, expected);
     }
+    Ok(())
+}
+
+/// The program's 132 bytes take five calls, the log's 107 take four, and each of the nine fails once.
+#[test]
+fn each_call_of_the_store_fails(rt: HostRuntime) -> Result<(), Fail> {
+    let run = Opening::Run("program", "log");
+    for failing in 0..9 {
+        assert_eq!(rt; refusal_at(rt.alloc(), failing, run)?, Some(NO_FILE));
+    }
+    assert_eq!(rt; refusal_at(rt.alloc(), 9, run)?, None);
     Ok(())
 }
 
@@ -154,7 +156,7 @@ fn a_run_is_in_its_files(rt: HostRuntime) -> Result<(), Fail> {
     Ok(())
 }
 
-/// Whether the query asks for the input byte of this offset.
+/// Whether the query names the input byte of this offset as a source.
 fn has(query: &Query, offset: u32) -> bool {
     query.source_has(SourceByte { channel: 0, offset })
 }
@@ -170,7 +172,7 @@ fn a_query_is_in_its_file(rt: HostRuntime) -> Result<(), Fail> {
     Ok(())
 }
 
-/// The inputs of these names, one behind another, with a zero after each.
+/// The inputs of these names, one after another, with a zero after each.
 fn joined(alloc: Global, names: &[&str]) -> Result<Vec<u8>, Fail> {
     let mut store = store(alloc, NEVER)?;
     let Ok(inputs) = open_inputs(alloc, &mut store, names) else {
@@ -190,37 +192,5 @@ fn inputs_are_in_their_files(rt: HostRuntime) -> Result<(), Fail> {
         joined(rt.alloc(), &["text", "cut", "text"])?.as_slice(),
         b"abcdefghijklmnopqrstuvwxy\0\x7fELF\0abcdefghijklmnopqrstuvwxy\0".as_slice()
     );
-    Ok(())
-}
-
-/// Whether the file `cut` is written so, where the call of this number fails, and then holds these bytes.
-fn is_written(
-    alloc: Global,
-    failing: u64,
-    expected: Option<Refusal>,
-    left: &[u8],
-) -> Result<bool, Fail> {
-    let mut store = store(alloc, failing)?;
-    let refusal = write_file(&mut store, "cut", TEXT).err();
-    let bytes = content(alloc, &mut store, "cut")?;
-    Ok(refusal == expected && bytes.as_slice() == left)
-}
-
-/// A file is created, put in three pieces, and finished: five calls. Each of them fails once, and leaves the file as it
-/// was.
-const WRITINGS: &[(u64, Option<Refusal>, &[u8])] = &[
-    (0, Some(Refusal::WriteFault), b"\x7fELF"),
-    (1, Some(Refusal::WriteFault), b"\x7fELF"),
-    (2, Some(Refusal::WriteFault), b"\x7fELF"),
-    (3, Some(Refusal::WriteFault), b"\x7fELF"),
-    (4, Some(Refusal::WriteFault), b"\x7fELF"),
-    (NEVER, None, TEXT),
-];
-
-#[test]
-fn a_file_is_written_whole(rt: HostRuntime) -> Result<(), Fail> {
-    for &(failing, expected, left) in WRITINGS {
-        assert!(rt; is_written(rt.alloc(), failing, expected, left)?);
-    }
     Ok(())
 }

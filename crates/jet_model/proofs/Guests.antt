@@ -20,7 +20,7 @@ log_of program pages inputs records end = record { pages = pages; inputs = input
 
 -- a read of channel 0 to 0x10100, and a write of channel 1 from there
 abbrev pub a_read : ℕ → ℕ → List ℕ → CallRecord
-a_read at asked bytes = Read at (0 ∷ 0x10100 ∷ asked ∷ []) (pos (length bytes)) bytes
+a_read at room bytes = Read at (0 ∷ 0x10100 ∷ room ∷ []) (pos (length bytes)) bytes
 
 abbrev pub a_write : ℕ → List ℕ → CallRecord
 a_write at bytes = Write at (1 ∷ 0x10100 ∷ length bytes ∷ []) (pos (length bytes)) bytes
@@ -69,7 +69,7 @@ jump_misaligned = file_of (0x00210067 ∷ [])
 abbrev pub two_reads : List ℕ
 two_reads = file_of (0x000105b7 ∷ 0x10058593 ∷ 0x00000513 ∷ 0x00300613 ∷ 0x03f00893 ∷ 0x00000073 ∷ 0x00358593 ∷ 0x00000513 ∷ 0x00400613 ∷ 0x00000073 ∷ 0xffd58593 ∷ 0x00100513 ∷ 0x00500613 ∷ 0x04000893 ∷ 0x00000073 ∷ 0x00000513 ∷ 0x05d00893 ∷ 0x00000073 ∷ [])
 
--- asks for the time and writes it
+-- reads the clock and writes the time
 abbrev pub read_clock : List ℕ
 read_clock = file_of (0x00010437 ∷ 0x10040413 ∷ 0x7d000893 ∷ 0x00000073 ∷ 0x00a42023 ∷ 0x00b42223 ∷ 0x00100513 ∷ 0x00040593 ∷ 0x00800613 ∷ 0x04000893 ∷ 0x00000073 ∷ 0x00000513 ∷ 0x05d00893 ∷ 0x00000073 ∷ [])
 

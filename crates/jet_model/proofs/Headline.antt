@@ -11,18 +11,15 @@ use Rattle.elf_model.specs.Image.{Image, image}
 use Rattle.elf_model.specs.Window.{start_of}
 use Rattle.log_model.specs.Logs.{Log, log_text}
 use Rattle.report_model.specs.Query.{Query}
-use Rattle.report_model.specs.Rows.{rows}
-use Rattle.report_model.specs.Text.{report_text}
 use Rattle.replay_model.specs.declared.Divergence.{Divergence}
 use Rattle.replay_model.specs.Comparison.{divergence}
-use Rattle.replay_model.specs.Run.{trace}
 use Rattle.replay_model.specs.Fits.{Fits, beginning, start_in_image}
 use Rattle.sha2.specs.Sha256.{sha256}
 use Rattle.jet_refusal.specs.declared.refusal.Refusal.{Refusal}
 use Rattle.jet_refusal.specs.declared.refusal.Refusal.TheVariants as refusal
 use Rattle.jet_model.specs.Outcomes.{and_then}
 use Rattle.jet_model.specs.Contents.{Contents, Names, Program, Run, program_at, query_at, run_at, inputs_at}
-use Rattle.jet_model.specs.Report.{report_begun}
+use Rattle.jet_model.specs.Report.{run_report, report_from}
 use Rattle.jet_model.specs.Answer.{digest_check, start_in, unless_diverged, fitting_start, report_answer, query_answer, text_answer, log_answer, Limits, Source, source_at, setting_of, limited_text, IsCaptured, IsCaptureAnswer, IsRecordAnswer}
 use Rattle.jet_model.specs.Headline.{IsReportOf, IsGivenBy, IsRecordingOf, IsShort, AreShort, AreAllShort}
 use Rattle.jet_model.proofs.AndThen.{ok-one, and_then-ok, and_then-is_ok, AndThen-ok, AndThen-is_ok, AndThen-one, ok_or-is_ok}
@@ -67,13 +64,13 @@ pub record BeginsInImage (program : List ℕ) (pages : ℕ) (start : State) : Ty
   pub is_image : image program ≡ Ok im
   pub begins : start_of im pages ≡ Some start
 
-begun_image : (r : Result Image ImageKind) (pages : ℕ) (start : State) → start_in_image r pages ≡ Some start → (im : Image) × (r ≡ Ok im) × (start_of im pages ≡ Some start)
-begun_image (Ok im) pages start e = (im, refl, e)
-begun_image (Err kind) pages start e = cc
+image_of_start : (r : Result Image ImageKind) (pages : ℕ) (start : State) → start_in_image r pages ≡ Some start → (im : Image) × (r ≡ Ok im) × (start_of im pages ≡ Some start)
+image_of_start (Ok im) pages start e = (im, refl, e)
+image_of_start (Err fault) pages start e = cc
 
 begins_in_image : (program : List ℕ) (log : Log) (f : Fits program log) → BeginsInImage program log.pages f.start
 begins_in_image program log f =
-    let b = begun_image (image program) log.pages f.start f.begins in
+    let b = image_of_start (image program) log.pages f.start f.begins in
     record { im = b.0; is_image = b.1; begins = b.2 }
 
 start_there : (im : Image) (pages : ℕ) (start : State) → start_of im pages ≡ Some start → start_in im pages ≡ Ok start
@@ -87,32 +84,32 @@ fitting_start-fits program log f im begins =
 
 -- ---- a query
 
-is_report : (program : List ℕ) (log : Log) (q : Query) (f : Fits program log) (start : State) (text : List ℕ) → f.start ≡ start → text ≡ report_text (rows q (trace start log))
-    → text ≡ report_begun (beginning program log) log q
+is_report : (program : List ℕ) (log : Log) (q : Query) (f : Fits program log) (start : State) (text : List ℕ) → f.start ≡ start → text ≡ run_report start log q
+    → text ≡ report_from (beginning program log) log q
 is_report program log q f start text same e =
-    e ∙ ap (λ (s : State). report_text (rows q (trace s log))) (sym same) ∙ ap (λ (s : Option State). report_begun s log q) (sym f.begins)
+    e ∙ ap (λ (s : State). run_report s log q) (sym same) ∙ ap (λ (s : Option State). report_from s log q) (sym f.begins)
 
 pub answer-is_report : (file : Contents) (names : Names) (text : List ℕ) → query_answer file names ≡ Ok text → IsReportOf file names text
 answer-is_report file names text h =
     let r = and_then-is_ok (run_at file names.program names.log) (λ run. and_then (query_at file names.query) (λ q. report_answer run q)) text h in
     let run = r.0 in
     let q = and_then-is_ok (query_at file names.query) (λ q. report_answer run q) text r.2 in
-    let s = and_then-is_ok (fitting_start run.program run.log) (λ start. Ok (report_text (rows q.0 (trace start run.log)))) text q.2 in
+    let s = and_then-is_ok (fitting_start run.program run.log) (λ start. Ok (run_report start run.log q.0)) text q.2 in
     let files = run_at-is_ok file names.program names.log run r.1 in
     let p = program_at-is_ok file names.program run.program files.program in
     let l = log_at-is_ok file names.log run.log files.log in
-    let asked = query_at-is_ok file names.query q.0 q.1 in
+    let found_query = query_at-is_ok file names.query q.0 q.1 in
     let f = fits_from run.program run.log s.0 p.is_image s.1 in
     record {
       program = run.program.bytes;
       log = run.log;
-      query_text = asked.0;
+      query_text = found_query.0;
       the_query = q.0;
       program_file = p.there;
       log_file = l.there;
-      query_file = asked.1;
+      query_file = found_query.1;
       is_log = l.is_log;
-      is_query = asked.2;
+      is_query = found_query.2;
       fits = f.0;
       reports = is_report run.program.bytes run.log q.0 f.0 s.0 text f.1 (sym (ok_same _ _ s.2));
     }
@@ -126,8 +123,8 @@ report-is_answer file names text short r =
     (run_at-there file names.program names.log p r.log
     (program_at-there file names.program r.program b.im r.program_file short.program b.is_image) (log_at-there file names.log r.log r.log_file short.log r.is_log))
     ∙ and_then-ok (query_at file names.query) (λ q. report_answer run q) r.the_query (query_at-there file names.query r.query_text r.the_query r.query_file short.query r.is_query)
-    ∙ and_then-ok (fitting_start p r.log) (λ start. Ok (report_text (rows r.the_query (trace start r.log)))) r.fits.start (fitting_start-fits r.program r.log r.fits b.im b.begins)
-    ∙ ap (λ (s : Option State). Ok (report_begun s r.log r.the_query)) (sym r.fits.begins)
+    ∙ and_then-ok (fitting_start p r.log) (λ start. Ok (run_report start r.log r.the_query)) r.fits.start (fitting_start-fits r.program r.log r.fits b.im b.begins)
+    ∙ ap (λ (s : Option State). Ok (report_from s r.log r.the_query)) (sym r.fits.begins)
     ∙ ap Ok (sym r.reports)
 
 -- ---- a text that a log gives

@@ -5,3 +5,5 @@ pub mod Headline
 mod Guests
 mod Reports
 mod Divergences
+mod Queries
+mod Commands

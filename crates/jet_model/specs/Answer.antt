@@ -7,16 +7,14 @@ use Rattle.elf_model.specs.Image.{Image}
 use Rattle.elf_model.specs.Window.{start_of}
 use Rattle.log_model.specs.Logs.{Log, log_text}
 use Rattle.report_model.specs.Query.{Query}
-use Rattle.report_model.specs.Rows.{rows}
-use Rattle.report_model.specs.Text.{report_text}
 use Rattle.replay_model.specs.declared.Divergence.{Divergence}
 use Rattle.replay_model.specs.Comparison.{divergence}
-use Rattle.replay_model.specs.Run.{trace}
 use Rattle.record_model.specs.Recorded.{Setting, IsRecorded}
 use Rattle.sha2.specs.Sha256.{sha256}
 use Rattle.jet_refusal.specs.declared.refusal.Refusal.{Refusal}
 use Rattle.jet_refusal.specs.declared.refusal.Refusal.TheVariants as refusal
 use Rattle.jet_model.specs.Outcomes.{and_then, AndThen}
+use Rattle.jet_model.specs.Report.{run_report}
 use Rattle.jet_model.specs.Contents.{Contents, Names, Program, Run, program_at, query_at, run_at, inputs_at}
 
 -- ---- a log that fits its program
@@ -48,7 +46,7 @@ fitting_start program log =
 abbrev pub report_answer : Run → Query → Result (List ℕ) Refusal
 report_answer run q =
     and_then (fitting_start run.program run.log) (λ start.
-    Ok (report_text (rows q (trace start run.log))))
+    Ok (run_report start run.log q))
 
 abbrev pub query_answer : Contents → Names → Result (List ℕ) Refusal
 query_answer file names =

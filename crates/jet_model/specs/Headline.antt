@@ -1,4 +1,4 @@
--- What it means that a text is what a command asks for, each in one piece.
+-- What it means that a text is what files come to, each in one piece.
 use Rattle.std.specs.Prelude.{◌≡◌, ◌≤◌, ◌^◌, ℕ, List, length, map, Option, Some, None, Ok}
 use Rattle.std.specs.List.{AllByRecursion}
 use Rattle.log_model.specs.Logs.{Log, log_text, IsLog}

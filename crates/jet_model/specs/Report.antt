@@ -8,10 +8,14 @@ use Rattle.report_model.specs.Query.{Query}
 use Rattle.report_model.specs.Rows.{rows}
 use Rattle.report_model.specs.Text.{report_text}
 
-abbrev pub report_begun : Option State → Log → Query → List ℕ
-report_begun None log q = []
-report_begun (Some start) log q = report_text (rows q (trace start log))
+-- the report of the run that begins in this state
+abbrev pub run_report : State → Log → Query → List ℕ
+run_report start log q = report_text (rows q (trace start log))
+
+abbrev pub report_from : Option State → Log → Query → List ℕ
+report_from None log q = []
+report_from (Some start) log q = run_report start log q
 
 -- the report's text; that of a program whose run can't begin is used nowhere
 abbrev pub report : List ℕ → Log → Query → List ℕ
-report program log q = report_begun (beginning program log) log q
+report program log q = report_from (beginning program log) log q

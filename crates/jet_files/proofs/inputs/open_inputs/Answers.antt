@@ -1,4 +1,4 @@
-use Rattle.std.proofs.Common.{arith, ◌≡◌, ◌≤◌, ◌^◌, ◌∷◌, ◌++◌, [], ap, sym, refl, subst, ℕ, List, length, Ok, Err, Vec, Bor}
+use Rattle.std.proofs.Common.{arith, ◌≡◌, ◌≤◌, ◌^◌, ◌∷◌, ◌++◌, [], ap, sym, refl, subst, ℕ, List, length, Ok, Vec, Bor}
 use Rattle.std.specs.declared.alloc.Global.{Global}
 use Rattle.std.proofs.lemmas.List.{length_push, take_all}
 use Rattle.std.proofs.lemmas.List.Elements.{All-nil, All-push, All-same}
@@ -55,7 +55,7 @@ pub returns-in_err-input-clause-outcome : goal.returns-in_err-input-clause-outco
 returns-in_err-input-clause-outcome g c =
     let i = c.loop-name.invariant in
     let p = err_from_is_err_and c.from_residual.result c.from_residual.ensures.1 in
-    rw (p.1, p.2) (inputs_stop c.args.names.now c.loop-name.name-index _ _ _ (g.S.Store.shown c.loop-name.store) _ _ c.loop-name-test.true i.outcome i.keeps c.in_err-input.ensures.later c.in_err-input.ensures.outcome)
+    rw (p.1, p.2) (inputs_stop c.args.names.now c.loop-name.name-index _ (items_of c.loop-name.inputs.items) (g.S.Store.shown c.args.store.now) (g.S.Store.shown c.loop-name.store) (g.S.Store.shown c.read_file.new.store) _ c.loop-name-test.true i.outcome i.keeps c.in_err-input.ensures.later c.in_err-input.ensures.outcome)
 
 pub returns-in_err-input-clause-keeps : goal.returns-in_err-input-clause-keeps
 returns-in_err-input-clause-keeps g c = keeps-keeps _ (g.S.Store.shown c.loop-name.store).files _ c.loop-name.invariant.keeps.files c.in_err-input.ensures.keeps

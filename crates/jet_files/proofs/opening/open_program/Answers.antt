@@ -4,7 +4,7 @@ use Rattle.elf_model.specs.Image.{image}
 use Rattle.elf_image.specs.Answers.{IsFaultOf}
 use Rattle.jet_model.specs.Contents.{file_at, program_in}
 use Rattle.jet_model.proofs.Files.{program_in-image}
-use Rattle.jet_files.specs.Outcome.{Comes}
+use Rattle.jet_files.specs.Faults.{image_refusal}
 use Rattle.jet_files.proofs.Read.{no_program}
 use Rattle.jet_files.proofs.Composing.{comes-stops, comes-work}
 use Rattle.jet_files.proofs.opening.open_program.Goals as goal
@@ -25,9 +25,9 @@ returns-in-Ok-clause-outcome g c =
 pub returns-in-Ok-clause-loads : goal.returns-in-Ok-clause-loads
 returns-in-Ok-clause-loads g c = ap image (sym c.deref.ensures.value) ∙ c.in-Ok.ensures.found
 
-pub returns-clause-outcome : goal.returns-clause-outcome
-returns-clause-outcome g c =
+pub returns-in-Err-clause-outcome : goal.returns-in-Err-clause-outcome
+returns-in-Err-clause-outcome g c =
     let bytes : List ℕ = c.in_ok-bytes.bytes.items in
     rw c.of_image.ensures
-    (comes-work (λ file. file_at file c.args.name.now) program_in bytes (g.S.Store.shown c.args.store.now) (g.S.Store.shown c.read_file.new.store) c.in_ok-bytes.ensures.outcome _
+    (comes-work (λ file. file_at file c.args.name.now) program_in bytes (g.S.Store.shown c.args.store.now) (g.S.Store.shown c.read_file.new.store) c.in_ok-bytes.ensures.outcome (Err (image_refusal c.in-Err.fault))
     (no_program bytes c.in-Err.fault (subst (λ (t : List ℕ). IsFaultOf t c.in-Err.fault) c.deref.ensures.value c.in-Err.ensures.fault)))

@@ -1,9 +1,7 @@
-use Rattle.std.proofs.Common.{[], ◌∷◌, ℕ, List, Ok, Err, refl}
+use Rattle.std.proofs.Common.{[], ◌∷◌, Err, refl}
 use Rattle.std.proofs.lemmas.Result.{err_from_is_err_and}
 use Rattle.outer_io.proofs.TellsLemmas.{tells-gains}
-use Rattle.log_model.specs.Logs.{Log}
-use Rattle.jet_model.specs.Outcomes.{and_then}
-use Rattle.jet_model.specs.Contents.{Contents, Program, program_at, log_at}
+use Rattle.jet_model.specs.Contents.{program_at, log_at}
 use Rattle.jet_files.specs.Views.{program_of}
 use Rattle.jet_files.proofs.Composing.{comes-stops, comes-then, comes-work}
 use Rattle.jet_files.proofs.Names.{keeps-keeps, opened-whole}
@@ -25,7 +23,7 @@ returns-in_err-log-clause-outcome g c =
     let p = err_from_is_err_and c.from_residual-in_err-log.result c.from_residual-in_err-log.ensures.1 in
     rw (p.1, p.2)
     (comes-then (λ file. program_at file c.args.program.now) (run_with log) program (g.S.Store.shown c.args.store.now) between after c.in_ok-program.ensures.outcome
-    (record { files = c.in_ok-program.ensures.keeps; faults = c.in_ok-program.ensures.later }) c.in_err-log.ensures.later _
+    (record { files = c.in_ok-program.ensures.keeps; faults = c.in_ok-program.ensures.later }) c.in_err-log.ensures.later (Err c.in_err-log.field-0.0)
     (comes-stops (λ file. log_at file log) (λ l file. log_with program l) between after _ c.in_err-log.ensures.outcome))
 
 pub returns-in_err-log-clause-keeps : goal.returns-in_err-log-clause-keeps
