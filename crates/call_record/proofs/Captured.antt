@@ -7,7 +7,7 @@ use Rattle.std.proofs.lemmas.List.{length-map}
 use Rattle.std.proofs.lemmas.List.Concat.{length-flat_map}
 use Rattle.std.proofs.lemmas.List.Elements.{recursion_from_All}
 use Rattle.isa.specs.Machine.{State}
-use Rattle.elf_model.specs.declared.ImageFault.{ImageFault}
+use Rattle.elf_model.specs.declared.ImageKind.{ImageKind}
 use Rattle.elf_model.specs.Image.{Image, image}
 use Rattle.elf_model.specs.Window.{start_of}
 use Rattle.log_model.specs.declared.CallRecord.{CallRecord}
@@ -73,7 +73,7 @@ whole_recorded program im pages source s steps end records begins run =
       fits = record {
         start = s;
         digest = refl;
-        begins = ap (λ (r : Result Image ImageFault). start_in_image r pages) begins.image_is ∙ begins.starts;
+        begins = ap (λ (r : Result Image ImageKind). start_in_image r pages) begins.image_is ∙ begins.starts;
         agrees = run.agrees log refl refl refl;
       };
       reads = run.reads;

@@ -2,14 +2,15 @@
 
 ghost use Rattle.std.specs.Prelude.{◌≡◌, ◌≤◌, ◌==◌, length, map, take, drop, false, IfOk, IfErr, OnOk, Some, None};
 ghost use Rattle.std.specs.List.{list_any};
-ghost use Rattle.elf_model.specs.Image.{e_entry, first_true, holds_address, is_any_segment_wrong, is_dynamic, is_table_wrong, loaded_headers, program_headers, segment};
+ghost use Rattle.elf_model.specs.Image.{e_entry, holds_address, is_any_segment_wrong, is_dynamic, is_table_wrong, loaded_headers, program_headers, segment};
+ghost use Rattle.format_model.specs.FirstTrue.{first_true};
 ghost use Rattle.elf_image.specs.Faults.{header_faults, is_header_wrong, table_faults};
 ghost use Rattle.elf_image.specs.Layout.{IsInFile};
 
 use crate::fields::{half_at, word_at};
 use crate::loaded::Segment;
 use crate::program_header::{ProgramHeader, ProgramHeaders};
-use elf_model::ImageFault;
+use elf_model::ImageKind;
 use std::alloc::{AllocError, Global};
 use std::marker::Model;
 
@@ -88,27 +89,27 @@ fn is_header_wrong(bytes: &[u8]) -> bool
 
 impl<'a> ElfFile<'a> {
     /// The file with these bytes, or the first fault of its ELF header.
-    pub fn open(bytes: &'a [u8]) -> Result<Self, ImageFault>
+    pub fn open(bytes: &'a [u8]) -> Result<Self, ImageKind>
         ensures ok { IfOk result (λ f. (f ≡ bytes.entry.now) × (first_true (header_faults bytes.entry.now) ≡ None)) }
         ensures err { IfErr result (λ e. first_true (header_faults bytes.entry.now) ≡ Some e) }
     {
         if bytes.len() < usize::from(HEADER_SIZE) {
-            return Err(ImageFault::Short);
+            return Err(ImageKind::Short);
         }
         if &bytes[..4] != MAGIC.as_slice() {
-            return Err(ImageFault::Magic);
+            return Err(ImageKind::Magic);
         }
         if &bytes[4..7] != CLASS.as_slice() {
-            return Err(ImageFault::Class);
+            return Err(ImageKind::Class);
         }
         if half_at(bytes, E_TYPE) != ET_EXEC {
-            return Err(ImageFault::Kind);
+            return Err(ImageKind::Kind);
         }
         if half_at(bytes, E_MACHINE) != EM_RISCV {
-            return Err(ImageFault::Machine);
+            return Err(ImageKind::Machine);
         }
         if is_header_wrong(bytes) {
-            return Err(ImageFault::Header);
+            return Err(ImageKind::Header);
         }
         Ok(ElfFile { bytes })
     }
@@ -130,21 +131,21 @@ impl<'a> ElfFile<'a> {
 
 impl<'a> ElfFile<'a> {
     /// The first fault of the program header table.
-    pub fn check_table(&self) -> Result<(), ImageFault>
+    pub fn check_table(&self) -> Result<(), ImageKind>
         ensures ok { OnOk result (first_true (table_faults self.now) ≡ None) }
         ensures err { IfErr result (λ e. first_true (table_faults self.now) ≡ Some e) }
     {
         if self.is_dynamic() {
-            return Err(ImageFault::Dynamic);
+            return Err(ImageKind::Dynamic);
         }
         if self.has_wrong_segment() {
-            return Err(ImageFault::Segment);
+            return Err(ImageKind::Segment);
         }
         if self.has_no_segment() {
-            return Err(ImageFault::NoSegment);
+            return Err(ImageKind::NoSegment);
         }
         if self.entry() % 4 != 0 || !self.holds_entry() {
-            return Err(ImageFault::Entry);
+            return Err(ImageKind::Entry);
         }
         Ok(())
     }

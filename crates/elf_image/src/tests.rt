@@ -1,6 +1,6 @@
 //! Files that are loaded or refused, with what the gABI says of each.
 
-use crate::{ImageFault, load};
+use crate::{ImageFault, ImageKind, load};
 use std::alloc::{AllocError, Global};
 use std::process::Abort;
 use std::test::Fail;
@@ -63,10 +63,10 @@ fn assert_fault(
     alloc: Global,
     changes: &[(usize, u32)],
     entries: &[u32],
-    want: Option<ImageFault>,
+    want: Option<ImageKind>,
 ) -> Result<(), AllocError> {
     let file = changed(alloc, changes, entries)?;
-    assert_eq!(rt; load(alloc, &file).err(), want);
+    assert_eq!(rt; load(alloc, &file).err(), want.map(ImageFault::At));
     Ok(())
 }
 
@@ -91,14 +91,14 @@ fn each_prefix_has_its_fault(rt: HostRuntime) -> Result<(), Fail> {
     assert_eq!(rt; file.len(), 132);
     for length in 0..133 {
         let want = match length {
-            0..52 => Some(ImageFault::Short),
-            52..84 => Some(ImageFault::Header),
-            84..132 => Some(ImageFault::Segment),
+            0..52 => Some(ImageKind::Short),
+            52..84 => Some(ImageKind::Header),
+            84..132 => Some(ImageKind::Segment),
             _ => None,
         };
         assert_eq!(rt;
             load(rt.alloc(), &file[..length]).err(),
-            want,
+            want.map(ImageFault::At),
             "at {length}"
         );
     }
@@ -108,28 +108,28 @@ fn each_prefix_has_its_fault(rt: HostRuntime) -> Result<(), Fail> {
 #[test]
 fn each_changed_word_has_its_fault(rt: HostRuntime) -> Result<(), Fail> {
     let cases = [
-        (0, 0x464c4500, Some(ImageFault::Magic)),
-        (1, 0x00010102, Some(ImageFault::Class)),
-        (1, 0x00010201, Some(ImageFault::Class)),
-        (1, 0x00020101, Some(ImageFault::Class)),
-        (TYPE_AND_MACHINE, 0x00f30003, Some(ImageFault::Kind)),
-        (TYPE_AND_MACHINE, 0x003e0002, Some(ImageFault::Machine)),
-        (VERSION, 2, Some(ImageFault::Header)),
-        (SIZES, 0x00200035, Some(ImageFault::Header)),
-        (SIZES, 0x00280034, Some(ImageFault::Header)),
-        (PHOFF, 0xffffffff, Some(ImageFault::Header)),
-        (PHNUM, 0xffff, Some(ImageFault::Header)),
-        (PHNUM, 0, Some(ImageFault::NoSegment)),
-        (P_TYPE, 2, Some(ImageFault::Dynamic)),
-        (P_TYPE, 3, Some(ImageFault::Dynamic)),
-        (P_TYPE, 4, Some(ImageFault::NoSegment)),
-        (P_OFFSET, 0xffffffff, Some(ImageFault::Segment)),
-        (P_VADDR, 0xfffffff0, Some(ImageFault::Segment)),
-        (P_FILESZ, 49, Some(ImageFault::Segment)),
-        (P_MEMSZ, 47, Some(ImageFault::Segment)),
+        (0, 0x464c4500, Some(ImageKind::Magic)),
+        (1, 0x00010102, Some(ImageKind::Class)),
+        (1, 0x00010201, Some(ImageKind::Class)),
+        (1, 0x00020101, Some(ImageKind::Class)),
+        (TYPE_AND_MACHINE, 0x00f30003, Some(ImageKind::Kind)),
+        (TYPE_AND_MACHINE, 0x003e0002, Some(ImageKind::Machine)),
+        (VERSION, 2, Some(ImageKind::Header)),
+        (SIZES, 0x00200035, Some(ImageKind::Header)),
+        (SIZES, 0x00280034, Some(ImageKind::Header)),
+        (PHOFF, 0xffffffff, Some(ImageKind::Header)),
+        (PHNUM, 0xffff, Some(ImageKind::Header)),
+        (PHNUM, 0, Some(ImageKind::NoSegment)),
+        (P_TYPE, 2, Some(ImageKind::Dynamic)),
+        (P_TYPE, 3, Some(ImageKind::Dynamic)),
+        (P_TYPE, 4, Some(ImageKind::NoSegment)),
+        (P_OFFSET, 0xffffffff, Some(ImageKind::Segment)),
+        (P_VADDR, 0xfffffff0, Some(ImageKind::Segment)),
+        (P_FILESZ, 49, Some(ImageKind::Segment)),
+        (P_MEMSZ, 47, Some(ImageKind::Segment)),
         (P_MEMSZ, 8192, None),
-        (ENTRY, 0x10002, Some(ImageFault::Entry)),
-        (ENTRY, 0x10030, Some(ImageFault::Entry)),
+        (ENTRY, 0x10002, Some(ImageKind::Entry)),
+        (ENTRY, 0x10030, Some(ImageKind::Entry)),
     ];
     for (at, word, want) in cases {
         assert_fault(&rt, rt.alloc(), &[(at, word)], &[], want)?;
@@ -141,16 +141,12 @@ fn each_changed_word_has_its_fault(rt: HostRuntime) -> Result<(), Fail> {
 fn a_second_entry_counts_as_the_first(rt: HostRuntime) -> Result<(), Fail> {
     let cases = [
         (48, [0x70000003, 0, 0, 0, 0, 0, 0, 0], None),
-        (48, [2, 0, 0, 0, 0, 0, 0, 0], Some(ImageFault::Dynamic)),
-        (47, [2, 0, 0, 0, 0, 0, 0, 0], Some(ImageFault::Dynamic)),
-        (47, [0, 0, 0, 0, 0, 0, 0, 0], Some(ImageFault::Segment)),
+        (48, [2, 0, 0, 0, 0, 0, 0, 0], Some(ImageKind::Dynamic)),
+        (47, [2, 0, 0, 0, 0, 0, 0, 0], Some(ImageKind::Dynamic)),
+        (47, [0, 0, 0, 0, 0, 0, 0, 0], Some(ImageKind::Segment)),
         (48, [1, 0, 0, 0, 0, 0, 0, 0], None),
         (48, [1, 0, 0x10030, 0, 4, 4, 0, 0], None),
-        (
-            48,
-            [1, 0, 0x1002f, 0, 4, 4, 0, 0],
-            Some(ImageFault::Segment),
-        ),
+        (48, [1, 0, 0x1002f, 0, 4, 4, 0, 0], Some(ImageKind::Segment)),
         (48, [1, 0xffffffff, 0x20000, 0, 0, 4, 0, 0], None),
     ];
     for (size, second, want) in cases {

@@ -1,42 +1,37 @@
 -- The image of a program file, or the first fault of the file (System V gABI, "ELF Header", "Program Header" and
 -- "Program Loading"). Fields have the names of the gABI.
-use Rattle.std.specs.Prelude.{ℕ, ◌+◌, ◌*◌, ◌/◌, ◌%◌, ◌^◌, ◌==◌, nat_lt, nat_le, Bool, true, false, not, ◌&&◌, ◌||◌, if◌then◌else◌, List, [], ◌∷◌, map, length, take, drop, Option, Some, None, Result, Ok, Err, slice_index}
+use Rattle.std.specs.Prelude.{ℕ, ◌+◌, ◌*◌, ◌/◌, ◌%◌, ◌^◌, ◌==◌, nat_lt, nat_le, Bool, false, not, ◌&&◌, ◌||◌, List, [], ◌∷◌, map, length, take, drop, Option, Some, None, Result, Ok, Err}
 use Rattle.std.specs.List.{filter, list_any, range_with_len}
-use Rattle.std.specs.Int.{w16, w32, from_le_bytes}
 use Rattle.std.specs.Str.{bytes_eq}
-use Rattle.elf_model.specs.declared.ImageFault.{ImageFault}
-use Rattle.elf_model.specs.declared.ImageFault.TheVariants.{Short, Magic, Class, Kind, Machine, Header, Dynamic, Segment, NoSegment, Entry, NoMemory}
+use Rattle.elf_model.specs.declared.ImageKind.{ImageKind}
+use Rattle.elf_model.specs.declared.ImageKind.TheVariants.{Short, Magic, Class, Kind, Machine, Header, Dynamic, Segment, NoSegment, Entry}
+use Rattle.format_model.specs.Fields.{half_at, word_at}
+use Rattle.format_model.specs.FirstTrue.{first_true}
 
--- the numbers of two and of four bytes at a place of the file (Elf32_Half; Elf32_Word, Elf32_Addr and Elf32_Off)
-abbrev pub half : List ℕ → ℕ → ℕ
-half file i = from_le_bytes w16 (take 2 (drop i file))
-
-abbrev pub word : List ℕ → ℕ → ℕ
-word file i = from_le_bytes w32 (take 4 (drop i file))
-
+-- the fields of the ELF header: an Elf32_Half has two bytes, an Elf32_Word, Elf32_Addr or Elf32_Off has four
 abbrev pub e_type : List ℕ → ℕ
-e_type file = half file 16
+e_type file = half_at file 16
 
 abbrev pub e_machine : List ℕ → ℕ
-e_machine file = half file 18
+e_machine file = half_at file 18
 
 abbrev pub e_version : List ℕ → ℕ
-e_version file = word file 20
+e_version file = word_at file 20
 
 abbrev pub e_entry : List ℕ → ℕ
-e_entry file = word file 24
+e_entry file = word_at file 24
 
 abbrev pub e_phoff : List ℕ → ℕ
-e_phoff file = word file 28
+e_phoff file = word_at file 28
 
 abbrev pub e_ehsize : List ℕ → ℕ
-e_ehsize file = half file 40
+e_ehsize file = half_at file 40
 
 abbrev pub e_phentsize : List ℕ → ℕ
-e_phentsize file = half file 42
+e_phentsize file = half_at file 42
 
 abbrev pub e_phnum : List ℕ → ℕ
-e_phnum file = half file 44
+e_phnum file = half_at file 44
 
 -- one entry of the program header table
 pub record ProgramHeader : Type 0 where
@@ -48,7 +43,7 @@ pub record ProgramHeader : Type 0 where
 
 abbrev pub program_header : List ℕ → ℕ → ProgramHeader
 program_header file k = let at = e_phoff file + 32 * k in
-    record { p_type = word file at; p_offset = word file (at + 4); p_vaddr = word file (at + 8); p_filesz = word file (at + 16); p_memsz = word file (at + 20) }
+    record { p_type = word_at file at; p_offset = word_at file (at + 4); p_vaddr = word_at file (at + 8); p_filesz = word_at file (at + 16); p_memsz = word_at file (at + 20) }
 
 abbrev pub program_headers : List ℕ → List ProgramHeader
 program_headers file = map (program_header file) (range_with_len 0 (e_phnum file))
@@ -79,18 +74,13 @@ is_any_segment_wrong file_length end_before (h ∷ hs) =
 abbrev pub holds_address : ℕ → ProgramHeader → Bool
 holds_address a h = nat_le h.p_vaddr a && nat_lt a (h.p_vaddr + h.p_memsz)
 
--- the name beside the first test that is true
-abbrev pub first_true : {X : Type 0} → List (Bool × X) → Option X
-first_true [] = None
-first_true (row ∷ rows) = if row.0 then Some row.1 else first_true rows
-
 -- where the table of program headers is wrong; with no entry neither field is looked at
 abbrev pub is_table_wrong : List ℕ → Bool
 is_table_wrong file =
     nat_lt 0 (e_phnum file) && (not (e_phentsize file == 32) || nat_lt (length file) (e_phoff file + 32 * e_phnum file))
 
 -- the faults of a file, in this order
-abbrev pub faults : List ℕ → List (Bool × ImageFault)
+abbrev pub faults : List ℕ → List (Bool × ImageKind)
 faults file =
     (nat_lt (length file) 52, Short) ∷
     (not (bytes_eq (take 4 file) (0x7f ∷ 0x45 ∷ 0x4c ∷ 0x46 ∷ [])), Magic) ∷
@@ -127,10 +117,10 @@ abbrev pub image_of : List ℕ → Image
 image_of file = let segments = map (segment file) (loaded_headers file) in
     record { base = lowest segments / 4096 * 4096; entry = e_entry file; segments = segments }
 
-abbrev pub unless_faulty : List ℕ → Option ImageFault → Result Image ImageFault
+abbrev pub unless_faulty : List ℕ → Option ImageKind → Result Image ImageKind
 unless_faulty file None = Ok (image_of file)
-unless_faulty file (Some fault) = Err fault
+unless_faulty file (Some kind) = Err kind
 
 -- the image of a file, or its first fault
-abbrev pub image : List ℕ → Result Image ImageFault
+abbrev pub image : List ℕ → Result Image ImageKind
 image file = unless_faulty file (first_true (faults file))

@@ -1,8 +1,7 @@
 -- The window of memory that a run has, and the state that it begins in.
-use Rattle.std.specs.Prelude.{ℕ, ◌+◌, ◌-◌, ◌*◌, ◌^◌, nat_le, Bool, ◌&&◌, if◌then◌else◌, List, [], ◌∷◌, length, replicate, Option, Some, None, Result, Ok, Err}
+use Rattle.std.specs.Prelude.{ℕ, ◌+◌, ◌-◌, ◌*◌, ◌^◌, nat_le, Bool, ◌&&◌, if◌then◌else◌, List, [], ◌∷◌, replicate, Option, Some, None}
 use Rattle.std.specs.List.{list_all}
 use Rattle.isa.specs.Machine.{State, overwritten}
-use Rattle.elf_model.specs.declared.ImageFault.{ImageFault}
 use Rattle.elf_model.specs.Image.{Image, LoadedSegment}
 
 -- the window has this many pages of 4096 bytes from the image's base on. It can hold the image where it ends in the

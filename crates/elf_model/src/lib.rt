@@ -6,9 +6,9 @@
 
 use thiserror::Error;
 
-/// Why a file is no image: the first of the ten faults that holds, in this order, or want of memory.
+/// Why a file is no image: the first of these ten faults that holds, in this order.
 #[derive(Clone, Copy, Debug, PartialEq, Eq, Error)]
-pub enum ImageFault {
+pub enum ImageKind {
     /// The file has fewer than the 52 bytes of an ELF header.
     #[error("the file is shorter than an ELF header")]
     Short,
@@ -39,7 +39,4 @@ pub enum ImageFault {
     /// `e_entry` isn't a multiple of 4, or lies in no loaded segment.
     #[error("the entry point is wrong")]
     Entry,
-    /// Want of memory. No definition gives it.
-    #[error("out of memory")]
-    NoMemory,
 }

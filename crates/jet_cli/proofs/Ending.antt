@@ -12,7 +12,7 @@ use Rattle.jet_model.proofs.Reported.{report-is_answer, given-is_log_answer, rec
 use Rattle.jet_model.proofs.OneAnswer as one
 use Rattle.jet_words.specs.Words.{Asked, QueryOf, RecordOf, ReplayOf, OutputOf}
 use Rattle.run_output.specs.Summary.{summary_text}
-use Rattle.run_output.specs.Output.{output_on}
+use Rattle.run_output.specs.Output.{output as output_on}
 use Rattle.jet_refusal.specs.Lines.{err_line, memory_text}
 use Rattle.jet_refusal.specs.Refusals.{line_of}
 use Rattle.jet_refusal.specs.Statuses.{status_of}

@@ -6,7 +6,7 @@ use Rattle.outer_io.specs.Files.{Files}
 use Rattle.jet_words.specs.Words.{Asked, QueryOf, RecordOf, ReplayOf, OutputOf}
 use Rattle.jet_model.specs.Answer.{Gives, IsAnswer, IsLogAnswer, IsRecordAnswer}
 use Rattle.run_output.specs.Summary.{summary_text}
-use Rattle.run_output.specs.Output.{output_on}
+use Rattle.run_output.specs.Output.{output as output_on}
 use Rattle.jet_refusal.specs.declared.refusal.Refusal.{Refusal}
 use Rattle.jet_cli.specs.Words.{named, limits_of, Target, ToOutput, target_of}
 use Rattle.jet_files.specs.Causes.{Cause, NoCommand, Answered, ReadFailed, WriteFailed, WantsMemory, cause_of}

@@ -7,7 +7,7 @@ use Rattle.jet_words.specs.Words.{Asked, QueryOf, RecordOf, ReplayOf, OutputOf}
 use Rattle.jet_model.specs.Answer.{Answer, Folder, Missing, TooLong, NoImage, NoLog, NoQuery, WrongProgram, NoWindow, Diverges, LongLog, Gives}
 use Rattle.jet_model.specs.Headline.{IsReportOf, IsGivenBy, IsRecordingOf, IsShort, AreShort, AreAllShort}
 use Rattle.run_output.specs.Summary.{summary_text}
-use Rattle.run_output.specs.Output.{output_on}
+use Rattle.run_output.specs.Output.{output as output_on}
 use Rattle.jet_refusal.specs.Statuses.{status_of}
 use Rattle.jet_refusal.specs.declared.refusal.Refusal.{Refusal}
 use Rattle.jet_files.specs.Causes.{Cause, NoCommand, Answered, ReadFailed, WriteFailed, WantsMemory}

@@ -4,7 +4,7 @@ ghost use Rattle.outer_io.specs.Tells.{Tells, Gains, GainsPrefix};
 ghost use Rattle.outer_io.specs.Files.{KeepsFiles};
 ghost use Rattle.jet_model.specs.Answer.{IsAnswer, IsLogAnswer};
 ghost use Rattle.run_output.specs.Summary.{summary_text};
-ghost use Rattle.run_output.specs.Output.{output_on};
+ghost use Rattle.run_output.specs.Output.{output as output_on};
 ghost use Rattle.jet_words.specs.Words.{asked_of, IsInRange};
 ghost use Rattle.jet_files.specs.Causes.{cause_of, cause_by};
 ghost use Rattle.jet_files.specs.Outcome.{Holds};

@@ -9,7 +9,7 @@ ghost use Rattle.report_model.specs.Text.{report_text};
 ghost use Rattle.replayer.specs.Checks.{IsChecked};
 ghost use Rattle.replayer.specs.Jobs.{trace_of};
 ghost use Rattle.run_output.specs.Summary.{summary_text as summary_text_of};
-ghost use Rattle.run_output.specs.Output.{output_on as output_of};
+ghost use Rattle.run_output.specs.Output.{output as output_of};
 ghost use Rattle.jet_model.specs.Answer.{IsRunAnswer, report_from};
 ghost use Rattle.jet_files.specs.Causes.{cause_of, cause_by};
 ghost use Rattle.jet_files.specs.Outcome.{WorkHolds};

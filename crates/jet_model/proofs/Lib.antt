@@ -1,7 +1,9 @@
-pub mod Headline
-pub mod Reported
-pub mod OneAnswer
-pub mod Guests
-pub mod Reports
-pub mod Divergences
-pub mod Queries
+pub mod AndThen
+pub mod Files
+mod Bytes
+mod LogReading
+mod Headline
+mod Guests
+mod Reports
+mod Divergences
+mod Queries

@@ -1,3 +1,5 @@
+pub mod Outcomes
+pub mod Contents
 pub mod Report
 pub mod Answer
 pub mod Headline

@@ -2,7 +2,7 @@
 use Rattle.std.specs.Prelude.{◌≡◌, ◌∷◌, [], codes, pos, negsuc, refl}
 use Rattle.std.specs.Fmt.{digits}
 use Rattle.hex.specs.Hex.{encode_with}
-use Rattle.elf_model.specs.declared.ImageFault.TheVariants as image
+use Rattle.elf_model.specs.declared.ImageKind.TheVariants as image
 use Rattle.log_model.specs.declared.LogKind.TheVariants as log
 use Rattle.report_model.specs.declared.QueryKind.TheVariants as query
 use Rattle.replay_model.specs.declared.Field.TheVariants as field
@@ -22,9 +22,9 @@ small_window : line_of (refusal.Window 1) ≡ codes "jet: window 1\n"
 unfolding digits
 small_window = refl
 
-a_byte_behind_the_log : line_of (refusal.Log log.Trailing 107) ≡ codes "jet: log 7 Trailing at 107\n"
+a_byte_after_the_end : line_of (refusal.Log log.Trailing 107) ≡ codes "jet: log 7 Trailing at 107\n"
 unfolding digits
-a_byte_behind_the_log = refl
+a_byte_after_the_end = refl
 
 another_program : line_of (refusal.Program (0x0f ∷ 0xa0 ∷ []) (0x00 ∷ 0xff ∷ [])) ≡ codes "jet: program kept 0fa0 seen 00ff\n"
 unfolding encode_with
@@ -61,6 +61,3 @@ a_fault_of_writing = refl
 
 no_memory : line_of refusal.NoMemory ≡ codes "jet: memory\n"
 no_memory = refl
-
-no_memory_for_an_image : line_of (refusal.Image image.NoMemory) ≡ line_of refusal.NoMemory
-no_memory_for_an_image = refl

@@ -2,8 +2,8 @@
 use Rattle.std.specs.Prelude.{ℕ, ℤ, List, [], ◌∷◌, ◌++◌, codes}
 use Rattle.std.specs.Fmt.{decimal, signed_decimal}
 use Rattle.hex.specs.Hex.{encode_lower}
-use Rattle.elf_model.specs.declared.ImageFault.{ImageFault}
-use Rattle.elf_model.specs.declared.ImageFault.TheVariants as image
+use Rattle.elf_model.specs.declared.ImageKind.{ImageKind}
+use Rattle.elf_model.specs.declared.ImageKind.TheVariants as image
 use Rattle.log_model.specs.declared.LogKind.{LogKind}
 use Rattle.log_model.specs.declared.LogKind.TheVariants as log
 use Rattle.report_model.specs.declared.QueryKind.{QueryKind}
@@ -35,8 +35,8 @@ memory_text = codes "memory"
 
 -- ---- the program
 
--- the number and the name of the fault. Want of memory is no fault of an image, and says so
-abbrev pub image_text : ImageFault → List ℕ
+-- the number and the name of the fault
+abbrev pub image_text : ImageKind → List ℕ
 image_text image.Short = codes "image 1 Short"
 image_text image.Magic = codes "image 2 Magic"
 image_text image.Class = codes "image 3 Class"
@@ -47,7 +47,6 @@ image_text image.Dynamic = codes "image 7 Dynamic"
 image_text image.Segment = codes "image 8 Segment"
 image_text image.NoSegment = codes "image 9 NoSegment"
 image_text image.Entry = codes "image 10 Entry"
-image_text image.NoMemory = memory_text
 
 -- a window of so many pages can't hold the image
 abbrev pub window_text : ℕ → List ℕ

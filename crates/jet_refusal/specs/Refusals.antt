@@ -1,8 +1,26 @@
--- The line of each refusal.
+-- The status and the line of each refusal.
 use Rattle.std.specs.Prelude.{ℕ, List}
 use Rattle.jet_refusal.specs.Lines.{err_line, usage_text, image_text, window_text, log_fault_text, program_text, divergence_text, query_text, file_limit_text, log_limit_text, read_fault_text, write_fault_text, memory_text}
 use Rattle.jet_refusal.specs.declared.refusal.Refusal.{Refusal}
 use Rattle.jet_refusal.specs.declared.refusal.Refusal.TheVariants as refusal
+
+-- ---- the status that a command ends with
+
+abbrev pub status_of : Refusal → ℕ
+status_of refusal.Usage = 2
+status_of (refusal.Image fault) = 3
+status_of (refusal.Window pages) = 3
+status_of (refusal.Log kind offset) = 4
+status_of (refusal.Program kept seen) = 5
+status_of (refusal.Diverged d) = 5
+status_of (refusal.Query line kind) = 6
+status_of refusal.ReadFault = 7
+status_of refusal.WriteFault = 8
+status_of refusal.TooLong = 9
+status_of (refusal.LogTooLong size) = 9
+status_of refusal.NoMemory = 10
+
+-- ---- the line on standard error
 
 abbrev pub text_of : Refusal → List ℕ
 text_of refusal.Usage = usage_text

@@ -4,28 +4,27 @@ ghost use Rattle.std.specs.Prelude.{◌≡◌, ◌+◌, ◌≤◌, ◌++◌, len
 ghost use Rattle.jet_refusal.specs.Lines.{image_text, log_fault_name, query_kind, field_text};
 
 use crate::line::Line;
-use elf_model::ImageFault;
+use elf_model::ImageKind;
 use log_model::LogKind;
 use replay_model::Field;
 use report_model::QueryKind;
 
 /// Why a program is no image, as the whole text of its line.
-pub(crate) fn image_text(fault: ImageFault) -> &'static str
-    ensures text { result.now ≡ image_text fault }
+pub(crate) fn image_text(kind: ImageKind) -> &'static str
+    ensures text { result.now ≡ image_text kind }
     ensures short { length result.now ≤ 17 }
 {
-    match fault {
-        ImageFault::Short => "image 1 Short",
-        ImageFault::Magic => "image 2 Magic",
-        ImageFault::Class => "image 3 Class",
-        ImageFault::Kind => "image 4 Kind",
-        ImageFault::Machine => "image 5 Machine",
-        ImageFault::Header => "image 6 Header",
-        ImageFault::Dynamic => "image 7 Dynamic",
-        ImageFault::Segment => "image 8 Segment",
-        ImageFault::NoSegment => "image 9 NoSegment",
-        ImageFault::Entry => "image 10 Entry",
-        ImageFault::NoMemory => "memory",
+    match kind {
+        ImageKind::Short => "image 1 Short",
+        ImageKind::Magic => "image 2 Magic",
+        ImageKind::Class => "image 3 Class",
+        ImageKind::Kind => "image 4 Kind",
+        ImageKind::Machine => "image 5 Machine",
+        ImageKind::Header => "image 6 Header",
+        ImageKind::Dynamic => "image 7 Dynamic",
+        ImageKind::Segment => "image 8 Segment",
+        ImageKind::NoSegment => "image 9 NoSegment",
+        ImageKind::Entry => "image 10 Entry",
     }
 }
 

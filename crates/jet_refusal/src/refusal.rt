@@ -2,12 +2,11 @@
 
 ghost use Rattle.std.specs.Prelude.{◌≡◌, ◌+◌, ◌≤◌, ◌++◌, length};
 ghost use Rattle.jet_refusal.specs.Lines.{log_fault_text, program_text, place_text, values_text, divergence_text, query_text};
-ghost use Rattle.jet_refusal.specs.Refusals.{text_of, line_of};
-ghost use Rattle.jet_refusal.specs.Statuses.{status_of};
+ghost use Rattle.jet_refusal.specs.Refusals.{status_of, text_of, line_of};
 
 use crate::line::Line;
 use crate::names::{image_text, log_fault_name, push_field, query_kind};
-use elf_model::ImageFault;
+use elf_model::ImageKind;
 use log_model::LogKind;
 use replay_model::Divergence;
 use report_model::QueryKind;
@@ -17,8 +16,8 @@ use report_model::QueryKind;
 pub enum Refusal {
     /// The command line's words are no command.
     Usage,
-    /// The program is no image. `ImageFault::NoMemory` is told as want of memory.
-    Image(ImageFault),
+    /// The program is no image: its first fault.
+    Image(ImageKind),
     /// The window of so many pages of 4096 bytes can't hold the image.
     Window { pages: u32 },
     /// The log's bytes are no log: the first fault, and its offset in bytes.
@@ -37,7 +36,7 @@ pub enum Refusal {
     ReadFault,
     /// The output failed, or the store while a file was written.
     WriteFault,
-    /// There is not enough memory.
+    /// Out of memory.
     NoMemory,
 }
 
@@ -48,7 +47,6 @@ impl Refusal {
     {
         match self {
             Refusal::Usage => 2,
-            Refusal::Image(ImageFault::NoMemory) => 10,
             Refusal::Image(_) => 3,
             Refusal::Window { .. } => 3,
             Refusal::Log { .. } => 4,
@@ -83,7 +81,7 @@ fn push_text(line: &mut Line, refusal: &Refusal)
 {
     match refusal {
         Refusal::Usage => line.push_str("usage"),
-        Refusal::Image(fault) => line.push_str(image_text(*fault)),
+        Refusal::Image(kind) => line.push_str(image_text(*kind)),
         Refusal::Window { pages } => {
             line.push_str("window ");
             line.push_number(*pages);

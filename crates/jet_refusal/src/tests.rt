@@ -1,5 +1,5 @@
 use crate::Refusal;
-use elf_model::ImageFault;
+use elf_model::ImageKind;
 use log_model::LogKind;
 use replay_model::{Divergence, Field};
 use report_model::QueryKind;
@@ -24,15 +24,11 @@ fn each_refusal_has_its_status_and_line(rt: HostRuntime) -> Result<(), Fail> {
     let cases = [
         (Refusal::Usage, 2, "jet: usage\n"),
         (
-            Refusal::Image(ImageFault::NoSegment),
+            Refusal::Image(ImageKind::NoSegment),
             3,
             "jet: image 9 NoSegment\n",
         ),
-        (
-            Refusal::Image(ImageFault::Entry),
-            3,
-            "jet: image 10 Entry\n",
-        ),
+        (Refusal::Image(ImageKind::Entry), 3, "jet: image 10 Entry\n"),
         (Refusal::Window { pages: 4096 }, 3, "jet: window 4096\n"),
         (
             Refusal::Log {
@@ -82,7 +78,6 @@ fn each_refusal_has_its_status_and_line(rt: HostRuntime) -> Result<(), Fail> {
             "jet: limit log 18446744073709551615\n",
         ),
         (Refusal::NoMemory, 10, "jet: memory\n"),
-        (Refusal::Image(ImageFault::NoMemory), 10, "jet: memory\n"),
     ];
     for (refusal, status, text) in cases {
         assert_eq!(rt; refusal.status(), status, "{text}");

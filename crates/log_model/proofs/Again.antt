@@ -7,46 +7,47 @@ use Rattle.std.proofs.lemmas.Bool.{le-ltb, ne_eqb}
 use Rattle.std.proofs.lemmas.Int.{ints}
 use Rattle.std.proofs.lemmas.List.{take_at, drop_at, length-append}
 use Rattle.std.proofs.lemmas.Nat.{from_le_bytes-to_le_bytes_4, from_le_bytes-to_le_bytes_8}
+use Rattle.format_model.specs.Fields.{word_at}
 use Rattle.log_model.specs.declared.CallRecord.{CallRecord}
 use Rattle.log_model.specs.declared.CallRecord.TheVariants.{Read, Write, Clock, Other}
 use Rattle.log_model.specs.declared.RunEnd.{RunEnd}
 use Rattle.log_model.specs.declared.RunEnd.TheVariants.{Exit, Trap, Limit}
 use Rattle.log_model.specs.Logs.{word32, signed32, at_of, end_at, record_text, end_text, IsTransfer, IsRecord, IsEnd, IsRefusal, IsTrapKind}
-use Rattle.log_model.specs.Faults.{tag_of, word, fixed_length, data_length, is_result_wrong, record_fault}
+use Rattle.log_model.specs.Faults.{tag_of, fixed_length, data_length, is_result_wrong, record_fault}
 use Rattle.log_model.proofs.Words.{long}
 use Rattle.log_model.proofs.Results.{IsOutcome, word_of_below, word_of_moved, cast_again, read_is_right, write_is_right, kind_is_right}
 
 -- ---- a record without a fault
 
-pub passes : (least : ℕ) (text : List ℕ) (t : ℕ) → tag_of text ≡ t → 1 ≤ t → t ≤ 7 → 1 ≤ length text → fixed_length t + data_length t text ≤ length text → least ≤ word text 1 → is_result_wrong t text ≡ false
+pub passes : (least : ℕ) (text : List ℕ) (t : ℕ) → tag_of text ≡ t → 1 ≤ t → t ≤ 7 → 1 ≤ length text → fixed_length t + data_length t text ≤ length text → least ≤ word_at text 1 → is_result_wrong t text ≡ false
     → record_fault least text ≡ None
 passes least text t tag low high some whole order right =
     let not_zero : (t == 0) ≡ false = ne_eqb t 0 (λ e. omega arith) in
     let known : nat_lt 7 t ≡ false = le-ltb 7 t high in
     let is_some : (length text == 0) ≡ false = ne_eqb (length text) 0 (λ e. omega arith) in
     let fixed : nat_lt (length text) (fixed_length t) ≡ false = le-ltb (length text) (fixed_length t) (omega (arith, whole)) in
-    let rises : nat_lt (word text 1) least ≡ false = le-ltb (word text 1) least order in
+    let rises : nat_lt (word_at text 1) least ≡ false = le-ltb (word_at text 1) least order in
     let complete : nat_lt (length text) (fixed_length t + data_length t text) ≡ false = le-ltb (length text) (fixed_length t + data_length t text) whole in
     rw (tag, is_some, not_zero, known, fixed, rises, right, complete) refl
 
 -- ---- what a text says
 
 abbrev pub arguments : List ℕ → List ℕ
-arguments text = word text 5 ∷ word text 9 ∷ word text 13 ∷ []
+arguments text = word_at text 5 ∷ word_at text 9 ∷ word_at text 13 ∷ []
 
 abbrev pub data_of : ℕ → List ℕ → List ℕ
 data_of tag text = take (data_length tag text) (drop 21 text)
 
 abbrev pub record_of : List ℕ → CallRecord
 record_of text =
-    if tag_of text == 1 then Read (word text 1) (arguments text) (cast_signed w32 (word text 17)) (data_of 1 text) else
-    if tag_of text == 2 then Write (word text 1) (arguments text) (cast_signed w32 (word text 17)) (data_of 2 text) else
-    if tag_of text == 3 then Clock (word text 1) (long text 5) else Other (word text 1) (word text 5)
+    if tag_of text == 1 then Read (word_at text 1) (arguments text) (cast_signed w32 (word_at text 17)) (data_of 1 text) else
+    if tag_of text == 2 then Write (word_at text 1) (arguments text) (cast_signed w32 (word_at text 17)) (data_of 2 text) else
+    if tag_of text == 3 then Clock (word_at text 1) (long text 5) else Other (word_at text 1) (word_at text 5)
 
 abbrev pub end_of : List ℕ → RunEnd
 end_of text =
-    if tag_of text == 5 then Exit (word text 1) (word text 5) else
-    if tag_of text == 6 then Trap (word text 1) (word text 5) (word text 9) else Limit (word text 1)
+    if tag_of text == 5 then Exit (word_at text 1) (word_at text 5) else
+    if tag_of text == 6 then Trap (word_at text 1) (word_at text 5) (word_at text 9) else Limit (word_at text 1)
 
 abbrev pub behind : List ℕ → List ℕ
 behind text = drop (data_length (tag_of text) text) (drop (fixed_length (tag_of text)) text)
@@ -65,7 +66,7 @@ pub record IsEndAgain (e : RunEnd) (after : List ℕ) : Type 0 where
 clock_again : (at value : ℕ) (after : List ℕ) → at < 2 ^ 32 → value < 2 ^ 64 → IsAgain (Clock at value) after
 clock_again at value after p q =
     let text = record_text (Clock at value) ++ after in
-    let a : word text 1 ≡ at = from_le_bytes-to_le_bytes_4 at p in
+    let a : word_at text 1 ≡ at = from_le_bytes-to_le_bytes_4 at p in
     let b : long text 5 ≡ value = from_le_bytes-to_le_bytes_8 value q in
     record {
       same = rw (a, b) refl;
@@ -76,8 +77,8 @@ clock_again at value after p q =
 other_again : (at number : ℕ) (after : List ℕ) → at < 2 ^ 32 → number < 2 ^ 32 → IsAgain (Other at number) after
 other_again at number after p q =
     let text = record_text (Other at number) ++ after in
-    let a : word text 1 ≡ at = from_le_bytes-to_le_bytes_4 at p in
-    let b : word text 5 ≡ number = from_le_bytes-to_le_bytes_4 number q in
+    let a : word_at text 1 ≡ at = from_le_bytes-to_le_bytes_4 at p in
+    let b : word_at text 5 ≡ number = from_le_bytes-to_le_bytes_4 number q in
     record {
       same = rw (a, b) refl;
       rest = refl;
@@ -92,8 +93,8 @@ small k (inr (inr e)) = omega arith
 pub end_again : (e : RunEnd) (after : List ℕ) → IsEnd e → IsEndAgain e after
 end_again (Exit at code) after h =
     let text = end_text (Exit at code) ++ after in
-    let a : word text 1 ≡ at = from_le_bytes-to_le_bytes_4 at h.0 in
-    let b : word text 5 ≡ code = from_le_bytes-to_le_bytes_4 code h.1 in
+    let a : word_at text 1 ≡ at = from_le_bytes-to_le_bytes_4 at h.0 in
+    let b : word_at text 5 ≡ code = from_le_bytes-to_le_bytes_4 code h.1 in
     record {
       same = rw (a, b) refl;
       rest = refl;
@@ -101,9 +102,9 @@ end_again (Exit at code) after h =
     }
 end_again (Trap at kind pc) after h =
     let text = end_text (Trap at kind pc) ++ after in
-    let a : word text 1 ≡ at = from_le_bytes-to_le_bytes_4 at h.0 in
-    let b : word text 5 ≡ kind = from_le_bytes-to_le_bytes_4 kind (omega (arith, small kind h.1)) in
-    let d : word text 9 ≡ pc = from_le_bytes-to_le_bytes_4 pc h.2 in
+    let a : word_at text 1 ≡ at = from_le_bytes-to_le_bytes_4 at h.0 in
+    let b : word_at text 5 ≡ kind = from_le_bytes-to_le_bytes_4 kind (omega (arith, small kind h.1)) in
+    let d : word_at text 9 ≡ pc = from_le_bytes-to_le_bytes_4 pc h.2 in
     record {
       same = rw (a, b, d) refl;
       rest = refl;
@@ -111,7 +112,7 @@ end_again (Trap at kind pc) after h =
     }
 end_again (Limit at) after h =
     let text = end_text (Limit at) ++ after in
-    let a : word text 1 ≡ at = from_le_bytes-to_le_bytes_4 at h in
+    let a : word_at text 1 ≡ at = from_le_bytes-to_le_bytes_4 at h in
     record {
       same = rw a refl;
       rest = refl;
@@ -130,11 +131,11 @@ three (a ∷ b ∷ c ∷ d ∷ args) e = absurd (omega (arith, e))
 
 -- a text with these fields at their places
 record HasFields (text : List ℕ) (at a b c : ℕ) (result : ℤ) (bytes after : List ℕ) : Type 0 where
-  step : word text 1 ≡ at
-  first : word text 5 ≡ a
-  second : word text 9 ≡ b
-  third : word text 13 ≡ c
-  outcome : word text 17 ≡ cast_unsigned w32 result
+  step : word_at text 1 ≡ at
+  first : word_at text 5 ≡ a
+  second : word_at text 9 ≡ b
+  third : word_at text 13 ≡ c
+  outcome : word_at text 17 ≡ cast_unsigned w32 result
   tail : drop 21 text ≡ bytes ++ after
 
 -- the fields of a read or a write, behind a tag
@@ -151,7 +152,7 @@ fields t at a b c result bytes after p f = record {
 
 -- the data of a read or a write, in a text with these fields
 data_is : (text : List ℕ) (at a b c : ℕ) (result : ℤ) (bytes after : List ℕ) → HasFields text at a b c result bytes after → IsTransfer (a ∷ b ∷ c ∷ []) result bytes → IsOutcome result
-    → (if nat_lt (word text 17) (2 ^ 31) then word text 17 else 0) ≡ length bytes
+    → (if nat_lt (word_at text 17) (2 ^ 31) then word_at text 17 else 0) ≡ length bytes
 data_is text at a b c result bytes after h f o = rw h.outcome (word_of_moved result f.fits o) ∙ sym f.whole
 
 outcome_of : (result : ℤ) (asked : ℕ) → IsRefusal result ⊎ ((pos 0 ≤ℤ result) × (result ≤ℤ pos asked)) → IsOutcome result

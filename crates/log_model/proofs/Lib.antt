@@ -4,3 +4,4 @@ pub mod Again
 pub mod Once
 pub mod HeaderAgain
 pub mod Unique
+mod Examples

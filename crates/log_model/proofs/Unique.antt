@@ -1,11 +1,12 @@
 -- Each log has one text, bytes with a fault are no log's text, and bytes have one fault.
 use Rattle.std.proofs.Common.{◌≡◌, ℕ, ◌-◌, ◌≤◌, List, [], ◌++◌, length, take, drop, Some, None, refl, sym, ap, subst, ◌∙◌, arith}
 use Rattle.std.proofs.lemmas.List.{append-nil}
+use Rattle.format_model.specs.Fields.{word_at}
 use Rattle.log_model.specs.declared.CallRecord.{CallRecord}
 use Rattle.log_model.specs.declared.RunEnd.{RunEnd}
 use Rattle.log_model.specs.declared.LogKind.{LogKind}
 use Rattle.log_model.specs.Logs.{Log, IsLog, log_text, end_text, end_at, least_after, IsEnd}
-use Rattle.log_model.specs.Faults.{word, header_fault, record_fault, IsRead, HasFault, InHeader, InRecord, BehindEnd}
+use Rattle.log_model.specs.Faults.{header_fault, record_fault, IsRead, HasFault, InHeader, InRecord, BehindEnd}
 use Rattle.log_model.proofs.Again.{end_again}
 use Rattle.log_model.proofs.HeaderAgain.{log_again}
 use Rattle.log_model.proofs.Once.{IsLast, last_from_fault, last_from_end, end_once, records_once}
@@ -35,8 +36,8 @@ one_text a b p q h =
     let tails = sym x.rest ∙ ap (drop 48) h ∙ y.rest in
     let parts = records_once 0 a.records b.records (end_text a.end) (end_text b.end) p.records q.records p.rise q.rise (last_at_end _ a.end) (last_at_end _ b.end) tails in
     log_from a b
-    (sym x.pages ∙ ap (λ (t : List ℕ). word t 40) h ∙ y.pages)
-    (sym x.inputs ∙ ap (λ (t : List ℕ). word t 44) h ∙ y.inputs)
+    (sym x.pages ∙ ap (λ (t : List ℕ). word_at t 40) h ∙ y.pages)
+    (sym x.inputs ∙ ap (λ (t : List ℕ). word_at t 44) h ∙ y.inputs)
     (sym x.digest ∙ ap (λ (t : List ℕ). take 32 (drop 8 t)) h ∙ y.digest)
     parts.0
     (ends_once a.records b.records a.end b.end p.end q.end parts.1)

@@ -5,8 +5,8 @@ use Rattle.std.specs.Int.{w64, from_le_bytes}
 use Rattle.std.proofs.lemmas.Bool.{cases_lt}
 use Rattle.std.proofs.lemmas.List.{take-append-drop, drop-drop, drop_more, length-take, length-drop, get_or-drop, get_or-take, get_or_past}
 use Rattle.std.proofs.lemmas.Nat.{le_bytes_4, le_bytes_8}
+use Rattle.format_model.specs.Fields.{word_at}
 use Rattle.log_model.specs.Logs.{word32, word64}
-use Rattle.log_model.specs.Faults.{word}
 
 abbrev pub IsBytes : List ℕ → Type 0
 IsBytes bytes = (i : ℕ) → get_or bytes i 0 < 256
@@ -35,17 +35,17 @@ taken n i bytes h = omega (arith, length-take n (drop i bytes), length-drop i by
 split : (n i : ℕ) (bytes text : List ℕ) → text ≡ take n (drop i bytes) → drop i bytes ≡ text ++ drop (i + n) bytes
 split n i bytes text e = sym (take-append-drop n (drop i bytes)) ∙ ap (λ (x : List ℕ). x ++ drop n (drop i bytes)) (sym e) ∙ ap (λ (x : List ℕ). text ++ x) (drop-drop n i bytes)
 
-pub word_spelt : (bytes : List ℕ) (i : ℕ) → IsBytes bytes → i + 4 ≤ length bytes → drop i bytes ≡ word32 (word bytes i) ++ drop (i + 4) bytes
+pub word_spelt : (bytes : List ℕ) (i : ℕ) → IsBytes bytes → i + 4 ≤ length bytes → drop i bytes ≡ word32 (word_at bytes i) ++ drop (i + 4) bytes
 word_spelt bytes i fits h =
     let four = take 4 (drop i bytes) in
-    split 4 i bytes (word32 (word bytes i)) (le_bytes_4 four (word bytes i) (taken 4 i bytes h) (IsBytes-take 4 (drop i bytes) (IsBytes-drop i bytes fits)) refl)
+    split 4 i bytes (word32 (word_at bytes i)) (le_bytes_4 four (word_at bytes i) (taken 4 i bytes h) (IsBytes-take 4 (drop i bytes) (IsBytes-drop i bytes fits)) refl)
 
 pub long_spelt : (bytes : List ℕ) (i : ℕ) → IsBytes bytes → i + 8 ≤ length bytes → drop i bytes ≡ word64 (long bytes i) ++ drop (i + 8) bytes
 long_spelt bytes i fits h =
     let eight = take 8 (drop i bytes) in
     split 8 i bytes (word64 (long bytes i)) (le_bytes_8 eight (long bytes i) (taken 8 i bytes h) (IsBytes-take 8 (drop i bytes) (IsBytes-drop i bytes fits)) refl)
 
-pub word_below : (bytes : List ℕ) (i : ℕ) → IsBytes bytes → word bytes i < 2 ^ 32
+pub word_below : (bytes : List ℕ) (i : ℕ) → IsBytes bytes → word_at bytes i < 2 ^ 32
 word_below bytes i fits =
     let h = IsBytes-take 4 (drop i bytes) (IsBytes-drop i bytes fits) in
     omega (arith, h 0, h 1, h 2, h 3)

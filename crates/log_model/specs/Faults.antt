@@ -1,21 +1,13 @@
 -- The first fault of bytes that are no log, and its offset.
-use Rattle.std.specs.Prelude.{◌≡◌, ℕ, ◌+◌, ◌-◌, ◌^◌, ◌<◌, ◌≤◌, ◌==◌, nat_eq, nat_lt, nat_le, Bool, not, ◌&&◌, ◌||◌, if◌then◌else◌, List, [], ◌∷◌, ◌++◌, length, take, drop, Option, Some, None, slice_index}
+use Rattle.std.specs.Prelude.{◌≡◌, ℕ, ◌+◌, ◌-◌, ◌^◌, ◌<◌, ◌≤◌, ◌==◌, nat_eq, nat_lt, nat_le, Bool, not, ◌&&◌, ◌||◌, if◌then◌else◌, List, [], ◌∷◌, ◌++◌, length, drop, Option, Some, None, slice_index}
 use Rattle.std.specs.List.{flat_map, AllByRecursion, starts_with}
-use Rattle.std.specs.Int.{w32, from_le_bytes}
+use Rattle.format_model.specs.Fields.{word_at}
+use Rattle.format_model.specs.FirstTrue.{first_true}
 use Rattle.log_model.specs.declared.CallRecord.{CallRecord}
 use Rattle.log_model.specs.declared.RunEnd.{RunEnd}
 use Rattle.log_model.specs.declared.LogKind.{LogKind}
 use Rattle.log_model.specs.declared.LogKind.TheVariants.{Magic, Header, Short, Tag, Order, Result, Trailing}
 use Rattle.log_model.specs.Logs.{magic, end_at, record_text, end_text, least_after, IsRecord, IsEnd, Rise}
-
--- the name beside the first test that is true
-abbrev pub first_true : {X : Type 0} → List (Bool × X) → Option X
-first_true [] = None
-first_true (row ∷ rows) = if row.0 then Some row.1 else first_true rows
-
--- the number of four bytes at a place
-abbrev pub word : List ℕ → ℕ → ℕ
-word bytes i = from_le_bytes w32 (take 4 (drop i bytes))
 
 -- ---- the header: 8 bytes of magic, 32 of digest, 4 of pages, 4 of inputs
 
@@ -27,8 +19,8 @@ abbrev pub header_fault : List ℕ → Option (LogKind × ℕ)
 header_fault bytes = first_true (
     (not (starts_with nat_eq bytes magic), (Magic, 0)) ∷
     (nat_lt (length bytes) 48, (Header, 8)) ∷
-    (are_pages_wrong (word bytes 40), (Header, 40)) ∷
-    (nat_lt 16 (word bytes 44), (Header, 44)) ∷ []
+    (are_pages_wrong (word_at bytes 40), (Header, 40)) ∷
+    (nat_lt 16 (word_at bytes 44), (Header, 44)) ∷ []
     )
 
 -- ---- a record, at the front of the bytes that are left: a tag, the step number in bytes 1 to 4, and then of a read or a
@@ -60,13 +52,13 @@ is_trap_kind_wrong kind = not (nat_le kind 3 || (kind == 5) || (kind == 7))
 
 abbrev pub is_result_wrong : ℕ → List ℕ → Bool
 is_result_wrong tag rest =
-    ((tag == 1) && is_read_result_wrong (word rest 13) (word rest 17)) ||
-    ((tag == 2) && is_write_result_wrong (word rest 13) (word rest 17)) ||
-    ((tag == 6) && is_trap_kind_wrong (word rest 5))
+    ((tag == 1) && is_read_result_wrong (word_at rest 13) (word_at rest 17)) ||
+    ((tag == 2) && is_write_result_wrong (word_at rest 13) (word_at rest 17)) ||
+    ((tag == 6) && is_trap_kind_wrong (word_at rest 5))
 
 -- the bytes of data behind a read's or a write's fixed fields
 abbrev pub data_length : ℕ → List ℕ → ℕ
-data_length tag rest = if ((tag == 1) || (tag == 2)) && nat_lt (word rest 17) (2 ^ 31) then word rest 17 else 0
+data_length tag rest = if ((tag == 1) || (tag == 2)) && nat_lt (word_at rest 17) (2 ^ 31) then word_at rest 17 else 0
 
 -- the first fault of the record at the front, where its step number has to be at least `least`
 abbrev pub record_fault : ℕ → List ℕ → Option LogKind
@@ -74,7 +66,7 @@ record_fault least rest = let tag = tag_of rest in first_true (
     (length rest == 0, Short) ∷
     ((tag == 0) || nat_lt 7 tag, Tag) ∷
     (nat_lt (length rest) (fixed_length tag), Short) ∷
-    (nat_lt (word rest 1) least, Order) ∷
+    (nat_lt (word_at rest 1) least, Order) ∷
     (is_result_wrong tag rest, Result) ∷
     (nat_lt (length rest) (fixed_length tag + data_length tag rest), Short) ∷ []
     )

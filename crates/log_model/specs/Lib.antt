@@ -1,3 +1,4 @@
 pub mod Logs
 pub mod Faults
 pub mod Moved
+pub mod Reading

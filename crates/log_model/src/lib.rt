@@ -95,6 +95,15 @@ pub enum RunEnd {
     Limit { at: u32 },
 }
 
+/// What one record of a log says.
+#[derive(Drop)]
+pub enum Item {
+    /// A guest call.
+    Call(CallRecord),
+    /// The end of the run.
+    End(RunEnd),
+}
+
 /// The faults of bytes that are no log, by number: Magic is 1, Trailing is 7.
 #[derive(Clone, Copy, Debug, PartialEq, Eq)]
 pub enum LogKind {

@@ -5,8 +5,7 @@ use Rattle.std.specs.Prelude.{◌≡◌, ◌<◌, ◌≤◌, ◌-◌, ◌^◌, �
 abbrev pub Rose : ℕ → ℕ → Type 0
 Rose before now = before < 2 ^ 64 - 1 → before < now
 
--- the count never falls and stands still at its last value, and an error comes only where it rose
+-- the count never falls, and an error comes only where it rose
 pub record HasCause {T E : Type 0} (before now : ℕ) (result : Result T E) : Type 0 where
   pub later : before ≤ now
-  pub last : 2 ^ 64 - 1 ≤ before → now ≡ before
   pub failed : IsErr result → Rose before now

@@ -7,8 +7,8 @@ abbrev pub names_in : List ℕ → List ℕ → List Text
 names_in bytes [] = []
 names_in bytes (n ∷ lengths) = take n bytes ∷ names_in (drop n bytes) lengths
 
--- the names asked for, where they are told, and the room for more: bytes in all, and how many
-pub record Asked : Type 0 where
+-- the names handed to a store, where they are told, and the room for more: bytes in all, and how many
+pub record Opened : Type 0 where
   pub names : Option (List Text)
   pub bytes_left : ℕ
   pub names_left : ℕ

@@ -9,6 +9,7 @@ use crate::store::Failed;
 #[derive(Clone, Copy)]
 pub struct Faults {
     pub count: u64,
+    ghost counted: { count ≤ 2 ^ 64 - 1 },
 }
 
 impl Faults {
@@ -21,7 +22,6 @@ impl Faults {
     // Counts a fault.
     pub fn fault(&mut self) -> Failed
         ensures later { self.old.count ≤ self.new.count }
-        ensures last { 2 ^ 64 - 1 ≤ self.old.count → self.new.count ≡ self.old.count }
         ensures rose { Rose self.old.count self.new.count }
     {
         self.count = self.count.saturating_add(1);

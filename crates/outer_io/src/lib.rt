@@ -14,7 +14,6 @@
 //! [`FileStore`], [`OutSink`] and [`MachineClock`] are the machine's. They are trusted, and tell nothing.
 #![tactic(auto)]
 
-mod asked_names;
 mod clock;
 mod faults;
 mod folder;
@@ -24,6 +23,7 @@ mod machine;
 mod memory_file;
 mod memory_sink;
 mod memory_store;
+mod opened_names;
 mod sink;
 mod store;
 mod sure_sink;

@@ -27,8 +27,8 @@ impl MemorySink {
         room: usize,
     ) -> Result<MemorySink, AllocError>
         requires { 0 < piece }
-        ensures written { IfOk result (λ sink. ⟦<MemorySink as Sink>⟧.written sink ≡ Some []) }
-        ensures faults { IfOk result (λ sink. ⟦<MemorySink as Sink>⟧.faults sink ≡ 0) }
+        ensures written { IfOk result (λ sink. (⟦<MemorySink as Sink>⟧.shown sink).written ≡ Some []) }
+        ensures faults { IfOk result (λ sink. (⟦<MemorySink as Sink>⟧.shown sink).faults ≡ 0) }
     {
         Ok(MemorySink {
             bytes: Vec::with_capacity(alloc, room)?,
@@ -39,16 +39,16 @@ impl MemorySink {
 
     /// What was written.
     pub fn bytes(&self) -> &[u8]
-        ensures { ⟦<MemorySink as Sink>⟧.written self.now ≡ Some result.now }
+        ensures { (⟦<MemorySink as Sink>⟧.shown self.now).written ≡ Some result.now }
     {
         &self.bytes
     }
 }
 
 impl Sink for MemorySink {
-    ghost written = { λ s. Some s.bytes.items };
+    ghost shown = { λ s. record { written = Some s.bytes.items; faults = s.calls.faults.count } };
 
-    ghost faults = { λ s. s.calls.faults.count };
+    ghost counted = { λ s. s.calls.faults.counted };
 
     fn put(&mut self, piece: &[u8]) -> Result<usize, Failed> {
         self.calls.begin()?;

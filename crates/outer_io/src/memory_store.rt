@@ -2,10 +2,10 @@
 ghost use Rattle.std.specs.Prelude.{◌≡◌, ◌<◌, [], Some, IfOk, IfSome, IsSome};
 ghost use Rattle.outer_io.specs.Held.{content_of, entries_of, files_of};
 
-use crate::asked_names::AskedNames;
 use crate::faults::Calls;
 use crate::folder::Folder;
 use crate::memory_file::MemoryFile;
+use crate::opened_names::OpenedNames;
 use crate::store::{Failed, Store};
 use std::alloc::{AllocError, Global};
 
@@ -16,7 +16,7 @@ use std::alloc::{AllocError, Global};
 #[derive(Drop)]
 pub struct MemoryStore {
     folder: Folder,
-    asked: AskedNames,
+    opened: OpenedNames,
     calls: Calls,
     piece: usize,
     is_open: bool,
@@ -38,14 +38,14 @@ impl MemoryStore {
         room: usize,
     ) -> Result<MemoryStore, AllocError>
         requires { 0 < piece }
-        ensures files { IfOk result (λ store. IfSome (⟦<MemoryStore as Store>⟧.files store) (λ told. told.file ≡ content_of (entries_of files.items))) }
-        ensures told { IfOk result (λ store. IsSome (⟦<MemoryStore as Store>⟧.files store)) }
-        ensures asked { IfOk result (λ store. ⟦<MemoryStore as Store>⟧.asked store ≡ Some []) }
-        ensures faults { IfOk result (λ store. ⟦<MemoryStore as Store>⟧.faults store ≡ 0) }
+        ensures files { IfOk result (λ store. IfSome (⟦<MemoryStore as Store>⟧.shown store).files (λ told. told.file ≡ content_of (entries_of files.items))) }
+        ensures told { IfOk result (λ store. IsSome (⟦<MemoryStore as Store>⟧.shown store).files) }
+        ensures opened { IfOk result (λ store. (⟦<MemoryStore as Store>⟧.shown store).opened ≡ Some []) }
+        ensures faults { IfOk result (λ store. (⟦<MemoryStore as Store>⟧.shown store).faults ≡ 0) }
     {
         Ok(MemoryStore {
             folder: Folder::new(alloc, files, room)?,
-            asked: AskedNames::new(alloc)?,
+            opened: OpenedNames::new(alloc)?,
             calls: Calls::new(failing),
             piece,
             is_open: false,
@@ -55,19 +55,17 @@ impl MemoryStore {
 }
 
 impl Store for MemoryStore {
-    ghost files = { λ s. Some (files_of s.folder) };
-
-    ghost asked = { λ s. s.asked.names };
+    ghost shown = { λ s. record { files = Some (files_of s.folder); opened = s.opened.names; faults = s.calls.faults.count } };
 
     ghost is_open = { λ s. s.is_open };
 
     ghost is_created = { λ s. s.is_created };
 
-    ghost faults = { λ s. s.calls.faults.count };
+    ghost counted = { λ s. s.calls.faults.counted };
 
     fn begin_read(&mut self, name: &str) -> Result<(), Failed> {
         self.is_open = false;
-        self.asked.note(name);
+        self.opened.note(name);
         self.calls.begin()?;
         if !self.folder.has(name) {
             return Err(self.calls.faults.fault());
@@ -89,7 +87,7 @@ impl Store for MemoryStore {
 
     fn create(&mut self, name: &str) -> Result<(), Failed> {
         self.is_created = false;
-        self.asked.note(name);
+        self.opened.note(name);
         self.calls.begin()?;
         if !self.folder.create(name) {
             return Err(self.calls.faults.fault());

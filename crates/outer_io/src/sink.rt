@@ -1,24 +1,25 @@
 // A place to write to.
-ghost use Rattle.std.specs.Prelude.{◌≤◌, ◌<◌, [], List, ℕ, Option, take, length, IfOk, OnErr};
+ghost use Rattle.std.specs.Prelude.{◌≤◌, ◌<◌, ◌-◌, ◌^◌, [], take, length, IfOk, OnErr};
 ghost use Rattle.outer_io.specs.Faults.{HasCause};
+ghost use Rattle.outer_io.specs.Shown.{SinkShown};
 ghost use Rattle.outer_io.specs.Tells.{Tells, Gains};
 
 use crate::store::Failed;
 
 /// A place to write bytes to, such as the standard output.
 pub trait Sink {
-    /// What was written so far, if it is told.
-    ghost written: { Self → Option (List ℕ) };
-
-    /// How often the sink failed; at most 2^64 - 1.
-    ghost faults: { Self → ℕ };
+    /// What the sink shows: what was written so far, and how often it failed.
+    ghost shown: { Self → SinkShown };
 
     /// Writes the first bytes of the piece, and answers how many: 1 to the piece's length. Of an
     /// empty piece it takes nothing and answers 0, and where it fails it took nothing.
     fn put(&mut self, piece: &[u8]) -> Result<usize, Failed>
-        ensures cause { HasCause (faults self.old) (faults self.new) result }
+        ensures cause { HasCause (shown self.old).faults (shown self.new).faults result }
         ensures count { IfOk result (λ n. n ≤ length piece.now) }
         ensures some { IfOk result (λ n. 0 < length piece.now → 0 < n) }
-        ensures ok { IfOk result (λ n. Tells (written self.old) (written self.new) (Gains (take n piece.now))) }
-        ensures err { OnErr result (Tells (written self.old) (written self.new) (Gains [])) };
+        ensures ok { IfOk result (λ n. Tells (shown self.old).written (shown self.new).written (Gains (take n piece.now))) }
+        ensures err { OnErr result (Tells (shown self.old).written (shown self.new).written (Gains [])) };
+
+    /// A count of faults is at most 2^64 - 1.
+    ghost counted: { (s : Self) → (shown s).faults ≤ 2 ^ 64 - 1 };
 }

@@ -1,6 +1,7 @@
 // A sink in memory that never fails.
 ghost use Rattle.std.specs.Prelude.{◌≡◌, ◌≤◌, ◌<◌, ◌+◌, [], take, length, Some, IfOk, IfSome, IsSome, OnErr};
 ghost use Rattle.outer_io.specs.Faults.{HasCause};
+ghost use Rattle.std.proofs.Common.{rules};
 ghost use Rattle.outer_io.specs.Tells.{Tells, Gains};
 
 use crate::sink::Sink;
@@ -44,9 +45,9 @@ impl SureSink {
 }
 
 impl Sink for SureSink {
-    ghost written = { λ s. s.written };
+    ghost shown = { λ s. record { written = s.written; faults = 0 } };
 
-    ghost faults = { λ _. 0 };
+    ghost counted = { λ s. Prim.search rules };
 
     // It is told as long as there is room, of which a put takes no more than the piece's length.
     fn put(&mut self, piece: &[u8]) -> Result<usize, Failed>

@@ -1,10 +1,11 @@
 // A store in memory that never fails.
 ghost use Rattle.std.specs.Prelude.{◌≡◌, [], None, Some, is_some, unwrap_or, IfOk, IfSome, IsSome, if◌then◌else◌};
+ghost use Rattle.std.proofs.Common.{rules};
 ghost use Rattle.outer_io.specs.Held.{content_of, entries_of, sure_files_of};
 
-use crate::asked_names::AskedNames;
 use crate::folder::Folder;
 use crate::memory_file::MemoryFile;
+use crate::opened_names::OpenedNames;
 use crate::store::{Failed, Store};
 use std::alloc::{AllocError, Global};
 
@@ -15,7 +16,7 @@ use std::alloc::{AllocError, Global};
 #[derive(Drop)]
 pub struct SureStore {
     folder: Folder,
-    asked: AskedNames,
+    opened: OpenedNames,
     is_lost: bool,
     is_open: bool,
     is_created: bool,
@@ -25,13 +26,13 @@ impl SureStore {
     /// A store of these files, of which the first counts where several have one name, with room for
     /// files of `room` bytes to be written. It fails where there is no memory for the room.
     pub fn new(alloc: Global, files: Vec<MemoryFile>, room: usize) -> Result<SureStore, AllocError>
-        ensures told { IfOk result (λ store. IsSome (⟦<SureStore as Store>⟧.files store)) }
-        ensures files { IfOk result (λ store. IfSome (⟦<SureStore as Store>⟧.files store) (λ told. told.file ≡ (λ name. Some (unwrap_or (content_of (entries_of files.items) name) [])))) }
-        ensures asked { IfOk result (λ store. ⟦<SureStore as Store>⟧.asked store ≡ Some []) }
+        ensures told { IfOk result (λ store. IsSome (⟦<SureStore as Store>⟧.shown store).files) }
+        ensures files { IfOk result (λ store. IfSome (⟦<SureStore as Store>⟧.shown store).files (λ told. told.file ≡ (λ name. Some (unwrap_or (content_of (entries_of files.items) name) [])))) }
+        ensures opened { IfOk result (λ store. (⟦<SureStore as Store>⟧.shown store).opened ≡ Some []) }
     {
         Ok(SureStore {
             folder: Folder::new(alloc, files, room)?,
-            asked: AskedNames::new(alloc)?,
+            opened: OpenedNames::new(alloc)?,
             is_lost: false,
             is_open: false,
             is_created: false,
@@ -40,25 +41,23 @@ impl SureStore {
 
     /// Whether the files are still told.
     pub fn is_told(&self) -> bool
-        ensures { result ≡ is_some (⟦<SureStore as Store>⟧.files self.now) }
+        ensures { result ≡ is_some (⟦<SureStore as Store>⟧.shown self.now).files }
     {
         !self.is_lost
     }
 }
 
 impl Store for SureStore {
-    ghost files = { λ s. if s.is_lost then None else Some (sure_files_of s.folder) };
-
-    ghost asked = { λ s. s.asked.names };
+    ghost shown = { λ s. record { files = if s.is_lost then None else Some (sure_files_of s.folder); opened = s.opened.names; faults = 0 } };
 
     ghost is_open = { λ s. s.is_open };
 
     ghost is_created = { λ s. s.is_created };
 
-    ghost faults = { λ _. 0 };
+    ghost counted = { λ s. Prim.search rules };
 
     fn begin_read(&mut self, name: &str) -> Result<(), Failed> {
-        self.asked.note(name);
+        self.opened.note(name);
         if !self.folder.begin_read(name) {
             // There is no room for the name, so no file has it: an empty one is read.
             self.folder.begin_read("");
@@ -79,7 +78,7 @@ impl Store for SureStore {
     }
 
     fn create(&mut self, name: &str) -> Result<(), Failed> {
-        self.asked.note(name);
+        self.opened.note(name);
         if !self.folder.create(name) {
             self.folder.create("");
             self.is_lost = true;

@@ -48,13 +48,12 @@ pub fn read_whole<S: Store>(
 ) -> Result<Vec<u8>, ReadWhole>
     requires { max ≤ 2 ^ 26 }
     ensures short { IfOk result (λ bytes. vec_len bytes ≤ max) }
-    ensures content { IfOk result (λ bytes. Tells (S.files store.old) (S.files store.new) (HasContent name.now bytes.items)) }
-    ensures cause { IfErr result (ReadCause name.now max (S.files store.old) (S.files store.new) (S.faults store.old) (S.faults store.new)) }
-    ensures keeps { Tells (S.files store.old) (S.files store.new) KeepsFiles }
-    ensures asked { Tells (S.asked store.old) (S.asked store.new) (Gains (name.now ∷ [])) }
+    ensures content { IfOk result (λ bytes. Tells (S.shown store.old).files (S.shown store.new).files (HasContent name.now bytes.items)) }
+    ensures cause { IfErr result (ReadCause name.now max (S.shown store.old).files (S.shown store.new).files (S.shown store.old).faults (S.shown store.new).faults) }
+    ensures keeps { Tells (S.shown store.old).files (S.shown store.new).files KeepsFiles }
+    ensures opened { Tells (S.shown store.old).opened (S.shown store.new).opened (Gains (name.now ∷ [])) }
     ensures created { S.is_created store.new ≡ S.is_created store.old }
-    ensures later { S.faults store.old ≤ S.faults store.new }
-    ensures last { 2 ^ 64 - 1 ≤ S.faults store.old → S.faults store.new ≡ S.faults store.old }
+    ensures later { (S.shown store.old).faults ≤ (S.shown store.new).faults }
 {
     let Ok(()) = store.begin_read(name) else {
         return Err(ReadWhole::ReadFault);
@@ -82,9 +81,9 @@ pub fn read_whole<S: Store>(
 /// It fails where the sink failed; its count of faults then rose, or stands at 2^64 - 1, and what
 /// went out is a prefix of the bytes.
 pub fn write_whole<O: Sink>(sink: &mut O, bytes: &[u8]) -> Result<(), WriteFault>
-    ensures cause { HasCause (O.faults sink.old) (O.faults sink.new) result }
-    ensures ok { OnOk result (Tells (O.written sink.old) (O.written sink.new) (Gains bytes.now)) }
-    ensures err { OnErr result (Tells (O.written sink.old) (O.written sink.new) (GainsPrefix bytes.now)) }
+    ensures cause { HasCause (O.shown sink.old).faults (O.shown sink.new).faults result }
+    ensures ok { OnOk result (Tells (O.shown sink.old).written (O.shown sink.new).written (Gains bytes.now)) }
+    ensures err { OnErr result (Tells (O.shown sink.old).written (O.shown sink.new).written (GainsPrefix bytes.now)) }
 {
     let mut rest = bytes;
     while !rest.is_empty() {

@@ -10,7 +10,7 @@ use Rattle.log_model.specs.declared.RunEnd.{RunEnd}
 use Rattle.log_model.specs.declared.RunEnd.TheVariants.{Exit, Limit}
 use Rattle.replay_model.specs.Comparison.{divergence}
 use Rattle.replay_model.specs.Fits.{beginning}
-use Rattle.record_model.specs.Recorded.{AllReadOn, EndsBy}
+use Rattle.record_model.specs.Recorded.{AllReadNext, EndsWithin}
 
 abbrev copy_four : List ℕ
 copy_four = let size = word32 48 in
@@ -39,10 +39,10 @@ whole = Read 5 (args 0) (pos 4) (0x41 ∷ 0x42 ∷ 0x43 ∷ 0x44 ∷ []) ∷ Wri
 whole_agrees : Agrees 1 whole (Exit 11 0)
 whole_agrees = refl
 
-whole_reads : AllReadOn (input ∷ []) 16777216 [] whole
+whole_reads : AllReadNext (input ∷ []) 16777216 [] whole
 whole_reads = (refl, (tt, tt))
 
-whole_ends : EndsBy 12 (Exit 11 0)
+whole_ends : EndsWithin 12 (Exit 11 0)
 whole_ends = omega arith
 
 -- a piece of two bytes
@@ -52,7 +52,7 @@ in_pieces = Read 5 (args 0) (pos 2) (0x41 ∷ 0x42 ∷ []) ∷ Write 8 (args 1) 
 pieces_agree : Agrees 1 in_pieces (Exit 11 0)
 pieces_agree = refl
 
-pieces_read : AllReadOn (input ∷ []) 2 [] in_pieces
+pieces_read : AllReadNext (input ∷ []) 2 [] in_pieces
 pieces_read = (refl, (tt, tt))
 
 -- without inputs the read is refused
@@ -62,19 +62,19 @@ refused = Read 5 (args 0) (negsuc 8) [] ∷ Write 8 (args 1) (pos 4) (0 ∷ 0 �
 refused_agrees : Agrees 0 refused (Exit 11 0)
 refused_agrees = refl
 
-refused_reads : AllReadOn [] 16777216 [] refused
+refused_reads : AllReadNext [] 16777216 [] refused
 refused_reads = (tt, (tt, tt))
 
 -- cut off before the read
 cut_agrees : Agrees 1 [] (Limit 5)
 cut_agrees = refl
 
-cut_ends : EndsBy 5 (Limit 5)
+cut_ends : EndsWithin 5 (Limit 5)
 cut_ends = refl
 
 -- a second read goes on where the first stopped, also on another channel between
 abbrev twice : List CallRecord
 twice = Read 0 (0 ∷ 0 ∷ 3 ∷ []) (pos 3) (0x41 ∷ 0x42 ∷ 0x43 ∷ []) ∷ Read 1 (1 ∷ 0 ∷ 2 ∷ []) (pos 1) (0x41 ∷ []) ∷ Read 2 (0 ∷ 0 ∷ 9 ∷ []) (pos 4) (0x44 ∷ 0x45 ∷ 0x46 ∷ 0x47 ∷ []) ∷ Read 3 (0 ∷ 0 ∷ 9 ∷ []) (pos 0) [] ∷ []
 
-twice_reads : AllReadOn (input ∷ (0x41 ∷ []) ∷ []) 5 [] twice
+twice_reads : AllReadNext (input ∷ (0x41 ∷ []) ∷ []) 5 [] twice
 twice_reads = (refl, (refl, (refl, (refl, tt))))

@@ -1,2 +1,3 @@
-pub mod Examples
+pub mod Calls
 pub mod Unique
+mod Examples

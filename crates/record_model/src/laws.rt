@@ -2,10 +2,9 @@
 
 ghost use Rattle.std.specs.Prelude.{◌≡◌, ℕ, List};
 ghost use Rattle.log_model.specs.Logs.{Log};
-ghost use Rattle.record_model.specs.Recorded.{IsRecorded};
+ghost use Rattle.record_model.specs.Recorded.{Setting, IsRecorded};
 
-/// A run is recorded in one way: the program, the pages, the inputs, the clock's answers, the piece and the
-/// limit of steps have one log.
+/// A run is recorded in one way: its setting and the clock's answers have one log.
 pub fn one_recording()
-    ensures { (program : List ℕ) (pages : ℕ) (inputs : List (List ℕ)) (answers : List ℕ) (piece steps : ℕ) (a b : Log) → IsRecorded program pages inputs answers piece steps a → IsRecorded program pages inputs answers piece steps b → a ≡ b }
+    ensures { (s : Setting) (answers : List ℕ) (a b : Log) → IsRecorded s answers a → IsRecorded s answers b → a ≡ b }
 {}

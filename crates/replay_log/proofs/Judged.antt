@@ -4,12 +4,13 @@ use Rattle.std.specs.Prelude.{if◌then◌else◌, nat_lt, nat_eq, ◌==◌}
 use Rattle.std.specs.List.{flat_map, AllByRecursion, starts_with}
 use Rattle.std.proofs.lemmas.Bool.{cases_eq, eqb-false, ltb-false, not-false, or_parts}
 use Rattle.std.proofs.lemmas.List.{drop_at, length-drop, length-take, take-append-drop}
+use Rattle.format_model.specs.Fields.{word_at}
 use Rattle.log_model.specs.declared.CallRecord.{CallRecord}
 use Rattle.log_model.specs.declared.RunEnd.{RunEnd}
 use Rattle.log_model.specs.declared.LogKind.{LogKind}
 use Rattle.log_model.specs.declared.LogKind.TheVariants.{Trailing}
 use Rattle.log_model.specs.Logs.{Log, IsLog, log_text, header_text, at_of, record_text, end_text, magic}
-use Rattle.log_model.specs.Faults.{HasFault, InHeader, tag_of, word, fixed_length, data_length, is_result_wrong, header_fault, record_fault}
+use Rattle.log_model.specs.Faults.{HasFault, InHeader, tag_of, fixed_length, data_length, is_result_wrong, header_fault, record_fault}
 use Rattle.log_model.proofs.Words.{IsBytes, IsBytes-drop, IsBytes-take}
 use Rattle.replay_log.specs.declared.records.Item.{Item}
 use Rattle.replay_log.specs.declared.records.Item.TheVariants.{Call, End}
@@ -34,7 +35,7 @@ record HasNoFault (least : ℕ) (rest : List ℕ) : Type 0 where
   low : 1 ≤ tag_of rest
   high : tag_of rest ≤ 7
   fixed : fixed_length (tag_of rest) ≤ length rest
-  order : least ≤ word rest 1
+  order : least ≤ word_at rest 1
   outcome : is_result_wrong (tag_of rest) rest ≡ false
   whole : fixed_length (tag_of rest) + data_length (tag_of rest) rest ≤ length rest
 
@@ -52,7 +53,7 @@ no_fault least rest h =
       low = some_of tag known.0;
       high = ltb-false 7 tag known.1;
       fixed = ltb-false (length rest) (fixed_length tag) c.0;
-      order = ltb-false (word rest 1) least d.0;
+      order = ltb-false (word_at rest 1) least d.0;
       outcome = e.0;
       whole = ltb-false (length rest) (fixed_length tag + data_length tag rest) f.0;
     }
@@ -160,9 +161,9 @@ body_judged bytes (suc n) records least rest h fits so_far =
 record IsHeaded (bytes : List ℕ) : Type 0 where
   begins : starts_with nat_eq bytes magic ≡ true
   whole : 48 ≤ length bytes
-  some : 1 ≤ word bytes 40
-  most : word bytes 40 ≤ 4096
-  inputs : word bytes 44 ≤ 16
+  some : 1 ≤ word_at bytes 40
+  most : word_at bytes 40 ≤ 4096
+  inputs : word_at bytes 44 ≤ 16
 
 headed : (bytes : List ℕ) → header_fault bytes ≡ None → IsHeaded bytes
 headed bytes h =
@@ -170,13 +171,13 @@ headed bytes h =
     let b = none_if _ _ _ a.1 in
     let c = none_if _ _ _ b.1 in
     let d = none_if _ _ _ c.1 in
-    let pages = or_parts (word bytes 40 == 0) (nat_lt 4096 (word bytes 40)) c.0 in
+    let pages = or_parts (word_at bytes 40 == 0) (nat_lt 4096 (word_at bytes 40)) c.0 in
     record {
       begins = not-false _ a.0;
       whole = ltb-false (length bytes) 48 b.0;
-      some = some_of (word bytes 40) pages.0;
-      most = ltb-false 4096 (word bytes 40) pages.1;
-      inputs = ltb-false 16 (word bytes 44) d.0;
+      some = some_of (word_at bytes 40) pages.0;
+      most = ltb-false 4096 (word_at bytes 40) pages.1;
+      inputs = ltb-false 16 (word_at bytes 44) d.0;
     }
 
 -- ---- the whole
@@ -189,7 +190,7 @@ are_bytes (b ∷ bytes) h (suc i) = are_bytes bytes h.1 i
 whole_log : (bytes : List ℕ) (records : List CallRecord) (end : RunEnd) → IsBytes bytes → IsHeaded bytes → IsBody bytes records end → IsLogText bytes ⊎ IsFaulty bytes
 whole_log bytes records end fits h body =
     let digest = take 32 (drop 8 bytes) in
-    let log : Log = record { pages = word bytes 40; inputs = word bytes 44; digest = digest; records = records; end = end } in
+    let log : Log = record { pages = word_at bytes 40; inputs = word_at bytes 44; digest = digest; records = records; end = end } in
     let is : IsLog log = record {
       pages = (h.some, h.most);
       inputs = h.inputs;

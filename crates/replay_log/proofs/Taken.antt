@@ -6,10 +6,11 @@ use Rattle.std.specs.Int.{w32, cast_signed}
 use Rattle.std.proofs.lemmas.Bool.{or_cases, or_parts, leb-true, eqb-true, not-false}
 use Rattle.std.proofs.lemmas.Int.{ints, of_z-to_z, to_z-of_z}
 use Rattle.std.proofs.lemmas.List.{nil_from_length, take_at}
+use Rattle.format_model.specs.Fields.{word_at}
 use Rattle.log_model.specs.declared.CallRecord.TheVariants.{Read, Write, Clock, Other}
 use Rattle.log_model.specs.declared.RunEnd.TheVariants.{Exit, Trap, Limit}
 use Rattle.log_model.specs.Logs.{word32, word64, signed32, IsTransfer, IsTrapKind}
-use Rattle.log_model.specs.Faults.{tag_of, word, fixed_length, data_length, is_result_wrong, is_read_result_wrong, is_write_result_wrong, is_trap_kind_wrong}
+use Rattle.log_model.specs.Faults.{tag_of, fixed_length, data_length, is_result_wrong, is_read_result_wrong, is_write_result_wrong, is_trap_kind_wrong}
 use Rattle.log_model.proofs.Words.{IsBytes, IsBytes-drop, IsBytes-take, IsBytes-each, word_spelt, long_spelt, word_below, long, long_below, byte_spelt}
 use Rattle.log_model.proofs.Results.{moved_of, fits_of, read_result_of, write_result_of}
 use Rattle.replay_log.specs.declared.records.Item.TheVariants.{Call, End}
@@ -22,33 +23,33 @@ pub record IsFrontOf (least : ℕ) (rest : List ℕ) (t : ℕ) (bytes after : Li
   pub are_bytes : IsBytes rest
   pub tag : tag_of rest ≡ t
   pub fixed : fixed_length t ≤ length rest
-  pub order : least ≤ word rest 1
+  pub order : least ≤ word_at rest 1
   pub outcome : is_result_wrong t rest ≡ false
   pub whole : length bytes ≡ data_length t rest
   pub parts : drop (fixed_length t) rest ≡ bytes ++ after
 
 -- one word more
-then_word : (rest : List ℕ) (i : ℕ) (behind : List ℕ) → IsBytes rest → i + 4 ≤ length rest → drop (i + 4) rest ≡ behind → drop i rest ≡ word32 (word rest i) ++ behind
-then_word rest i behind fits h e = word_spelt rest i fits h ∙ ap (λ (x : List ℕ). word32 (word rest i) ++ x) e
+then_word : (rest : List ℕ) (i : ℕ) (behind : List ℕ) → IsBytes rest → i + 4 ≤ length rest → drop (i + 4) rest ≡ behind → drop i rest ≡ word32 (word_at rest i) ++ behind
+then_word rest i behind fits h e = word_spelt rest i fits h ∙ ap (λ (x : List ℕ). word32 (word_at rest i) ++ x) e
 
 then_long : (rest : List ℕ) (i : ℕ) (behind : List ℕ) → IsBytes rest → i + 8 ≤ length rest → drop (i + 8) rest ≡ behind → drop i rest ≡ word64 (long rest i) ++ behind
 then_long rest i behind fits h e = long_spelt rest i fits h ∙ ap (λ (x : List ℕ). word64 (long rest i) ++ x) e
 
 -- the tag and the step number before the rest of a record
-opened : (rest behind : List ℕ) (t : ℕ) → IsBytes rest → tag_of rest ≡ t → 5 ≤ length rest → drop 5 rest ≡ behind → rest ≡ t ∷ (word32 (word rest 1) ++ behind)
-opened rest behind t fits tag h e = byte_spelt rest (omega arith) ∙ ap (λ (x : List ℕ). tag_of rest ∷ x) (then_word rest 1 behind fits h e) ∙ ap (λ (k : ℕ). k ∷ (word32 (word rest 1) ++ behind)) tag
+opened : (rest behind : List ℕ) (t : ℕ) → IsBytes rest → tag_of rest ≡ t → 5 ≤ length rest → drop 5 rest ≡ behind → rest ≡ t ∷ (word32 (word_at rest 1) ++ behind)
+opened rest behind t fits tag h e = byte_spelt rest (omega arith) ∙ ap (λ (x : List ℕ). tag_of rest ∷ x) (then_word rest 1 behind fits h e) ∙ ap (λ (k : ℕ). k ∷ (word32 (word_at rest 1) ++ behind)) tag
 
 -- no data
 nothing : (rest bytes after : List ℕ) (n : ℕ) → length bytes ≡ 0 → drop n rest ≡ bytes ++ after → drop n rest ≡ after
 nothing rest bytes after n none e = e ∙ ap (λ (x : List ℕ). x ++ after) (nil_from_length bytes none)
 
-pub limit_taken : (least : ℕ) (rest bytes after : List ℕ) → IsFrontOf least rest 7 bytes after → IsTaken least rest (End (Limit (word rest 1))) after
+pub limit_taken : (least : ℕ) (rest bytes after : List ℕ) → IsFrontOf least rest 7 bytes after → IsTaken least rest (End (Limit (word_at rest 1))) after
 limit_taken least rest bytes after f = record {
   form = (word_below rest 1 f.are_bytes, f.order);
   parts = opened rest after 7 f.are_bytes f.tag f.fixed (nothing rest bytes after 5 f.whole f.parts);
 }
 
-pub other_taken : (least : ℕ) (rest bytes after : List ℕ) → IsFrontOf least rest 4 bytes after → IsTaken least rest (Call (Other (word rest 1) (word rest 5))) after
+pub other_taken : (least : ℕ) (rest bytes after : List ℕ) → IsFrontOf least rest 4 bytes after → IsTaken least rest (Call (Other (word_at rest 1) (word_at rest 5))) after
 other_taken least rest bytes after f = record {
   form = ((word_below rest 1 f.are_bytes, word_below rest 5 f.are_bytes), f.order);
   parts =
@@ -56,7 +57,7 @@ other_taken least rest bytes after f = record {
       (then_word rest 5 after f.are_bytes f.fixed (nothing rest bytes after 9 f.whole f.parts));
 }
 
-pub exit_taken : (least : ℕ) (rest bytes after : List ℕ) → IsFrontOf least rest 5 bytes after → IsTaken least rest (End (Exit (word rest 1) (word rest 5))) after
+pub exit_taken : (least : ℕ) (rest bytes after : List ℕ) → IsFrontOf least rest 5 bytes after → IsTaken least rest (End (Exit (word_at rest 1) (word_at rest 5))) after
 exit_taken least rest bytes after f = record {
   form = ((word_below rest 1 f.are_bytes, word_below rest 5 f.are_bytes), f.order);
   parts =
@@ -64,7 +65,7 @@ exit_taken least rest bytes after f = record {
       (then_word rest 5 after f.are_bytes f.fixed (nothing rest bytes after 9 f.whole f.parts));
 }
 
-pub clock_taken : (least : ℕ) (rest bytes after : List ℕ) → IsFrontOf least rest 3 bytes after → IsTaken least rest (Call (Clock (word rest 1) (long rest 5))) after
+pub clock_taken : (least : ℕ) (rest bytes after : List ℕ) → IsFrontOf least rest 3 bytes after → IsTaken least rest (Call (Clock (word_at rest 1) (long rest 5))) after
 clock_taken least rest bytes after f = record {
   form = ((word_below rest 1 f.are_bytes, long_below rest 5 f.are_bytes), f.order);
   parts =
@@ -82,36 +83,36 @@ front_bytes whole bytes after fits e =
 
 -- the arguments, the result and the data
 abbrev pub arguments : List ℕ → List ℕ
-arguments rest = word rest 5 ∷ word rest 9 ∷ word rest 13 ∷ []
+arguments rest = word_at rest 5 ∷ word_at rest 9 ∷ word_at rest 13 ∷ []
 
 abbrev pub result_of : List ℕ → ℤ
-result_of rest = cast_signed w32 (word rest 17)
+result_of rest = cast_signed w32 (word_at rest 17)
 
-transferred : (rest bytes after : List ℕ) → IsBytes rest → length bytes ≡ (if nat_lt (word rest 17) (2 ^ 31) then word rest 17 else 0) → drop 21 rest ≡ bytes ++ after → IsTransfer (arguments rest) (result_of rest) bytes
+transferred : (rest bytes after : List ℕ) → IsBytes rest → length bytes ≡ (if nat_lt (word_at rest 17) (2 ^ 31) then word_at rest 17 else 0) → drop 21 rest ≡ bytes ++ after → IsTransfer (arguments rest) (result_of rest) bytes
 transferred rest bytes after fits whole parts = record {
   three = refl;
   words = (word_below rest 5 fits, (word_below rest 9 fits, (word_below rest 13 fits, tt)));
-  fits = fits_of (word rest 17) (word_below rest 17 fits);
-  whole = whole ∙ sym (moved_of (word rest 17) (word_below rest 17 fits));
+  fits = fits_of (word_at rest 17) (word_below rest 17 fits);
+  whole = whole ∙ sym (moved_of (word_at rest 17) (word_below rest 17 fits));
   are_bytes = front_bytes (drop 21 rest) bytes after (IsBytes-drop 21 rest fits) parts;
 }
 
 -- the fields behind the step number
 fields : (rest bytes after : List ℕ) → IsBytes rest → 21 ≤ length rest → drop 21 rest ≡ bytes ++ after
-    → drop 5 rest ≡ word32 (word rest 5) ++ (word32 (word rest 9) ++ (word32 (word rest 13) ++ (signed32 (result_of rest) ++ (bytes ++ after))))
+    → drop 5 rest ≡ word32 (word_at rest 5) ++ (word32 (word_at rest 9) ++ (word32 (word_at rest 13) ++ (signed32 (result_of rest) ++ (bytes ++ after))))
 fields rest bytes after fits h parts =
-    let back : word32 (word rest 17) ++ (bytes ++ after) ≡ signed32 (result_of rest) ++ (bytes ++ after) = ap (λ (k : ℕ). word32 k ++ (bytes ++ after)) (sym (of_z-to_z w32 (word rest 17) (word_below rest 17 fits))) in
+    let back : word32 (word_at rest 17) ++ (bytes ++ after) ≡ signed32 (result_of rest) ++ (bytes ++ after) = ap (λ (k : ℕ). word32 k ++ (bytes ++ after)) (sym (of_z-to_z w32 (word_at rest 17) (word_below rest 17 fits))) in
     then_word rest 5 _ fits (omega arith) (then_word rest 9 _ fits (omega arith) (then_word rest 13 _ fits (omega arith) (then_word rest 17 (bytes ++ after) fits (omega arith) parts ∙ back)))
 
-pub read_taken : (least : ℕ) (rest bytes after : List ℕ) → IsFrontOf least rest 1 bytes after → IsTaken least rest (Call (Read (word rest 1) (arguments rest) (result_of rest) bytes)) after
-read_taken least rest bytes after f = let wrong = is_read_result_wrong (word rest 13) (word rest 17) in record {
-  form = ((word_below rest 1 f.are_bytes, transferred rest bytes after f.are_bytes f.whole f.parts, read_result_of (word rest 13) (word rest 17) (word_below rest 17 f.are_bytes) (or_parts wrong false (or_parts (wrong || false) false f.outcome).0).0), f.order);
+pub read_taken : (least : ℕ) (rest bytes after : List ℕ) → IsFrontOf least rest 1 bytes after → IsTaken least rest (Call (Read (word_at rest 1) (arguments rest) (result_of rest) bytes)) after
+read_taken least rest bytes after f = let wrong = is_read_result_wrong (word_at rest 13) (word_at rest 17) in record {
+  form = ((word_below rest 1 f.are_bytes, transferred rest bytes after f.are_bytes f.whole f.parts, read_result_of (word_at rest 13) (word_at rest 17) (word_below rest 17 f.are_bytes) (or_parts wrong false (or_parts (wrong || false) false f.outcome).0).0), f.order);
   parts = opened rest _ 1 f.are_bytes f.tag (omega (arith, f.fixed)) (fields rest bytes after f.are_bytes f.fixed f.parts);
 }
 
-pub write_taken : (least : ℕ) (rest bytes after : List ℕ) → IsFrontOf least rest 2 bytes after → IsTaken least rest (Call (Write (word rest 1) (arguments rest) (result_of rest) bytes)) after
-write_taken least rest bytes after f = let wrong = is_write_result_wrong (word rest 13) (word rest 17) in record {
-  form = ((word_below rest 1 f.are_bytes, transferred rest bytes after f.are_bytes f.whole f.parts, write_result_of (word rest 13) (word rest 17) (word_below rest 17 f.are_bytes) (or_parts wrong false f.outcome).0), f.order);
+pub write_taken : (least : ℕ) (rest bytes after : List ℕ) → IsFrontOf least rest 2 bytes after → IsTaken least rest (Call (Write (word_at rest 1) (arguments rest) (result_of rest) bytes)) after
+write_taken least rest bytes after f = let wrong = is_write_result_wrong (word_at rest 13) (word_at rest 17) in record {
+  form = ((word_below rest 1 f.are_bytes, transferred rest bytes after f.are_bytes f.whole f.parts, write_result_of (word_at rest 13) (word_at rest 17) (word_below rest 17 f.are_bytes) (or_parts wrong false f.outcome).0), f.order);
   parts = opened rest _ 2 f.are_bytes f.tag (omega (arith, f.fixed)) (fields rest bytes after f.are_bytes f.fixed f.parts);
 }
 
@@ -124,9 +125,9 @@ trap_kind k e =
       | inr r ↦ inr (inr (eqb-true k 7 r))
     ]
 
-pub trap_taken : (least : ℕ) (rest bytes after : List ℕ) → IsFrontOf least rest 6 bytes after → IsTaken least rest (End (Trap (word rest 1) (word rest 5) (word rest 9))) after
+pub trap_taken : (least : ℕ) (rest bytes after : List ℕ) → IsFrontOf least rest 6 bytes after → IsTaken least rest (End (Trap (word_at rest 1) (word_at rest 5) (word_at rest 9))) after
 trap_taken least rest bytes after f = record {
-  form = ((word_below rest 1 f.are_bytes, trap_kind (word rest 5) f.outcome, word_below rest 9 f.are_bytes), f.order);
+  form = ((word_below rest 1 f.are_bytes, trap_kind (word_at rest 5) f.outcome, word_below rest 9 f.are_bytes), f.order);
   parts =
       opened rest _ 6 f.are_bytes f.tag (omega (arith, f.fixed))
       (then_word rest 5 _ f.are_bytes (omega (arith, f.fixed)) (then_word rest 9 after f.are_bytes f.fixed (nothing rest bytes after 13 f.whole f.parts)));
@@ -147,7 +148,7 @@ front_is least rest front t fits f e =
       parts = subst (λ (k : ℕ). drop (fixed_length k) rest ≡ front.bytes.now ++ front.after.now) same f.parts;
     }
 
-pub cast_is : (rest : List ℕ) (r : ℤ) (n : ℕ) → ((i : ℕ) → get_or rest i 0 < 256) → r ≡ cast_signed w32 n → n ≡ word rest 17 → to_z w32 (of_z w32 r) ≡ result_of rest
+pub cast_is : (rest : List ℕ) (r : ℤ) (n : ℕ) → ((i : ℕ) → get_or rest i 0 < 256) → r ≡ cast_signed w32 n → n ≡ word_at rest 17 → to_z w32 (of_z w32 r) ≡ result_of rest
 cast_is rest r n fits e f =
     let below = word_below rest 17 fits in
     let same : r ≡ result_of rest = e ∙ ap (cast_signed w32) f in

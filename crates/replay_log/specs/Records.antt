@@ -1,7 +1,8 @@
 -- One record at the front of the bytes that are left, as it is taken apart and put together.
 use Rattle.std.specs.Prelude.{◌≡◌, ℕ, ◌≤◌, ◌++◌, List, length, drop, false, Some}
+use Rattle.format_model.specs.Fields.{word_at}
 use Rattle.log_model.specs.Logs.{at_of, end_at, record_text, end_text, IsRecord, IsEnd}
-use Rattle.log_model.specs.Faults.{tag_of, word, fixed_length, data_length, is_result_wrong, record_fault}
+use Rattle.log_model.specs.Faults.{tag_of, fixed_length, data_length, is_result_wrong, record_fault}
 use Rattle.replay_log.specs.declared.records.Item.{Item}
 use Rattle.replay_log.specs.declared.records.Item.TheVariants.{Call, End}
 use Rattle.replay_log.specs.declared.records.Refused.{Refused}
@@ -15,8 +16,8 @@ use Rattle.replay_log.specs.Tags.{number}
 pub record IsFront (least : ℕ) (rest : List ℕ) (front : Front) : Type 0 where
   pub tag : number front.tag ≡ tag_of rest
   pub fixed : fixed_length (tag_of rest) ≤ length rest
-  pub at : front.at ≡ word rest 1
-  pub order : least ≤ word rest 1
+  pub at : front.at ≡ word_at rest 1
+  pub order : least ≤ word_at rest 1
   pub outcome : is_result_wrong (tag_of rest) rest ≡ false
   pub whole : length front.bytes.now ≡ data_length (tag_of rest) rest
   pub parts : drop (fixed_length (tag_of rest)) rest ≡ front.bytes.now ++ front.after.now

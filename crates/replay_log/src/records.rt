@@ -1,7 +1,7 @@
 //! The record at the front of the bytes that are left, put together.
 
 ghost use Rattle.std.specs.Prelude.{◌≡◌, ◌≤◌, ◌∷◌, [], length, IfOk, IfErr};
-ghost use Rattle.log_model.specs.Faults.{word};
+ghost use Rattle.format_model.specs.Fields.{word_at};
 ghost use Rattle.replay_log.specs.declared.records.Refused.TheVariants.{Faulty, NoMemory};
 ghost use Rattle.replay_log.specs.Records.{told_at, IsTaken, IsRefused};
 
@@ -57,7 +57,7 @@ impl From<AllocError> for Refused {
 /// The three arguments of a read or a write.
 fn arguments_of(rest: &[u8]) -> [u32; 3]
     requires { 17 ≤ length rest.now }
-    ensures { result ≡ word rest.now 5 ∷ word rest.now 9 ∷ word rest.now 13 ∷ [] }
+    ensures { result ≡ word_at rest.now 5 ∷ word_at rest.now 9 ∷ word_at rest.now 13 ∷ [] }
 {
     [word_at(rest, 5), word_at(rest, 9), word_at(rest, 13)]
 }

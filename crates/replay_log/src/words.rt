@@ -2,12 +2,12 @@
 
 ghost use Rattle.std.specs.Prelude.{◌≡◌, ◌+◌, ◌≤◌, length, take, drop};
 ghost use Rattle.std.specs.Int.{w64, from_le_bytes};
-ghost use Rattle.log_model.specs.Faults.{word};
+ghost use Rattle.format_model.specs.Fields.{word_at};
 
 /// The number of four bytes at a place.
 pub fn word_at(bytes: &[u8], at: usize) -> u32
     requires { at + 4 ≤ length bytes.now }
-    ensures { result ≡ word bytes.now at }
+    ensures { result ≡ word_at bytes.now at }
 {
     u32::from_le_bytes([bytes[at], bytes[at + 1], bytes[at + 2], bytes[at + 3]])
 }

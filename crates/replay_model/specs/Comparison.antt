@@ -68,6 +68,7 @@ arguments s args =
 abbrev pub arguments_of : State → List ℕ
 arguments_of s = reg s 10 ∷ reg s 11 ∷ reg s 12 ∷ []
 
+-- the result where it isn't negative, else `whole`. A negative number is a `negsuc n`, for -(n + 1)
 abbrev pub unless_negative : ℤ → ℕ → ℤ
 unless_negative (pos n) whole = pos n
 unless_negative (negsuc n) whole = pos whole
@@ -75,8 +76,8 @@ unless_negative (negsuc n) whole = pos whole
 -- the result that the call allows where the log keeps this one: the refusal where it is refused; else the log's own, or
 -- in place of a negative one the result of a call that moves `whole` bytes
 abbrev pub allowed : ℤ → ℤ → ℕ → ℤ
-allowed (negsuc refusal) kept whole = negsuc refusal
-allowed (pos none) kept whole = unless_negative kept whole
+allowed (negsuc n) kept whole = negsuc n
+allowed (pos n) kept whole = unless_negative kept whole
 
 abbrev pub result : ℤ → ℤ → Compared
 result kept seen = record { field = field.Result; kept = kept; seen = seen }

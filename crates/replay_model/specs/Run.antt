@@ -1,5 +1,5 @@
 -- A run under a log: the machine's steps, each call answered from the log's next record.
-use Rattle.std.specs.Prelude.{ℕ, zero, suc, ◌+◌, ◌==◌, if◌then◌else◌, List, [], ◌∷◌, length, drop, replicate, Some, None, slice_index, slice_set}
+use Rattle.std.specs.Prelude.{ℕ, zero, suc, ◌+◌, ◌==◌, if◌then◌else◌, List, [], ◌∷◌, ◌++◌, length, drop, Some, None}
 use Rattle.isa.specs.declared.Instr.TheVariants.{Ecall, Ebreak}
 use Rattle.isa.specs.declared.CallKind.{CallKind}
 use Rattle.isa.specs.declared.CallKind.TheVariants as kind
@@ -8,41 +8,30 @@ use Rattle.isa.specs.Calls.{channel_of, buffer_of, after_read, after_write, afte
 use Rattle.log_model.specs.declared.CallRecord.{CallRecord}
 use Rattle.log_model.specs.declared.CallRecord.TheVariants.{Read, Write, Clock, Other}
 use Rattle.log_model.specs.Logs.{Log, steps}
+use Rattle.log_model.specs.Moved.{received, written}
 use Rattle.flow_model.specs.declared.StepSeen.{StepSeen}
 use Rattle.flow_model.specs.declared.CallSeen.{CallSeen}
 
--- where a run stands: how many steps are done, the machine, the records that are left, and how many bytes were read
--- and written on each of the 16 channels
+-- where a run stands: how many steps are done, the machine, and the records of the calls that are done and that are left
 pub record Moment : Type 0 where
   pub time : ℕ
   pub state : State
+  pub done : List CallRecord
   pub left : List CallRecord
-  pub read : List ℕ
-  pub written : List ℕ
 
 abbrev pub start : State → Log → Moment
-start s log = record { time = 0; state = s; left = log.records; read = replicate 16 0; written = replicate 16 0 }
+start s log = record { time = 0; state = s; done = []; left = log.records }
 
--- a channel's count goes up by n
-abbrev pub counted : List ℕ → ℕ → ℕ → List ℕ
-counted counts channel n = slice_set counts channel (slice_index counts channel + n)
+-- the machine after a call that the record answers
+abbrev pub state_after : State → CallRecord → State
+state_after s (Read at args result bytes) = after_read s (buffer_of args) result bytes
+state_after s (Write at args result bytes) = after_write s result
+state_after s (Clock at value) = after_clock s value
+state_after s (Other at number) = after_other s
 
 -- the moment after a call that the record answers
 abbrev pub answered : Moment → CallRecord → Moment
-answered m (Read at args result bytes) = record m {
-  time = m.time + 1;
-  state = after_read m.state (buffer_of args) result bytes;
-  left = drop 1 m.left;
-  read = counted m.read (channel_of args) (length bytes);
-}
-answered m (Write at args result bytes) = record m {
-  time = m.time + 1;
-  state = after_write m.state result;
-  left = drop 1 m.left;
-  written = counted m.written (channel_of args) (length bytes);
-}
-answered m (Clock at value) = record m { time = m.time + 1; state = after_clock m.state value; left = drop 1 m.left }
-answered m (Other at number) = record m { time = m.time + 1; state = after_other m.state; left = drop 1 m.left }
+answered m r = record { time = m.time + 1; state = state_after m.state r; done = m.done ++ r ∷ []; left = drop 1 m.left }
 
 -- with no record left, the call is the exit
 abbrev pub after_call : Moment → List CallRecord → Moment
@@ -61,13 +50,13 @@ advance m = after_outcome m (next m.state)
 
 -- ---- the steps
 
--- a read or a write that moved n bytes, of which the first has the offset that the channel's count says
+-- a read or a write that moved n bytes: the offset of the first is how many the calls before it moved on its channel
 abbrev pub transfer : CallKind → List ℕ → List ℕ → ℕ → CallSeen
-transfer kind args counts n = record {
+transfer kind args before n = record {
   kind = kind;
   channel = channel_of args;
   place = buffer_of args;
-  offset = if n == 0 then 0 else slice_index counts (channel_of args);
+  offset = if n == 0 then 0 else length before;
   length = n;
 }
 
@@ -76,12 +65,12 @@ simple_call kind = record { kind = kind; channel = 0; place = 0; offset = 0; len
 
 abbrev pub call_seen : Moment → List CallRecord → CallSeen
 call_seen m [] = simple_call kind.Exit
-call_seen m (Read at args result bytes ∷ rs) = transfer kind.Read args m.read (length bytes)
-call_seen m (Write at args result bytes ∷ rs) = transfer kind.Write args m.written (length bytes)
+call_seen m (Read at args result bytes ∷ rs) = transfer kind.Read args (received (channel_of args) m.done) (length bytes)
+call_seen m (Write at args result bytes ∷ rs) = transfer kind.Write args (written (channel_of args) m.done) (length bytes)
 call_seen m (Clock at value ∷ rs) = simple_call kind.Clock
 call_seen m (Other at number ∷ rs) = simple_call kind.Other
 
--- where the run stands still no step is done; what is written down here is never used
+-- where the run stands still no step is done, and what stands here is never used
 abbrev pub no_step : ℕ → StepSeen
 no_step t = record { number = t; instr = Ebreak; place = 0; call = None }
 
@@ -99,7 +88,7 @@ step_by m (Trapped kind) = no_step m.time
 abbrev pub step_of : Moment → StepSeen
 step_of m = step_by m (next m.state)
 
--- the next n steps, and the moment behind them
+-- the next n steps, and the moment after them
 abbrev pub steps_from : ℕ → Moment → List StepSeen
 steps_from zero m = []
 steps_from (suc n) m = step_of m ∷ steps_from n (advance m)

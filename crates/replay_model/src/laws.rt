@@ -1,15 +1,24 @@
 //! Laws of replays. Each is a function that does nothing: its contract is the law.
 
-ghost use Rattle.std.specs.Prelude.{◌≡◌, ℕ, ◌+◌, ◌^◌, ◌<◌, ◌≤◌, List, length, Some, None};
+ghost use Rattle.std.specs.Prelude.{◌≡◌, ◌↔◌, Some, None};
 ghost use Rattle.isa.specs.Machine.{State};
-ghost use Rattle.isa.specs.declared.CallKind.TheVariants as kind;
-ghost use Rattle.log_model.specs.Logs.{Log, IsLog, log_text};
-ghost use Rattle.flow_model.specs.declared.StepSeen.{StepSeen as Step};
-ghost use Rattle.flow_model.specs.declared.CallSeen.{CallSeen as CallOfStep};
+ghost use Rattle.log_model.specs.Logs.{Log, IsLog};
 ghost use Rattle.replay_model.specs.declared.Divergence.{Divergence as Difference};
 ghost use Rattle.replay_model.specs.Run.{trace};
 ghost use Rattle.replay_model.specs.Comparison.{divergence};
-ghost use Rattle.replay_model.specs.Offsets.{call_at, OffsetsCount};
+ghost use Rattle.replay_model.specs.Firsts.{AgreesToTheEnd, IsFirstDifference};
+ghost use Rattle.replay_model.specs.Offsets.{OffsetsCount, AreWritesApart};
+
+/// There is no divergence exactly where nothing differs at any moment up to the time of the end.
+pub fn none_where_all_agrees()
+    ensures { (start : State) (log : Log) → (divergence start log ≡ None) ↔ AgreesToTheEnd start log }
+{}
+
+/// There is a divergence exactly where something differs up to the time of the end, and it is the first
+/// that does.
+pub fn divergence_is_first()
+    ensures { (start : State) (log : Log) (d : Difference) → (divergence start log ≡ Some d) ↔ IsFirstDifference start log d }
+{}
 
 /// What a divergence tells differs.
 pub fn divergence_differs()
@@ -19,10 +28,10 @@ pub fn divergence_differs()
 /// Where nothing differs, the offset of a read or a write that moves bytes is how many bytes the steps
 /// before it read, or wrote, on its channel.
 pub fn offsets_count()
-    ensures { (start : State) (log : Log) → IsLog log → length (log_text log) ≤ 2 ^ 26 → divergence start log ≡ None → OffsetsCount (trace start log) }
+    ensures { (start : State) (log : Log) → IsLog log → divergence start log ≡ None → OffsetsCount (trace start log) log.records }
 {}
 
-/// Where offsets count, no two writes have an output byte in common.
+/// No two writes of a run have an output byte in common.
 pub fn writes_apart()
-    ensures { (trace : List Step) → OffsetsCount trace → (j k : ℕ) (a b : CallOfStep) → j < k → call_at trace j ≡ Some a → call_at trace k ≡ Some b → a.kind ≡ kind.Write → b.kind ≡ kind.Write → 0 < a.length → 0 < b.length → a.channel ≡ b.channel → a.offset + a.length ≤ b.offset }
+    ensures { (start : State) (log : Log) → AreWritesApart (trace start log) }
 {}

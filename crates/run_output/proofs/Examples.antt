@@ -5,7 +5,7 @@ use Rattle.std.specs.Fmt.{digits}
 use Rattle.log_model.specs.declared.CallRecord.TheVariants.{Read, Write}
 use Rattle.log_model.specs.declared.RunEnd.TheVariants.{Exit, Trap, Limit}
 use Rattle.log_model.specs.Logs.{Log}
-use Rattle.run_output.specs.Output.{output_on}
+use Rattle.run_output.specs.Output.{output}
 use Rattle.run_output.specs.Summary.{summary_text, end_line}
 
 -- a program that reads four bytes and writes them, and exits in its twelfth step; its digest is in no line
@@ -33,11 +33,11 @@ illegal-summary digest = refl
 limit-line : (at : ℕ) → end_line (Limit at) ≡ codes "end limit\n"
 limit-line at = refl
 
-copy_four-output : (digest : List ℕ) → output_on 1 (copy_four digest) ≡ codes "ABCD"
+copy_four-output : (digest : List ℕ) → output 1 (copy_four digest) ≡ codes "ABCD"
 copy_four-output digest = refl
 
-copy_four-no_output : (digest : List ℕ) → output_on 0 (copy_four digest) ≡ []
+copy_four-no_output : (digest : List ℕ) → output 0 (copy_four digest) ≡ []
 copy_four-no_output digest = refl
 
-illegal-no_output : (digest : List ℕ) → output_on 1 (illegal digest) ≡ []
+illegal-no_output : (digest : List ℕ) → output 1 (illegal digest) ≡ []
 illegal-no_output digest = refl

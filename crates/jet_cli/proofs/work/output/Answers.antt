@@ -1,5 +1,5 @@
 use Rattle.std.proofs.Common.{rules}
-use Rattle.run_output.specs.Output.{output_on}
+use Rattle.run_output.specs.Output.{output as output_on}
 use Rattle.jet_model.specs.Answer.{IsRunAnswer}
 use Rattle.jet_files.specs.Causes.{cause_of}
 use Rattle.jet_files.specs.Outcome.{WorkHolds}

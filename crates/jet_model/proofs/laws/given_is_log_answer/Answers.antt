@@ -1,4 +1,4 @@
-use Rattle.jet_model.proofs.Reported.{given-is_log_answer}
+use Rattle.jet_model.proofs.Headline.{given-is_log_answer}
 use Rattle.jet_model.proofs.laws.given_is_log_answer.Goals as goal
 
 pub returns : goal.returns

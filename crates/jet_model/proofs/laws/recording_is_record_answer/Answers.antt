@@ -1,4 +1,4 @@
-use Rattle.jet_model.proofs.Reported.{recording-is_record_answer}
+use Rattle.jet_model.proofs.Headline.{recording-is_record_answer}
 use Rattle.jet_model.proofs.laws.recording_is_record_answer.Goals as goal
 
 pub returns : goal.returns

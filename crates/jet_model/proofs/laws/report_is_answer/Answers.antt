@@ -1,4 +1,4 @@
-use Rattle.jet_model.proofs.Reported.{report-is_answer}
+use Rattle.jet_model.proofs.Headline.{report-is_answer}
 use Rattle.jet_model.proofs.laws.report_is_answer.Goals as goal
 
 pub returns : goal.returns

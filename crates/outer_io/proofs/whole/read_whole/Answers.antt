@@ -12,10 +12,9 @@ loop-piece-init g c = record {
   small = omega (arith, c.new-bytes.ensures.len);
   buffer = search rules;
   later = c.begin_read.ensures.cause.later;
-  last = c.begin_read.ensures.cause.last;
   open_now = c.in-Ok.ensures.open;
   created = c.begin_read.ensures.created;
-  asked = c.begin_read.ensures.asked;
+  opened = c.begin_read.ensures.opened;
   told = rw c.new-bytes.ensures.items (tells-map _ _ (BeginsRead c.args.name.now) (IsReading c.args.name.now []) (begins c.args.name.now) c.in-Ok.ensures.ok);
 }
 
@@ -43,10 +42,9 @@ loop-piece-preserved g c =
       small = omega (arith, ap length items, length-append bytes (take n into), length-take n into, c.in-Ok-read.ensures.count, taken, c.in-Ok-extend_from_slice.ensures.len);
       buffer = omega (arith, length-append into (drop room c.loop-piece.piece), length-drop room c.loop-piece.piece, taken, c.read.auto.into);
       later = omega (arith, c.in-Ok-read.ensures.cause.later);
-      last = λ high. c.in-Ok-read.ensures.cause.last (omega (arith, high, c.loop-piece.invariant.later)) ∙ c.loop-piece.invariant.last high;
       open_now = c.in-Ok-read.ensures.open ∙ c.loop-piece.invariant.open_now;
       created = c.in-Ok-read.ensures.created ∙ c.loop-piece.invariant.created;
-      asked = tells-gains-none _ _ _ (name ∷ []) c.loop-piece.invariant.asked c.in-Ok-read.ensures.asked;
+      opened = tells-gains-none _ _ _ (name ∷ []) c.loop-piece.invariant.opened c.in-Ok-read.ensures.opened;
       told = rw items (tells-then _ _ _ (IsReading name bytes) _ (IsReading name (bytes ++ take n into))
           (λ x y z r t. reads_on name bytes (take n into) _ x y z r t) c.loop-piece.invariant.told c.in-Ok-read.ensures.ok);
     }

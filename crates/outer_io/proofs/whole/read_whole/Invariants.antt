@@ -7,12 +7,11 @@ abbrev pub invariant-loop-piece : goal.invariant-loop-piece
 invariant-loop-piece g l = record {
   small : length l.bytes.items ≤ l.max + 1;
   buffer : length l.piece ≡ 65536;
-  later : g.S.Store.faults l.fn.store ≤ g.S.Store.faults l.store;
-  last : 2 ^ 64 - 1 ≤ g.S.Store.faults l.fn.store → g.S.Store.faults l.store ≡ g.S.Store.faults l.fn.store;
+  later : (g.S.Store.shown l.fn.store).faults ≤ (g.S.Store.shown l.store).faults;
   open_now : g.S.Store.is_open l.store ≡ true;
   created : g.S.Store.is_created l.store ≡ g.S.Store.is_created l.fn.store;
-  asked : Tells (g.S.Store.asked l.fn.store) (g.S.Store.asked l.store) (Gains (l.name ∷ []));
-  told : Tells (g.S.Store.files l.fn.store) (g.S.Store.files l.store) (IsReading l.name l.bytes.items);
+  opened : Tells (g.S.Store.shown l.fn.store).opened (g.S.Store.shown l.store).opened (Gains (l.name ∷ []));
+  told : Tells (g.S.Store.shown l.fn.store).files (g.S.Store.shown l.store).files (IsReading l.name l.bytes.items);
 }
 
 abbrev pub decreases-loop-piece : goal.decreases-loop-piece

@@ -1,6 +1,6 @@
 use Rattle.std.proofs.Common.{◌≡◌, rules, ◌++◌, ◌∷◌, [], false, length}
 use Rattle.outer_io.proofs.NamesLemmas.{names_in-append}
-use Rattle.outer_io.proofs.asked_names.AskedNames.note.Goals as goal
+use Rattle.outer_io.proofs.opened_names.OpenedNames.note.Goals as goal
 
 pub returns-clause-names : goal.returns-clause-names
 returns-clause-names c =

@@ -1,4 +1,4 @@
-// The names that a store was asked for.
+// The names that were handed to a store.
 ghost use Rattle.std.specs.Prelude.{◌≡◌, ◌≤◌, ◌<◌, ◌∷◌, [], length, Some, IfOk, IsSome};
 ghost use Rattle.outer_io.specs.Tells.{Tells, Gains};
 
@@ -12,28 +12,28 @@ const NAME_BYTES: usize = 16384;
 
 // Names one behind another, which are told while the room for them lasts.
 #[derive(Drop)]
-pub struct AskedNames {
+pub struct OpenedNames {
     bytes: Vec<u8>,
     lengths: Vec<usize>,
     is_lost: bool,
 }
 
-impl Model for AskedNames {
+impl Model for OpenedNames {
     ghost use Rattle.std.specs.Prelude.{◌≡◌, ◌-◌, Some, None, sum, length, vec_capacity, if◌then◌else◌};
-    ghost use Rattle.outer_io.specs.Names.{Asked, names_in};
+    ghost use Rattle.outer_io.specs.Names.{Opened, names_in};
 
-    ghost Value = { Asked };
+    ghost Value = { Opened };
 
     ghost view = { λ a. record { names = if a.is_lost then None else Some (names_in a.bytes.items a.lengths.items); bytes_left = vec_capacity a.bytes - length a.bytes.items; names_left = vec_capacity a.lengths - length a.lengths.items } };
 
     ghost invariant = { λ a. sum a.lengths.items ≡ length a.bytes.items };
 }
 
-impl AskedNames {
-    pub fn new(alloc: Global) -> Result<AskedNames, AllocError>
-        ensures { IfOk result (λ asked. asked ≡ record { names = Some []; bytes_left = NAME_BYTES; names_left = NAMES }) }
+impl OpenedNames {
+    pub fn new(alloc: Global) -> Result<OpenedNames, AllocError>
+        ensures { IfOk result (λ opened. opened ≡ record { names = Some []; bytes_left = NAME_BYTES; names_left = NAMES }) }
     {
-        Ok(AskedNames {
+        Ok(OpenedNames {
             bytes: Vec::with_capacity(alloc, NAME_BYTES)?,
             lengths: Vec::with_capacity(alloc, NAMES)?,
             is_lost: false,

@@ -1,5 +1,0 @@
-use Rattle.jet_model.proofs.OneAnswer.{one_answer}
-use Rattle.jet_model.proofs.laws.one_answer.Goals as goal
-
-pub returns : goal.returns
-returns c = one_answer

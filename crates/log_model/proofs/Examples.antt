@@ -1,0 +1,118 @@
+-- Bytes and what they are read as, computed by the checker. The bytes are typed out; none is a definition's output.
+use Rattle.std.proofs.Common.{◌≡◌, ℕ, List, [], ◌∷◌, ◌++◌, take, Ok, Err, pos, negsuc, refl}
+use Rattle.log_model.specs.declared.CallRecord.TheVariants.{Read, Write, Clock, Other}
+use Rattle.log_model.specs.declared.RunEnd.TheVariants.{Exit, Trap, Limit}
+use Rattle.log_model.specs.declared.LogKind.TheVariants as fault
+use Rattle.log_model.specs.Reading.{log_of, body_of}
+
+abbrev digest : List ℕ
+digest = 0 ∷ 1 ∷ 2 ∷ 3 ∷ 4 ∷ 5 ∷ 6 ∷ 7 ∷ 8 ∷ 9 ∷ 10 ∷ 11 ∷ 12 ∷ 13 ∷ 14 ∷ 15 ∷ 16 ∷ 17 ∷ 18 ∷ 19 ∷ 20 ∷ 21 ∷ 22 ∷ 23 ∷ 24 ∷ 25 ∷ 26 ∷ 27 ∷ 28 ∷ 29 ∷ 30 ∷ 31 ∷ []
+
+-- a header of so many pages and inputs
+abbrev header : ℕ → ℕ → List ℕ
+header pages inputs = 0x4a ∷ 0x45 ∷ 0x54 ∷ 0x4c ∷ 0x4f ∷ 0x47 ∷ 0x31 ∷ 0x0a ∷ [] ++ digest ++ pages ∷ 0 ∷ 0 ∷ 0 ∷ inputs ∷ 0 ∷ 0 ∷ 0 ∷ []
+
+-- a read of four bytes at a step, to 0x10100 on channel 0
+abbrev a_read : ℕ → List ℕ
+a_read at = 1 ∷ at ∷ 0 ∷ 0 ∷ 0 ∷ 0 ∷ 0 ∷ 0 ∷ 0 ∷ 0 ∷ 1 ∷ 1 ∷ 0 ∷ 4 ∷ 0 ∷ 0 ∷ 0 ∷ 4 ∷ 0 ∷ 0 ∷ 0 ∷ 0x41 ∷ 0x42 ∷ 0x43 ∷ 0x44 ∷ []
+
+-- a write of three bytes on channel 1, of which so many were written
+abbrev a_write : ℕ → ℕ → List ℕ
+a_write at moved = 2 ∷ at ∷ 0 ∷ 0 ∷ 0 ∷ 1 ∷ 0 ∷ 0 ∷ 0 ∷ 0 ∷ 1 ∷ 1 ∷ 0 ∷ 3 ∷ 0 ∷ 0 ∷ 0 ∷ moved ∷ 0 ∷ 0 ∷ 0 ∷ 0x41 ∷ 0x42 ∷ 0x43 ∷ []
+
+-- a write from outside the window
+abbrev a_refusal : List ℕ
+a_refusal = 2 ∷ 3 ∷ 0 ∷ 0 ∷ 0 ∷ 1 ∷ 0 ∷ 0 ∷ 0 ∷ 0 ∷ 0 ∷ 0 ∷ 0x80 ∷ 4 ∷ 0 ∷ 0 ∷ 0 ∷ 0xf2 ∷ 0xff ∷ 0xff ∷ 0xff ∷ []
+
+abbrev a_clock : List ℕ
+a_clock = 3 ∷ 3 ∷ 0 ∷ 0 ∷ 0 ∷ 2 ∷ 0 ∷ 0 ∷ 0 ∷ 1 ∷ 0 ∷ 0 ∷ 0 ∷ []
+
+abbrev call_42 : List ℕ
+call_42 = 4 ∷ 4 ∷ 0 ∷ 0 ∷ 0 ∷ 42 ∷ 0 ∷ 0 ∷ 0 ∷ []
+
+abbrev an_exit : List ℕ
+an_exit = 5 ∷ 11 ∷ 0 ∷ 0 ∷ 0 ∷ 7 ∷ 0 ∷ 0 ∷ 0 ∷ []
+
+abbrev a_trap : ℕ → List ℕ
+a_trap kind = 6 ∷ 5 ∷ 0 ∷ 0 ∷ 0 ∷ kind ∷ 0 ∷ 0 ∷ 0 ∷ 0 ∷ 0 ∷ 1 ∷ 0 ∷ []
+
+abbrev a_limit : List ℕ
+a_limit = 7 ∷ 10 ∷ 0 ∷ 0 ∷ 0 ∷ []
+
+-- ---- logs
+
+reads_and_writes : log_of (header 1 1 ++ a_read 5 ++ a_write 8 3 ++ an_exit) ≡ Ok record {
+  pages = 1;
+  inputs = 1;
+  digest = digest;
+  records = Read 5 (0 ∷ 0x10100 ∷ 4 ∷ []) (pos 4) (0x41 ∷ 0x42 ∷ 0x43 ∷ 0x44 ∷ []) ∷ Write 8 (1 ∷ 0x10100 ∷ 3 ∷ []) (pos 3) (0x41 ∷ 0x42 ∷ 0x43 ∷ []) ∷ [];
+  end = Exit 11 7;
+}
+unfolding log_of body_of
+reads_and_writes = refl
+
+other_calls : log_of (header 2 0 ++ a_clock ++ call_42 ++ a_trap 2) ≡ Ok record {
+  pages = 2;
+  inputs = 0;
+  digest = digest;
+  records = Clock 3 4294967298 ∷ Other 4 42 ∷ [];
+  end = Trap 5 2 0x10000;
+}
+unfolding log_of body_of
+other_calls = refl
+
+a_refused_write : log_of (header 1 0 ++ a_refusal ++ a_limit) ≡ Ok record {
+  pages = 1;
+  inputs = 0;
+  digest = digest;
+  records = Write 3 (1 ∷ 0x80000000 ∷ 4 ∷ []) (negsuc 13) [] ∷ [];
+  end = Limit 10;
+}
+unfolding log_of body_of
+a_refused_write = refl
+
+-- ---- faults
+
+no_bytes : log_of [] ≡ Err (fault.Magic, 0)
+unfolding log_of body_of
+no_bytes = refl
+
+cut_off_header : log_of (take 47 (header 1 1)) ≡ Err (fault.Header, 8)
+unfolding log_of body_of
+cut_off_header = refl
+
+no_pages : log_of (header 0 1 ++ a_limit) ≡ Err (fault.Header, 40)
+unfolding log_of body_of
+no_pages = refl
+
+many_inputs : log_of (header 1 17 ++ a_limit) ≡ Err (fault.Header, 44)
+unfolding log_of body_of
+many_inputs = refl
+
+no_end : log_of (header 1 1 ++ a_read 5) ≡ Err (fault.Short, 73)
+unfolding log_of body_of
+no_end = refl
+
+cut_off_data : log_of (header 1 1 ++ take 24 (a_read 5)) ≡ Err (fault.Short, 48)
+unfolding log_of body_of
+cut_off_data = refl
+
+no_such_tag : log_of (header 1 1 ++ a_read 5 ++ 8 ∷ []) ≡ Err (fault.Tag, 73)
+unfolding log_of body_of
+no_such_tag = refl
+
+equal_steps : log_of (header 1 1 ++ a_read 5 ++ a_write 5 3 ++ an_exit) ≡ Err (fault.Order, 73)
+unfolding log_of body_of
+equal_steps = refl
+
+a_short_write : log_of (header 1 1 ++ a_write 5 2 ++ an_exit) ≡ Err (fault.Result, 48)
+unfolding log_of body_of
+a_short_write = refl
+
+no_such_trap : log_of (header 1 1 ++ a_trap 4) ≡ Err (fault.Result, 48)
+unfolding log_of body_of
+no_such_trap = refl
+
+bytes_after_the_end : log_of (header 1 1 ++ a_limit ++ a_limit) ≡ Err (fault.Trailing, 53)
+unfolding log_of body_of
+bytes_after_the_end = refl
