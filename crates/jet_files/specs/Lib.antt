@@ -1,3 +1,2 @@
-pub mod Causes
 pub mod Outcome
-pub mod Writing
+pub mod Views

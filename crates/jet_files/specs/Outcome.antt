@@ -1,88 +1,54 @@
--- What was found in files, and what is amiss with them.
-use Rattle.std.specs.Prelude.{◌≡◌, ◌≤◌, ◌^◌, ℕ, List, length, map, Option, Some, Ok}
-use Rattle.std.specs.List.{AllByRecursion}
-use Rattle.elf_model.specs.Image.{Image, image}
-use Rattle.log_model.specs.Logs.{Log, IsLog, log_text}
-use Rattle.report_model.specs.Query.{Query}
-use Rattle.query_lang.specs.Answers.{Asks as IsReadAsQuery}
+-- What the outcome of calls that read files says of the files.
+use Rattle.std.specs.Prelude.{◌≡◌, ℕ, List, map, Result, Ok, Err, Vec}
+use Rattle.std.specs.declared.alloc.Global.{Global}
 use Rattle.outer_io.specs.Faults.{Rose}
 use Rattle.outer_io.specs.Tells.{Tells}
-use Rattle.outer_io.specs.Files.{Files, Text}
-use Rattle.jet_model.specs.Answer.{Answer, Folder, OfFile, OfProgramFile, OfLogFile, OfQueryFile, OfFiles, OfRunFiles}
-use Rattle.jet_files.specs.Causes.{Cause, NoCommand, Answered, ReadFailed, WriteFailed, WantsMemory}
-
--- a relation between the files and the answer that they ask for
-abbrev pub Judge : Type 1
-Judge = Folder → Answer → Type 0
+use Rattle.outer_io.specs.Files.{Files}
+use Rattle.outer_io.specs.Shown.{StoreShown}
+use Rattle.report_model.specs.Query.{Query, Alike}
+use Rattle.jet_refusal.specs.declared.refusal.Refusal.{Refusal}
+use Rattle.jet_refusal.specs.Causes.{Causes, IsOwedTo}
+use Rattle.jet_model.specs.Contents.{Contents}
 
 -- the files, as they were before the calls, are such
-pub record Finds (fact : Folder → Type 0) (old new : Files) : Type 0 where
+pub record Found (fact : Contents → Type 0) (old new : Files) : Type 0 where
   pub found : fact old.file
 
--- this is what the files ask for
-abbrev pub Asks : Judge → Answer → Files → Files → Type 0
-Asks judge answer = Finds (λ file. judge file answer)
+-- the causes of a refusal where files are read: what they hold is refused, or the store failed
+abbrev pub by_reading : Type 0 → Type 0 → Causes
+by_reading refused failed = record { usage = ⊥; files = refused; read = failed; write = ⊥ }
 
--- the cause holds: `old` and `new` are what the store told before and after, `before` and `now` the counts of its faults
-abbrev pub Holds : Judge → Option Files → Option Files → ℕ → ℕ → Cause → Type 0
-Holds judge old new before now (Answered answer) = Tells old new (Asks judge answer)
-Holds judge old new before now ReadFailed = Rose before now
-Holds judge old new before now WantsMemory = Unit {0}
-Holds judge old new before now NoCommand = ⊥
-Holds judge old new before now WriteFailed = ⊥
+-- The outcome follows from the files. `before` and `after` are what the store showed. Where it tells its files, the relation holds of
+-- them and the outcome; or the store failed; or memory is out.
+abbrev pub Follows : {A : Type 0} → (Contents → Result A Refusal → Type 0) → StoreShown → StoreShown → Result A Refusal → Type 0
+Follows relation before after (Ok x) = Tells before.files after.files (Found (λ file. relation file (Ok x)))
+Follows relation before after (Err r) =
+    IsOwedTo (by_reading (Tells before.files after.files (Found (λ file. relation file (Err r)))) (Rose before.faults after.faults)) r
 
--- the same of a part that reads no file
-abbrev pub WorkHolds : (Answer → Type 0) → Cause → Type 0
-WorkHolds asks (Answered answer) = asks answer
-WorkHolds asks WantsMemory = Unit {0}
-WorkHolds asks ReadFailed = ⊥
-WorkHolds asks NoCommand = ⊥
-WorkHolds asks WriteFailed = ⊥
+-- the outcome is what the files come to
+abbrev pub Comes : {A : Type 0} → (Contents → Result A Refusal) → StoreShown → StoreShown → Result A Refusal → Type 0
+Comes of before after outcome = Follows (λ file answer. of file ≡ answer) before after outcome
 
--- ---- files that are well
+-- the outcome of work that reads no file is this answer, or memory is out
+abbrev pub IsWork : {A : Type 0} → Result A Refusal → Result A Refusal → Type 0
+IsWork answer (Ok x) = answer ≡ Ok x
+IsWork answer (Err r) = IsOwedTo (by_reading (answer ≡ Err r) ⊥) r
 
-pub record HasShort (name : Text) (bytes : List ℕ) (file : Folder) : Type 0 where
-  pub there : file name ≡ Some bytes
-  pub short : length bytes ≤ 2 ^ 26
+-- ---- outcomes, as the definitions see them
 
-pub record HasProgram (name : Text) (bytes : List ℕ) (im : Image) (file : Folder) : Type 0 where
-  pub has : HasShort name bytes file
-  pub loads : image bytes ≡ Ok im
+abbrev pub seen_by : {A B : Type 0} → (A → B) → Result A Refusal → Result B Refusal
+seen_by view (Ok x) = Ok (view x)
+seen_by view (Err r) = Err r
 
-pub record HasLog (name : Text) (log : Log) (file : Folder) : Type 0 where
-  pub has : HasShort name (log_text log) file
-  pub form : IsLog log
+abbrev pub bytes_of : Vec ℕ Global → List ℕ
+bytes_of bytes = bytes.items
 
-pub record HasRun (program log : Text) (bytes : List ℕ) (im : Image) (l : Log) (file : Folder) : Type 0 where
-  pub has_program : HasProgram program bytes im file
-  pub has_log : HasLog log l file
+abbrev pub inputs_of : Vec (Vec ℕ Global) Global → List (List ℕ)
+inputs_of inputs = map (λ (input : Vec ℕ Global). input.items) inputs.items
 
--- the query asks for what the text does
-pub record HasQuery (name : Text) (kept : Query) (file : Folder) : Type 0 where
-  pub text : List ℕ
-  pub has : HasShort name text file
-  pub reads : IsReadAsQuery text kept
-
-pub record HasAll (names : List Text) (contents : List (List ℕ)) (file : Folder) : Type 0 where
-  pub there : map file names ≡ map Some contents
-  pub short : AllByRecursion (λ bytes. length bytes ≤ 2 ^ 26) contents
-
--- ---- what is amiss with files, which decides whatever else is asked
-
-abbrev pub FileAmiss : Text → Judge
-FileAmiss name file answer = OfFile (file name) (λ bytes p. ⊥) answer
-
-abbrev pub ProgramAmiss : Text → Judge
-ProgramAmiss name file answer = OfProgramFile (file name) (λ bytes im p. ⊥) answer
-
-abbrev pub LogAmiss : Text → Judge
-LogAmiss name file answer = OfLogFile (file name) (λ log p. ⊥) answer
-
-abbrev pub RunAmiss : Text → Text → Judge
-RunAmiss program log file answer = OfRunFiles file program log (λ bytes im l p. ⊥) answer
-
-abbrev pub QueryAmiss : Text → Judge
-QueryAmiss name file answer = OfQueryFile (file name) (λ q p. ⊥) answer
-
-abbrev pub AnyAmiss : List Text → Judge
-AnyAmiss names file answer = OfFiles file names (λ contents p. ⊥) answer
+-- two queries, of which the first is kept for the second, ask alike; or both are the same refusal
+abbrev pub AreAlike : Result Query Refusal → Result Query Refusal → Type 0
+AreAlike (Ok kept) (Ok written) = Alike kept written
+AreAlike (Ok kept) (Err r) = ⊥
+AreAlike (Err r) (Ok written) = ⊥
+AreAlike (Err r) (Err s) = r ≡ s

@@ -1,6 +1,6 @@
-//! The files of a command: read whole and judged, or written whole.
+//! The files that a command reads, whole: programs, logs, queries and inputs.
 //!
-//! Each call answers what the file is, or what is amiss with it.
+//! Each call answers what the file holds, or why the command gives up.
 #![tactic(auto)]
 
 mod inputs;
@@ -8,9 +8,7 @@ mod opening;
 mod reading;
 #[cfg(test)]
 mod tests;
-mod writing;
 
 pub use inputs::open_inputs;
 pub use opening::{Program, Run, open_log, open_program, open_query, open_run};
 pub use reading::{LONGEST_FILE, read_file};
-pub use writing::write_file;

@@ -1,8 +1,9 @@
 -- What files come to. Crates above cite these lemmas.
-use Rattle.std.proofs.Common.{◌≡◌, ◌∙◌, ap, ap₂, sym, refl, subst, ℕ, ◌≤◌, ◌<◌, ◌^◌, List, [], ◌∷◌, Bool, true, false, nat_lt, length, map, Option, Some, None, Result, Ok, Err}
+use Rattle.std.proofs.Common.{◌≡◌, ◌∙◌, ap, ap₂, sym, refl, subst, ℕ, ◌≤◌, ◌<◌, ◌^◌, List, [], ◌∷◌, ◌++◌, Bool, true, false, nat_lt, length, map, Option, Some, None, Result, Ok, Err}
 use Rattle.std.specs.Prelude.{if◌then◌else◌}
 use Rattle.std.specs.Option.{ok_or}
 use Rattle.std.proofs.lemmas.Bool.{le-ltb, lt-ltb}
+use Rattle.elf_model.specs.declared.ImageKind.{ImageKind}
 use Rattle.elf_model.specs.Image.{Image, image}
 use Rattle.log_model.specs.declared.LogKind.{LogKind}
 use Rattle.log_model.specs.Logs.{Log, log_text, IsLog}
@@ -13,11 +14,11 @@ use Rattle.report_model.specs.Grammar.{query}
 use Rattle.jet_refusal.specs.declared.refusal.Refusal.{Refusal}
 use Rattle.jet_refusal.specs.declared.refusal.Refusal.TheVariants as refusal
 use Rattle.jet_model.specs.Outcomes.{and_then, or_refused}
-use Rattle.jet_model.specs.Contents.{Contents, Program, Run, within_limit, if_bytes, file_at, program_at, log_at, query_at, run_at, inputs_at}
+use Rattle.jet_model.specs.Contents.{Contents, Program, Run, within_limit, if_bytes, program_in, log_in, query_in, file_at, program_at, log_at, query_at, run_at, inputs_at}
 use Rattle.jet_model.specs.Headline.{IsShort, AreAllShort}
-use Rattle.jet_model.proofs.Bytes.{if_bytes-are, if_bytes-is_ok, log_text-bytes}
+use Rattle.jet_model.proofs.Bytes.{AreBytes, if_bytes-are, if_bytes-is_ok, log_text-bytes}
 use Rattle.jet_model.proofs.LogReading.{reads_log, log_read}
-use Rattle.jet_model.proofs.AndThen.{ok-one, and_then-ok, and_then-is_ok, or_refused-ok, or_refused-is_ok, ok_or-is_ok}
+use Rattle.jet_model.proofs.AndThen.{ok-one, and_then-ok, and_then-err, and_then-is_ok, or_refused-ok, or_refused-err, or_refused-is_ok, ok_or-is_ok}
 
 -- ---- one file
 
@@ -51,25 +52,30 @@ short_there file name bytes e short = file_at-there file name bytes e (subst IsS
 
 -- ---- a program
 
+abbrev program_next : List ℕ → Image → Result Program Refusal
+program_next bytes im = Ok (record { bytes = bytes; image = im })
+
+pub program_in-image : (bytes : List ℕ) (im : Image) → image bytes ≡ Ok im → program_in bytes ≡ Ok (record { bytes = bytes; image = im })
+program_in-image bytes im e = and_then-ok (or_refused refusal.Image (image bytes)) (program_next bytes) im (or_refused-ok refusal.Image (image bytes) im e)
+
+pub program_in-fault : (bytes : List ℕ) (fault : ImageKind) → image bytes ≡ Err fault → program_in bytes ≡ Err (refusal.Image fault)
+program_in-fault bytes fault e = and_then-err (or_refused refusal.Image (image bytes)) (program_next bytes) (refusal.Image fault) (or_refused-err refusal.Image (image bytes) fault e)
+
 pub program_at-there : (file : Contents) (name bytes : List ℕ) (im : Image) → file name ≡ Some bytes → IsShort (file name) → image bytes ≡ Ok im → program_at file name ≡ Ok (record { bytes = bytes; image = im })
 program_at-there file name bytes im e short is_image =
-    and_then-ok (file_at file name) (λ b. and_then (or_refused refusal.Image (image b)) (λ i. Ok (record { bytes = b; image = i }))) bytes (short_there file name bytes e short)
-    ∙ and_then-ok (or_refused refusal.Image (image bytes)) (λ i. Ok (record { bytes = bytes; image = i })) im (or_refused-ok refusal.Image (image bytes) im is_image)
+    and_then-ok (file_at file name) program_in bytes (short_there file name bytes e short) ∙ program_in-image bytes im is_image
 
 pub record IsProgramAt (file : Contents) (name : List ℕ) (p : Program) : Type 0 where
   pub there : file name ≡ Some p.bytes
   pub is_image : image p.bytes ≡ Ok p.image
-
-abbrev program_next : List ℕ → Image → Result Program Refusal
-program_next bytes im = Ok (record { bytes = bytes; image = im })
 
 is_program : (file : Contents) (name bytes : List ℕ) (im : Image) (p : Program) → file name ≡ Some bytes → image bytes ≡ Ok im → record { bytes = bytes; image = im } ≡ p → IsProgramAt file name p
 is_program file name bytes im p e is_image same = subst (IsProgramAt file name) same (record { there = e; is_image = is_image })
 
 pub program_at-is_ok : (file : Contents) (name : List ℕ) (p : Program) → program_at file name ≡ Ok p → IsProgramAt file name p
 program_at-is_ok file name p h =
-    let f = and_then-is_ok (file_at file name) (λ b. and_then (or_refused refusal.Image (image b)) (λ i. Ok (record { bytes = b; image = i }))) p h in
-    let i = and_then-is_ok (or_refused refusal.Image (image f.0)) (λ i. Ok (record { bytes = f.0; image = i })) p f.2 in
+    let f = and_then-is_ok (file_at file name) program_in p h in
+    let i = and_then-is_ok (or_refused refusal.Image (image f.0)) (program_next f.0) p f.2 in
     is_program file name f.0 i.0 p (file_at-is_ok file name f.0 f.1) (or_refused-is_ok refusal.Image (image f.0) i.0 i.1)
     (ok-one (program_next f.0 i.0) (record { bytes = f.0; image = i.0 }) p refl i.2)
 
@@ -78,13 +84,23 @@ program_at-is_ok file name p h =
 abbrev log_refusal : LogKind × ℕ → Refusal
 log_refusal fault = refusal.Log fault.0 fault.1
 
+abbrev log_next : List ℕ → Result Log Refusal
+log_next bytes = or_refused log_refusal (log_of bytes)
+
+-- bytes are read as `log_of` reads them
+pub log_in-bytes : (bytes : List ℕ) → AreBytes bytes → log_in bytes ≡ or_refused log_refusal (log_of bytes)
+log_in-bytes bytes h = and_then-ok (if_bytes bytes) log_next bytes (if_bytes-are bytes h)
+
+pub log_in-log : (bytes : List ℕ) (log : Log) → AreBytes bytes → log_of bytes ≡ Ok log → log_in bytes ≡ Ok log
+log_in-log bytes log h e = log_in-bytes bytes h ∙ or_refused-ok log_refusal (log_of bytes) log e
+
+pub log_in-fault : (bytes : List ℕ) (kind : LogKind) (offset : ℕ) → AreBytes bytes → log_of bytes ≡ Err (kind, offset) → log_in bytes ≡ Err (refusal.Log kind offset)
+log_in-fault bytes kind offset h e = log_in-bytes bytes h ∙ or_refused-err log_refusal (log_of bytes) (kind, offset) e
+
 pub log_at-there : (file : Contents) (name : List ℕ) (log : Log) → file name ≡ Some (log_text log) → IsShort (file name) → IsLog log → log_at file name ≡ Ok log
 log_at-there file name log e short is_log =
-    let text = log_text log in
-    let bytes : and_then (file_at file name) if_bytes ≡ Ok text =
-    and_then-ok (file_at file name) if_bytes text (short_there file name text e short) ∙ if_bytes-are text (log_text-bytes log is_log) in
-    and_then-ok (and_then (file_at file name) if_bytes) (λ b. or_refused log_refusal (log_of b)) text bytes
-    ∙ or_refused-ok log_refusal (log_of text) log (reads_log text log is_log refl)
+    and_then-ok (file_at file name) log_in (log_text log) (short_there file name (log_text log) e short)
+    ∙ log_in-log (log_text log) log (log_text-bytes log is_log) (reads_log (log_text log) log is_log refl)
 
 pub record IsLogAt (file : Contents) (name : List ℕ) (log : Log) : Type 0 where
   pub there : file name ≡ Some (log_text log)
@@ -92,25 +108,30 @@ pub record IsLogAt (file : Contents) (name : List ℕ) (log : Log) : Type 0 wher
 
 pub log_at-is_ok : (file : Contents) (name : List ℕ) (log : Log) → log_at file name ≡ Ok log → IsLogAt file name log
 log_at-is_ok file name log h =
-    let f = and_then-is_ok (and_then (file_at file name) if_bytes) (λ b. or_refused log_refusal (log_of b)) log h in
-    let b = and_then-is_ok (file_at file name) if_bytes f.0 f.1 in
-    let bytes = if_bytes-is_ok b.0 f.0 b.2 in
-    let read = log_read f.0 log bytes.0 (or_refused-is_ok log_refusal (log_of f.0) log f.2) in
-    record { there = file_at-is_ok file name b.0 b.1 ∙ ap Some (bytes.1 ∙ read.1); is_log = read.0 }
+    let f = and_then-is_ok (file_at file name) log_in log h in
+    let b = and_then-is_ok (if_bytes f.0) log_next log f.2 in
+    let bytes = if_bytes-is_ok f.0 b.0 b.1 in
+    let read = log_read b.0 log bytes.0 (or_refused-is_ok log_refusal (log_of b.0) log b.2) in
+    record { there = file_at-is_ok file name f.0 f.1 ∙ ap Some (bytes.1 ∙ read.1); is_log = read.0 }
 
 -- ---- a query
 
 abbrev query_refusal : ℕ × QueryKind → Refusal
 query_refusal fault = refusal.Query fault.0 fault.1
 
+pub query_in-query : (bytes : List ℕ) (q : Query) → query bytes ≡ Ok q → query_in bytes ≡ Ok q
+query_in-query bytes q e = or_refused-ok query_refusal (query bytes) q e
+
+pub query_in-fault : (bytes : List ℕ) (line : ℕ) (kind : QueryKind) → query bytes ≡ Err (line, kind) → query_in bytes ≡ Err (refusal.Query line kind)
+query_in-fault bytes line kind e = or_refused-err query_refusal (query bytes) (line, kind) e
+
 pub query_at-there : (file : Contents) (name bytes : List ℕ) (q : Query) → file name ≡ Some bytes → IsShort (file name) → query bytes ≡ Ok q → query_at file name ≡ Ok q
 query_at-there file name bytes q e short is_query =
-    and_then-ok (file_at file name) (λ b. or_refused query_refusal (query b)) bytes (short_there file name bytes e short)
-    ∙ or_refused-ok query_refusal (query bytes) q is_query
+    and_then-ok (file_at file name) query_in bytes (short_there file name bytes e short) ∙ query_in-query bytes q is_query
 
 pub query_at-is_ok : (file : Contents) (name : List ℕ) (q : Query) → query_at file name ≡ Ok q → (bytes : List ℕ) × (file name ≡ Some bytes) × (query bytes ≡ Ok q)
 query_at-is_ok file name q h =
-    let f = and_then-is_ok (file_at file name) (λ b. or_refused query_refusal (query b)) q h in
+    let f = and_then-is_ok (file_at file name) query_in q h in
     (f.0, file_at-is_ok file name f.0 f.1, or_refused-is_ok query_refusal (query f.0) q f.2)
 
 -- ---- a run
@@ -152,7 +173,43 @@ same_list a b h = cc
 first_is : (c : Option (List ℕ)) (cs ds : List (Option (List ℕ))) (d : Option (List ℕ)) → (c ∷ cs) ≡ (d ∷ ds) → (c ≡ d) × (cs ≡ ds)
 first_is c cs ds d e = (cc, cc)
 
+-- the results of two lists are those of one
+abbrev joined : Result (List (List ℕ)) Refusal → Result (List (List ℕ)) Refusal → Result (List (List ℕ)) Refusal
+joined p q = and_then p (λ front. and_then q (λ rest. inputs_next (front ++ rest)))
+
+joined-cons : (p q : Result (List (List ℕ)) Refusal) (input : List ℕ) → and_then (joined p q) (λ inputs. inputs_next (input ∷ inputs)) ≡ joined (and_then p (λ inputs. inputs_next (input ∷ inputs))) q
+joined-cons (Ok front) (Ok rest) input = refl
+joined-cons (Ok front) (Err r) input = refl
+joined-cons (Err r) q input = refl
+
+joined-nil : (q : Result (List (List ℕ)) Refusal) → q ≡ joined (Ok []) q
+joined-nil (Ok rest) = refl
+joined-nil (Err r) = refl
+
+joined-first : (f : Result (List ℕ) Refusal) (p q w : Result (List (List ℕ)) Refusal) → w ≡ joined p q
+    → and_then f (λ input. and_then w (λ inputs. inputs_next (input ∷ inputs))) ≡ joined (and_then f (λ input. and_then p (λ inputs. inputs_next (input ∷ inputs)))) q
+joined-first (Ok input) p q w e = ap (λ (x : Result (List (List ℕ)) Refusal). and_then x (λ inputs. inputs_next (input ∷ inputs))) e ∙ joined-cons p q input
+joined-first (Err r) p q w e = refl
+
 module _ (file : Contents) where
+  pub inputs_at-append : (front rest : List (List ℕ)) → inputs_at file (front ++ rest) ≡ joined (inputs_at file front) (inputs_at file rest)
+  inputs_at-append [] rest = joined-nil (inputs_at file rest)
+  inputs_at-append (name ∷ front) rest =
+      joined-first (file_at file name) (inputs_at file front) (inputs_at file rest) (inputs_at file (front ++ rest)) (inputs_at-append front rest)
+
+  -- one more input
+  pub inputs_at-push : (front : List (List ℕ)) (name : List ℕ) (inputs : List (List ℕ)) (input : List ℕ) → inputs_at file front ≡ Ok inputs → file_at file name ≡ Ok input
+      → inputs_at file (front ++ name ∷ []) ≡ Ok (inputs ++ input ∷ [])
+  inputs_at-push front name inputs input e f =
+      inputs_at-append front (name ∷ []) ∙ ap₂ joined e (ap (λ (r : Result (List ℕ) Refusal). and_then r (λ x. inputs_next (x ∷ []))) f)
+
+  -- the first input that is refused
+  pub inputs_at-stops : (front : List (List ℕ)) (name : List ℕ) (rest inputs : List (List ℕ)) (r : Refusal) → inputs_at file front ≡ Ok inputs → file_at file name ≡ Err r
+      → inputs_at file (front ++ name ∷ rest) ≡ Err r
+  inputs_at-stops front name rest inputs r e f =
+      inputs_at-append front (name ∷ rest)
+      ∙ ap₂ joined e (ap (λ (x : Result (List ℕ) Refusal). and_then x (λ input. and_then (inputs_at file rest) (λ more. inputs_next (input ∷ more)))) f)
+
   pub inputs_at-there : (names inputs : List (List ℕ)) → map file names ≡ map some_bytes inputs → AreAllShort file names → inputs_at file names ≡ Ok inputs
   inputs_at-there [] [] e short = refl
   inputs_at-there [] (c ∷ cs) e short = cc

@@ -1,4 +1,4 @@
--- A text is what files come to exactly where it is the text said in one piece.
+-- A text is what files come to exactly where it is the text said in one piece. Crates above cite these lemmas.
 use Rattle.std.proofs.Common.{◌≡◌, ◌∙◌, ap, sym, refl, subst, ℕ, ◌≤◌, ◌^◌, List, Bool, true, false, nat_lt, length, Option, Some, None, Result, Ok, Err}
 use Rattle.std.specs.Prelude.{if◌then◌else◌}
 use Rattle.std.specs.Option.{ok_or}

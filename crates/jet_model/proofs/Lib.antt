@@ -2,7 +2,7 @@ pub mod AndThen
 pub mod Files
 mod Bytes
 mod LogReading
-mod Headline
+pub mod Headline
 mod Guests
 mod Reports
 mod Divergences

@@ -30,32 +30,42 @@ pub record Run : Type 0 where
   pub program : Program
   pub log : Log
 
+-- ---- what bytes hold
+
 -- a file has at most 2 ^ 26 bytes
 abbrev pub within_limit : List ℕ → Result (List ℕ) Refusal
 within_limit bytes = if nat_lt (2 ^ 26) (length bytes) then Err refusal.TooLong else Ok bytes
+
+-- numbers that are no bytes are in no file
+abbrev pub if_bytes : List ℕ → Result (List ℕ) Refusal
+if_bytes numbers = if list_all (λ n. nat_lt n 256) numbers then Ok numbers else Err refusal.ReadFault
+
+abbrev pub program_in : List ℕ → Result Program Refusal
+program_in bytes =
+    and_then (or_refused refusal.Image (image bytes)) (λ im.
+    Ok (record { bytes = bytes; image = im }))
+
+abbrev pub log_in : List ℕ → Result Log Refusal
+log_in numbers =
+    and_then (if_bytes numbers) (λ bytes.
+    or_refused (λ fault. refusal.Log fault.0 fault.1) (log_of bytes))
+
+abbrev pub query_in : List ℕ → Result Query Refusal
+query_in bytes = or_refused (λ fault. refusal.Query fault.0 fault.1) (query bytes)
+
+-- ---- what files hold
 
 abbrev pub file_at : Contents → List ℕ → Result (List ℕ) Refusal
 file_at file name = and_then (ok_or (file name) refusal.ReadFault) within_limit
 
 abbrev pub program_at : Contents → List ℕ → Result Program Refusal
-program_at file name =
-    and_then (file_at file name) (λ bytes.
-    and_then (or_refused refusal.Image (image bytes)) (λ im.
-    Ok (record { bytes = bytes; image = im })))
-
--- a file's numbers are bytes
-abbrev pub if_bytes : List ℕ → Result (List ℕ) Refusal
-if_bytes numbers = if list_all (λ n. nat_lt n 256) numbers then Ok numbers else Err refusal.ReadFault
+program_at file name = and_then (file_at file name) program_in
 
 abbrev pub log_at : Contents → List ℕ → Result Log Refusal
-log_at file name =
-    and_then (and_then (file_at file name) if_bytes) (λ bytes.
-    or_refused (λ fault. refusal.Log fault.0 fault.1) (log_of bytes))
+log_at file name = and_then (file_at file name) log_in
 
 abbrev pub query_at : Contents → List ℕ → Result Query Refusal
-query_at file name =
-    and_then (file_at file name) (λ bytes.
-    or_refused (λ fault. refusal.Query fault.0 fault.1) (query bytes))
+query_at file name = and_then (file_at file name) query_in
 
 -- a program, and then a log
 abbrev pub run_at : Contents → List ℕ → List ℕ → Result Run Refusal

@@ -1,0 +1,19 @@
+-- What is said of refusals, by what they are owed to. Crates above cite these lemmas.
+use Rattle.jet_refusal.specs.declared.refusal.Refusal.{Refusal}
+use Rattle.jet_refusal.specs.declared.refusal.Refusal.TheVariants as refusal
+use Rattle.jet_refusal.specs.Causes.{Causes, IsOwedTo}
+
+-- each cause says more
+pub IsOwedTo-map : (a b : Causes) → (a.usage → b.usage) → (a.files → b.files) → (a.read → b.read) → (a.write → b.write) → (r : Refusal) → IsOwedTo a r → IsOwedTo b r
+IsOwedTo-map a b usage files read write refusal.Usage h = usage h
+IsOwedTo-map a b usage files read write (refusal.Image fault) h = files h
+IsOwedTo-map a b usage files read write (refusal.Window pages) h = files h
+IsOwedTo-map a b usage files read write (refusal.Log kind offset) h = files h
+IsOwedTo-map a b usage files read write (refusal.Program kept seen) h = files h
+IsOwedTo-map a b usage files read write (refusal.Diverged d) h = files h
+IsOwedTo-map a b usage files read write (refusal.Query line kind) h = files h
+IsOwedTo-map a b usage files read write refusal.TooLong h = files h
+IsOwedTo-map a b usage files read write (refusal.LogTooLong size) h = files h
+IsOwedTo-map a b usage files read write refusal.ReadFault h = read h
+IsOwedTo-map a b usage files read write refusal.WriteFault h = write h
+IsOwedTo-map a b usage files read write refusal.NoMemory h = h
