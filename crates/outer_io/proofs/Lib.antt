@@ -1,5 +1,6 @@
 pub mod TellsLemmas
-pub mod Reading
-pub mod NamesLemmas
-pub mod ClockLemmas
-pub mod FolderLemmas
+mod Reading
+mod Writing
+mod NamesLemmas
+mod ClockLemmas
+mod FolderLemmas

@@ -3,6 +3,7 @@ pub mod Tells
 pub mod Files
 pub mod Shown
 pub mod ReadWhole
+pub mod WriteFile
 pub mod Held
 pub mod Names
 pub mod ListClock

@@ -43,4 +43,4 @@ pub use sink::Sink;
 pub use store::{Failed, Store};
 pub use sure_sink::SureSink;
 pub use sure_store::SureStore;
-pub use whole::{ReadWhole, WriteFault, read_whole, write_whole};
+pub use whole::{ReadWhole, WriteFault, read_whole, write_file, write_whole};

@@ -147,6 +147,33 @@ fn files_are_written(rt: HostRuntime) -> Result<(), Fail> {
     Ok(())
 }
 
+// Writes the file `a`, and compares what came of it and its content then.
+fn write_as<S: Store>(
+    rt: &(impl Abort + Alloc<A = Global>),
+    store: &mut S,
+    want: Result<(), WriteFault>,
+    content: &str,
+) {
+    assert_eq!(rt; write_file(store, "a", b"vwxyz"), want);
+    read_as(rt, store, "a", 5, content);
+}
+
+#[test]
+fn whole_files_are_written(rt: HostRuntime) -> Result<(), Fail> {
+    for (failing, room, want, content) in [
+        (0, 5, Err(WriteFault), "abcde"),
+        (1, 5, Err(WriteFault), "abcde"),
+        (3, 5, Err(WriteFault), "abcde"),
+        (4, 5, Err(WriteFault), "abcde"),
+        (99, 4, Err(WriteFault), "abcde"),
+        (99, 5, Ok(()), "vwxyz"),
+    ] {
+        let mut store = memory(rt.alloc(), failing, room)?;
+        write_as(&rt, &mut store, want, content);
+    }
+    Ok(())
+}
+
 #[test]
 fn a_sure_store_goes_on(rt: HostRuntime) -> Result<(), Fail> {
     let alloc = rt.alloc();
@@ -193,7 +220,7 @@ fn a_list_clock_goes_on_with_its_last_answer(rt: HostRuntime) -> Result<(), Fail
 #[test]
 fn files_of_the_machine(rt: HostRuntime) -> Result<(), Fail> {
     let mut store = FileStore::new(rt);
-    assert_eq!(rt; put_once(&mut store, "made", b"xyz")?, 3);
+    assert_eq!(rt; write_file(&mut store, "made", b"xyz"), Ok(()));
     for (name, max, want) in [
         ("made", 3, "xyz"),
         ("made", 2, "too long"),

@@ -1,8 +1,9 @@
 // Whole files and whole texts, over calls that move a piece.
-ghost use Rattle.std.specs.Prelude.{◌≡◌, ◌≤◌, ◌-◌, ◌^◌, ◌∷◌, [], vec_len, IfOk, IfErr, OnOk, OnErr};
-ghost use Rattle.outer_io.specs.Faults.{HasCause};
+ghost use Rattle.std.specs.Prelude.{◌≡◌, ◌≤◌, ◌-◌, ◌^◌, ◌∷◌, [], vec_len, IsTrue, IfOk, IfErr, OnOk, OnErr};
+ghost use Rattle.outer_io.specs.Faults.{HasCause, Rose};
 ghost use Rattle.outer_io.specs.Tells.{Tells, Gains, GainsPrefix};
-ghost use Rattle.outer_io.specs.Files.{KeepsFiles};
+ghost use Rattle.outer_io.specs.Files.{KeepsFiles, Puts};
+ghost use Rattle.outer_io.specs.WriteFile.{KeepsOtherFiles, IsWritten, PutsPart, PutsFront};
 ghost use Rattle.outer_io.specs.ReadWhole.{HasContent, ReadCause};
 
 use crate::sink::Sink;
@@ -24,9 +25,9 @@ pub enum ReadWhole {
     NoMemory,
 }
 
-/// The sink failed before all bytes were written.
+/// The sink or the store failed before all bytes were written.
 #[derive(Debug, PartialEq, Drop, Error)]
-#[error("the sink failed")]
+#[error("writing failed")]
 pub struct WriteFault;
 
 // How many bytes one read takes at most.
@@ -93,4 +94,46 @@ pub fn write_whole<O: Sink>(sink: &mut O, bytes: &[u8]) -> Result<(), WriteFault
         rest = &rest[count..];
     }
     Ok(())
+}
+
+// Puts all the bytes into the file that is being written.
+fn put_whole<S: Store>(store: &mut S, bytes: &[u8]) -> Result<(), WriteFault>
+    requires { IsTrue (S.is_created store.old) }
+    ensures whole { OnOk result (Tells (S.shown store.old).files (S.shown store.new).files (Puts bytes.now)) }
+    ensures part { OnErr result (Tells (S.shown store.old).files (S.shown store.new).files (PutsFront bytes.now)) }
+    ensures fault { OnErr result (Rose (S.shown store.old).faults (S.shown store.new).faults) }
+    ensures created { S.is_created store.new ≡ S.is_created store.old }
+    ensures opened { Tells (S.shown store.old).opened (S.shown store.new).opened (Gains []) }
+    ensures later { (S.shown store.old).faults ≤ (S.shown store.new).faults }
+{
+    let mut rest = bytes;
+    while !rest.is_empty() {
+        let Ok(count) = store.put(rest) else {
+            return Err(WriteFault);
+        };
+        rest = &rest[count..];
+    }
+    Ok(())
+}
+
+/// Makes the file of this name these bytes.
+///
+/// It fails where the store failed; its count of faults then rose, or stands at 2^64 - 1, the file may
+/// be anything, and what was put is a prefix of the bytes.
+pub fn write_file<S: Store>(store: &mut S, name: &str, bytes: &[u8]) -> Result<(), WriteFault>
+    ensures whole { OnOk result (Tells (S.shown store.old).files (S.shown store.new).files (IsWritten name.now bytes.now)) }
+    ensures part { OnErr result (Tells (S.shown store.old).files (S.shown store.new).files (PutsPart name.now bytes.now)) }
+    ensures fault { OnErr result (Rose (S.shown store.old).faults (S.shown store.new).faults) }
+    ensures others { Tells (S.shown store.old).files (S.shown store.new).files (KeepsOtherFiles name.now) }
+    ensures opened { Tells (S.shown store.old).opened (S.shown store.new).opened (Gains (name.now ∷ [])) }
+    ensures later { (S.shown store.old).faults ≤ (S.shown store.new).faults }
+{
+    let Ok(()) = store.create(name) else {
+        return Err(WriteFault);
+    };
+    put_whole(store, bytes)?;
+    match store.finish() {
+        Ok(()) => Ok(()),
+        Err(_) => Err(WriteFault),
+    }
 }
