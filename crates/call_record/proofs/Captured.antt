@@ -15,7 +15,7 @@ use Rattle.log_model.specs.declared.RunEnd.{RunEnd}
 use Rattle.log_model.specs.Logs.{Log, IsLog, log_text, record_text, end_text}
 use Rattle.replay_model.specs.Fits.{Fits, start_in_image}
 use Rattle.record_model.specs.Recorded.{IsRecorded, clock_values}
-use Rattle.replay_log.proofs.Texts.{text_length}
+use Rattle.log_model.proofs.Texts.{text_length}
 use Rattle.sha2.specs.Sha256.{sha256}
 use Rattle.sha2.proofs.Facts256.{length-sha256}
 use Rattle.call_record.specs.Sources.{contents, IsSource}

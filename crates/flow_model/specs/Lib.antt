@@ -1,4 +1,4 @@
-pub mod Sets
+pub mod Orders
 pub mod Flow
 pub mod Origins
 pub mod OriginLaws

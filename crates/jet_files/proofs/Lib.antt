@@ -1,3 +1,1 @@
-pub mod Judging
-pub mod Pieces
-pub mod Several
+pub mod Composing

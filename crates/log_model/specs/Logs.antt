@@ -73,6 +73,10 @@ log_text log = header_text log ++ flat_map record_text log.records ++ end_text l
 
 -- ---- which logs there are
 
+-- each is below 256
+abbrev pub IsBytes : List ℕ → Type 0
+IsBytes bytes = AllByRecursion (λ b. b < 256) bytes
+
 -- a refused read or write: -9, no such channel, or -14, a buffer outside the window
 abbrev pub IsRefusal : ℤ → Type 0
 IsRefusal result = (result ≡ negsuc 8) ⊎ (result ≡ negsuc 13)
@@ -88,7 +92,7 @@ pub record IsTransfer (args : List ℕ) (result : ℤ) (bytes : List ℕ) : Type
   pub words : AllByRecursion (λ n. n < 2 ^ 32) args
   pub fits : result <ℤ pos (2 ^ 31)
   pub whole : length bytes ≡ moved_length result
-  pub are_bytes : AllByRecursion (λ b. b < 256) bytes
+  pub are_bytes : IsBytes bytes
 
 -- a read moves at most the length asked for, a write all of it
 abbrev pub IsRecord : CallRecord → Type 0
@@ -122,7 +126,7 @@ pub record IsLog (log : Log) : Type 0 where
   pub pages : (1 ≤ log.pages) × (log.pages ≤ 4096)
   pub inputs : log.inputs ≤ 16
   pub digest : length log.digest ≡ 32
-  pub digest_bytes : AllByRecursion (λ b. b < 256) log.digest
+  pub digest_bytes : IsBytes log.digest
   pub records : AllByRecursion IsRecord log.records
   pub end : IsEnd log.end
   pub rise : Rise 0 log.records

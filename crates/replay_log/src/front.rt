@@ -11,7 +11,7 @@ use crate::tags::Tag;
 use crate::words::word_at;
 use log_model::LogKind;
 
-/// A record's kind and step number, the bytes of its data, and those behind the record.
+/// A record's kind and step number, the bytes of its data, and the bytes after the record.
 #[derive(Drop)]
 pub struct Front<'a> {
     pub tag: Tag,
@@ -96,12 +96,12 @@ pub fn front_of(least: u64, rest: &[u8]) -> Result<Front, LogKind>
     if is_outcome_wrong(tag, rest) {
         return Err(LogKind::Result);
     }
-    let behind = &rest[fixed..];
     let length = length_of_data(tag, rest);
-    if behind.len() < length {
+    let unfixed = &rest[fixed..];
+    if unfixed.len() < length {
         return Err(LogKind::Short);
     }
-    let (bytes, after) = behind.split_at(length);
+    let (bytes, after) = unfixed.split_at(length);
     Ok(Front {
         tag,
         at,

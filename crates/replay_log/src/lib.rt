@@ -6,7 +6,6 @@ mod fault;
 mod front;
 mod header;
 mod kept;
-pub mod laws;
 mod lengths;
 mod reading;
 mod records;

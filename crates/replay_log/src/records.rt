@@ -1,7 +1,7 @@
 //! The record at the front of the bytes that are left, put together.
 
-ghost use Rattle.std.specs.Prelude.{◌≡◌, ◌≤◌, ◌∷◌, [], length, IfOk, IfErr};
-ghost use Rattle.format_model.specs.Fields.{word_at};
+ghost use Rattle.std.specs.Prelude.{◌≡◌, ◌≤◌, length, IfOk, IfErr};
+ghost use Rattle.log_model.specs.Reading.{arguments_of};
 ghost use Rattle.replay_log.specs.declared.records.Refused.TheVariants.{Faulty, NoMemory};
 ghost use Rattle.replay_log.specs.Records.{told_at, IsTaken, IsRefused};
 
@@ -9,15 +9,8 @@ use crate::fault::LogFault;
 use crate::front::front_of;
 use crate::tags::Tag;
 use crate::words::{long_at, word_at};
-use log_model::{CallRecord, Data, LogKind, RunEnd};
+use log_model::{CallRecord, Data, Item, LogKind, RunEnd};
 use std::alloc::{AllocError, Global};
-
-/// A call, or the end of the run.
-#[derive(Drop)]
-pub enum Item {
-    Call(CallRecord),
-    End(RunEnd),
-}
 
 /// Why no record was read.
 #[derive(Drop)]
@@ -57,13 +50,13 @@ impl From<AllocError> for Refused {
 /// The three arguments of a read or a write.
 fn arguments_of(rest: &[u8]) -> [u32; 3]
     requires { 17 ≤ length rest.now }
-    ensures { result ≡ word_at rest.now 5 ∷ word_at rest.now 9 ∷ word_at rest.now 13 ∷ [] }
+    ensures { result ≡ arguments_of rest.now }
 {
     [word_at(rest, 5), word_at(rest, 9), word_at(rest, 13)]
 }
 
 /// Reads the record at the front, where its step number has to be at least `least`. The second part of the answer
-/// is the bytes behind it.
+/// is the bytes after it.
 pub fn item_of(alloc: Global, least: u64, rest: &[u8]) -> Result<(Item, &[u8]), Refused>
     ensures ok { IfOk result (λ x. IsTaken least rest.now x.0 x.1.now) }
     ensures fault { IfErr result (IsRefused least rest.now) }

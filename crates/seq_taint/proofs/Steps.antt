@@ -7,7 +7,8 @@ use Rattle.flow_model.specs.declared.Rule.{Rule}
 use Rattle.flow_model.specs.declared.SourceByte.{SourceByte}
 use Rattle.flow_model.specs.declared.StepSeen.{StepSeen}
 use Rattle.flow_model.specs.declared.CallSeen.{CallSeen}
-use Rattle.flow_model.specs.Sets.{union, source_cmp}
+use Rattle.sorted_set.specs.Sets.{union}
+use Rattle.flow_model.specs.Orders.{source_cmp}
 use Rattle.flow_model.specs.Flow.{Target, flow, cleared, origins_by, loc_eq, is_received, from, from_call, from_instruction_or}
 use Rattle.flow_model.specs.Origins.{Policy, gathered, fresh, after_step, step_at, origins}
 use Rattle.seq_taint.specs.Locations.{IsLocation, AreLocations, IsTable}

@@ -4,7 +4,8 @@ ghost use Rattle.std.specs.Prelude.{◌≡◌, ◌+◌, ◌*◌, ◌<◌, ◌≤
 ghost use Rattle.std.specs.Option.{unwrap_or, option_copied};
 ghost use Rattle.flow_model.specs.Flow.{origins_by, loc_eq, from_call};
 ghost use Rattle.flow_model.specs.Origins.{gathered, introduced as introduced_by, byte_at, fresh_by, after_step};
-ghost use Rattle.flow_model.specs.Sets.{union, source_cmp};
+ghost use Rattle.sorted_set.specs.Sets.{union};
+ghost use Rattle.flow_model.specs.Orders.{source_cmp};
 ghost use Rattle.replayer.specs.Ranges.{IsInRange, IsCallInRange};
 ghost use Rattle.report_model.specs.Query.{policy_of};
 ghost use Rattle.seq_taint.specs.Locations.{IsLocation, AreLocations, IsTable, is_among};

@@ -9,10 +9,11 @@ use Rattle.std.specs.Ordering.{is_lt, nat_cmp, ordering_reverse, ordering_then}
 use Rattle.std.specs.declared.cmp.Ordering.{Ordering}
 use Rattle.std.specs.declared.cmp.Ordering.TheVariants.{Less, Equal, Greater}
 use Rattle.flow_model.specs.declared.SinkByte.{SinkByte}
-use Rattle.flow_model.specs.Sets.{inserted, placed, sink_key, sink_cmp, IsBelow, Ascends}
-use Rattle.flow_model.proofs.Ascending.{Ascends-inserted}
+use Rattle.sorted_set.specs.Sets.{inserted, placed, set_of, IsBelow, Ascends}
+use Rattle.flow_model.specs.Orders.{sink_key, sink_cmp}
+use Rattle.sorted_set.proofs.Algebra.{Ascends-set_of}
 use Rattle.flow_model.proofs.Orders.{sink_same}
-use Rattle.report_model.specs.Rows.{Row, row_cmp, arranged}
+use Rattle.report_model.specs.Rows.{Row, row_cmp}
 use Rattle.sink_collect.specs.Distinct.{AreDistinct, IsApartFrom}
 
 row_total : IsTotalOrder row_cmp
@@ -67,10 +68,6 @@ Sorted-ascending : (rs : List Row) → Ascends row_cmp rs → Sorted rs
 Sorted-ascending [] a = tt
 Sorted-ascending (r ∷ rs) a = (least-below r rs a.0, Sorted-ascending rs a.1)
 
-pub Ascends-arranged : (rs : List Row) → Ascends row_cmp (arranged rs)
-Ascends-arranged [] = tt
-Ascends-arranged (r ∷ rs) = Ascends-inserted row_total r (arranged rs) (Ascends-arranged rs)
-
 -- ---- arranging keeps the rows that tie with another
 
 same_sink_tied : (x y : Row) → ties is_before x y ≡ true → x.sink ≡ y.sink
@@ -88,9 +85,9 @@ apart-inserted r s (y ∷ ys) n a = by (apart-inserted r s ys n a.1) (row_cmp s 
   by ih Equal = a
   by ih Greater = (a.0, ih)
 
-apart-arranged : (r : Row) (rs : List Row) → IsApartFrom r rs → IsApartFrom r (arranged rs)
+apart-arranged : (r : Row) (rs : List Row) → IsApartFrom r rs → IsApartFrom r (set_of row_cmp rs)
 apart-arranged r [] a = tt
-apart-arranged r (s ∷ ss) a = apart-inserted r s (arranged ss) a.0 (apart-arranged r ss a.1)
+apart-arranged r (s ∷ ss) a = apart-inserted r s (set_of row_cmp ss) a.0 (apart-arranged r ss a.1)
 
 -- two rows of different output bytes don't both tie with x, so they may change places
 exchanged : (x r y : Row) (rest : List Row) → (r.sink ≡ y.sink → ⊥) → filter (ties is_before x) (y ∷ r ∷ rest) ≡ filter (ties is_before x) (r ∷ y ∷ rest)
@@ -112,10 +109,10 @@ filter-inserted x r (y ∷ ys) a = by (filter-inserted x r ys a.1) (row_cmp r y)
   by ih Equal e = absurd (a.0 (sink_same r.sink y.sink e))
   by ih Greater e = ap (λ (zs : List Row). cond (ties is_before x y) (y ∷ zs) zs) ih ∙ exchanged x r y ys a.0
 
-filter-arranged : (x : Row) (rs : List Row) → AreDistinct rs → filter (ties is_before x) (arranged rs) ≡ filter (ties is_before x) rs
+filter-arranged : (x : Row) (rs : List Row) → AreDistinct rs → filter (ties is_before x) (set_of row_cmp rs) ≡ filter (ties is_before x) rs
 filter-arranged x [] d = refl
 filter-arranged x (r ∷ rs) d =
-    filter-inserted x r (arranged rs) (apart-arranged r rs d.0)
+    filter-inserted x r (set_of row_cmp rs) (apart-arranged r rs d.0)
     ∙ ap (λ (zs : List Row). cond (ties is_before x r) (r ∷ zs) zs) (filter-arranged x rs d.1)
 
 -- ---- two sorted lists in which the same rows tie with each row are one
@@ -165,10 +162,10 @@ same_rows (a ∷ qs) (b ∷ bs) s t h = by (same_rows qs bs s.1 t.1) (row_cmp a 
       ap₂ (λ (z : Row) (zs : List Row). z ∷ zs) same (ih (tails a qs bs (subst (λ (z : Row). TieAlike (a ∷ qs) (z ∷ bs)) (sym same) h)))
 
 -- what a stable sort by the output bytes gives
-pub sorted-is_arranged : (xs ys : List Row) → AreDistinct xs → IsSortedBy is_before ys → IsStableBy is_before xs ys → ys ≡ arranged xs
+pub sorted-is_arranged : (xs ys : List Row) → AreDistinct xs → IsSortedBy is_before ys → IsStableBy is_before xs ys → ys ≡ set_of row_cmp xs
 unfolding TieAlike
 sorted-is_arranged xs ys d s t =
-    same_rows ys (arranged xs) (Sorted-from ys s) (Sorted-ascending (arranged xs) (Ascends-arranged xs)) (λ x. t x ∙ sym (filter-arranged x xs d))
+    same_rows ys (set_of row_cmp xs) (Sorted-from ys s) (Sorted-ascending (set_of row_cmp xs) (Ascends-set_of row_total xs)) (λ x. t x ∙ sym (filter-arranged x xs d))
 
 -- ---- the same by the test that the derived order of output bytes gives
 
@@ -183,6 +180,6 @@ is_before_by_key x y = is_lt (ordering_then (nat_cmp x.sink.channel y.sink.chann
 same_test : is_before_by_key ≡ is_before
 same_test = λ i x y. is_lt (ordering_then (nat_cmp x.sink.channel y.sink.channel) (sym (then_equal (nat_cmp x.sink.offset y.sink.offset)) i))
 
-pub sorted_by_key-is_arranged : (xs ys : List Row) → AreDistinct xs → IsSortedBy is_before_by_key ys → IsStableBy is_before_by_key xs ys → ys ≡ arranged xs
+pub sorted_by_key-is_arranged : (xs ys : List Row) → AreDistinct xs → IsSortedBy is_before_by_key ys → IsStableBy is_before_by_key xs ys → ys ≡ set_of row_cmp xs
 sorted_by_key-is_arranged xs ys d s t =
     sorted-is_arranged xs ys d (subst (λ (lt : Row → Row → Bool). IsSortedBy lt ys) same_test s) (subst (λ (lt : Row → Row → Bool). IsStableBy lt xs ys) same_test t)

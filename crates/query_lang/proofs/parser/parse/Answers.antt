@@ -1,6 +1,6 @@
 use Rattle.std.proofs.Common.{◌≡◌, ◌∷◌, ◌+◌, List, ℕ, Option, Bor, length, ap, ◌∙◌, subst, arith}
 use Rattle.std.proofs.lemmas.Result.{IfOk-weaker}
-use Rattle.query_lang.specs.Answers.{Asks}
+use Rattle.query_lang.specs.Answers.{StandsFor}
 use Rattle.query_lang.specs.Drafts.{IsFinished}
 use Rattle.query_lang.proofs.ParseLemmas.{IsPartOf, lines_left, size_left, one_more_line, all_read, lines_split, less_left}
 use Rattle.query_lang.proofs.parser.parse.Goals as goal
@@ -23,4 +23,4 @@ returns-clause-read c =
     let draft = c.loop-left.draft in
     let text = c.args.text.now in
     let part = subst (λ (left : Option (Bor (List ℕ))). IsPartOf text c.loop-left.number draft (lines_left left)) c.in_default.is c.loop-left.invariant.part in
-    IfOk-weaker c.finish.result (IsFinished draft) (Asks text) (λ q f. all_read text c.loop-left.number draft q part f) c.finish.ensures.ok
+    IfOk-weaker c.finish.result (IsFinished draft) (StandsFor text) (λ q f. all_read text c.loop-left.number draft q part f) c.finish.ensures.ok

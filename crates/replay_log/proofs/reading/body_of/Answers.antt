@@ -1,12 +1,12 @@
 use Rattle.std.proofs.Common.{sym, subst, arith}
 use Rattle.std.proofs.lemmas.Bool.{eqb-true, eqb-false}
 use Rattle.replay_log.specs.Records.{IsTaken}
-use Rattle.replay_log.specs.declared.records.Item.{Item}
-use Rattle.replay_log.proofs.Steps.{starts, goes_on, is_done, is_trailing, is_refused}
+use Rattle.log_model.specs.declared.Item.{Item}
+use Rattle.replay_log.proofs.Loop.{starts, goes_on, is_done, is_trailing, is_refused}
 use Rattle.replay_log.proofs.reading.body_of.Goals as goal
 
 pub loop-taken-init : goal.loop-taken-init
-loop-taken-init c = rw c.new-records.ensures.items (starts c.args.bytes.now c.requires.header)
+loop-taken-init c = rw c.new-records.ensures.items (starts c.args.bytes.now c.requires)
 
 pub returns-in-Err-clause-fault : goal.returns-in-Err-clause-fault
 returns-in-Err-clause-fault c = rw c.told_at.ensures (is_refused _ _ _ _ c.in-Err.refused c.loop-taken.invariant c.in-Err.ensures.fault)

@@ -1,5 +1,5 @@
 use Rattle.std.proofs.Common.{length}
-use Rattle.replay_log.proofs.Steps.{IsReadTo}
+use Rattle.replay_log.proofs.Loop.{IsReadTo}
 use Rattle.replay_log.proofs.reading.body_of.Given as goal
 
 abbrev pub invariant-loop-taken : goal.invariant-loop-taken

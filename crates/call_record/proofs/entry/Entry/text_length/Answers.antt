@@ -1,6 +1,6 @@
 use Rattle.std.proofs.Common.{ap, subst, arith, length}
 use Rattle.log_model.specs.Logs.{IsRecord, record_text}
-use Rattle.replay_log.proofs.Texts.{transfer_length}
+use Rattle.log_model.proofs.Texts.{transfer_length}
 use Rattle.call_record.specs.declared.entry.Entry.{Entry}
 use Rattle.call_record.specs.Entries.{record_of}
 use Rattle.call_record.proofs.entry.Entry.text_length.Goals as goal

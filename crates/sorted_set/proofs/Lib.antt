@@ -1,0 +1,2 @@
+pub mod Algebra
+mod Places
