@@ -1,17 +1,15 @@
 //! The command `record`: a program is run over its inputs, and the log of the run is made.
-ghost use Rattle.std.specs.Prelude.{◌≡◌, ◌≤◌, ◌^◌, ◌∷◌, [], Ok, length, map, IfErr, OnOk};
+ghost use Rattle.std.specs.Prelude.{◌≡◌, ◌≤◌, ◌^◌, ◌∷◌, [], Ok, length, map, OnOk};
 ghost use Rattle.std.specs.List.{All};
 ghost use Rattle.elf_model.specs.Image.{image as image_of_file};
 ghost use Rattle.outer_io.specs.Tells.{Tells, Gains, GainsPrefix};
 ghost use Rattle.outer_io.specs.Files.{KeepsFiles};
 ghost use Rattle.call_record.specs.Sources.{contents};
 ghost use Rattle.jet_model.specs.Answer.{IsCaptureAnswer, IsRecordAnswer};
-ghost use Rattle.jet_files.specs.Causes.{cause_of, cause_by};
-ghost use Rattle.jet_files.specs.Outcome.{Holds, WorkHolds};
-ghost use Rattle.jet_cli.specs.Words.{limits_of};
-ghost use Rattle.jet_cli.specs.Causes.{capture_cause};
-ghost use Rattle.jet_cli.specs.Hearing.{Hears};
-ghost use Rattle.jet_cli.specs.Statuses.{BeforeRecording};
+ghost use Rattle.jet_files.specs.Outcome.{Follows, seen_by, bytes_of};
+ghost use Rattle.jet_files.specs.Views.{program_of};
+ghost use Rattle.jet_cli.specs.Answers.{limits_of, Hears, IsWorkOf};
+ghost use Rattle.jet_cli.specs.Ending.{status_after};
 
 use call_record::{CaptureFault, capture};
 use jet_files::{Program, open_inputs, open_program};
@@ -32,17 +30,6 @@ pub struct Limits {
     pub steps: u32,
 }
 
-/// Why a run was not recorded.
-fn of_capture(fault: CaptureFault, pages: u32) -> Refusal
-    ensures { cause_of result ≡ capture_cause pages fault }
-{
-    match fault {
-        CaptureFault::Window => Refusal::Window { pages },
-        CaptureFault::LogTooLong(size) => Refusal::LogTooLong(size),
-        CaptureFault::NoMemory => Refusal::NoMemory,
-    }
-}
-
 /// The log of the program's run over these inputs, as text.
 fn log_text<K: Clock>(
     alloc: Global,
@@ -56,8 +43,9 @@ fn log_text<K: Clock>(
     requires most { limits.pages ≤ 4096 }
     requires few { length inputs.now ≤ 16 }
     requires short { All (λ v. length v.items ≤ 2 ^ 26) inputs.now }
-    ensures answers { WorkHolds (λ answer. Hears (K.answers clock.old) (K.answers clock.new) (λ answers. IsCaptureAnswer program.now.bytes.items program.now.image (contents inputs.now) (limits_of limits.pages limits.piece limits.steps) answers answer)) (cause_by result) }
-    ensures unasked { IfErr result (λ r. BeforeRecording (cause_of r) (Tells (K.answers clock.old) (K.answers clock.new) (Gains []))) }
+    ensures answer { IsWorkOf (λ answer. Hears (K.answers clock.old) (K.answers clock.new) (λ answers.
+        IsCaptureAnswer (record { program = program_of program.now; inputs = contents inputs.now }) (limits_of limits.pages limits.piece limits.steps) answers answer)) (seen_by bytes_of result) }
+    ensures unasked { 2 ≤ status_after result → status_after result ≤ 7 → Tells (K.answers clock.old) (K.answers clock.new) (Gains []) }
 {
     let Limits {
         pages,
@@ -82,7 +70,9 @@ fn log_text<K: Clock>(
                 Err(NoMemory) => Err(Refusal::NoMemory),
             }
         }
-        Err(fault) => Err(of_capture(fault, pages)),
+        Err(CaptureFault::Window) => Err(Refusal::Window { pages }),
+        Err(CaptureFault::LogTooLong(size)) => Err(Refusal::LogTooLong(size)),
+        Err(CaptureFault::NoMemory) => Err(Refusal::NoMemory),
     }
 }
 
@@ -99,12 +89,13 @@ pub fn record<S: Store, K: Clock>(
     requires some { 1 ≤ limits.pages }
     requires most { limits.pages ≤ 4096 }
     requires few { length inputs.now ≤ 16 }
-    ensures answers { Holds (λ file answer. Hears (K.answers clock.old) (K.answers clock.new) (λ answers. IsRecordAnswer file program.now (map (λ name. name.now) inputs.now) (limits_of limits.pages limits.piece limits.steps) answers answer)) (S.files store.old) (S.files store.new) (S.faults store.old) (S.faults store.new) (cause_by result) }
-    ensures keeps { Tells (S.files store.old) (S.files store.new) KeepsFiles }
-    ensures asked { Tells (S.asked store.old) (S.asked store.new) (GainsPrefix (program.now ∷ map (λ name. name.now) inputs.now)) }
-    ensures all { OnOk result (Tells (S.asked store.old) (S.asked store.new) (Gains (program.now ∷ map (λ name. name.now) inputs.now))) }
-    ensures later { S.faults store.old ≤ S.faults store.new }
-    ensures unasked { IfErr result (λ r. BeforeRecording (cause_of r) (Tells (K.answers clock.old) (K.answers clock.new) (Gains []))) }
+    ensures answer { Follows (λ file answer. Hears (K.answers clock.old) (K.answers clock.new) (λ answers.
+        IsRecordAnswer file program.now (map (λ name. name.now) inputs.now) (limits_of limits.pages limits.piece limits.steps) answers answer)) (S.shown store.old) (S.shown store.new) (seen_by bytes_of result) }
+    ensures keeps { Tells (S.shown store.old).files (S.shown store.new).files KeepsFiles }
+    ensures opened { Tells (S.shown store.old).opened (S.shown store.new).opened (GainsPrefix (program.now ∷ map (λ name. name.now) inputs.now)) }
+    ensures all { OnOk result (Tells (S.shown store.old).opened (S.shown store.new).opened (Gains (program.now ∷ map (λ name. name.now) inputs.now))) }
+    ensures later { (S.shown store.old).faults ≤ (S.shown store.new).faults }
+    ensures unasked { 2 ≤ status_after result → status_after result ≤ 7 → Tells (K.answers clock.old) (K.answers clock.new) (Gains []) }
 {
     let program = open_program(alloc, store, program)?;
     let inputs = open_inputs(alloc, store, inputs)?;

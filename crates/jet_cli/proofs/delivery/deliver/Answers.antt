@@ -1,0 +1,13 @@
+use Rattle.jet_words.specs.Commands.{plain_command}
+use Rattle.jet_cli.specs.Targets.{target_of}
+use Rattle.jet_cli.proofs.Keeping.{keeps-same, keeps-more}
+use Rattle.jet_cli.proofs.delivery.deliver.Goals as goal
+
+pub returns-in-Query-clause-keeps : goal.returns-in-Query-clause-keeps
+returns-in-Query-clause-keeps g c = keeps-more (target_of (plain_command c.args.command.now)) _ _ (keeps-same (g.S.Store.shown c.args.store.now).files)
+
+pub returns-in-Replay-clause-keeps : goal.returns-in-Replay-clause-keeps
+returns-in-Replay-clause-keeps g c = keeps-more (target_of (plain_command c.args.command.now)) _ _ (keeps-same (g.S.Store.shown c.args.store.now).files)
+
+pub returns-in-Output-clause-keeps : goal.returns-in-Output-clause-keeps
+returns-in-Output-clause-keeps g c = keeps-more (target_of (plain_command c.args.command.now)) _ _ (keeps-same (g.S.Store.shown c.args.store.now).files)
