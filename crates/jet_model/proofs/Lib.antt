@@ -1,7 +1,6 @@
 pub mod AndThen
 pub mod Files
 mod Bytes
-mod LogReading
 pub mod Headline
 mod Guests
 mod Reports
