@@ -131,9 +131,9 @@ by_status m n k e (inr z) = inr (e ∙ z)
 
 pub decided : (command : Option CommandOf) (change : Change) (r : Result (Unit {0}) Refusal) (status : ℕ) → status ≡ status_after r → Ends command change r → IsDecided status command change
 decided None change r status e h = tt
-decided (Some command) change r status e h u told answer is = by_status status (status_after r) (status_after answer) e (decided-some command change u told answer is r h)
+decided (Some command) change r status e h = λ u told answer is. by_status status (status_after r) (status_after answer) e (decided-some command change u told answer is r h)
 
 pub complete : (command : Option CommandOf) (change : Change) (r : Result (Unit {0}) Refusal) (status : ℕ) → status ≡ status_after r → Ends command change r → IsComplete status command change
 complete None change r status e h = tt
-complete (Some command) change r status e h u told text short is =
+complete (Some command) change r status e h = λ u told text short is.
     by_status status (status_after r) 0 e (decided-some command change u told (Ok text) (answered change u.told.file command text short is) r h)

@@ -5,14 +5,13 @@ use Rattle.outer_io.specs.Shown.{StoreShown, SinkShown}
 use Rattle.outer_io.specs.Tells.{Tells}
 use Rattle.outer_io.specs.Files.{Files, Text, KeepsFiles}
 use Rattle.outer_io.specs.WriteFile.{PutsPart}
-use Rattle.outer_io.proofs.TellsLemmas.{tells-then}
+use Rattle.outer_io.proofs.TellsLemmas.{tells-then, tells-both, rose-earlier}
 use Rattle.jet_words.specs.Commands.{CommandOf}
 use Rattle.jet_refusal.specs.declared.refusal.Refusal.{Refusal}
 use Rattle.jet_refusal.specs.declared.refusal.Refusal.TheVariants as refusal
 use Rattle.jet_refusal.specs.Causes.{Causes, IsOwedTo}
 use Rattle.jet_refusal.proofs.Causes.{IsOwedTo-map}
 use Rattle.jet_files.specs.Outcome.{Found, Follows, by_reading}
-use Rattle.jet_files.proofs.Composing.{tells-both, Rose-earlier}
 use Rattle.jet_cli.specs.Targets.{Target, ToOutput, ToFile, target_of}
 use Rattle.jet_cli.specs.Answers.{IsAnswer}
 use Rattle.jet_cli.specs.Outside.{Change, Told}
@@ -37,7 +36,7 @@ part-earlier (ToFile name) text o n x y z keeps d = puts-earlier name text x y z
 
 fails-earlier : (target : Target) (f g h : StoreShown) (o n : SinkShown) → f.faults ≤ g.faults → g.faults ≤ h.faults → FailsToWrite target g h o n → FailsToWrite target f h o n
 fails-earlier ToOutput f g h o n up down rose = rose
-fails-earlier (ToFile name) f g h o n up down rose = Rose-earlier f.faults g.faults h.faults up rose down
+fails-earlier (ToFile name) f g h o n up down rose = rose-earlier f.faults g.faults h.faults up rose down
 
 -- the store shows `f`, then `g` once the files were read, and `h` at the end; the output and the clock show one thing before and
 -- one after
