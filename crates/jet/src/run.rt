@@ -1,12 +1,11 @@
 //! The public call: words, and the outside that `main` makes.
 ghost use Rattle.std.specs.Prelude.{◌≡◌, ◌⊎◌, ◌≤◌, [], false, map, string_bytes};
 ghost use Rattle.clap.specs.Words.{takes};
-ghost use Rattle.outer_io.specs.Tells.{Tells, Gains, GainsPrefix};
-ghost use Rattle.outer_io.specs.Files.{KeepsFiles};
+ghost use Rattle.outer_io.specs.Tells.{Tells, Gains};
 ghost use Rattle.jet_words.specs.CommandLine.{jet_app};
 ghost use Rattle.jet_cli.specs.Targets.{command_in, target_in, files_of, IfOutput, IfFile};
 ghost use Rattle.jet_cli.specs.Outside.{change};
-ghost use Rattle.jet_cli.specs.Writing.{KeepsAllBut};
+ghost use Rattle.jet_cli.specs.Keeping.{OpensAll, OpensFirst, KeepsAll, KeepsBut};
 ghost use Rattle.jet_cli.specs.Ending.{IsUnwritten, Says};
 ghost use Rattle.jet.specs.Statuses.{IsStatus, IsDone, IsDoneInPart, IsRefused, IsDecided, IsComplete};
 
@@ -32,7 +31,7 @@ pub fn jet<R: AllocGlobal, S: Store, O: Sink, E: Sink, K: Clock, G: Gate>(
     // 0: what the words stand for was written whole, all files that they name were opened, and nothing is said.
     ensures done { result ≡ 0 → IsDone (command_in words.now)
         (change S.shown O.shown K.answers store.old out.old clock.old store.new out.new clock.new) }
-    ensures all { result ≡ 0 → Tells (S.shown store.old).opened (S.shown store.new).opened (Gains (files_of (command_in words.now))) }
+    ensures all { result ≡ 0 → OpensAll (files_of (command_in words.now)) (S.shown store.old) (S.shown store.new) }
     ensures quiet { result ≡ 0 → err.new ≡ err.old }
     // 2 to 10: a refusal with its cause, whose line is said. At 8 a part may have been written.
     ensures refused { 2 ≤ result → IsRefused result (command_in words.now) (Says (E.shown err.old) (E.shown err.new))
@@ -45,9 +44,9 @@ pub fn jet<R: AllocGlobal, S: Store, O: Sink, E: Sink, K: Clock, G: Gate>(
     ensures complete { IsComplete result (command_in words.now)
         (change S.shown O.shown K.answers store.old out.old clock.old store.new out.new clock.new) }
     // What is opened, in order, and what stays.
-    ensures opened { Tells (S.shown store.old).opened (S.shown store.new).opened (GainsPrefix (files_of (command_in words.now))) }
-    ensures keeps { Tells (S.shown store.old).files (S.shown store.new).files (KeepsAllBut (target_in (command_in words.now))) }
-    ensures untouched { IsUnwritten result → Tells (S.shown store.old).files (S.shown store.new).files KeepsFiles }
+    ensures opened { OpensFirst (files_of (command_in words.now)) (S.shown store.old) (S.shown store.new) }
+    ensures keeps { KeepsBut (target_in (command_in words.now)) (S.shown store.old) (S.shown store.new) }
+    ensures untouched { IsUnwritten result → KeepsAll (S.shown store.old) (S.shown store.new) }
     ensures silent { IsUnwritten result → out.new ≡ out.old }
     ensures aside { IfFile (target_in (command_in words.now)) (out.new ≡ out.old) }
     ensures clock { IfOutput (target_in (command_in words.now)) (clock.new ≡ clock.old) }

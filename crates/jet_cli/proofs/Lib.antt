@@ -1,4 +1,4 @@
-mod Keeping
+mod KeepingLemmas
 mod Delivered
 mod Fitting
 mod Working

@@ -3,14 +3,9 @@ use Rattle.std.specs.Prelude.{ℕ, List}
 use Rattle.outer_io.specs.Faults.{Rose}
 use Rattle.outer_io.specs.Shown.{StoreShown, SinkShown}
 use Rattle.outer_io.specs.Tells.{Tells, Gains, GainsPrefix}
-use Rattle.outer_io.specs.Files.{Files, KeepsFiles}
-use Rattle.outer_io.specs.WriteFile.{KeepsOtherFiles, IsWritten, PutsPart}
+use Rattle.outer_io.specs.Files.{Files}
+use Rattle.outer_io.specs.WriteFile.{IsWritten, PutsPart}
 use Rattle.jet_cli.specs.Targets.{Target, ToOutput, ToFile}
-
--- no file differs, but for one that is written
-abbrev pub KeepsAllBut : Target → Files → Files → Type 0
-KeepsAllBut ToOutput = KeepsFiles
-KeepsAllBut (ToFile name) = KeepsOtherFiles name
 
 -- the text was written whole: where the output tells what was written, it gained the text; or the file is the text
 abbrev pub Delivers : Target → SinkShown → SinkShown → List ℕ → Files → Files → Type 0

@@ -1,7 +1,6 @@
 //! What a command gives: its files are read one after another, and a text is made of them.
 ghost use Rattle.std.specs.Prelude.{◌≡◌, ◌≤◌, ◌∷◌, [], OnOk};
-ghost use Rattle.outer_io.specs.Tells.{Tells, Gains, GainsPrefix};
-ghost use Rattle.outer_io.specs.Files.{KeepsFiles};
+ghost use Rattle.outer_io.specs.Tells.{Tells, Gains};
 ghost use Rattle.jet_model.specs.Answer.{query_answer, log_answer};
 ghost use Rattle.run_output.specs.Summary.{summary_text};
 ghost use Rattle.run_output.specs.Output.{output as output_of};
@@ -10,6 +9,7 @@ ghost use Rattle.jet_files.specs.Outcome.{Comes, Follows, seen_by, bytes_of};
 ghost use Rattle.jet_cli.specs.Targets.{sources_of, target_of, IfOutput};
 ghost use Rattle.jet_cli.specs.Answers.{IsAnswer, named};
 ghost use Rattle.jet_cli.specs.Ending.{status_after};
+ghost use Rattle.jet_cli.specs.Keeping.{OpensAll, OpensFirst, KeepsAll};
 
 use crate::record::{Limits, record};
 use crate::work::{output, report, summary};
@@ -28,9 +28,9 @@ fn query<S: Store>(
     query: &str,
 ) -> Result<Vec<u8>, Refusal>
     ensures answer { Comes (λ file. query_answer file (named program.now log.now query.now)) (S.shown store.old) (S.shown store.new) (seen_by bytes_of result) }
-    ensures keeps { Tells (S.shown store.old).files (S.shown store.new).files KeepsFiles }
-    ensures opened { Tells (S.shown store.old).opened (S.shown store.new).opened (GainsPrefix (program.now ∷ log.now ∷ query.now ∷ [])) }
-    ensures all { OnOk result (Tells (S.shown store.old).opened (S.shown store.new).opened (Gains (program.now ∷ log.now ∷ query.now ∷ []))) }
+    ensures keeps { KeepsAll (S.shown store.old) (S.shown store.new) }
+    ensures opened { OpensFirst (program.now ∷ log.now ∷ query.now ∷ []) (S.shown store.old) (S.shown store.new) }
+    ensures all { OnOk result (OpensAll (program.now ∷ log.now ∷ query.now ∷ []) (S.shown store.old) (S.shown store.new)) }
     ensures later { (S.shown store.old).faults ≤ (S.shown store.new).faults }
 {
     let run = open_run(alloc, store, program, log)?;
@@ -46,9 +46,9 @@ fn replay<S: Store>(
     log: &str,
 ) -> Result<Vec<u8>, Refusal>
     ensures answer { Comes (λ file. log_answer file program.now log.now summary_text) (S.shown store.old) (S.shown store.new) (seen_by bytes_of result) }
-    ensures keeps { Tells (S.shown store.old).files (S.shown store.new).files KeepsFiles }
-    ensures opened { Tells (S.shown store.old).opened (S.shown store.new).opened (GainsPrefix (program.now ∷ log.now ∷ [])) }
-    ensures all { OnOk result (Tells (S.shown store.old).opened (S.shown store.new).opened (Gains (program.now ∷ log.now ∷ []))) }
+    ensures keeps { KeepsAll (S.shown store.old) (S.shown store.new) }
+    ensures opened { OpensFirst (program.now ∷ log.now ∷ []) (S.shown store.old) (S.shown store.new) }
+    ensures all { OnOk result (OpensAll (program.now ∷ log.now ∷ []) (S.shown store.old) (S.shown store.new)) }
     ensures later { (S.shown store.old).faults ≤ (S.shown store.new).faults }
 {
     let run = open_run(alloc, store, program, log)?;
@@ -64,9 +64,9 @@ fn written<S: Store>(
     channel: u32,
 ) -> Result<Vec<u8>, Refusal>
     ensures answer { Comes (λ file. log_answer file program.now log.now (output_of channel)) (S.shown store.old) (S.shown store.new) (seen_by bytes_of result) }
-    ensures keeps { Tells (S.shown store.old).files (S.shown store.new).files KeepsFiles }
-    ensures opened { Tells (S.shown store.old).opened (S.shown store.new).opened (GainsPrefix (program.now ∷ log.now ∷ [])) }
-    ensures all { OnOk result (Tells (S.shown store.old).opened (S.shown store.new).opened (Gains (program.now ∷ log.now ∷ []))) }
+    ensures keeps { KeepsAll (S.shown store.old) (S.shown store.new) }
+    ensures opened { OpensFirst (program.now ∷ log.now ∷ []) (S.shown store.old) (S.shown store.new) }
+    ensures all { OnOk result (OpensAll (program.now ∷ log.now ∷ []) (S.shown store.old) (S.shown store.new)) }
     ensures later { (S.shown store.old).faults ≤ (S.shown store.new).faults }
 {
     let run = open_run(alloc, store, program, log)?;
@@ -82,9 +82,9 @@ pub fn answer<S: Store, K: Clock>(
 ) -> Result<Vec<u8>, Refusal>
     requires ranges { IsInRange (plain_command command.now) }
     ensures answer { Follows (IsAnswer (plain_command command.now) (K.answers clock.old) (K.answers clock.new)) (S.shown store.old) (S.shown store.new) (seen_by bytes_of result) }
-    ensures keeps { Tells (S.shown store.old).files (S.shown store.new).files KeepsFiles }
-    ensures opened { Tells (S.shown store.old).opened (S.shown store.new).opened (GainsPrefix (sources_of (plain_command command.now))) }
-    ensures all { OnOk result (Tells (S.shown store.old).opened (S.shown store.new).opened (Gains (sources_of (plain_command command.now)))) }
+    ensures keeps { KeepsAll (S.shown store.old) (S.shown store.new) }
+    ensures opened { OpensFirst (sources_of (plain_command command.now)) (S.shown store.old) (S.shown store.new) }
+    ensures all { OnOk result (OpensAll (sources_of (plain_command command.now)) (S.shown store.old) (S.shown store.new)) }
     ensures later { (S.shown store.old).faults ≤ (S.shown store.new).faults }
     ensures clock { IfOutput (target_of (plain_command command.now)) (clock.new ≡ clock.old) }
     ensures unasked { 2 ≤ status_after result → status_after result ≤ 7 → Tells (K.answers clock.old) (K.answers clock.new) (Gains []) }

@@ -1,13 +1,12 @@
 //! A command, from its words to its end.
 ghost use Rattle.std.specs.Prelude.{◌≡◌, ◌⊎◌, ◌≤◌, [], false, map, string_bytes, Some, Err, IfErr, OnOk};
 ghost use Rattle.clap.specs.Words.{takes};
-ghost use Rattle.outer_io.specs.Tells.{Tells, Gains, GainsPrefix};
-ghost use Rattle.outer_io.specs.Files.{KeepsFiles};
+ghost use Rattle.outer_io.specs.Tells.{Tells, Gains};
 ghost use Rattle.jet_words.specs.CommandLine.{jet_app};
 ghost use Rattle.jet_words.specs.Commands.{plain_command, IsInRange};
 ghost use Rattle.jet_cli.specs.Targets.{command_in, target_of, target_in, files_of, IfOutput, IfFile};
 ghost use Rattle.jet_cli.specs.Outside.{change};
-ghost use Rattle.jet_cli.specs.Writing.{KeepsAllBut};
+ghost use Rattle.jet_cli.specs.Keeping.{OpensAll, OpensFirst, KeepsAll, KeepsBut};
 ghost use Rattle.jet_cli.specs.Ending.{Ends, IsUnwritten, status_after};
 
 use crate::answer::answer;
@@ -28,10 +27,10 @@ fn carry_out<S: Store, O: Sink, K: Clock>(
     requires ranges { IsInRange (plain_command command.now) }
     ensures ends { Ends (Some (plain_command command.now))
         (change S.shown O.shown K.answers store.old out.old clock.old store.new out.new clock.new) result }
-    ensures keeps { Tells (S.shown store.old).files (S.shown store.new).files (KeepsAllBut (target_of (plain_command command.now))) }
-    ensures untouched { IsUnwritten (status_after result) → Tells (S.shown store.old).files (S.shown store.new).files KeepsFiles }
-    ensures opened { Tells (S.shown store.old).opened (S.shown store.new).opened (GainsPrefix (files_of (Some (plain_command command.now)))) }
-    ensures all { OnOk result (Tells (S.shown store.old).opened (S.shown store.new).opened (Gains (files_of (Some (plain_command command.now))))) }
+    ensures keeps { KeepsBut (target_of (plain_command command.now)) (S.shown store.old) (S.shown store.new) }
+    ensures untouched { IsUnwritten (status_after result) → KeepsAll (S.shown store.old) (S.shown store.new) }
+    ensures opened { OpensFirst (files_of (Some (plain_command command.now))) (S.shown store.old) (S.shown store.new) }
+    ensures all { OnOk result (OpensAll (files_of (Some (plain_command command.now))) (S.shown store.old) (S.shown store.new)) }
     ensures silent { IsUnwritten (status_after result) → out.new ≡ out.old }
     ensures aside { IfFile (target_of (plain_command command.now)) (out.new ≡ out.old) }
     ensures clock { IfOutput (target_of (plain_command command.now)) (clock.new ≡ clock.old) }
@@ -63,10 +62,10 @@ pub fn obey<S: Store, O: Sink, K: Clock>(
         (change S.shown O.shown K.answers store.old out.old clock.old store.new out.new clock.new) result }
 
     // What is opened, and what stays.
-    ensures all { OnOk result (Tells (S.shown store.old).opened (S.shown store.new).opened (Gains (files_of (command_in words.now)))) }
-    ensures opened { Tells (S.shown store.old).opened (S.shown store.new).opened (GainsPrefix (files_of (command_in words.now))) }
-    ensures keeps { Tells (S.shown store.old).files (S.shown store.new).files (KeepsAllBut (target_in (command_in words.now))) }
-    ensures untouched { IsUnwritten (status_after result) → Tells (S.shown store.old).files (S.shown store.new).files KeepsFiles }
+    ensures all { OnOk result (OpensAll (files_of (command_in words.now)) (S.shown store.old) (S.shown store.new)) }
+    ensures opened { OpensFirst (files_of (command_in words.now)) (S.shown store.old) (S.shown store.new) }
+    ensures keeps { KeepsBut (target_in (command_in words.now)) (S.shown store.old) (S.shown store.new) }
+    ensures untouched { IsUnwritten (status_after result) → KeepsAll (S.shown store.old) (S.shown store.new) }
     ensures silent { IsUnwritten (status_after result) → out.new ≡ out.old }
     ensures aside { IfFile (target_in (command_in words.now)) (out.new ≡ out.old) }
     ensures clock { IfOutput (target_in (command_in words.now)) (clock.new ≡ clock.old) }

@@ -1,10 +1,11 @@
 //! Where the text of a command goes.
 ghost use Rattle.std.specs.Prelude.{◌≡◌, ◌≤◌, IfErr, OnOk, OnErr};
 ghost use Rattle.outer_io.specs.Faults.{Rose};
-ghost use Rattle.outer_io.specs.Tells.{Tells, Gains, GainsPrefix};
+ghost use Rattle.outer_io.specs.Tells.{Tells};
 ghost use Rattle.jet_words.specs.Commands.{plain_command};
 ghost use Rattle.jet_cli.specs.Targets.{target_of, written_in, IfFile};
-ghost use Rattle.jet_cli.specs.Writing.{KeepsAllBut, Delivers, DeliversPart, FailsToWrite};
+ghost use Rattle.jet_cli.specs.Keeping.{OpensAll, KeepsBut};
+ghost use Rattle.jet_cli.specs.Writing.{Delivers, DeliversPart, FailsToWrite};
 
 use jet_words::Command;
 use outer_io::{Sink, Store, WriteFault, write_file, write_whole};
@@ -22,8 +23,8 @@ pub fn deliver<S: Store, O: Sink>(
         (DeliversPart (target_of (plain_command command.now)) (O.shown out.old) (O.shown out.new) text.now)) }
     ensures fault { OnErr result (FailsToWrite (target_of (plain_command command.now))
         (S.shown store.old) (S.shown store.new) (O.shown out.old) (O.shown out.new)) }
-    ensures keeps { Tells (S.shown store.old).files (S.shown store.new).files (KeepsAllBut (target_of (plain_command command.now))) }
-    ensures opened { Tells (S.shown store.old).opened (S.shown store.new).opened (Gains (written_in (target_of (plain_command command.now)))) }
+    ensures keeps { KeepsBut (target_of (plain_command command.now)) (S.shown store.old) (S.shown store.new) }
+    ensures opened { OpensAll (written_in (target_of (plain_command command.now))) (S.shown store.old) (S.shown store.new) }
     ensures aside { IfFile (target_of (plain_command command.now)) (out.new ≡ out.old) }
     ensures later { (S.shown store.old).faults ≤ (S.shown store.new).faults }
 {

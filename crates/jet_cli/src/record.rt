@@ -2,14 +2,14 @@
 ghost use Rattle.std.specs.Prelude.{◌≡◌, ◌≤◌, ◌^◌, ◌∷◌, [], Ok, length, map, OnOk};
 ghost use Rattle.std.specs.List.{All};
 ghost use Rattle.elf_model.specs.Image.{image as image_of_file};
-ghost use Rattle.outer_io.specs.Tells.{Tells, Gains, GainsPrefix};
-ghost use Rattle.outer_io.specs.Files.{KeepsFiles};
+ghost use Rattle.outer_io.specs.Tells.{Tells, Gains};
 ghost use Rattle.call_record.specs.Sources.{contents};
 ghost use Rattle.jet_model.specs.Answer.{IsCaptureAnswer, IsRecordAnswer};
 ghost use Rattle.jet_files.specs.Outcome.{Follows, seen_by, bytes_of};
 ghost use Rattle.jet_files.specs.Views.{program_of};
 ghost use Rattle.jet_cli.specs.Answers.{limits_of, Hears, IsWorkOf};
 ghost use Rattle.jet_cli.specs.Ending.{status_after};
+ghost use Rattle.jet_cli.specs.Keeping.{OpensAll, OpensFirst, KeepsAll};
 
 use call_record::{CaptureFault, capture};
 use jet_files::{Program, open_inputs, open_program};
@@ -91,9 +91,9 @@ pub fn record<S: Store, K: Clock>(
     requires few { length inputs.now ≤ 16 }
     ensures answer { Follows (λ file answer. Hears (K.answers clock.old) (K.answers clock.new) (λ answers.
         IsRecordAnswer file program.now (map (λ name. name.now) inputs.now) (limits_of limits.pages limits.piece limits.steps) answers answer)) (S.shown store.old) (S.shown store.new) (seen_by bytes_of result) }
-    ensures keeps { Tells (S.shown store.old).files (S.shown store.new).files KeepsFiles }
-    ensures opened { Tells (S.shown store.old).opened (S.shown store.new).opened (GainsPrefix (program.now ∷ map (λ name. name.now) inputs.now)) }
-    ensures all { OnOk result (Tells (S.shown store.old).opened (S.shown store.new).opened (Gains (program.now ∷ map (λ name. name.now) inputs.now))) }
+    ensures keeps { KeepsAll (S.shown store.old) (S.shown store.new) }
+    ensures opened { OpensFirst (program.now ∷ map (λ name. name.now) inputs.now) (S.shown store.old) (S.shown store.new) }
+    ensures all { OnOk result (OpensAll (program.now ∷ map (λ name. name.now) inputs.now) (S.shown store.old) (S.shown store.new)) }
     ensures later { (S.shown store.old).faults ≤ (S.shown store.new).faults }
     ensures unasked { 2 ≤ status_after result → status_after result ≤ 7 → Tells (K.answers clock.old) (K.answers clock.new) (Gains []) }
 {

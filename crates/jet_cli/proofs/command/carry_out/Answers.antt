@@ -6,7 +6,7 @@ use Rattle.jet_files.specs.Outcome.{Follows}
 use Rattle.jet_cli.specs.Targets.{target_of}
 use Rattle.jet_cli.specs.Answers.{IsAnswer}
 use Rattle.jet_cli.specs.Ending.{causes_of}
-use Rattle.jet_cli.proofs.Keeping.{keeps-then}
+use Rattle.jet_cli.proofs.KeepingLemmas.{keeps-then}
 use Rattle.jet_cli.proofs.Delivered.{between, not_answered, delivered, not_delivered}
 use Rattle.jet_cli.proofs.command.carry_out.Goals as goal
 

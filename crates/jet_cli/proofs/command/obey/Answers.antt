@@ -1,6 +1,6 @@
 use Rattle.std.proofs.Common.{ap, Err}
 use Rattle.jet_cli.specs.Targets.{command_in, target_in}
-use Rattle.jet_cli.proofs.Keeping.{keeps-same, keeps-more}
+use Rattle.jet_cli.proofs.KeepingLemmas.{keeps-same, keeps-more}
 use Rattle.jet_cli.proofs.Delivered.{no_command}
 use Rattle.jet_cli.proofs.command.obey.Goals as goal
 

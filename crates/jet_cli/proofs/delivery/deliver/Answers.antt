@@ -1,6 +1,6 @@
 use Rattle.jet_words.specs.Commands.{plain_command}
 use Rattle.jet_cli.specs.Targets.{target_of}
-use Rattle.jet_cli.proofs.Keeping.{keeps-same, keeps-more}
+use Rattle.jet_cli.proofs.KeepingLemmas.{keeps-same, keeps-more}
 use Rattle.jet_cli.proofs.delivery.deliver.Goals as goal
 
 pub returns-in-Query-clause-keeps : goal.returns-in-Query-clause-keeps

@@ -9,7 +9,7 @@ use Rattle.jet_files.specs.Outcome.{Follows, seen_by, bytes_of}
 use Rattle.jet_files.specs.Views.{program_of}
 use Rattle.jet_files.proofs.Composing.{Keeps}
 use Rattle.jet_cli.specs.Answers.{Hears, IsWorkOf, limits_of}
-use Rattle.jet_cli.proofs.Keeping.{keeps-keeps, opened-part, opened-whole, on_ok}
+use Rattle.jet_cli.proofs.KeepingLemmas.{keeps-keeps, opened-part, opened-whole, on_ok}
 use Rattle.jet_cli.proofs.Recording.{Records, none_gained, refused-program, refused-inputs, recorded}
 use Rattle.jet_cli.proofs.record.record.Goals as goal
 

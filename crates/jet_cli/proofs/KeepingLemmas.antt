@@ -6,7 +6,7 @@ use Rattle.outer_io.specs.Files.{Files, KeepsFiles}
 use Rattle.outer_io.proofs.TellsLemmas.{tells-then, tells-map, tells-gains, gains-gains, gains-prefix}
 use Rattle.jet_model.specs.Contents.{Contents}
 use Rattle.jet_cli.specs.Targets.{Target, ToOutput, ToFile}
-use Rattle.jet_cli.specs.Writing.{KeepsAllBut}
+use Rattle.jet_cli.specs.Keeping.{KeepsAllBut}
 
 -- a store that isn't called keeps its files
 pub keeps-same : (f : Option Files) → Tells f f KeepsFiles
