@@ -102,7 +102,7 @@ record HasFields (text : List ℕ) (at a b c : ℕ) (result : ℤ) (bytes after 
   outcome : word_at text 17 ≡ cast_unsigned w32 result
   tail : drop 21 text ≡ bytes ++ after
 
--- the fields of a read or a write, behind a tag
+-- the fields of a read or a write, after a tag
 fields : (t at a b c : ℕ) (result : ℤ) (bytes after : List ℕ) → at < 2 ^ 32 → IsTransfer (a ∷ b ∷ c ∷ []) result bytes
     → HasFields (t ∷ word32 at ++ flat_map word32 (a ∷ b ∷ c ∷ []) ++ signed32 result ++ bytes ++ after) at a b c result bytes after
 fields t at a b c result bytes after p f = record {
@@ -119,13 +119,13 @@ data_is : (text : List ℕ) (at a b c : ℕ) (result : ℤ) (bytes after : List 
     → (if nat_lt (word_at text 17) (2 ^ 31) then word_at text 17 else 0) ≡ length bytes
 data_is text at a b c result bytes after h f o = rw h.outcome (word_of_moved result f.fits o) ∙ sym f.whole
 
-outcome_of : (result : ℤ) (asked : ℕ) → IsRefusal result ⊎ ((pos 0 ≤ℤ result) × (result ≤ℤ pos asked)) → IsOutcome result
-outcome_of result asked (inl r) = inl r
-outcome_of result asked (inr p) = inr p.0
+outcome_of : (result : ℤ) (requested : ℕ) → IsRefusal result ⊎ ((pos 0 ≤ℤ result) × (result ≤ℤ pos requested)) → IsOutcome result
+outcome_of result requested (inl r) = inl r
+outcome_of result requested (inr p) = inr p.0
 
-outcome_from : (result : ℤ) (asked : ℕ) → IsRefusal result ⊎ (result ≡ pos asked) → IsOutcome result
-outcome_from result asked (inl r) = inl r
-outcome_from result asked (inr e) = inr (omega (arith, ints, e))
+outcome_from : (result : ℤ) (requested : ℕ) → IsRefusal result ⊎ (result ≡ pos requested) → IsOutcome result
+outcome_from result requested (inl r) = inl r
+outcome_from result requested (inr e) = inr (omega (arith, ints, e))
 
 read_again : (at a b c : ℕ) (result : ℤ) (bytes after : List ℕ) → IsRecord (Read at (a ∷ b ∷ c ∷ []) result bytes) → IsAgain (Call (Read at (a ∷ b ∷ c ∷ []) result bytes)) after
 read_again at a b c result bytes after r =

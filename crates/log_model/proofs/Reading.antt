@@ -11,7 +11,7 @@ use Rattle.log_model.specs.declared.Item.TheVariants.{Call, End}
 use Rattle.log_model.specs.declared.LogKind.{LogKind}
 use Rattle.log_model.specs.declared.LogKind.TheVariants.{Trailing}
 use Rattle.log_model.specs.Logs.{Log, IsLog, log_text, at_of, end_at, record_text, end_text, least_after, IsRecord, IsEnd, Rise}
-use Rattle.log_model.specs.Faults.{header_fault, record_fault, IsRead, HasFault, InHeader, InRecord, BehindEnd}
+use Rattle.log_model.specs.Faults.{header_fault, record_fault, IsRead, HasFault, InHeader, InRecord, AfterEnd}
 use Rattle.log_model.specs.Reading.{item_of, item_length, map_ok, Body, with_call, with_end, body_of, with_header, log_of}
 use Rattle.log_model.proofs.HeaderAgain.{log_again}
 use Rattle.log_model.proofs.Headers.{headed}
@@ -163,7 +163,7 @@ reads_fault bytes kind offset (InRecord calls rest read fault) =
     ∙ ap (λ (x : List ℕ). map_ok (with_header bytes) (body_of (length bytes) 0 48 x)) read.text
     ∙ ap (map_ok (with_header bytes)) (are.read ∙ ap (map_ok (with_calls calls)) (body_of-fault are.left (least_after 0 calls) here rest kind fault))
     ∙ ap (λ (n : ℕ). Err (kind, n)) there
-reads_fault bytes kind offset (BehindEnd calls end rest read is order some) =
+reads_fault bytes kind offset (AfterEnd calls end rest read is order some) =
     let are = calls_of bytes calls (end_text end ++ rest) read in
     let here = 48 + length (flat_map record_text calls) in
     let there : here + length (end_text end) ≡ length bytes - length rest = omega (arith, offset_of bytes calls (end_text end ++ rest) read, length-append (end_text end) rest) in

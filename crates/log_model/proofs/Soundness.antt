@@ -12,7 +12,7 @@ use Rattle.log_model.specs.declared.Item.TheVariants.{Call, End}
 use Rattle.log_model.specs.declared.LogKind.{LogKind}
 use Rattle.log_model.specs.declared.LogKind.TheVariants.{Trailing}
 use Rattle.log_model.specs.Logs.{Log, IsLog, IsBytes, header_text, log_text, at_of, end_at, record_text, end_text, least_after, IsRecord, IsEnd, Rise}
-use Rattle.log_model.specs.Faults.{header_fault, record_fault, IsRead, HasFault, InHeader, InRecord, BehindEnd}
+use Rattle.log_model.specs.Faults.{header_fault, record_fault, IsRead, HasFault, InHeader, InRecord, AfterEnd}
 use Rattle.log_model.specs.Reading.{item_of, item_length, map_ok, Body, with_call, with_end, body_of, with_header, log_of}
 use Rattle.log_model.proofs.Words.{IsBytes-drop, IsBytes-take}
 use Rattle.log_model.proofs.Items.{item_text, IsNext}
@@ -35,8 +35,8 @@ record IsWhole (least : ℕ) (bytes : List ℕ) (calls : List CallRecord) (end :
   ends_after : least_after least calls ≤ end_at end
 
 data IsFaulty (least : ℕ) (bytes : List ℕ) (kind : LogKind) (offset end : ℕ) : Type 0 where
-  AtRecord : (calls : List CallRecord) (after : List ℕ) → AreCalls least bytes calls after → record_fault (least_after least calls) after ≡ Some kind → offset + length after ≡ end → IsFaulty least bytes kind offset end
-  AfterEnd : (calls : List CallRecord) (last : RunEnd) (after : List ℕ) → AreCalls least bytes calls (end_text last ++ after) → IsEnd last → least_after least calls ≤ end_at last → 0 < length after
+  OfRecord : (calls : List CallRecord) (after : List ℕ) → AreCalls least bytes calls after → record_fault (least_after least calls) after ≡ Some kind → offset + length after ≡ end → IsFaulty least bytes kind offset end
+  OfEnd : (calls : List CallRecord) (last : RunEnd) (after : List ℕ) → AreCalls least bytes calls (end_text last ++ after) → IsEnd last → least_after least calls ≤ end_at last → 0 < length after
       → kind ≡ Trailing → offset + length after ≡ end → IsFaulty least bytes kind offset end
 
 -- of bytes from one offset to another
@@ -53,8 +53,8 @@ one_more least bytes after call calls rest next are = record {
 }
 
 faulty_more : (least : ℕ) (bytes after : List ℕ) (call : CallRecord) (kind : LogKind) (offset end : ℕ) → IsNext least bytes (Call call) after → IsFaulty (at_of call + 1) after kind offset end → IsFaulty least bytes kind offset end
-faulty_more least bytes after call kind offset end next (AtRecord calls rest are fault e) = AtRecord (call ∷ calls) rest (one_more least bytes after call calls rest next are) fault e
-faulty_more least bytes after call kind offset end next (AfterEnd calls last rest are is order some k e) = AfterEnd (call ∷ calls) last rest (one_more least bytes after call calls (end_text last ++ rest) next are) is order some k e
+faulty_more least bytes after call kind offset end next (OfRecord calls rest are fault e) = OfRecord (call ∷ calls) rest (one_more least bytes after call calls rest next are) fault e
+faulty_more least bytes after call kind offset end next (OfEnd calls last rest are is order some k e) = OfEnd (call ∷ calls) last rest (one_more least bytes after call calls (end_text last ++ rest) next are) is order some k e
 
 sound_more : (least end : ℕ) (bytes after : List ℕ) (call : CallRecord) (r : Result Body (LogKind × ℕ)) → IsNext least bytes (Call call) after → IsSound (at_of call + 1) after end r → IsSound least bytes end (map_ok (with_call call) r)
 sound_more least end bytes after call (Ok body) next whole = record {
@@ -71,7 +71,7 @@ sound_end least end offset bytes [] last next e = record {
   is_end = next.form;
   ends_after = next.order;
 }
-sound_end least end offset bytes (b ∷ after) last next e = AfterEnd [] last (b ∷ after) record { are_records = tt; rise = tt; text = next.parts } next.form next.order (omega arith) refl e
+sound_end least end offset bytes (b ∷ after) last next e = OfEnd [] last (b ∷ after) record { are_records = tt; rise = tt; text = next.parts } next.form next.order (omega arith) refl e
 
 item_some : (item : Item) → 1 ≤ length (item_text item)
 item_some (Call (Read at args result bytes)) = omega arith
@@ -120,7 +120,7 @@ sound_item most least offset end rest fits none shorter (End last) e s =
 sound_front : (most least offset end : ℕ) (rest : List ℕ) → IsBytes rest → OfShorter most end (length rest) → offset + length rest ≡ end → (fault : Option LogKind) → record_fault least rest ≡ fault → IsSound least rest end (body_of (suc most) least offset rest)
 sound_front most least offset end rest fits shorter e (Some kind) h =
     let here : AreCalls least rest [] rest = record { are_records = tt; rise = tt; text = refl } in
-    subst (IsSound least rest end) (sym (body_of-fault most least offset rest kind h)) (AtRecord [] rest here h e)
+    subst (IsSound least rest end) (sym (body_of-fault most least offset rest kind h)) (OfRecord [] rest here h e)
 sound_front most least offset end rest fits shorter e None h = sound_item most least offset end rest fits h shorter (item_of rest) refl (step least offset end rest fits h e)
 
 sound_body : (most end size : ℕ) → size ≤ most → OfShorter most end size
@@ -138,12 +138,12 @@ read_of : (bytes : List ℕ) (calls : List CallRecord) (after : List ℕ) → he
 read_of bytes calls after none are = record { header = none; are_records = are.are_records; rise = are.rise; text = are.text }
 
 fault_of : (bytes : List ℕ) (kind : LogKind) (offset : ℕ) → header_fault bytes ≡ None → IsFaulty 0 (drop 48 bytes) kind offset (length bytes) → HasFault bytes kind offset
-fault_of bytes kind offset none (AtRecord calls after are fault e) =
+fault_of bytes kind offset none (OfRecord calls after are fault e) =
     let here : length bytes - length after ≡ offset = omega (arith, e) in
     subst (HasFault bytes kind) here (InRecord calls after (read_of bytes calls after none are) fault)
-fault_of bytes kind offset none (AfterEnd calls last after are is order some k e) =
+fault_of bytes kind offset none (OfEnd calls last after are is order some k e) =
     let here : length bytes - length after ≡ offset = omega (arith, e) in
-    let there : HasFault bytes Trailing offset = subst (HasFault bytes Trailing) here (BehindEnd calls last after (read_of bytes calls (end_text last ++ after) none are) is order some) in
+    let there : HasFault bytes Trailing offset = subst (HasFault bytes Trailing) here (AfterEnd calls last after (read_of bytes calls (end_text last ++ after) none are) is order some) in
     subst (λ (x : LogKind). HasFault bytes x offset) (sym k) there
 
 log_of_body : (bytes : List ℕ) (body : Body) → IsBytes bytes → header_fault bytes ≡ None → IsWhole 0 (drop 48 bytes) body.0 body.1 → IsLog (with_header bytes body) × (bytes ≡ log_text (with_header bytes body))

@@ -5,7 +5,7 @@ use Rattle.std.proofs.lemmas.List.{take-append-drop, length-append, length-drop}
 use Rattle.std.proofs.lemmas.List.Concat.{length-flat_map}
 use Rattle.std.proofs.lemmas.Int.{ints}
 use Rattle.log_model.specs.Logs.{Log, IsLog, IsTransfer, moved_length, log_text, header_text, record_text, end_text, word32, signed32}
-use Rattle.log_model.specs.Faults.{IsRead, HasFault, BehindEnd}
+use Rattle.log_model.specs.Faults.{IsRead, HasFault, AfterEnd}
 use Rattle.log_model.specs.declared.LogKind.TheVariants.{Trailing}
 use Rattle.log_model.proofs.HeaderAgain.{header_again}
 use Rattle.log_model.proofs.Unique.{faulty_is_no_log}
@@ -41,7 +41,7 @@ after_end log rest is some =
     let parts : bytes ≡ header_text log ++ after = simp append_assoc in
     let again = header_again log after is in
     let read : IsRead (header_text log ++ after) log.records (end_text log.end ++ rest) = record { header = again.none; are_records = is.records; rise = is.rise; text = again.rest } in
-    BehindEnd log.records log.end rest (subst (λ (x : List ℕ). IsRead x log.records (end_text log.end ++ rest)) (sym parts) read) is.end is.ends_after some
+    AfterEnd log.records log.end rest (subst (λ (x : List ℕ). IsRead x log.records (end_text log.end ++ rest)) (sym parts) read) is.end is.ends_after some
 
 pub no_front_is_a_log : (log other : Log) (n : ℕ) → IsLog log → IsLog other → n < length (log_text log) → take n (log_text log) ≡ log_text other → ⊥
 no_front_is_a_log log other n is other_is less e =

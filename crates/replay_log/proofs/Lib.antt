@@ -1,4 +1,4 @@
-mod Fronts
+mod RecordParts
 mod Items
 mod Loop
 mod Whole

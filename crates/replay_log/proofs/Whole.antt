@@ -9,8 +9,8 @@ use Rattle.replay_log.specs.declared.header.Header.{Header}
 use Rattle.replay_log.specs.declared.fault.LogFault.{LogFault}
 use Rattle.replay_log.specs.declared.fault.LogFault.TheVariants.{At, NoMemory}
 use Rattle.replay_log.specs.Answers.{IsFaultOf}
-use Rattle.replay_log.specs.Kept.{log_of_parts}
-use Rattle.replay_log.specs.Parts.{IsHeader, body}
+use Rattle.replay_log.specs.Logs.{log_of_parts}
+use Rattle.replay_log.specs.Header.{IsHeader, body}
 
 parts_from : (pages inputs p i : ℕ) (digest d : List ℕ) (records : List CallRecord) (end : RunEnd) → p ≡ pages → i ≡ inputs → d ≡ digest → log_of_parts pages inputs digest records end ≡ log_of_parts p i d records end
 parts_from pages inputs p i digest d records end e f g = rw (e, f, g) refl

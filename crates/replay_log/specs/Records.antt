@@ -4,34 +4,34 @@ use Rattle.format_model.specs.Fields.{word_at}
 use Rattle.log_model.specs.declared.Item.{Item}
 use Rattle.log_model.specs.Faults.{tag_of, fixed_length, record_fault}
 use Rattle.log_model.specs.Reading.{data_of, item_of, item_length}
-use Rattle.replay_log.specs.declared.records.Refused.{Refused}
-use Rattle.replay_log.specs.declared.records.Refused.TheVariants as refused
-use Rattle.replay_log.specs.declared.front.Front.{Front}
+use Rattle.replay_log.specs.declared.records.RecordFault.{RecordFault}
+use Rattle.replay_log.specs.declared.records.RecordFault.TheVariants as kinds
+use Rattle.replay_log.specs.declared.record_parts.RecordParts.{RecordParts}
 use Rattle.replay_log.specs.declared.fault.LogFault.{LogFault}
 use Rattle.replay_log.specs.declared.fault.LogFault.TheVariants as faults
 use Rattle.replay_log.specs.Tags.{number}
 
 -- the parts of the record at the front, which has no fault
-pub record IsFront (least : ℕ) (rest : List ℕ) (front : Front) : Type 0 where
+pub record ArePartsOf (least : ℕ) (rest : List ℕ) (parts : RecordParts) : Type 0 where
   pub none : record_fault least rest ≡ None
-  pub tag : number front.tag ≡ tag_of rest
+  pub tag : number parts.tag ≡ tag_of rest
   pub fixed : fixed_length (tag_of rest) ≤ length rest
-  pub at : front.at ≡ word_at rest 1
-  pub bytes : front.bytes.now ≡ data_of (tag_of rest) rest
-  pub after : front.after.now ≡ drop (item_length rest) rest
+  pub at : parts.at ≡ word_at rest 1
+  pub bytes : parts.bytes.now ≡ data_of (tag_of rest) rest
+  pub after : parts.after.now ≡ drop (item_length rest) rest
 
 -- the record at the front has no fault and says this, and those are the bytes after it
-pub record IsTaken (least : ℕ) (rest : List ℕ) (item : Item) (after : List ℕ) : Type 0 where
+pub record IsFirst (least : ℕ) (rest : List ℕ) (item : Item) (after : List ℕ) : Type 0 where
   pub none : record_fault least rest ≡ None
   pub says : item ≡ item_of rest
   pub leaves : after ≡ drop (item_length rest) rest
 
 -- the fault that is told is that of the record at the front
-abbrev pub IsRefused : ℕ → List ℕ → Refused → Type 0
-IsRefused least rest (refused.Faulty kind) = record_fault least rest ≡ Some kind
-IsRefused least rest refused.NoMemory = Unit {0}
+abbrev pub IsRecordFault : ℕ → List ℕ → RecordFault → Type 0
+IsRecordFault least rest (kinds.Of kind) = record_fault least rest ≡ Some kind
+IsRecordFault least rest kinds.NoMemory = Unit {0}
 
 -- the fault of the bytes, where the record begins at this offset
-abbrev pub told_at : Refused → ℕ → LogFault
-told_at (refused.Faulty kind) offset = faults.At kind offset
-told_at refused.NoMemory offset = faults.NoMemory
+abbrev pub at_offset : RecordFault → ℕ → LogFault
+at_offset (kinds.Of kind) offset = faults.At kind offset
+at_offset kinds.NoMemory offset = faults.NoMemory

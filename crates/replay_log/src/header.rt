@@ -3,7 +3,7 @@
 ghost use Rattle.std.specs.Prelude.{IfOk, IfErr};
 ghost use Rattle.log_model.specs.Reading.{log_of};
 ghost use Rattle.replay_log.specs.Answers.{IsFaultOf};
-ghost use Rattle.replay_log.specs.Parts.{IsHeader};
+ghost use Rattle.replay_log.specs.Header.{IsHeader};
 
 use crate::fault::LogFault;
 use crate::words::word_at;

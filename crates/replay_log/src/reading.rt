@@ -4,11 +4,11 @@ ghost use Rattle.std.specs.Prelude.{◌≡◌, ◌≤◌, ◌^◌, length, Ok, I
 ghost use Rattle.log_model.specs.Logs.{at_of};
 ghost use Rattle.log_model.specs.Reading.{log_of};
 ghost use Rattle.replay_log.specs.Answers.{IsFaultOf};
-ghost use Rattle.replay_log.specs.Parts.{body};
+ghost use Rattle.replay_log.specs.Header.{body};
 
 use crate::fault::LogFault;
 use crate::header::{HEADER_LENGTH, header_of};
-use crate::kept::Log;
+use crate::logs::Log;
 use crate::records::item_of;
 use log_model::{CallRecord, Item, LogKind, RunEnd};
 use std::alloc::Global;
@@ -37,8 +37,8 @@ fn body_of(alloc: Global, bytes: &[u8]) -> Result<(Vec<CallRecord>, RunEnd), Log
     loop {
         let offset = (bytes.len() - rest.len()) as u64;
         let (item, after) = match item_of(alloc, least, rest) {
-            Ok(taken) => taken,
-            Err(refused) => return Err(refused.told_at(offset)),
+            Ok(first) => first,
+            Err(fault) => return Err(fault.at_offset(offset)),
         };
         match item {
             Item::Call(call) => {

@@ -9,12 +9,12 @@ use Rattle.replay_log.proofs.records.item_of.Goals.{in-Read+in_ok-from_slice-in-
 pub returns-clause-ok : goal.returns-clause-ok
 returns-clause-ok c =
     let rest = c.args.rest.now in
-    let h = c.in_ok-front.ensures.ok in
+    let h = c.in_ok-parts.ensures.ok in
     let fits : IsBytes rest = IsBytes-each rest (λ i. omega (arith, c.type_inv.rest i)) in
     record {
       none = h.none;
       leaves = h.after;
-      says = elim c.match-front.branch [
+      says = elim c.match-parts.branch [
         | in-Read+in_ok-from_slice-in-Read w ↦
             let copy = w.from_vec.ensures ∙ w.in_ok-from_slice-in-Read.ensures.items in
             let outcome = cast_is rest w.cast_signed.result w.word_at.result fits w.cast_signed.ensures w.word_at.ensures in

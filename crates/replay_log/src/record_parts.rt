@@ -5,7 +5,7 @@ ghost use Rattle.std.specs.Int.{w32, cast_unsigned};
 ghost use Rattle.log_model.specs.Faults.{fixed_length, data_length, is_result_wrong, record_fault};
 ghost use Rattle.log_model.specs.Faults.{is_refusal as is_refusal_word};
 ghost use Rattle.replay_log.specs.Tags.{number};
-ghost use Rattle.replay_log.specs.Records.{IsFront};
+ghost use Rattle.replay_log.specs.Records.{ArePartsOf};
 
 use crate::tags::Tag;
 use crate::words::word_at;
@@ -13,7 +13,7 @@ use log_model::LogKind;
 
 /// A record's kind and step number, the bytes of its data, and the bytes after the record.
 #[derive(Drop)]
-pub struct Front<'a> {
+pub struct RecordParts<'a> {
     pub tag: Tag,
     pub at: u32,
     pub bytes: &'a [u8],
@@ -34,14 +34,14 @@ fn is_outcome_wrong(tag: Tag, rest: &[u8]) -> bool
 {
     match tag {
         Tag::Read => {
-            let asked = word_at(rest, 13);
+            let requested = word_at(rest, 13);
             let moved = word_at(rest, 17);
-            !(is_refusal(moved) || (moved <= asked && moved < 1 << 31))
+            !(is_refusal(moved) || (moved <= requested && moved < 1 << 31))
         }
         Tag::Write => {
-            let asked = word_at(rest, 13);
+            let requested = word_at(rest, 13);
             let moved = word_at(rest, 17);
-            !(is_refusal(moved) || (moved == asked && moved < 1 << 31))
+            !(is_refusal(moved) || (moved == requested && moved < 1 << 31))
         }
         Tag::Trap => !matches!(word_at(rest, 5), 0..=3 | 5 | 7),
         Tag::Clock => false,
@@ -75,8 +75,8 @@ fn length_of_data(tag: Tag, rest: &[u8]) -> usize
 }
 
 /// The record at the front, where its step number has to be at least `least`, or its first fault.
-pub fn front_of(least: u64, rest: &[u8]) -> Result<Front, LogKind>
-    ensures ok { IfOk result (IsFront least rest.now) }
+pub fn parts_of(least: u64, rest: &[u8]) -> Result<RecordParts, LogKind>
+    ensures ok { IfOk result (ArePartsOf least rest.now) }
     ensures fault { IfErr result (λ kind. record_fault least rest.now ≡ Some kind) }
 {
     let Some(first) = rest.first() else {
@@ -102,7 +102,7 @@ pub fn front_of(least: u64, rest: &[u8]) -> Result<Front, LogKind>
         return Err(LogKind::Short);
     }
     let (bytes, after) = unfixed.split_at(length);
-    Ok(Front {
+    Ok(RecordParts {
         tag,
         at,
         bytes,

@@ -1,4 +1,4 @@
--- A log put together, and what is true of one that is held, with the size that is held beside it.
+-- A log put together, and what is true of one that is kept in memory with its size beside it.
 use Rattle.std.specs.Prelude.{◌≡◌, ℕ, ◌≤◌, ◌^◌, List, length}
 use Rattle.log_model.specs.declared.CallRecord.{CallRecord}
 use Rattle.log_model.specs.declared.RunEnd.{RunEnd}
@@ -8,7 +8,7 @@ use Rattle.log_model.specs.Logs.{Log, IsLog, log_text}
 abbrev pub log_of_parts : ℕ → ℕ → List ℕ → List CallRecord → RunEnd → Log
 log_of_parts pages inputs digest records end = record { pages = pages; inputs = inputs; digest = digest; records = records; end = end }
 
-pub record IsKept (log : Log) (size : ℕ) : Type 0 where
+pub record IsLogOfSize (log : Log) (size : ℕ) : Type 0 where
   pub form : IsLog log
   pub whole : size ≡ length (log_text log)
   pub limit : size ≤ 2 ^ 26

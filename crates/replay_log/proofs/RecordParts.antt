@@ -7,20 +7,20 @@ use Rattle.log_model.specs.Reading.{data_of}
 use Rattle.log_model.proofs.Faults.{record_fault-none}
 use Rattle.replay_log.specs.declared.tags.Tag.{Tag}
 use Rattle.replay_log.specs.declared.tags.Tag.TheVariants.{Read, Write, Clock, Other, Exit, Trap, Limit}
-use Rattle.replay_log.specs.declared.front.Front.{Front}
+use Rattle.replay_log.specs.declared.record_parts.RecordParts.{RecordParts}
 use Rattle.replay_log.specs.Tags.{number}
-use Rattle.replay_log.specs.Records.{IsFront}
+use Rattle.replay_log.specs.Records.{ArePartsOf}
 
 -- what the code has tested and cut
-pub record IsCut (least : ℕ) (rest : List ℕ) (front : Front) : Type 0 where
-  pub tag : number front.tag ≡ tag_of rest
+pub record IsCut (least : ℕ) (rest : List ℕ) (parts : RecordParts) : Type 0 where
+  pub tag : number parts.tag ≡ tag_of rest
   pub some : 1 ≤ length rest
-  pub fixed : fixed_length (number front.tag) ≤ length rest
-  pub at : front.at ≡ word_at rest 1
+  pub fixed : fixed_length (number parts.tag) ≤ length rest
+  pub at : parts.at ≡ word_at rest 1
   pub order : least ≤ word_at rest 1
-  pub outcome : is_result_wrong (number front.tag) rest ≡ false
-  pub size : length front.bytes.now ≡ data_length (number front.tag) rest
-  pub parts : drop (fixed_length (number front.tag)) rest ≡ front.bytes.now ++ front.after.now
+  pub outcome : is_result_wrong (number parts.tag) rest ≡ false
+  pub size : length parts.bytes.now ≡ data_length (number parts.tag) rest
+  pub cut : drop (fixed_length (number parts.tag)) rest ≡ parts.bytes.now ++ parts.after.now
 
 pub cut_parts : (rest bytes after : List ℕ) (fixed size : ℕ) → bytes ≡ take size (take (length rest - fixed) (drop fixed rest)) → after ≡ drop size (take (length rest - fixed) (drop fixed rest)) → drop fixed rest ≡ bytes ++ after
 cut_parts rest bytes after fixed size e f =
@@ -45,20 +45,20 @@ number_most Exit = omega arith
 number_most Trap = omega arith
 number_most Limit = omega arith
 
-pub front_is : (least : ℕ) (rest : List ℕ) (front : Front) → IsCut least rest front → IsFront least rest front
-front_is least rest front cut =
-    let t = number front.tag in
-    let bytes = front.bytes.now in
-    let after = front.after.now in
+pub are_parts : (least : ℕ) (rest : List ℕ) (parts : RecordParts) → IsCut least rest parts → ArePartsOf least rest parts
+are_parts least rest parts is =
+    let t = number parts.tag in
+    let bytes = parts.bytes.now in
+    let after = parts.after.now in
     let size = data_length t rest in
-    let whole : fixed_length t + size ≤ length rest = omega (arith, cut.fixed, cut.size, ap length cut.parts, length-append bytes after, length-drop (fixed_length t) rest) in
-    let held : bytes ≡ data_of t rest = sym (ap (take size) cut.parts ∙ take_at bytes after size cut.size) in
-    let left : after ≡ drop (fixed_length t + size) rest = sym (sym (drop-drop size (fixed_length t) rest) ∙ ap (drop size) cut.parts ∙ drop_at bytes after size cut.size) in
+    let whole : fixed_length t + size ≤ length rest = omega (arith, is.fixed, is.size, ap length is.cut, length-append bytes after, length-drop (fixed_length t) rest) in
+    let data_is : bytes ≡ data_of t rest = sym (ap (take size) is.cut ∙ take_at bytes after size is.size) in
+    let left : after ≡ drop (fixed_length t + size) rest = sym (sym (drop-drop size (fixed_length t) rest) ∙ ap (drop size) is.cut ∙ drop_at bytes after size is.size) in
     record {
-      none = record_fault-none least rest t (sym cut.tag) (number_some front.tag) (number_most front.tag) cut.some whole cut.order cut.outcome;
-      tag = cut.tag;
-      fixed = subst (λ (k : ℕ). fixed_length k ≤ length rest) cut.tag cut.fixed;
-      at = cut.at;
-      bytes = held ∙ ap (λ (k : ℕ). data_of k rest) cut.tag;
-      after = left ∙ ap (λ (k : ℕ). drop (fixed_length k + data_length k rest) rest) cut.tag;
+      none = record_fault-none least rest t (sym is.tag) (number_some parts.tag) (number_most parts.tag) is.some whole is.order is.outcome;
+      tag = is.tag;
+      fixed = subst (λ (k : ℕ). fixed_length k ≤ length rest) is.tag is.fixed;
+      at = is.at;
+      bytes = data_is ∙ ap (λ (k : ℕ). data_of k rest) is.tag;
+      after = left ∙ ap (λ (k : ℕ). drop (fixed_length k + data_length k rest) rest) is.tag;
     }

@@ -1,8 +1,8 @@
-//! A log that is held in memory.
+//! A log in memory.
 
 ghost use Rattle.std.specs.Prelude.{◌≡◌, ◌≤◌, ◌^◌, length};
 ghost use Rattle.log_model.specs.Logs.{log_text, IsLog};
-ghost use Rattle.replay_log.specs.Kept.{log_of_parts};
+ghost use Rattle.replay_log.specs.Logs.{log_of_parts};
 
 use log_model::{CallRecord, RunEnd};
 use std::marker::Model;
@@ -24,11 +24,11 @@ impl Model for Log {
 
     ghost Value = { LogOf };
 
-    ghost use Rattle.replay_log.specs.Kept.{IsKept};
+    ghost use Rattle.replay_log.specs.Logs.{IsLogOfSize};
 
     ghost view = { λ l. record { pages = l.pages; inputs = l.inputs; digest = l.digest; records = l.records.items; end = l.end } };
 
-    ghost invariant = { λ l. IsKept record { pages = l.pages; inputs = l.inputs; digest = l.digest; records = l.records.items; end = l.end } l.size };
+    ghost invariant = { λ l. IsLogOfSize record { pages = l.pages; inputs = l.inputs; digest = l.digest; records = l.records.items; end = l.end } l.size };
 }
 
 impl Log {
