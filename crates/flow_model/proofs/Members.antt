@@ -10,7 +10,7 @@ use Rattle.sorted_set.specs.Sets.{has}
 use Rattle.sorted_set.proofs.Algebra.{has-union, has-Contains, Contains-has}
 use Rattle.flow_model.specs.Orders.{source_cmp}
 use Rattle.flow_model.specs.Flow.{from}
-use Rattle.flow_model.specs.Origins.{Policy, origins, fresh, gathered, after_step, step_at}
+use Rattle.flow_model.specs.Origins.{Policy, origins, fresh, union_over, after_step, step_at}
 use Rattle.flow_model.specs.OriginLaws.{OriginsFlowIn, NoneAtStart}
 use Rattle.flow_model.proofs.Orders.{source_total, source_same}
 
@@ -26,11 +26,11 @@ or_true : (a : Bool) → (a || true) ≡ true
 or_true true = refl
 or_true false = refl
 
-has-gathered : (before : Loc → List SourceByte) (ls : List Loc) (b : SourceByte) → is_in b (gathered before ls) ≡ list_any (λ l. is_in b (before l)) ls
-has-gathered before [] b = refl
-has-gathered before (l ∷ []) b = sym (or_nothing (is_in b (before l)))
-has-gathered before (l ∷ m ∷ ls) b =
-    has-union source_total (before l) (gathered before (m ∷ ls)) b ∙ ap (λ (a : Bool). is_in b (before l) || a) (has-gathered before (m ∷ ls) b)
+has-union_over : (before : Loc → List SourceByte) (ls : List Loc) (b : SourceByte) → is_in b (union_over before ls) ≡ list_any (λ l. is_in b (before l)) ls
+has-union_over before [] b = refl
+has-union_over before (l ∷ []) b = sym (or_nothing (is_in b (before l)))
+has-union_over before (l ∷ m ∷ ls) b =
+    has-union source_total (before l) (union_over before (m ∷ ls)) b ∙ ap (λ (a : Bool). is_in b (before l) || a) (has-union_over before (m ∷ ls) b)
 
 module _ (policy : Policy) (step : StepSeen) (before : Loc → List SourceByte) (l : Loc) (b : SourceByte) where
   -- b is fresh at l, or among what a location of `from` had
@@ -43,8 +43,8 @@ module _ (policy : Policy) (step : StepSeen) (before : Loc → List SourceByte) 
   has-after_step : is_in b (after_step policy (Some step) before l) ≡ flows_in
   unfolding flows_in
   has-after_step =
-      has-union source_total (fresh policy step l) (gathered before (from policy.rule step l)) b
-      ∙ ap (λ (a : Bool). is_in b (fresh policy step l) || a) (has-gathered before (from policy.rule step l) b)
+      has-union source_total (fresh policy step l) (union_over before (from policy.rule step l)) b
+      ∙ ap (λ (a : Bool). is_in b (fresh policy step l) || a) (has-union_over before (from policy.rule step l) b)
 
   FlowsIn-from : flows_in ≡ true → FlowsIn
   unfolding flows_in

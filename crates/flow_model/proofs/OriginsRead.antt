@@ -11,7 +11,7 @@ use Rattle.sorted_set.specs.Sets.{union}
 use Rattle.sorted_set.proofs.Algebra.{All-union}
 use Rattle.flow_model.specs.Orders.{source_cmp}
 use Rattle.flow_model.specs.Flow.{from, is_received, from_instruction_or, origins_by, cleared}
-use Rattle.flow_model.specs.Origins.{Policy, origins, introduced, fresh, fresh_by, byte_at, gathered, after_step, step_at}
+use Rattle.flow_model.specs.Origins.{Policy, origins, introduced, fresh, fresh_by, byte_at, union_over, after_step, step_at}
 use Rattle.flow_model.specs.OriginLaws.{LeavesAlone, StepKeepsOrigins, StepsKeepOrigins, ReceivedHasItsSource, WasRead, OriginsWereRead}
 use Rattle.flow_model.proofs.Origins.{kept}
 
@@ -58,10 +58,10 @@ received_has_its_source policy trace t l step call s c e =
 
 -- ---- each origin was read
 
-all_gathered : (P : SourceByte → Type 0) (before : Loc → List SourceByte) → ((l : Loc) → AllByRecursion P (before l)) → (ls : List Loc) → AllByRecursion P (gathered before ls)
-all_gathered P before h [] = tt
-all_gathered P before h (l ∷ []) = h l
-all_gathered P before h (l ∷ m ∷ ls) = All-union source_cmp P (before l) (gathered before (m ∷ ls)) (h l) (all_gathered P before h (m ∷ ls))
+all_union_over : (P : SourceByte → Type 0) (before : Loc → List SourceByte) → ((l : Loc) → AllByRecursion P (before l)) → (ls : List Loc) → AllByRecursion P (union_over before ls)
+all_union_over P before h [] = tt
+all_union_over P before h (l ∷ []) = h l
+all_union_over P before h (l ∷ m ∷ ls) = All-union source_cmp P (before l) (union_over before (m ∷ ls)) (h l) (all_union_over P before h (m ∷ ls))
 
 all_map : (P Q : SourceByte → Type 0) → ((b : SourceByte) → P b → Q b) → (xs : List SourceByte) → AllByRecursion P xs → AllByRecursion Q xs
 all_map P Q f [] h = tt
@@ -113,7 +113,7 @@ origins_by_recursion policy trace (suc t) l = by (λ m. all_map _ _ (later polic
   by ih None e = ih l
   by ih (Some step) e =
       All-union source_cmp (WasRead policy trace (suc t)) (fresh policy step l) _ (fresh_was_read policy trace t l step e step.call refl)
-      (all_gathered (WasRead policy trace (suc t)) (origins policy trace t) ih (from policy.rule step l))
+      (all_union_over (WasRead policy trace (suc t)) (origins policy trace t) ih (from policy.rule step l))
 
 pub origins_were_read : OriginsWereRead
 origins_were_read policy trace t l = All-from_recursion (WasRead policy trace t) _ (origins_by_recursion policy trace t l)

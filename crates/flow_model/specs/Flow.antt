@@ -140,7 +140,7 @@ abbrev pub origins_by : List Target → Loc → List Loc
 origins_by [] l = l ∷ []
 origins_by (t ∷ ts) l = if loc_eq t.loc l then t.origins else origins_by ts l
 
--- how far a place lies behind an address, round the end of memory
+-- how far a place lies past an address, round the end of memory
 abbrev pub distance : ℕ → ℕ → ℕ
 distance address p = wrap (p + (2 ^ 32 - address))
 

@@ -74,8 +74,8 @@ without_last_cr-is (x ∷ y ∷ xs) = by (without_last_cr-is (y ∷ xs)) where
 
 -- ---- by what a search for a line feed answers
 
-pub lines_behind : (xs : List ℕ) (i : ℕ) → position is_lf xs ≡ Some i → lines xs ≡ without_last_cr (take i xs) ∷ lines (drop (i + 1) xs)
-lines_behind xs i h = by (nat_lt (position_or_len is_lf xs) (length xs)) refl h where
+pub lines_after : (xs : List ℕ) (i : ℕ) → position is_lf xs ≡ Some i → lines xs ≡ without_last_cr (take i xs) ∷ lines (drop (i + 1) xs)
+lines_after xs i h = by (nat_lt (position_or_len is_lf xs) (length xs)) refl h where
   by : (b : Bool) → nat_lt (position_or_len is_lf xs) (length xs) ≡ b → cond b (Some (position_or_len is_lf xs)) None ≡ Some i
       → lines xs ≡ without_last_cr (take i xs) ∷ lines (drop (i + 1) xs)
   by true e h =
@@ -90,8 +90,8 @@ one_line xs h = by (nat_lt (position_or_len is_lf xs) (length xs)) refl h where
   by true e h = cc
   by false e h = lines_last xs e
 
-pub all_behind : (xs : List ℕ) (n : ℕ) → take (length xs - n) (drop n xs) ≡ drop n xs
-all_behind xs n = grind (arith, common_steps)
+pub all_after : (xs : List ℕ) (n : ℕ) → take (length xs - n) (drop n xs) ≡ drop n xs
+all_after xs n = grind (arith, common_steps)
 
 -- ---- by what stripping a carriage return answers
 

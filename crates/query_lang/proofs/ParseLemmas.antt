@@ -94,10 +94,10 @@ all_read text number draft q p f =
 
 -- ---- a line that is split off
 
-pub lines_split : (text line : List ℕ) (behind : Option (Bor (List ℕ))) → MatchOption behind (lines text ≡ line ∷ []) (λ b. lines text ≡ line ∷ lines b.now) → lines text ≡ line ∷ lines_left behind
+pub lines_split : (text line : List ℕ) (after : Option (Bor (List ℕ))) → MatchOption after (lines text ≡ line ∷ []) (λ b. lines text ≡ line ∷ lines b.now) → lines text ≡ line ∷ lines_left after
 lines_split text line None e = e
 lines_split text line (Some b) e = e
 
-pub less_left : (n : ℕ) (behind : Option (Bor (List ℕ))) → IfSome behind (λ b. length b.now < n) → size_left behind ≤ n
+pub less_left : (n : ℕ) (after : Option (Bor (List ℕ))) → IfSome after (λ b. length b.now < n) → size_left after ≤ n
 less_left n None h = omega arith
 less_left n (Some b) h = omega arith

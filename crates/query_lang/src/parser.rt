@@ -44,10 +44,10 @@ pub fn parse(alloc: Global, text: &[u8]) -> Result<Query, QueryFault>
     let mut number = 0;
     let mut left = Some(text);
     while let Some(part) = left {
-        let (line, behind) = split_line(part);
+        let (line, rest) = split_line(part);
         number += 1;
         draft.take_up(number, line)?;
-        left = behind;
+        left = rest;
     }
     finish(alloc, draft)
 }

@@ -1,4 +1,4 @@
--- The rows that a query asks for: each chosen output byte of a trace, with the source bytes that it came from.
+-- The rows of a query over a trace: each chosen output byte of a trace, with the source bytes that it came from.
 use Rattle.std.specs.Prelude.{◌≡◌, ℕ, ◌+◌, List, [], ◌∷◌, ◌++◌, map, Option, Some, None}
 use Rattle.std.specs.List.{filter, range_with_len}
 use Rattle.std.specs.declared.cmp.Ordering.{Ordering}

@@ -53,8 +53,8 @@ impl Report {
     }
 }
 
-/// The report of these sets: sorted by output byte. No output byte may stand twice. It gives up with
-/// NoMemory alone.
+/// The report of these sets: sorted by output byte. No output byte may stand twice. It fails only where
+/// there is no memory.
 pub fn gather(alloc: Global, sets: Vec<SinkSet>) -> Result<Report, NoMemory>
     requires { AreDistinct sets.items }
     ensures { IfOk result (λ report. report ≡ set_of row_cmp sets.items) }

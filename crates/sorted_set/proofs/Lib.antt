@@ -1,2 +1,3 @@
 pub mod Algebra
 mod Places
+pub mod Sorting

@@ -69,8 +69,8 @@ module _ {K : Type 0} {R : K → K → Ordering} (o : IsTotalOrder R) where
     not_within e = ap₂ (is_within R) left_is right_is
         ∙ ap (λ (q : Bool). q && is_within R (drop (i + 1) xs) (y ∷ drop (j + 1) ys)) (none_below o x (y ∷ drop (j + 1) ys) (e, below_chain o x y _ e right_ascends.0))
 
-    pub within_behind : R x y ≡ Greater → is_within R (drop i xs) (drop j ys) ≡ is_within R (drop i xs) (drop (j + 1) ys)
-    within_behind e = let f = greater_turned o x y e in
+    pub within_after : R x y ≡ Greater → is_within R (drop i xs) (drop j ys) ≡ is_within R (drop i xs) (drop (j + 1) ys)
+    within_after e = let f = greater_turned o x y e in
         ap₂ (is_within R) left_is right_is ∙ within_above y (x ∷ drop (i + 1) xs) (drop (j + 1) ys) (f, below_chain o y x _ f left_ascends.0)
         ∙ ap (λ (zs : List K). is_within R zs (drop (j + 1) ys)) (sym left_is)
 

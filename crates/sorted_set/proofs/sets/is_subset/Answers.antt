@@ -1,7 +1,7 @@
 use Rattle.std.proofs.Common.{◌<◌, ◌+◌, length, drop, ℕ, arith, ap, sym, ◌∙◌}
 use Rattle.std.proofs.lemmas.Bool.Decides.{nat_tests}
 use Rattle.sorted_set.specs.Sets.{is_within}
-use Rattle.sorted_set.proofs.Places.{not_within, within_both, within_behind, all_found}
+use Rattle.sorted_set.proofs.Places.{not_within, within_both, within_after, all_found}
 use Rattle.sorted_set.proofs.sets.is_subset.Goals as goal
 use Rattle.sorted_set.proofs.sets.is_subset.Goals.{in-Equal, in-Greater}
 
@@ -27,7 +27,7 @@ loop-member-preserved g c =
       }
       | in-Greater w ↦ record {
         in_range = omega arith;
-        same = ap left w.found-is ∙ sym (within_behind g.met.T.Ord.total few many before.found before.member-index c.index-few-found.result c.member-item.result
+        same = ap left w.found-is ∙ sym (within_after g.met.T.Ord.total few many before.found before.member-index c.index-few-found.result c.member-item.result
             c.requires.few c.requires.many some c.loop-member-test.true c.index-few-found.is c.member-item.is (sym w.in-Greater.ensures)) ∙ before.invariant.same;
       }
     ]

@@ -1,10 +1,20 @@
--- Worked examples of the query language.
-use Rattle.std.proofs.Common.{◌≡◌, [], ◌∷◌, refl}
+-- Worked examples of the query language, computed by the checker.
+use Rattle.std.proofs.Common.{◌≡◌, ℕ, List, [], ◌∷◌, refl}
+use Prim.Native.String.{String}
 use Rattle.std.specs.Prelude.{◌++◌, codes, Some, Ok, Err}
+use Rattle.std.specs.List.{flat_map}
+use Rattle.flow_model.specs.declared.Rule.{Rule}
 use Rattle.flow_model.specs.declared.Rule.TheVariants.{Copy, Compute}
 use Rattle.report_model.specs.declared.QueryKind.TheVariants.{BadByte, Word, Count, Number, Channel, Range, SecondRule, NoRule}
-use Rattle.report_model.specs.Grammar.{query}
-use Rattle.jet_model.proofs.Reports.{everything, all_by, of_lines}
+use Rattle.report_model.specs.Grammar.{query, everything}
+use Rattle.report_model.specs.Query.{Query}
+
+-- everything is a source and a sink
+abbrev all_by : Rule → Query
+all_by rule = record { rule = rule; sources = everything ∷ []; sinks = everything ∷ [] }
+
+abbrev of_lines : List String → List ℕ
+of_lines ls = flat_map (λ l. codes l ++ 0x0a ∷ []) ls
 
 good : query (of_lines ("rule copy" ∷ "source all" ∷ "sink all" ∷ [])) ≡ Ok (all_by Copy)
 good = refl
@@ -13,7 +23,7 @@ good_compute : query (of_lines ("sink all" ∷ "  rule   compute" ∷ "# a comme
 good_compute = refl
 
 -- a carriage return before a line feed is dropped; the last line feed may be missing; tabs separate words
-other_ends : query (codes "rule copy" ++ 0x0d ∷ 0x0a ∷ codes "source 0 1 2" ++ 0x0d ∷ 0x0a ∷ 0x09 ∷ codes "sink all") ≡ Ok (record { rule = Copy; sources = record { channel = Some 0; offsets = Some (record { from = 1; past = 2 }) } ∷ []; sinks = everything })
+other_ends : query (codes "rule copy" ++ 0x0d ∷ 0x0a ∷ codes "source 0 1 2" ++ 0x0d ∷ 0x0a ∷ 0x09 ∷ codes "sink all") ≡ Ok (record { rule = Copy; sources = record { channel = Some 0; offsets = Some (record { from = 1; past = 2 }) } ∷ []; sinks = everything ∷ [] })
 other_ends = refl
 
 unknown_rule : query (codes "rule cop") ≡ Err (1, Word)
