@@ -11,7 +11,7 @@ use Rattle.sorted_set.specs.Sets.{union}
 use Rattle.flow_model.specs.Orders.{source_cmp}
 use Rattle.flow_model.specs.Flow.{Target, flow, cleared, origins_by, loc_eq, is_received, from, from_call, from_instruction_or}
 use Rattle.flow_model.specs.Origins.{Policy, union_over, fresh, after_step, step_at, origins}
-use Rattle.seq_taint.specs.Locations.{IsLocation, AreLocations, IsTable}
+use Rattle.flow_model.specs.Ranges.{IsLocation, AreLocations, IsTable}
 use Rattle.seq_taint.specs.Shadows.{held, Holds}
 use Rattle.seq_taint.specs.declared.shadow.Shadow.{Shadow}
 use Rattle.seq_taint.proofs.Flows.{flow_table, cleared_table}

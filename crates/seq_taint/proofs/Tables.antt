@@ -5,7 +5,7 @@ use Rattle.flow_model.specs.declared.Loc.{Loc}
 use Rattle.flow_model.specs.declared.SourceByte.{SourceByte}
 use Rattle.flow_model.specs.Flow.{Target, origins_by, loc_eq}
 use Rattle.flow_model.specs.Origins.{union_over}
-use Rattle.seq_taint.specs.Locations.{IsLocation, AreLocations, IsTable}
+use Rattle.flow_model.specs.Ranges.{IsLocation, AreLocations, IsTable}
 use Rattle.seq_taint.specs.Shadows.{held, Holds}
 use Rattle.seq_taint.specs.declared.shadow.Shadow.{Shadow}
 

@@ -6,9 +6,10 @@ ghost use Rattle.flow_model.specs.Flow.{origins_by, loc_eq, from_call};
 ghost use Rattle.flow_model.specs.Origins.{union_over, introduced as introduced_by, byte_at, fresh_by, after_step};
 ghost use Rattle.sorted_set.specs.Sets.{union};
 ghost use Rattle.flow_model.specs.Orders.{source_cmp};
-ghost use Rattle.replayer.specs.Ranges.{IsInRange, IsCallInRange};
+ghost use Rattle.flow_model.specs.Ranges.{IsInRange, IsCallInRange};
 ghost use Rattle.report_model.specs.Query.{policy_of};
-ghost use Rattle.seq_taint.specs.Locations.{IsLocation, AreLocations, IsTable, is_among};
+ghost use Rattle.flow_model.specs.Ranges.{IsLocation, AreLocations, IsTable};
+ghost use Rattle.seq_taint.specs.Locations.{is_among};
 
 use crate::source_set::SourceSet;
 use flow_model::{CallSeen, StepSeen};

@@ -2,9 +2,9 @@
 
 ghost use Rattle.std.specs.Prelude.{◌≡◌, ℕ, ◌++◌, map, Some, IfOk, OnOk};
 ghost use Rattle.std.specs.List.{range_with_len};
-ghost use Rattle.replayer.specs.Ranges.{IsInRange, IsCallInRange};
+ghost use Rattle.flow_model.specs.Ranges.{IsInRange, IsCallInRange};
 ghost use Rattle.report_model.specs.Rows.{sinks_of_step, sink_at};
-ghost use Rattle.seq_taint.specs.Locations.{IsLocation};
+ghost use Rattle.flow_model.specs.Ranges.{IsLocation};
 ghost use Rattle.seq_taint.specs.Shadows.{held};
 ghost use Rattle.seq_taint.specs.Sinks.{rows_now};
 
