@@ -16,17 +16,12 @@ use Rattle.jet_refusal.specs.declared.refusal.Refusal.{Refusal}
 use Rattle.jet_refusal.specs.declared.refusal.Refusal.TheVariants as refusal
 use Rattle.jet_model.specs.Outcomes.{and_then, AndThen}
 use Rattle.jet_model.specs.Contents.{Contents, Program, program_at, inputs_at}
-use Rattle.jet_model.specs.Answer.{Limits, Source, source_at, setting_of, start_in, limited_text, IsCaptured as IsCapturedAs, IsCaptureAnswer, IsRecordAnswer}
+use Rattle.jet_model.specs.Answer.{Limits, Source, source_at, setting_of, start_in, limited_text, IsCaptured as IsCapturedAs, IsCaptureAnswer}
 use Rattle.jet_model.proofs.AndThen.{AndThen-ok}
 use Rattle.jet_files.specs.Outcome.{Follows, Comes}
 use Rattle.jet_files.proofs.Composing.{Keeps, follows-stops, comes-stops, comes-then, comes-work}
-use Rattle.jet_cli.specs.Answers.{Hears, IsWorkOf}
+use Rattle.jet_cli.specs.Answers.{IsCapture, IsRecording, IsWorkOf}
 use Rattle.jet_cli.proofs.Working.{follows-answer}
-
--- a clock that isn't read gives no answer
-pub none_gained : (heard : Option (List ℕ)) → Tells heard heard (Gains [])
-none_gained None = tt
-none_gained (Some xs) = sym (append-nil xs)
 
 -- ---- a run that was captured
 
@@ -40,8 +35,8 @@ long_text : (log : Log) → 2 ^ 26 < length (log_text log) → limited_text log 
 long_text log long = ap (λ b. text_if b log) (lt-ltb (2 ^ 26) (length (log_text log)) long)
 
 module _ (source : Source) (limits : Limits) (heard heard_after : Option (List ℕ)) (loads : image source.program.bytes ≡ Ok source.program.image) where
-  abbrev pub Captures : Result (List ℕ) Refusal → Type 0
-  Captures answer = Hears heard heard_after (λ answers. IsCaptureAnswer source limits answers answer)
+  abbrev Captures : Result (List ℕ) Refusal → Type 0
+  Captures = IsCapture source limits heard heard_after
 
   -- the window of a run that was recorded can hold the image
   begins : (log : Log) (answers : List ℕ) (r : IsRecorded (setting_of source limits) answers log) → start_of source.program.image limits.pages ≡ Some r.fits.start
@@ -75,8 +70,8 @@ module _ (source : Source) (limits : Limits) (heard heard_after : Option (List �
 -- ---- a program and its inputs that were read
 
 module _ (program : List ℕ) (inputs : List (List ℕ)) (limits : Limits) (heard heard_after : Option (List ℕ)) where
-  abbrev pub Records : Contents → Result (List ℕ) Refusal → Type 0
-  Records file answer = Hears heard heard_after (λ answers. IsRecordAnswer file program inputs limits answers answer)
+  abbrev Records : Contents → Result (List ℕ) Refusal → Type 0
+  Records = IsRecording program inputs limits heard heard_after
 
   abbrev source_with : Program → Contents → Result Source Refusal
   source_with p file = and_then (inputs_at file inputs) (λ contents. Ok (record { program = p; inputs = contents }))
@@ -96,10 +91,10 @@ module _ (program : List ℕ) (inputs : List (List ℕ)) (limits : Limits) (hear
         (comes-stops (λ file. inputs_at file inputs) (λ contents file. Ok (record { program = p; inputs = contents })) g h r second))
 
     pub recorded : (contents : List (List ℕ)) → Comes (λ file. inputs_at file inputs) g h (Ok contents) → (outcome : Result (List ℕ) Refusal)
-        → IsWorkOf (λ answer. Hears heard heard_after (λ answers. IsCaptureAnswer (record { program = p; inputs = contents }) limits answers answer)) outcome → Follows Records f h outcome
+        → IsWorkOf (IsCapture (record { program = p; inputs = contents }) limits heard heard_after) outcome → Follows Records f h outcome
     recorded contents second =
         let source : Source = record { program = p; inputs = contents } in
-        follows-answer (λ file answer. source_at file program inputs ≡ answer) (λ answer. Hears heard heard_after (λ answers. IsCaptureAnswer source limits answers answer)) Records source f h
+        follows-answer (λ file answer. source_at file program inputs ≡ answer) (IsCapture source limits heard heard_after) Records source f h
         (λ file outcome e w. record { answers = w.answers; gained = w.gained; holds = AndThen-ok (source_at file program inputs) (λ s. IsCaptureAnswer s limits w.answers) source outcome e w.holds })
         (comes-then (λ file. program_at file program) source_with p f g h first keeps up (Ok source)
         (comes-work (λ file. inputs_at file inputs) (λ contents. Ok (record { program = p; inputs = contents })) contents g h second (Ok source) refl))

@@ -5,7 +5,7 @@ use Rattle.outer_io.specs.Tells.{Tells, Gains}
 use Rattle.jet_words.specs.Commands.{CommandOf, QueryOf, RecordOf, ReplayOf, OutputOf}
 use Rattle.jet_refusal.specs.declared.refusal.Refusal.{Refusal}
 use Rattle.jet_model.specs.Contents.{Contents, Names}
-use Rattle.jet_model.specs.Answer.{Limits, IsRecordAnswer, query_answer, log_answer}
+use Rattle.jet_model.specs.Answer.{Limits, Source, IsCaptureAnswer, IsRecordAnswer, query_answer, log_answer}
 use Rattle.jet_refusal.specs.Causes.{IsOwedTo}
 use Rattle.jet_files.specs.Outcome.{by_reading}
 use Rattle.run_output.specs.Summary.{summary_text}
@@ -23,11 +23,20 @@ pub record Hears (heard heard_after : Option (List ℕ)) (of_answers : List ℕ 
   pub gained : Tells heard heard_after (Gains answers)
   pub holds : of_answers answers
 
+-- a run that is captured comes to this answer
+abbrev pub IsCapture : Source → Limits → Option (List ℕ) → Option (List ℕ) → Result (List ℕ) Refusal → Type 0
+IsCapture source limits heard heard_after answer = Hears heard heard_after (λ answers. IsCaptureAnswer source limits answers answer)
+
+-- the same of a program and inputs that are read
+abbrev pub IsRecording : Text → List Text → Limits → Option (List ℕ) → Option (List ℕ) → Contents → Result (List ℕ) Refusal → Type 0
+IsRecording program inputs limits heard heard_after file answer =
+    Hears heard heard_after (λ answers. IsRecordAnswer file program inputs limits answers answer)
+
 -- the content of the files comes to this answer
 abbrev pub IsAnswer : CommandOf → Option (List ℕ) → Option (List ℕ) → Contents → Result (List ℕ) Refusal → Type 0
 IsAnswer (QueryOf program log query) heard heard_after file answer = query_answer file (named program log query) ≡ answer
 IsAnswer (RecordOf program log inputs pages piece steps) heard heard_after file answer =
-    Hears heard heard_after (λ answers. IsRecordAnswer file program inputs (limits_of pages piece steps) answers answer)
+    IsRecording program inputs (limits_of pages piece steps) heard heard_after file answer
 IsAnswer (ReplayOf program log) heard heard_after file answer = log_answer file program log summary_text ≡ answer
 IsAnswer (OutputOf program log channel) heard heard_after file answer = log_answer file program log (output channel) ≡ answer
 

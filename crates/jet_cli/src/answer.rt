@@ -27,7 +27,8 @@ fn query<S: Store>(
     log: &str,
     query: &str,
 ) -> Result<Vec<u8>, Refusal>
-    ensures answer { Comes (λ file. query_answer file (named program.now log.now query.now)) (S.shown store.old) (S.shown store.new) (seen_by bytes_of result) }
+    ensures answer { Comes (λ file. query_answer file (named program.now log.now query.now))
+        (S.shown store.old) (S.shown store.new) (seen_by bytes_of result) }
     ensures keeps { KeepsAll (S.shown store.old) (S.shown store.new) }
     ensures opened { OpensFirst (program.now ∷ log.now ∷ query.now ∷ []) (S.shown store.old) (S.shown store.new) }
     ensures all { OnOk result (OpensAll (program.now ∷ log.now ∷ query.now ∷ []) (S.shown store.old) (S.shown store.new)) }
@@ -45,7 +46,8 @@ fn replay<S: Store>(
     program: &str,
     log: &str,
 ) -> Result<Vec<u8>, Refusal>
-    ensures answer { Comes (λ file. log_answer file program.now log.now summary_text) (S.shown store.old) (S.shown store.new) (seen_by bytes_of result) }
+    ensures answer { Comes (λ file. log_answer file program.now log.now summary_text)
+        (S.shown store.old) (S.shown store.new) (seen_by bytes_of result) }
     ensures keeps { KeepsAll (S.shown store.old) (S.shown store.new) }
     ensures opened { OpensFirst (program.now ∷ log.now ∷ []) (S.shown store.old) (S.shown store.new) }
     ensures all { OnOk result (OpensAll (program.now ∷ log.now ∷ []) (S.shown store.old) (S.shown store.new)) }
@@ -63,7 +65,8 @@ fn written<S: Store>(
     log: &str,
     channel: u32,
 ) -> Result<Vec<u8>, Refusal>
-    ensures answer { Comes (λ file. log_answer file program.now log.now (output_of channel)) (S.shown store.old) (S.shown store.new) (seen_by bytes_of result) }
+    ensures answer { Comes (λ file. log_answer file program.now log.now (output_of channel))
+        (S.shown store.old) (S.shown store.new) (seen_by bytes_of result) }
     ensures keeps { KeepsAll (S.shown store.old) (S.shown store.new) }
     ensures opened { OpensFirst (program.now ∷ log.now ∷ []) (S.shown store.old) (S.shown store.new) }
     ensures all { OnOk result (OpensAll (program.now ∷ log.now ∷ []) (S.shown store.old) (S.shown store.new)) }
@@ -81,13 +84,15 @@ pub fn answer<S: Store, K: Clock>(
     command: &Command,
 ) -> Result<Vec<u8>, Refusal>
     requires ranges { IsInRange (plain_command command.now) }
-    ensures answer { Follows (IsAnswer (plain_command command.now) (K.answers clock.old) (K.answers clock.new)) (S.shown store.old) (S.shown store.new) (seen_by bytes_of result) }
+    ensures answer { Follows (IsAnswer (plain_command command.now) (K.answers clock.old) (K.answers clock.new))
+        (S.shown store.old) (S.shown store.new) (seen_by bytes_of result) }
     ensures keeps { KeepsAll (S.shown store.old) (S.shown store.new) }
     ensures opened { OpensFirst (sources_of (plain_command command.now)) (S.shown store.old) (S.shown store.new) }
     ensures all { OnOk result (OpensAll (sources_of (plain_command command.now)) (S.shown store.old) (S.shown store.new)) }
     ensures later { (S.shown store.old).faults ≤ (S.shown store.new).faults }
     ensures clock { IfOutput (target_of (plain_command command.now)) (clock.new ≡ clock.old) }
-    ensures unasked { 2 ≤ status_after result → status_after result ≤ 7 → Tells (K.answers clock.old) (K.answers clock.new) (Gains []) }
+    ensures unasked { 2 ≤ status_after result → status_after result ≤ 7
+        → Tells (K.answers clock.old) (K.answers clock.new) (Gains []) }
 {
     match command {
         Command::Query {

@@ -30,11 +30,13 @@ fn carry_out<S: Store, O: Sink, K: Clock>(
     ensures keeps { KeepsBut (target_of (plain_command command.now)) (S.shown store.old) (S.shown store.new) }
     ensures untouched { IsUnwritten (status_after result) → KeepsAll (S.shown store.old) (S.shown store.new) }
     ensures opened { OpensFirst (files_of (Some (plain_command command.now))) (S.shown store.old) (S.shown store.new) }
-    ensures all { OnOk result (OpensAll (files_of (Some (plain_command command.now))) (S.shown store.old) (S.shown store.new)) }
+    ensures all { OnOk result (OpensAll (files_of (Some (plain_command command.now)))
+        (S.shown store.old) (S.shown store.new)) }
     ensures silent { IsUnwritten (status_after result) → out.new ≡ out.old }
     ensures aside { IfFile (target_of (plain_command command.now)) (out.new ≡ out.old) }
     ensures clock { IfOutput (target_of (plain_command command.now)) (clock.new ≡ clock.old) }
-    ensures unasked { 2 ≤ status_after result → status_after result ≤ 7 → Tells (K.answers clock.old) (K.answers clock.new) (Gains []) }
+    ensures unasked { 2 ≤ status_after result → status_after result ≤ 7
+        → Tells (K.answers clock.old) (K.answers clock.new) (Gains []) }
 {
     let text = answer(alloc, store, clock, command)?;
     match deliver(store, out, command, &text) {
@@ -55,7 +57,8 @@ pub fn obey<S: Store, O: Sink, K: Clock>(
 ) -> Result<(), Refusal>
     // It is `Usage` exactly where the command line doesn't take the words, out of memory aside.
     ensures usage { result ≡ Err Refusal.Usage → takes jet_app (map string_bytes words.now) ≡ false }
-    ensures unread { takes jet_app (map string_bytes words.now) ≡ false → (result ≡ Err Refusal.Usage) ⊎ (result ≡ Err Refusal.NoMemory) }
+    ensures unread { takes jet_app (map string_bytes words.now) ≡ false
+        → (result ≡ Err Refusal.Usage) ⊎ (result ≡ Err Refusal.NoMemory) }
 
     // The text was written whole, or a refusal has its cause.
     ensures ends { Ends (command_in words.now)
@@ -69,7 +72,8 @@ pub fn obey<S: Store, O: Sink, K: Clock>(
     ensures silent { IsUnwritten (status_after result) → out.new ≡ out.old }
     ensures aside { IfFile (target_in (command_in words.now)) (out.new ≡ out.old) }
     ensures clock { IfOutput (target_in (command_in words.now)) (clock.new ≡ clock.old) }
-    ensures unasked { 2 ≤ status_after result → status_after result ≤ 7 → Tells (K.answers clock.old) (K.answers clock.new) (Gains []) }
+    ensures unasked { 2 ≤ status_after result → status_after result ≤ 7
+        → Tells (K.answers clock.old) (K.answers clock.new) (Gains []) }
 {
     match read_words(alloc, words) {
         Ok(command) => carry_out(alloc, &command, store, out, clock),

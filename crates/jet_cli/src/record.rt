@@ -4,10 +4,9 @@ ghost use Rattle.std.specs.List.{All};
 ghost use Rattle.elf_model.specs.Image.{image as image_of_file};
 ghost use Rattle.outer_io.specs.Tells.{Tells, Gains};
 ghost use Rattle.call_record.specs.Sources.{contents};
-ghost use Rattle.jet_model.specs.Answer.{IsCaptureAnswer, IsRecordAnswer};
 ghost use Rattle.jet_files.specs.Outcome.{Follows, seen_by, bytes_of};
 ghost use Rattle.jet_files.specs.Views.{program_of};
-ghost use Rattle.jet_cli.specs.Answers.{limits_of, Hears, IsWorkOf};
+ghost use Rattle.jet_cli.specs.Answers.{limits_of, IsCapture, IsRecording, IsWorkOf};
 ghost use Rattle.jet_cli.specs.Ending.{status_after};
 ghost use Rattle.jet_cli.specs.Keeping.{OpensAll, OpensFirst, KeepsAll};
 
@@ -43,9 +42,10 @@ fn log_text<K: Clock>(
     requires most { limits.pages ≤ 4096 }
     requires few { length inputs.now ≤ 16 }
     requires short { All (λ v. length v.items ≤ 2 ^ 26) inputs.now }
-    ensures answer { IsWorkOf (λ answer. Hears (K.answers clock.old) (K.answers clock.new) (λ answers.
-        IsCaptureAnswer (record { program = program_of program.now; inputs = contents inputs.now }) (limits_of limits.pages limits.piece limits.steps) answers answer)) (seen_by bytes_of result) }
-    ensures unasked { 2 ≤ status_after result → status_after result ≤ 7 → Tells (K.answers clock.old) (K.answers clock.new) (Gains []) }
+    ensures answer { IsWorkOf (IsCapture (record { program = program_of program.now; inputs = contents inputs.now })
+        (limits_of limits.pages limits.piece limits.steps) (K.answers clock.old) (K.answers clock.new)) (seen_by bytes_of result) }
+    ensures unasked { 2 ≤ status_after result → status_after result ≤ 7
+        → Tells (K.answers clock.old) (K.answers clock.new) (Gains []) }
 {
     let Limits {
         pages,
@@ -89,13 +89,15 @@ pub fn record<S: Store, K: Clock>(
     requires some { 1 ≤ limits.pages }
     requires most { limits.pages ≤ 4096 }
     requires few { length inputs.now ≤ 16 }
-    ensures answer { Follows (λ file answer. Hears (K.answers clock.old) (K.answers clock.new) (λ answers.
-        IsRecordAnswer file program.now (map (λ name. name.now) inputs.now) (limits_of limits.pages limits.piece limits.steps) answers answer)) (S.shown store.old) (S.shown store.new) (seen_by bytes_of result) }
+    ensures answer { Follows (IsRecording program.now (map (λ name. name.now) inputs.now) (limits_of limits.pages limits.piece limits.steps)
+        (K.answers clock.old) (K.answers clock.new)) (S.shown store.old) (S.shown store.new) (seen_by bytes_of result) }
     ensures keeps { KeepsAll (S.shown store.old) (S.shown store.new) }
     ensures opened { OpensFirst (program.now ∷ map (λ name. name.now) inputs.now) (S.shown store.old) (S.shown store.new) }
-    ensures all { OnOk result (OpensAll (program.now ∷ map (λ name. name.now) inputs.now) (S.shown store.old) (S.shown store.new)) }
+    ensures all { OnOk result (OpensAll (program.now ∷ map (λ name. name.now) inputs.now)
+        (S.shown store.old) (S.shown store.new)) }
     ensures later { (S.shown store.old).faults ≤ (S.shown store.new).faults }
-    ensures unasked { 2 ≤ status_after result → status_after result ≤ 7 → Tells (K.answers clock.old) (K.answers clock.new) (Gains []) }
+    ensures unasked { 2 ≤ status_after result → status_after result ≤ 7
+        → Tells (K.answers clock.old) (K.answers clock.new) (Gains []) }
 {
     let program = open_program(alloc, store, program)?;
     let inputs = open_inputs(alloc, store, inputs)?;

@@ -1,10 +1,7 @@
-use Rattle.std.proofs.Common.{rules, subst, map, List, ℕ, Bor, Result}
+use Rattle.std.proofs.Common.{rules, subst, map, List, ℕ, Bor}
 use Rattle.jet_words.specs.Commands.{RecordOf, OutputOf}
-use Rattle.jet_refusal.specs.declared.refusal.Refusal.{Refusal}
-use Rattle.jet_model.specs.Contents.{Contents}
-use Rattle.jet_model.specs.Answer.{IsRecordAnswer}
 use Rattle.jet_files.specs.Outcome.{Follows, seen_by, bytes_of}
-use Rattle.jet_cli.specs.Answers.{Hears, IsAnswer, limits_of}
+use Rattle.jet_cli.specs.Answers.{IsRecording, IsAnswer, limits_of}
 use Rattle.jet_cli.proofs.answer.answer.Goals as goal
 
 pub returns-in-Record-clause-answer : goal.returns-in-Record-clause-answer
@@ -13,7 +10,7 @@ returns-in-Record-clause-answer g c =
     let after = g.K.Clock.answers c.record.new.clock in
     let r = c.in-Record in
     let answer : Follows (IsAnswer (RecordOf r.program.now r.log.now (map (λ (s : Bor (List ℕ)). s.now) r.inputs.items) r.pages r.piece r.steps) heard after) (g.S.Store.shown c.args.store.now) (g.S.Store.shown c.record.new.store) (seen_by bytes_of c.record.result) =
-    subst (λ (names : List (Bor (List ℕ))). Follows (λ (file : Contents) (answer : Result (List ℕ) Refusal). Hears heard after (λ answers. IsRecordAnswer file r.program.now (map (λ (s : Bor (List ℕ)). s.now) names) (limits_of r.pages r.piece r.steps) answers answer)) (g.S.Store.shown c.args.store.now) (g.S.Store.shown c.record.new.store) (seen_by bytes_of c.record.result)) c.deref.ensures.value c.record.ensures.answer in
+    subst (λ (names : List (Bor (List ℕ))). Follows (IsRecording r.program.now (map (λ (s : Bor (List ℕ)). s.now) names) (limits_of r.pages r.piece r.steps) heard after) (g.S.Store.shown c.args.store.now) (g.S.Store.shown c.record.new.store) (seen_by bytes_of c.record.result)) c.deref.ensures.value c.record.ensures.answer in
     search rules
 
 pub returns-in-Output-clause-answer : goal.returns-in-Output-clause-answer

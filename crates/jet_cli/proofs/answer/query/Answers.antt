@@ -7,7 +7,8 @@ use Rattle.jet_files.specs.Outcome.{Comes, seen_by, bytes_of}
 use Rattle.jet_files.specs.Views.{run_of}
 use Rattle.jet_files.proofs.Composing.{Keeps, comes-stops, comes-then}
 use Rattle.jet_cli.specs.Answers.{named}
-use Rattle.jet_cli.proofs.KeepingLemmas.{keeps-keeps, opened-whole, on_ok}
+use Rattle.jet_files.proofs.Names.{keeps-keeps, opened-whole}
+use Rattle.jet_cli.proofs.KeepingLemmas.{on_ok}
 use Rattle.jet_cli.proofs.Working.{Reports, query-refused, query-reported}
 use Rattle.jet_cli.proofs.answer.query.Goals as goal
 
