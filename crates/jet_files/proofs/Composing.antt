@@ -15,11 +15,11 @@ use Rattle.jet_files.specs.Outcome.{Found, by_reading, Follows, Comes, IsWork}
 
 -- ---- what is told
 
-found-map : (fact more : Contents → Type 0) (f g : Option Files) → ((file : Contents) → fact file → more file) → Tells f g (Found fact) → Tells f g (Found more)
+pub found-map : (fact more : Contents → Type 0) (f g : Option Files) → ((file : Contents) → fact file → more file) → Tells f g (Found fact) → Tells f g (Found more)
 found-map fact more f g step = tells-map f g (Found fact) (Found more) (λ x y d. record { found = step x.file d.found })
 
 -- what two calls find, of which the first keeps the files
-found-then : (one two all : Contents → Type 0) (f g h : Option Files)
+pub found-then : (one two all : Contents → Type 0) (f g h : Option Files)
     → ((file : Contents) → one file → two file → all file)
     → Tells f g (Found one) → Tells f g KeepsFiles → Tells g h (Found two) → Tells f h (Found all)
 found-then one two all f g h step found keeps more =

@@ -1,1 +1,5 @@
 pub mod Composing
+pub mod Names
+mod Read
+mod Runs
+mod Several
