@@ -5,4 +5,3 @@ pub mod Headline
 mod Guests
 mod Reports
 mod Divergences
-mod Queries
