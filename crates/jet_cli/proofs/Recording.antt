@@ -60,7 +60,7 @@ module _ (source : Source) (limits : Limits) (heard heard_after : Option (List �
       captured_as t.log t.captured (Err (refusal.LogTooLong size))
       (ap (λ (n : ℕ). Err (refusal.LogTooLong n)) t.size_is ∙ sym (long_text t.log (subst (λ (n : ℕ). 2 ^ 26 < n) t.size_is t.over)))
 
-  pub captured-window : start_of source.program.image limits.pages ≡ None → Tells heard heard_after (Gains []) → Captures (Err (refusal.Window limits.pages))
+  captured-window : start_of source.program.image limits.pages ≡ None → Tells heard heard_after (Gains []) → Captures (Err (refusal.Window limits.pages))
   captured-window none gained = record {
     answers = [];
     gained = gained;

@@ -9,24 +9,24 @@ use Rattle.jet_files.proofs.Composing.{Keeps, comes-stops, comes-then}
 use Rattle.jet_cli.specs.Answers.{named}
 use Rattle.jet_files.proofs.Names.{keeps-keeps, opened-whole}
 use Rattle.jet_cli.proofs.KeepingLemmas.{on_ok}
-use Rattle.jet_cli.proofs.Working.{Reports, query-refused, query-reported}
+use Rattle.jet_cli.proofs.Working.{query-refused, query-reported}
 use Rattle.jet_cli.proofs.answer.query.Goals as goal
 
 pub returns-in_err-run-clause-answer : goal.returns-in_err-run-clause-answer
 returns-in_err-run-clause-answer g c =
     let a = c.args in
     let refused : Comes (λ file. query_answer file (named a.program.now a.log.now a.query.now)) (g.S.Store.shown a.store.now) (g.S.Store.shown c.open_run.new.store) (Err c.in_err-run.field-0.0) =
-    comes-stops (λ (file : Contents). run_at file a.program.now a.log.now) (λ run file. and_then (query_at file a.query.now) (λ q. report_answer run q)) _ _ c.in_err-run.field-0.0 c.in_err-run.ensures.outcome in
+    comes-stops (λ (file : Contents). run_at file a.program.now a.log.now) (λ run file. and_then (query_at file a.query.now) (λ q. report_answer run q)) (g.S.Store.shown a.store.now) (g.S.Store.shown c.open_run.new.store) c.in_err-run.field-0.0 c.in_err-run.ensures.outcome in
     search rules
 
 pub returns-in_err-query-clause-answer : goal.returns-in_err-query-clause-answer
 returns-in_err-query-clause-answer g c =
     let a = c.args in
-    let run = run_of c.in_ok-run.run in
+    let run = run_of c.in_ok-run.run' in
     let keeps : Keeps (g.S.Store.shown a.store.now) (g.S.Store.shown c.open_run.new.store) = record { files = c.open_run.ensures.keeps; faults = c.open_run.ensures.later } in
     let refused : Comes (λ file. query_answer file (named a.program.now a.log.now a.query.now)) (g.S.Store.shown a.store.now) (g.S.Store.shown c.open_query.new.store) (Err c.in_err-query.field-0.0) =
-    comes-then (λ (file : Contents). run_at file a.program.now a.log.now) (λ run file. and_then (query_at file a.query.now) (λ q. report_answer run q)) run _ _ _ c.in_ok-run.ensures.outcome keeps c.open_query.ensures.later
-    (Err c.in_err-query.field-0.0) (query-refused a.query.now run _ _ c.in_err-query.field-0.0 c.in_err-query.ensures.outcome) in
+    comes-then (λ (file : Contents). run_at file a.program.now a.log.now) (λ run file. and_then (query_at file a.query.now) (λ q. report_answer run q)) run (g.S.Store.shown a.store.now) (g.S.Store.shown c.open_run.new.store) (g.S.Store.shown c.open_query.new.store) c.in_ok-run.ensures.outcome keeps c.open_query.ensures.later
+    (Err c.in_err-query.field-0.0) (query-refused a.query.now run (g.S.Store.shown c.open_run.new.store) (g.S.Store.shown c.open_query.new.store) c.in_err-query.field-0.0 c.in_err-query.ensures.outcome) in
     search rules
 
 pub returns-in_err-query-clause-keeps : goal.returns-in_err-query-clause-keeps
@@ -38,10 +38,10 @@ returns-in_err-query-clause-opened g c = opened-whole _ _ _ (c.args.program.now 
 pub returns-clause-answer : goal.returns-clause-answer
 returns-clause-answer g c =
     let a = c.args in
-    let run = run_of c.in_ok-run.run in
+    let run = run_of c.in_ok-run.run' in
     let keeps : Keeps (g.S.Store.shown a.store.now) (g.S.Store.shown c.open_run.new.store) = record { files = c.open_run.ensures.keeps; faults = c.open_run.ensures.later } in
-    comes-then (λ (file : Contents). run_at file a.program.now a.log.now) (λ run file. and_then (query_at file a.query.now) (λ q. report_answer run q)) run _ _ _ c.in_ok-run.ensures.outcome keeps c.open_query.ensures.later
-    (seen_by bytes_of c.report.result) (query-reported a.query.now run _ _ c.in_ok-query.query c.in_ok-query.ensures.outcome (seen_by bytes_of c.report.result) c.report.ensures)
+    comes-then (λ (file : Contents). run_at file a.program.now a.log.now) (λ run file. and_then (query_at file a.query.now) (λ q. report_answer run q)) run (g.S.Store.shown a.store.now) (g.S.Store.shown c.open_run.new.store) (g.S.Store.shown c.open_query.new.store) c.in_ok-run.ensures.outcome keeps c.open_query.ensures.later
+    (seen_by bytes_of c.report.result) (query-reported a.query.now run (g.S.Store.shown c.open_run.new.store) (g.S.Store.shown c.open_query.new.store) c.in_ok-query.query c.in_ok-query.ensures.outcome (seen_by bytes_of c.report.result) c.report.ensures)
 
 pub returns-clause-keeps : goal.returns-clause-keeps
 returns-clause-keeps g c = keeps-keeps _ _ _ c.open_run.ensures.keeps c.open_query.ensures.keeps

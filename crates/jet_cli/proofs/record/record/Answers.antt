@@ -18,7 +18,7 @@ returns-in_err-program-clause-answer g c =
     let limits = limits_of a.limits.pages a.limits.piece a.limits.steps in
     let heard = g.K.Clock.answers a.clock.now in
     let refused : Follows (IsRecording a.program.now names limits heard heard) (g.S.Store.shown a.store.now) (g.S.Store.shown c.open_program.new.store) (Err c.in_err-program.field-0.0) =
-    refused-program a.program.now names limits heard heard _ _ c.in_err-program.field-0.0 (tells-nothing heard) c.in_err-program.ensures.outcome in
+    refused-program a.program.now names limits heard heard (g.S.Store.shown a.store.now) (g.S.Store.shown c.open_program.new.store) c.in_err-program.field-0.0 (tells-nothing heard) c.in_err-program.ensures.outcome in
     search rules
 
 pub returns-in_err-inputs-clause-answer : goal.returns-in_err-inputs-clause-answer
@@ -29,7 +29,7 @@ returns-in_err-inputs-clause-answer g c =
     let heard = g.K.Clock.answers a.clock.now in
     let keeps : Keeps (g.S.Store.shown a.store.now) (g.S.Store.shown c.open_program.new.store) = record { files = c.open_program.ensures.keeps; faults = c.open_program.ensures.later } in
     let refused : Follows (IsRecording a.program.now names limits heard heard) (g.S.Store.shown a.store.now) (g.S.Store.shown c.open_inputs.new.store) (Err c.in_err-inputs.field-0.0) =
-    refused-inputs a.program.now names limits heard heard (program_of c.in_ok-program.program) _ _ _ c.in_ok-program.ensures.outcome keeps c.open_inputs.ensures.later c.in_err-inputs.field-0.0 (tells-nothing heard) c.in_err-inputs.ensures.outcome in
+    refused-inputs a.program.now names limits heard heard (program_of c.in_ok-program.program) (g.S.Store.shown a.store.now) (g.S.Store.shown c.open_program.new.store) (g.S.Store.shown c.open_inputs.new.store) c.in_ok-program.ensures.outcome keeps c.open_inputs.ensures.later c.in_err-inputs.field-0.0 (tells-nothing heard) c.in_err-inputs.ensures.outcome in
     search rules
 
 pub returns-in_err-inputs-clause-keeps : goal.returns-in_err-inputs-clause-keeps
@@ -48,7 +48,7 @@ returns-clause-answer g c =
     let program = program_of c.in_ok-program.program in
     let outcome = seen_by bytes_of c.log_text.result in
     let keeps : Keeps (g.S.Store.shown a.store.now) (g.S.Store.shown c.open_program.new.store) = record { files = c.open_program.ensures.keeps; faults = c.open_program.ensures.later } in
-    recorded a.program.now names limits heard after program _ _ _ c.in_ok-program.ensures.outcome keeps c.open_inputs.ensures.later (contents c.in_ok-inputs.inputs.items) c.in_ok-inputs.ensures.outcome outcome
+    recorded a.program.now names limits heard after program (g.S.Store.shown a.store.now) (g.S.Store.shown c.open_program.new.store) (g.S.Store.shown c.open_inputs.new.store) c.in_ok-program.ensures.outcome keeps c.open_inputs.ensures.later (contents c.in_ok-inputs.inputs.items) c.in_ok-inputs.ensures.outcome outcome
     (subst (λ (vs : List (Vec ℕ)). IsWorkOf (IsCapture (record { program = program; inputs = contents vs }) limits heard after) outcome) c.deref.ensures.value c.log_text.ensures.answer)
 
 pub returns-clause-keeps : goal.returns-clause-keeps
@@ -59,3 +59,6 @@ returns-clause-opened g c = opened-whole _ _ _ (c.args.program.now ∷ []) (map 
 
 pub returns-clause-all : goal.returns-clause-all
 returns-clause-all g c = on_ok c.log_text.result (tells-gains _ _ _ (c.args.program.now ∷ []) (map (λ (name : Bor (List ℕ)). name.now) c.args.inputs.now) c.open_program.ensures.opened c.in_ok-inputs.ensures.all)
+
+pub returns-in_err-inputs-clause-unasked : goal.returns-in_err-inputs-clause-unasked
+returns-in_err-inputs-clause-unasked g c = λ least most. tells-nothing (g.K.Clock.answers c.args.clock.now)

@@ -1,8 +1,9 @@
-use Rattle.std.proofs.Common.{rules, ◌≡◌, subst, List, ℕ, Err, Result}
+use Rattle.std.proofs.Common.{rules, ◌∙◌, ap, subst, List, ℕ, Err}
+use Rattle.log_model.specs.declared.CallRecord.{CallRecord}
 use Rattle.log_model.specs.Logs.{Log}
+use Rattle.log_model.specs.Moved.{written}
 use Rattle.replayer.specs.Checks.{IsChecked}
 use Rattle.run_output.specs.Output.{output}
-use Rattle.jet_refusal.specs.declared.refusal.Refusal.{Refusal}
 use Rattle.jet_model.specs.Answer.{fitting_start, text_answer}
 use Rattle.jet_files.specs.Outcome.{IsWork}
 use Rattle.jet_files.specs.Views.{run_of}
@@ -21,4 +22,5 @@ returns-in_err-job c =
 pub returns-in-Ok : goal.returns-in-Ok
 returns-in-Ok c =
     let run = run_of c.args.run in
-    text-gives run (output c.args.channel) _ _ (subst (λ (b : List ℕ). IsChecked b run.program.image run.log _) c.deref.ensures.value c.in_ok-job.ensures.ok) ?
+    text-gives run (output c.args.channel) c.in_ok-job.job _ (subst (λ (b : List ℕ). IsChecked b run.program.image run.log c.in_ok-job.job) c.deref.ensures.value c.in_ok-job.ensures.ok)
+    (c.in-Ok.ensures ∙ ap (λ (calls : List CallRecord). written c.args.channel calls) (c.records.ensures ∙ ap (λ (l : Log). l.records) c.log.ensures))

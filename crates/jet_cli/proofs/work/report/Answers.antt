@@ -20,4 +20,4 @@ returns-in_err-job c =
 pub returns-in-Ok : goal.returns-in-Ok
 returns-in-Ok c =
     let run = run_of c.args.run in
-    report-gives run c.args.query.now _ _ (subst (λ (b : List ℕ). IsChecked b run.program.image run.log _) c.deref.ensures.value c.in_ok-job.ensures.ok) c.in-Ok.ensures
+    report-gives run c.args.query.now c.in_ok-job.job _ (subst (λ (b : List ℕ). IsChecked b run.program.image run.log c.in_ok-job.job) c.deref.ensures.value c.in_ok-job.ensures.ok) c.in-Ok.ensures

@@ -1,8 +1,7 @@
-use Rattle.std.proofs.Common.{rules, ◌≡◌, subst, List, ℕ, Err, Result}
-use Rattle.log_model.specs.Logs.{Log}
+use Rattle.std.proofs.Common.{rules, ◌∙◌, ap, subst, List, ℕ, Err}
 use Rattle.replayer.specs.Checks.{IsChecked}
-use Rattle.run_output.specs.Summary.{summary_text}
-use Rattle.jet_refusal.specs.declared.refusal.Refusal.{Refusal}
+use Rattle.replayer.specs.declared.job.ReplaySummary.{ReplaySummary}
+use Rattle.run_output.specs.Summary.{numbers_text, summary_text}
 use Rattle.jet_model.specs.Answer.{fitting_start, text_answer}
 use Rattle.jet_files.specs.Outcome.{IsWork}
 use Rattle.jet_files.specs.Views.{run_of}
@@ -21,4 +20,5 @@ returns-in_err-job c =
 pub returns-in-Ok : goal.returns-in-Ok
 returns-in-Ok c =
     let run = run_of c.args.run in
-    text-gives run summary_text _ _ (subst (λ (b : List ℕ). IsChecked b run.program.image run.log _) c.deref.ensures.value c.in_ok-job.ensures.ok) ?
+    text-gives run summary_text c.in_ok-job.job _ (subst (λ (b : List ℕ). IsChecked b run.program.image run.log c.in_ok-job.job) c.deref.ensures.value c.in_ok-job.ensures.ok)
+    (c.in-Ok.ensures ∙ ap (λ (n : ReplaySummary). numbers_text n.steps n.calls n.read n.written n.end) c.summary.ensures)
