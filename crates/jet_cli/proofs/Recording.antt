@@ -1,5 +1,5 @@
 -- From a program and inputs that were read, and the capture of a run, to what a recording comes to.
-use Rattle.std.proofs.Common.{◌≡◌, ◌∙◌, ap, sym, refl, subst, ℕ, ◌≤◌, ◌<◌, ◌^◌, nat_lt, List, [], append-nil, Bool, true, false, length, Option, Some, None, Result, Ok, Err, if◌then◌else◌}
+use Rattle.std.proofs.Common.{◌≡◌, ◌∙◌, ap, sym, refl, subst, arith, ℕ, ◌≤◌, ◌<◌, ◌^◌, nat_lt, List, [], append-nil, Bool, true, false, length, Option, Some, None, Result, Ok, Err, if◌then◌else◌}
 use Rattle.std.specs.Option.{ok_or}
 use Rattle.std.proofs.lemmas.Bool.{lt-ltb, le-ltb}
 use Rattle.isa.specs.Machine.{State}
@@ -9,18 +9,21 @@ use Rattle.elf_model.specs.Window.{start_of}
 use Rattle.log_model.specs.Logs.{Log, log_text}
 use Rattle.replay_model.specs.Fits.{start_in_image}
 use Rattle.record_model.specs.Recorded.{IsRecorded}
-use Rattle.call_record.specs.Captures.{IsCaptured, IsTooLong}
+use Rattle.call_record.specs.Captures.{IsCaptured, IsTooLong, IsCause}
+use Rattle.call_record.specs.declared.fault.CaptureFault.{CaptureFault}
+use Rattle.call_record.specs.declared.fault.CaptureFault.TheVariants as capture
 use Rattle.outer_io.specs.Shown.{StoreShown}
 use Rattle.outer_io.specs.Tells.{Tells, Gains}
 use Rattle.jet_refusal.specs.declared.refusal.Refusal.{Refusal}
 use Rattle.jet_refusal.specs.declared.refusal.Refusal.TheVariants as refusal
+use Rattle.jet_refusal.specs.Refusals.{status_of}
 use Rattle.jet_model.specs.Outcomes.{and_then, AndThen}
 use Rattle.jet_model.specs.Contents.{Contents, Program, program_at, inputs_at}
 use Rattle.jet_model.specs.Answer.{Limits, Source, source_at, setting_of, start_in, limited_text, IsCaptured as IsCapturedAs, IsCaptureAnswer}
 use Rattle.jet_model.proofs.AndThen.{AndThen-ok}
 use Rattle.jet_files.specs.Outcome.{Follows, Comes}
 use Rattle.jet_files.proofs.Composing.{Keeps, follows-stops, comes-stops, comes-then, comes-work}
-use Rattle.jet_cli.specs.Answers.{IsCapture, IsRecording, IsWorkOf}
+use Rattle.jet_cli.specs.Answers.{IsCapture, IsRecording, IsWorkOf, capture_refusal}
 use Rattle.jet_cli.proofs.Working.{follows-answer}
 
 -- ---- a run that was captured
@@ -55,7 +58,7 @@ module _ (source : Source) (limits : Limits) (heard heard_after : Option (List �
   pub captured-text : (log : Log) (text : List ℕ) → IsCaptured (setting_of source limits) heard heard_after log → length (log_text log) ≤ 2 ^ 26 → text ≡ log_text log → Captures (Ok text)
   captured-text log text c short e = captured_as log c (Ok text) (ap Ok e ∙ sym (short_text log short))
 
-  pub captured-too_long : (size : ℕ) → IsTooLong (setting_of source limits) heard heard_after size → Captures (Err (refusal.LogTooLong size))
+  captured-too_long : (size : ℕ) → IsTooLong (setting_of source limits) heard heard_after size → Captures (Err (refusal.LogTooLong size))
   captured-too_long size t =
       captured_as t.log t.captured (Err (refusal.LogTooLong size))
       (ap (λ (n : ℕ). Err (refusal.LogTooLong n)) t.size_is ∙ sym (long_text t.log (subst (λ (n : ℕ). 2 ^ 26 < n) t.size_is t.over)))
@@ -66,6 +69,20 @@ module _ (source : Source) (limits : Limits) (heard heard_after : Option (List �
     gained = gained;
     holds = subst (λ (o : Option State). AndThen (ok_or o (refusal.Window limits.pages)) (λ start. IsCapturedAs (setting_of source limits) []) (Err (refusal.Window limits.pages))) (sym none) refl;
   }
+
+  -- it was not captured
+  pub not_captured : (fault : CaptureFault) → IsCause (setting_of source limits) source.program.image heard heard_after fault
+      → IsWorkOf (IsCapture source limits heard heard_after) (Err (capture_refusal limits.pages fault))
+  not_captured capture.Window c = captured-window c.0 c.1
+  not_captured (capture.LogTooLong size) c = captured-too_long size c
+  not_captured capture.NoMemory c = tt
+
+  -- before the run the clock isn't read
+  pub not_read : (fault : CaptureFault) → IsCause (setting_of source limits) source.program.image heard heard_after fault
+      → 2 ≤ status_of (capture_refusal limits.pages fault) → status_of (capture_refusal limits.pages fault) ≤ 7 → Tells heard heard_after (Gains [])
+  not_read capture.Window c least most = c.1
+  not_read (capture.LogTooLong size) c least most = let f : ⊥ = omega (arith, most) in absurd f
+  not_read capture.NoMemory c least most = let f : ⊥ = omega (arith, most) in absurd f
 
 -- ---- a program and its inputs that were read
 

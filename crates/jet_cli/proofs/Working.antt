@@ -1,5 +1,5 @@
 -- From what was found in files, and the work on it, to what the files come to.
-use Rattle.std.proofs.Common.{◌≡◌, ◌∙◌, ap, sym, ℕ, List, Result, Ok, Err}
+use Rattle.std.proofs.Common.{◌≡◌, ◌∙◌, ap, sym, ℕ, ◌≤◌, List, Result, Ok, Err}
 use Rattle.log_model.specs.Logs.{Log}
 use Rattle.outer_io.specs.Faults.{Rose}
 use Rattle.outer_io.specs.Tells.{Tells}
@@ -15,11 +15,11 @@ use Rattle.replayer.specs.Checks.{IsChecked}
 use Rattle.jet_refusal.specs.declared.refusal.Refusal.{Refusal}
 use Rattle.jet_refusal.proofs.Causes.{IsOwedTo-map}
 use Rattle.jet_model.specs.Outcomes.{and_then}
-use Rattle.jet_model.specs.Contents.{Contents, Run, query_at}
-use Rattle.jet_model.specs.Answer.{fitting_start, report_answer, text_answer}
+use Rattle.jet_model.specs.Contents.{Contents, Names, Run, query_at, run_at}
+use Rattle.jet_model.specs.Answer.{fitting_start, query_answer, report_answer, text_answer}
 use Rattle.jet_model.proofs.AndThen.{and_then-ok, and_then-err}
-use Rattle.jet_files.specs.Outcome.{AreAlike, Found, Follows, IsWork, by_reading}
-use Rattle.jet_files.proofs.Composing.{follows-stops}
+use Rattle.jet_files.specs.Outcome.{AreAlike, Comes, Found, Follows, IsWork, by_reading}
+use Rattle.jet_files.proofs.Composing.{Keeps, comes-then, follows-stops}
 use Rattle.jet_cli.specs.Answers.{IsWorkOf}
 use Rattle.jet_cli.proofs.Fitting.{fitting_start-ok}
 
@@ -57,6 +57,12 @@ module _ (name : List ℕ) (run : Run) (f g : StoreShown) where
       → IsWorkOf (λ answer. (q : Query) → Alike kept q → report_answer run q ≡ answer) outcome → Follows Reports f g outcome
   query-reported kept = follows-answer (λ file kept. AreAlike kept (query_at file name)) (λ answer. (q : Query) → Alike kept q → report_answer run q ≡ answer) Reports kept f g
       (λ file outcome alike same. kept_alike kept (λ q. report_answer run q) outcome (query_at file name) alike same)
+
+-- the run that was opened, and then the query
+pub query-of_run : (names : Names) (run : Run) (f g h : StoreShown) → Comes (λ file. run_at file names.program names.log) f g (Ok run) → Keeps f g → g.faults ≤ h.faults
+    → (outcome : Result (List ℕ) Refusal) → Follows (λ file answer. and_then (query_at file names.query) (λ q. report_answer run q) ≡ answer) g h outcome
+    → Comes (λ file. query_answer file names) f h outcome
+query-of_run names run = comes-then (λ file. run_at file names.program names.log) (λ r file. and_then (query_at file names.query) (λ q. report_answer r q)) run
 
 -- ---- work over a run
 

@@ -2,8 +2,11 @@
 use Rattle.std.specs.Prelude.{◌≡◌, ℕ, List, Option, Result, Ok, Err}
 use Rattle.outer_io.specs.Files.{Text}
 use Rattle.outer_io.specs.Tells.{Tells, Gains}
+use Rattle.call_record.specs.declared.fault.CaptureFault.{CaptureFault}
+use Rattle.call_record.specs.declared.fault.CaptureFault.TheVariants as capture
 use Rattle.jet_words.specs.Commands.{CommandOf, QueryOf, RecordOf, ReplayOf, OutputOf}
 use Rattle.jet_refusal.specs.declared.refusal.Refusal.{Refusal}
+use Rattle.jet_refusal.specs.declared.refusal.Refusal.TheVariants as refusal
 use Rattle.jet_model.specs.Contents.{Contents, Names}
 use Rattle.jet_model.specs.Answer.{Limits, Source, IsCaptureAnswer, IsRecordAnswer, query_answer, log_answer}
 use Rattle.jet_refusal.specs.Causes.{IsOwedTo}
@@ -44,3 +47,9 @@ IsAnswer (OutputOf program log channel) heard heard_after file answer = log_answ
 abbrev pub IsWorkOf : {A : Type 0} → (Result A Refusal → Type 0) → Result A Refusal → Type 0
 IsWorkOf is_answer (Ok x) = is_answer (Ok x)
 IsWorkOf is_answer (Err r) = IsOwedTo (by_reading (is_answer (Err r)) ⊥) r
+
+-- why a run in a window of so many pages was not recorded
+abbrev pub capture_refusal : ℕ → CaptureFault → Refusal
+capture_refusal pages capture.Window = refusal.Window pages
+capture_refusal pages (capture.LogTooLong size) = refusal.LogTooLong size
+capture_refusal pages capture.NoMemory = refusal.NoMemory

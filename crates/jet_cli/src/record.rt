@@ -6,7 +6,7 @@ ghost use Rattle.outer_io.specs.Tells.{Tells, Gains};
 ghost use Rattle.call_record.specs.Sources.{contents};
 ghost use Rattle.jet_files.specs.Outcome.{Follows, seen_by, bytes_of};
 ghost use Rattle.jet_files.specs.Views.{program_of};
-ghost use Rattle.jet_cli.specs.Answers.{limits_of, IsCapture, IsRecording, IsWorkOf};
+ghost use Rattle.jet_cli.specs.Answers.{capture_refusal, limits_of, IsCapture, IsRecording, IsWorkOf};
 ghost use Rattle.jet_cli.specs.Ending.{status_after};
 ghost use Rattle.jet_cli.specs.Keeping.{OpensAll, OpensFirst, KeepsAll};
 
@@ -27,6 +27,17 @@ pub struct Limits {
     pub piece: u32,
     /// The number of steps after which the run is cut off.
     pub steps: u32,
+}
+
+/// Why a run was not recorded.
+fn of_capture(fault: CaptureFault, pages: u32) -> Refusal
+    ensures { result ≡ capture_refusal pages fault }
+{
+    match fault {
+        CaptureFault::Window => Refusal::Window { pages },
+        CaptureFault::LogTooLong(size) => Refusal::LogTooLong(size),
+        CaptureFault::NoMemory => Refusal::NoMemory,
+    }
 }
 
 /// The log of the program's run over these inputs, as text.
@@ -70,9 +81,7 @@ fn log_text<K: Clock>(
                 Err(NoMemory) => Err(Refusal::NoMemory),
             }
         }
-        Err(CaptureFault::Window) => Err(Refusal::Window { pages }),
-        Err(CaptureFault::LogTooLong(size)) => Err(Refusal::LogTooLong(size)),
-        Err(CaptureFault::NoMemory) => Err(Refusal::NoMemory),
+        Err(fault) => Err(of_capture(fault, pages)),
     }
 }
 

@@ -12,6 +12,7 @@ ghost use Rattle.run_output.specs.Output.{output as output_of};
 ghost use Rattle.jet_model.specs.Answer.{fitting_start, report_answer, text_answer};
 ghost use Rattle.jet_files.specs.Outcome.{IsWork, seen_by, bytes_of};
 ghost use Rattle.jet_files.specs.Views.{run_of};
+ghost use Rattle.jet_cli.specs.Answers.{IsWorkOf};
 
 use elf_image::Image;
 use jet_files::{Program, Run};
@@ -52,7 +53,7 @@ fn report_of(alloc: Global, job: &Job, query: &Query) -> Result<Vec<u8>, NoMemor
 /// The report of a query over the run, for each query that this one stands for.
 pub fn report(alloc: Global, run: Run, query: &Query) -> Result<Vec<u8>, Refusal>
     requires image { image_of_file run.program.bytes.items ≡ Ok run.program.image }
-    ensures { (q : QueryOf) → Alike query.now q → IsWork (report_answer (run_of run) q) (seen_by bytes_of result) }
+    ensures { IsWorkOf (λ answer. (q : QueryOf) → Alike query.now q → report_answer (run_of run) q ≡ answer) (seen_by bytes_of result) }
 {
     let Run { program, log } = run;
     let Program { bytes, image } = program;

@@ -5,11 +5,11 @@ use Rattle.jet_model.specs.Contents.{Contents, Run, run_at, query_at}
 use Rattle.jet_model.specs.Answer.{query_answer, report_answer}
 use Rattle.jet_files.specs.Outcome.{Comes, seen_by, bytes_of}
 use Rattle.jet_files.specs.Views.{run_of}
-use Rattle.jet_files.proofs.Composing.{Keeps, comes-stops, comes-then}
+use Rattle.jet_files.proofs.Composing.{comes-stops}
 use Rattle.jet_cli.specs.Answers.{named}
 use Rattle.jet_files.proofs.Names.{keeps-keeps, opened-whole}
 use Rattle.jet_cli.proofs.KeepingLemmas.{on_ok}
-use Rattle.jet_cli.proofs.Working.{query-refused, query-reported}
+use Rattle.jet_cli.proofs.Working.{query-of_run, query-refused, query-reported}
 use Rattle.jet_cli.proofs.answer.query.Goals as goal
 
 pub returns-in_err-run-clause-answer : goal.returns-in_err-run-clause-answer
@@ -21,12 +21,10 @@ returns-in_err-run-clause-answer g c =
 
 pub returns-in_err-query-clause-answer : goal.returns-in_err-query-clause-answer
 returns-in_err-query-clause-answer g c =
-    let a = c.args in
-    let run = run_of c.in_ok-run.run' in
-    let keeps : Keeps (g.S.Store.shown a.store.now) (g.S.Store.shown c.open_run.new.store) = record { files = c.open_run.ensures.keeps; faults = c.open_run.ensures.later } in
-    let refused : Comes (λ file. query_answer file (named a.program.now a.log.now a.query.now)) (g.S.Store.shown a.store.now) (g.S.Store.shown c.open_query.new.store) (Err c.in_err-query.field-0.0) =
-    comes-then (λ (file : Contents). run_at file a.program.now a.log.now) (λ run file. and_then (query_at file a.query.now) (λ q. report_answer run q)) run (g.S.Store.shown a.store.now) (g.S.Store.shown c.open_run.new.store) (g.S.Store.shown c.open_query.new.store) c.in_ok-run.ensures.outcome keeps c.open_query.ensures.later
-    (Err c.in_err-query.field-0.0) (query-refused a.query.now run (g.S.Store.shown c.open_run.new.store) (g.S.Store.shown c.open_query.new.store) c.in_err-query.field-0.0 c.in_err-query.ensures.outcome) in
+    let refused : Comes (λ file. query_answer file (named c.args.program.now c.args.log.now c.args.query.now)) (g.S.Store.shown c.args.store.now) (g.S.Store.shown c.open_query.new.store) (Err c.in_err-query.field-0.0) =
+    query-of_run (named c.args.program.now c.args.log.now c.args.query.now) (run_of c.in_ok-run.run') (g.S.Store.shown c.args.store.now) (g.S.Store.shown c.open_run.new.store) (g.S.Store.shown c.open_query.new.store)
+    c.in_ok-run.ensures.outcome (record { files = c.open_run.ensures.keeps; faults = c.open_run.ensures.later }) c.open_query.ensures.later
+    (Err c.in_err-query.field-0.0) (query-refused c.args.query.now (run_of c.in_ok-run.run') (g.S.Store.shown c.open_run.new.store) (g.S.Store.shown c.open_query.new.store) c.in_err-query.field-0.0 c.in_err-query.ensures.outcome) in
     search rules
 
 pub returns-in_err-query-clause-keeps : goal.returns-in_err-query-clause-keeps
@@ -37,11 +35,9 @@ returns-in_err-query-clause-opened g c = opened-whole _ _ _ (c.args.program.now 
 
 pub returns-clause-answer : goal.returns-clause-answer
 returns-clause-answer g c =
-    let a = c.args in
-    let run = run_of c.in_ok-run.run' in
-    let keeps : Keeps (g.S.Store.shown a.store.now) (g.S.Store.shown c.open_run.new.store) = record { files = c.open_run.ensures.keeps; faults = c.open_run.ensures.later } in
-    comes-then (λ (file : Contents). run_at file a.program.now a.log.now) (λ run file. and_then (query_at file a.query.now) (λ q. report_answer run q)) run (g.S.Store.shown a.store.now) (g.S.Store.shown c.open_run.new.store) (g.S.Store.shown c.open_query.new.store) c.in_ok-run.ensures.outcome keeps c.open_query.ensures.later
-    (seen_by bytes_of c.report.result) (query-reported a.query.now run (g.S.Store.shown c.open_run.new.store) (g.S.Store.shown c.open_query.new.store) c.in_ok-query.query c.in_ok-query.ensures.outcome (seen_by bytes_of c.report.result) c.report.ensures)
+    query-of_run (named c.args.program.now c.args.log.now c.args.query.now) (run_of c.in_ok-run.run') (g.S.Store.shown c.args.store.now) (g.S.Store.shown c.open_run.new.store) (g.S.Store.shown c.open_query.new.store)
+    c.in_ok-run.ensures.outcome (record { files = c.open_run.ensures.keeps; faults = c.open_run.ensures.later }) c.open_query.ensures.later
+    (seen_by bytes_of c.report.result) (query-reported c.args.query.now (run_of c.in_ok-run.run') (g.S.Store.shown c.open_run.new.store) (g.S.Store.shown c.open_query.new.store) c.in_ok-query.query c.in_ok-query.ensures.outcome (seen_by bytes_of c.report.result) c.report.ensures)
 
 pub returns-clause-keeps : goal.returns-clause-keeps
 returns-clause-keeps g c = keeps-keeps _ _ _ c.open_run.ensures.keeps c.open_query.ensures.keeps
