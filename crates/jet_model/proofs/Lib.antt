@@ -5,5 +5,4 @@ pub mod Headline
 mod Guests
 mod Reports
 mod Divergences
-mod Queries
 mod Commands

@@ -1,7 +1,3 @@
-pub mod NoFault
-pub mod HelpRefused
-pub mod Taken
-pub mod Values
-pub mod Fit
-pub mod Ranges
-pub mod Examples
+mod Ranges
+mod Taken
+mod Examples

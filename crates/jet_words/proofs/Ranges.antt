@@ -1,299 +1,52 @@
--- Where the words are taken, the numbers and the list of the subcommand lie in their ranges.
-use Rattle.std.proofs.Common.{◌≡◌, ◌∙◌, ◌≤◌, ap, sym, subst, refl, true, false, Bool, not, ◌&&◌, ◌||◌, ℕ, length, List, [], ◌∷◌, ◌++◌, codes, Option, Some, None, option_map, option_and_then, unwrap_or, if◌then◌else◌, nat_le, slice_get, arith}
-use Rattle.std.specs.List.{list_all, list_any, find, fold}
-use Rattle.std.specs.Option.{option_map_or}
-use Rattle.std.specs.Str.{bytes_eq}
-use Rattle.std.proofs.lemmas.Bool.Decides.{nat_tests}
-use Rattle.std.proofs.lemmas.Slice.Eq.{bytes_eq-Decides}
-use Rattle.clap.specs.Words.{IsUnsignedIn, Row, Text, read_as, takes, subcommand_of}
-use Rattle.clap.specs.Facts.{explicit_source, parser_of_value, unwrap_or_range}
-use Rattle.clap.specs.Values.{reading_of}
-use Rattle.clap.specs.ValueTests.{accepts}
-use Rattle.clap.specs.Walk.{Rule, answers_to, default_rows, has_row, more_values, most_values, nothing_held, reading_by, row_text, rows_after, settled, walk, walk_from, with_default}
-use Rattle.clap.specs.Simple.{App, Shape, argument_words, built, built_leaf, entered, filled, help_shape, inherited, is_simple, label_of, marked_built, names_of, on_top, rows_at, with_index, with_leaf_noted}
-use Rattle.clap.specs.Takes.{default_passes, entered_passes, is_given, is_valid, level_passes, settle_passes, walk_passes}
-use Rattle.clap.specs.declared.builder.value_parser.Reading.{Reading}
-use Rattle.clap.specs.declared.builder.value_parser.Reading.TheVariants.{AsWritten, WithoutMinus, Boolish, Falsey}
-use Rattle.clap.specs.declared.builder.value_parser.ValueParser.TheVariants.{Unsigned}
-use Rattle.clap.specs.declared.parser.matches.ValueSource.TheVariants.{DefaultValue}
-use Rattle.clap.proofs.ValueTestLemmas.{accepts-Accepts}
-use Rattle.jet_words.specs.CommandLine.{jet_app, list, number, number_option, output_app, query_app, record_app, replay_app}
-use Rattle.jet_words.specs.Words.{Asked, HasNumbers, IsInRange, asked_by, numeral_of, values_of}
-use Rattle.jet_words.proofs.NoFault.{each_true}
-use Rattle.jet_words.proofs.HelpRefused.{or_false}
-use Rattle.jet_words.proofs.Fit.{at_new_row, fits, left_true, no_values, reads_as_written, right_true, row_fits, rows_fit, text_is_itself}
+-- Where the words are taken, the subcommand's numbers can be read, and it stands for a command with its numbers and its
+-- list in their ranges.
+use Rattle.std.proofs.Common.{◌≡◌, refl, true, List, codes, IsSomeAnd}
+use Rattle.clap.specs.Words.{Row, Text, takes, subcommand_of}
+use Rattle.clap.specs.Simple.{App, Shape, built_leaf, inherited, marked_built, on_top, with_leaf_noted}
+use Rattle.clap_command.proofs.Rows.{list-length, number-in_range, option-in_range}
+use Rattle.clap_command.proofs.Subcommands.{AtTaken, at_subcommand, help-not_named}
+use Rattle.jet_words.specs.CommandLine.{jet_app, output_app, query_app, record_app, replay_app}
+use Rattle.jet_words.specs.Commands.{IsInRange, command_by}
+use Rattle.jet_words.specs.Numbers.{HasNumbers}
 
--- ---- which rows are there
-
-any_more : (p : Row → Bool) (rows more : List Row) → list_any p more ≡ true → list_any p (rows ++ more) ≡ true
-any_more p [] more e = e
-any_more p (r ∷ rows) more e = right_true (p r) _ (any_more p rows more e)
-
-any_before : (p : Row → Bool) (rows more : List Row) → list_any p rows ≡ true → list_any p (rows ++ more) ≡ true
-any_before p [] more e = cc
-any_before p (r ∷ rows) more e =
-    (elim (p r) as (λ b. (b || list_any p rows) ≡ true → (b || list_any p (rows ++ more)) ≡ true) [
-      | true ↦ λ q. refl
-      | false ↦ λ q. any_before p rows more q
-    ]) e
-
-default_there : (id : Text) (a : Rule) (values : List Text) (rows : List Row) → has_row a.id rows ≡ false → no_values values ≡ false → a.id ≡ id
-    → has_row id (default_rows a.id (reading_by a) values rows) ≡ true
-default_there id a [] rows none given same = cc
-default_there id a (v ∷ vs) rows none given same =
-    ap (has_row id) (at_new_row a.id (more_values DefaultValue (v ∷ vs)) _ rows none)
-    ∙ any_more (λ r. bytes_eq r.id id) rows _ (left_true _ false (ap (λ t. bytes_eq t id) same ∙ text_is_itself id))
-
-default_stays : (id : Text) (a : Rule) (values : List Text) (rows : List Row) → has_row a.id rows ≡ false → has_row id rows ≡ true
-    → has_row id (default_rows a.id (reading_by a) values rows) ≡ true
-default_stays id a [] rows none has = has
-default_stays id a (v ∷ vs) rows none has =
-    ap (has_row id) (at_new_row a.id (more_values DefaultValue (v ∷ vs)) _ rows none) ∙ any_before (λ r. bytes_eq r.id id) rows _ has
-
-stays : (id : Text) (a : Rule) (rows : List Row) → has_row id rows ≡ true → has_row id (with_default rows a) ≡ true
-stays id a rows has =
-    (elim (has_row a.id rows) as (λ b. has_row a.id rows ≡ b → has_row id (if b then rows else default_rows a.id (reading_by a) a.defaults rows) ≡ true) [
-      | true ↦ λ e. has
-      | false ↦ λ e. default_stays id a a.defaults rows e has
-    ]) refl
-
-all_stay : (id : Text) (d : List Rule) (rows : List Row) → has_row id rows ≡ true → has_row id (fold with_default rows d) ≡ true
-all_stay id [] rows has = has
-all_stay id (a ∷ d) rows has = all_stay id d (with_default rows a) (stays id a rows has)
-
-comes : (id : Text) (a : Rule) (rows : List Row) → a.id ≡ id → no_values a.defaults ≡ false → has_row id (with_default rows a) ≡ true
-comes id a rows same given =
-    (elim (has_row a.id rows) as (λ b. has_row a.id rows ≡ b → has_row id (if b then rows else default_rows a.id (reading_by a) a.defaults rows) ≡ true) [
-      | true ↦ λ e. ap (λ t. has_row t rows) (sym same) ∙ e
-      | false ↦ λ e. default_there id a a.defaults rows e given same
-    ]) refl
-
--- an argument with a default has a row
-abbrev has_default : Text → Rule → Bool
-has_default id a = bytes_eq a.id id && not (no_values a.defaults)
-
-is_false : (b : Bool) → not b ≡ true → b ≡ false
-is_false true e = cc
-is_false false e = refl
-
-defaulted : (id : Text) (d : List Rule) (rows : List Row) → list_any (has_default id) d ≡ true → has_row id (fold with_default rows d) ≡ true
-defaulted id [] rows e = cc
-defaulted id (a ∷ d) rows e =
-    (elim (has_default id a) as (λ b. has_default id a ≡ b → (b || list_any (has_default id) d) ≡ true → has_row id (fold with_default (with_default rows a) d) ≡ true) [
-      | true ↦ λ is q. let p = each_true _ _ is in all_stay id d _ (comes id a rows ((bytes_eq-Decides a.id id).0 p.0) (is_false _ p.1))
-      | false ↦ λ is q. defaulted id d (with_default rows a) q
-    ]) refl e
-
--- an argument that was given has a row
-given_there : (id : Text) (f : Row → Bool) (rows : List Row) → option_map_or f (find (λ r. bytes_eq r.id id) rows) false ≡ true → has_row id rows ≡ true
-given_there id f [] e = cc
-given_there id f (r ∷ rows) e =
-    (elim (bytes_eq r.id id) as (λ b. option_map_or f (if b then Some r else find (λ r. bytes_eq r.id id) rows) false ≡ true → (b || has_row id rows) ≡ true) [
-      | true ↦ λ q. refl
-      | false ↦ λ q. given_there id f rows q
-    ]) e
-
--- ---- what a row of an id holds
-
--- each row of the id has this property, where all rows fit
-abbrev IsOf : List Rule → Text → (List Text → Reading → Type 0) → Type 0
-IsOf c id Q = (values : List Text) (how : Reading) → list_any (λ a. bytes_eq a.id id && fits a values how) c ≡ true → Q values how
-
-of_row : (c : List Rule) (id : Text) (Q : List Text → Reading → Type 0) → IsOf c id Q → (r : Row) → bytes_eq r.id id ≡ true → row_fits c r ≡ true → Q r.values r.reading
-of_row c id Q of r same fit =
-    of r.values r.reading (subst (λ t. list_any (λ a. bytes_eq a.id t && fits a r.values r.reading) c ≡ true) ((bytes_eq-Decides r.id id).0 same) fit)
-
-of_found : (c : List Rule) (id : Text) (Q : List Text → Reading → Type 0) (R : Option Row → Type 0) → IsOf c id Q → ((r : Row) → Q r.values r.reading → R (Some r))
-    → (rows : List Row) → (has_row id rows ≡ false → R None) → list_all (row_fits c) rows ≡ true → R (find (λ r. bytes_eq r.id id) rows)
-of_found c id Q R of some [] none all = none refl
-of_found c id Q R of some (r ∷ rows) none all =
-    let p = each_true _ _ all in
-    (elim (bytes_eq r.id id) as (λ b. bytes_eq r.id id ≡ b → ((b || has_row id rows) ≡ false → R None) → R (if b then Some r else find (λ r. bytes_eq r.id id) rows)) [
-      | true ↦ λ same n. some r (of_row c id Q of r same p.0)
-      | false ↦ λ same n. of_found c id Q R of some rows n p.1
-    ]) refl none
-
--- ---- numbers and lists
-
-abbrev read_text : List Text → Reading → Text
-read_text values how = unwrap_or (option_map (read_as how) (slice_get values 0)) []
-
-as_written : (how : Reading) (v : Text) (Q : Text → Type 0) → (reads_as_written how || false) ≡ true → Q v → Q (read_as how v)
-as_written AsWritten v Q e q = q
-as_written WithoutMinus v Q e q = cc
-as_written Boolish v Q e q = cc
-as_written Falsey v Q e q = cc
-
--- one value, of a number in a range, is read as written
-numeral : (a : Rule) (least most : ℕ) (values : List Text) (how : Reading) → (unwrap_or_range a.range).start_inclusive ≡ 1
-    → a.parser ≡ Some (Unsigned least most) → fits a values how ≡ true → IsUnsignedIn least most (read_text values how)
-numeral a least most [] how one parser e =
-    let p = each_true _ _ (each_true _ _ e).0 in
-    let bad : nat_le 1 0 ≡ true = subst (λ n. nat_le n 0 ≡ true) one p.0 in cc
-numeral a least most (v ∷ vs) how one parser e =
-    let p = each_true _ _ e in
-    let q = each_true _ _ (each_true _ _ p.0).1 in
-    let first : accepts a.ignore_case (parser_of_value a.parser) v ≡ true = (each_true _ _ q.1).0 in
-    let taken : accepts a.ignore_case (Unsigned least most) v ≡ true = ap (λ r. accepts a.ignore_case (parser_of_value r) v) (sym parser) ∙ first in
-    let plain : (reads_as_written how || not (reads_as_written (reading_of (parser_of_value a.parser)))) ≡ true = p.1 in
-    as_written how v (IsUnsignedIn least most)
-    (ap (λ r. reads_as_written how || not (reads_as_written (reading_of (parser_of_value r)))) (sym parser) ∙ plain)
-    (accepts-Accepts a.ignore_case (Unsigned least most) v taken)
-
-number_there : (c : List Rule) (id : Text) (least most : ℕ) (rows : List Row) → IsOf c id (λ values how. IsUnsignedIn least most (read_text values how))
-    → has_row id rows ≡ true → list_all (row_fits c) rows ≡ true → IsUnsignedIn least most (numeral_of id rows)
-number_there c id least most rows of has all =
-    of_found c id (λ values how. IsUnsignedIn least most (read_text values how)) (λ o. IsUnsignedIn least most (unwrap_or (option_and_then row_text o) []))
-    of (λ r q. q) rows (λ none. let bad : false ≡ true = sym none ∙ has in cc) all
-
-few_values : (c : List Rule) (id : Text) (most : ℕ) (rows : List Row) → IsOf c id (λ values how. length values ≤ most)
-    → list_all (row_fits c) rows ≡ true → length (values_of id rows) ≤ most
-few_values c id most rows of all =
-    of_found c id (λ values how. length values ≤ most) (λ o. length (unwrap_or (option_map (λ r. r.values) o) []) ≤ most)
-    of (λ r q. q) rows (λ none. omega arith) all
-
-at_most : (n most : ℕ) → nat_le n most ≡ true → n ≤ most
-at_most n most e = grind (arith, nat_tests)
-
-fits_most : (a : Rule) (values : List Text) (how : Reading) (most : ℕ) → most_values a ≡ most → fits a values how ≡ true → length values ≤ most
-fits_most a values how most is e =
-    let p : nat_le (length values) (most_values a) ≡ true = (each_true _ _ (each_true _ _ (each_true _ _ e).0).1).0 in
-    at_most (length values) most (subst (λ n. nat_le (length values) n ≡ true) is p)
-
--- ---- the levels of the subcommands
-
-valid_level : (s : Shape) (words : List Text) → level_passes s [] nothing_held words false ≡ true → is_valid s (rows_after s.rules [] words) false ≡ true
-valid_level s words e =
-    let end = (walk s.rules [] nothing_held words).held in
-    (each_true (list_all default_passes s.rules) _ (each_true (settle_passes s.rules s.args_override_self end) _
-    (each_true (walk_passes s [] (walk_from nothing_held) words) _ e).1).1).1
-
-or_other : (a b : Bool) → ((a && false) || b) ≡ true → b ≡ true
-or_other true b e = e
-or_other false b e = e
-
--- what is required was given
-all_given : (s : Shape) (rows : List Row) → is_valid s rows false ≡ true → list_all (λ a. not a.required || is_given a.id rows) s.rules ≡ true
-all_given s rows e =
-    or_other s.subcommand_negates_reqs _ (each_true (list_all (λ a. a.is_free) s.rules) _ (each_true (not s.subcommand_required || false) _
-    (each_true (not s.arg_required_else_help || (false || list_any (λ r. explicit_source r.source) rows)) _ e).1).1).1
-
-abbrev requires : Text → Rule → Bool
-requires id a = bytes_eq a.id id && a.required
-
-required_given : (id : Text) (c : List Rule) (rows : List Row) → list_any (requires id) c ≡ true → list_all (λ a. not a.required || is_given a.id rows) c ≡ true
-    → is_given id rows ≡ true
-required_given id [] rows any all = cc
-required_given id (a ∷ c) rows any all =
-    let p = each_true _ _ all in
-    (elim (requires id a) as (λ b. requires id a ≡ b → (b || list_any (requires id) c) ≡ true → is_given id rows ≡ true) [
-      | true ↦ λ is q.
-          let r = each_true _ _ is in
-          let given : is_given a.id rows ≡ true = ap (λ x. not x || is_given a.id rows) (sym r.1) ∙ p.0 in
-          ap (λ t. is_given t rows) (sym ((bytes_eq-Decides a.id id).0 r.0)) ∙ given
-      | false ↦ λ is q. required_given id c rows q p.1
-    ]) refl any
+pub record IsSound (named : Text × List Row) : Type 0 where
+  pub numbers : HasNumbers named
+  pub ranges : IsSomeAnd (command_by named) IsInRange
 
 -- a subcommand as it is built
 abbrev leaf : App → Shape
 leaf a = built_leaf (inherited (on_top with_leaf_noted (on_top marked_built jet_app)).top a.top)
 
-abbrev pub IsAskedInRange : Option Asked → Type 0
-IsAskedInRange None = Unit {0}
-IsAskedInRange (Some a) = IsInRange a
-
--- the numbers of a subcommand can be read, and what it asks for lies in its ranges
-pub record Sound (found : Option (Text × List Row)) : Type 0 where
-  pub numbers : HasNumbers found
-  pub ranges : IsAskedInRange (asked_by found)
-
-abbrev IsSoundLevel : Shape → Type 0
-IsSoundLevel s = (words : List Text) → level_passes s [] nothing_held words false ≡ true → Sound (Some (rows_at s words))
-
-wider : (least most : ℕ) (text : Text) → most ≤ 4294967295 → IsUnsignedIn least most text → IsUnsignedIn 0 4294967295 text
-wider least most text few is = (is.0, is.1, omega (arith, is.2), omega (arith, few, is.3))
-
-query_sound : IsSoundLevel (leaf query_app)
+query_sound : AtTaken IsSound (leaf query_app)
 query_sound words e = record { numbers = (λ bad. cc, λ bad. cc); ranges = tt }
 
-replay_sound : IsSoundLevel (leaf replay_app)
-replay_sound words e = record { numbers = (λ bad. cc, λ bad. cc); ranges = tt }
-
-output_sound : IsSoundLevel (leaf output_app)
-output_sound words e =
-    let s : Shape = leaf output_app in
-    let rows : List Row = rows_after s.rules [] words in
-    let all : list_all (row_fits s.rules) rows ≡ true = rows_fit s words false refl refl e in
-    let given : is_given (codes "C") rows ≡ true = required_given (codes "C") s.rules rows refl (all_given s rows (valid_level s words e)) in
-    let channel : IsUnsignedIn 0 15 (numeral_of (codes "C") rows) =
-    number_there s.rules (codes "C") 0 15 rows
-    (λ values how fit. numeral (with_index 3 (filled (number (codes "C") 0 15))) 0 15 values how refl refl (or_false _ false refl fit))
-    (given_there (codes "C") (λ r. explicit_source r.source) rows given) all in
-    record { numbers = (λ bad. cc, λ here. wider 0 15 (numeral_of (codes "C") rows) (omega arith) channel); ranges = channel.3 }
-
--- an option of a number in a range, which has a default
-option_there : (s : Shape) (id : Text) (a : Rule) (least most : ℕ) (words : List Text) → list_any (has_default id) s.rules ≡ true
-    → (unwrap_or_range a.range).start_inclusive ≡ 1 → a.parser ≡ Some (Unsigned least most)
-    → ((values : List Text) (how : Reading) → list_any (λ x. bytes_eq x.id id && fits x values how) s.rules ≡ true → fits a values how ≡ true)
-    → list_all (row_fits s.rules) (rows_after s.rules [] words) ≡ true → IsUnsignedIn least most (numeral_of id (rows_after s.rules [] words))
-option_there s id a least most words given one parser only all =
-    number_there s.rules id least most (rows_after s.rules [] words) (λ values how fit. numeral a least most values how one parser (only values how fit))
-    (defaulted id s.rules (settled s.rules (walk s.rules [] nothing_held words).held).rows given) all
-
-record_sound : IsSoundLevel (leaf record_app)
+record_sound : AtTaken IsSound (leaf record_app)
 record_sound words e =
-    let s : Shape = leaf record_app in
-    let rows : List Row = rows_after s.rules [] words in
-    let all : list_all (row_fits s.rules) rows ≡ true = rows_fit s words false refl refl e in
-    let pages : IsUnsignedIn 1 4096 (numeral_of (codes "pages") rows) =
-    option_there s (codes "pages") (filled (number_option (codes "pages") 1 4096 (codes "256"))) 1 4096 words refl refl refl
-    (λ values how fit. or_false _ false refl fit) all in
-    let piece : IsUnsignedIn 1 16777216 (numeral_of (codes "piece") rows) =
-    option_there s (codes "piece") (filled (number_option (codes "piece") 1 16777216 (codes "16777216"))) 1 16777216 words refl refl refl
-    (λ values how fit. or_false _ false refl fit) all in
-    let steps : IsUnsignedIn 1 4294967295 (numeral_of (codes "steps") rows) =
-    option_there s (codes "steps") (filled (number_option (codes "steps") 1 4294967295 (codes "4294967295"))) 1 4294967295 words refl refl refl
-    (λ values how fit. or_false _ false refl fit) all in
-    let inputs : length (values_of (codes "IN") rows) ≤ 16 =
-    few_values s.rules (codes "IN") 16 rows
-    (λ values how fit. fits_most (with_index 3 (filled (list (codes "IN") 16))) values how 16 refl (or_false _ false refl fit)) all in
+    let pages = option-in_range (leaf record_app) words refl e (codes "pages") _ 1 4096 refl refl refl refl refl in
+    let piece = option-in_range (leaf record_app) words refl e (codes "piece") _ 1 16777216 refl refl refl refl refl in
+    let steps = option-in_range (leaf record_app) words refl e (codes "steps") _ 1 4294967295 refl refl refl refl refl in
     record {
-      numbers = (
-        λ here. (
-          wider 1 4096 (numeral_of (codes "pages") rows) (omega arith) pages,
-          wider 1 16777216 (numeral_of (codes "piece") rows) (omega arith) piece,
-          wider 1 4294967295 (numeral_of (codes "steps") rows) (omega arith) steps,
-        ),
-        λ bad. cc,
+      numbers = (λ here. (pages.can_be_read, piece.can_be_read, steps.can_be_read), λ bad. cc);
+      ranges = (
+        list-length (leaf record_app) words refl e (codes "IN") _ 16 refl refl,
+        pages.at_least,
+        pages.at_most,
+        piece.at_least,
+        piece.at_most,
+        steps.at_least,
+        steps.at_most,
       );
-      ranges = (inputs, pages.2, pages.3, piece.2, piece.3, steps.2, steps.3);
     }
 
-help_sound : IsSoundLevel (built_leaf help_shape)
-help_sound words e = record { numbers = (λ bad. cc, λ bad. cc); ranges = tt }
+replay_sound : AtTaken IsSound (leaf replay_app)
+replay_sound words e = record { numbers = (λ bad. cc, λ bad. cc); ranges = tt }
 
-abbrev AllSound : List Shape → Type 0
-AllSound [] = Unit {0}
-AllSound (s ∷ subs) = IsSoundLevel s × AllSound subs
+output_sound : AtTaken IsSound (leaf output_app)
+output_sound words e =
+    let channel = number-in_range (leaf output_app) words refl e (codes "C") _ 0 15 refl refl refl refl refl in
+    record { numbers = (λ bad. cc, λ here. channel.can_be_read); ranges = channel.at_most }
 
-found_sound : (p : Shape → Bool) (words : List Text) (subs : List Shape) → AllSound subs
-    → option_map_or (λ s. level_passes s [] nothing_held words false) (find p subs) true ≡ true
-    → Sound (option_map (λ s. rows_at s words) (find p subs))
-found_sound p words [] all e = record { numbers = tt; ranges = tt }
-found_sound p words (s ∷ subs) all e =
-    (elim (p s) as (λ b. option_map_or (λ t. level_passes t [] nothing_held words false) (if b then Some s else find p subs) true ≡ true
-    → Sound (option_map (λ t. rows_at t words) (if b then Some s else find p subs))) [
-      | true ↦ λ q. all.0 words q
-      | false ↦ λ q. found_sound p words subs all.1 q
-    ]) e
-
-entered_sound : (a : App) (stop : Option (Text × List Text)) → AllSound a.subs → entered_passes a stop ≡ true → Sound (entered a stop)
-entered_sound a None all e = record { numbers = tt; ranges = tt }
-entered_sound a (Some p) all e = found_sound (λ s. answers_to p.0 (label_of s)) p.1 a.subs all e
-
-pub taken_sound : (words : List Text) → takes jet_app words ≡ true → Sound (subcommand_of jet_app words)
-taken_sound words e =
-    let stop = (walk (built jet_app).top.rules (names_of (built jet_app)) nothing_held (argument_words jet_app words)).stopped in
-    entered_sound (built jet_app) stop
-    (query_sound, (record_sound, (replay_sound, (output_sound, (help_sound, tt)))))
-    (each_true (entered_passes (built jet_app) stop) _ (each_true (is_simple jet_app) _ e).1).0
+-- the subcommand that the words name, where they are taken
+pub taken_sound : (words : List Text) → takes jet_app words ≡ true → IsSomeAnd (subcommand_of jet_app words) IsSound
+taken_sound words = at_subcommand IsSound jet_app words refl
+    (λ word named other. query_sound, (λ word named other. record_sound, (λ word named other. replay_sound, (λ word named other. output_sound, (help-not_named IsSound, tt)))))

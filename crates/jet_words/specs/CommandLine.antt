@@ -1,30 +1,8 @@
 -- The command line of the program, as a command of `clap`.
-use Rattle.std.specs.Prelude.{ℕ, true, [], ◌∷◌, Some, codes}
-use Rattle.clap.specs.Words.{App, Rule, Shape, Text, new_app, new_rule, with_rule, with_subcommand}
+use Rattle.std.specs.Prelude.{codes}
+use Rattle.clap.specs.Words.{App, Text, new_app, with_rule, with_subcommand}
 use Rattle.clap.specs.Simple.{on_top}
-use Rattle.clap.specs.declared.builder.ArgAction.TheVariants.{Set}
-use Rattle.clap.specs.declared.builder.value_parser.ValueParser.TheVariants.{Unsigned}
-
--- a word that has to be there
-abbrev pub positional : Text → Rule
-positional id = record (new_rule id) { action = Some Set; required = true }
-
--- a number in a range that has to be there
-abbrev pub number : Text → ℕ → ℕ → Rule
-number id least most = record (positional id) { parser = Some (Unsigned least most) }
-
--- words one after another: none, or up to `most`
-abbrev pub list : Text → ℕ → Rule
-list id most = record (new_rule id) { action = Some Set; range = Some (record { start_inclusive = 0; end_inclusive = most }) }
-
--- a number in a range, by the option's long name, or the default
-abbrev pub number_option : Text → ℕ → ℕ → Text → Rule
-number_option name least most default = record (new_rule name) {
-  long = Some name;
-  action = Some Set;
-  parser = Some (Unsigned least most);
-  defaults = default ∷ [];
-}
+use Rattle.clap_command.specs.Arguments.{positional, number, list, number_option, requires_subcommand}
 
 -- NAME PROG LOG
 abbrev pub program_and_log : Text → App
@@ -50,11 +28,10 @@ replay_app = program_and_log (codes "replay")
 abbrev pub output_app : App
 output_app = with_rule (program_and_log (codes "output")) (number (codes "C") 0 15)
 
-abbrev pub requires_subcommand : Shape → Shape
-requires_subcommand s = record s { subcommand_required = true }
-
 -- jet, with a subcommand that has to be there
+abbrev pub bare_app : App
+bare_app = on_top requires_subcommand (new_app (codes "jet"))
+
+-- jet SUBCOMMAND ..
 abbrev pub jet_app : App
-jet_app =
-    with_subcommand (with_subcommand (with_subcommand (with_subcommand (on_top requires_subcommand (new_app (codes "jet")))
-    query_app.top) record_app.top) replay_app.top) output_app.top
+jet_app = with_subcommand (with_subcommand (with_subcommand (with_subcommand bare_app query_app.top) record_app.top) replay_app.top) output_app.top

@@ -3,9 +3,9 @@
 ghost use Rattle.std.specs.Prelude.{◌≡◌, ◌↔◌, ℕ, List, None, false};
 ghost use Rattle.clap.specs.Words.{takes};
 ghost use Rattle.jet_words.specs.CommandLine.{jet_app};
-ghost use Rattle.jet_words.specs.Words.{asked};
+ghost use Rattle.jet_words.specs.Commands.{command_of};
 
-/// The words ask for nothing exactly where the command line doesn't take them.
-pub fn asks_where_taken()
-    ensures { (words : List (List ℕ)) → (asked words ≡ None) ↔ (takes jet_app words ≡ false) }
+/// The words stand for no command exactly where the command line doesn't take them.
+pub fn command_where_taken()
+    ensures { (words : List (List ℕ)) → (command_of words ≡ None) ↔ (takes jet_app words ≡ false) }
 {}

@@ -1,13 +1,19 @@
 //! The words of the program, read with `clap` as one simple command.
 //!
-//! The command line is a definition, `jet_app` of specs/CommandLine.antt; what words ask for is `asked` of
-//! specs/Words.antt. proofs/Examples.antt has worked examples, which the checker computes.
+//! The command line is a definition, `jet_app` of specs/CommandLine.antt; the command that words stand for is
+//! `command_of` of specs/Commands.antt. proofs/Examples.antt has worked examples, which the checker computes.
+//!
+//! A new subcommand has its arguments in specs/CommandLine.antt and src/command_line.rt, what it stands for in
+//! specs/Commands.antt, its reading in src/read.rt, and its line in proofs/Ranges.antt.
 #![tactic(auto)]
 
+mod command;
 mod command_line;
 pub mod laws;
+mod read;
 #[cfg(test)]
 mod tests;
-mod words;
 
-pub use words::{Command, WordsFault, read_words};
+pub use clap_command::WordsFault;
+pub use command::Command;
+pub use read::read_words;

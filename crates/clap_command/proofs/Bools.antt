@@ -1,0 +1,24 @@
+-- Tests joined by `&&` and `||`.
+use Rattle.std.proofs.Common.{◌≡◌, refl, true, false, Bool, not, ◌&&◌, ◌||◌}
+
+pub and_true : (a b : Bool) → a ≡ true → b ≡ true → (a && b) ≡ true
+and_true a b p q = rw (p, q) refl
+
+pub each_true : (a b : Bool) → (a && b) ≡ true → (a ≡ true) × (b ≡ true)
+each_true true b e = (refl, e)
+each_true false b e = cc
+
+pub left_true : (a b : Bool) → a ≡ true → (a || b) ≡ true
+left_true a b e = rw e refl
+
+pub right_true : (a b : Bool) → b ≡ true → (a || b) ≡ true
+right_true true b e = refl
+right_true false b e = e
+
+pub or_false : (a b : Bool) → b ≡ false → (a || b) ≡ true → a ≡ true
+or_false true b n e = refl
+or_false false b n e = cc
+
+pub is_false : (b : Bool) → not b ≡ true → b ≡ false
+is_false true e = cc
+is_false false e = refl

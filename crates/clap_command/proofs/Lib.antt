@@ -1,0 +1,7 @@
+mod Bools
+mod NoFault
+mod HelpRefused
+mod Fit
+mod ValueLemmas
+pub mod Rows
+pub mod Subcommands

@@ -1,0 +1,252 @@
+-- What the rows of a subcommand hold, where it takes the words: its numbers can be read and lie in their ranges, and its
+-- lists are no longer than they may be.
+-- Crates above cite these lemmas.
+use Rattle.std.proofs.Common.{◌≡◌, ◌∙◌, ◌≤◌, ap, sym, subst, refl, true, false, Bool, not, ◌&&◌, ◌||◌, ℕ, length, List, [], ◌∷◌, ◌++◌, Option, Some, None, filter, option_map, option_and_then, unwrap_or, if◌then◌else◌, nat_le, slice_get, arith}
+use Rattle.std.specs.List.{list_all, list_any, find, fold}
+use Rattle.std.specs.Option.{option_map_or}
+use Rattle.std.specs.Str.{bytes_eq}
+use Rattle.std.proofs.lemmas.Bool.Decides.{nat_tests}
+use Rattle.std.proofs.lemmas.Slice.Eq.{bytes_eq-Decides}
+use Rattle.clap.specs.Words.{IsUnsignedIn, Row, Text, read_as}
+use Rattle.clap.specs.Facts.{explicit_source, parser_of_value, unwrap_or_range}
+use Rattle.clap.specs.Values.{reading_of}
+use Rattle.clap.specs.ValueTests.{accepts}
+use Rattle.clap.specs.Walk.{Rule, default_rows, has_row, more_values, most_values, nothing_held, reading_by, row_text, rows_after, settled, walk, walk_from, with_default}
+use Rattle.clap.specs.Simple.{Shape}
+use Rattle.clap.specs.Takes.{default_passes, is_given, is_valid, level_passes, settle_passes, walk_passes}
+use Rattle.clap.specs.declared.builder.value_parser.Reading.{Reading}
+use Rattle.clap.specs.declared.builder.value_parser.Reading.TheVariants.{AsWritten, WithoutMinus, Boolish, Falsey}
+use Rattle.clap.specs.declared.builder.value_parser.ValueParser.TheVariants.{Unsigned}
+use Rattle.clap.specs.declared.parser.matches.ValueSource.TheVariants.{DefaultValue}
+use Rattle.clap.proofs.ValueTestLemmas.{accepts-Accepts}
+use Rattle.clap_command.specs.Values.{numeral_of, number_of, values_of}
+use Rattle.clap_command.specs.Numbers.{IsNumber}
+use Rattle.clap_command.specs.Plain.{is_plain_subcommand, no_values}
+use Rattle.clap_command.proofs.Bools.{each_true, is_false, left_true, or_false, right_true}
+use Rattle.clap_command.proofs.Fit.{at_new_row, fits, reads_as_written, row_fits, rows_fit, text_is_itself}
+
+-- ---- which rows are there
+
+any_more : (p : Row → Bool) (rows more : List Row) → list_any p more ≡ true → list_any p (rows ++ more) ≡ true
+any_more p [] more e = e
+any_more p (r ∷ rows) more e = right_true (p r) _ (any_more p rows more e)
+
+any_before : (p : Row → Bool) (rows more : List Row) → list_any p rows ≡ true → list_any p (rows ++ more) ≡ true
+any_before p [] more e = cc
+any_before p (r ∷ rows) more e =
+    (elim (p r) as (λ b. (b || list_any p rows) ≡ true → (b || list_any p (rows ++ more)) ≡ true) [
+      | true ↦ λ q. refl
+      | false ↦ λ q. any_before p rows more q
+    ]) e
+
+default_there : (id : Text) (a : Rule) (values : List Text) (rows : List Row) → has_row a.id rows ≡ false → no_values values ≡ false → a.id ≡ id
+    → has_row id (default_rows a.id (reading_by a) values rows) ≡ true
+default_there id a [] rows none given same = cc
+default_there id a (v ∷ vs) rows none given same =
+    ap (has_row id) (at_new_row a.id (more_values DefaultValue (v ∷ vs)) _ rows none)
+    ∙ any_more (λ r. bytes_eq r.id id) rows _ (left_true _ false (ap (λ t. bytes_eq t id) same ∙ text_is_itself id))
+
+default_stays : (id : Text) (a : Rule) (values : List Text) (rows : List Row) → has_row a.id rows ≡ false → has_row id rows ≡ true
+    → has_row id (default_rows a.id (reading_by a) values rows) ≡ true
+default_stays id a [] rows none has = has
+default_stays id a (v ∷ vs) rows none has =
+    ap (has_row id) (at_new_row a.id (more_values DefaultValue (v ∷ vs)) _ rows none) ∙ any_before (λ r. bytes_eq r.id id) rows _ has
+
+stays : (id : Text) (a : Rule) (rows : List Row) → has_row id rows ≡ true → has_row id (with_default rows a) ≡ true
+stays id a rows has =
+    (elim (has_row a.id rows) as (λ b. has_row a.id rows ≡ b → has_row id (if b then rows else default_rows a.id (reading_by a) a.defaults rows) ≡ true) [
+      | true ↦ λ e. has
+      | false ↦ λ e. default_stays id a a.defaults rows e has
+    ]) refl
+
+all_stay : (id : Text) (d : List Rule) (rows : List Row) → has_row id rows ≡ true → has_row id (fold with_default rows d) ≡ true
+all_stay id [] rows has = has
+all_stay id (a ∷ d) rows has = all_stay id d (with_default rows a) (stays id a rows has)
+
+comes : (id : Text) (a : Rule) (rows : List Row) → a.id ≡ id → no_values a.defaults ≡ false → has_row id (with_default rows a) ≡ true
+comes id a rows same given =
+    (elim (has_row a.id rows) as (λ b. has_row a.id rows ≡ b → has_row id (if b then rows else default_rows a.id (reading_by a) a.defaults rows) ≡ true) [
+      | true ↦ λ e. ap (λ t. has_row t rows) (sym same) ∙ e
+      | false ↦ λ e. default_there id a a.defaults rows e given same
+    ]) refl
+
+-- an argument with a default has a row
+abbrev has_default : Text → Rule → Bool
+has_default id a = bytes_eq a.id id && not (no_values a.defaults)
+
+defaulted : (id : Text) (d : List Rule) (rows : List Row) → list_any (has_default id) d ≡ true → has_row id (fold with_default rows d) ≡ true
+defaulted id [] rows e = cc
+defaulted id (a ∷ d) rows e =
+    (elim (has_default id a) as (λ b. has_default id a ≡ b → (b || list_any (has_default id) d) ≡ true → has_row id (fold with_default (with_default rows a) d) ≡ true) [
+      | true ↦ λ is q. let p = each_true _ _ is in all_stay id d _ (comes id a rows ((bytes_eq-Decides a.id id).0 p.0) (is_false _ p.1))
+      | false ↦ λ is q. defaulted id d (with_default rows a) q
+    ]) refl e
+
+-- an argument that was given has a row
+given_there : (id : Text) (f : Row → Bool) (rows : List Row) → option_map_or f (find (λ r. bytes_eq r.id id) rows) false ≡ true → has_row id rows ≡ true
+given_there id f [] e = cc
+given_there id f (r ∷ rows) e =
+    (elim (bytes_eq r.id id) as (λ b. option_map_or f (if b then Some r else find (λ r. bytes_eq r.id id) rows) false ≡ true → (b || has_row id rows) ≡ true) [
+      | true ↦ λ q. refl
+      | false ↦ λ q. given_there id f rows q
+    ]) e
+
+-- ---- what a row of an id holds
+
+-- each row of the id has this property, where all rows fit
+abbrev IsOf : List Rule → Text → (List Text → Reading → Type 0) → Type 0
+IsOf c id Q = (values : List Text) (how : Reading) → list_any (λ a. bytes_eq a.id id && fits a values how) c ≡ true → Q values how
+
+of_row : (c : List Rule) (id : Text) (Q : List Text → Reading → Type 0) → IsOf c id Q → (r : Row) → bytes_eq r.id id ≡ true → row_fits c r ≡ true → Q r.values r.reading
+of_row c id Q of r same fit =
+    of r.values r.reading (subst (λ t. list_any (λ a. bytes_eq a.id t && fits a r.values r.reading) c ≡ true) ((bytes_eq-Decides r.id id).0 same) fit)
+
+of_found : (c : List Rule) (id : Text) (Q : List Text → Reading → Type 0) (R : Option Row → Type 0) → IsOf c id Q → ((r : Row) → Q r.values r.reading → R (Some r))
+    → (rows : List Row) → (has_row id rows ≡ false → R None) → list_all (row_fits c) rows ≡ true → R (find (λ r. bytes_eq r.id id) rows)
+of_found c id Q R of some [] none all = none refl
+of_found c id Q R of some (r ∷ rows) none all =
+    let p = each_true _ _ all in
+    (elim (bytes_eq r.id id) as (λ b. bytes_eq r.id id ≡ b → ((b || has_row id rows) ≡ false → R None) → R (if b then Some r else find (λ r. bytes_eq r.id id) rows)) [
+      | true ↦ λ same n. some r (of_row c id Q of r same p.0)
+      | false ↦ λ same n. of_found c id Q R of some rows n p.1
+    ]) refl none
+
+-- ---- numbers and lists
+
+abbrev read_text : List Text → Reading → Text
+read_text values how = unwrap_or (option_map (read_as how) (slice_get values 0)) []
+
+as_written : (how : Reading) (v : Text) (Q : Text → Type 0) → (reads_as_written how || false) ≡ true → Q v → Q (read_as how v)
+as_written AsWritten v Q e q = q
+as_written WithoutMinus v Q e q = cc
+as_written Boolish v Q e q = cc
+as_written Falsey v Q e q = cc
+
+-- one value, of a number in a range, is read as written
+numeral : (a : Rule) (least most : ℕ) (values : List Text) (how : Reading) → (unwrap_or_range a.range).start_inclusive ≡ 1
+    → a.parser ≡ Some (Unsigned least most) → fits a values how ≡ true → IsUnsignedIn least most (read_text values how)
+numeral a least most [] how one parser e =
+    let p = each_true _ _ (each_true _ _ e).0 in
+    let bad : nat_le 1 0 ≡ true = subst (λ n. nat_le n 0 ≡ true) one p.0 in cc
+numeral a least most (v ∷ vs) how one parser e =
+    let p = each_true _ _ e in
+    let q = each_true _ _ (each_true _ _ p.0).1 in
+    let first : accepts a.ignore_case (parser_of_value a.parser) v ≡ true = (each_true _ _ q.1).0 in
+    let taken : accepts a.ignore_case (Unsigned least most) v ≡ true = ap (λ r. accepts a.ignore_case (parser_of_value r) v) (sym parser) ∙ first in
+    let plain : (reads_as_written how || not (reads_as_written (reading_of (parser_of_value a.parser)))) ≡ true = p.1 in
+    as_written how v (IsUnsignedIn least most)
+    (ap (λ r. reads_as_written how || not (reads_as_written (reading_of (parser_of_value r)))) (sym parser) ∙ plain)
+    (accepts-Accepts a.ignore_case (Unsigned least most) v taken)
+
+number_there : (c : List Rule) (id : Text) (least most : ℕ) (rows : List Row) → IsOf c id (λ values how. IsUnsignedIn least most (read_text values how))
+    → has_row id rows ≡ true → list_all (row_fits c) rows ≡ true → IsUnsignedIn least most (numeral_of id rows)
+number_there c id least most rows of has all =
+    of_found c id (λ values how. IsUnsignedIn least most (read_text values how)) (λ o. IsUnsignedIn least most (unwrap_or (option_and_then row_text o) []))
+    of (λ r q. q) rows (λ none. let bad : false ≡ true = sym none ∙ has in cc) all
+
+few_values : (c : List Rule) (id : Text) (most : ℕ) (rows : List Row) → IsOf c id (λ values how. length values ≤ most)
+    → list_all (row_fits c) rows ≡ true → length (values_of id rows) ≤ most
+few_values c id most rows of all =
+    of_found c id (λ values how. length values ≤ most) (λ o. length (unwrap_or (option_map (λ r. r.values) o) []) ≤ most)
+    of (λ r q. q) rows (λ none. omega arith) all
+
+below : (n most : ℕ) → nat_le n most ≡ true → n ≤ most
+below n most e = grind (arith, nat_tests)
+
+fits_most : (a : Rule) (values : List Text) (how : Reading) (most : ℕ) → most_values a ≡ most → fits a values how ≡ true → length values ≤ most
+fits_most a values how most is e =
+    let p : nat_le (length values) (most_values a) ≡ true = (each_true _ _ (each_true _ _ (each_true _ _ e).0).1).0 in
+    below (length values) most (subst (λ n. nat_le (length values) n ≡ true) is p)
+
+-- ---- what is required
+
+valid_level : (s : Shape) (words : List Text) → level_passes s [] nothing_held words false ≡ true → is_valid s (rows_after s.rules [] words) false ≡ true
+valid_level s words e =
+    let end = (walk s.rules [] nothing_held words).held in
+    (each_true (list_all default_passes s.rules) _ (each_true (settle_passes s.rules s.args_override_self end) _
+    (each_true (walk_passes s [] (walk_from nothing_held) words) _ e).1).1).1
+
+or_other : (a b : Bool) → ((a && false) || b) ≡ true → b ≡ true
+or_other true b e = e
+or_other false b e = e
+
+-- what is required was given
+all_given : (s : Shape) (rows : List Row) → is_valid s rows false ≡ true → list_all (λ a. not a.required || is_given a.id rows) s.rules ≡ true
+all_given s rows e =
+    or_other s.subcommand_negates_reqs _ (each_true (list_all (λ a. a.is_free) s.rules) _ (each_true (not s.subcommand_required || false) _
+    (each_true (not s.arg_required_else_help || (false || list_any (λ r. explicit_source r.source) rows)) _ e).1).1).1
+
+abbrev requires : Text → Rule → Bool
+requires id a = bytes_eq a.id id && a.required
+
+required_given : (id : Text) (c : List Rule) (rows : List Row) → list_any (requires id) c ≡ true → list_all (λ a. not a.required || is_given a.id rows) c ≡ true
+    → is_given id rows ≡ true
+required_given id [] rows any all = cc
+required_given id (a ∷ c) rows any all =
+    let p = each_true _ _ all in
+    (elim (requires id a) as (λ b. requires id a ≡ b → (b || list_any (requires id) c) ≡ true → is_given id rows ≡ true) [
+      | true ↦ λ is q.
+          let r = each_true _ _ is in
+          let given : is_given a.id rows ≡ true = ap (λ x. not x || is_given a.id rows) (sym r.1) ∙ p.0 in
+          ap (λ t. is_given t rows) (sym ((bytes_eq-Decides a.id id).0 r.0)) ∙ given
+      | false ↦ λ is q. required_given id c rows q p.1
+    ]) refl any
+
+-- ---- one argument
+
+-- the one rule of this id
+abbrev pub Only : List Rule → Text → Rule → Type 0
+Only c id a = filter (λ x. bytes_eq x.id id) c ≡ a ∷ []
+
+any-of_id : (p : Rule → Bool) (id : Text) (c : List Rule) → list_any (λ x. bytes_eq x.id id && p x) c ≡ list_any p (filter (λ x. bytes_eq x.id id) c)
+any-of_id p id [] = refl
+any-of_id p id (x ∷ c) =
+    elim (bytes_eq x.id id) as (λ b. ((b && p x) || list_any (λ y. bytes_eq y.id id && p y) c) ≡ list_any p (if b then x ∷ filter (λ y. bytes_eq y.id id) c else filter (λ y. bytes_eq y.id id) c)) [
+      | true ↦ ap (λ r. p x || r) (any-of_id p id c)
+      | false ↦ any-of_id p id c
+    ]
+
+only_has : (p : Rule → Bool) (c : List Rule) (id : Text) (a : Rule) → Only c id a → p a ≡ true → list_any (λ x. bytes_eq x.id id && p x) c ≡ true
+only_has p c id a only has = any-of_id p id c ∙ ap (list_any p) only ∙ left_true (p a) false has
+
+has_only : (p : Rule → Bool) (c : List Rule) (id : Text) (a : Rule) → Only c id a → list_any (λ x. bytes_eq x.id id && p x) c ≡ true → p a ≡ true
+has_only p c id a only any = or_false (p a) false refl (sym (ap (list_any p) only) ∙ sym (any-of_id p id c) ∙ any)
+
+-- the argument is a number in this range, which can be read
+pub record IsNumberIn (least most : ℕ) (id : Text) (rows : List Row) : Type 0 where
+  pub can_be_read : IsNumber id rows
+  pub at_least : least ≤ number_of id rows
+  pub at_most : number_of id rows ≤ most
+
+number_in : (least most : ℕ) (id : Text) (rows : List Row) → nat_le most 4294967295 ≡ true → IsUnsignedIn least most (numeral_of id rows) → IsNumberIn least most id rows
+number_in least most id rows small is =
+    let few : most ≤ 4294967295 = below most 4294967295 small in
+    record { can_be_read = (is.0, is.1, omega arith, omega (arith, few, is.3)); at_least = is.2; at_most = is.3 }
+
+-- of a subcommand that takes the words
+module _ (s : Shape) (words : List Text) (plain : is_plain_subcommand s ≡ true) (passes : level_passes s [] nothing_held words false ≡ true) where
+  abbrev rows : List Row
+  rows = rows_after s.rules [] words
+
+  all_fit : list_all (row_fits s.rules) rows ≡ true
+  all_fit = let p = each_true _ _ plain in rows_fit s words false p.0 (is_false _ p.1) passes
+
+  -- an argument that has to be there
+  pub number-in_range : (id : Text) (a : Rule) (least most : ℕ) → Only s.rules id a → a.required ≡ true → (unwrap_or_range a.range).start_inclusive ≡ 1
+      → a.parser ≡ Some (Unsigned least most) → nat_le most 4294967295 ≡ true → IsNumberIn least most id rows
+  number-in_range id a least most only required one parser small =
+      let given : is_given id rows ≡ true = required_given id s.rules rows (only_has (λ x. x.required) s.rules id a only required) (all_given s rows (valid_level s words passes)) in
+      number_in least most id rows small
+      (number_there s.rules id least most rows (λ values how fit. numeral a least most values how one parser (has_only (λ x. fits x values how) s.rules id a only fit))
+      (given_there id (λ r. explicit_source r.source) rows given) all_fit)
+
+  -- an option with a default
+  pub option-in_range : (id : Text) (a : Rule) (least most : ℕ) → Only s.rules id a → no_values a.defaults ≡ false → (unwrap_or_range a.range).start_inclusive ≡ 1
+      → a.parser ≡ Some (Unsigned least most) → nat_le most 4294967295 ≡ true → IsNumberIn least most id rows
+  option-in_range id a least most only given one parser small =
+      number_in least most id rows small
+      (number_there s.rules id least most rows (λ values how fit. numeral a least most values how one parser (has_only (λ x. fits x values how) s.rules id a only fit))
+      (defaulted id s.rules (settled s.rules (walk s.rules [] nothing_held words).held).rows (only_has (λ x. not (no_values x.defaults)) s.rules id a only (ap not given))) all_fit)
+
+  pub list-length : (id : Text) (a : Rule) (most : ℕ) → Only s.rules id a → most_values a ≡ most → length (values_of id rows) ≤ most
+  list-length id a most only is = few_values s.rules id most rows (λ values how fit. fits_most a values how most is (has_only (λ x. fits x values how) s.rules id a only fit)) all_fit

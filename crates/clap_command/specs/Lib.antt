@@ -1,0 +1,4 @@
+pub mod Arguments
+pub mod Values
+pub mod Numbers
+pub mod Plain

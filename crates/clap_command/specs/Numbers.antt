@@ -1,0 +1,8 @@
+-- What the code rests on where it reads a number. No meaning of words rests on it.
+use Rattle.std.specs.Prelude.{List}
+use Rattle.clap.specs.Words.{IsUnsignedIn, Row, Text}
+use Rattle.clap_command.specs.Values.{numeral_of}
+
+-- the value of an argument is a numeral of a `u32`
+abbrev pub IsNumber : Text → List Row → Type 0
+IsNumber id rows = IsUnsignedIn 0 4294967295 (numeral_of id rows)

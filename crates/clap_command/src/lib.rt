@@ -1,0 +1,17 @@
+//! Command lines of one command with subcommands, read with `clap`: their arguments are words, lists of words and
+//! numbers in a range.
+//!
+//! The arguments are definitions, of specs/Arguments.antt, and so are their values, of specs/Values.antt. A crate above
+//! names its command line by them, shows by `is_plain_command` of specs/Plain.antt that it is one of these, and learns
+//! by proofs/Subcommands.antt and proofs/Rows.antt what holds of the words that it takes.
+#![tactic(auto)]
+
+mod arguments;
+mod fault;
+mod parsing;
+mod values;
+
+pub use arguments::{list, number, number_option, positional, with_argument, with_command};
+pub use fault::WordsFault;
+pub use parsing::parse;
+pub use values::{read_number, read_value, read_values};

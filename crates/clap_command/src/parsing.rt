@@ -1,0 +1,35 @@
+//! Words as a command takes them.
+ghost use Rattle.std.specs.Prelude.{◌≡◌, map, string_bytes, true, false, OnOk, IfOk, IfErr, IsErrOf};
+ghost use Rattle.clap.specs.Words.{app_of, takes, subcommand_of, subcommand_rows_of, kind_of};
+ghost use Rattle.clap_command.specs.Plain.{is_plain_command};
+
+use crate::fault::WordsFault;
+use clap::error::ErrorKind;
+use clap::{ArgMatches, Command, Error};
+
+// The words as `clap` takes them.
+fn try_parse<'a>(command: Command<'a>, words: &'a [String]) -> Result<ArgMatches<'a>, Error>
+    requires { is_plain_command (app_of command) ≡ true }
+    ensures taken { OnOk result (takes (app_of command.entry) (map string_bytes words.entry.now) ≡ true) }
+    ensures memory { IfErr result (λ e. takes (app_of command.entry) (map string_bytes words.entry.now) ≡ true → kind_of e ≡ ErrorKind.OutOfMemory) }
+    ensures subcommand { IfOk result (λ m. subcommand_rows_of m ≡ subcommand_of (app_of command.entry) (map string_bytes words.entry.now)) }
+{
+    command.try_get_matches_from(words)
+}
+
+/// The words as the command takes them; the first word is the program's name. It is `Usage` exactly where the command
+/// doesn't take the words, out of memory aside.
+pub fn parse<'a>(command: Command<'a>, words: &'a [String]) -> Result<ArgMatches<'a>, WordsFault>
+    requires { is_plain_command (app_of command) ≡ true }
+    ensures taken { OnOk result (takes (app_of command.entry) (map string_bytes words.entry.now) ≡ true) }
+    ensures usage { IsErrOf result WordsFault.Usage → takes (app_of command.entry) (map string_bytes words.entry.now) ≡ false }
+    ensures subcommand { IfOk result (λ m. subcommand_rows_of m ≡ subcommand_of (app_of command.entry) (map string_bytes words.entry.now)) }
+{
+    match try_parse(command, words) {
+        Ok(matches) => Ok(matches),
+        Err(error) => match error.kind() {
+            ErrorKind::OutOfMemory => Err(WordsFault::NoMemory),
+            _ => Err(WordsFault::Usage),
+        },
+    }
+}

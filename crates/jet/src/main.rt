@@ -1,0 +1,48 @@
+//! `jet` answers, of a recorded run, from which input bytes each output byte came.
+//!
+//! What each status says is told by the definitions of specs/Statuses.antt, which the contract of `jet` cites.
+#![tactic(auto)]
+
+mod laws;
+mod run;
+#[cfg(test)]
+mod tests;
+
+use jet_cli::conclude;
+use jet_refusal::Refusal;
+use outer_io::{FileStore, MachineClock, OpenGate, OutSink};
+use run::jet;
+use std::env;
+use std::io::ErrorKind;
+use std::process::ExitCode;
+
+/// The words of the command line, of which the first is the program's name. A word that isn't UTF-8 is no word of a
+/// command.
+fn words_of(rt: HostRuntime) -> Result<Vec<String>, Refusal> {
+    let args = match env::args(&rt) {
+        Ok(args) => args,
+        Err(error) if error.kind() == ErrorKind::OutOfMemory => return Err(Refusal::NoMemory),
+        Err(_) => return Err(Refusal::Usage),
+    };
+    let words: Result<Vec<String>, _> = args.collect(rt.alloc());
+    match words {
+        Ok(words) => Ok(words),
+        Err(_) => Err(Refusal::NoMemory),
+    }
+}
+
+/// Makes the real outside, calls `jet` and ends with its status.
+fn main(rt: HostRuntime) -> ExitCode {
+    let mut err = OutSink::new(rt.stderr());
+    let words = match words_of(rt) {
+        Ok(words) => words,
+        Err(refusal) => return ExitCode::from(conclude(&mut err, Err(refusal))),
+    };
+    let mut store = FileStore::new(rt);
+    let mut out = OutSink::new(rt.stdout());
+    let mut clock = MachineClock::new(rt);
+    let status = jet(
+        &rt, &words, &mut store, &mut out, &mut err, &mut clock, &OpenGate,
+    );
+    ExitCode::from(status)
+}

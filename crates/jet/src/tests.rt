@@ -1,0 +1,409 @@
+//! Commands over files in memory, from their words to what they write.
+
+mod guests;
+mod outside;
+mod record;
+mod refusals;
+mod runs;
+
+use crate::run::jet;
+use guest_assembler::{Instr, code, program};
+use guests::{
+    ADD_WORDS, COPY_FOUR, Guest, LESS_THAN, LOAD_SIGNED, LOAD_UNSIGNED, OVERWRITE, UNALIGNED,
+    XOR_WORDS,
+};
+use outer_io::{ListClock, MemoryFile, MemorySink, MemoryStore, OpenGate, Sink, Store};
+use sha2::{Digest, Sha256};
+use std::alloc::{AllocError, Global};
+use std::process::Abort;
+use std::test::Fail;
+
+const COPY: &str = "rule copy\nsource all\nsink all\n";
+
+const COMPUTE: &str = "rule compute\nsource all\nsink all\n";
+
+/// The report of the four-byte copy.
+const COPIED: &str = "1:0 0:0\n1:1 0:1\n1:2 0:2\n1:3 0:3\nend 4\n";
+
+/// The words of a query.
+const QUERY: &str = "jet query prog log query";
+
+/// The time that the clock tells.
+const TIME: u64 = 0x1_0000_0002;
+
+/// The address that code is loaded at.
+const BASE: u32 = 0x10000;
+
+fn push_words(out: &mut Vec<u8>, words: &[u32]) -> Result<(), AllocError> {
+    for word in words {
+        out.extend_from_slice(&word.to_le_bytes())?;
+    }
+    Ok(())
+}
+
+/// An instruction that no word stands for: its file has a word that traps.
+const NO_INSTRUCTION: Instr = Instr::Addi {
+    rd: 0,
+    rs1: 0,
+    imm: 5000,
+};
+
+/// A log's header and these records.
+fn log(
+    alloc: Global,
+    program: &[u8],
+    pages: u32,
+    inputs: u32,
+    records: &[u8],
+) -> Result<Vec<u8>, AllocError> {
+    let mut out = Vec::new(alloc);
+    out.extend_from_slice(b"JETLOG1\n")?;
+    out.extend_from_slice(&Sha256::digest(program))?;
+    push_words(&mut out, [pages, inputs].as_slice())?;
+    out.extend_from_slice(records)?;
+    Ok(out)
+}
+
+/// The record of a read (tag 1) or a write (tag 2).
+fn push_transfer(
+    out: &mut Vec<u8>,
+    tag: u8,
+    at: u32,
+    args: [u32; 3],
+    bytes: &[u8],
+) -> Result<(), AllocError> {
+    out.push(tag)?;
+    let [channel, address, asked] = args;
+    let length = u32::try_from(bytes.len()).unwrap_or(0);
+    push_words(out, [at, channel, address, asked, length].as_slice())?;
+    out.extend_from_slice(bytes)
+}
+
+/// The records of a guest's run, with these bytes written.
+fn records(alloc: Global, guest: &Guest, written: &[u8]) -> Result<Vec<u8>, AllocError> {
+    let mut out = Vec::new(alloc);
+    let (read, write) = (&guest.read, &guest.write);
+    push_transfer(&mut out, 1, read.at, [0, 0x10100, read.asked], read.bytes)?;
+    push_transfer(&mut out, 2, write.at, [1, 0x10100, write.asked], written)?;
+    out.push(5)?;
+    push_words(&mut out, [guest.exit, 0].as_slice())?;
+    Ok(out)
+}
+
+/// A record of a log, or its end. All transfers are with the buffer at 0x10100.
+#[derive(Clone, Copy)]
+enum Entry {
+    /// The step, the channel, the length asked for, and the bytes.
+    Read(u32, u32, u32, &'static [u8]),
+    Write(u32, u32, u32, &'static [u8]),
+    /// The tag, the step, the channel and the length of a read or a write that failed with -9.
+    Refused(u8, u32, u32, u32),
+    /// The step, and the time that was told.
+    Time(u32, u64),
+    /// The step and the code.
+    Exit(u32, u32),
+    /// The step, the kind and the pc.
+    Trap(u32, u32, u32),
+    /// The number of steps.
+    Limit(u32),
+}
+
+fn push_entry(out: &mut Vec<u8>, entry: Entry) -> Result<(), AllocError> {
+    match entry {
+        Entry::Read(at, channel, asked, bytes) => {
+            push_transfer(out, 1, at, [channel, 0x10100, asked], bytes)
+        }
+        Entry::Write(at, channel, asked, bytes) => {
+            push_transfer(out, 2, at, [channel, 0x10100, asked], bytes)
+        }
+        Entry::Refused(tag, at, channel, asked) => {
+            out.push(tag)?;
+            push_words(out, [at, channel, 0x10100, asked, 0xffff_fff7].as_slice())
+        }
+        Entry::Time(at, time) => {
+            out.push(3)?;
+            push_words(out, [at].as_slice())?;
+            out.extend_from_slice(&time.to_le_bytes())
+        }
+        Entry::Exit(at, code) => {
+            out.push(5)?;
+            push_words(out, [at, code].as_slice())
+        }
+        Entry::Trap(at, kind, pc) => {
+            out.push(6)?;
+            push_words(out, [at, kind, pc].as_slice())
+        }
+        Entry::Limit(at) => {
+            out.push(7)?;
+            push_words(out, [at].as_slice())
+        }
+    }
+}
+
+/// A log of these records.
+fn log_of(
+    alloc: Global,
+    program: &[u8],
+    pages: u32,
+    inputs: u32,
+    entries: &[Entry],
+) -> Result<Vec<u8>, AllocError> {
+    let mut records = Vec::new(alloc);
+    for entry in entries {
+        push_entry(&mut records, *entry)?;
+    }
+    log(alloc, program, pages, inputs, &records)
+}
+
+/// Bytes that are put in place of those at an offset.
+type Patch = (usize, &'static [u8]);
+
+/// The bytes, with others from an offset on.
+fn patched(alloc: Global, bytes: &[u8], patch: Patch) -> Result<Vec<u8>, AllocError> {
+    let mut changed = bytes.to_vec(alloc)?;
+    let (offset, patch) = patch;
+    for (i, byte) in patch.iter().enumerate() {
+        let place = offset.wrapping_add(i);
+        if place < changed.len() {
+            changed[place] = *byte;
+        }
+    }
+    Ok(changed)
+}
+
+/// Adds a file.
+fn push_file(files: &mut Vec<MemoryFile>, name: &str, bytes: &[u8]) -> Result<(), AllocError> {
+    let alloc = *files.allocator();
+    files.push(MemoryFile {
+        name: String::from_str(alloc, name)?,
+        bytes: bytes.to_vec(alloc)?,
+    })?;
+    Ok(())
+}
+
+/// The files `prog`, `log` and `query`.
+fn files(
+    alloc: Global,
+    program: &[u8],
+    log: &[u8],
+    query: &[u8],
+) -> Result<Vec<MemoryFile>, AllocError> {
+    let mut files = Vec::new(alloc);
+    push_file(&mut files, "prog", program)?;
+    push_file(&mut files, "log", log)?;
+    push_file(&mut files, "query", query)?;
+    Ok(files)
+}
+
+/// The words of a line.
+fn words(alloc: Global, line: &str) -> Result<Vec<String>, AllocError> {
+    let mut words = Vec::new(alloc);
+    for word in line.split(' ') {
+        words.push(String::from_str(alloc, word)?)?;
+    }
+    Ok(words)
+}
+
+/// How a command ended: the status, and what it wrote to the two outputs.
+#[derive(Clone, Copy)]
+struct Ending<'a> {
+    status: u8,
+    out: &'a str,
+    err: &'a str,
+}
+
+impl Ending<'_> {
+    /// This was written.
+    fn report(out: &str) -> Ending<'_> {
+        Ending {
+            status: 0,
+            out,
+            err: "",
+        }
+    }
+
+    /// The command was refused with this line.
+    fn refusal(status: u8, err: &str) -> Ending<'_> {
+        Ending {
+            status,
+            out: "",
+            err,
+        }
+    }
+}
+
+/// The status of the command of these words.
+fn status_of<R: AllocGlobal, S: Store, O: Sink, E: Sink>(
+    rt: &R,
+    line: &str,
+    store: &mut S,
+    out: &mut O,
+    err: &mut E,
+) -> Result<u8, AllocError> {
+    let alloc = rt.alloc();
+    let words = words(alloc, line)?;
+    let mut clock = ListClock::new(alloc, [TIME].as_slice())?;
+    Ok(jet(rt, &words, store, out, err, &mut clock, &OpenGate))
+}
+
+/// The command of these words ends so over this store.
+fn assert_ends<R: AllocGlobal + Abort, S: Store>(
+    rt: &R,
+    line: &str,
+    store: &mut S,
+    ending: Ending<'_>,
+) -> Result<(), Fail> {
+    let alloc = rt.alloc();
+    let mut out = MemorySink::new(alloc, Vec::new(alloc), 65536, 70000)?;
+    let mut err = MemorySink::new(alloc, Vec::new(alloc), 65536, 256)?;
+    let status = status_of(rt, line, store, &mut out, &mut err)?;
+    assert_eq!(rt; status, ending.status, "{line}");
+    assert_eq!(rt; out.bytes(), ending.out.as_bytes());
+    assert_eq!(rt; err.bytes(), ending.err.as_bytes());
+    Ok(())
+}
+
+/// The command of these words ends so over these files.
+fn assert_command<R: AllocGlobal + Abort>(
+    rt: &R,
+    line: &str,
+    program: &[u8],
+    log: &[u8],
+    query: &[u8],
+    ending: Ending<'_>,
+) -> Result<(), Fail> {
+    let alloc = rt.alloc();
+    let files = files(alloc, program, log, query)?;
+    let mut store = MemoryStore::new(alloc, files, Vec::new(alloc), 65536, 0)?;
+    assert_ends(rt, line, &mut store, ending)
+}
+
+/// A query of these files ends so.
+fn assert_query<R: AllocGlobal + Abort>(
+    rt: &R,
+    program: &[u8],
+    log: &[u8],
+    query: &[u8],
+    ending: Ending<'_>,
+) -> Result<(), Fail> {
+    assert_command(rt, QUERY, program, log, query, ending)
+}
+
+/// The report of a guest's run.
+fn assert_report<R: AllocGlobal + Abort>(
+    rt: &R,
+    guest: &Guest,
+    query: &str,
+    report: &str,
+) -> Result<(), Fail> {
+    let alloc = rt.alloc();
+    let program = program(alloc, guest.code)?;
+    let records = records(alloc, guest, guest.write.bytes)?;
+    let log = log(alloc, &program, guest.pages, 1, &records)?;
+    assert_query(rt, &program, &log, query.as_bytes(), Ending::report(report))
+}
+
+#[test]
+fn moves_are_followed(rt: HostRuntime) -> Result<(), Fail> {
+    assert_report(&rt, &COPY_FOUR, COPY, COPIED)?;
+    assert_report(&rt, &ADD_WORDS, COPY, "1:0\n1:1\n1:2\n1:3\nend 4\n")?;
+    assert_report(&rt, &LOAD_SIGNED, COPY, "1:0 0:0\n1:1\n1:2\n1:3\nend 4\n")?;
+    assert_report(&rt, &OVERWRITE, COPY, "1:0\nend 1\n")?;
+    assert_report(
+        &rt,
+        &UNALIGNED,
+        COPY,
+        "1:0 0:0\n1:1 0:0\n1:2 0:1\n1:3 0:2\nend 4\n",
+    )
+}
+
+#[test]
+fn computed_bytes_are_followed(rt: HostRuntime) -> Result<(), Fail> {
+    let eight = " 0:0 0:1 0:2 0:3 0:4 0:5 0:6 0:7\n";
+    let sum = format!(in rt.alloc(); "1:0{eight}1:1{eight}1:2{eight}1:3{eight}end 4\n")?;
+    assert_report(&rt, &ADD_WORDS, COMPUTE, &sum)?;
+    let less = format!(in rt.alloc(); "1:0{eight}1:1\n1:2\n1:3\nend 4\n")?;
+    assert_report(&rt, &LESS_THAN, COMPUTE, &less)?;
+    let paired = "1:0 0:0 0:4\n1:1 0:1 0:5\n1:2 0:2 0:6\n1:3 0:3 0:7\nend 4\n";
+    assert_report(&rt, &XOR_WORDS, COMPUTE, paired)?;
+    let spread = "1:0 0:0\n1:1 0:0\n1:2 0:0\n1:3 0:0\nend 4\n";
+    assert_report(&rt, &LOAD_SIGNED, COMPUTE, spread)?;
+    assert_report(
+        &rt,
+        &LOAD_UNSIGNED,
+        COMPUTE,
+        "1:0 0:0\n1:1\n1:2\n1:3\nend 4\n",
+    )
+}
+
+#[test]
+fn a_query_chooses_sources_and_sinks(rt: HostRuntime) -> Result<(), Fail> {
+    assert_report(&rt, &COPY_FOUR, "rule copy\nsource all\n", "end 0\n")?;
+    assert_report(
+        &rt,
+        &COPY_FOUR,
+        "rule copy\nsource all\nsink 1 2 3\n",
+        "1:2 0:2\nend 1\n",
+    )?;
+    assert_report(
+        &rt,
+        &COPY_FOUR,
+        "rule copy\r\nsource 0 1 2\r\n\tsink all",
+        "1:0\n1:1 0:1\n1:2\n1:3\nend 4\n",
+    )
+}
+
+#[test]
+fn a_run_may_end_by_a_trap(rt: HostRuntime) -> Result<(), Fail> {
+    let alloc = rt.alloc();
+    let [jump] = code![jalr(x0, 2(x2))];
+    for (instr, kind) in [(NO_INSTRUCTION, 2), (jump, 0)] {
+        let program = program(alloc, [instr].as_slice())?;
+        let mut records = Vec::new(alloc);
+        records.push(6)?;
+        push_words(&mut records, [0, kind, BASE].as_slice())?;
+        let log = log(alloc, &program, 1, 0, &records)?;
+        assert_query(
+            &rt,
+            &program,
+            &log,
+            COPY.as_bytes(),
+            Ending::report("end 0\n"),
+        )?;
+    }
+    Ok(())
+}
+
+/// The code of a guest that reads 5,000 bytes to 0x11000, copies them one by one to 0x13000 and writes
+/// them from there.
+const COPY_MANY: [Instr; 20] = code![
+        lui(x11, 0x11000), li(x10, 0), lui(x12, 0x1000), addi(x12, x12, 904), li(x17, 63), ecall(), lui(x6, 0x13000), add(x7, x6, x12), lbu(x28, 0(x11)), sb(x28, 0(x6)), addi(x11, x11, 1), addi(x6, x6, 1), bne(x6, x7, -16), lui(x11, 0x13000), li(x10, 1), li(x17, 64), ecall(), li(x10, 0), li(x17, 93), ecall(),
+    ];
+
+/// Twenty-five thousand steps, and a report of 67,789 bytes.
+#[test]
+fn a_long_copy_is_followed(rt: HostRuntime) -> Result<(), Fail> {
+    let alloc = rt.alloc();
+    let program = program(alloc, &COPY_MANY)?;
+    let mut bytes = Vec::new(alloc);
+    let mut report = String::new(alloc);
+    for i in 0..5000u32 {
+        bytes.push((i % 256) as u8)?;
+        report.push_str(&format!(in alloc; "1:{i} 0:{i}\n")?)?;
+    }
+    report.push_str("end 5000\n")?;
+    assert_eq!(rt; report.len(), 67789);
+    let mut records = Vec::new(alloc);
+    push_transfer(&mut records, 1, 5, [0, 0x11000, 5000], &bytes)?;
+    push_transfer(&mut records, 2, 25011, [1, 0x13000, 5000], &bytes)?;
+    records.push(5)?;
+    push_words(&mut records, [25014, 0].as_slice())?;
+    let log = log(alloc, &program, 5, 1, &records)?;
+    assert_query(
+        &rt,
+        &program,
+        &log,
+        COPY.as_bytes(),
+        Ending::report(&report),
+    )
+}

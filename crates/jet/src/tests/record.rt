@@ -1,0 +1,291 @@
+//! Runs that are recorded: their logs, byte by byte, and what a query tells of them.
+
+ghost use Rattle.std.specs.Prelude.{◌<◌};
+
+use super::guests::COPY_CODE;
+use super::runs::COPIES;
+use super::{
+    COMPUTE, COPIED, COPY, Ending, Entry, QUERY, TIME, assert_ends, log_of, patched, program,
+    push_file,
+};
+use guest_assembler::{Instr, code};
+use jet_files::read_file;
+use outer_io::{MemoryStore, Store};
+use std::alloc::{AllocError, Global};
+use std::process::Abort;
+use std::test::Fail;
+
+/// Asks for the time, and writes it.
+const TELL_THE_TIME: &[Instr] = &code![
+        lui(x8, 0x10000), addi(x8, x8, 256), li(x17, 2000), ecall(), sw(x10, 0(x8)), sw(x11, 4(x8)), li(x10, 1), addi(x11, x8, 0), li(x12, 8), li(x17, 64), ecall(), li(x10, 0), li(x17, 93), ecall(),
+    ];
+
+/// Reads four bytes of channel 1, and writes them.
+const COPY_THE_SECOND: &[Instr] = &code![
+        lui(x11, 0x10000), addi(x11, x11, 256), li(x10, 1), li(x12, 4), li(x17, 63), ecall(), li(x10, 1), li(x17, 64), ecall(), li(x10, 0), li(x17, 93), ecall(),
+    ];
+
+/// Writes 16,711,680 bytes five times.
+const WRITE_MUCH: &[Instr] = &code![
+        lui(x11, 0x10000), lui(x12, 0xff0000), li(x17, 64), li(x10, 1), ecall(), li(x10, 1), ecall(), li(x10, 1), ecall(), li(x10, 1), ecall(), li(x10, 1), ecall(), li(x10, 0), li(x17, 93), ecall(),
+    ];
+
+/// A guest, the words that record it, and its log: the pages and the inputs, the records, and the length of all. Then
+/// a query of the log, and its report.
+#[derive(Clone, Copy)]
+struct Recording {
+    code: &'static [Instr],
+    line: &'static str,
+    header: (u32, u32),
+    entries: &'static [Entry],
+    length: usize,
+    query: &'static str,
+    report: &'static str,
+}
+
+const RECORDINGS: &[Recording] = &[
+    Recording {
+        code: COPY_CODE,
+        line: "jet record prog log in --pages 1",
+        header: (1, 1),
+        entries: COPIES,
+        length: 107,
+        query: COPY,
+        report: COPIED,
+    },
+    Recording {
+        code: COPY_CODE,
+        line: "jet record prog log in",
+        header: (256, 1),
+        entries: COPIES,
+        length: 107,
+        query: COPY,
+        report: COPIED,
+    },
+    // The greatest numbers, and as many inputs as there may be.
+    Recording {
+        code: COPY_CODE,
+        line: "jet record prog log in in in in in in in in in in in in in in in in --pages 4096 --piece 16777216 --steps 4294967295",
+        header: (4096, 16),
+        entries: COPIES,
+        length: 107,
+        query: COPY,
+        report: COPIED,
+    },
+    // A read gets two bytes at most.
+    Recording {
+        code: COPY_CODE,
+        line: "jet record prog log in --pages 1 --piece 2",
+        header: (1, 1),
+        entries: &[
+            Entry::Read(5, 0, 4, b"AB"),
+            Entry::Write(8, 1, 4, b"AB\0\0"),
+            Entry::Exit(11, 0),
+        ],
+        length: 105,
+        query: COPY,
+        report: "1:0 0:0\n1:1 0:1\n1:2\n1:3\nend 4\n",
+    },
+    // There is no channel 0.
+    Recording {
+        code: COPY_CODE,
+        line: "jet record prog log --pages 1",
+        header: (1, 0),
+        entries: &[
+            Entry::Refused(1, 5, 0, 4),
+            Entry::Write(8, 1, 4, b"\0\0\0\0"),
+            Entry::Exit(11, 0),
+        ],
+        length: 103,
+        query: COPY,
+        report: "1:0\n1:1\n1:2\n1:3\nend 4\n",
+    },
+    // Cut off before the read, behind it, and not at all.
+    Recording {
+        code: COPY_CODE,
+        line: "jet record prog log four --pages 1 --steps 5",
+        header: (1, 1),
+        entries: &[Entry::Limit(5)],
+        length: 53,
+        query: COPY,
+        report: "end 0\n",
+    },
+    Recording {
+        code: COPY_CODE,
+        line: "jet record prog log four --pages 1 --steps 6",
+        header: (1, 1),
+        entries: &[Entry::Read(5, 0, 4, b"ABCD"), Entry::Limit(6)],
+        length: 78,
+        query: COPY,
+        report: "end 0\n",
+    },
+    Recording {
+        code: COPY_CODE,
+        line: "jet record prog log four --pages 1 --steps 12",
+        header: (1, 1),
+        entries: COPIES,
+        length: 107,
+        query: COPY,
+        report: COPIED,
+    },
+    Recording {
+        code: TELL_THE_TIME,
+        line: "jet record prog log --pages 1",
+        header: (1, 0),
+        entries: &[
+            Entry::Time(3, TIME),
+            Entry::Write(10, 1, 8, b"\x02\0\0\0\x01\0\0\0"),
+            Entry::Exit(13, 0),
+        ],
+        length: 99,
+        query: COMPUTE,
+        report: "1:0\n1:1\n1:2\n1:3\n1:4\n1:5\n1:6\n1:7\nend 8\n",
+    },
+    Recording {
+        code: COPY_THE_SECOND,
+        line: "jet record prog log in other --pages 1",
+        header: (1, 2),
+        entries: &[
+            Entry::Read(5, 1, 4, b"WXYZ"),
+            Entry::Write(8, 1, 4, b"WXYZ"),
+            Entry::Exit(11, 0),
+        ],
+        length: 107,
+        query: COPY,
+        report: "1:0 1:0\n1:1 1:1\n1:2 1:2\n1:3 1:3\nend 4\n",
+    },
+];
+
+/// A store of a program, of inputs and of a query, of which the call of this number fails. Its calls move so many bytes.
+fn store(
+    alloc: Global,
+    program: &[u8],
+    query: &str,
+    failing: u64,
+    piece: usize,
+) -> Result<MemoryStore, AllocError>
+    requires { 0 < piece }
+{
+    let wide = patched(alloc, program, (72, b"\0\x20\0\0"))?;
+    let mut files = Vec::new(alloc);
+    push_file(&mut files, "prog", program)?;
+    push_file(&mut files, "wide", &wide)?;
+    push_file(&mut files, "short", &program[..program.len().min(51)])?;
+    push_file(&mut files, "in", b"ABCDEFG")?;
+    push_file(&mut files, "four", b"ABCD")?;
+    push_file(&mut files, "other", b"WXYZ")?;
+    push_file(&mut files, "query", query.as_bytes())?;
+    let failing = [failing].as_slice().to_vec(alloc)?;
+    MemoryStore::new(alloc, files, failing, piece, 1000)
+}
+
+/// No call has this number.
+const NEVER: u64 = 1 << 40;
+
+/// The store's file of this name has these bytes, or there is no such file.
+fn assert_file<R: AllocGlobal + Abort, S: Store>(
+    rt: &R,
+    store: &mut S,
+    name: &str,
+    expected: Option<&[u8]>,
+) -> Result<(), Fail> {
+    let file = read_file(rt.alloc(), store, name).ok();
+    assert_eq!(rt; file.is_some(), expected.is_some(), "{name}");
+    if let (Some(file), Some(expected)) = (file, expected) {
+        assert_eq!(rt; file.as_slice(), expected, "{name}");
+    }
+    Ok(())
+}
+
+fn assert_recording<R: AllocGlobal + Abort>(rt: &R, recording: &Recording) -> Result<(), Fail> {
+    let alloc = rt.alloc();
+    let program = program(alloc, recording.code)?;
+    let (pages, inputs) = recording.header;
+    let log = log_of(alloc, &program, pages, inputs, recording.entries)?;
+    assert_eq!(rt; log.len(), recording.length);
+    let mut store = store(alloc, &program, recording.query, NEVER, 65536)?;
+    assert_ends(rt, recording.line, &mut store, Ending::report(""))?;
+    assert_file(rt, &mut store, "log", Some(&log))?;
+    assert_ends(rt, QUERY, &mut store, Ending::report(recording.report))
+}
+
+#[test]
+fn runs_are_recorded(rt: HostRuntime) -> Result<(), Fail> {
+    for recording in RECORDINGS {
+        assert_recording(&rt, recording)?;
+    }
+    Ok(())
+}
+
+/// Words, their status and their line. No file is written.
+const REFUSED: &[(&str, u8, &str)] = &[
+    ("jet record none log in", 7, "jet: read fault\n"),
+    ("jet record prog log none", 7, "jet: read fault\n"),
+    ("jet record prog log in none", 7, "jet: read fault\n"),
+    ("jet record short log none", 3, "jet: image 1 Short\n"),
+    ("jet record wide log none --pages 1", 7, "jet: read fault\n"),
+    ("jet record wide log in --pages 1", 3, "jet: window 1\n"),
+    ("jet record prog log in --pages 0", 2, "jet: usage\n"),
+];
+
+#[test]
+fn a_refused_recording_writes_no_file(rt: HostRuntime) -> Result<(), Fail> {
+    let alloc = rt.alloc();
+    let program = program(alloc, COPY_CODE)?;
+    for &(line, status, said) in REFUSED {
+        let mut store = store(alloc, &program, COPY, NEVER, 65536)?;
+        assert_ends(&rt, line, &mut store, Ending::refusal(status, said))?;
+        assert_file(&rt, &mut store, "log", None)?;
+    }
+    Ok(())
+}
+
+/// Five writes are more than a log may have.
+#[test]
+fn a_log_that_is_too_long_is_not_written(rt: HostRuntime) -> Result<(), Fail> {
+    let alloc = rt.alloc();
+    let program = program(alloc, WRITE_MUCH)?;
+    let mut store = store(alloc, &program, COPY, NEVER, 65536)?;
+    let line = "jet record prog log --pages 4096";
+    let ending = Ending::refusal(9, "jet: limit log 83558562\n");
+    assert_ends(&rt, line, &mut store, ending)?;
+    assert_file(&rt, &mut store, "log", None)
+}
+
+/// The program is read in 16 calls of ten bytes and the input in 3; the log is created, put in 11 pieces, and finished.
+/// Each of these calls fails once, and then no file differs.
+#[test]
+fn a_failing_store_leaves_the_files(rt: HostRuntime) -> Result<(), Fail> {
+    let alloc = rt.alloc();
+    let program = program(alloc, COPY_CODE)?;
+    let log = log_of(alloc, &program, 1, 1, COPIES)?;
+    for call in 0..33 {
+        let mut store = store(alloc, &program, COPY, call, 10)?;
+        let (ending, written) = if call < 19 {
+            (Ending::refusal(7, "jet: read fault\n"), None)
+        } else if call < 32 {
+            (Ending::refusal(8, "jet: write fault\n"), None)
+        } else {
+            (Ending::report(""), Some(log.as_slice()))
+        };
+        assert_ends(&rt, "jet record prog log in --pages 1", &mut store, ending)?;
+        // A call that never came fails now.
+        let _ = read_file(alloc, &mut store, "in");
+        assert_file(&rt, &mut store, "log", written)?;
+        assert_file(&rt, &mut store, "prog", Some(&program))?;
+        assert_file(&rt, &mut store, "in", Some(b"ABCDEFG"))?;
+    }
+    Ok(())
+}
+
+#[test]
+fn a_log_may_take_the_place_of_its_program(rt: HostRuntime) -> Result<(), Fail> {
+    let alloc = rt.alloc();
+    let program = program(alloc, COPY_CODE)?;
+    let log = log_of(alloc, &program, 1, 1, COPIES)?;
+    let mut store = store(alloc, &program, COPY, NEVER, 65536)?;
+    let line = "jet record prog prog in --pages 1";
+    assert_ends(&rt, line, &mut store, Ending::report(""))?;
+    assert_file(&rt, &mut store, "prog", Some(&log))?;
+    assert_file(&rt, &mut store, "log", None)
+}

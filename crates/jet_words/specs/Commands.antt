@@ -1,0 +1,63 @@
+-- What the words of a command line stand for.
+use Rattle.std.specs.Prelude.{◌≤◌, ⊤, ℕ, List, map, length, Option, Some, None, codes, option_and_then, if◌then◌else◌}
+use Rattle.std.specs.Str.{bytes_eq}
+use Rattle.clap.specs.Words.{Row, Text, takes, subcommand_of}
+use Rattle.clap_command.specs.Values.{value_of, values_of, number_of}
+use Rattle.jet_words.specs.CommandLine.{jet_app}
+use Rattle.jet_words.specs.declared.command.Command.{Command}
+use Rattle.jet_words.specs.declared.command.Command.TheVariants.{Query, Record, Replay, Output}
+
+-- a command; files are told by their names
+pub data CommandOf : Type 0 where
+  -- the report of a query
+  QueryOf : (program log query : Text) → CommandOf
+  -- the log of a run over these input files, with so many pages of memory, at most `piece` bytes to a read, and cut off after
+  -- `steps` steps
+  RecordOf : (program log : Text) (inputs : List Text) (pages piece steps : ℕ) → CommandOf
+  -- the numbers of a recorded run
+  ReplayOf : (program log : Text) → CommandOf
+  -- what a recorded run wrote on a channel
+  OutputOf : (program log : Text) (channel : ℕ) → CommandOf
+
+-- ---- the command of each subcommand, by the values of its arguments
+
+abbrev pub query_of : List Row → CommandOf
+query_of rows = QueryOf (value_of (codes "PROG") rows) (value_of (codes "LOG") rows) (value_of (codes "QUERY") rows)
+
+abbrev pub record_of : List Row → CommandOf
+record_of rows = RecordOf (value_of (codes "PROG") rows) (value_of (codes "LOG") rows) (values_of (codes "IN") rows)
+    (number_of (codes "pages") rows) (number_of (codes "piece") rows) (number_of (codes "steps") rows)
+
+abbrev pub replay_of : List Row → CommandOf
+replay_of rows = ReplayOf (value_of (codes "PROG") rows) (value_of (codes "LOG") rows)
+
+abbrev pub output_of : List Row → CommandOf
+output_of rows = OutputOf (value_of (codes "PROG") rows) (value_of (codes "LOG") rows) (number_of (codes "C") rows)
+
+-- the command of a subcommand, by its name and the values of its arguments
+abbrev pub command_by : Text × List Row → Option CommandOf
+command_by (name, rows) =
+    if bytes_eq name (codes "query") then Some (query_of rows)
+    else (if bytes_eq name (codes "record") then Some (record_of rows)
+    else (if bytes_eq name (codes "replay") then Some (replay_of rows)
+    else (if bytes_eq name (codes "output") then Some (output_of rows) else None)))
+
+-- the command that words stand for; none where the command line doesn't take them. The first word is the program's name
+unfoldable pub command_of : List Text → Option CommandOf
+command_of words = if takes jet_app words then option_and_then command_by (subcommand_of jet_app words) else None
+
+-- ---- the command that was read
+
+abbrev pub plain_command : Command → CommandOf
+plain_command (Query program log query) = QueryOf program.now log.now query.now
+plain_command (Record program log inputs pages piece steps) = RecordOf program.now log.now (map (λ s. s.now) inputs.items) pages piece steps
+plain_command (Replay program log) = ReplayOf program.now log.now
+plain_command (Output program log channel) = OutputOf program.now log.now channel
+
+-- its numbers lie in the ranges of the command line
+abbrev pub IsInRange : CommandOf → Type 0
+IsInRange (QueryOf program log query) = ⊤
+IsInRange (RecordOf program log inputs pages piece steps) =
+    (length inputs ≤ 16) × (1 ≤ pages) × (pages ≤ 4096) × (1 ≤ piece) × (piece ≤ 16777216) × (1 ≤ steps) × (steps ≤ 4294967295)
+IsInRange (ReplayOf program log) = ⊤
+IsInRange (OutputOf program log channel) = channel ≤ 15

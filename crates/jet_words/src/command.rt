@@ -1,0 +1,41 @@
+//! A command of the program.
+
+/// What words stand for.
+#[derive(Debug, Drop, PartialEq, Eq)]
+pub enum Command<'a> {
+    /// The report of a query: the names of the program, the log and the query.
+    Query {
+        program: &'a str,
+        log: &'a str,
+        query: &'a str,
+    },
+    /// The recording of a run.
+    Record {
+        /// The program's name.
+        program: &'a str,
+        /// The name of the log that is written.
+        log: &'a str,
+        /// The names of the input files, at most 16; each is read on the channel of its place.
+        inputs: Vec<&'a str>,
+        /// The pages of memory, of 4096 bytes each, 1 to 4096.
+        pages: u32,
+        /// How many bytes a read gets at most, 1 to 16777216.
+        piece: u32,
+        /// The number of steps after which the run is cut off, 1 to 4294967295.
+        steps: u32,
+    },
+    /// The numbers of a recorded run: the names of the program and the log.
+    Replay {
+        program: &'a str,
+        log: &'a str,
+    },
+    /// What a recorded run wrote on a channel.
+    Output {
+        /// The program's name.
+        program: &'a str,
+        /// The log's name.
+        log: &'a str,
+        /// The channel, 0 to 15.
+        channel: u32,
+    },
+}

@@ -1,0 +1,134 @@
+//! The words and the command that they stand for.
+ghost use Rattle.std.specs.Prelude.{◌≡◌, map, codes, string_bytes, true, false, Some, None, option_map, option_and_then};
+ghost use Rattle.std.specs.Prelude.{OnOk, IfOk, IfSome, IsErrOf};
+ghost use Rattle.clap.specs.Words.{takes, subcommand_of, subcommand_rows_of, rows_of, found_of};
+ghost use Rattle.clap_command.specs.Numbers.{IsNumber};
+ghost use Rattle.jet_words.specs.CommandLine.{jet_app};
+ghost use Rattle.jet_words.specs.Commands.{command_of, command_by, plain_command, IsInRange};
+ghost use Rattle.jet_words.specs.Commands.{query_of, record_of, replay_of, output_of};
+ghost use Rattle.jet_words.specs.Numbers.{HasNumbers};
+
+use crate::command::Command;
+use crate::command_line::command_line;
+use clap::ArgMatches;
+use clap_command::{WordsFault, parse, read_number, read_value, read_values};
+use std::alloc::{AllocError, Global};
+
+// The words as the command line takes them.
+fn parse_words<'a>(alloc: Global, words: &'a [String]) -> Result<ArgMatches<'a>, WordsFault>
+    ensures taken { OnOk result (takes jet_app (map string_bytes words.entry.now) ≡ true) }
+    ensures usage { IsErrOf result WordsFault.Usage → takes jet_app (map string_bytes words.entry.now) ≡ false }
+    ensures subcommand { IfOk result (λ m. subcommand_rows_of m ≡ subcommand_of jet_app (map string_bytes words.entry.now)) }
+{
+    let Ok(line) = command_line(alloc) else {
+        return Err(WordsFault::NoMemory);
+    };
+    parse(line, words)
+}
+
+fn read_query<'a>(matches: &ArgMatches<'a>) -> Command<'a>
+    ensures { plain_command result ≡ query_of (rows_of (found_of matches.now)) }
+{
+    Command::Query {
+        program: read_value(matches, "PROG"),
+        log: read_value(matches, "LOG"),
+        query: read_value(matches, "QUERY"),
+    }
+}
+
+fn read_record<'a>(alloc: Global, matches: &ArgMatches<'a>) -> Result<Command<'a>, AllocError>
+    requires pages { IsNumber (codes "pages") (rows_of (found_of matches.now)) }
+    requires piece { IsNumber (codes "piece") (rows_of (found_of matches.now)) }
+    requires steps { IsNumber (codes "steps") (rows_of (found_of matches.now)) }
+    ensures { IfOk result (λ c. plain_command c ≡ record_of (rows_of (found_of matches.now))) }
+{
+    let inputs = read_values(alloc, matches, "IN")?;
+    Ok(Command::Record {
+        program: read_value(matches, "PROG"),
+        log: read_value(matches, "LOG"),
+        inputs,
+        pages: read_number(matches, "pages"),
+        piece: read_number(matches, "piece"),
+        steps: read_number(matches, "steps"),
+    })
+}
+
+fn read_replay<'a>(matches: &ArgMatches<'a>) -> Command<'a>
+    ensures { plain_command result ≡ replay_of (rows_of (found_of matches.now)) }
+{
+    Command::Replay {
+        program: read_value(matches, "PROG"),
+        log: read_value(matches, "LOG"),
+    }
+}
+
+fn read_output<'a>(matches: &ArgMatches<'a>) -> Command<'a>
+    requires { IsNumber (codes "C") (rows_of (found_of matches.now)) }
+    ensures { plain_command result ≡ output_of (rows_of (found_of matches.now)) }
+{
+    Command::Output {
+        program: read_value(matches, "PROG"),
+        log: read_value(matches, "LOG"),
+        channel: read_number(matches, "C"),
+    }
+}
+
+// The command of the subcommand of this name. The error is out of memory.
+fn command_by_name<'a>(
+    alloc: Global,
+    name: &str,
+    matches: &ArgMatches<'a>,
+) -> Result<Option<Command<'a>>, AllocError>
+    requires { HasNumbers (name.now, rows_of (found_of matches.now)) }
+    ensures { IfOk result (λ c. option_map plain_command c ≡ command_by (name.now, rows_of (found_of matches.now))) }
+{
+    if name == "query" {
+        Ok(Some(read_query(matches)))
+    } else if name == "record" {
+        Ok(Some(read_record(alloc, matches)?))
+    } else if name == "replay" {
+        Ok(Some(read_replay(matches)))
+    } else if name == "output" {
+        Ok(Some(read_output(matches)))
+    } else {
+        Ok(None)
+    }
+}
+
+// The command of the subcommand. The error is out of memory.
+fn command_by_subcommand<'a>(
+    alloc: Global,
+    matches: &ArgMatches<'a>,
+) -> Result<Option<Command<'a>>, AllocError>
+    requires { IfSome (subcommand_rows_of matches.now) HasNumbers }
+    ensures { IfOk result (λ c. option_map plain_command c ≡ option_and_then command_by (subcommand_rows_of matches.now)) }
+{
+    match matches.subcommand() {
+        Some((name, matches)) => command_by_name(alloc, name, matches),
+        None => Ok(None),
+    }
+}
+
+/// The command that the words stand for; the first word is the program's name. It is `Usage` exactly where the command
+/// line doesn't take the words, out of memory aside.
+pub fn read_words<'a>(alloc: Global, words: &'a [String]) -> Result<Command<'a>, WordsFault>
+    // The words are taken, and this is what they stand for.
+    ensures taken { OnOk result (takes jet_app (map string_bytes words.entry.now) ≡ true) }
+    ensures command { IfOk result (λ c. command_of (map string_bytes words.entry.now) ≡ Some (plain_command c)) }
+
+    // Its numbers lie in their ranges.
+    ensures ranges { IfOk result (λ c. IsInRange (plain_command c)) }
+
+    // The words are not taken, and stand for nothing.
+    ensures usage { IsErrOf result WordsFault.Usage → takes jet_app (map string_bytes words.entry.now) ≡ false }
+    ensures nothing { IsErrOf result WordsFault.Usage → command_of (map string_bytes words.entry.now) ≡ None }
+{
+    let matches = parse_words(alloc, words)?;
+    let Ok(command) = command_by_subcommand(alloc, &matches) else {
+        return Err(WordsFault::NoMemory);
+    };
+    match command {
+        Some(command) => Ok(command),
+        None => unreachable!(),
+    }
+}
