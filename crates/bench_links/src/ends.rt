@@ -1,4 +1,4 @@
-//! The two ends that are timed, behind one pair of traits.
+//! The two ends that are timed, by one pair of traits.
 use epoch_link::{Popped, Pushed};
 use std::collections::VecDeque;
 use std::sync::{Mutex, Wait};

@@ -24,7 +24,7 @@ found seat own t own_key key capacity seated sized t_is key_is =
     let slots : t.slots ≡ capacity = ap (λ (z : TableId). z.slots) (sym same) ∙ sized.1 in
     record { same = same; words = ap (λ (z : TableId). z.words) (sym same) ∙ sized.0; slots = slots; keyed = slots ∙ sym sized.2 ∙ sym key_is }
 
--- the slot behind the last one is the first
+-- the slot after the last one is the first
 pub wraps : (slot n : ℕ) → slot + 1 ≡ n → (slot + 1) % n ≡ 0
 wraps slot n e = ap (λ (k : ℕ). k % n) e ∙ mod_self n
 

@@ -377,8 +377,27 @@ fn a_run_may_end_by_a_trap(rt: HostRuntime) -> Result<(), Fail> {
 /// The code of a guest that reads 5,000 bytes to 0x11000, copies them one by one to 0x13000 and writes
 /// them from there.
 const COPY_MANY: [Instr; 20] = code![
-        lui(x11, 0x11000), li(x10, 0), lui(x12, 0x1000), addi(x12, x12, 904), li(x17, 63), ecall(), lui(x6, 0x13000), add(x7, x6, x12), lbu(x28, 0(x11)), sb(x28, 0(x6)), addi(x11, x11, 1), addi(x6, x6, 1), bne(x6, x7, -16), lui(x11, 0x13000), li(x10, 1), li(x17, 64), ecall(), li(x10, 0), li(x17, 93), ecall(),
-    ];
+    lui(x11, 0x11000),
+    li(x10, 0),
+    lui(x12, 0x1000),
+    addi(x12, x12, 904),
+    li(x17, 63),
+    ecall(),
+    lui(x6, 0x13000),
+    add(x7, x6, x12),
+    lbu(x28, 0(x11)),
+    sb(x28, 0(x6)),
+    addi(x11, x11, 1),
+    addi(x6, x6, 1),
+    bne(x6, x7, -16),
+    lui(x11, 0x13000),
+    li(x10, 1),
+    li(x17, 64),
+    ecall(),
+    li(x10, 0),
+    li(x17, 93),
+    ecall(),
+];
 
 /// Twenty-five thousand steps, and a report of 67,789 bytes.
 #[test]

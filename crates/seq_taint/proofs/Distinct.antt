@@ -12,7 +12,7 @@ use Rattle.report_model.specs.Query.{Query, has_sink}
 use Rattle.report_model.specs.Rows.{Sink, row, sink_at, sinks_of_call, sinks_of_step, sinks_from, rows_as_written}
 use Rattle.sink_collect.specs.Distinct.{IsApartFrom, AreDistinct}
 
--- the names of output bytes, each unlike those behind it
+-- the names of output bytes, each unlike those after it
 abbrev IsNewFor : Sink → List Sink → Type 0
 IsNewFor s ss = AllByRecursion (λ r. s.name ≡ r.name → ⊥) ss
 

@@ -69,7 +69,12 @@ fn collect_written(
 }
 
 /// The set of an output byte that is written from a location.
-fn sink_set(alloc: Global, places: &Places<SourceSet>, sink: SinkByte, loc: Loc) -> Result<SinkSet, NoMemory>
+fn sink_set(
+    alloc: Global,
+    places: &Places<SourceSet>,
+    sink: SinkByte,
+    loc: Loc,
+) -> Result<SinkSet, NoMemory>
     requires { IsLocation loc }
     ensures { IfOk result (λ set. set ≡ record { sink = sink; sources = sources_at places.now loc }) }
 {

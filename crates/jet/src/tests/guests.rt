@@ -22,8 +22,19 @@ pub struct Guest {
 
 /// Reads four bytes and writes them.
 pub const COPY_CODE: &[Instr] = &code![
-        lui(x11, 0x10000), addi(x11, x11, 256), li(x10, 0), li(x12, 4), li(x17, 63), ecall(), li(x10, 1), li(x17, 64), ecall(), li(x10, 0), li(x17, 93), ecall(),
-    ];
+    lui(x11, 0x10000),
+    addi(x11, x11, 256),
+    li(x10, 0),
+    li(x12, 4),
+    li(x17, 63),
+    ecall(),
+    li(x10, 1),
+    li(x17, 64),
+    ecall(),
+    li(x10, 0),
+    li(x17, 93),
+    ecall(),
+];
 
 /// The run of that.
 pub const COPY_FOUR: Guest = Guest {
@@ -45,7 +56,23 @@ pub const COPY_FOUR: Guest = Guest {
 /// Reads two words and writes their sum.
 pub const ADD_WORDS: Guest = Guest {
     code: &code![
-        lui(x11, 0x10000), addi(x11, x11, 256), li(x10, 0), li(x12, 8), li(x17, 63), ecall(), lw(x6, 0(x11)), lw(x7, 4(x11)), add(x6, x6, x7), sw(x6, 0(x11)), li(x10, 1), li(x12, 4), li(x17, 64), ecall(), li(x10, 0), li(x17, 93), ecall(),
+        lui(x11, 0x10000),
+        addi(x11, x11, 256),
+        li(x10, 0),
+        li(x12, 8),
+        li(x17, 63),
+        ecall(),
+        lw(x6, 0(x11)),
+        lw(x7, 4(x11)),
+        add(x6, x6, x7),
+        sw(x6, 0(x11)),
+        li(x10, 1),
+        li(x12, 4),
+        li(x17, 64),
+        ecall(),
+        li(x10, 0),
+        li(x17, 93),
+        ecall(),
     ],
     pages: 1,
     read: Moved {
@@ -64,7 +91,23 @@ pub const ADD_WORDS: Guest = Guest {
 /// Reads two words and writes their exclusive or.
 pub const XOR_WORDS: Guest = Guest {
     code: &code![
-        lui(x11, 0x10000), addi(x11, x11, 256), li(x10, 0), li(x12, 8), li(x17, 63), ecall(), lw(x6, 0(x11)), lw(x7, 4(x11)), xor(x6, x6, x7), sw(x6, 0(x11)), li(x10, 1), li(x12, 4), li(x17, 64), ecall(), li(x10, 0), li(x17, 93), ecall(),
+        lui(x11, 0x10000),
+        addi(x11, x11, 256),
+        li(x10, 0),
+        li(x12, 8),
+        li(x17, 63),
+        ecall(),
+        lw(x6, 0(x11)),
+        lw(x7, 4(x11)),
+        xor(x6, x6, x7),
+        sw(x6, 0(x11)),
+        li(x10, 1),
+        li(x12, 4),
+        li(x17, 64),
+        ecall(),
+        li(x10, 0),
+        li(x17, 93),
+        ecall(),
     ],
     pages: 1,
     read: Moved {
@@ -83,7 +126,23 @@ pub const XOR_WORDS: Guest = Guest {
 /// Reads two words and writes whether the one is below the other.
 pub const LESS_THAN: Guest = Guest {
     code: &code![
-        lui(x11, 0x10000), addi(x11, x11, 256), li(x10, 0), li(x12, 8), li(x17, 63), ecall(), lw(x6, 0(x11)), lw(x7, 4(x11)), sltu(x6, x6, x7), sw(x6, 0(x11)), li(x10, 1), li(x12, 4), li(x17, 64), ecall(), li(x10, 0), li(x17, 93), ecall(),
+        lui(x11, 0x10000),
+        addi(x11, x11, 256),
+        li(x10, 0),
+        li(x12, 8),
+        li(x17, 63),
+        ecall(),
+        lw(x6, 0(x11)),
+        lw(x7, 4(x11)),
+        sltu(x6, x6, x7),
+        sw(x6, 0(x11)),
+        li(x10, 1),
+        li(x12, 4),
+        li(x17, 64),
+        ecall(),
+        li(x10, 0),
+        li(x17, 93),
+        ecall(),
     ],
     pages: 1,
     read: Moved {
@@ -102,7 +161,21 @@ pub const LESS_THAN: Guest = Guest {
 /// Reads a byte and writes the word that it is as a signed number.
 pub const LOAD_SIGNED: Guest = Guest {
     code: &code![
-        lui(x11, 0x10000), addi(x11, x11, 256), li(x10, 0), li(x12, 1), li(x17, 63), ecall(), lb(x6, 0(x11)), sw(x6, 0(x11)), li(x10, 1), li(x12, 4), li(x17, 64), ecall(), li(x10, 0), li(x17, 93), ecall(),
+        lui(x11, 0x10000),
+        addi(x11, x11, 256),
+        li(x10, 0),
+        li(x12, 1),
+        li(x17, 63),
+        ecall(),
+        lb(x6, 0(x11)),
+        sw(x6, 0(x11)),
+        li(x10, 1),
+        li(x12, 4),
+        li(x17, 64),
+        ecall(),
+        li(x10, 0),
+        li(x17, 93),
+        ecall(),
     ],
     pages: 1,
     read: Moved {
@@ -121,7 +194,21 @@ pub const LOAD_SIGNED: Guest = Guest {
 /// Reads a byte and writes the word that it is as an unsigned number.
 pub const LOAD_UNSIGNED: Guest = Guest {
     code: &code![
-        lui(x11, 0x10000), addi(x11, x11, 256), li(x10, 0), li(x12, 1), li(x17, 63), ecall(), lbu(x6, 0(x11)), sw(x6, 0(x11)), li(x10, 1), li(x12, 4), li(x17, 64), ecall(), li(x10, 0), li(x17, 93), ecall(),
+        lui(x11, 0x10000),
+        addi(x11, x11, 256),
+        li(x10, 0),
+        li(x12, 1),
+        li(x17, 63),
+        ecall(),
+        lbu(x6, 0(x11)),
+        sw(x6, 0(x11)),
+        li(x10, 1),
+        li(x12, 4),
+        li(x17, 64),
+        ecall(),
+        li(x10, 0),
+        li(x17, 93),
+        ecall(),
     ],
     pages: 1,
     read: Moved {
@@ -140,7 +227,20 @@ pub const LOAD_UNSIGNED: Guest = Guest {
 /// Reads a byte, stores another over it, and writes that.
 pub const OVERWRITE: Guest = Guest {
     code: &code![
-        lui(x11, 0x10000), addi(x11, x11, 256), li(x10, 0), li(x12, 1), li(x17, 63), ecall(), li(x6, 90), sb(x6, 0(x11)), li(x10, 1), li(x17, 64), ecall(), li(x10, 0), li(x17, 93), ecall(),
+        lui(x11, 0x10000),
+        addi(x11, x11, 256),
+        li(x10, 0),
+        li(x12, 1),
+        li(x17, 63),
+        ecall(),
+        li(x6, 90),
+        sb(x6, 0(x11)),
+        li(x10, 1),
+        li(x17, 64),
+        ecall(),
+        li(x10, 0),
+        li(x17, 93),
+        ecall(),
     ],
     pages: 1,
     read: Moved {
@@ -159,7 +259,23 @@ pub const OVERWRITE: Guest = Guest {
 /// Moves a word to and from a place that is no multiple of 4, and over three of the bytes read.
 pub const UNALIGNED: Guest = Guest {
     code: &code![
-        lui(x11, 0x10000), addi(x11, x11, 256), li(x10, 0), li(x12, 4), li(x17, 63), ecall(), lw(x6, 0(x11)), lui(x5, 0x11000), sw(x6, -2(x5)), lw(x7, -2(x5)), sw(x7, 1(x11)), li(x10, 1), li(x17, 64), ecall(), li(x10, 0), li(x17, 93), ecall(),
+        lui(x11, 0x10000),
+        addi(x11, x11, 256),
+        li(x10, 0),
+        li(x12, 4),
+        li(x17, 63),
+        ecall(),
+        lw(x6, 0(x11)),
+        lui(x5, 0x11000),
+        sw(x6, -2(x5)),
+        lw(x7, -2(x5)),
+        sw(x7, 1(x11)),
+        li(x10, 1),
+        li(x17, 64),
+        ecall(),
+        li(x10, 0),
+        li(x17, 93),
+        ecall(),
     ],
     pages: 2,
     read: Moved {

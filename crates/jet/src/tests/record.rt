@@ -17,18 +17,57 @@ use std::test::Fail;
 
 /// Asks for the time, and writes it.
 const TELL_THE_TIME: &[Instr] = &code![
-        lui(x8, 0x10000), addi(x8, x8, 256), li(x17, 2000), ecall(), sw(x10, 0(x8)), sw(x11, 4(x8)), li(x10, 1), addi(x11, x8, 0), li(x12, 8), li(x17, 64), ecall(), li(x10, 0), li(x17, 93), ecall(),
-    ];
+    lui(x8, 0x10000),
+    addi(x8, x8, 256),
+    li(x17, 2000),
+    ecall(),
+    sw(x10, 0(x8)),
+    sw(x11, 4(x8)),
+    li(x10, 1),
+    addi(x11, x8, 0),
+    li(x12, 8),
+    li(x17, 64),
+    ecall(),
+    li(x10, 0),
+    li(x17, 93),
+    ecall(),
+];
 
 /// Reads four bytes of channel 1, and writes them.
 const COPY_THE_SECOND: &[Instr] = &code![
-        lui(x11, 0x10000), addi(x11, x11, 256), li(x10, 1), li(x12, 4), li(x17, 63), ecall(), li(x10, 1), li(x17, 64), ecall(), li(x10, 0), li(x17, 93), ecall(),
-    ];
+    lui(x11, 0x10000),
+    addi(x11, x11, 256),
+    li(x10, 1),
+    li(x12, 4),
+    li(x17, 63),
+    ecall(),
+    li(x10, 1),
+    li(x17, 64),
+    ecall(),
+    li(x10, 0),
+    li(x17, 93),
+    ecall(),
+];
 
 /// Writes 16,711,680 bytes five times.
 const WRITE_MUCH: &[Instr] = &code![
-        lui(x11, 0x10000), lui(x12, 0xff0000), li(x17, 64), li(x10, 1), ecall(), li(x10, 1), ecall(), li(x10, 1), ecall(), li(x10, 1), ecall(), li(x10, 1), ecall(), li(x10, 0), li(x17, 93), ecall(),
-    ];
+    lui(x11, 0x10000),
+    lui(x12, 0xff0000),
+    li(x17, 64),
+    li(x10, 1),
+    ecall(),
+    li(x10, 1),
+    ecall(),
+    li(x10, 1),
+    ecall(),
+    li(x10, 1),
+    ecall(),
+    li(x10, 1),
+    ecall(),
+    li(x10, 0),
+    li(x17, 93),
+    ecall(),
+];
 
 /// A guest, the words that record it, and its log: the pages and the inputs, the records, and the length of all. Then
 /// a query of the log, and its report.

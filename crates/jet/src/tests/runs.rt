@@ -2,7 +2,9 @@
 
 use super::guests::{ADD_WORDS, COPY_CODE};
 use super::refusals::CHANGED_LOGS;
-use super::{BASE, COPY, Ending, Entry, NO_INSTRUCTION, QUERY, assert_command, log_of, patched, program};
+use super::{
+    BASE, COPY, Ending, Entry, NO_INSTRUCTION, QUERY, assert_command, log_of, patched, program,
+};
 use guest_assembler::Instr;
 use sha2::{Digest, Sha256};
 use std::process::Abort;

@@ -33,7 +33,7 @@ returns-clause-holds g t c =
     let located = origins_located ts i _ c.requires.table c.origins.ensures.value in
     let made = made_kept words _ _ _ label c.assign_from.ensures.keeps c.in_ok-label.ensures.made in
     let turn : IsPut words c.assign_from.new.labels c.target.result label c.assign_from.new.places c.put.new.places
-        → (f : Loc → g.row.A-Meaning.Denot) → Holds words c.args.labels.now before f → Holds words c.assign_from.new.labels c.put.new.places (λ q. united_over words f (origins_by (drop i ts) q)) = λ n f h.
+    → (f : Loc → g.row.A-Meaning.Denot) → Holds words c.args.labels.now before f → Holds words c.assign_from.new.labels c.put.new.places (λ q. united_over words f (origins_by (drop i ts) q)) = λ n f h.
     let means = made.means ∙ united_same words (meaning_at words c.args.labels.now before) f h.at ls located in
     with_first words c.assign_from.new.labels c.assign_from.new.places _ f ts i _ ls label c.target.ensures c.origins.ensures.value means
     (c.in_ok-assign_from.ensures.holds f (holds_kept words _ _ before f c.gather.ensures.keeps c.requires.standing h)) n in
