@@ -1,9 +1,9 @@
 -- The call that waits is answered by the first record that is left.
-use Rattle.std.proofs.Common.{◌≡◌, ℕ, ◌+◌, ◌^◌, ◌<◌, ◌≤◌, false, List, [], ◌∷◌, ◌++◌, length, take, drop, get_or, arith, ap, sym, ◌∙◌, subst}
+use Rattle.std.proofs.Common.{◌≡◌, ℕ, ◌+◌, ◌≤◌, false, List, [], ◌∷◌, ◌++◌, length, take, drop, get_or, ap, sym, ◌∙◌, subst}
 use Rattle.isa.specs.Machine.{State}
 use Rattle.log_model.specs.declared.CallRecord.{CallRecord}
 use Rattle.log_model.specs.Logs.{Log, at_of}
-use Rattle.replay_model.specs.Run.{Moment, state_after, answered, after_call}
+use Rattle.replay_model.specs.Run.{Moment, state_after, after_call}
 use Rattle.rv_machine.specs.Hart.{Hart, running}
 use Rattle.replay_run.specs.Runs.{RunAt, Answers, IsDue}
 use Rattle.replay_run.specs.Counters.{run_at}

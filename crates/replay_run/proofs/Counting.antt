@@ -1,5 +1,5 @@
 -- The counters of a run count the bytes of the records that are done.
-use Rattle.std.proofs.Common.{◌≡◌, ℕ, suc, ◌+◌, ◌-◌, ◌^◌, ◌<◌, ◌≤◌, ◌⊎◌, inl, inr, Bool, true, false, List, [], ◌∷◌, ◌++◌, length, take, drop, get_or, ℤ, refl, arith, ap, sym, ◌∙◌, subst, get_or-set_same, get_or-set_other, drop-cons, length-drop, add-one}
+use Rattle.std.proofs.Common.{◌≡◌, ℕ, suc, ◌+◌, ◌^◌, ◌<◌, ◌≤◌, ◌⊎◌, inl, inr, Bool, true, false, List, [], ◌∷◌, ◌++◌, length, take, drop, get_or, ℤ, refl, arith, ap, sym, ◌∙◌, subst, get_or-set_same, get_or-set_other, drop-cons, length-drop, add-one}
 use Rattle.std.specs.Prelude.{◌==◌, if◌then◌else◌, slice_set}
 use Rattle.std.specs.List.{flat_map}
 use Rattle.std.proofs.lemmas.Bool.{cases_lt, cases_eq, eq-eqb, ne_eqb}
@@ -7,8 +7,8 @@ use Rattle.std.proofs.lemmas.List.{set_past, take_more}
 use Rattle.std.proofs.lemmas.List.Folds.{length-flat_map-take}
 use Rattle.log_model.specs.declared.CallRecord.{CallRecord}
 use Rattle.log_model.specs.declared.CallRecord.TheVariants.{Read, Write, Clock, Other}
-use Rattle.log_model.specs.Logs.{Log, log_text, at_of, Rise}
-use Rattle.log_model.specs.Moved.{is_on, received_by, received, written_by, written}
+use Rattle.log_model.specs.Logs.{Log, at_of, Rise}
+use Rattle.log_model.specs.Moved.{received_by, received, written_by, written}
 use Rattle.replay_model.proofs.Sizes.{moved_with, received_fits, written_fits}
 use Rattle.replay_run.specs.Counters.{AreCounts, IsCounted}
 

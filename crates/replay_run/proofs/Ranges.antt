@@ -1,23 +1,23 @@
 -- The ranges of a call that was answered.
-use Rattle.std.proofs.Common.{◌≡◌, ℕ, ◌+◌, ◌^◌, ◌<◌, ◌≤◌, Bool, true, false, List, [], ◌∷◌, length, drop, get_or, Some, refl, arith, ap, sym, ◌∙◌, subst}
-use Rattle.std.specs.Prelude.{◌==◌, if◌then◌else◌, IsTrue}
+use Rattle.std.proofs.Common.{◌≡◌, ℕ, ◌+◌, ◌^◌, ◌<◌, ◌≤◌, Bool, List, [], ◌∷◌, length, drop, get_or, Some, refl, arith, ap, sym, ◌∙◌, subst}
+use Rattle.std.specs.Prelude.{if◌then◌else◌}
 use Rattle.std.proofs.lemmas.Bool.{ne_eqb}
-use Rattle.isa.specs.Machine.{State, reg, in_window}
-use Rattle.isa.specs.Calls.{channel_of, buffer_of}
+use Rattle.isa.specs.Machine.{State, reg}
+use Rattle.isa.specs.Calls.{buffer_of}
 use Rattle.isa.specs.declared.CallKind.{CallKind}
 use Rattle.isa.specs.declared.CallKind.TheVariants as kind
 use Rattle.log_model.specs.declared.CallRecord.{CallRecord}
 use Rattle.log_model.specs.declared.CallRecord.TheVariants.{Read, Write, Clock, Other}
-use Rattle.log_model.specs.Logs.{Log, at_of}
+use Rattle.log_model.specs.Logs.{Log}
 use Rattle.log_model.specs.Moved.{received, written}
 use Rattle.flow_model.specs.declared.CallSeen.{CallSeen}
 use Rattle.flow_model.specs.Ranges.{IsTransferInRange, IsCallInRange}
 use Rattle.replay_model.specs.Run.{transfer, call_seen}
 use Rattle.replay_model.proofs.Transfers.{window_end}
 use Rattle.rv_machine.specs.Hart.{Hart}
-use Rattle.replay_run.specs.Runs.{RunAt, CanMove, Answers, IsDue}
+use Rattle.replay_run.specs.Runs.{RunAt, CanMove, IsDue}
 use Rattle.replay_run.specs.Counters.{run_at, IsCounted}
-use Rattle.replay_run.proofs.Counting.{IsFront, front_of, read_room, write_room}
+use Rattle.replay_run.proofs.Counting.{front_of, read_room, write_room}
 
 transfer_ranges : (k : CallKind) (args before : List ℕ) (n : ℕ) (s : State) (bytes : List ℕ) → n ≡ length bytes → s.base + length s.memory ≤ 2 ^ 32 → buffer_of args ≡ reg s 11 → (0 < n → CanMove s args bytes) → (0 < n → length before + n ≤ 2 ^ 26) → 0 < n → IsTransferInRange (transfer k args before n)
 transfer_ranges k args before n s bytes e window buffer can room some =

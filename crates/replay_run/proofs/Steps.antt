@@ -1,6 +1,6 @@
 -- Where nothing differs, the step that the machine makes can be finished, and is then the definitions' step. Crates above cite
 -- these lemmas.
-use Rattle.std.proofs.Common.{◌≡◌, ℕ, ◌+◌, ◌^◌, ◌<◌, ◌≤◌, ◌⊎◌, inl, inr, Bool, List, [], ◌∷◌, ◌++◌, length, Some, None, refl, arith, ap, sym, ◌∙◌, subst}
+use Rattle.std.proofs.Common.{◌≡◌, ℕ, ◌+◌, ◌<◌, ◌≤◌, ◌⊎◌, inl, inr, Bool, List, [], ◌∷◌, ◌++◌, length, Some, None, refl, arith, ap, sym, ◌∙◌, subst}
 use Rattle.std.specs.List.{AllByRecursion}
 use Rattle.std.proofs.lemmas.Bool.{cases_lt}
 use Rattle.isa.specs.declared.Instr.TheVariants.{Ecall}
@@ -21,7 +21,7 @@ use Rattle.replay_model.specs.Comparison.{CallOf, EndOf, PlainStep, difference, 
 use Rattle.replay_model.proofs.Agreement.{CallAgrees, call_agrees, plain_agrees, exit_agrees, expects_plain_at_end, expects_plain_before, expects_call, expects_end}
 use Rattle.replay_model.proofs.Track.{moment, agrees_with, least_rises}
 use Rattle.replay_model.proofs.Transfers.{IsHeld, read_held, write_held, same_arguments}
-use Rattle.rv_machine.specs.Hart.{Hart, IsStep, waiting}
+use Rattle.rv_machine.specs.Hart.{Hart, IsStep}
 use Rattle.rv_machine.specs.declared.Stepped.{Stepped}
 use Rattle.rv_machine.specs.declared.Stepped.TheVariants.{Plain, Called, Trapped}
 use Rattle.replay_run.specs.Runs.{RunAt, with_hart, IsUnderLog, CanMove, IsDue, IsLater, IsReady, IsFinished}

@@ -1,6 +1,5 @@
 -- How a run is held: the index of the first record that is left, and a counter of bytes for each channel.
-use Rattle.std.specs.Prelude.{◌≡◌, ℕ, ◌^◌, ◌<◌, ◌≤◌, Bool, List, length, take, drop, slice_index}
-use Rattle.isa.specs.Machine.{State}
+use Rattle.std.specs.Prelude.{◌≡◌, ℕ, ◌^◌, ◌<◌, ◌≤◌, List, length, take, drop, slice_index}
 use Rattle.log_model.specs.Logs.{Log, IsLog, log_text, Rise}
 use Rattle.log_model.specs.Moved.{received, written}
 use Rattle.rv_machine.specs.Hart.{Hart}

@@ -1,6 +1,4 @@
 use Rattle.std.proofs.Common.{rules, subst}
-use Rattle.isa.specs.Encodings.{Fits}
-use Rattle.isa.specs.declared.Instr.TheVariants.{Ecall}
 use Rattle.replay_run.specs.Runs.{IsReady}
 use Rattle.replay_run.proofs.Ranges.{call_ranges}
 use Rattle.replay_run.proofs.run.Run.finish.Goals as goal
