@@ -12,7 +12,7 @@
 int receive(int channel, void *buffer, unsigned length);
 int send(int channel, const void *buffer, unsigned length);
 
-/* 48 bytes of text: the fields, and what stands behind each. */
+/* 48 bytes of text: the fields, and what stands after each. */
 struct order {
     byte customer[6], blank_1;
     byte account[10], blank_2;

@@ -1,6 +1,6 @@
 #!/bin/sh
 # Writes 8,000 orders of 48 bytes, 384,000 bytes in all, the same each time. The fields are text, with blanks between
-# them and a line feed behind the last:
+# them and a line feed after the last:
 #
 #   0 to 5     customer
 #   7 to 16    account; the last digit is a check digit
