@@ -1,238 +1,329 @@
 -- Calls that the recorder answers.
-use Rattle.std.proofs.Common.{◌≡◌, ℕ, ◌+◌, ◌^◌, ◌<◌, ◌≤◌, ◌⊎◌, inl, inr, List, [], ◌∷◌, length, get_or, ℤ, pos, negsuc, Option, Some, None, refl, arith, ap, sym, ◌∙◌, subst}
-use Rattle.std.specs.Prelude.{IsTrue, IfOk, Result, Ok, Err}
+use Rattle.std.proofs.Common.{◌≡◌, ℕ, ◌+◌, ◌-◌, ◌^◌, ◌<◌, ◌≤◌, ◌⊎◌, Bool, true, false, List, [], ◌∷◌, length, get_or, drop, length-take, length-drop, ℤ, pos, negsuc, refl, arith, ap, sym, ◌∙◌, subst}
+use Rattle.std.specs.Prelude.{IsTrue, ◌==◌, ◌<ℤ◌, if◌then◌else◌}
 use Rattle.std.specs.List.{AllByRecursion}
-use Rattle.isa.specs.Machine.{State, Retired, Called, next, reg, in_window, bytes_at, call_of}
-use Rattle.no_memory.specs.declared.NoMemory.{NoMemory}
-use Rattle.log_model.specs.declared.CallRecord.{CallRecord}
-use Rattle.log_model.specs.declared.RunEnd.{RunEnd}
-use Rattle.isa.specs.Calls.{channel_of, refusal_of, refusal, refusal_by, after_read, after_write}
+use Rattle.std.proofs.lemmas.Int.{ints}
+use Rattle.std.proofs.lemmas.List.{length-map}
+use Rattle.isa.specs.Machine.{State, reg, in_window, bytes_at, call_of}
+use Rattle.isa.specs.Calls.{channel_of, refusal_of, refusal, refusal_by}
 use Rattle.isa.specs.declared.Call.{Call}
 use Rattle.isa.specs.declared.CallKind.{CallKind}
 use Rattle.isa.specs.declared.CallKind.TheVariants as kind
+use Rattle.log_model.specs.declared.CallRecord.{CallRecord}
 use Rattle.log_model.specs.declared.CallRecord.TheVariants.{Read, Write, Clock, Other}
-use Rattle.log_model.specs.Logs.{moved_length}
-use Rattle.replay_model.specs.declared.Field.TheVariants as field
-use Rattle.replay_model.specs.Run.{counted}
-use Rattle.replay_model.specs.Comparison.{compared, arguments_of, call_event, kept_event, CallOf, IsLawful}
-use Rattle.replay_model.proofs.Transfers.{read_held, length_held}
-use Rattle.record_model.specs.Recorded.{GetsPart, part_of, input_of}
-use Rattle.rv_machine.specs.Hart.{Hart, running, waiting}
+use Rattle.log_model.specs.Logs.{IsBytes, IsRecord, record_text}
+use Rattle.replay_model.specs.Run.{state_after}
+use Rattle.replay_model.specs.Comparison.{arguments_of, call_event, IsLawful}
+use Rattle.replay_model.proofs.Transfers.{IsHeld, read_held}
+use Rattle.log_model.proofs.Texts.{transfer_length, data_below}
+use Rattle.record_model.specs.Recorded.{part_of}
+use Rattle.record_model.specs.Calls.{result_of, bytes_of, read_record, write_record, record_at}
+use Rattle.record_model.proofs.Calls.{CanBe, can_be, none_is, Moves, read_form, write_form, read_lawful, part_few, part_within, bytes_few, unrefused_held}
+use Rattle.rv_machine.specs.Hart.{Hart, running}
 use Rattle.call_record.specs.Sources.{contents, IsSource}
 use Rattle.call_record.specs.Tapes.{Adds}
-use Rattle.call_record.specs.Transfers.{IsTransferOf}
-use Rattle.call_record.specs.Steps.{IsSafe, WaitsFor, IsDue, Keeps, Records, IsPlain, IsCall, IsEndIn, IsStepOf, moment_of}
+use Rattle.call_record.specs.Steps.{Point, point_of, IsSafe, WaitsFor, due_record, Keeps, Records}
 use Rattle.call_record.specs.declared.source.Source.{Source}
 use Rattle.call_record.specs.declared.tape.Tape.{Tape}
 use Rattle.call_record.specs.declared.recorder.Recorder.{Recorder}
-use Rattle.call_record.proofs.Continuing.{passed, same_state, same_read}
-use Rattle.call_record.proofs.Dues.{IsMoved, can_be, read_form, read_lawful, read_part, read_text, write_form, write_lawful, write_text, part_few, part_within, moved_few, unrefused_held}
 
-pub args_are : (s : State) (call : Call) → call ≡ call_of s → call.args ≡ arguments_of s
+args_are : (s : State) (call : Call) → call ≡ call_of s → call.args ≡ arguments_of s
 args_are s call e = ap (λ (x : Call). x.args) e
 
 -- the arguments are words
-pub words_are : (args : List ℕ) → length args ≡ 3 → get_or args 0 0 < 2 ^ 32 → get_or args 1 0 < 2 ^ 32 → get_or args 2 0 < 2 ^ 32 → AllByRecursion (λ n. n < 2 ^ 32) args
+pub words_are : (args : List ℕ) → length args ≡ 3 → get_or args 0 0 < 2 ^ 32 → get_or args 1 0 < 2 ^ 32
+    → get_or args 2 0 < 2 ^ 32 → AllByRecursion (λ n. n < 2 ^ 32) args
 words_are [] e a b c = absurd (omega arith)
 words_are (x ∷ []) e a b c = absurd (omega arith)
 words_are (x ∷ y ∷ []) e a b c = absurd (omega arith)
 words_are (x ∷ y ∷ z ∷ []) e a b c = (a, (b, (c, tt)))
 words_are (x ∷ y ∷ z ∷ w ∷ args) e a b c = absurd (omega arith)
 
+-- a record that its call gets
+pub record IsGot (source : Source) (t : ℕ) (values : List ℕ) (p : Point) (made : CallRecord) : Type 0 where
+  pub is_due : made ≡ due_record source t values p
+  pub form : IsRecord made
+
+got_at : (source : Source) (t : ℕ) (values : List ℕ) (p : Point) (k : CallKind) (made : CallRecord)
+    → (call_of p.state).kind ≡ k
+    → made ≡ record_at (contents source.inputs.now) source.piece (get_or p.counts (reg p.state 10) 0) values t p.state k
+    → IsRecord (record_at (contents source.inputs.now) source.piece (get_or p.counts (reg p.state 10) 0) values t
+    p.state k) → IsGot source t values p made
+got_at source t values p k made kind e form = record {
+  is_due = e ∙ ap (record_at (contents source.inputs.now) source.piece (get_or p.counts (reg p.state 10) 0) values t
+      p.state) (sym kind);
+  form = subst IsRecord (sym e) form;
+}
+
+-- ---- how long a record's text is
+
+pub text_short : (r : CallRecord) → IsRecord r → length (record_text r) ≤ 2 ^ 32
+text_short (Read at args result bytes) is = omega
+    (arith, transfer_length 1 at args result bytes is.1, data_below args result bytes is.1)
+text_short (Write at args result bytes) is = omega
+    (arith, transfer_length 2 at args result bytes is.1, data_below args result bytes is.1)
+text_short (Clock at value) is = omega arith
+text_short (Other at number) is = omega arith
+
 -- ---- reads
 
-read_refusal : (hart : Hart) (call : Call) (refused : ℤ) (channels inputs : ℕ) → WaitsFor hart call kind.Read → refused ≡ refusal hart.state channels call → channels ≡ inputs → refused ≡ refusal_of hart.state inputs (arguments_of hart.state)
+read_refusal : (hart : Hart) (call : Call) (refused : ℤ) (channels inputs : ℕ) → WaitsFor hart call kind.Read
+    → refused ≡ refusal hart.state channels call → channels ≡ inputs
+    → refused ≡ refusal_of hart.state inputs (arguments_of hart.state)
 read_refusal hart call refused channels inputs waits e same =
     e ∙ ap (refusal hart.state channels) waits.call_is
     ∙ ap (λ (k : CallKind). refusal_by hart.state channels k (arguments_of hart.state)) waits.kind_is
     ∙ ap (λ (n : ℕ). refusal_of hart.state n (arguments_of hart.state)) same
 
--- a read that waits gets what the recorder computes
-pub read_due : (source : Source) (t : ℕ) (r : Recorder) (call : Call) (refused : ℤ) (channels offset : ℕ) (part bytes : List ℕ) (outcome : ℤ) → IsSource source → IsSafe source t r → t < 2 ^ 32 → WaitsFor r.machine call kind.Read → AllByRecursion (λ n. n < 2 ^ 32) call.args → AllByRecursion (λ b. b < 256) bytes → refused ≡ refusal r.machine.state channels call → channels ≡ length source.inputs.now → offset ≡ get_or r.offsets (get_or call.args 0 0) 0 → part ≡ part_of (contents source.inputs.now) source.piece offset call.args → IsTransferOf refused part outcome bytes → IsDue source t r (Read t call.args outcome bytes)
-read_due source t r call refused channels offset part bytes outcome is_source safe early waits words are_bytes refused_e channels_e offset_e part_e moved =
+read_by : (t : ℕ) (args args_t : List ℕ) (result result_t : ℤ) (bytes bytes_t : List ℕ) → args ≡ args_t
+    → result ≡ result_t → bytes ≡ bytes_t → Read t args result bytes ≡ Read t args_t result_t bytes_t
+read_by t args args_t result result_t bytes bytes_t a r b = cc
+
+-- what is computed for a read: the refusal, the part of the input, the result and the bytes
+pub record IsRead (source : Source) (r : Recorder) (call : Call) (outcome : ℤ) (bytes : List ℕ) : Type 0 where
+  pub refused : ℤ
+  pub channels : ℕ
+  pub part : List ℕ
+  pub refused_is : refused ≡ refusal r.machine.state channels call
+  pub channels_are : channels ≡ length source.inputs.now
+  pub part_is : part ≡ part_of (contents source.inputs.now) source.piece (get_or r.counts (get_or call.args 0 0) 0)
+      call.args
+  pub outcome_is : outcome ≡ result_of refused part
+  pub bytes_are : bytes ≡ bytes_of refused part
+
+abbrev whole_of : Source → Recorder → List ℕ
+whole_of source r = part_of (contents source.inputs.now) source.piece (get_or r.counts (reg r.machine.state 10) 0)
+    (arguments_of r.machine.state)
+
+read_is : (source : Source) (t : ℕ) (r : Recorder) (call : Call) (outcome : ℤ) (bytes : List ℕ)
+    → WaitsFor r.machine call kind.Read → IsRead source r call outcome bytes
+    → Read t call.args outcome bytes ≡ read_record t r.machine.state (length (contents source.inputs.now))
+    (whole_of source r)
+read_is source t r call outcome bytes waits read =
     let s = r.machine.state in
     let inputs = contents source.inputs.now in
     let args = args_are s call waits.call_is in
-    let there : ℕ = get_or r.offsets (reg s 10) 0 in
-    let whole : List ℕ = part_of inputs source.piece there (arguments_of s) in
-    let refused_is = read_refusal r.machine call refused channels (length source.inputs.now) waits refused_e channels_e in
-    let part_is : part ≡ whole = part_e ∙ ap (λ (n : ℕ). part_of inputs source.piece n call.args) offset_e ∙ ap (λ (w : List ℕ). part_of inputs source.piece (get_or r.offsets (get_or w 0 0) 0) w) args in
+    let channels : read.channels ≡ length inputs = read.channels_are ∙ sym (length-map source.inputs.now _) in
+    let refused_is = read_refusal r.machine call read.refused read.channels (length inputs) waits read.refused_is
+    channels in
+    let part_is : read.part ≡ whole_of source r = read.part_is
+    ∙ ap (λ (w : List ℕ). part_of inputs source.piece (get_or r.counts (get_or w 0 0) 0) w) args in
+    read_by t call.args (arguments_of s) outcome
+    (result_of (refusal_of s (length inputs) (arguments_of s)) (whole_of source r)) bytes
+    (bytes_of (refusal_of s (length inputs) (arguments_of s)) (whole_of source r)) args
+    (read.outcome_is ∙ ap (λ (z : ℤ). result_of z read.part) refused_is
+    ∙ ap (result_of (refusal_of s (length inputs) (arguments_of s))) part_is)
+    (read.bytes_are ∙ ap (λ (z : ℤ). bytes_of z read.part) refused_is
+    ∙ ap (bytes_of (refusal_of s (length inputs) (arguments_of s))) part_is)
+
+bytes_in : (a : List ℕ) (o : ℤ) (x y : List ℕ) (t : ℕ) (b : List ℕ) (p : ℤ) → Read t a o x ≡ Read t b p y → x ≡ y
+bytes_in a o x y t b p e = cc
+
+-- a read that waits gets what the recorder computes
+pub read_got : (source : Source) (t : ℕ) (r : Recorder) (call : Call) (outcome : ℤ) (bytes : List ℕ) → IsSource source
+    → IsSafe source t (point_of r) → t < 2 ^ 32 → WaitsFor r.machine call kind.Read
+    → AllByRecursion (λ n. n < 2 ^ 32) call.args → IsBytes bytes
+    → IsRead source r call outcome bytes → IsGot source t [] (point_of r) (Read t call.args outcome bytes)
+read_got source t r call outcome bytes is_source safe early waits words are_bytes read =
+    let s = r.machine.state in
+    let inputs = contents source.inputs.now in
+    let there : ℕ = get_or r.counts (reg s 10) 0 in
+    let refused : ℤ = refusal_of s (length inputs) (arguments_of s) in
+    let is = read_is source t r call outcome bytes waits read in
     let within = part_within inputs source.piece there (arguments_of s) (safe.within (reg s 10)) in
     let most = is_source.short (reg s 10) in
-    let m : IsMoved s (refusal_of s (length source.inputs.now) (arguments_of s)) whole outcome bytes = record {
-      words = subst (AllByRecursion (λ n. n < 2 ^ 32)) args words;
-      are_bytes = are_bytes;
+    let moves : Moves s refused (whole_of source r) = record {
+      words = subst (AllByRecursion (λ n. n < 2 ^ 32)) (args_are s call waits.call_is) words;
+      are_bytes = subst IsBytes
+          (bytes_in call.args outcome bytes (bytes_of refused (whole_of source r)) t (arguments_of s)
+          (result_of refused (whole_of source r)) is) are_bytes;
       small = omega arith;
-      can_be = can_be s (length source.inputs.now) (arguments_of s);
-      moved = subst (λ (z : ℤ). IsTransferOf z whole outcome bytes) refused_is (subst (λ (w : List ℕ). IsTransferOf refused w outcome bytes) part_is moved);
     } in
-    let few = moved_few s (refusal_of s (length source.inputs.now) (arguments_of s)) whole bytes outcome m in
-    let text = read_text t s outcome bytes in
-    let due : IsDue source t r (Read t (arguments_of s) outcome bytes) = record {
-      time = refl;
-      form = read_form t s (refusal_of s (length source.inputs.now) (arguments_of s)) whole bytes outcome early (part_few inputs source.piece there (arguments_of s)) m;
-      kind_is = ap call_event waits.kind_is;
-      lawful = read_lawful t s (length source.inputs.now) whole bytes outcome m;
-      part = read_part inputs source.piece there s (refusal_of s (length source.inputs.now) (arguments_of s)) bytes outcome m;
-      short = omega arith;
-    } in
-    subst (λ (w : List ℕ). IsDue source t r (Read t w outcome bytes)) (sym args) due
+    got_at source t [] (point_of r) kind.Read (Read t call.args outcome bytes) waits.kind_is is
+    (read_form t s (length inputs) (whole_of source r) early (part_few inputs source.piece there (arguments_of s))
+    moves)
 
--- the bytes of a read have room in the window
-pub read_room : (source : Source) (t : ℕ) (r : Recorder) (call : Call) (outcome : ℤ) (bytes : List ℕ) → IsDue source t r (Read t call.args outcome bytes) → 0 < length bytes → IsTrue (in_window r.machine.state (reg r.machine.state 11) (length bytes))
-read_room source t r call outcome bytes due h = (read_held r.machine.state (length source.inputs.now) t call.args outcome bytes due.form due.lawful h).held
-
-pub read_records : (source : Source) (t : ℕ) (r : Recorder) (call : Call) (outcome : ℤ) (bytes : List ℕ) (hart : Hart) (offsets : List ℕ) (n : ℕ) (tape : Tape) → call ≡ call_of r.machine.state → IsDue source t r (Read t call.args outcome bytes) → hart ≡ running (after_read r.machine.state (reg r.machine.state 11) outcome bytes) → offsets ≡ counted r.offsets (get_or call.args 0 0) n → n ≡ length bytes → Adds r.tape (Read t call.args outcome bytes) tape → Records source t [] r (record { machine = hart; offsets = offsets; tape = tape })
-read_records source t r call outcome bytes hart offsets n tape call_is due machine_e offsets_e n_e adds =
+-- a read that moves bytes isn't refused
+read_moves : (source : Source) (t : ℕ) (r : Recorder) (call : Call) (outcome : ℤ) (bytes : List ℕ)
+    → WaitsFor r.machine call kind.Read → IsRead source r call outcome bytes → IsRecord (Read t call.args outcome bytes)
+    → 0 < length bytes → IsHeld r.machine.state (length source.inputs.now) call.args (length bytes)
+read_moves source t r call outcome bytes waits read form some =
     let s = r.machine.state in
-    let args = args_are s call call_is in
+    let lawful = subst (IsLawful s (length (contents source.inputs.now)))
+    (sym (read_is source t r call outcome bytes waits read))
+    (read_lawful t s (length (contents source.inputs.now)) (whole_of source r)) in
+    subst (λ (n : ℕ). IsHeld s n call.args (length bytes)) (length-map source.inputs.now _)
+    (read_held s (length (contents source.inputs.now)) t call.args outcome bytes form lawful some)
+
+-- its bytes have room in the window
+pub read_room : (source : Source) (t : ℕ) (r : Recorder) (call : Call) (outcome : ℤ) (bytes : List ℕ)
+    → WaitsFor r.machine call kind.Read → IsRead source r call outcome bytes → IsRecord (Read t call.args outcome bytes)
+    → 0 < length bytes → IsTrue (in_window r.machine.state (reg r.machine.state 11) (length bytes))
+read_room source t r call outcome bytes waits read form some =
+    (read_moves source t r call outcome bytes waits read form some).held
+
+-- and they are counted
+pub read_counts : (source : Source) (t : ℕ) (r : Recorder) (call : Call) (outcome : ℤ) (bytes : List ℕ)
+    → IsSource source → IsSafe source t (point_of r) → WaitsFor r.machine call kind.Read
+    → IsRead source r call outcome bytes → IsRecord (Read t call.args outcome bytes) → 0 < length bytes
+    → (channel_of call.args < 16) × (get_or r.counts (channel_of call.args) 0 + length bytes ≤ 2 ^ 26)
+read_counts source t r call outcome bytes is_source safe waits read form some =
+    let few = is_source.few in
+    let channel = (read_moves source t r call outcome bytes waits read form some).channel in
+    let most = is_source.short (channel_of call.args) in
+    let within = part_within (contents source.inputs.now) source.piece (get_or r.counts (channel_of call.args) 0)
+    call.args (safe.within (channel_of call.args)) in
+    let all = ap length read.part_is in
+    let moved = ap length read.bytes_are in
+    let bound = bytes_few read.refused read.part in
+    (omega arith, omega arith)
+
+length_if : (b : Bool) (bytes : List ℕ) → (if b then length bytes else 0) ≡ length (if b then bytes else [])
+length_if true bytes = refl
+length_if false bytes = refl
+
+pub read_records : (source : Source) (t : ℕ) (r : Recorder) (call : Call) (outcome : ℤ) (bytes : List ℕ) (hart : Hart)
+    (counts : List ℕ) (tape : Tape) → WaitsFor r.machine call kind.Read
+    → IsGot source t [] (point_of r) (Read t call.args outcome bytes)
+    → hart ≡ running (state_after r.machine.state (Read t (arguments_of r.machine.state) outcome bytes))
+    → ((c : ℕ) → get_or counts c 0 ≡ get_or r.counts c 0 + (if get_or call.args 0 0 == c then length bytes else 0))
+    → Adds r.tape (Read t call.args outcome bytes) tape
+    → Records source t [] (point_of r) (record { machine = hart; counts = counts; tape = tape })
+read_records source t r call outcome bytes hart counts tape waits got machine counted adds =
+    let s = r.machine.state in
     record {
       made = Read t call.args outcome bytes;
-      due = due;
+      kind_is = ap call_event waits.kind_is;
+      form = got.form;
+      is_due = got.is_due;
+      values_are = refl;
       keeps = record {
-        machine = machine_e ∙ ap (λ (w : List ℕ). running (after_read s (get_or w 1 0) outcome bytes)) (sym args);
-        offsets = offsets_e ∙ ap (counted r.offsets (get_or call.args 0 0)) n_e;
+        machine = machine ∙ ap (λ (w : List ℕ). running (state_after s (Read t w outcome bytes)))
+            (sym (args_are s call waits.call_is));
+        counts = λ c. counted c ∙ ap (λ (n : ℕ). get_or r.counts c 0 + n) (length_if (get_or call.args 0 0 == c) bytes);
         tape = adds;
       };
-      values_are = refl;
     }
-
--- a read that moves bytes has a channel
-pub read_channel : (source : Source) (t : ℕ) (r : Recorder) (at : ℕ) (args : List ℕ) (result : ℤ) (bytes : List ℕ) → IsSource source → IsDue source t r (Read at args result bytes) → 0 < length bytes → channel_of args < 16
-read_channel source t r at args result bytes is_source due h =
-    let few = is_source.few in
-    let channel = (read_held r.machine.state (length source.inputs.now) at args result bytes due.form due.lawful h).channel in
-    omega arith
-
--- a read gets no more than there is
-pub got_within : (inputs : List (List ℕ)) (piece offset : ℕ) (args : List ℕ) (result : ℤ) (bytes : List ℕ) → length bytes ≡ moved_length result → GetsPart inputs piece offset args result bytes → offset ≤ length (input_of inputs (channel_of args)) → offset + length bytes ≤ length (input_of inputs (channel_of args))
-got_within inputs piece offset args (pos n) bytes size part within =
-    let all = ap length part in
-    let end = part_within inputs piece offset args within in
-    omega arith
-got_within inputs piece offset args (negsuc n) bytes size part within = omega arith
-
--- what a read gets is counted
-pub read_counts : (source : Source) (t : ℕ) (r : Recorder) (args : List ℕ) (result : ℤ) (bytes : List ℕ) → IsSource source → IsSafe source t r → IsDue source t r (Read t args result bytes) → 0 < length bytes → (channel_of args < 16) × (get_or r.offsets (channel_of args) 0 + length bytes ≤ 2 ^ 26)
-read_counts source t r args result bytes is_source safe due h =
-    let most = is_source.short (channel_of args) in
-    let within = got_within (contents source.inputs.now) source.piece (get_or r.offsets (channel_of args) 0) args result bytes due.form.1.whole due.part (safe.within (channel_of args)) in
-    (read_channel source t r t args result bytes is_source due h, omega arith)
 
 -- ---- writes
 
-write_refusal : (hart : Hart) (call : Call) (refused : ℤ) (channels : ℕ) → WaitsFor hart call kind.Write → refused ≡ refusal hart.state channels call → refused ≡ refusal_of hart.state 16 (arguments_of hart.state)
+write_refusal : (hart : Hart) (call : Call) (refused : ℤ) (channels : ℕ) → WaitsFor hart call kind.Write
+    → refused ≡ refusal hart.state channels call → refused ≡ refusal_of hart.state 16 (arguments_of hart.state)
 write_refusal hart call refused channels waits e =
-    e ∙ ap (refusal hart.state channels) waits.call_is ∙ ap (λ (k : CallKind). refusal_by hart.state channels k (arguments_of hart.state)) waits.kind_is
+    e ∙ ap (refusal hart.state channels) waits.call_is
+    ∙ ap (λ (k : CallKind). refusal_by hart.state channels k (arguments_of hart.state)) waits.kind_is
 
--- a write that isn't refused writes as many bytes of memory as it asks for
-pub write_all : (s : State) (call : Call) (whole : List ℕ) → call ≡ call_of s → ((get_or call.args 2 0 ≡ 0) ⊎ IsTrue (in_window s (get_or call.args 1 0) (get_or call.args 2 0)) → whole ≡ bytes_at s (get_or call.args 1 0) (get_or call.args 2 0)) → refusal_of s 16 (arguments_of s) ≡ pos 0 → (whole ≡ bytes_at s (reg s 11) (reg s 12)) × (length whole ≡ reg s 12)
-write_all s call whole call_is part e =
-    let there = subst (λ (w : List ℕ). (get_or w 2 0 ≡ 0) ⊎ IsTrue (in_window s (get_or w 1 0) (get_or w 2 0)) → whole ≡ bytes_at s (get_or w 1 0) (get_or w 2 0)) (args_are s call call_is) part in
-    let held = unrefused_held s 16 e in
-    let whole_is = there held in
-    (whole_is, ap length whole_is ∙ length_held s (reg s 11) (reg s 12) held)
+write_by : (t : ℕ) (args args_t : List ℕ) (result result_t : ℤ) (bytes bytes_t : List ℕ) → args ≡ args_t
+    → result ≡ result_t → bytes ≡ bytes_t → Write t args result bytes ≡ Write t args_t result_t bytes_t
+write_by t args args_t result result_t bytes bytes_t a r b = cc
 
--- a write that waits gets what the recorder computes
-pub write_due : (source : Source) (t : ℕ) (r : Recorder) (call : Call) (refused : ℤ) (channels : ℕ) (whole bytes : List ℕ) (outcome : ℤ) → t < 2 ^ 32 → WaitsFor r.machine call kind.Write → AllByRecursion (λ n. n < 2 ^ 32) call.args → AllByRecursion (λ b. b < 256) bytes → refused ≡ refusal r.machine.state channels call → length whole ≤ 2 ^ 26 → (refusal_of r.machine.state 16 (arguments_of r.machine.state) ≡ pos 0 → (whole ≡ bytes_at r.machine.state (reg r.machine.state 11) (reg r.machine.state 12)) × (length whole ≡ reg r.machine.state 12)) → IsTransferOf refused whole outcome bytes → IsDue source t r (Write t call.args outcome bytes)
-write_due source t r call refused channels whole bytes outcome early waits words are_bytes refused_e small all moved =
+-- what is computed for a write: the refusal, the bytes in memory where the buffer is in the window, the result and the
+-- bytes
+pub record IsWritten (r : Recorder) (call : Call) (outcome : ℤ) (bytes : List ℕ) : Type 0 where
+  pub refused : ℤ
+  pub channels : ℕ
+  pub part : List ℕ
+  pub refused_is : refused ≡ refusal r.machine.state channels call
+  pub part_is : (get_or call.args 2 0 ≡ 0) ⊎ IsTrue
+      (in_window r.machine.state (get_or call.args 1 0) (get_or call.args 2 0))
+      → part ≡ bytes_at r.machine.state (get_or call.args 1 0) (get_or call.args 2 0)
+  pub outcome_is : outcome ≡ result_of refused part
+  pub bytes_are : bytes ≡ bytes_of refused part
+
+-- where the call is refused, it doesn't matter which bytes there are
+moved_same : (refused : ℤ) (part whole : List ℕ) → CanBe refused → (refused ≡ pos 0 → part ≡ whole)
+    → (result_of refused part ≡ result_of refused whole) × (bytes_of refused part ≡ bytes_of refused whole)
+moved_same (negsuc n) part whole can same = (refl, refl)
+moved_same (pos n) part whole can same = let equal = same (none_is n can) in
+    (ap (λ (w : List ℕ). pos (length w)) equal, equal)
+
+write_is : (t : ℕ) (r : Recorder) (call : Call) (outcome : ℤ) (bytes : List ℕ) → WaitsFor r.machine call kind.Write
+    → IsWritten r call outcome bytes → Write t call.args outcome bytes ≡ write_record t r.machine.state
+write_is t r call outcome bytes waits written =
     let s = r.machine.state in
     let args = args_are s call waits.call_is in
-    let refused_is = write_refusal r.machine call refused channels waits refused_e in
-    let m : IsMoved s (refusal_of s 16 (arguments_of s)) whole outcome bytes = record {
-      words = subst (AllByRecursion (λ n. n < 2 ^ 32)) args words;
-      are_bytes = are_bytes;
-      small = omega arith;
-      can_be = can_be s 16 (arguments_of s);
-      moved = subst (λ (z : ℤ). IsTransferOf z whole outcome bytes) refused_is moved;
-    } in
-    let few = moved_few s (refusal_of s 16 (arguments_of s)) whole bytes outcome m in
-    let text = write_text t s outcome bytes in
-    let due : IsDue source t r (Write t (arguments_of s) outcome bytes) = record {
-      time = refl;
-      form = write_form t s (refusal_of s 16 (arguments_of s)) whole bytes outcome early (λ e. (all e).1) m;
-      kind_is = ap call_event waits.kind_is;
-      lawful = write_lawful t s (length source.inputs.now) whole bytes outcome all m;
-      part = tt;
-      short = omega arith;
-    } in
-    subst (λ (w : List ℕ). IsDue source t r (Write t w outcome bytes)) (sym args) due
+    let refused : ℤ = refusal_of s 16 (arguments_of s) in
+    let whole : List ℕ = bytes_at s (reg s 11) (reg s 12) in
+    let refused_is = write_refusal r.machine call written.refused written.channels waits written.refused_is in
+    let there = subst (λ (w : List ℕ). (get_or w 2 0 ≡ 0) ⊎ IsTrue (in_window s (get_or w 1 0) (get_or w 2 0))
+    → written.part ≡ bytes_at s (get_or w 1 0) (get_or w 2 0)) args written.part_is in
+    let same = moved_same refused written.part whole (can_be s 16) (λ e. there (unrefused_held s 16 e)) in
+    write_by t call.args (arguments_of s) outcome (result_of refused whole) bytes (bytes_of refused whole) args
+    (written.outcome_is ∙ ap (λ (z : ℤ). result_of z written.part) refused_is ∙ same.0)
+    (written.bytes_are ∙ ap (λ (z : ℤ). bytes_of z written.part) refused_is ∙ same.1)
 
-pub write_records : (source : Source) (t : ℕ) (r : Recorder) (call : Call) (outcome : ℤ) (bytes : List ℕ) (hart : Hart) (tape : Tape) → IsDue source t r (Write t call.args outcome bytes) → hart ≡ running (after_write r.machine.state outcome) → Adds r.tape (Write t call.args outcome bytes) tape → Records source t [] r (record { machine = hart; offsets = r.offsets; tape = tape })
-write_records source t r call outcome bytes hart tape due machine_e adds =
-    record {
-      made = Write t call.args outcome bytes;
-      due = due;
-      keeps = record { machine = machine_e; offsets = refl; tape = adds };
-      values_are = refl;
-    }
+written_in : (a : List ℕ) (o : ℤ) (x y : List ℕ) (t : ℕ) (b : List ℕ) (p : ℤ) → Write t a o x ≡ Write t b p y → x ≡ y
+written_in a o x y t b p e = cc
+
+-- a write that waits gets what the recorder computes
+pub write_got : (source : Source) (t : ℕ) (r : Recorder) (call : Call) (outcome : ℤ) (bytes : List ℕ)
+    → IsSafe source t (point_of r) → t < 2 ^ 32 → WaitsFor r.machine call kind.Write
+    → AllByRecursion (λ n. n < 2 ^ 32) call.args → IsBytes bytes → IsWritten r call outcome bytes
+    → IsGot source t [] (point_of r) (Write t call.args outcome bytes)
+write_got source t r call outcome bytes safe early waits words are_bytes written =
+    let s = r.machine.state in
+    let refused : ℤ = refusal_of s 16 (arguments_of s) in
+    let whole : List ℕ = bytes_at s (reg s 11) (reg s 12) in
+    let is = write_is t r call outcome bytes waits written in
+    let window = safe.window in
+    let rest = length-drop (reg s 11 - s.base) s.memory in
+    let few = length-take (reg s 12) (drop (reg s 11 - s.base) s.memory) in
+    let moves : Moves s refused whole = record {
+      words = subst (AllByRecursion (λ n. n < 2 ^ 32)) (args_are s call waits.call_is) words;
+      are_bytes = subst IsBytes
+          (written_in call.args outcome bytes (bytes_of refused whole) t (arguments_of s) (result_of refused whole) is)
+          are_bytes;
+      small = omega arith;
+    } in
+    got_at source t [] (point_of r) kind.Write (Write t call.args outcome bytes) waits.kind_is is
+    (write_form t s early moves)
+
+nothing : (b : Bool) (xs ys : List ℕ) → length xs ≡ 0 → length ys ≡ 0 → length (if b then xs else ys) ≡ 0
+nothing true xs ys p q = p
+nothing false xs ys p q = q
+
+pub write_records : (source : Source) (t : ℕ) (r : Recorder) (call : Call) (outcome : ℤ) (bytes : List ℕ) (hart : Hart)
+    (tape : Tape) → WaitsFor r.machine call kind.Write
+    → IsGot source t [] (point_of r) (Write t call.args outcome bytes)
+    → hart ≡ running (state_after r.machine.state (Write t call.args outcome bytes))
+    → Adds r.tape (Write t call.args outcome bytes) tape
+    → Records source t [] (point_of r) (record { machine = hart; counts = r.counts; tape = tape })
+write_records source t r call outcome bytes hart tape waits got machine adds = record {
+  made = Write t call.args outcome bytes;
+  kind_is = ap call_event waits.kind_is;
+  form = got.form;
+  is_due = got.is_due;
+  values_are = refl;
+  keeps = record {
+    machine = machine;
+    counts = λ c. let none = nothing (get_or call.args 0 0 == c) [] [] refl refl in
+        omega arith;
+    tape = adds;
+  };
+}
 
 -- ---- other calls
 
-pub clock_due : (source : Source) (t : ℕ) (r : Recorder) (value : ℕ) → t < 2 ^ 32 → value < 2 ^ 64 → (call_of r.machine.state).kind ≡ kind.Clock → IsDue source t r (Clock t value)
-clock_due source t r value early fits k = record { time = refl; form = (early, fits); kind_is = ap call_event k; lawful = refl; part = tt; short = omega arith }
-
-pub other_due : (source : Source) (t : ℕ) (r : Recorder) (number : ℕ) → t < 2 ^ 32 → number < 2 ^ 32 → (call_of r.machine.state).kind ≡ kind.Other → number ≡ reg r.machine.state 17 → IsDue source t r (Other t number)
-other_due source t r number early fits k e = record {
-  time = refl;
-  form = (early, fits);
+pub clock_records : (source : Source) (t : ℕ) (p : Point) (value : ℕ) (after : Recorder) → t < 2 ^ 32 → value < 2 ^ 64
+    → (call_of p.state).kind ≡ kind.Clock → Keeps (Clock t value) p after → Records source t (value ∷ []) p after
+clock_records source t p value after early fits k keeps = record {
+  made = Clock t value;
   kind_is = ap call_event k;
-  lawful = passed (compared field.Number number (reg r.machine.state 17)) [] (ap pos e);
-  part = tt;
-  short = omega arith;
+  form = (early, fits);
+  is_due = (got_at source t (value ∷ []) p kind.Clock (Clock t value) k refl (early, fits)).is_due;
+  values_are = refl;
+  keeps = keeps;
 }
 
--- ---- a step that is a call
-
-due_before : (source : Source) (t : ℕ) (before : Recorder) (hart : Hart) (made : CallRecord) → hart ≡ waiting before.machine.state → IsDue source t (record { machine = hart; offsets = before.offsets; tape = before.tape }) made → IsDue source t before made
-due_before source t before hart made e due =
-    let state = ap (λ (h : Hart). h.state) e in
-    record {
-      time = due.time;
-      form = due.form;
-      kind_is = subst (λ (s : State). call_event (call_of s).kind ≡ kept_event (CallOf made)) state due.kind_is;
-      lawful = subst (λ (s : State). IsLawful s (length source.inputs.now) made) state due.lawful;
-      part = due.part;
-      short = due.short;
-    }
-
-keeps_before : (before after : Recorder) (hart : Hart) (made : CallRecord) → hart ≡ waiting before.machine.state → Keeps made (record { machine = hart; offsets = before.offsets; tape = before.tape }) after → Keeps made before after
-keeps_before before after hart made e keeps =
-    let m = moment_of (record { machine = hart; offsets = before.offsets; tape = before.tape }) in
-    record {
-      machine = keeps.machine ∙ ap running (same_state m (moment_of before) made (ap (λ (h : Hart). h.state) e));
-      offsets = keeps.offsets ∙ same_read m (moment_of before) made refl;
-      tape = keeps.tape;
-    }
-
-call_before : (source : Source) (t : ℕ) (values : List ℕ) (before after : Recorder) (hart : Hart) → hart ≡ waiting before.machine.state → IsCall source t values (record { machine = hart; offsets = before.offsets; tape = before.tape }) after → IsCall source t values before after
-call_before source t values before after hart e call =
-    let records = call.records in
-    record {
-      called = subst (λ (s : State). next s ≡ Called (call_of s)) (ap (λ (h : Hart). h.state) e) call.called;
-      records = record { made = records.made; due = due_before source t before hart records.made e records.due; keeps = keeps_before before after hart records.made e records.keeps; values_are = records.values_are };
-    }
-
-plain_before : (values : List ℕ) (before after : Recorder) (hart : Hart) → hart ≡ waiting before.machine.state → IsPlain values (record { machine = hart; offsets = before.offsets; tape = before.tape }) after → IsPlain values before after
-plain_before values before after hart e plain = record {
-  retired = subst (λ (s : State). next s ≡ Retired after.machine.state) (ap (λ (h : Hart). h.state) e) plain.retired;
-  goes_on = plain.goes_on;
-  offsets = plain.offsets;
-  tape = plain.tape;
-  no_values = plain.no_values;
+pub other_records : (source : Source) (t : ℕ) (p : Point) (number : ℕ) (after : Recorder) → t < 2 ^ 32 → number < 2 ^ 32
+    → (call_of p.state).kind ≡ kind.Other → number ≡ reg p.state 17 → Keeps (Other t number) p after
+    → Records source t [] p after
+other_records source t p number after early fits k e keeps = record {
+  made = Other t number;
+  kind_is = ap call_event k;
+  form = (early, fits);
+  is_due = (got_at source t [] p kind.Other (Other t number) k (ap (Other t) e)
+      (early, subst (λ (n : ℕ). n < 2 ^ 32) e fits)).is_due;
+  values_are = refl;
+  keeps = keeps;
 }
-
-goes_before : (source : Source) (t : ℕ) (values : List ℕ) (before after : Recorder) (hart : Hart) → hart ≡ waiting before.machine.state → (IsPlain values (record { machine = hart; offsets = before.offsets; tape = before.tape }) after ⊎ IsCall source t values (record { machine = hart; offsets = before.offsets; tape = before.tape }) after) → IsPlain values before after ⊎ IsCall source t values before after
-goes_before source t values before after hart e (inl plain) = inl (plain_before values before after hart e plain)
-goes_before source t values before after hart e (inr call) = inr (call_before source t values before after hart e call)
-
--- the step of a call that waits is that of the state before it
-pub step_before : (source : Source) (t : ℕ) (before after : Recorder) (hart : Hart) (told told_after : Option (List ℕ)) (o : Option RunEnd) → hart ≡ waiting before.machine.state → IsStepOf source t o (record { machine = hart; offsets = before.offsets; tape = before.tape }) after told told_after → IsStepOf source t o before after told told_after
-step_before source t before after hart told told_after None e on =
-    record { values = on.values; gained = on.gained; step = goes_before source t on.values before after hart e on.step }
-step_before source t before after hart told told_after (Some end) e stops =
-    record { gained = stops.gained; end_in = subst (λ (s : State). IsEndIn s t end) (ap (λ (h : Hart). h.state) e) stops.end_in; form = stops.form; tape = stops.tape }
-
-pub result_before : (source : Source) (t : ℕ) (before after : Recorder) (hart : Hart) (told told_after : Option (List ℕ)) (o : Result (Option RunEnd) NoMemory) → hart ≡ waiting before.machine.state → IfOk o (λ (x : Option RunEnd). IsStepOf source t x (record { machine = hart; offsets = before.offsets; tape = before.tape }) after told told_after) → IfOk o (λ (x : Option RunEnd). IsStepOf source t x before after told told_after)
-result_before source t before after hart told told_after (Ok x) e h = step_before source t before after hart told told_after x e h
-result_before source t before after hart told told_after (Err f) e h = h

@@ -15,13 +15,13 @@ use Rattle.log_model.specs.declared.RunEnd.{RunEnd}
 use Rattle.log_model.specs.Logs.{Log, IsLog, log_text, record_text, end_text}
 use Rattle.replay_model.specs.Fits.{Fits, start_in_image}
 use Rattle.record_model.specs.Recorded.{IsRecorded, clock_values}
-use Rattle.replay_log.proofs.Texts.{text_length}
+use Rattle.log_model.proofs.Texts.{text_length}
 use Rattle.sha2.specs.Sha256.{sha256}
 use Rattle.sha2.proofs.Facts256.{length-sha256}
 use Rattle.call_record.specs.Sources.{contents, IsSource}
 use Rattle.call_record.specs.Tapes.{Holds, log_with, log_of, IsComplete, IsTooLongWith}
 use Rattle.call_record.specs.Runs.{IsRunOf, IsWhole}
-use Rattle.call_record.specs.Captures.{Setting, IsCaptured, IsCause}
+use Rattle.call_record.specs.Captures.{setting_of, IsCaptured, IsCause}
 use Rattle.call_record.specs.declared.source.Source.{Source}
 use Rattle.call_record.specs.declared.tape.Tape.{Tape}
 use Rattle.call_record.specs.declared.fault.CaptureFault.{CaptureFault}
@@ -30,17 +30,23 @@ use Rattle.call_record.proofs.Digests.{digest_fits}
 
 -- ---- the inputs
 
-short_by : (inputs : List (Vec ℕ)) (c : ℕ) → AllByRecursion (λ (v : Vec ℕ). length v.items ≤ 2 ^ 26) inputs → length (get_or (contents inputs) c []) ≤ 2 ^ 26
+short_by : (inputs : List (Vec ℕ)) (c : ℕ) → AllByRecursion (λ (v : Vec ℕ). length v.items ≤ 2 ^ 26) inputs
+    → length (get_or (contents inputs) c []) ≤ 2 ^ 26
 short_by [] c all = omega arith
 short_by (v ∷ vs) zero all = all.0
 short_by (v ∷ vs) (suc c) all = short_by vs c all.1
 
-pub is_source : (source : Source) → length source.inputs.now ≤ 16 → All (λ (v : Vec ℕ). length v.items ≤ 2 ^ 26) source.inputs.now → IsSource source
-is_source source few short = record { few = few; short = λ c. short_by source.inputs.now c (recursion_from_All (λ (v : Vec ℕ). length v.items ≤ 2 ^ 26) source.inputs.now short) }
+pub is_source : (source : Source) → length source.inputs.now ≤ 16
+    → All (λ (v : Vec ℕ). length v.items ≤ 2 ^ 26) source.inputs.now → IsSource source
+is_source source few short = record {
+  few = few;
+  short = λ c. short_by source.inputs.now c
+      (recursion_from_All (λ (v : Vec ℕ). length v.items ≤ 2 ^ 26) source.inputs.now short);
+}
 
 -- ---- the log
 
--- what a run is recorded with
+-- how the run begins
 pub record Begins (program : List ℕ) (im : Image) (pages : ℕ) (source : Source) (s : State) : Type 0 where
   pub image_is : image program ≡ Ok im
   pub starts : start_of im pages ≡ Some s
@@ -51,7 +57,9 @@ pub record Begins (program : List ℕ) (im : Image) (pages : ℕ) (source : Sour
 abbrev pub whole_log : List ℕ → ℕ → Source → List CallRecord → RunEnd → Log
 whole_log program pages source records end = log_with pages (length source.inputs.now) (sha256 program) records end
 
-pub whole_form : (program : List ℕ) (im : Image) (pages : ℕ) (source : Source) (s : State) (steps : ℕ) (end : RunEnd) (records : List CallRecord) → Begins program im pages source s → IsRunOf s source steps end records → IsLog (whole_log program pages source records end)
+pub whole_form : (program : List ℕ) (im : Image) (pages : ℕ) (source : Source) (s : State) (steps : ℕ) (end : RunEnd)
+    (records : List CallRecord) → Begins program im pages source s → IsRunOf s source steps end records
+    → IsLog (whole_log program pages source records end)
 whole_form program im pages source s steps end records begins run = record {
   pages = (begins.some, begins.most);
   inputs = begins.few;
@@ -63,25 +71,31 @@ whole_form program im pages source s steps end records begins run = record {
   ends_after = run.ends_after;
 }
 
-pub whole_recorded : (program : List ℕ) (im : Image) (pages : ℕ) (source : Source) (s : State) (steps : ℕ) (end : RunEnd) (records : List CallRecord) → Begins program im pages source s → IsRunOf s source steps end records → IsRecorded program pages (contents source.inputs.now) (clock_values records) source.piece steps (whole_log program pages source records end)
+pub whole_recorded : (program : List ℕ) (im : Image) (pages : ℕ) (source : Source) (s : State) (steps : ℕ)
+    (end : RunEnd) (records : List CallRecord) → Begins program im pages source s → IsRunOf s source steps end records
+    → IsRecorded (setting_of program pages source.inputs.now source.piece steps) (clock_values records)
+    (whole_log program pages source records end)
 whole_recorded program im pages source s steps end records begins run =
     let log = whole_log program pages source records end in
     record {
-      form = whole_form program im pages source s steps end records begins run;
-      pages_are = refl;
-      channels = sym (length-map source.inputs.now (λ (v : Vec ℕ). v.items));
+      is_log = whole_form program im pages source s steps end records begins run;
+      has_pages = refl;
+      has_channels = sym (length-map source.inputs.now (λ (v : Vec ℕ). v.items));
       fits = record {
         start = s;
         digest = refl;
         begins = ap (λ (r : Result Image ImageKind). start_in_image r pages) begins.image_is ∙ begins.starts;
         agrees = run.agrees log refl refl refl;
       };
-      reads = run.reads;
-      clock = refl;
-      ends = run.ends;
+      reads_inputs = run.reads;
+      has_answers = refl;
+      ends_within = run.ends;
     }
 
-pub whole_size : (program : List ℕ) (im : Image) (pages : ℕ) (source : Source) (s : State) (steps : ℕ) (end : RunEnd) (tape : Tape) (records : List CallRecord) → Begins program im pages source s → IsRunOf s source steps end records → Holds tape records → tape.size + length (end_text end) ≡ length (log_text (whole_log program pages source records end))
+pub whole_size : (program : List ℕ) (im : Image) (pages : ℕ) (source : Source) (s : State) (steps : ℕ) (end : RunEnd)
+    (tape : Tape) (records : List CallRecord) → Begins program im pages source s → IsRunOf s source steps end records
+    → Holds tape records
+    → tape.size + length (end_text end) ≡ length (log_text (whole_log program pages source records end))
 whole_size program im pages source s steps end tape records begins run holds =
     let log = whole_log program pages source records end in
     let text = text_length log (whole_form program im pages source s steps end records begins run) in
@@ -90,23 +104,30 @@ whole_size program im pages source s steps end tape records begins run holds =
     omega arith
 
 -- the records that the tape keeps are all, where the log may be so long
-pub kept_all : (program : List ℕ) (pages : ℕ) (source : Source) (digest : List ℕ) (end : RunEnd) (tape : Tape) (records : List CallRecord) → digest ≡ sha256 program → Holds tape records → tape.size ≤ 2 ^ 26 → log_of tape pages (length source.inputs.now) digest end ≡ whole_log program pages source records end
+pub kept_all : (program : List ℕ) (pages : ℕ) (source : Source) (digest : List ℕ) (end : RunEnd) (tape : Tape)
+    (records : List CallRecord) → digest ≡ sha256 program → Holds tape records → tape.size ≤ 2 ^ 26
+    → log_of tape pages (length source.inputs.now) digest end ≡ whole_log program pages source records end
 kept_all program pages source digest end tape records e holds small =
     ap (λ (d : List ℕ). log_with pages (length source.inputs.now) d tape.records.items end) e
     ∙ ap (λ (w : List CallRecord). log_with pages (length source.inputs.now) (sha256 program) w end) (holds.kept small)
 
-pub complete : (program : List ℕ) (im : Image) (pages : ℕ) (source : Source) (s : State) (steps : ℕ) (digest : List ℕ) (end : RunEnd) (tape : Tape) (records : List CallRecord) → Begins program im pages source s → IsRunOf s source steps end records → Holds tape records → digest ≡ sha256 program → tape.size ≤ 2 ^ 26 → IsComplete (log_of tape pages (length source.inputs.now) digest end) tape.size
+pub complete : (program : List ℕ) (im : Image) (pages : ℕ) (source : Source) (s : State) (steps : ℕ) (digest : List ℕ)
+    (end : RunEnd) (tape : Tape) (records : List CallRecord) → Begins program im pages source s
+    → IsRunOf s source steps end records → Holds tape records → digest ≡ sha256 program → tape.size ≤ 2 ^ 26
+    → IsComplete (log_of tape pages (length source.inputs.now) digest end) tape.size
 complete program im pages source s steps digest end tape records begins run holds e small =
     let there : IsComplete (whole_log program pages source records end) tape.size = record {
       form = whole_form program im pages source s steps end records begins run;
       counted = whole_size program im pages source s steps end tape records begins run holds;
     } in
-    subst (λ (log : Log). IsComplete log tape.size) (sym (kept_all program pages source digest end tape records e holds small)) there
+    subst (λ (log : Log). IsComplete log tape.size)
+    (sym (kept_all program pages source digest end tape records e holds small)) there
 
-abbrev pub setting : List ℕ → ℕ → Source → ℕ → Setting
-setting program pages source steps = record { program = program; pages = pages; inputs = contents source.inputs.now; piece = source.piece; steps = steps }
-
-pub whole_captured : (program : List ℕ) (im : Image) (pages : ℕ) (source : Source) (s : State) (steps : ℕ) (end : RunEnd) (tape : Tape) (told told_after : Option (List ℕ)) → Begins program im pages source s → (whole : IsWhole s source steps end tape told told_after) → IsCaptured (setting program pages source steps) told told_after (whole_log program pages source whole.records end)
+pub whole_captured : (program : List ℕ) (im : Image) (pages : ℕ) (source : Source) (s : State) (steps : ℕ)
+    (end : RunEnd) (tape : Tape) (told told_after : Option (List ℕ)) → Begins program im pages source s
+    → (whole : IsWhole s source steps end tape told told_after)
+    → IsCaptured (setting_of program pages source.inputs.now source.piece steps) told told_after
+    (whole_log program pages source whole.records end)
 whole_captured program im pages source s steps end tape told told_after begins whole = record {
   answers = clock_values whole.records;
   gained = whole.gained;
@@ -117,20 +138,25 @@ whole_captured program im pages source s steps end tape told told_after begins w
 
 -- what is made of the tape: this log, which isn't too long
 abbrev pub IsMade : Tape → ℕ → Source → List ℕ → RunEnd → Log → Type 0
-IsMade tape pages source digest end log = (log ≡ log_of tape pages (length source.inputs.now) digest end) × (tape.size + length (end_text end) ≤ 2 ^ 26)
+IsMade tape pages source digest end log = (log ≡ log_of tape pages (length source.inputs.now) digest end) ×
+    (tape.size + length (end_text end) ≤ 2 ^ 26)
 
-pub ok_captured : (program : List ℕ) (im : Image) (pages : ℕ) (source : Source) (s : State) (steps : ℕ) (digest : List ℕ) (end : RunEnd) (tape : Tape) (told told_after : Option (List ℕ)) (o : Result Log CaptureFault) → Begins program im pages source s → digest ≡ sha256 program → IsWhole s source steps end tape told told_after → IfOk o (IsMade tape pages source digest end) → IfOk o (IsCaptured (setting program pages source steps) told told_after)
+pub ok_captured : (program : List ℕ) (im : Image) (pages : ℕ) (source : Source) (s : State) (steps : ℕ)
+    (digest : List ℕ) (end : RunEnd) (tape : Tape) (told told_after : Option (List ℕ)) (o : Result Log CaptureFault)
+    → Begins program im pages source s → digest ≡ sha256 program → IsWhole s source steps end tape told told_after
+    → IfOk o (IsMade tape pages source digest end)
+    → IfOk o (IsCaptured (setting_of program pages source.inputs.now source.piece steps) told told_after)
 ok_captured program im pages source s steps digest end tape told told_after (Ok log) begins e whole made =
     let small = made.1 in
     let all = kept_all program pages source digest end tape whole.records e whole.holds (omega arith) in
-    subst (IsCaptured (setting program pages source steps) told told_after) (sym (made.0 ∙ all)) (whole_captured program im pages source s steps end tape told told_after begins whole)
+    subst (IsCaptured (setting_of program pages source.inputs.now source.piece steps) told told_after)
+    (sym (made.0 ∙ all)) (whole_captured program im pages source s steps end tape told told_after begins whole)
 ok_captured program im pages source s steps digest end tape told told_after (Err f) begins e whole made = made
 
-pub ok_fits : (s : Setting) (told told_after : Option (List ℕ)) (o : Result Log CaptureFault) → IfOk o (IsCaptured s told told_after) → IfOk o (Fits s.program)
-ok_fits s told told_after (Ok log) captured = captured.recorded.fits
-ok_fits s told told_after (Err f) captured = captured
-
-too_long : (program : List ℕ) (im : Image) (pages : ℕ) (source : Source) (s : State) (steps : ℕ) (end : RunEnd) (tape : Tape) (told told_after : Option (List ℕ)) (f : CaptureFault) → Begins program im pages source s → IsWhole s source steps end tape told told_after → IsTooLongWith (tape.size + length (end_text end)) f → IsCause (setting program pages source steps) im told told_after f
+too_long : (program : List ℕ) (im : Image) (pages : ℕ) (source : Source) (s : State) (steps : ℕ) (end : RunEnd)
+    (tape : Tape) (told told_after : Option (List ℕ)) (f : CaptureFault) → Begins program im pages source s
+    → IsWhole s source steps end tape told told_after → IsTooLongWith (tape.size + length (end_text end)) f
+    → IsCause (setting_of program pages source.inputs.now source.piece steps) im told told_after f
 too_long program im pages source s steps end tape told told_after Window begins whole long = absurd long
 too_long program im pages source s steps end tape told told_after (LogTooLong size) begins whole long =
     let size_is = long.0 in
@@ -143,6 +169,10 @@ too_long program im pages source s steps end tape told told_after (LogTooLong si
     }
 too_long program im pages source s steps end tape told told_after NoMemory begins whole long = absurd long
 
-pub err_cause : (program : List ℕ) (im : Image) (pages : ℕ) (source : Source) (s : State) (steps : ℕ) (end : RunEnd) (tape : Tape) (told told_after : Option (List ℕ)) (o : Result Log CaptureFault) → Begins program im pages source s → IsWhole s source steps end tape told told_after → IfErr o (IsTooLongWith (tape.size + length (end_text end))) → IfErr o (IsCause (setting program pages source steps) im told told_after)
+pub err_cause : (program : List ℕ) (im : Image) (pages : ℕ) (source : Source) (s : State) (steps : ℕ) (end : RunEnd)
+    (tape : Tape) (told told_after : Option (List ℕ)) (o : Result Log CaptureFault) → Begins program im pages source s
+    → IsWhole s source steps end tape told told_after → IfErr o (IsTooLongWith (tape.size + length (end_text end)))
+    → IfErr o (IsCause (setting_of program pages source.inputs.now source.piece steps) im told told_after)
 err_cause program im pages source s steps end tape told told_after (Ok log) begins whole long = long
-err_cause program im pages source s steps end tape told told_after (Err f) begins whole long = too_long program im pages source s steps end tape told told_after f begins whole long
+err_cause program im pages source s steps end tape told told_after (Err f) begins whole long = too_long program im pages
+    source s steps end tape told told_after f begins whole long

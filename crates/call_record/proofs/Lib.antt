@@ -1,8 +1,5 @@
-pub mod Appending
-pub mod Continuing
-pub mod Windows
-pub mod Dues
-pub mod Calls
-pub mod SoFar
-pub mod Digests
-pub mod Captured
+mod Windows
+mod Calls
+mod SoFar
+mod Digests
+mod Captured

@@ -1,5 +1,5 @@
 -- The window keeps its size.
-use Rattle.std.proofs.Common.{◌≡◌, ℕ, ◌+◌, ◌-◌, ◌*◌, ◌^◌, ◌≤◌, nat_le, Bool, true, false, List, [], ◌∷◌, ◌++◌, length, take, drop, replicate, Some, None, refl, arith, rules, ap, sym, ◌∙◌, subst, length-append, length-take, length-drop}
+use Rattle.std.proofs.Common.{◌≡◌, ℕ, ◌+◌, ◌-◌, ◌*◌, ◌^◌, ◌≤◌, nat_le, Bool, true, false, List, [], ◌∷◌, ◌++◌, length, take, drop, replicate, Some, None, refl, arith, ap, sym, ◌∙◌, subst, length-append, length-take, length-drop}
 use Rattle.std.specs.Prelude.{if◌then◌else◌, IsTrue}
 use Rattle.std.specs.Int.{w32, to_le_bytes}
 use Rattle.std.specs.List.{AllByRecursion, list_all}
@@ -8,8 +8,7 @@ use Rattle.std.proofs.lemmas.List.{length-replicate}
 use Rattle.std.proofs.lemmas.List.Elements.{recursion_from_All}
 use Rattle.isa.specs.declared.Effect.{Effect}
 use Rattle.isa.specs.declared.Effect.TheVariants.{SetRegister, Jump, Branch, Load, Store, MoveOn, EnvironmentCall, Breakpoint}
-use Rattle.isa.specs.Machine.{State, Retired, Trapped, next, Fetch, Fetched, OutsideWindow, Illegal, fetch, outcome_of, execute, effect_of, landed, jumped, branched, loaded, stored, low_bytes, overwritten, in_window, is_aligned, moved_on, moved_on_with}
-use Rattle.log_model.specs.Logs.{IsTrapKind}
+use Rattle.isa.specs.Machine.{State, Retired, next, Fetch, Fetched, OutsideWindow, Illegal, fetch, outcome_of, execute, effect_of, landed, jumped, branched, loaded, stored, low_bytes, overwritten, in_window, is_aligned, moved_on, moved_on_with}
 use Rattle.elf_model.specs.Image.{Image, LoadedSegment}
 use Rattle.elf_model.specs.Window.{can_hold, laid_out, start_of, start_with, start_in}
 use Rattle.elf_image.specs.Layout.{IsLaidOut}
@@ -17,7 +16,8 @@ use Rattle.rv_machine.specs.Start.{HasRoom}
 use Rattle.rv_machine.proofs.Placing.{have_room}
 use Rattle.replay_model.proofs.Transfers.{window_end}
 
-pub overwritten_length : (memory : List ℕ) (i : ℕ) (bytes : List ℕ) → i + length bytes ≤ length memory → length (overwritten memory i bytes) ≡ length memory
+pub overwritten_length : (memory : List ℕ) (i : ℕ) (bytes : List ℕ) → i + length bytes ≤ length memory
+    → length (overwritten memory i bytes) ≡ length memory
 overwritten_length memory i bytes h =
     let front = length-take i memory in
     let rest = length-drop (i + length bytes) memory in
@@ -25,7 +25,8 @@ overwritten_length memory i bytes h =
     let all = length-append (take i memory ++ bytes) (drop (i + length bytes) memory) in
     omega arith
 
-pub overwritten_none : (memory : List ℕ) (i : ℕ) (bytes : List ℕ) → length bytes ≡ 0 → length (overwritten memory i bytes) ≡ length memory
+pub overwritten_none : (memory : List ℕ) (i : ℕ) (bytes : List ℕ) → length bytes ≡ 0
+    → length (overwritten memory i bytes) ≡ length memory
 overwritten_none memory i bytes h =
     let front = length-take i memory in
     let rest = length-drop (i + length bytes) memory in
@@ -34,7 +35,8 @@ overwritten_none memory i bytes h =
     omega arith
 
 pub window_start : (s : State) (place n : ℕ) → IsTrue (in_window s place n) → s.base ≤ place
-window_start s place n w = leb-true s.base place (and_parts (nat_le s.base place) (nat_le (place + n) (s.base + length s.memory)) w).0
+window_start s place n w = leb-true s.base place
+    (and_parts (nat_le s.base place) (nat_le (place + n) (s.base + length s.memory)) w).0
 
 -- ---- a step
 
@@ -45,11 +47,14 @@ landed_is false s after e = cc
 memory_same : (s after : State) → s ≡ after → length after.memory ≡ length s.memory
 memory_same s after e = ap (λ (x : State). length x.memory) (sym e)
 
-branch_keeps : (s after : State) (taken : Bool) (target : ℕ) → branched s taken target ≡ Retired after → length after.memory ≡ length s.memory
-branch_keeps s after true target e = memory_same (record s { pc = target }) after (landed_is (is_aligned target) (record s { pc = target }) after e)
+branch_keeps : (s after : State) (taken : Bool) (target : ℕ) → branched s taken target ≡ Retired after
+    → length after.memory ≡ length s.memory
+branch_keeps s after true target e = memory_same (record s { pc = target }) after
+    (landed_is (is_aligned target) (record s { pc = target }) after e)
 branch_keeps s after false target e = let same : moved_on s ≡ after = cc in memory_same (moved_on s) after same
 
-load_keeps : (s after : State) (b : Bool) (d address n : ℕ) (signed : Bool) → loaded s b d address n signed ≡ Retired after → length after.memory ≡ length s.memory
+load_keeps : (s after : State) (b : Bool) (d address n : ℕ) (signed : Bool)
+    → loaded s b d address n signed ≡ Retired after → length after.memory ≡ length s.memory
 load_keeps s after true d address n signed e = loaded_is s after _ e
   where
     loaded_is : (s after x : State) → Retired x ≡ Retired after → length after.memory ≡ length x.memory
@@ -59,12 +64,15 @@ load_keeps s after false d address n signed e = cc
 low_short : (n v : ℕ) → length (low_bytes n v) ≤ n
 low_short n v = let short = length-take n (to_le_bytes w32 v) in omega arith
 
-store_keeps : (s after : State) (b : Bool) (address n v : ℕ) → in_window s address n ≡ b → stored s b address n v ≡ Retired after → length after.memory ≡ length s.memory
+store_keeps : (s after : State) (b : Bool) (address n v : ℕ) → in_window s address n ≡ b
+    → stored s b address n v ≡ Retired after → length after.memory ≡ length s.memory
 store_keeps s after true address n v w e =
     let within = window_end s address n w in
-    let above = leb-true s.base address (and_parts (nat_le s.base address) (nat_le (address + n) (s.base + length s.memory)) w).0 in
+    let above = leb-true s.base address (and_parts (nat_le s.base address)
+    (nat_le (address + n) (s.base + length s.memory)) w).0 in
     let few = low_short n v in
-    let there : length (overwritten s.memory (address - s.base) (low_bytes n v)) ≡ length s.memory = overwritten_length s.memory (address - s.base) (low_bytes n v) (omega arith) in
+    let there : length (overwritten s.memory (address - s.base) (low_bytes n v))
+    ≡ length s.memory = overwritten_length s.memory (address - s.base) (low_bytes n v) (omega arith) in
     kept s after _ e ∙ there
   where
     kept : (s after x : State) → Retired x ≡ Retired after → length after.memory ≡ length x.memory
@@ -72,8 +80,10 @@ store_keeps s after true address n v w e =
 store_keeps s after false address n v w e = cc
 
 execute_keeps : (s after : State) (e : Effect) → execute s e ≡ Retired after → length after.memory ≡ length s.memory
-execute_keeps s after (SetRegister d v) h = let same : moved_on_with s d v ≡ after = cc in memory_same (moved_on_with s d v) after same
-execute_keeps s after (Jump d target) h = memory_same (jumped s d target) after (landed_is (is_aligned target) (jumped s d target) after h)
+execute_keeps s after (SetRegister d v) h = let same : moved_on_with s d v
+    ≡ after = cc in memory_same (moved_on_with s d v) after same
+execute_keeps s after (Jump d target) h = memory_same (jumped s d target) after
+    (landed_is (is_aligned target) (jumped s d target) after h)
 execute_keeps s after (Branch taken target) h = branch_keeps s after taken target h
 execute_keeps s after (Load d address n signed) h = load_keeps s after (in_window s address n) d address n signed h
 execute_keeps s after (Store address n v) h = store_keeps s after (in_window s address n) address n v refl h
@@ -90,70 +100,35 @@ fetched_keeps s after (Fetched i) h = execute_keeps s after (effect_of s i) h
 pub step_keeps : (s after : State) → next s ≡ Retired after → length after.memory ≡ length s.memory
 step_keeps s after h = fetched_keeps s after (fetch s) h
 
--- ---- the codes of traps
-
-kind_at : (k n : ℕ) → Trapped k ≡ Trapped n → k ≡ n
-kind_at k n e = cc
-
-trap_by : (k n : ℕ) → IsTrapKind k → Trapped k ≡ Trapped n → IsTrapKind n
-trap_by k n h e = subst IsTrapKind (kind_at k n e) h
-
-landed_kind : (b : Bool) (s : State) (n : ℕ) → landed b s ≡ Trapped n → IsTrapKind n
-landed_kind true s n e = cc
-landed_kind false s n e = trap_by 0 n (search rules) e
-
-branch_kind : (s : State) (taken : Bool) (target n : ℕ) → branched s taken target ≡ Trapped n → IsTrapKind n
-branch_kind s true target n e = landed_kind (is_aligned target) (record s { pc = target }) n e
-branch_kind s false target n e = cc
-
-load_kind : (s : State) (b : Bool) (d address size : ℕ) (signed : Bool) (n : ℕ) → loaded s b d address size signed ≡ Trapped n → IsTrapKind n
-load_kind s true d address size signed n e = cc
-load_kind s false d address size signed n e = trap_by 5 n (search rules) e
-
-store_kind : (s : State) (b : Bool) (address size v n : ℕ) → stored s b address size v ≡ Trapped n → IsTrapKind n
-store_kind s true address size v n e = cc
-store_kind s false address size v n e = trap_by 7 n (search rules) e
-
-execute_kind : (s : State) (e : Effect) (n : ℕ) → execute s e ≡ Trapped n → IsTrapKind n
-execute_kind s (SetRegister d v) n h = cc
-execute_kind s (Jump d target) n h = landed_kind (is_aligned target) (jumped s d target) n h
-execute_kind s (Branch taken target) n h = branch_kind s taken target n h
-execute_kind s (Load d address size signed) n h = load_kind s (in_window s address size) d address size signed n h
-execute_kind s (Store address size v) n h = store_kind s (in_window s address size) address size v n h
-execute_kind s MoveOn n h = cc
-execute_kind s EnvironmentCall n h = cc
-execute_kind s Breakpoint n h = trap_by 3 n (search rules) h
-
-fetched_kind : (s : State) (f : Fetch) (n : ℕ) → outcome_of s f ≡ Trapped n → IsTrapKind n
-fetched_kind s OutsideWindow n h = trap_by 1 n (search rules) h
-fetched_kind s Illegal n h = trap_by 2 n (search rules) h
-fetched_kind s (Fetched i) n h = execute_kind s (effect_of s i) n h
-
-pub step_kind : (s : State) (n : ℕ) → next s ≡ Trapped n → IsTrapKind n
-step_kind s n h = fetched_kind s (fetch s) n h
-
 -- ---- the start
 
-laid_length : (base n : ℕ) (memory : List ℕ) (segments : List LoadedSegment) → length memory ≡ n → AllByRecursion (HasRoom base (base + n)) segments → length (laid_out base memory segments) ≡ n
+laid_length : (base n : ℕ) (memory : List ℕ) (segments : List LoadedSegment) → length memory ≡ n
+    → AllByRecursion (HasRoom base (base + n)) segments → length (laid_out base memory segments) ≡ n
 laid_length base n memory [] e all = e
 laid_length base n memory (s ∷ ss) e all =
     let above = all.0.above_base in
     let below = all.0.below_end in
-    laid_length base n (overwritten memory (s.place - base) s.bytes) ss (overwritten_length memory (s.place - base) s.bytes (omega arith) ∙ e) all.1
+    laid_length base n (overwritten memory (s.place - base) s.bytes) ss
+    (overwritten_length memory (s.place - base) s.bytes (omega arith) ∙ e) all.1
 
 state_is : (s after : State) → Some s ≡ Some after → s ≡ after
 state_is s after e = cc
 
-start_by : (im : Image) (pages : ℕ) (s : State) (b : Bool) → IsLaidOut im → can_hold im pages ≡ b → start_with im pages (if b then Some (laid_out im.base (replicate (pages * 4096) 0) im.segments) else None) ≡ Some s → length s.memory ≡ pages * 4096
+start_by : (im : Image) (pages : ℕ) (s : State) (b : Bool) → IsLaidOut im → can_hold im pages ≡ b
+    → start_with im pages (if b then Some (laid_out im.base (replicate (pages * 4096) 0) im.segments) else None) ≡ Some
+    s → length s.memory ≡ pages * 4096
 start_by im pages s true laid holds e =
     let past = im.base + pages * 4096 in
-    let ends = (and_parts (nat_le past (2 ^ 32)) (list_all (λ (x : LoadedSegment). nat_le (x.place + x.size) past) im.segments) holds).1 in
+    let ends = (and_parts (nat_le past (2 ^ 32))
+    (list_all (λ (x : LoadedSegment). nat_le (x.place + x.size) past) im.segments) holds).1 in
     let room = have_room im.base past im.segments laid.placed ends in
     let memory = laid_out im.base (replicate (pages * 4096) 0) im.segments in
     memory_same (start_in im pages memory) s (state_is (start_in im pages memory) s e)
-    ∙ laid_length im.base (pages * 4096) (replicate (pages * 4096) 0) im.segments (length-replicate (pages * 4096) 0) (recursion_from_All (HasRoom im.base past) im.segments room)
+    ∙ laid_length im.base (pages * 4096) (replicate (pages * 4096) 0) im.segments (length-replicate (pages * 4096) 0)
+    (recursion_from_All (HasRoom im.base past) im.segments room)
 start_by im pages s false laid holds e = cc
 
 -- a run begins in a window of so many pages
-pub start_window : (im : Image) (pages : ℕ) (s : State) → IsLaidOut im → start_of im pages ≡ Some s → length s.memory ≡ pages * 4096
+pub start_window : (im : Image) (pages : ℕ) (s : State) → IsLaidOut im → start_of im pages ≡ Some s
+    → length s.memory ≡ pages * 4096
 start_window im pages s laid e = start_by im pages s (can_hold im pages) laid refl e

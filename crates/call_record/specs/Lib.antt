@@ -1,6 +1,5 @@
 pub mod Entries
 pub mod Tapes
-pub mod Transfers
 pub mod Sources
 pub mod Steps
 pub mod Runs

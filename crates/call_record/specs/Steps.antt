@@ -2,30 +2,37 @@
 use Rattle.std.specs.Prelude.{◌≡◌, ℕ, ◌+◌, ◌*◌, ◌^◌, ◌≤◌, ◌⊎◌, true, false, List, [], length, Option, Some, None, slice_index}
 use Rattle.isa.specs.declared.Call.{Call}
 use Rattle.isa.specs.declared.CallKind.{CallKind}
-use Rattle.isa.specs.declared.CallKind.TheVariants as kind
-use Rattle.isa.specs.Machine.{State, Retired, next, reg, call_of}
-use Rattle.isa.specs.Machine as machine
-use Rattle.isa.specs.Calls.{channel_of}
+use Rattle.isa.specs.Machine.{State, Retired, Called, next, reg, call_of}
 use Rattle.log_model.specs.declared.CallRecord.{CallRecord}
-use Rattle.log_model.specs.declared.CallRecord.TheVariants.{Read, Write, Clock, Other}
 use Rattle.log_model.specs.declared.RunEnd.{RunEnd}
-use Rattle.log_model.specs.declared.RunEnd.TheVariants.{Exit, Trap, Limit}
-use Rattle.log_model.specs.Logs.{at_of, IsRecord, IsEnd, record_text}
-use Rattle.replay_model.specs.Run.{Moment, answered}
-use Rattle.replay_model.specs.Comparison.{CallOf, kept_event, call_event, IsLawful}
-use Rattle.record_model.specs.Recorded.{input_of, GetsPart, clock_values_of}
+use Rattle.log_model.specs.Logs.{IsRecord, IsEnd}
+use Rattle.log_model.specs.Moved.{received_by}
+use Rattle.replay_model.specs.Run.{state_after}
+use Rattle.replay_model.specs.Comparison.{CallOf, kept_event, call_event}
+use Rattle.record_model.specs.Recorded.{input_of, clock_values_of}
+use Rattle.record_model.specs.Calls.{record_at, EndsIn}
 use Rattle.rv_machine.specs.Hart.{Hart, running}
 use Rattle.outer_io.specs.Tells.{Tells, Gains}
 use Rattle.call_record.specs.Sources.{contents}
 use Rattle.call_record.specs.Tapes.{Adds}
 use Rattle.call_record.specs.declared.source.Source.{Source}
+use Rattle.call_record.specs.declared.tape.Tape.{Tape}
 use Rattle.call_record.specs.declared.recorder.Recorder.{Recorder}
 
--- the window is one that runs have, no channel was read past its end, and the tape's count can't overflow
-pub record IsSafe (source : Source) (t : ℕ) (r : Recorder) : Type 0 where
-  pub window : length r.machine.state.memory ≤ 2 ^ 24
-  pub within : (c : ℕ) → slice_index r.offsets c ≤ length (input_of (contents source.inputs.now) c)
-  pub room : r.tape.size ≤ 48 + t * 2 ^ 27
+-- where a recording stands: the machine's state, how many bytes were received on each channel, and the tape
+pub record Point : Type 0 where
+  pub state : State
+  pub counts : List ℕ
+  pub tape : Tape
+
+abbrev pub point_of : Recorder → Point
+point_of r = record { state = r.machine.state; counts = r.counts; tape = r.tape }
+
+-- the window is one that runs have, no channel was read past its end, and the tape's size can't overflow
+pub record IsSafe (source : Source) (t : ℕ) (p : Point) : Type 0 where
+  pub window : length p.state.memory ≤ 2 ^ 24
+  pub within : (c : ℕ) → slice_index p.counts c ≤ length (input_of (contents source.inputs.now) c)
+  pub room : p.tape.size ≤ 48 + t * 2 ^ 32
 
 -- a call of this kind waits for its answer
 pub record WaitsFor (hart : Hart) (call : Call) (k : CallKind) : Type 0 where
@@ -37,76 +44,60 @@ pub record WaitsFor (hart : Hart) (call : Call) (k : CallKind) : Type 0 where
 pub record IsCalled (hart : Hart) (call : Call) : Type 0 where
   pub waits : hart.waits ≡ true
   pub call_is : call ≡ call_of hart.state
-  pub called : next hart.state ≡ machine.Called (call_of hart.state)
+  pub called : next hart.state ≡ Called (call_of hart.state)
 
 -- ---- calls
 
--- the recorder as a moment of its run
-abbrev pub moment_of : Recorder → Moment
-moment_of r = record { time = 0; state = r.machine.state; left = []; read = r.offsets; written = [] }
+-- the record of the call in this state after t steps, where the clock gives these answers
+abbrev pub due_record : Source → ℕ → List ℕ → Point → CallRecord
+due_record source t values p =
+    let s = p.state in
+    record_at (contents source.inputs.now) source.piece (slice_index p.counts (reg s 10)) values t s (call_of s).kind
 
--- where the call is a read, it gets the part of its channel's input from the channel's offset on
-abbrev pub GetsFrom : Source → List ℕ → CallRecord → Type 0
-GetsFrom source offsets (Read at args result bytes) = GetsPart (contents source.inputs.now) source.piece (slice_index offsets (channel_of args)) args result bytes
-GetsFrom source offsets (Write at args result bytes) = Unit {0}
-GetsFrom source offsets (Clock at value) = Unit {0}
-GetsFrom source offsets (Other at number) = Unit {0}
-
--- this is what the call that waits gets
-pub record IsDue (source : Source) (t : ℕ) (r : Recorder) (made : CallRecord) : Type 0 where
-  pub time : at_of made ≡ t
-  pub form : IsRecord made
-  pub kind_is : call_event (call_of r.machine.state).kind ≡ kept_event (CallOf made)
-  pub lawful : IsLawful r.machine.state (length source.inputs.now) made
-  pub part : GetsFrom source r.offsets made
-  pub short : length (record_text made) ≤ 2 ^ 27
-
--- the call was answered by it, and it was recorded
-pub record Keeps (made : CallRecord) (before after : Recorder) : Type 0 where
-  pub machine : after.machine ≡ running (answered (moment_of before) made).state
-  pub offsets : after.offsets ≡ (answered (moment_of before) made).read
+-- the call was answered by this record: the machine went on, what was received is counted, and the tape has the record
+pub record Keeps (made : CallRecord) (before : Point) (after : Recorder) : Type 0 where
+  pub machine : after.machine ≡ running (state_after before.state made)
+  pub counts : (c : ℕ) → slice_index after.counts c ≡ slice_index before.counts c + length (received_by c made)
   pub tape : Adds before.tape made after.tape
 
--- the call got this, and the clock these answers
-pub record Records (source : Source) (t : ℕ) (values : List ℕ) (before after : Recorder) : Type 0 where
+-- the call was recorded, and the clock gave these answers
+pub record Records (source : Source) (t : ℕ) (values : List ℕ) (before : Point) (after : Recorder) : Type 0 where
   pub made : CallRecord
-  pub due : IsDue source t before made
-  pub keeps : Keeps made before after
+  pub kind_is : call_event (call_of before.state).kind ≡ kept_event (CallOf made)
+  pub form : IsRecord made
+  pub is_due : made ≡ due_record source t values before
   pub values_are : clock_values_of made ≡ values
+  pub keeps : Keeps made before after
 
 -- ---- steps
 
-pub record IsPlain (values : List ℕ) (before after : Recorder) : Type 0 where
-  pub retired : next before.machine.state ≡ Retired after.machine.state
+pub record IsPlain (values : List ℕ) (before : Point) (after : Recorder) : Type 0 where
+  pub retired : next before.state ≡ Retired after.machine.state
   pub goes_on : after.machine.waits ≡ false
-  pub offsets : after.offsets ≡ before.offsets
+  pub counts : after.counts ≡ before.counts
   pub tape : after.tape ≡ before.tape
   pub no_values : values ≡ []
 
-pub record IsCall (source : Source) (t : ℕ) (values : List ℕ) (before after : Recorder) : Type 0 where
-  pub called : next before.machine.state ≡ machine.Called (call_of before.machine.state)
+pub record IsCall (source : Source) (t : ℕ) (values : List ℕ) (before : Point) (after : Recorder) : Type 0 where
+  pub called : next before.state ≡ Called (call_of before.state)
   pub records : Records source t values before after
 
--- the run ends in this state, after t steps
-abbrev pub IsEndIn : State → ℕ → RunEnd → Type 0
-IsEndIn s t (Exit at code) = (at ≡ t) × (next s ≡ machine.Called (call_of s)) × ((call_of s).kind ≡ kind.Exit) × (code ≡ reg s 10)
-IsEndIn s t (Trap at kind pc) = (at ≡ t) × (next s ≡ machine.Trapped kind) × (pc ≡ s.pc)
-IsEndIn s t (Limit at) = ⊥
-
 -- one more step was recorded
-pub record GoesOn (source : Source) (t : ℕ) (before after : Recorder) (told told_after : Option (List ℕ)) : Type 0 where
+pub record GoesOn (source : Source) (t : ℕ) (before : Point) (after : Recorder) (told told_after : Option (List ℕ)) :
+    Type 0 where
   pub values : List ℕ
   pub gained : Tells told told_after (Gains values)
   pub step : IsPlain values before after ⊎ IsCall source t values before after
 
 -- the run ended before another step, or by one that is no call to record
-pub record Stops (t : ℕ) (end : RunEnd) (before after : Recorder) (told told_after : Option (List ℕ)) : Type 0 where
-  pub gained : Tells told told_after (Gains [])
-  pub end_in : IsEndIn before.machine.state t end
-  pub form : IsEnd end
-  pub tape : after.tape ≡ before.tape
+pub record Stops (t : ℕ) (end : RunEnd) (before : Point) (after : Recorder) (told told_after : Option (List ℕ)) : Type 0
+  where
+    pub gained : Tells told told_after (Gains [])
+    pub ends_in : EndsIn before.state t end
+    pub form : IsEnd end
+    pub tape : after.tape ≡ before.tape
 
-abbrev pub IsStepOf : Source → ℕ → Option RunEnd → Recorder → Recorder → Option (List ℕ) → Option (List ℕ) → Type 0
+abbrev pub IsStepOf : Source → ℕ → Option RunEnd → Point → Recorder → Option (List ℕ) → Option (List ℕ) → Type 0
 IsStepOf source t None before after told told_after = GoesOn source t before after told told_after
 IsStepOf source t (Some end) before after told told_after = Stops t end before after told told_after
 

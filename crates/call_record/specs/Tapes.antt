@@ -8,10 +8,11 @@ use Rattle.call_record.specs.declared.tape.Tape.{Tape}
 use Rattle.call_record.specs.declared.fault.CaptureFault.{CaptureFault}
 use Rattle.call_record.specs.declared.fault.CaptureFault.TheVariants.{Window, LogTooLong, NoMemory}
 
--- the record counts, and it is kept as long as the text is within the limit
+-- the record counts, and it is kept where the text is within the limit with it; else nothing more is kept
 pub record Adds (before : Tape) (r : CallRecord) (after : Tape) : Type 0 where
   pub counted : after.size ≡ before.size + length (record_text r)
   pub kept : after.size ≤ 2 ^ 26 → after.records.items ≡ before.records.items ++ r ∷ []
+  pub not_kept : 2 ^ 26 < after.size → after.records.items ≡ before.records.items
 
 -- the tape has these records
 pub record Holds (tape : Tape) (records : List CallRecord) : Type 0 where
@@ -19,7 +20,8 @@ pub record Holds (tape : Tape) (records : List CallRecord) : Type 0 where
   pub kept : tape.size ≤ 2 ^ 26 → tape.records.items ≡ records
 
 abbrev pub log_with : ℕ → ℕ → List ℕ → List CallRecord → RunEnd → Log
-log_with pages inputs digest records end = record { pages = pages; inputs = inputs; digest = digest; records = records; end = end }
+log_with pages inputs digest records end = record
+    { pages = pages; inputs = inputs; digest = digest; records = records; end = end }
 
 -- the log of the records that a tape keeps
 abbrev pub log_of : Tape → ℕ → ℕ → List ℕ → RunEnd → Log

@@ -11,7 +11,7 @@ pub enum CaptureFault {
     /// The log of the whole run has this many bytes, which are more than 2^26.
     #[error("the log has {0} bytes")]
     LogTooLong(u64),
-    /// Want of memory.
+    /// Out of memory.
     #[error("out of memory")]
     NoMemory,
 }

@@ -1,12 +1,11 @@
 //! A run that is being recorded.
 
-ghost use Rattle.std.specs.Prelude.{◌≡◌, ◌+◌, ◌^◌, ◌<◌, ◌≤◌, [], false, true, length, slice_index, IsTrue, ◌⊎◌, IfOk, OnOk, OnErr};
+ghost use Rattle.std.specs.Prelude.{◌≡◌, ℕ, ◌+◌, ◌^◌, ◌<◌, ◌≤◌, ◌==◌, if◌then◌else◌, [], false, true, length, slice_index, IsTrue, ◌⊎◌, IfOk, OnOk, OnErr};
 ghost use Rattle.isa.specs.Machine.{call_of, in_window, bytes_at};
 ghost use Rattle.isa.specs.declared.CallKind.TheVariants as kind;
 ghost use Rattle.log_model.specs.declared.CallRecord.TheVariants.{Clock as ClockOf, Other as OtherOf};
-ghost use Rattle.replay_model.specs.Run.{counted};
 ghost use Rattle.call_record.specs.Sources.{IsSource};
-ghost use Rattle.call_record.specs.Steps.{IsSafe, IsCalled, WaitsFor, Keeps, Records, IsStepOf, Gained};
+ghost use Rattle.call_record.specs.Steps.{point_of, IsSafe, IsCalled, WaitsFor, Keeps, Records, IsStepOf, Gained};
 ghost use Rattle.call_record.specs.Runs.{IsFresh, IsWhole};
 
 use crate::entry::Entry;
@@ -20,30 +19,30 @@ use outer_io::Clock;
 use rv_machine::{Machine, Reply, Stepped};
 use std::alloc::Global;
 
-/// A machine, how many bytes were read on each channel, and the records of the calls so far.
+/// A machine, how many bytes were received on each channel, and the records of the calls so far.
 #[derive(Drop)]
 pub(crate) struct Recorder {
     pub machine: Machine,
-    pub offsets: [usize; 16],
+    pub counts: [usize; 16],
     pub tape: Tape,
 }
 
-/// Counts the bytes that a read got.
-fn count(offsets: &mut [usize; 16], channel: u32, length: usize)
-    requires { 0 < length → (channel < 16) × (slice_index offsets.old channel + length ≤ 2 ^ 26) }
-    ensures { offsets.new ≡ counted offsets.old channel length }
+/// Counts bytes that were received on a channel.
+fn count(counts: &mut [usize; 16], channel: u32, length: usize)
+    requires { 0 < length → (channel < 16) × (slice_index counts.old channel + length ≤ 2 ^ 26) }
+    ensures { (c : ℕ) → slice_index counts.new c ≡ slice_index counts.old c + (if channel == c then length else 0) }
 {
     if length > 0 {
-        offsets[channel as usize] += length;
+        counts[channel as usize] += length;
     }
 }
 
-/// How many bytes were read on a channel: none where there is no such channel.
-fn offset_of(offsets: &[usize; 16], channel: u32) -> usize
-    ensures { result ≡ slice_index offsets.now channel }
+/// How many bytes were received on a channel: none where there is no such channel.
+fn count_of(counts: &[usize; 16], channel: u32) -> usize
+    ensures { result ≡ slice_index counts.now channel }
 {
     if channel < 16 {
-        offsets[channel as usize]
+        counts[channel as usize]
     } else {
         0
     }
@@ -51,7 +50,8 @@ fn offset_of(offsets: &[usize; 16], channel: u32) -> usize
 
 /// The bytes of memory that a write takes: none where its buffer isn't wholly in the window.
 fn written(machine: &Machine, place: u32, count: u32) -> &[u8]
-    ensures part { (count ≡ 0) ⊎ IsTrue (in_window machine.now.state place count) → result.now ≡ bytes_at machine.now.state place count }
+    ensures part { (count ≡ 0) ⊎ IsTrue (in_window machine.now.state place count)
+        → result.now ≡ bytes_at machine.now.state place count }
     ensures short { length result.now ≤ length machine.now.state.memory }
 {
     match machine.bytes(place, count) {
@@ -68,7 +68,7 @@ impl Recorder {
     {
         Recorder {
             machine,
-            offsets: [0; 16],
+            counts: [0; 16],
             tape: Tape::new(alloc),
         }
     }
@@ -83,13 +83,13 @@ impl Recorder {
     ) -> Result<(), NoMemory>
         requires waits { WaitsFor self.old.machine call.now kind.Read }
         requires source { IsSource source.now }
-        requires safe { IsSafe source.now at self.old }
-        ensures { OnOk result (Records source.now at [] self.old self.new) }
+        requires safe { IsSafe source.now at (point_of self.old) }
+        ensures { OnOk result (Records source.now at [] (point_of self.old) self.new) }
     {
         let refusal = self.machine.refusal(call, source.channels());
-        let offset = offset_of(&self.offsets, call.args[0]);
+        let offset = count_of(&self.counts, call.args[0]);
         let transfer = Transfer::unless_refused(refusal, source.part(&call.args, offset));
-        count(&mut self.offsets, call.args[0], transfer.bytes.len());
+        count(&mut self.counts, call.args[0], transfer.bytes.len());
         self.tape.add(
             alloc,
             Entry::Read {
@@ -116,8 +116,8 @@ impl Recorder {
     ) -> Result<(), NoMemory>
         requires waits { WaitsFor self.old.machine call.now kind.Write }
         requires source { IsSource source.now }
-        requires safe { IsSafe source.now at self.old }
-        ensures { OnOk result (Records source.now at [] self.old self.new) }
+        requires safe { IsSafe source.now at (point_of self.old) }
+        ensures { OnOk result (Records source.now at [] (point_of self.old) self.new) }
     {
         let refusal = self.machine.refusal(call, source.channels());
         let transfer = Transfer::unless_refused(
@@ -142,8 +142,8 @@ impl Recorder {
     fn clock(&mut self, alloc: Global, at: u32, value: u64) -> Result<(), NoMemory>
         requires waits { self.old.machine.waits ≡ true }
         requires kind { (call_of self.old.machine.state).kind ≡ kind.Clock }
-        requires room { self.old.tape.size < 2 ^ 63 }
-        ensures { OnOk result (Keeps (ClockOf at value) self.old self.new) }
+        requires room { self.old.tape.size + 13 < 2 ^ 64 }
+        ensures { OnOk result (Keeps (ClockOf at value) (point_of self.old) self.new) }
     {
         self.tape.add(alloc, Entry::Clock { at, value })?;
         self.machine.answer(Reply::Clock { value });
@@ -154,8 +154,8 @@ impl Recorder {
     fn other(&mut self, alloc: Global, at: u32, number: u32) -> Result<(), NoMemory>
         requires waits { self.old.machine.waits ≡ true }
         requires kind { (call_of self.old.machine.state).kind ≡ kind.Other }
-        requires room { self.old.tape.size < 2 ^ 63 }
-        ensures { OnOk result (Keeps (OtherOf at number) self.old self.new) }
+        requires room { self.old.tape.size + 13 < 2 ^ 64 }
+        ensures { OnOk result (Keeps (OtherOf at number) (point_of self.old) self.new) }
     {
         self.tape.add(alloc, Entry::Other { at, number })?;
         self.machine.answer(Reply::Other);
@@ -173,8 +173,9 @@ impl Recorder {
     ) -> Result<Option<RunEnd>, NoMemory>
         requires called { IsCalled self.old.machine call.now }
         requires source { IsSource source.now }
-        requires safe { IsSafe source.now at self.old }
-        ensures ok { IfOk result (λ end. IsStepOf source.now at end self.old self.new (K.answers clock.old) (K.answers clock.new)) }
+        requires safe { IsSafe source.now at (point_of self.old) }
+        ensures ok { IfOk result (λ end. IsStepOf source.now at end (point_of self.old) self.new
+            (K.answers clock.old) (K.answers clock.new)) }
         ensures gained { OnErr result (Gained (K.answers clock.old) (K.answers clock.new)) }
     {
         match call.kind {
@@ -211,8 +212,9 @@ impl Recorder {
     ) -> Result<Option<RunEnd>, NoMemory>
         requires goes_on { self.old.machine.waits ≡ false }
         requires source { IsSource source.now }
-        requires safe { IsSafe source.now at self.old }
-        ensures ok { IfOk result (λ end. IsStepOf source.now at end self.old self.new (K.answers clock.old) (K.answers clock.new)) }
+        requires safe { IsSafe source.now at (point_of self.old) }
+        ensures ok { IfOk result (λ end. IsStepOf source.now at end (point_of self.old) self.new
+            (K.answers clock.old) (K.answers clock.new)) }
         ensures gained { OnErr result (Gained (K.answers clock.old) (K.answers clock.new)) }
     {
         match self.machine.step() {
@@ -234,7 +236,8 @@ impl Recorder {
         requires fresh { IsFresh self.old }
         requires goes_on { self.old.machine.waits ≡ false }
         requires window { length self.old.machine.state.memory ≤ 2 ^ 24 }
-        ensures ok { IfOk result (λ end. IsWhole self.old.machine.state source.now steps end self.new.tape (K.answers clock.old) (K.answers clock.new)) }
+        ensures ok { IfOk result (λ end. IsWhole self.old.machine.state source.now steps end self.new.tape
+            (K.answers clock.old) (K.answers clock.new)) }
         ensures gained { OnErr result (Gained (K.answers clock.old) (K.answers clock.new)) }
     {
         for at in 0..steps {

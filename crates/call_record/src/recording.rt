@@ -4,9 +4,7 @@ ghost use Rattle.std.specs.Prelude.{◌≡◌, ◌≤◌, ◌^◌, ◌↔◌, No
 ghost use Rattle.std.specs.List.{All};
 ghost use Rattle.elf_model.specs.Image.{image as image_of_file};
 ghost use Rattle.elf_model.specs.Window.{start_of};
-ghost use Rattle.replay_model.specs.Fits.{Fits};
-ghost use Rattle.call_record.specs.Sources.{contents};
-ghost use Rattle.call_record.specs.Captures.{IsCaptured, IsCause};
+ghost use Rattle.call_record.specs.Captures.{setting_of, IsCaptured, IsCause};
 
 use crate::fault::CaptureFault;
 use crate::recorder::Recorder;
@@ -20,14 +18,15 @@ use std::alloc::Global;
 
 /// Runs a program, of which `image` is the image, and gives the log of the run.
 ///
-/// The window has this many pages of 4096 bytes, 1 to 4096. There are at most 16 inputs, each of at most 2^26 bytes:
-/// input c is what the guest reads on channel c. A read gets the next bytes of its channel, at most as many as it asks
-/// for and at most `piece`. The clock is asked once for each clock call of the guest, and at no other time. The run is
-/// cut off once `steps` steps are done.
+/// The window has this many pages of 4096 bytes, 1 to 4096. There are at most 16 inputs, each of at most 2^26
+/// bytes: input c is what the guest reads on channel c. A read gets the next bytes of its channel, at most as
+/// many as it asks for and at most `piece`: with a piece of 0 each read that isn't refused gets 0 bytes, as at
+/// the end of its input. The clock is read once for each clock call of the guest, and at no other time. The run
+/// is cut off once `steps` steps are done: with 0 steps the log has no record, and its end is a limit at 0.
 ///
 /// The log fits the program. The faults are: `Window`, exactly where the window can't hold the image; and
-/// `LogTooLong`, where the log of the whole run has more than 2^26 bytes, with their number. Else want of memory is
-/// `NoMemory`.
+/// `LogTooLong`, where the log of the whole run has more than 2^26 bytes, with their number: the run goes on to
+/// its end, but no more records are kept. Else out of memory is `NoMemory`.
 pub fn capture<K: Clock>(
     alloc: Global,
     program: &[u8],
@@ -43,10 +42,11 @@ pub fn capture<K: Clock>(
     requires most { pages ≤ 4096 }
     requires few { length inputs.now ≤ 16 }
     requires short { All (λ v. length v.items ≤ 2 ^ 26) inputs.now }
-    ensures captured { IfOk result (IsCaptured (record { program = program.now; pages = pages; inputs = contents inputs.now; piece = piece; steps = steps }) (K.answers clock.old) (K.answers clock.new)) }
-    ensures fits { IfOk result (Fits program.now) }
+    ensures captured { IfOk result (IsCaptured (setting_of program.now pages inputs.now piece steps)
+        (K.answers clock.old) (K.answers clock.new)) }
     ensures window { (result ≡ Err CaptureFault.Window) ↔ (start_of image.now pages ≡ None) }
-    ensures cause { IfErr result (IsCause (record { program = program.now; pages = pages; inputs = contents inputs.now; piece = piece; steps = steps }) image.now (K.answers clock.old) (K.answers clock.new)) }
+    ensures cause { IfErr result (IsCause (setting_of program.now pages inputs.now piece steps) image.now
+        (K.answers clock.old) (K.answers clock.new)) }
 {
     // The contract of `segments` says how they lie.
     let _segments = image.segments();
@@ -63,7 +63,7 @@ pub fn capture<K: Clock>(
     };
     let Recorder {
         machine: _,
-        offsets: _,
+        counts: _,
         tape,
     } = recorder;
     tape.into_log(pages, inputs.len() as u32, Sha256::digest(program), end)

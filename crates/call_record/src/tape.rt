@@ -56,9 +56,10 @@ impl Tape {
         digest: [u8; 32],
         end: RunEnd,
     ) -> Result<Log, CaptureFault>
-        requires room { self.size < 2 ^ 63 }
+        requires room { self.size + 13 < 2 ^ 64 }
         requires complete { self.size ≤ 2 ^ 26 → IsComplete (log_of self pages inputs digest end) self.size }
-        ensures ok { IfOk result (λ log. (log ≡ log_of self pages inputs digest end) × (self.size + length (end_text end) ≤ 2 ^ 26)) }
+        ensures ok { IfOk result (λ log. (log ≡ log_of self pages inputs digest end)
+            × (self.size + length (end_text end) ≤ 2 ^ 26)) }
         ensures fault { IfErr result (IsTooLongWith (self.size + length (end_text end))) }
     {
         let size = self.size + end_length(end);

@@ -4,6 +4,8 @@
 //! What there is to read stands in specs/.
 #![tactic(auto)]
 
+pub mod laws;
+
 use thiserror::Error;
 
 /// Why a file is no image: the first of these ten faults that holds, in this order.

@@ -16,10 +16,12 @@ use Rattle.flow_model.specs.declared.Loc.{Loc}
 use Rattle.flow_model.specs.declared.Loc.TheVariants.{Reg, Mem}
 use Rattle.flow_model.specs.declared.Rule.{Rule}
 use Rattle.flow_model.specs.declared.Rule.TheVariants.{Copy, Compute}
-use Rattle.flow_model.specs.Sets.{loc_cmp, Ascends}
-use Rattle.flow_model.specs.Flow.{Target, lane, lanes, to_register, nothing, computed, in_first_lane, loaded_byte, signed_load, moved_or, each_lane, all_lanes, shifted_lanes, flow, cleared, wrap}
+use Rattle.sorted_set.specs.Sets.{Ascends}
+use Rattle.flow_model.specs.Orders.{loc_cmp}
+use Rattle.isa.specs.Machine.{wrap}
+use Rattle.flow_model.specs.Flow.{Target, lane, lanes, to_register, nothing, computed, in_first_lane, loaded_byte, signed_load, moved_or, each_lane, all_lanes, shifted_lanes, flow, cleared}
 use Rattle.flow_model.specs.OriginLaws.{FlowAscends, ClearedAscends}
-use Rattle.flow_model.proofs.Ascending.{Ascends-union}
+use Rattle.sorted_set.proofs.Algebra.{Ascends-union}
 use Rattle.flow_model.proofs.Orders.{loc_total}
 
 -- origins that ascend, lane by lane or byte by byte

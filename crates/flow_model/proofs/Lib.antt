@@ -1,5 +1,5 @@
-pub mod Ascending
 pub mod Orders
-pub mod Origins
-pub mod FlowOrder
-pub mod OriginsRead
+mod Origins
+mod FlowOrder
+mod OriginsRead
+mod Members

@@ -1,4 +1,4 @@
--- The orders of locations and of source bytes.
+-- The orders of locations, source bytes and output bytes are total, and only the same tie. Crates above cite these lemmas.
 use Rattle.std.proofs.Common.{◌≡◌, ℕ, List, [], ◌∷◌, refl, ap, ap₂, sym, ◌∙◌}
 use Rattle.std.specs.Ordering.{nat_cmp}
 use Rattle.std.specs.Cmp.{IsTotalOrder, on_total}
@@ -9,7 +9,7 @@ use Rattle.flow_model.specs.declared.Loc.{Loc}
 use Rattle.flow_model.specs.declared.Loc.TheVariants.{Reg, Mem}
 use Rattle.flow_model.specs.declared.SourceByte.{SourceByte}
 use Rattle.flow_model.specs.declared.SinkByte.{SinkByte}
-use Rattle.flow_model.specs.Sets.{loc_key, source_key, loc_cmp, source_cmp, sink_key, sink_cmp}
+use Rattle.flow_model.specs.Orders.{loc_key, source_key, loc_cmp, source_cmp, sink_key, sink_cmp}
 
 pub source_total : IsTotalOrder source_cmp
 source_total = on_total source_key nat_list_cmp_total

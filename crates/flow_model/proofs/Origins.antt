@@ -5,20 +5,21 @@ use Rattle.flow_model.specs.declared.Loc.{Loc}
 use Rattle.flow_model.specs.declared.SourceByte.{SourceByte}
 use Rattle.flow_model.specs.declared.StepSeen.{StepSeen}
 use Rattle.flow_model.specs.declared.CallSeen.{CallSeen}
-use Rattle.flow_model.specs.Sets.{union, source_cmp, Ascends}
+use Rattle.sorted_set.specs.Sets.{union, Ascends}
+use Rattle.flow_model.specs.Orders.{source_cmp}
 use Rattle.flow_model.specs.Flow.{from, is_received, from_call}
-use Rattle.flow_model.specs.Origins.{Policy, origins, introduced, fresh, fresh_by, byte_at, gathered, after_step, step_at}
-use Rattle.flow_model.proofs.Ascending.{Ascends-union}
+use Rattle.flow_model.specs.Origins.{Policy, origins, introduced, fresh, fresh_by, byte_at, union_over, after_step, step_at}
+use Rattle.sorted_set.proofs.Algebra.{Ascends-union}
 use Rattle.flow_model.proofs.Orders.{source_total}
 
-pub Ascends-gathered : (before : Loc → List SourceByte) → ((l : Loc) → Ascends source_cmp (before l)) → (ls : List Loc) → Ascends source_cmp (gathered before ls)
-Ascends-gathered before h [] = tt
-Ascends-gathered before h (l ∷ []) = h l
-Ascends-gathered before h (l ∷ m ∷ ls) = Ascends-union source_total (before l) _ (Ascends-gathered before h (m ∷ ls))
+pub Ascends-union_over : (before : Loc → List SourceByte) → ((l : Loc) → Ascends source_cmp (before l)) → (ls : List Loc) → Ascends source_cmp (union_over before ls)
+Ascends-union_over before h [] = tt
+Ascends-union_over before h (l ∷ []) = h l
+Ascends-union_over before h (l ∷ m ∷ ls) = Ascends-union source_total (before l) _ (Ascends-union_over before h (m ∷ ls))
 
 pub Ascends-after_step : (policy : Policy) (step : Option StepSeen) (before : Loc → List SourceByte) → ((l : Loc) → Ascends source_cmp (before l)) → (l : Loc) → Ascends source_cmp (after_step policy step before l)
 Ascends-after_step policy None before h l = h l
-Ascends-after_step policy (Some step) before h l = Ascends-union source_total (fresh policy step l) _ (Ascends-gathered before h (from policy.rule step l))
+Ascends-after_step policy (Some step) before h l = Ascends-union source_total (fresh policy step l) _ (Ascends-union_over before h (from policy.rule step l))
 
 pub Ascends-origins : (policy : Policy) (trace : List StepSeen) (t : ℕ) (l : Loc) → Ascends source_cmp (origins policy trace t l)
 Ascends-origins policy trace zero l = tt
@@ -28,6 +29,3 @@ Ascends-origins policy trace (suc t) l = Ascends-after_step policy (step_at trac
 pub kept : (policy : Policy) (step : StepSeen) (before : Loc → List SourceByte) (l : Loc) → from policy.rule step l ≡ l ∷ [] → fresh policy step l ≡ []
     → after_step policy (Some step) before l ≡ before l
 kept policy step before l e f = rw (e, f) refl
-
-pub received_fresh : (policy : Policy) (call : CallSeen) (l : Loc) (b : Bool) → b ≡ true → (cond b (introduced policy (byte_at call l)) []) ≡ introduced policy (byte_at call l)
-received_fresh policy call l b e = rw e refl

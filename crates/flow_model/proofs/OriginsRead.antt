@@ -3,15 +3,15 @@ use Rattle.std.proofs.Common.{◌≡◌, ℕ, zero, suc, ◌+◌, ◌-◌, ◌<�
 use Rattle.std.specs.Prelude.{Option, Some, None}
 use Rattle.std.specs.List.{AllByRecursion}
 use Rattle.std.proofs.lemmas.List.Elements.{All-from_recursion}
-use Rattle.std.specs.declared.cmp.Ordering.{Ordering}
-use Rattle.std.specs.declared.cmp.Ordering.TheVariants.{Less, Equal, Greater}
 use Rattle.flow_model.specs.declared.Loc.{Loc}
 use Rattle.flow_model.specs.declared.SourceByte.{SourceByte}
 use Rattle.flow_model.specs.declared.StepSeen.{StepSeen}
 use Rattle.flow_model.specs.declared.CallSeen.{CallSeen}
-use Rattle.flow_model.specs.Sets.{union, inserted, placed, source_cmp}
+use Rattle.sorted_set.specs.Sets.{union}
+use Rattle.sorted_set.proofs.Algebra.{All-union}
+use Rattle.flow_model.specs.Orders.{source_cmp}
 use Rattle.flow_model.specs.Flow.{from, is_received, from_instruction_or, origins_by, cleared}
-use Rattle.flow_model.specs.Origins.{Policy, origins, introduced, fresh, fresh_by, byte_at, gathered, after_step, step_at}
+use Rattle.flow_model.specs.Origins.{Policy, origins, introduced, fresh, fresh_by, byte_at, union_over, after_step, step_at}
 use Rattle.flow_model.specs.OriginLaws.{LeavesAlone, StepKeepsOrigins, StepsKeepOrigins, ReceivedHasItsSource, WasRead, OriginsWereRead}
 use Rattle.flow_model.proofs.Origins.{kept}
 
@@ -58,23 +58,10 @@ received_has_its_source policy trace t l step call s c e =
 
 -- ---- each origin was read
 
-module _ (P : SourceByte → Type 0) where
-  all_inserted : (x : SourceByte) (ys : List SourceByte) → P x → AllByRecursion P ys → AllByRecursion P (inserted source_cmp x ys)
-  all_inserted x [] p h = (p, tt)
-  all_inserted x (y ∷ ys) p h = by (all_inserted x ys p h.1) (source_cmp x y) where
-    by : AllByRecursion P (inserted source_cmp x ys) → (r : Ordering) → AllByRecursion P (placed r x y ys (inserted source_cmp x ys))
-    by ih Less = (p, h)
-    by ih Equal = h
-    by ih Greater = (h.0, ih)
-
-  all_union : (xs ys : List SourceByte) → AllByRecursion P xs → AllByRecursion P ys → AllByRecursion P (union source_cmp xs ys)
-  all_union [] ys h g = g
-  all_union (x ∷ xs) ys h g = all_inserted x (union source_cmp xs ys) h.0 (all_union xs ys h.1 g)
-
-  all_gathered : (before : Loc → List SourceByte) → ((l : Loc) → AllByRecursion P (before l)) → (ls : List Loc) → AllByRecursion P (gathered before ls)
-  all_gathered before h [] = tt
-  all_gathered before h (l ∷ []) = h l
-  all_gathered before h (l ∷ m ∷ ls) = all_union (before l) (gathered before (m ∷ ls)) (h l) (all_gathered before h (m ∷ ls))
+all_union_over : (P : SourceByte → Type 0) (before : Loc → List SourceByte) → ((l : Loc) → AllByRecursion P (before l)) → (ls : List Loc) → AllByRecursion P (union_over before ls)
+all_union_over P before h [] = tt
+all_union_over P before h (l ∷ []) = h l
+all_union_over P before h (l ∷ m ∷ ls) = All-union source_cmp P (before l) (union_over before (m ∷ ls)) (h l) (all_union_over P before h (m ∷ ls))
 
 all_map : (P Q : SourceByte → Type 0) → ((b : SourceByte) → P b → Q b) → (xs : List SourceByte) → AllByRecursion P xs → AllByRecursion Q xs
 all_map P Q f [] h = tt
@@ -125,8 +112,8 @@ origins_by_recursion policy trace (suc t) l = by (λ m. all_map _ _ (later polic
       → AllByRecursion (WasRead policy trace (suc t)) (after_step policy o (origins policy trace t) l)
   by ih None e = ih l
   by ih (Some step) e =
-      all_union (WasRead policy trace (suc t)) (fresh policy step l) _ (fresh_was_read policy trace t l step e step.call refl)
-      (all_gathered (WasRead policy trace (suc t)) (origins policy trace t) ih (from policy.rule step l))
+      All-union source_cmp (WasRead policy trace (suc t)) (fresh policy step l) _ (fresh_was_read policy trace t l step e step.call refl)
+      (all_union_over (WasRead policy trace (suc t)) (origins policy trace t) ih (from policy.rule step l))
 
 pub origins_were_read : OriginsWereRead
 origins_were_read policy trace t l = All-from_recursion (WasRead policy trace t) _ (origins_by_recursion policy trace t l)

@@ -1,28 +1,26 @@
 -- The flow table: the targets of one step, and from which locations each gets its content. A location that is no target
 -- keeps its content, and a target without origins becomes empty.
-use Rattle.std.specs.Prelude.{ℕ, ◌+◌, ◌-◌, ◌%◌, ◌^◌, ◌==◌, nat_lt, Bool, true, false, ◌&&◌, if◌then◌else◌, List, [], ◌∷◌, ◌++◌, map, pos, Option, Some, None}
+use Rattle.std.specs.Prelude.{ℕ, ◌+◌, ◌-◌, ◌^◌, ◌==◌, nat_lt, Bool, true, false, ◌&&◌, if◌then◌else◌, List, [], ◌∷◌, ◌++◌, map, pos, Option, Some, None}
 use Rattle.std.specs.List.{range_with_len}
 use Rattle.std.specs.Ordering.{int_eq}
 use Rattle.isa.specs.declared.Instr.{Instr}
 use Rattle.isa.specs.declared.Instr.TheVariants.{Lui, Auipc, Jal, Jalr, Beq, Bne, Blt, Bge, Bltu, Bgeu, Lb, Lh, Lw, Lbu, Lhu, Sb, Sh, Sw, Addi, Slti, Sltiu, Xori, Ori, Andi, Slli, Srli, Srai, Add, Sub, Sll, Slt, Sltu, Xor, Srl, Sra, Or, And, Fence, Ecall, Ebreak}
 use Rattle.isa.specs.declared.CallKind.{CallKind}
 use Rattle.isa.specs.declared.CallKind.TheVariants as kind
+use Rattle.isa.specs.Machine.{wrap}
 use Rattle.flow_model.specs.declared.Loc.{Loc}
 use Rattle.flow_model.specs.declared.Loc.TheVariants.{Reg, Mem}
 use Rattle.flow_model.specs.declared.Rule.{Rule}
 use Rattle.flow_model.specs.declared.Rule.TheVariants.{Copy, Compute}
 use Rattle.flow_model.specs.declared.StepSeen.{StepSeen}
 use Rattle.flow_model.specs.declared.CallSeen.{CallSeen}
-use Rattle.flow_model.specs.Sets.{union, loc_cmp}
+use Rattle.sorted_set.specs.Sets.{union}
+use Rattle.flow_model.specs.Orders.{loc_cmp}
 
 -- a target, with the locations whose content flows into it
 pub record Target : Type 0 where
   pub loc : Loc
   pub origins : List Loc
-
--- addresses wrap round
-abbrev pub wrap : ℕ → ℕ
-wrap n = n % 2 ^ 32
 
 -- x0 has no lanes, neither as a target nor as an origin
 abbrev pub lane : ℕ → ℕ → List Loc
@@ -142,7 +140,7 @@ abbrev pub origins_by : List Target → Loc → List Loc
 origins_by [] l = l ∷ []
 origins_by (t ∷ ts) l = if loc_eq t.loc l then t.origins else origins_by ts l
 
--- how far a place lies behind an address, round the end of memory
+-- how far a place lies past an address, round the end of memory
 abbrev pub distance : ℕ → ℕ → ℕ
 distance address p = wrap (p + (2 ^ 32 - address))
 

@@ -1,4 +1,5 @@
-pub mod Sets
+pub mod Orders
 pub mod Flow
 pub mod Origins
 pub mod OriginLaws
+pub mod Ranges

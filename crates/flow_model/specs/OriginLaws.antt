@@ -1,5 +1,5 @@
 -- What the definitions of the flow table and of origins come to.
-use Rattle.std.specs.Prelude.{◌≡◌, ℕ, ◌+◌, ◌<◌, ◌≤◌, true, List, [], ◌∷◌, Option, Some, None, All}
+use Rattle.std.specs.Prelude.{◌≡◌, ℕ, ◌+◌, ◌<◌, ◌≤◌, ◌⊎◌, ◌↔◌, true, List, [], ◌∷◌, Option, Some, None, All, Any, Contains}
 use Rattle.isa.specs.declared.Instr.{Instr}
 use Rattle.isa.specs.declared.CallKind.{CallKind}
 use Rattle.flow_model.specs.declared.Loc.{Loc}
@@ -7,7 +7,8 @@ use Rattle.flow_model.specs.declared.Rule.{Rule}
 use Rattle.flow_model.specs.declared.SourceByte.{SourceByte}
 use Rattle.flow_model.specs.declared.StepSeen.{StepSeen}
 use Rattle.flow_model.specs.declared.CallSeen.{CallSeen}
-use Rattle.flow_model.specs.Sets.{Ascends, loc_cmp, source_cmp}
+use Rattle.sorted_set.specs.Sets.{Ascends}
+use Rattle.flow_model.specs.Orders.{loc_cmp, source_cmp}
 use Rattle.flow_model.specs.Flow.{flow, cleared, from, is_received}
 use Rattle.flow_model.specs.Origins.{Policy, introduced, byte_at, fresh, step_at, origins}
 
@@ -21,6 +22,16 @@ ClearedAscends = (kind : CallKind) → All (λ t. Ascends loc_cmp t.origins) (cl
 -- the origins of each location at each time ascend without repeats
 abbrev pub OriginsAscend : Type 0
 OriginsAscend = (policy : Policy) (trace : List StepSeen) (t : ℕ) (l : Loc) → Ascends source_cmp (origins policy trace t l)
+
+-- no location has origins before the first step
+abbrev pub NoneAtStart : Type 0
+NoneAtStart = (policy : Policy) (trace : List StepSeen) (l : Loc) → origins policy trace 0 l ≡ []
+
+-- after a step a source byte is among the origins of l exactly where it is fresh there, or was among the origins of a
+-- location whose content flows into l
+abbrev pub OriginsFlowIn : Type 0
+OriginsFlowIn = (policy : Policy) (trace : List StepSeen) (t : ℕ) (l : Loc) (b : SourceByte) (step : StepSeen) → step_at trace t ≡ Some step
+    → Contains (origins policy trace (t + 1) l) b ↔ (Contains (fresh policy step l) b ⊎ Any (λ m. Contains (origins policy trace t m) b) (from policy.rule step l))
 
 -- l is no target of the step, if there is one, and gets no source byte
 abbrev pub LeavesAlone : Policy → Loc → Option StepSeen → Type 0

@@ -6,7 +6,8 @@ use Rattle.flow_model.specs.declared.Rule.{Rule}
 use Rattle.flow_model.specs.declared.SourceByte.{SourceByte}
 use Rattle.flow_model.specs.declared.StepSeen.{StepSeen}
 use Rattle.flow_model.specs.declared.CallSeen.{CallSeen}
-use Rattle.flow_model.specs.Sets.{union, source_cmp}
+use Rattle.sorted_set.specs.Sets.{union}
+use Rattle.flow_model.specs.Orders.{source_cmp}
 use Rattle.flow_model.specs.Flow.{from, is_received, distance}
 
 -- a taint policy: how taint propagates, and which bytes that a run reads introduce it
@@ -31,15 +32,15 @@ abbrev pub fresh : Policy → StepSeen → Loc → List SourceByte
 fresh policy step l = fresh_by policy step.call l
 
 -- the union of what each of the locations has
-abbrev pub gathered : (Loc → List SourceByte) → List Loc → List SourceByte
-gathered before [] = []
-gathered before (l ∷ []) = before l
-gathered before (l ∷ m ∷ ls) = union source_cmp (before l) (gathered before (m ∷ ls))
+abbrev pub union_over : (Loc → List SourceByte) → List Loc → List SourceByte
+union_over before [] = []
+union_over before (l ∷ []) = before l
+union_over before (l ∷ m ∷ ls) = union source_cmp (before l) (union_over before (m ∷ ls))
 
 -- the origins after a step, from those before it
 abbrev pub after_step : Policy → Option StepSeen → (Loc → List SourceByte) → Loc → List SourceByte
 after_step policy None before l = before l
-after_step policy (Some step) before l = union source_cmp (fresh policy step l) (gathered before (from policy.rule step l))
+after_step policy (Some step) before l = union source_cmp (fresh policy step l) (union_over before (from policy.rule step l))
 
 abbrev pub step_at : List StepSeen → ℕ → Option StepSeen
 step_at [] t = None

@@ -11,7 +11,7 @@ use isa::{CallKind, Instr};
 
 /// Where a byte of a run lies: lane 0 to 3 (the lowest byte is lane 0) of a register 1 to 31, or an
 /// address of memory. Registers come first, by number and lane, and then memory by place.
-#[derive(Clone, Copy, Debug, PartialEq, Eq, PartialOrd, Ord)]
+#[derive(Clone, Copy, Debug, PartialEq, Eq, PartialOrd, Ord, Hash)]
 pub enum Loc {
     Reg { number: u8, lane: u8 },
     Mem { place: u32 },
@@ -19,7 +19,7 @@ pub enum Loc {
 
 /// The byte of this offset among all bytes that a run read on a channel, counted from 0. The order is
 /// by channel and then offset.
-#[derive(Clone, Copy, Debug, PartialEq, Eq, PartialOrd, Ord)]
+#[derive(Clone, Copy, Debug, PartialEq, Eq, PartialOrd, Ord, Hash)]
 pub struct SourceByte {
     pub channel: u8,
     pub offset: u32,
@@ -27,7 +27,7 @@ pub struct SourceByte {
 
 /// The byte of this offset among all bytes that a run wrote on a channel, counted from 0. The order is
 /// by channel and then offset.
-#[derive(Clone, Copy, Debug, PartialEq, Eq, PartialOrd, Ord)]
+#[derive(Clone, Copy, Debug, PartialEq, Eq, PartialOrd, Ord, Hash)]
 pub struct SinkByte {
     pub channel: u8,
     pub offset: u32,

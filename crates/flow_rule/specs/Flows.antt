@@ -4,7 +4,8 @@ use Rattle.std.specs.List.{range_with_len}
 use Rattle.std.specs.Option.{option_map_or}
 use Rattle.flow_model.specs.declared.Loc.{Loc}
 use Rattle.flow_model.specs.declared.Loc.TheVariants.{Reg, Mem}
-use Rattle.flow_model.specs.Flow.{Target, wrap}
+use Rattle.isa.specs.Machine.{wrap}
+use Rattle.flow_model.specs.Flow.{Target}
 use Rattle.flow_rule.specs.declared.flows.Targets.{Targets}
 use Rattle.flow_rule.specs.declared.flows.Targets.TheVariants.{Register, TwoRegisters, Memory}
 use Rattle.flow_rule.specs.declared.flows.Origins.{Origins}

@@ -4,6 +4,7 @@
 ghost use Rattle.std.specs.Prelude.{◌≡◌, pos, if◌then◌else◌, ◌≤◌, ◌+◌, [], ◌∷◌};
 ghost use Rattle.std.specs.Ordering.{int_eq};
 ghost use Rattle.flow_model.specs.declared.Loc.TheVariants.{Mem};
+ghost use Rattle.isa.specs.Machine.{wrap};
 ghost use Rattle.flow_model.specs.Flow as model;
 ghost use Rattle.flow_rule.specs.Locations.{few_locs};
 ghost use Rattle.flow_rule.specs.Flows.{by_lane, origins_at};
@@ -222,7 +223,7 @@ fn loaded_byte(address: u32, count: u32, i: u32) -> Few
 }
 
 fn byte(address: u32, i: u32) -> Few
-    ensures { few_locs result ≡ Mem (model.wrap (address + i)) ∷ [] }
+    ensures { few_locs result ≡ Mem (wrap (address + i)) ∷ [] }
 {
     Few::One([Loc::Mem {
         place: address.wrapping_add(i),

@@ -2,3 +2,4 @@ pub mod Words
 pub mod Encodings
 pub mod Machine
 pub mod Calls
+pub mod ZeroRegister

@@ -1,5 +1,5 @@
 -- One step of a hart over one window of memory ("RV32I Base Integer Instruction Set").
-use Rattle.std.specs.Prelude.{◌≡◌, ℕ, ◌+◌, ◌-◌, ◌*◌, ◌/◌, ◌%◌, ◌^◌, ◌==◌, nat_lt, nat_le, Bool, true, false, not, ◌&&◌, if◌then◌else◌, List, [], ◌∷◌, ◌++◌, length, take, drop, ℤ, int_lt, Option, Some, None, slice_index, slice_set, bit_and, bit_or, bit_xor}
+use Rattle.std.specs.Prelude.{ℕ, ◌+◌, ◌-◌, ◌*◌, ◌/◌, ◌%◌, ◌^◌, ◌==◌, nat_lt, nat_le, Bool, true, false, not, ◌&&◌, if◌then◌else◌, List, [], ◌∷◌, ◌++◌, length, take, drop, ℤ, int_lt, Option, Some, None, slice_index, slice_set, bit_and, bit_or, bit_xor}
 use Rattle.std.specs.Int.{w32, cast_unsigned, int_shr, to_le_bytes}
 use Rattle.isa.specs.Words.{instruction_of, signed}
 use Rattle.isa.specs.declared.Instr.{Instr}
@@ -119,11 +119,11 @@ effect_of s (Fence kept) = MoveOn
 effect_of s Ecall = EnvironmentCall
 effect_of s Ebreak = Breakpoint
 
--- the state behind the instruction
+-- the state after the instruction
 abbrev pub moved_on : State → State
 moved_on s = record s { pc = wrap (s.pc + 4) }
 
--- the state behind the instruction, with a register set
+-- the state after the instruction, with a register set
 abbrev pub moved_on_with : State → ℕ → ℕ → State
 moved_on_with s d v = record s { pc = wrap (s.pc + 4); registers = with_register s.registers d v }
 

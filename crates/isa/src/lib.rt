@@ -6,6 +6,7 @@
 #![tactic(auto)]
 
 mod fitting;
+pub mod laws;
 
 /// One variant for each instruction of RV32I ("RV32I Base Integer Instruction Set").
 ///
@@ -64,7 +65,7 @@ pub enum Effect {
         rd: u8,
         value: u32,
     },
-    /// The pc gets the target, and a register the address behind the instruction.
+    /// The pc gets the target, and a register the address after the instruction.
     Jump {
         rd: u8,
         target: u32,

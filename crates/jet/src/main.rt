@@ -1,24 +1,23 @@
 //! `jet` answers, of a recorded run, from which input bytes each output byte came.
+//!
+//! What each status says is told by the definitions of specs/Statuses.antt, which the contract of `jet` cites.
 #![tactic(auto)]
 
-mod answer;
-mod command;
-mod jet;
 mod laws;
-mod record;
+mod run;
 #[cfg(test)]
 mod tests;
-mod work;
 
-use jet::conclude;
+use jet_cli::conclude;
 use jet_refusal::Refusal;
 use outer_io::{FileStore, MachineClock, OpenGate, OutSink};
+use run::jet;
 use std::env;
 use std::io::ErrorKind;
 use std::process::ExitCode;
 
-/// The words of the command line, of which the first is the program's name. A word that isn't UTF-8 is a faulty
-/// command line.
+/// The words of the command line, of which the first is the program's name. A word that isn't UTF-8 is no word of a
+/// command.
 fn words_of(rt: HostRuntime) -> Result<Vec<String>, Refusal> {
     let args = match env::args(&rt) {
         Ok(args) => args,
@@ -42,7 +41,7 @@ fn main(rt: HostRuntime) -> ExitCode {
     let mut store = FileStore::new(rt);
     let mut out = OutSink::new(rt.stdout());
     let mut clock = MachineClock::new(rt);
-    let status = jet::jet(
+    let status = jet(
         &rt, &words, &mut store, &mut out, &mut err, &mut clock, &OpenGate,
     );
     ExitCode::from(status)

@@ -6,7 +6,8 @@ mod record;
 mod refusals;
 mod runs;
 
-use crate::jet::jet;
+use crate::run::jet;
+use guest_assembler::{Instr, code, program};
 use guests::{
     ADD_WORDS, COPY_FOUR, Guest, LESS_THAN, LOAD_SIGNED, LOAD_UNSIGNED, OVERWRITE, UNALIGNED,
     XOR_WORDS,
@@ -40,17 +41,12 @@ fn push_words(out: &mut Vec<u8>, words: &[u32]) -> Result<(), AllocError> {
     Ok(())
 }
 
-/// An ELF file of one segment: an ELF header, a program header, and the code.
-fn program(alloc: Global, code: &[u32]) -> Result<Vec<u8>, AllocError> {
-    let size = u32::try_from(code.len()).unwrap_or(0).wrapping_mul(4);
-    let mut out = Vec::new(alloc);
-    out.extend_from_slice(b"\x7fELF\x01\x01\x01\0\0\0\0\0\0\0\0\0\x02\0\xf3\0")?;
-    push_words(&mut out, [1, BASE, 52, 0, 0].as_slice())?;
-    out.extend_from_slice(b"\x34\0\x20\0\x01\0\0\0\0\0\0\0")?;
-    push_words(&mut out, [1, 84, BASE, BASE, size, size, 7, 4].as_slice())?;
-    push_words(&mut out, code)?;
-    Ok(out)
-}
+/// An instruction that no word stands for: its file has a word that traps.
+const NO_INSTRUCTION: Instr = Instr::Addi {
+    rd: 0,
+    rs1: 0,
+    imm: 5000,
+};
 
 /// A log's header and these records.
 fn log(
@@ -360,8 +356,9 @@ fn a_query_chooses_sources_and_sinks(rt: HostRuntime) -> Result<(), Fail> {
 #[test]
 fn a_run_may_end_by_a_trap(rt: HostRuntime) -> Result<(), Fail> {
     let alloc = rt.alloc();
-    for (word, kind) in [(0, 2), (0x0021_0067, 0)] {
-        let program = program(alloc, [word].as_slice())?;
+    let [jump] = code![jalr(x0, 2(x2))];
+    for (instr, kind) in [(NO_INSTRUCTION, 2), (jump, 0)] {
+        let program = program(alloc, [instr].as_slice())?;
         let mut records = Vec::new(alloc);
         records.push(6)?;
         push_words(&mut records, [0, kind, BASE].as_slice())?;
@@ -379,27 +376,27 @@ fn a_run_may_end_by_a_trap(rt: HostRuntime) -> Result<(), Fail> {
 
 /// The code of a guest that reads 5,000 bytes to 0x11000, copies them one by one to 0x13000 and writes
 /// them from there.
-const COPY_MANY: [u32; 20] = [
-    0x0001_15b7,
-    0x0000_0513,
-    0x0000_1637,
-    0x3886_0613,
-    0x03f0_0893,
-    0x0000_0073,
-    0x0001_3337,
-    0x00c3_03b3,
-    0x0005_ce03,
-    0x01c3_0023,
-    0x0015_8593,
-    0x0013_0313,
-    0xfe73_18e3,
-    0x0001_35b7,
-    0x0010_0513,
-    0x0400_0893,
-    0x0000_0073,
-    0x0000_0513,
-    0x05d0_0893,
-    0x0000_0073,
+const COPY_MANY: [Instr; 20] = code![
+    lui(x11, 0x11000),
+    li(x10, 0),
+    lui(x12, 0x1000),
+    addi(x12, x12, 904),
+    li(x17, 63),
+    ecall(),
+    lui(x6, 0x13000),
+    add(x7, x6, x12),
+    lbu(x28, 0(x11)),
+    sb(x28, 0(x6)),
+    addi(x11, x11, 1),
+    addi(x6, x6, 1),
+    bne(x6, x7, -16),
+    lui(x11, 0x13000),
+    li(x10, 1),
+    li(x17, 64),
+    ecall(),
+    li(x10, 0),
+    li(x17, 93),
+    ecall(),
 ];
 
 /// Twenty-five thousand steps, and a report of 67,789 bytes.

@@ -1,5 +1,5 @@
-pub mod Working
-pub mod Recording
-pub mod Answering
-pub mod Keeping
-pub mod Ending
+mod KeepingLemmas
+mod Delivered
+mod Fitting
+mod Working
+mod Recording

@@ -1,84 +1,117 @@
--- What a captured run says of the program and its inputs.
-use Rattle.std.proofs.Common.{◌≡◌, ◌∙◌, ap, sym, refl, subst, ℕ, ◌≤◌, ◌<◌, ◌^◌, nat_lt, List, [], append-nil, Bool, length, Option, Some, None, Result, Ok}
-use Rattle.std.proofs.lemmas.Bool.{lt-ltb}
+-- From a program and inputs that were read, and the capture of a run, to what a recording comes to.
+use Rattle.std.proofs.Common.{◌≡◌, ◌∙◌, ap, sym, refl, subst, arith, ℕ, ◌≤◌, ◌<◌, ◌^◌, List, [], Bool, length, Option, Some, None, Result, Ok, Err, if◌then◌else◌}
+use Rattle.std.specs.Option.{ok_or}
+use Rattle.std.proofs.lemmas.Bool.{lt-ltb, le-ltb}
 use Rattle.isa.specs.Machine.{State}
-use Rattle.elf_model.specs.declared.ImageFault.{ImageFault}
+use Rattle.elf_model.specs.declared.ImageKind.{ImageKind}
 use Rattle.elf_model.specs.Image.{Image, image}
 use Rattle.elf_model.specs.Window.{start_of}
 use Rattle.log_model.specs.Logs.{Log, log_text}
 use Rattle.replay_model.specs.Fits.{start_in_image}
 use Rattle.record_model.specs.Recorded.{IsRecorded}
-use Rattle.call_record.specs.Captures.{Setting, IsCaptured, IsTooLong, IsCause}
+use Rattle.call_record.specs.Captures.{IsCaptured, IsTooLong, IsCause}
 use Rattle.call_record.specs.declared.fault.CaptureFault.{CaptureFault}
 use Rattle.call_record.specs.declared.fault.CaptureFault.TheVariants as capture
+use Rattle.outer_io.specs.Shown.{StoreShown}
 use Rattle.outer_io.specs.Tells.{Tells, Gains}
-use Rattle.jet_model.specs.Answer.{Answer, Missing, TooLong, NoImage, NoLog, NoQuery, WrongProgram, NoWindow, Diverges, LongLog, Gives, OfLogLength, OfWindow, IsCaptureAnswer}
-use Rattle.jet_model.proofs.Reported.{short_log}
-use Rattle.jet_files.specs.Causes.{Cause, NoCommand, Answered, ReadFailed, WriteFailed, WantsMemory}
-use Rattle.jet_files.specs.Outcome.{WorkHolds}
-use Rattle.jet_cli.specs.Words.{limits_of}
-use Rattle.jet_cli.specs.Causes.{capture_cause}
-use Rattle.jet_cli.specs.Hearing.{Hears}
-use Rattle.jet_cli.specs.Statuses.{BeforeRecording}
+use Rattle.jet_refusal.specs.declared.refusal.Refusal.{Refusal}
+use Rattle.jet_refusal.specs.declared.refusal.Refusal.TheVariants as refusal
+use Rattle.jet_refusal.specs.Refusals.{status_of}
+use Rattle.jet_model.specs.Outcomes.{and_then, AndThen}
+use Rattle.jet_model.specs.Contents.{Contents, Program, program_at, inputs_at}
+use Rattle.jet_model.specs.Answer.{Limits, Source, source_at, setting_of, start_in, limited_text, IsCaptured as IsCapturedAs, IsCaptureAnswer}
+use Rattle.jet_model.proofs.AndThen.{AndThen-ok}
+use Rattle.jet_files.specs.Outcome.{Follows, Comes}
+use Rattle.jet_files.proofs.Composing.{Keeps, follows-stops, comes-stops, comes-then, comes-work}
+use Rattle.jet_cli.specs.Answers.{IsCapture, IsRecording, IsWorkOf, capture_refusal}
+use Rattle.jet_cli.proofs.Working.{follows-answer}
 
-long_log : (log : Log) (size : ℕ) → 2 ^ 26 < size → size ≡ length (log_text log) → OfLogLength (nat_lt (2 ^ 26) (length (log_text log))) log (LongLog size)
-long_log log size over e =
-    let long : 2 ^ 26 < length (log_text log) = subst (λ (n : ℕ). 2 ^ 26 < n) e over in
-    subst (λ (b : Bool). OfLogLength b log (LongLog size)) (sym (lt-ltb (2 ^ 26) (length (log_text log)) long)) (ap LongLog e)
+-- ---- a run that was captured
 
-module _ (program : List ℕ) (im : Image) (pages : ℕ) (inputs : List (List ℕ)) (piece steps : ℕ) (loads : image program ≡ Ok im) (heard heard_after : Option (List ℕ)) where
-  abbrev setting : Setting
-  setting = record { program = program; pages = pages; inputs = inputs; piece = piece; steps = steps }
+abbrev text_if : Bool → Log → Result (List ℕ) Refusal
+text_if long log = if long then Err (refusal.LogTooLong (length (log_text log))) else Ok (log_text log)
+
+short_text : (log : Log) → length (log_text log) ≤ 2 ^ 26 → limited_text log ≡ Ok (log_text log)
+short_text log short = ap (λ b. text_if b log) (le-ltb (2 ^ 26) (length (log_text log)) short)
+
+long_text : (log : Log) → 2 ^ 26 < length (log_text log) → limited_text log ≡ Err (refusal.LogTooLong (length (log_text log)))
+long_text log long = ap (λ b. text_if b log) (lt-ltb (2 ^ 26) (length (log_text log)) long)
+
+module _ (source : Source) (limits : Limits) (heard heard_after : Option (List ℕ)) (loads : image source.program.bytes ≡ Ok source.program.image) where
+  abbrev Captures : Result (List ℕ) Refusal → Type 0
+  Captures = IsCapture source limits heard heard_after
 
   -- the window of a run that was recorded can hold the image
-  begins : (log : Log) (answers : List ℕ) (r : IsRecorded program pages inputs answers piece steps log) → start_of im pages ≡ Some r.fits.start
+  begins : (log : Log) (answers : List ℕ) (r : IsRecorded (setting_of source limits) answers log) → start_of source.program.image limits.pages ≡ Some r.fits.start
   begins log answers r =
-      let e : start_in_image (image program) log.pages ≡ Some r.fits.start = r.fits.begins in
-      ap (λ (n : ℕ). start_of im n) (sym r.pages_are) ∙ sym (ap (λ (i : Result Image ImageFault). start_in_image i log.pages) loads) ∙ e
+      let e : start_in_image (image source.program.bytes) log.pages ≡ Some r.fits.start = r.fits.begins in
+      ap (λ (n : ℕ). start_of source.program.image n) (sym r.has_pages) ∙ sym (ap (λ (i : Result Image ImageKind). start_in_image i log.pages) loads) ∙ e
 
-  recorded_answer : (log : Log) (answers : List ℕ) (answer : Answer) → IsRecorded program pages inputs answers piece steps log → OfLogLength (nat_lt (2 ^ 26) (length (log_text log))) log answer
-      → IsCaptureAnswer program im inputs (limits_of pages piece steps) answers answer
-  recorded_answer log answers answer r h =
-      subst (λ (s : Option State). OfWindow s program inputs (limits_of pages piece steps) answers answer) (sym (begins log answers r)) (record { log = log; recorded = r; gives = h })
+  captured_as : (log : Log) → IsCaptured (setting_of source limits) heard heard_after log → (answer : Result (List ℕ) Refusal) → answer ≡ limited_text log → Captures answer
+  captured_as log c answer e = record {
+    answers = c.answers;
+    gained = c.gained;
+    holds = AndThen-ok (start_in source.program.image limits.pages) (λ start. IsCapturedAs (setting_of source limits) c.answers) c.recorded.fits.start answer
+        (ap (λ o. ok_or o (refusal.Window limits.pages)) (begins log c.answers c.recorded)) (record { log = log; recorded = c.recorded; text = e });
+  }
 
-  pub captured_gives : (log : Log) (text : List ℕ) → IsCaptured setting heard heard_after log → length (log_text log) ≤ 2 ^ 26 → text ≡ log_text log
-      → Hears heard heard_after (λ answers. IsCaptureAnswer program im inputs (limits_of pages piece steps) answers (Gives text))
-  captured_gives log text c short e = record { answers = c.answers; gained = c.gained; holds = recorded_answer log c.answers (Gives text) c.recorded (short_log log text short e) }
+  pub captured-text : (log : Log) (text : List ℕ) → IsCaptured (setting_of source limits) heard heard_after log → length (log_text log) ≤ 2 ^ 26 → text ≡ log_text log → Captures (Ok text)
+  captured-text log text c short e = captured_as log c (Ok text) (ap Ok e ∙ sym (short_text log short))
 
-  too_long : (size : ℕ) → IsTooLong setting heard heard_after size → Hears heard heard_after (λ answers. IsCaptureAnswer program im inputs (limits_of pages piece steps) answers (LongLog size))
-  too_long size t =
-      record { answers = t.captured.answers; gained = t.captured.gained; holds = recorded_answer t.log t.captured.answers (LongLog size) t.captured.recorded (long_log t.log size t.over t.size_is) }
+  captured-too_long : (size : ℕ) → IsTooLong (setting_of source limits) heard heard_after size → Captures (Err (refusal.LogTooLong size))
+  captured-too_long size t =
+      captured_as t.log t.captured (Err (refusal.LogTooLong size))
+      (ap (λ (n : ℕ). Err (refusal.LogTooLong n)) t.size_is ∙ sym (long_text t.log (subst (λ (n : ℕ). 2 ^ 26 < n) t.size_is t.over)))
 
-  pub not_captured : (fault : CaptureFault) → IsCause setting im heard heard_after fault
-      → WorkHolds (λ answer. Hears heard heard_after (λ answers. IsCaptureAnswer program im inputs (limits_of pages piece steps) answers answer)) (capture_cause pages fault)
-  not_captured capture.Window c =
-      record { answers = []; gained = c.1; holds = subst (λ (s : Option State). OfWindow s program inputs (limits_of pages piece steps) [] (NoWindow pages)) (sym c.0) refl }
-  not_captured (capture.LogTooLong size) c = too_long size c
+  captured-window : start_of source.program.image limits.pages ≡ None → Tells heard heard_after (Gains []) → Captures (Err (refusal.Window limits.pages))
+  captured-window none gained = record {
+    answers = [];
+    gained = gained;
+    holds = subst (λ (o : Option State). AndThen (ok_or o (refusal.Window limits.pages)) (λ start. IsCapturedAs (setting_of source limits) []) (Err (refusal.Window limits.pages))) (sym none) refl;
+  }
+
+  -- it was not captured
+  pub not_captured : (fault : CaptureFault) → IsCause (setting_of source limits) source.program.image heard heard_after fault
+      → IsWorkOf (IsCapture source limits heard heard_after) (Err (capture_refusal limits.pages fault))
+  not_captured capture.Window c = captured-window c.0 c.1
+  not_captured (capture.LogTooLong size) c = captured-too_long size c
   not_captured capture.NoMemory c = tt
 
-  pub not_asked : (fault : CaptureFault) → IsCause setting im heard heard_after fault → BeforeRecording (capture_cause pages fault) (Tells heard heard_after (Gains []))
-  not_asked capture.Window c = c.1
-  not_asked (capture.LogTooLong size) c = tt
-  not_asked capture.NoMemory c = tt
+  -- before the run the clock isn't read
+  pub not_read : (fault : CaptureFault) → IsCause (setting_of source limits) source.program.image heard heard_after fault
+      → 2 ≤ status_of (capture_refusal limits.pages fault) → status_of (capture_refusal limits.pages fault) ≤ 7 → Tells heard heard_after (Gains [])
+  not_read capture.Window c least most = c.1
+  not_read (capture.LogTooLong size) c least most = let f : ⊥ = omega (arith, most) in absurd f
+  not_read capture.NoMemory c least most = let f : ⊥ = omega (arith, most) in absurd f
 
--- a clock that isn't asked gives no answer
-pub none_gained : (heard : Option (List ℕ)) → Tells heard heard (Gains [])
-none_gained None = tt
-none_gained (Some xs) = sym (append-nil xs)
+-- ---- a program and its inputs that were read
 
--- what holds at any cause
-pub at_any : {P : Type 0} (c : Cause) → P → BeforeRecording c P
-at_any NoCommand p = p
-at_any (Answered Missing) p = p
-at_any (Answered TooLong) p = p
-at_any (Answered (NoImage fault)) p = p
-at_any (Answered (NoLog kind offset)) p = p
-at_any (Answered (NoQuery line kind)) p = p
-at_any (Answered (WrongProgram kept seen)) p = p
-at_any (Answered (NoWindow pages)) p = p
-at_any (Answered (Diverges d)) p = p
-at_any (Answered (LongLog size)) p = tt
-at_any (Answered (Gives text)) p = tt
-at_any ReadFailed p = p
-at_any WriteFailed p = tt
-at_any WantsMemory p = tt
+module _ (program : List ℕ) (inputs : List (List ℕ)) (limits : Limits) (heard heard_after : Option (List ℕ)) where
+  abbrev Records : Contents → Result (List ℕ) Refusal → Type 0
+  Records = IsRecording program inputs limits heard heard_after
+
+  abbrev source_with : Program → Contents → Result Source Refusal
+  source_with p file = and_then (inputs_at file inputs) (λ contents. Ok (record { program = p; inputs = contents }))
+
+  -- the source is refused, before the clock was read
+  refused-source : (f g : StoreShown) (r : Refusal) → Tells heard heard_after (Gains []) → Comes (λ file. source_at file program inputs) f g (Err r) → Follows Records f g (Err r)
+  refused-source f g r none = follows-stops (λ file answer. source_at file program inputs ≡ answer) Records f g r
+      (λ file e. record { answers = []; gained = none; holds = subst (λ (s : Result Source Refusal). AndThen s (λ source. IsCaptureAnswer source limits []) (Err r)) (sym e) refl })
+
+  pub refused-program : (f g : StoreShown) (r : Refusal) → Tells heard heard_after (Gains []) → Comes (λ file. program_at file program) f g (Err r) → Follows Records f g (Err r)
+  refused-program f g r none first = refused-source f g r none (comes-stops (λ file. program_at file program) source_with f g r first)
+
+  module _ (p : Program) (f g h : StoreShown) (first : Comes (λ file. program_at file program) f g (Ok p)) (keeps : Keeps f g) (up : g.faults ≤ h.faults) where
+    pub refused-inputs : (r : Refusal) → Tells heard heard_after (Gains []) → Comes (λ file. inputs_at file inputs) g h (Err r) → Follows Records f h (Err r)
+    refused-inputs r none second =
+        refused-source f h r none (comes-then (λ file. program_at file program) source_with p f g h first keeps up (Err r)
+        (comes-stops (λ file. inputs_at file inputs) (λ contents file. Ok (record { program = p; inputs = contents })) g h r second))
+
+    pub recorded : (contents : List (List ℕ)) → Comes (λ file. inputs_at file inputs) g h (Ok contents) → (outcome : Result (List ℕ) Refusal)
+        → IsWorkOf (IsCapture (record { program = p; inputs = contents }) limits heard heard_after) outcome → Follows Records f h outcome
+    recorded contents second =
+        let source : Source = record { program = p; inputs = contents } in
+        follows-answer (λ file answer. source_at file program inputs ≡ answer) (IsCapture source limits heard heard_after) Records source f h
+        (λ file outcome e w. record { answers = w.answers; gained = w.gained; holds = AndThen-ok (source_at file program inputs) (λ s. IsCaptureAnswer s limits w.answers) source outcome e w.holds })
+        (comes-then (λ file. program_at file program) source_with p f g h first keeps up (Ok source)
+        (comes-work (λ file. inputs_at file inputs) (λ contents. Ok (record { program = p; inputs = contents })) contents g h second (Ok source) refl))

@@ -1,86 +1,71 @@
--- How a whole command ends.
-use Rattle.std.specs.Prelude.{◌≡◌, ◌^◌, ◌-◌, ◌<◌, ℕ, List, Option, Some, None, IsSome, Result, Ok, Err}
+-- How a command ends.
+use Rattle.std.specs.Prelude.{◌≡◌, ℕ, List, Option, Some, None, Result, Ok, Err}
 use Rattle.outer_io.specs.Faults.{Rose}
-use Rattle.outer_io.specs.Tells.{Tells}
+use Rattle.outer_io.specs.Shown.{SinkShown}
+use Rattle.outer_io.specs.Tells.{Tells, Gains}
 use Rattle.outer_io.specs.Files.{Files}
-use Rattle.jet_words.specs.Words.{Asked, QueryOf, RecordOf, ReplayOf, OutputOf}
-use Rattle.jet_model.specs.Answer.{Gives, IsAnswer, IsLogAnswer, IsRecordAnswer}
-use Rattle.run_output.specs.Summary.{summary_text}
-use Rattle.run_output.specs.Output.{output as output_on}
+use Rattle.jet_words.specs.Commands.{CommandOf}
 use Rattle.jet_refusal.specs.declared.refusal.Refusal.{Refusal}
-use Rattle.jet_cli.specs.Words.{named, limits_of, Target, ToOutput, target_of}
-use Rattle.jet_files.specs.Causes.{Cause, NoCommand, Answered, ReadFailed, WriteFailed, WantsMemory, cause_of}
-use Rattle.jet_files.specs.Outcome.{Judge, Asks}
-use Rattle.jet_cli.specs.Hearing.{Hears}
+use Rattle.jet_refusal.specs.Refusals.{status_of}
+use Rattle.jet_refusal.specs.Causes.{Causes, IsOwedTo}
+use Rattle.jet_model.specs.Contents.{Contents}
+use Rattle.jet_files.specs.Outcome.{Found}
+use Rattle.jet_cli.specs.Targets.{target_of}
+use Rattle.jet_cli.specs.Answers.{IsAnswer}
+use Rattle.jet_cli.specs.Outside.{Change, Told}
 use Rattle.jet_cli.specs.Writing.{Delivers, DeliversPart, FailsToWrite}
 
--- what the files that the words name ask for, and the clock's answers; `heard` and `heard_after` are what the clock told before
--- and after
-abbrev pub Judged : Asked → Option (List ℕ) → Option (List ℕ) → Judge
-Judged (QueryOf program log query) heard heard_after = λ file answer. IsAnswer file (named program log query) answer
-Judged (RecordOf program log inputs pages piece steps) heard heard_after = λ file answer. Hears heard heard_after (λ answers. IsRecordAnswer file program inputs (limits_of pages piece steps) answers answer)
-Judged (ReplayOf program log) heard heard_after = λ file answer. IsLogAnswer file program log summary_text answer
-Judged (OutputOf program log channel) heard heard_after = λ file answer. IsLogAnswer file program log (output_on channel) answer
-
--- the store, the output and the clock, before or after
-pub record Outside : Type 0 where
-  pub files : Option Files
-  pub faults : ℕ
-  pub written : Option (List ℕ)
-  pub out_faults : ℕ
-  pub heard : Option (List ℕ)
-
-abbrev pub outside : Option Files → ℕ → Option (List ℕ) → ℕ → Option (List ℕ) → Outside
-outside files faults written out_faults heard = record { files = files; faults = faults; written = written; out_faults = out_faults; heard = heard }
-
--- words that are no command ask for nothing
-abbrev pub JudgedIn : Option Asked → Outside → Outside → Judge
-JudgedIn None before after = λ file answer. ⊥
-JudgedIn (Some asked) before after = Judged asked before.heard after.heard
-
-abbrev pub target_in : Option Asked → Target
-target_in None = ToOutput
-target_in (Some asked) = target_of asked
-
--- the files ask for a text, and it was written whole
-pub record WritesWhole (words : Option Asked) (before after : Outside) (old new : Files) : Type 0 where
+-- the files as they were come to some text, which was so delivered
+pub record Writes (wanted : Contents → List ℕ → Type 0) (delivers : List ℕ → Files → Files → Type 0) (old new : Files) : Type 0 where
   pub text : List ℕ
-  pub judged : JudgedIn words before after old.file (Gives text)
-  pub delivers : Delivers (target_in words) text before.written after.written old new
+  pub is_wanted : wanted old.file text
+  pub delivered : delivers text old new
 
--- the same, but at most the first bytes of the text were written
-pub record WritesPart (words : Option Asked) (before after : Outside) (old new : Files) : Type 0 where
-  pub text : List ℕ
-  pub judged : JudgedIn words before after old.file (Gives text)
-  pub delivers : DeliversPart (target_in words) text before.written after.written old new
+-- the text of a command
+abbrev pub IsText : CommandOf → Change → Contents → List ℕ → Type 0
+IsText command change file text = IsAnswer command change.before.heard change.after.heard file (Ok text)
 
--- why a command gave up. That words are no command is said of the words
-abbrev pub GivesUp : Option Asked → Outside → Outside → Cause → Type 0
-GivesUp words before after (Answered answer) = Tells before.files after.files (Asks (JudgedIn words before after) answer)
-GivesUp words before after ReadFailed = Rose before.faults after.faults
-GivesUp words before after WriteFailed = FailsToWrite (target_in words) before.faults after.faults before.out_faults after.out_faults × Tells before.files after.files (WritesPart words before after)
-GivesUp words before after WantsMemory = Unit {0}
-GivesUp words before after NoCommand = Unit {0}
+-- the text that is wanted was written whole
+abbrev pub WritesWhole : CommandOf → Change → (Contents → List ℕ → Type 0) → Files → Files → Type 0
+WritesWhole command change wanted = Writes wanted (Delivers (target_of command) change.before.output change.after.output)
 
--- how a command ended
-abbrev pub Ends : Option Asked → Outside → Outside → Result (Unit {0}) Refusal → Type 0
-Ends words before after (Ok done) = Tells before.files after.files (WritesWhole words before after)
-Ends words before after (Err r) = GivesUp words before after (cause_of r)
+-- the same, but at most its first bytes were written
+abbrev pub WritesPart : CommandOf → Change → (Contents → List ℕ → Type 0) → Files → Files → Type 0
+WritesPart command change wanted = Writes wanted (DeliversPart (target_of command) change.before.output change.after.output)
 
--- the store tells its files to the end, and the counts of faults stood below their last value and didn't rise
-pub record IsUndisturbed (before after : Outside) : Type 0 where
-  pub told : Files
-  pub tells : before.files ≡ Some told
-  pub still_tells : IsSome after.files
-  pub store_room : before.faults < 2 ^ 64 - 1
-  pub store_faults : after.faults ≡ before.faults
-  pub out_room : before.out_faults < 2 ^ 64 - 1
-  pub out_faults : after.out_faults ≡ before.out_faults
+-- what a refusal is owed to: there is no command; or the files as they were come to it; or the store failed; or what is written
+-- to failed
+abbrev pub causes_of : Option CommandOf → Change → Refusal → Causes
+causes_of None change refusal = record { usage = Unit {0}; files = ⊥; read = ⊥; write = ⊥ }
+causes_of (Some command) change refusal = record {
+  usage = ⊥;
+  files = Told change (Found (λ file. IsAnswer command change.before.heard change.after.heard file (Err refusal)));
+  read = Rose change.before.store.faults change.after.store.faults;
+  write = FailsToWrite (target_of command) change.before.store change.after.store change.before.output change.after.output
+      × Told change (WritesPart command change (IsText command change));
+}
 
--- where the clock is asked, it tells its answers
-abbrev pub IsHeard : Option Asked → Outside → Type 0
-IsHeard None after = Unit {0}
-IsHeard (Some (QueryOf program log query)) after = Unit {0}
-IsHeard (Some (RecordOf program log inputs pages piece steps)) after = IsSome after.heard
-IsHeard (Some (ReplayOf program log)) after = Unit {0}
-IsHeard (Some (OutputOf program log channel)) after = Unit {0}
+-- the text was written whole; there is no text where there is no command
+abbrev pub IsDelivered : Option CommandOf → Change → Type 0
+IsDelivered None change = ⊥
+IsDelivered (Some command) change = Told change (WritesWhole command change (IsText command change))
+
+-- how a command ended: its text was written whole, or it was refused
+abbrev pub Ends : Option CommandOf → Change → Result (Unit {0}) Refusal → Type 0
+Ends command change (Ok done) = IsDelivered command change
+Ends command change (Err refusal) = IsOwedTo (causes_of command change refusal) refusal
+
+-- ---- its status and its line
+
+abbrev pub status_after : {A : Type 0} → Result A Refusal → ℕ
+status_after (Ok done) = 0
+status_after (Err refusal) = status_of refusal
+
+-- where the error output tells what was written, and didn't fail, it gained this line
+abbrev pub Says : SinkShown → SinkShown → List ℕ → Type 0
+Says old new line = (Rose old.faults new.faults → ⊥) → Tells old.written new.written (Gains line)
+
+-- nothing was written
+pub record IsUnwritten (status : ℕ) : Type 0 where
+  pub not_done : status ≡ 0 → ⊥
+  pub not_failed : status ≡ 8 → ⊥

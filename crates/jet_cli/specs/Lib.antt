@@ -1,6 +1,6 @@
-pub mod Words
-pub mod Causes
-pub mod Hearing
+pub mod Targets
+pub mod Answers
+pub mod Outside
+pub mod Keeping
 pub mod Writing
 pub mod Ending
-pub mod Statuses

@@ -1,16 +1,15 @@
-//! What a command over files is answered: their texts are read and judged one after another, and a text is made of them.
-ghost use Rattle.std.specs.Prelude.{◌≡◌, ◌≤◌, ◌∷◌, [], IfErr, OnOk};
-ghost use Rattle.outer_io.specs.Tells.{Tells, Gains, GainsPrefix};
-ghost use Rattle.outer_io.specs.Files.{KeepsFiles};
-ghost use Rattle.jet_model.specs.Answer.{IsAnswer, IsLogAnswer};
+//! What a command gives: its files are read one after another, and a text is made of them.
+ghost use Rattle.std.specs.Prelude.{◌≡◌, ◌≤◌, ◌∷◌, [], OnOk};
+ghost use Rattle.outer_io.specs.Tells.{Tells, Gains};
+ghost use Rattle.jet_model.specs.Answer.{query_answer, log_answer};
 ghost use Rattle.run_output.specs.Summary.{summary_text};
-ghost use Rattle.run_output.specs.Output.{output as output_on};
-ghost use Rattle.jet_words.specs.Words.{asked_of, IsInRange};
-ghost use Rattle.jet_files.specs.Causes.{cause_of, cause_by};
-ghost use Rattle.jet_files.specs.Outcome.{Holds};
-ghost use Rattle.jet_cli.specs.Words.{named, sources_of, target_of, IfOutput};
-ghost use Rattle.jet_cli.specs.Ending.{Judged};
-ghost use Rattle.jet_cli.specs.Statuses.{BeforeRecording};
+ghost use Rattle.run_output.specs.Output.{output as output_of};
+ghost use Rattle.jet_words.specs.Commands.{plain_command, IsInRange};
+ghost use Rattle.jet_files.specs.Outcome.{Comes, Follows, seen_by, bytes_of};
+ghost use Rattle.jet_cli.specs.Targets.{sources_of, target_of, IfOutput};
+ghost use Rattle.jet_cli.specs.Answers.{IsAnswer, named};
+ghost use Rattle.jet_cli.specs.Ending.{status_after};
+ghost use Rattle.jet_cli.specs.Keeping.{OpensAll, OpensFirst, KeepsAll};
 
 use crate::record::{Limits, record};
 use crate::work::{output, report, summary};
@@ -28,11 +27,12 @@ fn query<S: Store>(
     log: &str,
     query: &str,
 ) -> Result<Vec<u8>, Refusal>
-    ensures answers { Holds (λ file. IsAnswer file (named program.now log.now query.now)) (S.files store.old) (S.files store.new) (S.faults store.old) (S.faults store.new) (cause_by result) }
-    ensures keeps { Tells (S.files store.old) (S.files store.new) KeepsFiles }
-    ensures asked { Tells (S.asked store.old) (S.asked store.new) (GainsPrefix (program.now ∷ log.now ∷ query.now ∷ [])) }
-    ensures all { OnOk result (Tells (S.asked store.old) (S.asked store.new) (Gains (program.now ∷ log.now ∷ query.now ∷ []))) }
-    ensures later { S.faults store.old ≤ S.faults store.new }
+    ensures answer { Comes (λ file. query_answer file (named program.now log.now query.now))
+        (S.shown store.old) (S.shown store.new) (seen_by bytes_of result) }
+    ensures keeps { KeepsAll (S.shown store.old) (S.shown store.new) }
+    ensures opened { OpensFirst (program.now ∷ log.now ∷ query.now ∷ []) (S.shown store.old) (S.shown store.new) }
+    ensures all { OnOk result (OpensAll (program.now ∷ log.now ∷ query.now ∷ []) (S.shown store.old) (S.shown store.new)) }
+    ensures later { (S.shown store.old).faults ≤ (S.shown store.new).faults }
 {
     let run = open_run(alloc, store, program, log)?;
     let query = open_query(alloc, store, query)?;
@@ -46,11 +46,12 @@ fn replay<S: Store>(
     program: &str,
     log: &str,
 ) -> Result<Vec<u8>, Refusal>
-    ensures answers { Holds (λ file. IsLogAnswer file program.now log.now summary_text) (S.files store.old) (S.files store.new) (S.faults store.old) (S.faults store.new) (cause_by result) }
-    ensures keeps { Tells (S.files store.old) (S.files store.new) KeepsFiles }
-    ensures asked { Tells (S.asked store.old) (S.asked store.new) (GainsPrefix (program.now ∷ log.now ∷ [])) }
-    ensures all { OnOk result (Tells (S.asked store.old) (S.asked store.new) (Gains (program.now ∷ log.now ∷ []))) }
-    ensures later { S.faults store.old ≤ S.faults store.new }
+    ensures answer { Comes (λ file. log_answer file program.now log.now summary_text)
+        (S.shown store.old) (S.shown store.new) (seen_by bytes_of result) }
+    ensures keeps { KeepsAll (S.shown store.old) (S.shown store.new) }
+    ensures opened { OpensFirst (program.now ∷ log.now ∷ []) (S.shown store.old) (S.shown store.new) }
+    ensures all { OnOk result (OpensAll (program.now ∷ log.now ∷ []) (S.shown store.old) (S.shown store.new)) }
+    ensures later { (S.shown store.old).faults ≤ (S.shown store.new).faults }
 {
     let run = open_run(alloc, store, program, log)?;
     summary(alloc, run)
@@ -64,31 +65,34 @@ fn written<S: Store>(
     log: &str,
     channel: u32,
 ) -> Result<Vec<u8>, Refusal>
-    ensures answers { Holds (λ file. IsLogAnswer file program.now log.now (output_on channel)) (S.files store.old) (S.files store.new) (S.faults store.old) (S.faults store.new) (cause_by result) }
-    ensures keeps { Tells (S.files store.old) (S.files store.new) KeepsFiles }
-    ensures asked { Tells (S.asked store.old) (S.asked store.new) (GainsPrefix (program.now ∷ log.now ∷ [])) }
-    ensures all { OnOk result (Tells (S.asked store.old) (S.asked store.new) (Gains (program.now ∷ log.now ∷ []))) }
-    ensures later { S.faults store.old ≤ S.faults store.new }
+    ensures answer { Comes (λ file. log_answer file program.now log.now (output_of channel))
+        (S.shown store.old) (S.shown store.new) (seen_by bytes_of result) }
+    ensures keeps { KeepsAll (S.shown store.old) (S.shown store.new) }
+    ensures opened { OpensFirst (program.now ∷ log.now ∷ []) (S.shown store.old) (S.shown store.new) }
+    ensures all { OnOk result (OpensAll (program.now ∷ log.now ∷ []) (S.shown store.old) (S.shown store.new)) }
+    ensures later { (S.shown store.old).faults ≤ (S.shown store.new).faults }
 {
     let run = open_run(alloc, store, program, log)?;
     output(alloc, run, channel)
 }
 
-/// The text that a command asks for, which `deliver` writes.
+/// The text of a command, which `deliver` writes.
 pub fn answer<S: Store, K: Clock>(
     alloc: Global,
     store: &mut S,
     clock: &mut K,
     command: &Command,
 ) -> Result<Vec<u8>, Refusal>
-    requires ranges { IsInRange (asked_of command.now) }
-    ensures answers { Holds (Judged (asked_of command.now) (K.answers clock.old) (K.answers clock.new)) (S.files store.old) (S.files store.new) (S.faults store.old) (S.faults store.new) (cause_by result) }
-    ensures keeps { Tells (S.files store.old) (S.files store.new) KeepsFiles }
-    ensures asked { Tells (S.asked store.old) (S.asked store.new) (GainsPrefix (sources_of (asked_of command.now))) }
-    ensures all { OnOk result (Tells (S.asked store.old) (S.asked store.new) (Gains (sources_of (asked_of command.now)))) }
-    ensures later { S.faults store.old ≤ S.faults store.new }
-    ensures clock { IfOutput (target_of (asked_of command.now)) (clock.new ≡ clock.old) }
-    ensures unasked { IfErr result (λ r. BeforeRecording (cause_of r) (Tells (K.answers clock.old) (K.answers clock.new) (Gains []))) }
+    requires ranges { IsInRange (plain_command command.now) }
+    ensures answer { Follows (IsAnswer (plain_command command.now) (K.answers clock.old) (K.answers clock.new))
+        (S.shown store.old) (S.shown store.new) (seen_by bytes_of result) }
+    ensures keeps { KeepsAll (S.shown store.old) (S.shown store.new) }
+    ensures opened { OpensFirst (sources_of (plain_command command.now)) (S.shown store.old) (S.shown store.new) }
+    ensures all { OnOk result (OpensAll (sources_of (plain_command command.now)) (S.shown store.old) (S.shown store.new)) }
+    ensures later { (S.shown store.old).faults ≤ (S.shown store.new).faults }
+    ensures clock { IfOutput (target_of (plain_command command.now)) (clock.new ≡ clock.old) }
+    ensures unasked { 2 ≤ status_after result → status_after result ≤ 7
+        → Tells (K.answers clock.old) (K.answers clock.new) (Gains []) }
 {
     match command {
         Command::Query {

@@ -1,17 +1,14 @@
 //! The command `record`: a program is run over its inputs, and the log of the run is made.
-ghost use Rattle.std.specs.Prelude.{◌≡◌, ◌≤◌, ◌^◌, ◌∷◌, [], Ok, length, map, IfErr, OnOk};
+ghost use Rattle.std.specs.Prelude.{◌≡◌, ◌≤◌, ◌^◌, ◌∷◌, [], Ok, length, map, OnOk};
 ghost use Rattle.std.specs.List.{All};
 ghost use Rattle.elf_model.specs.Image.{image as image_of_file};
-ghost use Rattle.outer_io.specs.Tells.{Tells, Gains, GainsPrefix};
-ghost use Rattle.outer_io.specs.Files.{KeepsFiles};
+ghost use Rattle.outer_io.specs.Tells.{Tells, Gains};
 ghost use Rattle.call_record.specs.Sources.{contents};
-ghost use Rattle.jet_model.specs.Answer.{IsCaptureAnswer, IsRecordAnswer};
-ghost use Rattle.jet_files.specs.Causes.{cause_of, cause_by};
-ghost use Rattle.jet_files.specs.Outcome.{Holds, WorkHolds};
-ghost use Rattle.jet_cli.specs.Words.{limits_of};
-ghost use Rattle.jet_cli.specs.Causes.{capture_cause};
-ghost use Rattle.jet_cli.specs.Hearing.{Hears};
-ghost use Rattle.jet_cli.specs.Statuses.{BeforeRecording};
+ghost use Rattle.jet_files.specs.Outcome.{Follows, seen_by, bytes_of};
+ghost use Rattle.jet_files.specs.Views.{program_of};
+ghost use Rattle.jet_cli.specs.Answers.{capture_refusal, limits_of, IsCapture, IsRecording, IsWorkOf};
+ghost use Rattle.jet_cli.specs.Ending.{status_after};
+ghost use Rattle.jet_cli.specs.Keeping.{OpensAll, OpensFirst, KeepsAll};
 
 use call_record::{CaptureFault, capture};
 use jet_files::{Program, open_inputs, open_program};
@@ -34,7 +31,7 @@ pub struct Limits {
 
 /// Why a run was not recorded.
 fn of_capture(fault: CaptureFault, pages: u32) -> Refusal
-    ensures { cause_of result ≡ capture_cause pages fault }
+    ensures { result ≡ capture_refusal pages fault }
 {
     match fault {
         CaptureFault::Window => Refusal::Window { pages },
@@ -56,8 +53,10 @@ fn log_text<K: Clock>(
     requires most { limits.pages ≤ 4096 }
     requires few { length inputs.now ≤ 16 }
     requires short { All (λ v. length v.items ≤ 2 ^ 26) inputs.now }
-    ensures answers { WorkHolds (λ answer. Hears (K.answers clock.old) (K.answers clock.new) (λ answers. IsCaptureAnswer program.now.bytes.items program.now.image (contents inputs.now) (limits_of limits.pages limits.piece limits.steps) answers answer)) (cause_by result) }
-    ensures unasked { IfErr result (λ r. BeforeRecording (cause_of r) (Tells (K.answers clock.old) (K.answers clock.new) (Gains []))) }
+    ensures answer { IsWorkOf (IsCapture (record { program = program_of program.now; inputs = contents inputs.now })
+        (limits_of limits.pages limits.piece limits.steps) (K.answers clock.old) (K.answers clock.new)) (seen_by bytes_of result) }
+    ensures unasked { 2 ≤ status_after result → status_after result ≤ 7
+        → Tells (K.answers clock.old) (K.answers clock.new) (Gains []) }
 {
     let Limits {
         pages,
@@ -99,12 +98,15 @@ pub fn record<S: Store, K: Clock>(
     requires some { 1 ≤ limits.pages }
     requires most { limits.pages ≤ 4096 }
     requires few { length inputs.now ≤ 16 }
-    ensures answers { Holds (λ file answer. Hears (K.answers clock.old) (K.answers clock.new) (λ answers. IsRecordAnswer file program.now (map (λ name. name.now) inputs.now) (limits_of limits.pages limits.piece limits.steps) answers answer)) (S.files store.old) (S.files store.new) (S.faults store.old) (S.faults store.new) (cause_by result) }
-    ensures keeps { Tells (S.files store.old) (S.files store.new) KeepsFiles }
-    ensures asked { Tells (S.asked store.old) (S.asked store.new) (GainsPrefix (program.now ∷ map (λ name. name.now) inputs.now)) }
-    ensures all { OnOk result (Tells (S.asked store.old) (S.asked store.new) (Gains (program.now ∷ map (λ name. name.now) inputs.now))) }
-    ensures later { S.faults store.old ≤ S.faults store.new }
-    ensures unasked { IfErr result (λ r. BeforeRecording (cause_of r) (Tells (K.answers clock.old) (K.answers clock.new) (Gains []))) }
+    ensures answer { Follows (IsRecording program.now (map (λ name. name.now) inputs.now) (limits_of limits.pages limits.piece limits.steps)
+        (K.answers clock.old) (K.answers clock.new)) (S.shown store.old) (S.shown store.new) (seen_by bytes_of result) }
+    ensures keeps { KeepsAll (S.shown store.old) (S.shown store.new) }
+    ensures opened { OpensFirst (program.now ∷ map (λ name. name.now) inputs.now) (S.shown store.old) (S.shown store.new) }
+    ensures all { OnOk result (OpensAll (program.now ∷ map (λ name. name.now) inputs.now)
+        (S.shown store.old) (S.shown store.new)) }
+    ensures later { (S.shown store.old).faults ≤ (S.shown store.new).faults }
+    ensures unasked { 2 ≤ status_after result → status_after result ≤ 7
+        → Tells (K.answers clock.old) (K.answers clock.new) (Gains []) }
 {
     let program = open_program(alloc, store, program)?;
     let inputs = open_inputs(alloc, store, inputs)?;

@@ -1,8 +1,7 @@
 //! The work over a program and a log that were read: the log is fitted to its program, the run is replayed, and a text is
 //! made of it.
-ghost use Rattle.std.specs.Prelude.{◌≡◌, ℕ, List, Ok, IfOk, IfErr};
+ghost use Rattle.std.specs.Prelude.{◌≡◌, Ok, Err, IfOk, IfErr};
 ghost use Rattle.elf_model.specs.Image.{image as image_of_file};
-ghost use Rattle.isa.specs.Machine.{State};
 ghost use Rattle.report_model.specs.Query.{Query as QueryOf, Alike};
 ghost use Rattle.report_model.specs.Rows.{rows};
 ghost use Rattle.report_model.specs.Text.{report_text};
@@ -10,9 +9,10 @@ ghost use Rattle.replayer.specs.Checks.{IsChecked};
 ghost use Rattle.replayer.specs.Jobs.{trace_of};
 ghost use Rattle.run_output.specs.Summary.{summary_text as summary_text_of};
 ghost use Rattle.run_output.specs.Output.{output as output_of};
-ghost use Rattle.jet_model.specs.Answer.{IsRunAnswer, report_from};
-ghost use Rattle.jet_files.specs.Causes.{cause_of, cause_by};
-ghost use Rattle.jet_files.specs.Outcome.{WorkHolds};
+ghost use Rattle.jet_model.specs.Answer.{fitting_start, report_answer, text_answer};
+ghost use Rattle.jet_files.specs.Outcome.{IsWork, seen_by, bytes_of};
+ghost use Rattle.jet_files.specs.Views.{run_of};
+ghost use Rattle.jet_cli.specs.Answers.{IsWorkOf};
 
 use elf_image::Image;
 use jet_files::{Program, Run};
@@ -30,7 +30,7 @@ use std::alloc::Global;
 fn fitted(alloc: Global, program: &[u8], image: Image, log: Log) -> Result<Job, Refusal>
     requires image { image_of_file program.now ≡ Ok image }
     ensures ok { IfOk result (λ job. IsChecked program.now image log job) }
-    ensures err { IfErr result (λ r. (given : State → List ℕ) → WorkHolds (IsRunAnswer program.now image log given) (cause_of r)) }
+    ensures err { IfErr result (λ r. IsWork (fitting_start (record { bytes = program.now; image = image }) log) (Err r)) }
 {
     match Job::check(alloc, program, image, log) {
         Ok(job) => Ok(job),
@@ -50,10 +50,10 @@ fn report_of(alloc: Global, job: &Job, query: &Query) -> Result<Vec<u8>, NoMemor
     text(alloc, &report)
 }
 
-/// The report of a query over the run, for each query that asks for the same.
+/// The report of a query over the run, for each query that this one stands for.
 pub fn report(alloc: Global, run: Run, query: &Query) -> Result<Vec<u8>, Refusal>
     requires image { image_of_file run.program.bytes.items ≡ Ok run.program.image }
-    ensures { WorkHolds (λ answer. (q : QueryOf) → Alike query.now q → IsRunAnswer run.program.bytes.items run.program.image run.log (report_from run.log q) answer) (cause_by result) }
+    ensures { IsWorkOf (λ answer. (q : QueryOf) → Alike query.now q → report_answer (run_of run) q ≡ answer) (seen_by bytes_of result) }
 {
     let Run { program, log } = run;
     let Program { bytes, image } = program;
@@ -67,7 +67,7 @@ pub fn report(alloc: Global, run: Run, query: &Query) -> Result<Vec<u8>, Refusal
 /// The numbers of the run, as text.
 pub fn summary(alloc: Global, run: Run) -> Result<Vec<u8>, Refusal>
     requires image { image_of_file run.program.bytes.items ≡ Ok run.program.image }
-    ensures { WorkHolds (IsRunAnswer run.program.bytes.items run.program.image run.log (λ start. summary_text_of run.log)) (cause_by result) }
+    ensures { IsWork (text_answer (run_of run) summary_text_of) (seen_by bytes_of result) }
 {
     let Run { program, log } = run;
     let Program { bytes, image } = program;
@@ -81,7 +81,7 @@ pub fn summary(alloc: Global, run: Run) -> Result<Vec<u8>, Refusal>
 /// What the run wrote on a channel.
 pub fn output(alloc: Global, run: Run, channel: u32) -> Result<Vec<u8>, Refusal>
     requires image { image_of_file run.program.bytes.items ≡ Ok run.program.image }
-    ensures { WorkHolds (IsRunAnswer run.program.bytes.items run.program.image run.log (λ start. output_of channel run.log)) (cause_by result) }
+    ensures { IsWork (text_answer (run_of run) (output_of channel)) (seen_by bytes_of result) }
 {
     let Run { program, log } = run;
     let Program { bytes, image } = program;

@@ -1,11 +1,10 @@
 -- Outcomes of calls made one after another. Crates above cite these lemmas.
-use Rattle.std.proofs.Common.{◌≡◌, ◌∙◌, sym, subst, arith, ℕ, ◌<◌, ◌≤◌, ◌-◌, ◌^◌, Bool, true, false, nat_lt, Option, Some, None, Result, Ok, Err}
-use Rattle.std.proofs.lemmas.Bool.{ltb-true, ltb-false}
+use Rattle.std.proofs.Common.{◌≡◌, ◌∙◌, subst, ℕ, ◌≤◌, Option, Result, Ok, Err}
 use Rattle.outer_io.specs.Faults.{Rose}
 use Rattle.outer_io.specs.Tells.{Tells}
 use Rattle.outer_io.specs.Files.{Files, KeepsFiles}
 use Rattle.outer_io.specs.Shown.{StoreShown}
-use Rattle.outer_io.proofs.TellsLemmas.{tells-then, tells-map}
+use Rattle.outer_io.proofs.TellsLemmas.{tells-then, tells-map, tells-both, rose-earlier}
 use Rattle.jet_refusal.specs.declared.refusal.Refusal.{Refusal}
 use Rattle.jet_refusal.specs.Causes.{Causes, IsOwedTo}
 use Rattle.jet_refusal.proofs.Causes.{IsOwedTo-map}
@@ -16,17 +15,11 @@ use Rattle.jet_files.specs.Outcome.{Found, by_reading, Follows, Comes, IsWork}
 
 -- ---- what is told
 
--- two things that are told
-pub tells-both : {A : Type 0} (a b : Option A) (R Q : A → A → Type 0) → Tells a b R → Tells a b Q → Tells a b (λ x y. R x y × Q x y)
-tells-both a None R Q p q = tt
-tells-both None (Some y) R Q p q = absurd p
-tells-both (Some x) (Some y) R Q p q = (p, q)
-
-found-map : (fact more : Contents → Type 0) (f g : Option Files) → ((file : Contents) → fact file → more file) → Tells f g (Found fact) → Tells f g (Found more)
+pub found-map : (fact more : Contents → Type 0) (f g : Option Files) → ((file : Contents) → fact file → more file) → Tells f g (Found fact) → Tells f g (Found more)
 found-map fact more f g step = tells-map f g (Found fact) (Found more) (λ x y d. record { found = step x.file d.found })
 
 -- what two calls find, of which the first keeps the files
-found-then : (one two all : Contents → Type 0) (f g h : Option Files)
+pub found-then : (one two all : Contents → Type 0) (f g h : Option Files)
     → ((file : Contents) → one file → two file → all file)
     → Tells f g (Found one) → Tells f g KeepsFiles → Tells g h (Found two) → Tells f h (Found all)
 found-then one two all f g h step found keeps more =
@@ -39,13 +32,6 @@ pub found-kept : (fact : Contents → Type 0) (R : Files → Files → Type 0) (
 found-kept fact R f g step told keeps =
     tells-map f g (λ x y. R x y × KeepsFiles x y) (Found fact)
     (λ x y r. record { found = subst fact r.1.file (step x y r.0) }) (tells-both f g R KeepsFiles told keeps)
-
--- a count that rose later rose
-pub Rose-earlier : (a b c : ℕ) → a ≤ b → Rose b c → b ≤ c → Rose a c
-Rose-earlier a b c h r k = by (nat_lt b (2 ^ 64 - 1)) refl where
-  by : (t : Bool) → nat_lt b (2 ^ 64 - 1) ≡ t → Rose a c
-  by true e = λ below. let step : b < c = r (ltb-true b (2 ^ 64 - 1) e) in omega (arith, step, h)
-  by false e = λ below. let high : 2 ^ 64 - 1 ≤ b = ltb-false b (2 ^ 64 - 1) e in omega (arith, high, k, below)
 
 -- ---- outcomes that follow
 
@@ -64,7 +50,7 @@ follows-then R Q T x f g h step first keeps up (Err r) next =
     IsOwedTo-map (by_reading (Tells g.files h.files (Found (λ file. Q file (Err r)))) (Rose g.faults h.faults))
     (by_reading (Tells f.files h.files (Found (λ file. T file (Err r)))) (Rose f.faults h.faults))
     (λ p. p) (found-then (λ file. R file (Ok x)) (λ file. Q file (Err r)) (λ file. T file (Err r)) f.files g.files h.files (λ file. step file (Err r)) first keeps.files)
-    (λ rose. Rose-earlier f.faults g.faults h.faults keeps.faults rose up) (λ p. p) r next
+    (λ rose. rose-earlier f.faults g.faults h.faults keeps.faults rose up) (λ p. p) r next
 
 -- a refusal of the first calls is one of all
 pub follows-stops : {A B : Type 0} (R : Contents → Result A Refusal → Type 0) (T : Contents → Result B Refusal → Type 0) (f g : StoreShown) (r : Refusal)

@@ -1,3 +1,5 @@
-pub mod Judging
-pub mod Pieces
-pub mod Several
+pub mod Composing
+pub mod Names
+mod Read
+mod Runs
+mod Several

@@ -3,8 +3,9 @@ ghost use Rattle.std.specs.Prelude.{◌≡◌, ◌≤◌, ◌^◌, ◌∷◌, []
 ghost use Rattle.elf_model.specs.Image.{image as image_of_file};
 ghost use Rattle.outer_io.specs.Tells.{Tells, Gains, GainsPrefix};
 ghost use Rattle.outer_io.specs.Files.{KeepsFiles};
-ghost use Rattle.jet_model.specs.Contents.{program_at, log_at, query_at, run_at};
-ghost use Rattle.jet_files.specs.Outcome.{Comes, Follows, AreAlike, seen_by};
+ghost use Rattle.jet_model.specs.Contents.{log_in, program_at, log_at, query_at, run_at};
+ghost use Rattle.jet_files.specs.Outcome.{Comes, Follows, IsWork, AreAlike, seen_by};
+ghost use Rattle.jet_files.specs.Faults.{image_refusal, log_refusal, query_refusal};
 ghost use Rattle.jet_files.specs.Views.{program_of, run_of};
 
 use crate::reading::read_file;
@@ -29,6 +30,47 @@ pub struct Run {
     pub log: Log,
 }
 
+/// Why bytes are no program.
+fn of_image(fault: ImageFault) -> Refusal
+    ensures { result ≡ image_refusal fault }
+{
+    match fault {
+        ImageFault::At(kind) => Refusal::Image(kind),
+        ImageFault::NoMemory => Refusal::NoMemory,
+    }
+}
+
+/// Why bytes are no log.
+fn of_log(fault: LogFault) -> Refusal
+    ensures { result ≡ log_refusal fault }
+{
+    match fault {
+        LogFault::At { kind, offset } => Refusal::Log { kind, offset },
+        LogFault::NoMemory => Refusal::NoMemory,
+    }
+}
+
+/// The log of these bytes.
+fn log_of(alloc: Global, bytes: &[u8]) -> Result<Log, Refusal>
+    requires { length bytes.now ≤ 2 ^ 26 }
+    ensures { IsWork (log_in bytes.now) result }
+{
+    match read_log(alloc, bytes) {
+        Ok(log) => Ok(log),
+        Err(fault) => Err(of_log(fault)),
+    }
+}
+
+/// Why a text is no query.
+fn of_query(fault: QueryFault) -> Refusal
+    ensures { result ≡ query_refusal fault }
+{
+    match fault {
+        QueryFault::At { line, kind } => Refusal::Query { line, kind },
+        QueryFault::NoMemory => Refusal::NoMemory,
+    }
+}
+
 /// Reads a program. It gives up as `read_file` does, or with `Image`, the first fault of a file that is none.
 pub fn open_program<S: Store>(alloc: Global, store: &mut S, name: &str) -> Result<Program, Refusal>
     ensures outcome { Comes (λ file. program_at file name.now) (S.shown store.old) (S.shown store.new) (seen_by program_of result) }
@@ -41,8 +83,7 @@ pub fn open_program<S: Store>(alloc: Global, store: &mut S, name: &str) -> Resul
     let bytes = read_file(alloc, store, name)?;
     match load(alloc, &bytes) {
         Ok(image) => Ok(Program { bytes, image }),
-        Err(ImageFault::At(kind)) => Err(Refusal::Image(kind)),
-        Err(ImageFault::NoMemory) => Err(Refusal::NoMemory),
+        Err(fault) => Err(of_image(fault)),
     }
 }
 
@@ -54,11 +95,7 @@ pub fn open_log<S: Store>(alloc: Global, store: &mut S, name: &str) -> Result<Lo
     ensures later { (S.shown store.old).faults ≤ (S.shown store.new).faults }
 {
     let bytes = read_file(alloc, store, name)?;
-    match read_log(alloc, &bytes) {
-        Ok(log) => Ok(log),
-        Err(LogFault::At { kind, offset }) => Err(Refusal::Log { kind, offset }),
-        Err(LogFault::NoMemory) => Err(Refusal::NoMemory),
-    }
+    log_of(alloc, &bytes)
 }
 
 /// Reads a program and then a log. Whether they fit is not looked at. It gives up as `open_program` and `open_log` do.
@@ -91,7 +128,6 @@ pub fn open_query<S: Store>(alloc: Global, store: &mut S, name: &str) -> Result<
     let bytes = read_file(alloc, store, name)?;
     match parse(alloc, &bytes) {
         Ok(query) => Ok(query),
-        Err(QueryFault::At { line, kind }) => Err(Refusal::Query { line, kind }),
-        Err(QueryFault::NoMemory) => Err(Refusal::NoMemory),
+        Err(fault) => Err(of_query(fault)),
     }
 }

@@ -1,5 +1,5 @@
 -- The text of a log is a list of bytes.
-use Rattle.std.proofs.Common.{arith, refl, ◌≡◌, ap, sym, subst, ℕ, ◌<◌, List, [], ◌∷◌, ◌++◌, Bool, true, false, nat_lt, Result, Ok, Err}
+use Rattle.std.proofs.Common.{arith, refl, ◌≡◌, ap, subst, ℕ, ◌<◌, List, [], ◌∷◌, ◌++◌, Bool, true, false, nat_lt, Ok, Err}
 use Rattle.std.specs.Prelude.{◌&&◌, if◌then◌else◌, ℤ}
 use Rattle.std.specs.List.{AllByRecursion, list_all, flat_map}
 use Rattle.std.specs.Int.{cast_unsigned, w32}
@@ -9,7 +9,6 @@ use Rattle.log_model.specs.declared.CallRecord.TheVariants.{Read, Write, Clock, 
 use Rattle.log_model.specs.declared.RunEnd.{RunEnd}
 use Rattle.log_model.specs.declared.RunEnd.TheVariants.{Exit, Trap, Limit}
 use Rattle.log_model.specs.Logs.{Log, IsLog, IsRecord, IsTransfer, magic, word32, word64, signed32, record_text, end_text, header_text, log_text}
-use Rattle.jet_refusal.specs.declared.refusal.Refusal.{Refusal}
 use Rattle.jet_refusal.specs.declared.refusal.Refusal.TheVariants as refusal
 use Rattle.jet_model.specs.Contents.{if_bytes}
 

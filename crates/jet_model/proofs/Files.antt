@@ -1,5 +1,5 @@
 -- What files come to. Crates above cite these lemmas.
-use Rattle.std.proofs.Common.{◌≡◌, ◌∙◌, ap, ap₂, sym, refl, subst, ℕ, ◌≤◌, ◌<◌, ◌^◌, List, [], ◌∷◌, ◌++◌, Bool, true, false, nat_lt, length, map, Option, Some, None, Result, Ok, Err}
+use Rattle.std.proofs.Common.{◌≡◌, ◌∙◌, ap, ap₂, refl, subst, ℕ, ◌≤◌, ◌<◌, ◌^◌, List, [], ◌∷◌, ◌++◌, Bool, true, false, nat_lt, length, map, Option, Some, Result, Ok, Err}
 use Rattle.std.specs.Prelude.{if◌then◌else◌}
 use Rattle.std.specs.Option.{ok_or}
 use Rattle.std.proofs.lemmas.Bool.{le-ltb, lt-ltb}
@@ -17,7 +17,8 @@ use Rattle.jet_model.specs.Outcomes.{and_then, or_refused}
 use Rattle.jet_model.specs.Contents.{Contents, Program, Run, within_limit, if_bytes, program_in, log_in, query_in, file_at, program_at, log_at, query_at, run_at, inputs_at}
 use Rattle.jet_model.specs.Headline.{IsShort, AreAllShort}
 use Rattle.jet_model.proofs.Bytes.{AreBytes, if_bytes-are, if_bytes-is_ok, log_text-bytes}
-use Rattle.jet_model.proofs.LogReading.{reads_log, log_read}
+use Rattle.log_model.proofs.Reading.{reads_log}
+use Rattle.log_model.proofs.Soundness.{log_read}
 use Rattle.jet_model.proofs.AndThen.{ok-one, and_then-ok, and_then-err, and_then-is_ok, or_refused-ok, or_refused-err, or_refused-is_ok, ok_or-is_ok}
 
 -- ---- one file

@@ -20,7 +20,7 @@ use Rattle.replay_model.specs.Fits.{Fits, beginning, start_in_image}
 use Rattle.sha2.specs.Sha256.{sha256}
 use Rattle.jet_refusal.specs.declared.refusal.Refusal.{Refusal}
 use Rattle.jet_refusal.specs.declared.refusal.Refusal.TheVariants as refusal
-use Rattle.jet_model.specs.Outcomes.{and_then, AndThen}
+use Rattle.jet_model.specs.Outcomes.{and_then}
 use Rattle.jet_model.specs.Contents.{Contents, Names, Program, Run, program_at, query_at, run_at, inputs_at}
 use Rattle.jet_model.specs.Report.{report_begun}
 use Rattle.jet_model.specs.Answer.{digest_check, start_in, unless_diverged, fitting_start, report_answer, query_answer, text_answer, log_answer, Limits, Source, source_at, setting_of, limited_text, IsCaptured, IsCaptureAnswer, IsRecordAnswer}

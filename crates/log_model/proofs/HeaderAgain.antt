@@ -52,5 +52,5 @@ header_again log after is =
 -- the whole text
 pub log_again : (log : Log) → IsLog log → IsHeaderAgain (log_text log) log (flat_map record_text log.records ++ end_text log.end)
 log_again log is =
-    let behind = flat_map record_text log.records ++ end_text log.end in
-    subst (λ (x : List ℕ). IsHeaderAgain x log behind) (sym (append_assoc (header_text log) (flat_map record_text log.records) (end_text log.end))) (header_again log behind is)
+    let after = flat_map record_text log.records ++ end_text log.end in
+    subst (λ (x : List ℕ). IsHeaderAgain x log after) (sym (append_assoc (header_text log) (flat_map record_text log.records) (end_text log.end))) (header_again log after is)

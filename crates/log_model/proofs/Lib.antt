@@ -1,7 +1,15 @@
 pub mod Words
-pub mod Results
-pub mod Again
-pub mod Once
-pub mod HeaderAgain
+pub mod Moved
+pub mod Records
+pub mod Faults
+mod Items
+mod Results
+mod Again
+mod Front
+mod HeaderAgain
+mod Headers
+pub mod Reading
+pub mod Soundness
 pub mod Unique
+pub mod Texts
 mod Examples

@@ -30,24 +30,24 @@ fits_of w h = omega (arith, ints)
 pub natural_of : (w : ℕ) → w < 2 ^ 31 → cast_signed w32 w ≡ pos w
 natural_of w h = omega (arith, ints)
 
-pub read_result_of : (asked w : ℕ) → w < 2 ^ 32 → is_read_result_wrong asked w ≡ false → IsRefusal (cast_signed w32 w) ⊎ ((pos 0 ≤ℤ cast_signed w32 w) × (cast_signed w32 w ≤ℤ pos asked))
-read_result_of asked w h e =
-    elim (or_cases (is_refusal w) (leb w asked && ltb w (2 ^ 31)) (not-false _ e)) [
+pub read_result_of : (requested w : ℕ) → w < 2 ^ 32 → is_read_result_wrong requested w ≡ false → IsRefusal (cast_signed w32 w) ⊎ ((pos 0 ≤ℤ cast_signed w32 w) × (cast_signed w32 w ≤ℤ pos requested))
+read_result_of requested w h e =
+    elim (or_cases (is_refusal w) (leb w requested && ltb w (2 ^ 31)) (not-false _ e)) [
       | inl r ↦ inl (refusal_of w r)
       | inr r ↦
-          let p = and_parts (leb w asked) (ltb w (2 ^ 31)) r in
+          let p = and_parts (leb w requested) (ltb w (2 ^ 31)) r in
           let below = ltb-true w (2 ^ 31) p.1 in
-          let most = leb-true w asked p.0 in
+          let most = leb-true w requested p.0 in
           inr (omega (arith, ints), omega (arith, ints))
     ]
 
-pub write_result_of : (asked w : ℕ) → w < 2 ^ 32 → is_write_result_wrong asked w ≡ false → IsRefusal (cast_signed w32 w) ⊎ (cast_signed w32 w ≡ pos asked)
-write_result_of asked w h e =
-    elim (or_cases (is_refusal w) (eqb w asked && ltb w (2 ^ 31)) (not-false _ e)) [
+pub write_result_of : (requested w : ℕ) → w < 2 ^ 32 → is_write_result_wrong requested w ≡ false → IsRefusal (cast_signed w32 w) ⊎ (cast_signed w32 w ≡ pos requested)
+write_result_of requested w h e =
+    elim (or_cases (is_refusal w) (eqb w requested && ltb w (2 ^ 31)) (not-false _ e)) [
       | inl r ↦ inl (refusal_of w r)
       | inr r ↦
-          let p = and_parts (eqb w asked) (ltb w (2 ^ 31)) r in
-          inr (natural_of w (ltb-true w (2 ^ 31) p.1) ∙ ap pos (eqb-true w asked p.0))
+          let p = and_parts (eqb w requested) (ltb w (2 ^ 31)) r in
+          inr (natural_of w (ltb-true w (2 ^ 31) p.1) ∙ ap pos (eqb-true w requested p.0))
     ]
 
 -- ---- from the signed number to the word
@@ -72,23 +72,23 @@ cast_again z h (inl (inr e)) = rw e refl
 cast_again (pos n) h (inr p) = omega (arith, ints)
 cast_again (negsuc n) h (inr p) = absurd (omega (arith, ints))
 
-pub read_is_right : (asked : ℕ) (z : ℤ) → z <ℤ pos (2 ^ 31) → IsRefusal z ⊎ ((pos 0 ≤ℤ z) × (z ≤ℤ pos asked)) → is_read_result_wrong asked (cast_unsigned w32 z) ≡ false
-read_is_right asked z h (inl (inl e)) = rw e refl
-read_is_right asked z h (inl (inr e)) = rw e refl
-read_is_right asked (pos n) h (inr p) =
-    let most : n ≤ asked = omega (arith, ints, p.1) in
+pub read_is_right : (requested : ℕ) (z : ℤ) → z <ℤ pos (2 ^ 31) → IsRefusal z ⊎ ((pos 0 ≤ℤ z) × (z ≤ℤ pos requested)) → is_read_result_wrong requested (cast_unsigned w32 z) ≡ false
+read_is_right requested z h (inl (inl e)) = rw e refl
+read_is_right requested z h (inl (inr e)) = rw e refl
+read_is_right requested (pos n) h (inr p) =
+    let most : n ≤ requested = omega (arith, ints, p.1) in
     let below : n < 2 ^ 31 = omega (arith, ints) in
-    not_from_true _ (or_right (is_refusal n) (leb n asked && ltb n (2 ^ 31)) (and_from _ _ (le-leb n asked most) (lt-ltb n (2 ^ 31) below)))
-read_is_right asked (negsuc n) h (inr p) = absurd (omega (arith, ints, p.0))
+    not_from_true _ (or_right (is_refusal n) (leb n requested && ltb n (2 ^ 31)) (and_from _ _ (le-leb n requested most) (lt-ltb n (2 ^ 31) below)))
+read_is_right requested (negsuc n) h (inr p) = absurd (omega (arith, ints, p.0))
 
-pub write_is_right : (asked : ℕ) (z : ℤ) → z <ℤ pos (2 ^ 31) → IsRefusal z ⊎ (z ≡ pos asked) → is_write_result_wrong asked (cast_unsigned w32 z) ≡ false
-write_is_right asked z h (inl (inl e)) = rw e refl
-write_is_right asked z h (inl (inr e)) = rw e refl
-write_is_right asked (pos n) h (inr p) =
-    let same : n ≡ asked = omega (arith, ints, p) in
+pub write_is_right : (requested : ℕ) (z : ℤ) → z <ℤ pos (2 ^ 31) → IsRefusal z ⊎ (z ≡ pos requested) → is_write_result_wrong requested (cast_unsigned w32 z) ≡ false
+write_is_right requested z h (inl (inl e)) = rw e refl
+write_is_right requested z h (inl (inr e)) = rw e refl
+write_is_right requested (pos n) h (inr p) =
+    let same : n ≡ requested = omega (arith, ints, p) in
     let below : n < 2 ^ 31 = omega (arith, ints) in
-    not_from_true _ (or_right (is_refusal n) (eqb n asked && ltb n (2 ^ 31)) (and_from _ _ (eq-eqb n asked same) (lt-ltb n (2 ^ 31) below)))
-write_is_right asked (negsuc n) h (inr p) = absurd (omega (arith, ints, p))
+    not_from_true _ (or_right (is_refusal n) (eqb n requested && ltb n (2 ^ 31)) (and_from _ _ (eq-eqb n requested same) (lt-ltb n (2 ^ 31) below)))
+write_is_right requested (negsuc n) h (inr p) = absurd (omega (arith, ints, p))
 
 pub kind_is_right : (k : ℕ) → IsTrapKind k → is_trap_kind_wrong k ≡ false
 kind_is_right k (inl h) = not_from_true _ (or_left (leb k 3 || eqb k 5) (eqb k 7) (or_left (leb k 3) (eqb k 5) (le-leb k 3 h)))

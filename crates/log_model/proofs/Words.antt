@@ -1,33 +1,29 @@
--- Numbers of four and of eight bytes within bytes.
-use Rattle.std.proofs.Common.{◌≡◌, ℕ, suc, ◌+◌, ◌^◌, ◌<◌, ◌≤◌, List, [], ◌∷◌, ◌++◌, length, get_or, take, drop, refl, sym, ap, ◌∙◌, arith, inl, inr}
-use Rattle.std.specs.List.{AllByRecursion}
-use Rattle.std.specs.Int.{w64, from_le_bytes}
-use Rattle.std.proofs.lemmas.Bool.{cases_lt}
-use Rattle.std.proofs.lemmas.List.{take-append-drop, drop-drop, drop_more, length-take, length-drop, get_or-drop, get_or-take, get_or_past}
+-- Bytes, and the numbers of four and of eight bytes within them. Crates above cite these lemmas.
+use Rattle.std.proofs.Common.{◌≡◌, ℕ, zero, suc, ◌+◌, ◌^◌, ◌<◌, ◌≤◌, List, [], ◌∷◌, ◌++◌, length, get_or, take, drop, refl, sym, ap, ◌∙◌, arith}
+use Rattle.std.proofs.lemmas.List.{take-append-drop, drop-drop, drop_more, length-take, length-drop}
 use Rattle.std.proofs.lemmas.Nat.{le_bytes_4, le_bytes_8}
 use Rattle.format_model.specs.Fields.{word_at}
-use Rattle.log_model.specs.Logs.{word32, word64}
+use Rattle.log_model.specs.Logs.{word32, word64, IsBytes}
+use Rattle.log_model.specs.Reading.{long_at}
 
-abbrev pub IsBytes : List ℕ → Type 0
-IsBytes bytes = (i : ℕ) → get_or bytes i 0 < 256
+pub byte_below : (bytes : List ℕ) → IsBytes bytes → (i : ℕ) → get_or bytes i 0 < 256
+byte_below [] h i = omega arith
+byte_below (b ∷ bytes) h zero = h.0
+byte_below (b ∷ bytes) h (suc i) = byte_below bytes h.1 i
 
-pub IsBytes-drop : (n : ℕ) (bytes : List ℕ) → IsBytes bytes → IsBytes (drop n bytes)
-IsBytes-drop n bytes h i = rw get_or-drop (h (n + i))
-
-pub IsBytes-take : (n : ℕ) (bytes : List ℕ) → IsBytes bytes → IsBytes (take n bytes)
-IsBytes-take n bytes h i =
-    elim (cases_lt i n) [
-      | inl lt ↦ rw (get_or-take n bytes i 0 lt) (h i)
-      | inr le ↦ rw (get_or_past (take n bytes) i 0 (omega (arith, length-take n bytes))) (omega arith)
-    ]
-
-pub IsBytes-each : (bytes : List ℕ) → IsBytes bytes → AllByRecursion (λ b. b < 256) bytes
+pub IsBytes-each : (bytes : List ℕ) → ((i : ℕ) → get_or bytes i 0 < 256) → IsBytes bytes
 IsBytes-each [] h = tt
 IsBytes-each (b ∷ bytes) h = (h 0, IsBytes-each bytes (λ i. h (suc i)))
 
--- the number of eight bytes at a place
-abbrev pub long : List ℕ → ℕ → ℕ
-long bytes i = from_le_bytes w64 (take 8 (drop i bytes))
+pub IsBytes-drop : (n : ℕ) (bytes : List ℕ) → IsBytes bytes → IsBytes (drop n bytes)
+IsBytes-drop zero bytes h = h
+IsBytes-drop (suc n) [] h = tt
+IsBytes-drop (suc n) (b ∷ bytes) h = IsBytes-drop n bytes h.1
+
+pub IsBytes-take : (n : ℕ) (bytes : List ℕ) → IsBytes bytes → IsBytes (take n bytes)
+IsBytes-take zero bytes h = tt
+IsBytes-take (suc n) [] h = tt
+IsBytes-take (suc n) (b ∷ bytes) h = (h.0, IsBytes-take n bytes h.1)
 
 taken : (n i : ℕ) (bytes : List ℕ) → i + n ≤ length bytes → length (take n (drop i bytes)) ≡ n
 taken n i bytes h = omega (arith, length-take n (drop i bytes), length-drop i bytes)
@@ -38,21 +34,21 @@ split n i bytes text e = sym (take-append-drop n (drop i bytes)) ∙ ap (λ (x :
 pub word_spelt : (bytes : List ℕ) (i : ℕ) → IsBytes bytes → i + 4 ≤ length bytes → drop i bytes ≡ word32 (word_at bytes i) ++ drop (i + 4) bytes
 word_spelt bytes i fits h =
     let four = take 4 (drop i bytes) in
-    split 4 i bytes (word32 (word_at bytes i)) (le_bytes_4 four (word_at bytes i) (taken 4 i bytes h) (IsBytes-take 4 (drop i bytes) (IsBytes-drop i bytes fits)) refl)
+    split 4 i bytes (word32 (word_at bytes i)) (le_bytes_4 four (word_at bytes i) (taken 4 i bytes h) (byte_below four (IsBytes-take 4 (drop i bytes) (IsBytes-drop i bytes fits))) refl)
 
-pub long_spelt : (bytes : List ℕ) (i : ℕ) → IsBytes bytes → i + 8 ≤ length bytes → drop i bytes ≡ word64 (long bytes i) ++ drop (i + 8) bytes
+pub long_spelt : (bytes : List ℕ) (i : ℕ) → IsBytes bytes → i + 8 ≤ length bytes → drop i bytes ≡ word64 (long_at bytes i) ++ drop (i + 8) bytes
 long_spelt bytes i fits h =
     let eight = take 8 (drop i bytes) in
-    split 8 i bytes (word64 (long bytes i)) (le_bytes_8 eight (long bytes i) (taken 8 i bytes h) (IsBytes-take 8 (drop i bytes) (IsBytes-drop i bytes fits)) refl)
+    split 8 i bytes (word64 (long_at bytes i)) (le_bytes_8 eight (long_at bytes i) (taken 8 i bytes h) (byte_below eight (IsBytes-take 8 (drop i bytes) (IsBytes-drop i bytes fits))) refl)
 
 pub word_below : (bytes : List ℕ) (i : ℕ) → IsBytes bytes → word_at bytes i < 2 ^ 32
 word_below bytes i fits =
-    let h = IsBytes-take 4 (drop i bytes) (IsBytes-drop i bytes fits) in
+    let h = byte_below _ (IsBytes-take 4 (drop i bytes) (IsBytes-drop i bytes fits)) in
     omega (arith, h 0, h 1, h 2, h 3)
 
-pub long_below : (bytes : List ℕ) (i : ℕ) → IsBytes bytes → long bytes i < 2 ^ 64
+pub long_below : (bytes : List ℕ) (i : ℕ) → IsBytes bytes → long_at bytes i < 2 ^ 64
 long_below bytes i fits =
-    let h = IsBytes-take 8 (drop i bytes) (IsBytes-drop i bytes fits) in
+    let h = byte_below _ (IsBytes-take 8 (drop i bytes) (IsBytes-drop i bytes fits)) in
     omega (arith, h 0, h 1, h 2, h 3, h 4, h 5, h 6, h 7)
 
 pub byte_spelt : (bytes : List ℕ) → 0 < length bytes → bytes ≡ get_or bytes 0 0 ∷ drop 1 bytes

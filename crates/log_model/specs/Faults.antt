@@ -40,12 +40,12 @@ fixed_length tag =
 abbrev pub is_refusal : ℕ → Bool
 is_refusal result = (result == 2 ^ 32 - 9) || (result == 2 ^ 32 - 14)
 
--- a read's result is a refusal or at most the length asked for, a write's a refusal or that length, and both fit an i32
+-- a read's result is a refusal or at most the length requested, a write's a refusal or that length, and both fit an i32
 abbrev pub is_read_result_wrong : ℕ → ℕ → Bool
-is_read_result_wrong asked result = not (is_refusal result || (nat_le result asked && nat_lt result (2 ^ 31)))
+is_read_result_wrong requested result = not (is_refusal result || (nat_le result requested && nat_lt result (2 ^ 31)))
 
 abbrev pub is_write_result_wrong : ℕ → ℕ → Bool
-is_write_result_wrong asked result = not (is_refusal result || ((result == asked) && nat_lt result (2 ^ 31)))
+is_write_result_wrong requested result = not (is_refusal result || ((result == requested) && nat_lt result (2 ^ 31)))
 
 abbrev pub is_trap_kind_wrong : ℕ → Bool
 is_trap_kind_wrong kind = not (nat_le kind 3 || (kind == 5) || (kind == 7))
@@ -56,7 +56,7 @@ is_result_wrong tag rest =
     ((tag == 2) && is_write_result_wrong (word_at rest 13) (word_at rest 17)) ||
     ((tag == 6) && is_trap_kind_wrong (word_at rest 5))
 
--- the bytes of data behind a read's or a write's fixed fields
+-- the bytes of data after a read's or a write's fixed fields
 abbrev pub data_length : ℕ → List ℕ → ℕ
 data_length tag rest = if ((tag == 1) || (tag == 2)) && nat_lt (word_at rest 17) (2 ^ 31) then word_at rest 17 else 0
 
@@ -80,8 +80,8 @@ pub record IsRead (bytes : List ℕ) (records : List CallRecord) (rest : List �
   pub rise : Rise 0 records
   pub text : drop 48 bytes ≡ flat_map record_text records ++ rest
 
--- Bytes have this fault at this offset: in the header; in the record behind whole records; or behind an end record
+-- Bytes have this fault at this offset: in the header; in the record after whole records; or after an end record
 pub data HasFault (bytes : List ℕ) : LogKind → ℕ → Type 0 where
   InHeader : {kind : LogKind} {offset : ℕ} → header_fault bytes ≡ Some (kind, offset) → HasFault bytes kind offset
   InRecord : {kind : LogKind} (records : List CallRecord) (rest : List ℕ) → IsRead bytes records rest → record_fault (least_after 0 records) rest ≡ Some kind → HasFault bytes kind (length bytes - length rest)
-  BehindEnd : (records : List CallRecord) (end : RunEnd) (rest : List ℕ) → IsRead bytes records (end_text end ++ rest) → IsEnd end → least_after 0 records ≤ end_at end → 0 < length rest → HasFault bytes Trailing (length bytes - length rest)
+  AfterEnd : (records : List CallRecord) (end : RunEnd) (rest : List ℕ) → IsRead bytes records (end_text end ++ rest) → IsEnd end → least_after 0 records ≤ end_at end → 0 < length rest → HasFault bytes Trailing (length bytes - length rest)

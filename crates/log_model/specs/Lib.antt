@@ -2,3 +2,4 @@ pub mod Logs
 pub mod Faults
 pub mod Moved
 pub mod Reading
+pub mod Laws

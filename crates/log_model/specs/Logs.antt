@@ -73,9 +73,19 @@ log_text log = header_text log ++ flat_map record_text log.records ++ end_text l
 
 -- ---- which logs there are
 
--- a refused read or write: -9, no such channel, or -14, a buffer outside the window
+-- each is below 256
+abbrev pub IsBytes : List ℕ → Type 0
+IsBytes bytes = AllByRecursion (λ b. b < 256) bytes
+
+-- the results of a read or a write that is refused: -9 and -14
+abbrev pub no_such_channel : ℤ
+no_such_channel = negsuc 8
+
+abbrev pub outside_window : ℤ
+outside_window = negsuc 13
+
 abbrev pub IsRefusal : ℤ → Type 0
-IsRefusal result = (result ≡ negsuc 8) ⊎ (result ≡ negsuc 13)
+IsRefusal result = (result ≡ no_such_channel) ⊎ (result ≡ outside_window)
 
 -- how many bytes a result says were moved
 abbrev pub moved_length : ℤ → ℕ
@@ -88,9 +98,9 @@ pub record IsTransfer (args : List ℕ) (result : ℤ) (bytes : List ℕ) : Type
   pub words : AllByRecursion (λ n. n < 2 ^ 32) args
   pub fits : result <ℤ pos (2 ^ 31)
   pub whole : length bytes ≡ moved_length result
-  pub are_bytes : AllByRecursion (λ b. b < 256) bytes
+  pub are_bytes : IsBytes bytes
 
--- a read moves at most the length asked for, a write all of it
+-- a read moves at most the length requested, a write all of it
 abbrev pub IsRecord : CallRecord → Type 0
 IsRecord (Read at args result bytes) =
     (at < 2 ^ 32) × IsTransfer args result bytes × (IsRefusal result ⊎ ((pos 0 ≤ℤ result) × (result ≤ℤ pos (slice_index args 2))))
@@ -122,7 +132,7 @@ pub record IsLog (log : Log) : Type 0 where
   pub pages : (1 ≤ log.pages) × (log.pages ≤ 4096)
   pub inputs : log.inputs ≤ 16
   pub digest : length log.digest ≡ 32
-  pub digest_bytes : AllByRecursion (λ b. b < 256) log.digest
+  pub digest_bytes : IsBytes log.digest
   pub records : AllByRecursion IsRecord log.records
   pub end : IsEnd log.end
   pub rise : Rise 0 log.records

@@ -1,21 +1,43 @@
 //! Laws of logs and of faults. Each is a function that does nothing: its contract is the law.
 
-ghost use Rattle.std.specs.Prelude.{◌≡◌, ℕ, List};
-ghost use Rattle.log_model.specs.declared.LogKind.{LogKind as Kind};
-ghost use Rattle.log_model.specs.Logs.{Log, IsLog, log_text};
-ghost use Rattle.log_model.specs.Faults.{HasFault};
+ghost use Rattle.log_model.specs.Laws.{ReadsLogs, ReadsFaults, HaveOneText, FaultyAreNoLogs, HaveOneFault, AreLogsOrFaulty, HaveLength, ArePrefixFree};
+
+/// Bytes are read as a log exactly where they are that log's text.
+pub fn reads_logs()
+    ensures { ReadsLogs }
+{}
+
+/// A fault is read exactly where the bytes have it, at that offset.
+pub fn reads_faults()
+    ensures { ReadsFaults }
+{}
 
 /// A text is that of one log: what stands in a log stands in its text.
 pub fn one_text()
-    ensures { (a b : Log) → IsLog a → IsLog b → log_text a ≡ log_text b → a ≡ b }
+    ensures { HaveOneText }
 {}
 
 /// Bytes that have a fault are no log's text.
 pub fn faulty_is_no_log()
-    ensures { (bytes : List ℕ) (kind : Kind) (offset : ℕ) (log : Log) → HasFault bytes kind offset → IsLog log → bytes ≡ log_text log → ⊥ }
+    ensures { FaultyAreNoLogs }
 {}
 
 /// Bytes have one fault at most, at one offset.
 pub fn one_fault()
-    ensures { (bytes : List ℕ) (k j : Kind) (o p : ℕ) → HasFault bytes k o → HasFault bytes j p → (k ≡ j) × (o ≡ p) }
+    ensures { HaveOneFault }
+{}
+
+/// Bytes are the text of a log, or they have a fault.
+pub fn each_is_a_log_or_faulty()
+    ensures { AreLogsOrFaulty }
+{}
+
+/// A log's text has 48 bytes of header, and then its records' and its end's.
+pub fn text_length()
+    ensures { HaveLength }
+{}
+
+/// Less than the whole text of a log is no log's text: a write that was cut off is never taken for a log.
+pub fn no_front_is_a_log()
+    ensures { ArePrefixFree }
 {}

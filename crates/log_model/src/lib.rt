@@ -119,6 +119,6 @@ pub enum LogKind {
     Order,
     /// A read's or write's result, or a trap's kind, is none that there is.
     Result,
-    /// There are bytes behind the end record.
+    /// There are bytes after the end record.
     Trailing,
 }

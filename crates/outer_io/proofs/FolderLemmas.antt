@@ -1,7 +1,9 @@
 -- The first file of a name.
-use Rattle.std.proofs.Common.{◌≡◌, ℕ, zero, suc, ◌+◌, List, [], ◌∷◌, drop, Some, true, false, refl, slice_get, string_bytes, add-one}
+use Rattle.std.proofs.Common.{◌≡◌, ◌≤◌, ◌-◌, ◌∙◌, ap, length, length-drop, Bool, unwrap_or, arith, ℕ, zero, suc, ◌+◌, List, [], ◌∷◌, drop, Some, true, false, refl, slice_get, string_bytes, add-one}
 use Rattle.std.specs.Str.{bytes_eq}
 use Rattle.outer_io.specs.Files.{Text}
+use Rattle.std.specs.List.{AllByRecursion}
+use Rattle.outer_io.specs.FolderRoom.{IsWithin}
 use Rattle.outer_io.specs.Held.{entries_of, content_of}
 use Rattle.outer_io.specs.declared.memory_file.MemoryFile.{MemoryFile}
 
@@ -22,3 +24,22 @@ content_later (f ∷ files) zero file name here other =
     let e : f ≡ file = cc in
     rw (e, other) refl
 content_later (f ∷ files) (suc i) file name here other = rw add-one (rw add-one at (content_later files i file name here other))
+
+-- no content is longer than the longest
+pub content_within : (longest : ℕ) (files : List MemoryFile) (name : Text) → AllByRecursion (IsWithin longest) files
+    → length (unwrap_or (content_of (entries_of files) name) []) ≤ longest
+content_within longest [] name h = omega arith
+content_within longest (f ∷ files) name h = by (bytes_eq (string_bytes f.name) name) refl (content_within longest files name h.1) where
+  by : (same : Bool) → bytes_eq (string_bytes f.name) name ≡ same → length (unwrap_or (content_of (entries_of files) name) []) ≤ longest → length (unwrap_or (content_of (entries_of (f ∷ files)) name) []) ≤ longest
+  by true e later = rw e h.0
+  by false e later = rw e later
+
+-- what is read on stays within it too
+pub taken_within : (longest : ℕ) (files : List MemoryFile) (name : Text) (reached count : ℕ) (rest : List ℕ)
+    → AllByRecursion (IsWithin longest) files → reached ≤ longest → rest ≡ drop reached (unwrap_or (content_of (entries_of files) name) [])
+    → count ≤ length rest → reached + count ≤ longest
+taken_within longest files name reached count rest within so_far is count_is =
+    let whole = unwrap_or (content_of (entries_of files) name) [] in
+    let long : length whole ≤ longest = content_within longest files name within in
+    let left : length rest ≡ length whole - reached = ap length is ∙ length-drop reached whole in
+    omega (arith, long, left)

@@ -1,8 +1,8 @@
 -- The calls of one reading of a file, one after another.
-use Rattle.std.proofs.Common.{◌≡◌, ◌∙◌, ap, sym, ℕ, ◌+◌, ◌≤◌, ◌<◌, List, [], ◌∷◌, ◌++◌, length, take, drop, Option, Some, None, IsSome, unwrap_or, refl, arith, append_assoc, append-nil, length-take, length-append, take-append-drop, take-add}
+use Rattle.std.proofs.Common.{◌≡◌, ◌∙◌, ap, sym, ℕ, ◌+◌, ◌≤◌, ◌<◌, List, [], ◌∷◌, ◌++◌, length, take, drop, Option, Some, None, IsSome, unwrap_or, refl, arith, append_assoc, append-nil, length-take, length-append, take-append-drop, take-add, inl, inr}
 use Rattle.outer_io.specs.Tells.{IsPrefix}
-use Rattle.outer_io.specs.Files.{Files, Text, KeepsFiles, BeginsRead, Takes, rest_of}
-use Rattle.outer_io.specs.ReadWhole.{HasContent, IsLonger}
+use Rattle.outer_io.specs.Files.{Files, Text, KeepsFiles, BeginsRead, Takes, TakesNone, rest_of}
+use Rattle.outer_io.specs.ReadWhole.{HasContent, IsLonger, TakesAtMost}
 
 -- these bytes of the file are taken, and more may follow
 pub record IsReading (name : Text) (bytes : List ℕ) (old new : Files) : Type 0 where
@@ -70,3 +70,29 @@ is_longer name bytes max x y r long =
 
 pub keeps_of : (name : Text) (bytes : List ℕ) (x y : Files) → IsReading name bytes x y → KeepsFiles x y
 keeps_of name bytes x y r = r.keeps
+
+-- ---- at most so many bytes are taken
+
+pub most-none : (name : Text) (most : ℕ) (x y : Files) → TakesNone x y → TakesAtMost name most x y
+most-none name most x y p = inl (p.reading, p.taken)
+
+pub most-begun : (name : Text) (most : ℕ) (x y : Files) → BeginsRead name x y → TakesAtMost name most x y
+most-begun name most x y p =
+    let none : length y.taken ≡ 0 = ap length p.taken in
+    inr (p.reading, omega (arith, none))
+
+pub most-read : (name : Text) (bytes : List ℕ) (most : ℕ) (x y : Files) → length bytes ≤ most → IsReading name bytes x y → TakesAtMost name most x y
+most-read name bytes most x y few r =
+    let taken : length y.taken ≡ length bytes = ap length r.taken in
+    inr (r.reading, omega (arith, taken, few))
+
+pub most-failed : (name : Text) (bytes : List ℕ) (most : ℕ) (x y z : Files) → length bytes ≤ most → IsReading name bytes x y → TakesNone y z → TakesAtMost name most x z
+most-failed name bytes most x y z few r p =
+    let taken : length z.taken ≡ length bytes = ap length (p.taken ∙ r.taken) in
+    inr (p.reading ∙ r.reading, omega (arith, taken, few))
+
+pub most-taken : (name : Text) (bytes got : List ℕ) (room most : ℕ) (x y z : Files)
+    → length bytes + length got ≤ most → IsReading name bytes x y → Takes room got y z → TakesAtMost name most x z
+most-taken name bytes got room most x y z few r p =
+    let taken : length z.taken ≡ length (bytes ++ got) = ap length (p.taken ∙ ap (λ w. w ++ got) r.taken) in
+    inr (p.reading ∙ r.reading, omega (arith, taken, few, length-append bytes got))

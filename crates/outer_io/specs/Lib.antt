@@ -4,6 +4,13 @@ pub mod Files
 pub mod Shown
 pub mod ReadWhole
 pub mod WriteFile
-pub mod Held
+pub mod Buffered
+pub mod Calls
 pub mod Names
+pub mod NamesRoom
+pub mod Held
+pub mod FolderRoom
+pub mod MemoryStores
+pub mod SureStores
+pub mod MemorySinks
 pub mod ListClock

@@ -1,5 +1,5 @@
 -- What reading a whole file answers.
-use Rattle.std.specs.Prelude.{◌≡◌, ◌<◌, ℕ, ◌+◌, List, length, Option, Some}
+use Rattle.std.specs.Prelude.{◌≡◌, ◌<◌, ◌≤◌, ◌⊎◌, ℕ, ◌+◌, List, length, Option, Some}
 use Rattle.outer_io.specs.Tells.{Tells}
 use Rattle.outer_io.specs.Files.{Files, Text}
 use Rattle.outer_io.specs.Faults.{Rose}
@@ -17,6 +17,10 @@ pub record IsLonger (name : Text) (max : ℕ) (old new : Files) : Type 0 where
   pub longer : max < length content
   pub reading : new.reading ≡ name
   pub taken : length new.taken ≡ max + 1
+
+-- nothing was taken, or of this file at most so many bytes
+abbrev pub TakesAtMost : Text → ℕ → Files → Files → Type 0
+TakesAtMost name most old new = ((new.reading ≡ old.reading) × (new.taken ≡ old.taken)) ⊎ ((new.reading ≡ name) × (length new.taken ≤ most))
 
 -- when each error comes; `old` and `new` are what the store told before the call and after it, and so are the counts
 abbrev pub ReadCause : Text → ℕ → Option Files → Option Files → ℕ → ℕ → ReadWhole → Type 0

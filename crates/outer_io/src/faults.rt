@@ -1,11 +1,12 @@
-// What the stores and sinks count.
-ghost use Rattle.std.specs.Prelude.{◌≡◌, ◌≤◌, ◌+◌, ◌-◌, ◌^◌, ◌==◌, min, is_err};
-ghost use Rattle.std.specs.List.{list_any};
-ghost use Rattle.outer_io.specs.Faults.{HasCause, Rose};
+//! What the stores and sinks count.
+
+ghost use Rattle.std.specs.Prelude.{◌≡◌, ◌≤◌, ◌-◌, ◌^◌, is_ok};
+ghost use Rattle.outer_io.specs.Calls.{count_on, goes_through, after_call};
 
 use crate::store::Failed;
+use std::marker::Model;
 
-// A count of faults, which stands still at its last value.
+/// A count of faults, which stands still at its last value.
 #[derive(Clone, Copy)]
 pub struct Faults {
     pub count: u64,
@@ -19,27 +20,34 @@ impl Faults {
         Faults { count: 0 }
     }
 
-    // Counts a fault.
+    /// Counts a fault.
     pub fn fault(&mut self) -> Failed
-        ensures later { self.old.count ≤ self.new.count }
-        ensures rose { Rose self.old.count self.new.count }
+        ensures { self.new.count ≡ count_on self.old.count }
     {
         self.count = self.count.saturating_add(1);
         Failed
     }
 }
 
-// Calls numbered from 0, of which those of some numbers fail, and their faults.
+/// Calls numbered from 0, of which those of some numbers fail, and their faults.
 #[derive(Drop)]
 pub struct Calls {
     failing: Vec<u64>,
     number: u64,
-    pub faults: Faults,
+    faults: Faults,
+}
+
+impl Model for Calls {
+    ghost use Rattle.outer_io.specs.Calls.{Calling};
+
+    ghost Value = { Calling };
+
+    ghost view = { λ c. record { failing = c.failing.items; next = c.number; faults = c.faults.count } };
 }
 
 impl Calls {
     pub fn new(failing: Vec<u64>) -> Calls
-        ensures { result.faults.count ≡ 0 }
+        ensures { result ≡ record { failing = failing.items; next = 0; faults = 0 } }
     {
         Calls {
             failing,
@@ -48,16 +56,14 @@ impl Calls {
         }
     }
 
-    // Counts a call, which fails if its number is one of those.
-    pub fn begin(&mut self) -> Result<(), Failed>
-        ensures cause { HasCause self.old.faults.count self.new.faults.count result }
-        ensures due { is_err result ≡ list_any (λ n. n == self.old.number) self.old.failing.items }
-        ensures number { self.new.number ≡ min (self.old.number + 1) (2 ^ 64 - 1) }
-        ensures failing { self.new.failing ≡ self.old.failing }
+    /// Counts a call, which can go through or can't. It fails where it can't, or where its number is one of those.
+    pub fn count(&mut self, can: bool) -> Result<(), Failed>
+        ensures went { is_ok result ≡ goes_through can self.old }
+        ensures calls { self.new ≡ after_call (is_ok result) self.old }
     {
         let number = self.number;
         self.number = number.saturating_add(1);
-        if self.failing.contains(&number) {
+        if !can || self.failing.contains(&number) {
             return Err(self.faults.fault());
         }
         Ok(())

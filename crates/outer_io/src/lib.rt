@@ -14,10 +14,12 @@
 //! [`FileStore`], [`OutSink`] and [`MachineClock`] are the machine's. They are trusted, and tell nothing.
 #![tactic(auto)]
 
+mod buffer;
 mod clock;
 mod faults;
 mod folder;
 mod gate;
+pub mod laws;
 mod list_clock;
 mod machine;
 mod memory_file;

@@ -1,18 +1,33 @@
-// A sink in memory that can fail.
-ghost use Rattle.std.specs.Prelude.{◌≡◌, ◌<◌, [], Some, IfOk};
+//! A sink in memory that can fail.
 
+ghost use Rattle.std.specs.Prelude.{◌≡◌, ◌<◌, [], IfOk};
+ghost use Rattle.std.proofs.Common.{arith};
+ghost use Rattle.outer_io.specs.MemorySinks.{memory_sink_shown, memory_write};
+
+use crate::buffer::Buffer;
 use crate::faults::Calls;
 use crate::sink::Sink;
 use crate::store::Failed;
 use std::alloc::{AllocError, Global};
+use std::marker::Model;
 
 /// A sink in memory, of which calls of chosen numbers fail. A put past its room is a fault.
 #[derive(Drop)]
 pub struct MemorySink {
-    bytes: Vec<u8>,
+    buffer: Buffer,
     calls: Calls,
     piece: usize,
-    ghost some: { 0 < piece },
+}
+
+impl Model for MemorySink {
+    ghost use Rattle.std.specs.Prelude.{◌<◌};
+    ghost use Rattle.outer_io.specs.MemorySinks.{MemoryWritten};
+
+    ghost Value = { MemoryWritten };
+
+    ghost view = { λ s. record { buffer = s.buffer; calls = s.calls; piece = s.piece } };
+
+    ghost invariant = { λ s. 0 < s.piece };
 }
 
 impl MemorySink {
@@ -27,11 +42,14 @@ impl MemorySink {
         room: usize,
     ) -> Result<MemorySink, AllocError>
         requires { 0 < piece }
-        ensures written { IfOk result (λ sink. (⟦<MemorySink as Sink>⟧.shown sink).written ≡ Some []) }
-        ensures faults { IfOk result (λ sink. (⟦<MemorySink as Sink>⟧.shown sink).faults ≡ 0) }
+        ensures { IfOk result (λ sink. sink ≡ record {
+          buffer = record { bytes = []; room = room };
+          calls = record { failing = failing.items; next = 0; faults = 0 };
+          piece = piece;
+        }) }
     {
         Ok(MemorySink {
-            bytes: Vec::with_capacity(alloc, room)?,
+            buffer: Buffer::new(alloc, room)?,
             calls: Calls::new(failing),
             piece,
         })
@@ -39,26 +57,24 @@ impl MemorySink {
 
     /// What was written.
     pub fn bytes(&self) -> &[u8]
-        ensures { (⟦<MemorySink as Sink>⟧.shown self.now).written ≡ Some result.now }
+        ensures { result.now ≡ self.now.buffer.bytes }
     {
-        &self.bytes
+        self.buffer.bytes()
     }
 }
 
 impl Sink for MemorySink {
-    ghost shown = { λ s. record { written = Some s.bytes.items; faults = s.calls.faults.count } };
+    ghost shown = { memory_sink_shown };
 
-    ghost counted = { λ s. s.calls.faults.counted };
+    ghost put_gives = { λ s piece count after. (count, after) ≡ memory_write piece s };
+
+    ghost counted = { λ s. Prim.omega arith };
 
     fn put(&mut self, piece: &[u8]) -> Result<usize, Failed> {
-        self.calls.begin()?;
-        let count = piece.len().min(self.piece);
-        if self.bytes.capacity() - self.bytes.len() < count {
-            return Err(self.calls.faults.fault());
-        }
-        let Ok(()) = self.bytes.extend_from_slice(&piece[..count]) else {
-            unreachable!();
-        };
-        Ok(count)
+        let moved = &piece[..piece.len().min(self.piece)];
+        let can = moved.len() <= self.buffer.room();
+        self.calls.count(can)?;
+        self.buffer.push(moved);
+        Ok(moved.len())
     }
 }

@@ -1,13 +1,18 @@
-// A store in memory that can fail.
-ghost use Rattle.std.specs.Prelude.{◌≡◌, ◌<◌, [], Some, IfOk, IfSome, IsSome};
-ghost use Rattle.outer_io.specs.Held.{content_of, entries_of, files_of};
+//! A store in memory that can fail.
+
+ghost use Rattle.std.specs.Prelude.{◌≡◌, ◌<◌, false, IfOk};
+ghost use Rattle.std.proofs.Common.{arith};
+ghost use Rattle.outer_io.specs.Held.{entries_of, held_of};
+ghost use Rattle.outer_io.specs.Names.{no_names};
+ghost use Rattle.outer_io.specs.MemoryStores.{memory_store_shown, memory_begin_read, memory_read, memory_create, memory_put, memory_finish};
 
 use crate::faults::Calls;
-use crate::folder::Folder;
+use crate::folder::{Folder, name_has_room};
 use crate::memory_file::MemoryFile;
 use crate::opened_names::OpenedNames;
 use crate::store::{Failed, Store};
 use std::alloc::{AllocError, Global};
+use std::marker::Model;
 
 /// Files in memory, of which calls of chosen numbers fail.
 ///
@@ -21,7 +26,17 @@ pub struct MemoryStore {
     piece: usize,
     is_open: bool,
     is_created: bool,
-    ghost some: { 0 < piece },
+}
+
+impl Model for MemoryStore {
+    ghost use Rattle.std.specs.Prelude.{◌<◌};
+    ghost use Rattle.outer_io.specs.MemoryStores.{MemoryStored};
+
+    ghost Value = { MemoryStored };
+
+    ghost view = { λ s. record { held = s.folder; opened = s.opened; calls = s.calls; piece = s.piece; is_open = s.is_open; is_created = s.is_created } };
+
+    ghost invariant = { λ s. 0 < s.piece };
 }
 
 impl MemoryStore {
@@ -38,10 +53,14 @@ impl MemoryStore {
         room: usize,
     ) -> Result<MemoryStore, AllocError>
         requires { 0 < piece }
-        ensures files { IfOk result (λ store. IfSome (⟦<MemoryStore as Store>⟧.shown store).files (λ told. told.file ≡ content_of (entries_of files.items))) }
-        ensures told { IfOk result (λ store. IsSome (⟦<MemoryStore as Store>⟧.shown store).files) }
-        ensures opened { IfOk result (λ store. (⟦<MemoryStore as Store>⟧.shown store).opened ≡ Some []) }
-        ensures faults { IfOk result (λ store. (⟦<MemoryStore as Store>⟧.shown store).faults ≡ 0) }
+        ensures { IfOk result (λ store. store ≡ record {
+          held = held_of (entries_of files.items) room;
+          opened = no_names;
+          calls = record { failing = failing.items; next = 0; faults = 0 };
+          piece = piece;
+          is_open = false;
+          is_created = false;
+        }) }
     {
         Ok(MemoryStore {
             folder: Folder::new(alloc, files, room)?,
@@ -55,62 +74,62 @@ impl MemoryStore {
 }
 
 impl Store for MemoryStore {
-    ghost shown = { λ s. record { files = Some (files_of s.folder); opened = s.opened.names; faults = s.calls.faults.count } };
+    ghost shown = { memory_store_shown };
 
     ghost is_open = { λ s. s.is_open };
 
     ghost is_created = { λ s. s.is_created };
 
-    ghost counted = { λ s. s.calls.faults.counted };
+    ghost begin_read_gives = { λ s name went after. (went, after) ≡ memory_begin_read name s };
+
+    ghost read_gives = { λ s room count after. (count, after) ≡ memory_read room s };
+
+    ghost create_gives = { λ s name went after. (went, after) ≡ memory_create name s };
+
+    ghost put_gives = { λ s piece count after. (count, after) ≡ memory_put piece s };
+
+    ghost finish_gives = { λ s went after. (went, after) ≡ memory_finish s };
+
+    ghost counted = { λ s. Prim.omega arith };
 
     fn begin_read(&mut self, name: &str) -> Result<(), Failed> {
+        let can = self.folder.can_read(name);
         self.is_open = false;
         self.opened.note(name);
-        self.calls.begin()?;
-        if !self.folder.has(name) {
-            return Err(self.calls.faults.fault());
-        }
-        if !self.folder.begin_read(name) {
-            return Err(self.calls.faults.fault());
-        }
+        self.calls.count(can)?;
+        self.folder.begin_read(name);
         self.is_open = true;
         Ok(())
     }
 
     fn read(&mut self, into: &mut [u8]) -> Result<usize, Failed> {
-        self.calls.begin()?;
-        match self.folder.read(into, self.piece) {
-            Some(count) => Ok(count),
-            None => Err(self.calls.faults.fault()),
-        }
+        self.calls.count(true)?;
+        Ok(self.folder.read(into, self.piece))
     }
 
     fn create(&mut self, name: &str) -> Result<(), Failed> {
+        let can = name_has_room(name);
         self.is_created = false;
         self.opened.note(name);
-        self.calls.begin()?;
-        if !self.folder.create(name) {
-            return Err(self.calls.faults.fault());
-        }
+        self.calls.count(can)?;
+        self.folder.create(name);
         self.is_created = true;
         Ok(())
     }
 
     fn put(&mut self, piece: &[u8]) -> Result<usize, Failed> {
-        self.calls.begin()?;
-        let count = piece.len().min(self.piece);
-        if !self.folder.put(&piece[..count]) {
-            return Err(self.calls.faults.fault());
-        }
-        Ok(count)
+        let moved = &piece[..piece.len().min(self.piece)];
+        let can = self.folder.can_put(moved);
+        self.calls.count(can)?;
+        self.folder.put(moved);
+        Ok(moved.len())
     }
 
     fn finish(&mut self) -> Result<(), Failed> {
+        let can = self.folder.can_finish();
         self.is_created = false;
-        self.calls.begin()?;
-        if !self.folder.finish() {
-            return Err(self.calls.faults.fault());
-        }
+        self.calls.count(can)?;
+        self.folder.finish();
         Ok(())
     }
 }

@@ -1,9 +1,11 @@
-// Files by name, read and written a piece at a time.
-ghost use Rattle.std.specs.Prelude.{◌≡◌, ◌≤◌, ◌<◌, ◌∷◌, [], ◌-◌, ◌^◌, Bool, IsTrue, is_ok, take, length, false, IfOk, OnOk, OnErr};
+//! Files by name, read and written a piece at a time.
+
+ghost use Rattle.std.specs.Prelude.{◌≡◌, ◌≤◌, ◌<◌, ◌∷◌, [], ◌-◌, ◌^◌, ℕ, List, Option, Bool, IsTrue, is_ok, take, length, false, IfOk, OnOk, OnErr};
+ghost use Rattle.std.specs.Result.{result_ok};
 ghost use Rattle.outer_io.specs.Faults.{HasCause};
 ghost use Rattle.outer_io.specs.Tells.{Tells, Gains};
 ghost use Rattle.outer_io.specs.Shown.{StoreShown};
-ghost use Rattle.outer_io.specs.Files.{BeginsRead, Takes, TakesNone, Creates, Puts, PutsNone, FailsToPut, Finishes};
+ghost use Rattle.outer_io.specs.Files.{Text, BeginsRead, Takes, TakesNone, Creates, Puts, PutsNone, FailsToPut, Finishes};
 
 use thiserror::Error;
 
@@ -31,6 +33,18 @@ pub trait Store {
     /// Whether a file is created and not yet finished.
     ghost is_created: { Self → Bool };
 
+    /// What a call makes of this store besides what it makes of every store: of its arguments, its answer and the
+    /// store after it. A form in memory says all by it.
+    ghost begin_read_gives: { Self → Text → Bool → Self → Type 0 } = { λ _ _ _ _. Unit {0} };
+
+    ghost read_gives: { Self → ℕ → Option ℕ → Self → Type 0 } = { λ _ _ _ _. Unit {0} };
+
+    ghost create_gives: { Self → Text → Bool → Self → Type 0 } = { λ _ _ _ _. Unit {0} };
+
+    ghost put_gives: { Self → List ℕ → Option ℕ → Self → Type 0 } = { λ _ _ _ _. Unit {0} };
+
+    ghost finish_gives: { Self → Bool → Self → Type 0 } = { λ _ _ _. Unit {0} };
+
     /// Opens the file of this name for reading, from its start, in place of one that is open.
     ///
     /// It fails where there is no such file. Then none is open for reading.
@@ -40,7 +54,8 @@ pub trait Store {
         ensures created { is_created self.new ≡ is_created self.old }
         ensures opened { Tells (shown self.old).opened (shown self.new).opened (Gains (name.now ∷ [])) }
         ensures ok { OnOk result (Tells (shown self.old).files (shown self.new).files (BeginsRead name.now)) }
-        ensures err { OnErr result (Tells (shown self.old).files (shown self.new).files TakesNone) };
+        ensures err { OnErr result (Tells (shown self.old).files (shown self.new).files TakesNone) }
+        ensures gives { begin_read_gives self.old name.now (is_ok result) self.new };
 
     /// Reads the next bytes of the file that is open into the front of the buffer, and answers how
     /// many: 0 at the file's end, otherwise 1 to the buffer's length. Into an empty buffer it
@@ -53,7 +68,8 @@ pub trait Store {
         ensures opened { Tells (shown self.old).opened (shown self.new).opened (Gains []) }
         ensures count { IfOk result (λ n. n ≤ length into.old) }
         ensures ok { IfOk result (λ n. Tells (shown self.old).files (shown self.new).files (Takes (length into.old) (take n into.new))) }
-        ensures err { OnErr result (Tells (shown self.old).files (shown self.new).files TakesNone) };
+        ensures err { OnErr result (Tells (shown self.old).files (shown self.new).files TakesNone) }
+        ensures gives { read_gives self.old (length into.old) (result_ok result) self.new };
 
     /// Begins to write a file of this name, in place of one that is being written.
     ///
@@ -64,9 +80,10 @@ pub trait Store {
         ensures created { is_created self.new ≡ is_ok result }
         ensures opened { Tells (shown self.old).opened (shown self.new).opened (Gains (name.now ∷ [])) }
         ensures ok { OnOk result (Tells (shown self.old).files (shown self.new).files (Creates name.now)) }
-        ensures err { OnErr result (Tells (shown self.old).files (shown self.new).files (PutsNone name.now)) };
+        ensures err { OnErr result (Tells (shown self.old).files (shown self.new).files (PutsNone name.now)) }
+        ensures gives { create_gives self.old name.now (is_ok result) self.new };
 
-    /// Writes the first bytes of the piece behind those put so far, and answers how many: 1 to the
+    /// Writes the first bytes of the piece after those put so far, and answers how many: 1 to the
     /// piece's length. Of an empty piece it takes nothing and answers 0.
     fn put(&mut self, piece: &[u8]) -> Result<usize, Failed>
         requires { IsTrue (is_created self.old) }
@@ -77,7 +94,8 @@ pub trait Store {
         ensures count { IfOk result (λ n. n ≤ length piece.now) }
         ensures some { IfOk result (λ n. 0 < length piece.now → 0 < n) }
         ensures ok { IfOk result (λ n. Tells (shown self.old).files (shown self.new).files (Puts (take n piece.now))) }
-        ensures err { OnErr result (Tells (shown self.old).files (shown self.new).files FailsToPut) };
+        ensures err { OnErr result (Tells (shown self.old).files (shown self.new).files FailsToPut) }
+        ensures gives { put_gives self.old piece.now (result_ok result) self.new };
 
     /// Makes the file that was created the bytes put since then.
     ///
@@ -89,7 +107,8 @@ pub trait Store {
         ensures created { is_created self.new ≡ false }
         ensures opened { Tells (shown self.old).opened (shown self.new).opened (Gains []) }
         ensures ok { OnOk result (Tells (shown self.old).files (shown self.new).files Finishes) }
-        ensures err { OnErr result (Tells (shown self.old).files (shown self.new).files FailsToPut) };
+        ensures err { OnErr result (Tells (shown self.old).files (shown self.new).files FailsToPut) }
+        ensures gives { finish_gives self.old (is_ok result) self.new };
 
     /// A count of faults is at most 2^64 - 1.
     ghost counted: { (s : Self) → (shown s).faults ≤ 2 ^ 64 - 1 };

@@ -1,10 +1,11 @@
-// Whole files and whole texts, over calls that move a piece.
-ghost use Rattle.std.specs.Prelude.{◌≡◌, ◌≤◌, ◌-◌, ◌^◌, ◌∷◌, [], vec_len, IsTrue, IfOk, IfErr, OnOk, OnErr};
+//! Whole files and whole texts, over calls that move a piece.
+
+ghost use Rattle.std.specs.Prelude.{◌≡◌, ◌≤◌, ◌+◌, ◌-◌, ◌^◌, ◌∷◌, [], vec_len, IsTrue, IfOk, IfErr, OnOk, OnErr};
 ghost use Rattle.outer_io.specs.Faults.{HasCause, Rose};
 ghost use Rattle.outer_io.specs.Tells.{Tells, Gains, GainsPrefix};
 ghost use Rattle.outer_io.specs.Files.{KeepsFiles, Puts};
 ghost use Rattle.outer_io.specs.WriteFile.{KeepsOtherFiles, IsWritten, PutsPart, PutsFront};
-ghost use Rattle.outer_io.specs.ReadWhole.{HasContent, ReadCause};
+ghost use Rattle.outer_io.specs.ReadWhole.{HasContent, ReadCause, TakesAtMost};
 
 use crate::sink::Sink;
 use crate::store::Store;
@@ -51,6 +52,7 @@ pub fn read_whole<S: Store>(
     ensures short { IfOk result (λ bytes. vec_len bytes ≤ max) }
     ensures content { IfOk result (λ bytes. Tells (S.shown store.old).files (S.shown store.new).files (HasContent name.now bytes.items)) }
     ensures cause { IfErr result (ReadCause name.now max (S.shown store.old).files (S.shown store.new).files (S.shown store.old).faults (S.shown store.new).faults) }
+    ensures most { Tells (S.shown store.old).files (S.shown store.new).files (TakesAtMost name.now (max + 1)) }
     ensures keeps { Tells (S.shown store.old).files (S.shown store.new).files KeepsFiles }
     ensures opened { Tells (S.shown store.old).opened (S.shown store.new).opened (Gains (name.now ∷ [])) }
     ensures created { S.is_created store.new ≡ S.is_created store.old }

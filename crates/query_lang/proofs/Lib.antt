@@ -1,7 +1,6 @@
-pub mod WordLemmas
-pub mod LineLemmas
-pub mod NumberLemmas
-pub mod StatementLemmas
-pub mod ParseLemmas
-pub mod ChoiceLemmas
-pub mod SpanLemmas
+mod WordLemmas
+mod LineLemmas
+mod NumberLemmas
+mod ParseLemmas
+mod ChoiceLemmas
+mod SpanLemmas

@@ -7,7 +7,7 @@ use Rattle.std.specs.Option.{unwrap_or}
 use Rattle.std.proofs.lemmas.Grind.{common_steps}
 use Rattle.std.proofs.lemmas.List.Splits.{slice_split_first}
 use Rattle.std.proofs.lemmas.Bool.Decides.{nat_tests}
-use Rattle.report_model.specs.Grammar.{without_last_cr, ended, lines}
+use Rattle.report_model.specs.Grammar.{without_last_cr, lines_of_parts, lines}
 
 abbrev pub is_lf : ℕ → Bool
 is_lf b = b == 0x0a
@@ -24,11 +24,11 @@ parts_of (x ∷ xs) = by (is_lf x) where
   by true = ([], slice_split is_lf xs, refl)
   by false = some_part x (slice_split is_lf xs)
 
-ended_first : (line : List ℕ) (xs : List ℕ) → ended (line ∷ slice_split is_lf xs) ≡ without_last_cr line ∷ lines xs
-ended_first line xs = let p = parts_of xs in rw p.2 refl
+lines_first_part : (line : List ℕ) (xs : List ℕ) → lines_of_parts (line ∷ slice_split is_lf xs) ≡ without_last_cr line ∷ lines xs
+lines_first_part line xs = let p = parts_of xs in rw p.2 refl
 
 pub lines_first : (xs : List ℕ) → position_or_len is_lf xs < length xs → lines xs ≡ without_last_cr (take (position_or_len is_lf xs) xs) ∷ lines (drop (position_or_len is_lf xs + 1) xs)
-lines_first xs h = ap ended (slice_split_first is_lf xs 0 h) ∙ ended_first (take (position_or_len is_lf xs) xs) (drop (position_or_len is_lf xs + 1) xs)
+lines_first xs h = ap lines_of_parts (slice_split_first is_lf xs 0 h) ∙ lines_first_part (take (position_or_len is_lf xs) xs) (drop (position_or_len is_lf xs + 1) xs)
 
 -- without a line feed there is one line
 all_one_part : (xs : List ℕ) → position_or_len is_lf xs ≡ length xs → slice_split is_lf xs ≡ xs ∷ []
@@ -50,7 +50,7 @@ at_end : (xs : List ℕ) → nat_lt (position_or_len is_lf xs) (length xs) ≡ f
 at_end xs h = let k = position_or_len-le xs in grind (arith, nat_tests)
 
 pub lines_last : (xs : List ℕ) → nat_lt (position_or_len is_lf xs) (length xs) ≡ false → lines xs ≡ xs ∷ []
-lines_last xs h = ap ended (all_one_part xs (at_end xs h))
+lines_last xs h = ap lines_of_parts (all_one_part xs (at_end xs h))
 
 -- ---- a carriage return at the end
 
@@ -74,8 +74,8 @@ without_last_cr-is (x ∷ y ∷ xs) = by (without_last_cr-is (y ∷ xs)) where
 
 -- ---- by what a search for a line feed answers
 
-pub lines_behind : (xs : List ℕ) (i : ℕ) → position is_lf xs ≡ Some i → lines xs ≡ without_last_cr (take i xs) ∷ lines (drop (i + 1) xs)
-lines_behind xs i h = by (nat_lt (position_or_len is_lf xs) (length xs)) refl h where
+pub lines_after : (xs : List ℕ) (i : ℕ) → position is_lf xs ≡ Some i → lines xs ≡ without_last_cr (take i xs) ∷ lines (drop (i + 1) xs)
+lines_after xs i h = by (nat_lt (position_or_len is_lf xs) (length xs)) refl h where
   by : (b : Bool) → nat_lt (position_or_len is_lf xs) (length xs) ≡ b → cond b (Some (position_or_len is_lf xs)) None ≡ Some i
       → lines xs ≡ without_last_cr (take i xs) ∷ lines (drop (i + 1) xs)
   by true e h =
@@ -90,8 +90,8 @@ one_line xs h = by (nat_lt (position_or_len is_lf xs) (length xs)) refl h where
   by true e h = cc
   by false e h = lines_last xs e
 
-pub all_behind : (xs : List ℕ) (n : ℕ) → take (length xs - n) (drop n xs) ≡ drop n xs
-all_behind xs n = grind (arith, common_steps)
+pub all_after : (xs : List ℕ) (n : ℕ) → take (length xs - n) (drop n xs) ≡ drop n xs
+all_after xs n = grind (arith, common_steps)
 
 -- ---- by what stripping a carriage return answers
 

@@ -1,19 +1,19 @@
 -- What is read so far, and what the definition gives for the rest, is what it gives for all.
 use Rattle.std.proofs.Common.{◌≡◌, ℕ, ◌+◌, ◌<◌, ◌≤◌, List, [], ◌∷◌, ◌++◌, length, refl, ap, sym, ◌∙◌, Bool, true, false, cond, Bor, arith}
 use Rattle.std.specs.Prelude.{Option, Some, None, Err, map, is_some, ◌||◌, ◌&&◌, MatchOption, IfSome}
-use Rattle.std.specs.List.{filter}
+use Rattle.std.specs.List.{flat_map}
 use Rattle.std.proofs.lemmas.List.{append_assoc, append-nil}
 use Rattle.std.proofs.lemmas.List.Folds.{list_any-append}
 use Rattle.report_model.specs.declared.QueryKind.{QueryKind}
 use Rattle.report_model.specs.declared.QueryKind.TheVariants.{NoRule}
 use Rattle.report_model.specs.Query.{Choice, Query, chooses, is_channel, is_within}
-use Rattle.report_model.specs.Grammar.{lines, lines_fault, or_later, statement, is_rule, is_source, is_sink, choice_of, rule_of, query, unless_faulty, query_of}
+use Rattle.report_model.specs.Grammar.{lines, read_line, read_lines, first_fault, or_later, rule_in, sources_in, sinks_in, rule_among, query, unless, query_of}
 use Rattle.query_lang.specs.declared.draft.Draft.{Draft}
 use Rattle.query_lang.specs.declared.fault.QueryFault.{QueryFault}
 use Rattle.query_lang.specs.declared.fault.QueryFault.TheVariants.{At, NoMemory}
 use Rattle.query_lang.specs.Choices.{SameChoices}
-use Rattle.query_lang.specs.Drafts.{TakesUp, IsFaultIn, IsFinished, IsUnfinished, gathered, sources_of, sinks_of, rule_with}
-use Rattle.query_lang.specs.Answers.{Asks, IsTold}
+use Rattle.query_lang.specs.Drafts.{TakesUp, IsFaultIn, IsFinished, IsUnfinished, gathered, rule_with}
+use Rattle.query_lang.specs.Answers.{StandsFor, IsTold}
 
 -- ---- unions of choices
 
@@ -22,19 +22,6 @@ chooses-append xs ys c o = list_any-append (λ (x : Choice). is_channel x.channe
 
 same_with : (xs ys zs : List Choice) → SameChoices xs ys → SameChoices (xs ++ zs) (ys ++ zs)
 same_with xs ys zs h c o = chooses-append xs zs c o ∙ ap (λ (b : Bool). b || chooses zs c o) (h c o) ∙ sym (chooses-append ys zs c o)
-
--- the choices of one statement stand before those of the others
-sources-cons : (s : List (List ℕ)) (rest : List (List (List ℕ))) → sources_of (s ∷ rest) ≡ sources_of (s ∷ []) ++ sources_of rest
-sources-cons s rest = by (is_source s) where
-  by : (b : Bool) → map choice_of (cond b (s ∷ filter is_source rest) (filter is_source rest)) ≡ map choice_of (cond b (s ∷ []) []) ++ sources_of rest
-  by true = refl
-  by false = refl
-
-sinks-cons : (s : List (List ℕ)) (rest : List (List (List ℕ))) → sinks_of (s ∷ rest) ≡ sinks_of (s ∷ []) ++ sinks_of rest
-sinks-cons s rest = by (is_sink s) where
-  by : (b : Bool) → map choice_of (cond b (s ∷ filter is_sink rest) (filter is_sink rest)) ≡ map choice_of (cond b (s ∷ []) []) ++ sinks_of rest
-  by true = refl
-  by false = refl
 
 -- ---- a draft, and the lines that are left
 
@@ -48,10 +35,10 @@ size_left (Some text) = length text.now + 1
 
 -- the draft with the lines that are left says what the text does
 pub record IsPartOf (text : List ℕ) (number : ℕ) (draft : Draft) (left : List (List ℕ)) : Type 0 where
-  pub fault : lines_fault (number + 1) (is_some draft.rule) left ≡ lines_fault 1 false (lines text)
-  pub rule : rule_with draft.rule (map statement left) ≡ rule_of (map statement (lines text))
-  pub sources : SameChoices (gathered draft.sources ++ sources_of (map statement left)) (sources_of (map statement (lines text)))
-  pub sinks : SameChoices (gathered draft.sinks ++ sinks_of (map statement left)) (sinks_of (map statement (lines text)))
+  pub fault : first_fault (number + 1) (is_some draft.rule) (map read_line left) ≡ first_fault 1 false (read_lines text)
+  pub rule : rule_with draft.rule (map read_line left) ≡ rule_among (read_lines text)
+  pub sources : SameChoices (gathered draft.sources ++ flat_map sources_in (map read_line left)) (flat_map sources_in (read_lines text))
+  pub sinks : SameChoices (gathered draft.sinks ++ flat_map sinks_in (map read_line left)) (flat_map sinks_in (read_lines text))
 
 pub nothing_read : (text : List ℕ) (draft : Draft) → draft.rule ≡ None → gathered draft.sources ≡ [] → gathered draft.sinks ≡ [] → IsPartOf text 0 draft (lines text)
 nothing_read text draft r a b = record {
@@ -61,42 +48,43 @@ nothing_read text draft r a b = record {
   sinks = λ c o. rw b refl;
 }
 
-taken_up : (old new more all : List Choice) (whole : List Choice) → SameChoices new (old ++ more) → SameChoices (old ++ whole) all → (rest : List Choice) → whole ≡ more ++ rest → SameChoices (new ++ rest) all
-taken_up old new more all whole h k rest e c o =
-    same_with new (old ++ more) rest h c o ∙ ap (λ (xs : List Choice). chooses xs c o) (append_assoc old more rest ∙ ap (λ (xs : List Choice). old ++ xs) (sym e)) ∙ k c o
+-- what was chosen by a line, and by the lines after it
+chosen_more : (old new line rest all : List Choice) → SameChoices new (old ++ line) → SameChoices (old ++ (line ++ rest)) all → SameChoices (new ++ rest) all
+chosen_more old new line rest all h k c o =
+    same_with new (old ++ line) rest h c o ∙ ap (λ (xs : List Choice). chooses xs c o) (append_assoc old line rest) ∙ k c o
 
-pub one_more_line : (text : List ℕ) (number : ℕ) (old new : Draft) (line : List ℕ) (rest : List (List ℕ)) → IsPartOf text number old (line ∷ rest) → TakesUp old line new → IsPartOf text (number + 1) new rest
+pub one_more_line : (text : List ℕ) (number : ℕ) (old new : Draft) (line : List ℕ) (rest : List (List ℕ)) → IsPartOf text number old (line ∷ rest) → TakesUp old (read_line line) new → IsPartOf text (number + 1) new rest
 one_more_line text number old new line rest p t = record {
-  fault = rw t.after_rule (sym (ap (λ (f : Option QueryKind). or_later (number + 1) f (lines_fault (number + 1 + 1) (is_some old.rule || is_rule (statement line)) rest)) t.clean) ∙ p.fault);
-  rule = sym (t.rule (map statement rest)) ∙ p.rule;
-  sources = taken_up _ _ _ _ _ t.sources p.sources _ (sources-cons (statement line) (map statement rest));
-  sinks = taken_up _ _ _ _ _ t.sinks p.sinks _ (sinks-cons (statement line) (map statement rest));
+  fault = rw t.after_rule (sym (ap (λ (f : Option QueryKind). or_later (number + 1) f (first_fault (number + 1 + 1) (is_some old.rule || is_some (rule_in (read_line line))) (map read_line rest))) t.clean) ∙ p.fault);
+  rule = sym (t.rule (map read_line rest)) ∙ p.rule;
+  sources = chosen_more _ _ _ _ _ t.sources p.sources;
+  sinks = chosen_more _ _ _ _ _ t.sinks p.sinks;
 }
 
-told_of : (text : List ℕ) (n : ℕ) (kind : QueryKind) → lines_fault 1 false (lines text) ≡ Some (n, kind) → query text ≡ Err (n, kind)
-told_of text n kind e = ap (unless_faulty (lines text)) e
+told_of : (text : List ℕ) (n : ℕ) (kind : QueryKind) → first_fault 1 false (read_lines text) ≡ Some (n, kind) → query text ≡ Err (n, kind)
+told_of text n kind e = ap (λ (f : Option (ℕ × QueryKind)). unless f (query_of (read_lines text))) e
 
 pub faulty_line : (text : List ℕ) (number : ℕ) (draft : Draft) (line : List ℕ) (rest : List (List ℕ)) (fault : QueryFault) → IsPartOf text number draft (line ∷ rest)
-    → IsFaultIn (number + 1) draft line fault → IsTold text fault
+    → IsFaultIn (number + 1) draft (read_line line) fault → IsTold text fault
 faulty_line text number draft line rest (At at kind) p f =
-    told_of text at kind (sym p.fault ∙ ap (λ (g : Option QueryKind). or_later (number + 1) g (lines_fault (number + 1 + 1) (is_some draft.rule || is_rule (statement line)) rest)) f.1 ∙ ap (λ (n : ℕ). Some (n, kind)) (sym f.0))
+    told_of text at kind (sym p.fault ∙ ap (λ (g : Option QueryKind). or_later (number + 1) g (first_fault (number + 1 + 1) (is_some draft.rule || is_some (rule_in (read_line line))) (map read_line rest))) f.1 ∙ ap (λ (n : ℕ). Some (n, kind)) (sym f.0))
 faulty_line text number draft line rest NoMemory p f = tt
 
 pub no_rule_told : (text : List ℕ) (number : ℕ) (draft : Draft) (fault : QueryFault) → IsPartOf text number draft [] → IsUnfinished draft fault → IsTold text fault
 no_rule_told text number draft (At at kind) p f =
     let none : is_some draft.rule ≡ false = rw f.0 refl in
-    let end : lines_fault (number + 1) (is_some draft.rule) [] ≡ Some (0, NoRule) = rw none refl in
+    let end : first_fault (number + 1) (is_some draft.rule) [] ≡ Some (0, NoRule) = rw none refl in
     told_of text at kind (sym p.fault ∙ end ∙ rw (f.1, f.2) refl)
 no_rule_told text number draft NoMemory p f = tt
 
-pub all_read : (text : List ℕ) (number : ℕ) (draft : Draft) (q : Query) → IsPartOf text number draft [] → IsFinished draft q → Asks text q
+pub all_read : (text : List ℕ) (number : ℕ) (draft : Draft) (q : Query) → IsPartOf text number draft [] → IsFinished draft q → StandsFor text q
 all_read text number draft q p f =
     let some : is_some draft.rule ≡ true = rw f.rule refl in
-    let end : lines_fault (number + 1) (is_some draft.rule) [] ≡ None = rw some refl in
+    let end : first_fault (number + 1) (is_some draft.rule) [] ≡ None = rw some refl in
     let rule : rule_with draft.rule [] ≡ q.rule = rw f.rule refl in
     record {
-      written = query_of (map statement (lines text));
-      stands = ap (unless_faulty (lines text)) (sym p.fault ∙ end);
+      written = query_of (read_lines text);
+      stands = ap (λ (g : Option (ℕ × QueryKind)). unless g (query_of (read_lines text))) (sym p.fault ∙ end);
       alike = record {
         rule = sym rule ∙ p.rule;
         sources = λ c o. f.sources c o ∙ ap (λ (xs : List Choice). chooses xs c o) (sym (append-nil (gathered draft.sources))) ∙ p.sources c o;
@@ -106,10 +94,10 @@ all_read text number draft q p f =
 
 -- ---- a line that is split off
 
-pub lines_split : (text line : List ℕ) (behind : Option (Bor (List ℕ))) → MatchOption behind (lines text ≡ line ∷ []) (λ b. lines text ≡ line ∷ lines b.now) → lines text ≡ line ∷ lines_left behind
+pub lines_split : (text line : List ℕ) (after : Option (Bor (List ℕ))) → MatchOption after (lines text ≡ line ∷ []) (λ b. lines text ≡ line ∷ lines b.now) → lines text ≡ line ∷ lines_left after
 lines_split text line None e = e
 lines_split text line (Some b) e = e
 
-pub less_left : (n : ℕ) (behind : Option (Bor (List ℕ))) → IfSome behind (λ b. length b.now < n) → size_left behind ≤ n
+pub less_left : (n : ℕ) (after : Option (Bor (List ℕ))) → IfSome after (λ b. length b.now < n) → size_left after ≤ n
 less_left n None h = omega arith
 less_left n (Some b) h = omega arith

@@ -72,7 +72,7 @@ same_joined kept last span joined rest all h same c o =
 -- the spans kept and the last one lie apart, and have with what is left the bytes of all
 pub record IsMerging (all kept : List Span) (last : Span) (others : List Span) (i : ℕ) : Type 0 where
   pub apart : AllPairs Precedes kept
-  pub last_behind : AllPrecede kept last
+  pub last_after : AllPrecede kept last
   pub same : SameBytes (kept ++ last ∷ drop i others) all
   pub next : (d : Span) → i < length others → NotAfter last (get_or others i d)
   pub ascend : AllAdjacentBelow NotAfter others (length others)
@@ -80,7 +80,7 @@ pub record IsMerging (all kept : List Span) (last : Span) (others : List Span) (
 pub merging_begins : (all kept : List Span) (first : Span) (others : List Span) → kept ≡ [] → all ≡ first ∷ others → AllAdjacentBelow NotAfter all (length all) → IsMerging all kept first others 0
 merging_begins all kept first others none e up = record {
   apart = λ i j d l b. absurd (omega (arith, ap length none));
-  last_behind = λ k d b. absurd (omega (arith, ap length none));
+  last_after = λ k d b. absurd (omega (arith, ap length none));
   same = λ c o. rw (none, e) refl;
   next = λ d b. rising 0 d (omega arith);
   ascend = λ k d b. subst (λ (j : ℕ). NotAfter (get_or others k d) (get_or (first ∷ others) j d)) (one_more (k + 1)) (subst (λ (j : ℕ). NotAfter (get_or (first ∷ others) j d) (get_or (first ∷ others) (k + 1 + 1) d)) (one_more k) (rising (k + 1) d (omega arith)));
@@ -98,7 +98,7 @@ pub merging_joins : (all kept : List Span) (last joined : Span) (others : List S
     → IsAtStartOf last joined → HasBoth last (get_or others i d) joined → IsMerging all kept joined others (i + 1)
 merging_joins all kept last joined others i d m b start both = record {
   apart = m.apart;
-  last_behind = all_precede_at kept last joined m.last_behind start;
+  last_after = all_precede_at kept last joined m.last_after start;
   same = same_joined kept last (get_or others i d) joined (drop (i + 1) others) all both (subst (λ (xs : List Span). SameBytes (kept ++ last ∷ xs) all) (next_left others i d b) m.same);
   next = λ e l. NotAfter-at last joined (get_or others (i + 1) e) start (NotAfter-trans last (get_or others i e) (get_or others (i + 1) e) (m.next e b) (m.ascend i e l));
   ascend = m.ascend;
@@ -107,8 +107,8 @@ merging_joins all kept last joined others i d m b start both = record {
 pub merging_keeps : (all kept : List Span) (last : Span) (others : List Span) (i : ℕ) (d : Span) → IsMerging all kept last others i → i < length others
     → reaches last (get_or others i d) ≡ false → IsMerging all (kept ++ last ∷ []) (get_or others i d) others (i + 1)
 merging_keeps all kept last others i d m b apart = record {
-  apart = all_pairs_push Precedes kept last m.apart m.last_behind;
-  last_behind = λ k e l. behind k e l (nat_lt k (length kept)) refl;
+  apart = all_pairs_push Precedes kept last m.apart m.last_after;
+  last_after = λ k e l. after k e l (nat_lt k (length kept)) refl;
   same = λ c o. ap (list_any (span_has c o)) (append_assoc kept (last ∷ []) ((get_or others i d) ∷ drop (i + 1) others) ∙ ap (λ (xs : List Span). kept ++ last ∷ xs) (sym (next_left others i d b))) ∙ m.same c o;
   next = λ e l. subst (λ (s : Span). NotAfter s (get_or others (i + 1) e)) (get_or_default others i e d b) (m.ascend i e l);
   ascend = m.ascend;
@@ -116,25 +116,25 @@ merging_keeps all kept last others i d m b apart = record {
   precedes : Precedes last (get_or others i d)
   precedes = Precedes-from last (get_or others i d) (m.next d b) apart
 
-  behind : (k : ℕ) (e : Span) → k < length (kept ++ last ∷ []) → (t : Bool) → nat_lt k (length kept) ≡ t → Precedes (get_or (kept ++ last ∷ []) k e) (get_or others i d)
-  behind k e l true h =
+  after : (k : ℕ) (e : Span) → k < length (kept ++ last ∷ []) → (t : Bool) → nat_lt k (length kept) ≡ t → Precedes (get_or (kept ++ last ∷ []) k e) (get_or others i d)
+  after k e l true h =
       let inside : k < length kept = grind (arith, nat_tests) in
       let same : get_or (kept ++ last ∷ []) k e ≡ get_or kept k e = grind (arith, common_steps) in
-      subst (λ (s : Span). Precedes s (get_or others i d)) (sym same) (Precedes-trans (get_or kept k e) last (get_or others i d) (m.last_behind k e inside) precedes)
-  behind k e l false h =
+      subst (λ (s : Span). Precedes s (get_or others i d)) (sym same) (Precedes-trans (get_or kept k e) last (get_or others i d) (m.last_after k e inside) precedes)
+  after k e l false h =
       let at_end : length kept ≤ k = grind (arith, nat_tests) in
       let same : get_or (kept ++ last ∷ []) k e ≡ last = grind (arith, common_steps) in
       subst (λ (s : Span). Precedes s (get_or others i d)) (sym same) precedes
 
 pub merging_ends : (all kept : List Span) (last : Span) (others : List Span) (i : ℕ) → IsMerging all kept last others i → length others ≤ i → (AllPairs Precedes (kept ++ last ∷ [])) × (SameBytes (kept ++ last ∷ []) all)
 merging_ends all kept last others i m done = (
-  all_pairs_push Precedes kept last m.apart m.last_behind,
+  all_pairs_push Precedes kept last m.apart m.last_after,
   λ c o. ap (λ (xs : List Span). list_any (span_has c o) (kept ++ last ∷ xs)) (sym (drop_of_length-le others done)) ∙ m.same c o,
 )
 
 -- ---- a search
 
--- a span that starts behind a byte hasn't it
+-- a span that starts after a byte hasn't it
 has_started : (c o : ℕ) (s : Span) → starts_by c o s ≡ false → span_has c o s ≡ false
 has_started c o s h = grind (arith, nat_tests)
 
@@ -166,7 +166,7 @@ last_has xs c o n e point apart some within = by (span_has c o (get_or xs (n - 1
     elsewhere true l =
         let less : k < n - 1 = grind (arith, nat_tests) in
         has_ended c o (get_or xs k d) (get_or xs (n - 1) d) (apart k (n - 1) d less (omega arith)) (point.0 (n - 1) d (omega arith) (omega arith))
-    elsewhere false l = let behind : n ≤ k = grind (arith, nat_tests) in has_started c o (get_or xs k d) (point.1 k d behind b)
+    elsewhere false l = let after : n ≤ k = grind (arith, nat_tests) in has_started c o (get_or xs k d) (point.1 k d after b)
 
   each : span_has c o (get_or xs (n - 1) e) ≡ false → (k : ℕ) (d : Span) → k < length xs → span_has c o (get_or xs k d) ≡ false
   each none k d b = here (k == n - 1) refl where

@@ -5,8 +5,8 @@ use Rattle.report_model.specs.Grammar.{query}
 use Rattle.query_lang.specs.declared.fault.QueryFault.{QueryFault}
 use Rattle.query_lang.specs.declared.fault.QueryFault.TheVariants.{At, NoMemory}
 
--- the text stands for a query, and q asks for the same
-pub record Asks (text : List ℕ) (q : Query) : Type 0 where
+-- the text stands for q: the query that is written in it has the rule of q, and chooses the same bytes
+pub record StandsFor (text : List ℕ) (q : Query) : Type 0 where
   pub written : Query
   pub stands : query text ≡ Ok written
   pub alike : Alike q written

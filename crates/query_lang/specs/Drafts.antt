@@ -1,10 +1,10 @@
--- What the lines of a text say, one after the other.
-use Rattle.std.specs.Prelude.{◌≡◌, ℕ, ◌||◌, is_some, List, [], ◌∷◌, ◌++◌, map, Option, Some, None}
-use Rattle.std.specs.List.{filter}
+-- What the lines of a text come to, one after the other.
+use Rattle.std.specs.Prelude.{◌≡◌, ℕ, ◌||◌, is_some, List, ◌∷◌, ◌++◌, Option, Some, None, Result}
 use Rattle.flow_model.specs.declared.Rule.{Rule}
+use Rattle.report_model.specs.declared.QueryKind.{QueryKind}
 use Rattle.report_model.specs.declared.QueryKind.TheVariants.{NoRule}
 use Rattle.report_model.specs.Query.{Choice, Query}
-use Rattle.report_model.specs.Grammar.{line_fault, statement, is_rule, is_source, is_sink, choice_of, rule_of}
+use Rattle.report_model.specs.Grammar.{Statement, line_fault, rule_in, sources_in, sinks_in, rule_among}
 use Rattle.query_lang.specs.declared.fault.QueryFault.{QueryFault}
 use Rattle.query_lang.specs.declared.fault.QueryFault.TheVariants.{At, NoMemory}
 use Rattle.query_lang.specs.declared.chosen.Gathered.{Gathered}
@@ -14,28 +14,21 @@ use Rattle.query_lang.specs.Choices.{choices_of, SameChoices}
 abbrev pub gathered : Gathered → List Choice
 gathered g = choices_of g.all g.spans.items
 
--- the choices of the lines that begin with `source`, and with `sink`
-abbrev pub sources_of : List (List (List ℕ)) → List Choice
-sources_of statements = map choice_of (filter is_source statements)
+-- the rule so far, or else that of the lines that are left
+abbrev pub rule_with : Option Rule → List (Result (Option Statement) QueryKind) → Rule
+rule_with None left = rule_among left
+rule_with (Some rule) left = rule
 
-abbrev pub sinks_of : List (List (List ℕ)) → List Choice
-sinks_of statements = map choice_of (filter is_sink statements)
-
--- the rule so far, or else that of what is left
-abbrev pub rule_with : Option Rule → List (List (List ℕ)) → Rule
-rule_with None statements = rule_of statements
-rule_with (Some rule) statements = rule
-
--- the line has no fault, and what it says was taken up
-pub record TakesUp (old : Draft) (line : List ℕ) (new : Draft) : Type 0 where
+-- what the line says is no fault, and was taken up
+pub record TakesUp (old : Draft) (line : Result (Option Statement) QueryKind) (new : Draft) : Type 0 where
   pub clean : line_fault (is_some old.rule) line ≡ None
-  pub after_rule : is_some new.rule ≡ (is_some old.rule || is_rule (statement line))
-  pub rule : (rest : List (List (List ℕ))) → rule_with old.rule (statement line ∷ rest) ≡ rule_with new.rule rest
-  pub sources : SameChoices (gathered new.sources) (gathered old.sources ++ sources_of (statement line ∷ []))
-  pub sinks : SameChoices (gathered new.sinks) (gathered old.sinks ++ sinks_of (statement line ∷ []))
+  pub after_rule : is_some new.rule ≡ (is_some old.rule || is_some (rule_in line))
+  pub rule : (left : List (Result (Option Statement) QueryKind)) → rule_with old.rule (line ∷ left) ≡ rule_with new.rule left
+  pub sources : SameChoices (gathered new.sources) (gathered old.sources ++ sources_in line)
+  pub sinks : SameChoices (gathered new.sinks) (gathered old.sinks ++ sinks_in line)
 
 -- the line with this number is at fault
-abbrev pub IsFaultIn : ℕ → Draft → List ℕ → QueryFault → Type 0
+abbrev pub IsFaultIn : ℕ → Draft → Result (Option Statement) QueryKind → QueryFault → Type 0
 IsFaultIn number draft line (At at kind) = (at ≡ number) × (line_fault (is_some draft.rule) line ≡ Some kind)
 IsFaultIn number draft line NoMemory = Unit {0}
 

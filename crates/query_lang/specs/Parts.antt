@@ -11,6 +11,6 @@ from_word text = drop (position_or_len (λ b. not (is_blank b)) text) text
 abbrev pub first_word : List ℕ → List ℕ
 first_word text = take (position_or_len is_blank text) text
 
--- the first blank, and what stands behind it
-abbrev pub behind_word : List ℕ → List ℕ
-behind_word text = drop (position_or_len is_blank text) text
+-- the first blank, and what stands after it
+abbrev pub after_word : List ℕ → List ℕ
+after_word text = drop (position_or_len is_blank text) text

@@ -22,7 +22,7 @@ span_has c o s = chooses (span_choice s ∷ []) c o
 abbrev pub starts_by : ℕ → ℕ → Span → Bool
 starts_by c o s = nat_lt s.channel c || ((s.channel == c) && nat_le (start_of s) o)
 
--- the offsets end at one or behind it
+-- the offsets end at one or after it
 abbrev pub reach_to : Option Offsets → ℕ → Bool
 reach_to None n = true
 reach_to (Some o) n = nat_le n o.past
@@ -54,6 +54,6 @@ HasBoth s t both = (c o : ℕ) → span_has c o both ≡ (span_has c o s || span
 abbrev pub SameBytes : List Span → List Span → Type 0
 SameBytes xs ys = (c o : ℕ) → list_any (span_has c o) xs ≡ list_any (span_has c o) ys
 
--- the first n of the spans start by the byte, and the others behind it
+-- the first n of the spans start by the byte, and the others after it
 abbrev pub StartUpTo : ℕ → ℕ → List Span → ℕ → Type 0
 StartUpTo c o spans n = IsPartitionPoint (λ s. starts_by c o s ≡ true) (λ s. starts_by c o s ≡ false) spans n

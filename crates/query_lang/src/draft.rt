@@ -1,6 +1,7 @@
 //! What the lines so far say.
 
 ghost use Rattle.std.specs.Prelude.{◌≡◌, None, [], IfErr, OnOk};
+ghost use Rattle.report_model.specs.Grammar.{read_line};
 ghost use Rattle.query_lang.specs.Drafts.{gathered, TakesUp, IsFaultIn};
 
 use crate::chosen::Gathered;
@@ -34,8 +35,8 @@ impl Draft {
 
     /// Takes up what the line of this number says.
     pub fn take_up(&mut self, number: u32, line: &[u8]) -> Result<(), QueryFault>
-        ensures ok { OnOk result (TakesUp self.old line.now self.new) }
-        ensures fault { IfErr result (IsFaultIn number self.old line.now) }
+        ensures ok { OnOk result (TakesUp self.old (read_line line.now) self.new) }
+        ensures fault { IfErr result (IsFaultIn number self.old (read_line line.now)) }
     {
         let statement = statement_of(line).map_err(|kind| QueryFault::At { line: number, kind })?;
         match statement {

@@ -17,12 +17,12 @@ fn line_feed_in(text: &[u8]) -> Option<usize>
     text.iter().position(|byte| *byte == b'\n')
 }
 
-/// The first line of a text, and the text behind its line feed, where it ends by one.
+/// The first line of a text, and the text after its line feed, where it ends by one.
 pub fn split_line(text: &[u8]) -> (&[u8], Option<&[u8]>)
     ensures lines { MatchOption result.1
         (lines text.now ≡ result.0.now ∷ [])
-        (λ behind. lines text.now ≡ result.0.now ∷ lines behind.now) }
-    ensures shorter { IfSome result.1 (λ behind. length behind.now < length text.now) }
+        (λ rest. lines text.now ≡ result.0.now ∷ lines rest.now) }
+    ensures shorter { IfSome result.1 (λ rest. length rest.now < length text.now) }
 {
     let Some(end) = line_feed_in(text) else {
         return (text, None);

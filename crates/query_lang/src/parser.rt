@@ -1,7 +1,7 @@
 //! From a text to a query.
 
 ghost use Rattle.std.specs.Prelude.{◌≡◌, ◌≤◌, ◌^◌, length, IfOk, IfErr};
-ghost use Rattle.query_lang.specs.Answers.{Asks, IsTold};
+ghost use Rattle.query_lang.specs.Answers.{StandsFor, IsTold};
 ghost use Rattle.query_lang.specs.Drafts.{IsFinished, IsUnfinished};
 
 use crate::chosen::Chosen;
@@ -37,17 +37,17 @@ fn finish(alloc: Global, draft: Draft) -> Result<Query, QueryFault>
 /// kinds: the answer is `At` with both. `NoMemory` says that there was no memory for the query.
 pub fn parse(alloc: Global, text: &[u8]) -> Result<Query, QueryFault>
     requires { length text.now ≤ 2 ^ 26 }
-    ensures read { IfOk result (Asks text.now) }
+    ensures read { IfOk result (StandsFor text.now) }
     ensures fault { IfErr result (IsTold text.now) }
 {
     let mut draft = Draft::new(alloc);
     let mut number = 0;
     let mut left = Some(text);
     while let Some(part) = left {
-        let (line, behind) = split_line(part);
+        let (line, rest) = split_line(part);
         number += 1;
         draft.take_up(number, line)?;
-        left = behind;
+        left = rest;
     }
     finish(alloc, draft)
 }

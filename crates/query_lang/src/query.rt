@@ -1,4 +1,4 @@
-//! A query.
+//! Queries.
 
 ghost use Rattle.std.specs.Prelude.{◌≡◌};
 ghost use Rattle.report_model.specs.Query.{has_source, has_sink};
@@ -7,8 +7,8 @@ use crate::chosen::Chosen;
 use flow_model::{Rule, SinkByte, SourceByte};
 use std::marker::Model;
 
-/// What is asked of a run: which of the bytes that it reads taint, by which rule taint propagates, and of
-/// which of the bytes that it writes the report tells.
+/// A query: which of the bytes that a run reads taint, by which rule taint propagates, and which of the
+/// bytes that it writes the report lists.
 #[derive(Drop)]
 pub struct Query {
     rule: Rule,
@@ -17,9 +17,9 @@ pub struct Query {
 }
 
 impl Model for Query {
-    ghost use Rattle.report_model.specs.Query.{Query as AskedQuery};
+    ghost use Rattle.report_model.specs.Query.{Query as Meaning};
 
-    ghost Value = { AskedQuery };
+    ghost Value = { Meaning };
 
     ghost view = { λ q. record { rule = q.rule; sources = q.sources; sinks = q.sinks } };
 }

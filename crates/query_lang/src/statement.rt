@@ -1,11 +1,11 @@
 //! What a line says.
 
-ghost use Rattle.std.specs.Prelude.{◌≡◌, ◌<◌, ◌∷◌, [], false, Some, IfOk, IfErr, OnOk, MatchOption, MatchResult};
-ghost use Rattle.report_model.specs.Grammar.{words};
-ghost use Rattle.report_model.specs.Grammar.{rule_named as rule_by_name, statement as statement_by_words};
-ghost use Rattle.report_model.specs.declared.QueryKind.TheVariants.{Channel};
-ghost use Rattle.query_lang.specs.Choices.{choice_shown, span_choice};
-ghost use Rattle.query_lang.specs.Statements.{Says, AreOperands, HasWrongCount, IsRuleBehind, IsRuleFault, IsChoiceBehind, IsChoiceFault, IsFaultOf, IsLineFault, HasCleanBytes, is_all_word};
+ghost use Rattle.std.specs.Prelude.{◌≡◌, ◌<◌, ◌∷◌, Err, MatchOption, MatchResult, option_map};
+ghost use Rattle.report_model.specs.Grammar.{words, says, read_line};
+ghost use Rattle.report_model.specs.Grammar.{rule_named as rule_by_name, rule_of as rule_by_words, channel_of as channel_by_word, range_of as range_by_words, choice_of as choice_by_words, statement_of as statement_by_words};
+ghost use Rattle.report_model.specs.declared.QueryKind.TheVariants.{Channel, Count};
+ghost use Rattle.query_lang.specs.Choices.{choice_shown, span_choice, map_ok};
+ghost use Rattle.query_lang.specs.Statements.{statement_shown, AreOperands};
 
 use crate::choice::{Choice, Offsets, Span};
 use crate::number::number_of;
@@ -21,7 +21,7 @@ pub enum Statement {
     Sink(Choice),
 }
 
-/// The words behind `source` or `sink`.
+/// The words after `source` or `sink`.
 #[derive(Clone, Copy)]
 pub enum Operands<'a> {
     All,
@@ -46,11 +46,9 @@ fn rule_named(name: &[u8]) -> Option<Rule>
     }
 }
 
-/// The rule that the words behind `rule` name.
+/// The rule that the words after `rule` name.
 fn rule_of(mut operands: Words<'_>) -> Result<Rule, QueryKind>
-    ensures { MatchResult result
-        (IsRuleBehind (words operands.entry.rest.now))
-        (IsRuleFault (words operands.entry.rest.now)) }
+    ensures { result ≡ rule_by_words (words operands.entry.rest.now) }
 {
     let Some(name) = operands.next() else {
         return Err(QueryKind::Count);
@@ -64,10 +62,10 @@ fn rule_of(mut operands: Words<'_>) -> Result<Rule, QueryKind>
     }
 }
 
-/// The words behind `source` or `sink`, where they are as many as there may be.
+/// The words after `source` or `sink`, where they are as many as there may be.
 fn operands_of<'a>(mut operands: Words<'a>) -> Option<Operands<'a>>
     ensures { MatchOption result
-        (HasWrongCount (words operands.entry.rest.now))
+        (choice_by_words (words operands.entry.rest.now) ≡ Err Count)
         (AreOperands (words operands.entry.rest.now)) }
 {
     let first = operands.next()?;
@@ -104,10 +102,7 @@ fn channel_of(number: u32) -> Result<u8, QueryKind>
 
 /// All bytes of a channel.
 fn whole_channel(channel: &[u8]) -> Result<Span, QueryKind>
-    requires { is_all_word channel.now ≡ false }
-    ensures { MatchResult result
-        (λ span. IsChoiceBehind (channel.now ∷ []) (span_choice span))
-        (IsChoiceFault (channel.now ∷ [])) }
+    ensures { map_ok span_choice result ≡ channel_by_word channel.now }
 {
     let channel = number_of(channel).ok_or(QueryKind::Number)?;
     Ok(Span {
@@ -118,10 +113,7 @@ fn whole_channel(channel: &[u8]) -> Result<Span, QueryKind>
 
 /// The bytes of a channel from one offset up to another.
 fn range_of(channel: &[u8], from: &[u8], past: &[u8]) -> Result<Span, QueryKind>
-    requires { is_all_word channel.now ≡ false }
-    ensures { MatchResult result
-        (λ span. IsChoiceBehind (channel.now ∷ from.now ∷ past.now ∷ []) (span_choice span))
-        (IsChoiceFault (channel.now ∷ from.now ∷ past.now ∷ [])) }
+    ensures { map_ok span_choice result ≡ range_by_words channel.now from.now past.now }
 {
     let channel = number_of(channel).ok_or(QueryKind::Number)?;
     let from = number_of(from).ok_or(QueryKind::Number)?;
@@ -136,11 +128,9 @@ fn range_of(channel: &[u8], from: &[u8], past: &[u8]) -> Result<Span, QueryKind>
     })
 }
 
-/// What the words behind `source` or `sink` choose.
+/// What the words after `source` or `sink` choose.
 fn choice_of(operands: Words<'_>) -> Result<Choice, QueryKind>
-    ensures { MatchResult result
-        (λ choice. IsChoiceBehind (words operands.entry.rest.now) (choice_shown choice))
-        (IsChoiceFault (words operands.entry.rest.now)) }
+    ensures { map_ok choice_shown result ≡ choice_by_words (words operands.entry.rest.now) }
 {
     match operands_of(operands) {
         None => Err(QueryKind::Count),
@@ -158,9 +148,7 @@ fn choice_of(operands: Words<'_>) -> Result<Choice, QueryKind>
 
 /// What a line says that begins with the keyword.
 fn statement_by(keyword: &[u8], operands: Words<'_>) -> Result<Statement, QueryKind>
-    ensures { MatchResult result
-        (λ statement. Says (keyword.now ∷ words operands.entry.rest.now) (Some statement))
-        (IsFaultOf (keyword.now ∷ words operands.entry.rest.now)) }
+    ensures { says statement_shown result ≡ statement_by_words (keyword.now ∷ words operands.entry.rest.now) }
 {
     if keyword == b"rule".as_slice() {
         return Ok(Statement::RuleIs(rule_of(operands)?));
@@ -176,9 +164,7 @@ fn statement_by(keyword: &[u8], operands: Words<'_>) -> Result<Statement, QueryK
 
 /// What a line says, or its first fault. A comment and an empty line say nothing.
 pub fn statement_of(line: &[u8]) -> Result<Option<Statement>, QueryKind>
-    ensures said { IfOk result (Says (statement_by_words line.now)) }
-    ensures clean { OnOk result (HasCleanBytes line.now) }
-    ensures fault { IfErr result (IsLineFault line.now) }
+    ensures { map_ok (option_map statement_shown) result ≡ read_line line.now }
 {
     if is_comment(line) {
         return Ok(None);

@@ -5,7 +5,7 @@ ghost use Rattle.std.specs.List.{list_any};
 ghost use Rattle.std.specs.Iterator.{YieldsFirstBy, item_count};
 ghost use Rattle.report_model.specs.Grammar.{words};
 ghost use Rattle.report_model.specs.Grammar.{is_blank as is_blank_byte};
-ghost use Rattle.query_lang.specs.Parts.{from_word, first_word, behind_word};
+ghost use Rattle.query_lang.specs.Parts.{from_word, first_word, after_word};
 ghost use Rattle.report_model.specs.Grammar.{is_bad_byte as is_bad, is_comment as is_comment_line};
 
 /// Whether the byte separates words.
@@ -51,10 +51,10 @@ fn without_blanks(text: &[u8]) -> &[u8]
     &text[start..]
 }
 
-/// What stands before the first blank of a text, and that blank with what stands behind it.
+/// What stands before the first blank of a text, and that blank with what stands after it.
 fn split_at_blank(text: &[u8]) -> (&[u8], &[u8])
     ensures word { result.0.now ≡ first_word text.now }
-    ensures behind { result.1.now ≡ behind_word text.now }
+    ensures after { result.1.now ≡ after_word text.now }
 {
     let end = first_blank(text).unwrap_or(text.len());
     text.split_at(end)
@@ -82,8 +82,8 @@ impl<'a> Iterator for Words<'a> {
 
     fn next(&mut self) -> Option<&'a [u8]> {
         let text = without_blanks(self.rest);
-        let (word, behind) = split_at_blank(text);
-        self.rest = behind;
+        let (word, after) = split_at_blank(text);
+        self.rest = after;
         if word.is_empty() { None } else { Some(word) }
     }
 }

@@ -14,10 +14,12 @@ use Rattle.record_model.specs.Recorded.{AllReadNext, EndsWithin}
 
 abbrev copy_four : List ℕ
 copy_four = let size = word32 48 in
-    0x7f ∷ 0x45 ∷ 0x4c ∷ 0x46 ∷ 1 ∷ 1 ∷ 1 ∷ replicate 9 0 ++ 2 ∷ 0 ∷ 243 ∷ 0 ∷ word32 1 ++ word32 0x10000 ++ word32 52 ++ word32 0 ++
+    0x7f ∷ 0x45 ∷ 0x4c ∷ 0x46 ∷ 1 ∷ 1 ∷ 1 ∷ replicate 9 0 ++ 2 ∷ 0 ∷ 243 ∷ 0 ∷ word32 1 ++ word32 0x10000 ++ word32 52
+        ++ word32 0 ++
     word32 0 ++ 52 ∷ 0 ∷ 32 ∷ 0 ∷ 1 ∷ replicate 7 0 ++
     word32 1 ++ word32 84 ++ word32 0x10000 ++ word32 0x10000 ++ size ++ size ++ word32 7 ++ word32 4 ++
-    flat_map word32 (0x000105b7 ∷ 0x10058593 ∷ 0x00000513 ∷ 0x00400613 ∷ 0x03f00893 ∷ 0x00000073 ∷ 0x00100513 ∷ 0x04000893 ∷ 0x00000073 ∷ 0x00000513 ∷ 0x05d00893 ∷ 0x00000073 ∷ [])
+    flat_map word32 (0x000105b7 ∷ 0x10058593 ∷ 0x00000513 ∷ 0x00400613 ∷ 0x03f00893 ∷ 0x00000073 ∷ 0x00100513 ∷
+        0x04000893 ∷ 0x00000073 ∷ 0x00000513 ∷ 0x05d00893 ∷ 0x00000073 ∷ [])
 
 abbrev input : List ℕ
 input = 0x41 ∷ 0x42 ∷ 0x43 ∷ 0x44 ∷ 0x45 ∷ 0x46 ∷ 0x47 ∷ []
@@ -27,14 +29,16 @@ log_of inputs records end = record { pages = 1; inputs = inputs; digest = []; re
 
 -- nothing differs in the run
 abbrev Agrees : ℕ → List CallRecord → RunEnd → Type 0
-Agrees inputs records end = option_map (λ s. divergence s (log_of inputs records end)) (beginning copy_four (log_of inputs records end)) ≡ Some None
+Agrees inputs records end = option_map (λ s. divergence s (log_of inputs records end))
+    (beginning copy_four (log_of inputs records end)) ≡ Some None
 
 abbrev args : ℕ → List ℕ
 args channel = channel ∷ 0x10100 ∷ 4 ∷ []
 
 -- the first four bytes of the input are read
 abbrev whole : List CallRecord
-whole = Read 5 (args 0) (pos 4) (0x41 ∷ 0x42 ∷ 0x43 ∷ 0x44 ∷ []) ∷ Write 8 (args 1) (pos 4) (0x41 ∷ 0x42 ∷ 0x43 ∷ 0x44 ∷ []) ∷ []
+whole = Read 5 (args 0) (pos 4) (0x41 ∷ 0x42 ∷ 0x43 ∷ 0x44 ∷ []) ∷ Write 8 (args 1) (pos 4)
+    (0x41 ∷ 0x42 ∷ 0x43 ∷ 0x44 ∷ []) ∷ []
 
 whole_agrees : Agrees 1 whole (Exit 11 0)
 whole_agrees = refl
@@ -74,7 +78,8 @@ cut_ends = refl
 
 -- a second read goes on where the first stopped, also on another channel between
 abbrev twice : List CallRecord
-twice = Read 0 (0 ∷ 0 ∷ 3 ∷ []) (pos 3) (0x41 ∷ 0x42 ∷ 0x43 ∷ []) ∷ Read 1 (1 ∷ 0 ∷ 2 ∷ []) (pos 1) (0x41 ∷ []) ∷ Read 2 (0 ∷ 0 ∷ 9 ∷ []) (pos 4) (0x44 ∷ 0x45 ∷ 0x46 ∷ 0x47 ∷ []) ∷ Read 3 (0 ∷ 0 ∷ 9 ∷ []) (pos 0) [] ∷ []
+twice = Read 0 (0 ∷ 0 ∷ 3 ∷ []) (pos 3) (0x41 ∷ 0x42 ∷ 0x43 ∷ []) ∷ Read 1 (1 ∷ 0 ∷ 2 ∷ []) (pos 1) (0x41 ∷ []) ∷ Read 2
+    (0 ∷ 0 ∷ 9 ∷ []) (pos 4) (0x44 ∷ 0x45 ∷ 0x46 ∷ 0x47 ∷ []) ∷ Read 3 (0 ∷ 0 ∷ 9 ∷ []) (pos 0) [] ∷ []
 
 twice_reads : AllReadNext (input ∷ (0x41 ∷ []) ∷ []) 5 [] twice
 twice_reads = (refl, (refl, (refl, (refl, tt))))

@@ -1,3 +1,6 @@
 pub mod Calls
+pub mod Pushes
+pub mod Fronts
+pub mod Runs
 pub mod Unique
 mod Examples

@@ -10,8 +10,8 @@ use Rattle.log_model.specs.Logs.{Log, IsLog}
 use Rattle.log_model.specs.Moved.{received}
 use Rattle.replay_model.specs.Fits.{Fits}
 
--- what a run is recorded with: the program file, the pages of its window, the bytes of each input channel, how many bytes
--- a read gets at most, and the step before which the run is cut off
+-- what a run is recorded with: the program file, the pages of its window, the bytes of each input channel, how many
+-- bytes a read gets at most, and after how many steps the run is cut off
 pub record Setting : Type 0 where
   pub program : List ℕ
   pub pages : ℕ
@@ -23,8 +23,8 @@ pub record Setting : Type 0 where
 abbrev pub input_of : List (List ℕ) → ℕ → List ℕ
 input_of inputs channel = slice_index_or inputs channel []
 
--- what a read with these arguments gets of its channel from an offset on: as many bytes as it asks for, at most a piece,
--- and no more than there are
+-- what a read with these arguments gets of its channel from an offset on: as many bytes as it asks for, at most a
+-- piece, and no more than there are
 abbrev pub part_of : List (List ℕ) → ℕ → ℕ → List ℕ → List ℕ
 part_of inputs piece offset args = take (min (length_of args) piece) (drop offset (input_of inputs (channel_of args)))
 
@@ -40,7 +40,8 @@ ReadsNext inputs piece before (Other at number) = Unit {0}
 -- each of these calls reads so, after those before it
 abbrev pub AllReadNext : List (List ℕ) → ℕ → List CallRecord → List CallRecord → Type 0
 AllReadNext inputs piece before [] = Unit {0}
-AllReadNext inputs piece before (r ∷ rs) = ReadsNext inputs piece before r × AllReadNext inputs piece (before ++ r ∷ []) rs
+AllReadNext inputs piece before (r ∷ rs) = ReadsNext inputs piece before r × AllReadNext inputs piece (before ++ r ∷ [])
+    rs
 
 -- what the clock answered a call
 abbrev pub clock_values_of : CallRecord → List ℕ
@@ -68,3 +69,7 @@ pub record IsRecorded (s : Setting) (answers : List ℕ) (log : Log) : Type 0 wh
   pub reads_inputs : AllReadNext s.inputs s.piece [] log.records
   pub has_answers : clock_values log.records ≡ answers
   pub ends_within : EndsWithin s.steps log.end
+
+-- these bytes are the first of an input
+abbrev pub IsFrontOf : List ℕ → List ℕ → Type 0
+IsFrontOf front whole = take (length front) whole ≡ front

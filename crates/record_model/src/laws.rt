@@ -2,9 +2,17 @@
 
 ghost use Rattle.std.specs.Prelude.{◌≡◌, ℕ, List};
 ghost use Rattle.log_model.specs.Logs.{Log};
-ghost use Rattle.record_model.specs.Recorded.{Setting, IsRecorded};
+ghost use Rattle.log_model.specs.Moved.{received};
+ghost use Rattle.record_model.specs.Recorded.{Setting, IsRecorded, IsFrontOf, input_of};
 
 /// A run is recorded in one way: its setting and the clock's answers have one log.
 pub fn one_recording()
     ensures { (s : Setting) (answers : List ℕ) (a b : Log) → IsRecorded s answers a → IsRecorded s answers b → a ≡ b }
+{}
+
+/// Inputs are read in order from their beginning: what a recorded run received on a channel is the first of its
+/// input, and nothing where there is no such input.
+pub fn inputs_are_read_in_order()
+    ensures { (s : Setting) (answers : List ℕ) (log : Log) → IsRecorded s answers log
+        → (channel : ℕ) → IsFrontOf (received channel log.records) (input_of s.inputs channel) }
 {}

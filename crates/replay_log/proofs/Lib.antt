@@ -1,6 +1,4 @@
-mod Taken
-mod Headers
-mod Steps
+mod RecordParts
+mod Items
+mod Loop
 mod Whole
-pub mod Texts
-mod Judged

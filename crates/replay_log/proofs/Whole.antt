@@ -1,14 +1,25 @@
--- Whatever was answered for the text of a log is that log, or want of memory.
-use Rattle.std.proofs.Common.{◌≡◌, List, ℕ, Result, Ok, Err, refl, sym, ◌∙◌}
-use Rattle.std.specs.Prelude.{IfOk, IfErr, MatchResult}
-use Rattle.log_model.specs.Logs.{Log, IsLog, log_text}
-use Rattle.log_model.proofs.Unique.{one_text, faulty_is_no_log}
+-- The header and what is after it are the log that the bytes are read as.
+use Rattle.std.proofs.Common.{◌≡◌, ℕ, List, take, drop, Ok, refl, ap, ◌∙◌}
+use Rattle.format_model.specs.Fields.{word_at}
+use Rattle.log_model.specs.declared.CallRecord.{CallRecord}
+use Rattle.log_model.specs.declared.RunEnd.{RunEnd}
+use Rattle.log_model.specs.Reading.{map_ok, with_header, log_of}
+use Rattle.log_model.proofs.Reading.{log_of-body}
+use Rattle.replay_log.specs.declared.header.Header.{Header}
 use Rattle.replay_log.specs.declared.fault.LogFault.{LogFault}
 use Rattle.replay_log.specs.declared.fault.LogFault.TheVariants.{At, NoMemory}
-use Rattle.replay_log.specs.Answers.{IsTold}
+use Rattle.replay_log.specs.Answers.{IsFaultOf}
+use Rattle.replay_log.specs.Logs.{log_of_parts}
+use Rattle.replay_log.specs.Header.{IsHeader, body}
 
-pub only_that : (bytes : List ℕ) (r : Result Log LogFault) → IfOk r (λ log. (bytes ≡ log_text log) × IsLog log) → IfErr r (IsTold bytes)
-    → (log : Log) → IsLog log → bytes ≡ log_text log → MatchResult r (λ l. l ≡ log) (λ e. e ≡ NoMemory)
-only_that bytes (Ok l) ok fault log is e = one_text l log ok.1 is (sym ok.0 ∙ e)
-only_that bytes (Err (At kind offset)) ok fault log is e = absurd (faulty_is_no_log bytes kind offset log fault is e)
-only_that bytes (Err NoMemory) ok fault log is e = refl
+parts_from : (pages inputs p i : ℕ) (digest d : List ℕ) (records : List CallRecord) (end : RunEnd) → p ≡ pages → i ≡ inputs → d ≡ digest → log_of_parts pages inputs digest records end ≡ log_of_parts p i d records end
+parts_from pages inputs p i digest d records end e f g = rw (e, f, g) refl
+
+pub whole_log : (bytes : List ℕ) (h : Header) (records : List CallRecord) (end : RunEnd) → IsHeader bytes h → body bytes ≡ Ok (records, end) → log_of bytes ≡ Ok (log_of_parts h.pages h.inputs h.digest records end)
+whole_log bytes h records end is e =
+    log_of-body bytes is.none ∙ ap (map_ok (with_header bytes)) e
+    ∙ ap Ok (parts_from (word_at bytes 40) (word_at bytes 44) h.pages h.inputs (take 32 (drop 8 bytes)) h.digest records end is.pages is.inputs is.digest)
+
+pub whole_fault : (bytes : List ℕ) (h : Header) (fault : LogFault) → IsHeader bytes h → IsFaultOf (body bytes) fault → IsFaultOf (log_of bytes) fault
+whole_fault bytes h (At kind offset) is e = log_of-body bytes is.none ∙ ap (map_ok (with_header bytes)) e
+whole_fault bytes h NoMemory is e = tt

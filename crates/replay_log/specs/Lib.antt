@@ -1,5 +1,5 @@
-pub mod Kept
+pub mod Logs
 pub mod Answers
 pub mod Tags
 pub mod Records
-pub mod Parts
+pub mod Header

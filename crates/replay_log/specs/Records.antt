@@ -1,47 +1,37 @@
--- One record at the front of the bytes that are left, as it is taken apart and put together.
-use Rattle.std.specs.Prelude.{◌≡◌, ℕ, ◌≤◌, ◌++◌, List, length, drop, false, Some}
+-- One record at the front of the bytes that are left, taken apart and put together.
+use Rattle.std.specs.Prelude.{◌≡◌, ℕ, ◌≤◌, List, length, drop, None, Some}
 use Rattle.format_model.specs.Fields.{word_at}
-use Rattle.log_model.specs.Logs.{at_of, end_at, record_text, end_text, IsRecord, IsEnd}
-use Rattle.log_model.specs.Faults.{tag_of, fixed_length, data_length, is_result_wrong, record_fault}
-use Rattle.replay_log.specs.declared.records.Item.{Item}
-use Rattle.replay_log.specs.declared.records.Item.TheVariants.{Call, End}
-use Rattle.replay_log.specs.declared.records.Refused.{Refused}
-use Rattle.replay_log.specs.declared.records.Refused.TheVariants as refused
-use Rattle.replay_log.specs.declared.front.Front.{Front}
+use Rattle.log_model.specs.declared.Item.{Item}
+use Rattle.log_model.specs.Faults.{tag_of, fixed_length, record_fault}
+use Rattle.log_model.specs.Reading.{data_of, item_of, item_length}
+use Rattle.replay_log.specs.declared.records.RecordFault.{RecordFault}
+use Rattle.replay_log.specs.declared.records.RecordFault.TheVariants as kinds
+use Rattle.replay_log.specs.declared.record_parts.RecordParts.{RecordParts}
 use Rattle.replay_log.specs.declared.fault.LogFault.{LogFault}
 use Rattle.replay_log.specs.declared.fault.LogFault.TheVariants as faults
 use Rattle.replay_log.specs.Tags.{number}
 
 -- the parts of the record at the front, which has no fault
-pub record IsFront (least : ℕ) (rest : List ℕ) (front : Front) : Type 0 where
-  pub tag : number front.tag ≡ tag_of rest
+pub record ArePartsOf (least : ℕ) (rest : List ℕ) (parts : RecordParts) : Type 0 where
+  pub none : record_fault least rest ≡ None
+  pub tag : number parts.tag ≡ tag_of rest
   pub fixed : fixed_length (tag_of rest) ≤ length rest
-  pub at : front.at ≡ word_at rest 1
-  pub order : least ≤ word_at rest 1
-  pub outcome : is_result_wrong (tag_of rest) rest ≡ false
-  pub whole : length front.bytes.now ≡ data_length (tag_of rest) rest
-  pub parts : drop (fixed_length (tag_of rest)) rest ≡ front.bytes.now ++ front.after.now
+  pub at : parts.at ≡ word_at rest 1
+  pub bytes : parts.bytes.now ≡ data_of (tag_of rest) rest
+  pub after : parts.after.now ≡ drop (item_length rest) rest
 
-abbrev pub item_text : Item → List ℕ
-item_text (Call r) = record_text r
-item_text (End e) = end_text e
-
--- a record or an end that may follow what was read
-abbrev pub IsItem : ℕ → Item → Type 0
-IsItem least (Call r) = IsRecord r × (least ≤ at_of r)
-IsItem least (End e) = IsEnd e × (least ≤ end_at e)
-
--- the bytes are the text of the item, and others behind it
-pub record IsTaken (least : ℕ) (bytes : List ℕ) (item : Item) (after : List ℕ) : Type 0 where
-  pub form : IsItem least item
-  pub parts : bytes ≡ item_text item ++ after
+-- the record at the front has no fault and says this, and those are the bytes after it
+pub record IsFirst (least : ℕ) (rest : List ℕ) (item : Item) (after : List ℕ) : Type 0 where
+  pub none : record_fault least rest ≡ None
+  pub says : item ≡ item_of rest
+  pub leaves : after ≡ drop (item_length rest) rest
 
 -- the fault that is told is that of the record at the front
-abbrev pub IsRefused : ℕ → List ℕ → Refused → Type 0
-IsRefused least rest (refused.Faulty kind) = record_fault least rest ≡ Some kind
-IsRefused least rest refused.NoMemory = Unit {0}
+abbrev pub IsRecordFault : ℕ → List ℕ → RecordFault → Type 0
+IsRecordFault least rest (kinds.Of kind) = record_fault least rest ≡ Some kind
+IsRecordFault least rest kinds.NoMemory = Unit {0}
 
 -- the fault of the bytes, where the record begins at this offset
-abbrev pub told_at : Refused → ℕ → LogFault
-told_at (refused.Faulty kind) offset = faults.At kind offset
-told_at refused.NoMemory offset = faults.NoMemory
+abbrev pub at_offset : RecordFault → ℕ → LogFault
+at_offset (kinds.Of kind) offset = faults.At kind offset
+at_offset kinds.NoMemory offset = faults.NoMemory

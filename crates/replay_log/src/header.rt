@@ -1,8 +1,9 @@
 //! The header of a log.
 
 ghost use Rattle.std.specs.Prelude.{IfOk, IfErr};
-ghost use Rattle.replay_log.specs.Answers.{IsTold};
-ghost use Rattle.replay_log.specs.Parts.{IsHeader};
+ghost use Rattle.log_model.specs.Reading.{log_of};
+ghost use Rattle.replay_log.specs.Answers.{IsFaultOf};
+ghost use Rattle.replay_log.specs.Header.{IsHeader};
 
 use crate::fault::LogFault;
 use crate::words::word_at;
@@ -25,7 +26,7 @@ pub struct Header {
 /// Reads the header: eight bytes of magic, the digest, the pages and the inputs.
 pub fn header_of(bytes: &[u8]) -> Result<Header, LogFault>
     ensures ok { IfOk result (IsHeader bytes.now) }
-    ensures fault { IfErr result (IsTold bytes.now) }
+    ensures fault { IfErr result (IsFaultOf (log_of bytes.now)) }
 {
     if !bytes.starts_with(&MAGIC) {
         return Err(LogFault::At {

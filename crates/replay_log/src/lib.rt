@@ -3,12 +3,11 @@
 #![tactic(auto)]
 
 mod fault;
-mod front;
 mod header;
-mod kept;
-pub mod laws;
 mod lengths;
+mod logs;
 mod reading;
+mod record_parts;
 mod records;
 mod tags;
 mod words;
@@ -16,9 +15,9 @@ mod writing;
 
 pub use fault::LogFault;
 pub use header::HEADER_LENGTH;
-pub use kept::Log;
 pub use lengths::{end_length, record_length};
 pub use log_model::{CallRecord, Data, LogKind, RunEnd};
+pub use logs::Log;
 pub use reading::read_log;
 pub use writing::write_log;
 

@@ -1,17 +1,16 @@
 //! Reading logs.
 
-ghost use Rattle.std.specs.Prelude.{◌≡◌, ◌≤◌, ◌^◌, None, length, IfOk, IfErr, MatchResult};
-ghost use Rattle.log_model.specs.Logs.{Log as LogOf, at_of, log_text, IsLog};
-ghost use Rattle.log_model.specs.Faults.{header_fault};
-ghost use Rattle.replay_log.specs.Answers.{IsTold};
-ghost use Rattle.replay_log.specs.Parts.{IsBody};
-ghost use Rattle.replay_log.specs.declared.fault.LogFault.TheVariants.{NoMemory};
+ghost use Rattle.std.specs.Prelude.{◌≡◌, ◌≤◌, ◌^◌, length, Ok, IfOk, IfErr};
+ghost use Rattle.log_model.specs.Logs.{at_of};
+ghost use Rattle.log_model.specs.Reading.{log_of};
+ghost use Rattle.replay_log.specs.Answers.{IsFaultOf};
+ghost use Rattle.replay_log.specs.Header.{body};
 
 use crate::fault::LogFault;
 use crate::header::{HEADER_LENGTH, header_of};
-use crate::kept::Log;
-use crate::records::{Item, item_of};
-use log_model::{CallRecord, LogKind, RunEnd};
+use crate::logs::Log;
+use crate::records::item_of;
+use log_model::{CallRecord, Item, LogKind, RunEnd};
 use std::alloc::Global;
 
 /// The number of steps done before the call.
@@ -28,10 +27,9 @@ fn step_of(record: &CallRecord) -> u32
 
 /// The records and the end, which follow the header.
 fn body_of(alloc: Global, bytes: &[u8]) -> Result<(Vec<CallRecord>, RunEnd), LogFault>
-    requires whole { 48 ≤ length bytes.now }
-    requires header { header_fault bytes.now ≡ None }
-    ensures ok { IfOk result (λ x. IsBody bytes.now x.0.items x.1) }
-    ensures fault { IfErr result (IsTold bytes.now) }
+    requires { 48 ≤ length bytes.now }
+    ensures ok { IfOk result (λ x. body bytes.now ≡ Ok (x.0.items, x.1)) }
+    ensures fault { IfErr result (IsFaultOf (body bytes.now)) }
 {
     let mut records = Vec::new(alloc);
     let mut least = 0;
@@ -39,8 +37,8 @@ fn body_of(alloc: Global, bytes: &[u8]) -> Result<(Vec<CallRecord>, RunEnd), Log
     loop {
         let offset = (bytes.len() - rest.len()) as u64;
         let (item, after) = match item_of(alloc, least, rest) {
-            Ok(taken) => taken,
-            Err(refused) => return Err(refused.told_at(offset)),
+            Ok(first) => first,
+            Err(fault) => return Err(fault.at_offset(offset)),
         };
         match item {
             Item::Call(call) => {
@@ -62,11 +60,13 @@ fn body_of(alloc: Global, bytes: &[u8]) -> Result<(Vec<CallRecord>, RunEnd), Log
     }
 }
 
-/// The log or the fault, as `read_log` answers it.
-fn log_of(alloc: Global, bytes: &[u8]) -> Result<Log, LogFault>
+/// Reads the log that these bytes are the text of, or tells the first fault that is met from the front, with its
+/// offset.
+pub fn read_log(alloc: Global, bytes: &[u8]) -> Result<Log, LogFault>
     requires { length bytes.now ≤ 2 ^ 26 }
-    ensures ok { IfOk result (λ log. (bytes.now ≡ log_text log) × IsLog log) }
-    ensures fault { IfErr result (IsTold bytes.now) }
+    ensures ok { IfOk result (λ log. log_of bytes.now ≡ Ok log) }
+    // Nothing is said where memory runs out.
+    ensures fault { IfErr result (IsFaultOf (log_of bytes.now)) }
 {
     let header = header_of(bytes)?;
     let (records, end) = body_of(alloc, bytes)?;
@@ -78,17 +78,4 @@ fn log_of(alloc: Global, bytes: &[u8]) -> Result<Log, LogFault>
         end,
         bytes.len() as u64,
     ))
-}
-
-/// Reads the log that these bytes are, or tells the first fault that is met from the front, with its offset.
-pub fn read_log(alloc: Global, bytes: &[u8]) -> Result<Log, LogFault>
-    requires { length bytes.now ≤ 2 ^ 26 }
-    // What is read is a log, and the bytes are its text.
-    ensures ok { IfOk result (λ log. (bytes.now ≡ log_text log) × IsLog log) }
-    // A fault that is told is the bytes' own, so they are no log.
-    ensures fault { IfErr result (IsTold bytes.now) }
-    // Where the bytes are a log's text, that log is read, unless memory runs out.
-    ensures only { (log : LogOf) → IsLog log → bytes.now ≡ log_text log → MatchResult result (λ l. l ≡ log) (λ e. e ≡ NoMemory) }
-{
-    log_of(alloc, bytes)
 }

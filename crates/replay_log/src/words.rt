@@ -1,8 +1,8 @@
 //! The numbers of four and of eight bytes in a log, little-endian.
 
-ghost use Rattle.std.specs.Prelude.{◌≡◌, ◌+◌, ◌≤◌, length, take, drop};
-ghost use Rattle.std.specs.Int.{w64, from_le_bytes};
+ghost use Rattle.std.specs.Prelude.{◌≡◌, ◌+◌, ◌≤◌, length};
 ghost use Rattle.format_model.specs.Fields.{word_at};
+ghost use Rattle.log_model.specs.Reading.{long_at};
 
 /// The number of four bytes at a place.
 pub fn word_at(bytes: &[u8], at: usize) -> u32
@@ -15,7 +15,7 @@ pub fn word_at(bytes: &[u8], at: usize) -> u32
 /// The number of eight bytes at a place.
 pub fn long_at(bytes: &[u8], at: usize) -> u64
     requires { at + 8 ≤ length bytes.now }
-    ensures { result ≡ from_le_bytes w64 (take 8 (drop at bytes.now)) }
+    ensures { result ≡ long_at bytes.now at }
 {
     u64::from_le_bytes([
         bytes[at],

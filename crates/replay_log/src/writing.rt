@@ -6,7 +6,7 @@ ghost use Rattle.log_model.specs.Logs.{word32, word64, signed32, header_text, re
 ghost use Rattle.replay_log.specs.Tags.{number};
 
 use crate::header::MAGIC;
-use crate::kept::Log;
+use crate::logs::Log;
 use crate::tags::Tag;
 use log_model::{CallRecord, RunEnd};
 use no_memory::NoMemory;

@@ -1,42 +1,15 @@
--- A divergence is the first difference.
-use Rattle.std.proofs.Common.{◌≡◌, ℕ, zero, suc, ◌+◌, ◌<◌, ◌≤◌, ◌⊎◌, inl, inr, List, [], ◌∷◌, Option, Some, None, refl, arith, ap, sym, ◌∙◌, subst, add-zero}
+-- A divergence is the first difference. Crates above cite these lemmas.
+use Rattle.std.proofs.Common.{◌≡◌, ℕ, zero, suc, ◌+◌, ◌<◌, ◌≤◌, ◌⊎◌, inl, inr, Option, Some, None, refl, arith, ap, sym, ◌∙◌, subst, add-zero}
 use Rattle.std.specs.Prelude.{◌↔◌}
 use Rattle.std.proofs.lemmas.Bool.{cases_lt}
-use Rattle.isa.specs.Machine.{State, Outcome}
-use Rattle.log_model.specs.declared.CallRecord.{CallRecord}
-use Rattle.log_model.specs.Logs.{Log, at_of, end_at}
+use Rattle.isa.specs.Machine.{State}
+use Rattle.log_model.specs.Logs.{Log, end_at}
 use Rattle.replay_model.specs.declared.Divergence.{Divergence}
-use Rattle.replay_model.specs.Run.{Moment, start, advance, after_outcome, after_call, moment_after}
-use Rattle.replay_model.specs.Comparison.{Compared, PlainStep, CallOf, difference, or_later, divergence_from, divergence, at_step}
+use Rattle.replay_model.specs.Run.{Moment, start, advance, moment_after}
+use Rattle.replay_model.specs.Comparison.{Compared, difference, or_later, divergence_from, divergence, at_step}
 use Rattle.replay_model.specs.Firsts.{difference_after, AgreesToTheEnd, IsFirstDifference}
-use Rattle.replay_model.proofs.Agreement.{expects_plain_at_end, expects_plain_before, expects_call, plain_agrees, call_agrees, agrees_at}
-use Rattle.replay_model.proofs.Track.{moment, agrees_with}
-
--- ---- a step before the end takes one unit of time
-
-called_time : (m : Moment) (left : List CallRecord) → (after_call m left).time ≡ m.time + 1
-called_time m [] = refl
-called_time m (r ∷ rs) = refl
-
-time_by : (log : Log) (t : ℕ) (s : State) (done left : List CallRecord) → t < end_at log.end → difference log (moment t s done left) ≡ None → (advance (moment t s done left)).time ≡ t + 1
-time_by log t s done [] below d =
-    let m = moment t s done [] in
-    let plain = plain_agrees m log.inputs (agrees_with log m PlainStep (expects_plain_at_end t log.end below) d) in
-    ap (λ (o : Outcome). (after_outcome m o).time) plain.1
-time_by log t s done (r ∷ rs) below d = by (cases_lt t (at_of r))
-  where
-    by : (t < at_of r) ⊎ (at_of r ≤ t) → (advance (moment t s done (r ∷ rs))).time ≡ t + 1
-    by (inl h) =
-        let m = moment t s done (r ∷ rs) in
-        let plain = plain_agrees m log.inputs (agrees_with log m PlainStep (expects_plain_before t r rs log.end h) d) in
-        ap (λ (o : Outcome). (after_outcome m o).time) plain.1
-    by (inr h) =
-        let m = moment t s done (r ∷ rs) in
-        let call = call_agrees m log.inputs r (agrees_with log m (CallOf r) (expects_call t r rs log.end h) d) in
-        ap (λ (o : Outcome). (after_outcome m o).time) call.calls
-
-step_time : (log : Log) (m : Moment) → m.time < end_at log.end → difference log m ≡ None → (advance m).time ≡ m.time + 1
-step_time log m below d = time_by log m.time m.state m.done m.left below d
+use Rattle.replay_model.proofs.Agreement.{agrees_at}
+use Rattle.replay_model.proofs.Track.{step_time}
 
 -- ---- none
 

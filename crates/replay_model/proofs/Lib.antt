@@ -1,5 +1,6 @@
 pub mod Agreement
 pub mod Track
 pub mod Transfers
-mod Firsts
+pub mod Sizes
+pub mod Firsts
 pub mod Offsets

@@ -1,8 +1,7 @@
 -- The offsets of a trace's calls count the bytes that the run moves. Crates above cite these lemmas.
-use Rattle.std.proofs.Common.{◌≡◌, ℕ, zero, suc, ◌+◌, ◌<◌, ◌≤◌, Bool, List, [], ◌∷◌, ◌++◌, length, Some, None, refl, arith, ap, sym, ◌∙◌, subst, append-nil, length-append}
+use Rattle.std.proofs.Common.{◌≡◌, ℕ, zero, suc, ◌+◌, ◌<◌, ◌≤◌, Bool, List, [], ◌∷◌, ◌++◌, length, Some, None, refl, arith, ap, sym, ◌∙◌, subst}
 use Rattle.std.specs.Prelude.{if◌then◌else◌}
 use Rattle.std.proofs.lemmas.Bool.{eq-eqb, ne_eqb}
-use Rattle.std.proofs.lemmas.Grind.{flat_map-append}
 use Rattle.isa.specs.declared.CallKind.{CallKind}
 use Rattle.isa.specs.declared.CallKind.TheVariants as kind
 use Rattle.isa.specs.Machine.{State, Outcome, Retired, Called, Trapped, next, Fetch, Fetched, OutsideWindow, Illegal, fetch}
@@ -19,6 +18,7 @@ use Rattle.flow_model.specs.Origins.{step_at}
 use Rattle.replay_model.specs.Run.{Moment, start, advance, after_outcome, after_call, moment_after, transfer, call_seen, plain_step, step_by, step_of, steps_from, trace}
 use Rattle.replay_model.specs.Comparison.{divergence}
 use Rattle.replay_model.specs.Offsets.{call_at, records_before, OffsetsCount, AreWritesApart}
+use Rattle.replay_model.proofs.Sizes.{moved_with}
 use Rattle.replay_model.proofs.Track.{done_is, on_track_at}
 
 -- ---- the steps of a trace, by their times
@@ -69,12 +69,6 @@ record IsWritten (channel length_of_bytes offset : ℕ) (before after : List Cal
   offset_is : offset ≡ length (written channel before)
   after_is : length (written channel after) ≡ offset + length_of_bytes
 
-written_with : (channel : ℕ) (records : List CallRecord) (r : CallRecord) → length (written channel (records ++ r ∷ [])) ≡ length (written channel records) + length (written_by channel r)
-written_with channel records r =
-    ap length (flat_map-append (written_by channel) records (r ∷ []))
-    ∙ length-append (written channel records) (written_by channel r ++ [])
-    ∙ ap (λ (bs : List ℕ). length (written channel records) + length bs) (append-nil (written_by channel r))
-
 write_by : (m : Moment) (left : List CallRecord) (call : CallSeen) → call_seen m left ≡ call → call.kind ≡ kind.Write → 0 < call.length → IsWritten call.channel call.length call.offset m.done (after_call m left).done
 write_by m [] call e k h = let other : kind.Exit ≡ kind.Write = ap (λ (x : CallSeen). x.kind) e ∙ k in cc
 write_by m (Write at args result bytes ∷ rs) call e k h = subst (λ (x : CallSeen). 0 < x.length → IsWritten x.channel x.length x.offset m.done (m.done ++ Write at args result bytes ∷ [])) e here h
@@ -86,7 +80,7 @@ write_by m (Write at args result bytes ∷ rs) call e k h = subst (λ (x : CallS
     here some =
         let offset = transfer_offset kind.Write args (written channel m.done) (length bytes) some in
         let own : written_by channel (Write at args result bytes) ≡ bytes = ap (λ (b : Bool). if b then bytes else []) (eq-eqb channel channel refl) in
-        record { offset_is = offset; after_is = omega (arith, written_with channel m.done (Write at args result bytes), ap length own) }
+        record { offset_is = offset; after_is = omega (arith, moved_with (written_by channel) m.done (Write at args result bytes), ap length own) }
 write_by m (Read at args result bytes ∷ rs) call e k h = let other : kind.Read ≡ kind.Write = ap (λ (x : CallSeen). x.kind) e ∙ k in cc
 write_by m (Clock at value ∷ rs) call e k h = let other : kind.Clock ≡ kind.Write = ap (λ (x : CallSeen). x.kind) e ∙ k in cc
 write_by m (Other at number ∷ rs) call e k h = let other : kind.Other ≡ kind.Write = ap (λ (x : CallSeen). x.kind) e ∙ k in cc
@@ -135,7 +129,7 @@ offsets_count s log form d =
 -- what is written stays written
 grows_called : (channel : ℕ) (m : Moment) (left : List CallRecord) → length (written channel m.done) ≤ length (written channel (after_call m left).done)
 grows_called channel m [] = omega arith
-grows_called channel m (r ∷ rs) = omega (arith, written_with channel m.done r)
+grows_called channel m (r ∷ rs) = omega (arith, moved_with (written_by channel) m.done r)
 
 grows : (channel : ℕ) (m : Moment) (o : Outcome) → length (written channel m.done) ≤ length (written channel (after_outcome m o).done)
 grows channel m (Retired s) = omega arith

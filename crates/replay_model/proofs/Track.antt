@@ -4,7 +4,7 @@ use Rattle.std.specs.Prelude.{nat_lt, if◌then◌else◌}
 use Rattle.std.specs.List.{AllByRecursion}
 use Rattle.std.proofs.lemmas.Bool.{cases_lt, lt-ltb, le-ltb}
 use Rattle.std.proofs.lemmas.List.Elements.{filter-append}
-use Rattle.isa.specs.Machine.{State, Retired, Called, next}
+use Rattle.isa.specs.Machine.{State, Outcome, Retired, Called, next}
 use Rattle.isa.specs.declared.Call.{Call}
 use Rattle.log_model.specs.declared.CallRecord.{CallRecord}
 use Rattle.log_model.specs.Logs.{Log, IsLog, IsRecord, Rise, least_after, at_of, end_at}
@@ -62,7 +62,7 @@ done_is log m on =
     ∙ sym (filter-append (λ r. nat_lt (at_of r) m.time) m.done m.left)
     ∙ ap (records_before m.time) on.all
 
--- ---- one step
+-- ---- the moment after a step
 
 advance_plain : (m : Moment) (s : State) → next m.state ≡ Retired s → advance m ≡ record m { time = m.time + 1; state = s }
 advance_plain m s e = ap (after_outcome m) e
@@ -90,28 +90,51 @@ on_answered log t s done r rs e on = record {
 pub agrees_with : (log : Log) (m : Moment) (e : Expected) → expected m.time m.left log.end ≡ e → difference log m ≡ None → difference_at m log.inputs e ≡ None
 agrees_with log m e h d = subst (λ (x : Expected). difference_at m log.inputs x ≡ None) h d
 
-abbrev StaysOn : Log → Moment → Type 0
-StaysOn log m = IsOnTrack log (advance m) × ((advance m).time ≡ m.time + 1)
+-- ---- the time
 
-stays_plain : (log : Log) (m : Moment) → IsOnTrack log m → Rise (m.time + 1) m.left → least_after (m.time + 1) m.left ≤ end_at log.end → difference_at m log.inputs PlainStep ≡ None → StaysOn log m
-stays_plain log m on rise ends d =
-    let plain = plain_agrees m log.inputs d in
-    (on_plain log m plain.0 on rise ends plain.1, ap (λ (x : Moment). x.time) (advance_plain m plain.0 plain.1))
+called_time : (m : Moment) (left : List CallRecord) → (after_call m left).time ≡ m.time + 1
+called_time m [] = refl
+called_time m (r ∷ rs) = refl
 
-stays_call : (log : Log) (t : ℕ) (s : State) (done : List CallRecord) (r : CallRecord) (rs : List CallRecord) → at_of r ≡ t → IsOnTrack log (moment t s done (r ∷ rs)) → difference_at (moment t s done (r ∷ rs)) log.inputs (CallOf r) ≡ None → StaysOn log (moment t s done (r ∷ rs))
+time_by : (log : Log) (t : ℕ) (s : State) (done left : List CallRecord) → t < end_at log.end → difference log (moment t s done left) ≡ None → (advance (moment t s done left)).time ≡ t + 1
+time_by log t s done [] below d =
+    let m = moment t s done [] in
+    let plain = plain_agrees m log.inputs (agrees_with log m PlainStep (expects_plain_at_end t log.end below) d) in
+    ap (λ (o : Outcome). (after_outcome m o).time) plain.1
+time_by log t s done (r ∷ rs) below d = by (cases_lt t (at_of r))
+  where
+    by : (t < at_of r) ⊎ (at_of r ≤ t) → (advance (moment t s done (r ∷ rs))).time ≡ t + 1
+    by (inl h) =
+        let m = moment t s done (r ∷ rs) in
+        let plain = plain_agrees m log.inputs (agrees_with log m PlainStep (expects_plain_before t r rs log.end h) d) in
+        ap (λ (o : Outcome). (after_outcome m o).time) plain.1
+    by (inr h) =
+        let m = moment t s done (r ∷ rs) in
+        let call = call_agrees m log.inputs r (agrees_with log m (CallOf r) (expects_call t r rs log.end h) d) in
+        ap (λ (o : Outcome). (after_outcome m o).time) call.calls
+
+-- a step before the end takes one unit of time
+pub step_time : (log : Log) (m : Moment) → m.time < end_at log.end → difference log m ≡ None → (advance m).time ≡ m.time + 1
+step_time log m below d = time_by log m.time m.state m.done m.left below d
+
+-- ---- one step
+
+stays_plain : (log : Log) (m : Moment) → IsOnTrack log m → Rise (m.time + 1) m.left → least_after (m.time + 1) m.left ≤ end_at log.end → difference_at m log.inputs PlainStep ≡ None → IsOnTrack log (advance m)
+stays_plain log m on rise ends d = let plain = plain_agrees m log.inputs d in on_plain log m plain.0 on rise ends plain.1
+
+stays_call : (log : Log) (t : ℕ) (s : State) (done : List CallRecord) (r : CallRecord) (rs : List CallRecord) → at_of r ≡ t → IsOnTrack log (moment t s done (r ∷ rs)) → difference_at (moment t s done (r ∷ rs)) log.inputs (CallOf r) ≡ None → IsOnTrack log (advance (moment t s done (r ∷ rs)))
 stays_call log t s done r rs e on d =
     let m = moment t s done (r ∷ rs) in
     let agreed = call_agrees m log.inputs r d in
-    let same = advance_call m agreed.call agreed.calls in
-    (subst (IsOnTrack log) (sym same) (on_answered log t s done r rs e on), ap (λ (x : Moment). x.time) same)
+    subst (IsOnTrack log) (sym (advance_call m agreed.call agreed.calls)) (on_answered log t s done r rs e on)
 
-stays_by : (log : Log) (t : ℕ) (s : State) (done left : List CallRecord) → IsOnTrack log (moment t s done left) → t < end_at log.end → difference log (moment t s done left) ≡ None → StaysOn log (moment t s done left)
+stays_by : (log : Log) (t : ℕ) (s : State) (done left : List CallRecord) → IsOnTrack log (moment t s done left) → t < end_at log.end → difference log (moment t s done left) ≡ None → IsOnTrack log (advance (moment t s done left))
 stays_by log t s done [] on below d =
     let m = moment t s done [] in
     stays_plain log m on tt (omega arith) (agrees_with log m PlainStep (expects_plain_at_end t log.end below) d)
 stays_by log t s done (r ∷ rs) on below d = by (cases_lt t (at_of r))
   where
-    by : (t < at_of r) ⊎ (at_of r ≤ t) → StaysOn log (moment t s done (r ∷ rs))
+    by : (t < at_of r) ⊎ (at_of r ≤ t) → IsOnTrack log (advance (moment t s done (r ∷ rs)))
     by (inl h) =
         let m = moment t s done (r ∷ rs) in
         stays_plain log m on (omega arith, on.rise.1) on.ends_after (agrees_with log m PlainStep (expects_plain_before t r rs log.end h) d)
@@ -121,7 +144,7 @@ stays_by log t s done (r ∷ rs) on below d = by (cases_lt t (at_of r))
         stays_call log t s done r rs due on (agrees_with log m (CallOf r) (expects_call t r rs log.end h) d)
 
 -- a moment before the end is followed by one of the same kind
-pub stays_on : (log : Log) (m : Moment) → IsOnTrack log m → m.time < end_at log.end → difference log m ≡ None → StaysOn log m
+pub stays_on : (log : Log) (m : Moment) → IsOnTrack log m → m.time < end_at log.end → difference log m ≡ None → IsOnTrack log (advance m)
 stays_on log m on below d = stays_by log m.time m.state m.done m.left on below d
 
 -- ---- all moments up to the end
@@ -135,10 +158,9 @@ on_track_from log n zero m on d h b = record { on = on; time = sym (add-zero m.t
 on_track_from log zero (suc k) m on d h b = absurd (omega arith)
 on_track_from log (suc n) (suc k) m on d h b =
     let agrees = agrees_at log (suc n) 0 m d (omega arith) in
-    let stays = stays_on log m on (omega arith) agrees in
     let rest = later_agrees log n m d in
-    let time : (advance m).time ≡ m.time + 1 = stays.1 in
-    let there = on_track_from log n k (advance m) stays.0 rest (omega arith) (omega arith) in
+    let time = step_time log m (omega arith) agrees in
+    let there = on_track_from log n k (advance m) (stays_on log m on (omega arith) agrees) rest (omega arith) (omega arith) in
     let same : (advance m).time + k ≡ m.time + suc k = omega arith in
     record { on = there.on; time = there.time ∙ same }
 

@@ -1,39 +1,22 @@
--- The bytes that a log says were moved are fewer than its text has.
-use Rattle.std.proofs.Common.{◌≡◌, ℕ, ◌+◌, ◌^◌, ◌<◌, ◌≤◌, List, [], ◌∷◌, length, take, get_or, refl, arith, ap, sym, ◌∙◌, subst}
-use Rattle.std.specs.Prelude.{sum_by}
-use Rattle.std.proofs.lemmas.List.Sums.{sum_by_more_le, sum_by-cons}
+-- The bytes that the calls of a log moved, call after call.
+use Rattle.std.proofs.Common.{◌≡◌, ℕ, ◌+◌, ◌^◌, ◌<◌, ◌≤◌, List, [], ◌∷◌, ◌++◌, length, take, get_or, arith, ap, sym, ◌∙◌, subst}
+use Rattle.std.specs.List.{flat_map}
+use Rattle.std.proofs.lemmas.List.{take_more}
+use Rattle.std.proofs.lemmas.List.Folds.{length-flat_map-take}
 use Rattle.log_model.specs.declared.CallRecord.{CallRecord}
-use Rattle.log_model.specs.Logs.{Log, log_text}
-use Rattle.replay_model.specs.Summary.{read_by, written_by}
-use Rattle.replay_model.specs.Track.{still_read, still_written}
-use Rattle.replay_model.proofs.Track.{log_fits}
+use Rattle.log_model.specs.Logs.{Log, log_text, record_text}
+use Rattle.replay_model.proofs.Sizes.{moved_with, moved_fits}
 
-read_sum : (rs : List CallRecord) → sum_by read_by rs ≡ still_read rs
-read_sum [] = refl
-read_sum (r ∷ rs) = sum_by-cons read_by r rs ∙ ap (λ (n : ℕ). read_by r + n) (read_sum rs)
+module _ (f : CallRecord → List ℕ) (records : List CallRecord) (i : ℕ) (r : CallRecord) (below : i < length records) (item : r ≡ get_or records i r) where
+  -- the bytes of one more call
+  pub moved_more : length (flat_map f (take (i + 1) records)) ≡ length (flat_map f (take i records)) + length (f r)
+  moved_more =
+      ap (λ (rs : List CallRecord). length (flat_map f rs)) (take_more records i r below ∙ ap (λ (x : CallRecord). take i records ++ x ∷ []) (sym item))
+      ∙ moved_with f (take i records) r
 
-written_sum : (rs : List CallRecord) → sum_by written_by rs ≡ still_written rs
-written_sum [] = refl
-written_sum (r ∷ rs) = sum_by-cons written_by r rs ∙ ap (λ (n : ℕ). written_by r + n) (written_sum rs)
-
-pub read_fits : (log : Log) (i : ℕ) (d : CallRecord) → length (log_text log) ≤ 2 ^ 26 → i < length log.records → sum_by read_by (take i log.records) + read_by (get_or log.records i d) ≤ 2 ^ 26
-read_fits log i d small h = omega (arith, sum_by_more_le read_by log.records i d h, read_sum log.records, log_fits log)
-
-pub written_fits : (log : Log) (i : ℕ) (d : CallRecord) → length (log_text log) ≤ 2 ^ 26 → i < length log.records → sum_by written_by (take i log.records) + written_by (get_or log.records i d) ≤ 2 ^ 26
-written_fits log i d small h = omega (arith, sum_by_more_le written_by log.records i d h, written_sum log.records, log_fits log)
-
-pub read_next : (log : Log) (records : List CallRecord) (i : ℕ) (r : CallRecord) → records ≡ log.records → length (log_text log) ≤ 2 ^ 26 → i < length records → r ≡ get_or records i r → sum_by read_by (take i records) + read_by r ≤ 2 ^ 26
-read_next log records i r e small h item =
-    let below : i < length log.records = subst (λ (rs : List CallRecord). i < length rs) e h in
-    let same : r ≡ get_or log.records i r = item ∙ ap (λ (rs : List CallRecord). get_or rs i r) e in
-    let size : read_by (get_or log.records i r) ≡ read_by r = ap read_by (sym same) in
-    let sums : sum_by read_by (take i records) ≡ sum_by read_by (take i log.records) = ap (λ (rs : List CallRecord). sum_by read_by (take i rs)) e in
-    omega (arith, read_fits log i r small below)
-
-pub written_next : (log : Log) (records : List CallRecord) (i : ℕ) (r : CallRecord) → records ≡ log.records → length (log_text log) ≤ 2 ^ 26 → i < length records → r ≡ get_or records i r → sum_by written_by (take i records) + written_by r ≤ 2 ^ 26
-written_next log records i r e small h item =
-    let below : i < length log.records = subst (λ (rs : List CallRecord). i < length rs) e h in
-    let same : r ≡ get_or log.records i r = item ∙ ap (λ (rs : List CallRecord). get_or rs i r) e in
-    let size : written_by (get_or log.records i r) ≡ written_by r = ap written_by (sym same) in
-    let sums : sum_by written_by (take i records) ≡ sum_by written_by (take i log.records) = ap (λ (rs : List CallRecord). sum_by written_by (take i rs)) e in
-    omega (arith, written_fits log i r small below)
+  -- they are no more than a log's text has
+  pub next_fits : (log : Log) → records ≡ log.records → length (log_text log) ≤ 2 ^ 26 → ((q : CallRecord) → length (f q) ≤ length (record_text q)) → length (flat_map f (take i records)) + length (f r) ≤ 2 ^ 26
+  next_fits log same small each =
+      let all : length (flat_map f records) ≡ length (flat_map f log.records) = ap (λ (rs : List CallRecord). length (flat_map f rs)) same in
+      let own : length (f r) ≡ length (f (get_or records i r)) = ap (λ (x : CallRecord). length (f x)) item in
+      omega (arith, length-flat_map-take f records i r below, moved_fits f each log)

@@ -5,7 +5,7 @@ use Rattle.log_model.specs.Logs.{steps}
 use Rattle.flow_model.specs.declared.StepSeen.{StepSeen}
 use Rattle.flow_model.specs.Origins.{step_at}
 use Rattle.replayer.specs.Jobs.{trace_of}
-use Rattle.replayer.specs.Ranges.{IsInRange}
+use Rattle.flow_model.specs.Ranges.{IsInRange}
 use Rattle.replayer.specs.declared.cursor.Next.{Next}
 use Rattle.replayer.specs.declared.cursor.Next.TheVariants.{Step, End}
 use Rattle.replayer.specs.Positions.{CursorAt}

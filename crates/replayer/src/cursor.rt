@@ -4,10 +4,10 @@ ghost use Rattle.std.specs.Prelude.{◌≡◌, IfOk};
 ghost use Rattle.replayer.specs.Nexts.{IsNext};
 
 use crate::job::Job;
-use crate::run::Run;
 use flow_model::StepSeen;
 use log_model::RunEnd;
 use no_memory::NoMemory;
+use replay_run::Run;
 use std::alloc::Global;
 use std::marker::Model;
 
@@ -34,13 +34,13 @@ impl<'a> Model for Cursor<'a> {
 
     ghost use Rattle.replayer.specs.Cursors.{IsCursor};
 
-    ghost view = { λ c. record { job = c.job.now; time = c.run.time } };
+    ghost view = { λ c. record { job = c.job.now; time = c.run.moment.time } };
 
     ghost invariant = { λ c. IsCursor c.job.now c.run };
 }
 
 impl<'a> Cursor<'a> {
-    /// A cursor at the beginning of the run. It answers want of memory where there is none for the window.
+    /// A cursor at the beginning of the run. It answers out of memory where there is none for the window.
     pub fn start(alloc: Global, job: &'a Job) -> Result<Cursor<'a>, NoMemory>
         ensures { IfOk result (λ c. c ≡ record { job = job.now; time = 0 }) }
     {
@@ -48,7 +48,7 @@ impl<'a> Cursor<'a> {
         let machine = job.machine(alloc)?;
         Ok(Cursor {
             job,
-            run: Run::start(machine, job.log().records()),
+            run: Run::start(machine, job.log()),
         })
     }
 
@@ -59,10 +59,11 @@ impl<'a> Cursor<'a> {
     pub fn next(&mut self) -> Next
         ensures { IsNext self.old result self.new }
     {
-        if self.run.time == self.job.steps() {
+        self.run.form();
+        if self.run.time() == self.job.steps() {
             return Next::End(self.job.log().end());
         }
-        let stepped = self.run.machine.step();
+        let stepped = self.run.step();
         Next::Step(self.run.finish(stepped))
     }
 }

@@ -8,11 +8,11 @@ ghost use Rattle.rv_machine.specs.Hart.{running};
 ghost use Rattle.replayer.specs.Jobs.{IsJob};
 ghost use Rattle.replayer.specs.Checks.{IsChecked, IsCause};
 
-use crate::divergence::first_divergence;
 use crate::fault::CheckFault;
 use elf_image::Image;
 use log_model::{CallRecord, RunEnd};
 use no_memory::NoMemory;
+use replay_fit::first_divergence;
 use replay_log::Log;
 use rv_machine::{Machine, MachineFault};
 use sha2::{Digest, Sha256};

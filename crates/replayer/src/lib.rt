@@ -5,11 +5,8 @@
 #![tactic(auto)]
 
 mod cursor;
-mod difference;
-mod divergence;
 mod fault;
 mod job;
-mod run;
 
 pub use cursor::{Cursor, Next};
 pub use fault::CheckFault;

@@ -1,4 +1,4 @@
--- Laws of rows.
+-- Laws of rows. Crates above cite these lemmas.
 use Rattle.std.proofs.Common.{◌≡◌, ℕ, List, [], ◌∷◌, refl, ap, ◌∙◌, Bool, true, false, cond, map}
 use Rattle.std.specs.Prelude.{◌||◌}
 use Rattle.std.specs.Ordering.{is_eq}
@@ -9,17 +9,18 @@ use Rattle.std.specs.declared.cmp.Ordering.TheVariants.{Less, Equal, Greater}
 use Rattle.std.proofs.lemmas.List.Elements.{recursion_from_All, All-from_recursion, All-contains_itself}
 use Rattle.flow_model.specs.declared.StepSeen.{StepSeen}
 use Rattle.flow_model.specs.declared.SinkByte.{SinkByte}
-use Rattle.flow_model.specs.Sets.{inserted, placed, Ascends, sink_cmp}
+use Rattle.sorted_set.specs.Sets.{set_of, Ascends}
+use Rattle.flow_model.specs.Orders.{sink_cmp}
 use Rattle.flow_model.specs.Origins.{Policy, origins}
-use Rattle.flow_model.proofs.Ascending.{Ascends-inserted, has-inserted}
+use Rattle.sorted_set.proofs.Algebra.{Ascends-set_of, has-set_of, All-set_of}
 use Rattle.flow_model.proofs.Orders.{sink_total}
 use Rattle.report_model.specs.Query.{Query, Alike, has_sink, policy_of}
 use Rattle.report_model.specs.RowLaws.{has_row}
-use Rattle.report_model.specs.Rows.{Sink, Row, row, rows, rows_as_written, written_from, arranged, row_cmp}
+use Rattle.report_model.specs.Rows.{Sink, Row, row, rows, rows_as_written, sinks_from, row_cmp}
 
 -- rows by a policy and a choice of output bytes
 abbrev rows_by : Policy → (Sink → Bool) → List StepSeen → List Row
-rows_by policy chosen trace = arranged (map (λ s. record { sink = s.name; sources = origins policy trace s.time s.loc }) (filter chosen (written_from 0 trace)))
+rows_by policy chosen trace = set_of row_cmp (map (λ s. record { sink = s.name; sources = origins policy trace s.time s.loc }) (filter chosen (sinks_from 0 trace)))
 
 pub same_rows : (q p : Query) (trace : List StepSeen) → Alike q p → rows q trace ≡ rows p trace
 same_rows q p trace a = λ i. rows_by (record { rule = a.rule i; introduces = λ b. a.sources b.channel b.offset i }) (λ s. a.sinks s.name.channel s.name.offset i) trace
@@ -27,25 +28,11 @@ same_rows q p trace a = λ i. rows_by (record { rule = a.rule i; introduces = λ
 row_total : IsTotalOrder row_cmp
 row_total = on_total (λ r. r.sink) sink_total
 
-pub Ascends-arranged : (rs : List Row) → Ascends row_cmp (arranged rs)
-Ascends-arranged [] = tt
-Ascends-arranged (r ∷ rs) = Ascends-inserted row_total r (arranged rs) (Ascends-arranged rs)
+pub Ascends-rows : (q : Query) (trace : List StepSeen) → Ascends row_cmp (rows q trace)
+Ascends-rows q trace = Ascends-set_of row_total (rows_as_written q trace)
 
-pub same_sinks : (b : SinkByte) (rs : List Row) → has_row b (arranged rs) ≡ has_row b rs
-same_sinks b [] = refl
-same_sinks b (r ∷ rs) = has-inserted row_total r (arranged rs) (record { sink = b; sources = [] }) ∙ ap (λ (t : Bool). is_eq (sink_cmp b r.sink) || t) (same_sinks b rs)
-
-all_inserted : (P : Row → Type 0) (r : Row) (rs : List Row) → P r → AllByRecursion P rs → AllByRecursion P (inserted row_cmp r rs)
-all_inserted P r [] one all = (one, tt)
-all_inserted P r (s ∷ rs) one all = by (all_inserted P r rs one all.1) (row_cmp r s) where
-  by : AllByRecursion P (inserted row_cmp r rs) → (o : Ordering) → AllByRecursion P (placed o r s rs (inserted row_cmp r rs))
-  by ih Less = (one, all)
-  by ih Equal = all
-  by ih Greater = (all.0, ih)
-
-all_arranged : (P : Row → Type 0) (rs : List Row) → AllByRecursion P rs → AllByRecursion P (arranged rs)
-all_arranged P [] all = tt
-all_arranged P (r ∷ rs) all = all_inserted P r (arranged rs) all.0 (all_arranged P rs all.1)
+pub same_sinks : (q : Query) (trace : List StepSeen) (b : SinkByte) → has_row b (rows q trace) ≡ has_row b (rows_as_written q trace)
+same_sinks q trace b = has-set_of row_total (rows_as_written q trace) (record { sink = b; sources = [] })
 
 all_chosen : (q : Query) (trace : List StepSeen) (sinks : List Sink) → AllByRecursion (λ r. has_sink q r.sink ≡ true) (map (row q trace) (filter (λ s. has_sink q s.name) sinks))
 all_chosen q trace [] = tt
@@ -63,4 +50,4 @@ pub all_written : (q : Query) (trace : List StepSeen) → All (λ r. Contains (r
 all_written q trace =
     let raw = rows_as_written q trace in
     let was_written = recursion_from_All (Contains raw) raw (All-contains_itself raw) in
-    All-from_recursion _ (rows q trace) (all_arranged _ raw (both (Contains raw) (λ (r : Row). has_sink q r.sink ≡ true) raw was_written (all_chosen q trace (written_from 0 trace))))
+    All-from_recursion _ (rows q trace) (All-set_of row_cmp _ raw (both (Contains raw) (λ (r : Row). has_sink q r.sink ≡ true) raw was_written (all_chosen q trace (sinks_from 0 trace))))

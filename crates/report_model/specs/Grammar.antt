@@ -1,9 +1,9 @@
 -- The query language: the query that a text stands for, or its first fault with the number of the line.
-use Rattle.std.specs.Prelude.{ℕ, ◌+◌, ◌-◌, ◌^◌, ◌==◌, nat_lt, nat_le, Bool, true, false, not, ◌&&◌, ◌||◌, if◌then◌else◌, List, [], ◌∷◌, map, length, codes, Option, Some, None, is_some, Result, Ok, Err}
-use Rattle.std.specs.List.{filter, list_any, slice_split}
-use Rattle.std.specs.Option.{unwrap_or}
+use Rattle.std.specs.Prelude.{ℕ, ◌+◌, ◌==◌, nat_lt, nat_le, Bool, true, false, not, ◌&&◌, ◌||◌, if◌then◌else◌, List, [], ◌∷◌, map, length, codes, Option, Some, None, is_some, unwrap_or, Result, Ok, Err}
+use Rattle.std.specs.List.{filter, flat_map, list_any, slice_split}
 use Rattle.std.specs.Str.{bytes_eq, all_ascii_digits}
 use Rattle.std.specs.Str.Parse.{digits_value}
+use Rattle.format_model.specs.FirstTrue.{first_true}
 use Rattle.flow_model.specs.declared.Rule.{Rule}
 use Rattle.flow_model.specs.declared.Rule.TheVariants.{Copy, Compute}
 use Rattle.report_model.specs.declared.QueryKind.{QueryKind}
@@ -18,14 +18,14 @@ without_last_cr (b ∷ []) = if b == 0x0d then [] else b ∷ []
 without_last_cr (b ∷ c ∷ bs) = b ∷ without_last_cr (c ∷ bs)
 
 -- all parts but the last stand before a line feed, and lose a carriage return at their end
-abbrev pub ended : List (List ℕ) → List (List ℕ)
-ended [] = []
-ended (last ∷ []) = last ∷ []
-ended (line ∷ next ∷ lines) = without_last_cr line ∷ ended (next ∷ lines)
+abbrev pub lines_of_parts : List (List ℕ) → List (List ℕ)
+lines_of_parts [] = []
+lines_of_parts (last ∷ []) = last ∷ []
+lines_of_parts (part ∷ next ∷ parts) = without_last_cr part ∷ lines_of_parts (next ∷ parts)
 
--- the lines of a text. What stands behind the last line feed is a line too; where it is empty it says nothing
+-- the lines of a text. What stands after the last line feed is a line too; where it is empty it says nothing
 abbrev pub lines : List ℕ → List (List ℕ)
-lines text = ended (slice_split (λ b. b == 0x0a) text)
+lines text = lines_of_parts (slice_split (λ b. b == 0x0a) text)
 
 abbrev pub is_blank : ℕ → Bool
 is_blank b = (b == 0x20) || (b == 0x09)
@@ -42,120 +42,153 @@ is_comment (b ∷ bs) = if is_blank b then is_comment bs else b == 0x23
 abbrev pub is_bad_byte : ℕ → Bool
 is_bad_byte b = not ((b == 0x09) || (nat_le 0x20 b && nat_le b 0x7e))
 
--- ---- what a line says
-
+-- 1 to 10 decimal digits, at most 4294967295
 abbrev pub is_number : List ℕ → Bool
 is_number word = nat_lt 0 (length word) && nat_le (length word) 10 && all_ascii_digits word && nat_le (digits_value 10 word) 4294967295
+
+abbrev pub value_of : List ℕ → ℕ
+value_of word = digits_value 10 word
+
+-- x, unless there is a fault
+abbrev pub unless : {X E : Type 0} → Option E → X → Result X E
+unless None x = Ok x
+unless (Some fault) x = Err fault
+
+-- ---- rules and choices
 
 abbrev pub rule_named : List ℕ → Option Rule
 rule_named word = if bytes_eq word (codes "copy") then Some Copy else if bytes_eq word (codes "compute") then Some Compute else None
 
--- the n-th word, counted from 0, or nothing
-abbrev pub word_at : List (List ℕ) → ℕ → List ℕ
-word_at [] n = []
-word_at (w ∷ ws) n = if n == 0 then w else word_at ws (n - 1)
+abbrev pub rule_alone : Option Rule → List (List ℕ) → Result Rule QueryKind
+rule_alone None more = Err Word
+rule_alone (Some rule) [] = Ok rule
+rule_alone (Some rule) (word ∷ more) = Err Count
 
-abbrev pub is_rule : List (List ℕ) → Bool
-is_rule ws = bytes_eq (word_at ws 0) (codes "rule")
+-- the words after `rule`: the name of a rule, and no more
+abbrev pub rule_of : List (List ℕ) → Result Rule QueryKind
+rule_of [] = Err Count
+rule_of (name ∷ more) = rule_alone (rule_named name) more
 
-abbrev pub is_source : List (List ℕ) → Bool
-is_source ws = bytes_eq (word_at ws 0) (codes "source")
+-- `C` chooses all bytes of a channel
+abbrev pub channel_of : List ℕ → Result Choice QueryKind
+channel_of channel = unless
+    (first_true (
+    (not (is_number channel), Number) ∷
+    (nat_lt 15 (value_of channel), Channel) ∷ []
+    ))
+    (record { channel = Some (value_of channel); offsets = None })
 
-abbrev pub is_sink : List (List ℕ) → Bool
-is_sink ws = bytes_eq (word_at ws 0) (codes "sink")
+-- `C A B` chooses the offsets A to B of a channel, without B
+abbrev pub range_of : List ℕ → List ℕ → List ℕ → Result Choice QueryKind
+range_of channel from past = unless
+    (first_true (
+    (not (is_number channel && is_number from && is_number past), Number) ∷
+    (nat_lt 15 (value_of channel), Channel) ∷
+    (nat_lt (value_of past) (value_of from), Range) ∷ []
+    ))
+    (record { channel = Some (value_of channel); offsets = Some (record { from = value_of from; past = value_of past }) })
 
-abbrev pub chooses_bytes : List (List ℕ) → Bool
-chooses_bytes ws = is_source ws || is_sink ws
+abbrev pub everything : Choice
+everything = record { channel = None; offsets = None }
 
-abbrev pub is_all : List (List ℕ) → Bool
-is_all ws = bytes_eq (word_at ws 1) (codes "all")
+abbrev pub is_all : List ℕ → Bool
+is_all word = bytes_eq word (codes "all")
 
-abbrev pub value_at : List (List ℕ) → ℕ → ℕ
-value_at ws n = digits_value 10 (word_at ws n)
+-- the words after `source` or `sink`: `all`, or `C`, or `C A B`
+abbrev pub choice_of : List (List ℕ) → Result Choice QueryKind
+choice_of [] = Err Count
+choice_of (word ∷ []) = if is_all word then Ok everything else channel_of word
+choice_of (word ∷ from ∷ []) = Err Count
+choice_of (word ∷ from ∷ past ∷ []) = if is_all word then Err Count else range_of word from past
+choice_of (word ∷ from ∷ past ∷ next ∷ more) = Err Count
 
--- the first fault of a line's words, in the order of its kinds
-abbrev pub first_true : {X : Type 0} → List (Bool × X) → Option X
-first_true [] = None
-first_true (row ∷ rows) = if row.0 then Some row.1 else first_true rows
+-- ---- lines
 
-abbrev pub is_word_wrong : List (List ℕ) → Bool
-is_word_wrong ws =
-    not (is_rule ws || chooses_bytes ws) || (is_rule ws && nat_le 2 (length ws) && not (is_some (rule_named (word_at ws 1))))
+-- what a line says
+pub data Statement : Type 0 where
+  RuleIs : Rule → Statement
+  Source : Choice → Statement
+  Sink : Choice → Statement
 
-abbrev pub is_count_wrong : List (List ℕ) → Bool
-is_count_wrong ws =
-    (is_rule ws && not (length ws == 2)) ||
-    (chooses_bytes ws && not ((length ws == 2) || ((length ws == 4) && not (is_all ws))))
+abbrev pub says : {X : Type 0} → (X → Statement) → Result X QueryKind → Result (Option Statement) QueryKind
+says f (Ok x) = Ok (Some (f x))
+says f (Err kind) = Err kind
 
-abbrev pub is_number_wrong : List (List ℕ) → Bool
-is_number_wrong ws =
-    chooses_bytes ws && not (is_all ws) &&
-    not (is_number (word_at ws 1) && ((length ws == 2) || (is_number (word_at ws 2) && is_number (word_at ws 3))))
+-- what the words of a line say, or their fault: without words it says nothing
+abbrev pub statement_of : List (List ℕ) → Result (Option Statement) QueryKind
+statement_of [] = Ok None
+statement_of (keyword ∷ operands) =
+    if bytes_eq keyword (codes "rule") then says RuleIs (rule_of operands) else
+    if bytes_eq keyword (codes "source") then says Source (choice_of operands) else
+    if bytes_eq keyword (codes "sink") then says Sink (choice_of operands) else
+    Err Word
 
-abbrev pub is_channel_wrong : List (List ℕ) → Bool
-is_channel_wrong ws = chooses_bytes ws && not (is_all ws) && nat_lt 15 (value_at ws 1)
+-- a comment says nothing, and may have any bytes
+abbrev pub read_line : List ℕ → Result (Option Statement) QueryKind
+read_line line =
+    if is_comment line then Ok None else
+    if list_any is_bad_byte line then Err BadByte else
+    statement_of (words line)
 
-abbrev pub is_range_wrong : List (List ℕ) → Bool
-is_range_wrong ws = chooses_bytes ws && (length ws == 4) && nat_lt (value_at ws 3) (value_at ws 2)
+-- ---- what the lines of a text say
 
-abbrev pub words_fault : Bool → List (List ℕ) → Option QueryKind
-words_fault after_rule ws = first_true (
-    (is_word_wrong ws, Word) ∷
-    (is_count_wrong ws, Count) ∷
-    (is_number_wrong ws, Number) ∷
-    (is_channel_wrong ws, Channel) ∷
-    (is_range_wrong ws, Range) ∷
-    (is_rule ws && after_rule, SecondRule) ∷ []
-    )
+abbrev pub rule_in : Result (Option Statement) QueryKind → Option Rule
+rule_in (Err kind) = None
+rule_in (Ok None) = None
+rule_in (Ok (Some (RuleIs rule))) = Some rule
+rule_in (Ok (Some (Source choice))) = None
+rule_in (Ok (Some (Sink choice))) = None
 
--- a comment, and a line of blanks and tabs alone, say nothing
-abbrev pub statement : List ℕ → List (List ℕ)
-statement line = if is_comment line then [] else words line
+abbrev pub sources_in : Result (Option Statement) QueryKind → List Choice
+sources_in (Err kind) = []
+sources_in (Ok None) = []
+sources_in (Ok (Some (RuleIs rule))) = []
+sources_in (Ok (Some (Source choice))) = choice ∷ []
+sources_in (Ok (Some (Sink choice))) = []
 
-abbrev pub statement_fault : Bool → List (List ℕ) → Option QueryKind
-statement_fault after_rule [] = None
-statement_fault after_rule (w ∷ ws) = words_fault after_rule (w ∷ ws)
+abbrev pub sinks_in : Result (Option Statement) QueryKind → List Choice
+sinks_in (Err kind) = []
+sinks_in (Ok None) = []
+sinks_in (Ok (Some (RuleIs rule))) = []
+sinks_in (Ok (Some (Source choice))) = []
+sinks_in (Ok (Some (Sink choice))) = choice ∷ []
 
--- the fault of a line, which may or may not come after a rule
-abbrev pub line_fault : Bool → List ℕ → Option QueryKind
-line_fault after_rule line =
-    if not (is_comment line) && list_any is_bad_byte line then Some BadByte else statement_fault after_rule (statement line)
-
--- ---- what a text says
+-- the fault of a line, which may or may not come after a rule: a second rule is one
+abbrev pub line_fault : Bool → Result (Option Statement) QueryKind → Option QueryKind
+line_fault after_rule (Err kind) = Some kind
+line_fault after_rule (Ok None) = None
+line_fault after_rule (Ok (Some (RuleIs rule))) = if after_rule then Some SecondRule else None
+line_fault after_rule (Ok (Some (Source choice))) = None
+line_fault after_rule (Ok (Some (Sink choice))) = None
 
 abbrev pub or_later : ℕ → Option QueryKind → Option (ℕ × QueryKind) → Option (ℕ × QueryKind)
 or_later n (Some kind) later = Some (n, kind)
 or_later n None later = later
 
 -- the first fault of lines of which the first has the number n; line 0 stands for the whole text
-abbrev pub lines_fault : ℕ → Bool → List (List ℕ) → Option (ℕ × QueryKind)
-lines_fault n after_rule [] = if after_rule then None else Some (0, NoRule)
-lines_fault n after_rule (line ∷ rest) =
-    or_later n (line_fault after_rule line) (lines_fault (n + 1) (after_rule || is_rule (statement line)) rest)
+abbrev pub first_fault : ℕ → Bool → List (Result (Option Statement) QueryKind) → Option (ℕ × QueryKind)
+first_fault n after_rule [] = if after_rule then None else Some (0, NoRule)
+first_fault n after_rule (line ∷ rest) =
+    or_later n (line_fault after_rule line) (first_fault (n + 1) (after_rule || is_some (rule_in line)) rest)
 
--- `C` chooses a channel, `C A B` the offsets A to B of it, without B, and `all` everything
-abbrev pub choice_of : List (List ℕ) → Choice
-choice_of ws =
-    if is_all ws then record { channel = None; offsets = None } else
-    if length ws == 2 then record { channel = Some (value_at ws 1); offsets = None } else
-    record { channel = Some (value_at ws 1); offsets = Some (record { from = value_at ws 2; past = value_at ws 3 }) }
+-- the rule that the first of the lines names that names one
+abbrev pub rule_among : List (Result (Option Statement) QueryKind) → Rule
+rule_among [] = Copy
+rule_among (line ∷ rest) = unwrap_or (rule_in line) (rule_among rest)
 
--- the rule that the first `rule` line names
-abbrev pub rule_of : List (List (List ℕ)) → Rule
-rule_of [] = Copy
-rule_of (ws ∷ rest) = if is_rule ws then unwrap_or (rule_named (word_at ws 1)) Copy else rule_of rest
-
-abbrev pub query_of : List (List (List ℕ)) → Query
-query_of statements = record {
-  rule = rule_of statements;
-  sources = map choice_of (filter is_source statements);
-  sinks = map choice_of (filter is_sink statements);
+abbrev pub query_of : List (Result (Option Statement) QueryKind) → Query
+query_of said = record {
+  rule = rule_among said;
+  sources = flat_map sources_in said;
+  sinks = flat_map sinks_in said;
 }
 
-abbrev pub unless_faulty : List (List ℕ) → Option (ℕ × QueryKind) → Result Query (ℕ × QueryKind)
-unless_faulty text_lines None = Ok (query_of (map statement text_lines))
-unless_faulty text_lines (Some fault) = Err fault
+-- ---- what a text says
+
+-- what each of its lines says
+abbrev pub read_lines : List ℕ → List (Result (Option Statement) QueryKind)
+read_lines text = map read_line (lines text)
 
 -- the query that a text stands for, or the line and the kind of its first fault
 abbrev pub query : List ℕ → Result Query (ℕ × QueryKind)
-query text = unless_faulty (lines text) (lines_fault 1 false (lines text))
+query text = unless (first_fault 1 false (read_lines text)) (query_of (read_lines text))

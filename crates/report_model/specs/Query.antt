@@ -1,4 +1,4 @@
--- What a query asks for.
+-- Queries, and which bytes they choose.
 use Rattle.std.specs.Prelude.{◌≡◌, ℕ, ◌==◌, nat_lt, nat_le, Bool, true, ◌&&◌, List, [], ◌∷◌, Option, Some, None}
 use Rattle.std.specs.List.{list_any}
 use Rattle.flow_model.specs.declared.Rule.{Rule}
@@ -43,7 +43,7 @@ has_sink q b = chooses q.sinks b.channel b.offset
 abbrev pub policy_of : Query → Policy
 policy_of q = record { rule = q.rule; introduces = has_source q }
 
--- two queries ask for the same: they have one rule, and choose the same bytes
+-- two queries are alike: they have one rule, and choose the same bytes
 pub record Alike (q p : Query) : Type 0 where
   pub rule : q.rule ≡ p.rule
   pub sources : (c o : ℕ) → chooses q.sources c o ≡ chooses p.sources c o

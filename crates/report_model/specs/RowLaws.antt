@@ -4,11 +4,12 @@ use Rattle.std.specs.List.{All, Contains, list_any}
 use Rattle.std.specs.Ordering.{is_eq}
 use Rattle.flow_model.specs.declared.SinkByte.{SinkByte}
 use Rattle.flow_model.specs.declared.StepSeen.{StepSeen}
-use Rattle.flow_model.specs.Sets.{Ascends, sink_cmp}
+use Rattle.sorted_set.specs.Sets.{Ascends}
+use Rattle.flow_model.specs.Orders.{sink_cmp}
 use Rattle.report_model.specs.Query.{Query, Alike, has_sink}
 use Rattle.report_model.specs.Rows.{Row, rows, rows_as_written, row_cmp}
 
--- queries that ask for the same have the same rows, over each trace
+-- alike queries have the same rows, over each trace
 abbrev pub AlikeHaveSameRows : Type 0
 AlikeHaveSameRows = (q p : Query) (trace : List StepSeen) → Alike q p → rows q trace ≡ rows p trace
 

@@ -1,4 +1,4 @@
--- The rows that a query asks for: each chosen output byte of a trace, with the source bytes that it came from.
+-- The rows of a query over a trace: each chosen output byte of a trace, with the source bytes that it came from.
 use Rattle.std.specs.Prelude.{◌≡◌, ℕ, ◌+◌, List, [], ◌∷◌, ◌++◌, map, Option, Some, None}
 use Rattle.std.specs.List.{filter, range_with_len}
 use Rattle.std.specs.declared.cmp.Ordering.{Ordering}
@@ -10,8 +10,9 @@ use Rattle.flow_model.specs.declared.SourceByte.{SourceByte}
 use Rattle.flow_model.specs.declared.SinkByte.{SinkByte}
 use Rattle.flow_model.specs.declared.StepSeen.{StepSeen}
 use Rattle.flow_model.specs.declared.CallSeen.{CallSeen}
-use Rattle.flow_model.specs.Sets.{inserted, sink_cmp}
-use Rattle.flow_model.specs.Flow.{wrap}
+use Rattle.sorted_set.specs.Sets.{set_of}
+use Rattle.flow_model.specs.Orders.{sink_cmp}
+use Rattle.isa.specs.Machine.{wrap}
 use Rattle.flow_model.specs.Origins.{origins}
 use Rattle.report_model.specs.Query.{Query, has_sink, policy_of}
 
@@ -21,32 +22,35 @@ pub record Sink : Type 0 where
   pub time : ℕ
   pub loc : Loc
 
-abbrev pub written_byte : ℕ → CallSeen → ℕ → Sink
-written_byte t call i = record {
+-- the i-th byte of a write that follows t steps
+abbrev pub sink_at : ℕ → CallSeen → ℕ → Sink
+sink_at t call i = record {
   name = record { channel = call.channel; offset = call.offset + i };
   time = t;
   loc = Mem (wrap (call.place + i));
 }
 
-abbrev pub written_by : ℕ → CallSeen → CallKind → List Sink
-written_by t call kind.Write = map (written_byte t call) (range_with_len 0 call.length)
-written_by t call kind.Read = []
-written_by t call kind.Clock = []
-written_by t call kind.Other = []
-written_by t call kind.Exit = []
+-- the output bytes of a call of this kind
+abbrev pub sinks_of_call : ℕ → CallSeen → CallKind → List Sink
+sinks_of_call t call kind.Write = map (sink_at t call) (range_with_len 0 call.length)
+sinks_of_call t call kind.Read = []
+sinks_of_call t call kind.Clock = []
+sinks_of_call t call kind.Other = []
+sinks_of_call t call kind.Exit = []
 
-abbrev pub written_in : ℕ → Option CallSeen → List Sink
-written_in t None = []
-written_in t (Some call) = written_by t call call.kind
+-- the output bytes of a step that follows t steps, by the call that it is, if it is one
+abbrev pub sinks_of_step : ℕ → Option CallSeen → List Sink
+sinks_of_step t None = []
+sinks_of_step t (Some call) = sinks_of_call t call call.kind
 
 -- the output bytes of the steps from time t on, in the order of writing
-abbrev pub written_from : ℕ → List StepSeen → List Sink
-written_from t [] = []
-written_from t (s ∷ ss) = written_in t s.call ++ written_from (t + 1) ss
+abbrev pub sinks_from : ℕ → List StepSeen → List Sink
+sinks_from t [] = []
+sinks_from t (s ∷ ss) = sinks_of_step t s.call ++ sinks_from (t + 1) ss
 
 -- the chosen output bytes of a trace, in the order of writing
 abbrev pub chosen_sinks : Query → List StepSeen → List Sink
-chosen_sinks q trace = filter (λ s. has_sink q s.name) (written_from 0 trace)
+chosen_sinks q trace = filter (λ s. has_sink q s.name) (sinks_from 0 trace)
 
 -- a row of a report: an output byte and its source bytes, ascending
 pub record Row : Type 0 where
@@ -60,14 +64,10 @@ row q trace s = record { sink = s.name; sources = origins (policy_of q) trace s.
 abbrev pub rows_as_written : Query → List StepSeen → List Row
 rows_as_written q trace = map (row q trace) (chosen_sinks q trace)
 
+-- rows compare as their output bytes do
 abbrev pub row_cmp : Row → Row → Ordering
 row_cmp a b = sink_cmp a.sink b.sink
 
--- rows by channel and then offset
-abbrev pub arranged : List Row → List Row
-arranged [] = []
-arranged (r ∷ rs) = inserted row_cmp r (arranged rs)
-
--- the rows of a query over a trace
+-- the rows of a query over a trace, by channel and then offset
 abbrev pub rows : Query → List StepSeen → List Row
-rows q trace = arranged (rows_as_written q trace)
+rows q trace = set_of row_cmp (rows_as_written q trace)

@@ -12,7 +12,7 @@ name_text c o = decimal c ++ codes ":" ++ decimal o
 abbrev pub source_text : SourceByte → List ℕ
 source_text b = codes " " ++ name_text b.channel b.offset
 
--- the output byte, its source bytes in order, each behind a blank, and a line feed
+-- the output byte, its source bytes in order, each after a blank, and a line feed
 abbrev pub row_text : Row → List ℕ
 row_text r = name_text r.sink.channel r.sink.offset ++ flat_map source_text r.sources ++ 0x0a ∷ []
 

@@ -1,4 +1,4 @@
-//! Queries and reports as definitions: the query language, the rows that a query asks for, and the
+//! Queries and reports as definitions: the query language, the rows of a query over a trace, and the
 //! text of a report.
 //!
 //! What there is to read stands in specs/. These definitions know no log and no program: rows are

@@ -14,7 +14,8 @@ copy_four digest = record {
   pages = 1;
   inputs = 1;
   digest = digest;
-  records = Read 5 (0 ∷ 0x10100 ∷ 4 ∷ []) (pos 4) (codes "ABCD") ∷ Write 8 (1 ∷ 0x10100 ∷ 4 ∷ []) (pos 4) (codes "ABCD") ∷ [];
+  records = Read 5 (0 ∷ 0x10100 ∷ 4 ∷ []) (pos 4) (codes "ABCD") ∷
+      Write 8 (1 ∷ 0x10100 ∷ 4 ∷ []) (pos 4) (codes "ABCD") ∷ [];
   end = Exit 11 0;
 }
 
@@ -22,11 +23,13 @@ copy_four digest = record {
 abbrev illegal : List ℕ → Log
 illegal digest = record { pages = 1; inputs = 0; digest = digest; records = []; end = Trap 0 2 0x10000 }
 
-copy_four-summary : (digest : List ℕ) → summary_text (copy_four digest) ≡ codes "steps 12\ncalls 2\nread 4\nwritten 4\nend exit 0\n"
+copy_four-summary : (digest : List ℕ)
+    → summary_text (copy_four digest) ≡ codes "steps 12\ncalls 2\nread 4\nwritten 4\nend exit 0\n"
 unfolding digits
 copy_four-summary digest = refl
 
-illegal-summary : (digest : List ℕ) → summary_text (illegal digest) ≡ codes "steps 0\ncalls 0\nread 0\nwritten 0\nend trap 2 65536\n"
+illegal-summary : (digest : List ℕ)
+    → summary_text (illegal digest) ≡ codes "steps 0\ncalls 0\nread 0\nwritten 0\nend trap 2 65536\n"
 unfolding digits
 illegal-summary digest = refl
 

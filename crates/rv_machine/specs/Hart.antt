@@ -55,7 +55,7 @@ IsAnswer s (Clock value) = (call_of s).kind ≡ kind.Clock
 IsAnswer s Other = (call_of s).kind ≡ kind.Other
 IsAnswer s Exit = (call_of s).kind ≡ kind.Exit
 
--- the state behind the call that waits
+-- the state after the call that waits
 abbrev pub answered : State → Reply → State
 answered s (Read result bytes) = after_read s (reg s 11) result bytes.now
 answered s (Write result) = after_write s result

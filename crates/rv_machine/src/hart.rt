@@ -41,7 +41,7 @@ impl Machine {
     /// and all bytes that no segment brings are 0.
     ///
     /// The fault is `Window` exactly where the window can't hold the image: it would end past 2^32, or a
-    /// segment ends past it. Else want of memory is `NoMemory`.
+    /// segment ends past it. Else `NoMemory` says that there was no memory for the window.
     pub fn new(alloc: Global, image: &Image, pages: u32) -> Result<Machine, MachineFault>
         requires some { 1 ≤ pages }
         requires most { pages ≤ 4096 }

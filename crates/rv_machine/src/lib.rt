@@ -19,7 +19,7 @@ pub enum MachineFault {
     /// The window can't hold the image: it would end past 2^32, or a segment ends past it.
     #[error("the window can't hold the image")]
     Window,
-    /// Want of memory.
+    /// There was no memory for the window.
     #[error("out of memory")]
     NoMemory,
 }

@@ -1,37 +1,21 @@
-ghost use Rattle.std.specs.Prelude.{◌≡◌, ◌≤◌, false, true, IfOk};
+//! Small programs, and what their steps come to. Expected values are typed from the manual's text.
+
+ghost use Rattle.std.specs.Prelude.{◌≡◌, false, true, IfOk};
 ghost use Rattle.isa.specs.Machine.{call_of};
 
 use crate::{Call, CallKind, Instr, Machine, MachineFault, Reply, Stepped};
-use elf_image::{Image, load};
+use elf_image::load;
+use guest_assembler::{code, program};
 use std::alloc::Global;
 use std::process::Abort;
 use std::test::Fail;
 
-/// The headers of a program file of one segment, which is loaded at 0x10000 and begins with the entry. Eight
-/// words of code follow.
-const HEADERS: [u8; 84] = [
-    0x7f, 0x45, 0x4c, 0x46, 1, 1, 1, 0, 0, 0, 0, 0, 0, 0, 0, 0, 2, 0, 243, 0, 1, 0, 0, 0, 0, 0, 1,
-    0, 52, 0, 0, 0, 0, 0, 0, 0, 0, 0, 0, 0, 52, 0, 32, 0, 1, 0, 0, 0, 0, 0, 0, 0, 1, 0, 0, 0, 84,
-    0, 0, 0, 0, 0, 1, 0, 0, 0, 0, 0, 32, 0, 0, 0, 64, 0, 0, 0, 7, 0, 0, 0, 4, 0, 0, 0,
-];
-
-const ECALL: u32 = 0x0000_0073;
-
-/// The image of these words, with 32 bytes of zeros behind them.
-fn image_of(rt: &impl Abort, alloc: Global, code: [u32; 8]) -> Result<Image, Fail> {
-    let mut file = HEADERS.to_vec(alloc)?;
-    for word in code {
-        file.extend_from_slice(&word.to_le_bytes())?;
-    }
-    assert!(rt; file.len() <= 1 << 26);
-    Ok(load(alloc, file.as_slice())?)
-}
-
-/// A machine at the first of these words, with a window of one page.
-fn machine_of(rt: &impl Abort, alloc: Global, code: [u32; 8]) -> Result<Machine, Fail>
+/// A machine at the first of these instructions, at 0x10000, with a window of one page.
+fn machine_of(alloc: Global, code: &[Instr]) -> Result<Machine, Fail>
     ensures { IfOk result (λ m. m.waits ≡ false) }
 {
-    let image = image_of(rt, alloc, code)?;
+    let file = program(alloc, code)?;
+    let image = load(alloc, file.as_slice())?;
     match Machine::new(alloc, &image, 1) {
         Ok(machine) => Ok(machine),
         Err(fault) => Err(fault)?,
@@ -50,6 +34,21 @@ fn run(rt: &impl Abort, machine: &mut Machine, steps: u32)
     }
 }
 
+/// What comes after so many plain steps.
+fn assert_step(
+    rt: &impl Abort,
+    alloc: Global,
+    code: &[Instr],
+    plain: u32,
+    expected: Stepped,
+) -> Result<(), Fail> {
+    let mut machine = machine_of(alloc, code)?;
+    run(rt, &mut machine, plain);
+    assert_eq!(rt; machine.step(), expected);
+    Ok(())
+}
+
+/// The call of number 0 with these arguments, which shows x10, x11 and x12.
 fn other_call(args: [u32; 3]) -> Stepped {
     Stepped::Called(Call {
         kind: CallKind::Other,
@@ -58,160 +57,95 @@ fn other_call(args: [u32; 3]) -> Stepped {
     })
 }
 
-/// Programs, how many plain steps they make, and what comes then. The words are an assembler's.
+/// Programs, how many plain steps they make, and what is in x10, x11 and x12 at the call that comes then.
 #[test]
-fn single_steps(rt: HostRuntime) -> Result<(), Fail> {
-    let cases: [([u32; 8], u32, Stepped); 14] = [
-        // addi x10, x2, 0
+fn programs_leave_their_results(rt: HostRuntime) -> Result<(), Fail> {
+    let cases: [(&[Instr], u32, [u32; 3]); 7] = [
+        (&code![addi(x10, x2, 0), ecall()], 1, [0x1_0ff0, 0, 0]),
         (
-            [0x0001_0513, ECALL, 0, 0, 0, 0, 0, 0],
-            1,
-            other_call([0x1_0ff0, 0, 0]),
-        ),
-        // jalr x0, 2(x2)
-        (
-            [0x0021_0067, 0, 0, 0, 0, 0, 0, 0],
-            0,
-            Stepped::Trapped {
-                kind: 0,
-                pc: 0x1_0000,
-            },
-        ),
-        // beq x0, x0, 6
-        (
-            [0x0000_0363, 0, 0, 0, 0, 0, 0, 0],
-            0,
-            Stepped::Trapped {
-                kind: 0,
-                pc: 0x1_0000,
-            },
-        ),
-        // lui x5, 0x20; jalr x0, 0(x5)
-        (
-            [0x0002_02b7, 0x0002_8067, 0, 0, 0, 0, 0, 0],
-            2,
-            Stepped::Trapped {
-                kind: 1,
-                pc: 0x2_0000,
-            },
-        ),
-        // bne x0, x0, 6
-        (
-            [0x0000_1363, 0, 0, 0, 0, 0, 0, 0],
-            1,
-            Stepped::Trapped {
-                kind: 2,
-                pc: 0x1_0004,
-            },
-        ),
-        // ebreak
-        (
-            [0x0010_0073, 0, 0, 0, 0, 0, 0, 0],
-            0,
-            Stepped::Trapped {
-                kind: 3,
-                pc: 0x1_0000,
-            },
-        ),
-        // lw x0, 0(x0)
-        (
-            [0x0000_2003, 0, 0, 0, 0, 0, 0, 0],
-            0,
-            Stepped::Trapped {
-                kind: 5,
-                pc: 0x1_0000,
-            },
-        ),
-        // sw x0, 0(x0)
-        (
-            [0x0000_2023, 0, 0, 0, 0, 0, 0, 0],
-            0,
-            Stepped::Trapped {
-                kind: 7,
-                pc: 0x1_0000,
-            },
-        ),
-        // auipc x5, 0; lw x10, 6(x5); lh x11, 9(x5); lbu x12, 8(x5)
-        (
-            [
-                0x0000_0297,
-                0x0062_a503,
-                0x0092_9583,
-                0x0082_c603,
-                ECALL,
-                0,
-                0,
-                0,
+            &code![
+                auipc(x5, 0),
+                lw(x10, 6(x5)),
+                lh(x11, 9(x5)),
+                lbu(x12, 8(x5)),
+                ecall()
             ],
             4,
-            other_call([0x9583_0062, 0xffff_9295, 0x83]),
+            [0x9583_0062, 0xffff_9295, 0x83],
         ),
-        // addi x0, x0, 5; add x10, x0, x0
+        (&code![li(x0, 5), add(x10, x0, x0), ecall()], 2, [0, 0, 0]),
         (
-            [0x0050_0013, 0x0000_0533, ECALL, 0, 0, 0, 0, 0],
+            &code![auipc(x10, 0), jalr(x10, 12(x10)), ebreak(), ecall()],
             2,
-            other_call([0, 0, 0]),
+            [0x1_0008, 0, 0],
         ),
-        // auipc x10, 0; jalr x10, 12(x10); ebreak
         (
-            [0x0000_0517, 0x00c5_0567, 0x0010_0073, ECALL, 0, 0, 0, 0],
-            2,
-            other_call([0x1_0008, 0, 0]),
-        ),
-        // addi x5, x0, -8; addi x6, x0, 33; sra x10, x5, x6; srl x11, x5, x6; sll x12, x5, x6
-        (
-            [
-                0xff80_0293,
-                0x0210_0313,
-                0x4062_d533,
-                0x0062_d5b3,
-                0x0062_9633,
-                ECALL,
-                0,
-                0,
+            &code![
+                li(x5, -8),
+                li(x6, 33),
+                sra(x10, x5, x6),
+                srl(x11, x5, x6),
+                sll(x12, x5, x6),
+                ecall()
             ],
             5,
-            other_call([0xffff_fffc, 0x7fff_fffc, 0xffff_fff0]),
+            [0xffff_fffc, 0x7fff_fffc, 0xffff_fff0],
         ),
-        // sltiu x10, x0, -1; slti x11, x0, -1; sltu x12, x5, x0
         (
-            [0xfff0_3513, 0xfff0_2593, 0x0002_b633, ECALL, 0, 0, 0, 0],
+            &code![
+                sltiu(x10, x0, -1),
+                slti(x11, x0, -1),
+                sltu(x12, x5, x0),
+                ecall()
+            ],
             3,
-            other_call([1, 0, 0]),
+            [1, 0, 0],
         ),
-        // auipc x5, 0; sw x5, 29(x5); lw x10, 29(x5)
         (
-            [0x0000_0297, 0x0052_aea3, 0x01d2_a503, ECALL, 0, 0, 0, 0],
+            &code![auipc(x5, 0), sw(x5, 29(x5)), lw(x10, 29(x5)), ecall()],
             3,
-            other_call([0x1_0000, 0, 0]),
+            [0x1_0000, 0, 0],
         ),
     ];
-    for (code, plain, expected) in cases {
-        let mut machine = machine_of(&rt, rt.alloc(), code)?;
-        run(&rt, &mut machine, plain);
-        assert_eq!(rt; machine.step(), expected);
+    for (code, plain, results) in cases {
+        assert_step(&rt, rt.alloc(), code, plain, other_call(results))?;
+    }
+    Ok(())
+}
+
+/// Programs, how many plain steps they make, and the kind and the pc of the trap that comes then.
+#[test]
+fn programs_trap(rt: HostRuntime) -> Result<(), Fail> {
+    let cases: [(&[Instr], u32, u32, u32); 7] = [
+        (&code![jalr(x0, 2(x2))], 0, 0, 0x1_0000),
+        (&code![beq(x0, x0, 6)], 0, 0, 0x1_0000),
+        (&code![lui(x5, 0x2_0000), jalr(x0, 0(x5))], 2, 1, 0x2_0000),
+        (&code![bne(x0, x0, 6)], 1, 2, 0x1_0004),
+        (&code![ebreak()], 0, 3, 0x1_0000),
+        (&code![lw(x0, 0(x0))], 0, 5, 0x1_0000),
+        (&code![sw(x0, 0(x0))], 0, 7, 0x1_0000),
+    ];
+    for (code, plain, kind, pc) in cases {
+        let trap = Stepped::Trapped { kind, pc };
+        assert_step(&rt, rt.alloc(), code, plain, trap)?;
     }
     Ok(())
 }
 
 #[test]
 fn a_plain_step_says_its_instruction_and_address(rt: HostRuntime) -> Result<(), Fail> {
-    let mut machine = machine_of(
-        &rt,
-        rt.alloc(),
-        [0x0000_0297, 0x0062_a503, 0, 0, 0, 0, 0, 0],
-    )?;
-    run(&rt, &mut machine, 1);
+    let [instr] = code![lw(x10, 6(x5))];
     let load = Stepped::Plain {
-        instr: Instr::Lw {
-            rd: 10,
-            rs1: 5,
-            imm: 6,
-        },
+        instr,
         place: 0x1_0006,
     };
-    assert_eq!(rt; machine.step(), load);
-    Ok(())
+    assert_step(
+        &rt,
+        rt.alloc(),
+        &code![auipc(x5, 0), lw(x10, 6(x5))],
+        1,
+        load,
+    )
 }
 
 /// The call that the next step makes.
@@ -246,7 +180,37 @@ fn answer(rt: &impl Abort, machine: &mut Machine, call: &Call, reply: Reply<'_>)
     }
 }
 
-/// Each kind of call, by its number in x17, and x10 to x12 behind it.
+/// A call with this number, which is answered, and x10 to x12 after it. A read's bytes are in memory then.
+fn assert_answered(
+    rt: &impl Abort,
+    alloc: Global,
+    call: Call,
+    reply: Reply<'_>,
+    after: [u32; 3],
+) -> Result<(), Fail> {
+    let number = call.number.cast_signed();
+    let code = code![
+        li(x17, number),
+        li(x12, 4),
+        auipc(x11, 0),
+        ecall(),
+        li(x17, 0),
+        ecall()
+    ];
+    let mut machine = machine_of(alloc, &code)?;
+    run(rt, &mut machine, 3);
+    let made = next_call(rt, &mut machine);
+    assert_eq!(rt; made, call);
+    answer(rt, &mut machine, &made, reply);
+    run(rt, &mut machine, 1);
+    assert_eq!(rt; machine.step(), other_call(after));
+    if let (Reply::Read { bytes, .. }, Some(part)) = (reply, machine.bytes(0x1_0008, 4)) {
+        assert_eq!(rt; part, bytes);
+    }
+    Ok(())
+}
+
+/// Each kind of call, by its number in x17: the reply goes to x10, and of a clock's also to x11.
 #[test]
 fn calls_are_answered(rt: HostRuntime) -> Result<(), Fail> {
     let cases: [(u32, CallKind, Reply<'_>, [u32; 3]); 5] = [
@@ -277,45 +241,19 @@ fn calls_are_answered(rt: HostRuntime) -> Result<(), Fail> {
         (7, CallKind::Other, Reply::Other, [0xffff_ffda, 0x1_0008, 4]),
     ];
     for (number, kind, reply, after) in cases {
-        // addi x17, x0, number; addi x12, x0, 4; auipc x11, 0; ecall; addi x17, x0, 0; ecall
-        let set_number = 0x0000_0893 + (number << 20);
-        let code = [
-            set_number,
-            0x0040_0613,
-            0x0000_0597,
-            ECALL,
-            0x0000_0893,
-            ECALL,
-            0,
-            0,
-        ];
-        let mut machine = machine_of(&rt, rt.alloc(), code)?;
-        run(&rt, &mut machine, 3);
-        let call = next_call(&rt, &mut machine);
-        assert_eq!(rt;
-            call,
-            Call {
-                kind,
-                number,
-                args: [0, 0x1_0008, 4]
-            }
-        );
-        answer(&rt, &mut machine, &call, reply);
-        run(&rt, &mut machine, 1);
-        assert_eq!(rt;
-            Stepped::Called(next_call(&rt, &mut machine)),
-            other_call(after)
-        );
-        if let (Reply::Read { bytes, .. }, Some(part)) = (reply, machine.bytes(0x1_0008, 4)) {
-            assert_eq!(rt; part, bytes);
-        }
+        let call = Call {
+            kind,
+            number,
+            args: [0, 0x1_0008, 4],
+        };
+        assert_answered(&rt, rt.alloc(), call, reply, after)?;
     }
     Ok(())
 }
 
 #[test]
-fn calls_are_refused_and_parts_are_in_the_window(rt: HostRuntime) -> Result<(), Fail> {
-    let machine = machine_of(&rt, rt.alloc(), [0; 8])?;
+fn calls_are_refused_and_bytes_are_in_the_window(rt: HostRuntime) -> Result<(), Fail> {
+    let machine = machine_of(rt.alloc(), &code![ebreak()])?;
     assert_eq!(rt; machine.base(), 0x1_0000);
     let refusals = [
         (CallKind::Read, [0, 0x1_0ffc, 4], 0),
@@ -334,14 +272,14 @@ fn calls_are_refused_and_parts_are_in_the_window(rt: HostRuntime) -> Result<(), 
         };
         assert_eq!(rt; machine.refusal(&call, 1), expected);
     }
-    for (place, length, held) in [
+    for (place, length, inside) in [
         (0x1_0000, 0x1000, true),
         (0x1_0000, 0x1001, false),
         (0xffff, 1, false),
         (0xffff_ffff, 2, false),
         (5, 0, true),
     ] {
-        assert_eq!(rt; machine.bytes(place, length).is_some(), held);
+        assert_eq!(rt; machine.bytes(place, length).is_some(), inside);
     }
     Ok(())
 }
@@ -349,10 +287,9 @@ fn calls_are_refused_and_parts_are_in_the_window(rt: HostRuntime) -> Result<(), 
 #[test]
 fn a_window_too_small_for_the_image_is_a_fault(rt: HostRuntime) -> Result<(), Fail> {
     let alloc = rt.alloc();
-    let mut file = HEADERS.to_vec(alloc)?;
-    file.extend_from_slice(&[0; 32])?;
-    assert!(rt; file.len() == 116);
-    // p_memsz becomes 0x2040.
+    let mut file = program(alloc, &code![ebreak()])?;
+    assert!(rt; file.len() == 88);
+    // p_memsz becomes 0x2004.
     file[73] = 0x20;
     let image = load(alloc, file.as_slice())?;
     let Err(MachineFault::Window) = Machine::new(alloc, &image, 2) else {

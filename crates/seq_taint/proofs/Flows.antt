@@ -13,9 +13,11 @@ use Rattle.flow_model.specs.declared.Loc.{Loc}
 use Rattle.flow_model.specs.declared.Loc.TheVariants.{Reg, Mem}
 use Rattle.flow_model.specs.declared.Rule.{Rule}
 use Rattle.flow_model.specs.declared.Rule.TheVariants.{Copy, Compute}
-use Rattle.flow_model.specs.Sets.{union, inserted, placed, loc_cmp}
-use Rattle.flow_model.specs.Flow.{Target, wrap, lane, lanes, to_register, nothing, computed, in_first_lane, loaded_byte, signed_load, moved_or, each_lane, flow, cleared}
-use Rattle.seq_taint.specs.Locations.{IsLocation, AreLocations, IsTable}
+use Rattle.sorted_set.specs.Sets.{union, inserted, placed}
+use Rattle.flow_model.specs.Orders.{loc_cmp}
+use Rattle.isa.specs.Machine.{wrap}
+use Rattle.flow_model.specs.Flow.{Target, lane, lanes, to_register, nothing, computed, in_first_lane, loaded_byte, signed_load, moved_or, each_lane, flow, cleared}
+use Rattle.flow_model.specs.Ranges.{IsLocation, AreLocations, IsTable}
 
 either : (b : Bool) (xs ys : List Loc) → AreLocations xs → AreLocations ys → AreLocations (if b then xs else ys)
 either true xs ys h k = h

@@ -5,7 +5,8 @@ use Rattle.std.specs.Ordering.{ordering_then}
 use Rattle.std.specs.declared.cmp.Ordering.{Ordering}
 use Rattle.std.specs.declared.cmp.Ordering.TheVariants.{Less, Equal, Greater}
 use Rattle.flow_model.specs.declared.SourceByte.{SourceByte}
-use Rattle.flow_model.specs.Sets.{union, inserted, source_cmp, Ascends}
+use Rattle.sorted_set.specs.Sets.{union, inserted, Ascends}
+use Rattle.flow_model.specs.Orders.{source_cmp}
 use Rattle.flow_model.proofs.Orders.{source_total, source_same}
 use Rattle.seq_taint.proofs.Unions.{less_at, greater_at, same_at, advance, union-nil, union-append, inserted_member, Ascends-drop}
 

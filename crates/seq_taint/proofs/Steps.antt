@@ -7,10 +7,11 @@ use Rattle.flow_model.specs.declared.Rule.{Rule}
 use Rattle.flow_model.specs.declared.SourceByte.{SourceByte}
 use Rattle.flow_model.specs.declared.StepSeen.{StepSeen}
 use Rattle.flow_model.specs.declared.CallSeen.{CallSeen}
-use Rattle.flow_model.specs.Sets.{union, source_cmp}
+use Rattle.sorted_set.specs.Sets.{union}
+use Rattle.flow_model.specs.Orders.{source_cmp}
 use Rattle.flow_model.specs.Flow.{Target, flow, cleared, origins_by, loc_eq, is_received, from, from_call, from_instruction_or}
-use Rattle.flow_model.specs.Origins.{Policy, gathered, fresh, after_step, step_at, origins}
-use Rattle.seq_taint.specs.Locations.{IsLocation, AreLocations, IsTable}
+use Rattle.flow_model.specs.Origins.{Policy, union_over, fresh, after_step, step_at, origins}
+use Rattle.flow_model.specs.Ranges.{IsLocation, AreLocations, IsTable}
 use Rattle.seq_taint.specs.Shadows.{held, Holds}
 use Rattle.seq_taint.specs.declared.shadow.Shadow.{Shadow}
 use Rattle.seq_taint.proofs.Flows.{flow_table, cleared_table}
@@ -32,10 +33,10 @@ of_step : (rule : Rule) (step : StepSeen) (call : Option CallSeen) (l : Loc) →
 of_step rule step None l f h = looked_up (flow rule step.instr step.place) l (flow_table rule step.instr step.place f) h
 of_step rule step (Some call) l f h = of_call call l h
 
-gathered_same : (s : Shadow) (f : Loc → List SourceByte) → Holds s f → (ls : List Loc) → AreLocations ls → gathered (held s) ls ≡ gathered f ls
-gathered_same s f h [] a = refl
-gathered_same s f h (l ∷ []) a = h.at l a.0
-gathered_same s f h (l ∷ m ∷ ls) a = ap₂ (union source_cmp) (h.at l a.0) (gathered_same s f h (m ∷ ls) a.1)
+union_over_same : (s : Shadow) (f : Loc → List SourceByte) → Holds s f → (ls : List Loc) → AreLocations ls → union_over (held s) ls ≡ union_over f ls
+union_over_same s f h [] a = refl
+union_over_same s f h (l ∷ []) a = h.at l a.0
+union_over_same s f h (l ∷ m ∷ ls) a = ap₂ (union source_cmp) (h.at l a.0) (union_over_same s f h (m ∷ ls) a.1)
 
 -- a shadow that has the origins before a step of the trace has the origins after it
 pub one_more : (policy : Policy) (trace : List StepSeen) (t : ℕ) (step : StepSeen) (before after : Shadow) → step_at trace t ≡ Some step → Fits step.instr
@@ -43,7 +44,7 @@ pub one_more : (policy : Policy) (trace : List StepSeen) (t : ℕ) (step : StepS
 one_more policy trace t step before after at fits h k = record {
   at = λ l in_range.
       k.at l in_range
-      ∙ ap (union source_cmp (fresh policy step l)) (gathered_same before (origins policy trace t) h (from policy.rule step l) (of_step policy.rule step step.call l fits in_range))
+      ∙ ap (union source_cmp (fresh policy step l)) (union_over_same before (origins policy trace t) h (from policy.rule step l) (of_step policy.rule step step.call l fits in_range))
       ∙ ap (λ (s : Option StepSeen). after_step policy s (origins policy trace t) l) (sym at)
       ∙ ap (λ (n : ℕ). origins policy trace n l) (sym (add-one t));
 }

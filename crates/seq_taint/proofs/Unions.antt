@@ -6,7 +6,7 @@ use Rattle.std.proofs.lemmas.List.{drop_more}
 use Rattle.std.specs.Ordering.{ordering_reverse}
 use Rattle.std.specs.declared.cmp.Ordering.{Ordering}
 use Rattle.std.specs.declared.cmp.Ordering.TheVariants.{Less, Equal, Greater}
-use Rattle.flow_model.specs.Sets.{union, inserted, placed, IsBelow, Ascends}
+use Rattle.sorted_set.specs.Sets.{union, inserted, placed, IsBelow, Ascends}
 
 module _ {K : Type 0} {R : K → K → Ordering} (o : IsTotalOrder R) where
   turned : (x y : K) → R x y ≡ Less → R y x ≡ Greater

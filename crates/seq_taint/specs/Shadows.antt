@@ -6,7 +6,7 @@ use Rattle.flow_model.specs.declared.Loc.{Loc}
 use Rattle.flow_model.specs.declared.Loc.TheVariants.{Reg, Mem}
 use Rattle.flow_model.specs.declared.SourceByte.{SourceByte}
 use Rattle.seq_taint.specs.declared.shadow.Shadow.{Shadow}
-use Rattle.seq_taint.specs.Locations.{IsLocation}
+use Rattle.flow_model.specs.Ranges.{IsLocation}
 
 -- the source bytes kept at a location: a memory byte without an entry has none
 abbrev pub held : Shadow → Loc → List SourceByte

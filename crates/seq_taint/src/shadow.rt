@@ -3,11 +3,13 @@
 ghost use Rattle.std.specs.Prelude.{◌≡◌, ◌+◌, ◌*◌, ◌<◌, ◌≤◌, [], length, drop, if◌then◌else◌, IfOk, OnOk};
 ghost use Rattle.std.specs.Option.{unwrap_or, option_copied};
 ghost use Rattle.flow_model.specs.Flow.{origins_by, loc_eq, from_call};
-ghost use Rattle.flow_model.specs.Origins.{gathered, introduced as introduced_by, byte_at, fresh_by, after_step};
-ghost use Rattle.flow_model.specs.Sets.{union, source_cmp};
-ghost use Rattle.replayer.specs.Ranges.{IsInRange, IsCallInRange};
+ghost use Rattle.flow_model.specs.Origins.{union_over, introduced as introduced_by, byte_at, fresh_by, after_step};
+ghost use Rattle.sorted_set.specs.Sets.{union};
+ghost use Rattle.flow_model.specs.Orders.{source_cmp};
+ghost use Rattle.flow_model.specs.Ranges.{IsInRange, IsCallInRange};
 ghost use Rattle.report_model.specs.Query.{policy_of};
-ghost use Rattle.seq_taint.specs.Locations.{IsLocation, AreLocations, IsTable, is_among};
+ghost use Rattle.flow_model.specs.Ranges.{IsLocation, AreLocations, IsTable};
+ghost use Rattle.seq_taint.specs.Locations.{is_among};
 
 use crate::source_set::SourceSet;
 use flow_model::{CallSeen, StepSeen};
@@ -73,7 +75,7 @@ impl Shadow {
     /// The union of the sets at some locations.
     fn gather(&self, origins: &[Loc]) -> Result<SourceSet, NoMemory>
         requires { AreLocations origins.now }
-        ensures { IfOk result (λ set. set ≡ gathered (held self.now) origins.now) }
+        ensures { IfOk result (λ set. set ≡ union_over (held self.now) origins.now) }
     {
         match origins {
             [] => Ok(SourceSet::new()),
@@ -111,7 +113,7 @@ impl Shadow {
     fn assign_from(&mut self, flow: &Flow, first: usize) -> Result<(), NoMemory>
         requires in_table { first ≤ length flow.now }
         requires table { IsTable flow.now }
-        ensures { OnOk result (Holds self.new (λ l. gathered (held self.old) (origins_by (drop first flow.now) l))) }
+        ensures { OnOk result (Holds self.new (λ l. union_over (held self.old) (origins_by (drop first flow.now) l))) }
     {
         if first == flow.count() {
             return Ok(());
@@ -144,7 +146,7 @@ impl Shadow {
     /// A guest call empties the registers of its result, and a read puts source bytes into memory.
     fn call(&mut self, call: &CallSeen, query: &Query) -> Result<(), NoMemory>
         requires { IsCallInRange (Some call.now) }
-        ensures { OnOk result (Holds self.new (λ l. union source_cmp (fresh_by (policy_of query.now) (Some call.now) l) (gathered (held self.old) (from_call call.now l)))) }
+        ensures { OnOk result (Holds self.new (λ l. union source_cmp (fresh_by (policy_of query.now) (Some call.now) l) (union_over (held self.old) (from_call call.now l)))) }
     {
         self.assign_from(&cleared(call.kind), 0)?;
         match call.kind {

@@ -2,9 +2,9 @@
 
 ghost use Rattle.std.specs.Prelude.{◌≡◌, ℕ, ◌++◌, map, Some, IfOk, OnOk};
 ghost use Rattle.std.specs.List.{range_with_len};
-ghost use Rattle.replayer.specs.Ranges.{IsInRange, IsCallInRange};
-ghost use Rattle.report_model.specs.Rows.{written_in, written_byte};
-ghost use Rattle.seq_taint.specs.Locations.{IsLocation};
+ghost use Rattle.flow_model.specs.Ranges.{IsInRange, IsCallInRange};
+ghost use Rattle.report_model.specs.Rows.{sinks_of_step, sink_at};
+ghost use Rattle.flow_model.specs.Ranges.{IsLocation};
 ghost use Rattle.seq_taint.specs.Shadows.{held};
 ghost use Rattle.seq_taint.specs.Sinks.{rows_now};
 
@@ -27,7 +27,7 @@ pub fn collect(
     sets: &mut Vec<SinkSet>,
 ) -> Result<(), NoMemory>
     requires { IsInRange step.now }
-    ensures { OnOk result (sets.new.items ≡ sets.old.items ++ rows_now query.now shadow.now (written_in step.now.number step.now.call)) }
+    ensures { OnOk result (sets.new.items ≡ sets.old.items ++ rows_now query.now shadow.now (sinks_of_step step.now.number step.now.call)) }
 {
     let Some(call) = &step.call else {
         return Ok(());
@@ -47,7 +47,7 @@ fn collect_written(
     sets: &mut Vec<SinkSet>,
 ) -> Result<(), NoMemory>
     requires { IsCallInRange (Some call.now) }
-    ensures { OnOk result ((t : ℕ) → sets.new.items ≡ sets.old.items ++ rows_now query.now shadow.now (map (written_byte t call.now) (range_with_len 0 call.now.length))) }
+    ensures { OnOk result ((t : ℕ) → sets.new.items ≡ sets.old.items ++ rows_now query.now shadow.now (map (sink_at t call.now) (range_with_len 0 call.now.length))) }
 {
     for i in 0..call.length {
         let sink = SinkByte {

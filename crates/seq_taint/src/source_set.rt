@@ -1,7 +1,8 @@
 //! Sets of source bytes that many locations can share.
 
 ghost use Rattle.std.specs.Prelude.{◌≡◌, [], ◌∷◌, ◌++◌, length, IfOk, IsTrue, ◌↔◌};
-ghost use Rattle.flow_model.specs.Sets.{union, source_cmp, Ascends};
+ghost use Rattle.sorted_set.specs.Sets.{union, Ascends};
+ghost use Rattle.flow_model.specs.Orders.{source_cmp};
 
 use flow_model::SourceByte;
 use no_memory::NoMemory;
@@ -26,7 +27,8 @@ enum Members {
 impl Model for SourceSet {
     ghost use Rattle.std.specs.Prelude.{List};
     ghost use Rattle.flow_model.specs.declared.SourceByte.{SourceByte};
-    ghost use Rattle.flow_model.specs.Sets.{Ascends, source_cmp};
+    ghost use Rattle.sorted_set.specs.Sets.{Ascends};
+    ghost use Rattle.flow_model.specs.Orders.{source_cmp};
     ghost use Rattle.seq_taint.specs.Members.{listed};
 
     ghost Value = { List SourceByte };

@@ -1,1 +1,1 @@
-pub mod Arranging
+mod Arranging

@@ -1,7 +1,8 @@
 //! A report: the sets of a replay in the order of their output bytes.
 
 ghost use Rattle.std.specs.Prelude.{◌≡◌, length, IfOk, OnOk};
-ghost use Rattle.report_model.specs.Rows.{arranged};
+ghost use Rattle.sorted_set.specs.Sets.{set_of};
+ghost use Rattle.report_model.specs.Rows.{row_cmp};
 ghost use Rattle.sink_collect.specs.Distinct.{AreDistinct};
 ghost use Rattle.sink_collect.specs.Pairs.{pairs, capped};
 
@@ -52,11 +53,11 @@ impl Report {
     }
 }
 
-/// The report of these sets: sorted by output byte. No output byte may stand twice. It gives up with
-/// NoMemory alone.
+/// The report of these sets: sorted by output byte. No output byte may stand twice. It fails only where
+/// there is no memory.
 pub fn gather(alloc: Global, sets: Vec<SinkSet>) -> Result<Report, NoMemory>
     requires { AreDistinct sets.items }
-    ensures { IfOk result (λ report. report ≡ arranged sets.items) }
+    ensures { IfOk result (λ report. report ≡ set_of row_cmp sets.items) }
 {
     let mut rows = sets;
     sort(alloc, &mut rows)?;
@@ -66,7 +67,7 @@ pub fn gather(alloc: Global, sets: Vec<SinkSet>) -> Result<Report, NoMemory>
 /// Sorts sets by their output bytes.
 fn sort(alloc: Global, sets: &mut [SinkSet]) -> Result<(), NoMemory>
     requires { AreDistinct sets.old }
-    ensures { OnOk result (sets.new ≡ arranged sets.old) }
+    ensures { OnOk result (sets.new ≡ set_of row_cmp sets.old) }
 {
     sets.sort_by_key(alloc, |set| set.sink())?;
     Ok(())

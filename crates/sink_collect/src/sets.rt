@@ -1,7 +1,8 @@
 //! The source bytes of one output byte, and lists of those.
 
 ghost use Rattle.std.specs.Prelude.{◌≡◌};
-ghost use Rattle.flow_model.specs.Sets.{Ascends, source_cmp};
+ghost use Rattle.sorted_set.specs.Sets.{Ascends};
+ghost use Rattle.flow_model.specs.Orders.{source_cmp};
 
 use flow_model::{SinkByte, SourceByte};
 use std::marker::Model;
@@ -15,7 +16,8 @@ pub struct SinkSet {
 
 impl Model for SinkSet {
     ghost use Rattle.report_model.specs.Rows.{Row};
-    ghost use Rattle.flow_model.specs.Sets.{Ascends, source_cmp};
+    ghost use Rattle.sorted_set.specs.Sets.{Ascends};
+    ghost use Rattle.flow_model.specs.Orders.{source_cmp};
 
     ghost Value = { Row };
 

@@ -65,7 +65,7 @@ fn push_end(out: &mut Vec<u8>, lines: u64) -> Result<(), NoMemory>
     Ok(())
 }
 
-/// The text of a report: a line for each row, and then `end N`. It gives up with NoMemory alone.
+/// The text of a report: a line for each row, and then `end N`. It fails only where there is no memory.
 pub fn text(alloc: Global, report: &Report) -> Result<Vec<u8>, NoMemory>
     ensures { IfOk result (λ text. text.items ≡ report_text report.now) }
 {

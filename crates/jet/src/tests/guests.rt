@@ -1,5 +1,7 @@
 //! Guests of the tests: each reads channel 0 once, writes channel 1 once, and exits.
 
+use guest_assembler::{Instr, code};
+
 /// Bytes moved by a call: its step number, the length asked for, and the bytes.
 #[derive(Clone, Copy)]
 pub struct Moved {
@@ -11,7 +13,7 @@ pub struct Moved {
 /// A guest and its run. Its buffer lies at 0x10100.
 #[derive(Clone, Copy)]
 pub struct Guest {
-    pub code: &'static [u32],
+    pub code: &'static [Instr],
     pub pages: u32,
     pub read: Moved,
     pub write: Moved,
@@ -19,19 +21,19 @@ pub struct Guest {
 }
 
 /// Reads four bytes and writes them.
-pub const COPY_CODE: &[u32] = &[
-    0x0001_05b7,
-    0x1005_8593,
-    0x0000_0513,
-    0x0040_0613,
-    0x03f0_0893,
-    0x0000_0073,
-    0x0010_0513,
-    0x0400_0893,
-    0x0000_0073,
-    0x0000_0513,
-    0x05d0_0893,
-    0x0000_0073,
+pub const COPY_CODE: &[Instr] = &code![
+    lui(x11, 0x10000),
+    addi(x11, x11, 256),
+    li(x10, 0),
+    li(x12, 4),
+    li(x17, 63),
+    ecall(),
+    li(x10, 1),
+    li(x17, 64),
+    ecall(),
+    li(x10, 0),
+    li(x17, 93),
+    ecall(),
 ];
 
 /// The run of that.
@@ -53,24 +55,24 @@ pub const COPY_FOUR: Guest = Guest {
 
 /// Reads two words and writes their sum.
 pub const ADD_WORDS: Guest = Guest {
-    code: &[
-        0x0001_05b7,
-        0x1005_8593,
-        0x0000_0513,
-        0x0080_0613,
-        0x03f0_0893,
-        0x0000_0073,
-        0x0005_a303,
-        0x0045_a383,
-        0x0073_0333,
-        0x0065_a023,
-        0x0010_0513,
-        0x0040_0613,
-        0x0400_0893,
-        0x0000_0073,
-        0x0000_0513,
-        0x05d0_0893,
-        0x0000_0073,
+    code: &code![
+        lui(x11, 0x10000),
+        addi(x11, x11, 256),
+        li(x10, 0),
+        li(x12, 8),
+        li(x17, 63),
+        ecall(),
+        lw(x6, 0(x11)),
+        lw(x7, 4(x11)),
+        add(x6, x6, x7),
+        sw(x6, 0(x11)),
+        li(x10, 1),
+        li(x12, 4),
+        li(x17, 64),
+        ecall(),
+        li(x10, 0),
+        li(x17, 93),
+        ecall(),
     ],
     pages: 1,
     read: Moved {
@@ -88,24 +90,24 @@ pub const ADD_WORDS: Guest = Guest {
 
 /// Reads two words and writes their exclusive or.
 pub const XOR_WORDS: Guest = Guest {
-    code: &[
-        0x0001_05b7,
-        0x1005_8593,
-        0x0000_0513,
-        0x0080_0613,
-        0x03f0_0893,
-        0x0000_0073,
-        0x0005_a303,
-        0x0045_a383,
-        0x0073_4333,
-        0x0065_a023,
-        0x0010_0513,
-        0x0040_0613,
-        0x0400_0893,
-        0x0000_0073,
-        0x0000_0513,
-        0x05d0_0893,
-        0x0000_0073,
+    code: &code![
+        lui(x11, 0x10000),
+        addi(x11, x11, 256),
+        li(x10, 0),
+        li(x12, 8),
+        li(x17, 63),
+        ecall(),
+        lw(x6, 0(x11)),
+        lw(x7, 4(x11)),
+        xor(x6, x6, x7),
+        sw(x6, 0(x11)),
+        li(x10, 1),
+        li(x12, 4),
+        li(x17, 64),
+        ecall(),
+        li(x10, 0),
+        li(x17, 93),
+        ecall(),
     ],
     pages: 1,
     read: Moved {
@@ -123,24 +125,24 @@ pub const XOR_WORDS: Guest = Guest {
 
 /// Reads two words and writes whether the one is below the other.
 pub const LESS_THAN: Guest = Guest {
-    code: &[
-        0x0001_05b7,
-        0x1005_8593,
-        0x0000_0513,
-        0x0080_0613,
-        0x03f0_0893,
-        0x0000_0073,
-        0x0005_a303,
-        0x0045_a383,
-        0x0073_3333,
-        0x0065_a023,
-        0x0010_0513,
-        0x0040_0613,
-        0x0400_0893,
-        0x0000_0073,
-        0x0000_0513,
-        0x05d0_0893,
-        0x0000_0073,
+    code: &code![
+        lui(x11, 0x10000),
+        addi(x11, x11, 256),
+        li(x10, 0),
+        li(x12, 8),
+        li(x17, 63),
+        ecall(),
+        lw(x6, 0(x11)),
+        lw(x7, 4(x11)),
+        sltu(x6, x6, x7),
+        sw(x6, 0(x11)),
+        li(x10, 1),
+        li(x12, 4),
+        li(x17, 64),
+        ecall(),
+        li(x10, 0),
+        li(x17, 93),
+        ecall(),
     ],
     pages: 1,
     read: Moved {
@@ -158,22 +160,22 @@ pub const LESS_THAN: Guest = Guest {
 
 /// Reads a byte and writes the word that it is as a signed number.
 pub const LOAD_SIGNED: Guest = Guest {
-    code: &[
-        0x0001_05b7,
-        0x1005_8593,
-        0x0000_0513,
-        0x0010_0613,
-        0x03f0_0893,
-        0x0000_0073,
-        0x0005_8303,
-        0x0065_a023,
-        0x0010_0513,
-        0x0040_0613,
-        0x0400_0893,
-        0x0000_0073,
-        0x0000_0513,
-        0x05d0_0893,
-        0x0000_0073,
+    code: &code![
+        lui(x11, 0x10000),
+        addi(x11, x11, 256),
+        li(x10, 0),
+        li(x12, 1),
+        li(x17, 63),
+        ecall(),
+        lb(x6, 0(x11)),
+        sw(x6, 0(x11)),
+        li(x10, 1),
+        li(x12, 4),
+        li(x17, 64),
+        ecall(),
+        li(x10, 0),
+        li(x17, 93),
+        ecall(),
     ],
     pages: 1,
     read: Moved {
@@ -191,22 +193,22 @@ pub const LOAD_SIGNED: Guest = Guest {
 
 /// Reads a byte and writes the word that it is as an unsigned number.
 pub const LOAD_UNSIGNED: Guest = Guest {
-    code: &[
-        0x0001_05b7,
-        0x1005_8593,
-        0x0000_0513,
-        0x0010_0613,
-        0x03f0_0893,
-        0x0000_0073,
-        0x0005_c303,
-        0x0065_a023,
-        0x0010_0513,
-        0x0040_0613,
-        0x0400_0893,
-        0x0000_0073,
-        0x0000_0513,
-        0x05d0_0893,
-        0x0000_0073,
+    code: &code![
+        lui(x11, 0x10000),
+        addi(x11, x11, 256),
+        li(x10, 0),
+        li(x12, 1),
+        li(x17, 63),
+        ecall(),
+        lbu(x6, 0(x11)),
+        sw(x6, 0(x11)),
+        li(x10, 1),
+        li(x12, 4),
+        li(x17, 64),
+        ecall(),
+        li(x10, 0),
+        li(x17, 93),
+        ecall(),
     ],
     pages: 1,
     read: Moved {
@@ -224,21 +226,21 @@ pub const LOAD_UNSIGNED: Guest = Guest {
 
 /// Reads a byte, stores another over it, and writes that.
 pub const OVERWRITE: Guest = Guest {
-    code: &[
-        0x0001_05b7,
-        0x1005_8593,
-        0x0000_0513,
-        0x0010_0613,
-        0x03f0_0893,
-        0x0000_0073,
-        0x05a0_0313,
-        0x0065_8023,
-        0x0010_0513,
-        0x0400_0893,
-        0x0000_0073,
-        0x0000_0513,
-        0x05d0_0893,
-        0x0000_0073,
+    code: &code![
+        lui(x11, 0x10000),
+        addi(x11, x11, 256),
+        li(x10, 0),
+        li(x12, 1),
+        li(x17, 63),
+        ecall(),
+        li(x6, 90),
+        sb(x6, 0(x11)),
+        li(x10, 1),
+        li(x17, 64),
+        ecall(),
+        li(x10, 0),
+        li(x17, 93),
+        ecall(),
     ],
     pages: 1,
     read: Moved {
@@ -256,24 +258,24 @@ pub const OVERWRITE: Guest = Guest {
 
 /// Moves a word to and from a place that is no multiple of 4, and over three of the bytes read.
 pub const UNALIGNED: Guest = Guest {
-    code: &[
-        0x0001_05b7,
-        0x1005_8593,
-        0x0000_0513,
-        0x0040_0613,
-        0x03f0_0893,
-        0x0000_0073,
-        0x0005_a303,
-        0x0001_12b7,
-        0xfe62_af23,
-        0xffe2_a383,
-        0x0075_a0a3,
-        0x0010_0513,
-        0x0400_0893,
-        0x0000_0073,
-        0x0000_0513,
-        0x05d0_0893,
-        0x0000_0073,
+    code: &code![
+        lui(x11, 0x10000),
+        addi(x11, x11, 256),
+        li(x10, 0),
+        li(x12, 4),
+        li(x17, 63),
+        ecall(),
+        lw(x6, 0(x11)),
+        lui(x5, 0x11000),
+        sw(x6, -2(x5)),
+        lw(x7, -2(x5)),
+        sw(x7, 1(x11)),
+        li(x10, 1),
+        li(x17, 64),
+        ecall(),
+        li(x10, 0),
+        li(x17, 93),
+        ecall(),
     ],
     pages: 2,
     read: Moved {

@@ -123,18 +123,7 @@ fn a_sure_outside_gives_the_same(rt: HostRuntime) -> Result<(), Fail> {
 /// Words that are no command, and commands whose files are missing.
 const WORDS: &[(&str, u8, &str)] = &[
     ("jet", 2, "jet: usage\n"),
-    ("jet replay prog log query", 2, "jet: usage\n"),
-    ("jet replay prog", 2, "jet: usage\n"),
     ("jet query prog log", 2, "jet: usage\n"),
-    ("jet query prog log query more", 2, "jet: usage\n"),
-    ("jet query prog log query --epoch", 2, "jet: usage\n"),
-    ("jet record prog", 2, "jet: usage\n"),
-    ("jet record prog log --epoch 1", 2, "jet: usage\n"),
-    ("jet output prog log", 2, "jet: usage\n"),
-    ("jet output prog log 16", 2, "jet: usage\n"),
-    ("jet output prog log 1 2", 2, "jet: usage\n"),
-    ("jet help", 2, "jet: usage\n"),
-    ("jet --version", 2, "jet: usage\n"),
     (QUERY, 7, "jet: read fault\n"),
     ("jet record prog log", 7, "jet: read fault\n"),
     (REPLAY, 7, "jet: read fault\n"),

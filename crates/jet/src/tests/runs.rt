@@ -2,7 +2,10 @@
 
 use super::guests::{ADD_WORDS, COPY_CODE};
 use super::refusals::CHANGED_LOGS;
-use super::{BASE, COPY, Ending, Entry, QUERY, assert_command, log_of, patched, program};
+use super::{
+    BASE, COPY, Ending, Entry, NO_INSTRUCTION, QUERY, assert_command, log_of, patched, program,
+};
+use guest_assembler::Instr;
 use sha2::{Digest, Sha256};
 use std::process::Abort;
 use std::test::Fail;
@@ -25,11 +28,11 @@ pub const COPIES: &[Entry] = &[
 const CUT: &[Entry] = &[Entry::Read(5, 0, 4, b"ABCD"), Entry::Limit(6)];
 
 /// Words, a guest's code, its records, and what is written.
-const RUNS: &[(&str, &[u32], &[Entry], &str)] = &[
+const RUNS: &[(&str, &[Instr], &[Entry], &str)] = &[
     (REPLAY, COPY_CODE, COPIES, NUMBERS),
     (
         REPLAY,
-        &[0],
+        &[NO_INSTRUCTION],
         &[Entry::Trap(0, 2, BASE)],
         "steps 0\ncalls 0\nread 0\nwritten 0\nend trap 2 65536\n",
     ),
@@ -52,7 +55,7 @@ const RUNS: &[(&str, &[u32], &[Entry], &str)] = &[
 ];
 
 /// A guest's code, records that aren't those of its run, and the line of status 5.
-const DIVERGING: &[(&[u32], &[Entry], &str)] = &[
+const DIVERGING: &[(&[Instr], &[Entry], &str)] = &[
     (
         COPY_CODE,
         &[
@@ -63,12 +66,12 @@ const DIVERGING: &[(&[u32], &[Entry], &str)] = &[
         "jet: diverged at 8 result kept -9 seen 4\n",
     ),
     (
-        &[0],
+        &[NO_INSTRUCTION],
         &[Entry::Trap(0, 3, BASE)],
         "jet: diverged at 0 kind kept 3 seen 2\n",
     ),
     (
-        &[0],
+        &[NO_INSTRUCTION],
         &[Entry::Trap(0, 2, 0)],
         "jet: diverged at 0 pc kept 0 seen 65536\n",
     ),

@@ -1,4 +1,4 @@
-//! Guest calls: what a call is, whether it is refused, and the state behind it.
+//! Guest calls: what a call is, whether it is refused, and the state after it.
 
 ghost use Rattle.std.specs.Prelude.{◌≡◌, ℕ, ◌+◌, ◌<◌, length, IsTrue};
 ghost use Rattle.isa.specs.Machine.{in_window, reg, call_of, kind_of};

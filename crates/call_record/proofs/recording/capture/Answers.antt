@@ -1,27 +1,37 @@
 use Rattle.std.proofs.Common.{arith, ◌≡◌, ap, sym, ◌∙◌, Some}
 use Rattle.elf_model.specs.Window.{start_of}
 use Rattle.rv_machine.specs.Hart.{Hart}
-use Rattle.call_record.specs.declared.source.Source.{Source}
 use Rattle.call_record.proofs.Windows.{start_window}
-use Rattle.call_record.proofs.Captured.{is_source, Begins, complete, setting, ok_captured, ok_fits, err_cause}
+use Rattle.call_record.proofs.Captured.{is_source, Begins, complete, ok_captured, err_cause}
 use Rattle.call_record.proofs.recording.capture.Given.{Over}
 use Rattle.call_record.proofs.recording.capture.Goals as goal
 use Rattle.call_record.proofs.recording.capture.Goals.{After-new-recorder, In-Ok-run}
 
-state : (g : Over) (c : After-new-recorder g) → start_of c.args.image.now c.args.pages ≡ Some c.new-recorder.result.machine.state
+state : (g : Over) (c : After-new-recorder g)
+    → start_of c.args.image.now c.args.pages ≡ Some c.new-recorder.result.machine.state
 state g c = c.in-Ok.ensures.starts.0 ∙ ap (λ (h : Hart). Some h.state) (sym c.new-recorder.ensures.machine)
 
 pub run-requires-clause-source : goal.run-requires-clause-source
-run-requires-clause-source g c = is_source (record { inputs = c.args.inputs; piece = c.args.piece }) c.requires.few c.requires.short
+run-requires-clause-source g c = is_source (record { inputs = c.args.inputs; piece = c.args.piece }) c.requires.few
+    c.requires.short
 
 pub run-requires-clause-window : goal.run-requires-clause-window
 run-requires-clause-window g c =
-    let size = start_window c.args.image.now c.args.pages c.new-recorder.result.machine.state c.segments-segments.ensures.laid_out (state g (goal.at.run-requires-clause-window g c).After-new-recorder) in
+    let size = start_window c.args.image.now c.args.pages c.new-recorder.result.machine.state
+    c.segments-segments.ensures.laid_out (state g (goal.at.run-requires-clause-window g c).After-new-recorder) in
     let most = c.requires.most in
     omega arith
 
-begins : (g : Over) (c : After-new-recorder g) → Begins c.args.program.now c.args.image.now c.args.pages (record { inputs = c.args.inputs; piece = c.args.piece }) c.new-recorder.result.machine.state
-begins g c = record { image_is = c.requires.image; starts = state g c; some = c.requires.some; most = c.requires.most; few = c.requires.few }
+begins : (g : Over) (c : After-new-recorder g)
+    → Begins c.args.program.now c.args.image.now c.args.pages (record { inputs = c.args.inputs; piece = c.args.piece })
+    c.new-recorder.result.machine.state
+begins g c = record {
+  image_is = c.requires.image;
+  starts = state g c;
+  some = c.requires.some;
+  most = c.requires.most;
+  few = c.requires.few;
+}
 
 pub into_log-requires-clause-room : goal.into_log-requires-clause-room
 into_log-requires-clause-room g c = c.in-Ok-run.ensures.ok.room
@@ -29,18 +39,23 @@ into_log-requires-clause-room g c = c.in-Ok-run.ensures.ok.room
 pub into_log-requires-clause-complete : goal.into_log-requires-clause-complete
 into_log-requires-clause-complete g c =
     let whole = c.in-Ok-run.ensures.ok in
-    complete c.args.program.now c.args.image.now c.args.pages (record { inputs = c.args.inputs; piece = c.args.piece }) c.new-recorder.result.machine.state c.args.steps c.digest.result c.in-Ok-run.end c.run.new.self.tape whole.records (begins g (goal.at.into_log-requires-clause-complete g c).After-new-recorder) whole.run whole.holds c.digest.ensures
+    complete c.args.program.now c.args.image.now c.args.pages (record { inputs = c.args.inputs; piece = c.args.piece })
+    c.new-recorder.result.machine.state c.args.steps c.digest.result c.in-Ok-run.end c.run.new.self.tape
+    whole.records (begins g (goal.at.into_log-requires-clause-complete g c).After-new-recorder) whole.run
+    whole.holds c.digest.ensures
 
 pub returns-clause-captured : goal.returns-clause-captured
 returns-clause-captured g c =
-    ok_captured c.args.program.now c.args.image.now c.args.pages (record { inputs = c.args.inputs; piece = c.args.piece }) c.new-recorder.result.machine.state c.args.steps c.digest.result c.in-Ok-run.end c.run.new.self.tape (g.K.Clock.answers c.args.clock.now) (g.K.Clock.answers c.run.new.clock) c.into_log.result (begins g (goal.at.returns-clause-captured g c).After-new-recorder) c.digest.ensures c.in-Ok-run.ensures.ok c.into_log.ensures.ok
-
-pub returns-clause-fits : goal.returns-clause-fits
-returns-clause-fits g c =
-    let source : Source = record { inputs = c.args.inputs; piece = c.args.piece } in
-    ok_fits (setting c.args.program.now c.args.pages source c.args.steps) (g.K.Clock.answers c.args.clock.now) (g.K.Clock.answers c.run.new.clock) c.into_log.result
-    (ok_captured c.args.program.now c.args.image.now c.args.pages source c.new-recorder.result.machine.state c.args.steps c.digest.result c.in-Ok-run.end c.run.new.self.tape (g.K.Clock.answers c.args.clock.now) (g.K.Clock.answers c.run.new.clock) c.into_log.result (begins g (goal.at.returns-clause-fits g c).After-new-recorder) c.digest.ensures c.in-Ok-run.ensures.ok c.into_log.ensures.ok)
+    ok_captured c.args.program.now c.args.image.now c.args.pages
+    (record { inputs = c.args.inputs; piece = c.args.piece }) c.new-recorder.result.machine.state c.args.steps
+    c.digest.result c.in-Ok-run.end c.run.new.self.tape (g.K.Clock.answers c.args.clock.now)
+    (g.K.Clock.answers c.run.new.clock) c.into_log.result
+    (begins g (goal.at.returns-clause-captured g c).After-new-recorder) c.digest.ensures c.in-Ok-run.ensures.ok
+    c.into_log.ensures.ok
 
 pub returns-clause-cause : goal.returns-clause-cause
 returns-clause-cause g c =
-    err_cause c.args.program.now c.args.image.now c.args.pages (record { inputs = c.args.inputs; piece = c.args.piece }) c.new-recorder.result.machine.state c.args.steps c.in-Ok-run.end c.run.new.self.tape (g.K.Clock.answers c.args.clock.now) (g.K.Clock.answers c.run.new.clock) c.into_log.result (begins g (goal.at.returns-clause-cause g c).After-new-recorder) c.in-Ok-run.ensures.ok c.into_log.ensures.fault
+    err_cause c.args.program.now c.args.image.now c.args.pages (record { inputs = c.args.inputs; piece = c.args.piece })
+    c.new-recorder.result.machine.state c.args.steps c.in-Ok-run.end c.run.new.self.tape
+    (g.K.Clock.answers c.args.clock.now) (g.K.Clock.answers c.run.new.clock) c.into_log.result
+    (begins g (goal.at.returns-clause-cause g c).After-new-recorder) c.in-Ok-run.ensures.ok c.into_log.ensures.fault

@@ -1,22 +1,19 @@
 use Rattle.std.proofs.Common.{rules, subst, map, List, ℕ, Bor}
-use Rattle.jet_model.specs.Answer.{IsRecordAnswer}
-use Rattle.jet_words.specs.Words.{RecordOf, OutputOf}
-use Rattle.jet_files.specs.Causes.{cause_by}
-use Rattle.jet_files.specs.Outcome.{Holds}
-use Rattle.jet_cli.specs.Words.{limits_of}
-use Rattle.jet_cli.specs.Hearing.{Hears}
-use Rattle.jet_cli.specs.Ending.{Judged}
+use Rattle.jet_words.specs.Commands.{RecordOf, OutputOf}
+use Rattle.jet_files.specs.Outcome.{Follows, seen_by, bytes_of}
+use Rattle.jet_cli.specs.Answers.{IsRecording, IsAnswer, limits_of}
 use Rattle.jet_cli.proofs.answer.answer.Goals as goal
 
-pub returns-in-Record-clause-answers : goal.returns-in-Record-clause-answers
-returns-in-Record-clause-answers g c =
-    let heard = (g.K.Clock.answers c.args.clock.now) in
+pub returns-in-Record-clause-answer : goal.returns-in-Record-clause-answer
+returns-in-Record-clause-answer g c =
+    let heard = g.K.Clock.answers c.args.clock.now in
     let after = g.K.Clock.answers c.record.new.clock in
-    let answers : Holds (Judged (RecordOf c.in-Record.program.now c.in-Record.log.now (map (λ (s : Bor (List ℕ)). s.now) c.in-Record.inputs.items) c.in-Record.pages c.in-Record.piece c.in-Record.steps) heard after) (g.S.Store.files c.args.store.now) (g.S.Store.files c.record.new.store) (g.S.Store.faults c.args.store.now) (g.S.Store.faults c.record.new.store) (cause_by c.record.result) =
-    subst (λ (names : List (Bor (List ℕ))). Holds (λ file answer. Hears heard after (λ answers. IsRecordAnswer file c.in-Record.program.now (map (λ (s : Bor (List ℕ)). s.now) names) (limits_of c.in-Record.pages c.in-Record.piece c.in-Record.steps) answers answer)) (g.S.Store.files c.args.store.now) (g.S.Store.files c.record.new.store) (g.S.Store.faults c.args.store.now) (g.S.Store.faults c.record.new.store) (cause_by c.record.result)) c.deref.ensures.value c.record.ensures.answers in
+    let r = c.in-Record in
+    let answer : Follows (IsAnswer (RecordOf r.program.now r.log.now (map (λ (s : Bor (List ℕ)). s.now) r.inputs.items) r.pages r.piece r.steps) heard after) (g.S.Store.shown c.args.store.now) (g.S.Store.shown c.record.new.store) (seen_by bytes_of c.record.result) =
+    subst (λ (names : List (Bor (List ℕ))). Follows (IsRecording r.program.now (map (λ (s : Bor (List ℕ)). s.now) names) (limits_of r.pages r.piece r.steps) heard after) (g.S.Store.shown c.args.store.now) (g.S.Store.shown c.record.new.store) (seen_by bytes_of c.record.result)) c.deref.ensures.value c.record.ensures.answer in
     search rules
 
-pub returns-in-Output-clause-answers : goal.returns-in-Output-clause-answers
-returns-in-Output-clause-answers g c =
-    let answers : Holds (Judged (OutputOf c.in-Output.program.now c.in-Output.log.now c.in-Output.channel) (g.K.Clock.answers c.args.clock.now) (g.K.Clock.answers c.args.clock.now)) (g.S.Store.files c.args.store.now) (g.S.Store.files c.written.new.store) (g.S.Store.faults c.args.store.now) (g.S.Store.faults c.written.new.store) (cause_by c.written.result) = c.written.ensures.answers in
+pub returns-in-Output-clause-answer : goal.returns-in-Output-clause-answer
+returns-in-Output-clause-answer g c =
+    let answer : Follows (IsAnswer (OutputOf c.in-Output.program.now c.in-Output.log.now c.in-Output.channel) (g.K.Clock.answers c.args.clock.now) (g.K.Clock.answers c.args.clock.now)) (g.S.Store.shown c.args.store.now) (g.S.Store.shown c.written.new.store) (seen_by bytes_of c.written.result) = c.written.ensures.answer in
     search rules

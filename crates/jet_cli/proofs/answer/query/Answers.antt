@@ -1,37 +1,50 @@
-use Rattle.std.proofs.Common.{rules, [], ◌∷◌}
+use Rattle.std.proofs.Common.{rules, [], ◌∷◌, Err}
+use Rattle.std.proofs.lemmas.Result.{err_from_is_err_and}
 use Rattle.outer_io.proofs.TellsLemmas.{tells-gains}
-use Rattle.jet_model.specs.Answer.{IsAnswer}
-use Rattle.jet_files.specs.Causes.{cause_of}
-use Rattle.jet_files.specs.Outcome.{Holds}
-use Rattle.jet_files.proofs.Judging.{keeps-keeps, asked-whole, if_any}
-use Rattle.jet_cli.specs.Words.{named}
-use Rattle.jet_cli.proofs.Answering.{query-run_amiss, query-query_amiss, query_answered}
+use Rattle.jet_model.specs.Outcomes.{and_then}
+use Rattle.jet_model.specs.Contents.{Contents, run_at, query_at}
+use Rattle.jet_model.specs.Answer.{query_answer, report_answer}
+use Rattle.jet_files.specs.Outcome.{Comes, seen_by, bytes_of}
+use Rattle.jet_files.specs.Views.{run_of}
+use Rattle.jet_files.proofs.Composing.{comes-stops}
+use Rattle.jet_cli.specs.Answers.{named}
+use Rattle.jet_files.proofs.Names.{keeps-keeps, opened-whole}
+use Rattle.jet_cli.proofs.KeepingLemmas.{on_ok}
+use Rattle.jet_cli.proofs.Working.{query-of_run, query-refused, query-reported}
 use Rattle.jet_cli.proofs.answer.query.Goals as goal
 
-pub returns-in_err-run-clause-answers : goal.returns-in_err-run-clause-answers
-returns-in_err-run-clause-answers g c =
-    let amiss : Holds (λ file. IsAnswer file (named c.args.program.now c.args.log.now c.args.query.now)) (g.S.Store.files c.args.store.now) (g.S.Store.files c.open_run.new.store) (g.S.Store.faults c.args.store.now) (g.S.Store.faults c.open_run.new.store) (cause_of c.in_err-run.field-0.0) =
-    query-run_amiss (named c.args.program.now c.args.log.now c.args.query.now) _ _ _ _ _ c.in_err-run.ensures.amiss in
+pub returns-in_err-run-clause-answer : goal.returns-in_err-run-clause-answer
+returns-in_err-run-clause-answer g c =
+    let a = c.args in
+    let refused : Comes (λ file. query_answer file (named a.program.now a.log.now a.query.now)) (g.S.Store.shown a.store.now) (g.S.Store.shown c.open_run.new.store) (Err c.in_err-run.field-0.0) =
+    comes-stops (λ (file : Contents). run_at file a.program.now a.log.now) (λ run file. and_then (query_at file a.query.now) (λ q. report_answer run q)) (g.S.Store.shown a.store.now) (g.S.Store.shown c.open_run.new.store) c.in_err-run.field-0.0 c.in_err-run.ensures.outcome in
     search rules
 
-pub returns-in_err-query-clause-answers : goal.returns-in_err-query-clause-answers
-returns-in_err-query-clause-answers g c =
-    let amiss : Holds (λ file. IsAnswer file (named c.args.program.now c.args.log.now c.args.query.now)) (g.S.Store.files c.args.store.now) (g.S.Store.files c.open_query.new.store) (g.S.Store.faults c.args.store.now) (g.S.Store.faults c.open_query.new.store) (cause_of c.in_err-query.field-0.0) =
-    query-query_amiss (named c.args.program.now c.args.log.now c.args.query.now) _ _ _ _ _ _ _ _ _ c.in_ok-run.ensures.found c.open_run.ensures.keeps c.open_run.ensures.later c.open_query.ensures.later _ c.in_err-query.ensures.amiss in
-    search rules
+pub returns-in_err-query-clause-answer : goal.returns-in_err-query-clause-answer
+returns-in_err-query-clause-answer g c =
+    let p = err_from_is_err_and c.from_residual-in_err-query.result c.from_residual-in_err-query.ensures.1 in
+    rw (p.1, p.2)
+    (query-of_run (named c.args.program.now c.args.log.now c.args.query.now) (run_of c.in_ok-run.run') (g.S.Store.shown c.args.store.now) (g.S.Store.shown c.open_run.new.store) (g.S.Store.shown c.open_query.new.store)
+    c.in_ok-run.ensures.outcome (record { files = c.open_run.ensures.keeps; faults = c.open_run.ensures.later }) c.open_query.ensures.later
+    (Err c.in_err-query.field-0.0) (query-refused c.args.query.now (run_of c.in_ok-run.run') (g.S.Store.shown c.open_run.new.store) (g.S.Store.shown c.open_query.new.store) c.in_err-query.field-0.0 c.in_err-query.ensures.outcome))
 
 pub returns-in_err-query-clause-keeps : goal.returns-in_err-query-clause-keeps
 returns-in_err-query-clause-keeps g c = keeps-keeps _ _ _ c.open_run.ensures.keeps c.open_query.ensures.keeps
 
-pub returns-in_err-query-clause-asked : goal.returns-in_err-query-clause-asked
-returns-in_err-query-clause-asked g c = asked-whole _ _ _ (c.args.program.now ∷ c.args.log.now ∷ []) (c.args.query.now ∷ []) c.in_ok-run.ensures.all c.open_query.ensures.asked
+pub returns-in_err-query-clause-opened : goal.returns-in_err-query-clause-opened
+returns-in_err-query-clause-opened g c = opened-whole _ _ _ (c.args.program.now ∷ c.args.log.now ∷ []) (c.args.query.now ∷ []) c.in_ok-run.ensures.all c.open_query.ensures.opened
 
-pub returns-clause-answers : goal.returns-clause-answers
-returns-clause-answers g c =
-    query_answered (named c.args.program.now c.args.log.now c.args.query.now) _ _ _ _ _ _ _ _ _ c.in_ok-run.ensures.found c.open_run.ensures.keeps c.open_run.ensures.later c.open_query.ensures.later _ c.in_ok-query.ensures.found _ c.report.ensures
+pub returns-clause-answer : goal.returns-clause-answer
+returns-clause-answer g c =
+    query-of_run (named c.args.program.now c.args.log.now c.args.query.now) (run_of c.in_ok-run.run') (g.S.Store.shown c.args.store.now) (g.S.Store.shown c.open_run.new.store) (g.S.Store.shown c.open_query.new.store)
+    c.in_ok-run.ensures.outcome (record { files = c.open_run.ensures.keeps; faults = c.open_run.ensures.later }) c.open_query.ensures.later
+    (seen_by bytes_of c.report.result) (query-reported c.args.query.now (run_of c.in_ok-run.run') (g.S.Store.shown c.open_run.new.store) (g.S.Store.shown c.open_query.new.store) c.in_ok-query.query c.in_ok-query.ensures.outcome (seen_by bytes_of c.report.result) c.report.ensures)
 
-pub returns-clause-asked : goal.returns-clause-asked
-returns-clause-asked g c = asked-whole _ _ _ (c.args.program.now ∷ c.args.log.now ∷ []) (c.args.query.now ∷ []) c.in_ok-run.ensures.all c.open_query.ensures.asked
+pub returns-clause-keeps : goal.returns-clause-keeps
+returns-clause-keeps g c = keeps-keeps _ _ _ c.open_run.ensures.keeps c.open_query.ensures.keeps
+
+pub returns-clause-opened : goal.returns-clause-opened
+returns-clause-opened g c = opened-whole _ _ _ (c.args.program.now ∷ c.args.log.now ∷ []) (c.args.query.now ∷ []) c.in_ok-run.ensures.all c.open_query.ensures.opened
 
 pub returns-clause-all : goal.returns-clause-all
-returns-clause-all g c = if_any c.report.result (tells-gains _ _ _ (c.args.program.now ∷ c.args.log.now ∷ []) (c.args.query.now ∷ []) c.in_ok-run.ensures.all c.open_query.ensures.asked)
+returns-clause-all g c = on_ok c.report.result (tells-gains _ _ _ (c.args.program.now ∷ c.args.log.now ∷ []) (c.args.query.now ∷ []) c.in_ok-run.ensures.all c.open_query.ensures.opened)

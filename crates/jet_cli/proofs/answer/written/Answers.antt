@@ -1,17 +1,20 @@
-use Rattle.std.proofs.Common.{rules}
-use Rattle.run_output.specs.Output.{output as output_on}
-use Rattle.jet_model.specs.Answer.{IsLogAnswer}
-use Rattle.jet_files.specs.Causes.{cause_of}
-use Rattle.jet_files.specs.Outcome.{Holds}
-use Rattle.jet_cli.proofs.Answering.{log-run_amiss, log_answered}
+use Rattle.std.proofs.Common.{rules, Err}
+use Rattle.run_output.specs.Output.{output}
+use Rattle.jet_model.specs.Contents.{Contents, run_at}
+use Rattle.jet_model.specs.Answer.{log_answer, text_answer}
+use Rattle.jet_files.specs.Outcome.{Comes, seen_by, bytes_of}
+use Rattle.jet_files.specs.Views.{run_of}
+use Rattle.jet_files.proofs.Composing.{comes-stops, comes-work}
 use Rattle.jet_cli.proofs.answer.written.Goals as goal
 
-pub returns-in_err-run-clause-answers : goal.returns-in_err-run-clause-answers
-returns-in_err-run-clause-answers g c =
-    let amiss : Holds (λ file. IsLogAnswer file c.args.program.now c.args.log.now (output_on c.args.channel)) (g.S.Store.files c.args.store.now) (g.S.Store.files c.open_run.new.store) (g.S.Store.faults c.args.store.now) (g.S.Store.faults c.open_run.new.store) (cause_of c.in_err-run.field-0.0) =
-    log-run_amiss c.args.program.now c.args.log.now (output_on c.args.channel) _ _ _ _ _ c.in_err-run.ensures.amiss in
+pub returns-in_err-run-clause-answer : goal.returns-in_err-run-clause-answer
+returns-in_err-run-clause-answer g c =
+    let a = c.args in
+    let refused : Comes (λ file. log_answer file a.program.now a.log.now (output a.channel)) (g.S.Store.shown a.store.now) (g.S.Store.shown c.open_run.new.store) (Err c.in_err-run.field-0.0) =
+    comes-stops (λ (file : Contents). run_at file a.program.now a.log.now) (λ run file. text_answer run (output a.channel)) (g.S.Store.shown a.store.now) (g.S.Store.shown c.open_run.new.store) c.in_err-run.field-0.0 c.in_err-run.ensures.outcome in
     search rules
 
-pub returns-clause-answers : goal.returns-clause-answers
-returns-clause-answers g c =
-    log_answered c.args.program.now c.args.log.now (output_on c.args.channel) _ _ _ _ _ _ _ c.in_ok-run.ensures.found _ c.output.ensures
+pub returns-clause-answer : goal.returns-clause-answer
+returns-clause-answer g c =
+    let a = c.args in
+    comes-work (λ (file : Contents). run_at file a.program.now a.log.now) (λ run. text_answer run (output a.channel)) (run_of c.in_ok-run.run') (g.S.Store.shown a.store.now) (g.S.Store.shown c.open_run.new.store) c.in_ok-run.ensures.outcome (seen_by bytes_of c.output.result) c.output.ensures

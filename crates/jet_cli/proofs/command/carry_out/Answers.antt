@@ -1,21 +1,53 @@
-use Rattle.std.proofs.Common.{subst, sym, List, ℕ}
-use Rattle.outer_io.specs.Tells.{Tells}
-use Rattle.jet_words.specs.Words.{asked_of}
-use Rattle.jet_model.specs.Answer.{Gives}
-use Rattle.jet_files.specs.Outcome.{Asks}
-use Rattle.jet_cli.specs.Words.{target_of}
-use Rattle.jet_cli.specs.Ending.{Judged}
-use Rattle.jet_cli.proofs.Keeping.{keeps_then}
-use Rattle.jet_cli.proofs.Ending.{delivered}
+use Rattle.std.proofs.Common.{rules, sym, subst, List, ℕ, Some, Ok}
+use Rattle.jet_words.specs.Commands.{plain_command}
+use Rattle.jet_refusal.specs.Causes.{IsOwedTo}
+use Rattle.jet_files.specs.Outcome.{Follows}
+use Rattle.jet_cli.specs.Targets.{target_of}
+use Rattle.jet_cli.specs.Answers.{IsAnswer}
+use Rattle.jet_cli.specs.Ending.{causes_of}
+use Rattle.jet_cli.proofs.KeepingLemmas.{keeps-then}
+use Rattle.jet_cli.proofs.Delivered.{between, not_answered, delivered, not_delivered}
 use Rattle.jet_cli.proofs.command.carry_out.Goals as goal
+
+pub returns-in_err-text-clause-ends : goal.returns-in_err-text-clause-ends
+returns-in_err-text-clause-ends g c =
+    let command = plain_command c.args.command.now in
+    let f = g.S.Store.shown c.args.store.now in
+    let h = g.S.Store.shown c.answer.new.store in
+    let o = g.O.Sink.shown c.args.out.now in
+    let heard = g.K.Clock.answers c.args.clock.now in
+    let heard_after = g.K.Clock.answers c.answer.new.clock in
+    let refused : IsOwedTo (causes_of (Some command) (between command f f h o o heard heard_after) c.in_err-text.field-0.0) c.in_err-text.field-0.0 =
+    not_answered command f f h o o heard heard_after c.in_err-text.field-0.0 c.in_err-text.ensures.answer in
+    search rules
+
+pub returns-in-Ok-clause-ends : goal.returns-in-Ok-clause-ends
+returns-in-Ok-clause-ends g c =
+    let command = plain_command c.args.command.now in
+    let f = g.S.Store.shown c.args.store.now in
+    let read = g.S.Store.shown c.answer.new.store in
+    let h = g.S.Store.shown c.deliver.new.store in
+    let heard = g.K.Clock.answers c.args.clock.now in
+    let heard_after = g.K.Clock.answers c.answer.new.clock in
+    let answer : Follows (IsAnswer command heard heard_after) f read (Ok c.deref.result.now) =
+    subst (λ (text : List ℕ). Follows (IsAnswer command heard heard_after) f read (Ok text)) (sym c.deref.ensures.value) c.in_ok-text.ensures.answer in
+    delivered command f read h (g.O.Sink.shown c.args.out.now) (g.O.Sink.shown c.deliver.new.out) heard heard_after c.deref.result.now answer c.answer.ensures.keeps c.in-Ok.ensures.whole
+
+pub returns-in-Ok-clause-keeps : goal.returns-in-Ok-clause-keeps
+returns-in-Ok-clause-keeps g c = keeps-then (target_of (plain_command c.args.command.now)) _ _ _ c.answer.ensures.keeps c.deliver.ensures.keeps
 
 pub returns-clause-ends : goal.returns-clause-ends
 returns-clause-ends g c =
-    let asked = asked_of c.args.command.now in
-    let judges = subst (λ (text : List ℕ). Tells (g.S.Store.files c.args.store.now) (g.S.Store.files c.answer.new.store) (Asks (Judged asked (g.K.Clock.answers c.args.clock.now) (g.K.Clock.answers c.answer.new.clock)) (Gives text))) (sym c.deref.ensures.value) c.in_ok-text.ensures.answers in
-    delivered asked (g.S.Store.files c.args.store.now) (g.S.Store.files c.answer.new.store) (g.S.Store.files c.deliver.new.store) (g.S.Store.faults c.args.store.now) (g.S.Store.faults c.answer.new.store) (g.S.Store.faults c.deliver.new.store)
-    (g.O.Sink.written c.args.out.now) (g.O.Sink.written c.deliver.new.out) (g.O.Sink.faults c.args.out.now) (g.O.Sink.faults c.deliver.new.out) (g.K.Clock.answers c.args.clock.now) (g.K.Clock.answers c.answer.new.clock)
-    c.deref.result.now judges c.answer.ensures.keeps c.answer.ensures.later c.deliver.ensures.later c.deliver.result c.deliver.ensures.whole c.deliver.ensures.part c.deliver.ensures.fault
+    let command = plain_command c.args.command.now in
+    let f = g.S.Store.shown c.args.store.now in
+    let read = g.S.Store.shown c.answer.new.store in
+    let h = g.S.Store.shown c.deliver.new.store in
+    let heard = g.K.Clock.answers c.args.clock.now in
+    let heard_after = g.K.Clock.answers c.answer.new.clock in
+    let answer : Follows (IsAnswer command heard heard_after) f read (Ok c.deref.result.now) =
+    subst (λ (text : List ℕ). Follows (IsAnswer command heard heard_after) f read (Ok text)) (sym c.deref.ensures.value) c.in_ok-text.ensures.answer in
+    not_delivered command f read h (g.O.Sink.shown c.args.out.now) (g.O.Sink.shown c.deliver.new.out) heard heard_after c.deref.result.now answer c.answer.ensures.keeps
+    c.in-Err.ensures.part c.in-Err.ensures.fault c.answer.ensures.later c.deliver.ensures.later
 
 pub returns-clause-keeps : goal.returns-clause-keeps
-returns-clause-keeps g c = keeps_then (target_of (asked_of c.args.command.now)) _ _ _ c.answer.ensures.keeps c.deliver.ensures.keeps
+returns-clause-keeps g c = keeps-then (target_of (plain_command c.args.command.now)) _ _ _ c.answer.ensures.keeps c.deliver.ensures.keeps

@@ -1,20 +1,22 @@
-use Rattle.std.proofs.Common.{◌≡◌, ◌≤◌, ◌^◌, ℕ, List, length, map, take, Vec, Bor}
+use Rattle.std.proofs.Common.{◌≡◌, ◌≤◌, ◌^◌, ℕ, List, length, map, take, Ok, Vec, Bor}
 use Rattle.std.specs.declared.alloc.Global.{Global}
 use Rattle.std.specs.List.{All}
 use Rattle.outer_io.specs.Tells.{Tells, Gains}
-use Rattle.outer_io.specs.Files.{KeepsFiles}
-use Rattle.jet_files.specs.Outcome.{Finds, HasAll}
+use Rattle.jet_model.specs.Contents.{inputs_at}
+use Rattle.jet_files.specs.Outcome.{Comes}
+use Rattle.jet_files.proofs.Composing.{Keeps}
 use Rattle.jet_files.proofs.inputs.open_inputs.Given as goal
 
 -- the first files are read
 abbrev pub invariant-loop-name : goal.invariant-loop-name
 invariant-loop-name g l =
+    let before = g.S.Store.shown l.initial.store in
+    let now = g.S.Store.shown l.store in
     let texts = map (λ (name : Bor (List ℕ)). name.now) (take l.name-index l.names) in
     record {
-      found : Tells (g.S.Store.files l.initial.store) (g.S.Store.files l.store) (Finds (HasAll texts (map (λ (v : Vec ℕ Global). v.items) l.inputs.items)));
+      outcome : Comes (λ file. inputs_at file texts) before now (Ok (map (λ (v : Vec ℕ Global). v.items) l.inputs.items));
       many : length l.inputs.items ≡ l.name-index;
       short : All (λ (v : Vec ℕ Global). length v.items ≤ 2 ^ 26) l.inputs.items;
-      keeps : Tells (g.S.Store.files l.initial.store) (g.S.Store.files l.store) KeepsFiles;
-      asked : Tells (g.S.Store.asked l.initial.store) (g.S.Store.asked l.store) (Gains texts);
-      later : g.S.Store.faults l.initial.store ≤ g.S.Store.faults l.store;
+      keeps : Keeps before now;
+      opened : Tells before.opened now.opened (Gains texts);
     }

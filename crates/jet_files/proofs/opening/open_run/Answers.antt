@@ -1,49 +1,54 @@
-use Rattle.std.proofs.Common.{[], ◌∷◌}
+use Rattle.std.proofs.Common.{[], ◌∷◌, ℕ, List, Ok, Err, refl}
 use Rattle.std.proofs.lemmas.Result.{err_from_is_err_and}
 use Rattle.outer_io.proofs.TellsLemmas.{tells-gains}
-use Rattle.jet_model.specs.Answer.{OfLogFile}
-use Rattle.jet_files.specs.Outcome.{ProgramAmiss, LogAmiss, RunAmiss, HasProgram, HasLog, HasRun}
-use Rattle.jet_files.proofs.Judging.{holds_map, later, finds_two, program_amiss, program_there, keeps-keeps, asked-whole}
+use Rattle.log_model.specs.Logs.{Log}
+use Rattle.jet_model.specs.Outcomes.{and_then}
+use Rattle.jet_model.specs.Contents.{Contents, Program, program_at, log_at}
+use Rattle.jet_files.specs.Views.{program_of}
+use Rattle.jet_files.proofs.Composing.{comes-stops, comes-then, comes-work}
+use Rattle.jet_files.proofs.Names.{keeps-keeps, opened-whole}
+use Rattle.jet_files.proofs.Runs.{run_with, log_with}
 use Rattle.jet_files.proofs.opening.open_run.Goals as goal
 
-pub returns-in_err-program-clause-amiss : goal.returns-in_err-program-clause-amiss
-returns-in_err-program-clause-amiss g c =
-    let name = c.args.program.now in
+pub returns-in_err-program-clause-outcome : goal.returns-in_err-program-clause-outcome
+returns-in_err-program-clause-outcome g c =
     let p = err_from_is_err_and c.from_residual.result c.from_residual.ensures.1 in
-    rw (p.1, p.2) (holds_map (ProgramAmiss name) (RunAmiss name c.args.log.now) _ _ _ _ (λ file q. program_amiss (file name) _ q) _ c.in_err-program.ensures.amiss)
+    rw (p.1, p.2)
+    (comes-stops (λ file. program_at file c.args.program.now) (run_with c.args.log.now) (g.S.Store.shown c.args.store.now) (g.S.Store.shown c.open_program.new.store) _ c.in_err-program.ensures.outcome)
 
-pub returns-in_err-log-clause-amiss : goal.returns-in_err-log-clause-amiss
-returns-in_err-log-clause-amiss g c =
-    let name = c.args.program.now in
+pub returns-in_err-log-clause-outcome : goal.returns-in_err-log-clause-outcome
+returns-in_err-log-clause-outcome g c =
+    let between = g.S.Store.shown c.open_program.new.store in
+    let after = g.S.Store.shown c.open_log.new.store in
     let log = c.args.log.now in
-    let bytes = c.in_ok-program.program.bytes.items in
-    let im = c.in_ok-program.program.image in
+    let program = program_of c.in_ok-program.program in
     let p = err_from_is_err_and c.from_residual-in_err-log.result c.from_residual-in_err-log.ensures.1 in
     rw (p.1, p.2)
-    (later (RunAmiss name log) (LogAmiss log) (HasProgram name bytes im) _ _ _ _ _ _
-    (λ file q has amiss. program_there name bytes im file (λ b i. OfLogFile (file log) (λ l r. ⊥)) q has amiss)
-    c.in_ok-program.ensures.found c.in_ok-program.ensures.keeps c.in_ok-program.ensures.later c.in_err-log.ensures.later _ c.in_err-log.ensures.amiss)
+    (comes-then (λ file. program_at file c.args.program.now) (run_with log) program (g.S.Store.shown c.args.store.now) between after c.in_ok-program.ensures.outcome
+    (record { files = c.in_ok-program.ensures.keeps; faults = c.in_ok-program.ensures.later }) c.in_err-log.ensures.later (Err c.in_err-log.field-0.0)
+    (comes-stops (λ file. log_at file log) (λ l file. log_with program l) between after _ c.in_err-log.ensures.outcome))
 
 pub returns-in_err-log-clause-keeps : goal.returns-in_err-log-clause-keeps
 returns-in_err-log-clause-keeps g c = keeps-keeps _ _ _ c.in_ok-program.ensures.keeps c.open_log.ensures.keeps
 
-pub returns-in_err-log-clause-asked : goal.returns-in_err-log-clause-asked
-returns-in_err-log-clause-asked g c = asked-whole _ _ _ (c.args.program.now ∷ []) (c.args.log.now ∷ []) c.in_ok-program.ensures.asked c.open_log.ensures.asked
+pub returns-in_err-log-clause-opened : goal.returns-in_err-log-clause-opened
+returns-in_err-log-clause-opened g c = opened-whole _ _ _ (c.args.program.now ∷ []) (c.args.log.now ∷ []) c.in_ok-program.ensures.opened c.open_log.ensures.opened
 
-pub returns-clause-found : goal.returns-clause-found
-returns-clause-found g c =
-    let name = c.args.program.now in
+pub returns-clause-outcome : goal.returns-clause-outcome
+returns-clause-outcome g c =
+    let between = g.S.Store.shown c.open_program.new.store in
+    let after = g.S.Store.shown c.open_log.new.store in
     let log = c.args.log.now in
-    let bytes = c.in_ok-program.program.bytes.items in
-    let im = c.in_ok-program.program.image in
-    finds_two (HasProgram name bytes im) (HasLog log c.in_ok-log.log) (HasRun name log bytes im c.in_ok-log.log) _ _ _
-    (λ file one two. record { has_program = one; has_log = two }) c.in_ok-program.ensures.found c.in_ok-program.ensures.keeps c.in_ok-log.ensures.found
+    let program = program_of c.in_ok-program.program in
+    comes-then (λ file. program_at file c.args.program.now) (run_with log) program (g.S.Store.shown c.args.store.now) between after c.in_ok-program.ensures.outcome
+    (record { files = c.in_ok-program.ensures.keeps; faults = c.in_ok-program.ensures.later }) c.in_ok-log.ensures.later (log_with program c.in_ok-log.log)
+    (comes-work (λ file. log_at file log) (log_with program) c.in_ok-log.log between after c.in_ok-log.ensures.outcome (log_with program c.in_ok-log.log) refl)
 
 pub returns-clause-keeps : goal.returns-clause-keeps
 returns-clause-keeps g c = keeps-keeps _ _ _ c.in_ok-program.ensures.keeps c.open_log.ensures.keeps
 
-pub returns-clause-asked : goal.returns-clause-asked
-returns-clause-asked g c = asked-whole _ _ _ (c.args.program.now ∷ []) (c.args.log.now ∷ []) c.in_ok-program.ensures.asked c.open_log.ensures.asked
+pub returns-clause-opened : goal.returns-clause-opened
+returns-clause-opened g c = opened-whole _ _ _ (c.args.program.now ∷ []) (c.args.log.now ∷ []) c.in_ok-program.ensures.opened c.open_log.ensures.opened
 
 pub returns-clause-all : goal.returns-clause-all
-returns-clause-all g c = tells-gains _ _ _ (c.args.program.now ∷ []) (c.args.log.now ∷ []) c.in_ok-program.ensures.asked c.open_log.ensures.asked
+returns-clause-all g c = tells-gains _ _ _ (c.args.program.now ∷ []) (c.args.log.now ∷ []) c.in_ok-program.ensures.opened c.open_log.ensures.opened

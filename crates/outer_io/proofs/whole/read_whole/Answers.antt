@@ -2,9 +2,9 @@ use Rattle.std.proofs.Common.{rules, arith, ◌≡◌, ◌≤◌, ◌<◌, ◌�
 use Rattle.std.proofs.lemmas.List.{take-append-le}
 use Rattle.outer_io.specs.Tells.{Tells, Gains}
 use Rattle.outer_io.specs.Files.{Files, KeepsFiles, TakesNone, Takes, BeginsRead}
-use Rattle.outer_io.specs.ReadWhole.{IsLonger, HasContent}
+use Rattle.outer_io.specs.ReadWhole.{IsLonger, HasContent, TakesAtMost}
 use Rattle.outer_io.proofs.TellsLemmas.{tells-then, tells-map, tells-gains-none}
-use Rattle.outer_io.proofs.Reading.{IsReading, begins, reads_on, ends, is_longer, keeps_of}
+use Rattle.outer_io.proofs.Reading.{IsReading, begins, reads_on, ends, is_longer, keeps_of, most-none, most-begun, most-read, most-failed, most-taken}
 use Rattle.outer_io.proofs.whole.read_whole.Goals as goal
 
 pub loop-piece-init : goal.loop-piece-init
@@ -55,3 +55,55 @@ returns-clause-cause g c = (
   tells-map _ _ (IsReading c.args.name.now c.loop-piece.bytes.items) (IsLonger c.args.name.now c.args.max)
       (λ x y r. is_longer c.args.name.now c.loop-piece.bytes.items c.args.max x y r (omega arith)) c.loop-piece.invariant.told,
 )
+
+-- ---- at most one byte more than allowed is taken
+
+pub returns-in_default-clause-most : goal.returns-in_default-clause-most
+returns-in_default-clause-most g c =
+    let name = c.args.name.now in
+    tells-map (g.S.Store.shown c.args.store.now).files (g.S.Store.shown c.begin_read.new.self).files
+    TakesNone (TakesAtMost name (c.args.max + 1)) (most-none name (c.args.max + 1)) c.in_default.ensures.err
+
+pub returns-in_err-buffer-clause-most : goal.returns-in_err-buffer-clause-most
+returns-in_err-buffer-clause-most g c =
+    let name = c.args.name.now in
+    tells-map (g.S.Store.shown c.args.store.now).files (g.S.Store.shown c.begin_read.new.self).files
+    (BeginsRead name) (TakesAtMost name (c.args.max + 1)) (most-begun name (c.args.max + 1)) c.in-Ok.ensures.ok
+
+pub returns-in_default-read-clause-most : goal.returns-in_default-read-clause-most
+returns-in_default-read-clause-most g c =
+    let name = c.args.name.now in
+    let w = c.loop-piece.invariant in
+    tells-then (g.S.Store.shown c.args.store.now).files (g.S.Store.shown c.loop-piece.store).files (g.S.Store.shown c.read.new.self).files
+    (IsReading name c.loop-piece.bytes.items) TakesNone (TakesAtMost name (c.args.max + 1))
+    (λ x y z. most-failed name c.loop-piece.bytes.items (c.args.max + 1) x y z w.small) w.told c.in_default-read.ensures.err
+
+pub returns-then-count-eq0-clause-most : goal.returns-then-count-eq0-clause-most
+returns-then-count-eq0-clause-most g c =
+    let name = c.args.name.now in
+    let w = c.loop-piece.invariant in
+    let got : List ℕ = take c.in-Ok-read.count c.read.new.into in
+    let few : length c.loop-piece.bytes.items + length got ≤ c.args.max + 1 =
+    omega (arith, w.small, length-take c.in-Ok-read.count c.read.new.into, c.in-Ok-read.ensures.count, length-take c.min-room.result c.loop-piece.piece) in
+    tells-then (g.S.Store.shown c.args.store.now).files (g.S.Store.shown c.loop-piece.store).files (g.S.Store.shown c.read.new.self).files
+    (IsReading name c.loop-piece.bytes.items) (Takes _ got) (TakesAtMost name (c.args.max + 1))
+    (λ x y z. most-taken name c.loop-piece.bytes.items got _ (c.args.max + 1) x y z few) w.told c.in-Ok-read.ensures.ok
+
+pub returns-in_default-extend_from_slice-clause-most : goal.returns-in_default-extend_from_slice-clause-most
+returns-in_default-extend_from_slice-clause-most g c =
+    let name = c.args.name.now in
+    let w = c.loop-piece.invariant in
+    let got : List ℕ = take c.in-Ok-read.count c.read.new.into in
+    let few : length c.loop-piece.bytes.items + length got ≤ c.args.max + 1 =
+    omega (arith, w.small, length-take c.in-Ok-read.count c.read.new.into, c.in-Ok-read.ensures.count, length-take c.min-room.result c.loop-piece.piece) in
+    tells-then (g.S.Store.shown c.args.store.now).files (g.S.Store.shown c.loop-piece.store).files (g.S.Store.shown c.read.new.self).files
+    (IsReading name c.loop-piece.bytes.items) (Takes _ got) (TakesAtMost name (c.args.max + 1))
+    (λ x y z. most-taken name c.loop-piece.bytes.items got _ (c.args.max + 1) x y z few) w.told c.in-Ok-read.ensures.ok
+
+pub returns-clause-most : goal.returns-clause-most
+returns-clause-most g c =
+    let name = c.args.name.now in
+    let w = c.loop-piece.invariant in
+    tells-map (g.S.Store.shown c.args.store.now).files (g.S.Store.shown c.loop-piece.store).files
+    (IsReading name c.loop-piece.bytes.items) (TakesAtMost name (c.args.max + 1))
+    (λ x y. most-read name c.loop-piece.bytes.items (c.args.max + 1) x y w.small) w.told

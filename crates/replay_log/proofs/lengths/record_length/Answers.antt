@@ -1,7 +1,7 @@
 use Rattle.std.proofs.Common.{ap, subst, arith, length}
 use Rattle.log_model.specs.declared.CallRecord.{CallRecord}
 use Rattle.log_model.specs.Logs.{IsRecord, record_text}
-use Rattle.replay_log.proofs.Texts.{transfer_length, data_below}
+use Rattle.log_model.proofs.Texts.{transfer_length, data_below}
 use Rattle.replay_log.proofs.lengths.record_length.Goals as goal
 
 pub overflow_add-result : goal.overflow_add-result

@@ -5,7 +5,7 @@ use Rattle.flow_model.specs.Origins.{step_at, origins}
 use Rattle.replay_model.specs.Run.{start}
 use Rattle.replayer.specs.Jobs.{Job, trace_of}
 use Rattle.report_model.specs.Query.{policy_of}
-use Rattle.report_model.specs.Rows.{written_in, written_from, rows_as_written}
+use Rattle.report_model.specs.Rows.{sinks_of_step, sinks_from, rows_as_written}
 use Rattle.replay_model.proofs.Offsets.{offsets_count, writes_apart}
 use Rattle.sink_collect.specs.Distinct.{AreDistinct}
 use Rattle.seq_taint.specs.Shadows.{Holds}
@@ -25,15 +25,15 @@ loop-step-preserved c =
     let later : c.next.new.self.time ≡ t + 1 = ap (λ k. k.time) made.moved in
     let same_steps : steps c.loop-step.cursor.job.log ≡ steps c.args.job.now.log = ap (λ (j : Job). steps j.log) c.loop-step.invariant.job in
     let at : step_at trace t ≡ Some step = subst (λ (j : Job). step_at (trace_of j) t ≡ Some step) c.loop-step.invariant.job made.step in
-    let sets : c.collect.new.sets.items ≡ c.loop-step.sets.items ++ rows_now q c.loop-step.shadow (written_in t step.call) =
-    c.in_ok-collect.ensures ∙ ap (λ (n : ℕ). c.loop-step.sets.items ++ rows_now q c.loop-step.shadow (written_in n step.call)) made.number in
+    let sets : c.collect.new.sets.items ≡ c.loop-step.sets.items ++ rows_now q c.loop-step.shadow (sinks_of_step t step.call) =
+    c.in_ok-collect.ensures ∙ ap (λ (n : ℕ). c.loop-step.sets.items ++ rows_now q c.loop-step.shadow (sinks_of_step n step.call)) made.number in
     let rows = more_rows q trace t c.loop-step.shadow c.loop-step.invariant.origins step at c.loop-step.sets.items c.collect.new.sets.items c.loop-step.invariant.rows sets in
     let held_later = one_more (policy_of q) trace t step c.loop-step.shadow c.step.new.self at made.in_range.fits c.loop-step.invariant.origins c.in_ok-step.ensures in
     record {
       job = ap (λ k. k.job) made.moved ∙ c.loop-step.invariant.job;
       below = omega (arith, made.below, later, same_steps);
       origins = subst (λ (n : ℕ). Holds c.step.new.self (origins (policy_of q) trace n)) (sym later) held_later;
-      rows = subst (λ (n : ℕ). c.collect.new.sets.items ≡ rows_of q trace (written_from 0 (take n trace))) (sym later) rows;
+      rows = subst (λ (n : ℕ). c.collect.new.sets.items ≡ rows_of q trace (sinks_from 0 (take n trace))) (sym later) rows;
     }
 
 pub loop-step-init : goal.loop-step-init
@@ -46,7 +46,7 @@ loop-step-init c =
       job = ap (λ k. k.job) begun;
       below = omega (arith, first);
       origins = subst (λ (n : ℕ). Holds c.in_ok-shadow.shadow (origins (policy_of q) trace n)) (sym first) (record { at = c.in_ok-shadow.ensures.at });
-      rows = subst (λ (n : ℕ). c.new-sets.result.items ≡ rows_of q trace (written_from 0 (take n trace))) (sym first) c.new-sets.ensures.items;
+      rows = subst (λ (n : ℕ). c.new-sets.result.items ≡ rows_of q trace (sinks_from 0 (take n trace))) (sym first) c.new-sets.ensures.items;
     }
 
 pub returns : goal.returns

@@ -3,7 +3,7 @@ use Rattle.log_model.specs.Logs.{steps}
 use Rattle.flow_model.specs.Origins.{origins}
 use Rattle.replayer.specs.Jobs.{trace_of}
 use Rattle.report_model.specs.Query.{policy_of}
-use Rattle.report_model.specs.Rows.{written_from}
+use Rattle.report_model.specs.Rows.{sinks_from}
 use Rattle.seq_taint.specs.Shadows.{Holds}
 use Rattle.seq_taint.proofs.Written.{rows_of}
 use Rattle.seq_taint.proofs.analysis.sequential.Given as goal
@@ -13,7 +13,7 @@ invariant-loop-step l = let t = l.cursor.time in record {
   job : l.cursor.job ≡ l.job;
   below : t ≤ steps l.job.log;
   origins : Holds l.shadow (origins (policy_of l.query) (trace_of l.job) t);
-  rows : l.sets.items ≡ rows_of l.query (trace_of l.job) (written_from 0 (take t (trace_of l.job)));
+  rows : l.sets.items ≡ rows_of l.query (trace_of l.job) (sinks_from 0 (take t (trace_of l.job)));
 }
 
 abbrev pub decreases-loop-step : goal.decreases-loop-step

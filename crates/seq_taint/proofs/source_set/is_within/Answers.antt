@@ -1,6 +1,7 @@
 use Rattle.std.proofs.Common.{arith, ap, ◌∙◌, take, List, ℕ}
 use Rattle.flow_model.specs.declared.SourceByte.{SourceByte}
-use Rattle.flow_model.specs.Sets.{union, source_cmp}
+use Rattle.sorted_set.specs.Sets.{union}
+use Rattle.flow_model.specs.Orders.{source_cmp}
 use Rattle.seq_taint.proofs.Sources.{found_more}
 use Rattle.seq_taint.proofs.source_set.is_within.Goals as goal
 use Rattle.seq_taint.proofs.source_set.is_within.Goals.{then-found-few+in-Equal, then-found-few+in-Greater, else-found-few}

@@ -1,5 +1,6 @@
 use Rattle.std.proofs.Common.{◌≡◌, ◌≤◌, length, take}
-use Rattle.flow_model.specs.Sets.{union, source_cmp}
+use Rattle.sorted_set.specs.Sets.{union}
+use Rattle.flow_model.specs.Orders.{source_cmp}
 use Rattle.seq_taint.proofs.source_set.is_within.Given as goal
 
 abbrev pub invariant-loop-byte : goal.invariant-loop-byte

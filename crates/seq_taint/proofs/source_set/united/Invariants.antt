@@ -1,5 +1,6 @@
 use Rattle.std.proofs.Common.{◌≡◌, ◌≤◌, ◌+◌, ◌-◌, ◌++◌, length, drop}
-use Rattle.flow_model.specs.Sets.{union, source_cmp}
+use Rattle.sorted_set.specs.Sets.{union}
+use Rattle.flow_model.specs.Orders.{source_cmp}
 use Rattle.seq_taint.proofs.source_set.united.Given as goal
 
 -- what is merged so far, and the union of what is left, make the whole union

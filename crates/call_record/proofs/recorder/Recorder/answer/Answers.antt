@@ -1,7 +1,7 @@
-use Rattle.std.proofs.Common.{rules, arith, ◌<◌, ◌^◌, inr, [], refl, ap, sym, ◌∙◌}
+use Rattle.std.proofs.Common.{rules, arith, ◌<◌, ◌^◌, inr, [], ap, sym, ◌∙◌}
 use Rattle.isa.specs.declared.Call.{Call}
-use Rattle.log_model.specs.declared.CallRecord.TheVariants.{Other}
-use Rattle.call_record.proofs.Calls.{other_due}
+use Rattle.call_record.specs.Steps.{point_of}
+use Rattle.call_record.proofs.Calls.{other_records}
 use Rattle.call_record.proofs.SoFar.{tells_none}
 use Rattle.call_record.proofs.recorder.Recorder.answer.Goals as goal
 
@@ -15,11 +15,8 @@ returns-in_ok-other-in-Other-clause-ok g c =
       gained = tells_none (g.K.Clock.answers c.args.clock.now);
       step = inr (record {
         called = c.requires.called.called;
-        records = record {
-          made = Other c.args.at call.number;
-          due = other_due c.args.source.now c.args.at c.args.self.now call.number (omega arith) number (sym kind ∙ c.in-Other.is) (ap (λ (x : Call). x.number) c.requires.called.call_is);
-          keeps = c.in_ok-other-in-Other.ensures;
-          values_are = refl;
-        };
+        records = other_records c.args.source.now c.args.at (point_of c.args.self.now) call.number _ (omega arith)
+            number (sym kind ∙ c.in-Other.is) (ap (λ (x : Call). x.number) c.requires.called.call_is)
+            c.in_ok-other-in-Other.ensures;
       });
     }

@@ -1,7 +1,8 @@
 use Rattle.std.proofs.Common.{◌≡◌, refl, ap, ap₂, sym, ◌∙◌, subst, List, IfOk}
 use Rattle.flow_model.specs.declared.SourceByte.{SourceByte}
-use Rattle.flow_model.specs.Sets.{union, source_cmp, Ascends}
-use Rattle.flow_model.proofs.Ascending.{Ascends-union, union_comm}
+use Rattle.sorted_set.specs.Sets.{union, Ascends}
+use Rattle.flow_model.specs.Orders.{source_cmp}
+use Rattle.sorted_set.proofs.Algebra.{Ascends-union, union_comm}
 use Rattle.flow_model.proofs.Orders.{source_total, source_same}
 use Rattle.seq_taint.proofs.source_set.SourceSet.merge.Goals as goal
 

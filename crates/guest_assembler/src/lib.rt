@@ -1,0 +1,16 @@
+//! Small guests for tests: the program file of some instructions, and the instructions by their names.
+//!
+//! [`code`] writes instructions as an assembler does, and [`program`] gives the ELF32 file that has them:
+//!
+//! ```text
+//! program(alloc, &code![lui(x11, 0x10000), lw(x10, 4(x11)), ecall()])?
+//! ```
+#![tactic(auto)]
+
+mod names;
+mod program_file;
+#[cfg(test)]
+mod tests;
+
+pub use isa::Instr;
+pub use program_file::program;

@@ -1,0 +1,139 @@
+-- From how a command ended to its status.
+use Rattle.std.proofs.Common.{◌≡◌, ◌∙◌, ap, sym, refl, subst, arith, ℕ, ◌≤◌, ◌⊎◌, inl, inr, List, Option, Some, None, IsSome, Result, Ok, Err, IfErr}
+use Rattle.std.proofs.lemmas.List.{append_cancel_left}
+use Rattle.outer_io.specs.Faults.{Rose}
+use Rattle.outer_io.specs.Tells.{Tells, Gains}
+use Rattle.outer_io.specs.Files.{Files}
+use Rattle.outer_io.proofs.TellsLemmas.{tells-map}
+use Rattle.jet_words.specs.Commands.{CommandOf, QueryOf, RecordOf, ReplayOf, OutputOf}
+use Rattle.jet_refusal.specs.declared.refusal.Refusal.{Refusal}
+use Rattle.jet_refusal.specs.declared.refusal.Refusal.TheVariants as refusal
+use Rattle.jet_refusal.specs.Refusals.{status_of, line_of}
+use Rattle.jet_refusal.specs.Causes.{Causes, IsOwedTo}
+use Rattle.jet_refusal.proofs.Causes.{IsOwedTo-map}
+use Rattle.jet_model.specs.Contents.{Contents}
+use Rattle.jet_model.specs.Answer.{IsRecordAnswer}
+use Rattle.jet_model.proofs.Headline.{answer-is_report, report-is_answer, log_answer-is_given, given-is_log_answer, record_answer-is_recording, recording-is_record_answer, one_record_answer}
+use Rattle.run_output.specs.Summary.{summary_text}
+use Rattle.run_output.specs.Output.{output}
+use Rattle.jet_files.specs.Outcome.{Found}
+use Rattle.jet_cli.specs.Targets.{Target, ToOutput, ToFile, target_of}
+use Rattle.jet_cli.specs.Answers.{IsAnswer, named, limits_of}
+use Rattle.jet_cli.specs.Outside.{Change, Told, IsUndisturbed}
+use Rattle.jet_cli.specs.Writing.{FailsToWrite}
+use Rattle.jet_cli.specs.Ending.{IsText, WritesWhole, WritesPart, Ends, causes_of, status_after}
+use Rattle.jet.specs.Statuses.{IsWanted, IsDone, IsDoneInPart, IsRefused, IsHeard, IsDecided, AreWithinLimits, IsComplete}
+use Rattle.jet.proofs.Refusals.{status_of-range, of_any_cause, of_write_fault}
+
+-- ---- what the files come to, and what the words want
+
+-- one list of answers was gained, where they are told
+same_gain : (heard heard_after : Option (List ℕ)) (xs ys : List ℕ) → IsSome heard_after → Tells heard heard_after (Gains xs) → Tells heard heard_after (Gains ys) → xs ≡ ys
+same_gain heard None xs ys told p q = cc
+same_gain None (Some new) xs ys told p q = absurd p
+same_gain (Some old) (Some new) xs ys told p q = append_cancel_left old xs ys (sym p ∙ q)
+
+module _ (change : Change) (file : Contents) where
+  abbrev Answers : CommandOf → Result (List ℕ) Refusal → Type 0
+  Answers command = IsAnswer command change.before.heard change.after.heard file
+
+  one_answer : (command : CommandOf) (a b : Result (List ℕ) Refusal) → IsHeard command change → Answers command a → Answers command b → a ≡ b
+  one_answer (QueryOf program log query) a b told p q = sym p ∙ q
+  one_answer (RecordOf program log inputs pages piece steps) a b told p q =
+      let limits = limits_of pages piece steps in
+      one_record_answer file program inputs limits q.answers a b
+      (subst (λ (xs : List ℕ). IsRecordAnswer file program inputs limits xs a) (same_gain change.before.heard change.after.heard p.answers q.answers told p.gained q.gained) p.holds) q.holds
+  one_answer (ReplayOf program log) a b told p q = sym p ∙ q
+  one_answer (OutputOf program log channel) a b told p q = sym p ∙ q
+
+  wanted : (command : CommandOf) (text : List ℕ) → Answers command (Ok text) → IsWanted command change file text
+  wanted (QueryOf program log query) text h = answer-is_report file (named program log query) text h
+  wanted (RecordOf program log inputs pages piece steps) text h =
+      record { answers = h.answers; gained = h.gained; holds = record_answer-is_recording file program inputs (limits_of pages piece steps) h.answers text h.holds }
+  wanted (ReplayOf program log) text h = log_answer-is_given file program log summary_text text h
+  wanted (OutputOf program log channel) text h = log_answer-is_given file program log (output channel) text h
+
+  answered : (command : CommandOf) (text : List ℕ) → AreWithinLimits command file text → IsWanted command change file text → Answers command (Ok text)
+  answered (QueryOf program log query) text short h = report-is_answer file (named program log query) text short h
+  answered (RecordOf program log inputs pages piece steps) text short h =
+      record { answers = h.answers; gained = h.gained; holds = recording-is_record_answer file program inputs (limits_of pages piece steps) h.answers text short.0 short.1 short.2 h.holds }
+  answered (ReplayOf program log) text short h = given-is_log_answer file program log summary_text text short.0 short.1 h
+  answered (OutputOf program log channel) text short h = given-is_log_answer file program log (output channel) text short.0 short.1 h
+
+-- ---- 0, and 8
+
+whole : (command : CommandOf) (change : Change) → Told change (WritesWhole command change (IsText command change)) → Told change (WritesWhole command change (IsWanted command change))
+whole command change = tells-map change.before.store.files change.after.store.files (WritesWhole command change (IsText command change)) (WritesWhole command change (IsWanted command change))
+    (λ x y w. record { text = w.text; is_wanted = wanted change x.file command w.text w.is_wanted; delivered = w.delivered })
+
+in_part : (command : CommandOf) (change : Change) → Told change (WritesPart command change (IsText command change)) → Told change (WritesPart command change (IsWanted command change))
+in_part command change = tells-map change.before.store.files change.after.store.files (WritesPart command change (IsText command change)) (WritesPart command change (IsWanted command change))
+    (λ x y w. record { text = w.text; is_wanted = wanted change x.file command w.text w.is_wanted; delivered = w.delivered })
+
+no_zero : (r : Refusal) → status_of r ≡ 0 → ⊥
+no_zero r e = let range = status_of-range r in omega (arith, e, range.0)
+
+pub done : (command : Option CommandOf) (change : Change) (r : Result (Unit {0}) Refusal) → Ends command change r → status_after r ≡ 0 → IsDone command change
+done None change (Ok x) h e = absurd h
+done (Some command) change (Ok x) h e = whole command change h
+done command change (Err r) h e = absurd (no_zero r e)
+
+pub part : (command : Option CommandOf) (change : Change) (r : Result (Unit {0}) Refusal) → Ends command change r → status_after r ≡ 8 → IsDoneInPart command change
+part command change (Ok x) h e = let f : ⊥ = omega (arith, e) in absurd f
+part command change (Err r) h e = of_write_fault (IsDoneInPart command change) (causes_of command change r) r e (by command) h where
+  by : (o : Option CommandOf) → (causes_of o change r).write → IsDoneInPart o change
+  by None w = absurd w
+  by (Some asked) w = in_part asked change w.1
+
+pub refused : (command : Option CommandOf) (change : Change) (says : List ℕ → Type 0) (r : Result (Unit {0}) Refusal) (status : ℕ) → status ≡ status_after r
+    → Ends command change r → IfErr r (λ e. says (line_of e)) → 2 ≤ status → IsRefused status command says change
+refused command change says (Ok x) status e h said most = let f : ⊥ = omega (arith, e, most) in absurd f
+refused command change says (Err r) status e h said most = record { refusal = r; status_is = e; line_is = said; has_cause = h }
+
+-- ---- where the outside doesn't fail
+
+-- what holds of the files told before and after
+while_told : (a b : Option Files) (told : Files) (R : Files → Files → Type 0) → a ≡ Some told → IsSome b → Tells a b R → (n : Files) × R told n
+while_told a None told R e some h = cc
+while_told None (Some n) told R e some h = absurd h
+while_told (Some o) (Some n) told R e some h = let same : o ≡ told = cc in (n, subst (λ (s : Files). R s n) same h)
+
+no_fault : (target : Target) (change : Change) → IsUndisturbed change → FailsToWrite target change.before.store change.after.store change.before.output change.after.output → ⊥
+no_fault ToOutput change u rose = omega (arith, rose u.output_room, u.output_faults)
+no_fault (ToFile name) change u rose = omega (arith, rose u.store_room, u.store_faults)
+
+module _ (command : CommandOf) (change : Change) (u : IsUndisturbed change) (told : IsHeard command change) (answer : Result (List ℕ) Refusal)
+    (is : IsAnswer command change.before.heard change.after.heard u.told.file answer) where
+  by_files : (outcome : Result (List ℕ) Refusal) → Told change (Found (λ file. IsAnswer command change.before.heard change.after.heard file outcome)) → status_after outcome ≡ status_after answer
+  by_files outcome found =
+      let end = while_told change.before.store.files change.after.store.files u.told (Found (λ file. IsAnswer command change.before.heard change.after.heard file outcome)) u.tells u.still_tells found in
+      ap status_after (one_answer change u.told.file command outcome answer told end.1.found is)
+
+  by_text : Told change (WritesWhole command change (IsText command change)) → 0 ≡ status_after answer
+  by_text written =
+      let end = while_told change.before.store.files change.after.store.files u.told (WritesWhole command change (IsText command change)) u.tells u.still_tells written in
+      ap status_after (one_answer change u.told.file command (Ok end.1.text) answer told end.1.is_wanted is)
+
+  pub decided-some : (r : Result (Unit {0}) Refusal) → Ends (Some command) change r → (status_after r ≡ status_after answer) ⊎ (status_after r ≡ 10)
+  decided-some (Ok x) h = inl (by_text h)
+  decided-some (Err r) h =
+      let Goal : Type 0 = (status_of r ≡ status_after answer) ⊎ (status_of r ≡ 10) in
+      of_any_cause Goal r (λ e. inr (ap status_of e))
+      (IsOwedTo-map (causes_of (Some command) change r) (record { usage = Goal; files = Goal; read = Goal; write = Goal }) (λ p. absurd p)
+      (λ found. inl (by_files (Err r) found))
+      (λ rose. let f : ⊥ = omega (arith, rose u.store_room, u.store_faults) in absurd f)
+      (λ failed. absurd (no_fault (target_of command) change u failed.0)) r h)
+
+-- the same of a number that is the status
+by_status : (m n k : ℕ) → m ≡ n → (n ≡ k) ⊎ (n ≡ 10) → (m ≡ k) ⊎ (m ≡ 10)
+by_status m n k e (inl z) = inl (e ∙ z)
+by_status m n k e (inr z) = inr (e ∙ z)
+
+pub decided : (command : Option CommandOf) (change : Change) (r : Result (Unit {0}) Refusal) (status : ℕ) → status ≡ status_after r → Ends command change r → IsDecided status command change
+decided None change r status e h = tt
+decided (Some command) change r status e h = λ u told answer is. by_status status (status_after r) (status_after answer) e (decided-some command change u told answer is r h)
+
+pub complete : (command : Option CommandOf) (change : Change) (r : Result (Unit {0}) Refusal) (status : ℕ) → status ≡ status_after r → Ends command change r → IsComplete status command change
+complete None change r status e h = tt
+complete (Some command) change r status e h = λ u told text short is.
+    by_status status (status_after r) 0 e (decided-some command change u told (Ok text) (answered change u.told.file command text short is) r h)

@@ -1,0 +1,37 @@
+use Rattle.std.proofs.Common.{◌∙◌, ap, sym, subst, inl, inr, ℕ, ◌≡◌, ◌⊎◌}
+use Rattle.jet_cli.specs.Targets.{command_in}
+use Rattle.jet_cli.specs.Outside.{Change, change}
+use Rattle.jet_cli.specs.Ending.{Says, status_after}
+use Rattle.jet.specs.Statuses.{IsStatus}
+use Rattle.jet.proofs.Ending as ending
+use Rattle.jet.proofs.Refusals.{status_after-is_status, usage}
+use Rattle.jet.proofs.run.jet.Goals as goal
+
+pub returns-clause-status : goal.returns-clause-status
+returns-clause-status g c = subst IsStatus (sym c.conclude.ensures.status) (status_after-is_status c.obey-outcome.result)
+
+pub returns-clause-usage : goal.returns-clause-usage
+returns-clause-usage g c = λ e. c.obey-outcome.ensures.usage (usage c.obey-outcome.result (sym c.conclude.ensures.status ∙ e))
+
+pub returns-clause-done : goal.returns-clause-done
+returns-clause-done g c = λ e. ending.done (command_in c.args.words.now)
+    (change g.S.Store.shown g.O.Sink.shown g.K.Clock.answers c.args.store.now c.args.out.now c.args.clock.now c.obey-outcome.new.store c.obey-outcome.new.out c.obey-outcome.new.clock)
+    c.obey-outcome.result c.obey-outcome.ensures.ends (sym c.conclude.ensures.status ∙ e)
+
+pub returns-clause-refused : goal.returns-clause-refused
+returns-clause-refused g c = ending.refused _ _ (Says (g.E.Sink.shown c.args.err.now) (g.E.Sink.shown c.conclude.new.err)) c.obey-outcome.result _ c.conclude.ensures.status c.obey-outcome.ensures.ends c.conclude.ensures.says
+
+pub returns-clause-part : goal.returns-clause-part
+returns-clause-part g c = λ e. ending.part (command_in c.args.words.now)
+    (change g.S.Store.shown g.O.Sink.shown g.K.Clock.answers c.args.store.now c.args.out.now c.args.clock.now c.obey-outcome.new.store c.obey-outcome.new.out c.obey-outcome.new.clock)
+    c.obey-outcome.result c.obey-outcome.ensures.ends (sym c.conclude.ensures.status ∙ e)
+
+pub returns-clause-decided : goal.returns-clause-decided
+returns-clause-decided g c = ending.decided (command_in c.args.words.now)
+    (change g.S.Store.shown g.O.Sink.shown g.K.Clock.answers c.args.store.now c.args.out.now c.args.clock.now c.obey-outcome.new.store c.obey-outcome.new.out c.obey-outcome.new.clock)
+    c.obey-outcome.result _ c.conclude.ensures.status c.obey-outcome.ensures.ends
+
+pub returns-clause-complete : goal.returns-clause-complete
+returns-clause-complete g c = ending.complete (command_in c.args.words.now)
+    (change g.S.Store.shown g.O.Sink.shown g.K.Clock.answers c.args.store.now c.args.out.now c.args.clock.now c.obey-outcome.new.store c.obey-outcome.new.out c.obey-outcome.new.clock)
+    c.obey-outcome.result _ c.conclude.ensures.status c.obey-outcome.ensures.ends

@@ -1,0 +1,58 @@
+//! The public call: words, and the outside that `main` makes.
+ghost use Rattle.std.specs.Prelude.{◌≡◌, ◌⊎◌, ◌≤◌, [], false, map, string_bytes};
+ghost use Rattle.clap.specs.Words.{takes};
+ghost use Rattle.outer_io.specs.Tells.{Tells, Gains};
+ghost use Rattle.jet_words.specs.CommandLine.{jet_app};
+ghost use Rattle.jet_cli.specs.Targets.{command_in, target_in, files_of, IfOutput, IfFile};
+ghost use Rattle.jet_cli.specs.Outside.{change};
+ghost use Rattle.jet_cli.specs.Keeping.{OpensAll, OpensFirst, KeepsAll, KeepsBut};
+ghost use Rattle.jet_cli.specs.Ending.{IsUnwritten, Says};
+ghost use Rattle.jet.specs.Statuses.{IsStatus, IsDone, IsDoneInPart, IsRefused, IsDecided, IsComplete};
+
+use jet_cli::{conclude, obey};
+use outer_io::{Clock, Gate, Sink, Store};
+
+/// All that the program does, but for what `main` makes: the words begin with the program's name. The
+/// status is 0 where what the words stand for was written whole, and else says why not (docs/FORMATS.md), as does one line
+/// on `err`.
+pub fn jet<R: AllocGlobal, S: Store, O: Sink, E: Sink, K: Clock, G: Gate>(
+    rt: &R,
+    words: &[String],
+    store: &mut S,
+    out: &mut O,
+    err: &mut E,
+    clock: &mut K,
+    gate: &G,
+) -> u8
+    ensures status { IsStatus result }
+    // 2: the command line doesn't take the words.
+    ensures usage { result ≡ 2 → takes jet_app (map string_bytes words.now) ≡ false }
+    ensures unread { takes jet_app (map string_bytes words.now) ≡ false → (result ≡ 2) ⊎ (result ≡ 10) }
+    // 0: what the words stand for was written whole, all files that they name were opened, and nothing is said.
+    ensures done { result ≡ 0 → IsDone (command_in words.now)
+        (change S.shown O.shown K.answers store.old out.old clock.old store.new out.new clock.new) }
+    ensures all { result ≡ 0 → OpensAll (files_of (command_in words.now)) (S.shown store.old) (S.shown store.new) }
+    ensures quiet { result ≡ 0 → err.new ≡ err.old }
+    // 2 to 10: a refusal with its cause, whose line is said. At 8 a part may have been written.
+    ensures refused { 2 ≤ result → IsRefused result (command_in words.now) (Says (E.shown err.old) (E.shown err.new))
+        (change S.shown O.shown K.answers store.old out.old clock.old store.new out.new clock.new) }
+    ensures part { result ≡ 8 → IsDoneInPart (command_in words.now)
+        (change S.shown O.shown K.answers store.old out.old clock.old store.new out.new clock.new) }
+    // Where the outside doesn't fail, the files decide, whatever `err` does.
+    ensures decided { IsDecided result (command_in words.now)
+        (change S.shown O.shown K.answers store.old out.old clock.old store.new out.new clock.new) }
+    ensures complete { IsComplete result (command_in words.now)
+        (change S.shown O.shown K.answers store.old out.old clock.old store.new out.new clock.new) }
+    // What is opened, in order, and what stays.
+    ensures opened { OpensFirst (files_of (command_in words.now)) (S.shown store.old) (S.shown store.new) }
+    ensures keeps { KeepsBut (target_in (command_in words.now)) (S.shown store.old) (S.shown store.new) }
+    ensures untouched { IsUnwritten result → KeepsAll (S.shown store.old) (S.shown store.new) }
+    ensures silent { IsUnwritten result → out.new ≡ out.old }
+    ensures aside { IfFile (target_in (command_in words.now)) (out.new ≡ out.old) }
+    ensures clock { IfOutput (target_in (command_in words.now)) (clock.new ≡ clock.old) }
+    ensures unasked { 2 ≤ result → result ≤ 7 → Tells (K.answers clock.old) (K.answers clock.new) (Gains []) }
+{
+    let _ = gate;
+    let outcome = obey(rt.alloc(), words, store, out, clock);
+    conclude(err, outcome)
+}

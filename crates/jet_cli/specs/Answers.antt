@@ -1,0 +1,55 @@
+-- What the files of a command come to: the text that it writes, or the refusal.
+use Rattle.std.specs.Prelude.{◌≡◌, ℕ, List, Option, Result, Ok, Err}
+use Rattle.outer_io.specs.Files.{Text}
+use Rattle.outer_io.specs.Tells.{Tells, Gains}
+use Rattle.call_record.specs.declared.fault.CaptureFault.{CaptureFault}
+use Rattle.call_record.specs.declared.fault.CaptureFault.TheVariants as capture
+use Rattle.jet_words.specs.Commands.{CommandOf, QueryOf, RecordOf, ReplayOf, OutputOf}
+use Rattle.jet_refusal.specs.declared.refusal.Refusal.{Refusal}
+use Rattle.jet_refusal.specs.declared.refusal.Refusal.TheVariants as refusal
+use Rattle.jet_model.specs.Contents.{Contents, Names}
+use Rattle.jet_model.specs.Answer.{Limits, Source, IsCaptureAnswer, IsRecordAnswer, query_answer, log_answer}
+use Rattle.jet_refusal.specs.Causes.{IsOwedTo}
+use Rattle.jet_files.specs.Outcome.{by_reading}
+use Rattle.run_output.specs.Summary.{summary_text}
+use Rattle.run_output.specs.Output.{output}
+
+abbrev pub named : Text → Text → Text → Names
+named program log query = record { program = program; log = log; query = query }
+
+abbrev pub limits_of : ℕ → ℕ → ℕ → Limits
+limits_of pages piece steps = record { pages = pages; piece = piece; steps = steps }
+
+-- the clock gave some answers, of which this holds; `heard` and `heard_after` are what it told before and after
+pub record Hears (heard heard_after : Option (List ℕ)) (of_answers : List ℕ → Type 0) : Type 0 where
+  pub answers : List ℕ
+  pub gained : Tells heard heard_after (Gains answers)
+  pub holds : of_answers answers
+
+-- a run that is captured comes to this answer
+abbrev pub IsCapture : Source → Limits → Option (List ℕ) → Option (List ℕ) → Result (List ℕ) Refusal → Type 0
+IsCapture source limits heard heard_after answer = Hears heard heard_after (λ answers. IsCaptureAnswer source limits answers answer)
+
+-- the same of a program and inputs that are read
+abbrev pub IsRecording : Text → List Text → Limits → Option (List ℕ) → Option (List ℕ) → Contents → Result (List ℕ) Refusal → Type 0
+IsRecording program inputs limits heard heard_after file answer =
+    Hears heard heard_after (λ answers. IsRecordAnswer file program inputs limits answers answer)
+
+-- the content of the files comes to this answer
+abbrev pub IsAnswer : CommandOf → Option (List ℕ) → Option (List ℕ) → Contents → Result (List ℕ) Refusal → Type 0
+IsAnswer (QueryOf program log query) heard heard_after file answer = query_answer file (named program log query) ≡ answer
+IsAnswer (RecordOf program log inputs pages piece steps) heard heard_after file answer =
+    IsRecording program inputs (limits_of pages piece steps) heard heard_after file answer
+IsAnswer (ReplayOf program log) heard heard_after file answer = log_answer file program log summary_text ≡ answer
+IsAnswer (OutputOf program log channel) heard heard_after file answer = log_answer file program log (output channel) ≡ answer
+
+-- the outcome of work that reads no file is so, or memory is out
+abbrev pub IsWorkOf : {A : Type 0} → (Result A Refusal → Type 0) → Result A Refusal → Type 0
+IsWorkOf is_answer (Ok x) = is_answer (Ok x)
+IsWorkOf is_answer (Err r) = IsOwedTo (by_reading (is_answer (Err r)) ⊥) r
+
+-- why a run in a window of so many pages was not recorded
+abbrev pub capture_refusal : ℕ → CaptureFault → Refusal
+capture_refusal pages capture.Window = refusal.Window pages
+capture_refusal pages (capture.LogTooLong size) = refusal.LogTooLong size
+capture_refusal pages capture.NoMemory = refusal.NoMemory

@@ -1,0 +1,50 @@
+-- The files that words name, and where their command writes.
+use Rattle.std.specs.Prelude.{List, [], ◌∷◌, ◌++◌, map, Option, Some, None, String, string_bytes}
+use Rattle.std.specs.declared.alloc.Global.{Global}
+use Rattle.outer_io.specs.Files.{Text}
+use Rattle.jet_words.specs.Commands.{CommandOf, QueryOf, RecordOf, ReplayOf, OutputOf, command_of}
+
+-- the command that the words stand for, if they stand for one
+abbrev pub command_in : List (String Global) → Option CommandOf
+command_in words = command_of (map string_bytes words)
+
+-- the files that are read, in their order
+abbrev pub sources_of : CommandOf → List Text
+sources_of (QueryOf program log query) = program ∷ log ∷ query ∷ []
+sources_of (RecordOf program log inputs pages piece steps) = program ∷ inputs
+sources_of (ReplayOf program log) = program ∷ log ∷ []
+sources_of (OutputOf program log channel) = program ∷ log ∷ []
+
+-- where a command writes
+pub data Target : Type 0 where
+  ToOutput : Target
+  ToFile : Text → Target
+
+abbrev pub target_of : CommandOf → Target
+target_of (QueryOf program log query) = ToOutput
+target_of (RecordOf program log inputs pages piece steps) = ToFile log
+target_of (ReplayOf program log) = ToOutput
+target_of (OutputOf program log channel) = ToOutput
+
+abbrev pub target_in : Option CommandOf → Target
+target_in None = ToOutput
+target_in (Some command) = target_of command
+
+-- a file that is written stands after those that are read
+abbrev pub written_in : Target → List Text
+written_in ToOutput = []
+written_in (ToFile name) = name ∷ []
+
+-- all files, in the order in which they are opened; none where the words stand for no command
+abbrev pub files_of : Option CommandOf → List Text
+files_of None = []
+files_of (Some command) = sources_of command ++ written_in (target_of command)
+
+-- what holds of a target that is the output, or that is a file
+abbrev pub IfOutput : Target → Type 0 → Type 0
+IfOutput ToOutput P = P
+IfOutput (ToFile name) P = Unit {0}
+
+abbrev pub IfFile : Target → Type 0 → Type 0
+IfFile ToOutput P = Unit {0}
+IfFile (ToFile name) P = P

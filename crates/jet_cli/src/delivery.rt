@@ -1,0 +1,37 @@
+//! Where the text of a command goes.
+ghost use Rattle.std.specs.Prelude.{◌≡◌, ◌≤◌, IfErr, OnOk, OnErr};
+ghost use Rattle.outer_io.specs.Faults.{Rose};
+ghost use Rattle.outer_io.specs.Tells.{Tells};
+ghost use Rattle.jet_words.specs.Commands.{plain_command};
+ghost use Rattle.jet_cli.specs.Targets.{target_of, written_in, IfFile};
+ghost use Rattle.jet_cli.specs.Keeping.{OpensAll, KeepsBut};
+ghost use Rattle.jet_cli.specs.Writing.{Delivers, DeliversPart, FailsToWrite};
+
+use jet_words::Command;
+use outer_io::{Sink, Store, WriteFault, write_file, write_whole};
+
+/// Writes the text of a command: the log of a run into its file, and every other text to the output.
+pub fn deliver<S: Store, O: Sink>(
+    store: &mut S,
+    out: &mut O,
+    command: &Command,
+    text: &[u8],
+) -> Result<(), WriteFault>
+    ensures whole { OnOk result (Tells (S.shown store.old).files (S.shown store.new).files
+        (Delivers (target_of (plain_command command.now)) (O.shown out.old) (O.shown out.new) text.now)) }
+    ensures part { OnErr result (Tells (S.shown store.old).files (S.shown store.new).files
+        (DeliversPart (target_of (plain_command command.now)) (O.shown out.old) (O.shown out.new) text.now)) }
+    ensures fault { OnErr result (FailsToWrite (target_of (plain_command command.now))
+        (S.shown store.old) (S.shown store.new) (O.shown out.old) (O.shown out.new)) }
+    ensures keeps { KeepsBut (target_of (plain_command command.now)) (S.shown store.old) (S.shown store.new) }
+    ensures opened { OpensAll (written_in (target_of (plain_command command.now))) (S.shown store.old) (S.shown store.new) }
+    ensures aside { IfFile (target_of (plain_command command.now)) (out.new ≡ out.old) }
+    ensures later { (S.shown store.old).faults ≤ (S.shown store.new).faults }
+{
+    match command {
+        Command::Record { log, .. } => write_file(store, log, text),
+        Command::Query { .. } => write_whole(out, text),
+        Command::Replay { .. } => write_whole(out, text),
+        Command::Output { .. } => write_whole(out, text),
+    }
+}

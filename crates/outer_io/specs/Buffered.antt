@@ -1,0 +1,10 @@
+-- Bytes in a buffer, and the room for more.
+use Rattle.std.specs.Prelude.{ℕ, ◌-◌, List, [], ◌++◌, length, Option, Some, None, Bool, nat_le, if◌then◌else◌}
+
+pub record Buffered : Type 0 where
+  pub bytes : List ℕ
+  pub room : ℕ
+
+-- with this piece at the end
+abbrev pub after_push : List ℕ → Buffered → Buffered
+after_push piece buffer = record { bytes = buffer.bytes ++ piece; room = buffer.room - length piece }

@@ -1,0 +1,4 @@
+mod Firsts
+mod Comparing
+mod Checking
+mod Loops

@@ -1,0 +1,82 @@
+//! Where a log first differs from the run of its program.
+
+ghost use Rattle.std.specs.Prelude.{◌≡◌, ◌≤◌, IfOk, false};
+ghost use Rattle.log_model.specs.Logs.{end_at};
+ghost use Rattle.replay_model.specs.Comparison.{divergence};
+ghost use Rattle.rv_machine.specs.Hart.{IsStep};
+ghost use Rattle.replay_run.specs.Expects.{expected_of};
+ghost use Rattle.replay_run.specs.Runs.{hart_of, with_hart};
+ghost use Rattle.replay_fit.specs.Differences.{IsFirst};
+ghost use Rattle.replay_fit.specs.Comparisons.{IsFormed, compares};
+ghost use Rattle.replay_fit.specs.Checks.{IsChecked};
+
+use crate::compare::{compare, is_limit, kept_code, seen_code};
+use crate::difference::{Difference, compare_words};
+use replay_log::Log;
+use replay_model::{Divergence, Field};
+use replay_run::{Expected, Run, time_of_end};
+use rv_machine::{Machine, Stepped};
+
+/// How the check of one step went, where nothing differs.
+#[derive(Clone, Copy)]
+pub(crate) enum Checked {
+    /// The step was made.
+    Advanced,
+    /// The log's end is reached.
+    Ended,
+}
+
+/// Makes one step of the machine, and compares it with what the log has next. A call then waits.
+fn step(run: &mut Run<'_>, expected: &Expected<'_>, inputs: u32) -> Result<Stepped, Difference>
+    requires goes_on { run.old.waits ≡ false }
+    requires form { IsFormed (expected_of expected.now) }
+    ensures first { IsFirst (compares run.old.moment.state inputs (expected_of expected.now)) result }
+    ensures step { IfOk result (λ stepped. IsStep run.old.moment.state stepped (hart_of run.new)) }
+    ensures rest { run.new ≡ with_hart run.old (hart_of run.new) }
+{
+    let stepped = run.step();
+    compare_words(Field::Event, kept_code(expected), seen_code(&stepped))?;
+    compare(run.machine(), expected, &stepped, inputs)?;
+    Ok(stepped)
+}
+
+/// Makes the next step, if the log has it so. It says where the log differs, or that its end is reached.
+fn check_step(run: &mut Run<'_>) -> Result<Checked, Divergence>
+    requires goes_on { run.old.waits ≡ false }
+    requires not_over { run.old.moment.time ≤ end_at run.old.log.end }
+    ensures { IsChecked run.old result run.new }
+{
+    run.form();
+    let time = run.time();
+    let expected = run.expected();
+    if is_limit(&expected) {
+        return Ok(Checked::Ended);
+    }
+    let inputs = run.log().inputs();
+    let stepped = match step(run, &expected, inputs) {
+        Ok(stepped) => stepped,
+        Err(difference) => return Err(difference.at_step(time)),
+    };
+    if let Expected::End(_) = expected {
+        return Ok(Checked::Ended);
+    }
+    let _ = run.finish(stepped);
+    Ok(Checked::Advanced)
+}
+
+/// The first difference between a log and a machine's run under it, up to the log's end.
+pub fn first_divergence(machine: Machine, log: &Log) -> Option<Divergence>
+    requires { machine.waits ≡ false }
+    ensures { result ≡ divergence machine.state log.now }
+{
+    let last = time_of_end(log.end());
+    let mut run = Run::start(machine, log);
+    for time in 0..u64::from(last) + 1 {
+        match check_step(&mut run) {
+            Ok(Checked::Advanced) => {}
+            Ok(Checked::Ended) => return None,
+            Err(divergence) => return Some(divergence),
+        }
+    }
+    None
+}

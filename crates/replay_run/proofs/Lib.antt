@@ -1,0 +1,4 @@
+pub mod Steps
+mod Counting
+mod Answering
+mod Ranges

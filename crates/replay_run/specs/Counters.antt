@@ -1,0 +1,26 @@
+-- How a run is held: the index of the first record that is left, and a counter of bytes for each channel.
+use Rattle.std.specs.Prelude.{◌≡◌, ℕ, ◌^◌, ◌<◌, ◌≤◌, Bool, List, length, take, drop, slice_index}
+use Rattle.isa.specs.Machine.{State}
+use Rattle.log_model.specs.Logs.{Log, IsLog, log_text, Rise}
+use Rattle.log_model.specs.Moved.{received, written}
+use Rattle.rv_machine.specs.Hart.{Hart}
+use Rattle.replay_run.specs.Runs.{RunAt}
+
+-- each of the 16 channels has as its count how many bytes there are on it
+pub record AreCounts (counts : List ℕ) (bytes_on : ℕ → List ℕ) : Type 0 where
+  pub each : (c : ℕ) → c < 16 → slice_index counts c ≡ length (bytes_on c)
+
+abbrev pub run_at : Log → ℕ → Hart → ℕ → RunAt
+run_at log time hart index = record {
+  log = log;
+  moment = record { time = time; state = hart.state; done = take index log.records; left = drop index log.records };
+  waits = hart.waits;
+}
+
+pub record IsCounted (log : Log) (time index : ℕ) (read write : List ℕ) : Type 0 where
+  pub form : IsLog log
+  pub small : length (log_text log) ≤ 2 ^ 26
+  pub within : index ≤ length log.records
+  pub rise : Rise time (drop index log.records)
+  pub reads : AreCounts read (λ c. received c (take index log.records))
+  pub writes : AreCounts write (λ c. written c (take index log.records))

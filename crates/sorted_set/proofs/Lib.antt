@@ -1,0 +1,3 @@
+pub mod Algebra
+mod Places
+pub mod Sorting
