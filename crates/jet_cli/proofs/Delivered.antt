@@ -1,5 +1,5 @@
 -- From the answer of a command's files, and the delivery of its text, to the end of the command.
-use Rattle.std.proofs.Common.{◌≡◌, ◌∙◌, sym, subst, ℕ, ◌≤◌, inl, inr, List, Option, Some, None, Result, Ok, Err}
+use Rattle.std.proofs.Common.{◌≡◌, ◌∙◌, sym, subst, ℕ, ◌≤◌, inl, inr, List, Option, Some, None, Ok, Err}
 use Rattle.outer_io.specs.Faults.{Rose}
 use Rattle.outer_io.specs.Shown.{StoreShown, SinkShown}
 use Rattle.outer_io.specs.Tells.{Tells}
@@ -9,12 +9,12 @@ use Rattle.outer_io.proofs.TellsLemmas.{tells-then, tells-both, rose-earlier}
 use Rattle.jet_words.specs.Commands.{CommandOf}
 use Rattle.jet_refusal.specs.declared.refusal.Refusal.{Refusal}
 use Rattle.jet_refusal.specs.declared.refusal.Refusal.TheVariants as refusal
-use Rattle.jet_refusal.specs.Causes.{Causes, IsOwedTo}
+use Rattle.jet_refusal.specs.Causes.{IsOwedTo}
 use Rattle.jet_refusal.proofs.Causes.{IsOwedTo-map}
 use Rattle.jet_files.specs.Outcome.{Found, Follows, by_reading}
 use Rattle.jet_cli.specs.Targets.{Target, ToOutput, ToFile, target_of}
 use Rattle.jet_cli.specs.Answers.{IsAnswer}
-use Rattle.jet_cli.specs.Outside.{Change, Told}
+use Rattle.jet_cli.specs.Outside.{Change}
 use Rattle.jet_cli.specs.Writing.{Delivers, DeliversPart, FailsToWrite}
 use Rattle.jet_cli.specs.Ending.{IsText, WritesWhole, WritesPart, IsDelivered, causes_of}
 

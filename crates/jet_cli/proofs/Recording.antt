@@ -1,5 +1,5 @@
 -- From a program and inputs that were read, and the capture of a run, to what a recording comes to.
-use Rattle.std.proofs.Common.{◌≡◌, ◌∙◌, ap, sym, refl, subst, arith, ℕ, ◌≤◌, ◌<◌, ◌^◌, nat_lt, List, [], append-nil, Bool, true, false, length, Option, Some, None, Result, Ok, Err, if◌then◌else◌}
+use Rattle.std.proofs.Common.{◌≡◌, ◌∙◌, ap, sym, refl, subst, arith, ℕ, ◌≤◌, ◌<◌, ◌^◌, List, [], Bool, length, Option, Some, None, Result, Ok, Err, if◌then◌else◌}
 use Rattle.std.specs.Option.{ok_or}
 use Rattle.std.proofs.lemmas.Bool.{lt-ltb, le-ltb}
 use Rattle.isa.specs.Machine.{State}

@@ -1,5 +1,5 @@
 -- The files that words name, and where their command writes.
-use Rattle.std.specs.Prelude.{ℕ, List, [], ◌∷◌, ◌++◌, map, Option, Some, None, String, string_bytes}
+use Rattle.std.specs.Prelude.{List, [], ◌∷◌, ◌++◌, map, Option, Some, None, String, string_bytes}
 use Rattle.std.specs.declared.alloc.Global.{Global}
 use Rattle.outer_io.specs.Files.{Text}
 use Rattle.jet_words.specs.Commands.{CommandOf, QueryOf, RecordOf, ReplayOf, OutputOf, command_of}

@@ -1,7 +1,8 @@
-use Rattle.std.proofs.Common.{rules, [], ◌∷◌, List, ℕ, Ok, Err}
+use Rattle.std.proofs.Common.{rules, [], ◌∷◌, Err}
+use Rattle.std.proofs.lemmas.Result.{err_from_is_err_and}
 use Rattle.outer_io.proofs.TellsLemmas.{tells-gains}
 use Rattle.jet_model.specs.Outcomes.{and_then}
-use Rattle.jet_model.specs.Contents.{Contents, Run, run_at, query_at}
+use Rattle.jet_model.specs.Contents.{Contents, run_at, query_at}
 use Rattle.jet_model.specs.Answer.{query_answer, report_answer}
 use Rattle.jet_files.specs.Outcome.{Comes, seen_by, bytes_of}
 use Rattle.jet_files.specs.Views.{run_of}
@@ -21,11 +22,11 @@ returns-in_err-run-clause-answer g c =
 
 pub returns-in_err-query-clause-answer : goal.returns-in_err-query-clause-answer
 returns-in_err-query-clause-answer g c =
-    let refused : Comes (λ file. query_answer file (named c.args.program.now c.args.log.now c.args.query.now)) (g.S.Store.shown c.args.store.now) (g.S.Store.shown c.open_query.new.store) (Err c.in_err-query.field-0.0) =
-    query-of_run (named c.args.program.now c.args.log.now c.args.query.now) (run_of c.in_ok-run.run') (g.S.Store.shown c.args.store.now) (g.S.Store.shown c.open_run.new.store) (g.S.Store.shown c.open_query.new.store)
+    let p = err_from_is_err_and c.from_residual-in_err-query.result c.from_residual-in_err-query.ensures.1 in
+    rw (p.1, p.2)
+    (query-of_run (named c.args.program.now c.args.log.now c.args.query.now) (run_of c.in_ok-run.run') (g.S.Store.shown c.args.store.now) (g.S.Store.shown c.open_run.new.store) (g.S.Store.shown c.open_query.new.store)
     c.in_ok-run.ensures.outcome (record { files = c.open_run.ensures.keeps; faults = c.open_run.ensures.later }) c.open_query.ensures.later
-    (Err c.in_err-query.field-0.0) (query-refused c.args.query.now (run_of c.in_ok-run.run') (g.S.Store.shown c.open_run.new.store) (g.S.Store.shown c.open_query.new.store) c.in_err-query.field-0.0 c.in_err-query.ensures.outcome) in
-    search rules
+    (Err c.in_err-query.field-0.0) (query-refused c.args.query.now (run_of c.in_ok-run.run') (g.S.Store.shown c.open_run.new.store) (g.S.Store.shown c.open_query.new.store) c.in_err-query.field-0.0 c.in_err-query.ensures.outcome))
 
 pub returns-in_err-query-clause-keeps : goal.returns-in_err-query-clause-keeps
 returns-in_err-query-clause-keeps g c = keeps-keeps _ _ _ c.open_run.ensures.keeps c.open_query.ensures.keeps

@@ -1,5 +1,4 @@
-use Rattle.std.proofs.Common.{rules, ◌≡◌, sym, subst, List, ℕ, Some, Ok, Err}
-use Rattle.outer_io.specs.Tells.{Tells}
+use Rattle.std.proofs.Common.{rules, sym, subst, List, ℕ, Some, Ok}
 use Rattle.jet_words.specs.Commands.{plain_command}
 use Rattle.jet_refusal.specs.Causes.{IsOwedTo}
 use Rattle.jet_files.specs.Outcome.{Follows}

@@ -1,5 +1,4 @@
-use Rattle.std.proofs.Common.{◌≡◌, sym, subst, arith, ◌≤◌, ◌^◌, length, List, [], ℕ, Err}
-use Rattle.elf_model.specs.Image.{Image}
+use Rattle.std.proofs.Common.{sym, subst, arith, ◌≤◌, ◌^◌, length, List, [], ℕ, Err}
 use Rattle.log_model.specs.Logs.{log_text}
 use Rattle.call_record.specs.Captures.{IsCaptured, IsCause, setting_of as captured_setting}
 use Rattle.call_record.specs.Sources.{contents}

@@ -1,4 +1,3 @@
-use Rattle.jet_model.specs.Contents.{Program}
 use Rattle.jet_cli.proofs.Fitting.{fitting_start-other, fitting_start-window, fitting_start-diverged}
 use Rattle.jet_cli.proofs.work.fitted.Goals as goal
 
