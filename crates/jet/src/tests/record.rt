@@ -139,7 +139,7 @@ const RECORDINGS: &[Recording] = &[
         query: COPY,
         report: "1:0\n1:1\n1:2\n1:3\nend 4\n",
     },
-    // Cut off before the read, behind it, and not at all.
+    // Cut off before the read, after it, and not at all.
     Recording {
         code: COPY_CODE,
         line: "jet record prog log four --pages 1 --steps 5",

@@ -201,7 +201,7 @@ fn faulty_queries_are_told(rt: HostRuntime) -> Result<(), Fail> {
     Ok(())
 }
 
-/// The program with a second program header behind the first, of a type that isn't loaded.
+/// The program with a second program header after the first, of a type that isn't loaded.
 fn with_two_headers(alloc: Global, program: &[u8]) -> Result<Vec<u8>, AllocError> {
     let mut two = Vec::new(alloc);
     for (i, byte) in program.iter().enumerate() {
@@ -214,7 +214,7 @@ fn with_two_headers(alloc: Global, program: &[u8]) -> Result<Vec<u8>, AllocError
     patched(alloc, &counted, (56, b"\x74"))
 }
 
-/// A log of another program; a segment that ends behind the window; and a program header of another type, which
+/// A log of another program; a segment that ends past the window; and a program header of another type, which
 /// is skipped.
 #[test]
 fn the_program_is_held_against_the_log(rt: HostRuntime) -> Result<(), Fail> {

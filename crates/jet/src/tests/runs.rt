@@ -24,7 +24,7 @@ pub const COPIES: &[Entry] = &[
     Entry::Exit(11, 0),
 ];
 
-/// The same, cut off behind the read.
+/// The same, cut off after the read.
 const CUT: &[Entry] = &[Entry::Read(5, 0, 4, b"ABCD"), Entry::Limit(6)];
 
 /// Words, a guest's code, its records, and what is written.
