@@ -1,8 +1,8 @@
 -- Worked values of the instructions, typed from what the RISC-V Unprivileged ISA manual says of each ("RV32I Base Integer
--- Instruction Set"): a row is an instruction with its operands, and what it leaves.
+-- Instruction Set", and "'M' Extension for Integer Multiplication and Division"): a row is an instruction with its operands, and what it leaves.
 use Rattle.std.proofs.Common.{◌≡◌, ℕ, List, [], ◌∷◌, ◌++◌, map, replicate, pos, refl}
 use Rattle.isa.specs.declared.Instr.{Instr}
-use Rattle.isa.specs.declared.Instr.TheVariants.{Lui, Auipc, Jal, Jalr, Beq, Bne, Blt, Bge, Bltu, Bgeu, Lb, Lh, Lw, Lbu, Lhu, Sb, Sh, Sw, Addi, Slti, Sltiu, Xori, Ori, Andi, Slli, Srli, Srai, Add, Sub, Sll, Slt, Sltu, Xor, Srl, Sra, Or, And, Fence, Ebreak}
+use Rattle.isa.specs.declared.Instr.TheVariants.{Lui, Auipc, Jal, Jalr, Beq, Bne, Blt, Bge, Bltu, Bgeu, Lb, Lh, Lw, Lbu, Lhu, Sb, Sh, Sw, Addi, Slti, Sltiu, Xori, Ori, Andi, Slli, Srli, Srai, Add, Sub, Sll, Slt, Sltu, Xor, Srl, Sra, Or, And, Mul, Mulh, Mulhsu, Mulhu, Div, Divu, Rem, Remu, Fence, Ebreak}
 use Rattle.isa.specs.Machine.{State, Outcome, Retired, Trapped, effect_of, execute}
 use Rattle.isa.specs.Calls.{minus}
 
@@ -103,6 +103,65 @@ on_registers =
 
 on_registers_done : all_done on_registers ≡ results on_registers
 on_registers_done = refl
+
+-- "Multiplication Operations"
+abbrev products : List (Row ℕ)
+products =
+    (Mul 7 5 6, 7, 6, 42) ∷
+    (Mul 7 5 6, 0xffffffff, 3, 0xfffffffd) ∷
+    (Mul 7 5 6, 0x10001, 0x10000, 0x10000) ∷
+    (Mul 7 5 6, 0x80000000, 0x80000000, 0) ∷
+    (Mul 0 5 6, 7, 6, 0) ∷
+    (Mulh 7 5 6, 0xffffffff, 0xffffffff, 0) ∷
+    (Mulh 7 5 6, 0x80000000, 0x80000000, 0x40000000) ∷
+    (Mulh 7 5 6, 0x80000000, 0x7fffffff, 0xc0000000) ∷
+    (Mulh 7 5 6, 0xffffffff, 1, 0xffffffff) ∷
+    (Mulhsu 7 5 6, 0xffffffff, 0xffffffff, 0xffffffff) ∷
+    (Mulhsu 7 5 6, 0x80000000, 0xffffffff, 0x80000000) ∷
+    (Mulhsu 7 5 6, 1, 0xffffffff, 0) ∷
+    (Mulhsu 7 5 6, 0x7fffffff, 0x80000000, 0x3fffffff) ∷
+    (Mulhu 7 5 6, 0xffffffff, 0xffffffff, 0xfffffffe) ∷
+    (Mulhu 7 5 6, 0x80000000, 2, 1) ∷
+    (Mulhu 7 5 6, 0xffff, 0x10000, 0) ∷ []
+
+products_done : all_done products ≡ results products
+products_done = refl
+
+-- "Division Operations", and its table of division by zero and overflow
+abbrev quotients : List (Row ℕ)
+quotients =
+    (Div 7 5 6, 7, 2, 3) ∷
+    (Div 7 5 6, 0xfffffff9, 2, 0xfffffffd) ∷
+    (Div 7 5 6, 7, 0xfffffffe, 0xfffffffd) ∷
+    (Div 7 5 6, 0xfffffff9, 0xfffffffe, 3) ∷
+    (Div 7 5 6, 7, 0, 0xffffffff) ∷
+    (Div 7 5 6, 0x80000000, 0xffffffff, 0x80000000) ∷
+    (Divu 7 5 6, 7, 2, 3) ∷
+    (Divu 7 5 6, 0xfffffff9, 2, 0x7ffffffc) ∷
+    (Divu 7 5 6, 7, 0xfffffffe, 0) ∷
+    (Divu 7 5 6, 7, 0, 0xffffffff) ∷
+    (Divu 7 5 6, 0x80000000, 0xffffffff, 0) ∷ []
+
+quotients_done : all_done quotients ≡ results quotients
+quotients_done = refl
+
+abbrev remainders : List (Row ℕ)
+remainders =
+    (Rem 7 5 6, 7, 2, 1) ∷
+    (Rem 7 5 6, 0xfffffff9, 2, 0xffffffff) ∷
+    (Rem 7 5 6, 7, 0xfffffffe, 1) ∷
+    (Rem 7 5 6, 0xfffffff9, 0xfffffffe, 0xffffffff) ∷
+    (Rem 7 5 6, 7, 0, 7) ∷
+    (Rem 7 5 6, 0xfffffff9, 0, 0xfffffff9) ∷
+    (Rem 7 5 6, 0x80000000, 0xffffffff, 0) ∷
+    (Remu 7 5 6, 7, 2, 1) ∷
+    (Remu 7 5 6, 0xfffffff9, 2, 1) ∷
+    (Remu 7 5 6, 7, 0xfffffffe, 7) ∷
+    (Remu 7 5 6, 7, 0, 7) ∷
+    (Remu 7 5 6, 0x80000000, 0xffffffff, 0x80000000) ∷ []
+
+remainders_done : all_done remainders ≡ results remainders
+remainders_done = refl
 
 -- "Load and Store Instructions": x5 has the base address. LW and the others may be misaligned
 abbrev loads : List (Row ℕ)

@@ -1,8 +1,8 @@
--- Worked words: each instruction of RV32I as LLVM's assembler writes it, with immediates at both ends of their ranges,
+-- Worked words: each instruction of RV32I and RV32M as LLVM's assembler writes it, with immediates at both ends of their ranges,
 -- some words taken apart by hand, and words that are illegal.
 use Rattle.std.proofs.Common.{◌≡◌, ℕ, List, [], ◌∷◌, ◌++◌, map, pos, Some, None, refl}
 use Rattle.isa.specs.declared.Instr.{Instr}
-use Rattle.isa.specs.declared.Instr.TheVariants.{Lui, Auipc, Jal, Jalr, Beq, Bne, Blt, Bge, Bltu, Bgeu, Lb, Lh, Lw, Lbu, Lhu, Sb, Sh, Sw, Addi, Slti, Sltiu, Xori, Ori, Andi, Slli, Srli, Srai, Add, Sub, Sll, Slt, Sltu, Xor, Srl, Sra, Or, And, Fence, Ecall, Ebreak}
+use Rattle.isa.specs.declared.Instr.TheVariants.{Lui, Auipc, Jal, Jalr, Beq, Bne, Blt, Bge, Bltu, Bgeu, Lb, Lh, Lw, Lbu, Lhu, Sb, Sh, Sw, Addi, Slti, Sltiu, Xori, Ori, Andi, Slli, Srli, Srai, Add, Sub, Sll, Slt, Sltu, Xor, Srl, Sra, Or, And, Mul, Mulh, Mulhsu, Mulhu, Div, Divu, Rem, Remu, Fence, Ecall, Ebreak}
 use Rattle.isa.specs.Words.{instruction_of}
 use Rattle.isa.specs.Encodings.{encoding}
 use Rattle.isa.specs.Calls.{minus}
@@ -51,6 +51,14 @@ assembled =
     (0x40a4d433, Sra 8 9 10) ∷
     (0x00d665b3, Or 11 12 13) ∷
     (0x0107f733, And 14 15 16) ∷
+    (0x023100b3, Mul 1 2 3) ∷
+    (0x02629233, Mulh 4 5 6) ∷
+    (0x029423b3, Mulhsu 7 8 9) ∷
+    (0x02c5b533, Mulhu 10 11 12) ∷
+    (0x02f746b3, Div 13 14 15) ∷
+    (0x0328d833, Divu 16 17 18) ∷
+    (0x035a69b3, Rem 19 20 21) ∷
+    (0x038bfb33, Remu 22 23 24) ∷
     (0x00000073, Ecall) ∷
     (0x00100073, Ebreak) ∷ []
 
@@ -58,6 +66,7 @@ assembled =
 abbrev others : List (ℕ × Instr)
 others =
     (0x40c585b3, Sub 11 11 12) ∷
+    (0x02c585b3, Mul 11 11 12) ∷
     (0x4035d593, Srai 11 11 3) ∷
     (0x0000000f, Fence 0) ∷
     (0x0310000f, Fence 0xc400) ∷
@@ -73,7 +82,7 @@ words_written = refl
 
 -- no instruction has these
 abbrev illegal : List ℕ
-illegal = 0x4035f5b3 ∷ 0x0000100f ∷ 0x02c585b3 ∷ 0x00000000 ∷ 0xffffffff ∷ 0x40369613 ∷ 0x00003003 ∷ 0x00200073 ∷ 0x00001067 ∷ []
+illegal = 0x4035f5b3 ∷ 0x0000100f ∷ 0x00000000 ∷ 0xffffffff ∷ 0x40369613 ∷ 0x00003003 ∷ 0x00200073 ∷ 0x00001067 ∷ []
 
 illegal_read : map instruction_of illegal ≡ map (λ w. None) illegal
 illegal_read = refl

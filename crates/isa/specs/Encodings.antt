@@ -4,7 +4,7 @@ use Rattle.std.specs.Prelude.{◌≡◌, ℕ, ◌+◌, ◌-◌, ◌*◌, ◌%◌
 use Rattle.std.specs.Int.{w32, cast_unsigned}
 use Rattle.isa.specs.Words.{field}
 use Rattle.isa.specs.declared.Instr.{Instr}
-use Rattle.isa.specs.declared.Instr.TheVariants.{Lui, Auipc, Jal, Jalr, Beq, Bne, Blt, Bge, Bltu, Bgeu, Lb, Lh, Lw, Lbu, Lhu, Sb, Sh, Sw, Addi, Slti, Sltiu, Xori, Ori, Andi, Slli, Srli, Srai, Add, Sub, Sll, Slt, Sltu, Xor, Srl, Sra, Or, And, Fence, Ecall, Ebreak}
+use Rattle.isa.specs.declared.Instr.TheVariants.{Lui, Auipc, Jal, Jalr, Beq, Bne, Blt, Bge, Bltu, Bgeu, Lb, Lh, Lw, Lbu, Lhu, Sb, Sh, Sw, Addi, Slti, Sltiu, Xori, Ori, Andi, Slli, Srli, Srai, Add, Sub, Sll, Slt, Sltu, Xor, Srl, Sra, Or, And, Mul, Mulh, Mulhsu, Mulhu, Div, Divu, Rem, Remu, Fence, Ecall, Ebreak}
 
 -- the low n bits of an immediate
 abbrev pub low : ℕ → ℤ → ℕ
@@ -73,6 +73,14 @@ encoding (Srl d s1 s2) = r_form 5 d s1 s2 0
 encoding (Sra d s1 s2) = r_form 5 d s1 s2 0b0100000
 encoding (Or d s1 s2) = r_form 6 d s1 s2 0
 encoding (And d s1 s2) = r_form 7 d s1 s2 0
+encoding (Mul d s1 s2) = r_form 0 d s1 s2 1
+encoding (Mulh d s1 s2) = r_form 1 d s1 s2 1
+encoding (Mulhsu d s1 s2) = r_form 2 d s1 s2 1
+encoding (Mulhu d s1 s2) = r_form 3 d s1 s2 1
+encoding (Div d s1 s2) = r_form 4 d s1 s2 1
+encoding (Divu d s1 s2) = r_form 5 d s1 s2 1
+encoding (Rem d s1 s2) = r_form 6 d s1 s2 1
+encoding (Remu d s1 s2) = r_form 7 d s1 s2 1
 encoding (Fence kept) = 0b0001111 + field kept 0 5 * 2 ^ 7 + field kept 5 17 * 2 ^ 15
 encoding Ecall = 0x00000073
 encoding Ebreak = 0x00100073
@@ -134,6 +142,14 @@ Fits (Srl d s1 s2) = FitsThree d s1 s2
 Fits (Sra d s1 s2) = FitsThree d s1 s2
 Fits (Or d s1 s2) = FitsThree d s1 s2
 Fits (And d s1 s2) = FitsThree d s1 s2
+Fits (Mul d s1 s2) = FitsThree d s1 s2
+Fits (Mulh d s1 s2) = FitsThree d s1 s2
+Fits (Mulhsu d s1 s2) = FitsThree d s1 s2
+Fits (Mulhu d s1 s2) = FitsThree d s1 s2
+Fits (Div d s1 s2) = FitsThree d s1 s2
+Fits (Divu d s1 s2) = FitsThree d s1 s2
+Fits (Rem d s1 s2) = FitsThree d s1 s2
+Fits (Remu d s1 s2) = FitsThree d s1 s2
 Fits (Fence kept) = kept < 2 ^ 22
 Fits Ecall = Unit {0}
 Fits Ebreak = Unit {0}

@@ -1,9 +1,10 @@
--- One step of a hart over one window of memory ("RV32I Base Integer Instruction Set").
-use Rattle.std.specs.Prelude.{ℕ, ◌+◌, ◌-◌, ◌*◌, ◌/◌, ◌%◌, ◌^◌, ◌==◌, nat_lt, nat_le, Bool, true, false, not, ◌&&◌, if◌then◌else◌, List, [], ◌∷◌, ◌++◌, length, take, drop, ℤ, int_lt, Option, Some, None, slice_index, slice_set, bit_and, bit_or, bit_xor}
+-- One step of a hart over one window of memory ("RV32I Base Integer Instruction Set" and "'M' Extension for Integer
+-- Multiplication and Division").
+use Rattle.std.specs.Prelude.{ℕ, ◌+◌, ◌-◌, ◌*◌, ◌/◌, ◌%◌, ◌^◌, ◌==◌, nat_lt, nat_le, Bool, true, false, not, ◌&&◌, if◌then◌else◌, List, [], ◌∷◌, ◌++◌, length, take, drop, ℤ, pos, ◌*ℤ◌, int_lt, int_div, int_rem, Option, Some, None, slice_index, slice_set, bit_and, bit_or, bit_xor}
 use Rattle.std.specs.Int.{w32, cast_unsigned, int_shr, to_le_bytes}
 use Rattle.isa.specs.Words.{instruction_of, signed}
 use Rattle.isa.specs.declared.Instr.{Instr}
-use Rattle.isa.specs.declared.Instr.TheVariants.{Lui, Auipc, Jal, Jalr, Beq, Bne, Blt, Bge, Bltu, Bgeu, Lb, Lh, Lw, Lbu, Lhu, Sb, Sh, Sw, Addi, Slti, Sltiu, Xori, Ori, Andi, Slli, Srli, Srai, Add, Sub, Sll, Slt, Sltu, Xor, Srl, Sra, Or, And, Fence, Ecall, Ebreak}
+use Rattle.isa.specs.declared.Instr.TheVariants.{Lui, Auipc, Jal, Jalr, Beq, Bne, Blt, Bge, Bltu, Bgeu, Lb, Lh, Lw, Lbu, Lhu, Sb, Sh, Sw, Addi, Slti, Sltiu, Xori, Ori, Andi, Slli, Srli, Srai, Add, Sub, Sll, Slt, Sltu, Xor, Srl, Sra, Or, And, Mul, Mulh, Mulhsu, Mulhu, Div, Divu, Rem, Remu, Fence, Ecall, Ebreak}
 use Rattle.isa.specs.declared.Effect.{Effect}
 use Rattle.isa.specs.declared.Effect.TheVariants.{SetRegister, Jump, Branch, Load, Store, MoveOn, EnvironmentCall, Breakpoint}
 use Rattle.isa.specs.declared.Call.{Call}
@@ -70,6 +71,25 @@ sign_extended n v = as_word (signed n v)
 abbrev pub arithmetic_right : ℕ → ℕ → ℕ
 arithmetic_right x k = as_word (int_shr (as_signed x) k)
 
+-- the upper 32 bits of a product of 64
+abbrev pub upper_word : ℤ → ℕ
+upper_word product = as_word (int_shr product 32)
+
+-- "Division Operations": a quotient rounds towards zero, and a remainder has the dividend's sign. The quotient of a
+-- division by zero has all bits set, its remainder is the dividend. -2^31 by -1 overflows: the quotient is the word of
+-- 2^31, and the remainder 0
+abbrev pub quotient : ℕ → ℕ → ℕ
+quotient x y = if y == 0 then 2 ^ 32 - 1 else as_word (int_div (as_signed x) (as_signed y))
+
+abbrev pub remainder : ℕ → ℕ → ℕ
+remainder x y = if y == 0 then x else as_word (int_rem (as_signed x) (as_signed y))
+
+abbrev pub unsigned_quotient : ℕ → ℕ → ℕ
+unsigned_quotient x y = if y == 0 then 2 ^ 32 - 1 else x / y
+
+abbrev pub unsigned_remainder : ℕ → ℕ → ℕ
+unsigned_remainder x y = if y == 0 then x else x % y
+
 abbrev pub effective_address : State → ℕ → ℤ → ℕ
 effective_address s r imm = wrap (reg s r + as_word imm)
 
@@ -115,6 +135,14 @@ effect_of s (Srl d a b) = SetRegister d (reg s a / 2 ^ (reg s b % 32))
 effect_of s (Sra d a b) = SetRegister d (arithmetic_right (reg s a) (reg s b % 32))
 effect_of s (Or d a b) = SetRegister d (bit_or (reg s a) (reg s b))
 effect_of s (And d a b) = SetRegister d (bit_and (reg s a) (reg s b))
+effect_of s (Mul d a b) = SetRegister d (wrap (reg s a * reg s b))
+effect_of s (Mulh d a b) = SetRegister d (upper_word (as_signed (reg s a) *ℤ as_signed (reg s b)))
+effect_of s (Mulhsu d a b) = SetRegister d (upper_word (as_signed (reg s a) *ℤ pos (reg s b)))
+effect_of s (Mulhu d a b) = SetRegister d (reg s a * reg s b / 2 ^ 32)
+effect_of s (Div d a b) = SetRegister d (quotient (reg s a) (reg s b))
+effect_of s (Divu d a b) = SetRegister d (unsigned_quotient (reg s a) (reg s b))
+effect_of s (Rem d a b) = SetRegister d (remainder (reg s a) (reg s b))
+effect_of s (Remu d a b) = SetRegister d (unsigned_remainder (reg s a) (reg s b))
 effect_of s (Fence kept) = MoveOn
 effect_of s Ecall = EnvironmentCall
 effect_of s Ebreak = Breakpoint

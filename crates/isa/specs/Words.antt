@@ -1,9 +1,9 @@
--- The instruction that a 32-bit word stands for ("RV32I Base Integer Instruction Set", and the tables
--- of "RV32/64G Instruction Set Listings").
+-- The instruction that a 32-bit word stands for ("RV32I Base Integer Instruction Set", "'M' Extension for Integer
+-- Multiplication and Division", and the tables of "RV32/64G Instruction Set Listings").
 use Rattle.std.specs.Prelude.{ℕ, ◌+◌, ◌-◌, ◌*◌, ◌/◌, ◌%◌, ◌^◌, ◌==◌, nat_lt, if◌then◌else◌, List, [], ◌∷◌, ℤ, pos, negsuc, Option, Some, None}
 use Rattle.std.specs.Option.{option_and_then, option_map}
 use Rattle.isa.specs.declared.Instr.{Instr}
-use Rattle.isa.specs.declared.Instr.TheVariants.{Lui, Auipc, Jal, Jalr, Beq, Bne, Blt, Bge, Bltu, Bgeu, Lb, Lh, Lw, Lbu, Lhu, Sb, Sh, Sw, Addi, Slti, Sltiu, Xori, Ori, Andi, Slli, Srli, Srai, Add, Sub, Sll, Slt, Sltu, Xor, Srl, Sra, Or, And, Fence, Ecall, Ebreak}
+use Rattle.isa.specs.declared.Instr.TheVariants.{Lui, Auipc, Jal, Jalr, Beq, Bne, Blt, Bge, Bltu, Bgeu, Lb, Lh, Lw, Lbu, Lhu, Sb, Sh, Sw, Addi, Slti, Sltiu, Xori, Ori, Andi, Slli, Srli, Srai, Add, Sub, Sll, Slt, Sltu, Xor, Srl, Sra, Or, And, Mul, Mulh, Mulhsu, Mulhu, Div, Divu, Rem, Remu, Fence, Ecall, Ebreak}
 
 -- the n bits of w from bit low up
 abbrev pub field : ℕ → ℕ → ℕ → ℕ
@@ -76,8 +76,8 @@ immediates =
     (3, λ w. Sltiu (rd w) (rs1 w) (imm_i w)) ∷ (4, λ w. Xori (rd w) (rs1 w) (imm_i w)) ∷
     (6, λ w. Ori (rd w) (rs1 w) (imm_i w)) ∷ (7, λ w. Andi (rd w) (rs1 w) (imm_i w)) ∷ []
 
--- shifts by an immediate and "Integer Register-Register Operations", by funct7 * 8 + funct3: 256 stands for
--- a funct7 of 0100000
+-- shifts by an immediate, "Integer Register-Register Operations", and "Multiplication Operations" and "Division
+-- Operations", by funct7 * 8 + funct3: 256 stands for a funct7 of 0100000, 8 for one of 0000001
 abbrev pub shifts : List (ℕ × (ℕ → Instr))
 shifts =
     (1, λ w. Slli (rd w) (rs1 w) (rs2 w)) ∷ (5, λ w. Srli (rd w) (rs1 w) (rs2 w)) ∷
@@ -89,7 +89,11 @@ operations =
     (1, λ w. Sll (rd w) (rs1 w) (rs2 w)) ∷ (2, λ w. Slt (rd w) (rs1 w) (rs2 w)) ∷
     (3, λ w. Sltu (rd w) (rs1 w) (rs2 w)) ∷ (4, λ w. Xor (rd w) (rs1 w) (rs2 w)) ∷
     (5, λ w. Srl (rd w) (rs1 w) (rs2 w)) ∷ (256 + 5, λ w. Sra (rd w) (rs1 w) (rs2 w)) ∷
-    (6, λ w. Or (rd w) (rs1 w) (rs2 w)) ∷ (7, λ w. And (rd w) (rs1 w) (rs2 w)) ∷ []
+    (6, λ w. Or (rd w) (rs1 w) (rs2 w)) ∷ (7, λ w. And (rd w) (rs1 w) (rs2 w)) ∷
+    (8 + 0, λ w. Mul (rd w) (rs1 w) (rs2 w)) ∷ (8 + 1, λ w. Mulh (rd w) (rs1 w) (rs2 w)) ∷
+    (8 + 2, λ w. Mulhsu (rd w) (rs1 w) (rs2 w)) ∷ (8 + 3, λ w. Mulhu (rd w) (rs1 w) (rs2 w)) ∷
+    (8 + 4, λ w. Div (rd w) (rs1 w) (rs2 w)) ∷ (8 + 5, λ w. Divu (rd w) (rs1 w) (rs2 w)) ∷
+    (8 + 6, λ w. Rem (rd w) (rs1 w) (rs2 w)) ∷ (8 + 7, λ w. Remu (rd w) (rs1 w) (rs2 w)) ∷ []
 
 abbrev pub jumps : List (ℕ × (ℕ → Instr))
 jumps = (0, λ w. Jalr (rd w) (rs1 w) (imm_i w)) ∷ []

@@ -1,4 +1,4 @@
-//! RV32I as definitions: the instructions, the words that stand for them, one step of a hart over
+//! RV32IM as definitions: the instructions, the words that stand for them, one step of a hart over
 //! one window of memory, and the calls that a guest makes to its execution environment.
 //!
 //! What there is to read stands in specs/, in the order of specs/Lib.antt. The sections named there
@@ -8,7 +8,8 @@
 mod fitting;
 pub mod laws;
 
-/// One variant for each instruction of RV32I ("RV32I Base Integer Instruction Set").
+/// One variant for each instruction of RV32I and RV32M ("RV32I Base Integer Instruction Set" and "'M' Extension
+/// for Integer Multiplication and Division").
 ///
 /// Registers are below 32. Immediates are sign-extended, as they are added or compared; those of
 /// LUI and AUIPC have twelve zero bits at the bottom. Shift amounts are below 32. FENCE keeps the
@@ -52,6 +53,14 @@ pub enum Instr {
     Sra { rd: u8, rs1: u8, rs2: u8 },
     Or { rd: u8, rs1: u8, rs2: u8 },
     And { rd: u8, rs1: u8, rs2: u8 },
+    Mul { rd: u8, rs1: u8, rs2: u8 },
+    Mulh { rd: u8, rs1: u8, rs2: u8 },
+    Mulhsu { rd: u8, rs1: u8, rs2: u8 },
+    Mulhu { rd: u8, rs1: u8, rs2: u8 },
+    Div { rd: u8, rs1: u8, rs2: u8 },
+    Divu { rd: u8, rs1: u8, rs2: u8 },
+    Rem { rd: u8, rs1: u8, rs2: u8 },
+    Remu { rd: u8, rs1: u8, rs2: u8 },
     Fence { kept: u32 },
     Ecall,
     Ebreak,
