@@ -9,17 +9,17 @@ use Rattle.std.specs.declared.cmp.Ordering.TheVariants.{Less}
 use Rattle.std.proofs.lemmas.Cmp.{nat_cmp_total}
 use Rattle.std.proofs.lemmas.List.Elements.{All-from_recursion}
 use Rattle.isa.specs.declared.Instr.{Instr}
-use Rattle.isa.specs.declared.Instr.TheVariants.{Lui, Auipc, Jal, Jalr, Beq, Bne, Blt, Bge, Bltu, Bgeu, Lb, Lh, Lw, Lbu, Lhu, Sb, Sh, Sw, Addi, Slti, Sltiu, Xori, Ori, Andi, Slli, Srli, Srai, Add, Sub, Sll, Slt, Sltu, Xor, Srl, Sra, Or, And, Fence, Ecall, Ebreak}
+use Rattle.isa.specs.declared.Instr.TheVariants.{Lui, Auipc, Jal, Jalr, Beq, Bne, Blt, Bge, Bltu, Bgeu, Lb, Lh, Lw, Lbu, Lhu, Sb, Sh, Sw, Addi, Slti, Sltiu, Xori, Ori, Andi, Slli, Srli, Srai, Add, Sub, Sll, Slt, Sltu, Xor, Srl, Sra, Or, And, Mul, Mulh, Mulhsu, Mulhu, Div, Divu, Rem, Remu, Fence, Ecall, Ebreak}
 use Rattle.isa.specs.declared.CallKind.{CallKind}
 use Rattle.isa.specs.declared.CallKind.TheVariants as kind
 use Rattle.flow_model.specs.declared.Loc.{Loc}
 use Rattle.flow_model.specs.declared.Loc.TheVariants.{Reg, Mem}
 use Rattle.flow_model.specs.declared.Rule.{Rule}
-use Rattle.flow_model.specs.declared.Rule.TheVariants.{Copy, Compute}
+use Rattle.flow_model.specs.declared.Rule.TheVariants.{Copy, Compute, Index}
 use Rattle.sorted_set.specs.Sets.{Ascends}
 use Rattle.flow_model.specs.Orders.{loc_cmp}
 use Rattle.isa.specs.Machine.{wrap}
-use Rattle.flow_model.specs.Flow.{Target, lane, lanes, to_register, nothing, computed, in_first_lane, loaded_byte, signed_load, moved_or, each_lane, all_lanes, shifted_lanes, flow, cleared}
+use Rattle.flow_model.specs.Flow.{Target, lane, lanes, to_register, nothing, computed, with_base, in_first_lane, byte_of, loaded_byte, signed_load, moved_or, each_lane, all_lanes, shifted_lanes, flow, cleared}
 use Rattle.flow_model.specs.OriginLaws.{FlowAscends, ClearedAscends}
 use Rattle.sorted_set.proofs.Algebra.{Ascends-union}
 use Rattle.flow_model.proofs.Orders.{loc_total}
@@ -61,16 +61,29 @@ nothing_ascends i = tt
 computed_ascends : (rule : Rule) (origins : ℕ → List Loc) → EachAscends origins → EachAscends (computed rule origins)
 computed_ascends Copy origins h i = tt
 computed_ascends Compute origins h i = h i
+computed_ascends Index origins h i = h i
+
+with_base_ascends : (rule : Rule) (a : ℕ) (origins : List Loc) → Ascends loc_cmp origins → Ascends loc_cmp (with_base rule a origins)
+with_base_ascends Copy a origins h = h
+with_base_ascends Compute a origins h = h
+with_base_ascends Index a origins h = Ascends-union loc_total (lanes a) origins h
+
+byte_ascends : (rule : Rule) (a address i : ℕ) → Ascends loc_cmp (with_base rule a (byte_of address i))
+byte_ascends rule a address i = with_base_ascends rule a (byte_of address i) (one (Mem (wrap (address + i))))
 
 in_first_lane_ascends : (origins : List Loc) → Ascends loc_cmp origins → EachAscends (in_first_lane origins)
 in_first_lane_ascends origins h i = chosen (i == 0) origins [] h tt
 
-loaded_byte_ascends : (address n : ℕ) → EachAscends (loaded_byte address n)
-loaded_byte_ascends address n i = chosen (nat_lt i n) (Mem (wrap (address + i)) ∷ []) [] (one (Mem (wrap (address + i)))) tt
+loaded_byte_ascends : (rule : Rule) (a address n : ℕ) → EachAscends (loaded_byte rule a address n)
+loaded_byte_ascends rule a address n i = chosen (nat_lt i n) (with_base rule a (byte_of address i)) [] (byte_ascends rule a address i) tt
 
-signed_load_ascends : (rule : Rule) (address n : ℕ) → EachAscends (signed_load rule address n)
-signed_load_ascends Copy address n i = loaded_byte_ascends address n i
-signed_load_ascends Compute address n i = chosen (nat_lt i n) (Mem (wrap (address + i)) ∷ []) (Mem (wrap (address + (n - 1))) ∷ []) (one (Mem (wrap (address + i)))) (one (Mem (wrap (address + (n - 1)))))
+signed_load_ascends : (rule : Rule) (a address n : ℕ) → EachAscends (signed_load rule a address n)
+signed_load_ascends Copy a address n i = loaded_byte_ascends Copy a address n i
+signed_load_ascends Compute a address n i = byte_ascends Compute a address (if nat_lt i n then i else n - 1)
+signed_load_ascends Index a address n i = byte_ascends Index a address (if nat_lt i n then i else n - 1)
+
+stored_lane_ascends : (rule : Rule) (a b : ℕ) → EachAscends (λ i. with_base rule a (lane b i))
+stored_lane_ascends rule a b i = with_base_ascends rule a (lane b i) (lane_ascends b i)
 
 moved_or_ascends : (a b : ℕ) (otherwise : ℕ → List Loc) → EachAscends otherwise → EachAscends (moved_or a b otherwise)
 moved_or_ascends a b otherwise h i = chosen (a == 0) (lane b i) (cond (b == 0) (lane a i) (otherwise i)) (lane_ascends b i) (chosen (b == 0) (lane a i) (otherwise i) (lane_ascends a i) (h i))
@@ -113,14 +126,14 @@ emptied : (d : ℕ) → TableAscends (to_register d nothing)
 emptied d = to_register_ascends d nothing nothing_ascends
 
 table_ascends : (rule : Rule) (instr : Instr) (place : ℕ) → TableAscends (flow rule instr place)
-table_ascends rule (Lw d a imm) place = to_register_ascends d (loaded_byte place 4) (loaded_byte_ascends place 4)
-table_ascends rule (Lh d a imm) place = to_register_ascends d (signed_load rule place 2) (signed_load_ascends rule place 2)
-table_ascends rule (Lhu d a imm) place = to_register_ascends d (loaded_byte place 2) (loaded_byte_ascends place 2)
-table_ascends rule (Lb d a imm) place = to_register_ascends d (signed_load rule place 1) (signed_load_ascends rule place 1)
-table_ascends rule (Lbu d a imm) place = to_register_ascends d (loaded_byte place 1) (loaded_byte_ascends place 1)
-table_ascends rule (Sb a b imm) place = bytes_ascend place (lane b) (lane_ascends b) 0 1
-table_ascends rule (Sh a b imm) place = bytes_ascend place (lane b) (lane_ascends b) 0 2
-table_ascends rule (Sw a b imm) place = bytes_ascend place (lane b) (lane_ascends b) 0 4
+table_ascends rule (Lw d a imm) place = to_register_ascends d _ (loaded_byte_ascends rule a place 4)
+table_ascends rule (Lh d a imm) place = to_register_ascends d _ (signed_load_ascends rule a place 2)
+table_ascends rule (Lhu d a imm) place = to_register_ascends d _ (loaded_byte_ascends rule a place 2)
+table_ascends rule (Lb d a imm) place = to_register_ascends d _ (signed_load_ascends rule a place 1)
+table_ascends rule (Lbu d a imm) place = to_register_ascends d _ (loaded_byte_ascends rule a place 1)
+table_ascends rule (Sb a b imm) place = bytes_ascend place _ (stored_lane_ascends rule a b) 0 1
+table_ascends rule (Sh a b imm) place = bytes_ascend place _ (stored_lane_ascends rule a b) 0 2
+table_ascends rule (Sw a b imm) place = bytes_ascend place _ (stored_lane_ascends rule a b) 0 4
 table_ascends rule (Addi d a imm) place = to_register_ascends d (if int_eq imm (pos 0) then lane a else computed rule (λ i. lanes a)) (added_ascends rule a imm)
 table_ascends rule (Add d a b) place = to_register_ascends d (moved_or a b (computed rule (all_lanes a b))) (moved_or_ascends a b _ (sum_ascends rule a b))
 table_ascends rule (Or d a b) place = to_register_ascends d (moved_or a b (computed rule (each_lane a b))) (moved_or_ascends a b _ (bitwise_ascends rule a b))
@@ -130,6 +143,14 @@ table_ascends rule (Andi d a imm) place = to_register_ascends d (computed rule (
 table_ascends rule (Ori d a imm) place = to_register_ascends d (computed rule (lane a)) (same_lane_ascends rule a)
 table_ascends rule (Xori d a imm) place = to_register_ascends d (computed rule (lane a)) (same_lane_ascends rule a)
 table_ascends rule (Sub d a b) place = to_register_ascends d (computed rule (all_lanes a b)) (sum_ascends rule a b)
+table_ascends rule (Mul d a b) place = to_register_ascends d (computed rule (all_lanes a b)) (sum_ascends rule a b)
+table_ascends rule (Mulh d a b) place = to_register_ascends d (computed rule (all_lanes a b)) (sum_ascends rule a b)
+table_ascends rule (Mulhsu d a b) place = to_register_ascends d (computed rule (all_lanes a b)) (sum_ascends rule a b)
+table_ascends rule (Mulhu d a b) place = to_register_ascends d (computed rule (all_lanes a b)) (sum_ascends rule a b)
+table_ascends rule (Div d a b) place = to_register_ascends d (computed rule (all_lanes a b)) (sum_ascends rule a b)
+table_ascends rule (Divu d a b) place = to_register_ascends d (computed rule (all_lanes a b)) (sum_ascends rule a b)
+table_ascends rule (Rem d a b) place = to_register_ascends d (computed rule (all_lanes a b)) (sum_ascends rule a b)
+table_ascends rule (Remu d a b) place = to_register_ascends d (computed rule (all_lanes a b)) (sum_ascends rule a b)
 table_ascends rule (Slli d a k) place = to_register_ascends d (computed rule (λ i. lanes a)) (from_one_ascends rule a)
 table_ascends rule (Srli d a k) place = to_register_ascends d (computed rule (λ i. lanes a)) (from_one_ascends rule a)
 table_ascends rule (Srai d a k) place = to_register_ascends d (computed rule (λ i. lanes a)) (from_one_ascends rule a)

@@ -1,23 +1,23 @@
 -- The targets and origins of an instruction that fits are locations, and so are those of a step. Crates above cite these
 -- lemmas.
-use Rattle.std.proofs.Common.{ℕ, ◌+◌, ◌<◌, ◌==◌, nat_lt, List, [], ◌∷◌, ◌++◌, zero, suc, ◌≡◌, subst, arith, Bool, true, false, if◌then◌else◌}
+use Rattle.std.proofs.Common.{ℕ, ◌+◌, ◌-◌, ◌<◌, ◌==◌, nat_lt, List, [], ◌∷◌, ◌++◌, zero, suc, ◌≡◌, subst, arith, Bool, true, false, if◌then◌else◌}
 use Rattle.std.specs.Ordering.{int_eq}
 use Rattle.std.specs.declared.cmp.Ordering.{Ordering}
 use Rattle.std.specs.declared.cmp.Ordering.TheVariants.{Less, Equal, Greater}
 use Rattle.std.specs.Prelude.{pos, Option, Some, None, map, slice_get}
 use Rattle.isa.specs.Encodings.{Fits}
 use Rattle.isa.specs.declared.Instr.{Instr}
-use Rattle.isa.specs.declared.Instr.TheVariants.{Lui, Auipc, Jal, Jalr, Beq, Bne, Blt, Bge, Bltu, Bgeu, Lb, Lh, Lw, Lbu, Lhu, Sb, Sh, Sw, Addi, Slti, Sltiu, Xori, Ori, Andi, Slli, Srli, Srai, Add, Sub, Sll, Slt, Sltu, Xor, Srl, Sra, Or, And, Fence, Ecall, Ebreak}
+use Rattle.isa.specs.declared.Instr.TheVariants.{Lui, Auipc, Jal, Jalr, Beq, Bne, Blt, Bge, Bltu, Bgeu, Lb, Lh, Lw, Lbu, Lhu, Sb, Sh, Sw, Addi, Slti, Sltiu, Xori, Ori, Andi, Slli, Srli, Srai, Add, Sub, Sll, Slt, Sltu, Xor, Srl, Sra, Or, And, Mul, Mulh, Mulhsu, Mulhu, Div, Divu, Rem, Remu, Fence, Ecall, Ebreak}
 use Rattle.isa.specs.declared.CallKind.{CallKind}
 use Rattle.isa.specs.declared.CallKind.TheVariants as kind
 use Rattle.flow_model.specs.declared.Loc.{Loc}
 use Rattle.flow_model.specs.declared.Loc.TheVariants.{Reg, Mem}
 use Rattle.flow_model.specs.declared.Rule.{Rule}
-use Rattle.flow_model.specs.declared.Rule.TheVariants.{Copy, Compute}
+use Rattle.flow_model.specs.declared.Rule.TheVariants.{Copy, Compute, Index}
 use Rattle.sorted_set.specs.Sets.{union, inserted, placed}
 use Rattle.flow_model.specs.Orders.{loc_cmp}
 use Rattle.isa.specs.Machine.{wrap}
-use Rattle.flow_model.specs.Flow.{Target, lane, lanes, to_register, nothing, computed, in_first_lane, loaded_byte, signed_load, moved_or, each_lane, flow, cleared, origins_by, loc_eq, is_received, from_call, from_instruction_or}
+use Rattle.flow_model.specs.Flow.{Target, lane, lanes, to_register, nothing, computed, with_base, in_first_lane, byte_of, loaded_byte, signed_load, moved_or, each_lane, flow, cleared, origins_by, loc_eq, is_received, from_call, from_instruction_or}
 use Rattle.flow_model.specs.declared.StepSeen.{StepSeen}
 use Rattle.flow_model.specs.declared.CallSeen.{CallSeen}
 use Rattle.flow_model.specs.Ranges.{IsLocation, AreLocations, IsTable}
@@ -66,16 +66,27 @@ in-nothing i h = tt
 in-computed : (rule : Rule) (f : ℕ → List Loc) → Lanewise f → Lanewise (computed rule f)
 in-computed Copy f h i k = tt
 in-computed Compute f h i k = h i k
+in-computed Index f h i k = h i k
 
 in-first : (ls : List Loc) → AreLocations ls → Lanewise (in_first_lane ls)
 in-first ls h i k = either (i == 0) ls [] h tt
 
-in-loaded : (a n : ℕ) → Lanewise (loaded_byte a n)
-in-loaded a n i h = either (nat_lt i n) (Mem (wrap (a + i)) ∷ []) [] (in-byte (a + i)) tt
+in-base : (rule : Rule) (a : ℕ) (ls : List Loc) → a < 32 → AreLocations ls → AreLocations (with_base rule a ls)
+in-base Copy a ls h k = k
+in-base Compute a ls h k = k
+in-base Index a ls h k = in-union (lanes a) ls (in-lanes a h) k
 
-in-signed : (rule : Rule) (a n : ℕ) → Lanewise (signed_load rule a n)
-in-signed Copy a n i h = either (nat_lt i n) (Mem (wrap (a + i)) ∷ []) [] (in-byte (a + i)) tt
-in-signed Compute a n i h = either (nat_lt i n) _ _ (in-byte (a + i)) (in-byte _)
+in-loaded : (rule : Rule) (a place n : ℕ) → a < 32 → Lanewise (loaded_byte rule a place n)
+in-loaded rule a place n h i k = either (nat_lt i n) _ [] (in-base rule a (byte_of place i) h (in-byte (place + i))) tt
+
+in-signed : (rule : Rule) (a place n : ℕ) → a < 32 → Lanewise (signed_load rule a place n)
+in-signed Copy a place n h i k = in-loaded Copy a place n h i k
+in-signed Compute a place n h i k = let j = if nat_lt i n then i else n - 1 in in-base Compute a (byte_of place j) h (in-byte (place + j))
+in-signed Index a place n h i k = let j = if nat_lt i n then i else n - 1 in in-base Index a (byte_of place j) h (in-byte (place + j))
+
+-- a byte of a store
+in-stored : (rule : Rule) (a b i : ℕ) → a < 32 → b < 32 → i < 4 → AreLocations (with_base rule a (lane b i))
+in-stored rule a b i h k l = in-base rule a (lane b i) h (in-lane b i k l)
 
 in-moved : (a b : ℕ) (f : ℕ → List Loc) → a < 32 → b < 32 → Lanewise f → Lanewise (moved_or a b f)
 in-moved a b f h k g i l = either (a == 0) _ _ (in-lane b i k l) (either (b == 0) _ _ (in-lane a i h l) (g i l))
@@ -100,15 +111,15 @@ immediate_add rule a true h = in-lanewise a h
 immediate_add rule a false h = in-computed rule (λ i. lanes a) (in-same (lanes a) (in-lanes a h))
 
 pub flow_table : (rule : Rule) (i : Instr) (place : ℕ) → Fits i → IsTable (flow rule i place)
-flow_table rule (Lw d a imm) place h = to_register_table d _ h.0 (in-loaded place 4)
-flow_table rule (Lh d a imm) place h = to_register_table d _ h.0 (in-signed rule place 2)
-flow_table rule (Lhu d a imm) place h = to_register_table d _ h.0 (in-loaded place 2)
-flow_table rule (Lb d a imm) place h = to_register_table d _ h.0 (in-signed rule place 1)
-flow_table rule (Lbu d a imm) place h = to_register_table d _ h.0 (in-loaded place 1)
-flow_table rule (Sb a b imm) place h = (omega arith, in-lane b 0 h.1 (omega arith), tt)
-flow_table rule (Sh a b imm) place h = (omega arith, in-lane b 0 h.1 (omega arith), (omega arith, in-lane b 1 h.1 (omega arith), tt))
+flow_table rule (Lw d a imm) place h = to_register_table d _ h.0 (in-loaded rule a place 4 h.1)
+flow_table rule (Lh d a imm) place h = to_register_table d _ h.0 (in-signed rule a place 2 h.1)
+flow_table rule (Lhu d a imm) place h = to_register_table d _ h.0 (in-loaded rule a place 2 h.1)
+flow_table rule (Lb d a imm) place h = to_register_table d _ h.0 (in-signed rule a place 1 h.1)
+flow_table rule (Lbu d a imm) place h = to_register_table d _ h.0 (in-loaded rule a place 1 h.1)
+flow_table rule (Sb a b imm) place h = (omega arith, in-stored rule a b 0 h.0 h.1 (omega arith), tt)
+flow_table rule (Sh a b imm) place h = (omega arith, in-stored rule a b 0 h.0 h.1 (omega arith), (omega arith, in-stored rule a b 1 h.0 h.1 (omega arith), tt))
 flow_table rule (Sw a b imm) place h =
-    (omega arith, in-lane b 0 h.1 (omega arith), (omega arith, in-lane b 1 h.1 (omega arith), (omega arith, in-lane b 2 h.1 (omega arith), (omega arith, in-lane b 3 h.1 (omega arith), tt))))
+    (omega arith, in-stored rule a b 0 h.0 h.1 (omega arith), (omega arith, in-stored rule a b 1 h.0 h.1 (omega arith), (omega arith, in-stored rule a b 2 h.0 h.1 (omega arith), (omega arith, in-stored rule a b 3 h.0 h.1 (omega arith), tt))))
 flow_table rule (Addi d a imm) place h = to_register_table d _ h.0 (immediate_add rule a (int_eq imm (pos 0)) h.1)
 flow_table rule (Add d a b) place h = to_register_table d _ h.0 (in-moved a b _ h.1 h.2 (in-computed rule _ (in-same _ (in-both a b h.1 h.2))))
 flow_table rule (Or d a b) place h = to_register_table d _ h.0 (in-moved a b _ h.1 h.2 (in-computed rule _ (in-each a b h.1 h.2)))
@@ -118,6 +129,14 @@ flow_table rule (Andi d a imm) place h = to_register_table d _ h.0 (in-computed 
 flow_table rule (Ori d a imm) place h = to_register_table d _ h.0 (in-computed rule _ (in-lanewise a h.1))
 flow_table rule (Xori d a imm) place h = to_register_table d _ h.0 (in-computed rule _ (in-lanewise a h.1))
 flow_table rule (Sub d a b) place h = to_register_table d _ h.0 (in-computed rule _ (in-same _ (in-both a b h.1 h.2)))
+flow_table rule (Mul d a b) place h = to_register_table d _ h.0 (in-computed rule _ (in-same _ (in-both a b h.1 h.2)))
+flow_table rule (Mulh d a b) place h = to_register_table d _ h.0 (in-computed rule _ (in-same _ (in-both a b h.1 h.2)))
+flow_table rule (Mulhsu d a b) place h = to_register_table d _ h.0 (in-computed rule _ (in-same _ (in-both a b h.1 h.2)))
+flow_table rule (Mulhu d a b) place h = to_register_table d _ h.0 (in-computed rule _ (in-same _ (in-both a b h.1 h.2)))
+flow_table rule (Div d a b) place h = to_register_table d _ h.0 (in-computed rule _ (in-same _ (in-both a b h.1 h.2)))
+flow_table rule (Divu d a b) place h = to_register_table d _ h.0 (in-computed rule _ (in-same _ (in-both a b h.1 h.2)))
+flow_table rule (Rem d a b) place h = to_register_table d _ h.0 (in-computed rule _ (in-same _ (in-both a b h.1 h.2)))
+flow_table rule (Remu d a b) place h = to_register_table d _ h.0 (in-computed rule _ (in-same _ (in-both a b h.1 h.2)))
 flow_table rule (Slli d a k) place h = to_register_table d _ h.0 (in-computed rule _ (in-same _ (in-lanes a h.1)))
 flow_table rule (Srli d a k) place h = to_register_table d _ h.0 (in-computed rule _ (in-same _ (in-lanes a h.1)))
 flow_table rule (Srai d a k) place h = to_register_table d _ h.0 (in-computed rule _ (in-same _ (in-lanes a h.1)))

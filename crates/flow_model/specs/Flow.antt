@@ -4,14 +4,14 @@ use Rattle.std.specs.Prelude.{ℕ, ◌+◌, ◌-◌, ◌^◌, ◌==◌, nat_lt, 
 use Rattle.std.specs.List.{range_with_len}
 use Rattle.std.specs.Ordering.{int_eq}
 use Rattle.isa.specs.declared.Instr.{Instr}
-use Rattle.isa.specs.declared.Instr.TheVariants.{Lui, Auipc, Jal, Jalr, Beq, Bne, Blt, Bge, Bltu, Bgeu, Lb, Lh, Lw, Lbu, Lhu, Sb, Sh, Sw, Addi, Slti, Sltiu, Xori, Ori, Andi, Slli, Srli, Srai, Add, Sub, Sll, Slt, Sltu, Xor, Srl, Sra, Or, And, Fence, Ecall, Ebreak}
+use Rattle.isa.specs.declared.Instr.TheVariants.{Lui, Auipc, Jal, Jalr, Beq, Bne, Blt, Bge, Bltu, Bgeu, Lb, Lh, Lw, Lbu, Lhu, Sb, Sh, Sw, Addi, Slti, Sltiu, Xori, Ori, Andi, Slli, Srli, Srai, Add, Sub, Sll, Slt, Sltu, Xor, Srl, Sra, Or, And, Mul, Mulh, Mulhsu, Mulhu, Div, Divu, Rem, Remu, Fence, Ecall, Ebreak}
 use Rattle.isa.specs.declared.CallKind.{CallKind}
 use Rattle.isa.specs.declared.CallKind.TheVariants as kind
 use Rattle.isa.specs.Machine.{wrap}
 use Rattle.flow_model.specs.declared.Loc.{Loc}
 use Rattle.flow_model.specs.declared.Loc.TheVariants.{Reg, Mem}
 use Rattle.flow_model.specs.declared.Rule.{Rule}
-use Rattle.flow_model.specs.declared.Rule.TheVariants.{Copy, Compute}
+use Rattle.flow_model.specs.declared.Rule.TheVariants.{Copy, Compute, Index}
 use Rattle.flow_model.specs.declared.StepSeen.{StepSeen}
 use Rattle.flow_model.specs.declared.CallSeen.{CallSeen}
 use Rattle.sorted_set.specs.Sets.{union}
@@ -41,26 +41,38 @@ to_memory address n origins = map (λ i. record { loc = Mem (wrap (address + i))
 abbrev pub nothing : ℕ → List Loc
 nothing i = []
 
--- what is computed flows under the rule compute alone
+-- what is computed flows under the rules compute and index
 abbrev pub computed : Rule → (ℕ → List Loc) → ℕ → List Loc
 computed Copy origins i = []
 computed Compute origins i = origins i
+computed Index origins i = origins i
+
+-- under the rule index what goes to or comes from memory also comes from the register that holds the base address
+abbrev pub with_base : Rule → ℕ → List Loc → List Loc
+with_base Copy a origins = origins
+with_base Compute a origins = origins
+with_base Index a origins = union loc_cmp (lanes a) origins
 
 -- the first lane alone has these origins
 abbrev pub in_first_lane : List Loc → ℕ → List Loc
 in_first_lane origins i = if i == 0 then origins else []
 
--- lane i of a load of n bytes is byte i
-abbrev pub loaded_byte : ℕ → ℕ → ℕ → List Loc
-loaded_byte address n i = if nat_lt i n then Mem (wrap (address + i)) ∷ [] else []
+-- byte i of those from an address on
+abbrev pub byte_of : ℕ → ℕ → List Loc
+byte_of address i = Mem (wrap (address + i)) ∷ []
+
+-- lane i of a load of n bytes, by base register a, is byte i; the lanes above are empty
+abbrev pub loaded_byte : Rule → ℕ → ℕ → ℕ → ℕ → List Loc
+loaded_byte rule a address n i = if nat_lt i n then with_base rule a (byte_of address i) else []
 
 -- a load that extends the sign computes the lanes above from the highest byte
-abbrev pub sign_extended_byte : ℕ → ℕ → ℕ → List Loc
-sign_extended_byte address n i = if nat_lt i n then Mem (wrap (address + i)) ∷ [] else Mem (wrap (address + (n - 1))) ∷ []
+abbrev pub sign_extended_byte : Rule → ℕ → ℕ → ℕ → ℕ → List Loc
+sign_extended_byte rule a address n i = with_base rule a (byte_of address (if nat_lt i n then i else n - 1))
 
-abbrev pub signed_load : Rule → ℕ → ℕ → ℕ → List Loc
-signed_load Copy address n i = loaded_byte address n i
-signed_load Compute address n i = sign_extended_byte address n i
+abbrev pub signed_load : Rule → ℕ → ℕ → ℕ → ℕ → List Loc
+signed_load Copy a address n i = loaded_byte Copy a address n i
+signed_load Compute a address n i = sign_extended_byte Compute a address n i
+signed_load Index a address n i = sign_extended_byte Index a address n i
 
 -- with x0 as a source the instruction is a move of the other source
 abbrev pub moved_or : ℕ → ℕ → (ℕ → List Loc) → ℕ → List Loc
@@ -78,14 +90,14 @@ shifted_lanes a b i = union loc_cmp (lanes a) (lane b 0)
 
 -- the targets of an instruction whose effective address is `place`
 abbrev pub flow : Rule → Instr → ℕ → List Target
-flow rule (Lw d a imm) place = to_register d (loaded_byte place 4)
-flow rule (Lh d a imm) place = to_register d (signed_load rule place 2)
-flow rule (Lhu d a imm) place = to_register d (loaded_byte place 2)
-flow rule (Lb d a imm) place = to_register d (signed_load rule place 1)
-flow rule (Lbu d a imm) place = to_register d (loaded_byte place 1)
-flow rule (Sb a b imm) place = to_memory place 1 (lane b)
-flow rule (Sh a b imm) place = to_memory place 2 (lane b)
-flow rule (Sw a b imm) place = to_memory place 4 (lane b)
+flow rule (Lw d a imm) place = to_register d (loaded_byte rule a place 4)
+flow rule (Lh d a imm) place = to_register d (signed_load rule a place 2)
+flow rule (Lhu d a imm) place = to_register d (loaded_byte rule a place 2)
+flow rule (Lb d a imm) place = to_register d (signed_load rule a place 1)
+flow rule (Lbu d a imm) place = to_register d (loaded_byte rule a place 1)
+flow rule (Sb a b imm) place = to_memory place 1 (λ i. with_base rule a (lane b i))
+flow rule (Sh a b imm) place = to_memory place 2 (λ i. with_base rule a (lane b i))
+flow rule (Sw a b imm) place = to_memory place 4 (λ i. with_base rule a (lane b i))
 flow rule (Addi d a imm) place = to_register d (if int_eq imm (pos 0) then lane a else computed rule (λ i. lanes a))
 flow rule (Add d a b) place = to_register d (moved_or a b (computed rule (all_lanes a b)))
 flow rule (Or d a b) place = to_register d (moved_or a b (computed rule (each_lane a b)))
@@ -95,6 +107,14 @@ flow rule (Andi d a imm) place = to_register d (computed rule (lane a))
 flow rule (Ori d a imm) place = to_register d (computed rule (lane a))
 flow rule (Xori d a imm) place = to_register d (computed rule (lane a))
 flow rule (Sub d a b) place = to_register d (computed rule (all_lanes a b))
+flow rule (Mul d a b) place = to_register d (computed rule (all_lanes a b))
+flow rule (Mulh d a b) place = to_register d (computed rule (all_lanes a b))
+flow rule (Mulhsu d a b) place = to_register d (computed rule (all_lanes a b))
+flow rule (Mulhu d a b) place = to_register d (computed rule (all_lanes a b))
+flow rule (Div d a b) place = to_register d (computed rule (all_lanes a b))
+flow rule (Divu d a b) place = to_register d (computed rule (all_lanes a b))
+flow rule (Rem d a b) place = to_register d (computed rule (all_lanes a b))
+flow rule (Remu d a b) place = to_register d (computed rule (all_lanes a b))
 flow rule (Slli d a k) place = to_register d (computed rule (λ i. lanes a))
 flow rule (Srli d a k) place = to_register d (computed rule (λ i. lanes a))
 flow rule (Srai d a k) place = to_register d (computed rule (λ i. lanes a))

@@ -40,11 +40,13 @@ pub enum Rule {
     Copy,
     /// Moves, and whatever is computed from an operand.
     Compute,
+    /// As `Compute`; besides, what is loaded or stored comes from the register that holds the base address too.
+    Index,
 }
 
 /// A step of a trace: its number, counted from 0, the instruction, the effective address of a load or a
 /// store (0 otherwise), and the guest call, where the step was one.
-#[derive(Clone, Copy, Debug, PartialEq, Eq)]
+#[derive(Clone, Copy, PartialEq, Eq)]
 pub struct StepSeen {
     pub number: u64,
     pub instr: Instr,

@@ -4,7 +4,7 @@ use Prim.Native.String.{String}
 use Rattle.std.specs.Prelude.{◌++◌, codes, Some, Ok, Err}
 use Rattle.std.specs.List.{flat_map}
 use Rattle.flow_model.specs.declared.Rule.{Rule}
-use Rattle.flow_model.specs.declared.Rule.TheVariants.{Copy, Compute}
+use Rattle.flow_model.specs.declared.Rule.TheVariants.{Copy, Compute, Index}
 use Rattle.report_model.specs.declared.QueryKind.TheVariants.{BadByte, Word, Count, Number, Channel, Range, SecondRule, NoRule}
 use Rattle.report_model.specs.Grammar.{query, everything}
 use Rattle.report_model.specs.Query.{Query}
@@ -21,6 +21,9 @@ good = refl
 
 good_compute : query (of_lines ("sink all" ∷ "  rule   compute" ∷ "# a comment" ∷ "" ∷ "source all" ∷ [])) ≡ Ok (all_by Compute)
 good_compute = refl
+
+good_index : query (of_lines ("rule index" ∷ "source all" ∷ "sink all" ∷ [])) ≡ Ok (all_by Index)
+good_index = refl
 
 -- a carriage return before a line feed is dropped; the last line feed may be missing; tabs separate words
 other_ends : query (codes "rule copy" ++ 0x0d ∷ 0x0a ∷ codes "source 0 1 2" ++ 0x0d ∷ 0x0a ∷ 0x09 ∷ codes "sink all") ≡ Ok (record { rule = Copy; sources = record { channel = Some 0; offsets = Some (record { from = 1; past = 2 }) } ∷ []; sinks = everything ∷ [] })

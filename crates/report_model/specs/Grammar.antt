@@ -5,7 +5,7 @@ use Rattle.std.specs.Str.{bytes_eq, all_ascii_digits}
 use Rattle.std.specs.Str.Parse.{digits_value}
 use Rattle.format_model.specs.FirstTrue.{first_true}
 use Rattle.flow_model.specs.declared.Rule.{Rule}
-use Rattle.flow_model.specs.declared.Rule.TheVariants.{Copy, Compute}
+use Rattle.flow_model.specs.declared.Rule.TheVariants.{Copy, Compute, Index}
 use Rattle.report_model.specs.declared.QueryKind.{QueryKind}
 use Rattle.report_model.specs.declared.QueryKind.TheVariants.{BadByte, Word, Count, Number, Channel, Range, SecondRule, NoRule}
 use Rattle.report_model.specs.Query.{Query, Choice}
@@ -57,7 +57,10 @@ unless (Some fault) x = Err fault
 -- ---- rules and choices
 
 abbrev pub rule_named : List ℕ → Option Rule
-rule_named word = if bytes_eq word (codes "copy") then Some Copy else if bytes_eq word (codes "compute") then Some Compute else None
+rule_named word =
+    if bytes_eq word (codes "copy") then Some Copy else
+    if bytes_eq word (codes "compute") then Some Compute else
+    if bytes_eq word (codes "index") then Some Index else None
 
 abbrev pub rule_alone : Option Rule → List (List ℕ) → Result Rule QueryKind
 rule_alone None more = Err Word
