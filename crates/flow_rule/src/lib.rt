@@ -4,10 +4,12 @@
 
 mod flows;
 mod locations;
+mod shape;
 mod table;
 
 pub use flow_model::{Loc, Rule, SinkByte, SourceByte};
 pub use flows::Flow;
+pub use shape::Shape;
 pub use table::{cleared, flow};
 
 /// What the parts of an analysis send each other: a question for a location's origins, one of its source

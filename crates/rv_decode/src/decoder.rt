@@ -1,12 +1,13 @@
 //! From words to instructions.
 
 ghost use Rattle.std.specs.Prelude.{◌≡◌, Some, None, IfSome};
-ghost use Rattle.isa.specs.Words.{funct3, branches, loads, stores, immediates, shifts, operations, immediate, looked_up, funct7_funct3, opcode, instruction_of};
+ghost use Rattle.isa.specs.Words.{funct3, funct7, branches, loads, stores, immediates, shifts, operations, immediate, looked_up, funct7_funct3, opcode, instruction_of};
 ghost use Rattle.isa.specs.Encodings.{Fits, encoding};
 
 use crate::fields::{
-    ALTERNATE, AUIPC, BRANCH, JAL, JALR, LOAD, LUI, MISC_MEM, OP, OP_IMM, STORE, bits, funct3_of,
-    funct7_of, imm_b_of, imm_i_of, imm_j_of, imm_s_of, imm_u_of, opcode_of, rd_of, rs1_of, rs2_of,
+    ALTERNATE, AUIPC, BRANCH, JAL, JALR, LOAD, LUI, MISC_MEM, MULDIV, OP, OP_IMM, STORE, bits,
+    funct3_of, funct7_of, imm_b_of, imm_i_of, imm_j_of, imm_s_of, imm_u_of, opcode_of, rd_of,
+    rs1_of, rs2_of,
 };
 use isa::Instr;
 
@@ -88,6 +89,25 @@ fn immediate_of(word: u32) -> Option<Instr>
     }
 }
 
+/// "Multiplication Operations" and "Division Operations".
+fn muldiv_of(word: u32) -> Option<Instr>
+    requires { funct7 word ≡ MULDIV }
+    ensures is { result ≡ looked_up operations (funct7_funct3 word) word }
+    ensures back { opcode word ≡ OP → IfSome result (λ i. Fits i × (encoding i ≡ word)) }
+{
+    let (rd, rs1, rs2) = (rd_of(word), rs1_of(word), rs2_of(word));
+    Some(match funct3_of(word) {
+        0 => Instr::Mul { rd, rs1, rs2 },
+        1 => Instr::Mulh { rd, rs1, rs2 },
+        2 => Instr::Mulhsu { rd, rs1, rs2 },
+        3 => Instr::Mulhu { rd, rs1, rs2 },
+        4 => Instr::Div { rd, rs1, rs2 },
+        5 => Instr::Divu { rd, rs1, rs2 },
+        6 => Instr::Rem { rd, rs1, rs2 },
+        _ => Instr::Remu { rd, rs1, rs2 },
+    })
+}
+
 /// "Integer Register-Register Operations".
 fn operation_of(word: u32) -> Option<Instr>
     ensures is { result ≡ looked_up operations (funct7_funct3 word) word }
@@ -105,14 +125,15 @@ fn operation_of(word: u32) -> Option<Instr>
         (ALTERNATE, 5) => Some(Instr::Sra { rd, rs1, rs2 }),
         (0, 6) => Some(Instr::Or { rd, rs1, rs2 }),
         (0, 7) => Some(Instr::And { rd, rs1, rs2 }),
+        (MULDIV, _) => muldiv_of(word),
         _ => None,
     }
 }
 
 /// The instruction that a word stands for, or None where the word is illegal.
 ///
-/// "RV32I Base Integer Instruction Set" of the RISC-V Unprivileged ISA manual. The instruction fits
-/// (`Instr::fits`), and `encode` of it is the word.
+/// "RV32I Base Integer Instruction Set" and "'M' Extension for Integer Multiplication and Division" of the RISC-V
+/// Unprivileged ISA manual. The instruction fits (`Instr::fits`), and `encode` of it is the word.
 pub fn decode(word: u32) -> Option<Instr>
     ensures is { result ≡ instruction_of word }
     ensures encodes_back { IfSome result (λ i. Fits i × (encoding i ≡ word)) }

@@ -5,7 +5,7 @@ ghost use Rattle.isa.specs.Words.{field, instruction_of};
 ghost use Rattle.isa.specs.Encodings.{Fits, encoding, low, fields, i_form, s_form, b_form, u_form, j_form, r_form};
 
 use crate::fields::{
-    ALTERNATE, AUIPC, BRANCH, JAL, JALR, LOAD, LUI, MISC_MEM, OP, OP_IMM, STORE, bits,
+    ALTERNATE, AUIPC, BRANCH, JAL, JALR, LOAD, LUI, MISC_MEM, MULDIV, OP, OP_IMM, STORE, bits,
 };
 use isa::Instr;
 
@@ -160,6 +160,14 @@ pub fn encode(instr: &Instr) -> u32
         Instr::Sra { rd, rs1, rs2 } => r_word(5, rd, rs1, rs2, ALTERNATE),
         Instr::Or { rd, rs1, rs2 } => r_word(6, rd, rs1, rs2, 0),
         Instr::And { rd, rs1, rs2 } => r_word(7, rd, rs1, rs2, 0),
+        Instr::Mul { rd, rs1, rs2 } => r_word(0, rd, rs1, rs2, MULDIV),
+        Instr::Mulh { rd, rs1, rs2 } => r_word(1, rd, rs1, rs2, MULDIV),
+        Instr::Mulhsu { rd, rs1, rs2 } => r_word(2, rd, rs1, rs2, MULDIV),
+        Instr::Mulhu { rd, rs1, rs2 } => r_word(3, rd, rs1, rs2, MULDIV),
+        Instr::Div { rd, rs1, rs2 } => r_word(4, rd, rs1, rs2, MULDIV),
+        Instr::Divu { rd, rs1, rs2 } => r_word(5, rd, rs1, rs2, MULDIV),
+        Instr::Rem { rd, rs1, rs2 } => r_word(6, rd, rs1, rs2, MULDIV),
+        Instr::Remu { rd, rs1, rs2 } => r_word(7, rd, rs1, rs2, MULDIV),
         Instr::Fence { kept } => fence_word(kept),
         Instr::Ecall => 0x0000_0073,
         Instr::Ebreak => 0x0010_0073,

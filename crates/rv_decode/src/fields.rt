@@ -24,8 +24,10 @@ pub const AUIPC: u8 = 0b001_0111;
 
 pub const MISC_MEM: u8 = 0b000_1111;
 
-/// The funct7 of SUB, SRA and SRAI. All others have 0.
+/// The funct7 of SUB, SRA and SRAI.
 pub const ALTERNATE: u8 = 0b010_0000;
+/// The funct7 of multiplications and divisions. All others have 0.
+pub const MULDIV: u8 = 0b000_0001;
 
 /// The `width` bits of a word from bit `low` up.
 pub fn bits(word: u32, low: u32, width: u32) -> u32
