@@ -41,6 +41,8 @@ fn rule_named(name: &[u8]) -> Option<Rule>
         Some(Rule::Copy)
     } else if name == b"compute".as_slice() {
         Some(Rule::Compute)
+    } else if name == b"index".as_slice() {
+        Some(Rule::Index)
     } else {
         None
     }
