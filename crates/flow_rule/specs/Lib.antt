@@ -1,3 +1,1 @@
-pub mod Locations
-pub mod Flows
 pub mod Shapes

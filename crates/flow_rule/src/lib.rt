@@ -2,15 +2,10 @@
 //! calls, and the messages that carry locations and source bytes between the parts of an analysis.
 #![tactic(auto)]
 
-mod flows;
-mod locations;
 mod shape;
-mod table;
 
 pub use flow_model::{Loc, Rule, SinkByte, SourceByte};
-pub use flows::Flow;
-pub use shape::Shape;
-pub use table::{cleared, flow};
+pub use shape::{Shape, shape_of};
 
 /// What the parts of an analysis send each other: a question for a location's origins, one of its source
 /// bytes, the end of a location's source bytes, and the end of all, which says whether nothing was lost.
@@ -21,6 +16,3 @@ pub enum Message {
     Close(Loc),
     End { whole: bool },
 }
-
-#[cfg(test)]
-mod tests;
