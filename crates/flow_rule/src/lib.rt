@@ -2,10 +2,15 @@
 //! calls, and the messages that carry locations and source bytes between the parts of an analysis.
 #![tactic(auto)]
 
+mod flows;
+mod locations;
 mod shape;
+mod table;
 
 pub use flow_model::{Loc, Rule, SinkByte, SourceByte};
+pub use flows::Flow;
 pub use shape::{Shape, shape_of};
+pub use table::{cleared, flow};
 
 /// What the parts of an analysis send each other: a question for a location's origins, one of its source
 /// bytes, the end of a location's source bytes, and the end of all, which says whether nothing was lost.
@@ -16,3 +21,6 @@ pub enum Message {
     Close(Loc),
     End { whole: bool },
 }
+
+#[cfg(test)]
+mod tests;
