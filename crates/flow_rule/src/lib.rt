@@ -14,7 +14,7 @@ pub use table::{cleared, flow};
 
 /// What the parts of an analysis send each other: a question for a location's origins, one of its source
 /// bytes, the end of a location's source bytes, and the end of all, which says whether nothing was lost.
-#[derive(Clone, Copy, Debug, PartialEq, Eq)]
+#[derive(Clone, Copy)]
 pub enum Message {
     Ask(Loc),
     Byte(SourceByte),
