@@ -1,4 +1,4 @@
-//! Which locations' content flows where in one step of a run: the flow table of RV32I and of the guest
+//! Which locations' content flows where in one step of a run: the flow table of RV32IM and of the guest
 //! calls, and the messages that carry locations and source bytes between the parts of an analysis.
 #![tactic(auto)]
 

@@ -170,13 +170,10 @@ fn loaded_lane(base: u8, place: u32, size: u8, fills: bool, i: u8) -> Locations
     requires { 1 ≤ size }
     ensures { locs_of result ≡ shapes.loaded_lane fills base place size i }
 {
-    if i < size {
-        loaded_byte(base, place, i)
-    } else if fills {
-        loaded_byte(base, place, size - 1)
-    } else {
-        Locations::Empty
+    if i >= size && !fills {
+        return Locations::Empty;
     }
+    loaded_byte(base, place, i.min(size - 1))
 }
 
 fn loaded_byte(base: u8, place: u32, i: u8) -> Locations
