@@ -1,2 +1,2 @@
-pub mod Rows
+pub mod Shapes
 pub mod Tables

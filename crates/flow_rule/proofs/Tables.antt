@@ -10,9 +10,8 @@ use Rattle.flow_model.specs.Flow.{Target}
 use Rattle.flow_rule.specs.declared.flows.Targets.{Targets}
 use Rattle.flow_rule.specs.declared.flows.Origins.{Origins}
 use Rattle.flow_rule.specs.declared.flows.Origins.TheVariants.{Same, First, Each}
-use Rattle.flow_rule.specs.declared.locations.Many.{Many}
-use Rattle.flow_rule.specs.declared.locations.Few.{Few}
-use Rattle.flow_rule.specs.Locations.{many_locs}
+use Rattle.flow_rule.specs.declared.locations.Locations.{Locations}
+use Rattle.flow_rule.specs.Locations.{locs_of}
 use Rattle.flow_rule.specs.Flows.{count_of, room_of, target_at, origins_at, table_of}
 
 -- one of a list made from numbers
@@ -48,9 +47,9 @@ room_small (Each lanes) = omega arith
 pub index_small : (targets : Targets) (origins : Origins) (xs : List Target) (i : ℕ) → count_of targets ≤ room_of origins → table_of targets origins ≡ xs → i < length xs → i < 8
 index_small targets origins xs i r e h = omega (arith, length_is targets origins xs e, room_small origins)
 
-pub lane_small : (targets : Targets) (origins : Origins) (lanes : List Few) (xs : List Target) (i : ℕ) → count_of targets ≤ room_of origins → table_of targets origins ≡ xs → origins ≡ Each lanes → i < length xs → i < 4
+pub lane_small : (targets : Targets) (origins : Origins) (lanes : List Locations) (xs : List Target) (i : ℕ) → count_of targets ≤ room_of origins → table_of targets origins ≡ xs → origins ≡ Each lanes → i < length xs → i < 4
 lane_small targets origins lanes xs i r e is h = omega (arith, length_is targets origins xs e, ap room_of is)
 
 -- from the second target on
-pub none_at : (locs : Many) (i : ℕ) → i ≢ 0 → origins_at (First locs) i ≡ []
-none_at locs i h = ap (λ (b : Bool). if b then many_locs locs else []) (ne_eqb i 0 h)
+pub none_at : (locs : Locations) (i : ℕ) → i ≢ 0 → origins_at (First locs) i ≡ []
+none_at locs i h = ap (λ (b : Bool). if b then locs_of locs else []) (ne_eqb i 0 h)

@@ -10,7 +10,7 @@ use Rattle.flow_rule.specs.declared.flows.Targets.{Targets}
 use Rattle.flow_rule.specs.declared.flows.Targets.TheVariants.{Register, TwoRegisters, Memory}
 use Rattle.flow_rule.specs.declared.flows.Origins.{Origins}
 use Rattle.flow_rule.specs.declared.flows.Origins.TheVariants.{Same, First, Each}
-use Rattle.flow_rule.specs.Locations.{many_locs, few_locs}
+use Rattle.flow_rule.specs.Locations.{locs_of}
 
 abbrev pub count_of : Targets → ℕ
 count_of (Register number) = 4
@@ -23,9 +23,9 @@ target_at (TwoRegisters first second) i = if nat_lt i 4 then Reg first i else Re
 target_at (Memory address count) i = Mem (wrap (address + i))
 
 abbrev pub origins_at : Origins → ℕ → List Loc
-origins_at (Same locs) i = many_locs locs
-origins_at (First locs) i = if i == 0 then many_locs locs else []
-origins_at (Each lanes) i = option_map_or few_locs (slice_get lanes i) []
+origins_at (Same locs) i = locs_of locs
+origins_at (First locs) i = if i == 0 then locs_of locs else []
+origins_at (Each lanes) i = option_map_or locs_of (slice_get lanes i) []
 
 -- for how many targets there are origins
 abbrev pub room_of : Origins → ℕ

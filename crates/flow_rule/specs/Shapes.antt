@@ -1,7 +1,9 @@
 -- The targets of an instruction's flow, by its shape.
-use Rattle.std.specs.Prelude.{ℕ, Bool, true, false, List, []}
+use Rattle.std.specs.Prelude.{ℕ, ℤ, pos, ◌==◌, ◌<◌, ◌≤◌, Bool, true, false, if◌then◌else◌, List, []}
+use Rattle.std.specs.Ordering.{int_eq}
 use Rattle.flow_model.specs.declared.Loc.{Loc}
-use Rattle.flow_model.specs.declared.Rule.TheVariants.{Index}
+use Rattle.flow_model.specs.declared.Rule.{Rule}
+use Rattle.flow_model.specs.declared.Rule.TheVariants.{Copy, Compute, Index}
 use Rattle.flow_model.specs.Flow.{Target, lane, to_register, to_memory, nothing, in_first_lane, each_lane, all_lanes, shifted_lanes, with_base, loaded_byte, sign_extended_byte}
 use Rattle.flow_rule.specs.declared.shape.Shape.{Shape}
 use Rattle.flow_rule.specs.declared.shape.Shape.TheVariants.{Nothing, Clear, Move, EachLane, AllLanes, ShiftedLanes, FirstLane, Load, Store}
@@ -22,3 +24,54 @@ targets_of (ShiftedLanes d a b) = to_register d (shifted_lanes a b)
 targets_of (FirstLane d a b) = to_register d (in_first_lane (all_lanes a b 0))
 targets_of (Load d base place size fills) = to_register d (loaded_lane fills base place size)
 targets_of (Store r base place size) = to_memory place size (λ i. with_base Index base (lane r i))
+
+-- a load or a store moves 1 to 4 bytes
+abbrev pub HasSizes : Shape → Type 0
+HasSizes Nothing = Unit {0}
+HasSizes (Clear d) = Unit {0}
+HasSizes (Move d r) = Unit {0}
+HasSizes (EachLane d a b) = Unit {0}
+HasSizes (AllLanes d a b) = Unit {0}
+HasSizes (ShiftedLanes d a b) = Unit {0}
+HasSizes (FirstLane d a b) = Unit {0}
+HasSizes (Load d base place size fills) = (1 ≤ size) × (size ≤ 4)
+HasSizes (Store r base place size) = (1 ≤ size) × (size ≤ 4)
+
+-- all of its registers are below 32
+abbrev pub HasRegisters : Shape → Type 0
+HasRegisters Nothing = Unit {0}
+HasRegisters (Clear d) = d < 32
+HasRegisters (Move d r) = (d < 32) × (r < 32)
+HasRegisters (EachLane d a b) = (d < 32) × (a < 32) × (b < 32)
+HasRegisters (AllLanes d a b) = (d < 32) × (a < 32) × (b < 32)
+HasRegisters (ShiftedLanes d a b) = (d < 32) × (a < 32) × (b < 32)
+HasRegisters (FirstLane d a b) = (d < 32) × (a < 32) × (b < 32)
+HasRegisters (Load d base place size fills) = (d < 32) × (base < 32)
+HasRegisters (Store r base place size) = (r < 32) × (base < 32)
+
+-- ---- what the rule makes of a shape
+
+-- what is computed does not flow under the rule copy
+abbrev pub computed_shape : Rule → ℕ → Shape → Shape
+computed_shape Copy d shape = Clear d
+computed_shape Compute d shape = shape
+computed_shape Index d shape = shape
+
+-- a load that extends the sign computes the lanes above
+abbrev pub fills_by : Rule → Bool
+fills_by Copy = false
+fills_by Compute = true
+fills_by Index = true
+
+-- the base counts under the rule index alone
+abbrev pub base_of : Rule → ℕ → ℕ
+base_of Copy a = 0
+base_of Compute a = 0
+base_of Index a = a
+
+-- a move where a source is x0, or where the immediate that is added is 0
+abbrev pub moved_shape_or : ℕ → ℕ → ℕ → Shape → Shape
+moved_shape_or d a b otherwise = if a == 0 then Move d b else if b == 0 then Move d a else otherwise
+
+abbrev pub added_shape : Rule → ℕ → ℕ → ℤ → Shape
+added_shape rule d a imm = if int_eq imm (pos 0) then Move d a else computed_shape rule d (AllLanes d a 0)

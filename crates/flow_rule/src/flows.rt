@@ -4,7 +4,7 @@ ghost use Rattle.std.specs.Prelude.{◌≡◌, ◌<◌, ◌≤◌, map, length, 
 ghost use Rattle.flow_model.specs.Flow as table;
 ghost use Rattle.flow_rule.specs.Flows.{room_of, count_of, table_of, origins_at};
 
-use crate::locations::{Few, Many};
+use crate::locations::Locations;
 use flow_model::Loc;
 use std::marker::Model;
 
@@ -23,11 +23,11 @@ pub enum Targets {
 #[derive(Clone, Copy)]
 pub enum Origins {
     /// Each target has these.
-    Same(Many),
+    Same(Locations),
     /// The first target has these, and the others have none.
-    First(Many),
+    First(Locations),
     /// Each target has its own.
-    Each([Few; 4]),
+    Each([Locations; 4]),
 }
 
 /// Which locations' content flows where in one step: at most eight targets, each with at most eight
@@ -109,7 +109,7 @@ impl Flow {
     }
 }
 
-fn lane_of(lanes: &[Few; 4], i: usize) -> &[Loc]
+fn lane_of(lanes: &[Locations; 4], i: usize) -> &[Loc]
     requires { i < 4 }
     ensures value { result.now ≡ origins_at (Origins.Each lanes.now) i }
     ensures few { length result.now ≤ 8 }

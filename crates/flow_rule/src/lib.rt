@@ -1,4 +1,4 @@
-//! Which locations' content flows where in one step of a run: the flow table of RV32I and of the guest
+//! Which locations' content flows where in one step of a run: the flow table of RV32IM and of the guest
 //! calls, and the messages that carry locations and source bytes between the parts of an analysis.
 #![tactic(auto)]
 
@@ -9,12 +9,12 @@ mod table;
 
 pub use flow_model::{Loc, Rule, SinkByte, SourceByte};
 pub use flows::Flow;
-pub use shape::Shape;
+pub use shape::{Shape, shape_of};
 pub use table::{cleared, flow};
 
 /// What the parts of an analysis send each other: a question for a location's origins, one of its source
 /// bytes, the end of a location's source bytes, and the end of all, which says whether nothing was lost.
-#[derive(Clone, Copy, Debug, PartialEq, Eq)]
+#[derive(Clone, Copy)]
 pub enum Message {
     Ask(Loc),
     Byte(SourceByte),

@@ -1,87 +1,128 @@
 //! Short lists of locations, on the stack, each ascending and without repeats.
 
-ghost use Rattle.std.specs.Prelude.{◌≡◌, ◌≤◌, ◌++◌, length};
-ghost use Rattle.flow_model.specs.declared.Loc.TheVariants.{Reg};
+ghost use Rattle.std.specs.Prelude.{◌≡◌, ◌<◌, ◌≤◌, ◌∷◌, ◌++◌, [], length};
+ghost use Rattle.flow_model.specs.declared.Loc.TheVariants.{Reg, Mem};
+ghost use Rattle.flow_model.specs.declared.Rule.TheVariants.{Index};
 ghost use Rattle.flow_model.specs.Flow as model;
-ghost use Rattle.flow_rule.specs.Locations.{many_locs, few_locs, four_lanes};
+ghost use Rattle.flow_rule.specs.Locations.{locs_of, four_lanes};
 
 use flow_model::Loc;
 
 /// At most eight locations: as many as the lanes of two registers.
 #[derive(Clone, Copy)]
-pub enum Many {
+pub enum Locations {
     Empty,
     One([Loc; 1]),
+    Two([Loc; 2]),
     Four([Loc; 4]),
     Five([Loc; 5]),
     Eight([Loc; 8]),
 }
 
-impl Many {
+impl Locations {
     pub fn as_slice(&self) -> &[Loc]
-        ensures value { result.now ≡ many_locs self.now }
+        ensures value { result.now ≡ locs_of self.now }
         ensures short { length result.now ≤ 8 }
     {
         match self {
-            Many::Empty => &[],
-            Many::One(locs) => locs,
-            Many::Four(locs) => locs,
-            Many::Five(locs) => locs,
-            Many::Eight(locs) => locs,
+            Locations::Empty => &[],
+            Locations::One(locs) => locs,
+            Locations::Two(locs) => locs,
+            Locations::Four(locs) => locs,
+            Locations::Five(locs) => locs,
+            Locations::Eight(locs) => locs,
         }
+    }
+
+    /// One lane of a register; x0 has none.
+    pub fn lane(number: u8, lane: u8) -> Self
+        ensures { locs_of result ≡ model.lane number lane }
+    {
+        if number == 0 {
+            Locations::Empty
+        } else {
+            Locations::One([register_lane(number, lane)])
+        }
+    }
+
+    /// The same lane of two registers.
+    pub fn each_lane(a: u8, b: u8, lane: u8) -> Self
+        ensures { locs_of result ≡ model.each_lane a b lane }
+    {
+        if a == 0 || a == b {
+            return Locations::lane(b, lane);
+        }
+        if b == 0 {
+            return Locations::lane(a, lane);
+        }
+        let (low, high) = if a < b { (a, b) } else { (b, a) };
+        Locations::Two([register_lane(low, lane), register_lane(high, lane)])
     }
 
     /// The lanes of a register; x0 has none.
     pub fn lanes(number: u8) -> Self
-        ensures { many_locs result ≡ model.lanes number }
+        ensures { locs_of result ≡ model.lanes number }
     {
         if number == 0 {
-            Many::Empty
+            Locations::Empty
         } else {
-            Many::Four(four(number))
+            Locations::Four(four(number))
         }
     }
 
     /// All lanes of two registers.
     pub fn all_lanes(a: u8, b: u8) -> Self
-        ensures { many_locs result ≡ model.all_lanes a b 0 }
+        ensures { locs_of result ≡ model.all_lanes a b 0 }
     {
         if a == 0 || a == b {
-            Many::lanes(b)
+            Locations::lanes(b)
         } else if b == 0 {
-            Many::lanes(a)
+            Locations::lanes(a)
         } else if a < b {
-            Many::joined(a, b)
+            Locations::joined(a, b)
         } else {
-            Many::joined(b, a)
+            Locations::joined(b, a)
         }
     }
 
     fn joined(low: u8, high: u8) -> Self
-        ensures { many_locs result ≡ four_lanes low ++ four_lanes high }
+        ensures { locs_of result ≡ four_lanes low ++ four_lanes high }
     {
         let [a, b, c, d] = four(low);
         let [e, f, g, h] = four(high);
-        Many::Eight([a, b, c, d, e, f, g, h])
+        Locations::Eight([a, b, c, d, e, f, g, h])
     }
 
-    /// All lanes of a value that is shifted, and the lowest one of its shift amount.
-    pub fn shifted_lanes(value: u8, amount: u8) -> Self
-        ensures { many_locs result ≡ model.shifted_lanes value amount 0 }
+    /// All lanes of a register, and one lane of another.
+    pub fn lanes_and_one(number: u8, other: u8, lane: u8) -> Self
+        requires { lane < 4 }
+        ensures { locs_of result ≡ model.with_base Index number (model.lane other lane) }
     {
-        if amount == 0 || value == amount {
-            return Many::lanes(value);
+        if other == 0 || number == other {
+            return Locations::lanes(number);
         }
-        let lowest = register_lane(amount, 0);
-        if value == 0 {
-            return Many::One([lowest]);
+        if number == 0 {
+            return Locations::lane(other, lane);
         }
-        let [a, b, c, d] = four(value);
-        if value < amount {
-            Many::Five([a, b, c, d, lowest])
+        let [a, b, c, d] = four(number);
+        let one = register_lane(other, lane);
+        if number < other {
+            Locations::Five([a, b, c, d, one])
         } else {
-            Many::Five([lowest, a, b, c, d])
+            Locations::Five([one, a, b, c, d])
         }
+    }
+
+    /// All lanes of a register, and a byte of memory.
+    pub fn lanes_and_byte(number: u8, place: u32) -> Self
+        ensures { locs_of result ≡ model.with_base Index number (Mem place ∷ []) }
+    {
+        let byte = Loc::Mem { place };
+        if number == 0 {
+            return Locations::One([byte]);
+        }
+        let [a, b, c, d] = four(number);
+        Locations::Five([a, b, c, d, byte])
     }
 }
 
@@ -100,50 +141,4 @@ fn register_lane(number: u8, lane: u8) -> Loc
     ensures { result ≡ Reg number lane }
 {
     Loc::Reg { number, lane }
-}
-
-/// At most two locations: as many as one lane of two registers.
-#[derive(Clone, Copy)]
-pub enum Few {
-    Empty,
-    One([Loc; 1]),
-    Two([Loc; 2]),
-}
-
-impl Few {
-    pub fn as_slice(&self) -> &[Loc]
-        ensures value { result.now ≡ few_locs self.now }
-        ensures short { length result.now ≤ 8 }
-    {
-        match self {
-            Few::Empty => &[],
-            Few::One(locs) => locs,
-            Few::Two(locs) => locs,
-        }
-    }
-
-    /// One lane of a register; x0 has none.
-    pub fn lane(number: u8, lane: u8) -> Self
-        ensures { few_locs result ≡ model.lane number lane }
-    {
-        if number == 0 {
-            Few::Empty
-        } else {
-            Few::One([register_lane(number, lane)])
-        }
-    }
-
-    /// The same lane of two registers.
-    pub fn each_lane(a: u8, b: u8, lane: u8) -> Self
-        ensures { few_locs result ≡ model.each_lane a b lane }
-    {
-        if a == 0 || a == b {
-            return Few::lane(b, lane);
-        }
-        if b == 0 {
-            return Few::lane(a, lane);
-        }
-        let (low, high) = if a < b { (a, b) } else { (b, a) };
-        Few::Two([register_lane(low, lane), register_lane(high, lane)])
-    }
 }

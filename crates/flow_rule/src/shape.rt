@@ -1,7 +1,16 @@
-//! The flow of an instruction, by its shape.
+//! The flow of an instruction, by its shape: the flow table, instruction by instruction.
+
+ghost use Rattle.std.specs.Prelude.{◌≡◌, false};
+ghost use Rattle.isa.specs.Encodings.{Fits};
+ghost use Rattle.flow_model.specs.Flow as model;
+ghost use Rattle.flow_rule.specs.Shapes.{targets_of, HasSizes, HasRegisters, computed_shape, moved_shape_or, added_shape, base_of, fills_by};
+
+use flow_model::Rule;
+use isa::Instr;
 
 /// Which locations' content flows where in one plain step. Registers are below 32; x0 is no target, and has no lanes. A
-/// `base` is the register that holds the base address where that counts, and x0 elsewhere.
+/// `base` is the register that holds the base address where that counts, and x0
+/// elsewhere.
 #[derive(Clone, Copy)]
 pub enum Shape {
     /// No location changes.
@@ -56,4 +65,160 @@ pub enum Shape {
         place: u32,
         size: u8,
     },
+}
+
+/// The shape of an instruction's flow under a rule. `place` is the effective address of a load or a store; the places of
+/// their bytes wrap.
+pub fn shape_of(instr: &Instr, place: u32, rule: Rule) -> Shape
+    ensures targets { targets_of result ≡ model.flow rule instr.now place }
+    ensures sizes { HasSizes result }
+    ensures registers { Fits instr.now → HasRegisters result }
+{
+    match *instr {
+        Instr::Lw { rd, rs1, .. } => load(rule, rd, rs1, place, 4),
+        Instr::Lhu { rd, rs1, .. } => load(rule, rd, rs1, place, 2),
+        Instr::Lbu { rd, rs1, .. } => load(rule, rd, rs1, place, 1),
+        Instr::Lh { rd, rs1, .. } => signed_load(rule, rd, rs1, place, 2),
+        Instr::Lb { rd, rs1, .. } => signed_load(rule, rd, rs1, place, 1),
+        Instr::Sw { rs1, rs2, .. } => store(rule, rs1, rs2, place, 4),
+        Instr::Sh { rs1, rs2, .. } => store(rule, rs1, rs2, place, 2),
+        Instr::Sb { rs1, rs2, .. } => store(rule, rs1, rs2, place, 1),
+
+        Instr::Addi { rd, rs1, imm } => added(rule, rd, rs1, imm),
+        Instr::Add { rd, rs1, rs2 } => {
+            let sum = computed(rule, rd, Shape::AllLanes { rd, rs1, rs2 });
+            moved_or(rd, rs1, rs2, sum)
+        }
+        Instr::Or { rd, rs1, rs2 } | Instr::Xor { rd, rs1, rs2 } => {
+            let bits = computed(rule, rd, Shape::EachLane { rd, rs1, rs2 });
+            moved_or(rd, rs1, rs2, bits)
+        }
+        Instr::And { rd, rs1, rs2 } => computed(rule, rd, Shape::EachLane { rd, rs1, rs2 }),
+        Instr::Andi { rd, rs1, .. } | Instr::Ori { rd, rs1, .. } | Instr::Xori { rd, rs1, .. } => {
+            computed(rule, rd, Shape::Move { rd, rs: rs1 })
+        }
+
+        Instr::Sub { rd, rs1, rs2 }
+        | Instr::Mul { rd, rs1, rs2 }
+        | Instr::Mulh { rd, rs1, rs2 }
+        | Instr::Mulhsu { rd, rs1, rs2 }
+        | Instr::Mulhu { rd, rs1, rs2 }
+        | Instr::Div { rd, rs1, rs2 }
+        | Instr::Divu { rd, rs1, rs2 }
+        | Instr::Rem { rd, rs1, rs2 }
+        | Instr::Remu { rd, rs1, rs2 } => computed(rule, rd, Shape::AllLanes { rd, rs1, rs2 }),
+        Instr::Slli { rd, rs1, .. } | Instr::Srli { rd, rs1, .. } | Instr::Srai { rd, rs1, .. } => {
+            computed(rule, rd, Shape::AllLanes { rd, rs1, rs2: 0 })
+        }
+        Instr::Sll { rd, rs1, rs2 } | Instr::Srl { rd, rs1, rs2 } | Instr::Sra { rd, rs1, rs2 } => {
+            computed(rule, rd, Shape::ShiftedLanes { rd, rs1, rs2 })
+        }
+        Instr::Slt { rd, rs1, rs2 } | Instr::Sltu { rd, rs1, rs2 } => computed(
+            rule,
+            rd,
+            Shape::FirstLane { rd, rs1, rs2 },
+        ),
+        Instr::Slti { rd, rs1, .. } | Instr::Sltiu { rd, rs1, .. } => {
+            computed(rule, rd, Shape::FirstLane { rd, rs1, rs2: 0 })
+        }
+
+        Instr::Lui { rd, .. }
+        | Instr::Auipc { rd, .. }
+        | Instr::Jal { rd, .. }
+        | Instr::Jalr { rd, .. } => { Shape::Clear { rd } }
+        Instr::Beq { .. }
+        | Instr::Bne { .. }
+        | Instr::Blt { .. }
+        | Instr::Bge { .. }
+        | Instr::Bltu { .. }
+        | Instr::Bgeu { .. }
+        | Instr::Fence { .. }
+        | Instr::Ecall
+        | Instr::Ebreak => Shape::Nothing,
+    }
+}
+
+/// What is computed does not flow under [`Rule::Copy`].
+fn computed(rule: Rule, rd: u8, shape: Shape) -> Shape
+    ensures { result ≡ computed_shape rule rd shape }
+{
+    match rule {
+        Rule::Copy => Shape::Clear { rd },
+        Rule::Compute | Rule::Index => shape,
+    }
+}
+
+/// With x0 as a source the instruction is a move of the other one.
+fn moved_or(rd: u8, rs1: u8, rs2: u8, otherwise: Shape) -> Shape
+    ensures { result ≡ moved_shape_or rd rs1 rs2 otherwise }
+{
+    if rs1 == 0 {
+        Shape::Move { rd, rs: rs2 }
+    } else if rs2 == 0 {
+        Shape::Move { rd, rs: rs1 }
+    } else {
+        otherwise
+    }
+}
+
+/// With an immediate of 0 an addition is a move.
+fn added(rule: Rule, rd: u8, rs1: u8, imm: i32) -> Shape
+    ensures { result ≡ added_shape rule rd rs1 imm }
+{
+    if imm == 0 {
+        Shape::Move { rd, rs: rs1 }
+    } else {
+        computed(rule, rd, Shape::AllLanes { rd, rs1, rs2: 0 })
+    }
+}
+
+/// The lanes above the bytes become empty.
+fn load(rule: Rule, rd: u8, rs1: u8, place: u32, size: u8) -> Shape
+    ensures { result ≡ Shape.Load rd (base_of rule rs1) place size false }
+{
+    Shape::Load {
+        rd,
+        base: base(rule, rs1),
+        place,
+        size,
+        fills: false,
+    }
+}
+
+/// The lanes above the bytes are computed from the highest one.
+fn signed_load(rule: Rule, rd: u8, rs1: u8, place: u32, size: u8) -> Shape
+    ensures { result ≡ Shape.Load rd (base_of rule rs1) place size (fills_by rule) }
+{
+    let fills = match rule {
+        Rule::Copy => false,
+        Rule::Compute | Rule::Index => true,
+    };
+    Shape::Load {
+        rd,
+        base: base(rule, rs1),
+        place,
+        size,
+        fills,
+    }
+}
+
+fn store(rule: Rule, rs1: u8, rs2: u8, place: u32, size: u8) -> Shape
+    ensures { result ≡ Shape.Store rs2 (base_of rule rs1) place size }
+{
+    Shape::Store {
+        rs: rs2,
+        base: base(rule, rs1),
+        place,
+        size,
+    }
+}
+
+/// The register that holds the base address counts under [`Rule::Index`] alone.
+fn base(rule: Rule, rs1: u8) -> u8
+    ensures { result ≡ base_of rule rs1 }
+{
+    match rule {
+        Rule::Copy | Rule::Compute => 0,
+        Rule::Index => rs1,
+    }
 }

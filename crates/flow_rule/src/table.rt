@@ -1,17 +1,18 @@
-//! The flow table: which locations' content flows where, instruction by instruction, and what a guest
+//! Which locations' content flows where, as a table of targets: what an instruction moves, by its shape, and what a guest
 //! call empties.
 
-ghost use Rattle.std.specs.Prelude.{◌≡◌, pos, if◌then◌else◌, ◌≤◌, ◌+◌, [], ◌∷◌};
-ghost use Rattle.std.specs.Ordering.{int_eq};
-ghost use Rattle.flow_model.specs.declared.Loc.TheVariants.{Mem};
-ghost use Rattle.isa.specs.Machine.{wrap};
+ghost use Rattle.std.specs.Prelude.{◌≡◌, ◌≤◌, ◌+◌, []};
+ghost use Rattle.flow_model.specs.declared.Rule.TheVariants.{Index};
 ghost use Rattle.flow_model.specs.Flow as model;
-ghost use Rattle.flow_rule.specs.Locations.{few_locs};
+ghost use Rattle.flow_rule.specs.Locations.{locs_of};
 ghost use Rattle.flow_rule.specs.Flows.{by_lane, origins_at};
+ghost use Rattle.flow_rule.specs.Shapes.{targets_of, HasSizes};
+ghost use Rattle.flow_rule.specs.Shapes as shapes;
 
 use crate::flows::{Flow, Origins, Targets};
-use crate::locations::{Few, Many};
-use flow_model::{Loc, Rule};
+use crate::locations::Locations;
+use crate::shape::{Shape, shape_of};
+use flow_model::Rule;
 use isa::{CallKind, Instr};
 
 /// The targets of an instruction, and which locations' content before it flows into each. `place` is the
@@ -19,61 +20,7 @@ use isa::{CallKind, Instr};
 pub fn flow(instr: &Instr, place: u32, rule: Rule) -> Flow
     ensures { result ≡ model.flow rule instr.now place }
 {
-    match *instr {
-        Instr::Lw { rd, .. } => to_register(rd, loaded(place, 4)),
-        Instr::Lh { rd, .. } => to_register(rd, signed_load(rule, place, 2)),
-        Instr::Lhu { rd, .. } => to_register(rd, loaded(place, 2)),
-        Instr::Lb { rd, .. } => to_register(rd, signed_load(rule, place, 1)),
-        Instr::Lbu { rd, .. } => to_register(rd, loaded(place, 1)),
-
-        Instr::Sb { rs2, .. } => to_memory(place, 1, lane_by_lane(rs2)),
-        Instr::Sh { rs2, .. } => to_memory(place, 2, lane_by_lane(rs2)),
-        Instr::Sw { rs2, .. } => to_memory(place, 4, lane_by_lane(rs2)),
-
-        Instr::Addi { rd, rs1, imm } => to_register(rd, added_immediate(rule, rs1, imm)),
-        Instr::Add { rd, rs1, rs2 } => to_register(
-            rd,
-            moved_or(rs1, rs2, computed(rule, all_lanes(rs1, rs2))),
-        ),
-        Instr::Or { rd, rs1, rs2 } | Instr::Xor { rd, rs1, rs2 } => {
-            to_register(rd, moved_or(rs1, rs2, computed(rule, each_lane(rs1, rs2))))
-        }
-        Instr::Sub { rd, rs1, rs2 } => to_register(rd, computed(rule, all_lanes(rs1, rs2))),
-        Instr::And { rd, rs1, rs2 } => to_register(rd, computed(rule, each_lane(rs1, rs2))),
-        Instr::Andi { rd, rs1, .. } | Instr::Ori { rd, rs1, .. } | Instr::Xori { rd, rs1, .. } => {
-            to_register(rd, computed(rule, lane_by_lane(rs1)))
-        }
-
-        Instr::Slli { rd, rs1, .. } | Instr::Srli { rd, rs1, .. } | Instr::Srai { rd, rs1, .. } => {
-            to_register(rd, computed(rule, all_lanes_of(rs1)))
-        }
-        Instr::Sll { rd, rs1, rs2 } | Instr::Srl { rd, rs1, rs2 } | Instr::Sra { rd, rs1, rs2 } => {
-            to_register(rd, computed(rule, shifted_lanes(rs1, rs2)))
-        }
-        Instr::Slt { rd, rs1, rs2 } | Instr::Sltu { rd, rs1, rs2 } => {
-            to_register(
-                rd,
-                computed(rule, Origins::First(Many::all_lanes(rs1, rs2))),
-            )
-        }
-        Instr::Slti { rd, rs1, .. } | Instr::Sltiu { rd, rs1, .. } => {
-            to_register(rd, computed(rule, Origins::First(Many::lanes(rs1))))
-        }
-
-        Instr::Lui { rd, .. }
-        | Instr::Auipc { rd, .. }
-        | Instr::Jal { rd, .. }
-        | Instr::Jalr { rd, .. } => to_register(rd, nothing()),
-        Instr::Beq { .. }
-        | Instr::Bne { .. }
-        | Instr::Blt { .. }
-        | Instr::Bge { .. }
-        | Instr::Bltu { .. }
-        | Instr::Bgeu { .. }
-        | Instr::Fence { .. }
-        | Instr::Ecall
-        | Instr::Ebreak => untouched(),
-    }
+    of_shape(shape_of(instr, place, rule))
 }
 
 /// The registers that a guest call empties: none of the bytes of its result comes from what was read. The
@@ -85,6 +32,34 @@ pub fn cleared(kind: CallKind) -> Flow
         CallKind::Read | CallKind::Write | CallKind::Other => to_register(10, nothing()),
         CallKind::Clock => Flow::new(Targets::TwoRegisters(10, 11), nothing()),
         CallKind::Exit => untouched(),
+    }
+}
+
+fn of_shape(shape: Shape) -> Flow
+    requires { HasSizes shape }
+    ensures { result ≡ targets_of shape }
+{
+    match shape {
+        Shape::Nothing => untouched(),
+        Shape::Clear { rd } => to_register(rd, nothing()),
+        Shape::Move { rd, rs } => to_register(rd, lane_by_lane(rs)),
+        Shape::EachLane { rd, rs1, rs2 } => to_register(rd, each_lane(rs1, rs2)),
+        Shape::AllLanes { rd, rs1, rs2 } => to_register(rd, all_lanes(rs1, rs2)),
+        Shape::ShiftedLanes { rd, rs1, rs2 } => to_register(rd, shifted_lanes(rs1, rs2)),
+        Shape::FirstLane { rd, rs1, rs2 } => to_register(rd, first_lane(rs1, rs2)),
+        Shape::Load {
+            rd,
+            base,
+            place,
+            size,
+            fills,
+        } => to_register(rd, loaded(base, place, size, fills)),
+        Shape::Store {
+            rs,
+            base,
+            place,
+            size,
+        } => to_memory(place, size, stored(base, rs)),
     }
 }
 
@@ -116,43 +91,9 @@ fn to_memory(address: u32, count: u8, origins: Origins) -> Flow
 
 /// No target has an origin.
 fn nothing() -> Origins
-    ensures { result ≡ Origins.Same Many.Empty }
+    ensures { result ≡ Origins.Same Locations.Empty }
 {
-    Origins::Same(Many::Empty)
-}
-
-/// What is computed flows under [`Rule::Compute`] alone.
-fn computed(rule: Rule, origins: Origins) -> Origins
-    ensures { by_lane (origins_at result) ≡ by_lane (model.computed rule (origins_at origins)) }
-{
-    match rule {
-        Rule::Copy => nothing(),
-        Rule::Compute => origins,
-    }
-}
-
-/// With x0 as a source the instruction is a move of the other one.
-fn moved_or(a: u8, b: u8, otherwise: Origins) -> Origins
-    ensures { by_lane (origins_at result) ≡ by_lane (model.moved_or a b (origins_at otherwise)) }
-{
-    if a == 0 {
-        lane_by_lane(b)
-    } else if b == 0 {
-        lane_by_lane(a)
-    } else {
-        otherwise
-    }
-}
-
-/// With an immediate of 0 an addition is a move.
-fn added_immediate(rule: Rule, number: u8, imm: i32) -> Origins
-    ensures { by_lane (origins_at result) ≡ by_lane (if int_eq imm (pos 0) then model.lane number else model.computed rule (λ i. model.lanes number)) }
-{
-    if imm == 0 {
-        lane_by_lane(number)
-    } else {
-        computed(rule, all_lanes_of(number))
-    }
+    Origins::Same(Locations::Empty)
 }
 
 /// Lane i from lane i of a register.
@@ -160,10 +101,10 @@ fn lane_by_lane(number: u8) -> Origins
     ensures { by_lane (origins_at result) ≡ by_lane (model.lane number) }
 {
     Origins::Each([
-        Few::lane(number, 0),
-        Few::lane(number, 1),
-        Few::lane(number, 2),
-        Few::lane(number, 3),
+        Locations::lane(number, 0),
+        Locations::lane(number, 1),
+        Locations::lane(number, 2),
+        Locations::lane(number, 3),
     ])
 }
 
@@ -172,76 +113,71 @@ fn each_lane(a: u8, b: u8) -> Origins
     ensures { by_lane (origins_at result) ≡ by_lane (model.each_lane a b) }
 {
     Origins::Each([
-        Few::each_lane(a, b, 0),
-        Few::each_lane(a, b, 1),
-        Few::each_lane(a, b, 2),
-        Few::each_lane(a, b, 3),
+        Locations::each_lane(a, b, 0),
+        Locations::each_lane(a, b, 1),
+        Locations::each_lane(a, b, 2),
+        Locations::each_lane(a, b, 3),
     ])
-}
-
-/// Each lane from all lanes of a register.
-fn all_lanes_of(number: u8) -> Origins
-    ensures { by_lane (origins_at result) ≡ by_lane (λ i. model.lanes number) }
-{
-    Origins::Same(Many::lanes(number))
 }
 
 /// Each lane from all lanes of both registers.
 fn all_lanes(a: u8, b: u8) -> Origins
     ensures { by_lane (origins_at result) ≡ by_lane (model.all_lanes a b) }
 {
-    Origins::Same(Many::all_lanes(a, b))
+    Origins::Same(Locations::all_lanes(a, b))
 }
 
 /// Each lane from all lanes of a register and the lowest lane of the shift amount.
 fn shifted_lanes(value: u8, amount: u8) -> Origins
     ensures { by_lane (origins_at result) ≡ by_lane (model.shifted_lanes value amount) }
 {
-    Origins::Same(Many::shifted_lanes(value, amount))
+    Origins::Same(Locations::lanes_and_one(value, amount, 0))
 }
 
-/// Lane i from byte i of the `count` bytes that are loaded.
-fn loaded(address: u32, count: u32) -> Origins
-    ensures { by_lane (origins_at result) ≡ by_lane (model.loaded_byte address count) }
+/// The lowest lane from all lanes of both registers.
+fn first_lane(a: u8, b: u8) -> Origins
+    ensures { by_lane (origins_at result) ≡ by_lane (model.in_first_lane (model.all_lanes a b 0)) }
+{
+    Origins::First(Locations::all_lanes(a, b))
+}
+
+/// Byte i from lane i of a register, and from the lanes of the base.
+fn stored(base: u8, number: u8) -> Origins
+    ensures { by_lane (origins_at result) ≡ by_lane (λ i. model.with_base Index base (model.lane number i)) }
 {
     Origins::Each([
-        loaded_byte(address, count, 0),
-        loaded_byte(address, count, 1),
-        loaded_byte(address, count, 2),
-        loaded_byte(address, count, 3),
+        Locations::lanes_and_one(base, number, 0),
+        Locations::lanes_and_one(base, number, 1),
+        Locations::lanes_and_one(base, number, 2),
+        Locations::lanes_and_one(base, number, 3),
     ])
 }
 
-fn loaded_byte(address: u32, count: u32, i: u32) -> Few
-    ensures { few_locs result ≡ model.loaded_byte address count i }
+/// Lane i from byte i of the `size` bytes that are loaded, and from the lanes of the base.
+fn loaded(base: u8, place: u32, size: u8, fills: bool) -> Origins
+    requires { 1 ≤ size }
+    ensures { by_lane (origins_at result) ≡ by_lane (shapes.loaded_lane fills base place size) }
 {
-    if i < count {
-        byte(address, i)
-    } else {
-        Few::Empty
-    }
+    Origins::Each([
+        loaded_lane(base, place, size, fills, 0),
+        loaded_lane(base, place, size, fills, 1),
+        loaded_lane(base, place, size, fills, 2),
+        loaded_lane(base, place, size, fills, 3),
+    ])
 }
 
-fn byte(address: u32, i: u32) -> Few
-    ensures { few_locs result ≡ Mem (wrap (address + i)) ∷ [] }
+fn loaded_lane(base: u8, place: u32, size: u8, fills: bool, i: u8) -> Locations
+    requires { 1 ≤ size }
+    ensures { locs_of result ≡ shapes.loaded_lane fills base place size i }
 {
-    Few::One([Loc::Mem {
-        place: address.wrapping_add(i),
-    }])
+    if i >= size && !fills {
+        return Locations::Empty;
+    }
+    loaded_byte(base, place, i.min(size - 1))
 }
 
-/// A load of `count` bytes that extends the sign: the lanes above are computed from the highest byte.
-fn signed_load(rule: Rule, address: u32, count: u32) -> Origins
-    requires { 1 ≤ count }
-    ensures { by_lane (origins_at result) ≡ by_lane (model.signed_load rule address count) }
+fn loaded_byte(base: u8, place: u32, i: u8) -> Locations
+    ensures { locs_of result ≡ model.with_base Index base (model.byte_of place i) }
 {
-    match rule {
-        Rule::Copy => loaded(address, count),
-        Rule::Compute => Origins::Each([
-            byte(address, 0),
-            byte(address, 1.min(count - 1)),
-            byte(address, 2.min(count - 1)),
-            byte(address, 3.min(count - 1)),
-        ]),
-    }
+    Locations::lanes_and_byte(base, place.wrapping_add(u32::from(i)))
 }

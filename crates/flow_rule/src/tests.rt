@@ -12,6 +12,9 @@ const PLACE: u32 = 0xffff_fffe;
 /// a byte of memory has the last two of its address.
 type Rows = &'static [&'static [u32]];
 
+/// An instruction, and its rows under copy, compute and index.
+type Case = (Instr, [Rows; 3]);
+
 const NO_ROW: Rows = &[];
 
 const EMPTIED: Rows = &[&[0x50], &[0x51], &[0x52], &[0x53]];
@@ -37,6 +40,306 @@ const FROM_ALL: Rows = &[
     &[0x51, 0x70, 0x71, 0x72, 0x73, 0x90, 0x91, 0x92, 0x93],
     &[0x52, 0x70, 0x71, 0x72, 0x73, 0x90, 0x91, 0x92, 0x93],
     &[0x53, 0x70, 0x71, 0x72, 0x73, 0x90, 0x91, 0x92, 0x93],
+];
+
+const SHIFTED_BY_X9: Rows = &[
+    &[0x50, 0x70, 0x71, 0x72, 0x73, 0x90],
+    &[0x51, 0x70, 0x71, 0x72, 0x73, 0x90],
+    &[0x52, 0x70, 0x71, 0x72, 0x73, 0x90],
+    &[0x53, 0x70, 0x71, 0x72, 0x73, 0x90],
+];
+
+const SHIFTED_BY_X7: Rows = &[
+    &[0x50, 0x70, 0x90, 0x91, 0x92, 0x93],
+    &[0x51, 0x70, 0x90, 0x91, 0x92, 0x93],
+    &[0x52, 0x70, 0x90, 0x91, 0x92, 0x93],
+    &[0x53, 0x70, 0x90, 0x91, 0x92, 0x93],
+];
+
+const COMPARED: Rows = &[
+    &[0x50, 0x70, 0x71, 0x72, 0x73, 0x90, 0x91, 0x92, 0x93],
+    &[0x51],
+    &[0x52],
+    &[0x53],
+];
+
+const COMPARED_ALONE: Rows = &[&[0x50, 0x70, 0x71, 0x72, 0x73], &[0x51], &[0x52], &[0x53]];
+
+const WORD: Rows = &[&[0x50, 0xfe], &[0x51, 0xff], &[0x52, 0x00], &[0x53, 0x01]];
+
+const WORD_BY_X7: Rows = &[
+    &[0x50, 0x70, 0x71, 0x72, 0x73, 0xfe],
+    &[0x51, 0x70, 0x71, 0x72, 0x73, 0xff],
+    &[0x52, 0x70, 0x71, 0x72, 0x73, 0x00],
+    &[0x53, 0x70, 0x71, 0x72, 0x73, 0x01],
+];
+
+const HALF: Rows = &[&[0x50, 0xfe], &[0x51, 0xff], &[0x52], &[0x53]];
+
+const SIGNED_HALF: Rows = &[&[0x50, 0xfe], &[0x51, 0xff], &[0x52, 0xff], &[0x53, 0xff]];
+
+const BYTE: Rows = &[&[0x50, 0xfe], &[0x51], &[0x52], &[0x53]];
+
+const BYTE_BY_X7: Rows = &[
+    &[0x50, 0x70, 0x71, 0x72, 0x73, 0xfe],
+    &[0x51],
+    &[0x52],
+    &[0x53],
+];
+
+const SIGNED_BYTE: Rows = &[&[0x50, 0xfe], &[0x51, 0xfe], &[0x52, 0xfe], &[0x53, 0xfe]];
+
+const SIGNED_BYTE_BY_X7: Rows = &[
+    &[0x50, 0x70, 0x71, 0x72, 0x73, 0xfe],
+    &[0x51, 0x70, 0x71, 0x72, 0x73, 0xfe],
+    &[0x52, 0x70, 0x71, 0x72, 0x73, 0xfe],
+    &[0x53, 0x70, 0x71, 0x72, 0x73, 0xfe],
+];
+
+const STORED: Rows = &[&[0xfe, 0x70], &[0xff, 0x71], &[0x00, 0x72], &[0x01, 0x73]];
+
+const HALF_STORED: Rows = &[&[0xfe, 0x70], &[0xff, 0x71]];
+
+const HALF_STORED_BY_X9: Rows = &[
+    &[0xfe, 0x70, 0x90, 0x91, 0x92, 0x93],
+    &[0xff, 0x71, 0x90, 0x91, 0x92, 0x93],
+];
+
+const ZERO_STORED: Rows = &[&[0xfe]];
+
+const ZERO_STORED_BY_X7: Rows = &[&[0xfe, 0x70, 0x71, 0x72, 0x73]];
+
+const CASES: &[Case] = &[
+    (
+        Instr::Lw {
+            rd: 5,
+            rs1: 7,
+            imm: 0,
+        },
+        [WORD, WORD, WORD_BY_X7],
+    ),
+    (
+        Instr::Lw {
+            rd: 5,
+            rs1: 0,
+            imm: 0,
+        },
+        [WORD, WORD, WORD],
+    ),
+    (
+        Instr::Lh {
+            rd: 5,
+            rs1: 0,
+            imm: 0,
+        },
+        [HALF, SIGNED_HALF, SIGNED_HALF],
+    ),
+    (
+        Instr::Lb {
+            rd: 5,
+            rs1: 7,
+            imm: 0,
+        },
+        [BYTE, SIGNED_BYTE, SIGNED_BYTE_BY_X7],
+    ),
+    (
+        Instr::Lbu {
+            rd: 5,
+            rs1: 7,
+            imm: 0,
+        },
+        [BYTE, BYTE, BYTE_BY_X7],
+    ),
+    (
+        Instr::Sw {
+            rs1: 0,
+            rs2: 7,
+            imm: 0,
+        },
+        [STORED, STORED, STORED],
+    ),
+    (
+        Instr::Sh {
+            rs1: 9,
+            rs2: 7,
+            imm: 0,
+        },
+        [HALF_STORED, HALF_STORED, HALF_STORED_BY_X9],
+    ),
+    (
+        Instr::Sb {
+            rs1: 7,
+            rs2: 0,
+            imm: 0,
+        },
+        [ZERO_STORED, ZERO_STORED, ZERO_STORED_BY_X7],
+    ),
+    (
+        Instr::Sb {
+            rs1: 7,
+            rs2: 7,
+            imm: 0,
+        },
+        [&[&[0xfe, 0x70]], &[&[0xfe, 0x70]], ZERO_STORED_BY_X7],
+    ),
+    (
+        Instr::Addi {
+            rd: 5,
+            rs1: 7,
+            imm: 0,
+        },
+        [FROM_X7, FROM_X7, FROM_X7],
+    ),
+    (
+        Instr::Addi {
+            rd: 5,
+            rs1: 7,
+            imm: 1,
+        },
+        [EMPTIED, FROM_ALL_OF_X7, FROM_ALL_OF_X7],
+    ),
+    (
+        Instr::Add {
+            rd: 5,
+            rs1: 0,
+            rs2: 7,
+        },
+        [FROM_X7, FROM_X7, FROM_X7],
+    ),
+    (
+        Instr::Add {
+            rd: 5,
+            rs1: 7,
+            rs2: 9,
+        },
+        [EMPTIED, FROM_ALL, FROM_ALL],
+    ),
+    (
+        Instr::Xor {
+            rd: 5,
+            rs1: 9,
+            rs2: 7,
+        },
+        [EMPTIED, FROM_BOTH, FROM_BOTH],
+    ),
+    (
+        Instr::And {
+            rd: 5,
+            rs1: 0,
+            rs2: 7,
+        },
+        [EMPTIED, FROM_X7, FROM_X7],
+    ),
+    (
+        Instr::Xori {
+            rd: 5,
+            rs1: 7,
+            imm: 0,
+        },
+        [EMPTIED, FROM_X7, FROM_X7],
+    ),
+    (
+        Instr::Sub {
+            rd: 5,
+            rs1: 7,
+            rs2: 0,
+        },
+        [EMPTIED, FROM_ALL_OF_X7, FROM_ALL_OF_X7],
+    ),
+    (
+        Instr::Mul {
+            rd: 5,
+            rs1: 9,
+            rs2: 7,
+        },
+        [EMPTIED, FROM_ALL, FROM_ALL],
+    ),
+    (
+        Instr::Remu {
+            rd: 5,
+            rs1: 7,
+            rs2: 0,
+        },
+        [EMPTIED, FROM_ALL_OF_X7, FROM_ALL_OF_X7],
+    ),
+    (
+        Instr::Sll {
+            rd: 5,
+            rs1: 7,
+            rs2: 9,
+        },
+        [EMPTIED, SHIFTED_BY_X9, SHIFTED_BY_X9],
+    ),
+    (
+        Instr::Sra {
+            rd: 5,
+            rs1: 9,
+            rs2: 7,
+        },
+        [EMPTIED, SHIFTED_BY_X7, SHIFTED_BY_X7],
+    ),
+    (
+        Instr::Srai {
+            rd: 5,
+            rs1: 7,
+            amount: 8,
+        },
+        [EMPTIED, FROM_ALL_OF_X7, FROM_ALL_OF_X7],
+    ),
+    (
+        Instr::Sltu {
+            rd: 5,
+            rs1: 7,
+            rs2: 9,
+        },
+        [EMPTIED, COMPARED, COMPARED],
+    ),
+    (
+        Instr::Slti {
+            rd: 5,
+            rs1: 7,
+            imm: 0,
+        },
+        [EMPTIED, COMPARED_ALONE, COMPARED_ALONE],
+    ),
+    (
+        Instr::Jalr {
+            rd: 5,
+            rs1: 7,
+            imm: 0,
+        },
+        [EMPTIED, EMPTIED, EMPTIED],
+    ),
+    (
+        Instr::Add {
+            rd: 0,
+            rs1: 7,
+            rs2: 9,
+        },
+        [NO_ROW, NO_ROW, NO_ROW],
+    ),
+    (
+        Instr::Beq {
+            rs1: 7,
+            rs2: 9,
+            imm: 0,
+        },
+        [NO_ROW, NO_ROW, NO_ROW],
+    ),
+    (Instr::Ecall, [NO_ROW, NO_ROW, NO_ROW]),
+];
+
+const X10: Rows = &[&[0xa0], &[0xa1], &[0xa2], &[0xa3]];
+
+const X10_X11: Rows = &[
+    &[0xa0],
+    &[0xa1],
+    &[0xa2],
+    &[0xa3],
+    &[0xb0],
+    &[0xb1],
+    &[0xb2],
+    &[0xb3],
 ];
 
 fn digits(loc: Loc) -> u32 {
@@ -75,12 +378,17 @@ fn has_rows(table: &Flow, rows: &[&[u32]]) -> bool {
     true
 }
 
-/// The first of these cases that fails: an instruction, its rows under copy, and its rows under compute.
-fn first_wrong(cases: &[(Instr, Rows, Rows)]) -> Option<usize> {
-    for (i, (instr, copy, compute)) in cases.iter().enumerate() {
-        let is_right = has_rows(&flow(instr, PLACE, Rule::Copy), copy)
-            && has_rows(&flow(instr, PLACE, Rule::Compute), compute);
-        if !is_right {
+fn is_right(case: &Case) -> bool {
+    let (instr, [copy, compute, index]) = case;
+    has_rows(&flow(instr, PLACE, Rule::Copy), copy)
+        && has_rows(&flow(instr, PLACE, Rule::Compute), compute)
+        && has_rows(&flow(instr, PLACE, Rule::Index), index)
+}
+
+/// The first of these cases that fails.
+fn first_wrong(cases: &[Case]) -> Option<usize> {
+    for (i, case) in cases.iter().enumerate() {
+        if !is_right(case) {
             return Some(i);
         }
     }
@@ -88,107 +396,14 @@ fn first_wrong(cases: &[(Instr, Rows, Rows)]) -> Option<usize> {
 }
 
 #[test]
-fn loads_and_stores_take_bytes_in_order(rt: HostRuntime) {
-    let word: Rows = &[&[0x50, 0xfe], &[0x51, 0xff], &[0x52, 0x00], &[0x53, 0x01]];
-    let half: Rows = &[&[0x50, 0xfe], &[0x51, 0xff], &[0x52], &[0x53]];
-    let signed_half: Rows = &[&[0x50, 0xfe], &[0x51, 0xff], &[0x52, 0xff], &[0x53, 0xff]];
-    let byte: Rows = &[&[0x50, 0xfe], &[0x51], &[0x52], &[0x53]];
-    let signed_byte: Rows = &[&[0x50, 0xfe], &[0x51, 0xfe], &[0x52, 0xfe], &[0x53, 0xfe]];
-    let stored: Rows = &[&[0xfe, 0x70], &[0xff, 0x71], &[0x00, 0x72], &[0x01, 0x73]];
-    let cleared: Rows = &[&[0xfe], &[0xff]];
-    let (rd, rs1, rs2, imm) = (5, 6, 7, 0);
-    let cases: [(Instr, Rows, Rows); 7] = [
-        (Instr::Lw { rd, rs1, imm }, word, word),
-        (Instr::Lhu { rd, rs1, imm }, half, half),
-        (Instr::Lh { rd, rs1, imm }, half, signed_half),
-        (Instr::Lbu { rd, rs1, imm }, byte, byte),
-        (Instr::Lb { rd, rs1, imm }, byte, signed_byte),
-        (Instr::Sw { rs1, rs2, imm }, stored, stored),
-        (Instr::Sh { rs1, rs2: 0, imm }, cleared, cleared),
-    ];
-    assert_eq!(rt; first_wrong(&cases), None);
+fn instructions_have_their_rows_under_each_rule(rt: HostRuntime) {
+    assert_eq!(rt; first_wrong(CASES), None);
 }
 
 #[test]
-fn moves_and_bitwise_operations_stay_in_their_lanes(rt: HostRuntime) {
-    let (rd, rs1, rs2, imm) = (5, 9, 7, 0);
-    let cases: [(Instr, Rows, Rows); 9] = [
-        (Instr::Addi { rd, rs1: 7, imm }, FROM_X7, FROM_X7),
-        (Instr::Add { rd, rs1: 0, rs2 }, FROM_X7, FROM_X7),
-        (Instr::Or { rd, rs1: 0, rs2 }, FROM_X7, FROM_X7),
-        (Instr::Xor { rd, rs1: 0, rs2: 0 }, EMPTIED, EMPTIED),
-        (Instr::Xor { rd, rs1, rs2 }, EMPTIED, FROM_BOTH),
-        (Instr::Or { rd, rs1, rs2 }, EMPTIED, FROM_BOTH),
-        (Instr::And { rd, rs1: 7, rs2 }, EMPTIED, FROM_X7),
-        (Instr::And { rd, rs1: 0, rs2 }, EMPTIED, FROM_X7),
-        (Instr::Xori { rd, rs1: 7, imm }, EMPTIED, FROM_X7),
-    ];
-    assert_eq!(rt; first_wrong(&cases), None);
-}
-
-#[test]
-fn sums_and_shifts_take_all_lanes(rt: HostRuntime) {
-    let amount_above: Rows = &[
-        &[0x50, 0x70, 0x71, 0x72, 0x73, 0x90],
-        &[0x51, 0x70, 0x71, 0x72, 0x73, 0x90],
-        &[0x52, 0x70, 0x71, 0x72, 0x73, 0x90],
-        &[0x53, 0x70, 0x71, 0x72, 0x73, 0x90],
-    ];
-    let amount_below: Rows = &[
-        &[0x50, 0x70, 0x90, 0x91, 0x92, 0x93],
-        &[0x51, 0x70, 0x90, 0x91, 0x92, 0x93],
-        &[0x52, 0x70, 0x90, 0x91, 0x92, 0x93],
-        &[0x53, 0x70, 0x90, 0x91, 0x92, 0x93],
-    ];
-    let (rd, rs1, rs2, imm, amount) = (5, 7, 9, 1, 8);
-    let cases: [(Instr, Rows, Rows); 9] = [
-        (Instr::Add { rd, rs1, rs2 }, EMPTIED, FROM_ALL),
-        (Instr::Sub { rd, rs1: 9, rs2: 7 }, EMPTIED, FROM_ALL),
-        (Instr::Sub { rd, rs1, rs2: 0 }, EMPTIED, FROM_ALL_OF_X7),
-        (Instr::Add { rd, rs1, rs2: 7 }, EMPTIED, FROM_ALL_OF_X7),
-        (Instr::Addi { rd, rs1, imm }, EMPTIED, FROM_ALL_OF_X7),
-        (Instr::Srai { rd, rs1, amount }, EMPTIED, FROM_ALL_OF_X7),
-        (Instr::Sll { rd, rs1, rs2 }, EMPTIED, amount_above),
-        (Instr::Sra { rd, rs1: 9, rs2: 7 }, EMPTIED, amount_below),
-        (Instr::Srl { rd, rs1, rs2: 7 }, EMPTIED, FROM_ALL_OF_X7),
-    ];
-    assert_eq!(rt; first_wrong(&cases), None);
-}
-
-#[test]
-fn other_instructions_and_calls_have_few_origins(rt: HostRuntime) {
-    let compared: Rows = &[
-        &[0x50, 0x70, 0x71, 0x72, 0x73, 0x90, 0x91, 0x92, 0x93],
-        &[0x51],
-        &[0x52],
-        &[0x53],
-    ];
-    let compared_alone: Rows = &[&[0x50, 0x70, 0x71, 0x72, 0x73], &[0x51], &[0x52], &[0x53]];
-    let (rd, rs1, rs2, imm) = (5, 7, 9, 0);
-    let cases: [(Instr, Rows, Rows); 8] = [
-        (Instr::Sltu { rd, rs1, rs2 }, EMPTIED, compared),
-        (Instr::Slti { rd, rs1, imm }, EMPTIED, compared_alone),
-        (Instr::Lui { rd, imm }, EMPTIED, EMPTIED),
-        (Instr::Jalr { rd, rs1, imm }, EMPTIED, EMPTIED),
-        (Instr::Add { rd: 0, rs1, rs2 }, NO_ROW, NO_ROW),
-        (Instr::Beq { rs1, rs2, imm }, NO_ROW, NO_ROW),
-        (Instr::Fence { kept: 0 }, NO_ROW, NO_ROW),
-        (Instr::Ecall, NO_ROW, NO_ROW),
-    ];
-    assert_eq!(rt; first_wrong(&cases), None);
-    let x10: Rows = &[&[0xa0], &[0xa1], &[0xa2], &[0xa3]];
-    assert!(rt; has_rows(&cleared(CallKind::Read), x10));
-    assert!(rt; has_rows(&cleared(CallKind::Other), x10));
+fn calls_empty_their_results(rt: HostRuntime) {
+    assert!(rt; has_rows(&cleared(CallKind::Read), X10));
+    assert!(rt; has_rows(&cleared(CallKind::Other), X10));
     assert!(rt; has_rows(&cleared(CallKind::Exit), NO_ROW));
-    let x10_x11: Rows = &[
-        &[0xa0],
-        &[0xa1],
-        &[0xa2],
-        &[0xa3],
-        &[0xb0],
-        &[0xb1],
-        &[0xb2],
-        &[0xb3],
-    ];
-    assert!(rt; has_rows(&cleared(CallKind::Clock), x10_x11));
+    assert!(rt; has_rows(&cleared(CallKind::Clock), X10_X11));
 }

@@ -1,0 +1,99 @@
+-- The shape of each kind of instruction has the targets of its row in the flow table, and sizes and registers in range.
+use Rattle.std.proofs.Common.{◌≡◌, ◌<◌, ◌≤◌, ℕ, ◌==◌, Bool, true, false, if◌then◌else◌, List, arith, rules, ap, sym, subst, refl, ◌⊎◌, inl, inr}
+use Rattle.isa.specs.Encodings.{Fits, FitsThree}
+use Rattle.isa.specs.declared.Instr.{Instr}
+use Rattle.isa.specs.declared.Instr.TheVariants.{Sub, Mul, Mulh, Mulhsu, Mulhu, Div, Divu, Rem, Remu}
+use Rattle.flow_model.specs.declared.Loc.{Loc}
+use Rattle.flow_model.specs.declared.Rule.{Rule}
+use Rattle.flow_model.specs.declared.Rule.TheVariants.{Copy, Compute, Index}
+use Rattle.flow_model.specs.Flow as model
+use Rattle.flow_rule.specs.declared.shape.Shape.{Shape}
+use Rattle.flow_rule.specs.declared.shape.Shape.TheVariants.{Move, AllLanes, Load, Store}
+use Rattle.flow_rule.specs.Shapes.{targets_of, HasSizes, HasRegisters, computed_shape, moved_shape_or, base_of, fills_by}
+
+-- a shape has these targets, sizes in range, and registers in range where X holds
+abbrev pub IsRow : Type 0 → List model.Target → Shape → Type 0
+IsRow X targets s = (targets_of s ≡ targets) × HasSizes s × (X → HasRegisters s)
+
+abbrev pub IsShapeOf : Rule → ℕ → Shape → Instr → Type 0
+IsShapeOf rule place s i = IsRow (Fits i) (model.flow rule i place) s
+
+-- a shape that is known, of an instruction that is known
+pub known : {i j : Instr} {s t : Shape} (rule : Rule) (place : ℕ) → s ≡ t → i ≡ j → IsShapeOf rule place t j → IsShapeOf rule place s i
+known {i} {j} {s} {t} rule place same e h = subst (λ (u : Shape). IsShapeOf rule place u i) (sym same) (subst (IsShapeOf rule place t) (sym e) h)
+
+pub computed_row : {X : Type 0} (rule : Rule) (d : ℕ) (s : Shape) (f : ℕ → List Loc) → (X → d < 32) → IsRow X (model.to_register d f) s
+    → IsRow X (model.to_register d (model.computed rule f)) (computed_shape rule d s)
+computed_row Copy d s f small h = (refl, tt, small)
+computed_row Compute d s f small h = h
+computed_row Index d s f small h = h
+
+pub moved_row : {X : Type 0} (d a b : ℕ) (s : Shape) (f : ℕ → List Loc) → (X → (d < 32) × (a < 32) × (b < 32)) → IsRow X (model.to_register d f) s
+    → IsRow X (model.to_register d (model.moved_or a b f)) (moved_shape_or d a b s)
+moved_row {X} d a b s f small h = by (a == 0) (b == 0) where
+  by : (x y : Bool) → IsRow X (model.to_register d (λ i. if x then model.lane b i else if y then model.lane a i else f i)) (if x then Move d b else if y then Move d a else s)
+  by true y = (refl, tt, λ x. ((small x).0, (small x).2))
+  by false true = (refl, tt, λ x. ((small x).0, (small x).1))
+  by false false = h
+
+base_small : (rule : Rule) (a : ℕ) → a < 32 → base_of rule a < 32
+base_small Copy a h = omega arith
+base_small Compute a h = omega arith
+base_small Index a h = h
+
+loaded_targets : (rule : Rule) (d a place n : ℕ) → targets_of (Load d (base_of rule a) place n false) ≡ model.to_register d (model.loaded_byte rule a place n)
+loaded_targets Copy d a place n = refl
+loaded_targets Compute d a place n = refl
+loaded_targets Index d a place n = refl
+
+signed_targets : (rule : Rule) (d a place n : ℕ) → targets_of (Load d (base_of rule a) place n (fills_by rule)) ≡ model.to_register d (model.signed_load rule a place n)
+signed_targets Copy d a place n = refl
+signed_targets Compute d a place n = refl
+signed_targets Index d a place n = refl
+
+stored_targets : (rule : Rule) (a b place n : ℕ) → targets_of (Store b (base_of rule a) place n) ≡ model.to_memory place n (λ i. model.with_base rule a (model.lane b i))
+stored_targets Copy a b place n = refl
+stored_targets Compute a b place n = refl
+stored_targets Index a b place n = refl
+
+pub load_row : {X : Type 0} (rule : Rule) (d a place n : ℕ) → (1 ≤ n) × (n ≤ 4)
+    → IsRow ((d < 32) × (a < 32) × X) (model.to_register d (model.loaded_byte rule a place n)) (Load d (base_of rule a) place n false)
+load_row rule d a place n sized = (loaded_targets rule d a place n, sized, λ f. (f.0, base_small rule a f.1))
+
+pub signed_row : {X : Type 0} (rule : Rule) (d a place n : ℕ) → (1 ≤ n) × (n ≤ 4)
+    → IsRow ((d < 32) × (a < 32) × X) (model.to_register d (model.signed_load rule a place n)) (Load d (base_of rule a) place n (fills_by rule))
+signed_row rule d a place n sized = (signed_targets rule d a place n, sized, λ f. (f.0, base_small rule a f.1))
+
+pub store_row : {X : Type 0} (rule : Rule) (a b place n : ℕ) → (1 ≤ n) × (n ≤ 4)
+    → IsRow ((a < 32) × (b < 32) × X) (model.to_memory place n (λ i. model.with_base rule a (model.lane b i))) (Store b (base_of rule a) place n)
+store_row rule a b place n sized = (stored_targets rule a b place n, sized, λ f. (f.1, base_small rule a f.0))
+
+-- with x0 as the other source all lanes are those of one register
+pub alone : (a : ℕ) → model.all_lanes a 0 0 ≡ model.lanes a
+alone a = search rules
+
+alone_targets : (d a : ℕ) → targets_of (AllLanes d a 0) ≡ model.to_register d (λ i. model.lanes a)
+alone_targets d a = ap (λ (ls : List Loc). model.to_register d (λ i. ls)) (alone a)
+
+pub alone_row : {X : Type 0} (d a : ℕ) → (X → (d < 32) × (a < 32)) → IsRow X (model.to_register d (λ i. model.lanes a)) (AllLanes d a 0)
+alone_row d a small = (alone_targets d a, tt, λ x. ((small x).0, (small x).1, omega arith))
+
+-- the nine instructions that are computed from all lanes of both registers, and are no moves
+pub arithmetic : {s : Shape} (i : Instr) (rule : Rule) (place d a b : ℕ) → s ≡ computed_shape rule d (AllLanes d a b)
+    → (i ≡ Sub d a b) ⊎ ((i ≡ Mul d a b) ⊎ ((i ≡ Mulh d a b) ⊎ ((i ≡ Mulhsu d a b) ⊎ ((i ≡ Mulhu d a b) ⊎ ((i ≡ Div d a b) ⊎ ((i ≡ Divu d a b) ⊎ ((i ≡ Rem d a b) ⊎ (i ≡ Remu d a b))))))))
+    → IsShapeOf rule place s i
+arithmetic {s} i rule place d a b same = by where
+  row : IsRow (FitsThree d a b) (model.to_register d (model.computed rule (model.all_lanes a b))) (computed_shape rule d (AllLanes d a b))
+  row = computed_row rule d (AllLanes d a b) (model.all_lanes a b) (λ f. f.0) (refl, tt, λ f. f)
+
+  by : (i ≡ Sub d a b) ⊎ ((i ≡ Mul d a b) ⊎ ((i ≡ Mulh d a b) ⊎ ((i ≡ Mulhsu d a b) ⊎ ((i ≡ Mulhu d a b) ⊎ ((i ≡ Div d a b) ⊎ ((i ≡ Divu d a b) ⊎ ((i ≡ Rem d a b) ⊎ (i ≡ Remu d a b))))))))
+      → IsShapeOf rule place s i
+  by (inl e) = known rule place same e row
+  by (inr (inl e)) = known rule place same e row
+  by (inr (inr (inl e))) = known rule place same e row
+  by (inr (inr (inr (inl e)))) = known rule place same e row
+  by (inr (inr (inr (inr (inl e))))) = known rule place same e row
+  by (inr (inr (inr (inr (inr (inl e)))))) = known rule place same e row
+  by (inr (inr (inr (inr (inr (inr (inl e))))))) = known rule place same e row
+  by (inr (inr (inr (inr (inr (inr (inr (inl e)))))))) = known rule place same e row
+  by (inr (inr (inr (inr (inr (inr (inr (inr e)))))))) = known rule place same e row
