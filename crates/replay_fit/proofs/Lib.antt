@@ -2,3 +2,4 @@ mod Sequences
 mod Comparing
 mod Checking
 mod Loops
+mod PlainSteps

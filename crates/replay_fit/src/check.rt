@@ -2,7 +2,7 @@
 
 ghost use Rattle.std.specs.Prelude.{◌≡◌, ◌≤◌, IfOk, false};
 ghost use Rattle.log_model.specs.Logs.{end_at};
-ghost use Rattle.replay_model.specs.Comparison.{divergence};
+ghost use Rattle.replay_model.specs.Comparison.{divergence, expected, PlainStep};
 ghost use Rattle.rv_machine.specs.Hart.{IsStep};
 ghost use Rattle.replay_run.specs.Expects.{expected_of};
 ghost use Rattle.replay_run.specs.Runs.{hart_of, with_hart};
@@ -10,7 +10,7 @@ ghost use Rattle.replay_fit.specs.Differences.{IsFirst};
 ghost use Rattle.replay_fit.specs.Comparisons.{IsFormed, compares};
 ghost use Rattle.replay_fit.specs.CheckedSteps.{IsStepChecked};
 
-use crate::compare::{compare, is_limit, kept_code, seen_code};
+use crate::compare::{compare, event_in_place_of_a_step, is_limit, kept_code, seen_code};
 use crate::difference::{Difference, compare_words};
 use replay_log::Log;
 use replay_model::{Divergence, Field};
@@ -40,6 +40,23 @@ fn step(run: &mut Run<'_>, expected: &Expected<'_>, inputs: u32) -> Result<Stepp
     Ok(stepped)
 }
 
+/// Makes a step where the log has a plain one next: whatever else happens is a difference of events.
+fn check_plain_step(run: &mut Run<'_>) -> Result<Checked, Divergence>
+    requires goes_on { run.old.waits ≡ false }
+    requires plain { expected run.old.moment.time run.old.moment.left run.old.log.end ≡ PlainStep }
+    ensures { IsStepChecked run.old result run.new }
+{
+    run.form();
+    let time = run.time();
+    match run.step() {
+        Stepped::Plain { .. } => {
+            run.advance();
+            Ok(Checked::Advanced)
+        }
+        stepped => Err(event_in_place_of_a_step(&stepped).at_step(time)),
+    }
+}
+
 /// Makes the next step, if the log has it so. It says where the log differs, or that its end is reached.
 fn check_step(run: &mut Run<'_>) -> Result<Checked, Divergence>
     requires goes_on { run.old.waits ≡ false }
@@ -47,8 +64,11 @@ fn check_step(run: &mut Run<'_>) -> Result<Checked, Divergence>
     ensures { IsStepChecked run.old result run.new }
 {
     run.form();
-    let time = run.time();
     let expected = run.expected();
+    if let Expected::PlainStep = expected {
+        return check_plain_step(run);
+    }
+    let time = run.time();
     if is_limit(&expected) {
         return Ok(Checked::Ended);
     }

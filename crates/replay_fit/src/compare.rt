@@ -3,9 +3,10 @@
 ghost use Rattle.std.specs.Prelude.{◌≡◌};
 ghost use Rattle.isa.specs.Machine.{call_of};
 ghost use Rattle.log_model.specs.Logs.{IsRecord};
-ghost use Rattle.replay_model.specs.Comparison.{kept_event, call_event, fields, CallOf};
+ghost use Rattle.replay_model.specs.Comparison.{kept_event, call_event, fields, compared, CallOf};
+ghost use Rattle.replay_model.specs.declared.Field.TheVariants as field;
 ghost use Rattle.replay_run.specs.Expects.{expected_of};
-ghost use Rattle.replay_fit.specs.Differences.{IsFirst};
+ghost use Rattle.replay_fit.specs.Differences.{IsFirst, compared_of};
 ghost use Rattle.replay_fit.specs.Comparisons.{event_of, IsSeenIn, IsFormed, is_limit as limited};
 
 use crate::difference::{
@@ -47,6 +48,17 @@ pub(crate) fn seen_code(stepped: &Stepped) -> u32
             CallKind::Exit => 5,
         },
         Stepped::Trapped { .. } => 6,
+    }
+}
+
+/// The difference of events where the log has a plain step next, and the machine did this.
+pub(crate) fn event_in_place_of_a_step(stepped: &Stepped) -> Difference
+    ensures { compared_of result ≡ compared field.Event 0 (event_of stepped.now) }
+{
+    Difference {
+        field: Field::Event,
+        kept: 0,
+        seen: i64::from(seen_code(stepped)),
     }
 }
 

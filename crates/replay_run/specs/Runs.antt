@@ -28,6 +28,10 @@ hart_of r = record { state = r.moment.state; waits = r.waits }
 abbrev pub with_hart : RunAt → Hart → RunAt
 with_hart r hart = record { log = r.log; moment = record (r.moment) { state = hart.state }; waits = hart.waits }
 
+-- the run with one more step done, which took no record
+abbrev pub later_by_one : RunAt → RunAt
+later_by_one r = record { log = r.log; moment = record (r.moment) { time = r.moment.time + 1 }; waits = r.waits }
+
 -- true of each run: the records that are done and left are those of its log, and the ones left rise from its time on
 pub record IsUnderLog (r : RunAt) : Type 0 where
   pub form : IsLog r.log

@@ -6,7 +6,7 @@ ghost use Rattle.replay_model.specs.Comparison.{expected};
 ghost use Rattle.rv_machine.specs.Hart.{IsStep};
 ghost use Rattle.flow_model.specs.Ranges.{IsInRange};
 ghost use Rattle.replay_run.specs.Expects.{expected_of};
-ghost use Rattle.replay_run.specs.Runs.{hart_of, with_hart, IsUnderLog, IsDue, IsReady, IsFinished};
+ghost use Rattle.replay_run.specs.Runs.{hart_of, with_hart, later_by_one, IsUnderLog, IsDue, IsLater, IsReady, IsFinished};
 
 use crate::expected::{Expected, time_of_call, time_of_end};
 use flow_model::{CallSeen, StepSeen};
@@ -215,6 +215,15 @@ impl<'a> Run<'a> {
         }
     }
 
+    /// Counts a plain step that the machine has made: only the time goes on.
+    pub fn advance(&mut self)
+        requires later { IsLater self.old.moment.time self.old.moment.left }
+        requires time { self.old.moment.time < 2 ^ 33 }
+        ensures { self.new ≡ later_by_one self.old }
+    {
+        self.time += 1;
+    }
+
     /// Finishes a step that the machine has made, as the log has it.
     pub fn finish(&mut self, stepped: Stepped) -> StepSeen
         requires ready { IsReady self.old stepped }
@@ -228,7 +237,7 @@ impl<'a> Run<'a> {
         let number = self.time;
         match stepped {
             Stepped::Plain { instr, place } => {
-                self.time += 1;
+                self.advance();
                 StepSeen {
                     number,
                     instr,

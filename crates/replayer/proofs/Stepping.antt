@@ -1,6 +1,6 @@
 -- The step that a job's run makes at a time, and the moment after it.
-use Rattle.std.proofs.Common.{◌≡◌, ℕ, suc, ◌+◌, ◌<◌, ◌≤◌, false, Some, None, arith, ap, ap₂, sym, ◌∙◌}
-use Rattle.log_model.specs.Logs.{Log, end_at, steps}
+use Rattle.std.proofs.Common.{◌≡◌, ℕ, suc, ◌+◌, ◌<◌, false, Some, None, arith, ap, ap₂, sym, ◌∙◌}
+use Rattle.log_model.specs.Logs.{end_at, steps}
 use Rattle.flow_model.specs.declared.StepSeen.{StepSeen}
 use Rattle.flow_model.specs.Origins.{step_at}
 use Rattle.replay_model.specs.Run.{start, advance, moment_after, step_of}
@@ -8,8 +8,10 @@ use Rattle.replay_model.specs.Comparison.{difference}
 use Rattle.replay_model.proofs.Agreement.{agrees_at}
 use Rattle.replay_model.proofs.Offsets.{step_at_from, moment_later, steps_within}
 use Rattle.rv_machine.specs.Hart.{Hart, IsStep}
+use Rattle.isa.specs.declared.Instr.{Instr}
 use Rattle.rv_machine.specs.declared.Stepped.{Stepped}
-use Rattle.replay_run.specs.Runs.{RunAt, IsFinished}
+use Rattle.rv_machine.specs.declared.Stepped.TheVariants.{Plain}
+use Rattle.replay_run.specs.Runs.{RunAt, with_hart, later_by_one, IsFinished}
 use Rattle.replay_run.proofs.Steps.{done, numbered}
 use Rattle.replayer.specs.Jobs.{Job, trace_of}
 use Rattle.replayer.specs.Cursors.{IsCursor}
@@ -19,6 +21,11 @@ pub cursor_agrees : (job : Job) (run : RunAt) → IsCursor job run → run.momen
 cursor_agrees job run cursor below =
     let last = steps_within job.log.end in
     ap₂ difference cursor.same_log cursor.here ∙ agrees_at job.log (end_at job.log.end + 1) run.moment.time (start job.start job.log) cursor.is_job.agrees (omega arith)
+
+-- a plain step that was counted is finished
+pub plain_finished : (run after : RunAt) (hart : Hart) (instr : Instr) (place number : ℕ) → number ≡ run.moment.time → after ≡ later_by_one (with_hart run hart) → IsFinished (record (run.moment) { state = hart.state }) (Plain instr place) (record { number = number; instr = instr; place = place; call = None }) after.moment
+plain_finished run after hart instr place number n e =
+    (ap (λ (t : ℕ). record { number = t; instr = instr; place = place; call = None }) n, ap (λ (r : RunAt). r.moment) e)
 
 module _ (job : Job) (run : RunAt) (cursor : IsCursor job run) (below : run.moment.time < steps job.log) (stepped : Stepped) (hart : Hart) (made : IsStep run.moment.state stepped hart) where
   -- the run stands one step later

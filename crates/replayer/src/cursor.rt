@@ -8,6 +8,7 @@ use flow_model::StepSeen;
 use log_model::RunEnd;
 use no_memory::NoMemory;
 use replay_run::Run;
+use rv_machine::Stepped;
 use std::alloc::Global;
 use std::marker::Model;
 
@@ -19,7 +20,7 @@ pub struct Cursor<'a> {
 }
 
 /// What a cursor gives next.
-#[derive(Clone, Copy, Debug, PartialEq, Eq)]
+#[derive(Clone, Copy, PartialEq, Eq)]
 pub enum Next {
     /// The next step of the run.
     Step(StepSeen),
@@ -60,10 +61,21 @@ impl<'a> Cursor<'a> {
         ensures { IsNext self.old result self.new }
     {
         self.run.form();
-        if self.run.time() == self.job.steps() {
+        let number = self.run.time();
+        if number == self.job.steps() {
             return Next::End(self.job.log().end());
         }
-        let stepped = self.run.step();
-        Next::Step(self.run.finish(stepped))
+        match self.run.step() {
+            Stepped::Plain { instr, place } => {
+                self.run.advance();
+                Next::Step(StepSeen {
+                    number,
+                    instr,
+                    place,
+                    call: None,
+                })
+            }
+            stepped => Next::Step(self.run.finish(stepped)),
+        }
     }
 }

@@ -1,7 +1,8 @@
-//! One RV32I hart over one window of memory, changed in place.
+//! One RV32IM hart over one window of memory, changed in place.
 //!
-//! A step is that of "RV32I Base Integer Instruction Set" of the RISC-V Unprivileged ISA manual. A call to
-//! the execution environment (ECALL) makes the machine wait until it is answered.
+//! A step is that of "RV32I Base Integer Instruction Set" and "'M' Extension for Integer Multiplication and
+//! Division" of the RISC-V Unprivileged ISA manual. A call to the execution environment (ECALL) makes the
+//! machine wait until it is answered.
 #![tactic(auto)]
 
 mod hart;
@@ -25,7 +26,7 @@ pub enum MachineFault {
 }
 
 /// What a step came to.
-#[derive(Clone, Copy, Debug, PartialEq, Eq)]
+#[derive(Clone, Copy, PartialEq, Eq)]
 pub enum Stepped {
     /// The instruction retired. `place` is the effective address of a load or a store, and 0 for others.
     Plain { instr: Instr, place: u32 },

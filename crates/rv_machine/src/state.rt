@@ -7,6 +7,7 @@ ghost use Rattle.rv_machine.specs.Effects.{IsSmall, Executes};
 use isa::Effect;
 use std::marker::Model;
 
+mod arithmetic;
 mod calls;
 mod effects;
 mod memory;

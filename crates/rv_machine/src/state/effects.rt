@@ -1,11 +1,15 @@
 //! What an instruction does in a state, with its operands read.
 
-ghost use Rattle.std.specs.Prelude.{◌≡◌, ℕ, ◌+◌, ◌<◌, int_lt};
+ghost use Rattle.std.specs.Prelude.{◌≡◌, ◌<◌};
 ghost use Rattle.isa.specs.Encodings.{Fits};
-ghost use Rattle.isa.specs.Machine.{effect_of, effective_address, relative, as_signed, arithmetic_right};
+ghost use Rattle.isa.specs.Machine.{effect_of, effective_address, relative};
 ghost use Rattle.rv_machine.specs.Effects.{IsSmall};
 
 use super::HartState;
+use super::arithmetic::{
+    arithmetic_right, is_less, multiply_high, multiply_high_signed_unsigned,
+    multiply_high_unsigned, quotient, remainder, unsigned_quotient, unsigned_remainder,
+};
 use isa::{Effect, Instr};
 
 fn set(rd: u8, value: u32) -> Effect
@@ -39,20 +43,6 @@ fn store(address: u32, size: u8, value: u32) -> Effect
         size,
         value,
     }
-}
-
-/// A word shifted right, with its sign kept.
-fn arithmetic_right(value: u32, amount: u32) -> u32
-    requires { amount < 32 }
-    ensures { result ≡ arithmetic_right value amount }
-{
-    (value.cast_signed() >> amount).cast_unsigned()
-}
-
-fn is_less(a: u32, b: u32) -> bool
-    ensures { result ≡ int_lt (as_signed a) (as_signed b) }
-{
-    a.cast_signed() < b.cast_signed()
 }
 
 impl HartState {
@@ -174,6 +164,38 @@ impl HartState {
             ),
             Instr::Or { rd, rs1, rs2 } => set(rd, self.register(rs1) | self.register(rs2)),
             Instr::And { rd, rs1, rs2 } => set(rd, self.register(rs1) & self.register(rs2)),
+            Instr::Mul { rd, rs1, rs2 } => set(
+                rd,
+                self.register(rs1).wrapping_mul(self.register(rs2)),
+            ),
+            Instr::Mulh { rd, rs1, rs2 } => set(
+                rd,
+                multiply_high(self.register(rs1), self.register(rs2)),
+            ),
+            Instr::Mulhsu { rd, rs1, rs2 } => set(
+                rd,
+                multiply_high_signed_unsigned(self.register(rs1), self.register(rs2)),
+            ),
+            Instr::Mulhu { rd, rs1, rs2 } => set(
+                rd,
+                multiply_high_unsigned(self.register(rs1), self.register(rs2)),
+            ),
+            Instr::Div { rd, rs1, rs2 } => set(
+                rd,
+                quotient(self.register(rs1), self.register(rs2)),
+            ),
+            Instr::Divu { rd, rs1, rs2 } => set(
+                rd,
+                unsigned_quotient(self.register(rs1), self.register(rs2)),
+            ),
+            Instr::Rem { rd, rs1, rs2 } => set(
+                rd,
+                remainder(self.register(rs1), self.register(rs2)),
+            ),
+            Instr::Remu { rd, rs1, rs2 } => set(
+                rd,
+                unsigned_remainder(self.register(rs1), self.register(rs2)),
+            ),
             Instr::Fence { .. } => Effect::MoveOn,
             Instr::Ecall => Effect::EnvironmentCall,
             Instr::Ebreak => Effect::Breakpoint,

@@ -1,9 +1,55 @@
-use Rattle.std.proofs.Common.{◌≡◌, ℕ, ◌+◌, ◌<◌, arith, ap, sym, ◌∙◌, subst}
-use Rattle.log_model.specs.Logs.{Log, steps}
-use Rattle.replay_run.specs.Runs.{RunAt, hart_of, with_hart, IsReady, IsFinished}
+use Rattle.std.proofs.Common.{◌≡◌, ℕ, ◌<◌, None, arith, ap, sym, ◌∙◌, subst}
+use Rattle.log_model.specs.Logs.{steps}
+use Rattle.flow_model.specs.declared.StepSeen.{StepSeen}
+use Rattle.rv_machine.specs.declared.Stepped.TheVariants.{Plain}
+use Rattle.replay_run.specs.Runs.{RunAt, hart_of, with_hart, later_by_one, IsLater, IsReady, IsFinished}
 use Rattle.replay_run.proofs.Steps.{ready, numbered}
-use Rattle.replayer.proofs.Stepping.{cursor_agrees, cursor_moves, cursor_step}
+use Rattle.replayer.proofs.Stepping.{cursor_agrees, cursor_moves, cursor_step, plain_finished}
 use Rattle.replayer.proofs.cursor.Cursor.next.Goals as goal
+
+-- ---- a plain step
+
+pub advance-requires-clause-later : goal.advance-requires-clause-later
+advance-requires-clause-later c =
+    let run = c.self.inside.run in
+    let job = c.self.inside.job.now in
+    let within = c.self.invariant.within in
+    let below : run.moment.time < steps job.log = omega arith in
+    let same : steps run.log ≡ steps job.log = ap steps c.self.invariant.same_log in
+    let can = ready run (Plain c.in-Plain.instr c.in-Plain.place) (hart_of c.step.new.self) c.form.ensures (omega arith) (cursor_agrees job run c.self.invariant below) c.in-Plain.ensures.step in
+    subst (λ (r : RunAt). IsLater r.moment.time r.moment.left) (sym c.in-Plain.ensures.rest) can.2
+
+pub invariant_of-self : goal.invariant_of-self
+invariant_of-self c =
+    let run = c.self.inside.run in
+    let job = c.self.inside.job.now in
+    let within = c.self.invariant.within in
+    let below : run.moment.time < steps job.log = omega arith in
+    let hart = hart_of c.step.new.self in
+    let counted = c.advance.ensures ∙ ap later_by_one c.in-Plain.ensures.rest in
+    let s : StepSeen = record { number = c.time-number.result; instr = c.in-Plain.instr; place = c.in-Plain.place; call = None } in
+    let finished = plain_finished run c.advance.new.self hart c.in-Plain.instr c.in-Plain.place c.time-number.result c.time-number.ensures counted in
+    cursor_moves job run c.self.invariant below (Plain c.in-Plain.instr c.in-Plain.place) hart c.in-Plain.ensures.step c.advance.new.self s finished (ap (λ (r : RunAt). r.log) counted) (ap (λ (r : RunAt). r.waits) counted ∙ c.in-Plain.ensures.step.goes_on)
+
+pub returns-in-Plain : goal.returns-in-Plain
+returns-in-Plain c =
+    let run = c.self.inside.run in
+    let job = c.self.inside.job.now in
+    let within = c.self.invariant.within in
+    let below : run.moment.time < steps job.log = omega arith in
+    let hart = hart_of c.step.new.self in
+    let counted = c.advance.ensures ∙ ap later_by_one c.in-Plain.ensures.rest in
+    let s : StepSeen = record { number = c.time-number.result; instr = c.in-Plain.instr; place = c.in-Plain.place; call = None } in
+    let finished = plain_finished run c.advance.new.self hart c.in-Plain.instr c.in-Plain.place c.time-number.result c.time-number.ensures counted in
+    rw (← c.self.view_is) (record {
+      below = below;
+      step = cursor_step job run c.self.invariant below (Plain c.in-Plain.instr c.in-Plain.place) hart c.in-Plain.ensures.step c.advance.new.self s finished;
+      number = c.time-number.ensures;
+      moved = ap (λ (r : RunAt). record { job = job; time = r.moment.time }) counted;
+      in_range = record { fits = c.in-Plain.ensures.step.fits; call = tt };
+    })
+
+-- ---- a call
 
 pub finish-requires-clause-ready : goal.finish-requires-clause-ready
 finish-requires-clause-ready c =
@@ -12,32 +58,32 @@ finish-requires-clause-ready c =
     let within = c.self.invariant.within in
     let below : run.moment.time < steps job.log = omega arith in
     let same : steps run.log ≡ steps job.log = ap steps c.self.invariant.same_log in
-    let can = ready run c.step-stepped.result (hart_of c.step-stepped.new.self) c.form.ensures (omega arith) (cursor_agrees job run c.self.invariant below) c.step-stepped.ensures.step in
-    subst (λ (r : RunAt). IsReady r c.step-stepped.result) (sym c.step-stepped.ensures.rest) can
+    let can = ready run c.step.result (hart_of c.step.new.self) c.form.ensures (omega arith) (cursor_agrees job run c.self.invariant below) c.step.ensures.step in
+    subst (λ (r : RunAt). IsReady r c.step.result) (sym c.step.ensures.rest) can
 
-pub invariant_of-self : goal.invariant_of-self
-invariant_of-self c =
+pub invariant_of-self-in_default : goal.invariant_of-self-in_default
+invariant_of-self-in_default c =
     let run = c.self.inside.run in
     let job = c.self.inside.job.now in
     let within = c.self.invariant.within in
     let below : run.moment.time < steps job.log = omega arith in
-    let hart = hart_of c.step-stepped.new.self in
-    let finished = subst (λ (r : RunAt). IsFinished r.moment c.step-stepped.result c.finish.result c.finish.new.self.moment) c.step-stepped.ensures.rest c.finish.ensures.finished in
-    let same_log = c.finish.ensures.rest.0 ∙ ap (λ (r : RunAt). r.log) c.step-stepped.ensures.rest in
-    cursor_moves job run c.self.invariant below c.step-stepped.result hart c.step-stepped.ensures.step c.finish.new.self c.finish.result finished same_log c.finish.ensures.rest.1
+    let hart = hart_of c.step.new.self in
+    let finished = subst (λ (r : RunAt). IsFinished r.moment c.step.result c.finish.result c.finish.new.self.moment) c.step.ensures.rest c.finish.ensures.finished in
+    let same_log = c.finish.ensures.rest.0 ∙ ap (λ (r : RunAt). r.log) c.step.ensures.rest in
+    cursor_moves job run c.self.invariant below c.step.result hart c.step.ensures.step c.finish.new.self c.finish.result finished same_log c.finish.ensures.rest.1
 
-pub returns : goal.returns
-returns c =
+pub returns-in_default : goal.returns-in_default
+returns-in_default c =
     let run = c.self.inside.run in
     let job = c.self.inside.job.now in
     let within = c.self.invariant.within in
     let below : run.moment.time < steps job.log = omega arith in
-    let hart = hart_of c.step-stepped.new.self in
-    let finished = subst (λ (r : RunAt). IsFinished r.moment c.step-stepped.result c.finish.result c.finish.new.self.moment) c.step-stepped.ensures.rest c.finish.ensures.finished in
-    let n = numbered (with_hart run hart).moment c.step-stepped.result c.finish.result c.finish.new.self.moment finished in
+    let hart = hart_of c.step.new.self in
+    let finished = subst (λ (r : RunAt). IsFinished r.moment c.step.result c.finish.result c.finish.new.self.moment) c.step.ensures.rest c.finish.ensures.finished in
+    let n = numbered (with_hart run hart).moment c.step.result c.finish.result c.finish.new.self.moment finished in
     rw (← c.self.view_is) (record {
       below = below;
-      step = cursor_step job run c.self.invariant below c.step-stepped.result hart c.step-stepped.ensures.step c.finish.new.self c.finish.result finished;
+      step = cursor_step job run c.self.invariant below c.step.result hart c.step.ensures.step c.finish.new.self c.finish.result finished;
       number = n.number;
       moved = ap (λ (t : ℕ). record { job = job; time = t }) n.time;
       in_range = c.finish.ensures.in_range;
