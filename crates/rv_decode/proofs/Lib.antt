@@ -1,0 +1,4 @@
+mod Immediates
+mod Parts
+mod Written
+mod Read

@@ -13,8 +13,7 @@ use isa::Instr;
 
 /// "Conditional Branches".
 fn branch_of(word: u32) -> Option<Instr>
-    ensures is { result ≡ looked_up branches (funct3 word) word }
-    ensures back { opcode word ≡ BRANCH → IfSome result (λ i. Fits i × (encoding i ≡ word)) }
+    ensures { result ≡ looked_up branches (funct3 word) word }
 {
     let (rs1, rs2, imm) = (rs1_of(word), rs2_of(word), imm_b_of(word));
     match funct3_of(word) {
@@ -30,8 +29,7 @@ fn branch_of(word: u32) -> Option<Instr>
 
 /// "Load and Store Instructions": the loads.
 fn load_of(word: u32) -> Option<Instr>
-    ensures is { result ≡ looked_up loads (funct3 word) word }
-    ensures back { opcode word ≡ LOAD → IfSome result (λ i. Fits i × (encoding i ≡ word)) }
+    ensures { result ≡ looked_up loads (funct3 word) word }
 {
     let (rd, rs1, imm) = (rd_of(word), rs1_of(word), imm_i_of(word));
     match funct3_of(word) {
@@ -46,8 +44,7 @@ fn load_of(word: u32) -> Option<Instr>
 
 /// "Load and Store Instructions": the stores.
 fn store_of(word: u32) -> Option<Instr>
-    ensures is { result ≡ looked_up stores (funct3 word) word }
-    ensures back { opcode word ≡ STORE → IfSome result (λ i. Fits i × (encoding i ≡ word)) }
+    ensures { result ≡ looked_up stores (funct3 word) word }
 {
     let (rs1, rs2, imm) = (rs1_of(word), rs2_of(word), imm_s_of(word));
     match funct3_of(word) {
@@ -60,8 +57,7 @@ fn store_of(word: u32) -> Option<Instr>
 
 /// "Integer Register-Immediate Instructions": the shifts, whose amount stands where rs2 does.
 fn shift_of(word: u32) -> Option<Instr>
-    ensures is { result ≡ looked_up shifts (funct7_funct3 word) word }
-    ensures back { opcode word ≡ OP_IMM → IfSome result (λ i. Fits i × (encoding i ≡ word)) }
+    ensures { result ≡ looked_up shifts (funct7_funct3 word) word }
 {
     let (rd, rs1, amount) = (rd_of(word), rs1_of(word), rs2_of(word));
     match (funct7_of(word), funct3_of(word)) {
@@ -74,8 +70,7 @@ fn shift_of(word: u32) -> Option<Instr>
 
 /// "Integer Register-Immediate Instructions".
 fn immediate_of(word: u32) -> Option<Instr>
-    ensures is { result ≡ immediate word }
-    ensures back { opcode word ≡ OP_IMM → IfSome result (λ i. Fits i × (encoding i ≡ word)) }
+    ensures { result ≡ immediate word }
 {
     let (rd, rs1, imm) = (rd_of(word), rs1_of(word), imm_i_of(word));
     match funct3_of(word) {
@@ -92,8 +87,7 @@ fn immediate_of(word: u32) -> Option<Instr>
 /// "Multiplication Operations" and "Division Operations".
 fn muldiv_of(word: u32) -> Option<Instr>
     requires { funct7 word ≡ MULDIV }
-    ensures is { result ≡ looked_up operations (funct7_funct3 word) word }
-    ensures back { opcode word ≡ OP → IfSome result (λ i. Fits i × (encoding i ≡ word)) }
+    ensures { result ≡ looked_up operations (funct7_funct3 word) word }
 {
     let (rd, rs1, rs2) = (rd_of(word), rs1_of(word), rs2_of(word));
     Some(match funct3_of(word) {
@@ -110,8 +104,7 @@ fn muldiv_of(word: u32) -> Option<Instr>
 
 /// "Integer Register-Register Operations".
 fn operation_of(word: u32) -> Option<Instr>
-    ensures is { result ≡ looked_up operations (funct7_funct3 word) word }
-    ensures back { opcode word ≡ OP → IfSome result (λ i. Fits i × (encoding i ≡ word)) }
+    ensures { result ≡ looked_up operations (funct7_funct3 word) word }
 {
     let (rd, rs1, rs2) = (rd_of(word), rs1_of(word), rs2_of(word));
     match (funct7_of(word), funct3_of(word)) {
@@ -130,13 +123,9 @@ fn operation_of(word: u32) -> Option<Instr>
     }
 }
 
-/// The instruction that a word stands for, or None where the word is illegal.
-///
-/// "RV32I Base Integer Instruction Set" and "'M' Extension for Integer Multiplication and Division" of the RISC-V
-/// Unprivileged ISA manual. The instruction fits (`Instr::fits`), and `encode` of it is the word.
-pub fn decode(word: u32) -> Option<Instr>
-    ensures is { result ≡ instruction_of word }
-    ensures encodes_back { IfSome result (λ i. Fits i × (encoding i ≡ word)) }
+/// "RV32 base opcode map".
+fn by_opcode(word: u32) -> Option<Instr>
+    ensures { result ≡ instruction_of word }
 {
     match opcode_of(word) {
         LUI => Some(Instr::Lui {
@@ -174,4 +163,16 @@ pub fn decode(word: u32) -> Option<Instr>
             _ => None,
         },
     }
+}
+
+/// The instruction that a word stands for, or None where the word is illegal.
+///
+/// "RV32I Base Integer Instruction Set" and "'M' Extension for Integer Multiplication and Division" of the RISC-V
+/// Unprivileged ISA manual. The instruction fits (`Instr::fits`), and `encode` of it is the word.
+#[tactic(auto, using(crate::proofs::Read::written_back))]
+pub fn decode(word: u32) -> Option<Instr>
+    ensures is { result ≡ instruction_of word }
+    ensures encodes_back { IfSome result (λ i. Fits i × (encoding i ≡ word)) }
+{
+    by_opcode(word)
 }

@@ -113,14 +113,9 @@ fn fence_word(kept: u32) -> u32
     u32::from(MISC_MEM) + (bits(kept, 0, 5) << 7) + (bits(kept, 5, 17) << 15)
 }
 
-/// The word that stands for an instruction.
-///
-/// "Base Instruction Formats" and "Immediate Encoding Variants" of the RISC-V Unprivileged ISA manual. The
-/// instruction has to fit (`Instr::fits`), and `decode` of the word is the instruction.
-pub fn encode(instr: &Instr) -> u32
+fn word_of(instr: &Instr) -> u32
     requires { Fits instr.now }
-    ensures is { result ≡ encoding instr.now }
-    ensures decodes_back { instruction_of result ≡ Some instr.now }
+    ensures { result ≡ encoding instr.now }
 {
     match *instr {
         Instr::Lui { rd, imm } => u_word(LUI, rd, imm),
@@ -172,4 +167,17 @@ pub fn encode(instr: &Instr) -> u32
         Instr::Ecall => 0x0000_0073,
         Instr::Ebreak => 0x0010_0073,
     }
+}
+
+/// The word that stands for an instruction.
+///
+/// "Base Instruction Formats" and "Immediate Encoding Variants" of the RISC-V Unprivileged ISA manual. The
+/// instruction has to fit (`Instr::fits`), and `decode` of the word is the instruction.
+#[tactic(auto, using(crate::proofs::Written::read_back))]
+pub fn encode(instr: &Instr) -> u32
+    requires { Fits instr.now }
+    ensures is { result ≡ encoding instr.now }
+    ensures decodes_back { instruction_of result ≡ Some instr.now }
+{
+    word_of(instr)
 }

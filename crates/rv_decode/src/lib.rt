@@ -1,4 +1,4 @@
-//! RV32I's instruction words: [`decode`] reads the instruction of a word, [`encode`] writes the word of an
+//! RV32IM's instruction words: [`decode`] reads the instruction of a word, [`encode`] writes the word of an
 //! instruction.
 //!
 //! Each is the other's inverse: `decode` of what `encode` wrote is the instruction, and `encode` of what

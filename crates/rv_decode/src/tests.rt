@@ -1,10 +1,11 @@
-//! A word of each form, both ways, and words that stand for nothing. All forty instructions are worked in isa/proofs.
+//! A word of each form and of each multiplication and division, both ways, and words that stand for nothing. All
+//! instructions are worked in isa/proofs.
 
 use crate::{Instr, decode, encode};
 use std::process::Abort;
 
 fn stands_for(rt: &impl Abort, word: u32, instr: &Instr) {
-    assert_eq!(rt; decode(word), Some(*instr), "at {word}");
+    assert!(rt; decode(word) == Some(*instr), "at {word}");
     assert!(rt; instr.fits(), "at {word}");
     assert_eq!(rt; encode(instr), word, "at {word}");
 }
@@ -61,6 +62,78 @@ fn words_stand_for_instructions_both_ways(rt: HostRuntime) {
                 rs2: 23,
             },
         ),
+        (
+            0x0231_00b3,
+            Instr::Mul {
+                rd: 1,
+                rs1: 2,
+                rs2: 3,
+            },
+        ),
+        (
+            0x0262_9233,
+            Instr::Mulh {
+                rd: 4,
+                rs1: 5,
+                rs2: 6,
+            },
+        ),
+        (
+            0x0294_23b3,
+            Instr::Mulhsu {
+                rd: 7,
+                rs1: 8,
+                rs2: 9,
+            },
+        ),
+        (
+            0x02c5_b533,
+            Instr::Mulhu {
+                rd: 10,
+                rs1: 11,
+                rs2: 12,
+            },
+        ),
+        (
+            0x02f7_46b3,
+            Instr::Div {
+                rd: 13,
+                rs1: 14,
+                rs2: 15,
+            },
+        ),
+        (
+            0x0328_d833,
+            Instr::Divu {
+                rd: 16,
+                rs1: 17,
+                rs2: 18,
+            },
+        ),
+        (
+            0x035a_69b3,
+            Instr::Rem {
+                rd: 19,
+                rs1: 20,
+                rs2: 21,
+            },
+        ),
+        (
+            0x038b_fb33,
+            Instr::Remu {
+                rd: 22,
+                rs1: 23,
+                rs2: 24,
+            },
+        ),
+        (
+            0x02c5_85b3,
+            Instr::Mul {
+                rd: 11,
+                rs1: 11,
+                rs2: 12,
+            },
+        ),
         (0xffff_8f8f, Instr::Fence { kept: 0x3f_ffff }),
         (0x0010_0073, Instr::Ebreak),
     ];
@@ -68,7 +141,7 @@ fn words_stand_for_instructions_both_ways(rt: HostRuntime) {
         stands_for(&rt, *word, instr);
     }
     for word in [0, 0xffff_ffff, 0x0000_100f, 0x0020_0073] {
-        assert_eq!(rt; decode(word), None, "at {word}");
+        assert!(rt; decode(word).is_none(), "at {word}");
     }
 }
 
