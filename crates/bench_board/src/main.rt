@@ -1,27 +1,49 @@
 //! What a turn at a board costs, beside a plain loop over the same tasks.
 //!
-//! Standard output counts the turns taken. The times go to standard error.
+//! Standard output counts the turns taken, first at a board of three tasks and at one with the most tasks and workers,
+//! which are not timed. The times go to standard error.
 #![tactic(auto)]
 
 mod countdown;
 mod runs;
 
+use run_board::{MOST_TASKS, MOST_WORKERS, Task};
+use std::alloc::Global;
+use std::sync::Wait;
+use std::thread::Threads;
 use std::time::Instant;
+
+/// How many tasks each timed run has.
+const TASKS: u32 = 1000;
+
+/// How many turns each of them takes.
+const TURNS: u32 = 200;
 
 /// How many workers each run of the board has.
 const WORKERS: [u32; 3] = [1, 4, 64];
 
+/// Three tasks, which tell their turns one by one, and then the most tasks with the most workers.
+fn untimed(rt: &(impl Print + Threads + Wait + Sync), alloc: Global) -> anyhow::Result<()> {
+    for task in &runs::three_tasks(rt, alloc, 2)? {
+        println!(rt; "turns of task {}: {}", task.number(), task.taken())?;
+    }
+    let turns = runs::board(rt, alloc, MOST_TASKS as u32, 20, MOST_WORKERS)?;
+    println!(rt; "{MOST_TASKS} tasks, {MOST_WORKERS} workers: {turns} turns")?;
+    Ok(())
+}
+
 /// Runs the loop and then the board, each over the same tasks.
 fn main(rt: HostRuntime) -> anyhow::Result<()> {
     let alloc = rt.alloc();
+    untimed(&rt, alloc)?;
     let start = Instant::now(&rt)?;
-    let turns = runs::plain_loop(alloc)?;
+    let turns = runs::plain_loop(alloc, TASKS, TURNS)?;
     let took = start.elapsed(&rt)?.as_nanos();
     println!(rt; "loop: {turns} turns")?;
     eprintln!(rt; "loop: {} ns", took)?;
     for workers in WORKERS {
         let start = Instant::now(&rt)?;
-        let turns = runs::board(&rt, alloc, workers)?;
+        let turns = runs::board(&rt, alloc, TASKS, TURNS, workers)?;
         let took = start.elapsed(&rt)?.as_nanos();
         println!(rt; "board, {workers} workers: {turns} turns")?;
         eprintln!(rt; "board, {} workers: {} ns", workers, took)?;

@@ -1,9 +1,10 @@
 //! How fast two threads pass messages: over the ring of `epoch_link`, over `rtrb`, and through a queue under a lock.
 //!
-//! Standard output tells how many messages came in order, standard error how long they took. An argument is the
-//! number of rounds, of which the fastest counts.
+//! Standard output tells what a link within one thread and a ring answer, and then how many messages came in order;
+//! standard error tells how long they took. An argument is the number of rounds, of which the fastest counts.
 #![tactic(auto)]
 
+mod answers;
 mod ends;
 
 use ends::{Locked, Sends, Takes};
@@ -91,6 +92,8 @@ fn under_lock<R: Threads + Clock + Wait + Sync>(
 
 fn main(rt: HostRuntime) -> io::Result<()> {
     let alloc = rt.alloc();
+    answers::of_list_link(&rt, alloc)?;
+    answers::of_ring(&rt, alloc)?;
     let mut rounds = 1u32;
     if let Some(word) = env::args(&rt)?.nth(1) {
         rounds = word.as_str().parse().unwrap_or(1);

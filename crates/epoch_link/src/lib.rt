@@ -5,8 +5,6 @@ pub mod laws;
 mod link;
 mod list_link;
 mod ring_link;
-#[cfg(test)]
-mod tests;
 
 pub use link::{Inlet, Outlet, Popped, Pushed};
 pub use list_link::ListLink;

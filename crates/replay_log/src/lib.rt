@@ -21,5 +21,3 @@ pub use logs::Log;
 pub use reading::read_log;
 pub use writing::write_log;
 
-#[cfg(test)]
-mod tests;

@@ -10,8 +10,6 @@ mod filling;
 mod pool;
 mod steps;
 mod task;
-#[cfg(test)]
-mod tests;
 mod turning;
 mod view;
 mod worker;

@@ -2,7 +2,8 @@ use Rattle.std.proofs.Common.{sym, subst, arith}
 use Rattle.std.proofs.lemmas.Bool.{eqb-true, eqb-false}
 use Rattle.replay_log.specs.Records.{IsFirst}
 use Rattle.log_model.specs.declared.Item.{Item}
-use Rattle.replay_log.proofs.Loop.{starts, goes_on, is_done, is_trailing, is_record_fault}
+use Rattle.log_model.specs.declared.Item.TheVariants.{Call}
+use Rattle.replay_log.proofs.Loop.{starts, item_after, goes_on, is_done, is_trailing, is_record_fault}
 use Rattle.replay_log.proofs.reading.body_of.Goals as goal
 
 pub loop-first-init : goal.loop-first-init
@@ -17,6 +18,13 @@ loop-first-preserved c =
     let after = c.in-Ok.first.1.now in
     let call = subst (λ (i : Item). IsFirst before.least before.rest.now i after) c.in-Call.is c.in-Ok.ensures.ok in
     rw (c.in_ok-push-in-Call.ensures.items, c.from-least.ensures, c.step_of.ensures) (goes_on _ before.records.items before.least before.rest.now c.in-Call.call after before.invariant call)
+
+pub loop-first-smaller : goal.loop-first-smaller
+loop-first-smaller c =
+    let before = c.loop-first in
+    let after = c.in-Ok.first.1.now in
+    let call = subst (λ (i : Item). IsFirst before.least before.rest.now i after) c.in-Call.is c.in-Ok.ensures.ok in
+    item_after before.least before.rest.now (Call c.in-Call.call) after call
 
 pub returns-then-is_empty-clause-ok : goal.returns-then-is_empty-clause-ok
 returns-then-is_empty-clause-ok c =
