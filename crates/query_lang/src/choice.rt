@@ -4,14 +4,14 @@ ghost use Rattle.std.specs.Prelude.{◌≡◌, true};
 ghost use Rattle.query_lang.specs.Spans.{start_of, starts_by, span_has, reaches, NotAfter, IsAtStartOf, HasBoth};
 
 /// The offsets from one up to another, and without it.
-#[derive(Clone, Copy, Debug, PartialEq, Eq, PartialOrd, Ord)]
+#[derive(Clone, Copy, PartialEq, Eq, PartialOrd, Ord)]
 pub struct Offsets {
     pub from: u32,
     pub past: u32,
 }
 
 /// Some bytes of a channel; where no offsets are named, all of them.
-#[derive(Clone, Copy, Debug, PartialEq, Eq, PartialOrd, Ord)]
+#[derive(Clone, Copy, PartialEq, Eq, PartialOrd, Ord)]
 pub struct Span {
     pub channel: u8,
     pub offsets: Option<Offsets>,

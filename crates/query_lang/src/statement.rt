@@ -73,21 +73,21 @@ fn operands_of<'a>(mut operands: Words<'a>) -> Option<Operands<'a>>
     let first = operands.next()?;
     let is_all = first == b"all".as_slice();
     let Some(from) = operands.next() else {
-        return Some(if is_all {
-            Operands::All
-        } else {
-            Operands::Channel(first)
-        });
+        if is_all {
+            return Some(Operands::All);
+        }
+        return Some(Operands::Channel(first));
     };
     let past = operands.next()?;
-    if is_all || operands.next().is_some() {
-        return None;
+    match operands.next() {
+        Some(_) => None,
+        None if is_all => None,
+        None => Some(Operands::Range {
+            channel: first,
+            from,
+            past,
+        }),
     }
-    Some(Operands::Range {
-        channel: first,
-        from,
-        past,
-    })
 }
 
 /// A channel from 0 to 15.

@@ -4,14 +4,6 @@ use crate::{Query, QueryFault, QueryKind, parse};
 use flow_model::{Rule, SinkByte, SourceByte};
 use std::alloc::Global;
 
-/// What `parse` answers for a text: the rule of its query, or its first fault.
-#[derive(Clone, Copy, Debug, PartialEq, Eq)]
-enum Outcome {
-    Read(Rule),
-    At(u32, QueryKind),
-    NoMemory,
-}
-
 /// Texts, and the line and the kind of their first fault.
 const FAULTS: [(&[u8], u32, QueryKind); 18] = [
     (b"", 0, QueryKind::NoRule),
@@ -34,110 +26,93 @@ const FAULTS: [(&[u8], u32, QueryKind); 18] = [
     (b"rule copy\nrule copy", 2, QueryKind::SecondRule),
 ];
 
-/// The shortest and the longest of some prefixes of the text below, and what each of them comes to.
-const OUTCOMES: [(usize, usize, Outcome); 13] = [
-    (0, 0, Outcome::At(0, QueryKind::NoRule)),
-    (1, 3, Outcome::At(1, QueryKind::Word)),
-    (4, 5, Outcome::At(1, QueryKind::Count)),
-    (6, 8, Outcome::At(1, QueryKind::Word)),
-    (9, 10, Outcome::Read(Rule::Copy)),
-    (11, 15, Outcome::At(2, QueryKind::Word)),
-    (16, 17, Outcome::At(2, QueryKind::Count)),
-    (18, 19, Outcome::At(2, QueryKind::Number)),
-    (20, 21, Outcome::Read(Rule::Copy)),
-    (22, 24, Outcome::At(3, QueryKind::Word)),
-    (25, 26, Outcome::At(3, QueryKind::Count)),
-    (27, 28, Outcome::At(3, QueryKind::Number)),
-    (29, 30, Outcome::Read(Rule::Copy)),
+/// The bytes, by channel and offset, that are tried of each query.
+const TRIED: [(u8, u32); 13] = [
+    (0, 0),
+    (0, 1),
+    (0, 4),
+    (0, 5),
+    (0, 6),
+    (0, 9),
+    (0, 4294967295),
+    (1, 0),
+    (1, 9),
+    (1, 4294967295),
+    (15, 0),
+    (15, 1),
+    (16, 0),
+];
+
+/// Texts, the rule of the query that each stands for, and which of the bytes that are tried it chooses: as
+/// sources, and as sinks.
+const QUERIES: [(&[u8], Rule, &[(u8, u32)], &[(u8, u32)]); 4] = [
+    (
+        b"rule copy\r\nsource 0 1 2\r\n\tsink 1",
+        Rule::Copy,
+        &[(0, 1)],
+        &[(1, 0), (1, 9), (1, 4294967295)],
+    ),
+    (
+        b"# any \xff\x00\n\n \t\nsource 0 5 5\n  rule  compute ",
+        Rule::Compute,
+        &[],
+        &[],
+    ),
+    (
+        b"sink 0 4 6\nsink 0 5 9\nsink 15 0 1\nsink 0 1 1\nrule copy\nsource 0 9 4294967295\nsource 0 0000000000 1",
+        Rule::Copy,
+        &[(0, 0), (0, 9)],
+        &[(0, 4), (0, 5), (0, 6), (15, 0)],
+    ),
+    (b"rule index", Rule::Index, &[], &[]),
 ];
 
 /// What `parse` answers for a text of at most 4096 bytes.
-fn outcome_of(alloc: Global, text: &[u8]) -> Outcome {
+fn read(alloc: Global, text: &[u8]) -> Result<Query, QueryFault> {
     if text.len() > 4096 {
-        return Outcome::NoMemory;
+        return Err(QueryFault::NoMemory);
     }
-    match parse(alloc, text) {
-        Ok(query) => Outcome::Read(query.rule()),
-        Err(QueryFault::At { line, kind }) => Outcome::At(line, kind),
-        Err(QueryFault::NoMemory) => Outcome::NoMemory,
+    parse(alloc, text)
+}
+
+/// The line and the kind of the first fault of a text.
+fn fault_of(alloc: Global, text: &[u8]) -> Option<(u32, QueryKind)> {
+    match read(alloc, text) {
+        Err(QueryFault::At { line, kind }) => Some((line, kind)),
+        _ => None,
     }
 }
 
-/// Whether the query chooses the bytes of these lists and no others, of those tried: offsets of the channels
-/// 0, 1, 15 and 16.
-fn has_bytes(query: &Query, sources: &[(u8, u32)], sinks: &[(u8, u32)]) -> bool {
-    for channel in [0, 1, 15, 16] {
-        for offset in [0, 1, 4, 5, 6, 9, 4294967295] {
-            let byte = (channel, offset);
-            let has_source = query.source_has(SourceByte { channel, offset });
-            let has_sink = query.sink_has(SinkByte { channel, offset });
-            if has_source != sources.contains(&byte) || has_sink != sinks.contains(&byte) {
-                return false;
-            }
+/// Whether the query chooses these bytes and no others of those that are tried.
+fn chooses(query: &Query, sources: &[(u8, u32)], sinks: &[(u8, u32)]) -> bool {
+    for byte in &TRIED {
+        let (channel, offset) = *byte;
+        let is_source = query.source_has(SourceByte { channel, offset });
+        let is_sink = query.sink_has(SinkByte { channel, offset });
+        if is_source != sources.contains(byte) || is_sink != sinks.contains(byte) {
+            return false;
         }
     }
     true
 }
 
-/// Whether the text stands for a query by this rule that chooses these bytes.
-fn chooses(
-    alloc: Global,
-    text: &[u8],
-    rule: Rule,
-    sources: &[(u8, u32)],
-    sinks: &[(u8, u32)],
-) -> bool {
-    if text.len() > 4096 {
-        return false;
-    }
-    match parse(alloc, text) {
-        Ok(query) => query.rule() == rule && has_bytes(&query, sources, sinks),
-        Err(_) => false,
-    }
-}
-
 #[test]
 fn faulty_texts_have_their_first_fault(rt: HostRuntime) {
     for (text, line, kind) in &FAULTS {
-        assert_eq!(rt;
-            outcome_of(rt.alloc(), text),
-            Outcome::At(*line, *kind),
+        assert!(rt;
+            fault_of(rt.alloc(), text) == Some((*line, *kind)),
             "{text:?}"
         );
     }
 }
 
 #[test]
-fn each_prefix_of_a_text_has_its_outcome(rt: HostRuntime) {
-    let text = b"rule copy\nsource all\nsink all\n";
-    for (first, last, expected) in &OUTCOMES {
-        for length in *first..=*last {
-            let prefix = text.get(..length).unwrap_or(text.as_slice());
-            assert_eq!(rt; outcome_of(rt.alloc(), prefix), *expected, "{length}");
-        }
-    }
-}
-
-#[test]
 fn good_texts_choose_their_bytes(rt: HostRuntime) {
-    let alloc = rt.alloc();
-    let of_a_channel = b"rule copy\r\nsource 0 1 2\r\n\tsink 1";
-    let channel = [
-        (1, 0),
-        (1, 1),
-        (1, 4),
-        (1, 5),
-        (1, 6),
-        (1, 9),
-        (1, 4294967295),
-    ];
-    assert!(rt; chooses(alloc, of_a_channel, Rule::Copy, &[(0, 1)], &channel));
-
-    let of_nothing = b"# any \xff\x00\n\n \t\nsource 0 5 5\n  rule  compute ";
-    assert!(rt; chooses(alloc, of_nothing, Rule::Compute, &[], &[]));
-
-    let of_ranges =
-        b"sink 0 4 6\nsink 0 5 9\nsink 15 0 1\nsink 0 1 1\nrule copy\nsource 0 9 4294967295\nsource 0 0000000000 1";
-    let ranges = [(0, 4), (0, 5), (0, 6), (15, 0)];
-    assert!(rt; chooses(alloc, of_ranges, Rule::Copy, &[(0, 0), (0, 9)], &ranges));
+    for (text, rule, sources, sinks) in &QUERIES {
+        let is_read = match read(rt.alloc(), text) {
+            Ok(query) => query.rule() == *rule && chooses(&query, sources, sinks),
+            Err(_) => false,
+        };
+        assert!(rt; is_read, "{text:?}");
+    }
 }

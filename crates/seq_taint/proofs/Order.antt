@@ -1,5 +1,5 @@
 -- The order in which the code compares source bytes.
-use Rattle.std.proofs.Common.{◌≡◌, refl, ap, sym, nat_cmp}
+use Rattle.std.proofs.Common.{◌≡◌, refl, ap, nat_cmp}
 use Rattle.std.specs.Ordering.{ordering_then}
 use Rattle.std.specs.declared.cmp.Ordering.{Ordering}
 use Rattle.std.specs.declared.cmp.Ordering.TheVariants.{Less, Equal, Greater}

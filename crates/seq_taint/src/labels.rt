@@ -44,7 +44,7 @@ impl Labels for Sets {
         label.share()
     }
 
-    fn unite(&mut self, left: &SourceSet, right: &SourceSet) -> Result<SourceSet, NoMemory> {
+    fn unite(&mut self, left: &SourceSet, right: SourceSet) -> Result<SourceSet, NoMemory> {
         left.merge(self.alloc, right)
     }
 }

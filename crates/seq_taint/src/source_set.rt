@@ -88,13 +88,13 @@ impl SourceSet {
         Ok(SourceSet { members })
     }
 
-    /// The union of both sets. Where one of them has all members of the other, the union shares them.
-    pub fn merge(&self, alloc: Global, other: &SourceSet) -> Result<SourceSet, NoMemory>
-        ensures { IfOk result (λ set. set ≡ union source_cmp self.now other.now) }
+    /// The union of both sets. Where one of them has all members of the other, it is that one.
+    pub fn merge(&self, alloc: Global, other: SourceSet) -> Result<SourceSet, NoMemory>
+        ensures { IfOk result (λ set. set ≡ union source_cmp self.now other) }
     {
         let (left, right) = (self.as_slice(), other.as_slice());
         if is_subset(left, right) {
-            return other.share();
+            return Ok(other);
         }
         if is_subset(right, left) {
             return self.share();

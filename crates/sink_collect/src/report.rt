@@ -12,7 +12,7 @@ use std::alloc::Global;
 use std::marker::Model;
 
 /// The rows of a report, by channel and then offset.
-#[derive(Debug, Drop)]
+#[derive(Drop)]
 pub struct Report {
     rows: Vec<SinkSet>,
 }

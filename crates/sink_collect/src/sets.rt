@@ -8,7 +8,7 @@ use flow_model::{SinkByte, SourceByte};
 use std::marker::Model;
 
 /// An output byte with its source bytes, which ascend by channel and then offset, each once.
-#[derive(Debug, Drop)]
+#[derive(Drop)]
 pub struct SinkSet {
     sink: SinkByte,
     sources: Vec<SourceByte>,
@@ -52,7 +52,7 @@ impl SinkSet {
 }
 
 /// Sets of output bytes, seen as their list.
-#[derive(Debug, Drop)]
+#[derive(Drop)]
 pub struct SinkSets {
     sets: Vec<SinkSet>,
 }

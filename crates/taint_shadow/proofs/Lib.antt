@@ -1,1 +1,3 @@
 mod Turning
+mod Located
+mod Tables

@@ -8,27 +8,14 @@ use Rattle.flow_model.specs.declared.CallSeen.{CallSeen}
 use Rattle.flow_model.specs.declared.SourceByte.{SourceByte}
 use Rattle.flow_model.specs.Flow.{Target, origins_by, loc_eq, distance}
 use Rattle.flow_model.specs.Origins.{Policy, byte_at}
-use Rattle.flow_model.specs.Ranges.{IsLocation, AreLocations, IsTable}
+use Rattle.flow_model.specs.Ranges.{IsLocation, AreLocations}
 use Rattle.taint_shadow.specs.declared.places.Places.{Places}
 use Rattle.taint_shadow.specs.Labels.{LabelWords, MakesLabel, KeepsLabels}
 use Rattle.taint_shadow.specs.Places.{kept, AreKept}
 use Rattle.taint_shadow.specs.Steps.{meaning_or, meaning_at, AreStanding, Holds, IsPut, united_over, is_among, introduced}
 
--- a table from a target on
-first_target : (ts : List Target) (i : ℕ) (l : Loc) (ls : List Loc) → slice_get (map (λ t. t.loc) ts) i ≡ Some l → slice_get (map (λ t. t.origins) ts) i ≡ Some ls
-    → drop i ts ≡ record { loc = l; origins = ls } ∷ drop (i + 1) ts
-first_target [] i l ls e f = cc
-first_target (t ∷ ts) zero l ls e f =
-    let make : Loc → List Loc → Target = λ a b. record { loc = a; origins = b } in
-    let p : t.loc ≡ l = cc in
-    let q : t.origins ≡ ls = cc in
-    ap (λ (a : Target). a ∷ ts) (ap (λ a. make a t.origins) p ∙ ap (make l) q)
-first_target (t ∷ ts) (suc i) l ls e f =
-    let next : suc i + 1 ≡ suc (i + 1) = omega arith in
-    rw next (first_target ts i l ls e f)
-
 -- what compares as equal is
-same_loc : (l q : Loc) → loc_eq l q ≡ true → l ≡ q
+pub same_loc : (l q : Loc) → loc_eq l q ≡ true → l ≡ q
 same_loc (Reg r i) (Reg s j) e = let a : r ≡ s = grind arith in let b : i ≡ j = grind arith in ap₂ Reg a b
 same_loc (Reg r i) (Mem p) e = absurd (grind arith)
 same_loc (Mem p) (Reg r i) e = absurd (grind arith)
@@ -68,22 +55,6 @@ module _ {A L M : Type 0} (words : LabelWords A L M) where
   united_first f [] d h = absurd (omega arith)
   united_first f (l ∷ []) d h = absurd (omega arith)
   united_first f (l ∷ m ∷ ls) d h = ap (λ (rest : List Loc). words.united (f l) (united_over words f rest)) (take_all (length (l ∷ m ∷ ls) - 1) (m ∷ ls) (omega arith))
-
-  -- the first target's label is put in place of what the targets after it left there: the places were `mid` before that
-  pub with_first : (b : A) (mid new : Places L) (f : Loc → M) (ts : List Target) (i : ℕ) (l : Loc) (ls : List Loc) (label : L)
-      → slice_get (map (λ t. t.loc) ts) i ≡ Some l → slice_get (map (λ t. t.origins) ts) i ≡ Some ls
-      → words.means b label ≡ united_over words f ls
-      → Holds words b mid (λ q. united_over words f (origins_by (drop (i + 1) ts) q))
-      → IsPut words b l label mid new
-      → Holds words b new (λ q. united_over words f (origins_by (drop i ts) q))
-  with_first b mid new f ts i l ls label e g made m n = record {
-    at = λ q here. n.meaning q here ∙ by q here (loc_eq l q) refl ∙ ap (λ (us : List Target). united_over words f (origins_by us q)) (sym (first_target ts i l ls e g));
-  }
-    where
-      by : (q : Loc) → IsLocation q → (o : Bool) → loc_eq l q ≡ o
-          → (if o then words.means b label else meaning_at words b mid q) ≡ united_over words f (origins_by (record { loc = l; origins = ls } ∷ drop (i + 1) ts) q)
-      by q here true is = made ∙ ap (λ (c : Bool). united_over words f (if c then ls else origins_by (drop (i + 1) ts) q)) (sym is)
-      by q here false is = m.at q here ∙ ap (λ (c : Bool). united_over words f (if c then ls else origins_by (drop (i + 1) ts) q)) (sym is)
 
   none_is : (x : L) → None ≡ Some x → ⊥
   none_is x e = cc

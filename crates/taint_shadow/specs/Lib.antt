@@ -1,3 +1,4 @@
 pub mod Labels
+pub mod Origins
 pub mod Places
 pub mod Steps

@@ -5,11 +5,11 @@ use Rattle.flow_model.specs.declared.Loc.TheVariants.{Reg, Mem}
 use Rattle.flow_model.specs.declared.SourceByte.{SourceByte}
 use Rattle.flow_model.specs.declared.StepSeen.{StepSeen}
 use Rattle.flow_model.specs.declared.CallSeen.{CallSeen}
-use Rattle.flow_model.specs.Flow.{flow, origins_by, loc_eq, is_received, from_call, distance}
+use Rattle.flow_model.specs.Flow.{Target, flow, origins_by, loc_eq, is_received, from_call, distance}
 use Rattle.flow_model.specs.Origins.{Policy, byte_at}
 use Rattle.flow_model.specs.Ranges.{IsLocation}
 use Rattle.taint_shadow.specs.declared.places.Places.{Places}
-use Rattle.taint_shadow.specs.Labels.{LabelWords, MakesLabel}
+use Rattle.taint_shadow.specs.Labels.{LabelWords}
 use Rattle.taint_shadow.specs.Places.{kept}
 
 -- one of the n bytes from a place on, round the end of memory
@@ -44,6 +44,13 @@ module _ {A L M : Type 0} (words : LabelWords A L M) where
   united_over f [] = words.nothing
   united_over f (l ∷ []) = f l
   united_over f (l ∷ m ∷ ls) = words.united (f l) (united_over f (m ∷ ls))
+
+  -- what each location has after some targets got what flows into them, and where only some locations did so yet
+  abbrev pub turned : List Target → (Loc → M) → Loc → M
+  turned ts f l = united_over f (origins_by ts l)
+
+  abbrev pub turned_at : (Loc → Bool) → List Target → (Loc → M) → Loc → M
+  turned_at done ts f l = if done l then turned ts f l else f l
 
   -- what a source byte brings in
   abbrev pub introduced : Policy → SourceByte → M

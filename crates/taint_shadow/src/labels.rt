@@ -46,8 +46,8 @@ pub trait Labels {
         ensures keeps { KeepsLabels words self.old self.new };
 
     /// The label of two together.
-    fn unite(&mut self, left: &Self::Label, right: &Self::Label) -> Result<Self::Label, NoMemory>
-        requires { words.stands self.old left.now × words.stands self.old right.now }
-        ensures made { IfOk result (MakesLabel words self.new (words.united (words.means self.old left.now) (words.means self.old right.now))) }
+    fn unite(&mut self, left: &Self::Label, right: Self::Label) -> Result<Self::Label, NoMemory>
+        requires { words.stands self.old left.now × words.stands self.old right }
+        ensures made { IfOk result (MakesLabel words self.new (words.united (words.means self.old left.now) (words.means self.old right))) }
         ensures keeps { KeepsLabels words self.old self.new };
 }

@@ -4,9 +4,13 @@
 #![tactic(auto)]
 
 mod labels;
+mod origins;
 mod places;
+mod reading;
+mod shapes;
 mod steps;
 
 pub use labels::Labels;
 pub use places::Places;
-pub use steps::{label_at, step};
+pub use reading::label_at;
+pub use steps::step;

@@ -1,101 +1,22 @@
 //! How one step turns what locations are labelled with.
 
-ghost use Rattle.std.specs.Prelude.{◌≡◌, ◌≤◌, Some, length, drop, if◌then◌else◌, IfOk, OnOk};
+ghost use Rattle.std.specs.Prelude.{◌<◌, Some, if◌then◌else◌, IfOk, OnOk};
 ghost use Rattle.flow_model.specs.declared.Loc.{Loc as Location};
-ghost use Rattle.flow_model.specs.Flow.{origins_by, from_call};
+ghost use Rattle.flow_model.specs.Flow.{to_register, nothing, cleared};
 ghost use Rattle.flow_model.specs.Origins.{byte_at};
-ghost use Rattle.flow_model.specs.Ranges.{IsLocation, AreLocations, IsTable, IsInRange, IsCallInRange};
+ghost use Rattle.flow_model.specs.Ranges.{IsInRange, IsCallInRange};
 ghost use Rattle.report_model.specs.Query.{policy_of};
 ghost use Rattle.taint_shadow.specs.Labels.{MakesLabel, KeepsLabels};
-ghost use Rattle.taint_shadow.specs.Steps.{AreStanding, Holds, IsPut, is_among, meaning_at, united_over, introduced as introduced_by, after_call, after};
+ghost use Rattle.taint_shadow.specs.Steps.{AreStanding, Holds, turned, is_among, introduced as introduced_by, after_call, after};
 
 use crate::labels::Labels;
 use crate::places::Places;
+use crate::shapes::{put, turn_by_shape};
 use flow_model::{CallSeen, StepSeen};
-use flow_rule::{Flow, Loc, SourceByte, cleared, flow};
+use flow_rule::{Loc, Shape, SourceByte, shape_of};
 use isa::CallKind;
 use no_memory::NoMemory;
 use query_lang::Query;
-
-/// The label of a location.
-pub fn label_at<A: Labels>(
-    labels: &mut A,
-    places: &Places<A::Label>,
-    loc: Loc,
-) -> Result<A::Label, NoMemory>
-    requires location { IsLocation loc }
-    requires standing { AreStanding A.words labels.old places.now }
-    ensures made { IfOk result (MakesLabel A.words labels.new (meaning_at A.words labels.old places.now loc)) }
-    ensures keeps { KeepsLabels A.words labels.old labels.new }
-{
-    match places.get(loc) {
-        Some(label) => labels.share(label),
-        None => labels.untouched(loc),
-    }
-}
-
-/// The label of what some locations have together.
-fn gather<A: Labels>(
-    labels: &mut A,
-    places: &Places<A::Label>,
-    origins: &[Loc],
-) -> Result<A::Label, NoMemory>
-    requires locations { AreLocations origins.now }
-    requires standing { AreStanding A.words labels.old places.now }
-    ensures made { IfOk result (MakesLabel A.words labels.new (united_over A.words (meaning_at A.words labels.old places.now) origins.now)) }
-    ensures keeps { KeepsLabels A.words labels.old labels.new }
-{
-    match origins {
-        [] => labels.nothing(),
-        [only] => label_at(labels, places, *only),
-        [first, rest @ ..] => {
-            let others = gather(labels, places, rest)?;
-            let own = label_at(labels, places, *first)?;
-            labels.unite(&own, &others)
-        }
-    }
-}
-
-/// Puts a label in place of the one of a location. One that means what the location had at the start takes no room.
-fn put<A: Labels>(
-    labels: &A,
-    places: &mut Places<A::Label>,
-    loc: Loc,
-    label: A::Label,
-) -> Result<(), NoMemory>
-    requires location { IsLocation loc }
-    requires stands { A.words.stands labels.now label }
-    ensures { OnOk result (IsPut A.words labels.now loc label places.old places.new) }
-{
-    if labels.is_untouched(&label, loc) {
-        places.remove(loc);
-        return Ok(());
-    }
-    places.set(loc, label)
-}
-
-/// Each target of a flow, from the one of number `first` on, gets what its origins have together before any of them is
-/// labelled anew.
-fn assign_from<A: Labels>(
-    labels: &mut A,
-    places: &mut Places<A::Label>,
-    flow: &Flow,
-    first: usize,
-) -> Result<(), NoMemory>
-    requires in_table { first ≤ length flow.now }
-    requires table { IsTable flow.now }
-    requires standing { AreStanding A.words labels.old places.old }
-    ensures holds { OnOk result ((f : Location → A.Meaning) → Holds A.words labels.old places.old f → Holds A.words labels.new places.new (λ l. united_over A.words f (origins_by (drop first flow.now) l))) }
-    ensures standing { OnOk result (AreStanding A.words labels.new places.new) }
-    ensures keeps { KeepsLabels A.words labels.old labels.new }
-{
-    if first == flow.count() {
-        return Ok(());
-    }
-    let label = gather(labels, places, flow.origins(first))?;
-    assign_from(labels, places, flow, first + 1)?;
-    put(labels, places, flow.target(first), label)
-}
 
 /// The label of what a source byte brings in: its own where the query chooses it.
 fn introduced<A: Labels>(
@@ -140,6 +61,38 @@ fn receive<A: Labels>(
     Ok(())
 }
 
+/// Empties the registers of a guest call's result.
+fn clear_result<A: Labels>(
+    labels: &mut A,
+    places: &mut Places<A::Label>,
+    kind: CallKind,
+) -> Result<(), NoMemory>
+    requires standing { AreStanding A.words labels.old places.old }
+    ensures holds { OnOk result ((f : Location → A.Meaning) → Holds A.words labels.old places.old f → Holds A.words labels.new places.new (turned A.words (cleared kind) f)) }
+    ensures standing { OnOk result (AreStanding A.words labels.new places.new) }
+    ensures keeps { KeepsLabels A.words labels.old labels.new }
+{
+    match kind {
+        CallKind::Read | CallKind::Write | CallKind::Other => clear(labels, places, 10),
+        CallKind::Clock => {
+            clear(labels, places, 11)?;
+            clear(labels, places, 10)
+        }
+        CallKind::Exit => Ok(()),
+    }
+}
+
+/// Empties the lanes of a register.
+fn clear<A: Labels>(labels: &mut A, places: &mut Places<A::Label>, rd: u8) -> Result<(), NoMemory>
+    requires register { rd < 32 }
+    requires standing { AreStanding A.words labels.old places.old }
+    ensures holds { OnOk result ((f : Location → A.Meaning) → Holds A.words labels.old places.old f → Holds A.words labels.new places.new (turned A.words (to_register rd nothing) f)) }
+    ensures standing { OnOk result (AreStanding A.words labels.new places.new) }
+    ensures keeps { KeepsLabels A.words labels.old labels.new }
+{
+    turn_by_shape(labels, places, Shape::Clear { rd })
+}
+
 /// A guest call empties the registers of its result, and a read labels the bytes that it received.
 fn turn_by_call<A: Labels>(
     labels: &mut A,
@@ -153,7 +106,7 @@ fn turn_by_call<A: Labels>(
     ensures standing { OnOk result (AreStanding A.words labels.new places.new) }
     ensures keeps { KeepsLabels A.words labels.old labels.new }
 {
-    assign_from(labels, places, &cleared(call.kind), 0)?;
+    clear_result(labels, places, call.kind)?;
     match call.kind {
         CallKind::Read => receive(labels, places, call, query),
         CallKind::Write => Ok(()),
@@ -177,12 +130,10 @@ pub fn step<A: Labels>(
     ensures keeps { KeepsLabels A.words labels.old labels.new }
 {
     match &step.call {
-        None => assign_from(
-            labels,
-            places,
-            &flow(&step.instr, step.place, query.rule()),
-            0,
-        ),
+        None => {
+            let shape = shape_of(&step.instr, step.place, query.rule());
+            turn_by_shape(labels, places, shape)
+        }
         Some(call) => turn_by_call(labels, places, call, query),
     }
 }

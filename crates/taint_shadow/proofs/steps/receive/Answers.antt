@@ -1,4 +1,4 @@
-use Rattle.std.proofs.Common.{◌+◌, Some, if◌then◌else◌, ◌∙◌, refl, arith}
+use Rattle.std.proofs.Common.{refl, arith}
 use Rattle.report_model.specs.Query.{policy_of}
 use Rattle.taint_shadow.proofs.Turning.{keeps_then, standing_kept, holds_kept, one_received}
 use Rattle.taint_shadow.proofs.steps.receive.Goals as goal

@@ -1,4 +1,4 @@
-use Rattle.std.proofs.Common.{◌≡◌, Bool, true, refl, ap, ap₂, sym, ◌∙◌, subst, List, IfOk}
+use Rattle.std.proofs.Common.{◌≡◌, Bool, true, ap, ap₂, sym, ◌∙◌, subst, List, IfOk}
 use Rattle.std.specs.declared.cmp.Ordering.{Ordering}
 use Rattle.flow_model.specs.declared.SourceByte.{SourceByte}
 use Rattle.sorted_set.specs.Sets.{union, is_within, Ascends}
@@ -40,19 +40,17 @@ pub returns-then-is_subset : goal.returns-then-is_subset
 returns-then-is_subset c =
     let left = c.as_slice-left in
     let right = c.as_slice-right in
-    let whole : c.args.other.now ≡ union source_cmp c.args.self.now c.args.other.now =
-    sym (ap₂ (union source_cmp) (sym left.ensures.value) (sym right.ensures.value) ∙ within _ _ _ c.is_subset.ensures c.if-is_subset.true left.ensures.ascending right.ensures.ascending ∙ right.ensures.value) in
-    subst (λ (s : List SourceByte). IfOk c.share.result (λ set. set ≡ s)) whole c.share.ensures
+    sym (ap₂ (union source_cmp) (sym left.ensures.value) (sym right.ensures.value) ∙ within _ _ _ c.is_subset.ensures c.if-is_subset.true left.ensures.ascending right.ensures.ascending ∙ right.ensures.value)
 
 pub returns-then-is_subset-2 : goal.returns-then-is_subset-2
 returns-then-is_subset-2 c =
     let left = c.as_slice-left in
     let right = c.as_slice-right in
-    let whole : c.args.self.now ≡ union source_cmp c.args.self.now c.args.other.now =
+    let whole : c.args.self.now ≡ union source_cmp c.args.self.now c.args.other =
     sym (ap₂ (union source_cmp) (sym left.ensures.value) (sym right.ensures.value)
     ∙ union_comm source_total source_same _ _ left.ensures.ascending right.ensures.ascending
     ∙ within _ _ _ c.is_subset-2.ensures c.if-is_subset-2.true right.ensures.ascending left.ensures.ascending ∙ left.ensures.value) in
-    subst (λ (s : List SourceByte). IfOk c.share-then-is_subset-2.result (λ set. set ≡ s)) whole c.share-then-is_subset-2.ensures
+    subst (λ (s : List SourceByte). IfOk c.share.result (λ set. set ≡ s)) whole c.share.ensures
 
 pub invariant_of-result : goal.invariant_of-result
 invariant_of-result c =
