@@ -1,6 +1,6 @@
 pub mod Orders
 mod Origins
 mod FlowOrder
-mod OriginsRead
+pub mod OriginsRead
 mod Members
 pub mod Located

@@ -1,2 +1,4 @@
 pub mod RowLemmas
 mod Examples
+mod Members
+mod Turned

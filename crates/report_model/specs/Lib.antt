@@ -3,3 +3,5 @@ pub mod Grammar
 pub mod Rows
 pub mod Text
 pub mod RowLaws
+pub mod Influence
+pub mod InfluenceLaws

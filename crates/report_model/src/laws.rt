@@ -1,6 +1,7 @@
 //! Laws of the definitions: each is the contract of a function that does nothing.
 
 ghost use Rattle.report_model.specs.RowLaws.{AlikeHaveSameRows, RowsAscend, RowsWereWritten, NoRowIsMissing};
+ghost use Rattle.report_model.specs.InfluenceLaws.{InfluenceTurnsRows};
 
 /// Queries that have one rule and choose the same bytes have the same rows, over each trace.
 pub fn alike_have_same_rows()
@@ -20,4 +21,10 @@ pub fn rows_were_written()
 /// Each output byte of the rows in the order of writing has a row.
 pub fn no_row_is_missing()
     ensures { NoRowIsMissing }
+{}
+
+/// A source byte and an output byte stand together in the influence exactly where they do in the rows: none is lost, since
+/// each source byte of a row was received, and the query chooses it.
+pub fn influence_turns_rows()
+    ensures { InfluenceTurnsRows }
 {}
