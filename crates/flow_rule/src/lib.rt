@@ -9,6 +9,7 @@ mod table;
 
 pub use flow_model::{Loc, Rule, SinkByte, SourceByte};
 pub use flows::Flow;
+pub use locations::Locations;
 pub use shape::{Shape, shape_of};
 pub use table::{cleared, flow};
 

@@ -1,4 +1,4 @@
--- The origins of a shape's targets: short lists of locations as lists.
+-- The origins of a shape's targets.
 use Rattle.std.specs.Prelude.{◌≡◌, ℕ, suc, nat_lt, ◌==◌, ◌&&◌, Bool, false, List, [], ◌∷◌}
 use Rattle.std.specs.List.{AllByRecursion}
 use Rattle.flow_model.specs.declared.Loc.{Loc}
@@ -8,20 +8,6 @@ use Rattle.flow_model.specs.Flow.{lane, nothing, in_first_lane, each_lane, all_l
 use Rattle.flow_rule.specs.declared.shape.Shape.{Shape}
 use Rattle.flow_rule.specs.declared.shape.Shape.TheVariants.{Nothing, Clear, Move, EachLane, AllLanes, ShiftedLanes, FirstLane, Load, Store}
 use Rattle.flow_rule.specs.Shapes.{loaded_lane}
-use Rattle.taint_shadow.specs.declared.origins.Origins.{Origins}
-use Rattle.taint_shadow.specs.declared.origins.Origins.TheVariants as list
-
-abbrev pub locs_of : Origins → List Loc
-locs_of list.None = []
-locs_of (list.One locs) = locs
-locs_of (list.Two locs) = locs
-locs_of (list.Four locs) = locs
-locs_of (list.Five locs) = locs
-locs_of (list.Eight locs) = locs
-
--- the lanes of a register other than x0
-abbrev pub four_lanes : ℕ → List Loc
-four_lanes r = Reg r 0 ∷ Reg r 1 ∷ Reg r 2 ∷ Reg r 3 ∷ []
 
 -- the origins of target i
 abbrev pub origins_of : Shape → ℕ → List Loc

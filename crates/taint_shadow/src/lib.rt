@@ -4,7 +4,6 @@
 #![tactic(auto)]
 
 mod labels;
-mod origins;
 mod places;
 mod reading;
 mod shapes;

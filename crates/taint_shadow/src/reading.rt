@@ -11,9 +11,8 @@ ghost use Rattle.taint_shadow.specs.Origins.{origins_of};
 ghost use Rattle.taint_shadow.specs.Steps.{AreStanding, meaning_at, united_over};
 
 use crate::labels::Labels;
-use crate::origins::Origins;
 use crate::places::Places;
-use flow_rule::{Loc, Shape};
+use flow_rule::{Loc, Locations, Shape};
 use no_memory::NoMemory;
 
 /// The label of a location.
@@ -110,7 +109,7 @@ fn byte_label<A: Labels>(
     if base == 0 {
         return label_at(labels, places, Loc::Mem { place });
     }
-    let origins = Origins::lanes_and_byte(base, place);
+    let origins = Locations::lanes_and_byte(base, place);
     gather(labels, places, origins.as_slice())
 }
 
@@ -157,7 +156,7 @@ pub(crate) fn stored_label<A: Labels>(
     if base == 0 {
         return lane_label(labels, places, number, lane);
     }
-    let origins = Origins::lanes_and_one(base, number, lane);
+    let origins = Locations::lanes_and_one(base, number, lane);
     gather(labels, places, origins.as_slice())
 }
 
@@ -188,15 +187,15 @@ pub(crate) fn target_label<A: Labels>(
         } => loaded_label(labels, places, base, place, size, fills, i),
         Shape::Store { rs, base, .. } => stored_label(labels, places, base, rs, i),
         Shape::EachLane { rs1, rs2, .. } => {
-            let origins = Origins::each_lane(rs1, rs2, i);
+            let origins = Locations::each_lane(rs1, rs2, i);
             gather(labels, places, origins.as_slice())
         }
         Shape::AllLanes { rs1, rs2, .. } => {
-            let origins = Origins::all_lanes(rs1, rs2);
+            let origins = Locations::all_lanes(rs1, rs2);
             gather(labels, places, origins.as_slice())
         }
         Shape::ShiftedLanes { rs1, rs2, .. } => {
-            let origins = Origins::lanes_and_one(rs1, rs2, 0);
+            let origins = Locations::lanes_and_one(rs1, rs2, 0);
             gather(labels, places, origins.as_slice())
         }
         Shape::FirstLane { rs1, rs2, .. } => first_lane_label(labels, places, rs1, rs2, i),
@@ -219,6 +218,6 @@ fn first_lane_label<A: Labels>(
     if lane != 0 {
         return labels.nothing();
     }
-    let origins = Origins::all_lanes(rs1, rs2);
+    let origins = Locations::all_lanes(rs1, rs2);
     gather(labels, places, origins.as_slice())
 }
