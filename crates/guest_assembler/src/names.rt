@@ -79,6 +79,14 @@ macro_rules! instruction {
     (sra($rd:ident, $rs1:ident, $rs2:ident)) => { $crate::Instr::Sra { rd: $crate::register!($rd), rs1: $crate::register!($rs1), rs2: $crate::register!($rs2) } };
     (or($rd:ident, $rs1:ident, $rs2:ident)) => { $crate::Instr::Or { rd: $crate::register!($rd), rs1: $crate::register!($rs1), rs2: $crate::register!($rs2) } };
     (and($rd:ident, $rs1:ident, $rs2:ident)) => { $crate::Instr::And { rd: $crate::register!($rd), rs1: $crate::register!($rs1), rs2: $crate::register!($rs2) } };
+    (mul($rd:ident, $rs1:ident, $rs2:ident)) => { $crate::Instr::Mul { rd: $crate::register!($rd), rs1: $crate::register!($rs1), rs2: $crate::register!($rs2) } };
+    (mulh($rd:ident, $rs1:ident, $rs2:ident)) => { $crate::Instr::Mulh { rd: $crate::register!($rd), rs1: $crate::register!($rs1), rs2: $crate::register!($rs2) } };
+    (mulhsu($rd:ident, $rs1:ident, $rs2:ident)) => { $crate::Instr::Mulhsu { rd: $crate::register!($rd), rs1: $crate::register!($rs1), rs2: $crate::register!($rs2) } };
+    (mulhu($rd:ident, $rs1:ident, $rs2:ident)) => { $crate::Instr::Mulhu { rd: $crate::register!($rd), rs1: $crate::register!($rs1), rs2: $crate::register!($rs2) } };
+    (div($rd:ident, $rs1:ident, $rs2:ident)) => { $crate::Instr::Div { rd: $crate::register!($rd), rs1: $crate::register!($rs1), rs2: $crate::register!($rs2) } };
+    (divu($rd:ident, $rs1:ident, $rs2:ident)) => { $crate::Instr::Divu { rd: $crate::register!($rd), rs1: $crate::register!($rs1), rs2: $crate::register!($rs2) } };
+    (rem($rd:ident, $rs1:ident, $rs2:ident)) => { $crate::Instr::Rem { rd: $crate::register!($rd), rs1: $crate::register!($rs1), rs2: $crate::register!($rs2) } };
+    (remu($rd:ident, $rs1:ident, $rs2:ident)) => { $crate::Instr::Remu { rd: $crate::register!($rd), rs1: $crate::register!($rs1), rs2: $crate::register!($rs2) } };
     (fence()) => { $crate::Instr::Fence { kept: 0 } };
     (ecall()) => { $crate::Instr::Ecall };
     (ebreak()) => { $crate::Instr::Ebreak };

@@ -4,7 +4,7 @@ use crate::{code, program};
 use std::test::Fail;
 
 /// Words as LLVM's assembler writes them, of the instructions in `each_name_is_its_instruction`.
-const WORDS: [u32; 46] = [
+const WORDS: [u32; 54] = [
     0x8000_00b7,
     0xffff_f537,
     0x1234_5f97,
@@ -47,6 +47,14 @@ const WORDS: [u32; 46] = [
     0x40a4_d433,
     0x00d6_65b3,
     0x0107_f733,
+    0x0231_00b3,
+    0x0262_9233,
+    0x0294_23b3,
+    0x02c5_b533,
+    0x02f7_46b3,
+    0x0328_d833,
+    0x035a_69b3,
+    0x038b_fb33,
     0x0000_0073,
     0x0010_0073,
     0x0000_000f,
@@ -98,6 +106,14 @@ fn each_name_is_its_instruction(rt: HostRuntime) -> Result<(), Fail> {
         sra(x8, x9, x10),
         or(x11, x12, x13),
         and(x14, x15, x16),
+        mul(x1, x2, x3),
+        mulh(x4, x5, x6),
+        mulhsu(x7, x8, x9),
+        mulhu(x10, x11, x12),
+        div(x13, x14, x15),
+        divu(x16, x17, x18),
+        rem(x19, x20, x21),
+        remu(x22, x23, x24),
         ecall(),
         ebreak(),
         fence(),
