@@ -1,11 +1,13 @@
 //! How fast two threads pass messages: over the ring of `epoch_link`, over `rtrb`, and through a queue under a lock.
 //!
-//! Standard output tells what a link within one thread and a ring answer, and then how many messages came in order;
+//! Standard output tells what a link within one thread and a ring answer, which numbers come over rings of other
+//! capacities and are left in them, and then how many messages came in order;
 //! standard error tells how long they took. An argument is the number of rounds, of which the fastest counts.
 #![tactic(auto)]
 
 mod answers;
 mod ends;
+mod numbers;
 
 use ends::{Locked, Sends, Takes};
 use rtrb::RingBuffer;
@@ -94,6 +96,10 @@ fn main(rt: HostRuntime) -> io::Result<()> {
     let alloc = rt.alloc();
     answers::of_list_link(&rt, alloc)?;
     answers::of_ring(&rt, alloc)?;
+    numbers::pass(&rt, alloc, 3, 10_000, 10_000)?;
+    numbers::pass(&rt, alloc, 16, 10_000, 9_990)?;
+    numbers::pass(&rt, alloc, 1, 1_000, 1_000)?;
+    numbers::pass(&rt, alloc, 65_536, 100_000, 40_000)?;
     let mut rounds = 1u32;
     if let Some(word) = env::args(&rt)?.nth(1) {
         rounds = word.as_str().parse().unwrap_or(1);
