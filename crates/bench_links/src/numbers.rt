@@ -53,7 +53,11 @@ fn left_in_order(mut left: Left<u32>, first: u32, count: u32) -> u32 {
         }
         next = next.saturating_add(1);
     }
-    if left.next().is_some() { 0 } else { next.saturating_sub(first) }
+    if left.next().is_some() {
+        0
+    } else {
+        next.saturating_sub(first)
+    }
 }
 
 /// One thread sends the numbers below `count`, and another takes those below `taken`.
