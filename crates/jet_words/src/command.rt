@@ -1,7 +1,7 @@
 //! A command of the program.
 
 /// What words stand for.
-#[derive(Debug, Drop, PartialEq, Eq)]
+#[derive(Drop)]
 pub enum Command<'a> {
     /// The report of a query: the names of the program, the log and the query.
     Query {

@@ -11,8 +11,6 @@ mod command;
 mod command_line;
 pub mod laws;
 mod read;
-#[cfg(test)]
-mod tests;
 
 pub use clap_command::WordsFault;
 pub use command::Command;

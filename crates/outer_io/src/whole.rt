@@ -10,25 +10,20 @@ ghost use Rattle.outer_io.specs.ReadWhole.{HasContent, ReadCause, TakesAtMost};
 use crate::sink::Sink;
 use crate::store::Store;
 use std::alloc::Global;
-use thiserror::Error;
 
 /// Why a file was not read whole.
-#[derive(Debug, PartialEq, Drop, Error)]
+#[derive(Drop)]
 pub enum ReadWhole {
     /// The store failed.
-    #[error("the store failed")]
     ReadFault,
     /// This many bytes were taken, one more than are allowed.
-    #[error("more than {0} bytes")]
     TooLong(usize),
     /// There is no memory for the bytes.
-    #[error("out of memory")]
     NoMemory,
 }
 
 /// The sink or the store failed before all bytes were written.
-#[derive(Debug, PartialEq, Drop, Error)]
-#[error("writing failed")]
+#[derive(Drop)]
 pub struct WriteFault;
 
 // How many bytes one read takes at most.
