@@ -4,14 +4,16 @@ ghost use Rattle.std.specs.Prelude.{◌<◌};
 
 use super::guests::COPY_FOUR;
 use super::runs::{NUMBERS, OUTPUT, REPLAY};
-use super::{COPIED, COPY, Ending, QUERY, assert_ends, files, log, program, records, status_of};
+use super::{
+    COPIED, COPY, Ending, Line, QUERY, assert_ends, files, log_with, program_of, status_of,
+};
 use outer_io::{MemoryFile, MemorySink, MemoryStore, SureSink, SureStore};
 use std::alloc::{AllocError, Global};
 use std::process::Abort;
 use std::test::Fail;
 
 /// The words of commands over the four-byte copy, how often they call the store, and what they write.
-const COMMANDS: &[(&str, u64, &str)] = &[
+const COMMANDS: &[(Line, u64, &str)] = &[
     (QUERY, 9, COPIED),
     (REPLAY, 6, NUMBERS),
     (OUTPUT, 6, "ABCD"),
@@ -19,9 +21,8 @@ const COMMANDS: &[(&str, u64, &str)] = &[
 
 /// The three files of the four-byte copy; the log has these bytes as written.
 fn copied(alloc: Global, written: &[u8]) -> Result<Vec<MemoryFile>, AllocError> {
-    let program = program(alloc, COPY_FOUR.code)?;
-    let records = records(alloc, &COPY_FOUR, written)?;
-    let log = log(alloc, &program, 1, 1, &records)?;
+    let program = program_of(alloc, &COPY_FOUR)?;
+    let log = log_with(alloc, &COPY_FOUR, &program, written)?;
     files(alloc, &program, &log, COPY.as_bytes())
 }
 
@@ -51,7 +52,7 @@ fn each_failing_read_is_a_read_fault(rt: HostRuntime) -> Result<(), Fail> {
 /// A command whose output takes at most so many bytes at a time, and fails at this put, ends so.
 fn assert_put_fails<R: AllocGlobal + Abort>(
     rt: &R,
-    line: &str,
+    line: Line,
     text: &str,
     put: u64,
     piece: usize,
@@ -70,7 +71,7 @@ fn assert_put_fails<R: AllocGlobal + Abort>(
     } else {
         (0, "")
     };
-    assert_eq!(rt; status, expected, "{line} {put}");
+    assert_eq!(rt; status, expected, "{put}");
     assert_eq!(rt; out.bytes(), &text[..length]);
     assert_eq!(rt; err.bytes(), said.as_bytes());
     Ok(())
@@ -121,11 +122,12 @@ fn a_sure_outside_gives_the_same(rt: HostRuntime) -> Result<(), Fail> {
 }
 
 /// Words that are no command, and commands whose files are missing.
-const WORDS: &[(&str, u8, &str)] = &[
-    ("jet", 2, "jet: usage\n"),
-    ("jet query prog log", 2, "jet: usage\n"),
+const WORDS: &[(Line, u8, &str)] = &[
+    (&[], 2, "jet: usage\n"),
+    (&["jet"], 2, "jet: usage\n"),
+    (&["jet", "query", "prog", "log"], 2, "jet: usage\n"),
     (QUERY, 7, "jet: read fault\n"),
-    ("jet record prog log", 7, "jet: read fault\n"),
+    (&["jet", "record", "prog", "log"], 7, "jet: read fault\n"),
     (REPLAY, 7, "jet: read fault\n"),
     (OUTPUT, 7, "jet: read fault\n"),
 ];
