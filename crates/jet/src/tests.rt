@@ -232,7 +232,7 @@ fn words(alloc: Global, line: Line) -> Result<Vec<String>, AllocError> {
 #[derive(Clone, Copy)]
 struct Ending<'a> {
     status: u8,
-    out: &'a str,
+    out: &'a [u8],
     err: &'a str,
 }
 
@@ -241,7 +241,7 @@ impl Ending<'_> {
     fn report(out: &str) -> Ending<'_> {
         Ending {
             status: 0,
-            out,
+            out: out.as_bytes(),
             err: "",
         }
     }
@@ -250,7 +250,7 @@ impl Ending<'_> {
     fn refusal(status: u8, err: &str) -> Ending<'_> {
         Ending {
             status,
-            out: "",
+            out: &[],
             err,
         }
     }
@@ -270,22 +270,34 @@ fn status_of<R: AllocGlobal, S: Store, O: Sink, E: Sink>(
     Ok(jet(rt, &words, store, out, err, &mut clock, &OpenGate))
 }
 
-/// The command of these words ends so over this store.
-fn assert_ends<R: AllocGlobal + Abort, S: Store>(
+/// The command of these words ends so over this store and these outputs.
+fn assert_outside<R: AllocGlobal + Abort>(
     rt: &R,
     line: Line,
-    store: &mut S,
+    store: &mut MemoryStore,
+    out: &mut MemorySink,
+    err: &mut MemorySink,
+    ending: Ending<'_>,
+) -> Result<(), Fail> {
+    let status = status_of(rt, line, store, out, err)?;
+    let said = ending.err;
+    assert_eq!(rt; status, ending.status, "{said}");
+    assert_eq!(rt; out.bytes(), ending.out);
+    assert_eq!(rt; err.bytes(), said.as_bytes());
+    Ok(())
+}
+
+/// The command of these words ends so over this store.
+fn assert_ends<R: AllocGlobal + Abort>(
+    rt: &R,
+    line: Line,
+    store: &mut MemoryStore,
     ending: Ending<'_>,
 ) -> Result<(), Fail> {
     let alloc = rt.alloc();
     let mut out = MemorySink::new(alloc, Vec::new(alloc), 65536, 70000)?;
     let mut err = MemorySink::new(alloc, Vec::new(alloc), 65536, 256)?;
-    let status = status_of(rt, line, store, &mut out, &mut err)?;
-    let said = ending.err;
-    assert_eq!(rt; status, ending.status, "{said}");
-    assert_eq!(rt; out.bytes(), ending.out.as_bytes());
-    assert_eq!(rt; err.bytes(), ending.err.as_bytes());
-    Ok(())
+    assert_outside(rt, line, store, &mut out, &mut err, ending)
 }
 
 /// The command of these words ends so over these files.

@@ -10,7 +10,7 @@ use super::{
 };
 use guest_assembler::{Instr, code};
 use jet_files::read_file;
-use outer_io::{MemoryStore, Store};
+use outer_io::{MemoryFile, MemoryStore};
 use std::alloc::{AllocError, Global};
 use std::process::Abort;
 use std::test::Fail;
@@ -262,6 +262,23 @@ const RECORDINGS: &[Recording] = &[
     },
 ];
 
+/// The inputs.
+const INPUTS: &[(&str, &[u8])] = &[("in", b"ABCDEFG"), ("four", b"ABCD"), ("other", b"WXYZ")];
+
+/// A program, what begins it, the same for a wider window, the inputs, and a query.
+fn files(alloc: Global, program: &[u8], query: &str) -> Result<Vec<MemoryFile>, AllocError> {
+    let wide = patched(alloc, program, (72, b"\0\x20\0\0"))?;
+    let mut files = Vec::new(alloc);
+    push_file(&mut files, "prog", program)?;
+    push_file(&mut files, "wide", &wide)?;
+    push_file(&mut files, "short", &program[..program.len().min(51)])?;
+    for &(name, bytes) in INPUTS {
+        push_file(&mut files, name, bytes)?;
+    }
+    push_file(&mut files, "query", query.as_bytes())?;
+    Ok(files)
+}
+
 /// A store of a program, of inputs and of a query, of which the call of this number fails. Its calls move so many
 /// bytes.
 fn store(
@@ -273,15 +290,7 @@ fn store(
 ) -> Result<MemoryStore, AllocError>
     requires { 0 < piece }
 {
-    let wide = patched(alloc, program, (72, b"\0\x20\0\0"))?;
-    let mut files = Vec::new(alloc);
-    push_file(&mut files, "prog", program)?;
-    push_file(&mut files, "wide", &wide)?;
-    push_file(&mut files, "short", &program[..program.len().min(51)])?;
-    push_file(&mut files, "in", b"ABCDEFG")?;
-    push_file(&mut files, "four", b"ABCD")?;
-    push_file(&mut files, "other", b"WXYZ")?;
-    push_file(&mut files, "query", query.as_bytes())?;
+    let files = files(alloc, program, query)?;
     let failing = [failing].as_slice().to_vec(alloc)?;
     MemoryStore::new(alloc, files, failing, piece, 1000)
 }
@@ -290,9 +299,9 @@ fn store(
 const NEVER: u64 = 1 << 40;
 
 /// The store's file of this name has these bytes, or there is no such file.
-fn assert_file<R: AllocGlobal + Abort, S: Store>(
+fn assert_file<R: AllocGlobal + Abort>(
     rt: &R,
-    store: &mut S,
+    store: &mut MemoryStore,
     name: &str,
     expected: Option<&[u8]>,
 ) -> Result<(), Fail> {
@@ -363,14 +372,23 @@ const REFUSED: &[(Line, u8, &str)] = &[
     ),
 ];
 
+/// The command of these words is refused so, and writes no file.
+fn assert_unwritten<R: AllocGlobal + Abort>(
+    rt: &R,
+    program: &[u8],
+    line: Line,
+    ending: Ending<'_>,
+) -> Result<(), Fail> {
+    let mut store = store(rt.alloc(), program, COPY, NEVER, 65536)?;
+    assert_ends(rt, line, &mut store, ending)?;
+    assert_file(rt, &mut store, "log", None)
+}
+
 #[test]
 fn a_refused_recording_writes_no_file(rt: HostRuntime) -> Result<(), Fail> {
-    let alloc = rt.alloc();
-    let program = program(alloc, COPY_CODE)?;
+    let program = program(rt.alloc(), COPY_CODE)?;
     for &(line, status, said) in REFUSED {
-        let mut store = store(alloc, &program, COPY, NEVER, 65536)?;
-        assert_ends(&rt, line, &mut store, Ending::refusal(status, said))?;
-        assert_file(&rt, &mut store, "log", None)?;
+        assert_unwritten(&rt, &program, line, Ending::refusal(status, said))?;
     }
     Ok(())
 }
@@ -378,12 +396,43 @@ fn a_refused_recording_writes_no_file(rt: HostRuntime) -> Result<(), Fail> {
 /// Five writes are more than a log may have.
 #[test]
 fn a_log_that_is_too_long_is_not_written(rt: HostRuntime) -> Result<(), Fail> {
-    let alloc = rt.alloc();
-    let program = program(alloc, WRITE_MUCH)?;
-    let mut store = store(alloc, &program, COPY, NEVER, 65536)?;
+    let program = program(rt.alloc(), WRITE_MUCH)?;
     let ending = Ending::refusal(9, "jet: limit log 83558562\n");
-    assert_ends(&rt, WIDEST, &mut store, ending)?;
-    assert_file(&rt, &mut store, "log", None)
+    assert_unwritten(&rt, &program, WIDEST, ending)
+}
+
+/// The program and the input are there as before, and the log has these bytes or isn't there.
+fn assert_files<R: AllocGlobal + Abort>(
+    rt: &R,
+    store: &mut MemoryStore,
+    program: &[u8],
+    log: Option<&[u8]>,
+) -> Result<(), Fail> {
+    assert_file(rt, store, "log", log)?;
+    assert_file(rt, store, "prog", Some(program))?;
+    assert_file(rt, store, "in", Some(b"ABCDEFG"))
+}
+
+/// A recording over a store of which this call fails.
+fn assert_failing_call<R: AllocGlobal + Abort>(
+    rt: &R,
+    program: &[u8],
+    log: &[u8],
+    call: u64,
+) -> Result<(), Fail> {
+    let alloc = rt.alloc();
+    let mut store = store(alloc, program, COPY, call, 10)?;
+    let (ending, written) = if call < 19 {
+        (Ending::refusal(7, "jet: read fault\n"), None)
+    } else if call < 32 {
+        (Ending::refusal(8, "jet: write fault\n"), None)
+    } else {
+        (Ending::report(""), Some(log))
+    };
+    assert_ends(rt, RECORD, &mut store, ending)?;
+    // A call that never came fails now.
+    let _ = read_file(alloc, &mut store, "in");
+    assert_files(rt, &mut store, program, written)
 }
 
 /// The program is read in 16 calls of ten bytes and the input in 3; the log is created, put in 11 pieces, and finished.
@@ -394,20 +443,7 @@ fn a_failing_store_leaves_the_files(rt: HostRuntime) -> Result<(), Fail> {
     let program = program(alloc, COPY_CODE)?;
     let log = log_of(alloc, &program, 1, 1, COPIES)?;
     for call in 0..33 {
-        let mut store = store(alloc, &program, COPY, call, 10)?;
-        let (ending, written) = if call < 19 {
-            (Ending::refusal(7, "jet: read fault\n"), None)
-        } else if call < 32 {
-            (Ending::refusal(8, "jet: write fault\n"), None)
-        } else {
-            (Ending::report(""), Some(log.as_slice()))
-        };
-        assert_ends(&rt, RECORD, &mut store, ending)?;
-        // A call that never came fails now.
-        let _ = read_file(alloc, &mut store, "in");
-        assert_file(&rt, &mut store, "log", written)?;
-        assert_file(&rt, &mut store, "prog", Some(&program))?;
-        assert_file(&rt, &mut store, "in", Some(b"ABCDEFG"))?;
+        assert_failing_call(&rt, &program, &log, call)?;
     }
     Ok(())
 }

@@ -135,39 +135,67 @@ pub const CHANGED_LOGS: &[(Patch, u8, &str)] = &[
     ),
 ];
 
+/// Whether the program or the log is changed.
+#[derive(Clone, Copy)]
+enum Changed {
+    Program,
+    Log,
+}
+
+/// With a patch of one of the two files the query ends so.
+fn assert_patched<R: AllocGlobal + Abort>(
+    rt: &R,
+    files: (&[u8], &[u8]),
+    changed: Changed,
+    patch: Patch,
+    ending: Ending<'_>,
+) -> Result<(), Fail> {
+    let alloc = rt.alloc();
+    let (program, log) = files;
+    let query = COPY.as_bytes();
+    match changed {
+        Changed::Program => {
+            let bytes = patched(alloc, program, patch)?;
+            assert_query(rt, &bytes, log, query, ending)
+        }
+        Changed::Log => {
+            let bytes = patched(alloc, log, patch)?;
+            assert_query(rt, program, &bytes, query, ending)
+        }
+    }
+}
+
 #[test]
 fn changed_bytes_are_refused(rt: HostRuntime) -> Result<(), Fail> {
-    let alloc = rt.alloc();
-    let (program, log) = copied(alloc)?;
+    let (program, log) = copied(rt.alloc())?;
+    let files = (program.as_slice(), log.as_slice());
     for &(patch, line) in CHANGED_PROGRAMS {
-        let changed = patched(alloc, &program, patch)?;
-        assert_query(
+        assert_patched(
             &rt,
-            &changed,
-            &log,
-            COPY.as_bytes(),
+            files,
+            Changed::Program,
+            patch,
             Ending::refusal(3, line),
         )?;
     }
     for &(patch, status, line) in CHANGED_LOGS {
-        let changed = patched(alloc, &log, patch)?;
-        assert_query(
+        assert_patched(
             &rt,
-            &program,
-            &changed,
-            COPY.as_bytes(),
+            files,
+            Changed::Log,
+            patch,
             Ending::refusal(status, line),
         )?;
     }
-    let mut longer = log.as_slice().to_vec(alloc)?;
-    longer.push(0)?;
-    assert_query(
-        &rt,
-        &program,
-        &longer,
-        COPY.as_bytes(),
-        Ending::refusal(4, "jet: log 7 Trailing at 107\n"),
-    )
+    Ok(())
+}
+
+#[test]
+fn a_byte_after_a_log_is_refused(rt: HostRuntime) -> Result<(), Fail> {
+    let (program, mut log) = copied(rt.alloc())?;
+    log.push(0)?;
+    let ending = Ending::refusal(4, "jet: log 7 Trailing at 107\n");
+    assert_query(&rt, &program, &log, COPY.as_bytes(), ending)
 }
 
 /// Queries, and the line of their status 6.

@@ -3,8 +3,8 @@
 use super::guests::{ADD_WORDS, COPY_CODE, COPY_FOUR};
 use super::refusals::CHANGED_LOGS;
 use super::{
-    BASE, COPY, Ending, Entry, Line, NO_INSTRUCTION, QUERY, TIME, assert_command, log_of, log_with,
-    patched, program, program_of,
+    BASE, COPY, Ending, Entry, Line, NO_INSTRUCTION, Patch, QUERY, TIME, assert_command, log_of,
+    log_with, patched, program, program_of,
 };
 use guest_assembler::{Instr, code};
 use sha2::{Digest, Sha256};
@@ -168,37 +168,57 @@ fn assert_refused<R: AllocGlobal + Abort>(
     Ok(())
 }
 
+/// A command over the log of these records ends so.
+fn assert_run<R: AllocGlobal + Abort>(
+    rt: &R,
+    line: Line,
+    code: &[Instr],
+    entries: &[Entry],
+    ending: Ending<'_>,
+) -> Result<(), Fail> {
+    let alloc = rt.alloc();
+    let program = program(alloc, code)?;
+    let log = log_of(alloc, &program, 1, 1, entries)?;
+    assert_command(rt, line, &program, &log, COPY.as_bytes(), ending)
+}
+
 #[test]
 fn runs_have_numbers_and_outputs(rt: HostRuntime) -> Result<(), Fail> {
-    let alloc = rt.alloc();
     for &(line, code, entries, text) in RUNS {
-        let program = program(alloc, code)?;
-        let log = log_of(alloc, &program, 1, 1, entries)?;
-        assert_command(
-            &rt,
-            line,
-            &program,
-            &log,
-            COPY.as_bytes(),
-            Ending::report(text),
-        )?;
+        assert_run(&rt, line, code, entries, Ending::report(text))?;
     }
     Ok(())
 }
 
 #[test]
 fn a_run_that_diverges_is_refused(rt: HostRuntime) -> Result<(), Fail> {
-    let alloc = rt.alloc();
-    for &(code, entries, line) in DIVERGING {
-        let program = program(alloc, code)?;
-        let log = log_of(alloc, &program, 1, 1, entries)?;
-        assert_refused(&rt, &program, &log, Ending::refusal(5, line))?;
+    for &(code, entries, said) in DIVERGING {
+        for line in [QUERY, REPLAY, OUTPUT] {
+            assert_run(&rt, line, code, entries, Ending::refusal(5, said))?;
+        }
     }
-    let program = program(alloc, COPY_CODE)?;
-    let log = log_of(alloc, &program, 1, 1, COPIES)?;
-    for &(patch, status, line) in CHANGED_LOGS {
-        let changed = patched(alloc, &log, patch)?;
-        assert_refused(&rt, &program, &changed, Ending::refusal(status, line))?;
+    Ok(())
+}
+
+/// Each command is refused so with these bytes changed in the log.
+fn assert_changed<R: AllocGlobal + Abort>(
+    rt: &R,
+    program: &[u8],
+    log: &[u8],
+    patch: Patch,
+    ending: Ending<'_>,
+) -> Result<(), Fail> {
+    let changed = patched(rt.alloc(), log, patch)?;
+    assert_refused(rt, program, &changed, ending)
+}
+
+#[test]
+fn a_changed_log_is_refused(rt: HostRuntime) -> Result<(), Fail> {
+    let alloc = rt.alloc();
+    let program = program_of(alloc, &COPY_FOUR)?;
+    let log = log_with(alloc, &COPY_FOUR, &program, b"ABCD")?;
+    for &(patch, status, said) in CHANGED_LOGS {
+        assert_changed(&rt, &program, &log, patch, Ending::refusal(status, said))?;
     }
     Ok(())
 }
