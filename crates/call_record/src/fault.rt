@@ -3,7 +3,7 @@
 use thiserror::Error;
 
 /// Why [`crate::capture`] gave no log.
-#[derive(Debug, PartialEq, Drop, Error)]
+#[derive(Debug, Drop, Error)]
 pub enum CaptureFault {
     /// A window of these pages can't hold the image. Nothing was run.
     #[error("the window can't hold the image")]

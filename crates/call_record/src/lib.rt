@@ -13,6 +13,3 @@ mod transfer;
 
 pub use fault::CaptureFault;
 pub use recording::capture;
-
-#[cfg(test)]
-mod tests;

@@ -25,8 +25,10 @@ const COMPUTE: &str = "rule compute\nsource all\nsink all\n";
 /// The report of the four-byte copy.
 const COPIED: &str = "1:0 0:0\n1:1 0:1\n1:2 0:2\n1:3 0:3\nend 4\n";
 
-/// The words of a query.
-const QUERY: &str = "jet query prog log query";
+/// The words of a command, of which the first is the program's name.
+type Line = &'static [&'static str];
+
+const QUERY: Line = &["jet", "query", "prog", "log", "query"];
 
 /// The time that the clock tells.
 const TIME: u64 = 0x1_0000_0002;
@@ -79,6 +81,22 @@ fn push_transfer(
     out.extend_from_slice(bytes)
 }
 
+/// The program file of a guest. A table's field costs the proof more than a guest that is lent.
+fn program_of(alloc: Global, guest: &Guest) -> Result<Vec<u8>, AllocError> {
+    program(alloc, guest.code)
+}
+
+/// The log of a guest's run in one page, with these bytes written.
+fn log_with(
+    alloc: Global,
+    guest: &Guest,
+    program: &[u8],
+    written: &[u8],
+) -> Result<Vec<u8>, AllocError> {
+    let records = records(alloc, guest, written)?;
+    log(alloc, program, guest.pages, 1, &records)
+}
+
 /// The records of a guest's run, with these bytes written.
 fn records(alloc: Global, guest: &Guest, written: &[u8]) -> Result<Vec<u8>, AllocError> {
     let mut out = Vec::new(alloc);
@@ -100,6 +118,8 @@ enum Entry {
     Refused(u8, u32, u32, u32),
     /// The step, and the time that was told.
     Time(u32, u64),
+    /// The step and the number of a call that there is none of.
+    Other(u32, u32),
     /// The step and the code.
     Exit(u32, u32),
     /// The step, the kind and the pc.
@@ -124,6 +144,10 @@ fn push_entry(out: &mut Vec<u8>, entry: Entry) -> Result<(), AllocError> {
             out.push(3)?;
             push_words(out, [at].as_slice())?;
             out.extend_from_slice(&time.to_le_bytes())
+        }
+        Entry::Other(at, number) => {
+            out.push(4)?;
+            push_words(out, [at, number].as_slice())
         }
         Entry::Exit(at, code) => {
             out.push(5)?;
@@ -195,10 +219,10 @@ fn files(
     Ok(files)
 }
 
-/// The words of a line.
-fn words(alloc: Global, line: &str) -> Result<Vec<String>, AllocError> {
+/// The words of a line, owned.
+fn words(alloc: Global, line: Line) -> Result<Vec<String>, AllocError> {
     let mut words = Vec::new(alloc);
-    for word in line.split(' ') {
+    for word in line {
         words.push(String::from_str(alloc, word)?)?;
     }
     Ok(words)
@@ -208,7 +232,7 @@ fn words(alloc: Global, line: &str) -> Result<Vec<String>, AllocError> {
 #[derive(Clone, Copy)]
 struct Ending<'a> {
     status: u8,
-    out: &'a str,
+    out: &'a [u8],
     err: &'a str,
 }
 
@@ -217,7 +241,7 @@ impl Ending<'_> {
     fn report(out: &str) -> Ending<'_> {
         Ending {
             status: 0,
-            out,
+            out: out.as_bytes(),
             err: "",
         }
     }
@@ -226,7 +250,7 @@ impl Ending<'_> {
     fn refusal(status: u8, err: &str) -> Ending<'_> {
         Ending {
             status,
-            out: "",
+            out: &[],
             err,
         }
     }
@@ -235,7 +259,7 @@ impl Ending<'_> {
 /// The status of the command of these words.
 fn status_of<R: AllocGlobal, S: Store, O: Sink, E: Sink>(
     rt: &R,
-    line: &str,
+    line: Line,
     store: &mut S,
     out: &mut O,
     err: &mut E,
@@ -246,27 +270,40 @@ fn status_of<R: AllocGlobal, S: Store, O: Sink, E: Sink>(
     Ok(jet(rt, &words, store, out, err, &mut clock, &OpenGate))
 }
 
-/// The command of these words ends so over this store.
-fn assert_ends<R: AllocGlobal + Abort, S: Store>(
+/// The command of these words ends so over this store and these outputs.
+fn assert_outside<R: AllocGlobal + Abort>(
     rt: &R,
-    line: &str,
-    store: &mut S,
+    line: Line,
+    store: &mut MemoryStore,
+    out: &mut MemorySink,
+    err: &mut MemorySink,
+    ending: Ending<'_>,
+) -> Result<(), Fail> {
+    let status = status_of(rt, line, store, out, err)?;
+    let said = ending.err;
+    assert_eq!(rt; status, ending.status, "{said}");
+    assert_eq!(rt; out.bytes(), ending.out);
+    assert_eq!(rt; err.bytes(), said.as_bytes());
+    Ok(())
+}
+
+/// The command of these words ends so over this store.
+fn assert_ends<R: AllocGlobal + Abort>(
+    rt: &R,
+    line: Line,
+    store: &mut MemoryStore,
     ending: Ending<'_>,
 ) -> Result<(), Fail> {
     let alloc = rt.alloc();
     let mut out = MemorySink::new(alloc, Vec::new(alloc), 65536, 70000)?;
     let mut err = MemorySink::new(alloc, Vec::new(alloc), 65536, 256)?;
-    let status = status_of(rt, line, store, &mut out, &mut err)?;
-    assert_eq!(rt; status, ending.status, "{line}");
-    assert_eq!(rt; out.bytes(), ending.out.as_bytes());
-    assert_eq!(rt; err.bytes(), ending.err.as_bytes());
-    Ok(())
+    assert_outside(rt, line, store, &mut out, &mut err, ending)
 }
 
 /// The command of these words ends so over these files.
 fn assert_command<R: AllocGlobal + Abort>(
     rt: &R,
-    line: &str,
+    line: Line,
     program: &[u8],
     log: &[u8],
     query: &[u8],
@@ -297,79 +334,64 @@ fn assert_report<R: AllocGlobal + Abort>(
     report: &str,
 ) -> Result<(), Fail> {
     let alloc = rt.alloc();
-    let program = program(alloc, guest.code)?;
-    let records = records(alloc, guest, guest.write.bytes)?;
-    let log = log(alloc, &program, guest.pages, 1, &records)?;
+    let program = program_of(alloc, guest)?;
+    let log = log_with(alloc, guest, &program, guest.write.bytes)?;
     assert_query(rt, &program, &log, query.as_bytes(), Ending::report(report))
 }
 
-#[test]
-fn moves_are_followed(rt: HostRuntime) -> Result<(), Fail> {
-    assert_report(&rt, &COPY_FOUR, COPY, COPIED)?;
-    assert_report(&rt, &ADD_WORDS, COPY, "1:0\n1:1\n1:2\n1:3\nend 4\n")?;
-    assert_report(&rt, &LOAD_SIGNED, COPY, "1:0 0:0\n1:1\n1:2\n1:3\nend 4\n")?;
-    assert_report(&rt, &OVERWRITE, COPY, "1:0\nend 1\n")?;
-    assert_report(
-        &rt,
+/// The sum of two words depends on all eight bytes, in each of its own.
+const SUM: &str = "1:0 0:0 0:1 0:2 0:3 0:4 0:5 0:6 0:7
+1:1 0:0 0:1 0:2 0:3 0:4 0:5 0:6 0:7
+1:2 0:0 0:1 0:2 0:3 0:4 0:5 0:6 0:7
+1:3 0:0 0:1 0:2 0:3 0:4 0:5 0:6 0:7
+end 4
+";
+
+/// Guests, queries and their reports.
+const REPORTS: &[(&Guest, &str, &str)] = &[
+    (&COPY_FOUR, COPY, COPIED),
+    (&ADD_WORDS, COPY, "1:0\n1:1\n1:2\n1:3\nend 4\n"),
+    (&LOAD_SIGNED, COPY, "1:0 0:0\n1:1\n1:2\n1:3\nend 4\n"),
+    (&OVERWRITE, COPY, "1:0\nend 1\n"),
+    (
         &UNALIGNED,
         COPY,
         "1:0 0:0\n1:1 0:0\n1:2 0:1\n1:3 0:2\nend 4\n",
-    )
-}
-
-#[test]
-fn computed_bytes_are_followed(rt: HostRuntime) -> Result<(), Fail> {
-    let eight = " 0:0 0:1 0:2 0:3 0:4 0:5 0:6 0:7\n";
-    let sum = format!(in rt.alloc(); "1:0{eight}1:1{eight}1:2{eight}1:3{eight}end 4\n")?;
-    assert_report(&rt, &ADD_WORDS, COMPUTE, &sum)?;
-    let less = format!(in rt.alloc(); "1:0{eight}1:1\n1:2\n1:3\nend 4\n")?;
-    assert_report(&rt, &LESS_THAN, COMPUTE, &less)?;
-    let paired = "1:0 0:0 0:4\n1:1 0:1 0:5\n1:2 0:2 0:6\n1:3 0:3 0:7\nend 4\n";
-    assert_report(&rt, &XOR_WORDS, COMPUTE, paired)?;
-    let spread = "1:0 0:0\n1:1 0:0\n1:2 0:0\n1:3 0:0\nend 4\n";
-    assert_report(&rt, &LOAD_SIGNED, COMPUTE, spread)?;
-    assert_report(
-        &rt,
-        &LOAD_UNSIGNED,
+    ),
+    (&ADD_WORDS, COMPUTE, SUM),
+    (
+        &LESS_THAN,
         COMPUTE,
-        "1:0 0:0\n1:1\n1:2\n1:3\nend 4\n",
-    )
-}
-
-#[test]
-fn a_query_chooses_sources_and_sinks(rt: HostRuntime) -> Result<(), Fail> {
-    assert_report(&rt, &COPY_FOUR, "rule copy\nsource all\n", "end 0\n")?;
-    assert_report(
-        &rt,
+        "1:0 0:0 0:1 0:2 0:3 0:4 0:5 0:6 0:7\n1:1\n1:2\n1:3\nend 4\n",
+    ),
+    (
+        &XOR_WORDS,
+        COMPUTE,
+        "1:0 0:0 0:4\n1:1 0:1 0:5\n1:2 0:2 0:6\n1:3 0:3 0:7\nend 4\n",
+    ),
+    (
+        &LOAD_SIGNED,
+        COMPUTE,
+        "1:0 0:0\n1:1 0:0\n1:2 0:0\n1:3 0:0\nend 4\n",
+    ),
+    (&LOAD_UNSIGNED, COMPUTE, "1:0 0:0\n1:1\n1:2\n1:3\nend 4\n"),
+    (&COPY_FOUR, "rule copy\nsource all\n", "end 0\n"),
+    (
         &COPY_FOUR,
         "rule copy\nsource all\nsink 1 2 3\n",
         "1:2 0:2\nend 1\n",
-    )?;
-    assert_report(
-        &rt,
+    ),
+    (
         &COPY_FOUR,
         "rule copy\r\nsource 0 1 2\r\n\tsink all",
         "1:0\n1:1 0:1\n1:2\n1:3\nend 4\n",
-    )
-}
+    ),
+];
 
 #[test]
-fn a_run_may_end_by_a_trap(rt: HostRuntime) -> Result<(), Fail> {
-    let alloc = rt.alloc();
-    let [jump] = code![jalr(x0, 2(x2))];
-    for (instr, kind) in [(NO_INSTRUCTION, 2), (jump, 0)] {
-        let program = program(alloc, [instr].as_slice())?;
-        let mut records = Vec::new(alloc);
-        records.push(6)?;
-        push_words(&mut records, [0, kind, BASE].as_slice())?;
-        let log = log(alloc, &program, 1, 0, &records)?;
-        assert_query(
-            &rt,
-            &program,
-            &log,
-            COPY.as_bytes(),
-            Ending::report("end 0\n"),
-        )?;
+fn bytes_are_followed(rt: HostRuntime) -> Result<(), Fail> {
+    for &(guest, query, report) in REPORTS {
+        assert_report(&rt, guest, query, report)?;
     }
     Ok(())
 }

@@ -6,8 +6,6 @@
 mod inputs;
 mod opening;
 mod reading;
-#[cfg(test)]
-mod tests;
 
 pub use inputs::open_inputs;
 pub use opening::{Program, Run, open_log, open_program, open_query, open_run};

@@ -61,3 +61,7 @@ a_fault_of_writing = refl
 
 no_memory : line_of refusal.NoMemory ≡ codes "jet: memory\n"
 no_memory = refl
+
+the_greatest_numbers : line_of (refusal.Diverged (record { step = 4294967295; field = field.Byte 4294967295; kept = negsuc 9223372036854775807; seen = pos 9223372036854775807 })) ≡ codes "jet: diverged at 4294967295 byte 4294967295 kept -9223372036854775808 seen 9223372036854775807\n"
+unfolding digits
+the_greatest_numbers = refl

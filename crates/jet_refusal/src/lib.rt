@@ -5,8 +5,6 @@
 mod line;
 mod names;
 mod refusal;
-#[cfg(test)]
-mod tests;
 
 pub use line::Line;
 pub use refusal::Refusal;

@@ -12,7 +12,7 @@ use replay_model::Divergence;
 use report_model::QueryKind;
 
 /// Why a command gave up.
-#[derive(Clone, Copy, Debug, PartialEq, Eq)]
+#[derive(Clone, Copy)]
 pub enum Refusal {
     /// The command line's words are no command.
     Usage,

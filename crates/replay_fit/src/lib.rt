@@ -9,6 +9,3 @@ mod difference;
 
 pub use check::first_divergence;
 pub use replay_model::{Divergence, Field};
-
-#[cfg(test)]
-mod tests;

@@ -13,6 +13,3 @@ pub use fault::CheckFault;
 pub use flow_model::{CallSeen, StepSeen};
 pub use job::{Job, ReplaySummary};
 pub use replay_model::{Divergence, Field};
-
-#[cfg(test)]
-mod tests;

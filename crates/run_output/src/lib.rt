@@ -4,8 +4,6 @@
 
 mod output;
 mod summary;
-#[cfg(test)]
-mod tests;
 
 pub use output::output_on;
 pub use summary::summary_text;

@@ -4,14 +4,17 @@ ghost use Rattle.std.specs.Prelude.{◌<◌};
 
 use super::guests::COPY_FOUR;
 use super::runs::{NUMBERS, OUTPUT, REPLAY};
-use super::{COPIED, COPY, Ending, QUERY, assert_ends, files, log, program, records, status_of};
+use super::{
+    COPIED, COPY, Ending, Line, QUERY, assert_ends, assert_outside, files, log_with, program_of,
+    status_of,
+};
 use outer_io::{MemoryFile, MemorySink, MemoryStore, SureSink, SureStore};
 use std::alloc::{AllocError, Global};
 use std::process::Abort;
 use std::test::Fail;
 
 /// The words of commands over the four-byte copy, how often they call the store, and what they write.
-const COMMANDS: &[(&str, u64, &str)] = &[
+const COMMANDS: &[(Line, u64, &str)] = &[
     (QUERY, 9, COPIED),
     (REPLAY, 6, NUMBERS),
     (OUTPUT, 6, "ABCD"),
@@ -19,9 +22,8 @@ const COMMANDS: &[(&str, u64, &str)] = &[
 
 /// The three files of the four-byte copy; the log has these bytes as written.
 fn copied(alloc: Global, written: &[u8]) -> Result<Vec<MemoryFile>, AllocError> {
-    let program = program(alloc, COPY_FOUR.code)?;
-    let records = records(alloc, &COPY_FOUR, written)?;
-    let log = log(alloc, &program, 1, 1, &records)?;
+    let program = program_of(alloc, &COPY_FOUR)?;
+    let log = log_with(alloc, &COPY_FOUR, &program, written)?;
     files(alloc, &program, &log, COPY.as_bytes())
 }
 
@@ -29,29 +31,72 @@ fn numbers(alloc: Global, list: &[u64]) -> Result<Vec<u64>, AllocError> {
     list.to_vec(alloc)
 }
 
+/// No call has this number.
+const NEVER: u64 = 1 << 40;
+
+/// A store of the files, of which the call of this number fails.
+fn store(alloc: Global, written: &[u8], failing: u64) -> Result<MemoryStore, AllocError> {
+    let failing = numbers(alloc, &[failing])?;
+    MemoryStore::new(alloc, copied(alloc, written)?, failing, 65536, 0)
+}
+
+/// An output that takes at most so many bytes at a time, and fails at this put.
+fn sink(alloc: Global, put: u64, piece: usize) -> Result<MemorySink, AllocError>
+    requires { 0 < piece }
+{
+    MemorySink::new(alloc, numbers(alloc, &[put])?, piece, 256)
+}
+
+/// A command that calls the store so often ends so where this call fails.
+fn assert_read_fails<R: AllocGlobal + Abort>(
+    rt: &R,
+    line: Line,
+    calls: u64,
+    text: &str,
+    call: u64,
+) -> Result<(), Fail> {
+    let mut store = store(rt.alloc(), b"ABCD", call)?;
+    let ending = if call < calls {
+        Ending::refusal(7, "jet: read fault\n")
+    } else {
+        Ending::report(text)
+    };
+    assert_ends(rt, line, &mut store, ending)
+}
+
 /// Each file is opened, read, and read to its end: three calls a file. Each of them fails once.
 #[test]
 fn each_failing_read_is_a_read_fault(rt: HostRuntime) -> Result<(), Fail> {
-    let alloc = rt.alloc();
     for &(line, calls, text) in COMMANDS {
         for call in 0..10 {
-            let failing = numbers(alloc, &[call])?;
-            let mut store = MemoryStore::new(alloc, copied(alloc, b"ABCD")?, failing, 65536, 0)?;
-            let ending = if call < calls {
-                Ending::refusal(7, "jet: read fault\n")
-            } else {
-                Ending::report(text)
-            };
-            assert_ends(&rt, line, &mut store, ending)?;
+            assert_read_fails(&rt, line, calls, text, call)?;
         }
     }
     Ok(())
 }
 
+/// How a command with this text ends whose output takes so many bytes at a time, and fails at this put.
+fn ending_at(text: &str, put: u64, piece: usize) -> Ending<'_> {
+    let text = text.as_bytes();
+    let length = (put as usize).saturating_mul(piece);
+    if length < text.len() {
+        return Ending {
+            status: 8,
+            out: &text[..length],
+            err: "jet: write fault\n",
+        };
+    }
+    Ending {
+        status: 0,
+        out: text,
+        err: "",
+    }
+}
+
 /// A command whose output takes at most so many bytes at a time, and fails at this put, ends so.
 fn assert_put_fails<R: AllocGlobal + Abort>(
     rt: &R,
-    line: &str,
+    line: Line,
     text: &str,
     put: u64,
     piece: usize,
@@ -59,21 +104,11 @@ fn assert_put_fails<R: AllocGlobal + Abort>(
     requires { 0 < piece }
 {
     let alloc = rt.alloc();
-    let text = text.as_bytes();
-    let mut store = MemoryStore::new(alloc, copied(alloc, b"ABCD")?, Vec::new(alloc), 65536, 0)?;
-    let mut out = MemorySink::new(alloc, numbers(alloc, &[put])?, piece, 100)?;
-    let mut err = MemorySink::new(alloc, Vec::new(alloc), 65536, 256)?;
-    let status = status_of(rt, line, &mut store, &mut out, &mut err)?;
-    let length = (put as usize).saturating_mul(piece).min(text.len());
-    let (expected, said) = if length < text.len() {
-        (8, "jet: write fault\n")
-    } else {
-        (0, "")
-    };
-    assert_eq!(rt; status, expected, "{line} {put}");
-    assert_eq!(rt; out.bytes(), &text[..length]);
-    assert_eq!(rt; err.bytes(), said.as_bytes());
-    Ok(())
+    let mut store = store(alloc, b"ABCD", NEVER)?;
+    let mut out = sink(alloc, put, piece)?;
+    let mut err = sink(alloc, NEVER, 256)?;
+    let ending = ending_at(text, put, piece);
+    assert_outside(rt, line, &mut store, &mut out, &mut err, ending)
 }
 
 #[test]
@@ -86,24 +121,34 @@ fn each_failing_put_is_a_write_fault(rt: HostRuntime) -> Result<(), Fail> {
     assert_put_fails(&rt, QUERY, COPIED, 1, 10)
 }
 
+/// A diverging log is refused where standard error fails at this put, and so much of the line is said.
+fn assert_said<R: AllocGlobal + Abort>(rt: &R, put: u64, said: &str) -> Result<(), Fail> {
+    let alloc = rt.alloc();
+    let mut store = store(alloc, b"ABXD", NEVER)?;
+    let mut out = sink(alloc, NEVER, 256)?;
+    let mut err = sink(alloc, put, 1)?;
+    let ending = Ending::refusal(5, said);
+    assert_outside(rt, QUERY, &mut store, &mut out, &mut err, ending)
+}
+
 /// A standard error that fails, at once or after some bytes, changes no status.
 #[test]
 fn a_failing_standard_error_changes_no_status(rt: HostRuntime) -> Result<(), Fail> {
-    let alloc = rt.alloc();
-    for (put, said) in [(0, ""), (5, "jet: ")] {
-        let mut store = MemoryStore::new(
-            alloc,
-            copied(alloc, b"ABXD")?,
-            Vec::new(alloc),
-            65536,
-            0,
-        )?;
-        let mut out = MemorySink::new(alloc, Vec::new(alloc), 65536, 100)?;
-        let mut err = MemorySink::new(alloc, numbers(alloc, &[put])?, 1, 256)?;
-        let status = status_of(&rt, QUERY, &mut store, &mut out, &mut err)?;
-        assert_eq!(rt; status, 5);
-        assert_eq!(rt; err.bytes(), said.as_bytes());
-    }
+    assert_said(&rt, 0, "")?;
+    assert_said(&rt, 5, "jet: ")
+}
+
+/// A query over a sure outside gives the same.
+fn assert_sure<R: AllocGlobal + Abort>(
+    rt: &R,
+    store: &mut SureStore,
+    out: &mut SureSink,
+    err: &mut SureSink,
+) -> Result<(), Fail> {
+    let status = status_of(rt, QUERY, store, out, err)?;
+    assert_eq!(rt; status, 0);
+    assert_eq!(rt; out.bytes(), COPIED.as_bytes());
+    assert_eq!(rt; err.bytes().len(), 0);
     Ok(())
 }
 
@@ -113,29 +158,35 @@ fn a_sure_outside_gives_the_same(rt: HostRuntime) -> Result<(), Fail> {
     let mut store = SureStore::new(alloc, copied(alloc, b"ABCD")?, 0)?;
     let mut out = SureSink::new(alloc, 100)?;
     let mut err = SureSink::new(alloc, 100)?;
-    let status = status_of(&rt, QUERY, &mut store, &mut out, &mut err)?;
-    assert_eq!(rt; status, 0);
-    assert_eq!(rt; out.bytes(), COPIED.as_bytes());
-    assert_eq!(rt; err.bytes(), b"".as_slice());
-    Ok(())
+    assert_sure(&rt, &mut store, &mut out, &mut err)
 }
 
 /// Words that are no command, and commands whose files are missing.
-const WORDS: &[(&str, u8, &str)] = &[
-    ("jet", 2, "jet: usage\n"),
-    ("jet query prog log", 2, "jet: usage\n"),
+const WORDS: &[(Line, u8, &str)] = &[
+    (&[], 2, "jet: usage\n"),
+    (&["jet"], 2, "jet: usage\n"),
+    (&["jet", "query", "prog", "log"], 2, "jet: usage\n"),
     (QUERY, 7, "jet: read fault\n"),
-    ("jet record prog log", 7, "jet: read fault\n"),
+    (&["jet", "record", "prog", "log"], 7, "jet: read fault\n"),
     (REPLAY, 7, "jet: read fault\n"),
     (OUTPUT, 7, "jet: read fault\n"),
 ];
 
+/// Over a store of no files the command of these words ends so.
+fn assert_without_files<R: AllocGlobal + Abort>(
+    rt: &R,
+    line: Line,
+    ending: Ending<'_>,
+) -> Result<(), Fail> {
+    let alloc = rt.alloc();
+    let mut store = MemoryStore::new(alloc, Vec::new(alloc), Vec::new(alloc), 8, 0)?;
+    assert_ends(rt, line, &mut store, ending)
+}
+
 #[test]
 fn words_and_names_are_looked_at(rt: HostRuntime) -> Result<(), Fail> {
-    let alloc = rt.alloc();
     for &(line, status, said) in WORDS {
-        let mut store = MemoryStore::new(alloc, Vec::new(alloc), Vec::new(alloc), 8, 0)?;
-        assert_ends(&rt, line, &mut store, Ending::refusal(status, said))?;
+        assert_without_files(&rt, line, Ending::refusal(status, said))?;
     }
     Ok(())
 }

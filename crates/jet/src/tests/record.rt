@@ -3,14 +3,14 @@
 ghost use Rattle.std.specs.Prelude.{◌<◌};
 
 use super::guests::COPY_CODE;
-use super::runs::COPIES;
+use super::runs::{COPIES, ON_TWO, WRITE_ON_TWO};
 use super::{
-    COMPUTE, COPIED, COPY, Ending, Entry, QUERY, TIME, assert_ends, log_of, patched, program,
-    push_file,
+    BASE, COMPUTE, COPIED, COPY, Ending, Entry, Line, NO_INSTRUCTION, QUERY, TIME, assert_ends,
+    log_of, patched, program, push_file,
 };
 use guest_assembler::{Instr, code};
 use jet_files::read_file;
-use outer_io::{MemoryStore, Store};
+use outer_io::{MemoryFile, MemoryStore};
 use std::alloc::{AllocError, Global};
 use std::process::Abort;
 use std::test::Fail;
@@ -69,12 +69,20 @@ const WRITE_MUCH: &[Instr] = &code![
     ecall(),
 ];
 
+const RECORD: Line = &["jet", "record", "prog", "log", "in", "--pages", "1"];
+
+/// In the greatest window.
+const WIDEST: Line = &["jet", "record", "prog", "log", "--pages", "4096"];
+
+/// The log takes the place of the program.
+const OVER_THE_PROGRAM: Line = &["jet", "record", "prog", "prog", "in", "--pages", "1"];
+
 /// A guest, the words that record it, and its log: the pages and the inputs, the records, and the length of all. Then
 /// a query of the log, and its report.
 #[derive(Clone, Copy)]
 struct Recording {
     code: &'static [Instr],
-    line: &'static str,
+    line: Line,
     header: (u32, u32),
     entries: &'static [Entry],
     length: usize,
@@ -85,7 +93,7 @@ struct Recording {
 const RECORDINGS: &[Recording] = &[
     Recording {
         code: COPY_CODE,
-        line: "jet record prog log in --pages 1",
+        line: RECORD,
         header: (1, 1),
         entries: COPIES,
         length: 107,
@@ -94,7 +102,7 @@ const RECORDINGS: &[Recording] = &[
     },
     Recording {
         code: COPY_CODE,
-        line: "jet record prog log in",
+        line: &["jet", "record", "prog", "log", "in"],
         header: (256, 1),
         entries: COPIES,
         length: 107,
@@ -104,7 +112,34 @@ const RECORDINGS: &[Recording] = &[
     // The greatest numbers, and as many inputs as there may be.
     Recording {
         code: COPY_CODE,
-        line: "jet record prog log in in in in in in in in in in in in in in in in --pages 4096 --piece 16777216 --steps 4294967295",
+        line: &[
+            "jet",
+            "record",
+            "prog",
+            "log",
+            "in",
+            "in",
+            "in",
+            "in",
+            "in",
+            "in",
+            "in",
+            "in",
+            "in",
+            "in",
+            "in",
+            "in",
+            "in",
+            "in",
+            "in",
+            "in",
+            "--pages",
+            "4096",
+            "--piece",
+            "16777216",
+            "--steps",
+            "4294967295",
+        ],
         header: (4096, 16),
         entries: COPIES,
         length: 107,
@@ -114,7 +149,9 @@ const RECORDINGS: &[Recording] = &[
     // A read gets two bytes at most.
     Recording {
         code: COPY_CODE,
-        line: "jet record prog log in --pages 1 --piece 2",
+        line: &[
+            "jet", "record", "prog", "log", "in", "--pages", "1", "--piece", "2",
+        ],
         header: (1, 1),
         entries: &[
             Entry::Read(5, 0, 4, b"AB"),
@@ -128,7 +165,7 @@ const RECORDINGS: &[Recording] = &[
     // There is no channel 0.
     Recording {
         code: COPY_CODE,
-        line: "jet record prog log --pages 1",
+        line: &["jet", "record", "prog", "log", "--pages", "1"],
         header: (1, 0),
         entries: &[
             Entry::Refused(1, 5, 0, 4),
@@ -142,7 +179,9 @@ const RECORDINGS: &[Recording] = &[
     // Cut off before the read, after it, and not at all.
     Recording {
         code: COPY_CODE,
-        line: "jet record prog log four --pages 1 --steps 5",
+        line: &[
+            "jet", "record", "prog", "log", "four", "--pages", "1", "--steps", "5",
+        ],
         header: (1, 1),
         entries: &[Entry::Limit(5)],
         length: 53,
@@ -151,7 +190,9 @@ const RECORDINGS: &[Recording] = &[
     },
     Recording {
         code: COPY_CODE,
-        line: "jet record prog log four --pages 1 --steps 6",
+        line: &[
+            "jet", "record", "prog", "log", "four", "--pages", "1", "--steps", "6",
+        ],
         header: (1, 1),
         entries: &[Entry::Read(5, 0, 4, b"ABCD"), Entry::Limit(6)],
         length: 78,
@@ -160,7 +201,9 @@ const RECORDINGS: &[Recording] = &[
     },
     Recording {
         code: COPY_CODE,
-        line: "jet record prog log four --pages 1 --steps 12",
+        line: &[
+            "jet", "record", "prog", "log", "four", "--pages", "1", "--steps", "12",
+        ],
         header: (1, 1),
         entries: COPIES,
         length: 107,
@@ -169,7 +212,7 @@ const RECORDINGS: &[Recording] = &[
     },
     Recording {
         code: TELL_THE_TIME,
-        line: "jet record prog log --pages 1",
+        line: &["jet", "record", "prog", "log", "--pages", "1"],
         header: (1, 0),
         entries: &[
             Entry::Time(3, TIME),
@@ -182,7 +225,9 @@ const RECORDINGS: &[Recording] = &[
     },
     Recording {
         code: COPY_THE_SECOND,
-        line: "jet record prog log in other --pages 1",
+        line: &[
+            "jet", "record", "prog", "log", "in", "other", "--pages", "1",
+        ],
         header: (1, 2),
         entries: &[
             Entry::Read(5, 1, 4, b"WXYZ"),
@@ -193,9 +238,49 @@ const RECORDINGS: &[Recording] = &[
         query: COPY,
         report: "1:0 1:0\n1:1 1:1\n1:2 1:2\n1:3 1:3\nend 4\n",
     },
+    // Each kind of record.
+    Recording {
+        code: WRITE_ON_TWO,
+        line: &["jet", "record", "prog", "log", "four", "--pages", "1"],
+        header: (1, 1),
+        entries: ON_TWO,
+        length: 173,
+        query: COPY,
+        report: "1:0 0:0\n1:1 0:1\n1:2 0:2\n1:3 0:3\n1:4 0:0\n2:0 0:0\nend 6\n",
+    },
+    // A word that no instruction has.
+    Recording {
+        code: &[NO_INSTRUCTION],
+        line: &[
+            "jet", "record", "prog", "log", "four", "--pages", "1", "--steps", "1",
+        ],
+        header: (1, 1),
+        entries: &[Entry::Trap(0, 2, BASE)],
+        length: 61,
+        query: COPY,
+        report: "end 0\n",
+    },
 ];
 
-/// A store of a program, of inputs and of a query, of which the call of this number fails. Its calls move so many bytes.
+/// The inputs.
+const INPUTS: &[(&str, &[u8])] = &[("in", b"ABCDEFG"), ("four", b"ABCD"), ("other", b"WXYZ")];
+
+/// A program, what begins it, the same for a wider window, the inputs, and a query.
+fn files(alloc: Global, program: &[u8], query: &str) -> Result<Vec<MemoryFile>, AllocError> {
+    let wide = patched(alloc, program, (72, b"\0\x20\0\0"))?;
+    let mut files = Vec::new(alloc);
+    push_file(&mut files, "prog", program)?;
+    push_file(&mut files, "wide", &wide)?;
+    push_file(&mut files, "short", &program[..program.len().min(51)])?;
+    for &(name, bytes) in INPUTS {
+        push_file(&mut files, name, bytes)?;
+    }
+    push_file(&mut files, "query", query.as_bytes())?;
+    Ok(files)
+}
+
+/// A store of a program, of inputs and of a query, of which the call of this number fails. Its calls move so many
+/// bytes.
 fn store(
     alloc: Global,
     program: &[u8],
@@ -205,15 +290,7 @@ fn store(
 ) -> Result<MemoryStore, AllocError>
     requires { 0 < piece }
 {
-    let wide = patched(alloc, program, (72, b"\0\x20\0\0"))?;
-    let mut files = Vec::new(alloc);
-    push_file(&mut files, "prog", program)?;
-    push_file(&mut files, "wide", &wide)?;
-    push_file(&mut files, "short", &program[..program.len().min(51)])?;
-    push_file(&mut files, "in", b"ABCDEFG")?;
-    push_file(&mut files, "four", b"ABCD")?;
-    push_file(&mut files, "other", b"WXYZ")?;
-    push_file(&mut files, "query", query.as_bytes())?;
+    let files = files(alloc, program, query)?;
     let failing = [failing].as_slice().to_vec(alloc)?;
     MemoryStore::new(alloc, files, failing, piece, 1000)
 }
@@ -222,9 +299,9 @@ fn store(
 const NEVER: u64 = 1 << 40;
 
 /// The store's file of this name has these bytes, or there is no such file.
-fn assert_file<R: AllocGlobal + Abort, S: Store>(
+fn assert_file<R: AllocGlobal + Abort>(
     rt: &R,
-    store: &mut S,
+    store: &mut MemoryStore,
     name: &str,
     expected: Option<&[u8]>,
 ) -> Result<(), Fail> {
@@ -257,24 +334,61 @@ fn runs_are_recorded(rt: HostRuntime) -> Result<(), Fail> {
 }
 
 /// Words, their status and their line. No file is written.
-const REFUSED: &[(&str, u8, &str)] = &[
-    ("jet record none log in", 7, "jet: read fault\n"),
-    ("jet record prog log none", 7, "jet: read fault\n"),
-    ("jet record prog log in none", 7, "jet: read fault\n"),
-    ("jet record short log none", 3, "jet: image 1 Short\n"),
-    ("jet record wide log none --pages 1", 7, "jet: read fault\n"),
-    ("jet record wide log in --pages 1", 3, "jet: window 1\n"),
-    ("jet record prog log in --pages 0", 2, "jet: usage\n"),
+const REFUSED: &[(Line, u8, &str)] = &[
+    (
+        &["jet", "record", "none", "log", "in"],
+        7,
+        "jet: read fault\n",
+    ),
+    (
+        &["jet", "record", "prog", "log", "none"],
+        7,
+        "jet: read fault\n",
+    ),
+    (
+        &["jet", "record", "prog", "log", "in", "none"],
+        7,
+        "jet: read fault\n",
+    ),
+    (
+        &["jet", "record", "short", "log", "none"],
+        3,
+        "jet: image 1 Short\n",
+    ),
+    (
+        &["jet", "record", "wide", "log", "none", "--pages", "1"],
+        7,
+        "jet: read fault\n",
+    ),
+    (
+        &["jet", "record", "wide", "log", "in", "--pages", "1"],
+        3,
+        "jet: window 1\n",
+    ),
+    (
+        &["jet", "record", "prog", "log", "in", "--pages", "0"],
+        2,
+        "jet: usage\n",
+    ),
 ];
+
+/// The command of these words is refused so, and writes no file.
+fn assert_unwritten<R: AllocGlobal + Abort>(
+    rt: &R,
+    program: &[u8],
+    line: Line,
+    ending: Ending<'_>,
+) -> Result<(), Fail> {
+    let mut store = store(rt.alloc(), program, COPY, NEVER, 65536)?;
+    assert_ends(rt, line, &mut store, ending)?;
+    assert_file(rt, &mut store, "log", None)
+}
 
 #[test]
 fn a_refused_recording_writes_no_file(rt: HostRuntime) -> Result<(), Fail> {
-    let alloc = rt.alloc();
-    let program = program(alloc, COPY_CODE)?;
+    let program = program(rt.alloc(), COPY_CODE)?;
     for &(line, status, said) in REFUSED {
-        let mut store = store(alloc, &program, COPY, NEVER, 65536)?;
-        assert_ends(&rt, line, &mut store, Ending::refusal(status, said))?;
-        assert_file(&rt, &mut store, "log", None)?;
+        assert_unwritten(&rt, &program, line, Ending::refusal(status, said))?;
     }
     Ok(())
 }
@@ -282,13 +396,43 @@ fn a_refused_recording_writes_no_file(rt: HostRuntime) -> Result<(), Fail> {
 /// Five writes are more than a log may have.
 #[test]
 fn a_log_that_is_too_long_is_not_written(rt: HostRuntime) -> Result<(), Fail> {
-    let alloc = rt.alloc();
-    let program = program(alloc, WRITE_MUCH)?;
-    let mut store = store(alloc, &program, COPY, NEVER, 65536)?;
-    let line = "jet record prog log --pages 4096";
+    let program = program(rt.alloc(), WRITE_MUCH)?;
     let ending = Ending::refusal(9, "jet: limit log 83558562\n");
-    assert_ends(&rt, line, &mut store, ending)?;
-    assert_file(&rt, &mut store, "log", None)
+    assert_unwritten(&rt, &program, WIDEST, ending)
+}
+
+/// The program and the input are there as before, and the log has these bytes or isn't there.
+fn assert_files<R: AllocGlobal + Abort>(
+    rt: &R,
+    store: &mut MemoryStore,
+    program: &[u8],
+    log: Option<&[u8]>,
+) -> Result<(), Fail> {
+    assert_file(rt, store, "log", log)?;
+    assert_file(rt, store, "prog", Some(program))?;
+    assert_file(rt, store, "in", Some(b"ABCDEFG"))
+}
+
+/// A recording over a store of which this call fails.
+fn assert_failing_call<R: AllocGlobal + Abort>(
+    rt: &R,
+    program: &[u8],
+    log: &[u8],
+    call: u64,
+) -> Result<(), Fail> {
+    let alloc = rt.alloc();
+    let mut store = store(alloc, program, COPY, call, 10)?;
+    let (ending, written) = if call < 19 {
+        (Ending::refusal(7, "jet: read fault\n"), None)
+    } else if call < 32 {
+        (Ending::refusal(8, "jet: write fault\n"), None)
+    } else {
+        (Ending::report(""), Some(log))
+    };
+    assert_ends(rt, RECORD, &mut store, ending)?;
+    // A call that never came fails now.
+    let _ = read_file(alloc, &mut store, "in");
+    assert_files(rt, &mut store, program, written)
 }
 
 /// The program is read in 16 calls of ten bytes and the input in 3; the log is created, put in 11 pieces, and finished.
@@ -299,20 +443,7 @@ fn a_failing_store_leaves_the_files(rt: HostRuntime) -> Result<(), Fail> {
     let program = program(alloc, COPY_CODE)?;
     let log = log_of(alloc, &program, 1, 1, COPIES)?;
     for call in 0..33 {
-        let mut store = store(alloc, &program, COPY, call, 10)?;
-        let (ending, written) = if call < 19 {
-            (Ending::refusal(7, "jet: read fault\n"), None)
-        } else if call < 32 {
-            (Ending::refusal(8, "jet: write fault\n"), None)
-        } else {
-            (Ending::report(""), Some(log.as_slice()))
-        };
-        assert_ends(&rt, "jet record prog log in --pages 1", &mut store, ending)?;
-        // A call that never came fails now.
-        let _ = read_file(alloc, &mut store, "in");
-        assert_file(&rt, &mut store, "log", written)?;
-        assert_file(&rt, &mut store, "prog", Some(&program))?;
-        assert_file(&rt, &mut store, "in", Some(b"ABCDEFG"))?;
+        assert_failing_call(&rt, &program, &log, call)?;
     }
     Ok(())
 }
@@ -323,8 +454,7 @@ fn a_log_may_take_the_place_of_its_program(rt: HostRuntime) -> Result<(), Fail> 
     let program = program(alloc, COPY_CODE)?;
     let log = log_of(alloc, &program, 1, 1, COPIES)?;
     let mut store = store(alloc, &program, COPY, NEVER, 65536)?;
-    let line = "jet record prog prog in --pages 1";
-    assert_ends(&rt, line, &mut store, Ending::report(""))?;
+    assert_ends(&rt, OVER_THE_PROGRAM, &mut store, Ending::report(""))?;
     assert_file(&rt, &mut store, "prog", Some(&log))?;
     assert_file(&rt, &mut store, "log", None)
 }

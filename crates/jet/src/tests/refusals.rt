@@ -1,19 +1,15 @@
 //! Files that are refused, each with its status and its line.
 
-use super::guests::{ADD_WORDS, COPY_FOUR};
-use super::{
-    COPIED, COPY, Ending, Patch, assert_query, log, patched, program, push_words, records,
-};
-use sha2::{Digest, Sha256};
+use super::guests::COPY_FOUR;
+use super::{COPIED, COPY, Ending, Patch, assert_query, log_with, patched, program_of, push_words};
 use std::alloc::{AllocError, Global};
 use std::process::Abort;
 use std::test::Fail;
 
 /// The program and the log of the four-byte copy.
 fn copied(alloc: Global) -> Result<(Vec<u8>, Vec<u8>), AllocError> {
-    let program = program(alloc, COPY_FOUR.code)?;
-    let records = records(alloc, &COPY_FOUR, b"ABCD")?;
-    let log = log(alloc, &program, 1, 1, &records)?;
+    let program = program_of(alloc, &COPY_FOUR)?;
+    let log = log_with(alloc, &COPY_FOUR, &program, b"ABCD")?;
     Ok((program, log))
 }
 
@@ -139,39 +135,67 @@ pub const CHANGED_LOGS: &[(Patch, u8, &str)] = &[
     ),
 ];
 
+/// Whether the program or the log is changed.
+#[derive(Clone, Copy)]
+enum Changed {
+    Program,
+    Log,
+}
+
+/// With a patch of one of the two files the query ends so.
+fn assert_patched<R: AllocGlobal + Abort>(
+    rt: &R,
+    files: (&[u8], &[u8]),
+    changed: Changed,
+    patch: Patch,
+    ending: Ending<'_>,
+) -> Result<(), Fail> {
+    let alloc = rt.alloc();
+    let (program, log) = files;
+    let query = COPY.as_bytes();
+    match changed {
+        Changed::Program => {
+            let bytes = patched(alloc, program, patch)?;
+            assert_query(rt, &bytes, log, query, ending)
+        }
+        Changed::Log => {
+            let bytes = patched(alloc, log, patch)?;
+            assert_query(rt, program, &bytes, query, ending)
+        }
+    }
+}
+
 #[test]
 fn changed_bytes_are_refused(rt: HostRuntime) -> Result<(), Fail> {
-    let alloc = rt.alloc();
-    let (program, log) = copied(alloc)?;
+    let (program, log) = copied(rt.alloc())?;
+    let files = (program.as_slice(), log.as_slice());
     for &(patch, line) in CHANGED_PROGRAMS {
-        let changed = patched(alloc, &program, patch)?;
-        assert_query(
+        assert_patched(
             &rt,
-            &changed,
-            &log,
-            COPY.as_bytes(),
+            files,
+            Changed::Program,
+            patch,
             Ending::refusal(3, line),
         )?;
     }
     for &(patch, status, line) in CHANGED_LOGS {
-        let changed = patched(alloc, &log, patch)?;
-        assert_query(
+        assert_patched(
             &rt,
-            &program,
-            &changed,
-            COPY.as_bytes(),
+            files,
+            Changed::Log,
+            patch,
             Ending::refusal(status, line),
         )?;
     }
-    let mut longer = log.as_slice().to_vec(alloc)?;
-    longer.push(0)?;
-    assert_query(
-        &rt,
-        &program,
-        &longer,
-        COPY.as_bytes(),
-        Ending::refusal(4, "jet: log 7 Trailing at 107\n"),
-    )
+    Ok(())
+}
+
+#[test]
+fn a_byte_after_a_log_is_refused(rt: HostRuntime) -> Result<(), Fail> {
+    let (program, mut log) = copied(rt.alloc())?;
+    log.push(0)?;
+    let ending = Ending::refusal(4, "jet: log 7 Trailing at 107\n");
+    assert_query(&rt, &program, &log, COPY.as_bytes(), ending)
 }
 
 /// Queries, and the line of their status 6.
@@ -203,45 +227,19 @@ fn faulty_queries_are_told(rt: HostRuntime) -> Result<(), Fail> {
 
 /// The program with a second program header after the first, of a type that isn't loaded.
 fn with_two_headers(alloc: Global, program: &[u8]) -> Result<Vec<u8>, AllocError> {
-    let mut two = Vec::new(alloc);
-    for (i, byte) in program.iter().enumerate() {
-        if i == 84 {
-            push_words(&mut two, [0x7000_0003, 0, 0, 0, 0, 0, 0, 0].as_slice())?;
-        }
-        two.push(*byte)?;
-    }
+    let (first, code) = program.split_at(program.len().min(84));
+    let mut two = first.to_vec(alloc)?;
+    push_words(&mut two, [0x7000_0003, 0, 0, 0, 0, 0, 0, 0].as_slice())?;
+    two.extend_from_slice(code)?;
     let counted = patched(alloc, &two, (44, b"\x02"))?;
     patched(alloc, &counted, (56, b"\x74"))
 }
 
-/// A log of another program; a segment that ends past the window; and a program header of another type, which
-/// is skipped.
 #[test]
-fn the_program_is_held_against_the_log(rt: HostRuntime) -> Result<(), Fail> {
+fn a_header_of_another_type_is_skipped(rt: HostRuntime) -> Result<(), Fail> {
     let alloc = rt.alloc();
-    let (good, log_good) = copied(alloc)?;
-    let other = program(alloc, ADD_WORDS.code)?;
-    let kept = hex::encode(alloc, Sha256::digest(&good))?;
-    let seen = hex::encode(alloc, Sha256::digest(&other))?;
-    let line = format!(in alloc; "jet: program kept {kept} seen {seen}\n")?;
-    assert_query(
-        &rt,
-        &other,
-        &log_good,
-        COPY.as_bytes(),
-        Ending::refusal(5, &line),
-    )?;
-    let records = records(alloc, &COPY_FOUR, b"ABCD")?;
-    let wide = patched(alloc, &good, (72, b"\0\x20\0\0"))?;
-    let log_wide = log(alloc, &wide, 1, 1, &records)?;
-    assert_query(
-        &rt,
-        &wide,
-        &log_wide,
-        COPY.as_bytes(),
-        Ending::refusal(3, "jet: window 1\n"),
-    )?;
-    let two = with_two_headers(alloc, &good)?;
-    let log_two = log(alloc, &two, 1, 1, &records)?;
-    assert_query(&rt, &two, &log_two, COPY.as_bytes(), Ending::report(COPIED))
+    let program = program_of(alloc, &COPY_FOUR)?;
+    let two = with_two_headers(alloc, &program)?;
+    let log = log_with(alloc, &COPY_FOUR, &two, b"ABCD")?;
+    assert_query(&rt, &two, &log, COPY.as_bytes(), Ending::report(COPIED))
 }

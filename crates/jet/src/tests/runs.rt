@@ -1,18 +1,20 @@
 //! Recorded runs: their numbers, what they wrote, and where they diverge.
 
-use super::guests::{ADD_WORDS, COPY_CODE};
+use super::guests::{ADD_WORDS, COPY_CODE, COPY_FOUR};
 use super::refusals::CHANGED_LOGS;
 use super::{
-    BASE, COPY, Ending, Entry, NO_INSTRUCTION, QUERY, assert_command, log_of, patched, program,
+    BASE, COPY, Ending, Entry, Line, NO_INSTRUCTION, Patch, QUERY, TIME, assert_command, log_of,
+    log_with, patched, program, program_of,
 };
-use guest_assembler::Instr;
+use guest_assembler::{Instr, code};
 use sha2::{Digest, Sha256};
+use std::alloc::Global;
 use std::process::Abort;
 use std::test::Fail;
 
-pub const REPLAY: &str = "jet replay prog log";
+pub const REPLAY: Line = &["jet", "replay", "prog", "log"];
 
-pub const OUTPUT: &str = "jet output prog log 1";
+pub const OUTPUT: Line = &["jet", "output", "prog", "log", "1"];
 
 /// The numbers of the four-byte copy.
 pub const NUMBERS: &str = "steps 12\ncalls 2\nread 4\nwritten 4\nend exit 0\n";
@@ -27,8 +29,53 @@ pub const COPIES: &[Entry] = &[
 /// The same, cut off after the read.
 const CUT: &[Entry] = &[Entry::Read(5, 0, 4, b"ABCD"), Entry::Limit(6)];
 
+/// Jumps to an address that is no multiple of 4.
+const JUMP_ASTRAY: &[Instr] = &code![jalr(x0, 2(x2))];
+
+const BREAK: &[Instr] = &code![ebreak()];
+
+/// Reads four bytes, and writes them on channel 1, the first on channel 2, and the first on channel 1 again. Between
+/// these it asks for the time, and makes a call that there is none of.
+pub const WRITE_ON_TWO: &[Instr] = &code![
+    lui(x11, 0x10000),
+    addi(x11, x11, 256),
+    li(x10, 0),
+    li(x12, 4),
+    li(x17, 63),
+    ecall(),
+    li(x17, 64),
+    li(x10, 1),
+    ecall(),
+    li(x12, 1),
+    li(x10, 2),
+    ecall(),
+    li(x17, 2000),
+    ecall(),
+    li(x17, 5),
+    ecall(),
+    lui(x11, 0x10000),
+    addi(x11, x11, 256),
+    li(x17, 64),
+    li(x10, 1),
+    ecall(),
+    li(x10, 0),
+    li(x17, 93),
+    ecall(),
+];
+
+/// Its run.
+pub const ON_TWO: &[Entry] = &[
+    Entry::Read(5, 0, 4, b"ABCD"),
+    Entry::Write(8, 1, 4, b"ABCD"),
+    Entry::Write(11, 2, 1, b"A"),
+    Entry::Time(13, TIME),
+    Entry::Other(15, 5),
+    Entry::Write(20, 1, 1, b"A"),
+    Entry::Exit(23, 0),
+];
+
 /// Words, a guest's code, its records, and what is written.
-const RUNS: &[(&str, &[Instr], &[Entry], &str)] = &[
+const RUNS: &[(Line, &[Instr], &[Entry], &str)] = &[
     (REPLAY, COPY_CODE, COPIES, NUMBERS),
     (
         REPLAY,
@@ -50,8 +97,39 @@ const RUNS: &[(&str, &[Instr], &[Entry], &str)] = &[
     ),
     (OUTPUT, COPY_CODE, COPIES, "ABCD"),
     (OUTPUT, COPY_CODE, CUT, ""),
-    ("jet output prog log 0", COPY_CODE, COPIES, ""),
-    ("jet output prog log 15", COPY_CODE, COPIES, ""),
+    (
+        &["jet", "output", "prog", "log", "0"],
+        COPY_CODE,
+        COPIES,
+        "",
+    ),
+    (
+        &["jet", "output", "prog", "log", "15"],
+        COPY_CODE,
+        COPIES,
+        "",
+    ),
+    (OUTPUT, WRITE_ON_TWO, ON_TWO, "ABCDA"),
+    (
+        &["jet", "output", "prog", "log", "2"],
+        WRITE_ON_TWO,
+        ON_TWO,
+        "A",
+    ),
+    (
+        REPLAY,
+        WRITE_ON_TWO,
+        ON_TWO,
+        "steps 24\ncalls 6\nread 4\nwritten 6\nend exit 0\n",
+    ),
+    (
+        QUERY,
+        &[NO_INSTRUCTION],
+        &[Entry::Trap(0, 2, BASE)],
+        "end 0\n",
+    ),
+    (QUERY, JUMP_ASTRAY, &[Entry::Trap(0, 0, BASE)], "end 0\n"),
+    (QUERY, BREAK, &[Entry::Trap(0, 3, BASE)], "end 0\n"),
 ];
 
 /// A guest's code, records that aren't those of its run, and the line of status 5.
@@ -90,66 +168,104 @@ fn assert_refused<R: AllocGlobal + Abort>(
     Ok(())
 }
 
+/// A command over the log of these records ends so.
+fn assert_run<R: AllocGlobal + Abort>(
+    rt: &R,
+    line: Line,
+    code: &[Instr],
+    entries: &[Entry],
+    ending: Ending<'_>,
+) -> Result<(), Fail> {
+    let alloc = rt.alloc();
+    let program = program(alloc, code)?;
+    let log = log_of(alloc, &program, 1, 1, entries)?;
+    assert_command(rt, line, &program, &log, COPY.as_bytes(), ending)
+}
+
 #[test]
 fn runs_have_numbers_and_outputs(rt: HostRuntime) -> Result<(), Fail> {
-    let alloc = rt.alloc();
     for &(line, code, entries, text) in RUNS {
-        let program = program(alloc, code)?;
-        let log = log_of(alloc, &program, 1, 1, entries)?;
-        assert_command(
-            &rt,
-            line,
-            &program,
-            &log,
-            COPY.as_bytes(),
-            Ending::report(text),
-        )?;
+        assert_run(&rt, line, code, entries, Ending::report(text))?;
     }
     Ok(())
 }
 
 #[test]
 fn a_run_that_diverges_is_refused(rt: HostRuntime) -> Result<(), Fail> {
-    let alloc = rt.alloc();
-    for &(code, entries, line) in DIVERGING {
-        let program = program(alloc, code)?;
-        let log = log_of(alloc, &program, 1, 1, entries)?;
-        assert_refused(&rt, &program, &log, Ending::refusal(5, line))?;
+    for &(code, entries, said) in DIVERGING {
+        for line in [QUERY, REPLAY, OUTPUT] {
+            assert_run(&rt, line, code, entries, Ending::refusal(5, said))?;
+        }
     }
-    let program = program(alloc, COPY_CODE)?;
-    let log = log_of(alloc, &program, 1, 1, COPIES)?;
-    for &(patch, status, line) in CHANGED_LOGS {
-        let changed = patched(alloc, &log, patch)?;
-        assert_refused(&rt, &program, &changed, Ending::refusal(status, line))?;
+    Ok(())
+}
+
+/// Each command is refused so with these bytes changed in the log.
+fn assert_changed<R: AllocGlobal + Abort>(
+    rt: &R,
+    program: &[u8],
+    log: &[u8],
+    patch: Patch,
+    ending: Ending<'_>,
+) -> Result<(), Fail> {
+    let changed = patched(rt.alloc(), log, patch)?;
+    assert_refused(rt, program, &changed, ending)
+}
+
+#[test]
+fn a_changed_log_is_refused(rt: HostRuntime) -> Result<(), Fail> {
+    let alloc = rt.alloc();
+    let program = program_of(alloc, &COPY_FOUR)?;
+    let log = log_with(alloc, &COPY_FOUR, &program, b"ABCD")?;
+    for &(patch, status, said) in CHANGED_LOGS {
+        assert_changed(&rt, &program, &log, patch, Ending::refusal(status, said))?;
     }
     Ok(())
 }
 
 /// Words whose log is missing.
-const MISSING: &[&str] = &[
-    "jet query prog none query",
-    "jet replay prog none",
-    "jet output prog none 1",
+const MISSING: &[Line] = &[
+    &["jet", "query", "prog", "none", "query"],
+    &["jet", "replay", "prog", "none"],
+    &["jet", "output", "prog", "none", "1"],
 ];
 
-/// A log that is missing, one of another program, one that is cut, and one whose window is too small.
+#[test]
+fn a_log_that_is_missing_is_a_read_fault(rt: HostRuntime) -> Result<(), Fail> {
+    let program = program_of(rt.alloc(), &COPY_FOUR)?;
+    let missing = Ending::refusal(7, "jet: read fault\n");
+    for &line in MISSING {
+        assert_command(&rt, line, &program, b"", COPY.as_bytes(), missing)?;
+    }
+    Ok(())
+}
+
+/// The line that a log of one program and another program are refused with.
+fn program_line(alloc: Global, kept: &[u8], seen: &[u8]) -> Result<String, Fail> {
+    let kept = hex::encode(alloc, Sha256::digest(kept))?;
+    let seen = hex::encode(alloc, Sha256::digest(seen))?;
+    Ok(format!(in alloc; "jet: program kept {kept} seen {seen}\n")?)
+}
+
+#[test]
+fn a_log_of_another_program_is_refused(rt: HostRuntime) -> Result<(), Fail> {
+    let alloc = rt.alloc();
+    let program = program_of(alloc, &COPY_FOUR)?;
+    let log = log_with(alloc, &COPY_FOUR, &program, b"ABCD")?;
+    let other = program_of(alloc, &ADD_WORDS)?;
+    let line = program_line(alloc, &program, &other)?;
+    assert_refused(&rt, &other, &log, Ending::refusal(5, &line))
+}
+
+/// One byte of the log is missing; and one page can't hold the program.
 #[test]
 fn a_log_that_does_not_fit_is_refused(rt: HostRuntime) -> Result<(), Fail> {
     let alloc = rt.alloc();
-    let good = program(alloc, COPY_CODE)?;
-    let log = log_of(alloc, &good, 1, 1, COPIES)?;
-    let missing = Ending::refusal(7, "jet: read fault\n");
-    for line in MISSING {
-        assert_command(&rt, line, &good, &log, COPY.as_bytes(), missing)?;
-    }
-    let other = program(alloc, ADD_WORDS.code)?;
-    let kept = hex::encode(alloc, Sha256::digest(&good))?;
-    let seen = hex::encode(alloc, Sha256::digest(&other))?;
-    let line = format!(in alloc; "jet: program kept {kept} seen {seen}\n")?;
-    assert_refused(&rt, &other, &log, Ending::refusal(5, &line))?;
+    let program = program_of(alloc, &COPY_FOUR)?;
+    let log = log_with(alloc, &COPY_FOUR, &program, b"ABCD")?;
     let short = Ending::refusal(4, "jet: log 3 Short at 98\n");
-    assert_refused(&rt, &good, &log[..log.len().min(106)], short)?;
-    let wide = patched(alloc, &good, (72, b"\0\x20\0\0"))?;
-    let log_wide = log_of(alloc, &wide, 1, 1, COPIES)?;
+    assert_refused(&rt, &program, &log[..log.len().min(106)], short)?;
+    let wide = patched(alloc, &program, (72, b"\0\x20\0\0"))?;
+    let log_wide = log_with(alloc, &COPY_FOUR, &wide, b"ABCD")?;
     assert_refused(&rt, &wide, &log_wide, Ending::refusal(3, "jet: window 1\n"))
 }
