@@ -1,9 +1,13 @@
 //! The forms in memory where they go through and where they fail in mid-stream, and the machine's.
 
+mod broken_disk;
+
 use super::*;
+use broken_disk::BrokenDisk;
 use std::alloc::{AllocError, Global};
-use std::fs;
 use std::test::Fail;
+use std::time::Duration;
+use std::{fs, io};
 
 /// No call has this number.
 const NEVER: u64 = 99;
@@ -122,7 +126,6 @@ fn files_and_clock_of_the_machine(rt: HostRuntime) -> Result<(), Fail> {
     let mut reader = OutSink::new(fs::open(&rt, "made")?);
     assert!(rt; write_whole(&mut reader, b"xyz").is_err());
     fs::remove_file(&rt, "made")?;
-    assert!(rt; MachineClock::new(rt).now() > 1_577_836_800_000_000_000);
     let mut clock = ListClock::new(rt.alloc(), [5].as_slice())?;
     assert!(rt; clock.now() == 5);
     Ok(())
@@ -134,4 +137,61 @@ fn a_full_writer_is_a_fault(rt: HostRuntime) {
     let mut bytes = [0u8; 4];
     let mut sink = OutSink::new(bytes.as_mut_slice());
     assert!(rt; write_whole(&mut sink, b"abcdef").is_err());
+}
+
+/// Whether this name opens, and then its reading fails.
+fn only_reading_fails<S: Store>(store: &mut S, name: &str) -> bool {
+    let mut buffer = [0u8; 8];
+    let Ok(()) = store.begin_read(name) else {
+        return false;
+    };
+    store.read(&mut buffer).is_err()
+}
+
+/// Whether a file is made and takes three bytes, and then its end fails.
+fn only_the_end_fails<S: Store>(store: &mut S) -> bool {
+    let Ok(()) = store.create("a") else {
+        return false;
+    };
+    let Ok(_) = store.put(b"xyz") else {
+        return false;
+    };
+    store.finish().is_err()
+}
+
+#[test]
+fn a_failing_disk_is_a_fault(rt: HostRuntime) {
+    assert!(rt; only_reading_fails(&mut FileStore::new(BrokenDisk), "a"));
+    assert!(rt; only_the_end_fails(&mut FileStore::new(BrokenDisk)));
+}
+
+/// A clock that stands still, or can't be read.
+#[derive(Drop)]
+struct Stopped(Option<u64>);
+
+impl std::rt::Clock for Stopped {
+    fn monotonic(&self) -> io::Result<Duration> {
+        Ok(Duration::from_secs(0))
+    }
+
+    fn since_1970(&self) -> io::Result<Duration> {
+        match self.0 {
+            Some(seconds) => Ok(Duration::from_secs(seconds)),
+            None => Err(io::Error::from(io::ErrorKind::Other)),
+        }
+    }
+}
+
+#[test]
+fn nanoseconds_since_1970(rt: HostRuntime) {
+    for (seconds, want) in [
+        (Some(0), 0),
+        (Some(2), 2_000_000_000),
+        (Some(18_446_744_073), 18_446_744_073_000_000_000),
+        (Some(18_446_744_074), u64::MAX),
+        (None, 0),
+    ] {
+        assert!(rt; MachineClock::new(Stopped(seconds)).now() == want);
+    }
+    assert!(rt; MachineClock::new(rt).now() > 1_577_836_800_000_000_000);
 }

@@ -20,4 +20,3 @@ pub use log_model::{CallRecord, Data, LogKind, RunEnd};
 pub use logs::Log;
 pub use reading::read_log;
 pub use writing::write_log;
-

@@ -87,8 +87,8 @@ of_written : (q : Query) (trace : List StepSeen) (r : Row) (b : SourceByte) → 
 of_written q trace r b written c =
     let made = map-some (λ (x : Row). x ≡ r) (row q trace) (chosen_sinks q trace) (some-Contains (rows_as_written q trace) r written) in
     some-gives _ (Contains (chosen_sources q trace) b) (λ (s : Sink) e. chosen s (subst (λ (x : Row). Contains x.sources b) (sym e) c)) (chosen_sinks q trace) made where
-  chosen : (s : Sink) → Contains (origins (policy_of q) trace s.time s.loc) b → Contains (chosen_sources q trace) b
-  chosen s c = was_chosen q trace s.time b (All-contains (WasRead (policy_of q) trace s.time) (origins (policy_of q) trace s.time s.loc) b (origins_were_read (policy_of q) trace s.time s.loc) c)
+      chosen : (s : Sink) → Contains (origins (policy_of q) trace s.time s.loc) b → Contains (chosen_sources q trace) b
+      chosen s c = was_chosen q trace s.time b (All-contains (WasRead (policy_of q) trace s.time) (origins (policy_of q) trace s.time s.loc) b (origins_were_read (policy_of q) trace s.time s.loc) c)
 
 -- ---- the law
 
