@@ -9,8 +9,8 @@ mod runs;
 use crate::run::jet;
 use guest_assembler::{Instr, code, program};
 use guests::{
-    ADD_WORDS, COPY_FOUR, Guest, LESS_THAN, LOAD_SIGNED, LOAD_UNSIGNED, OVERWRITE, UNALIGNED,
-    XOR_WORDS,
+    ADD_WORDS, COPY_FOUR, Guest, LESS_THAN, LOAD_SIGNED, LOAD_UNSIGNED, LOOK_UP, MULTIPLY_WORDS,
+    OVERWRITE, UNALIGNED, XOR_WORDS,
 };
 use outer_io::{ListClock, MemoryFile, MemorySink, MemoryStore, OpenGate, Sink, Store};
 use sha2::{Digest, Sha256};
@@ -21,6 +21,8 @@ use std::test::Fail;
 const COPY: &str = "rule copy\nsource all\nsink all\n";
 
 const COMPUTE: &str = "rule compute\nsource all\nsink all\n";
+
+const INDEX: &str = "rule index\nsource all\nsink all\n";
 
 /// The report of the four-byte copy.
 const COPIED: &str = "1:0 0:0\n1:1 0:1\n1:2 0:2\n1:3 0:3\nend 4\n";
@@ -101,8 +103,20 @@ fn log_with(
 fn records(alloc: Global, guest: &Guest, written: &[u8]) -> Result<Vec<u8>, AllocError> {
     let mut out = Vec::new(alloc);
     let (read, write) = (&guest.read, &guest.write);
-    push_transfer(&mut out, 1, read.at, [0, 0x10100, read.asked], read.bytes)?;
-    push_transfer(&mut out, 2, write.at, [1, 0x10100, write.asked], written)?;
+    push_transfer(
+        &mut out,
+        1,
+        read.at,
+        [0, read.place, read.asked],
+        read.bytes,
+    )?;
+    push_transfer(
+        &mut out,
+        2,
+        write.at,
+        [1, write.place, write.asked],
+        written,
+    )?;
     out.push(5)?;
     push_words(&mut out, [guest.exit, 0].as_slice())?;
     Ok(out)
@@ -339,7 +353,7 @@ fn assert_report<R: AllocGlobal + Abort>(
     assert_query(rt, &program, &log, query.as_bytes(), Ending::report(report))
 }
 
-/// The sum of two words depends on all eight bytes, in each of its own.
+/// The sum or the product of two words depends on all eight bytes, in each of its own.
 const SUM: &str = "1:0 0:0 0:1 0:2 0:3 0:4 0:5 0:6 0:7
 1:1 0:0 0:1 0:2 0:3 0:4 0:5 0:6 0:7
 1:2 0:0 0:1 0:2 0:3 0:4 0:5 0:6 0:7
@@ -359,6 +373,12 @@ const REPORTS: &[(&Guest, &str, &str)] = &[
         "1:0 0:0\n1:1 0:0\n1:2 0:1\n1:3 0:2\nend 4\n",
     ),
     (&ADD_WORDS, COMPUTE, SUM),
+    (&MULTIPLY_WORDS, COPY, "1:0\n1:1\n1:2\n1:3\nend 4\n"),
+    (&MULTIPLY_WORDS, COMPUTE, SUM),
+    (&MULTIPLY_WORDS, INDEX, SUM),
+    (&LOOK_UP, COPY, "1:0\nend 1\n"),
+    (&LOOK_UP, COMPUTE, "1:0\nend 1\n"),
+    (&LOOK_UP, INDEX, "1:0 0:0\nend 1\n"),
     (
         &LESS_THAN,
         COMPUTE,

@@ -2,15 +2,19 @@
 
 use guest_assembler::{Instr, code};
 
-/// Bytes moved by a call: its step number, the length asked for, and the bytes.
+/// Bytes moved by a call: its step number, the place of its buffer, the length asked for, and the bytes.
 #[derive(Clone, Copy)]
 pub struct Moved {
     pub at: u32,
+    pub place: u32,
     pub asked: u32,
     pub bytes: &'static [u8],
 }
 
-/// A guest and its run. Its buffer lies at 0x10100.
+/// Where most guests have their buffer.
+const BUFFER: u32 = 0x10100;
+
+/// A guest and its run.
 #[derive(Clone, Copy)]
 pub struct Guest {
     pub code: &'static [Instr],
@@ -42,11 +46,13 @@ pub const COPY_FOUR: Guest = Guest {
     pages: 1,
     read: Moved {
         at: 5,
+        place: BUFFER,
         asked: 4,
         bytes: b"ABCD",
     },
     write: Moved {
         at: 8,
+        place: BUFFER,
         asked: 4,
         bytes: b"ABCD",
     },
@@ -77,11 +83,13 @@ pub const ADD_WORDS: Guest = Guest {
     pages: 1,
     read: Moved {
         at: 5,
+        place: BUFFER,
         asked: 8,
         bytes: b"ABCDEFGH",
     },
     write: Moved {
         at: 13,
+        place: BUFFER,
         asked: 4,
         bytes: b"\x86\x88\x8a\x8c",
     },
@@ -112,11 +120,13 @@ pub const XOR_WORDS: Guest = Guest {
     pages: 1,
     read: Moved {
         at: 5,
+        place: BUFFER,
         asked: 8,
         bytes: b"ABCDEFGH",
     },
     write: Moved {
         at: 13,
+        place: BUFFER,
         asked: 4,
         bytes: b"\x04\x04\x04\x0c",
     },
@@ -147,11 +157,13 @@ pub const LESS_THAN: Guest = Guest {
     pages: 1,
     read: Moved {
         at: 5,
+        place: BUFFER,
         asked: 8,
         bytes: b"ABCDEFGH",
     },
     write: Moved {
         at: 13,
+        place: BUFFER,
         asked: 4,
         bytes: b"\x01\x00\x00\x00",
     },
@@ -180,11 +192,13 @@ pub const LOAD_SIGNED: Guest = Guest {
     pages: 1,
     read: Moved {
         at: 5,
+        place: BUFFER,
         asked: 1,
         bytes: b"\x80",
     },
     write: Moved {
         at: 11,
+        place: BUFFER,
         asked: 4,
         bytes: b"\x80\xff\xff\xff",
     },
@@ -213,11 +227,13 @@ pub const LOAD_UNSIGNED: Guest = Guest {
     pages: 1,
     read: Moved {
         at: 5,
+        place: BUFFER,
         asked: 1,
         bytes: b"\x80",
     },
     write: Moved {
         at: 11,
+        place: BUFFER,
         asked: 4,
         bytes: b"\x80\x00\x00\x00",
     },
@@ -245,11 +261,13 @@ pub const OVERWRITE: Guest = Guest {
     pages: 1,
     read: Moved {
         at: 5,
+        place: BUFFER,
         asked: 1,
         bytes: b"A",
     },
     write: Moved {
         at: 10,
+        place: BUFFER,
         asked: 1,
         bytes: b"Z",
     },
@@ -280,13 +298,89 @@ pub const UNALIGNED: Guest = Guest {
     pages: 2,
     read: Moved {
         at: 5,
+        place: BUFFER,
         asked: 4,
         bytes: b"ABCD",
     },
     write: Moved {
         at: 13,
+        place: BUFFER,
         asked: 4,
         bytes: b"AABC",
+    },
+    exit: 16,
+};
+
+/// Reads two words and writes their product.
+pub const MULTIPLY_WORDS: Guest = Guest {
+    code: &code![
+        lui(x11, 0x10000),
+        addi(x11, x11, 256),
+        li(x10, 0),
+        li(x12, 8),
+        li(x17, 63),
+        ecall(),
+        lw(x6, 0(x11)),
+        lw(x7, 4(x11)),
+        mul(x6, x6, x7),
+        sw(x6, 0(x11)),
+        li(x10, 1),
+        li(x12, 4),
+        li(x17, 64),
+        ecall(),
+        li(x10, 0),
+        li(x17, 93),
+        ecall(),
+    ],
+    pages: 1,
+    read: Moved {
+        at: 5,
+        place: BUFFER,
+        asked: 8,
+        bytes: b"ABCDEFGH",
+    },
+    write: Moved {
+        at: 13,
+        place: BUFFER,
+        asked: 4,
+        bytes: b"\x85\xa1\x45\x72",
+    },
+    exit: 16,
+};
+
+/// Reads a byte, looks another up by it, and writes that.
+pub const LOOK_UP: Guest = Guest {
+    code: &code![
+        lui(x11, 0x10000),
+        addi(x11, x11, 256),
+        li(x10, 0),
+        li(x12, 1),
+        li(x17, 63),
+        ecall(),
+        lbu(x6, 0(x11)),
+        add(x6, x6, x11),
+        lbu(x7, 0(x6)),
+        sb(x7, 1(x11)),
+        addi(x11, x11, 1),
+        li(x10, 1),
+        li(x17, 64),
+        ecall(),
+        li(x10, 0),
+        li(x17, 93),
+        ecall(),
+    ],
+    pages: 1,
+    read: Moved {
+        at: 5,
+        place: BUFFER,
+        asked: 1,
+        bytes: b"A",
+    },
+    write: Moved {
+        at: 13,
+        place: BUFFER + 1,
+        asked: 1,
+        bytes: b"\0",
     },
     exit: 16,
 };
