@@ -1,5 +1,5 @@
 //! Numbers that one thread sends over a ring and another takes, and those that are left when the ends are closed.
-ghost use Rattle.std.specs.Prelude.{◌≡◌, ◌≤◌, ◌×◌};
+ghost use Rattle.std.specs.Prelude.{◌≡◌, ◌≤◌};
 
 use epoch_link::{Consumer, Left, Popped, Producer, Pushed, close, ring};
 use std::alloc::{AllocError, Global};
