@@ -13,6 +13,3 @@ pub use elf_model::ImageKind;
 pub use fault::ImageFault;
 pub use loaded::{Image, Segment};
 pub use loader::load;
-
-#[cfg(test)]
-mod tests;

@@ -22,6 +22,3 @@ pub enum Message {
     Close(Loc),
     End { whole: bool },
 }
-
-#[cfg(test)]
-mod tests;

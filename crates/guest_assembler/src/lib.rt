@@ -9,8 +9,6 @@
 
 mod names;
 mod program_file;
-#[cfg(test)]
-mod tests;
 
 pub use isa::Instr;
 pub use program_file::program;

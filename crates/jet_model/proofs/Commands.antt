@@ -1,11 +1,11 @@
 -- Worked examples of what three files come to, computed by the checker.
-use Rattle.std.proofs.Common.{◌≡◌, ℕ, List, [], ◌∷◌, refl, Option, None, Ok, Err}
+use Rattle.std.proofs.Common.{◌≡◌, ℕ, List, [], ◌∷◌, refl, None, Ok, Err}
 use Rattle.std.specs.Prelude.{Some, codes, pos, if◌then◌else◌}
 use Rattle.std.specs.Fmt.{digits}
 use Rattle.std.specs.Str.{bytes_eq}
 use Rattle.log_model.specs.declared.RunEnd.TheVariants.{Exit}
 use Rattle.log_model.specs.declared.LogKind.TheVariants as log
-use Rattle.log_model.specs.Logs.{Log, log_text}
+use Rattle.log_model.specs.Logs.{log_text}
 use Rattle.log_model.specs.Reading.{log_of, body_of}
 use Rattle.report_model.specs.declared.QueryKind.TheVariants as query
 use Rattle.elf_model.specs.declared.ImageKind.TheVariants as image

@@ -24,8 +24,6 @@ mod machine;
 mod memory;
 mod sink;
 mod store;
-#[cfg(test)]
-mod tests;
 mod whole;
 
 pub use clock::Clock;

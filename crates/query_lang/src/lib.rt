@@ -20,6 +20,3 @@ pub use fault::QueryFault;
 pub use parser::parse;
 pub use query::Query;
 pub use report_model::QueryKind;
-
-#[cfg(test)]
-mod tests;

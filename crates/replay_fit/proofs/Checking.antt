@@ -1,9 +1,8 @@
 -- One step of a check, against what the log has next.
-use Rattle.std.proofs.Common.{◌≡◌, ℕ, ◌+◌, ◌^◌, ◌<◌, ◌≤◌, Bool, true, false, List, [], ◌∷◌, Option, None, refl, arith, ap, sym, ◌∙◌, subst}
+use Rattle.std.proofs.Common.{◌≡◌, ℕ, ◌^◌, ◌<◌, ◌≤◌, Bool, true, false, List, [], ◌∷◌, Option, None, refl, arith, ap, sym, ◌∙◌, subst}
 use Rattle.std.specs.Prelude.{nat_lt, if◌then◌else◌}
 use Rattle.std.specs.List.{AllByRecursion}
 use Rattle.std.proofs.lemmas.Bool.{ltb-true, ltb-false}
-use Rattle.isa.specs.Machine.{State}
 use Rattle.log_model.specs.declared.CallRecord.{CallRecord}
 use Rattle.log_model.specs.declared.RunEnd.{RunEnd}
 use Rattle.log_model.specs.declared.RunEnd.TheVariants.{Exit, Trap, Limit}

@@ -1,11 +1,11 @@
 -- A check, step after step.
-use Rattle.std.proofs.Common.{◌≡◌, ℕ, suc, ◌+◌, ◌^◌, ◌<◌, ◌≤◌, ◌⊎◌, inl, inr, Bool, false, Option, Some, None, arith, ap, ap₂, sym, ◌∙◌, subst}
+use Rattle.std.proofs.Common.{◌≡◌, ℕ, suc, ◌+◌, ◌<◌, ◌≤◌, ◌⊎◌, inl, inr, Bool, false, Some, None, arith, ap, ap₂, sym, ◌∙◌, subst}
 use Rattle.std.proofs.lemmas.Bool.{cases_lt}
 use Rattle.isa.specs.Machine.{State}
 use Rattle.log_model.specs.Logs.{Log, end_at}
 use Rattle.replay_model.specs.declared.Divergence.{Divergence}
-use Rattle.replay_model.specs.Run.{Moment, start, advance, moment_after}
-use Rattle.replay_model.specs.Comparison.{Compared, difference, divergence, at_step}
+use Rattle.replay_model.specs.Run.{start, advance, moment_after}
+use Rattle.replay_model.specs.Comparison.{Compared, difference, divergence}
 use Rattle.replay_model.specs.Firsts.{difference_after}
 use Rattle.replay_model.proofs.Track.{step_time}
 use Rattle.replay_model.proofs.Offsets.{moment_later}

@@ -1,21 +1,20 @@
 -- A step where the log has a plain one next.
-use Rattle.std.proofs.Common.{◌≡◌, ℕ, ◌+◌, ◌<◌, ◌≤◌, Bool, true, false, List, [], ◌∷◌, pos, Option, Some, None, refl, arith, ap, sym, ◌∙◌, subst}
+use Rattle.std.proofs.Common.{◌≡◌, ℕ, ◌<◌, Bool, true, false, List, [], ◌∷◌, pos, Some, refl, arith, ap, sym, ◌∙◌}
 use Rattle.std.specs.Prelude.{nat_lt, if◌then◌else◌}
 use Rattle.std.proofs.lemmas.Bool.{ltb-true}
 use Rattle.isa.specs.declared.Instr.{Instr}
-use Rattle.isa.specs.Machine.{State, next, Retired}
-use Rattle.isa.specs.Machine as machine
+use Rattle.isa.specs.Machine.{State, next}
 use Rattle.log_model.specs.declared.CallRecord.{CallRecord}
 use Rattle.log_model.specs.declared.RunEnd.{RunEnd}
 use Rattle.log_model.specs.Logs.{Log, at_of, end_at}
 use Rattle.replay_model.specs.declared.Field.TheVariants as field
 use Rattle.replay_model.specs.Run.{Moment, advance, after_outcome}
-use Rattle.replay_model.specs.Comparison.{Compared, compared, first_different, Expected, PlainStep, CallOf, EndOf, expected, difference, difference_at, seen_event, call_event}
+use Rattle.replay_model.specs.Comparison.{Compared, compared, first_different, PlainStep, CallOf, EndOf, expected, difference, difference_at, seen_event}
 use Rattle.replay_model.proofs.Agreement.{call_event_range}
 use Rattle.rv_machine.specs.Hart.{Hart, IsPlainStep, IsStep}
 use Rattle.rv_machine.specs.declared.Stepped.{Stepped}
 use Rattle.rv_machine.specs.declared.Stepped.TheVariants.{Plain, Called, Trapped}
-use Rattle.replay_run.specs.Runs.{RunAt, with_hart, later_by_one, hart_of, IsUnderLog, IsLater}
+use Rattle.replay_run.specs.Runs.{RunAt, with_hart, later_by_one, IsUnderLog, IsLater}
 use Rattle.replay_run.proofs.Steps.{before_end}
 use Rattle.replay_fit.specs.Comparisons.{event_of}
 use Rattle.replay_fit.specs.CheckedSteps.{IsAdvanced}

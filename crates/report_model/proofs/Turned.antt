@@ -1,7 +1,7 @@
 -- A source byte and an output byte stand together in the influence exactly where they do in the rows.
-use Rattle.std.proofs.Common.{◌≡◌, ℕ, zero, suc, ◌+◌, ◌<◌, List, [], ◌∷◌, Bool, true, false, refl, sym, ap, ◌∙◌, subst, arith, map}
-use Rattle.std.specs.Prelude.{Option, Some, None, Contains, nat_lt, IsTrue}
-use Rattle.std.specs.List.{filter, flat_map, range_with_len, All}
+use Rattle.std.proofs.Common.{◌≡◌, ℕ, zero, suc, ◌<◌, List, [], ◌∷◌, true, sym, ap, ◌∙◌, subst, arith}
+use Rattle.std.specs.Prelude.{Some, Contains}
+use Rattle.std.specs.List.{filter, range_with_len}
 use Rattle.std.proofs.lemmas.List.Concat.{flat_map-cons}
 use Rattle.std.proofs.lemmas.List.Elements.{All-contains}
 use Rattle.std.proofs.lemmas.Bool.{ltb-true}
@@ -19,11 +19,11 @@ use Rattle.flow_model.specs.OriginLaws.{WasRead}
 use Rattle.flow_model.specs.Orders.{source_cmp}
 use Rattle.flow_model.proofs.Orders.{source_total, source_same}
 use Rattle.flow_model.proofs.OriginsRead.{origins_were_read}
-use Rattle.sorted_set.specs.Sets.{has, set_of}
+use Rattle.sorted_set.specs.Sets.{has}
 use Rattle.sorted_set.proofs.Algebra.{has-set_of, has-Contains, Contains-has}
 use Rattle.report_model.specs.Query.{Query, has_source, has_sink, policy_of}
 use Rattle.report_model.specs.Rows.{Sink, Row, row, rows, rows_as_written, chosen_sinks}
-use Rattle.report_model.specs.Influence.{source_at, sources_of_call, sources_of_step, sources_of, chosen_sources, Reach, reached, turned, influence}
+use Rattle.report_model.specs.Influence.{source_at, sources_of_call, sources_of_step, sources_of, chosen_sources, Reach, reached, influence}
 use Rattle.report_model.specs.InfluenceLaws.{IsListed, HasReached, InfluenceTurnsRows}
 use Rattle.report_model.proofs.RowLemmas.{all_written}
 use Rattle.report_model.proofs.Members.{Some_in, some-Any, Any-some, some-Contains, Contains-some, some-each, some-gives, some-left, some-right, filter-some, some-filter, map-some, some-map, some-range}

@@ -1,13 +1,12 @@
 -- Finished tasks that have all numbers below n, each once, stand in the order of their numbers once they are sorted.
-use Rattle.std.proofs.Common.{◌≡◌, ℕ, zero, suc, ◌+◌, ◌-◌, ◌<◌, ◌≤◌, Some, List, [], ◌∷◌, ◌++◌, length, map, get_or, refl, sym, ap, ◌∙◌, subst, arith, All}
+use Rattle.std.proofs.Common.{◌≡◌, ℕ, zero, suc, ◌+◌, ◌-◌, ◌<◌, ◌≤◌, Some, List, [], ◌∷◌, length, map, get_or, refl, sym, ap, ◌∙◌, subst, arith, All}
 use Rattle.std.specs.List.{sum_by, range_with_len, slice_get, AllZip}
 use Rattle.std.specs.List.Sorted.{IsPermutation, IsNonDecreasingBy}
-use Rattle.std.proofs.lemmas.List.Sums.{sum_by-cons, sum_by-append}
+use Rattle.std.proofs.lemmas.List.Sums.{sum_by-cons}
 use Rattle.std.proofs.lemmas.List.Sorted.{sum_by-IsPermutation, All-permutation}
 use Rattle.std.proofs.lemmas.List.Elements.{All-head, All-tail}
 use Rattle.run_board.specs.declared.view.WorkerView.{WorkerView}
 use Rattle.run_board.specs.Tasks.{TaskWords, AreNumbered, IsLed}
-use Rattle.run_board.specs.Views.{list_of}
 use Rattle.run_board.specs.Rule.{view_weight, whole_weight}
 use Rattle.run_board.specs.Workers.{Keeps}
 use Rattle.run_board.proofs.FillOrder.{head_is, tail_is, nil_cons}

@@ -9,8 +9,6 @@
 mod decoder;
 mod encoder;
 mod fields;
-#[cfg(test)]
-mod tests;
 
 pub use decoder::decode;
 pub use encoder::encode;

@@ -7,8 +7,6 @@
 
 mod hart;
 mod state;
-#[cfg(test)]
-mod tests;
 
 pub use hart::Machine;
 pub use isa::{Call, CallKind, Instr};

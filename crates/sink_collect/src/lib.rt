@@ -3,8 +3,6 @@
 
 mod report;
 mod sets;
-#[cfg(test)]
-mod tests;
 mod writing;
 
 pub use report::{Report, gather};

@@ -8,6 +8,3 @@ pub mod laws;
 mod sets;
 
 pub use sets::{contains, is_subset, merged};
-
-#[cfg(test)]
-mod tests;

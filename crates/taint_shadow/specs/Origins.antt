@@ -1,5 +1,5 @@
 -- The origins of a shape's targets.
-use Rattle.std.specs.Prelude.{◌≡◌, ℕ, suc, nat_lt, ◌==◌, ◌&&◌, Bool, false, List, [], ◌∷◌}
+use Rattle.std.specs.Prelude.{◌≡◌, ℕ, suc, nat_lt, ◌==◌, ◌&&◌, Bool, false, List, []}
 use Rattle.std.specs.List.{AllByRecursion}
 use Rattle.flow_model.specs.declared.Loc.{Loc}
 use Rattle.flow_model.specs.declared.Loc.TheVariants.{Reg, Mem}

@@ -1,7 +1,7 @@
-use Rattle.std.proofs.Common.{◌≡◌, ℕ, ◌<◌, ◌≤◌, false, None, Some, arith, ap, sym, ◌∙◌, subst}
-use Rattle.log_model.specs.Logs.{Log, end_at}
+use Rattle.std.proofs.Common.{◌≡◌, ℕ, false, None, Some, arith, ap, sym, ◌∙◌, subst}
+use Rattle.log_model.specs.Logs.{Log}
 use Rattle.replay_model.specs.Run.{advance}
-use Rattle.replay_model.specs.Comparison.{difference, at_step}
+use Rattle.replay_model.specs.Comparison.{at_step}
 use Rattle.replay_run.specs.Runs.{RunAt, hart_of, IsReady, IsFinished}
 use Rattle.replay_run.specs.Expects.{expected_of}
 use Rattle.replay_run.proofs.Steps.{before_end, ready, done, run_is}

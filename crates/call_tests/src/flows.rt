@@ -2,7 +2,7 @@
 
 ghost use Rattle.std.specs.Prelude.{◌<◌, length};
 
-use super::*;
+use flow_rule::*;
 use isa::{CallKind, Instr};
 
 /// An address at whose third byte places wrap.

@@ -1,6 +1,6 @@
 //! Files that are loaded or refused, with what the gABI says of each.
 
-use crate::{ImageFault, ImageKind, load};
+use elf_image::{ImageFault, ImageKind, load};
 use std::alloc::{AllocError, Global};
 use std::process::Abort;
 use std::test::Fail;

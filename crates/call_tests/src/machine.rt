@@ -2,9 +2,9 @@
 
 ghost use Rattle.std.specs.Prelude.{◌≡◌, false, IfOk};
 
-use crate::{Call, CallKind, Instr, Machine, Stepped};
 use elf_image::load;
 use guest_assembler::{code, program};
+use rv_machine::{Call, CallKind, Instr, Machine, Stepped};
 use std::alloc::Global;
 use std::process::Abort;
 use std::test::Fail;

@@ -1,6 +1,6 @@
 //! Each name stands for its instruction, in a file of the form that loaders take.
 
-use crate::{code, program};
+use guest_assembler::{code, program};
 use std::test::Fail;
 
 /// Words as LLVM's assembler writes them, of the instructions in `each_name_is_its_instruction`.

@@ -1,7 +1,7 @@
 ghost use Rattle.std.specs.Prelude.{◌≡◌, IfOk};
 
-use crate::{SinkSet, gather, text};
 use flow_model::{SinkByte, SourceByte};
+use sink_collect::{SinkSet, gather, text};
 use std::alloc::Global;
 use std::test::Fail;
 

@@ -1,7 +1,7 @@
 //! A word of each form and of each multiplication and division, both ways, and words that stand for nothing. All
 //! instructions are worked in isa/proofs.
 
-use crate::{Instr, decode, encode};
+use rv_decode::{Instr, decode, encode};
 use std::process::Abort;
 
 fn stands_for(rt: &impl Abort, word: u32, instr: &Instr) {

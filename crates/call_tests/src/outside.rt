@@ -2,8 +2,8 @@
 
 mod broken_disk;
 
-use super::*;
 use broken_disk::BrokenDisk;
+use outer_io::*;
 use std::alloc::{AllocError, Global};
 use std::test::Fail;
 use std::time::Duration;

@@ -1,7 +1,7 @@
 //! Texts against what they stand for.
 
-use crate::{Query, QueryFault, QueryKind, parse};
 use flow_model::{Rule, SinkByte, SourceByte};
+use query_lang::{Query, QueryFault, QueryKind, parse};
 use std::alloc::Global;
 
 /// Texts, and the line and the kind of their first fault.

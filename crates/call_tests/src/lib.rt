@@ -1,0 +1,22 @@
+//! Tests of single calls of the crates below: a module for each crate, with outside vectors, printed texts, and each public
+//! allocating call once on its happy path. They stand here, and not beside the code, so that no crate is proved twice.
+#![tactic(auto)]
+
+#[cfg(test)]
+mod assembly;
+#[cfg(test)]
+mod flows;
+#[cfg(test)]
+mod images;
+#[cfg(test)]
+mod machine;
+#[cfg(test)]
+mod outside;
+#[cfg(test)]
+mod queries;
+#[cfg(test)]
+mod reports;
+#[cfg(test)]
+mod sets;
+#[cfg(test)]
+mod words;
