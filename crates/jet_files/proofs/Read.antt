@@ -15,12 +15,12 @@ use Rattle.query_lang.specs.declared.fault.QueryFault.{QueryFault}
 use Rattle.query_lang.specs.declared.fault.QueryFault.TheVariants as query
 use Rattle.jet_refusal.specs.declared.refusal.Refusal.{Refusal}
 use Rattle.jet_refusal.specs.declared.refusal.Refusal.TheVariants as refusal
-use Rattle.jet_model.specs.Contents.{program_in, log_in, query_in, file_at, query_at}
+use Rattle.jet_model.specs.Contents.{program_in, log_in, query_in, numbered_query_in, file_at, query_at, numbered_query_at}
 use Rattle.jet_model.proofs.AndThen.{and_then-ok, and_then-err}
-use Rattle.jet_model.proofs.Files.{program_in-fault, log_in-fault, query_in-query, query_in-fault}
+use Rattle.jet_model.proofs.Files.{program_in-fault, log_in-fault, query_in-query, query_in-fault, numbered_query_in-query, numbered_query_in-fault}
 use Rattle.outer_io.specs.Shown.{StoreShown}
 use Rattle.jet_files.specs.Outcome.{Comes, Follows, IsWork, AreAlike}
-use Rattle.jet_files.specs.Faults.{image_refusal, log_refusal, query_refusal}
+use Rattle.jet_files.specs.Faults.{image_refusal, log_refusal, query_refusal, numbered_query_refusal}
 use Rattle.jet_files.proofs.Composing.{found-map, follows-stops}
 
 pub no_program : (bytes : List ℕ) (fault : ImageFault) → IsImageFaultOf bytes fault → IsWork (program_in bytes) (Err (image_refusal fault))
@@ -55,3 +55,23 @@ module _ (name : List ℕ) (f g : StoreShown) where
       found-map (λ file. file_at file name ≡ Ok bytes) (λ file. AreAlike (Err (refusal.Query line kind)) (query_at file name)) f.files g.files
       (λ file is. alike-refusal (refusal.Query line kind) (query_at file name) (and_then-ok (file_at file name) query_in bytes is ∙ query_in-fault bytes line kind e)) first
   no_query bytes query.NoMemory e first = tt
+
+-- ---- one of several queries
+
+module _ (number : ℕ) (name : List ℕ) (f g : StoreShown) where
+  pub numbered_stops : (r : Refusal) → Comes (λ file. file_at file name) f g (Err r) → Follows (λ file kept. AreAlike kept (numbered_query_at file number name)) f g (Err r)
+  numbered_stops r first =
+      follows-stops (λ file answer. file_at file name ≡ answer) (λ file kept. AreAlike kept (numbered_query_at file number name)) f g r
+      (λ file e. alike-refusal r (numbered_query_at file number name) (and_then-err (file_at file name) (numbered_query_in number) r e)) first
+
+  pub numbered_read : (bytes : List ℕ) (kept : Query) → StandsFor bytes kept → Comes (λ file. file_at file name) f g (Ok bytes) → Follows (λ file kept. AreAlike kept (numbered_query_at file number name)) f g (Ok kept)
+  numbered_read bytes kept s first =
+      found-map (λ file. file_at file name ≡ Ok bytes) (λ file. AreAlike (Ok kept) (numbered_query_at file number name)) f.files g.files
+      (λ file e. alike-query kept s.written (numbered_query_at file number name) (and_then-ok (file_at file name) (numbered_query_in number) bytes e ∙ numbered_query_in-query number bytes s.written s.stands) s.alike) first
+
+  pub no_numbered : (bytes : List ℕ) (fault : QueryFault) → IsTold bytes fault → Comes (λ file. file_at file name) f g (Ok bytes)
+      → Follows (λ file kept. AreAlike kept (numbered_query_at file number name)) f g (Err (numbered_query_refusal number fault))
+  no_numbered bytes (query.At line kind) e first =
+      found-map (λ file. file_at file name ≡ Ok bytes) (λ file. AreAlike (Err (refusal.QueryOf number line kind)) (numbered_query_at file number name)) f.files g.files
+      (λ file is. alike-refusal (refusal.QueryOf number line kind) (numbered_query_at file number name) (and_then-ok (file_at file name) (numbered_query_in number) bytes is ∙ numbered_query_in-fault number bytes line kind e)) first
+  no_numbered bytes query.NoMemory e first = tt

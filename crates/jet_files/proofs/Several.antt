@@ -1,15 +1,16 @@
 -- Files read one after another.
-use Rattle.std.proofs.Common.{◌≡◌, ◌∙◌, ap, sym, subst, ℕ, ◌<◌, ◌≤◌, ◌+◌, List, length, map, take, drop, get_or, ◌∷◌, ◌++◌, [], append_assoc, take-append-drop, Option, Result, Ok, Err, Bor, Vec}
+use Rattle.std.proofs.Common.{◌≡◌, ◌∙◌, ap, sym, refl, subst, arith, ℕ, ◌<◌, ◌≤◌, ◌+◌, List, length, map, take, drop, get_or, ◌∷◌, ◌++◌, [], append_assoc, take-append-drop, Option, Result, Ok, Err, Bor, Vec}
 use Rattle.std.specs.declared.alloc.Global.{Global}
-use Rattle.std.proofs.lemmas.List.{take_more, map-append}
+use Rattle.std.proofs.lemmas.List.{take_more, map-append, length-map, length-take}
 use Rattle.outer_io.specs.Tells.{Tells, Gains, GainsPrefix}
 use Rattle.outer_io.specs.Files.{Text}
 use Rattle.outer_io.specs.Shown.{StoreShown}
 use Rattle.outer_io.proofs.TellsLemmas.{tells-map, tells-gains, gains-prefix}
 use Rattle.jet_refusal.specs.declared.refusal.Refusal.{Refusal}
-use Rattle.jet_model.specs.Contents.{file_at, inputs_at}
-use Rattle.jet_model.proofs.Files.{inputs_at-push, inputs_at-stops}
-use Rattle.jet_files.specs.Outcome.{Follows, Comes}
+use Rattle.report_model.specs.Query.{Query, Alike}
+use Rattle.jet_model.specs.Contents.{Contents, file_at, inputs_at, numbered_query_at, queries_at}
+use Rattle.jet_model.proofs.Files.{each-push, each-stops}
+use Rattle.jet_files.specs.Outcome.{Follows, Comes, AskAlike, IsKeptFor, AreAlike, AreAllAlike}
 use Rattle.jet_files.proofs.Composing.{Keeps, found-then, follows-then, follows-stops}
 
 -- the names that are lent
@@ -48,7 +49,7 @@ inputs_more names i d inputs more input f g h inside e found keeps next =
     subst (λ (w : List Text). Comes (λ file. inputs_at file w) f h (Ok (items_of more))) (texts-more names i d inside)
     (subst (λ (w : List (List ℕ)). Comes (λ file. inputs_at file (front ++ x ∷ [])) f h (Ok w)) (sym here)
     (found-then (λ file. inputs_at file front ≡ Ok contents) (λ file. file_at file x ≡ Ok input.items) (λ file. inputs_at file (front ++ x ∷ []) ≡ Ok (contents ++ input.items ∷ [])) f.files g.files h.files
-    (λ file one two. inputs_at-push file front x contents input.items one two) found keeps.files next))
+    (λ file one two. each-push (λ number. file_at file) 1 front x contents input.items one two) found keeps.files next))
 
 -- the first file that is refused
 pub inputs_stop : (names : List (Bor (List ℕ))) (i : ℕ) (d : Bor (List ℕ)) (contents : List (List ℕ)) (f g h : StoreShown) (r : Refusal)
@@ -63,7 +64,76 @@ inputs_stop names i d contents f g h r inside found keeps up next =
     subst (λ (whole : List Text). Comes (λ file. inputs_at file whole) f h (Err r)) (texts-split names i d inside)
     (follows-then (λ file answer. inputs_at file front ≡ answer) (λ file (answer : Result (List (List ℕ)) Refusal). file_at file x ≡ Err r)
     (λ file (answer : Result (List (List ℕ)) Refusal). inputs_at file (front ++ x ∷ rest) ≡ Err r) contents f g h
-    (λ file answer one two. inputs_at-stops file front x rest contents r one two) found keeps up (Err r) refused)
+    (λ file answer one two. each-stops (λ number. file_at file) 1 front x rest contents r one two) found keeps up (Err r) refused)
+
+-- ---- queries
+
+kept-is : {A : Type 0} (alike : A → A → Type 0) (kept : A) (found : Result A Refusal) → IsKeptFor alike (Ok kept) found → (written : A) × (found ≡ Ok written) × alike kept written
+kept-is alike kept (Ok written) h = (written, refl, h)
+kept-is alike kept (Err r) h = absurd h
+
+kept-refused : {A : Type 0} (alike : A → A → Type 0) (r : Refusal) (found : Result A Refusal) → IsKeptFor alike (Err r) found → found ≡ Err r
+kept-refused alike r (Ok written) h = absurd h
+kept-refused alike r (Err s) h = ap Err (sym h)
+
+keeps-ok : {A : Type 0} (alike : A → A → Type 0) (kept written : A) (found : Result A Refusal) → found ≡ Ok written → alike kept written → IsKeptFor alike (Ok kept) found
+keeps-ok alike kept written found e h = subst (λ (x : Result _ Refusal). IsKeptFor alike (Ok kept) x) (sym e) h
+
+keeps-err : {A : Type 0} (alike : A → A → Type 0) (r : Refusal) (found : Result A Refusal) → found ≡ Err r → IsKeptFor alike (Err r) found
+keeps-err alike r found e = subst (λ (x : Result _ Refusal). IsKeptFor alike (Err r) x) (sym e) refl
+
+ask-push : (kept written : List Query) (q w : Query) → AskAlike kept written → Alike q w → AskAlike (kept ++ q ∷ []) (written ++ w ∷ [])
+ask-push [] [] q w h a = (a, tt)
+ask-push [] (x ∷ xs) q w h a = absurd h
+ask-push (k ∷ ks) [] q w h a = absurd h
+ask-push (k ∷ ks) (x ∷ xs) q w h a = (h.0, ask-push ks xs q w h.1 a)
+
+texts-length : (names : List (Bor (List ℕ))) (i : ℕ) → i < length names → 1 + length (texts (take i names)) ≡ i + 1
+texts-length names i inside = omega (arith, length-map (λ (name : Bor (List ℕ)). name.now) (take i names), length-take i names, inside)
+
+-- the query of this number, by its place in the list
+numbered-there : (names : List (Bor (List ℕ))) (i : ℕ) (name : Text) (kept : Result Query Refusal) (file : Contents) → i < length names
+    → AreAlike kept (numbered_query_at file (i + 1) name) → AreAlike kept (numbered_query_at file (1 + length (texts (take i names))) name)
+numbered-there names i name kept file inside h = subst (λ (n : ℕ). AreAlike kept (numbered_query_at file n name)) (sym (texts-length names i inside)) h
+
+-- one more query
+pub queries_more : (names : List (Bor (List ℕ))) (i number : ℕ) (d : Bor (List ℕ)) (kept more : List Query) (q : Query) (f g h : StoreShown)
+    → i < length names → number ≡ i + 1 → more ≡ kept ++ q ∷ []
+    → Follows (λ file found. AreAllAlike found (queries_at file (texts (take i names)))) f g (Ok kept) → Keeps f g
+    → Follows (λ file found. AreAlike found (numbered_query_at file number (get_or names i d).now)) g h (Ok q)
+    → Follows (λ file found. AreAllAlike found (queries_at file (texts (take (i + 1) names)))) f h (Ok more)
+queries_more names i number d kept more q f g h inside n e found keeps next =
+    let front = texts (take i names) in
+    let x : Text = (get_or names i d).now in
+    subst (λ (w : List Text). Follows (λ file found. AreAllAlike found (queries_at file w)) f h (Ok more)) (texts-more names i d inside)
+    (subst (λ (w : List Query). Follows (λ file found. AreAllAlike found (queries_at file (front ++ x ∷ []))) f h (Ok w)) (sym e)
+    (found-then (λ file. AreAllAlike (Ok kept) (queries_at file front)) (λ file. AreAlike (Ok q) (numbered_query_at file number x)) (λ file. AreAllAlike (Ok (kept ++ q ∷ [])) (queries_at file (front ++ x ∷ []))) f.files g.files h.files
+    (λ file one two.
+    let a = kept-is AskAlike kept (queries_at file front) one in
+    let here = numbered-there names i x (Ok q) file inside (subst (λ (k : ℕ). AreAlike (Ok q) (numbered_query_at file k x)) n two) in
+    let b = kept-is Alike q (numbered_query_at file (1 + length front) x) here in
+    keeps-ok AskAlike (kept ++ q ∷ []) (a.0 ++ b.0 ∷ []) (queries_at file (front ++ x ∷ []))
+    (each-push (numbered_query_at file) 1 front x a.0 b.0 a.1 b.1) (ask-push kept a.0 q b.0 a.2 b.2)) found keeps.files next))
+
+-- the first query that is refused
+pub queries_stop : (names : List (Bor (List ℕ))) (i number : ℕ) (d : Bor (List ℕ)) (kept : List Query) (f g h : StoreShown) (r : Refusal)
+    → i < length names → number ≡ i + 1 → Follows (λ file found. AreAllAlike found (queries_at file (texts (take i names)))) f g (Ok kept) → Keeps f g → g.faults ≤ h.faults
+    → Follows (λ file found. AreAlike found (numbered_query_at file number (get_or names i d).now)) g h (Err r)
+    → Follows (λ file found. AreAllAlike found (queries_at file (texts names))) f h (Err r)
+queries_stop names i number d kept f g h r inside n found keeps up next =
+    let front = texts (take i names) in
+    let x : Text = (get_or names i d).now in
+    let rest = texts (drop (i + 1) names) in
+    let refused : Follows (λ file (answer : Result (List Query) Refusal). numbered_query_at file (1 + length front) x ≡ Err r) g h (Err r) =
+    follows-stops (λ file answer. AreAlike answer (numbered_query_at file number x)) (λ file (answer : Result (List Query) Refusal). numbered_query_at file (1 + length front) x ≡ Err r) g h r
+    (λ file e. kept-refused Alike r (numbered_query_at file (1 + length front) x) (numbered-there names i x (Err r) file inside (subst (λ (k : ℕ). AreAlike (Err r) (numbered_query_at file k x)) n e))) next in
+    subst (λ (whole : List Text). Follows (λ file answer. AreAllAlike answer (queries_at file whole)) f h (Err r)) (texts-split names i d inside)
+    (follows-then (λ file answer. AreAllAlike answer (queries_at file front)) (λ file (answer : Result (List Query) Refusal). numbered_query_at file (1 + length front) x ≡ Err r)
+    (λ file (answer : Result (List Query) Refusal). AreAllAlike (Err r) (queries_at file (front ++ x ∷ rest))) kept f g h
+    (λ file answer one two. let a = kept-is AskAlike kept (queries_at file front) one in
+    keeps-err AskAlike r (queries_at file (front ++ x ∷ rest)) (each-stops (numbered_query_at file) 1 front x rest a.0 r a.1 two)) found keeps up (Err r) refused)
+
+-- ---- names
 
 -- the names handed to the store, with one more
 pub opened_more : (names : List (Bor (List ℕ))) (i : ℕ) (d : Bor (List ℕ)) (a b c : Option (List Text))

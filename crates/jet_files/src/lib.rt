@@ -5,8 +5,10 @@
 
 mod inputs;
 mod opening;
+mod queries;
 mod reading;
 
 pub use inputs::open_inputs;
 pub use opening::{Program, Run, open_log, open_program, open_query, open_run};
+pub use queries::open_queries;
 pub use reading::{LONGEST_FILE, read_file};

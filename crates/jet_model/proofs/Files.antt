@@ -1,12 +1,12 @@
 -- What files come to. Crates above cite these lemmas.
-use Rattle.std.proofs.Common.{◌≡◌, ◌∙◌, ap, ap₂, refl, subst, ℕ, ◌≤◌, ◌<◌, ◌^◌, List, [], ◌∷◌, ◌++◌, Bool, true, false, nat_lt, length, map, Option, Some, Result, Ok, Err}
+use Rattle.std.proofs.Common.{◌≡◌, ◌∙◌, ap, ap₂, refl, sym, subst, arith, ℕ, suc, ◌+◌, ◌≤◌, ◌<◌, ◌^◌, List, [], ◌∷◌, ◌++◌, Bool, true, false, nat_lt, length, map, Option, Some, Result, Ok, Err}
 use Rattle.std.specs.Prelude.{if◌then◌else◌}
 use Rattle.std.specs.Option.{ok_or}
 use Rattle.std.proofs.lemmas.Bool.{le-ltb, lt-ltb}
 use Rattle.elf_model.specs.declared.ImageKind.{ImageKind}
 use Rattle.elf_model.specs.Image.{Image, image}
 use Rattle.log_model.specs.declared.LogKind.{LogKind}
-use Rattle.log_model.specs.Logs.{Log, log_text, IsLog}
+use Rattle.log_model.specs.Logs.{Log, IsLog, IsTextOf}
 use Rattle.log_model.specs.Reading.{log_of}
 use Rattle.report_model.specs.declared.QueryKind.{QueryKind}
 use Rattle.report_model.specs.Query.{Query}
@@ -14,9 +14,9 @@ use Rattle.report_model.specs.Grammar.{query}
 use Rattle.jet_refusal.specs.declared.refusal.Refusal.{Refusal}
 use Rattle.jet_refusal.specs.declared.refusal.Refusal.TheVariants as refusal
 use Rattle.jet_model.specs.Outcomes.{and_then, or_refused}
-use Rattle.jet_model.specs.Contents.{Contents, Program, Run, within_limit, if_bytes, program_in, log_in, query_in, file_at, program_at, log_at, query_at, run_at, inputs_at}
+use Rattle.jet_model.specs.Contents.{Contents, Program, Run, within_limit, if_bytes, program_in, log_in, query_in, numbered_query_in, file_at, program_at, log_at, query_at, run_at, each_in_order, inputs_at, numbered_query_at, queries_at}
 use Rattle.jet_model.specs.Headline.{IsShort, AreAllShort}
-use Rattle.jet_model.proofs.Bytes.{AreBytes, if_bytes-are, if_bytes-is_ok, log_text-bytes}
+use Rattle.jet_model.proofs.Bytes.{AreBytes, if_bytes-are, if_bytes-is_ok, text-bytes}
 use Rattle.log_model.proofs.Reading.{reads_log}
 use Rattle.log_model.proofs.Soundness.{log_read}
 use Rattle.jet_model.proofs.AndThen.{ok-one, and_then-ok, and_then-err, and_then-is_ok, or_refused-ok, or_refused-err, or_refused-is_ok, ok_or-is_ok}
@@ -98,14 +98,16 @@ log_in-log bytes log h e = log_in-bytes bytes h ∙ or_refused-ok log_refusal (l
 pub log_in-fault : (bytes : List ℕ) (kind : LogKind) (offset : ℕ) → AreBytes bytes → log_of bytes ≡ Err (kind, offset) → log_in bytes ≡ Err (refusal.Log kind offset)
 log_in-fault bytes kind offset h e = log_in-bytes bytes h ∙ or_refused-err log_refusal (log_of bytes) (kind, offset) e
 
-pub log_at-there : (file : Contents) (name : List ℕ) (log : Log) → file name ≡ Some (log_text log) → IsShort (file name) → IsLog log → log_at file name ≡ Ok log
-log_at-there file name log e short is_log =
-    and_then-ok (file_at file name) log_in (log_text log) (short_there file name (log_text log) e short)
-    ∙ log_in-log (log_text log) log (log_text-bytes log is_log) (reads_log (log_text log) log is_log refl)
+pub log_at-there : (file : Contents) (name bytes : List ℕ) (log : Log) → file name ≡ Some bytes → IsShort (file name) → IsLog log → IsTextOf log bytes → log_at file name ≡ Ok log
+log_at-there file name bytes log e short is_log is_text =
+    and_then-ok (file_at file name) log_in bytes (short_there file name bytes e short)
+    ∙ log_in-log bytes log (text-bytes log bytes is_log is_text) (reads_log bytes log is_log is_text)
 
 pub record IsLogAt (file : Contents) (name : List ℕ) (log : Log) : Type 0 where
-  pub there : file name ≡ Some (log_text log)
+  pub bytes : List ℕ
+  pub there : file name ≡ Some bytes
   pub is_log : IsLog log
+  pub is_text : IsTextOf log bytes
 
 pub log_at-is_ok : (file : Contents) (name : List ℕ) (log : Log) → log_at file name ≡ Ok log → IsLogAt file name log
 log_at-is_ok file name log h =
@@ -113,7 +115,7 @@ log_at-is_ok file name log h =
     let b = and_then-is_ok (if_bytes f.0) log_next log f.2 in
     let bytes = if_bytes-is_ok f.0 b.0 b.1 in
     let read = log_read b.0 log bytes.0 (or_refused-is_ok log_refusal (log_of b.0) log b.2) in
-    record { there = file_at-is_ok file name f.0 f.1 ∙ ap Some (bytes.1 ∙ read.1); is_log = read.0 }
+    record { bytes = b.0; there = file_at-is_ok file name f.0 f.1 ∙ ap Some bytes.1; is_log = read.0; is_text = read.1 }
 
 -- ---- a query
 
@@ -125,6 +127,15 @@ query_in-query bytes q e = or_refused-ok query_refusal (query bytes) q e
 
 pub query_in-fault : (bytes : List ℕ) (line : ℕ) (kind : QueryKind) → query bytes ≡ Err (line, kind) → query_in bytes ≡ Err (refusal.Query line kind)
 query_in-fault bytes line kind e = or_refused-err query_refusal (query bytes) (line, kind) e
+
+abbrev pub numbered_refusal : ℕ → ℕ × QueryKind → Refusal
+numbered_refusal number fault = refusal.QueryOf number fault.0 fault.1
+
+pub numbered_query_in-query : (number : ℕ) (bytes : List ℕ) (q : Query) → query bytes ≡ Ok q → numbered_query_in number bytes ≡ Ok q
+numbered_query_in-query number bytes q e = or_refused-ok (numbered_refusal number) (query bytes) q e
+
+pub numbered_query_in-fault : (number : ℕ) (bytes : List ℕ) (line : ℕ) (kind : QueryKind) → query bytes ≡ Err (line, kind) → numbered_query_in number bytes ≡ Err (refusal.QueryOf number line kind)
+numbered_query_in-fault number bytes line kind e = or_refused-err (numbered_refusal number) (query bytes) (line, kind) e
 
 pub query_at-there : (file : Contents) (name bytes : List ℕ) (q : Query) → file name ≡ Some bytes → IsShort (file name) → query bytes ≡ Ok q → query_at file name ≡ Ok q
 query_at-there file name bytes q e short is_query =
@@ -160,70 +171,131 @@ run_at-is_ok file program_name log_name run h =
     let l = and_then-is_ok (log_at file log_name) (λ l. Ok (record { program = p.0; log = l })) run p.2 in
     is_run file program_name log_name p.0 l.0 run p.1 l.1 (ok-one (run_next p.0 l.0) (record { program = p.0; log = l.0 }) run refl l.2)
 
--- ---- inputs
+-- ---- several files
 
 abbrev some_bytes : List ℕ → Option (List ℕ)
 some_bytes bytes = Some bytes
 
-abbrev inputs_next : List (List ℕ) → Result (List (List ℕ)) Refusal
-inputs_next inputs = Ok inputs
+abbrev ok_query : Query → Result Query (ℕ × QueryKind)
+ok_query q = Ok q
 
-same_list : (a b : List (List ℕ)) → inputs_next a ≡ Ok b → a ≡ b
-same_list a b h = cc
-
-first_is : (c : Option (List ℕ)) (cs ds : List (Option (List ℕ))) (d : Option (List ℕ)) → (c ∷ cs) ≡ (d ∷ ds) → (c ≡ d) × (cs ≡ ds)
+first_is : {X : Type 0} (c : X) (cs ds : List X) (d : X) → (c ∷ cs) ≡ (d ∷ ds) → (c ≡ d) × (cs ≡ ds)
 first_is c cs ds d e = (cc, cc)
 
--- the results of two lists are those of one
-abbrev joined : Result (List (List ℕ)) Refusal → Result (List (List ℕ)) Refusal → Result (List (List ℕ)) Refusal
-joined p q = and_then p (λ front. and_then q (λ rest. inputs_next (front ++ rest)))
+module _ {A : Type 0} where
+  abbrev ok_list : List A → Result (List A) Refusal
+  ok_list xs = Ok xs
 
-joined-cons : (p q : Result (List (List ℕ)) Refusal) (input : List ℕ) → and_then (joined p q) (λ inputs. inputs_next (input ∷ inputs)) ≡ joined (and_then p (λ inputs. inputs_next (input ∷ inputs))) q
-joined-cons (Ok front) (Ok rest) input = refl
-joined-cons (Ok front) (Err r) input = refl
-joined-cons (Err r) q input = refl
+  same_list : (a b : List A) → ok_list a ≡ Ok b → a ≡ b
+  same_list a b h = cc
 
-joined-nil : (q : Result (List (List ℕ)) Refusal) → q ≡ joined (Ok []) q
-joined-nil (Ok rest) = refl
-joined-nil (Err r) = refl
+  -- the results of two lists are those of one
+  abbrev joined : Result (List A) Refusal → Result (List A) Refusal → Result (List A) Refusal
+  joined p q = and_then p (λ front. and_then q (λ rest. ok_list (front ++ rest)))
 
-joined-first : (f : Result (List ℕ) Refusal) (p q w : Result (List (List ℕ)) Refusal) → w ≡ joined p q
-    → and_then f (λ input. and_then w (λ inputs. inputs_next (input ∷ inputs))) ≡ joined (and_then f (λ input. and_then p (λ inputs. inputs_next (input ∷ inputs)))) q
-joined-first (Ok input) p q w e = ap (λ (x : Result (List (List ℕ)) Refusal). and_then x (λ inputs. inputs_next (input ∷ inputs))) e ∙ joined-cons p q input
-joined-first (Err r) p q w e = refl
+  joined-cons : (p q : Result (List A) Refusal) (x : A) → and_then (joined p q) (λ xs. ok_list (x ∷ xs)) ≡ joined (and_then p (λ xs. ok_list (x ∷ xs))) q
+  joined-cons (Ok front) (Ok rest) x = refl
+  joined-cons (Ok front) (Err r) x = refl
+  joined-cons (Err r) q x = refl
+
+  joined-nil : (q : Result (List A) Refusal) → q ≡ joined (Ok []) q
+  joined-nil (Ok rest) = refl
+  joined-nil (Err r) = refl
+
+  joined-first : (f : Result A Refusal) (p q w : Result (List A) Refusal) → w ≡ joined p q
+      → and_then f (λ x. and_then w (λ xs. ok_list (x ∷ xs))) ≡ joined (and_then f (λ x. and_then p (λ xs. ok_list (x ∷ xs)))) q
+  joined-first (Ok x) p q w e = ap (λ (y : Result (List A) Refusal). and_then y (λ xs. ok_list (x ∷ xs))) e ∙ joined-cons p q x
+  joined-first (Err r) p q w e = refl
+
+  module _ (read : ℕ → List ℕ → Result A Refusal) where
+    each-append : (n : ℕ) (front rest : List (List ℕ)) → each_in_order read n (front ++ rest) ≡ joined (each_in_order read n front) (each_in_order read (n + length front) rest)
+    each-append n [] rest = joined-nil (each_in_order read n rest)
+    each-append n (name ∷ front) rest =
+        let m = length front in
+        let there : n + 1 + m ≡ n + suc m = omega arith in
+        joined-first (read n name) (each_in_order read (n + 1) front) (each_in_order read (n + suc m) rest) (each_in_order read (n + 1) (front ++ rest))
+        (each-append (n + 1) front rest ∙ ap (λ (k : ℕ). joined (each_in_order read (n + 1) front) (each_in_order read k rest)) there)
+
+    -- one more
+    pub each-push : (n : ℕ) (front : List (List ℕ)) (name : List ℕ) (xs : List A) (x : A) → each_in_order read n front ≡ Ok xs → read (n + length front) name ≡ Ok x
+        → each_in_order read n (front ++ name ∷ []) ≡ Ok (xs ++ x ∷ [])
+    each-push n front name xs x e f =
+        each-append n front (name ∷ []) ∙ ap₂ joined e (ap (λ (r : Result A Refusal). and_then r (λ y. ok_list (y ∷ []))) f)
+
+    -- the first that is refused
+    pub each-stops : (n : ℕ) (front : List (List ℕ)) (name : List ℕ) (rest : List (List ℕ)) (xs : List A) (r : Refusal) → each_in_order read n front ≡ Ok xs → read (n + length front) name ≡ Err r
+        → each_in_order read n (front ++ name ∷ rest) ≡ Err r
+    each-stops n front name rest xs r e f =
+        each-append n front (name ∷ rest)
+        ∙ ap₂ joined e (ap (λ (y : Result A Refusal). and_then y (λ x. and_then (each_in_order read (n + length front + 1) rest) (λ more. ok_list (x ∷ more)))) f)
 
 module _ (file : Contents) where
-  pub inputs_at-append : (front rest : List (List ℕ)) → inputs_at file (front ++ rest) ≡ joined (inputs_at file front) (inputs_at file rest)
-  inputs_at-append [] rest = joined-nil (inputs_at file rest)
-  inputs_at-append (name ∷ front) rest =
-      joined-first (file_at file name) (inputs_at file front) (inputs_at file rest) (inputs_at file (front ++ rest)) (inputs_at-append front rest)
+  abbrev read_input : ℕ → List ℕ → Result (List ℕ) Refusal
+  read_input number name = file_at file name
 
-  -- one more input
-  pub inputs_at-push : (front : List (List ℕ)) (name : List ℕ) (inputs : List (List ℕ)) (input : List ℕ) → inputs_at file front ≡ Ok inputs → file_at file name ≡ Ok input
-      → inputs_at file (front ++ name ∷ []) ≡ Ok (inputs ++ input ∷ [])
-  inputs_at-push front name inputs input e f =
-      inputs_at-append front (name ∷ []) ∙ ap₂ joined e (ap (λ (r : Result (List ℕ) Refusal). and_then r (λ x. inputs_next (x ∷ []))) f)
+  inputs-there : (n : ℕ) (names inputs : List (List ℕ)) → map file names ≡ map some_bytes inputs → AreAllShort file names → each_in_order read_input n names ≡ Ok inputs
+  inputs-there n [] [] e short = refl
+  inputs-there n [] (c ∷ cs) e short = cc
+  inputs-there n (name ∷ names) [] e short = cc
+  inputs-there n (name ∷ names) (c ∷ cs) e short =
+      let p = first_is (file name) (map file names) (map some_bytes cs) (Some c) e in
+      and_then-ok (file_at file name) (λ input. and_then (each_in_order read_input (n + 1) names) (λ inputs. Ok (input ∷ inputs))) c (short_there file name c p.0 short.0)
+      ∙ and_then-ok (each_in_order read_input (n + 1) names) (λ inputs. Ok (c ∷ inputs)) cs (inputs-there (n + 1) names cs p.1 short.1)
 
-  -- the first input that is refused
-  pub inputs_at-stops : (front : List (List ℕ)) (name : List ℕ) (rest inputs : List (List ℕ)) (r : Refusal) → inputs_at file front ≡ Ok inputs → file_at file name ≡ Err r
-      → inputs_at file (front ++ name ∷ rest) ≡ Err r
-  inputs_at-stops front name rest inputs r e f =
-      inputs_at-append front (name ∷ rest)
-      ∙ ap₂ joined e (ap (λ (x : Result (List ℕ) Refusal). and_then x (λ input. and_then (inputs_at file rest) (λ more. inputs_next (input ∷ more)))) f)
+  inputs-is_ok : (n : ℕ) (names inputs : List (List ℕ)) → each_in_order read_input n names ≡ Ok inputs → map file names ≡ map some_bytes inputs
+  inputs-is_ok n [] inputs h = ap (map some_bytes) (same_list [] inputs h)
+  inputs-is_ok n (name ∷ names) inputs h =
+      let f = and_then-is_ok (file_at file name) (λ input. and_then (each_in_order read_input (n + 1) names) (λ inputs. Ok (input ∷ inputs))) inputs h in
+      let r = and_then-is_ok (each_in_order read_input (n + 1) names) (λ inputs. Ok (f.0 ∷ inputs)) inputs f.2 in
+      ap₂ (λ (c : Option (List ℕ)) (cs : List (Option (List ℕ))). c ∷ cs) (file_at-is_ok file name f.0 f.1) (inputs-is_ok (n + 1) names r.0 r.1)
+      ∙ ap (map some_bytes) (same_list (f.0 ∷ r.0) inputs r.2)
 
   pub inputs_at-there : (names inputs : List (List ℕ)) → map file names ≡ map some_bytes inputs → AreAllShort file names → inputs_at file names ≡ Ok inputs
-  inputs_at-there [] [] e short = refl
-  inputs_at-there [] (c ∷ cs) e short = cc
-  inputs_at-there (name ∷ names) [] e short = cc
-  inputs_at-there (name ∷ names) (c ∷ cs) e short =
-      let p = first_is (file name) (map file names) (map some_bytes cs) (Some c) e in
-      and_then-ok (file_at file name) (λ input. and_then (inputs_at file names) (λ inputs. Ok (input ∷ inputs))) c (short_there file name c p.0 short.0)
-      ∙ and_then-ok (inputs_at file names) (λ inputs. Ok (c ∷ inputs)) cs (inputs_at-there names cs p.1 short.1)
+  inputs_at-there names inputs e short = inputs-there 1 names inputs e short
 
   pub inputs_at-is_ok : (names inputs : List (List ℕ)) → inputs_at file names ≡ Ok inputs → map file names ≡ map some_bytes inputs
-  inputs_at-is_ok [] inputs h = ap (map some_bytes) (same_list [] inputs h)
-  inputs_at-is_ok (name ∷ names) inputs h =
-      let f = and_then-is_ok (file_at file name) (λ input. and_then (inputs_at file names) (λ inputs. Ok (input ∷ inputs))) inputs h in
-      let r = and_then-is_ok (inputs_at file names) (λ inputs. Ok (f.0 ∷ inputs)) inputs f.2 in
-      ap₂ (λ (c : Option (List ℕ)) (cs : List (Option (List ℕ))). c ∷ cs) (file_at-is_ok file name f.0 f.1) (inputs_at-is_ok names r.0 r.1)
-      ∙ ap (map some_bytes) (same_list (f.0 ∷ r.0) inputs r.2)
+  inputs_at-is_ok names inputs h = inputs-is_ok 1 names inputs h
+
+  -- the texts of several queries are these, and the queries that they stand for
+  pub record AreQueriesAt (names texts : List (List ℕ)) (qs : List Query) : Type 0 where
+    pub there : map file names ≡ map some_bytes texts
+    pub are_queries : map query texts ≡ map ok_query qs
+
+  numbered-there : (n : ℕ) (name bytes : List ℕ) (q : Query) → file name ≡ Some bytes → IsShort (file name) → query bytes ≡ Ok q → numbered_query_at file n name ≡ Ok q
+  numbered-there n name bytes q e short is_query =
+      and_then-ok (file_at file name) (numbered_query_in n) bytes (short_there file name bytes e short) ∙ numbered_query_in-query n bytes q is_query
+
+  queries-there : (n : ℕ) (names texts : List (List ℕ)) (qs : List Query) → AreQueriesAt names texts qs → AreAllShort file names → each_in_order (numbered_query_at file) n names ≡ Ok qs
+  queries-there n [] [] [] are short = refl
+  queries-there n [] [] (q ∷ qs) are short = let e = are.are_queries in cc
+  queries-there n [] (t ∷ ts) qs are short = let e = are.there in cc
+  queries-there n (name ∷ names) [] qs are short = let e = are.there in cc
+  queries-there n (name ∷ names) (t ∷ ts) [] are short = let e = are.are_queries in cc
+  queries-there n (name ∷ names) (t ∷ ts) (q ∷ qs) are short =
+      let p = first_is (file name) (map file names) (map some_bytes ts) (Some t) are.there in
+      let i = first_is (query t) (map query ts) (map ok_query qs) (Ok q) are.are_queries in
+      and_then-ok (numbered_query_at file n name) (λ x. and_then (each_in_order (numbered_query_at file) (n + 1) names) (λ xs. Ok (x ∷ xs))) q (numbered-there n name t q p.0 short.0 i.0)
+      ∙ and_then-ok (each_in_order (numbered_query_at file) (n + 1) names) (λ xs. Ok (q ∷ xs)) qs (queries-there (n + 1) names ts qs (record { there = p.1; are_queries = i.1 }) short.1)
+
+  pub queries_at-there : (names texts : List (List ℕ)) (qs : List Query) → AreQueriesAt names texts qs → AreAllShort file names → queries_at file names ≡ Ok qs
+  queries_at-there names texts qs are short = queries-there 1 names texts qs are short
+
+  numbered-is_ok : (n : ℕ) (name : List ℕ) (q : Query) → numbered_query_at file n name ≡ Ok q → (bytes : List ℕ) × (file name ≡ Some bytes) × (query bytes ≡ Ok q)
+  numbered-is_ok n name q h =
+      let f = and_then-is_ok (file_at file name) (numbered_query_in n) q h in
+      (f.0, file_at-is_ok file name f.0 f.1, or_refused-is_ok (numbered_refusal n) (query f.0) q f.2)
+
+  queries-is_ok : (n : ℕ) (names : List (List ℕ)) (qs : List Query) → each_in_order (numbered_query_at file) n names ≡ Ok qs → (texts : List (List ℕ)) × AreQueriesAt names texts qs
+  queries-is_ok n [] qs h = ([], record { there = refl; are_queries = ap (map ok_query) (same_list [] qs h) })
+  queries-is_ok n (name ∷ names) qs h =
+      let f = and_then-is_ok (numbered_query_at file n name) (λ x. and_then (each_in_order (numbered_query_at file) (n + 1) names) (λ xs. Ok (x ∷ xs))) qs h in
+      let r = and_then-is_ok (each_in_order (numbered_query_at file) (n + 1) names) (λ xs. Ok (f.0 ∷ xs)) qs f.2 in
+      let first = numbered-is_ok n name f.0 f.1 in
+      let rest = queries-is_ok (n + 1) names r.0 r.1 in
+      (first.0 ∷ rest.0, record {
+        there = ap₂ (λ (c : Option (List ℕ)) (cs : List (Option (List ℕ))). c ∷ cs) first.1 rest.1.there;
+        are_queries = ap₂ (λ (c : Result Query (ℕ × QueryKind)) (cs : List (Result Query (ℕ × QueryKind))). c ∷ cs) first.2 rest.1.are_queries ∙ ap (map ok_query) (same_list (f.0 ∷ r.0) qs r.2);
+      })
+
+  pub queries_at-is_ok : (names : List (List ℕ)) (qs : List Query) → queries_at file names ≡ Ok qs → (texts : List (List ℕ)) × AreQueriesAt names texts qs
+  queries_at-is_ok names qs h = queries-is_ok 1 names qs h

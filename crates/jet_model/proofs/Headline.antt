@@ -1,30 +1,37 @@
 -- A text is what files come to exactly where it is the text said in one piece. Crates above cite these lemmas.
-use Rattle.std.proofs.Common.{◌≡◌, ◌∙◌, ap, sym, refl, subst, ℕ, ◌≤◌, ◌^◌, List, Bool, true, false, nat_lt, length, Option, Some, None, Result, Ok, Err}
+use Rattle.std.proofs.Common.{◌≡◌, ◌∙◌, ap, sym, refl, subst, arith, ℕ, ◌≤◌, ◌^◌, List, Bool, true, false, nat_lt, length, Option, Some, None, Result, Ok, Err}
 use Rattle.std.specs.Prelude.{if◌then◌else◌}
 use Rattle.std.specs.Option.{ok_or}
 use Rattle.std.specs.Str.{bytes_eq}
 use Rattle.std.proofs.lemmas.Slice.Eq.{bytes_eq-Decides}
-use Rattle.std.proofs.lemmas.Bool.{le-ltb}
+use Rattle.std.proofs.lemmas.Bool.{le-ltb, ltb-false}
 use Rattle.isa.specs.Machine.{State}
 use Rattle.elf_model.specs.declared.ImageKind.{ImageKind}
 use Rattle.elf_model.specs.Image.{Image, image}
 use Rattle.elf_model.specs.Window.{start_of}
-use Rattle.log_model.specs.Logs.{Log, log_text}
+use Rattle.log_model.specs.declared.Version.TheVariants.{Two}
+use Rattle.log_model.specs.Logs.{Log, IsLog, log_text}
+use Rattle.log_model.specs.Reading.{log_of}
+use Rattle.log_model.proofs.Reading.{reads_log}
+use Rattle.flow_model.specs.declared.Rule.{Rule}
+use Rattle.flow_model.specs.declared.StepSeen.{StepSeen}
 use Rattle.report_model.specs.Query.{Query}
+use Rattle.report_model.specs.Together.{first_other_rule}
 use Rattle.replay_model.specs.declared.Divergence.{Divergence}
+use Rattle.replay_model.specs.Run.{trace}
 use Rattle.replay_model.specs.Comparison.{divergence}
 use Rattle.replay_model.specs.Fits.{Fits, beginning, start_in_image}
 use Rattle.sha2.specs.Sha256.{sha256}
 use Rattle.jet_refusal.specs.declared.refusal.Refusal.{Refusal}
 use Rattle.jet_refusal.specs.declared.refusal.Refusal.TheVariants as refusal
 use Rattle.jet_model.specs.Outcomes.{and_then}
-use Rattle.jet_model.specs.Contents.{Contents, Names, Program, Run, program_at, query_at, run_at, inputs_at}
-use Rattle.jet_model.specs.Report.{run_report, report_from}
-use Rattle.jet_model.specs.Answer.{digest_check, start_in, unless_diverged, fitting_start, report_answer, query_answer, text_answer, log_answer, Limits, Source, source_at, setting_of, limited_text, IsCaptured, IsCaptureAnswer, IsRecordAnswer}
-use Rattle.jet_model.specs.Headline.{IsReportOf, IsGivenBy, IsRecordingOf, IsShort, AreShort, AreAllShort}
+use Rattle.jet_model.specs.Contents.{Contents, Names, Program, Run, program_at, query_at, queries_at, run_at, inputs_at}
+use Rattle.jet_model.specs.Report.{reports_of, text_from, text_over}
+use Rattle.jet_model.specs.Answer.{digest_check, start_in, unless_diverged, fitting_start, traced_answer, query_answer, unless_other_rule, rules_check, queries_answer, text_answer, log_answer, capped, limited_text, convert_answer, Limits, Source, source_at, setting_of, IsCaptured, IsCaptureAnswer, IsRecordAnswer}
+use Rattle.jet_model.specs.Headline.{IsRunOf, IsGivenByQuery, AreReportsOf, IsGivenBy, IsConversionOf, IsRecordingOf, IsShort, AreShort, AreAllShort}
 use Rattle.jet_model.proofs.AndThen.{ok-one, and_then-ok, and_then-is_ok, AndThen-ok, AndThen-is_ok, AndThen-one, ok_or-is_ok}
 use Rattle.record_model.proofs.Unique.{one_recording}
-use Rattle.jet_model.proofs.Files.{program_at-there, program_at-is_ok, log_at-there, log_at-is_ok, query_at-there, query_at-is_ok, run_at-there, run_at-is_ok, inputs_at-there, inputs_at-is_ok}
+use Rattle.jet_model.proofs.Files.{program_at-there, program_at-is_ok, log_at-there, log_at-is_ok, query_at-there, query_at-is_ok, queries_at-there, queries_at-is_ok, run_at-there, run_at-is_ok, inputs_at-there, inputs_at-is_ok}
 
 abbrev ok_text : List ℕ → Result (List ℕ) Refusal
 ok_text text = Ok text
@@ -82,50 +89,135 @@ fitting_start-fits program log f im begins =
     ∙ and_then-ok (start_in im log.pages) (λ s. unless_diverged s (divergence s log)) f.start (start_there im log.pages f.start begins)
     ∙ ap (unless_diverged f.start) f.agrees
 
+-- ---- a program and a log
+
+-- the run of the two files, once they are read, and the state that it begins in
+record IsFittingRun (file : Contents) (program_name log_name : List ℕ) (run : Run) (start : State) : Type 0 where
+  the_run : IsRunOf file program_name log_name run.program.bytes run.log
+  start_is : the_run.fits.start ≡ start
+
+fitting_run : (file : Contents) (program_name log_name : List ℕ) (run : Run) (start : State) → run_at file program_name log_name ≡ Ok run → fitting_start run.program run.log ≡ Ok start
+    → IsFittingRun file program_name log_name run start
+fitting_run file program_name log_name run start h k =
+    let files = run_at-is_ok file program_name log_name run h in
+    let p = program_at-is_ok file program_name run.program files.program in
+    let l = log_at-is_ok file log_name run.log files.log in
+    let f = fits_from run.program run.log start p.is_image k in
+    record {
+      the_run = record { bytes = l.bytes; program_file = p.there; log_file = l.there; is_log = l.is_log; is_text = l.is_text; fits = f.0 };
+      start_is = f.1;
+    }
+
+-- what the two files are read as
+record IsReadAs (file : Contents) (program_name log_name : List ℕ) (program : List ℕ) (log : Log) (start : State) : Type 0 where
+  run : Run
+  is_read : run_at file program_name log_name ≡ Ok run
+  same_log : run.log ≡ log
+  begins : fitting_start run.program run.log ≡ Ok start
+
+read_run : (file : Contents) (program_name log_name program : List ℕ) (log : Log) → IsShort (file program_name) → IsShort (file log_name) → (r : IsRunOf file program_name log_name program log)
+    → IsReadAs file program_name log_name program log r.fits.start
+read_run file program_name log_name program log short short_log r =
+    let b = begins_in_image program log r.fits in
+    let p : Program = record { bytes = program; image = b.im } in
+    record {
+      run = record { program = p; log = log };
+      is_read = run_at-there file program_name log_name p log
+          (program_at-there file program_name program b.im r.program_file short b.is_image) (log_at-there file log_name r.bytes log r.log_file short_log r.is_log r.is_text);
+      same_log = refl;
+      begins = fitting_start-fits program log r.fits b.im b.begins;
+    }
+
+-- ---- a text over the trace
+
+abbrev Text : Type 0
+Text = List StepSeen → List ℕ
+
+over_run : (program : List ℕ) (log : Log) (f : Fits program log) (given : Text) → given (trace f.start log) ≡ text_over program log given
+over_run program log f given = ap (λ (s : Option State). text_from s log given) (sym f.begins)
+
+is_over : (program : List ℕ) (log : Log) (given : Text) (f : Fits program log) (start : State) (text : List ℕ) → f.start ≡ start → text ≡ given (trace start log)
+    → text ≡ text_over program log given
+is_over program log given f start text same e =
+    e ∙ ap (λ (s : State). given (trace s log)) (sym same) ∙ over_run program log f given
+
+traced : (run : Run) (start : State) (given : Text) → fitting_start run.program run.log ≡ Ok start → traced_answer run given ≡ Ok (given (trace start run.log))
+traced run start given e = and_then-ok (fitting_start run.program run.log) (λ s. Ok (given (trace s run.log))) start e
+
 -- ---- a query
 
-is_report : (program : List ℕ) (log : Log) (q : Query) (f : Fits program log) (start : State) (text : List ℕ) → f.start ≡ start → text ≡ run_report start log q
-    → text ≡ report_from (beginning program log) log q
-is_report program log q f start text same e =
-    e ∙ ap (λ (s : State). run_report s log q) (sym same) ∙ ap (λ (s : Option State). report_from s log q) (sym f.begins)
-
-pub answer-is_report : (file : Contents) (names : Names) (text : List ℕ) → query_answer file names ≡ Ok text → IsReportOf file names text
-answer-is_report file names text h =
-    let r = and_then-is_ok (run_at file names.program names.log) (λ run. and_then (query_at file names.query) (λ q. report_answer run q)) text h in
+pub answer-is_given : (given : Query → Text) (file : Contents) (names : Names) (text : List ℕ) → query_answer given file names ≡ Ok text → IsGivenByQuery given file names text
+answer-is_given given file names text h =
+    let r = and_then-is_ok (run_at file names.program names.log) (λ run. and_then (query_at file names.query) (λ q. traced_answer run (given q))) text h in
     let run = r.0 in
-    let q = and_then-is_ok (query_at file names.query) (λ q. report_answer run q) text r.2 in
-    let s = and_then-is_ok (fitting_start run.program run.log) (λ start. Ok (run_report start run.log q.0)) text q.2 in
-    let files = run_at-is_ok file names.program names.log run r.1 in
-    let p = program_at-is_ok file names.program run.program files.program in
-    let l = log_at-is_ok file names.log run.log files.log in
+    let q = and_then-is_ok (query_at file names.query) (λ q. traced_answer run (given q)) text r.2 in
+    let s = and_then-is_ok (fitting_start run.program run.log) (λ start. Ok (given q.0 (trace start run.log))) text q.2 in
+    let found = fitting_run file names.program names.log run s.0 r.1 s.1 in
     let found_query = query_at-is_ok file names.query q.0 q.1 in
-    let f = fits_from run.program run.log s.0 p.is_image s.1 in
     record {
       program = run.program.bytes;
       log = run.log;
+      run = found.the_run;
       query_text = found_query.0;
       the_query = q.0;
-      program_file = p.there;
-      log_file = l.there;
       query_file = found_query.1;
-      is_log = l.is_log;
       is_query = found_query.2;
-      fits = f.0;
-      reports = is_report run.program.bytes run.log q.0 f.0 s.0 text f.1 (sym (ok_same _ _ s.2));
+      gives = is_over run.program.bytes run.log (given q.0) found.the_run.fits s.0 text found.start_is (sym (ok_same _ _ s.2));
     }
 
-pub report-is_answer : (file : Contents) (names : Names) (text : List ℕ) → AreShort file names → IsReportOf file names text → query_answer file names ≡ Ok text
-report-is_answer file names text short r =
-    let b = begins_in_image r.program r.log r.fits in
-    let p : Program = record { bytes = r.program; image = b.im } in
-    let run : Run = record { program = p; log = r.log } in
-    and_then-ok (run_at file names.program names.log) (λ x. and_then (query_at file names.query) (λ q. report_answer x q)) run
-    (run_at-there file names.program names.log p r.log
-    (program_at-there file names.program r.program b.im r.program_file short.program b.is_image) (log_at-there file names.log r.log r.log_file short.log r.is_log))
-    ∙ and_then-ok (query_at file names.query) (λ q. report_answer run q) r.the_query (query_at-there file names.query r.query_text r.the_query r.query_file short.query r.is_query)
-    ∙ and_then-ok (fitting_start p r.log) (λ start. Ok (run_report start r.log r.the_query)) r.fits.start (fitting_start-fits r.program r.log r.fits b.im b.begins)
-    ∙ ap (λ (s : Option State). Ok (report_from s r.log r.the_query)) (sym r.fits.begins)
-    ∙ ap Ok (sym r.reports)
+pub given-is_answer : (given : Query → Text) (file : Contents) (names : Names) (text : List ℕ) → AreShort file names → IsGivenByQuery given file names text → query_answer given file names ≡ Ok text
+given-is_answer given file names text short g =
+    let r = read_run file names.program names.log g.program g.log short.program short.log g.run in
+    let start = g.run.fits.start in
+    and_then-ok (run_at file names.program names.log) (λ x. and_then (query_at file names.query) (λ q. traced_answer x (given q))) r.run r.is_read
+    ∙ and_then-ok (query_at file names.query) (λ q. traced_answer r.run (given q)) g.the_query (query_at-there file names.query g.query_text g.the_query g.query_file short.query g.is_query)
+    ∙ traced r.run start (given g.the_query) r.begins
+    ∙ ap (λ (l : Log). ok_text (given g.the_query (trace start l))) r.same_log
+    ∙ ap ok_text (over_run g.program g.log g.run.fits (given g.the_query) ∙ sym g.gives)
+
+-- ---- several queries
+
+rules-is_ok : (o : Option (Rule × ℕ × Rule)) (same : Unit {0}) → unless_other_rule o ≡ Ok same → o ≡ None
+rules-is_ok None same h = refl
+rules-is_ok (Some x) same h = cc
+
+rules-one : (qs : List Query) → first_other_rule qs ≡ None → rules_check qs ≡ Ok tt
+rules-one qs e = ap unless_other_rule e
+
+pub reports-are_given : (file : Contents) (program log : List ℕ) (names : List (List ℕ)) (text : List ℕ) → queries_answer file program log names ≡ Ok text → AreReportsOf file program log names text
+reports-are_given file program log names text h =
+    let r = and_then-is_ok (run_at file program log) (λ run. and_then (queries_at file names) (λ qs. and_then (rules_check qs) (λ same. traced_answer run (reports_of qs)))) text h in
+    let run = r.0 in
+    let q = and_then-is_ok (queries_at file names) (λ qs. and_then (rules_check qs) (λ same. traced_answer run (reports_of qs))) text r.2 in
+    let one = and_then-is_ok (rules_check q.0) (λ same. traced_answer run (reports_of q.0)) text q.2 in
+    let s = and_then-is_ok (fitting_start run.program run.log) (λ start. Ok (reports_of q.0 (trace start run.log))) text one.2 in
+    let found = fitting_run file program log run s.0 r.1 s.1 in
+    let found_queries = queries_at-is_ok file names q.0 q.1 in
+    record {
+      program = run.program.bytes;
+      log = run.log;
+      run = found.the_run;
+      query_texts = found_queries.0;
+      the_queries = q.0;
+      query_files = found_queries.1.there;
+      are_queries = found_queries.1.are_queries;
+      one_rule = rules-is_ok (first_other_rule q.0) one.0 one.1;
+      gives = is_over run.program.bytes run.log (reports_of q.0) found.the_run.fits s.0 text found.start_is (sym (ok_same _ _ s.2));
+    }
+
+pub given-are_reports : (file : Contents) (program log : List ℕ) (names : List (List ℕ)) (text : List ℕ) → IsShort (file program) → IsShort (file log) → AreAllShort file names
+    → AreReportsOf file program log names text → queries_answer file program log names ≡ Ok text
+given-are_reports file program log names text short short_log all g =
+    let r = read_run file program log g.program g.log short short_log g.run in
+    let start = g.run.fits.start in
+    let qs = g.the_queries in
+    and_then-ok (run_at file program log) (λ x. and_then (queries_at file names) (λ qs. and_then (rules_check qs) (λ same. traced_answer x (reports_of qs)))) r.run r.is_read
+    ∙ and_then-ok (queries_at file names) (λ qs. and_then (rules_check qs) (λ same. traced_answer r.run (reports_of qs))) qs
+    (queries_at-there file names g.query_texts qs (record { there = g.query_files; are_queries = g.are_queries }) all)
+    ∙ and_then-ok (rules_check qs) (λ same. traced_answer r.run (reports_of qs)) tt (rules-one qs g.one_rule)
+    ∙ traced r.run start (reports_of qs) r.begins
+    ∙ ap (λ (l : Log). ok_text (reports_of qs (trace start l))) r.same_log
+    ∙ ap ok_text (over_run g.program g.log g.run.fits (reports_of qs) ∙ sym g.gives)
 
 -- ---- a text that a log gives
 
@@ -134,45 +226,66 @@ log_answer-is_given file program log given text h =
     let r = and_then-is_ok (run_at file program log) (λ run. text_answer run given) text h in
     let run = r.0 in
     let s = and_then-is_ok (fitting_start run.program run.log) (λ start. Ok (given run.log)) text r.2 in
-    let files = run_at-is_ok file program log run r.1 in
-    let p = program_at-is_ok file program run.program files.program in
-    let l = log_at-is_ok file log run.log files.log in
-    let f = fits_from run.program run.log s.0 p.is_image s.1 in
-    record {
-      program = run.program.bytes;
-      log = run.log;
-      program_file = p.there;
-      log_file = l.there;
-      is_log = l.is_log;
-      fits = f.0;
-      gives = sym (ok_same _ _ s.2);
-    }
+    let found = fitting_run file program log run s.0 r.1 s.1 in
+    record { program = run.program.bytes; log = run.log; run = found.the_run; gives = sym (ok_same _ _ s.2) }
 
 pub given-is_log_answer : (file : Contents) (program log : List ℕ) (given : Log → List ℕ) (text : List ℕ) → IsShort (file program) → IsShort (file log) → IsGivenBy file program log given text
     → log_answer file program log given ≡ Ok text
 given-is_log_answer file program log given text short short_log g =
-    let b = begins_in_image g.program g.log g.fits in
-    let p : Program = record { bytes = g.program; image = b.im } in
-    let run : Run = record { program = p; log = g.log } in
-    and_then-ok (run_at file program log) (λ x. text_answer x given) run
-    (run_at-there file program log p g.log
-    (program_at-there file program g.program b.im g.program_file short b.is_image) (log_at-there file log g.log g.log_file short_log g.is_log))
-    ∙ and_then-ok (fitting_start p g.log) (λ start. Ok (given g.log)) g.fits.start (fitting_start-fits g.program g.log g.fits b.im b.begins)
-    ∙ ap Ok (sym g.gives)
+    let r = read_run file program log g.program g.log short short_log g.run in
+    and_then-ok (run_at file program log) (λ x. text_answer x given) r.run r.is_read
+    ∙ and_then-ok (fitting_start r.run.program r.run.log) (λ start. Ok (given r.run.log)) g.run.fits.start r.begins
+    ∙ ap (λ (l : Log). ok_text (given l)) r.same_log
+    ∙ ap ok_text (sym g.gives)
+
+-- ---- a log that is written
+
+pub limited-is_ok : (log : Log) (text : List ℕ) → ok_text text ≡ limited_text log → (text ≡ log_text Two log) × (length text ≤ 2 ^ 26)
+limited-is_ok log text h = by (nat_lt (2 ^ 26) (length (log_text Two log))) refl h where
+  by : (b : Bool) → nat_lt (2 ^ 26) (length (log_text Two log)) ≡ b → ok_text text ≡ (if b then Err (refusal.LogTooLong (capped (length (log_text Two log)))) else Ok (log_text Two log))
+      → (text ≡ log_text Two log) × (length text ≤ 2 ^ 26)
+  by true e r = cc
+  by false e r =
+      let same : text ≡ log_text Two log = cc in
+      (same, subst (λ (t : List ℕ). length t ≤ 2 ^ 26) (sym same) (ltb-false (2 ^ 26) (length (log_text Two log)) e))
+
+pub limited-short : (log : Log) (text : List ℕ) → length text ≤ 2 ^ 26 → text ≡ log_text Two log → ok_text text ≡ limited_text log
+limited-short log text short e =
+    let fits : length (log_text Two log) ≤ 2 ^ 26 = subst (λ (t : List ℕ). length t ≤ 2 ^ 26) e short in
+    ap ok_text e
+    ∙ sym (ap (λ (b : Bool). if b then Err (refusal.LogTooLong (capped (length (log_text Two log)))) else ok_text (log_text Two log)) (le-ltb (2 ^ 26) (length (log_text Two log)) fits))
+
+-- ---- conversions
+
+-- a log that fits is read from its text in version 2
+fitting-is_read : (log : Log) (program text : List ℕ) → IsLog log → Fits program log → text ≡ log_text Two log → length text ≤ 2 ^ 26 → log_of text ≡ Ok log
+fitting-is_read log program text is_log fits e short =
+    let size : length (log_text Two log) ≤ 2 ^ 27 = omega (arith, ap length e, short) in
+    reads_log text log is_log (record { version = Two; held = fitting_is_held fits.start log is_log fits.agrees size; spelt = e })
+
+pub given-is_conversion : (file : Contents) (program log text : List ℕ) → IsGivenBy file program log (log_text Two) text → length text ≤ 2 ^ 26 → IsConversionOf file program log text
+given-is_conversion file program log text g short =
+    record { given = g; same = fitting-is_read g.log g.program text g.run.is_log g.run.fits g.gives short }
+
+pub convert-is_given : (file : Contents) (program log text : List ℕ) → convert_answer file program log ≡ Ok text → IsConversionOf file program log text
+convert-is_given file program log text h =
+    let r = and_then-is_ok (run_at file program log) (λ run. and_then (fitting_start run.program run.log) (λ start. limited_text run.log)) text h in
+    let run = r.0 in
+    let s = and_then-is_ok (fitting_start run.program run.log) (λ start. limited_text run.log) text r.2 in
+    let found = fitting_run file program log run s.0 r.1 s.1 in
+    let limited = limited-is_ok run.log text (sym s.2) in
+    given-is_conversion file program log text (record { program = run.program.bytes; log = run.log; run = found.the_run; gives = limited.0 }) limited.1
+
+pub given-is_convert : (file : Contents) (program log text : List ℕ) → IsShort (file program) → IsShort (file log) → length text ≤ 2 ^ 26 → IsGivenBy file program log (log_text Two) text
+    → convert_answer file program log ≡ Ok text
+given-is_convert file program log text short short_log fits g =
+    let r = read_run file program log g.program g.log short short_log g.run in
+    and_then-ok (run_at file program log) (λ run. and_then (fitting_start run.program run.log) (λ start. limited_text run.log)) r.run r.is_read
+    ∙ and_then-ok (fitting_start r.run.program r.run.log) (λ start. limited_text r.run.log) g.run.fits.start r.begins
+    ∙ ap limited_text r.same_log
+    ∙ sym (limited-short g.log text fits g.gives)
 
 -- ---- recordings
-
-limited-is_ok : (log : Log) (text : List ℕ) → ok_text text ≡ limited_text log → text ≡ log_text log
-limited-is_ok log text h = by (nat_lt (2 ^ 26) (length (log_text log))) h where
-  by : (b : Bool) → ok_text text ≡ (if b then Err (refusal.LogTooLong (length (log_text log))) else Ok (log_text log)) → text ≡ log_text log
-  by true e = cc
-  by false e = cc
-
-limited-short : (log : Log) (text : List ℕ) → length text ≤ 2 ^ 26 → text ≡ log_text log → ok_text text ≡ limited_text log
-limited-short log text short e =
-    let fits : length (log_text log) ≤ 2 ^ 26 = subst (λ (t : List ℕ). length t ≤ 2 ^ 26) e short in
-    ap ok_text e
-    ∙ sym (ap (λ (b : Bool). if b then Err (refusal.LogTooLong (length (log_text log))) else ok_text (log_text log)) (le-ltb (2 ^ 26) (length (log_text log)) fits))
 
 abbrev source_next : Program → List (List ℕ) → Result Source Refusal
 source_next p inputs = Ok (record { program = p; inputs = inputs })
@@ -205,7 +318,7 @@ record_answer-is_recording file program inputs limits answers text h =
       program_file = p.there;
       input_files = inputs_at-is_ok file inputs source.inputs found.the_inputs;
       recorded = captured.recorded;
-      gives = limited-is_ok captured.log text captured.text;
+      gives = (limited-is_ok captured.log text captured.text).0;
     }
 
 pub recording-is_record_answer : (file : Contents) (program : List ℕ) (inputs : List (List ℕ)) (limits : Limits) (answers text : List ℕ) → IsShort (file program) → AreAllShort file inputs → length text ≤ 2 ^ 26
@@ -220,6 +333,11 @@ recording-is_record_answer file program inputs limits answers text short all fit
     ∙ and_then-ok (inputs_at file inputs) (λ contents. source_next p contents) r.inputs (inputs_at-there file inputs r.inputs r.input_files all))
     (AndThen-ok (start_in b.im limits.pages) (λ start. IsCaptured (setting_of source limits) answers) r.recorded.fits.start (Ok text) (start_there b.im limits.pages r.recorded.fits.start begins)
     (record { log = r.log; recorded = r.recorded; text = limited-short r.log text fits r.gives }))
+
+-- the text of a recording is read as its log
+pub recording-is_read : (file : Contents) (program : List ℕ) (inputs : List (List ℕ)) (limits : Limits) (answers text : List ℕ) → length text ≤ 2 ^ 26
+    → (r : IsRecordingOf file program inputs limits answers text) → log_of text ≡ Ok r.log
+recording-is_read file program inputs limits answers text short r = fitting-is_read r.log r.program text r.recorded.is_log r.recorded.fits r.gives short
 
 one_captured : (source : Source) (limits : Limits) (answers : List ℕ) (a b : Result (List ℕ) Refusal) → IsCaptured (setting_of source limits) answers a → IsCaptured (setting_of source limits) answers b → a ≡ b
 one_captured source limits answers a b g h =

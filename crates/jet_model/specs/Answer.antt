@@ -1,12 +1,17 @@
 -- What the files of a command come to: the text that it writes, or the first refusal.
-use Rattle.std.specs.Prelude.{◌≡◌, ℕ, ◌^◌, nat_lt, if◌then◌else◌, List, length, Option, Some, None, Result, Ok, Err}
+use Rattle.std.specs.Prelude.{◌≡◌, ℕ, ◌-◌, ◌^◌, nat_lt, min, if◌then◌else◌, List, length, Option, Some, None, Result, Ok, Err}
 use Rattle.std.specs.Option.{ok_or}
 use Rattle.std.specs.Str.{bytes_eq}
 use Rattle.isa.specs.Machine.{State}
 use Rattle.elf_model.specs.Image.{Image}
 use Rattle.elf_model.specs.Window.{start_of}
+use Rattle.log_model.specs.declared.Version.TheVariants.{Two}
 use Rattle.log_model.specs.Logs.{Log, log_text}
+use Rattle.flow_model.specs.declared.Rule.{Rule}
+use Rattle.flow_model.specs.declared.StepSeen.{StepSeen}
 use Rattle.report_model.specs.Query.{Query}
+use Rattle.report_model.specs.Together.{first_other_rule}
+use Rattle.replay_model.specs.Run.{trace}
 use Rattle.replay_model.specs.declared.Divergence.{Divergence}
 use Rattle.replay_model.specs.Comparison.{divergence}
 use Rattle.record_model.specs.Recorded.{Setting, IsRecorded}
@@ -14,8 +19,8 @@ use Rattle.sha2.specs.Sha256.{sha256}
 use Rattle.jet_refusal.specs.declared.refusal.Refusal.{Refusal}
 use Rattle.jet_refusal.specs.declared.refusal.Refusal.TheVariants as refusal
 use Rattle.jet_model.specs.Outcomes.{and_then, AndThen}
-use Rattle.jet_model.specs.Report.{run_report}
-use Rattle.jet_model.specs.Contents.{Contents, Names, Program, Run, program_at, query_at, run_at, inputs_at}
+use Rattle.jet_model.specs.Report.{reports_of}
+use Rattle.jet_model.specs.Contents.{Contents, Names, Program, Run, program_at, query_at, queries_at, run_at, inputs_at}
 
 -- ---- a log that fits its program
 
@@ -40,19 +45,36 @@ fitting_start program log =
     and_then (start_in program.image log.pages) (λ start.
     unless_diverged start (divergence start log)))
 
--- ---- what a program, a log and a query come to
+-- ---- what a program, a log and queries come to
 
--- the report of a query over the run
-abbrev pub report_answer : Run → Query → Result (List ℕ) Refusal
-report_answer run q =
+-- a text that is made of the run's trace
+abbrev pub traced_answer : Run → (List StepSeen → List ℕ) → Result (List ℕ) Refusal
+traced_answer run text =
     and_then (fitting_start run.program run.log) (λ start.
-    Ok (run_report start run.log q))
+    Ok (text (trace start run.log)))
 
-abbrev pub query_answer : Contents → Names → Result (List ℕ) Refusal
-query_answer file names =
+-- the text that a query gives of a trace, as `report_of` or `influence_of`
+abbrev pub query_answer : (Query → List StepSeen → List ℕ) → Contents → Names → Result (List ℕ) Refusal
+query_answer given file names =
     and_then (run_at file names.program names.log) (λ run.
     and_then (query_at file names.query) (λ q.
-    report_answer run q))
+    traced_answer run (given q)))
+
+abbrev pub unless_other_rule : Option (Rule × ℕ × Rule) → Result (Unit {0}) Refusal
+unless_other_rule None = Ok tt
+unless_other_rule (Some (first, index, other)) = Err (refusal.Rules first index other)
+
+-- several queries have one rule
+abbrev pub rules_check : List Query → Result (Unit {0}) Refusal
+rules_check qs = unless_other_rule (first_other_rule qs)
+
+-- the reports of several queries. All of them are read before their rules are compared
+abbrev pub queries_answer : Contents → List ℕ → List ℕ → List (List ℕ) → Result (List ℕ) Refusal
+queries_answer file program log names =
+    and_then (run_at file program log) (λ run.
+    and_then (queries_at file names) (λ qs.
+    and_then (rules_check qs) (λ same.
+    traced_answer run (reports_of qs))))
 
 -- ---- what a program and a log come to
 
@@ -62,6 +84,24 @@ text_answer run text = and_then (fitting_start run.program run.log) (λ start. O
 
 abbrev pub log_answer : Contents → List ℕ → List ℕ → (Log → List ℕ) → Result (List ℕ) Refusal
 log_answer file program log text = and_then (run_at file program log) (λ run. text_answer run text)
+
+-- ---- a log that is written
+
+-- a count stands still at the end of 64 bits
+abbrev pub capped : ℕ → ℕ
+capped n = min n (2 ^ 64 - 1)
+
+-- the log's text, in version 2, which is to have at most 2 ^ 26 bytes
+abbrev pub limited_text : Log → Result (List ℕ) Refusal
+limited_text log = let text = log_text Two log in
+    if nat_lt (2 ^ 26) (length text) then Err (refusal.LogTooLong (capped (length text))) else Ok text
+
+-- the log of a fitting run in version 2
+abbrev pub convert_answer : Contents → List ℕ → List ℕ → Result (List ℕ) Refusal
+convert_answer file program log =
+    and_then (run_at file program log) (λ run.
+    and_then (fitting_start run.program run.log) (λ start.
+    limited_text run.log))
 
 -- ---- what a recording comes to
 
@@ -90,11 +130,6 @@ setting_of source limits = record {
   piece = limits.piece;
   steps = limits.steps;
 }
-
--- the log's text, which is to have at most 2 ^ 26 bytes
-abbrev pub limited_text : Log → Result (List ℕ) Refusal
-limited_text log =
-    if nat_lt (2 ^ 26) (length (log_text log)) then Err (refusal.LogTooLong (length (log_text log))) else Ok (log_text log)
 
 -- the answer is the log of the run, where the clock gave these answers
 pub record IsCaptured (setting : Setting) (answers : List ℕ) (answer : Result (List ℕ) Refusal) : Type 0 where

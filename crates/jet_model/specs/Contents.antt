@@ -1,5 +1,5 @@
 -- What the files of a command hold, or why the command is refused. They are read in the order in which the command names them.
-use Rattle.std.specs.Prelude.{ℕ, ◌^◌, nat_lt, if◌then◌else◌, List, [], ◌∷◌, length, Option, Result, Ok, Err}
+use Rattle.std.specs.Prelude.{ℕ, ◌+◌, ◌^◌, nat_lt, if◌then◌else◌, List, [], ◌∷◌, length, Option, Result, Ok, Err}
 use Rattle.std.specs.List.{list_all}
 use Rattle.std.specs.Option.{ok_or}
 use Rattle.elf_model.specs.Image.{Image, image}
@@ -53,6 +53,10 @@ log_in numbers =
 abbrev pub query_in : List ℕ → Result Query Refusal
 query_in bytes = or_refused (λ fault. refusal.Query fault.0 fault.1) (query bytes)
 
+-- one of several queries, which has this number
+abbrev pub numbered_query_in : ℕ → List ℕ → Result Query Refusal
+numbered_query_in number bytes = or_refused (λ fault. refusal.QueryOf number fault.0 fault.1) (query bytes)
+
 -- ---- what files hold
 
 abbrev pub file_at : Contents → List ℕ → Result (List ℕ) Refusal
@@ -74,10 +78,24 @@ run_at file program_name log_name =
     and_then (log_at file log_name) (λ log.
     Ok (record { program = program; log = log })))
 
+-- ---- what several files hold
+
+-- what a function of each name and its number gives, one after another, where the first name has this number
+abbrev pub each_in_order : {A : Type 0} → (ℕ → List ℕ → Result A Refusal) → ℕ → List (List ℕ) → Result (List A) Refusal
+each_in_order read number [] = Ok []
+each_in_order read number (name ∷ names) =
+    and_then (read number name) (λ x.
+    and_then (each_in_order read (number + 1) names) (λ xs.
+    Ok (x ∷ xs)))
+
 -- one input after another
 abbrev pub inputs_at : Contents → List (List ℕ) → Result (List (List ℕ)) Refusal
-inputs_at file [] = Ok []
-inputs_at file (name ∷ names) =
-    and_then (file_at file name) (λ input.
-    and_then (inputs_at file names) (λ inputs.
-    Ok (input ∷ inputs)))
+inputs_at file names = each_in_order (λ number name. file_at file name) 1 names
+
+-- one of several queries, which has this number
+abbrev pub numbered_query_at : Contents → ℕ → List ℕ → Result Query Refusal
+numbered_query_at file number name = and_then (file_at file name) (numbered_query_in number)
+
+-- one query after another, counted from 1
+abbrev pub queries_at : Contents → List (List ℕ) → Result (List Query) Refusal
+queries_at file names = each_in_order (numbered_query_at file) 1 names

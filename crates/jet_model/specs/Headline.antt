@@ -1,40 +1,73 @@
 -- What it means that a text is what files come to, each in one piece.
 use Rattle.std.specs.Prelude.{◌≡◌, ◌≤◌, ◌^◌, ℕ, List, length, map, Option, Some, None, Ok}
 use Rattle.std.specs.List.{AllByRecursion}
-use Rattle.log_model.specs.Logs.{Log, log_text, IsLog}
+use Rattle.flow_model.specs.declared.StepSeen.{StepSeen}
+use Rattle.log_model.specs.declared.Version.TheVariants.{Two}
+use Rattle.log_model.specs.Logs.{Log, log_text, IsLog, IsTextOf}
+use Rattle.log_model.specs.Reading.{log_of}
 use Rattle.report_model.specs.Query.{Query}
 use Rattle.report_model.specs.Grammar.{query}
+use Rattle.report_model.specs.Together.{first_other_rule}
 use Rattle.replay_model.specs.Fits.{Fits}
 use Rattle.record_model.specs.Recorded.{IsRecorded}
 use Rattle.jet_model.specs.Contents.{Contents, Names}
 use Rattle.jet_model.specs.Answer.{Limits}
-use Rattle.jet_model.specs.Report.{report}
+use Rattle.jet_model.specs.Report.{report_of, influence_of, reports_of, text_over}
 
--- the text is the report of the bytes of the three named files: a program, a log that fits it, and a query
-pub record IsReportOf (file : Contents) (names : Names) (text : List ℕ) : Type 0 where
+-- the two named files are a program, and a text of a log that fits it
+pub record IsRunOf (file : Contents) (program_name log_name : List ℕ) (program : List ℕ) (log : Log) : Type 0 where
+  pub bytes : List ℕ
+  pub program_file : file program_name ≡ Some program
+  pub log_file : file log_name ≡ Some bytes
+  pub is_log : IsLog log
+  pub is_text : IsTextOf log bytes
+  pub fits : Fits program log
+
+-- the text is what the query of the three named files gives over the run of the other two
+pub record IsGivenByQuery (given : Query → List StepSeen → List ℕ) (file : Contents) (names : Names) (text : List ℕ) : Type 0 where
   pub program : List ℕ
   pub log : Log
+  pub run : IsRunOf file names.program names.log program log
   pub query_text : List ℕ
   pub the_query : Query
-  pub program_file : file names.program ≡ Some program
-  pub log_file : file names.log ≡ Some (log_text log)
   pub query_file : file names.query ≡ Some query_text
-  pub is_log : IsLog log
   pub is_query : query query_text ≡ Ok the_query
-  pub fits : Fits program log
-  pub reports : text ≡ report program log the_query
+  pub gives : text ≡ text_over program log (given the_query)
+
+-- the text is the report of the three named files: a program, a log that fits it, and a query
+abbrev pub IsReportOf : Contents → Names → List ℕ → Type 0
+IsReportOf file names text = IsGivenByQuery report_of file names text
+
+-- the text is the influence of the source bytes that the query chooses
+abbrev pub IsInfluenceOf : Contents → Names → List ℕ → Type 0
+IsInfluenceOf file names text = IsGivenByQuery influence_of file names text
+
+-- the text is the reports of several queries, which have one rule
+pub record AreReportsOf (file : Contents) (program_name log_name : List ℕ) (query_names : List (List ℕ)) (text : List ℕ) : Type 0 where
+  pub program : List ℕ
+  pub log : Log
+  pub run : IsRunOf file program_name log_name program log
+  pub query_texts : List (List ℕ)
+  pub the_queries : List Query
+  pub query_files : map file query_names ≡ map Some query_texts
+  pub are_queries : map query query_texts ≡ map Ok the_queries
+  pub one_rule : first_other_rule the_queries ≡ None
+  pub gives : text ≡ text_over program log (reports_of the_queries)
 
 -- the text is what the log of the two named files gives: a program, and a log that fits it
 pub record IsGivenBy (file : Contents) (program_name log_name : List ℕ) (given : Log → List ℕ) (text : List ℕ) : Type 0 where
   pub program : List ℕ
   pub log : Log
-  pub program_file : file program_name ≡ Some program
-  pub log_file : file log_name ≡ Some (log_text log)
-  pub is_log : IsLog log
-  pub fits : Fits program log
+  pub run : IsRunOf file program_name log_name program log
   pub gives : text ≡ given log
 
--- the text is the log of the run of the named program over the contents of the named inputs, where the clock gave these answers
+-- the text is the log of the two named files in version 2, and it is read as the same log: so the run is the same, and fits
+pub record IsConversionOf (file : Contents) (program_name log_name : List ℕ) (text : List ℕ) : Type 0 where
+  pub given : IsGivenBy file program_name log_name (log_text Two) text
+  pub same : log_of text ≡ Ok given.log
+
+-- the text is the log of the run of the named program over the contents of the named inputs, where the clock gave these
+-- answers; and it is read as that log
 pub record IsRecordingOf (file : Contents) (program_name : List ℕ) (input_names : List (List ℕ)) (limits : Limits) (answers text : List ℕ) : Type 0 where
   pub program : List ℕ
   pub inputs : List (List ℕ)
@@ -42,7 +75,7 @@ pub record IsRecordingOf (file : Contents) (program_name : List ℕ) (input_name
   pub program_file : file program_name ≡ Some program
   pub input_files : map file input_names ≡ map Some inputs
   pub recorded : IsRecorded (record { program = program; pages = limits.pages; inputs = inputs; piece = limits.piece; steps = limits.steps }) answers log
-  pub gives : text ≡ log_text log
+  pub gives : text ≡ log_text Two log
 
 -- ---- the limit of a file's length
 

@@ -1,45 +1,96 @@
 //! Laws of what files come to. Each is a function that does nothing: its contract is the law.
 
-ghost use Rattle.std.specs.Prelude.{◌≡◌, ◌≤◌, ◌^◌, ℕ, List, Result, length};
-ghost use Rattle.log_model.specs.Logs.{Log};
+ghost use Rattle.std.specs.Prelude.{◌≡◌, ◌≤◌, ◌^◌, ℕ, List, Result, Ok, length};
+ghost use Rattle.flow_model.specs.declared.StepSeen.{StepSeen as Step};
+ghost use Rattle.log_model.specs.declared.Version.TheVariants.{Two};
+ghost use Rattle.log_model.specs.Logs.{Log, log_text};
+ghost use Rattle.log_model.specs.Reading.{log_of};
+ghost use Rattle.report_model.specs.Query.{Query};
 ghost use Rattle.jet_refusal.specs.declared.refusal.Refusal.{Refusal};
 ghost use Rattle.jet_model.specs.Contents.{Contents, Names};
-ghost use Rattle.jet_model.specs.Answer.{Limits, query_answer, log_answer, IsRecordAnswer};
-ghost use Rattle.jet_model.specs.Headline.{IsReportOf, IsGivenBy, IsRecordingOf, IsShort, AreShort, AreAllShort};
+ghost use Rattle.jet_model.specs.Answer.{Limits, query_answer, queries_answer, log_answer, convert_answer, IsRecordAnswer};
+ghost use Rattle.jet_model.specs.Headline.{IsGivenByQuery, AreReportsOf, IsGivenBy, IsConversionOf, IsRecordingOf, IsShort, AreShort, AreAllShort};
 
-/// Where three files come to a text, it is their report: the log fits the program, the query can be read, and the text is
-/// that of its rows.
-pub fn answer_is_report()
-    ensures { (file : Contents) (names : Names) (text : List ℕ) → query_answer file names ≡ Ok text → IsReportOf file names text }
+/// Where three files come to a text, it is what the query gives over the run, as a report or an influence: the log fits the
+/// program, and the query can be read.
+pub fn answer_is_given()
+    ensures { (given : Query → List Step → List ℕ) (file : Contents) (names : Names) (text : List ℕ)
+        → query_answer given file names ≡ Ok text → IsGivenByQuery given file names text }
 {}
 
-/// Three files come to their report, where none has more than 2^26 bytes.
-pub fn report_is_answer()
-    ensures { (file : Contents) (names : Names) (text : List ℕ) → AreShort file names → IsReportOf file names text → query_answer file names ≡ Ok text }
+/// Three files come to what the query gives, where none has more than 2^26 bytes.
+pub fn given_is_answer()
+    ensures { (given : Query → List Step → List ℕ) (file : Contents) (names : Names) (text : List ℕ)
+        → AreShort file names → IsGivenByQuery given file names text → query_answer given file names ≡ Ok text }
+{}
+
+/// Where a program, a log and several queries come to a text, it is their reports, one after another.
+pub fn reports_are_given()
+    ensures { (file : Contents) (program log : List ℕ) (names : List (List ℕ)) (text : List ℕ)
+        → queries_answer file program log names ≡ Ok text → AreReportsOf file program log names text }
+{}
+
+/// A program, a log and several queries come to their reports, where no file has more than 2^26 bytes.
+pub fn given_are_reports()
+    ensures { (file : Contents) (program log : List ℕ) (names : List (List ℕ)) (text : List ℕ)
+        → IsShort (file program) → IsShort (file log) → AreAllShort file names
+        → AreReportsOf file program log names text → queries_answer file program log names ≡ Ok text }
 {}
 
 /// Where a program and a log come to a text, it is that of the log, which fits the program.
 pub fn log_answer_is_given()
-    ensures { (file : Contents) (program log : List ℕ) (given : Log → List ℕ) (text : List ℕ) → log_answer file program log given ≡ Ok text → IsGivenBy file program log given text }
+    ensures { (file : Contents) (program log : List ℕ) (given : Log → List ℕ) (text : List ℕ)
+        → log_answer file program log given ≡ Ok text → IsGivenBy file program log given text }
 {}
 
 /// A program and a fitting log come to the text that the log gives, where neither file has more than 2^26 bytes.
 pub fn given_is_log_answer()
-    ensures { (file : Contents) (program log : List ℕ) (given : Log → List ℕ) (text : List ℕ) → IsShort (file program) → IsShort (file log) → IsGivenBy file program log given text → log_answer file program log given ≡ Ok text }
+    ensures { (file : Contents) (program log : List ℕ) (given : Log → List ℕ) (text : List ℕ)
+        → IsShort (file program) → IsShort (file log) → IsGivenBy file program log given text
+        → log_answer file program log given ≡ Ok text }
+{}
+
+/// Where a program and a log come to a new text of the log, it is that in version 2, and it is read as the same log.
+pub fn convert_answer_is_conversion()
+    ensures { (file : Contents) (program log text : List ℕ)
+        → convert_answer file program log ≡ Ok text → IsConversionOf file program log text }
+{}
+
+/// A program and a fitting log come to the log in version 2, where neither it nor a file has more than 2^26 bytes.
+pub fn given_is_convert_answer()
+    ensures { (file : Contents) (program log text : List ℕ)
+        → IsShort (file program) → IsShort (file log) → length text ≤ 2 ^ 26
+        → IsGivenBy file program log (log_text Two) text → convert_answer file program log ≡ Ok text }
+{}
+
+/// A fitting log in version 2, where it has at most 2^26 bytes, is read as the same log.
+pub fn given_is_conversion()
+    ensures { (file : Contents) (program log text : List ℕ)
+        → IsGivenBy file program log (log_text Two) text → length text ≤ 2 ^ 26 → IsConversionOf file program log text }
 {}
 
 /// Where a program, inputs and the clock's answers come to a text, it is the log of the program's run.
 pub fn record_answer_is_recording()
-    ensures { (file : Contents) (program : List ℕ) (inputs : List (List ℕ)) (limits : Limits) (answers : List ℕ) (text : List ℕ) → IsRecordAnswer file program inputs limits answers (Ok text) → IsRecordingOf file program inputs limits answers text }
+    ensures { (file : Contents) (program : List ℕ) (inputs : List (List ℕ)) (limits : Limits) (answers : List ℕ) (text : List ℕ)
+        → IsRecordAnswer file program inputs limits answers (Ok text) → IsRecordingOf file program inputs limits answers text }
 {}
 
 /// A program, inputs and the clock's answers come to the log of the run, where neither it nor a file has more than 2^26
 /// bytes.
 pub fn recording_is_record_answer()
-    ensures { (file : Contents) (program : List ℕ) (inputs : List (List ℕ)) (limits : Limits) (answers : List ℕ) (text : List ℕ) → IsShort (file program) → AreAllShort file inputs → length text ≤ 2 ^ 26 → IsRecordingOf file program inputs limits answers text → IsRecordAnswer file program inputs limits answers (Ok text) }
+    ensures { (file : Contents) (program : List ℕ) (inputs : List (List ℕ)) (limits : Limits) (answers : List ℕ) (text : List ℕ)
+        → IsShort (file program) → AreAllShort file inputs → length text ≤ 2 ^ 26
+        → IsRecordingOf file program inputs limits answers text → IsRecordAnswer file program inputs limits answers (Ok text) }
+{}
+
+/// A recording of at most 2^26 bytes is read as the log of its run, which fits the program.
+pub fn recording_is_read()
+    ensures { (file : Contents) (program : List ℕ) (inputs : List (List ℕ)) (limits : Limits) (answers text : List ℕ)
+        → length text ≤ 2 ^ 26 → (r : IsRecordingOf file program inputs limits answers text) → log_of text ≡ Ok r.log }
 {}
 
 /// A program, inputs and the clock's answers come to one answer. (Other answers are values of functions.)
 pub fn one_record_answer()
-    ensures { (file : Contents) (program : List ℕ) (inputs : List (List ℕ)) (limits : Limits) (answers : List ℕ) (a b : Result (List ℕ) Refusal) → IsRecordAnswer file program inputs limits answers a → IsRecordAnswer file program inputs limits answers b → a ≡ b }
+    ensures { (file : Contents) (program : List ℕ) (inputs : List (List ℕ)) (limits : Limits) (answers : List ℕ) (a b : Result (List ℕ) Refusal)
+        → IsRecordAnswer file program inputs limits answers a → IsRecordAnswer file program inputs limits answers b → a ≡ b }
 {}

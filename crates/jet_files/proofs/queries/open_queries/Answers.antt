@@ -1,0 +1,106 @@
+use Rattle.std.proofs.Common.{arith, ◌≡◌, ◌+◌, ◌∷◌, ◌++◌, [], ap, sym, refl, subst, ℕ, List, length, Ok, Bor}
+use Rattle.std.proofs.lemmas.List.{length_push, take_all}
+use Rattle.std.proofs.lemmas.Result.{err_from_is_err_and}
+use Rattle.report_model.specs.Query.{Query}
+use Rattle.outer_io.specs.Tells.{Tells, Gains}
+use Rattle.outer_io.proofs.TellsLemmas.{tells-same, tells-nothing}
+use Rattle.jet_model.specs.Contents.{queries_at}
+use Rattle.jet_files.specs.Outcome.{Found, Follows, AreAllAlike}
+use Rattle.jet_files.proofs.Names.{keeps-none, keeps-keeps}
+use Rattle.jet_files.proofs.Several.{texts, queries_more, queries_stop, opened_more, opened_some, opened_all}
+use Rattle.jet_files.proofs.queries.open_queries.Goals as goal
+
+pub loop-name-init : goal.loop-name-init
+loop-name-init g c =
+    let shown = g.S.Store.shown c.args.store.now in
+    let queries : List Query = c.new-queries.result.items in
+    let none : queries ≡ [] = c.new-queries.ensures.items in
+    record {
+      outcome = subst (λ (w : List Query). Follows (λ file kept. AreAllAlike kept (queries_at file [])) shown shown (Ok w)) (sym none)
+          (tells-same shown.files (Found (λ file. AreAllAlike (Ok []) (queries_at file []))) (λ x. record { found = tt }));
+      many = ap length none;
+      number = refl;
+      keeps = record { files = keeps-none shown.files; faults = omega arith };
+      opened = tells-nothing shown.opened;
+    }
+
+pub loop-name-preserved : goal.loop-name-preserved
+loop-name-preserved g c =
+    let names = c.args.names.now in
+    let index : ℕ = c.loop-name.name-index in
+    let before = g.S.Store.shown c.args.store.now in
+    let between = g.S.Store.shown c.loop-name.store in
+    let after = g.S.Store.shown c.open_numbered.new.store in
+    let queries = c.loop-name.queries.items in
+    let more = c.push.new.self.items in
+    let query = c.in_ok-query.query in
+    let i = c.loop-name.invariant in
+    let number : c.loop-name.number + 1 ≡ index + 1 = omega (arith, i.number) in
+    let pushed : more ≡ queries ++ query ∷ [] = c.in_default.ensures.items in
+    record {
+      outcome = queries_more names index (c.loop-name.number + 1) _ queries more query before between after c.loop-name-test.true number pushed i.outcome i.keeps c.in_ok-query.ensures.outcome;
+      many = omega (arith, ap length pushed, length_push queries query, i.many);
+      number = number;
+      keeps = record {
+        files = keeps-keeps before.files between.files after.files i.keeps.files c.open_numbered.ensures.keeps;
+        faults = omega (arith, i.keeps.faults, c.open_numbered.ensures.later);
+      };
+      opened = opened_more names index _ before.opened between.opened after.opened c.loop-name-test.true i.opened c.open_numbered.ensures.opened;
+    }
+
+-- ---- a file was refused
+
+pub returns-in_err-query-clause-outcome : goal.returns-in_err-query-clause-outcome
+returns-in_err-query-clause-outcome g c =
+    let i = c.loop-name.invariant in
+    let p = err_from_is_err_and c.from_residual.result c.from_residual.ensures.1 in
+    rw (p.1, p.2) (queries_stop c.args.names.now c.loop-name.name-index (c.loop-name.number + 1) _ c.loop-name.queries.items (g.S.Store.shown c.args.store.now) (g.S.Store.shown c.loop-name.store) (g.S.Store.shown c.open_numbered.new.store) _ c.loop-name-test.true (omega (arith, i.number)) i.outcome i.keeps c.in_err-query.ensures.later c.in_err-query.ensures.outcome)
+
+pub returns-in_err-query-clause-keeps : goal.returns-in_err-query-clause-keeps
+returns-in_err-query-clause-keeps g c = keeps-keeps _ (g.S.Store.shown c.loop-name.store).files _ c.loop-name.invariant.keeps.files c.in_err-query.ensures.keeps
+
+pub returns-in_err-query-clause-later : goal.returns-in_err-query-clause-later
+returns-in_err-query-clause-later g c = omega (arith, c.loop-name.invariant.keeps.faults, c.in_err-query.ensures.later)
+
+pub returns-in_err-query-clause-opened : goal.returns-in_err-query-clause-opened
+returns-in_err-query-clause-opened g c =
+    opened_some c.args.names.now c.loop-name.name-index _ _ (g.S.Store.shown c.loop-name.store).opened _ c.loop-name-test.true c.loop-name.invariant.opened c.in_err-query.ensures.opened
+
+-- ---- out of memory
+
+pub returns-in-Err-clause-outcome : goal.returns-in-Err-clause-outcome
+returns-in-Err-clause-outcome g c = tt
+
+pub returns-in-Err-clause-keeps : goal.returns-in-Err-clause-keeps
+returns-in-Err-clause-keeps g c = keeps-keeps _ (g.S.Store.shown c.loop-name.store).files _ c.loop-name.invariant.keeps.files c.in_ok-query.ensures.keeps
+
+pub returns-in-Err-clause-later : goal.returns-in-Err-clause-later
+returns-in-Err-clause-later g c = omega (arith, c.loop-name.invariant.keeps.faults, c.in_ok-query.ensures.later)
+
+pub returns-in-Err-clause-opened : goal.returns-in-Err-clause-opened
+returns-in-Err-clause-opened g c =
+    opened_some c.args.names.now c.loop-name.name-index _ _ (g.S.Store.shown c.loop-name.store).opened _ c.loop-name-test.true c.loop-name.invariant.opened c.in_ok-query.ensures.opened
+
+-- ---- all were read
+
+pub returns-clause-outcome : goal.returns-clause-outcome
+returns-clause-outcome g c =
+    subst (λ (w : List (Bor (List ℕ))). Follows (λ file kept. AreAllAlike kept (queries_at file (texts w))) (g.S.Store.shown c.args.store.now) (g.S.Store.shown c.loop-name.store) (Ok c.loop-name.queries.items))
+    (take_all c.loop-name.name-index c.args.names.now c.loop-name-test.false) c.loop-name.invariant.outcome
+
+pub returns-clause-many : goal.returns-clause-many
+returns-clause-many g c = omega (arith, c.loop-name.invariant.many, c.loop-name-test.false, c.loop-name.auto.name-index-end)
+
+pub returns-clause-keeps : goal.returns-clause-keeps
+returns-clause-keeps g c = c.loop-name.invariant.keeps.files
+
+pub returns-clause-later : goal.returns-clause-later
+returns-clause-later g c = c.loop-name.invariant.keeps.faults
+
+pub returns-clause-opened : goal.returns-clause-opened
+returns-clause-opened g c = opened_all c.args.names.now c.loop-name.name-index _ _ c.loop-name.invariant.opened
+
+pub returns-clause-all : goal.returns-clause-all
+returns-clause-all g c =
+    subst (λ (w : List (Bor (List ℕ))). Tells (g.S.Store.shown c.args.store.now).opened (g.S.Store.shown c.loop-name.store).opened (Gains (texts w)))
+    (take_all c.loop-name.name-index c.args.names.now c.loop-name-test.false) c.loop-name.invariant.opened

@@ -1,0 +1,20 @@
+use Rattle.std.proofs.Common.{◌≡◌, ℕ, List, length, map, take, Ok, Bor}
+use Rattle.outer_io.specs.Tells.{Tells, Gains}
+use Rattle.jet_model.specs.Contents.{queries_at}
+use Rattle.jet_files.specs.Outcome.{Follows, AreAllAlike}
+use Rattle.jet_files.proofs.Composing.{Keeps}
+use Rattle.jet_files.proofs.queries.open_queries.Given as goal
+
+-- the first files are read
+abbrev pub invariant-loop-name : goal.invariant-loop-name
+invariant-loop-name g l =
+    let before = g.S.Store.shown l.initial.store in
+    let now = g.S.Store.shown l.store in
+    let texts = map (λ (name : Bor (List ℕ)). name.now) (take l.name-index l.names) in
+    record {
+      outcome : Follows (λ file kept. AreAllAlike kept (queries_at file texts)) before now (Ok l.queries.items);
+      many : length l.queries.items ≡ l.name-index;
+      number : l.number ≡ l.name-index;
+      keeps : Keeps before now;
+      opened : Tells before.opened now.opened (Gains texts);
+    }

@@ -1,0 +1,74 @@
+//! Several queries, read from their files.
+ghost use Rattle.std.specs.Prelude.{◌≡◌, ◌≤◌, ◌∷◌, [], length, map, IfOk, OnOk};
+ghost use Rattle.outer_io.specs.Tells.{Tells, Gains, GainsPrefix};
+ghost use Rattle.outer_io.specs.Files.{KeepsFiles};
+ghost use Rattle.jet_model.specs.Contents.{numbered_query_at, queries_at};
+ghost use Rattle.jet_files.specs.Outcome.{Follows, AreAlike, AreAllAlike, seen_by, queries_of};
+ghost use Rattle.jet_files.specs.Faults.{numbered_query_refusal};
+
+use crate::reading::read_file;
+use jet_refusal::Refusal;
+use outer_io::Store;
+use query_lang::{Query, QueryFault, parse};
+use std::alloc::Global;
+
+/// Why the text of this number is no query.
+fn of_query(number: u32, fault: QueryFault) -> Refusal
+    ensures { result ≡ numbered_query_refusal number fault }
+{
+    match fault {
+        QueryFault::At { line, kind } => Refusal::QueryOf {
+            file: number,
+            line,
+            kind,
+        },
+        QueryFault::NoMemory => Refusal::NoMemory,
+    }
+}
+
+/// Reads the query of this number. It gives up as `read_file` does, or with `QueryOf`, the first fault of a text that is
+/// none.
+fn open_numbered<S: Store>(
+    alloc: Global,
+    store: &mut S,
+    number: u32,
+    name: &str,
+) -> Result<Query, Refusal>
+    ensures outcome { Follows (λ file kept. AreAlike kept (numbered_query_at file number name.now)) (S.shown store.old) (S.shown store.new) result }
+    ensures keeps { Tells (S.shown store.old).files (S.shown store.new).files KeepsFiles }
+    ensures opened { Tells (S.shown store.old).opened (S.shown store.new).opened (Gains (name.now ∷ [])) }
+    ensures later { (S.shown store.old).faults ≤ (S.shown store.new).faults }
+{
+    let bytes = read_file(alloc, store, name)?;
+    match parse(alloc, &bytes) {
+        Ok(query) => Ok(query),
+        Err(fault) => Err(of_query(number, fault)),
+    }
+}
+
+/// Reads the queries of these names, at most 16, one after another, which are counted from 1. It gives up at the first
+/// that is refused: as `read_file` does, or with `QueryOf`, its number and the first fault of a text that is no query.
+pub fn open_queries<S: Store>(
+    alloc: Global,
+    store: &mut S,
+    names: &[&str],
+) -> Result<Vec<Query>, Refusal>
+    requires few { length names.now ≤ 16 }
+    ensures outcome { Follows (λ file kept. AreAllAlike kept (queries_at file (map (λ name. name.now) names.now))) (S.shown store.old) (S.shown store.new) (seen_by queries_of result) }
+    ensures many { IfOk result (λ queries. length queries.items ≡ length names.now) }
+    ensures keeps { Tells (S.shown store.old).files (S.shown store.new).files KeepsFiles }
+    ensures opened { Tells (S.shown store.old).opened (S.shown store.new).opened (GainsPrefix (map (λ name. name.now) names.now)) }
+    ensures all { OnOk result (Tells (S.shown store.old).opened (S.shown store.new).opened (Gains (map (λ name. name.now) names.now))) }
+    ensures later { (S.shown store.old).faults ≤ (S.shown store.new).faults }
+{
+    let mut queries = Vec::new(alloc);
+    let mut number = 0;
+    for name in names {
+        number += 1;
+        let query = open_numbered(alloc, store, number, name)?;
+        if let Err(_) = queries.push(query) {
+            return Err(Refusal::NoMemory);
+        }
+    }
+    Ok(queries)
+}
