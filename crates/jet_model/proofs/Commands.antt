@@ -1,12 +1,14 @@
 -- Worked examples of what three files come to, computed by the checker.
 use Rattle.std.proofs.Common.{◌≡◌, ℕ, List, [], ◌∷◌, refl, None, Ok, Err}
-use Rattle.std.specs.Prelude.{Some, codes, pos, if◌then◌else◌}
+use Rattle.std.specs.Prelude.{◌++◌, Some, codes, pos, if◌then◌else◌}
 use Rattle.std.specs.Fmt.{digits}
 use Rattle.std.specs.Str.{bytes_eq}
+use Rattle.log_model.specs.declared.Version.TheVariants.{One}
 use Rattle.log_model.specs.declared.RunEnd.TheVariants.{Exit}
 use Rattle.log_model.specs.declared.LogKind.TheVariants as log
 use Rattle.log_model.specs.Logs.{log_text}
-use Rattle.log_model.specs.Reading.{log_of, body_of}
+use Rattle.log_model.specs.Reading.{log_of, channels_of, body_of}
+use Rattle.flow_model.specs.declared.Rule.TheVariants.{Copy, Compute}
 use Rattle.report_model.specs.declared.QueryKind.TheVariants as query
 use Rattle.elf_model.specs.declared.ImageKind.TheVariants as image
 use Rattle.replay_model.specs.declared.Field.TheVariants as field
@@ -14,7 +16,8 @@ use Rattle.sha2.specs.Sha256.{sha256, digest_bytes, hash_after, compress, rounds
 use Rattle.jet_refusal.specs.declared.refusal.Refusal.TheVariants as refusal
 use Rattle.jet_model.specs.Outcomes.{and_then}
 use Rattle.jet_model.specs.Contents.{Contents, Names, program_in}
-use Rattle.jet_model.specs.Answer.{start_in, query_answer}
+use Rattle.jet_model.specs.Answer.{start_in, query_answer, queries_answer, convert_answer}
+use Rattle.jet_model.specs.Report.{report_of}
 use Rattle.jet_model.proofs.Guests.{copy_four, copy_four_log, add_words, add_words_log, a_read, a_write}
 use Rattle.jet_model.proofs.Guests.{log_of as log_with}
 use Rattle.jet_model.proofs.Reports.{of_lines}
@@ -33,35 +36,79 @@ three_files program log query name =
 abbrev all_bytes : List ℕ
 all_bytes = of_lines ("rule copy" ∷ "source all" ∷ "sink all" ∷ [])
 
-a_report : query_answer (three_files copy_four (log_text copy_four_log) all_bytes) names ≡ Ok (of_lines ("1:0 0:0" ∷ "1:1 0:1" ∷ "1:2 0:2" ∷ "1:3 0:3" ∷ "end 4" ∷ []))
-unfolding digits log_of body_of sha256 digest_bytes hash_after compress rounds first_words schedule
+a_report : query_answer report_of (three_files copy_four (log_text One copy_four_log) all_bytes) names ≡ Ok (of_lines ("1:0 0:0" ∷ "1:1 0:1" ∷ "1:2 0:2" ∷ "1:3 0:3" ∷ "end 4" ∷ []))
+unfolding digits log_of channels_of body_of sha256 digest_bytes hash_after compress rounds first_words schedule
 a_report = refl
 
-no_file : query_answer (λ name. None) names ≡ Err refusal.ReadFault
+no_file : query_answer report_of (λ name. None) names ≡ Err refusal.ReadFault
 no_file = refl
 
 -- the program is refused before the log
-no_image : query_answer (three_files (codes "ELF") [] []) names ≡ Err (refusal.Image image.Short)
+no_image : query_answer report_of (three_files (codes "ELF") [] []) names ≡ Err (refusal.Image image.Short)
 no_image = refl
 
-no_log : query_answer (three_files copy_four all_bytes []) names ≡ Err (refusal.Log log.Magic 0)
+no_log : query_answer report_of (three_files copy_four all_bytes []) names ≡ Err (refusal.Log log.Magic 0)
 unfolding log_of
 no_log = refl
 
 -- the query is refused before the log is compared with the program
-no_query : query_answer (three_files copy_four (log_text add_words_log) (codes "rule copy x")) names ≡ Err (refusal.Query 1 query.Count)
-unfolding log_of body_of sha256 digest_bytes hash_after compress rounds first_words schedule
+no_query : query_answer report_of (three_files copy_four (log_text One add_words_log) (codes "rule copy x")) names ≡ Err (refusal.Query 1 query.Count)
+unfolding log_of channels_of body_of sha256 digest_bytes hash_after compress rounds first_words schedule
 no_query = refl
 
-another_program : query_answer (three_files copy_four (log_text add_words_log) all_bytes) names ≡ Err (refusal.Program (sha256 add_words) (sha256 copy_four))
-unfolding log_of body_of sha256 digest_bytes hash_after compress rounds first_words schedule
+another_program : query_answer report_of (three_files copy_four (log_text One add_words_log) all_bytes) names ≡ Err (refusal.Program (sha256 add_words) (sha256 copy_four))
+unfolding log_of channels_of body_of sha256 digest_bytes hash_after compress rounds first_words schedule
 another_program = refl
 
-another_byte : query_answer (three_files copy_four (log_text (log_with copy_four 1 1 (a_read 5 4 abcd ∷ a_write 8 (0x41 ∷ 0x42 ∷ 0x58 ∷ 0x44 ∷ []) ∷ []) (Exit 11 0))) all_bytes) names
+another_byte : query_answer report_of (three_files copy_four (log_text One (log_with copy_four 1 1 (a_read 5 4 abcd ∷ a_write 8 (0x41 ∷ 0x42 ∷ 0x58 ∷ 0x44 ∷ []) ∷ []) (Exit 11 0))) all_bytes) names
     ≡ Err (refusal.Diverged (record { step = 8; field = field.Byte 2; kept = pos 88; seen = pos 67 }))
-unfolding log_of body_of sha256 digest_bytes hash_after compress rounds first_words schedule
+unfolding log_of channels_of body_of sha256 digest_bytes hash_after compress rounds first_words schedule
 another_byte = refl
 
 -- a window of no page holds no image
 no_window : and_then (program_in copy_four) (λ program. start_in program.image 0) ≡ Err (refusal.Window 0)
 no_window = refl
+
+-- ---- a log in version 2
+
+-- the same log, whichever version it was kept in: the bytes are typed out
+abbrev wide_copy_four : List ℕ
+wide_copy_four =
+    0x4a ∷ 0x45 ∷ 0x54 ∷ 0x4c ∷ 0x4f ∷ 0x47 ∷ 0x32 ∷ 0x0a ∷ [] ++ sha256 copy_four ++ 1 ∷ 0 ∷ 0 ∷ 0 ∷ 1 ∷ 0 ∷ 0 ∷ 0 ∷
+    4 ∷ 0 ∷ 0 ∷ 0 ∷ 0x41 ∷ 0x42 ∷ 0x43 ∷ 0x44 ∷
+    1 ∷ 5 ∷ 0 ∷ 0 ∷ 0 ∷ 0 ∷ 0 ∷ 0 ∷ 0 ∷ 0 ∷ 0 ∷ 0 ∷ 0 ∷ 0 ∷ 1 ∷ 1 ∷ 0 ∷ 4 ∷ 0 ∷ 0 ∷ 0 ∷ 4 ∷ 0 ∷ 0 ∷ 0 ∷
+    2 ∷ 8 ∷ 0 ∷ 0 ∷ 0 ∷ 0 ∷ 0 ∷ 0 ∷ 0 ∷ 1 ∷ 0 ∷ 0 ∷ 0 ∷ 0 ∷ 1 ∷ 1 ∷ 0 ∷ 4 ∷ 0 ∷ 0 ∷ 0 ∷ 4 ∷ 0 ∷ 0 ∷ 0 ∷ 0x41 ∷ 0x42 ∷ 0x43 ∷ 0x44 ∷
+    5 ∷ 11 ∷ 0 ∷ 0 ∷ 0 ∷ 0 ∷ 0 ∷ 0 ∷ 0 ∷ 0 ∷ 0 ∷ 0 ∷ 0 ∷ []
+
+a_conversion : convert_answer (three_files copy_four (log_text One copy_four_log) []) (codes "program") (codes "log") ≡ Ok wide_copy_four
+unfolding digits log_of channels_of body_of sha256 digest_bytes hash_after compress rounds first_words schedule
+a_conversion = refl
+
+converted_again : convert_answer (three_files copy_four wide_copy_four []) (codes "program") (codes "log") ≡ Ok wide_copy_four
+unfolding digits log_of channels_of body_of sha256 digest_bytes hash_after compress rounds first_words schedule
+converted_again = refl
+
+-- the report is the same
+a_wide_report : query_answer report_of (three_files copy_four wide_copy_four all_bytes) names ≡ Ok (of_lines ("1:0 0:0" ∷ "1:1 0:1" ∷ "1:2 0:2" ∷ "1:3 0:3" ∷ "end 4" ∷ []))
+unfolding digits log_of channels_of body_of sha256 digest_bytes hash_after compress rounds first_words schedule
+a_wide_report = refl
+
+-- ---- several queries
+
+-- the query is one of two, by the names of their files
+abbrev two_queries : List ℕ → List ℕ → Contents
+two_queries one two name =
+    if bytes_eq name (codes "one") then Some one else
+    if bytes_eq name (codes "two") then Some two else three_files copy_four (log_text One copy_four_log) [] name
+
+abbrev both_names : List (List ℕ)
+both_names = codes "one" ∷ codes "two" ∷ []
+
+other_rules : queries_answer (two_queries all_bytes (codes "rule compute")) (codes "program") (codes "log") both_names ≡ Err (refusal.Rules Copy 2 Compute)
+unfolding digits log_of channels_of body_of sha256 digest_bytes hash_after compress rounds first_words schedule
+other_rules = refl
+
+-- all are read before their rules are compared
+second_faulty : queries_answer (two_queries (codes "rule compute") (codes "sink 16")) (codes "program") (codes "log") both_names ≡ Err (refusal.QueryOf 2 1 query.Channel)
+unfolding digits log_of channels_of body_of sha256 digest_bytes hash_after compress rounds first_words schedule
+second_faulty = refl
