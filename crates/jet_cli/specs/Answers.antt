@@ -4,11 +4,12 @@ use Rattle.outer_io.specs.Files.{Text}
 use Rattle.outer_io.specs.Tells.{Tells, Gains}
 use Rattle.call_record.specs.declared.fault.CaptureFault.{CaptureFault}
 use Rattle.call_record.specs.declared.fault.CaptureFault.TheVariants as capture
-use Rattle.jet_words.specs.Commands.{CommandOf, QueryOf, RecordOf, ReplayOf, OutputOf}
+use Rattle.jet_words.specs.Commands.{CommandOf, QueryOf, RecordOf, ReplayOf, OutputOf, ConvertOf, InfluenceOf, QueriesOf}
 use Rattle.jet_refusal.specs.declared.refusal.Refusal.{Refusal}
 use Rattle.jet_refusal.specs.declared.refusal.Refusal.TheVariants as refusal
 use Rattle.jet_model.specs.Contents.{Contents, Names}
-use Rattle.jet_model.specs.Answer.{Limits, Source, IsCaptureAnswer, IsRecordAnswer, query_answer, log_answer}
+use Rattle.jet_model.specs.Report.{report_of, influence_of}
+use Rattle.jet_model.specs.Answer.{Limits, Source, IsCaptureAnswer, IsRecordAnswer, query_answer, queries_answer, log_answer, convert_answer}
 use Rattle.jet_refusal.specs.Causes.{IsOwedTo}
 use Rattle.jet_files.specs.Outcome.{by_reading}
 use Rattle.run_output.specs.Summary.{summary_text}
@@ -37,11 +38,14 @@ IsRecording program inputs limits heard heard_after file answer =
 
 -- the content of the files comes to this answer
 abbrev pub IsAnswer : CommandOf → Option (List ℕ) → Option (List ℕ) → Contents → Result (List ℕ) Refusal → Type 0
-IsAnswer (QueryOf program log query) heard heard_after file answer = query_answer file (named program log query) ≡ answer
+IsAnswer (QueryOf program log query) heard heard_after file answer = query_answer report_of file (named program log query) ≡ answer
 IsAnswer (RecordOf program log inputs pages piece steps) heard heard_after file answer =
     IsRecording program inputs (limits_of pages piece steps) heard heard_after file answer
 IsAnswer (ReplayOf program log) heard heard_after file answer = log_answer file program log summary_text ≡ answer
 IsAnswer (OutputOf program log channel) heard heard_after file answer = log_answer file program log (output channel) ≡ answer
+IsAnswer (ConvertOf program log new) heard heard_after file answer = convert_answer file program log ≡ answer
+IsAnswer (InfluenceOf program log query) heard heard_after file answer = query_answer influence_of file (named program log query) ≡ answer
+IsAnswer (QueriesOf program log queries) heard heard_after file answer = queries_answer file program log queries ≡ answer
 
 -- the outcome of work that reads no file is so, or memory is out
 abbrev pub IsWorkOf : {A : Type 0} → (Result A Refusal → Type 0) → Result A Refusal → Type 0

@@ -2,7 +2,7 @@
 use Rattle.std.specs.Prelude.{List, [], ◌∷◌, ◌++◌, map, Option, Some, None, String, string_bytes}
 use Rattle.std.specs.declared.alloc.Global.{Global}
 use Rattle.outer_io.specs.Files.{Text}
-use Rattle.jet_words.specs.Commands.{CommandOf, QueryOf, RecordOf, ReplayOf, OutputOf, command_of}
+use Rattle.jet_words.specs.Commands.{CommandOf, QueryOf, RecordOf, ReplayOf, OutputOf, ConvertOf, InfluenceOf, QueriesOf, command_of}
 
 -- the command that the words stand for, if they stand for one
 abbrev pub command_in : List (String Global) → Option CommandOf
@@ -14,6 +14,9 @@ sources_of (QueryOf program log query) = program ∷ log ∷ query ∷ []
 sources_of (RecordOf program log inputs pages piece steps) = program ∷ inputs
 sources_of (ReplayOf program log) = program ∷ log ∷ []
 sources_of (OutputOf program log channel) = program ∷ log ∷ []
+sources_of (ConvertOf program log new) = program ∷ log ∷ []
+sources_of (InfluenceOf program log query) = program ∷ log ∷ query ∷ []
+sources_of (QueriesOf program log queries) = program ∷ log ∷ queries
 
 -- where a command writes
 pub data Target : Type 0 where
@@ -25,6 +28,9 @@ target_of (QueryOf program log query) = ToOutput
 target_of (RecordOf program log inputs pages piece steps) = ToFile log
 target_of (ReplayOf program log) = ToOutput
 target_of (OutputOf program log channel) = ToOutput
+target_of (ConvertOf program log new) = ToFile new
+target_of (InfluenceOf program log query) = ToOutput
+target_of (QueriesOf program log queries) = ToOutput
 
 abbrev pub target_in : Option CommandOf → Target
 target_in None = ToOutput
@@ -40,11 +46,22 @@ abbrev pub files_of : Option CommandOf → List Text
 files_of None = []
 files_of (Some command) = sources_of command ++ written_in (target_of command)
 
--- what holds of a target that is the output, or that is a file
-abbrev pub IfOutput : Target → Type 0 → Type 0
-IfOutput ToOutput P = P
-IfOutput (ToFile name) P = Unit {0}
-
+-- what holds where a command writes to a file alone
 abbrev pub IfFile : Target → Type 0 → Type 0
 IfFile ToOutput P = Unit {0}
 IfFile (ToFile name) P = P
+
+-- what holds where a command never reads the clock: all but a recording
+abbrev pub IfUntimed : CommandOf → Type 0 → Type 0
+IfUntimed (QueryOf program log query) P = P
+IfUntimed (RecordOf program log inputs pages piece steps) P = Unit {0}
+IfUntimed (ReplayOf program log) P = P
+IfUntimed (OutputOf program log channel) P = P
+IfUntimed (ConvertOf program log new) P = P
+IfUntimed (InfluenceOf program log query) P = P
+IfUntimed (QueriesOf program log queries) P = P
+
+-- the same of the command that words stand for, if they stand for one
+abbrev pub IfUntimedIn : Option CommandOf → Type 0 → Type 0
+IfUntimedIn None P = P
+IfUntimedIn (Some command) P = IfUntimed command P
