@@ -1,5 +1,6 @@
 -- What the files of a command come to: the text that it writes, or the refusal.
-use Rattle.std.specs.Prelude.{◌≡◌, ℕ, List, Option, Result, Ok, Err}
+use Rattle.std.specs.Prelude.{◌≡◌, ℕ, List, [], ◌∷◌, ◌++◌, codes, Option, None, Result, Ok, Err}
+use Rattle.std.specs.Fmt.{decimal}
 use Rattle.outer_io.specs.Files.{Text}
 use Rattle.outer_io.specs.Tells.{Tells, Gains}
 use Rattle.call_record.specs.declared.fault.CaptureFault.{CaptureFault}
@@ -7,11 +8,19 @@ use Rattle.call_record.specs.declared.fault.CaptureFault.TheVariants as capture
 use Rattle.jet_words.specs.Commands.{CommandOf, QueryOf, RecordOf, ReplayOf, OutputOf, ConvertOf, InfluenceOf, QueriesOf}
 use Rattle.jet_refusal.specs.declared.refusal.Refusal.{Refusal}
 use Rattle.jet_refusal.specs.declared.refusal.Refusal.TheVariants as refusal
-use Rattle.jet_model.specs.Contents.{Contents, Names}
-use Rattle.jet_model.specs.Report.{report_of, influence_of}
-use Rattle.jet_model.specs.Answer.{Limits, Source, IsCaptureAnswer, IsRecordAnswer, query_answer, queries_answer, log_answer, convert_answer}
+use Rattle.flow_model.specs.declared.StepSeen.{StepSeen}
+use Rattle.report_model.specs.Query.{Query, Alike}
+use Rattle.report_model.specs.Rows.{Row}
+use Rattle.report_model.specs.Text.{report_text}
+use Rattle.report_model.specs.Together.{only, together, first_other_rule}
+use Rattle.jet_model.specs.Outcomes.{and_then}
+use Rattle.jet_model.specs.Contents.{Contents, Names, Run}
+use Rattle.jet_model.specs.Report.{report_of, influence_of, reports_of}
+use Rattle.jet_model.specs.Answer.{Limits, Source, IsCaptureAnswer, IsRecordAnswer, traced_answer, query_answer, rules_check, queries_answer, log_answer, convert_answer}
 use Rattle.jet_refusal.specs.Causes.{IsOwedTo}
-use Rattle.jet_files.specs.Outcome.{by_reading}
+use Rattle.jet_cli.specs.declared.work.Listing.{Listing}
+use Rattle.jet_cli.specs.declared.work.Listing.TheVariants.{BySink, BySource}
+use Rattle.jet_files.specs.Outcome.{by_reading, AskAlike}
 use Rattle.run_output.specs.Summary.{summary_text}
 use Rattle.run_output.specs.Output.{output}
 
@@ -57,3 +66,31 @@ abbrev pub capture_refusal : ℕ → CaptureFault → Refusal
 capture_refusal pages capture.Window = refusal.Window pages
 capture_refusal pages (capture.LogTooLong size) = refusal.LogTooLong size
 capture_refusal pages capture.NoMemory = refusal.NoMemory
+
+-- ---- work for a query that is kept
+
+-- the text that a query gives of a trace: its report, a line for each sink, or its influence, a line for each source byte
+abbrev pub given_by : Listing → Query → List StepSeen → List ℕ
+given_by BySink = report_of
+given_by BySource = influence_of
+
+-- the answer is what every query gives that asks alike
+abbrev pub IsGivenAlike : Listing → Run → Query → Result (List ℕ) Refusal → Type 0
+IsGivenAlike listing run kept answer = (q : Query) → Alike kept q → traced_answer run (given_by listing q) ≡ answer
+
+-- the reports of several queries, whose rules are compared first
+abbrev pub several_answer : Run → List Query → Result (List ℕ) Refusal
+several_answer run qs = and_then (rules_check qs) (λ same. traced_answer run (reports_of qs))
+
+-- the answer is what all queries give that ask alike
+abbrev pub AreGivenAlike : Run → List Query → Result (List ℕ) Refusal → Type 0
+AreGivenAlike run kept answer = (qs : List Query) → AskAlike kept qs → several_answer run qs ≡ answer
+
+-- several queries have one rule, and this one asks for what any of them does
+pub record IsUnion (queries : List Query) (union : Query) : Type 0 where
+  pub alike : Alike union (together queries)
+  pub one_rule : first_other_rule queries ≡ None
+
+-- `query I` and the report of a query, by rows that are not all its own
+abbrev pub numbered_text : ℕ → Query → List Row → List ℕ
+numbered_text number q rows = codes "query " ++ decimal number ++ 0x0a ∷ [] ++ report_text (only q rows)

@@ -1,4 +1,5 @@
 pub mod Targets
+pub mod Sources
 pub mod Answers
 pub mod Outside
 pub mod Keeping

@@ -1,33 +1,34 @@
 //! What a command gives: its files are read one after another, and a text is made of them.
-ghost use Rattle.std.specs.Prelude.{◌≡◌, ◌≤◌, ◌∷◌, [], OnOk};
+ghost use Rattle.std.specs.Prelude.{◌≡◌, ◌≤◌, ◌∷◌, [], length, map, OnOk};
 ghost use Rattle.outer_io.specs.Tells.{Tells, Gains};
-ghost use Rattle.jet_model.specs.Answer.{query_answer, log_answer};
+ghost use Rattle.jet_model.specs.Answer.{query_answer, queries_answer, log_answer, convert_answer};
 ghost use Rattle.run_output.specs.Summary.{summary_text};
 ghost use Rattle.run_output.specs.Output.{output as output_of};
 ghost use Rattle.jet_words.specs.Commands.{plain_command, IsInRange};
 ghost use Rattle.jet_files.specs.Outcome.{Comes, Follows, seen_by, bytes_of};
-ghost use Rattle.jet_cli.specs.Targets.{sources_of, target_of, IfOutput};
-ghost use Rattle.jet_cli.specs.Answers.{IsAnswer, named};
+ghost use Rattle.jet_cli.specs.Targets.{sources_of, IfUntimed};
+ghost use Rattle.jet_cli.specs.Answers.{IsAnswer, given_by, named};
 ghost use Rattle.jet_cli.specs.Ending.{status_after};
 ghost use Rattle.jet_cli.specs.Keeping.{OpensAll, OpensFirst, KeepsAll};
 
 use crate::record::{Limits, record};
-use crate::work::{output, report, summary};
-use jet_files::{open_query, open_run};
+use crate::work::{Listing, conversion, list, output, reports, summary};
+use jet_files::{open_queries, open_query, open_run};
 use jet_refusal::Refusal;
 use jet_words::Command;
 use outer_io::{Clock, Store};
 use std::alloc::Global;
 
-/// The report of a query.
+/// The listing of a query.
 fn query<S: Store>(
     alloc: Global,
     store: &mut S,
     program: &str,
     log: &str,
     query: &str,
+    listing: Listing,
 ) -> Result<Vec<u8>, Refusal>
-    ensures answer { Comes (λ file. query_answer file (named program.now log.now query.now))
+    ensures answer { Comes (λ file. query_answer (given_by listing) file (named program.now log.now query.now))
         (S.shown store.old) (S.shown store.new) (seen_by bytes_of result) }
     ensures keeps { KeepsAll (S.shown store.old) (S.shown store.new) }
     ensures opened { OpensFirst (program.now ∷ log.now ∷ query.now ∷ []) (S.shown store.old) (S.shown store.new) }
@@ -36,7 +37,30 @@ fn query<S: Store>(
 {
     let run = open_run(alloc, store, program, log)?;
     let query = open_query(alloc, store, query)?;
-    report(alloc, run, &query)
+    list(alloc, run, &query, listing)
+}
+
+/// The reports of several queries.
+fn queries<S: Store>(
+    alloc: Global,
+    store: &mut S,
+    program: &str,
+    log: &str,
+    names: &[&str],
+) -> Result<Vec<u8>, Refusal>
+    requires some { 1 ≤ length names.now }
+    requires few { length names.now ≤ 16 }
+    ensures answer { Comes (λ file. queries_answer file program.now log.now (map (λ name. name.now) names.now))
+        (S.shown store.old) (S.shown store.new) (seen_by bytes_of result) }
+    ensures keeps { KeepsAll (S.shown store.old) (S.shown store.new) }
+    ensures opened { OpensFirst (program.now ∷ log.now ∷ map (λ name. name.now) names.now) (S.shown store.old) (S.shown store.new) }
+    ensures all { OnOk result (OpensAll (program.now ∷ log.now ∷ map (λ name. name.now) names.now)
+        (S.shown store.old) (S.shown store.new)) }
+    ensures later { (S.shown store.old).faults ≤ (S.shown store.new).faults }
+{
+    let run = open_run(alloc, store, program, log)?;
+    let queries = open_queries(alloc, store, names)?;
+    reports(alloc, run, &queries)
 }
 
 /// The numbers of a run.
@@ -76,6 +100,24 @@ fn written<S: Store>(
     output(alloc, run, channel)
 }
 
+/// The log of a run in version 2.
+fn convert<S: Store>(
+    alloc: Global,
+    store: &mut S,
+    program: &str,
+    log: &str,
+) -> Result<Vec<u8>, Refusal>
+    ensures answer { Comes (λ file. convert_answer file program.now log.now)
+        (S.shown store.old) (S.shown store.new) (seen_by bytes_of result) }
+    ensures keeps { KeepsAll (S.shown store.old) (S.shown store.new) }
+    ensures opened { OpensFirst (program.now ∷ log.now ∷ []) (S.shown store.old) (S.shown store.new) }
+    ensures all { OnOk result (OpensAll (program.now ∷ log.now ∷ []) (S.shown store.old) (S.shown store.new)) }
+    ensures later { (S.shown store.old).faults ≤ (S.shown store.new).faults }
+{
+    let run = open_run(alloc, store, program, log)?;
+    conversion(alloc, run)
+}
+
 /// The text of a command, which `deliver` writes.
 pub fn answer<S: Store, K: Clock>(
     alloc: Global,
@@ -90,7 +132,7 @@ pub fn answer<S: Store, K: Clock>(
     ensures opened { OpensFirst (sources_of (plain_command command.now)) (S.shown store.old) (S.shown store.new) }
     ensures all { OnOk result (OpensAll (sources_of (plain_command command.now)) (S.shown store.old) (S.shown store.new)) }
     ensures later { (S.shown store.old).faults ≤ (S.shown store.new).faults }
-    ensures clock { IfOutput (target_of (plain_command command.now)) (clock.new ≡ clock.old) }
+    ensures clock { IfUntimed (plain_command command.now) (clock.new ≡ clock.old) }
     ensures unasked { 2 ≤ status_after result → status_after result ≤ 7
         → Tells (K.answers clock.old) (K.answers clock.new) (Gains []) }
 {
@@ -99,7 +141,7 @@ pub fn answer<S: Store, K: Clock>(
             program,
             log,
             query: name,
-        } => query(alloc, store, program, log, name),
+        } => query(alloc, store, program, log, name, Listing::BySink),
         Command::Record {
             program,
             inputs,
@@ -121,5 +163,16 @@ pub fn answer<S: Store, K: Clock>(
             log,
             channel,
         } => written(alloc, store, program, log, *channel),
+        Command::Convert { program, log, .. } => convert(alloc, store, program, log),
+        Command::Influence {
+            program,
+            log,
+            query: name,
+        } => query(alloc, store, program, log, name, Listing::BySource),
+        Command::Queries {
+            program,
+            log,
+            queries: names,
+        } => queries(alloc, store, program, log, names),
     }
 }

@@ -4,7 +4,7 @@ ghost use Rattle.clap.specs.Words.{takes};
 ghost use Rattle.outer_io.specs.Tells.{Tells, Gains};
 ghost use Rattle.jet_words.specs.CommandLine.{jet_app};
 ghost use Rattle.jet_words.specs.Commands.{plain_command, IsInRange};
-ghost use Rattle.jet_cli.specs.Targets.{command_in, target_of, target_in, files_of, IfOutput, IfFile};
+ghost use Rattle.jet_cli.specs.Targets.{command_in, target_of, target_in, files_of, IfFile, IfUntimed, IfUntimedIn};
 ghost use Rattle.jet_cli.specs.Outside.{change};
 ghost use Rattle.jet_cli.specs.Keeping.{OpensAll, OpensFirst, KeepsAll, KeepsBut};
 ghost use Rattle.jet_cli.specs.Ending.{Ends, IsUnwritten, status_after};
@@ -34,7 +34,7 @@ fn carry_out<S: Store, O: Sink, K: Clock>(
         (S.shown store.old) (S.shown store.new)) }
     ensures silent { IsUnwritten (status_after result) → out.new ≡ out.old }
     ensures aside { IfFile (target_of (plain_command command.now)) (out.new ≡ out.old) }
-    ensures clock { IfOutput (target_of (plain_command command.now)) (clock.new ≡ clock.old) }
+    ensures clock { IfUntimed (plain_command command.now) (clock.new ≡ clock.old) }
     ensures unasked { 2 ≤ status_after result → status_after result ≤ 7
         → Tells (K.answers clock.old) (K.answers clock.new) (Gains []) }
 {
@@ -71,7 +71,7 @@ pub fn obey<S: Store, O: Sink, K: Clock>(
     ensures untouched { IsUnwritten (status_after result) → KeepsAll (S.shown store.old) (S.shown store.new) }
     ensures silent { IsUnwritten (status_after result) → out.new ≡ out.old }
     ensures aside { IfFile (target_in (command_in words.now)) (out.new ≡ out.old) }
-    ensures clock { IfOutput (target_in (command_in words.now)) (clock.new ≡ clock.old) }
+    ensures clock { IfUntimedIn (command_in words.now) (clock.new ≡ clock.old) }
     ensures unasked { 2 ≤ status_after result → status_after result ≤ 7
         → Tells (K.answers clock.old) (K.answers clock.new) (Gains []) }
 {

@@ -10,7 +10,7 @@ ghost use Rattle.jet_cli.specs.Writing.{Delivers, DeliversPart, FailsToWrite};
 use jet_words::Command;
 use outer_io::{Sink, Store, WriteFault, write_file, write_whole};
 
-/// Writes the text of a command: the log of a run into its file, and every other text to the output.
+/// Writes the text of a command: a log into its file, and every other text to the output.
 pub fn deliver<S: Store, O: Sink>(
     store: &mut S,
     out: &mut O,
@@ -33,5 +33,8 @@ pub fn deliver<S: Store, O: Sink>(
         Command::Query { .. } => write_whole(out, text),
         Command::Replay { .. } => write_whole(out, text),
         Command::Output { .. } => write_whole(out, text),
+        Command::Convert { new, .. } => write_file(store, new, text),
+        Command::Influence { .. } => write_whole(out, text),
+        Command::Queries { .. } => write_whole(out, text),
     }
 }

@@ -11,7 +11,9 @@ mod answer;
 mod command;
 mod delivery;
 mod ending;
+mod influence;
 mod record;
+mod reports;
 mod work;
 
 pub use command::obey;

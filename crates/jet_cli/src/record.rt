@@ -26,7 +26,7 @@ pub struct Limits {
     /// The greatest number of bytes that a read gets.
     pub piece: u32,
     /// The number of steps after which the run is cut off.
-    pub steps: u32,
+    pub steps: u64,
 }
 
 /// Why a run was not recorded.

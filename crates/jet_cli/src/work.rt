@@ -1,29 +1,27 @@
 //! The work over a program and a log that were read: the log is fitted to its program, the run is replayed, and a text is
 //! made of it.
-ghost use Rattle.std.specs.Prelude.{◌≡◌, Ok, Err, IfOk, IfErr};
+ghost use Rattle.std.specs.Prelude.{◌≡◌, ◌≤◌, Ok, Err, length, IfOk, IfErr, OnErr};
 ghost use Rattle.elf_model.specs.Image.{image as image_of_file};
-ghost use Rattle.report_model.specs.Query.{Query as QueryOf, Alike};
-ghost use Rattle.report_model.specs.Rows.{rows};
-ghost use Rattle.report_model.specs.Text.{report_text};
 ghost use Rattle.replayer.specs.Checks.{IsChecked};
 ghost use Rattle.replayer.specs.Jobs.{trace_of};
 ghost use Rattle.run_output.specs.Summary.{summary_text as summary_text_of};
 ghost use Rattle.run_output.specs.Output.{output as output_of};
-ghost use Rattle.jet_model.specs.Answer.{fitting_start, report_answer, text_answer};
+ghost use Rattle.jet_model.specs.Outcomes.{and_then};
+ghost use Rattle.jet_model.specs.Answer.{fitting_start, text_answer, limited_text};
 ghost use Rattle.jet_files.specs.Outcome.{IsWork, seen_by, bytes_of};
 ghost use Rattle.jet_files.specs.Views.{run_of};
-ghost use Rattle.jet_cli.specs.Answers.{IsWorkOf};
+ghost use Rattle.jet_cli.specs.Answers.{IsWorkOf, IsGivenAlike, AreGivenAlike, given_by};
 
+use crate::influence::influence_of;
+use crate::reports::{report_text, reports_of, union_of};
 use elf_image::Image;
-use jet_files::{Program, Run};
+use jet_files::{LONGEST_FILE, Program, Run};
 use jet_refusal::Refusal;
 use no_memory::NoMemory;
 use query_lang::Query;
-use replay_log::Log;
+use replay_log::{Log, write_log};
 use replayer::{CheckFault, Job};
 use run_output::{output_on, summary_text};
-use seq_taint::sequential;
-use sink_collect::{gather, text};
 use std::alloc::Global;
 
 /// The log fitted to its program.
@@ -41,27 +39,77 @@ fn fitted(alloc: Global, program: &[u8], image: Image, log: Log) -> Result<Job, 
     }
 }
 
-/// The report's text: that of the rows of the query over the run.
-fn report_of(alloc: Global, job: &Job, query: &Query) -> Result<Vec<u8>, NoMemory>
-    ensures { IfOk result (λ text. text.items ≡ report_text (rows query.now (trace_of job.now))) }
-{
-    let sets = sequential(alloc, job, query)?;
-    let report = gather(alloc, sets)?;
-    text(alloc, &report)
-}
-
-/// The report of a query over the run, for each query that this one stands for.
-pub fn report(alloc: Global, run: Run, query: &Query) -> Result<Vec<u8>, Refusal>
+/// A run whose log fits its program.
+fn fitted_run(alloc: Global, run: Run) -> Result<Job, Refusal>
     requires image { image_of_file run.program.bytes.items ≡ Ok run.program.image }
-    ensures { IsWorkOf (λ answer. (q : QueryOf) → Alike query.now q → report_answer (run_of run) q ≡ answer) (seen_by bytes_of result) }
+    ensures ok { IfOk result (λ job. IsChecked run.program.bytes.items run.program.image run.log job) }
+    ensures err { IfErr result (λ r. IsWork (fitting_start (run_of run).program run.log) (Err r)) }
 {
     let Run { program, log } = run;
     let Program { bytes, image } = program;
-    let job = fitted(alloc, &bytes, image, log)?;
-    match report_of(alloc, &job, query) {
-        Ok(text) => Ok(text),
+    fitted(alloc, &bytes, image, log)
+}
+
+/// A text, or out of memory.
+fn or_memory(text: Result<Vec<u8>, NoMemory>) -> Result<Vec<u8>, Refusal>
+    ensures ok { IfOk text (λ bytes. result ≡ Ok bytes) }
+    ensures err { OnErr text (result ≡ Err Refusal.NoMemory) }
+{
+    match text {
+        Ok(bytes) => Ok(bytes),
         Err(NoMemory) => Err(Refusal::NoMemory),
     }
+}
+
+/// What is listed of a query's rows.
+#[derive(Clone, Copy)]
+pub enum Listing {
+    /// The report: a line for each output byte and point, with its source bytes.
+    BySink,
+    /// The influence: a line for each source byte, with what it came to.
+    BySource,
+}
+
+/// The text of a listing.
+fn listed(
+    alloc: Global,
+    job: &Job,
+    query: &Query,
+    listing: Listing,
+) -> Result<Vec<u8>, NoMemory>
+    ensures { IfOk result (λ text. text.items ≡ given_by listing query.now (trace_of job.now)) }
+{
+    match listing {
+        Listing::BySink => report_text(alloc, job, query),
+        Listing::BySource => influence_of(alloc, job, query),
+    }
+}
+
+/// The listing of a query over the run, for each query that this one stands for.
+pub fn list(
+    alloc: Global,
+    run: Run,
+    query: &Query,
+    listing: Listing,
+) -> Result<Vec<u8>, Refusal>
+    requires image { image_of_file run.program.bytes.items ≡ Ok run.program.image }
+    ensures { IsWorkOf (IsGivenAlike listing (run_of run) query.now) (seen_by bytes_of result) }
+{
+    let job = fitted_run(alloc, run)?;
+    or_memory(listed(alloc, &job, query, listing))
+}
+
+/// The reports of several queries over the run, for all queries that these stand for. The rules are compared first; then one
+/// replay serves all.
+pub fn reports(alloc: Global, run: Run, queries: &[Query]) -> Result<Vec<u8>, Refusal>
+    requires image { image_of_file run.program.bytes.items ≡ Ok run.program.image }
+    requires some { 1 ≤ length queries.now }
+    requires few { length queries.now ≤ 16 }
+    ensures { IsWorkOf (AreGivenAlike (run_of run) queries.now) (seen_by bytes_of result) }
+{
+    let union = union_of(alloc, queries)?;
+    let job = fitted_run(alloc, run)?;
+    or_memory(reports_of(alloc, &job, &union, queries))
 }
 
 /// The numbers of the run, as text.
@@ -69,13 +117,8 @@ pub fn summary(alloc: Global, run: Run) -> Result<Vec<u8>, Refusal>
     requires image { image_of_file run.program.bytes.items ≡ Ok run.program.image }
     ensures { IsWork (text_answer (run_of run) summary_text_of) (seen_by bytes_of result) }
 {
-    let Run { program, log } = run;
-    let Program { bytes, image } = program;
-    let job = fitted(alloc, &bytes, image, log)?;
-    match summary_text(alloc, &job.summary()) {
-        Ok(text) => Ok(text),
-        Err(NoMemory) => Err(Refusal::NoMemory),
-    }
+    let job = fitted_run(alloc, run)?;
+    or_memory(summary_text(alloc, &job.summary()))
 }
 
 /// What the run wrote on a channel.
@@ -83,11 +126,21 @@ pub fn output(alloc: Global, run: Run, channel: u32) -> Result<Vec<u8>, Refusal>
     requires image { image_of_file run.program.bytes.items ≡ Ok run.program.image }
     ensures { IsWork (text_answer (run_of run) (output_of channel)) (seen_by bytes_of result) }
 {
-    let Run { program, log } = run;
-    let Program { bytes, image } = program;
-    let job = fitted(alloc, &bytes, image, log)?;
-    match output_on(alloc, job.log().records(), channel) {
-        Ok(bytes) => Ok(bytes),
-        Err(NoMemory) => Err(Refusal::NoMemory),
+    let job = fitted_run(alloc, run)?;
+    or_memory(output_on(alloc, job.log().records(), channel))
+}
+
+/// The log of the run in version 2. It gives up with `LogTooLong`, where that has more than 2^26 bytes.
+pub fn conversion(alloc: Global, run: Run) -> Result<Vec<u8>, Refusal>
+    requires image { image_of_file run.program.bytes.items ≡ Ok run.program.image }
+    ensures { IsWork (and_then (fitting_start (run_of run).program (run_of run).log) (λ start. limited_text (run_of run).log)) (seen_by bytes_of result) }
+{
+    let job = fitted_run(alloc, run)?;
+    job.form();
+    let log = job.log();
+    let size = log.size();
+    if size > LONGEST_FILE as u64 {
+        return Err(Refusal::LogTooLong(size));
     }
+    or_memory(write_log(alloc, log))
 }

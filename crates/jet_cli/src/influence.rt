@@ -1,0 +1,59 @@
+//! The influence of source bytes: a report turned round.
+ghost use Rattle.std.specs.Prelude.{◌≡◌, ◌++◌, ◌<◌, map, IfOk, OnOk};
+ghost use Rattle.std.specs.List.{filter, range_with_len};
+ghost use Rattle.report_model.specs.Query.{has_source};
+ghost use Rattle.report_model.specs.Influence.{chosen_sources};
+ghost use Rattle.jet_model.specs.Report.{influence_of as influence_text_of};
+ghost use Rattle.replayer.specs.Jobs.{trace_of};
+ghost use Rattle.jet_cli.specs.Sources.{source_on};
+
+use flow_model::SourceByte;
+use no_memory::NoMemory;
+use query_lang::Query;
+use replayer::Job;
+use seq_taint::sequential;
+use sink_collect::{gather, influence_text, turn_round};
+use std::alloc::Global;
+
+/// There are at most so many input channels.
+const CHANNELS: u8 = 16;
+
+/// Adds those of the first `count` bytes of a channel that the query chooses.
+fn push_sources(
+    sources: &mut Vec<SourceByte>,
+    channel: u8,
+    count: u32,
+    query: &Query,
+) -> Result<(), NoMemory>
+    ensures { OnOk result (sources.new.items ≡ sources.old.items ++ filter (has_source query.now) (map (source_on channel) (range_with_len 0 count))) }
+{
+    for offset in 0..count {
+        let byte = SourceByte { channel, offset };
+        if query.source_has(byte) {
+            sources.push(byte)?;
+        }
+    }
+    Ok(())
+}
+
+/// The source bytes that the run received and the query chooses, by channel and then offset.
+fn sources_of(alloc: Global, job: &Job, query: &Query) -> Result<Vec<SourceByte>, NoMemory>
+    ensures { IfOk result (λ sources. sources.items ≡ chosen_sources query.now (trace_of job.now)) }
+{
+    job.form();
+    let mut sources = Vec::new(alloc);
+    for channel in 0..CHANNELS {
+        push_sources(&mut sources, channel, job.received(u32::from(channel)), query)?;
+    }
+    Ok(sources)
+}
+
+/// The text of the influence of the source bytes that a query chooses.
+pub fn influence_of(alloc: Global, job: &Job, query: &Query) -> Result<Vec<u8>, NoMemory>
+    ensures { IfOk result (λ text. text.items ≡ influence_text_of query.now (trace_of job.now)) }
+{
+    let report = gather(alloc, sequential(alloc, job, query)?)?;
+    let sources = sources_of(alloc, job, query)?;
+    let influence = turn_round(alloc, &report, sources)?;
+    influence_text(alloc, &influence)
+}
