@@ -5,7 +5,7 @@ use Rattle.outer_io.specs.Faults.{Rose}
 use Rattle.outer_io.specs.Tells.{Tells, Gains}
 use Rattle.outer_io.specs.Files.{Files}
 use Rattle.outer_io.proofs.TellsLemmas.{tells-map}
-use Rattle.jet_words.specs.Commands.{CommandOf, QueryOf, RecordOf, ReplayOf, OutputOf}
+use Rattle.jet_words.specs.Commands.{CommandOf, QueryOf, RecordOf, ReplayOf, OutputOf, ConvertOf, InfluenceOf, QueriesOf}
 use Rattle.jet_refusal.specs.declared.refusal.Refusal.{Refusal}
 use Rattle.jet_refusal.specs.declared.refusal.Refusal.TheVariants as refusal
 use Rattle.jet_refusal.specs.Refusals.{status_of, line_of}
@@ -13,7 +13,8 @@ use Rattle.jet_refusal.specs.Causes.{Causes, IsOwedTo}
 use Rattle.jet_refusal.proofs.Causes.{IsOwedTo-map}
 use Rattle.jet_model.specs.Contents.{Contents}
 use Rattle.jet_model.specs.Answer.{IsRecordAnswer}
-use Rattle.jet_model.proofs.Headline.{answer-is_report, report-is_answer, log_answer-is_given, given-is_log_answer, record_answer-is_recording, recording-is_record_answer, one_record_answer}
+use Rattle.jet_model.specs.Report.{report_of, influence_of}
+use Rattle.jet_model.proofs.Headline.{answer-is_given, given-is_answer, reports-are_given, given-are_reports, log_answer-is_given, given-is_log_answer, convert-is_given, given-is_convert, record_answer-is_recording, recording-is_record_answer, one_record_answer}
 use Rattle.run_output.specs.Summary.{summary_text}
 use Rattle.run_output.specs.Output.{output}
 use Rattle.jet_files.specs.Outcome.{Found}
@@ -45,20 +46,29 @@ module _ (change : Change) (file : Contents) where
       (subst (λ (xs : List ℕ). IsRecordAnswer file program inputs limits xs a) (same_gain change.before.heard change.after.heard p.answers q.answers told p.gained q.gained) p.holds) q.holds
   one_answer (ReplayOf program log) a b told p q = sym p ∙ q
   one_answer (OutputOf program log channel) a b told p q = sym p ∙ q
+  one_answer (ConvertOf program log new) a b told p q = sym p ∙ q
+  one_answer (InfluenceOf program log query) a b told p q = sym p ∙ q
+  one_answer (QueriesOf program log queries) a b told p q = sym p ∙ q
 
   wanted : (command : CommandOf) (text : List ℕ) → Answers command (Ok text) → IsWanted command change file text
-  wanted (QueryOf program log query) text h = answer-is_report file (named program log query) text h
+  wanted (QueryOf program log query) text h = answer-is_given report_of file (named program log query) text h
   wanted (RecordOf program log inputs pages piece steps) text h =
       record { answers = h.answers; gained = h.gained; holds = record_answer-is_recording file program inputs (limits_of pages piece steps) h.answers text h.holds }
   wanted (ReplayOf program log) text h = log_answer-is_given file program log summary_text text h
   wanted (OutputOf program log channel) text h = log_answer-is_given file program log (output channel) text h
+  wanted (ConvertOf program log new) text h = convert-is_given file program log text h
+  wanted (InfluenceOf program log query) text h = answer-is_given influence_of file (named program log query) text h
+  wanted (QueriesOf program log queries) text h = reports-are_given file program log queries text h
 
   answered : (command : CommandOf) (text : List ℕ) → AreWithinLimits command file text → IsWanted command change file text → Answers command (Ok text)
-  answered (QueryOf program log query) text short h = report-is_answer file (named program log query) text short h
+  answered (QueryOf program log query) text short h = given-is_answer report_of file (named program log query) text short h
   answered (RecordOf program log inputs pages piece steps) text short h =
       record { answers = h.answers; gained = h.gained; holds = recording-is_record_answer file program inputs (limits_of pages piece steps) h.answers text short.0 short.1 short.2 h.holds }
   answered (ReplayOf program log) text short h = given-is_log_answer file program log summary_text text short.0 short.1 h
   answered (OutputOf program log channel) text short h = given-is_log_answer file program log (output channel) text short.0 short.1 h
+  answered (ConvertOf program log new) text short h = given-is_convert file program log text short.0 short.1 short.2 h.given
+  answered (InfluenceOf program log query) text short h = given-is_answer influence_of file (named program log query) text short h
+  answered (QueriesOf program log queries) text short h = given-are_reports file program log queries text short.0 short.1 short.2 h
 
 -- ---- 0, and 8
 

@@ -7,7 +7,7 @@ use Rattle.jet_refusal.specs.Causes.{Causes, IsOwedTo}
 use Rattle.jet_cli.specs.Ending.{status_after}
 use Rattle.jet.specs.Statuses.{IsStatus}
 
-pub status_of-range : (r : Refusal) → (2 ≤ status_of r) × (status_of r ≤ 10)
+pub status_of-range : (r : Refusal) → (2 ≤ status_of r) × (status_of r ≤ 11)
 status_of-range refusal.Usage = (omega arith, omega arith)
 status_of-range (refusal.Image fault) = (omega arith, omega arith)
 status_of-range (refusal.Window pages) = (omega arith, omega arith)
@@ -15,6 +15,8 @@ status_of-range (refusal.Log kind offset) = (omega arith, omega arith)
 status_of-range (refusal.Program kept seen) = (omega arith, omega arith)
 status_of-range (refusal.Diverged d) = (omega arith, omega arith)
 status_of-range (refusal.Query line kind) = (omega arith, omega arith)
+status_of-range (refusal.QueryOf file line kind) = (omega arith, omega arith)
+status_of-range (refusal.Rules first index other) = (omega arith, omega arith)
 status_of-range refusal.TooLong = (omega arith, omega arith)
 status_of-range (refusal.LogTooLong size) = (omega arith, omega arith)
 status_of-range refusal.ReadFault = (omega arith, omega arith)
@@ -33,6 +35,8 @@ is_usage (refusal.Log kind offset) e = let f : ⊥ = omega (arith, e) in absurd 
 is_usage (refusal.Program kept seen) e = let f : ⊥ = omega (arith, e) in absurd f
 is_usage (refusal.Diverged d) e = let f : ⊥ = omega (arith, e) in absurd f
 is_usage (refusal.Query line kind) e = let f : ⊥ = omega (arith, e) in absurd f
+is_usage (refusal.QueryOf file line kind) e = let f : ⊥ = omega (arith, e) in absurd f
+is_usage (refusal.Rules first index other) e = let f : ⊥ = omega (arith, e) in absurd f
 is_usage refusal.TooLong e = let f : ⊥ = omega (arith, e) in absurd f
 is_usage (refusal.LogTooLong size) e = let f : ⊥ = omega (arith, e) in absurd f
 is_usage refusal.ReadFault e = let f : ⊥ = omega (arith, e) in absurd f
@@ -48,6 +52,8 @@ of_any_cause P (refusal.Log kind offset) memory p = p
 of_any_cause P (refusal.Program kept seen) memory p = p
 of_any_cause P (refusal.Diverged d) memory p = p
 of_any_cause P (refusal.Query line kind) memory p = p
+of_any_cause P (refusal.QueryOf file line kind) memory p = p
+of_any_cause P (refusal.Rules first index other) memory p = p
 of_any_cause P refusal.TooLong memory p = p
 of_any_cause P (refusal.LogTooLong size) memory p = p
 of_any_cause P refusal.ReadFault memory p = p
@@ -63,6 +69,8 @@ of_write_fault P causes (refusal.Log kind offset) e step p = let f : ⊥ = omega
 of_write_fault P causes (refusal.Program kept seen) e step p = let f : ⊥ = omega (arith, e) in absurd f
 of_write_fault P causes (refusal.Diverged d) e step p = let f : ⊥ = omega (arith, e) in absurd f
 of_write_fault P causes (refusal.Query line kind) e step p = let f : ⊥ = omega (arith, e) in absurd f
+of_write_fault P causes (refusal.QueryOf file line kind) e step p = let f : ⊥ = omega (arith, e) in absurd f
+of_write_fault P causes (refusal.Rules first index other) e step p = let f : ⊥ = omega (arith, e) in absurd f
 of_write_fault P causes refusal.TooLong e step p = let f : ⊥ = omega (arith, e) in absurd f
 of_write_fault P causes (refusal.LogTooLong size) e step p = let f : ⊥ = omega (arith, e) in absurd f
 of_write_fault P causes refusal.ReadFault e step p = let f : ⊥ = omega (arith, e) in absurd f

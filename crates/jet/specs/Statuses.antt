@@ -2,31 +2,35 @@
 -- clock show before the call and after it.
 use Rattle.std.specs.Prelude.{◌≡◌, ◌⊎◌, ◌≤◌, ◌^◌, ℕ, List, length, Option, Some, None, IsSome, Result, Ok}
 use Rattle.outer_io.specs.Files.{Files}
-use Rattle.jet_words.specs.Commands.{CommandOf, QueryOf, RecordOf, ReplayOf, OutputOf}
+use Rattle.jet_words.specs.Commands.{CommandOf, QueryOf, RecordOf, ReplayOf, OutputOf, ConvertOf, InfluenceOf, QueriesOf}
 use Rattle.jet_refusal.specs.declared.refusal.Refusal.{Refusal}
 use Rattle.jet_refusal.specs.Refusals.{status_of, line_of}
 use Rattle.jet_refusal.specs.Causes.{IsOwedTo}
 use Rattle.jet_model.specs.Contents.{Contents}
-use Rattle.jet_model.specs.Headline.{IsReportOf, IsGivenBy, IsRecordingOf, IsShort, AreShort, AreAllShort}
+use Rattle.jet_model.specs.Headline.{IsReportOf, IsInfluenceOf, AreReportsOf, IsGivenBy, IsConversionOf, IsRecordingOf, IsShort, AreShort, AreAllShort}
 use Rattle.run_output.specs.Summary.{summary_text}
 use Rattle.run_output.specs.Output.{output}
 use Rattle.jet_cli.specs.Answers.{IsAnswer, Hears, named, limits_of}
 use Rattle.jet_cli.specs.Outside.{Change, Told, IsUndisturbed}
 use Rattle.jet_cli.specs.Ending.{WritesWhole, WritesPart, causes_of, status_after}
 
--- the program ends with 0, or with one of 2 to 10
+-- the program ends with 0, or with one of 2 to 11
 abbrev pub IsStatus : ℕ → Type 0
-IsStatus status = (status ≡ 0) ⊎ ((2 ≤ status) × (status ≤ 10))
+IsStatus status = (status ≡ 0) ⊎ ((2 ≤ status) × (status ≤ 11))
 
 -- ---- 0: the text that the words want was written whole
 
--- the text is the report of a query; the numbers of a run; what a run wrote on a channel; or the log of a run, by the clock's answers
+-- the text is the report of a query; the log of a run, by the clock's answers; the numbers of a run; what a run wrote on a
+-- channel; a log in version 2; an influence; or the reports of several queries
 abbrev pub IsWanted : CommandOf → Change → Contents → List ℕ → Type 0
 IsWanted (QueryOf program log query) change file text = IsReportOf file (named program log query) text
 IsWanted (RecordOf program log inputs pages piece steps) change file text =
     Hears change.before.heard change.after.heard (λ answers. IsRecordingOf file program inputs (limits_of pages piece steps) answers text)
 IsWanted (ReplayOf program log) change file text = IsGivenBy file program log summary_text text
 IsWanted (OutputOf program log channel) change file text = IsGivenBy file program log (output channel) text
+IsWanted (ConvertOf program log new) change file text = IsConversionOf file program log text
+IsWanted (InfluenceOf program log query) change file text = IsInfluenceOf file (named program log query) text
+IsWanted (QueriesOf program log queries) change file text = AreReportsOf file program log queries text
 
 abbrev pub IsDone : Option CommandOf → Change → Type 0
 IsDone None change = ⊥
@@ -37,7 +41,7 @@ abbrev pub IsDoneInPart : Option CommandOf → Change → Type 0
 IsDoneInPart None change = ⊥
 IsDoneInPart (Some command) change = Told change (WritesPart command change (IsWanted command change))
 
--- ---- 2 to 10: the command is refused
+-- ---- 2 to 11: the command is refused
 
 -- the status is that of a refusal, which has its cause; `says` holds of the line that is said, and it is the refusal's
 pub record IsRefused (status : ℕ) (command : Option CommandOf) (says : List ℕ → Type 0) (change : Change) : Type 0 where
@@ -54,6 +58,9 @@ IsHeard (QueryOf program log query) change = Unit {0}
 IsHeard (RecordOf program log inputs pages piece steps) change = IsSome change.after.heard
 IsHeard (ReplayOf program log) change = Unit {0}
 IsHeard (OutputOf program log channel) change = Unit {0}
+IsHeard (ConvertOf program log new) change = Unit {0}
+IsHeard (InfluenceOf program log query) change = Unit {0}
+IsHeard (QueriesOf program log queries) change = Unit {0}
 
 -- the status is that of what the files come to
 abbrev pub IsDecided : ℕ → Option CommandOf → Change → Type 0
@@ -67,6 +74,9 @@ AreWithinLimits (QueryOf program log query) file text = AreShort file (named pro
 AreWithinLimits (RecordOf program log inputs pages piece steps) file text = IsShort (file program) × AreAllShort file inputs × (length text ≤ 2 ^ 26)
 AreWithinLimits (ReplayOf program log) file text = IsShort (file program) × IsShort (file log)
 AreWithinLimits (OutputOf program log channel) file text = IsShort (file program) × IsShort (file log)
+AreWithinLimits (ConvertOf program log new) file text = IsShort (file program) × IsShort (file log) × (length text ≤ 2 ^ 26)
+AreWithinLimits (InfluenceOf program log query) file text = AreShort file (named program log query)
+AreWithinLimits (QueriesOf program log queries) file text = IsShort (file program) × IsShort (file log) × AreAllShort file queries
 
 -- files that have what the words want, and are short enough, are answered with 0
 abbrev pub IsComplete : ℕ → Option CommandOf → Change → Type 0

@@ -3,7 +3,7 @@ ghost use Rattle.std.specs.Prelude.{◌≡◌, ◌⊎◌, ◌≤◌, [], false, 
 ghost use Rattle.clap.specs.Words.{takes};
 ghost use Rattle.outer_io.specs.Tells.{Tells, Gains};
 ghost use Rattle.jet_words.specs.CommandLine.{jet_app};
-ghost use Rattle.jet_cli.specs.Targets.{command_in, target_in, files_of, IfOutput, IfFile};
+ghost use Rattle.jet_cli.specs.Targets.{command_in, target_in, files_of, IfFile, IfUntimedIn};
 ghost use Rattle.jet_cli.specs.Outside.{change};
 ghost use Rattle.jet_cli.specs.Keeping.{OpensAll, OpensFirst, KeepsAll, KeepsBut};
 ghost use Rattle.jet_cli.specs.Ending.{IsUnwritten, Says};
@@ -33,7 +33,7 @@ pub fn jet<R: AllocGlobal, S: Store, O: Sink, E: Sink, K: Clock, G: Gate>(
         (change S.shown O.shown K.answers store.old out.old clock.old store.new out.new clock.new) }
     ensures all { result ≡ 0 → OpensAll (files_of (command_in words.now)) (S.shown store.old) (S.shown store.new) }
     ensures quiet { result ≡ 0 → err.new ≡ err.old }
-    // 2 to 10: a refusal with its cause, whose line is said. At 8 a part may have been written.
+    // 2 to 11: a refusal with its cause, whose line is said. At 8 a part may have been written.
     ensures refused { 2 ≤ result → IsRefused result (command_in words.now) (Says (E.shown err.old) (E.shown err.new))
         (change S.shown O.shown K.answers store.old out.old clock.old store.new out.new clock.new) }
     ensures part { result ≡ 8 → IsDoneInPart (command_in words.now)
@@ -49,7 +49,7 @@ pub fn jet<R: AllocGlobal, S: Store, O: Sink, E: Sink, K: Clock, G: Gate>(
     ensures untouched { IsUnwritten result → KeepsAll (S.shown store.old) (S.shown store.new) }
     ensures silent { IsUnwritten result → out.new ≡ out.old }
     ensures aside { IfFile (target_in (command_in words.now)) (out.new ≡ out.old) }
-    ensures clock { IfOutput (target_in (command_in words.now)) (clock.new ≡ clock.old) }
+    ensures clock { IfUntimedIn (command_in words.now) (clock.new ≡ clock.old) }
     ensures unasked { 2 ≤ result → result ≤ 7 → Tells (K.answers clock.old) (K.answers clock.new) (Gains []) }
 {
     let _ = gate;
