@@ -1,13 +1,23 @@
 -- From what was found in files, and the work on it, to what the files come to.
-use Rattle.std.proofs.Common.{◌≡◌, ◌∙◌, ap, sym, ℕ, ◌≤◌, List, Result, Ok, Err}
+use Rattle.std.proofs.Common.{◌≡◌, ◌∙◌, ap, ap₂, sym, refl, ℕ, ◌+◌, ◌≤◌, List, [], ◌∷◌, ◌++◌, Option, Some, None, Result, Ok, Err}
+use Rattle.std.specs.Prelude.{codes, if◌then◌else◌}
+use Rattle.std.specs.List.{filter}
+use Rattle.std.specs.Fmt.{decimal}
 use Rattle.log_model.specs.Logs.{Log}
 use Rattle.outer_io.specs.Faults.{Rose}
 use Rattle.outer_io.specs.Tells.{Tells}
 use Rattle.outer_io.specs.Shown.{StoreShown}
 use Rattle.outer_io.proofs.TellsLemmas.{tells-map}
+use Rattle.sorted_set.specs.Sets.{set_of}
+use Rattle.flow_model.specs.declared.Rule.{Rule}
+use Rattle.flow_model.specs.declared.SourceByte.{SourceByte}
+use Rattle.flow_model.specs.declared.StepSeen.{StepSeen}
+use Rattle.flow_model.specs.Orders.{source_cmp}
 use Rattle.report_model.specs.Query.{Query, Alike}
-use Rattle.report_model.specs.Rows.{rows}
+use Rattle.report_model.specs.Rows.{Row}
 use Rattle.report_model.specs.Text.{report_text}
+use Rattle.report_model.specs.Influence.{sources_of, chosen_sources, turned, influence_text}
+use Rattle.report_model.specs.Together.{is_same_rule, other_rule, first_other_rule}
 use Rattle.report_model.proofs.RowLemmas.{same_rows}
 use Rattle.replay_model.specs.Run.{trace}
 use Rattle.replayer.specs.Jobs.{Job, trace_of}
@@ -15,12 +25,15 @@ use Rattle.replayer.specs.Checks.{IsChecked}
 use Rattle.jet_refusal.specs.declared.refusal.Refusal.{Refusal}
 use Rattle.jet_refusal.proofs.Causes.{IsOwedTo-map}
 use Rattle.jet_model.specs.Outcomes.{and_then}
-use Rattle.jet_model.specs.Contents.{Contents, Names, Run, query_at, run_at}
-use Rattle.jet_model.specs.Answer.{fitting_start, query_answer, report_answer, text_answer}
+use Rattle.jet_model.specs.Contents.{Contents, Run, run_at}
+use Rattle.jet_model.specs.Report.{reports_from, reports_of}
+use Rattle.jet_model.specs.Answer.{fitting_start, traced_answer, unless_other_rule, rules_check, text_answer, limited_text}
 use Rattle.jet_model.proofs.AndThen.{and_then-ok, and_then-err}
-use Rattle.jet_files.specs.Outcome.{AreAlike, Comes, Found, Follows, IsWork, by_reading}
+use Rattle.jet_files.specs.Outcome.{AskAlike, IsKeptFor, Comes, Found, Follows, IsWork, by_reading}
 use Rattle.jet_files.proofs.Composing.{Keeps, comes-then, follows-stops}
-use Rattle.jet_cli.specs.Answers.{IsWorkOf}
+use Rattle.jet_cli.specs.declared.work.Listing.{Listing}
+use Rattle.jet_cli.specs.declared.work.Listing.TheVariants.{BySink, BySource}
+use Rattle.jet_cli.specs.Answers.{IsWorkOf, given_by, IsGivenAlike, AreGivenAlike}
 use Rattle.jet_cli.proofs.Fitting.{fitting_start-ok}
 
 -- the first calls gave a value, and what the work on it says is that of all
@@ -36,55 +49,131 @@ follows-answer R Q T x f g step first (Err r) work =
 
 -- ---- a query that was read
 
-refused_alike : (r : Refusal) (written : Result Query Refusal) → AreAlike (Err r) written → written ≡ Err r
-refused_alike r (Ok q) alike = absurd alike
-refused_alike r (Err s) alike = ap Err (sym alike)
+refused_alike : {A : Type 0} (alike : A → A → Type 0) (r : Refusal) (written : Result A Refusal) → IsKeptFor alike (Err r) written → written ≡ Err r
+refused_alike alike r (Ok q) h = absurd h
+refused_alike alike r (Err s) h = ap Err (sym h)
 
-kept_alike : {B : Type 0} (kept : Query) (next : Query → Result B Refusal) (outcome : Result B Refusal) (written : Result Query Refusal) → AreAlike (Ok kept) written
-    → ((q : Query) → Alike kept q → next q ≡ outcome) → and_then written next ≡ outcome
-kept_alike kept next outcome (Ok q) alike same = same q alike
-kept_alike kept next outcome (Err r) alike same = absurd alike
+kept_alike : {A B : Type 0} (alike : A → A → Type 0) (kept : A) (next : A → Result B Refusal) (outcome : Result B Refusal) (written : Result A Refusal) → IsKeptFor alike (Ok kept) written
+    → ((q : A) → alike kept q → next q ≡ outcome) → and_then written next ≡ outcome
+kept_alike alike kept next outcome (Ok q) h same = same q h
+kept_alike alike kept next outcome (Err r) h same = absurd h
 
-module _ (name : List ℕ) (run : Run) (f g : StoreShown) where
-  abbrev Reports : Contents → Result (List ℕ) Refusal → Type 0
-  Reports file answer = and_then (query_at file name) (λ q. report_answer run q) ≡ answer
+-- what is read after the run, of which something is kept that is alike, and the work on it
+module _ {A : Type 0} (alike : A → A → Type 0) (read : Contents → Result A Refusal) (next : A → Result (List ℕ) Refusal) (f g : StoreShown) where
+  abbrev Given : Contents → Result (List ℕ) Refusal → Type 0
+  Given file answer = and_then (read file) next ≡ answer
 
-  pub query-refused : (r : Refusal) → Follows (λ file kept. AreAlike kept (query_at file name)) f g (Err r) → Follows Reports f g (Err r)
-  query-refused r = follows-stops (λ file kept. AreAlike kept (query_at file name)) Reports f g r
-      (λ file alike. and_then-err (query_at file name) (λ q. report_answer run q) r (refused_alike r (query_at file name) alike))
+  pub kept-refused : (r : Refusal) → Follows (λ file kept. IsKeptFor alike kept (read file)) f g (Err r) → Follows Given f g (Err r)
+  kept-refused r = follows-stops (λ file kept. IsKeptFor alike kept (read file)) Given f g r
+      (λ file h. and_then-err (read file) next r (refused_alike alike r (read file) h))
 
-  pub query-reported : (kept : Query) → Follows (λ file kept. AreAlike kept (query_at file name)) f g (Ok kept) → (outcome : Result (List ℕ) Refusal)
-      → IsWorkOf (λ answer. (q : Query) → Alike kept q → report_answer run q ≡ answer) outcome → Follows Reports f g outcome
-  query-reported kept = follows-answer (λ file kept. AreAlike kept (query_at file name)) (λ answer. (q : Query) → Alike kept q → report_answer run q ≡ answer) Reports kept f g
-      (λ file outcome alike same. kept_alike kept (λ q. report_answer run q) outcome (query_at file name) alike same)
+  pub kept-given : (kept : A) → Follows (λ file kept. IsKeptFor alike kept (read file)) f g (Ok kept) → (outcome : Result (List ℕ) Refusal)
+      → IsWorkOf (λ answer. (q : A) → alike kept q → next q ≡ answer) outcome → Follows Given f g outcome
+  kept-given kept = follows-answer (λ file kept. IsKeptFor alike kept (read file)) (λ answer. (q : A) → alike kept q → next q ≡ answer) Given kept f g
+      (λ file outcome h same. kept_alike alike kept next outcome (read file) h same)
 
--- the run that was opened, and then the query
-pub query-of_run : (names : Names) (run : Run) (f g h : StoreShown) → Comes (λ file. run_at file names.program names.log) f g (Ok run) → Keeps f g → g.faults ≤ h.faults
-    → (outcome : Result (List ℕ) Refusal) → Follows (λ file answer. and_then (query_at file names.query) (λ q. report_answer run q) ≡ answer) g h outcome
-    → Comes (λ file. query_answer file names) f h outcome
-query-of_run names run = comes-then (λ file. run_at file names.program names.log) (λ r file. and_then (query_at file names.query) (λ q. report_answer r q)) run
+-- the run that was opened, and then what is read after it
+pub after_run : {A : Type 0} (program log : List ℕ) (read : Contents → Result A Refusal) (next : Run → A → Result (List ℕ) Refusal) (run : Run) (f g h : StoreShown)
+    → Comes (λ file. run_at file program log) f g (Ok run) → Keeps f g → g.faults ≤ h.faults
+    → (outcome : Result (List ℕ) Refusal) → Follows (λ file answer. and_then (read file) (next run) ≡ answer) g h outcome
+    → Comes (λ file. and_then (run_at file program log) (λ r. and_then (read file) (next r))) f h outcome
+after_run program log read next run = comes-then (λ file. run_at file program log) (λ r file. and_then (read file) (next r)) run
 
 -- ---- work over a run
 
+fitting : (run : Run) (job : Job) → IsChecked run.program.bytes run.program.image run.log job → fitting_start run.program run.log ≡ Ok job.start
+fitting run job checked = fitting_start-ok run.program run.log job.start checked.digest checked.start checked.agrees
+
+-- a text over the trace
+traced-gives : (run : Run) (given : List StepSeen → List ℕ) (job : Job) (text : List ℕ) → IsChecked run.program.bytes run.program.image run.log job
+    → text ≡ given (trace_of job) → traced_answer run given ≡ Ok text
+traced-gives run given job text checked e =
+    and_then-ok (fitting_start run.program run.log) (λ start. Ok (given (trace start run.log))) job.start (fitting run job checked)
+    ∙ ap (λ (l : Log). Ok (given (trace job.start l))) (sym checked.same_log) ∙ ap Ok (sym e)
+
+traced-stops : (run : Run) (given : List StepSeen → List ℕ) (r : Refusal) → fitting_start run.program run.log ≡ Err r → traced_answer run given ≡ Err r
+traced-stops run given r e = and_then-err (fitting_start run.program run.log) (λ start. Ok (given (trace start run.log))) r e
+
+-- ---- the listing of a query
+
+same_sources : (q p : Query) (steps : List StepSeen) → Alike q p → chosen_sources q steps ≡ chosen_sources p steps
+same_sources q p steps a = λ i. set_of source_cmp (filter (λ b. a.sources b.channel b.offset i) (sources_of steps))
+
+pub same_listing : (listing : Listing) (q p : Query) (steps : List StepSeen) → Alike q p → given_by listing q steps ≡ given_by listing p steps
+same_listing BySink q p steps a = ap report_text (same_rows q p steps a)
+same_listing BySource q p steps a = ap₂ (λ (rs : List Row) (bs : List SourceByte). influence_text (turned rs bs)) (same_rows q p steps a) (same_sources q p steps a)
+
 -- a log that doesn't fit
-pub report-stops : (run : Run) (kept : Query) (r : Refusal) → IsWork (fitting_start run.program run.log) (Err r)
-    → IsWorkOf (λ answer. (q : Query) → Alike kept q → report_answer run q ≡ answer) (Err r)
-report-stops run kept r =
-    IsOwedTo-map (by_reading (fitting_start run.program run.log ≡ Err r) ⊥) (by_reading ((q : Query) → Alike kept q → report_answer run q ≡ Err r) ⊥) (λ p. p)
-    (λ e q alike. and_then-err (fitting_start run.program run.log) (λ start. Ok (report_text (rows q (trace start run.log)))) r e) (λ p. p) (λ p. p) r
+pub listing-stops : (listing : Listing) (run : Run) (kept : Query) (r : Refusal) → IsWork (fitting_start run.program run.log) (Err r)
+    → IsWorkOf (IsGivenAlike listing run kept) (Err r)
+listing-stops listing run kept r =
+    IsOwedTo-map (by_reading (fitting_start run.program run.log ≡ Err r) ⊥) (by_reading (IsGivenAlike listing run kept (Err r)) ⊥) (λ p. p)
+    (λ e q alike. traced-stops run (given_by listing q) r e) (λ p. p) (λ p. p) r
 
--- the rows of one query are those of every query that asks alike
-pub report-gives : (run : Run) (kept : Query) (job : Job) (text : List ℕ) → IsChecked run.program.bytes run.program.image run.log job
-    → text ≡ report_text (rows kept (trace_of job)) → (q : Query) → Alike kept q → report_answer run q ≡ Ok text
-report-gives run kept job text checked e q alike =
-    and_then-ok (fitting_start run.program run.log) (λ start. Ok (report_text (rows q (trace start run.log)))) job.start
-    (fitting_start-ok run.program run.log job.start checked.digest checked.start checked.agrees)
-    ∙ ap Ok (sym (e ∙ ap report_text (same_rows kept q (trace_of job) alike ∙ ap (λ (l : Log). rows q (trace job.start l)) checked.same_log)))
+-- what one query gives is what every query gives that asks alike
+pub listing-gives : (listing : Listing) (run : Run) (kept : Query) (job : Job) (text : List ℕ) → IsChecked run.program.bytes run.program.image run.log job
+    → text ≡ given_by listing kept (trace_of job) → IsGivenAlike listing run kept (Ok text)
+listing-gives listing run kept job text checked e q alike =
+    traced-gives run (given_by listing q) job text checked (e ∙ same_listing listing kept q (trace_of job) alike)
 
--- a text that the log gives
+-- ---- several queries
+
+same_rules : (rule : Rule) (n : ℕ) (kept qs : List Query) → AskAlike kept qs → other_rule rule n kept ≡ other_rule rule n qs
+same_rules rule n [] [] h = refl
+same_rules rule n [] (q ∷ qs) h = absurd h
+same_rules rule n (k ∷ ks) [] h = absurd h
+same_rules rule n (k ∷ ks) (q ∷ qs) h =
+    ap₂ (λ (r : Rule) (rest : Option (Rule × ℕ × Rule)). if is_same_rule rule r then rest else Some (rule, n, r)) h.0.rule (same_rules rule (n + 1) ks qs h.1)
+
+same_first_rules : (kept qs : List Query) → AskAlike kept qs → first_other_rule kept ≡ first_other_rule qs
+same_first_rules [] [] h = refl
+same_first_rules [] (q ∷ qs) h = absurd h
+same_first_rules (k ∷ ks) [] h = absurd h
+same_first_rules (k ∷ ks) (q ∷ qs) h = ap (λ (r : Rule). other_rule r 2 ks) h.0.rule ∙ same_rules q.rule 2 ks qs h.1
+
+same_check : (kept qs : List Query) → AskAlike kept qs → rules_check kept ≡ rules_check qs
+same_check kept qs h = ap unless_other_rule (same_first_rules kept qs h)
+
+same_reports : (n : ℕ) (kept qs : List Query) (steps : List StepSeen) → AskAlike kept qs → reports_from n kept steps ≡ reports_from n qs steps
+same_reports n [] [] steps h = refl
+same_reports n [] (q ∷ qs) steps h = absurd h
+same_reports n (k ∷ ks) [] steps h = absurd h
+same_reports n (k ∷ ks) (q ∷ qs) steps h =
+    ap₂ (λ (rs : List Row) (rest : List ℕ). codes "query " ++ decimal n ++ 0x0a ∷ [] ++ report_text rs ++ rest) (same_rows k q steps h.0) (same_reports (n + 1) ks qs steps h.1)
+
+-- the rules differ
+pub rules-stop : (run : Run) (kept : List Query) (r : Refusal) → IsWork (rules_check kept) (Err r) → IsWorkOf (AreGivenAlike run kept) (Err r)
+rules-stop run kept r =
+    IsOwedTo-map (by_reading (rules_check kept ≡ Err r) ⊥) (by_reading (AreGivenAlike run kept (Err r)) ⊥) (λ p. p)
+    (λ e qs alike. and_then-err (rules_check qs) (λ same. traced_answer run (reports_of qs)) r (sym (same_check kept qs alike) ∙ e)) (λ p. p) (λ p. p) r
+
+one_rule-check : (kept qs : List Query) → AskAlike kept qs → first_other_rule kept ≡ None → rules_check qs ≡ Ok tt
+one_rule-check kept qs alike e = sym (same_check kept qs alike) ∙ ap unless_other_rule e
+
+-- a log that doesn't fit
+pub reports-stop : (run : Run) (kept : List Query) (r : Refusal) → first_other_rule kept ≡ None → IsWork (fitting_start run.program run.log) (Err r)
+    → IsWorkOf (AreGivenAlike run kept) (Err r)
+reports-stop run kept r one =
+    IsOwedTo-map (by_reading (fitting_start run.program run.log ≡ Err r) ⊥) (by_reading (AreGivenAlike run kept (Err r)) ⊥) (λ p. p)
+    (λ e qs alike. and_then-ok (rules_check qs) (λ same. traced_answer run (reports_of qs)) tt (one_rule-check kept qs alike one) ∙ traced-stops run (reports_of qs) r e) (λ p. p) (λ p. p) r
+
+pub reports-give : (run : Run) (kept : List Query) (job : Job) (text : List ℕ) → first_other_rule kept ≡ None → IsChecked run.program.bytes run.program.image run.log job
+    → text ≡ reports_of kept (trace_of job) → AreGivenAlike run kept (Ok text)
+reports-give run kept job text one checked e qs alike =
+    and_then-ok (rules_check qs) (λ same. traced_answer run (reports_of qs)) tt (one_rule-check kept qs alike one)
+    ∙ traced-gives run (reports_of qs) job text checked (e ∙ same_reports 1 kept qs (trace_of job) alike)
+
+-- ---- a text that the log gives
+
 pub text-gives : (run : Run) (given : Log → List ℕ) (job : Job) (text : List ℕ) → IsChecked run.program.bytes run.program.image run.log job
     → text ≡ given job.log → text_answer run given ≡ Ok text
 text-gives run given job text checked e =
-    and_then-ok (fitting_start run.program run.log) (λ start. Ok (given run.log)) job.start
-    (fitting_start-ok run.program run.log job.start checked.digest checked.start checked.agrees)
+    and_then-ok (fitting_start run.program run.log) (λ start. Ok (given run.log)) job.start (fitting run job checked)
     ∙ ap Ok (sym (e ∙ ap given checked.same_log))
+
+-- the log in version 2, or that it is too long
+pub conversion-gives : (run : Run) (job : Job) (answer : Result (List ℕ) Refusal) → IsChecked run.program.bytes run.program.image run.log job
+    → limited_text job.log ≡ answer → and_then (fitting_start run.program run.log) (λ start. limited_text run.log) ≡ answer
+conversion-gives run job answer checked e =
+    and_then-ok (fitting_start run.program run.log) (λ start. limited_text run.log) job.start (fitting run job checked)
+    ∙ ap limited_text (sym checked.same_log) ∙ e

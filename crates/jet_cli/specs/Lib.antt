@@ -1,5 +1,4 @@
 pub mod Targets
-pub mod Sources
 pub mod Answers
 pub mod Outside
 pub mod Keeping

@@ -5,7 +5,7 @@ ghost use Rattle.report_model.specs.Query.{has_source};
 ghost use Rattle.report_model.specs.Influence.{chosen_sources};
 ghost use Rattle.jet_model.specs.Report.{influence_of as influence_text_of};
 ghost use Rattle.replayer.specs.Jobs.{trace_of};
-ghost use Rattle.jet_cli.specs.Sources.{source_on};
+ghost use Rattle.jet_model.specs.Sources.{sources_on};
 
 use flow_model::SourceByte;
 use no_memory::NoMemory;
@@ -25,7 +25,7 @@ fn push_sources(
     count: u32,
     query: &Query,
 ) -> Result<(), NoMemory>
-    ensures { OnOk result (sources.new.items ≡ sources.old.items ++ filter (has_source query.now) (map (source_on channel) (range_with_len 0 count))) }
+    ensures { OnOk result (sources.new.items ≡ sources.old.items ++ filter (has_source query.now) (sources_on channel count)) }
 {
     for offset in 0..count {
         let byte = SourceByte { channel, offset };

@@ -6,3 +6,4 @@ mod Guests
 mod Reports
 mod Divergences
 mod Commands
+pub mod Received

@@ -1,5 +1,6 @@
 pub mod Outcomes
 pub mod Contents
+pub mod Sources
 pub mod Report
 pub mod Answer
 pub mod Headline

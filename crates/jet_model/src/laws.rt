@@ -1,13 +1,19 @@
 //! Laws of what files come to. Each is a function that does nothing: its contract is the law.
 
-ghost use Rattle.std.specs.Prelude.{◌≡◌, ◌≤◌, ◌^◌, ℕ, List, Result, Ok, length};
+ghost use Rattle.std.specs.Prelude.{◌≡◌, ◌≤◌, ◌^◌, ℕ, List, None, Result, Ok, length};
+ghost use Rattle.std.specs.List.{filter};
+ghost use Rattle.isa.specs.Machine.{State};
 ghost use Rattle.flow_model.specs.declared.StepSeen.{StepSeen as Step};
 ghost use Rattle.log_model.specs.declared.Version.TheVariants.{Two};
-ghost use Rattle.log_model.specs.Logs.{Log, log_text};
+ghost use Rattle.log_model.specs.Logs.{Log, IsLog, log_text};
 ghost use Rattle.log_model.specs.Reading.{log_of};
-ghost use Rattle.report_model.specs.Query.{Query};
+ghost use Rattle.report_model.specs.Query.{Query, has_source};
+ghost use Rattle.report_model.specs.Influence.{chosen_sources};
+ghost use Rattle.replay_model.specs.Run.{trace};
+ghost use Rattle.replay_model.specs.Comparison.{divergence};
 ghost use Rattle.jet_refusal.specs.declared.refusal.Refusal.{Refusal};
 ghost use Rattle.jet_model.specs.Contents.{Contents, Names};
+ghost use Rattle.jet_model.specs.Sources.{received_sources};
 ghost use Rattle.jet_model.specs.Answer.{Limits, query_answer, queries_answer, log_answer, convert_answer, IsRecordAnswer};
 ghost use Rattle.jet_model.specs.Headline.{IsGivenByQuery, AreReportsOf, IsGivenBy, IsConversionOf, IsRecordingOf, IsShort, AreShort, AreAllShort};
 
@@ -87,6 +93,13 @@ pub fn recording_is_record_answer()
 pub fn recording_is_read()
     ensures { (file : Contents) (program : List ℕ) (inputs : List (List ℕ)) (limits : Limits) (answers text : List ℕ)
         → length text ≤ 2 ^ 26 → (r : IsRecordingOf file program inputs limits answers text) → log_of text ≡ Ok r.log }
+{}
+
+/// Where nothing differs, the source bytes that a query chooses of a trace are those that it chooses of what the log received
+/// on each channel.
+pub fn sources_are_received()
+    ensures { (q : Query) (start : State) (log : Log) → IsLog log → divergence start log ≡ None
+        → chosen_sources q (trace start log) ≡ filter (has_source q) (received_sources log) }
 {}
 
 /// A program, inputs and the clock's answers come to one answer. (Other answers are values of functions.)
