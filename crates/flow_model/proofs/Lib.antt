@@ -1,4 +1,5 @@
 pub mod Orders
+pub mod Derived
 mod Origins
 mod FlowOrder
 pub mod OriginsRead
