@@ -1,4 +1,5 @@
 pub mod RowLemmas
+mod Each
 mod Examples
 mod Members
 mod Turned

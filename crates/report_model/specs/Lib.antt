@@ -5,3 +5,4 @@ pub mod Text
 pub mod RowLaws
 pub mod Influence
 pub mod InfluenceLaws
+pub mod Together
