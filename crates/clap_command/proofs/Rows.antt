@@ -20,7 +20,6 @@ use Rattle.clap.specs.declared.builder.value_parser.ValueParser.TheVariants.{Uns
 use Rattle.clap.specs.declared.parser.matches.ValueSource.TheVariants.{DefaultValue}
 use Rattle.clap.proofs.ValueTestLemmas.{accepts-Accepts}
 use Rattle.clap_command.specs.Values.{numeral_of, number_of, values_of}
-use Rattle.clap_command.specs.Numbers.{IsNumber}
 use Rattle.clap_command.specs.Plain.{is_plain_subcommand, no_values}
 use Rattle.clap_command.proofs.Bools.{each_true, is_false, left_true, or_false, right_true}
 use Rattle.clap_command.proofs.Fit.{at_new_row, fits, reads_as_written, row_fits, rows_fit, text_is_itself}
@@ -150,6 +149,12 @@ few_values c id most rows of all =
     of_found c id (λ values how. length values ≤ most) (λ o. length (unwrap_or (option_map (λ r. r.values) o) []) ≤ most)
     of (λ r q. q) rows (λ none. omega arith) all
 
+enough_values : (c : List Rule) (id : Text) (least : ℕ) (rows : List Row) → IsOf c id (λ values how. least ≤ length values) → has_row id rows ≡ true
+    → list_all (row_fits c) rows ≡ true → least ≤ length (values_of id rows)
+enough_values c id least rows of has all =
+    of_found c id (λ values how. least ≤ length values) (λ o. least ≤ length (unwrap_or (option_map (λ r. r.values) o) []))
+    of (λ r q. q) rows (λ none. let bad : false ≡ true = sym none ∙ has in cc) all
+
 below : (n most : ℕ) → nat_le n most ≡ true → n ≤ most
 below n most e = grind (arith, nat_tests)
 
@@ -157,6 +162,11 @@ fits_most : (a : Rule) (values : List Text) (how : Reading) (most : ℕ) → mos
 fits_most a values how most is e =
     let p : nat_le (length values) (most_values a) ≡ true = (each_true _ _ (each_true _ _ (each_true _ _ e).0).1).0 in
     below (length values) most (subst (λ n. nat_le (length values) n ≡ true) is p)
+
+fits_least : (a : Rule) (values : List Text) (how : Reading) (least : ℕ) → (unwrap_or_range a.range).start_inclusive ≡ least → fits a values how ≡ true → least ≤ length values
+fits_least a values how least is e =
+    let p : nat_le (unwrap_or_range a.range).start_inclusive (length values) ≡ true = (each_true _ _ (each_true _ _ e).0).0 in
+    below least (length values) (subst (λ n. nat_le n (length values) ≡ true) is p)
 
 -- ---- what is required
 
@@ -212,15 +222,15 @@ only_has p c id a only has = any-of_id p id c ∙ ap (list_any p) only ∙ left_
 has_only : (p : Rule → Bool) (c : List Rule) (id : Text) (a : Rule) → Only c id a → list_any (λ x. bytes_eq x.id id && p x) c ≡ true → p a ≡ true
 has_only p c id a only any = or_false (p a) false refl (sym (ap (list_any p) only) ∙ sym (any-of_id p id c) ∙ any)
 
--- the argument is a number in this range, which can be read
-pub record IsNumberIn (least most : ℕ) (id : Text) (rows : List Row) : Type 0 where
-  pub can_be_read : IsNumber id rows
+-- the argument is a number in this range, which can be read by a type whose greatest number is `top`
+pub record IsNumberIn (top least most : ℕ) (id : Text) (rows : List Row) : Type 0 where
+  pub can_be_read : IsUnsignedIn 0 top (numeral_of id rows)
   pub at_least : least ≤ number_of id rows
   pub at_most : number_of id rows ≤ most
 
-number_in : (least most : ℕ) (id : Text) (rows : List Row) → nat_le most 4294967295 ≡ true → IsUnsignedIn least most (numeral_of id rows) → IsNumberIn least most id rows
-number_in least most id rows small is =
-    let few : most ≤ 4294967295 = below most 4294967295 small in
+number_in : (top least most : ℕ) (id : Text) (rows : List Row) → nat_le most top ≡ true → IsUnsignedIn least most (numeral_of id rows) → IsNumberIn top least most id rows
+number_in top least most id rows small is =
+    let few : most ≤ top = below most top small in
     record { can_be_read = (is.0, is.1, omega arith, omega (arith, few, is.3)); at_least = is.2; at_most = is.3 }
 
 -- of a subcommand that takes the words
@@ -231,22 +241,34 @@ module _ (s : Shape) (words : List Text) (plain : is_plain_subcommand s ≡ true
   all_fit : list_all (row_fits s.rules) rows ≡ true
   all_fit = let p = each_true _ _ plain in rows_fit s words false p.0 (is_false _ p.1) passes
 
-  -- an argument that has to be there
-  pub number-in_range : (id : Text) (a : Rule) (least most : ℕ) → Only s.rules id a → a.required ≡ true → (unwrap_or_range a.range).start_inclusive ≡ 1
-      → a.parser ≡ Some (Unsigned least most) → nat_le most 4294967295 ≡ true → IsNumberIn least most id rows
-  number-in_range id a least most only required one parser small =
-      let given : is_given id rows ≡ true = required_given id s.rules rows (only_has (λ x. x.required) s.rules id a only required) (all_given s rows (valid_level s words passes)) in
-      number_in least most id rows small
+  -- an argument that has to be there has a row
+  has_required : (id : Text) (a : Rule) → Only s.rules id a → a.required ≡ true → has_row id rows ≡ true
+  has_required id a only required =
+      given_there id (λ r. explicit_source r.source) rows
+      (required_given id s.rules rows (only_has (λ x. x.required) s.rules id a only required) (all_given s rows (valid_level s words passes)))
+
+  -- a number that has to be there
+  pub number-in_range : (id : Text) (a : Rule) (top least most : ℕ) → Only s.rules id a → a.required ≡ true → (unwrap_or_range a.range).start_inclusive ≡ 1
+      → a.parser ≡ Some (Unsigned least most) → nat_le most top ≡ true → IsNumberIn top least most id rows
+  number-in_range id a top least most only required one parser small =
+      number_in top least most id rows small
       (number_there s.rules id least most rows (λ values how fit. numeral a least most values how one parser (has_only (λ x. fits x values how) s.rules id a only fit))
-      (given_there id (λ r. explicit_source r.source) rows given) all_fit)
+      (has_required id a only required) all_fit)
 
   -- an option with a default
-  pub option-in_range : (id : Text) (a : Rule) (least most : ℕ) → Only s.rules id a → no_values a.defaults ≡ false → (unwrap_or_range a.range).start_inclusive ≡ 1
-      → a.parser ≡ Some (Unsigned least most) → nat_le most 4294967295 ≡ true → IsNumberIn least most id rows
-  option-in_range id a least most only given one parser small =
-      number_in least most id rows small
+  pub option-in_range : (id : Text) (a : Rule) (top least most : ℕ) → Only s.rules id a → no_values a.defaults ≡ false → (unwrap_or_range a.range).start_inclusive ≡ 1
+      → a.parser ≡ Some (Unsigned least most) → nat_le most top ≡ true → IsNumberIn top least most id rows
+  option-in_range id a top least most only given one parser small =
+      number_in top least most id rows small
       (number_there s.rules id least most rows (λ values how fit. numeral a least most values how one parser (has_only (λ x. fits x values how) s.rules id a only fit))
       (defaulted id s.rules (settled s.rules (walk s.rules [] nothing_held words).held).rows (only_has (λ x. not (no_values x.defaults)) s.rules id a only (ap not given))) all_fit)
 
   pub list-length : (id : Text) (a : Rule) (most : ℕ) → Only s.rules id a → most_values a ≡ most → length (values_of id rows) ≤ most
   list-length id a most only is = few_values s.rules id most rows (λ values how fit. fits_most a values how most is (has_only (λ x. fits x values how) s.rules id a only fit)) all_fit
+
+  -- a list that has to be there
+  pub list-filled : (id : Text) (a : Rule) (least : ℕ) → Only s.rules id a → a.required ≡ true → (unwrap_or_range a.range).start_inclusive ≡ least
+      → least ≤ length (values_of id rows)
+  list-filled id a least only required is =
+      enough_values s.rules id least rows (λ values how fit. fits_least a values how least is (has_only (λ x. fits x values how) s.rules id a only fit))
+      (has_required id a only required) all_fit

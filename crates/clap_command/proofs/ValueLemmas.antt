@@ -1,5 +1,5 @@
 -- The values of an argument, as `clap` gives them.
-use Rattle.std.proofs.Common.{◌≡◌, ap, sym, refl, arith, ℕ, [], Option, Some, None, Result, Ok, Err, unwrap_or}
+use Rattle.std.proofs.Common.{◌≡◌, ◌<◌, ◌^◌, ap, sym, refl, arith, ℕ, [], Option, Some, None, Result, Ok, Err, unwrap_or}
 use Rattle.std.specs.Str.Parse.{ParsesUnsigned, digits_value, without_leading_plus}
 use Rattle.clap.specs.Words.{IsUnsignedIn, ReadsOne, Text, first_value, rows_of}
 use Rattle.clap.specs.declared.parser.matches.Found.{Found}
@@ -9,13 +9,13 @@ use Rattle.clap_command.specs.Values.{value_of}
 pub first_value-is_value : (id : Text) (f : Found) → value_of id (rows_of f) ≡ unwrap_or (first_value f id) []
 first_value-is_value id f = ap (λ o. unwrap_or o []) (sym (first_value-rows f id))
 
--- a numeral of a `u32` is read as its number
-pub number_read : (E : Type 0) (G : Text → Result ℕ E → Type 0) (numeral : Option Text) (read : Option ℕ)
-    → IsUnsignedIn 0 4294967295 (unwrap_or numeral [])
+-- a numeral of a type of so many bits is read as its number
+pub number_read : (bits most : ℕ) → most < 2 ^ bits → (E : Type 0) (G : Text → Result ℕ E → Type 0) (numeral : Option Text) (read : Option ℕ)
+    → IsUnsignedIn 0 most (unwrap_or numeral [])
     → ((t : Text) → numeral ≡ Some t → ReadsOne G t read)
-    → ((t : Text) (x : Result ℕ E) → G t x → ParsesUnsigned 32 10 t x)
+    → ((t : Text) (x : Result ℕ E) → G t x → ParsesUnsigned bits 10 t x)
     → unwrap_or read 0 ≡ digits_value 10 (without_leading_plus (unwrap_or numeral []))
-number_read E G None read is reads parses = absurd (omega (arith, is.0.0))
-number_read E G (Some t) (Some n) is reads parses = (parses t (Ok n) (reads t refl)).1
-number_read E G (Some t) None is reads parses =
-    let failed = reads t refl in absurd (parses t (Err failed.0) failed.1 (is.0, omega (arith, is.3)))
+number_read bits most small E G None read is reads parses = absurd (omega (arith, is.0.0))
+number_read bits most small E G (Some t) (Some n) is reads parses = (parses t (Ok n) (reads t refl)).1
+number_read bits most small E G (Some t) None is reads parses =
+    let failed = reads t refl in absurd (parses t (Err failed.0) failed.1 (is.0, omega (arith, small, is.3)))

@@ -16,6 +16,14 @@ number id least most = record (positional id) { parser = Some (Unsigned least mo
 abbrev pub list : Text → ℕ → Rule
 list id most = record (new_rule id) { action = Some Set; range = Some (record { start_inclusive = 0; end_inclusive = most }) }
 
+-- words one after another, at least one and up to `most`
+abbrev pub required_list : Text → ℕ → Rule
+required_list id most = record (new_rule id) {
+  action = Some Set;
+  required = true;
+  range = Some (record { start_inclusive = 1; end_inclusive = most });
+}
+
 -- a number in a range, by the option's long name, or the default
 abbrev pub number_option : Text → ℕ → ℕ → Text → Rule
 number_option name least most default = record (new_rule name) {

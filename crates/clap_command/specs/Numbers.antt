@@ -6,3 +6,7 @@ use Rattle.clap_command.specs.Values.{numeral_of}
 -- the value of an argument is a numeral of a `u32`
 abbrev pub IsNumber : Text → List Row → Type 0
 IsNumber id rows = IsUnsignedIn 0 4294967295 (numeral_of id rows)
+
+-- the value of an argument is a numeral of a `u64`
+abbrev pub IsLongNumber : Text → List Row → Type 0
+IsLongNumber id rows = IsUnsignedIn 0 18446744073709551615 (numeral_of id rows)

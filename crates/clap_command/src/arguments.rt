@@ -1,9 +1,10 @@
 //! The arguments of a simple command.
-ghost use Rattle.std.specs.Prelude.{◌≡◌, false, IfOk};
+ghost use Rattle.std.specs.Prelude.{◌≡◌, ◌≤◌, false, IfOk};
 ghost use Rattle.clap.specs.Words.{app_of, rule_of, with_rule, with_subcommand};
 ghost use Rattle.clap.specs.declared.builder.Command.TheViews.{out-Command as fields_of};
 ghost use Rattle.clap_command.specs.Arguments.{positional as positional_rule, number as number_rule};
-ghost use Rattle.clap_command.specs.Arguments.{list as list_rule, number_option as number_option_rule};
+ghost use Rattle.clap_command.specs.Arguments.{list as list_rule, required_list as required_list_rule};
+ghost use Rattle.clap_command.specs.Arguments.{number_option as number_option_rule};
 
 use clap::builder::ValueParser;
 use clap::{Arg, ArgAction, Command};
@@ -31,6 +32,18 @@ pub fn list<'a>(alloc: Global, id: &'a str, most: usize) -> Arg<'a>
     ensures local { result.global ≡ false }
 {
     Arg::new(alloc, id).num_args(..=most).action(ArgAction::Set)
+}
+
+/// Words one after another, 1 to `most`: one of them has to be there.
+pub fn required_list<'a>(alloc: Global, id: &'a str, most: usize) -> Arg<'a>
+    requires { 1 ≤ most }
+    ensures rule { rule_of result ≡ required_list_rule id.entry.now most }
+    ensures local { result.global ≡ false }
+{
+    Arg::new(alloc, id)
+        .required(true)
+        .num_args(1..=most)
+        .action(ArgAction::Set)
 }
 
 /// An option, by its long name, for a number from `least` to `most`.

@@ -11,7 +11,9 @@ mod fault;
 mod parsing;
 mod values;
 
-pub use arguments::{list, number, number_option, positional, with_argument, with_command};
+pub use arguments::{
+    list, number, number_option, positional, required_list, with_argument, with_command,
+};
 pub use fault::WordsFault;
 pub use parsing::parse;
-pub use values::{read_number, read_value, read_values};
+pub use values::{read_long_number, read_number, read_value, read_values};

@@ -2,7 +2,7 @@
 ghost use Rattle.std.specs.Prelude.{◌≡◌, map, IfOk};
 ghost use Rattle.clap.specs.Words.{rows_of, found_of};
 ghost use Rattle.clap_command.specs.Values.{value_of, values_of, number_of};
-ghost use Rattle.clap_command.specs.Numbers.{IsNumber};
+ghost use Rattle.clap_command.specs.Numbers.{IsNumber, IsLongNumber};
 
 use clap::ArgMatches;
 use std::alloc::{AllocError, Global};
@@ -34,4 +34,12 @@ pub fn read_number<'a>(matches: &ArgMatches<'a>, id: &str) -> u32
     ensures { result ≡ number_of id.now (rows_of (found_of matches.now)) }
 {
     matches.get_one::<u32>(id).unwrap_or(0)
+}
+
+/// The number that an argument has, which may need more than 32 bits.
+pub fn read_long_number<'a>(matches: &ArgMatches<'a>, id: &str) -> u64
+    requires { IsLongNumber id.now (rows_of (found_of matches.now)) }
+    ensures { result ≡ number_of id.now (rows_of (found_of matches.now)) }
+{
+    matches.get_one::<u64>(id).unwrap_or(0)
 }

@@ -4,6 +4,7 @@ use Rattle.std.specs.Fmt.{digits}
 use Rattle.hex.specs.Hex.{encode_with}
 use Rattle.elf_model.specs.declared.ImageKind.TheVariants as image
 use Rattle.log_model.specs.declared.LogKind.TheVariants as log
+use Rattle.flow_model.specs.declared.Rule.TheVariants as rule
 use Rattle.report_model.specs.declared.QueryKind.TheVariants as query
 use Rattle.replay_model.specs.declared.Field.TheVariants as field
 use Rattle.jet_refusal.specs.declared.refusal.Refusal.TheVariants as refusal
@@ -26,6 +27,10 @@ a_byte_after_the_end : line_of (refusal.Log log.Trailing 107) ≡ codes "jet: lo
 unfolding digits
 a_byte_after_the_end = refl
 
+bytes_of_a_record : line_of (refusal.Log log.Bytes 48) ≡ codes "jet: log 8 Bytes at 48\n"
+unfolding digits
+bytes_of_a_record = refl
+
 another_program : line_of (refusal.Program (0x0f ∷ 0xa0 ∷ []) (0x00 ∷ 0xff ∷ [])) ≡ codes "jet: program kept 0fa0 seen 00ff\n"
 unfolding encode_with
 another_program = refl
@@ -46,6 +51,22 @@ an_empty_query : line_of (refusal.Query 0 query.NoRule) ≡ codes "jet: query li
 unfolding digits
 an_empty_query = refl
 
+a_fault_of_the_third_query : line_of (refusal.QueryOf 3 2 query.Word) ≡ codes "jet: query 3 line 2 Word\n"
+unfolding digits
+a_fault_of_the_third_query = refl
+
+an_empty_query_among_others : line_of (refusal.QueryOf 16 0 query.NoRule) ≡ codes "jet: query 16 line 0 NoRule\n"
+unfolding digits
+an_empty_query_among_others = refl
+
+another_rule : line_of (refusal.Rules rule.Copy 2 rule.Compute) ≡ codes "jet: rules copy 2 compute\n"
+unfolding digits
+another_rule = refl
+
+another_rule_at_last : line_of (refusal.Rules rule.Compute 16 rule.Index) ≡ codes "jet: rules compute 16 index\n"
+unfolding digits
+another_rule_at_last = refl
+
 a_long_file : line_of refusal.TooLong ≡ codes "jet: limit file\n"
 a_long_file = refl
 
@@ -62,6 +83,6 @@ a_fault_of_writing = refl
 no_memory : line_of refusal.NoMemory ≡ codes "jet: memory\n"
 no_memory = refl
 
-the_greatest_numbers : line_of (refusal.Diverged (record { step = 4294967295; field = field.Byte 4294967295; kept = negsuc 9223372036854775807; seen = pos 9223372036854775807 })) ≡ codes "jet: diverged at 4294967295 byte 4294967295 kept -9223372036854775808 seen 9223372036854775807\n"
+the_greatest_numbers : line_of (refusal.Diverged (record { step = 18446744073709551615; field = field.Byte 4294967295; kept = negsuc 9223372036854775807; seen = pos 9223372036854775807 })) ≡ codes "jet: diverged at 18446744073709551615 byte 4294967295 kept -9223372036854775808 seen 9223372036854775807\n"
 unfolding digits
 the_greatest_numbers = refl

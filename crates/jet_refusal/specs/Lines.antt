@@ -6,6 +6,8 @@ use Rattle.elf_model.specs.declared.ImageKind.{ImageKind}
 use Rattle.elf_model.specs.declared.ImageKind.TheVariants as image
 use Rattle.log_model.specs.declared.LogKind.{LogKind}
 use Rattle.log_model.specs.declared.LogKind.TheVariants as log
+use Rattle.flow_model.specs.declared.Rule.{Rule}
+use Rattle.flow_model.specs.declared.Rule.TheVariants as rule
 use Rattle.report_model.specs.declared.QueryKind.{QueryKind}
 use Rattle.report_model.specs.declared.QueryKind.TheVariants as query
 use Rattle.replay_model.specs.declared.Field.{Field}
@@ -63,6 +65,7 @@ log_fault_name log.Tag = codes "4 Tag"
 log_fault_name log.Order = codes "5 Order"
 log_fault_name log.Result = codes "6 Result"
 log_fault_name log.Trailing = codes "7 Trailing"
+log_fault_name log.Bytes = codes "8 Bytes"
 
 abbrev pub log_fault_text : LogKind → ℕ → List ℕ
 log_fault_text kind offset = codes "log " ++ log_fault_name kind ++ codes " at " ++ decimal offset
@@ -112,5 +115,25 @@ query_kind query.Range = codes "Range"
 query_kind query.SecondRule = codes "SecondRule"
 query_kind query.NoRule = codes "NoRule"
 
+-- the line of a query, and its fault
+abbrev pub query_place_text : ℕ → QueryKind → List ℕ
+query_place_text line kind = codes "line " ++ decimal line ++ codes " " ++ query_kind kind
+
 abbrev pub query_text : ℕ → QueryKind → List ℕ
-query_text line kind = codes "query line " ++ decimal line ++ codes " " ++ query_kind kind
+query_text line kind = codes "query " ++ query_place_text line kind
+
+-- ---- several queries
+
+-- the same of one of several query files
+abbrev pub query_of_text : ℕ → ℕ → QueryKind → List ℕ
+query_of_text file line kind = codes "query " ++ decimal file ++ codes " " ++ query_place_text line kind
+
+-- as queries name it
+abbrev pub rule_name : Rule → List ℕ
+rule_name rule.Copy = codes "copy"
+rule_name rule.Compute = codes "compute"
+rule_name rule.Index = codes "index"
+
+-- the first query's rule, and another query's place and rule, which is another one
+abbrev pub rules_text : Rule → ℕ → Rule → List ℕ
+rules_text first index other = codes "rules " ++ rule_name first ++ codes " " ++ decimal index ++ codes " " ++ rule_name other

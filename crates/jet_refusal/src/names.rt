@@ -1,10 +1,11 @@
-//! The printed names of faults, of query kinds and of compared fields.
+//! The printed names of faults, of query kinds, of rules and of compared fields.
 
 ghost use Rattle.std.specs.Prelude.{◌≡◌, ◌+◌, ◌≤◌, ◌++◌, length};
-ghost use Rattle.jet_refusal.specs.Lines.{image_text, log_fault_name, query_kind, field_text};
+ghost use Rattle.jet_refusal.specs.Lines.{image_text, log_fault_name, query_kind, rule_name, field_text};
 
 use crate::line::Line;
 use elf_model::ImageKind;
+use flow_model::Rule;
 use log_model::LogKind;
 use replay_model::Field;
 use report_model::QueryKind;
@@ -41,6 +42,7 @@ pub(crate) fn log_fault_name(kind: LogKind) -> &'static str
         LogKind::Order => "5 Order",
         LogKind::Result => "6 Result",
         LogKind::Trailing => "7 Trailing",
+        LogKind::Bytes => "8 Bytes",
     }
 }
 
@@ -58,6 +60,18 @@ pub(crate) fn query_kind(kind: QueryKind) -> &'static str
         QueryKind::Range => "Range",
         QueryKind::SecondRule => "SecondRule",
         QueryKind::NoRule => "NoRule",
+    }
+}
+
+/// The name of a rule, as queries have it.
+pub(crate) fn rule_name(rule: Rule) -> &'static str
+    ensures text { result.now ≡ rule_name rule }
+    ensures short { length result.now ≤ 7 }
+{
+    match rule {
+        Rule::Copy => "copy",
+        Rule::Compute => "compute",
+        Rule::Index => "index",
     }
 }
 

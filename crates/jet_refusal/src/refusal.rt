@@ -1,12 +1,14 @@
 //! Why a command gave up, its status and its line.
 
 ghost use Rattle.std.specs.Prelude.{◌≡◌, ◌+◌, ◌≤◌, ◌++◌, length};
-ghost use Rattle.jet_refusal.specs.Lines.{log_fault_text, program_text, place_text, values_text, divergence_text, query_text};
+ghost use Rattle.jet_refusal.specs.Lines.{log_fault_text, program_text, place_text, values_text, divergence_text};
+ghost use Rattle.jet_refusal.specs.Lines.{query_text, query_of_text, query_place_text, rules_text};
 ghost use Rattle.jet_refusal.specs.Refusals.{status_of, text_of, line_of};
 
 use crate::line::Line;
-use crate::names::{image_text, log_fault_name, push_field, query_kind};
+use crate::names::{image_text, log_fault_name, push_field, query_kind, rule_name};
 use elf_model::ImageKind;
+use flow_model::Rule;
 use log_model::LogKind;
 use replay_model::Divergence;
 use report_model::QueryKind;
@@ -19,15 +21,40 @@ pub enum Refusal {
     /// The program is no image: its first fault.
     Image(ImageKind),
     /// The window of so many pages of 4096 bytes can't hold the image.
-    Window { pages: u32 },
+    Window {
+        pages: u32,
+    },
     /// The log's bytes are no log: the first fault, and its offset in bytes.
-    Log { kind: LogKind, offset: u64 },
+    Log {
+        kind: LogKind,
+        offset: u64,
+    },
     /// The log keeps the SHA-256 digest of one program, and the program seen has another.
-    Program { kept: [u8; 32], seen: [u8; 32] },
+    Program {
+        kept: [u8; 32],
+        seen: [u8; 32],
+    },
     /// The log and the run of its program differ.
     Diverged(Divergence),
     /// The query's text is no query: the line, counted from 1 (0 is the whole text), and its first fault.
-    Query { line: u32, kind: QueryKind },
+    Query {
+        line: u32,
+        kind: QueryKind,
+    },
+    /// Of several query files the text of one is no query: the file, counted from 1, the line, counted from 1 (0 is the
+    /// whole text), and its first fault.
+    QueryOf {
+        file: u32,
+        line: u32,
+        kind: QueryKind,
+    },
+    /// Several queries don't have one rule: that of the first, and the first other one, with its query's place, counted
+    /// from 1.
+    Rules {
+        first: Rule,
+        index: u32,
+        other: Rule,
+    },
     /// A file has more than 2^26 bytes.
     TooLong,
     /// The log of the run has so many bytes, more than 2^26.
@@ -53,11 +80,13 @@ impl Refusal {
             Refusal::Program { .. } => 5,
             Refusal::Diverged(_) => 5,
             Refusal::Query { .. } => 6,
+            Refusal::QueryOf { .. } => 6,
             Refusal::ReadFault => 7,
             Refusal::WriteFault => 8,
             Refusal::TooLong => 9,
             Refusal::LogTooLong(_) => 9,
             Refusal::NoMemory => 10,
+            Refusal::Rules { .. } => 11,
         }
     }
 
@@ -90,6 +119,16 @@ fn push_text(line: &mut Line, refusal: &Refusal)
         Refusal::Program { kept, seen } => push_program(line, kept, seen),
         Refusal::Diverged(divergence) => push_divergence(line, divergence),
         Refusal::Query { line: number, kind } => push_query(line, *number, *kind),
+        Refusal::QueryOf {
+            file,
+            line: number,
+            kind,
+        } => push_query_of(line, *file, *number, *kind),
+        Refusal::Rules {
+            first,
+            index,
+            other,
+        } => push_rules(line, *first, *index, *other),
         Refusal::TooLong => line.push_str("limit file"),
         Refusal::LogTooLong(size) => {
             line.push_str("limit log ");
@@ -159,8 +198,41 @@ fn push_query(line: &mut Line, number: u32, kind: QueryKind)
     ensures text { line.new ≡ line.old ++ query_text number kind }
     ensures short { length line.new ≤ length line.old + 62 }
 {
-    line.push_str("query line ");
+    line.push_str("query ");
+    push_query_place(line, number, kind);
+}
+
+fn push_query_of(line: &mut Line, file: u32, number: u32, kind: QueryKind)
+    requires { length line.old + 103 ≤ 256 }
+    ensures text { line.new ≡ line.old ++ query_of_text file number kind }
+    ensures short { length line.new ≤ length line.old + 103 }
+{
+    line.push_str("query ");
+    line.push_number(file);
+    line.push_str(" ");
+    push_query_place(line, number, kind);
+}
+
+fn push_query_place(line: &mut Line, number: u32, kind: QueryKind)
+    requires { length line.old + 56 ≤ 256 }
+    ensures text { line.new ≡ line.old ++ query_place_text number kind }
+    ensures short { length line.new ≤ length line.old + 56 }
+{
+    line.push_str("line ");
     line.push_number(number);
     line.push_str(" ");
     line.push_str(query_kind(kind));
+}
+
+fn push_rules(line: &mut Line, first: Rule, index: u32, other: Rule)
+    requires { length line.old + 62 ≤ 256 }
+    ensures text { line.new ≡ line.old ++ rules_text first index other }
+    ensures short { length line.new ≤ length line.old + 62 }
+{
+    line.push_str("rules ");
+    line.push_str(rule_name(first));
+    line.push_str(" ");
+    line.push_number(index);
+    line.push_str(" ");
+    line.push_str(rule_name(other));
 }

@@ -5,7 +5,7 @@ use Rattle.std.specs.Str.{chars}
 use Rattle.clap.specs.Words.{Text}
 use Rattle.clap.specs.Walk.{walked, bundle_met}
 use Rattle.clap.specs.Takes.{walk_passes, flags_pass}
-use Rattle.jet_words.specs.Commands.{CommandOf, command_of, QueryOf, RecordOf, ReplayOf, OutputOf}
+use Rattle.jet_words.specs.Commands.{CommandOf, command_of, QueryOf, RecordOf, ReplayOf, OutputOf, ConvertOf, InfluenceOf, QueriesOf}
 
 abbrev before_word : Bool → ℕ → List Text → List Text
 before_word true c words = [] ∷ words
@@ -49,7 +49,7 @@ short_flags = refl
 abbrev query : Text → Text → Text → Text → Line
 query line program log name = (line, QueryOf program log name)
 
-queries : Stands (
+reports : Stands (
     query (codes "jet query a b c") (codes "a") (codes "b") (codes "c")
     -- the first word, the program's name, may be any
     ∷ query (codes " query query help é") (codes "query") (codes "help") (codes "é")
@@ -63,12 +63,12 @@ queries : Stands (
     ∷ query (codes "jet query -- -- b c") (codes "--") (codes "b") (codes "c")
     ∷ query (codes "jet query -- -a --help c") (codes "-a") (codes "--help") (codes "c") ∷ [])
 unfolding command_of walked walk_passes
-queries = refl
+reports = refl
 
-no_queries : AreRefused (
+no_reports : AreRefused (
     codes "jet query a b" ∷ codes "jet query a b c d" ∷ codes "jet query --help a b c" ∷ codes "jet query a b --c" ∷ codes "jet query a b c --epoch" ∷ [])
 unfolding command_of walked walk_passes
-no_queries = refl
+no_reports = refl
 
 -- ---- record
 
@@ -95,6 +95,7 @@ options : Stands (
     ∷ recorded (codes "jet record p l --piece 16777216") [] 256 16777216 4294967295
     ∷ recorded (codes "jet record p l --steps 1") [] 256 16777216 1
     ∷ recorded (codes "jet record p l --steps 4294967295") [] 256 16777216 4294967295
+    ∷ recorded (codes "jet record p l --steps 1099511627776") [] 256 16777216 1099511627776
     ∷ recorded (codes "jet record p l --pages +5") [] 5 16777216 4294967295
     ∷ recorded (codes "jet record p l --pages 007") [] 7 16777216 4294967295 ∷ [])
 unfolding command_of walked walk_passes
@@ -103,7 +104,7 @@ options = refl
 no_recordings : AreRefused (
     codes "jet record p" ∷ codes "jet record p l a b c d e f g h i j k l m n o p q"
     ∷ codes "jet record p l --pages 0" ∷ codes "jet record p l --pages 4097" ∷ codes "jet record p l --piece 0" ∷ codes "jet record p l --piece 16777217"
-    ∷ codes "jet record p l --steps 0" ∷ codes "jet record p l --steps 4294967296"
+    ∷ codes "jet record p l --steps 0" ∷ codes "jet record p l --steps 1099511627777"
     ∷ codes "jet record p l --pages=-0" ∷ codes "jet record p l --pages 0x10" ∷ codes "jet record p l --pages " ∷ codes "jet record p l --pages"
     -- an option is given once, and does not interrupt the list
     ∷ codes "jet record p l --pages 1 --pages 1" ∷ codes "jet record p l i --pages 1 j" ∷ codes "jet record p l --page 1" ∷ codes "jet record p l --epoch 1" ∷ [])
@@ -134,3 +135,50 @@ no_outputs : AreRefused (
     ∷ codes "jet output p l 1 --steps 1" ∷ [])
 unfolding command_of walked walk_passes
 no_outputs = refl
+
+-- ---- convert
+
+abbrev converted : Text → Text → Text → Text → Line
+converted line program log new = (line, ConvertOf program log new)
+
+conversions : Stands (
+    converted (codes "jet convert a b c") (codes "a") (codes "b") (codes "c")
+    ∷ converted (codes "jet convert a b b") (codes "a") (codes "b") (codes "b")
+    ∷ converted (codes "jet convert a -- b --c") (codes "a") (codes "b") (codes "--c") ∷ [])
+unfolding command_of walked walk_passes
+conversions = refl
+
+no_conversions : AreRefused (
+    codes "jet convert a b" ∷ codes "jet convert a b c d" ∷ codes "jet convert a b c --pages 1" ∷ codes "jet converts a b c" ∷ [])
+unfolding command_of walked walk_passes
+no_conversions = refl
+
+-- ---- influence
+
+influences : Stands ((codes "jet influence p l q", InfluenceOf (codes "p") (codes "l") (codes "q")) ∷ [])
+unfolding command_of walked walk_passes
+influences = refl
+
+no_influences : AreRefused (codes "jet influence p l" ∷ codes "jet influence p l q r" ∷ codes "jet influence p l q --steps 1" ∷ [])
+unfolding command_of walked walk_passes
+no_influences = refl
+
+-- ---- queries
+
+abbrev several : Text → List Text → Line
+several line queries = (line, QueriesOf (codes "p") (codes "l") queries)
+
+several_queries : Stands (
+    several (codes "jet queries p l q") (codes "q" ∷ [])
+    ∷ several (codes "jet queries p l q r q") (codes "q" ∷ codes "r" ∷ codes "q" ∷ [])
+    ∷ several (codes "jet queries p l a b c d e f g h i j k l m n o p") (words_of (codes "a b c d e f g h i j k l m n o p"))
+    ∷ several (codes "jet queries p l q -- --r") (codes "q" ∷ codes "--r" ∷ []) ∷ [])
+unfolding command_of walked walk_passes
+several_queries = refl
+
+-- none, or seventeen
+no_several_queries : AreRefused (
+    codes "jet queries p l" ∷ codes "jet queries p l --" ∷ codes "jet queries p l a b c d e f g h i j k l m n o p q" ∷ codes "jet queries p"
+    ∷ codes "jet queries p l q --steps 1" ∷ [])
+unfolding command_of walked walk_passes
+no_several_queries = refl

@@ -2,7 +2,7 @@
 use Rattle.std.specs.Prelude.{codes}
 use Rattle.clap.specs.Words.{App, Text, new_app, with_rule, with_subcommand}
 use Rattle.clap.specs.Simple.{on_top}
-use Rattle.clap_command.specs.Arguments.{positional, number, list, number_option, requires_subcommand}
+use Rattle.clap_command.specs.Arguments.{positional, number, list, required_list, number_option, requires_subcommand}
 
 -- NAME PROG LOG
 abbrev pub program_and_log : Text → App
@@ -18,7 +18,7 @@ record_app =
     with_rule (with_rule (with_rule (with_rule (program_and_log (codes "record")) (list (codes "IN") 16))
     (number_option (codes "pages") 1 4096 (codes "256")))
     (number_option (codes "piece") 1 16777216 (codes "16777216")))
-    (number_option (codes "steps") 1 4294967295 (codes "4294967295"))
+    (number_option (codes "steps") 1 1099511627776 (codes "4294967295"))
 
 -- replay PROG LOG
 abbrev pub replay_app : App
@@ -28,10 +28,24 @@ replay_app = program_and_log (codes "replay")
 abbrev pub output_app : App
 output_app = with_rule (program_and_log (codes "output")) (number (codes "C") 0 15)
 
+-- convert PROG LOG NEW
+abbrev pub convert_app : App
+convert_app = with_rule (program_and_log (codes "convert")) (positional (codes "NEW"))
+
+-- influence PROG LOG QUERY
+abbrev pub influence_app : App
+influence_app = with_rule (program_and_log (codes "influence")) (positional (codes "QUERY"))
+
+-- queries PROG LOG QUERY.., 1 to 16 of them
+abbrev pub queries_app : App
+queries_app = with_rule (program_and_log (codes "queries")) (required_list (codes "QUERY") 16)
+
 -- jet, with a subcommand that has to be there
 abbrev pub bare_app : App
 bare_app = on_top requires_subcommand (new_app (codes "jet"))
 
 -- jet SUBCOMMAND ..
 abbrev pub jet_app : App
-jet_app = with_subcommand (with_subcommand (with_subcommand (with_subcommand bare_app query_app.top) record_app.top) replay_app.top) output_app.top
+jet_app =
+    with_subcommand (with_subcommand (with_subcommand (with_subcommand (with_subcommand (with_subcommand (with_subcommand bare_app
+    query_app.top) record_app.top) replay_app.top) output_app.top) convert_app.top) influence_app.top) queries_app.top

@@ -5,7 +5,7 @@ use Rattle.clap.specs.Words.{Row, Text, takes, subcommand_of}
 use Rattle.clap_command.specs.Values.{value_of, values_of, number_of}
 use Rattle.jet_words.specs.CommandLine.{jet_app}
 use Rattle.jet_words.specs.declared.command.Command.{Command}
-use Rattle.jet_words.specs.declared.command.Command.TheVariants.{Query, Record, Replay, Output}
+use Rattle.jet_words.specs.declared.command.Command.TheVariants.{Query, Record, Replay, Output, Convert, Influence, Queries}
 
 -- a command; files are told by their names
 pub data CommandOf : Type 0 where
@@ -18,6 +18,12 @@ pub data CommandOf : Type 0 where
   ReplayOf : (program log : Text) → CommandOf
   -- what a recorded run wrote on a channel
   OutputOf : (program log : Text) (channel : ℕ) → CommandOf
+  -- the log, written anew into another file
+  ConvertOf : (program log new : Text) → CommandOf
+  -- the report of a query, turned round
+  InfluenceOf : (program log query : Text) → CommandOf
+  -- the reports of several queries
+  QueriesOf : (program log : Text) (queries : List Text) → CommandOf
 
 -- ---- the command of each subcommand, by the values of its arguments
 
@@ -34,13 +40,25 @@ replay_of rows = ReplayOf (value_of (codes "PROG") rows) (value_of (codes "LOG")
 abbrev pub output_of : List Row → CommandOf
 output_of rows = OutputOf (value_of (codes "PROG") rows) (value_of (codes "LOG") rows) (number_of (codes "C") rows)
 
+abbrev pub convert_of : List Row → CommandOf
+convert_of rows = ConvertOf (value_of (codes "PROG") rows) (value_of (codes "LOG") rows) (value_of (codes "NEW") rows)
+
+abbrev pub influence_of : List Row → CommandOf
+influence_of rows = InfluenceOf (value_of (codes "PROG") rows) (value_of (codes "LOG") rows) (value_of (codes "QUERY") rows)
+
+abbrev pub queries_of : List Row → CommandOf
+queries_of rows = QueriesOf (value_of (codes "PROG") rows) (value_of (codes "LOG") rows) (values_of (codes "QUERY") rows)
+
 -- the command of a subcommand, by its name and the values of its arguments
 abbrev pub command_by : Text × List Row → Option CommandOf
 command_by (name, rows) =
     if bytes_eq name (codes "query") then Some (query_of rows)
     else (if bytes_eq name (codes "record") then Some (record_of rows)
     else (if bytes_eq name (codes "replay") then Some (replay_of rows)
-    else (if bytes_eq name (codes "output") then Some (output_of rows) else None)))
+    else (if bytes_eq name (codes "output") then Some (output_of rows)
+    else (if bytes_eq name (codes "convert") then Some (convert_of rows)
+    else (if bytes_eq name (codes "influence") then Some (influence_of rows)
+    else (if bytes_eq name (codes "queries") then Some (queries_of rows) else None))))))
 
 -- the command that words stand for; none where the command line doesn't take them. The first word is the program's name
 unfoldable pub command_of : List Text → Option CommandOf
@@ -53,11 +71,17 @@ plain_command (Query program log query) = QueryOf program.now log.now query.now
 plain_command (Record program log inputs pages piece steps) = RecordOf program.now log.now (map (λ s. s.now) inputs.items) pages piece steps
 plain_command (Replay program log) = ReplayOf program.now log.now
 plain_command (Output program log channel) = OutputOf program.now log.now channel
+plain_command (Convert program log new) = ConvertOf program.now log.now new.now
+plain_command (Influence program log query) = InfluenceOf program.now log.now query.now
+plain_command (Queries program log queries) = QueriesOf program.now log.now (map (λ s. s.now) queries.items)
 
 -- its numbers lie in the ranges of the command line
 abbrev pub IsInRange : CommandOf → Type 0
 IsInRange (QueryOf program log query) = ⊤
 IsInRange (RecordOf program log inputs pages piece steps) =
-    (length inputs ≤ 16) × (1 ≤ pages) × (pages ≤ 4096) × (1 ≤ piece) × (piece ≤ 16777216) × (1 ≤ steps) × (steps ≤ 4294967295)
+    (length inputs ≤ 16) × (1 ≤ pages) × (pages ≤ 4096) × (1 ≤ piece) × (piece ≤ 16777216) × (1 ≤ steps) × (steps ≤ 1099511627776)
 IsInRange (ReplayOf program log) = ⊤
 IsInRange (OutputOf program log channel) = channel ≤ 15
+IsInRange (ConvertOf program log new) = ⊤
+IsInRange (InfluenceOf program log query) = ⊤
+IsInRange (QueriesOf program log queries) = (1 ≤ length queries) × (length queries ≤ 16)

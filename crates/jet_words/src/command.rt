@@ -21,8 +21,8 @@ pub enum Command<'a> {
         pages: u32,
         /// How many bytes a read gets at most, 1 to 16777216.
         piece: u32,
-        /// The number of steps after which the run is cut off, 1 to 4294967295.
-        steps: u32,
+        /// The number of steps after which the run is cut off, 1 to 1099511627776 (2^40).
+        steps: u64,
     },
     /// The numbers of a recorded run: the names of the program and the log.
     Replay {
@@ -37,5 +37,26 @@ pub enum Command<'a> {
         log: &'a str,
         /// The channel, 0 to 15.
         channel: u32,
+    },
+    /// The log written anew in version 2: the names of the program, the log and the file that is written.
+    Convert {
+        program: &'a str,
+        log: &'a str,
+        new: &'a str,
+    },
+    /// The report of a query, turned round: the names of the program, the log and the query.
+    Influence {
+        program: &'a str,
+        log: &'a str,
+        query: &'a str,
+    },
+    /// The reports of several queries.
+    Queries {
+        /// The program's name.
+        program: &'a str,
+        /// The log's name.
+        log: &'a str,
+        /// The names of the query files, 1 to 16.
+        queries: Vec<&'a str>,
     },
 }

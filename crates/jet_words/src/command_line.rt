@@ -3,10 +3,13 @@ ghost use Rattle.std.specs.Prelude.{◌≡◌, false, IfOk};
 ghost use Rattle.clap.specs.Words.{app_of};
 ghost use Rattle.clap.specs.declared.builder.Command.TheViews.{out-Command as fields_of};
 ghost use Rattle.jet_words.specs.CommandLine.{program_and_log as program_and_log_app, query_app, record_app};
-ghost use Rattle.jet_words.specs.CommandLine.{replay_app, output_app, bare_app, jet_app};
+ghost use Rattle.jet_words.specs.CommandLine.{replay_app, output_app, convert_app, influence_app};
+ghost use Rattle.jet_words.specs.CommandLine.{queries_app, bare_app, jet_app};
 
 use clap::Command;
-use clap_command::{list, number, number_option, positional, with_argument, with_command};
+use clap_command::{
+    list, number, number_option, positional, required_list, with_argument, with_command,
+};
 use std::alloc::{AllocError, Global};
 
 // A command for a program and a log.
@@ -40,7 +43,7 @@ fn record_command<'a>(alloc: Global) -> Result<Command<'a>, AllocError>
     )?;
     with_argument(
         command,
-        number_option(alloc, "steps", 1, 4294967295, "4294967295"),
+        number_option(alloc, "steps", 1, 1099511627776, "4294967295"),
     )
 }
 
@@ -59,6 +62,30 @@ fn output_command<'a>(alloc: Global) -> Result<Command<'a>, AllocError>
     with_argument(command, number(alloc, "C", 0, 15))
 }
 
+fn convert_command<'a>(alloc: Global) -> Result<Command<'a>, AllocError>
+    ensures app { IfOk result (λ c. app_of c ≡ convert_app) }
+    ensures globals { IfOk result (λ c. (fields_of c).has_globals ≡ false) }
+{
+    let command = program_and_log(alloc, "convert")?;
+    with_argument(command, positional(alloc, "NEW"))
+}
+
+fn influence_command<'a>(alloc: Global) -> Result<Command<'a>, AllocError>
+    ensures app { IfOk result (λ c. app_of c ≡ influence_app) }
+    ensures globals { IfOk result (λ c. (fields_of c).has_globals ≡ false) }
+{
+    let command = program_and_log(alloc, "influence")?;
+    with_argument(command, positional(alloc, "QUERY"))
+}
+
+fn queries_command<'a>(alloc: Global) -> Result<Command<'a>, AllocError>
+    ensures app { IfOk result (λ c. app_of c ≡ queries_app) }
+    ensures globals { IfOk result (λ c. (fields_of c).has_globals ≡ false) }
+{
+    let command = program_and_log(alloc, "queries")?;
+    with_argument(command, required_list(alloc, "QUERY", 16))
+}
+
 // The command itself, with no subcommand yet.
 fn bare_command<'a>(alloc: Global) -> Command<'a>
     ensures { app_of result ≡ bare_app }
@@ -74,5 +101,8 @@ pub fn command_line<'a>(alloc: Global) -> Result<Command<'a>, AllocError>
     let command = with_command(command, query_command(alloc)?)?;
     let command = with_command(command, record_command(alloc)?)?;
     let command = with_command(command, replay_command(alloc)?)?;
-    with_command(command, output_command(alloc)?)
+    let command = with_command(command, output_command(alloc)?)?;
+    let command = with_command(command, convert_command(alloc)?)?;
+    let command = with_command(command, influence_command(alloc)?)?;
+    with_command(command, queries_command(alloc)?)
 }

@@ -2,16 +2,17 @@
 ghost use Rattle.std.specs.Prelude.{◌≡◌, map, codes, string_bytes, true, false, Some, None, option_map, option_and_then};
 ghost use Rattle.std.specs.Prelude.{OnOk, IfOk, IfSome, IsErrOf};
 ghost use Rattle.clap.specs.Words.{takes, subcommand_of, subcommand_rows_of, rows_of, found_of};
-ghost use Rattle.clap_command.specs.Numbers.{IsNumber};
+ghost use Rattle.clap_command.specs.Numbers.{IsNumber, IsLongNumber};
 ghost use Rattle.jet_words.specs.CommandLine.{jet_app};
 ghost use Rattle.jet_words.specs.Commands.{command_of, command_by, plain_command, IsInRange};
 ghost use Rattle.jet_words.specs.Commands.{query_of, record_of, replay_of, output_of};
+ghost use Rattle.jet_words.specs.Commands.{convert_of, influence_of, queries_of};
 ghost use Rattle.jet_words.specs.Numbers.{HasNumbers};
 
 use crate::command::Command;
 use crate::command_line::command_line;
 use clap::ArgMatches;
-use clap_command::{WordsFault, parse, read_number, read_value, read_values};
+use clap_command::{WordsFault, parse, read_long_number, read_number, read_value, read_values};
 use std::alloc::{AllocError, Global};
 
 // The words as the command line takes them.
@@ -39,7 +40,7 @@ fn read_query<'a>(matches: &ArgMatches<'a>) -> Command<'a>
 fn read_record<'a>(alloc: Global, matches: &ArgMatches<'a>) -> Result<Command<'a>, AllocError>
     requires pages { IsNumber (codes "pages") (rows_of (found_of matches.now)) }
     requires piece { IsNumber (codes "piece") (rows_of (found_of matches.now)) }
-    requires steps { IsNumber (codes "steps") (rows_of (found_of matches.now)) }
+    requires steps { IsLongNumber (codes "steps") (rows_of (found_of matches.now)) }
     ensures { IfOk result (λ c. plain_command c ≡ record_of (rows_of (found_of matches.now))) }
 {
     let inputs = read_values(alloc, matches, "IN")?;
@@ -49,7 +50,7 @@ fn read_record<'a>(alloc: Global, matches: &ArgMatches<'a>) -> Result<Command<'a
         inputs,
         pages: read_number(matches, "pages"),
         piece: read_number(matches, "piece"),
-        steps: read_number(matches, "steps"),
+        steps: read_long_number(matches, "steps"),
     })
 }
 
@@ -73,6 +74,37 @@ fn read_output<'a>(matches: &ArgMatches<'a>) -> Command<'a>
     }
 }
 
+fn read_convert<'a>(matches: &ArgMatches<'a>) -> Command<'a>
+    ensures { plain_command result ≡ convert_of (rows_of (found_of matches.now)) }
+{
+    Command::Convert {
+        program: read_value(matches, "PROG"),
+        log: read_value(matches, "LOG"),
+        new: read_value(matches, "NEW"),
+    }
+}
+
+fn read_influence<'a>(matches: &ArgMatches<'a>) -> Command<'a>
+    ensures { plain_command result ≡ influence_of (rows_of (found_of matches.now)) }
+{
+    Command::Influence {
+        program: read_value(matches, "PROG"),
+        log: read_value(matches, "LOG"),
+        query: read_value(matches, "QUERY"),
+    }
+}
+
+fn read_queries<'a>(alloc: Global, matches: &ArgMatches<'a>) -> Result<Command<'a>, AllocError>
+    ensures { IfOk result (λ c. plain_command c ≡ queries_of (rows_of (found_of matches.now))) }
+{
+    let queries = read_values(alloc, matches, "QUERY")?;
+    Ok(Command::Queries {
+        program: read_value(matches, "PROG"),
+        log: read_value(matches, "LOG"),
+        queries,
+    })
+}
+
 // The command of the subcommand of this name. The error is out of memory.
 fn command_by_name<'a>(
     alloc: Global,
@@ -90,6 +122,12 @@ fn command_by_name<'a>(
         Ok(Some(read_replay(matches)))
     } else if name == "output" {
         Ok(Some(read_output(matches)))
+    } else if name == "convert" {
+        Ok(Some(read_convert(matches)))
+    } else if name == "influence" {
+        Ok(Some(read_influence(matches)))
+    } else if name == "queries" {
+        Ok(Some(read_queries(alloc, matches)?))
     } else {
         Ok(None)
     }

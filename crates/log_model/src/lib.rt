@@ -121,4 +121,6 @@ pub enum LogKind {
     Result,
     /// There are bytes after the end record.
     Trailing,
+    /// A record's bytes are wrong.
+    Bytes,
 }

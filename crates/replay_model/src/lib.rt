@@ -36,7 +36,7 @@ pub enum Field {
 /// what the program shows. Fields that are numbers of 32 bits are as they are; only results go below 0.
 #[derive(Clone, Copy, Debug, PartialEq, Eq)]
 pub struct Divergence {
-    pub step: u32,
+    pub step: u64,
     pub field: Field,
     pub kept: i64,
     pub seen: i64,

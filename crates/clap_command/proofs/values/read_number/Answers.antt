@@ -1,4 +1,4 @@
-use Rattle.std.proofs.Common.{◌∙◌}
+use Rattle.std.proofs.Common.{◌∙◌, arith}
 use Rattle.std.specs.Str.Parse.{ExplainsUnsignedError, HasUnsignedDigitsIfOk, ParsesUnsigned}
 use Rattle.clap.specs.Words.{found_of}
 use Rattle.clap.proofs.WalkLemmas.{one_text-rows}
@@ -7,5 +7,5 @@ use Rattle.clap_command.proofs.values.read_number.Goals as goal
 
 pub returns : goal.returns
 returns c = c.unwrap_or.ensures
-    ∙ number_read _ (λ bs r. ParsesUnsigned 32 10 bs r × ExplainsUnsignedError 10 bs r × HasUnsignedDigitsIfOk bs r) _ c.get_one.result c.requires
+    ∙ number_read 32 4294967295 (omega arith) _ (λ bs r. ParsesUnsigned 32 10 bs r × ExplainsUnsignedError 10 bs r × HasUnsignedDigitsIfOk bs r) _ c.get_one.result c.requires
     (λ t e. c.get_one.ensures.value t (one_text-rows (found_of c.args.matches.now) c.args.id.now ∙ e)) (λ t x given. given.0)
