@@ -115,15 +115,18 @@ is_result_wrong tag fields =
 abbrev pub moved : List ℕ → ℕ
 moved fields = if nat_lt (word_at fields 12) (2 ^ 31) then word_at fields 12 else 0
 
+-- what was read stands in the channels before the records: in version 2
+abbrev pub keeps_reads : Version → Bool
+keeps_reads One = false
+keeps_reads Two = true
+
 -- the bytes that were moved follow the fields: a write's, and in version 1 a read's
 abbrev pub has_data : Version → ℕ → Bool
-has_data One tag = (tag == 1) || (tag == 2)
-has_data Two tag = tag == 2
+has_data v tag = (tag == 2) || ((tag == 1) && not (keeps_reads v))
 
 -- they stand in a channel: in version 2 a read's
 abbrev pub has_channel : Version → ℕ → Bool
-has_channel One tag = false
-has_channel Two tag = tag == 1
+has_channel v tag = (tag == 1) && keeps_reads v
 
 -- the bytes of data after the fields
 abbrev pub data_length : Version → ℕ → List ℕ → ℕ
