@@ -1,52 +1,97 @@
 -- The text of a record, whatever follows it, is read as that record, and has no fault.
-use Rattle.std.proofs.Common.{◌≡◌, ℕ, ◌^◌, ◌<◌, ◌≤◌, ◌⊎◌, List, [], ◌∷◌, ◌++◌, length, get_or, drop, None, ℤ, pos, ◌≤ℤ◌, refl, sym, subst, ◌∙◌, arith, inl, inr}
-use Rattle.std.specs.Prelude.{nat_lt, if◌then◌else◌}
+use Rattle.std.proofs.Common.{◌≡◌, ℕ, ◌+◌, ◌^◌, ◌<◌, ◌≤◌, ◌⊎◌, false, List, [], ◌∷◌, ◌++◌, length, get_or, take, drop, None, ℤ, pos, ◌≤ℤ◌, refl, sym, ap, ap₂, subst, ◌∙◌, append_assoc, arith, inl, inr}
+use Rattle.std.specs.Prelude.{nat_lt}
 use Rattle.std.specs.List.{flat_map}
 use Rattle.std.specs.Int.{w32, cast_unsigned}
+use Rattle.std.proofs.lemmas.Bool.{le-ltb}
 use Rattle.std.proofs.lemmas.Int.{ints}
-use Rattle.std.proofs.lemmas.List.{take_at, length-append}
+use Rattle.std.proofs.lemmas.List.{take_at, drop-drop, length-append}
 use Rattle.std.proofs.lemmas.Nat.{from_le_bytes-to_le_bytes_4, from_le_bytes-to_le_bytes_8}
 use Rattle.format_model.specs.Fields.{word_at}
+use Rattle.log_model.specs.declared.Version.{Version}
+use Rattle.log_model.specs.declared.Version.TheVariants.{One, Two}
 use Rattle.log_model.specs.declared.CallRecord.{CallRecord}
 use Rattle.log_model.specs.declared.CallRecord.TheVariants.{Read, Write, Clock, Other}
 use Rattle.log_model.specs.declared.RunEnd.{RunEnd}
 use Rattle.log_model.specs.declared.RunEnd.TheVariants.{Exit, Trap, Limit}
 use Rattle.log_model.specs.declared.Item.{Item}
 use Rattle.log_model.specs.declared.Item.TheVariants.{Call, End}
-use Rattle.log_model.specs.Logs.{word32, signed32, record_text, end_text, IsTransfer, IsRecord, IsEnd, IsRefusal, IsTrapKind}
-use Rattle.log_model.specs.Faults.{record_fault}
-use Rattle.log_model.specs.Reading.{long_at, item_of, item_length}
+use Rattle.log_model.specs.Logs.{word32, word64, signed32, step_text, read_text, record_text, end_text, IsTransfer, IsRecord, IsEnd, IsRefusal, IsTrapKind}
+use Rattle.log_model.specs.Faults.{long_at, step_of, step_end, step_length, fields_of, moved, data_length, left_on, are_left, are_bytes_wrong, record_fault}
+use Rattle.log_model.specs.Reading.{item_of, item_length, read_bytes}
 use Rattle.log_model.proofs.Faults.{record_fault-none}
-use Rattle.log_model.proofs.Items.{item_text, item_at, IsForm}
+use Rattle.log_model.proofs.Items.{item_text, item_at, IsForm, IsFront, IsItemOf}
 use Rattle.log_model.proofs.Results.{IsOutcome, word_of_below, word_of_moved, cast_again, read_is_right, write_is_right, kind_is_right}
+use Rattle.log_model.proofs.Words.{step_again, fields_again, length-step_text}
 
 -- ---- a record's text, and bytes after it, are read as that record
 
-pub record IsAgain (item : Item) (after : List ℕ) : Type 0 where
-  pub same : item_of (item_text item ++ after) ≡ item
-  pub size : item_length (item_text item ++ after) ≡ length (item_text item)
-  pub none : (least : ℕ) → least ≤ item_at item → record_fault least (item_text item ++ after) ≡ None
+pub record IsAgain (v : Version) (left : List (List ℕ)) (item : Item) (after : List ℕ) : Type 0 where
+  pub same : item_of v left (item_text v item ++ after) ≡ item
+  pub size : item_length v (item_text v item ++ after) ≡ length (item_text v item)
+  pub none : (least : ℕ) → least ≤ item_at item → record_fault v least left (item_text v item ++ after) ≡ None
 
-clock_again : (at value : ℕ) (after : List ℕ) → at < 2 ^ 32 → value < 2 ^ 64 → IsAgain (Call (Clock at value)) after
-clock_again at value after p q =
-    let text = record_text (Clock at value) ++ after in
-    let a : word_at text 1 ≡ at = from_le_bytes-to_le_bytes_4 at p in
-    let b : long_at text 5 ≡ value = from_le_bytes-to_le_bytes_8 value q in
+-- bytes with this tag, this step number and these fields and what follows them
+record IsBegun (v : Version) (text : List ℕ) (t at : ℕ) (fields : List ℕ) : Type 0 where
+  step : step_of v text ≡ at
+  has : fields_of v text ≡ fields
+  long : length text ≡ 1 + step_length v + length fields
+
+regroup : (a b c d after : List ℕ) → a ++ b ++ c ++ d ++ after ≡ a ++ (b ++ (c ++ (d ++ after)))
+regroup a b c d after = simp append_assoc
+
+begun : (v : Version) (t at : ℕ) (fields : List ℕ) → at < step_end v → IsBegun v (t ∷ (step_text v at ++ fields)) t at fields
+begun v t at fields h = record {
+  step = step_again v t at fields h;
+  has = fields_again v t at fields;
+  long = omega (arith, length-append (step_text v at) fields, length-step_text v at);
+}
+
+-- the same where more follows
+begun_with : (v : Version) (t at : ℕ) (fields after : List ℕ) → at < step_end v → IsBegun v (t ∷ (step_text v at ++ fields) ++ after) t at (fields ++ after)
+begun_with v t at fields after h =
+    subst (λ (x : List ℕ). IsBegun v (t ∷ x) t at (fields ++ after)) (sym (append_assoc (step_text v at) fields after)) (begun v t at (fields ++ after) h)
+
+clock_again : (v : Version) (left : List (List ℕ)) (at value : ℕ) (after : List ℕ) → at < 2 ^ 40 → at < step_end v → value < 2 ^ 64 → IsAgain v left (Call (Clock at value)) after
+clock_again v left at value after p w q =
+    let text = record_text v (Clock at value) ++ after in
+    let is = begun_with v 3 at (word64 value) after w in
+    let here = begun v 3 at (word64 value) w in
+    let b : long_at (word64 value ++ after) 0 ≡ value = from_le_bytes-to_le_bytes_8 value q in
     record {
-      same = rw (a, b) refl;
-      size = refl;
-      none = λ least h. record_fault-none least text 3 refl (omega arith) (omega arith) (omega arith) (omega arith) (rw a h) refl;
+      same = rw (is.step, is.has, b) refl;
+      size = omega (arith, here.long);
+      none = λ least h. record_fault-none v least left text 3 record {
+        tag = refl;
+        low = omega arith;
+        high = omega arith;
+        order = rw is.step h;
+        below = rw is.step p;
+        outcome = refl;
+        bytes = refl;
+        whole = omega (arith, is.long);
+      };
     }
 
-other_again : (at number : ℕ) (after : List ℕ) → at < 2 ^ 32 → number < 2 ^ 32 → IsAgain (Call (Other at number)) after
-other_again at number after p q =
-    let text = record_text (Other at number) ++ after in
-    let a : word_at text 1 ≡ at = from_le_bytes-to_le_bytes_4 at p in
-    let b : word_at text 5 ≡ number = from_le_bytes-to_le_bytes_4 number q in
+other_again : (v : Version) (left : List (List ℕ)) (at number : ℕ) (after : List ℕ) → at < 2 ^ 40 → at < step_end v → number < 2 ^ 32 → IsAgain v left (Call (Other at number)) after
+other_again v left at number after p w q =
+    let text = record_text v (Other at number) ++ after in
+    let is = begun_with v 4 at (word32 number) after w in
+    let here = begun v 4 at (word32 number) w in
+    let b : word_at (word32 number ++ after) 0 ≡ number = from_le_bytes-to_le_bytes_4 number q in
     record {
-      same = rw (a, b) refl;
-      size = refl;
-      none = λ least h. record_fault-none least text 4 refl (omega arith) (omega arith) (omega arith) (omega arith) (rw a h) refl;
+      same = rw (is.step, is.has, b) refl;
+      size = omega (arith, here.long);
+      none = λ least h. record_fault-none v least left text 4 record {
+        tag = refl;
+        low = omega arith;
+        high = omega arith;
+        order = rw is.step h;
+        below = rw is.step p;
+        outcome = refl;
+        bytes = refl;
+        whole = omega (arith, is.long);
+      };
     }
 
 small : (k : ℕ) → IsTrapKind k → k ≤ 7
@@ -54,33 +99,64 @@ small k (inl h) = omega arith
 small k (inr (inl e)) = omega arith
 small k (inr (inr e)) = omega arith
 
-pub end_again : (e : RunEnd) (after : List ℕ) → IsEnd e → IsAgain (End e) after
-end_again (Exit at code) after h =
-    let text = end_text (Exit at code) ++ after in
-    let a : word_at text 1 ≡ at = from_le_bytes-to_le_bytes_4 at h.0 in
-    let b : word_at text 5 ≡ code = from_le_bytes-to_le_bytes_4 code h.1 in
+pub end_again : (v : Version) (left : List (List ℕ)) (e : RunEnd) (after : List ℕ) → IsEnd e → item_at (End e) < step_end v → are_left left ≡ false → IsAgain v left (End e) after
+end_again v left (Exit at code) after h w none =
+    let text = end_text v (Exit at code) ++ after in
+    let is = begun_with v 5 at (word32 code) after w in
+    let here = begun v 5 at (word32 code) w in
+    let b : word_at (word32 code ++ after) 0 ≡ code = from_le_bytes-to_le_bytes_4 code h.1 in
     record {
-      same = rw (a, b) refl;
-      size = refl;
-      none = λ least o. record_fault-none least text 5 refl (omega arith) (omega arith) (omega arith) (omega arith) (rw a o) refl;
+      same = rw (is.step, is.has, b) refl;
+      size = omega (arith, here.long);
+      none = λ least o. record_fault-none v least left text 5 record {
+        tag = refl;
+        low = omega arith;
+        high = omega arith;
+        order = rw is.step o;
+        below = rw is.step h.0;
+        outcome = refl;
+        bytes = rw none refl;
+        whole = omega (arith, is.long);
+      };
     }
-end_again (Trap at kind pc) after h =
-    let text = end_text (Trap at kind pc) ++ after in
-    let a : word_at text 1 ≡ at = from_le_bytes-to_le_bytes_4 at h.0 in
-    let b : word_at text 5 ≡ kind = from_le_bytes-to_le_bytes_4 kind (omega (arith, small kind h.1)) in
-    let d : word_at text 9 ≡ pc = from_le_bytes-to_le_bytes_4 pc h.2 in
+end_again v left (Trap at kind pc) after h w none =
+    let text = end_text v (Trap at kind pc) ++ after in
+    let fields = word32 kind ++ word32 pc in
+    let parts : end_text v (Trap at kind pc) ≡ 6 ∷ (step_text v at ++ fields) = ap (λ (x : List ℕ). 6 ∷ x) (append_assoc (step_text v at) (word32 kind) (word32 pc)) in
+    let is : IsBegun v text 6 at (fields ++ after) = subst (λ (x : List ℕ). IsBegun v (x ++ after) 6 at (fields ++ after)) (sym parts) (begun_with v 6 at fields after w) in
+    let here : IsBegun v (end_text v (Trap at kind pc)) 6 at fields = subst (λ (x : List ℕ). IsBegun v x 6 at fields) (sym parts) (begun v 6 at fields w) in
+    let b : word_at (fields ++ after) 0 ≡ kind = from_le_bytes-to_le_bytes_4 kind (omega (arith, small kind h.1)) in
+    let d : word_at (fields ++ after) 4 ≡ pc = from_le_bytes-to_le_bytes_4 pc h.2 in
     record {
-      same = rw (a, b, d) refl;
-      size = refl;
-      none = λ least o. record_fault-none least text 6 refl (omega arith) (omega arith) (omega arith) (omega arith) (rw a o) (rw b (kind_is_right kind h.1));
+      same = rw (is.step, is.has, b, d) refl;
+      size = omega (arith, here.long);
+      none = λ least o. record_fault-none v least left text 6 record {
+        tag = refl;
+        low = omega arith;
+        high = omega arith;
+        order = rw is.step o;
+        below = rw is.step (omega (arith, h.0));
+        outcome = rw (is.has, b) (kind_is_right kind h.1);
+        bytes = rw none refl;
+        whole = omega (arith, is.long);
+      };
     }
-end_again (Limit at) after h =
-    let text = end_text (Limit at) ++ after in
-    let a : word_at text 1 ≡ at = from_le_bytes-to_le_bytes_4 at h in
+end_again v left (Limit at) after h w none =
+    let text = end_text v (Limit at) ++ after in
+    let is : IsBegun v text 7 at after = begun v 7 at after w in
     record {
-      same = rw a refl;
-      size = refl;
-      none = λ least o. record_fault-none least text 7 refl (omega arith) (omega arith) (omega arith) (omega arith) (rw a o) refl;
+      same = rw is.step refl;
+      size = omega (arith, length-step_text v at);
+      none = λ least o. record_fault-none v least left text 7 record {
+        tag = refl;
+        low = omega arith;
+        high = omega arith;
+        order = rw is.step o;
+        below = rw is.step (omega (arith, h));
+        outcome = refl;
+        bytes = rw none refl;
+        whole = omega (arith, is.long);
+      };
     }
 
 -- ---- reads and writes
@@ -93,31 +169,33 @@ three (a ∷ b ∷ []) e = absurd (omega (arith, e))
 three (a ∷ b ∷ c ∷ []) e = refl
 three (a ∷ b ∷ c ∷ d ∷ args) e = absurd (omega (arith, e))
 
--- a text with these fields at their places
-record HasFields (text : List ℕ) (at a b c : ℕ) (result : ℤ) (bytes after : List ℕ) : Type 0 where
-  step : word_at text 1 ≡ at
-  first : word_at text 5 ≡ a
-  second : word_at text 9 ≡ b
-  third : word_at text 13 ≡ c
-  outcome : word_at text 17 ≡ cast_unsigned w32 result
-  tail : drop 21 text ≡ bytes ++ after
+-- the fields of a read or a write, and what follows them
+abbrev transfer : List ℕ → ℤ → List ℕ → List ℕ
+transfer args result after = flat_map word32 args ++ (signed32 result ++ after)
 
--- the fields of a read or a write, after a tag
-fields : (t at a b c : ℕ) (result : ℤ) (bytes after : List ℕ) → at < 2 ^ 32 → IsTransfer (a ∷ b ∷ c ∷ []) result bytes
-    → HasFields (t ∷ word32 at ++ flat_map word32 (a ∷ b ∷ c ∷ []) ++ signed32 result ++ bytes ++ after) at a b c result bytes after
-fields t at a b c result bytes after p f = record {
-  step = from_le_bytes-to_le_bytes_4 at p;
-  first = from_le_bytes-to_le_bytes_4 a f.words.0;
-  second = from_le_bytes-to_le_bytes_4 b f.words.1.0;
-  third = from_le_bytes-to_le_bytes_4 c f.words.1.1.0;
-  outcome = from_le_bytes-to_le_bytes_4 (cast_unsigned w32 result) (word_of_below result f.fits);
-  tail = refl;
-}
+record HasFields (fields : List ℕ) (a b c : ℕ) (result : ℤ) (size : ℕ) (after : List ℕ) : Type 0 where
+  first : word_at fields 0 ≡ a
+  second : word_at fields 4 ≡ b
+  third : word_at fields 8 ≡ c
+  outcome : word_at fields 12 ≡ cast_unsigned w32 result
+  moves : moved fields ≡ size
+  tail : drop 16 fields ≡ after
+  long : length fields ≡ 16 + length after
 
--- the data of a read or a write, in a text with these fields
-data_is : (text : List ℕ) (at a b c : ℕ) (result : ℤ) (bytes after : List ℕ) → HasFields text at a b c result bytes after → IsTransfer (a ∷ b ∷ c ∷ []) result bytes → IsOutcome result
-    → (if nat_lt (word_at text 17) (2 ^ 31) then word_at text 17 else 0) ≡ length bytes
-data_is text at a b c result bytes after h f o = rw h.outcome (word_of_moved result f.fits o) ∙ sym f.whole
+has_fields : (a b c : ℕ) (result : ℤ) (bytes after : List ℕ) → IsTransfer (a ∷ b ∷ c ∷ []) result bytes → IsOutcome result
+    → HasFields (transfer (a ∷ b ∷ c ∷ []) result after) a b c result (length bytes) after
+has_fields a b c result bytes after f o =
+    let fields = transfer (a ∷ b ∷ c ∷ []) result after in
+    let outcome : word_at fields 12 ≡ cast_unsigned w32 result = from_le_bytes-to_le_bytes_4 (cast_unsigned w32 result) (word_of_below result f.fits) in
+    record {
+      first = from_le_bytes-to_le_bytes_4 a f.words.0;
+      second = from_le_bytes-to_le_bytes_4 b f.words.1.0;
+      third = from_le_bytes-to_le_bytes_4 c f.words.1.1.0;
+      outcome = outcome;
+      moves = rw outcome (word_of_moved result f.fits o) ∙ sym f.whole;
+      tail = refl;
+      long = omega arith;
+    }
 
 outcome_of : (result : ℤ) (requested : ℕ) → IsRefusal result ⊎ ((pos 0 ≤ℤ result) × (result ≤ℤ pos requested)) → IsOutcome result
 outcome_of result requested (inl r) = inl r
@@ -127,42 +205,107 @@ outcome_from : (result : ℤ) (requested : ℕ) → IsRefusal result ⊎ (result
 outcome_from result requested (inl r) = inl r
 outcome_from result requested (inr e) = inr (omega (arith, ints, e))
 
-read_again : (at a b c : ℕ) (result : ℤ) (bytes after : List ℕ) → IsRecord (Read at (a ∷ b ∷ c ∷ []) result bytes) → IsAgain (Call (Read at (a ∷ b ∷ c ∷ []) result bytes)) after
-read_again at a b c result bytes after r =
-    let text = record_text (Read at (a ∷ b ∷ c ∷ []) result bytes) ++ after in
+-- what follows the fields
+past_fields : (v : Version) (text fields after : List ℕ) → fields_of v text ≡ fields → drop 16 fields ≡ after → drop (1 + step_length v + 16) text ≡ after
+past_fields v text fields after e f = sym (drop-drop 16 (1 + step_length v) text) ∙ ap (drop 16) e ∙ f
+
+-- of a read in either version: the bytes, how many follow, and that they are there
+record IsReadAgain (v : Version) (left : List (List ℕ)) (text fields bytes after : List ℕ) : Type 0 where
+  gives : read_bytes v left text ≡ bytes
+  follow : data_length v 1 text ≡ length (read_text v bytes)
+  right : are_bytes_wrong v 1 left fields ≡ false
+
+read_is : (v : Version) (left : List (List ℕ)) (text fields bytes after : List ℕ) → fields_of v text ≡ fields → moved fields ≡ length bytes → drop 16 fields ≡ read_text v bytes ++ after
+    → IsFront v bytes (left_on left fields) → IsReadAgain v left text fields bytes after
+read_is One left text fields bytes after e m t front =
+    let follow : data_length One 1 text ≡ length bytes = ap moved e ∙ m in
+    record {
+      gives = ap₂ (λ (n : ℕ) (x : List ℕ). take n x) follow (past_fields One text fields (bytes ++ after) e t) ∙ take_at bytes after (length bytes) refl;
+      follow = follow;
+      right = refl;
+    }
+read_is Two left text fields bytes after e m t front =
+    let channel = left_on left fields in
+    let front : channel ≡ bytes ++ drop (length bytes) channel = front in
+    let enough : length bytes ≤ length channel = omega (arith, ap length front, length-append bytes (drop (length bytes) channel)) in
+    let all : nat_lt (length channel) (moved fields) ≡ false = rw m (le-ltb (length channel) (length bytes) enough) in
+    record {
+      gives = ap (λ (x : List ℕ). take (moved x) (left_on left x)) e ∙ ap₂ (λ (n : ℕ) (x : List ℕ). take n x) m front ∙ take_at bytes (drop (length bytes) channel) (length bytes) refl;
+      follow = refl;
+      right = rw all refl;
+    }
+
+read_again : (v : Version) (left : List (List ℕ)) (at a b c : ℕ) (result : ℤ) (bytes after : List ℕ) → IsRecord (Read at (a ∷ b ∷ c ∷ []) result bytes) → at < step_end v → IsFront v bytes (get_or left a [])
+    → IsAgain v left (Call (Read at (a ∷ b ∷ c ∷ []) result bytes)) after
+read_again v left at a b c result bytes after r w front =
+    let args = a ∷ b ∷ c ∷ [] in
+    let moved_bytes = read_text v bytes in
+    let text = record_text v (Read at args result bytes) ++ after in
     let o = outcome_of result c r.2 in
-    let h = fields 1 at a b c result bytes after r.0 r.1 in
-    let n = data_is text at a b c result bytes after h r.1 o in
+    let fields = transfer args result (moved_bytes ++ after) in
+    let h = has_fields a b c result bytes (moved_bytes ++ after) r.1 o in
+    let parts : text ≡ 1 ∷ (step_text v at ++ fields) = ap (λ (x : List ℕ). 1 ∷ x) (regroup (step_text v at) (flat_map word32 args) (signed32 result) moved_bytes after) in
+    let is : IsBegun v text 1 at fields = subst (λ (x : List ℕ). IsBegun v x 1 at fields) (sym parts) (begun v 1 at fields w) in
+    let channel : IsFront v bytes (left_on left fields) = subst (λ (k : ℕ). IsFront v bytes (get_or left k [])) (sym h.first) front in
+    let n = read_is v left text fields bytes after is.has h.moves h.tail channel in
+    let sum = length-append moved_bytes after in
+    let whole : length text ≡ length (record_text v (Read at args result bytes)) + length after = length-append (record_text v (Read at args result bytes)) after in
     record {
-      same = rw (h.step, h.first, h.second, h.third, n, h.outcome, cast_again result r.1.fits o, take_at bytes after (length bytes) refl) refl;
-      size = rw n (omega arith);
-      none = λ least order. record_fault-none least text 1 refl (omega arith) (omega arith) (omega arith) (rw n (omega (arith, length-append bytes after))) (rw h.step order) (rw (h.third, h.outcome, read_is_right c result r.1.fits r.2) refl);
+      same = rw (is.step, n.gives, is.has, h.first, h.second, h.third, h.outcome, cast_again result r.1.fits o) refl;
+      size = omega (arith, n.follow, is.long, h.long, sum, whole);
+      none = λ least order. record_fault-none v least left text 1 record {
+        tag = refl;
+        low = omega arith;
+        high = omega arith;
+        order = rw is.step order;
+        below = rw is.step r.0;
+        outcome = rw (is.has, h.third, h.outcome, read_is_right c result r.1.fits r.2) refl;
+        bytes = rw is.has n.right;
+        whole = omega (arith, n.follow, is.long, h.long, sum);
+      };
     }
 
-write_again : (at a b c : ℕ) (result : ℤ) (bytes after : List ℕ) → IsRecord (Write at (a ∷ b ∷ c ∷ []) result bytes) → IsAgain (Call (Write at (a ∷ b ∷ c ∷ []) result bytes)) after
-write_again at a b c result bytes after r =
-    let text = record_text (Write at (a ∷ b ∷ c ∷ []) result bytes) ++ after in
+write_again : (v : Version) (left : List (List ℕ)) (at a b c : ℕ) (result : ℤ) (bytes after : List ℕ) → IsRecord (Write at (a ∷ b ∷ c ∷ []) result bytes) → at < step_end v
+    → IsAgain v left (Call (Write at (a ∷ b ∷ c ∷ []) result bytes)) after
+write_again v left at a b c result bytes after r w =
+    let args = a ∷ b ∷ c ∷ [] in
+    let text = record_text v (Write at args result bytes) ++ after in
     let o = outcome_from result c r.2 in
-    let h = fields 2 at a b c result bytes after r.0 r.1 in
-    let n = data_is text at a b c result bytes after h r.1 o in
+    let fields = transfer args result (bytes ++ after) in
+    let h = has_fields a b c result bytes (bytes ++ after) r.1 o in
+    let parts : text ≡ 2 ∷ (step_text v at ++ fields) = ap (λ (x : List ℕ). 2 ∷ x) (regroup (step_text v at) (flat_map word32 args) (signed32 result) bytes after) in
+    let is : IsBegun v text 2 at fields = subst (λ (x : List ℕ). IsBegun v x 2 at fields) (sym parts) (begun v 2 at fields w) in
+    let n : moved (fields_of v text) ≡ length bytes = ap moved is.has ∙ h.moves in
+    let moved_bytes = past_fields v text fields (bytes ++ after) is.has h.tail in
+    let sum = length-append bytes after in
+    let whole : length text ≡ length (record_text v (Write at args result bytes)) + length after = length-append (record_text v (Write at args result bytes)) after in
     record {
-      same = rw (h.step, h.first, h.second, h.third, n, h.outcome, cast_again result r.1.fits o, take_at bytes after (length bytes) refl) refl;
-      size = rw n (omega arith);
-      none = λ least order. record_fault-none least text 2 refl (omega arith) (omega arith) (omega arith) (rw n (omega (arith, length-append bytes after))) (rw h.step order) (rw (h.third, h.outcome, write_is_right c result r.1.fits r.2) refl);
+      same = rw (n, moved_bytes, is.step, is.has, h.first, h.second, h.third, h.outcome, cast_again result r.1.fits o, take_at bytes after (length bytes) refl) refl;
+      size = omega (arith, n, is.long, h.long, sum, whole);
+      none = λ least order. record_fault-none v least left text 2 record {
+        tag = refl;
+        low = omega arith;
+        high = omega arith;
+        order = rw is.step order;
+        below = rw is.step r.0;
+        outcome = rw (is.has, h.third, h.outcome, write_is_right c result r.1.fits r.2) refl;
+        bytes = refl;
+        whole = omega (arith, n, is.long, h.long, sum);
+      };
     }
 
-pub record_again : (r : CallRecord) (after : List ℕ) → IsRecord r → IsAgain (Call r) after
-record_again (Read at args result bytes) after r =
+pub record_again : (v : Version) (left : List (List ℕ)) (r : CallRecord) (after : List ℕ) → IsRecord r → item_at (Call r) < step_end v → IsItemOf v left (Call r) → IsAgain v left (Call r) after
+record_again v left (Read at args result bytes) after r w front =
     let split = three args r.1.three in
     let here : IsRecord (Read at (get_or args 0 0 ∷ get_or args 1 0 ∷ get_or args 2 0 ∷ []) result bytes) = subst (λ (x : List ℕ). IsRecord (Read at x result bytes)) split r in
-    subst (λ (x : List ℕ). IsAgain (Call (Read at x result bytes)) after) (sym split) (read_again at _ _ _ result bytes after here)
-record_again (Write at args result bytes) after r =
+    subst (λ (x : List ℕ). IsAgain v left (Call (Read at x result bytes)) after) (sym split) (read_again v left at _ _ _ result bytes after here w front)
+record_again v left (Write at args result bytes) after r w front =
     let split = three args r.1.three in
     let here : IsRecord (Write at (get_or args 0 0 ∷ get_or args 1 0 ∷ get_or args 2 0 ∷ []) result bytes) = subst (λ (x : List ℕ). IsRecord (Write at x result bytes)) split r in
-    subst (λ (x : List ℕ). IsAgain (Call (Write at x result bytes)) after) (sym split) (write_again at _ _ _ result bytes after here)
-record_again (Clock at value) after r = clock_again at value after r.0 r.1
-record_again (Other at number) after r = other_again at number after r.0 r.1
+    subst (λ (x : List ℕ). IsAgain v left (Call (Write at x result bytes)) after) (sym split) (write_again v left at _ _ _ result bytes after here w)
+record_again v left (Clock at value) after r w front = clock_again v left at value after r.0 w r.1
+record_again v left (Other at number) after r w front = other_again v left at number after r.0 w r.1
 
-pub item_again : (item : Item) (after : List ℕ) → IsForm item → IsAgain item after
-item_again (Call r) after form = record_again r after form
-item_again (End e) after form = end_again e after form
+pub item_again : (v : Version) (left : List (List ℕ)) (item : Item) (after : List ℕ) → IsForm item → item_at item < step_end v → IsItemOf v left item → IsAgain v left item after
+item_again v left (Call r) after form w allowed = record_again v left r after form w allowed
+item_again v left (End e) after form w allowed = end_again v left e after form w allowed

@@ -1,23 +1,33 @@
 -- Records without a fault. Crates above cite these lemmas.
-use Rattle.std.proofs.Common.{◌≡◌, ℕ, ◌+◌, ◌≤◌, Bool, true, false, List, length, Option, Some, None, refl, arith}
-use Rattle.std.specs.Prelude.{nat_lt, if◌then◌else◌, ◌==◌, ◌||◌}
-use Rattle.std.proofs.lemmas.Bool.{le-ltb, ne_eqb, or_parts, eqb-false, ltb-false}
-use Rattle.format_model.specs.Fields.{word_at}
-use Rattle.log_model.specs.Faults.{tag_of, fixed_length, data_length, is_result_wrong, record_fault}
+use Rattle.std.proofs.Common.{◌≡◌, ℕ, ◌+◌, ◌≤◌, ◌<◌, Bool, true, false, List, length, Option, Some, None, refl, arith}
+use Rattle.std.specs.Prelude.{nat_lt, nat_le, if◌then◌else◌, ◌==◌}
+use Rattle.std.proofs.lemmas.Bool.{le-ltb, lt-leb, ne_eqb, or_parts, or_from, eqb-false, ltb-false, leb-false}
+use Rattle.log_model.specs.declared.Version.{Version}
+use Rattle.log_model.specs.Faults.{tag_of, step_of, fields_of, fixed_length, data_length, step_bound, is_step_wrong, is_result_wrong, are_bytes_wrong, record_fault}
 use Rattle.log_model.specs.Reading.{item_length}
 
--- ---- what makes a record without a fault
+-- ---- a record without a fault, of the tag t
 
-pub record_fault-none : (least : ℕ) (text : List ℕ) (t : ℕ) → tag_of text ≡ t → 1 ≤ t → t ≤ 7 → 1 ≤ length text → fixed_length t + data_length t text ≤ length text → least ≤ word_at text 1 → is_result_wrong t text ≡ false
-    → record_fault least text ≡ None
-record_fault-none least text t tag low high some whole order right =
-    let not_zero : (t == 0) ≡ false = ne_eqb t 0 (λ e. omega arith) in
-    let known : nat_lt 7 t ≡ false = le-ltb 7 t high in
-    let is_some : (length text == 0) ≡ false = ne_eqb (length text) 0 (λ e. omega arith) in
-    let fixed : nat_lt (length text) (fixed_length t) ≡ false = le-ltb (length text) (fixed_length t) (omega (arith, whole)) in
-    let rises : nat_lt (word_at text 1) least ≡ false = le-ltb (word_at text 1) least order in
-    let complete : nat_lt (length text) (fixed_length t + data_length t text) ≡ false = le-ltb (length text) (fixed_length t + data_length t text) whole in
-    rw (tag, is_some, not_zero, known, fixed, rises, right, complete) refl
+pub record IsKnown (v : Version) (least : ℕ) (left : List (List ℕ)) (rest : List ℕ) (t : ℕ) : Type 0 where
+  pub tag : tag_of rest ≡ t
+  pub low : 1 ≤ t
+  pub high : t ≤ 7
+  pub order : least ≤ step_of v rest
+  pub below : step_of v rest < step_bound t
+  pub outcome : is_result_wrong t (fields_of v rest) ≡ false
+  pub bytes : are_bytes_wrong v t left (fields_of v rest) ≡ false
+  pub whole : fixed_length v t + data_length v t rest ≤ length rest
+
+pub record_fault-none : (v : Version) (least : ℕ) (left : List (List ℕ)) (rest : List ℕ) (t : ℕ) → IsKnown v least left rest t → record_fault v least left rest ≡ None
+record_fault-none v least left rest t is =
+    let at = step_of v rest in
+    let not_zero : (t == 0) ≡ false = ne_eqb t 0 (λ e. omega (arith, is.low)) in
+    let known : nat_lt 7 t ≡ false = le-ltb 7 t is.high in
+    let some : (length rest == 0) ≡ false = ne_eqb (length rest) 0 (λ e. omega (arith, is.whole)) in
+    let fixed : nat_lt (length rest) (fixed_length v t) ≡ false = le-ltb (length rest) (fixed_length v t) (omega (arith, is.whole)) in
+    let rises : is_step_wrong least t at ≡ false = or_from (nat_lt at least) (nat_le (step_bound t) at) (le-ltb at least is.order) (lt-leb (step_bound t) at is.below) in
+    let complete : nat_lt (length rest) (fixed_length v t + data_length v t rest) ≡ false = le-ltb (length rest) (fixed_length v t + data_length v t rest) is.whole in
+    rw (is.tag, some, not_zero, known, fixed, rises, is.outcome, is.bytes, complete) refl
 
 -- ---- what a record without a fault meets
 
@@ -28,39 +38,30 @@ none_if false x o h = (refl, h)
 pub some_of : (n : ℕ) → (n == 0) ≡ false → 1 ≤ n
 some_of n h = let not_zero = eqb-false n 0 h in omega (arith, not_zero)
 
-pub record IsKnown (least : ℕ) (rest : List ℕ) : Type 0 where
-  pub low : 1 ≤ tag_of rest
-  pub high : tag_of rest ≤ 7
-  pub order : least ≤ word_at rest 1
-  pub outcome : is_result_wrong (tag_of rest) rest ≡ false
-  pub whole : item_length rest ≤ length rest
-
-pub no_fault : (least : ℕ) (rest : List ℕ) → record_fault least rest ≡ None → IsKnown least rest
-no_fault least rest h =
+pub no_fault : (v : Version) (least : ℕ) (left : List (List ℕ)) (rest : List ℕ) → record_fault v least left rest ≡ None → IsKnown v least left rest (tag_of rest)
+no_fault v least left rest h =
     let tag = tag_of rest in
+    let at = step_of v rest in
     let a = none_if _ _ _ h in
     let b = none_if _ _ _ a.1 in
     let c = none_if _ _ _ b.1 in
     let d = none_if _ _ _ c.1 in
     let e = none_if _ _ _ d.1 in
     let f = none_if _ _ _ e.1 in
+    let g = none_if _ _ _ f.1 in
     let known = or_parts (tag == 0) (nat_lt 7 tag) b.0 in
+    let step = or_parts (nat_lt at least) (nat_le (step_bound tag) at) d.0 in
     record {
+      tag = refl;
       low = some_of tag known.0;
       high = ltb-false 7 tag known.1;
-      order = ltb-false (word_at rest 1) least d.0;
+      order = ltb-false at least step.0;
+      below = leb-false (step_bound tag) at step.1;
       outcome = e.0;
-      whole = ltb-false (length rest) (item_length rest) f.0;
+      bytes = f.0;
+      whole = ltb-false (length rest) (item_length v rest) g.0;
     }
 
-five_if : (b : Bool) (m n : ℕ) → 5 ≤ m → 5 ≤ n → 5 ≤ (if b then m else n)
-five_if true m n p q = p
-five_if false m n p q = q
-
-fixed_some : (tag : ℕ) → 5 ≤ fixed_length tag
-fixed_some tag =
-    five_if ((tag == 1) || (tag == 2)) 21 _ (omega arith) (five_if ((tag == 3) || (tag == 6)) 13 _ (omega arith) (five_if (tag == 7) 5 9 (omega arith) (omega arith)))
-
 -- it takes some bytes, and no more than there are
-pub item_length-bounds : (least : ℕ) (rest : List ℕ) → record_fault least rest ≡ None → (1 ≤ item_length rest) × (item_length rest ≤ length rest)
-item_length-bounds least rest none = (omega (arith, fixed_some (tag_of rest)), (no_fault least rest none).whole)
+pub item_length-bounds : (v : Version) (least : ℕ) (left : List (List ℕ)) (rest : List ℕ) → record_fault v least left rest ≡ None → (1 ≤ item_length v rest) × (item_length v rest ≤ length rest)
+item_length-bounds v least left rest none = (omega arith, (no_fault v least left rest none).whole)

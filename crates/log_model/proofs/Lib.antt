@@ -4,10 +4,13 @@ pub mod Records
 pub mod Faults
 mod Items
 mod Results
+pub mod Left
 mod Again
 mod Front
 mod HeaderAgain
 mod Headers
+pub mod Channels
+pub mod Kept
 pub mod Reading
 pub mod Soundness
 pub mod Unique

@@ -1,10 +1,12 @@
 -- Bytes, and the numbers of four and of eight bytes within them. Crates above cite these lemmas.
 use Rattle.std.proofs.Common.{◌≡◌, ℕ, zero, suc, ◌+◌, ◌^◌, ◌<◌, ◌≤◌, List, [], ◌∷◌, ◌++◌, length, get_or, take, drop, refl, sym, ap, ◌∙◌, arith}
 use Rattle.std.proofs.lemmas.List.{take-append-drop, drop-drop, drop_more, length-take, length-drop}
-use Rattle.std.proofs.lemmas.Nat.{le_bytes_4, le_bytes_8}
+use Rattle.std.proofs.lemmas.Nat.{le_bytes_4, le_bytes_8, from_le_bytes-to_le_bytes_4, from_le_bytes-to_le_bytes_8}
 use Rattle.format_model.specs.Fields.{word_at}
-use Rattle.log_model.specs.Logs.{word32, word64, IsBytes}
-use Rattle.log_model.specs.Reading.{long_at}
+use Rattle.log_model.specs.declared.Version.{Version}
+use Rattle.log_model.specs.declared.Version.TheVariants.{One, Two}
+use Rattle.log_model.specs.Logs.{word32, word64, step_text, IsBytes}
+use Rattle.log_model.specs.Faults.{long_at, step_length, step_of, fields_of, step_end}
 
 pub byte_below : (bytes : List ℕ) → IsBytes bytes → (i : ℕ) → get_or bytes i 0 < 256
 byte_below [] h i = omega arith
@@ -53,3 +55,25 @@ long_below bytes i fits =
 
 pub byte_spelt : (bytes : List ℕ) → 0 < length bytes → bytes ≡ get_or bytes 0 0 ∷ drop 1 bytes
 byte_spelt bytes h = drop_more bytes 0 0 h
+
+-- ---- step numbers, in four or in eight bytes
+
+pub step_again : (v : Version) (t at : ℕ) (after : List ℕ) → at < step_end v → step_of v (t ∷ (step_text v at ++ after)) ≡ at
+step_again One t at after h = from_le_bytes-to_le_bytes_4 at h
+step_again Two t at after h = from_le_bytes-to_le_bytes_8 at h
+
+pub fields_again : (v : Version) (t at : ℕ) (after : List ℕ) → fields_of v (t ∷ (step_text v at ++ after)) ≡ after
+fields_again One t at after = refl
+fields_again Two t at after = refl
+
+pub length-step_text : (v : Version) (at : ℕ) → length (step_text v at) ≡ step_length v
+length-step_text One at = refl
+length-step_text Two at = refl
+
+pub step_spelt : (v : Version) (bytes : List ℕ) → IsBytes bytes → 1 + step_length v ≤ length bytes → drop 1 bytes ≡ step_text v (step_of v bytes) ++ fields_of v bytes
+step_spelt One bytes fits h = word_spelt bytes 1 fits h
+step_spelt Two bytes fits h = long_spelt bytes 1 fits h
+
+pub step_below : (v : Version) (bytes : List ℕ) → IsBytes bytes → step_of v bytes < step_end v
+step_below One bytes fits = word_below bytes 1 fits
+step_below Two bytes fits = long_below bytes 1 fits

@@ -1,7 +1,9 @@
--- Bytes read as a log, from the front: the log that they are the text of, or their first fault and its offset.
-use Rattle.std.specs.Prelude.{ℕ, suc, zero, ◌+◌, ◌==◌, if◌then◌else◌, List, [], ◌∷◌, length, take, drop, Some, None, Result, Ok, Err, ℤ}
-use Rattle.std.specs.Int.{w32, w64, from_le_bytes, cast_signed}
+-- Bytes read as a log, from the front: the log that they are a text of, or their first fault and its offset.
+use Rattle.std.specs.Prelude.{ℕ, suc, zero, ◌+◌, ◌-◌, ◌==◌, if◌then◌else◌, List, [], ◌∷◌, length, get_or, set, take, drop, Option, Some, None, Result, Ok, Err, ℤ, slice_index}
+use Rattle.std.specs.Int.{w32, cast_signed}
 use Rattle.format_model.specs.Fields.{word_at}
+use Rattle.log_model.specs.declared.Version.{Version}
+use Rattle.log_model.specs.declared.Version.TheVariants.{One, Two}
 use Rattle.log_model.specs.declared.CallRecord.{CallRecord}
 use Rattle.log_model.specs.declared.CallRecord.TheVariants.{Read, Write, Clock, Other}
 use Rattle.log_model.specs.declared.RunEnd.{RunEnd}
@@ -9,49 +11,76 @@ use Rattle.log_model.specs.declared.RunEnd.TheVariants.{Exit, Trap, Limit}
 use Rattle.log_model.specs.declared.Item.{Item}
 use Rattle.log_model.specs.declared.Item.TheVariants.{Call, End}
 use Rattle.log_model.specs.declared.LogKind.{LogKind}
-use Rattle.log_model.specs.declared.LogKind.TheVariants.{Short, Trailing}
+use Rattle.log_model.specs.declared.LogKind.TheVariants.{Magic, Header, Short, Trailing}
 use Rattle.log_model.specs.Logs.{Log, at_of}
-use Rattle.log_model.specs.Faults.{tag_of, fixed_length, data_length, header_fault, record_fault}
+use Rattle.log_model.specs.Faults.{version_of, channel_count, channel_length, is_channel_cut, long_at, tag_of, step_of, fields_of, fixed_length, moved, data_length, left_on, header_fault, record_fault}
 
 -- ---- the record at the front, where it has no fault
 
--- the number of eight bytes at a place
-abbrev pub long_at : List ℕ → ℕ → ℕ
-long_at bytes i = from_le_bytes w64 (take 8 (drop i bytes))
-
--- of a read or a write the arguments, the result and the data
+-- of a read or a write the arguments and the result
 abbrev pub arguments_of : List ℕ → List ℕ
-arguments_of rest = word_at rest 5 ∷ word_at rest 9 ∷ word_at rest 13 ∷ []
+arguments_of fields = word_at fields 0 ∷ word_at fields 4 ∷ word_at fields 8 ∷ []
 
 abbrev pub result_of : List ℕ → ℤ
-result_of rest = cast_signed w32 (word_at rest 17)
+result_of fields = cast_signed w32 (word_at fields 12)
 
-abbrev pub data_of : ℕ → List ℕ → List ℕ
-data_of tag rest = take (data_length tag rest) (drop (fixed_length tag) rest)
+-- the data that follow the fields
+abbrev pub data_of : Version → ℕ → List ℕ → List ℕ
+data_of v tag rest = take (data_length v tag rest) (drop (fixed_length v tag) rest)
+
+-- the bytes of a read: in version 1 they follow the fields, in version 2 they are the front of what its channel has left
+abbrev pub read_bytes : Version → List (List ℕ) → List ℕ → List ℕ
+read_bytes One left rest = data_of One 1 rest
+read_bytes Two left rest = take (moved (fields_of Two rest)) (left_on left (fields_of Two rest))
 
 -- what the record says: a call, or the end of the run
-abbrev pub item_of : List ℕ → Item
-item_of rest = let tag = tag_of rest in let at = word_at rest 1 in
-    if tag == 1 then Call (Read at (arguments_of rest) (result_of rest) (data_of tag rest)) else
-    if tag == 2 then Call (Write at (arguments_of rest) (result_of rest) (data_of tag rest)) else
-    if tag == 3 then Call (Clock at (long_at rest 5)) else
-    if tag == 4 then Call (Other at (word_at rest 5)) else
-    if tag == 5 then End (Exit at (word_at rest 5)) else
-    if tag == 6 then End (Trap at (word_at rest 5) (word_at rest 9)) else
+abbrev pub item_of : Version → List (List ℕ) → List ℕ → Item
+item_of v left rest = let tag = tag_of rest in let at = step_of v rest in let fields = fields_of v rest in
+    if tag == 1 then Call (Read at (arguments_of fields) (result_of fields) (read_bytes v left rest)) else
+    if tag == 2 then Call (Write at (arguments_of fields) (result_of fields) (data_of v 2 rest)) else
+    if tag == 3 then Call (Clock at (long_at fields 0)) else
+    if tag == 4 then Call (Other at (word_at fields 0)) else
+    if tag == 5 then End (Exit at (word_at fields 0)) else
+    if tag == 6 then End (Trap at (word_at fields 0) (word_at fields 4)) else
     End (Limit at)
 
 -- how many bytes the record takes
-abbrev pub item_length : List ℕ → ℕ
-item_length rest = let tag = tag_of rest in fixed_length tag + data_length tag rest
+abbrev pub item_length : Version → List ℕ → ℕ
+item_length v rest = let tag = tag_of rest in fixed_length v tag + data_length v tag rest
 
--- ---- the records
+-- what is left of the channels after a call: a read took its bytes off the front of its own, if there is one
+abbrev pub left_after : CallRecord → List (List ℕ) → List (List ℕ)
+left_after (Read at args result bytes) left =
+    let channel = slice_index args 0 in set left channel (drop (length bytes) (get_or left channel []))
+left_after (Write at args result bytes) left = left
+left_after (Clock at value) left = left
+left_after (Other at number) left = left
+
+-- ---- the channels
 
 -- the same of a value, where there is one
 abbrev pub map_ok : {A B E : Type 0} → (A → B) → Result A E → Result B E
 map_ok f (Ok value) = Ok (f value)
 map_ok f (Err fault) = Err fault
 
--- what is after the header: the calls and the end
+-- the channels, and the bytes after them
+abbrev pub Channels : Type 0
+Channels = List (List ℕ) × List ℕ
+
+abbrev pub with_channel : List ℕ → Channels → Channels
+with_channel channel read = (channel ∷ read.0, read.1)
+
+-- so many channels, from this offset on, and the bytes after them; or the offset of the first that isn't whole
+unfoldable pub channels_of : (count offset : ℕ) → List ℕ → Result Channels (LogKind × ℕ)
+channels_of zero offset rest = Ok ([], rest)
+channels_of (suc count) offset rest =
+    let size = channel_length rest in
+    if is_channel_cut rest then Err (Header, offset) else
+    map_ok (with_channel (take (word_at rest 0) (drop 4 rest))) (channels_of count (offset + size) (drop size rest))
+
+-- ---- the records
+
+-- what is after the channels: the calls and the end
 abbrev pub Body : Type 0
 Body = List CallRecord × RunEnd
 
@@ -64,17 +93,17 @@ with_end end offset [] = Ok ([], end)
 with_end end offset (byte ∷ bytes) = Err (Trailing, offset)
 
 -- The bytes from this offset on: the fault of the record at the front; or else that record and what follows it, up to
--- the end. The first step number has to be at least `least`. There are at most `most` records: as many as there are
--- bytes is enough.
-unfoldable pub body_of : (most least offset : ℕ) → List ℕ → Result Body (LogKind × ℕ)
-body_of zero least offset rest = Err (Short, offset)
-body_of (suc most) least offset rest =
-    let next = offset + item_length rest in
-    let after = drop (item_length rest) rest in
-    elim (record_fault least rest) [
+-- the end. The first step number has to be at least `least`, and `left` is left of the channels. There are at most
+-- `most` records: as many as there are bytes is enough.
+unfoldable pub body_of : Version → (most least offset : ℕ) → List (List ℕ) → List ℕ → Result Body (LogKind × ℕ)
+body_of v zero least offset left rest = Err (Short, offset)
+body_of v (suc most) least offset left rest =
+    let next = offset + item_length v rest in
+    let after = drop (item_length v rest) rest in
+    elim (record_fault v least left rest) [
       | Some kind ↦ Err (kind, offset)
-      | None ↦ elim (item_of rest) [
-        | Call call ↦ map_ok (with_call call) (body_of most (at_of call + 1) next after)
+      | None ↦ elim (item_of v left rest) [
+        | Call call ↦ map_ok (with_call call) (body_of v most (at_of call + 1) next (left_after call left) after)
         | End end ↦ with_end end next after
       ]
     ]
@@ -91,10 +120,21 @@ with_header header body = record {
   end = body.1;
 }
 
+-- the records and the end, of bytes of this length whose channels are read
+abbrev pub after_channels : Version → ℕ → Result Channels (LogKind × ℕ) → Result Body (LogKind × ℕ)
+after_channels v size (Err fault) = Err fault
+after_channels v size (Ok read) = body_of v size 0 (size - length read.1) read.0 read.1
+
+-- what is after the header, in this version
+abbrev pub body_in : Option Version → List ℕ → Result Body (LogKind × ℕ)
+body_in None bytes = Err (Magic, 0)
+body_in (Some v) bytes =
+    after_channels v (length bytes) (channels_of (channel_count v bytes) 48 (drop 48 bytes))
+
 -- the header's fault; or else the log with what is read after the header
 unfoldable pub log_of : List ℕ → Result Log (LogKind × ℕ)
 log_of bytes =
     elim (header_fault bytes) [
       | Some fault ↦ Err fault
-      | None ↦ map_ok (with_header bytes) (body_of (length bytes) 0 48 (drop 48 bytes))
+      | None ↦ map_ok (with_header bytes) (body_in (version_of bytes) bytes)
     ]

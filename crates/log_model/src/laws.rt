@@ -1,8 +1,8 @@
 //! Laws of logs and of faults. Each is a function that does nothing: its contract is the law.
 
-ghost use Rattle.log_model.specs.Laws.{ReadsLogs, ReadsFaults, HaveOneText, FaultyAreNoLogs, HaveOneFault, AreLogsOrFaulty, HaveLength, ArePrefixFree};
+ghost use Rattle.log_model.specs.Laws.{ReadsLogs, ReadsFaults, WideLogsAreRead, HaveOneText, FaultyAreNoLogs, HaveOneFault, AreLogsOrFaulty, HaveLength, ArePrefixFree};
 
-/// Bytes are read as a log exactly where they are that log's text.
+/// Bytes are read as a log exactly where they are a text of it, in either version.
 pub fn reads_logs()
     ensures { ReadsLogs }
 {}
@@ -12,7 +12,12 @@ pub fn reads_faults()
     ensures { ReadsFaults }
 {}
 
-/// A text is that of one log: what stands in a log stands in its text.
+/// A log that version 2 can hold is read from its text in version 2: to convert a log keeps it.
+pub fn wide_logs_are_read()
+    ensures { WideLogsAreRead }
+{}
+
+/// Bytes are a text of one log: what stands in a log stands in its texts.
 pub fn one_text()
     ensures { HaveOneText }
 {}
@@ -27,17 +32,18 @@ pub fn one_fault()
     ensures { HaveOneFault }
 {}
 
-/// Bytes are the text of a log, or they have a fault.
+/// Bytes are a text of a log, or they have a fault.
 pub fn each_is_a_log_or_faulty()
     ensures { AreLogsOrFaulty }
 {}
 
-/// A log's text has 48 bytes of header, and then its records' and its end's.
+/// A log's text has 48 bytes of header, and then its records' and its end's; in version 2 also four bytes for each
+/// channel, and what was read on it.
 pub fn text_length()
     ensures { HaveLength }
 {}
 
-/// Less than the whole text of a log is no log's text: a write that was cut off is never taken for a log.
+/// Less than the whole of a text of a log is no log's text: a write that was cut off is never taken for a log.
 pub fn no_front_is_a_log()
     ensures { ArePrefixFree }
 {}

@@ -1,5 +1,5 @@
-//! Logs of runs as definitions: what a log holds, its one text in bytes, and the first fault of bytes
-//! that are no log. The format is this project's own (docs/FORMATS.md).
+//! Logs of runs as definitions: what a log holds, its text in bytes in each of two versions, and the first fault
+//! of bytes that are no log. The format is this project's own (docs/FORMATS.md).
 //!
 //! What there is to read stands in specs/.
 #![tactic(auto)]
@@ -54,32 +54,42 @@ impl Data {
     }
 }
 
-/// What a guest call got. `at` is the number of steps done before it, and so the call's own step number.
+/// How a log's bytes are laid out: their first eight say in which version.
+#[derive(Clone, Copy)]
+pub enum Version {
+    /// Step numbers take four bytes, and the bytes of a read stand in its record.
+    One,
+    /// Step numbers take eight bytes, and all that was read on a channel stands before the records.
+    Two,
+}
+
+/// What a guest call got. `at` is the number of steps done before it, and so the call's own step number. It is
+/// below 2^40.
 #[derive(Drop)]
 pub enum CallRecord {
     /// A read: its arguments channel, address and length, the result, and as many bytes as a positive
     /// result says. A negative result is -9 or -14.
     Read {
-        at: u32,
+        at: u64,
         args: [u32; 3],
         result: i32,
         bytes: Data,
     },
     /// A write, alike: the bytes are those that the guest wrote.
     Write {
-        at: u32,
+        at: u64,
         args: [u32; 3],
         result: i32,
         bytes: Data,
     },
     /// The clock's answer.
     Clock {
-        at: u32,
+        at: u64,
         value: u64,
     },
     /// A call of another number.
     Other {
-        at: u32,
+        at: u64,
         number: u32,
     },
 }
@@ -87,12 +97,12 @@ pub enum CallRecord {
 /// How a run ended.
 #[derive(Clone, Copy, Debug, PartialEq, Eq)]
 pub enum RunEnd {
-    /// The exit call was step number `at`; it counts as a step.
-    Exit { at: u32, code: u32 },
-    /// After `at` steps the instruction at `pc` trapped, with the exception code `kind`.
-    Trap { at: u32, kind: u32, pc: u32 },
-    /// The run was cut off after `at` steps.
-    Limit { at: u32 },
+    /// The exit call was step number `at`, below 2^40; it counts as a step.
+    Exit { at: u64, code: u32 },
+    /// After `at` steps, at most 2^40, the instruction at `pc` trapped, with the exception code `kind`.
+    Trap { at: u64, kind: u32, pc: u32 },
+    /// The run was cut off after `at` steps, at most 2^40.
+    Limit { at: u64 },
 }
 
 /// What one record of a log says.
@@ -104,23 +114,26 @@ pub enum Item {
     End(RunEnd),
 }
 
-/// The faults of bytes that are no log, by number: Magic is 1, Trailing is 7.
+/// The faults of bytes that are no log, by number: Magic is 1, Bytes is 8.
 #[derive(Clone, Copy, Debug, PartialEq, Eq)]
 pub enum LogKind {
-    /// The bytes don't begin with `JETLOG1` and a line feed.
+    /// The bytes begin neither with `JETLOG1` nor with `JETLOG2`, and a line feed.
     Magic,
-    /// The header isn't whole, its pages aren't 1 to 4096, or its inputs are above 16.
+    /// The header isn't whole, its pages aren't 1 to 4096, its inputs are above 16, or a channel after it isn't
+    /// whole.
     Header,
     /// The bytes end without an end record, or within a record.
     Short,
     /// A record's tag isn't 1 to 7.
     Tag,
-    /// A record's step number isn't above that of the record before.
+    /// A record's step number isn't above that of the record before, or is too high: above 2^40, or equal to it
+    /// in a call.
     Order,
     /// A read's or write's result, or a trap's kind, is none that there is.
     Result,
     /// There are bytes after the end record.
     Trailing,
-    /// A record's bytes are wrong.
+    /// A read takes more bytes than its channel has left, or there is no such channel; or the end record comes
+    /// while a channel has bytes left. Version 2 alone has this fault.
     Bytes,
 }
