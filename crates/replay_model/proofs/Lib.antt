@@ -4,3 +4,4 @@ pub mod Transfers
 pub mod Sizes
 pub mod Firsts
 pub mod Offsets
+pub mod Received

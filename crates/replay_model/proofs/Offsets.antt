@@ -32,7 +32,7 @@ pub moment_later : (k : ℕ) (m : Moment) → moment_after (suc k) m ≡ advance
 moment_later zero m = refl
 moment_later (suc k) m = moment_later k (advance m)
 
-in_trace : (ss : List StepSeen) (k : ℕ) (call : CallSeen) → call_at ss k ≡ Some call → k < length ss
+pub in_trace : (ss : List StepSeen) (k : ℕ) (call : CallSeen) → call_at ss k ≡ Some call → k < length ss
 in_trace [] k call e = cc
 in_trace (s ∷ ss) zero call e = omega arith
 in_trace (s ∷ ss) (suc k) call e = let h = in_trace ss k call e in omega arith
@@ -48,7 +48,7 @@ steps_within (Limit at) = omega arith
 
 -- ---- a call that moves bytes has as its offset how many were moved before
 
-transfer_offset : (k : CallKind) (args before : List ℕ) (n : ℕ) → 0 < n → (transfer k args before n).offset ≡ length before
+pub transfer_offset : (k : CallKind) (args before : List ℕ) (n : ℕ) → 0 < n → (transfer k args before n).offset ≡ length before
 transfer_offset k args before n h = ap (λ (b : Bool). if b then 0 else length before) (ne_eqb n 0 (λ e. omega arith))
 
 no_call : (t : ℕ) (s : State) (f : Fetch) → (plain_step t s f).call ≡ None
@@ -85,7 +85,7 @@ write_by m (Read at args result bytes ∷ rs) call e k h = let other : kind.Read
 write_by m (Clock at value ∷ rs) call e k h = let other : kind.Clock ≡ kind.Write = ap (λ (x : CallSeen). x.kind) e ∙ k in cc
 write_by m (Other at number ∷ rs) call e k h = let other : kind.Other ≡ kind.Write = ap (λ (x : CallSeen). x.kind) e ∙ k in cc
 
-call_of_plain : {P : Type 0} (m : Moment) (call : CallSeen) → (plain_step m.time m.state (fetch m.state)).call ≡ Some call → P
+pub call_of_plain : {P : Type 0} (m : Moment) (call : CallSeen) → (plain_step m.time m.state (fetch m.state)).call ≡ Some call → P
 call_of_plain m call e = let none = no_call m.time m.state (fetch m.state) in cc
 
 read_offset : (m : Moment) (o : Outcome) (call : CallSeen) → (step_by m o).call ≡ Some call → call.kind ≡ kind.Read → 0 < call.length → call.offset ≡ length (received call.channel m.done)
@@ -101,7 +101,7 @@ write_here m (Trapped t) call e k h = cc
 -- ---- along the trace
 
 -- the step of a call, and the moment that it is done at
-at_moment : (n k : ℕ) (m : Moment) (call : CallSeen) → call_at (steps_from n m) k ≡ Some call → (step_of (moment_after k m)).call ≡ Some call
+pub at_moment : (n k : ℕ) (m : Moment) (call : CallSeen) → call_at (steps_from n m) k ≡ Some call → (step_of (moment_after k m)).call ≡ Some call
 at_moment zero k m call e = cc
 at_moment (suc n) zero m call e = e
 at_moment (suc n) (suc k) m call e = at_moment n k (advance m) call e

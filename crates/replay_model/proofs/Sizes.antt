@@ -1,13 +1,16 @@
 -- The bytes that a log's calls moved are no more than its text has. Crates above cite these lemmas.
-use Rattle.std.proofs.Common.{◌≡◌, ℕ, ◌+◌, ◌≤◌, Bool, true, false, List, [], ◌∷◌, ◌++◌, length, arith, ap, ◌∙◌, length-append, append-nil}
+use Rattle.std.proofs.Common.{◌≡◌, ℕ, zero, suc, ◌+◌, ◌*◌, ◌^◌, ◌<◌, ◌≤◌, inl, inr, Bool, true, false, List, [], ◌∷◌, ◌++◌, length, map, ℤ, pos, negsuc, ◌<ℤ◌, arith, ap, ◌∙◌, length-append, append-nil}
 use Rattle.std.specs.Prelude.{if◌then◌else◌}
-use Rattle.std.specs.List.{flat_map}
+use Rattle.std.specs.List.{flat_map, range_with_len, AllByRecursion}
+use Rattle.std.proofs.lemmas.Bool.{cases_eq}
+use Rattle.std.proofs.lemmas.Int.{ints}
 use Rattle.std.proofs.lemmas.Grind.{flat_map-append}
 use Rattle.std.proofs.lemmas.List.Concat.{flat_map-cons}
+use Rattle.log_model.specs.declared.Version.TheVariants.{Two}
 use Rattle.log_model.specs.declared.CallRecord.{CallRecord}
 use Rattle.log_model.specs.declared.CallRecord.TheVariants.{Read, Write, Clock, Other}
-use Rattle.log_model.specs.Logs.{Log, log_text, record_text, header_text, end_text, word32, signed32}
-use Rattle.log_model.specs.Moved.{received_of, written_of, is_on, received_by, received, written_by, written}
+use Rattle.log_model.specs.Logs.{Log, IsRecord, moved_length, channel_text, kept_channels, log_text, record_text, header_text, end_text, step_text, word32, signed32}
+use Rattle.log_model.specs.Moved.{received_of, written_of, is_on, received, written_by, written}
 
 -- the bytes of one more call
 pub moved_with : (f : CallRecord → List ℕ) (records : List CallRecord) (r : CallRecord) → length (flat_map f (records ++ r ∷ [])) ≡ length (flat_map f records) + length (f r)
@@ -16,20 +19,46 @@ moved_with f records r =
     ∙ length-append (flat_map f records) (f r ++ [])
     ∙ ap (λ (bs : List ℕ). length (flat_map f records) + length bs) (append-nil (f r))
 
--- ---- one record
+-- ---- the parts of a text
+
+-- what stands before the records, and all that stands before the end
+abbrev pub before_records : Log → List ℕ
+before_records log = header_text Two log ++ flat_map channel_text (kept_channels Two log)
+
+abbrev pub before_end : Log → List ℕ
+before_end log = before_records log ++ flat_map (record_text Two) log.records
+
+text_parts : (log : Log) → length (log_text Two log) ≡ length (header_text Two log) + length (flat_map channel_text (kept_channels Two log)) + length (flat_map (record_text Two) log.records) + length (end_text Two log.end)
+text_parts log =
+    omega (arith, length-append (header_text Two log) (flat_map channel_text (kept_channels Two log)), length-append (before_records log) (flat_map (record_text Two) log.records), length-append (before_end log) (end_text Two log.end))
+
+-- ---- what was received stands with its channel
+
+-- each of these lists is no longer than all of them
+list_fits : (f : ℕ → List ℕ) (a n c : ℕ) → a ≤ c → c < a + n → length (f c) ≤ length (flat_map channel_text (map f (range_with_len a n)))
+list_fits f a zero c low high = absurd (omega arith)
+list_fits f a (suc n) c low high =
+    let first = channel_text (f a) in
+    let rest = flat_map channel_text (map f (range_with_len (a + 1) n)) in
+    let own : length first ≡ 4 + length (f a) = omega (arith, length-append (word32 (length (f a))) (f a)) in
+    let all : length (flat_map channel_text (map f (range_with_len a (suc n)))) ≡ length first + length rest = length-append first rest in
+    elim (cases_eq a c) [
+      | inl e ↦ let same : length (f a) ≡ length (f c) = ap (λ (x : ℕ). length (f x)) e in omega arith
+      | inr other ↦ let above : a + 1 ≤ c = omega (arith, other) in let later = list_fits f (a + 1) n c above (omega arith) in omega arith
+    ]
+
+pub received_fits : (channel : ℕ) (log : Log) → channel < log.inputs → length (received channel log.records) ≤ length (log_text Two log)
+received_fits channel log below =
+    omega (arith, text_parts log, list_fits (λ c. received c log.records) 0 log.inputs channel (omega arith) (omega arith))
+
+-- ---- what was written stands in the records
 
 tail_fits : (front bytes : List ℕ) → length bytes ≤ length (front ++ bytes)
 tail_fits front bytes = omega (arith, length-append front bytes)
 
-pub received_of_fits : (r : CallRecord) → length (received_of r) ≤ length (record_text r)
-received_of_fits (Read at args result bytes) = tail_fits (1 ∷ word32 at ++ flat_map word32 args ++ signed32 result) bytes
-received_of_fits (Write at args result bytes) = omega arith
-received_of_fits (Clock at value) = omega arith
-received_of_fits (Other at number) = omega arith
-
-pub written_of_fits : (r : CallRecord) → length (written_of r) ≤ length (record_text r)
+written_of_fits : (r : CallRecord) → length (written_of r) ≤ length (record_text Two r)
 written_of_fits (Read at args result bytes) = omega arith
-written_of_fits (Write at args result bytes) = tail_fits (2 ∷ word32 at ++ flat_map word32 args ++ signed32 result) bytes
+written_of_fits (Write at args result bytes) = tail_fits (2 ∷ step_text Two at ++ flat_map word32 args ++ signed32 result) bytes
 written_of_fits (Clock at value) = omega arith
 written_of_fits (Other at number) = omega arith
 
@@ -37,35 +66,49 @@ if_fits : (b : Bool) (bytes : List ℕ) (n : ℕ) → length bytes ≤ n → len
 if_fits true bytes n h = h
 if_fits false bytes n h = omega arith
 
--- ---- all records
-
-records_fit : (f : CallRecord → List ℕ) → ((r : CallRecord) → length (f r) ≤ length (record_text r)) → (rs : List CallRecord) → length (flat_map f rs) ≤ length (flat_map record_text rs)
+records_fit : (f : CallRecord → List ℕ) → ((r : CallRecord) → length (f r) ≤ length (record_text Two r)) → (rs : List CallRecord) → length (flat_map f rs) ≤ length (flat_map (record_text Two) rs)
 records_fit f h [] = omega arith
 records_fit f h (r ∷ rs) =
-    rw (flat_map-cons f r rs, flat_map-cons record_text r rs) (omega (arith, length-append (f r) (flat_map f rs), length-append (record_text r) (flat_map record_text rs), h r, records_fit f h rs))
+    rw (flat_map-cons f r rs, flat_map-cons (record_text Two) r rs) (omega (arith, length-append (f r) (flat_map f rs), length-append (record_text Two r) (flat_map (record_text Two) rs), h r, records_fit f h rs))
 
-pub moved_fits : (f : CallRecord → List ℕ) → ((r : CallRecord) → length (f r) ≤ length (record_text r)) → (log : Log) → length (flat_map f log.records) ≤ length (log_text log)
-moved_fits f h log =
-    omega (arith, records_fit f h log.records, length-append (header_text log) (flat_map record_text log.records), length-append (header_text log ++ flat_map record_text log.records) (end_text log.end))
-
-pub received_fits : (channel : ℕ) (log : Log) → length (received channel log.records) ≤ length (log_text log)
-received_fits channel log = moved_fits (received_by channel) (λ r. if_fits (is_on channel r) (received_of r) (length (record_text r)) (received_of_fits r)) log
-
-pub written_fits : (channel : ℕ) (log : Log) → length (written channel log.records) ≤ length (log_text log)
-written_fits channel log = moved_fits (written_by channel) (λ r. if_fits (is_on channel r) (written_of r) (length (record_text r)) (written_of_fits r)) log
+pub written_fits : (channel : ℕ) (log : Log) → length (written channel log.records) ≤ length (log_text Two log)
+written_fits channel log =
+    omega (arith, text_parts log, records_fit (written_by channel) (λ r. if_fits (is_on channel r) (written_of r) (length (record_text Two r)) (written_of_fits r)) log.records)
 
 -- ---- the number of records
 
-some_text : (r : CallRecord) → 1 ≤ length (record_text r)
+some_text : (r : CallRecord) → 1 ≤ length (record_text Two r)
 some_text (Read at args result bytes) = omega arith
 some_text (Write at args result bytes) = omega arith
 some_text (Clock at value) = omega arith
 some_text (Other at number) = omega arith
 
-few_records : (rs : List CallRecord) → length rs ≤ length (flat_map record_text rs)
+few_records : (rs : List CallRecord) → length rs ≤ length (flat_map (record_text Two) rs)
 few_records [] = omega arith
-few_records (r ∷ rs) = rw (flat_map-cons record_text r rs) (omega (arith, length-append (record_text r) (flat_map record_text rs), some_text r, few_records rs))
+few_records (r ∷ rs) = rw (flat_map-cons (record_text Two) r rs) (omega (arith, length-append (record_text Two r) (flat_map (record_text Two) rs), some_text r, few_records rs))
 
-pub records_fit_text : (log : Log) → length log.records ≤ length (log_text log)
-records_fit_text log =
-    omega (arith, few_records log.records, length-append (header_text log) (flat_map record_text log.records), length-append (header_text log ++ flat_map record_text log.records) (end_text log.end))
+pub records_fit_text : (log : Log) → length log.records ≤ length (log_text Two log)
+records_fit_text log = omega (arith, text_parts log, few_records log.records)
+
+-- ---- each call moves fewer than 2^31 bytes
+
+moved_below : (outcome : ℤ) → outcome <ℤ pos (2 ^ 31) → moved_length outcome < 2 ^ 31
+moved_below (pos n) h = omega (arith, ints)
+moved_below (negsuc n) h = omega arith
+
+pub received_of_below : (r : CallRecord) → IsRecord r → length (received_of r) < 2 ^ 31
+received_of_below (Read at args result bytes) is = omega (arith, is.1.whole, moved_below result is.1.fits)
+received_of_below (Write at args result bytes) is = omega arith
+received_of_below (Clock at value) is = omega arith
+received_of_below (Other at number) is = omega arith
+
+pub written_of_below : (r : CallRecord) → IsRecord r → length (written_of r) < 2 ^ 31
+written_of_below (Read at args result bytes) is = omega arith
+written_of_below (Write at args result bytes) is = omega (arith, is.1.whole, moved_below result is.1.fits)
+written_of_below (Clock at value) is = omega arith
+written_of_below (Other at number) is = omega arith
+
+pub moved_below_each : (f : CallRecord → List ℕ) → ((r : CallRecord) → IsRecord r → length (f r) < 2 ^ 31) → (rs : List CallRecord) → AllByRecursion IsRecord rs → length (flat_map f rs) ≤ length rs * 2 ^ 31
+moved_below_each f h [] forms = omega arith
+moved_below_each f h (r ∷ rs) forms =
+    rw (flat_map-cons f r rs) (omega (arith, length-append (f r) (flat_map f rs), h r forms.0, moved_below_each f h rs forms.1))

@@ -64,7 +64,7 @@ done_is log m on =
 
 -- ---- the moment after a step
 
-advance_plain : (m : Moment) (s : State) → next m.state ≡ Retired s → advance m ≡ record m { time = m.time + 1; state = s }
+pub advance_plain : (m : Moment) (s : State) → next m.state ≡ Retired s → advance m ≡ record m { time = m.time + 1; state = s }
 advance_plain m s e = ap (after_outcome m) e
 
 on_plain : (log : Log) (m : Moment) (s : State) → IsOnTrack log m → Rise (m.time + 1) m.left → least_after (m.time + 1) m.left ≤ end_at log.end → next m.state ≡ Retired s → IsOnTrack log (advance m)

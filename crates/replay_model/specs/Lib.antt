@@ -4,3 +4,4 @@ pub mod Firsts
 pub mod Fits
 pub mod Summary
 pub mod Offsets
+pub mod Received

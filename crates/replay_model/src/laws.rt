@@ -1,13 +1,15 @@
 //! Laws of replays. Each is a function that does nothing: its contract is the law.
 
-ghost use Rattle.std.specs.Prelude.{◌≡◌, ◌↔◌, Some, None};
+ghost use Rattle.std.specs.Prelude.{◌≡◌, ◌≤◌, ◌^◌, ◌↔◌, length, Some, None};
 ghost use Rattle.isa.specs.Machine.{State};
-ghost use Rattle.log_model.specs.Logs.{Log, IsLog};
+ghost use Rattle.log_model.specs.declared.Version.TheVariants.{Two};
+ghost use Rattle.log_model.specs.Logs.{Log, IsLog, CanHold, log_text};
 ghost use Rattle.replay_model.specs.declared.Divergence.{Divergence as Difference};
 ghost use Rattle.replay_model.specs.Run.{trace};
 ghost use Rattle.replay_model.specs.Comparison.{divergence};
 ghost use Rattle.replay_model.specs.Firsts.{AgreesToTheEnd, IsFirstDifference};
 ghost use Rattle.replay_model.specs.Offsets.{OffsetsCount, AreWritesApart};
+ghost use Rattle.replay_model.specs.Received.{ReadsAreReceived};
 
 /// There is no divergence exactly where nothing differs at any moment up to the time of the end.
 pub fn none_where_all_agrees()
@@ -34,4 +36,15 @@ pub fn offsets_count()
 /// No two writes of a run have an output byte in common.
 pub fn writes_apart()
     ensures { (start : State) (log : Log) → AreWritesApart (trace start log) }
+{}
+
+/// Where nothing differs, a source byte is read by some step exactly where its offset is below the number of bytes that
+/// the log received on its channel.
+pub fn reads_are_received()
+    ensures { (start : State) (log : Log) → IsLog log → divergence start log ≡ None → ReadsAreReceived (trace start log) log.records }
+{}
+
+/// Where nothing differs, version 2 can hold a log whose text in it is at most 2^27 bytes long.
+pub fn fitting_is_held()
+    ensures { (start : State) (log : Log) → IsLog log → divergence start log ≡ None → length (log_text Two log) ≤ 2 ^ 27 → CanHold Two log }
 {}
