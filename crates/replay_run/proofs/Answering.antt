@@ -13,15 +13,15 @@ use Rattle.replay_run.proofs.Counting.{IsFront, front_of}
 pub record IsAnswering (log : Log) (time index : ℕ) (s : State) (r : CallRecord) : Type 0 where
   pub front : IsFront log.records index r
   pub now : at_of r ≡ time
-  pub answers : Answers s r
+  pub answers : Answers log.inputs s r
 
 module _ (log : Log) (time index : ℕ) (hart : Hart) (view : RunAt) (view_is : run_at log time hart index ≡ view) where
-  pub answering : (left : List CallRecord) (r q : CallRecord) → IsDue view.moment view.moment.left → left ≡ view.moment.left → 1 ≤ length left → r ≡ get_or left 0 r → r ≡ q → IsAnswering log time index hart.state q
+  pub answering : (left : List CallRecord) (r q : CallRecord) → IsDue view.log.inputs view.moment view.moment.left → left ≡ view.moment.left → 1 ≤ length left → r ≡ get_or left 0 r → r ≡ q → IsAnswering log time index hart.state q
   answering left r q due e some item same =
       let there : left ≡ drop index log.records = e ∙ sym (ap (λ (v : RunAt). v.moment.left) view_is) in
       let front = subst (IsFront log.records index) same (front_of log.records left index r there some item) in
-      let here : IsDue (run_at log time hart index).moment (drop index log.records) = subst (λ (v : RunAt). IsDue v.moment v.moment.left) (sym view_is) due in
-      let both : IsDue (run_at log time hart index).moment (q ∷ drop (index + 1) log.records) = subst (IsDue (run_at log time hart index).moment) front.left here in
+      let here : IsDue log.inputs (run_at log time hart index).moment (drop index log.records) = subst (λ (v : RunAt). IsDue v.log.inputs v.moment v.moment.left) (sym view_is) due in
+      let both : IsDue log.inputs (run_at log time hart index).moment (q ∷ drop (index + 1) log.records) = subst (IsDue log.inputs (run_at log time hart index).moment) front.left here in
       record { front = front; now = both.0; answers = both.1 }
 
   -- the run after the answer

@@ -111,16 +111,16 @@ module _ (log : Log) (time index : ℕ) (read write : List ℕ) (counted : IsCou
 
   -- ---- a channel has room for the bytes of the next call
 
-  pub read_room : (at : ℕ) (args : List ℕ) (result : ℤ) (bytes : List ℕ) → IsFront log.records index (Read at args result bytes) → get_or args 0 0 < 16 → get_or read (get_or args 0 0) 0 + length bytes ≤ 2 ^ 26
+  pub read_room : (at : ℕ) (args : List ℕ) (result : ℤ) (bytes : List ℕ) → IsFront log.records index (Read at args result bytes) → get_or args 0 0 < log.inputs → get_or read (get_or args 0 0) 0 + length bytes ≤ 2 ^ 27
   read_room at args result bytes front few =
       let channel = get_or args 0 0 in
       let r = Read at args result bytes in
       let all = length-flat_map-take (received_by channel) log.records index r front.below in
       let item : length (received_by channel (get_or log.records index r)) ≡ length (received_by channel r) = ap (λ (x : CallRecord). length (received_by channel x)) (sym front.item) in
       let own : length (received_by channel r) ≡ length bytes = ap (λ (b : Bool). length (if b then bytes else [])) (eq-eqb channel channel refl) in
-      omega (arith, all, item, own, counted.reads.each channel few, received_fits channel log, counted.small)
+      omega (arith, all, item, own, counted.reads.each channel (omega (arith, few, counted.form.inputs)), received_fits channel log few, counted.small)
 
-  pub write_room : (at : ℕ) (args : List ℕ) (result : ℤ) (bytes : List ℕ) → IsFront log.records index (Write at args result bytes) → get_or args 0 0 < 16 → get_or write (get_or args 0 0) 0 + length bytes ≤ 2 ^ 26
+  pub write_room : (at : ℕ) (args : List ℕ) (result : ℤ) (bytes : List ℕ) → IsFront log.records index (Write at args result bytes) → get_or args 0 0 < 16 → get_or write (get_or args 0 0) 0 + length bytes ≤ 2 ^ 27
   write_room at args result bytes front few =
       let channel = get_or args 0 0 in
       let r = Write at args result bytes in

@@ -55,47 +55,47 @@ before_end r under none = before_end_by r.log r.moment.done r.moment.left r.mome
 kind_of_call : (s : State) (call : Call) (k : CallKind) → call ≡ call_of s → call.kind ≡ k → (call_of s).kind ≡ k
 kind_of_call s call k e h = ap (λ (x : Call). x.kind) (sym e) ∙ h
 
-can_move : (s : State) (channels : ℕ) (args bytes : List ℕ) → channels ≤ 16 → IsHeld s channels args (length bytes) → CanMove s args bytes
-can_move s channels args bytes few held = let channel = held.channel in record { channel = omega arith; inside = held.held }
+can_move : (s : State) (channels : ℕ) (args bytes : List ℕ) → IsHeld s channels args (length bytes) → CanMove s channels args bytes
+can_move s channels args bytes held = record { channel = held.channel; inside = held.held }
 
-due_by : (inputs : ℕ) (m : Moment) (r : CallRecord) (rs : List CallRecord) → inputs ≤ 16 → IsRecord r → at_of r ≡ m.time → (a : CallAgrees m inputs r) → a.call ≡ call_of m.state → IsDue m (r ∷ rs)
-due_by inputs m (Read at args kept bytes) rs few form now a own =
+due_by : (inputs : ℕ) (m : Moment) (r : CallRecord) (rs : List CallRecord) → IsRecord r → at_of r ≡ m.time → (a : CallAgrees m inputs r) → a.call ≡ call_of m.state → IsDue inputs m (r ∷ rs)
+due_by inputs m (Read at args kept bytes) rs form now a own =
     let s = m.state in
     let same = same_arguments s args (result kept (allowed (refusal_of s inputs (arguments_of s)) kept 0) ∷ []) a.lawful in
-    (now, (kind_of_call s a.call kind.Read own a.kind, same.second, λ h. can_move s inputs args bytes few (read_held s inputs at args kept bytes form a.lawful h)))
-due_by inputs m (Write at args kept bytes) rs few form now a own =
+    (now, (kind_of_call s a.call kind.Read own a.kind, same.second, λ h. can_move s inputs args bytes (read_held s inputs at args kept bytes form a.lawful h)))
+due_by inputs m (Write at args kept bytes) rs form now a own =
     let s = m.state in
     let rest = bytes_compared 0 bytes (machine.bytes_at s (reg s 11) (length bytes)) in
     let same = same_arguments s args (result kept (allowed (refusal_of s 16 (arguments_of s)) kept (reg s 12)) ∷ rest) a.lawful in
-    (now, (kind_of_call s a.call kind.Write own a.kind, same.second, λ h. can_move s 16 args bytes (omega arith) (write_held s inputs at args kept bytes rest form a.lawful h)))
-due_by inputs m (Clock at value) rs few form now a own = (now, kind_of_call m.state a.call kind.Clock own a.kind)
-due_by inputs m (Other at number) rs few form now a own = (now, kind_of_call m.state a.call kind.Other own a.kind)
+    (now, (kind_of_call s a.call kind.Write own a.kind, same.second, λ h. can_move s 16 args bytes (write_held s inputs at args kept bytes rest form a.lawful h)))
+due_by inputs m (Clock at value) rs form now a own = (now, kind_of_call m.state a.call kind.Clock own a.kind)
+due_by inputs m (Other at number) rs form now a own = (now, kind_of_call m.state a.call kind.Other own a.kind)
 
 -- ---- what the machine does at a moment where nothing differs
 
 -- it makes a plain step before the next record, or a call that is due
-abbrev Goes : Moment → Type 0
-Goes m = ((s : State) × (next m.state ≡ Retired s) × IsLater m.time m.left) ⊎ ((call : Call) × (next m.state ≡ machine.Called call) × (call ≡ call_of m.state → IsDue m m.left))
+abbrev Goes : ℕ → Moment → Type 0
+Goes inputs m = ((s : State) × (next m.state ≡ Retired s) × IsLater m.time m.left) ⊎ ((call : Call) × (next m.state ≡ machine.Called call) × (call ≡ call_of m.state → IsDue inputs m m.left))
 
-goes_at_end : (inputs : ℕ) (m : Moment) (end : RunEnd) → m.left ≡ [] → difference_at m inputs (EndOf end) ≡ None → end_at end ≤ m.time → m.time < steps_by end → Goes m
+goes_at_end : (inputs : ℕ) (m : Moment) (end : RunEnd) → m.left ≡ [] → difference_at m inputs (EndOf end) ≡ None → end_at end ≤ m.time → m.time < steps_by end → Goes inputs m
 goes_at_end inputs m (Exit at code) none d late early =
     let exit = exit_agrees m inputs at code d in
-    inr (exit.0, exit.1, λ own. subst (IsDue m) (sym none) (kind_of_call m.state exit.0 kind.Exit own exit.2))
+    inr (exit.0, exit.1, λ own. subst (IsDue inputs m) (sym none) (kind_of_call m.state exit.0 kind.Exit own exit.2))
 goes_at_end inputs m (Trap at kind pc) none d late early = absurd (omega arith)
 goes_at_end inputs m (Limit at) none d late early = absurd (omega arith)
 
-goes_by : (log : Log) (t : ℕ) (s : State) (done left : List CallRecord) → log.inputs ≤ 16 → AllByRecursion IsRecord left → Rise t left → t < steps log → difference log (moment t s done left) ≡ None → Goes (moment t s done left)
-goes_by log t s done [] few records rise below d = by (cases_lt t (end_at log.end))
+goes_by : (log : Log) (t : ℕ) (s : State) (done left : List CallRecord) → AllByRecursion IsRecord left → Rise t left → t < steps log → difference log (moment t s done left) ≡ None → Goes log.inputs (moment t s done left)
+goes_by log t s done [] records rise below d = by (cases_lt t (end_at log.end))
   where
-    by : (t < end_at log.end) ⊎ (end_at log.end ≤ t) → Goes (moment t s done [])
+    by : (t < end_at log.end) ⊎ (end_at log.end ≤ t) → Goes log.inputs (moment t s done [])
     by (inl h) =
         let m = moment t s done [] in
         let plain = plain_agrees m log.inputs (agrees_with log m PlainStep (expects_plain_at_end t log.end h) d) in
         inl (plain.0, plain.1, tt)
     by (inr h) = let m = moment t s done [] in goes_at_end log.inputs m log.end refl (agrees_with log m (EndOf log.end) (expects_end t log.end h) d) h below
-goes_by log t s done (r ∷ rs) few records rise below d = by (cases_lt t (at_of r))
+goes_by log t s done (r ∷ rs) records rise below d = by (cases_lt t (at_of r))
   where
-    by : (t < at_of r) ⊎ (at_of r ≤ t) → Goes (moment t s done (r ∷ rs))
+    by : (t < at_of r) ⊎ (at_of r ≤ t) → Goes log.inputs (moment t s done (r ∷ rs))
     by (inl h) =
         let m = moment t s done (r ∷ rs) in
         let plain = plain_agrees m log.inputs (agrees_with log m PlainStep (expects_plain_before t r rs log.end h) d) in
@@ -104,12 +104,12 @@ goes_by log t s done (r ∷ rs) few records rise below d = by (cases_lt t (at_of
         let m = moment t s done (r ∷ rs) in
         let first = rise.0 in
         let agreed = call_agrees m log.inputs r (agrees_with log m (CallOf r) (expects_call t r rs log.end h) d) in
-        inr (agreed.call, agreed.calls, due_by log.inputs m r rs few records.0 (omega arith) agreed)
+        inr (agreed.call, agreed.calls, due_by log.inputs m r rs records.0 (omega arith) agreed)
 
-goes : (r : RunAt) → IsUnderLog r → r.moment.time < steps r.log → difference r.log r.moment ≡ None → Goes r.moment
-goes r under below d = goes_by r.log r.moment.time r.moment.state r.moment.done r.moment.left under.form.inputs (records_left r under) under.rise below d
+goes : (r : RunAt) → IsUnderLog r → r.moment.time < steps r.log → difference r.log r.moment ≡ None → Goes r.log.inputs r.moment
+goes r under below d = goes_by r.log r.moment.time r.moment.state r.moment.done r.moment.left (records_left r under) under.rise below d
 
-ready_by : (r : RunAt) (stepped : Stepped) (hart : Hart) → Goes r.moment → IsStep r.moment.state stepped hart → IsReady (with_hart r hart) stepped
+ready_by : (r : RunAt) (stepped : Stepped) (hart : Hart) → Goes r.log.inputs r.moment → IsStep r.moment.state stepped hart → IsReady (with_hart r hart) stepped
 ready_by r (Plain instr place) hart (inl p) h = (h.goes_on, h.fits, p.2)
 ready_by r (Plain instr place) hart (inr p) h = let a = p.1 in let b = h.retired in cc
 ready_by r (Called call) hart (inl p) h = let a = p.1 in let b = h.called in cc
@@ -118,7 +118,7 @@ ready_by r (Called call) hart (inr p) h =
     let b = h.called in
     let same : p.0 ≡ call = cc in
     let kept : hart.state ≡ r.moment.state = ap (λ (x : Hart). x.state) h.waits in
-    (ap (λ (x : Hart). x.waits) h.waits, subst (λ (x : State). IsDue (record (r.moment) { state = x }) r.moment.left) (sym kept) (p.2 (same ∙ h.by_registers)))
+    (ap (λ (x : Hart). x.waits) h.waits, subst (λ (x : State). IsDue r.log.inputs (record (r.moment) { state = x }) r.moment.left) (sym kept) (p.2 (same ∙ h.by_registers)))
 ready_by r (Trapped kind pc) hart (inl p) h = let a = p.1 in let b = h.trapped in cc
 ready_by r (Trapped kind pc) hart (inr p) h = let a = p.1 in let b = h.trapped in cc
 

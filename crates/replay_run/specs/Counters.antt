@@ -1,5 +1,6 @@
 -- How a run is held: the index of the first record that is left, and a counter of bytes for each channel.
 use Rattle.std.specs.Prelude.{◌≡◌, ℕ, ◌^◌, ◌<◌, ◌≤◌, List, length, take, drop, slice_index}
+use Rattle.log_model.specs.declared.Version.TheVariants.{Two}
 use Rattle.log_model.specs.Logs.{Log, IsLog, log_text, Rise}
 use Rattle.log_model.specs.Moved.{received, written}
 use Rattle.rv_machine.specs.Hart.{Hart}
@@ -18,7 +19,7 @@ run_at log time hart index = record {
 
 pub record IsCounted (log : Log) (time index : ℕ) (read write : List ℕ) : Type 0 where
   pub form : IsLog log
-  pub small : length (log_text log) ≤ 2 ^ 26
+  pub small : length (log_text Two log) ≤ 2 ^ 27
   pub within : index ≤ length log.records
   pub rise : Rise time (drop index log.records)
   pub reads : AreCounts read (λ c. received c (take index log.records))

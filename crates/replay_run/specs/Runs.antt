@@ -5,6 +5,7 @@ use Rattle.isa.specs.Calls.{channel_of, buffer_of}
 use Rattle.isa.specs.Encodings.{Fits}
 use Rattle.isa.specs.declared.Instr.TheVariants.{Ecall}
 use Rattle.isa.specs.declared.CallKind.TheVariants as kind
+use Rattle.log_model.specs.declared.Version.TheVariants.{Two}
 use Rattle.log_model.specs.declared.CallRecord.{CallRecord}
 use Rattle.log_model.specs.declared.CallRecord.TheVariants.{Read, Write, Clock, Other}
 use Rattle.log_model.specs.Logs.{Log, IsLog, log_text, at_of, Rise}
@@ -35,28 +36,31 @@ later_by_one r = record { log = r.log; moment = record (r.moment) { time = r.mom
 -- true of each run: the records that are done and left are those of its log, and the ones left rise from its time on
 pub record IsUnderLog (r : RunAt) : Type 0 where
   pub form : IsLog r.log
-  pub small : length (log_text r.log) ≤ 2 ^ 26
+  pub small : length (log_text Two r.log) ≤ 2 ^ 27
   pub all : r.moment.done ++ r.moment.left ≡ r.log.records
   pub rise : Rise r.moment.time r.moment.left
 
 -- ---- the call that waits
 
--- these bytes are moved on one of the 16 channels, from or to the window at x11
-pub record CanMove (s : State) (args bytes : List ℕ) : Type 0 where
-  pub channel : channel_of args < 16
+-- these bytes are moved on one of so many channels, from or to the window at x11
+pub record CanMove (s : State) (channels : ℕ) (args bytes : List ℕ) : Type 0 where
+  pub channel : channel_of args < channels
   pub inside : IsTrue (in_window s (reg s 11) (length bytes))
 
--- the record is of the call that waits, so that its answer can be given
-abbrev pub Answers : State → CallRecord → Type 0
-Answers s (Read at args result bytes) = ((call_of s).kind ≡ kind.Read) × (buffer_of args ≡ reg s 11) × (0 < length bytes → CanMove s args bytes)
-Answers s (Write at args result bytes) = ((call_of s).kind ≡ kind.Write) × (buffer_of args ≡ reg s 11) × (0 < length bytes → CanMove s args bytes)
-Answers s (Clock at value) = (call_of s).kind ≡ kind.Clock
-Answers s (Other at number) = (call_of s).kind ≡ kind.Other
+-- the record is of the call that waits, so that its answer can be given. Bytes are read on one of so many inputs, and
+-- written on one of the 16 channels
+abbrev pub Answers : ℕ → State → CallRecord → Type 0
+Answers inputs s (Read at args result bytes) =
+    ((call_of s).kind ≡ kind.Read) × (buffer_of args ≡ reg s 11) × (0 < length bytes → CanMove s inputs args bytes)
+Answers inputs s (Write at args result bytes) =
+    ((call_of s).kind ≡ kind.Write) × (buffer_of args ≡ reg s 11) × (0 < length bytes → CanMove s 16 args bytes)
+Answers inputs s (Clock at value) = (call_of s).kind ≡ kind.Clock
+Answers inputs s (Other at number) = (call_of s).kind ≡ kind.Other
 
 -- the first of the records left is of the call that waits, and of now; with no record left the call is the exit
-abbrev pub IsDue : Moment → List CallRecord → Type 0
-IsDue m [] = (call_of m.state).kind ≡ kind.Exit
-IsDue m (r ∷ rs) = (at_of r ≡ m.time) × Answers m.state r
+abbrev pub IsDue : ℕ → Moment → List CallRecord → Type 0
+IsDue inputs m [] = (call_of m.state).kind ≡ kind.Exit
+IsDue inputs m (r ∷ rs) = (at_of r ≡ m.time) × Answers inputs m.state r
 
 -- the first of the records left is of a later step
 abbrev pub IsLater : ℕ → List CallRecord → Type 0
@@ -68,7 +72,7 @@ IsLater time (r ∷ rs) = time < at_of r
 -- a step can be finished: it is plain, or a call that waits, as the log has it
 abbrev pub IsReady : RunAt → Stepped → Type 0
 IsReady r (Plain instr place) = (r.waits ≡ false) × Fits instr × IsLater r.moment.time r.moment.left
-IsReady r (Called call) = (r.waits ≡ true) × IsDue r.moment r.moment.left
+IsReady r (Called call) = (r.waits ≡ true) × IsDue r.log.inputs r.moment r.moment.left
 IsReady r (Trapped kind pc) = ⊥
 
 -- the step that was made, and the moment after it

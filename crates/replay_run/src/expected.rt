@@ -17,7 +17,7 @@ pub enum Expected<'a> {
 }
 
 /// The number of steps done before a call.
-pub fn time_of_call(call: &CallRecord) -> u32
+pub fn time_of_call(call: &CallRecord) -> u64
     ensures { result ≡ at_of call.now }
 {
     match call {
@@ -29,7 +29,7 @@ pub fn time_of_call(call: &CallRecord) -> u32
 }
 
 /// The number of steps done before the end.
-pub fn time_of_end(end: RunEnd) -> u32
+pub fn time_of_end(end: RunEnd) -> u64
     ensures { result ≡ end_at end }
 {
     match end {

@@ -42,7 +42,7 @@ impl<'a> Model for Run<'a> {
 
 /// Counts bytes that a call moves, and gives the offset of the first: 0 where none is moved.
 fn count(counts: &mut [u32; 16], channel: u32, length: usize) -> u32
-    requires { 0 < length → (channel < 16) × (slice_index counts.old channel + length ≤ 2 ^ 26) }
+    requires { 0 < length → (channel < 16) × (slice_index counts.old channel + length ≤ 2 ^ 27) }
     ensures offset { result ≡ (if length == 0 then 0 else slice_index counts.old channel) }
     ensures counted { counts.new ≡ slice_set counts.old channel (slice_index counts.old channel + length) }
 {
@@ -140,14 +140,14 @@ impl<'a> Run<'a> {
         let end = self.log.end();
         match self.left() {
             [] => {
-                if self.time < u64::from(time_of_end(end)) {
+                if self.time < time_of_end(end) {
                     Expected::PlainStep
                 } else {
                     Expected::End(end)
                 }
             }
             [call, ..] => {
-                if self.time < u64::from(time_of_call(call)) {
+                if self.time < time_of_call(call) {
                     Expected::PlainStep
                 } else {
                     Expected::Call(call)
@@ -168,8 +168,8 @@ impl<'a> Run<'a> {
     /// Answers the call that waits from the next record, which finishes the step.
     fn answer(&mut self) -> CallSeen
         requires waits { self.old.waits ≡ true }
-        requires due { IsDue self.old.moment self.old.moment.left }
-        requires time { self.old.moment.time < 2 ^ 33 }
+        requires due { IsDue self.old.log.inputs self.old.moment self.old.moment.left }
+        requires time { self.old.moment.time < 2 ^ 41 }
         ensures seen { result ≡ call_seen self.old.moment self.old.moment.left }
         ensures after { self.new ≡ record self.old { moment = after_call self.old.moment self.old.moment.left; waits = false } }
     {
@@ -218,7 +218,7 @@ impl<'a> Run<'a> {
     /// Counts a plain step that the machine has made: only the time goes on.
     pub fn advance(&mut self)
         requires later { IsLater self.old.moment.time self.old.moment.left }
-        requires time { self.old.moment.time < 2 ^ 33 }
+        requires time { self.old.moment.time < 2 ^ 41 }
         ensures { self.new ≡ later_by_one self.old }
     {
         self.time += 1;
@@ -227,7 +227,7 @@ impl<'a> Run<'a> {
     /// Finishes a step that the machine has made, as the log has it.
     pub fn finish(&mut self, stepped: Stepped) -> StepSeen
         requires ready { IsReady self.old stepped }
-        requires time { self.old.moment.time < 2 ^ 33 }
+        requires time { self.old.moment.time < 2 ^ 41 }
         ensures finished { IsFinished self.old.moment stepped result self.new.moment }
         ensures rest { (self.new.log ≡ self.old.log) × (self.new.waits ≡ false) }
         ensures in_range { IsInRange result }

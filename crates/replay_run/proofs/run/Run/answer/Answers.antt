@@ -18,13 +18,13 @@ count-offset-requires c some =
     let a = answering c.self.inside.log.now c.self.inside.time c.self.inside.done c.self.inside.machine c.args.self.now c.self.view_is c.left-left.result.now c.call-item.result r c.requires.due c.left-left.ensures c.in-len1-up.len_at_least c.call-item.is c.in-Read.is in
     let few = (a.answers.2 (omega arith)).channel in
     let room = read_room c.self.inside.log.now c.self.inside.time c.self.inside.done c.self.inside.read c.self.inside.written c.self.invariant c.in-Read.at c.in-Read.args c.in-Read.moved c.in-Read.bytes a.front few in
-    (few, omega arith)
+    (omega (arith, few, c.self.invariant.form.inputs), omega arith)
 
 pub invariant_of-self-in-Read : goal.invariant_of-self-in-Read
 invariant_of-self-in-Read c =
     let r = Read c.in-Read.at c.in-Read.args c.in-Read.moved c.in-Read.bytes in
     let a = answering c.self.inside.log.now c.self.inside.time c.self.inside.done c.self.inside.machine c.args.self.now c.self.view_is c.left-left.result.now c.call-item.result r c.requires.due c.left-left.ensures c.in-len1-up.len_at_least c.call-item.is c.in-Read.is in
-    let counted = after_read c.self.inside.log.now c.self.inside.time c.self.inside.done c.self.inside.read c.self.inside.written c.self.invariant c.in-Read.at c.in-Read.args c.in-Read.moved c.in-Read.bytes a.front a.now c.self.told.0 (λ h. (a.answers.2 h).channel) in
+    let counted = after_read c.self.inside.log.now c.self.inside.time c.self.inside.done c.self.inside.read c.self.inside.written c.self.invariant c.in-Read.at c.in-Read.args c.in-Read.moved c.in-Read.bytes a.front a.now c.self.told.0 (λ h. omega (arith, (a.answers.2 h).channel, c.self.invariant.form.inputs)) in
     let counts = c.count-offset.ensures.counted ∙ ap (λ (n : ℕ). slice_set c.self.inside.read (get_or c.in-Read.args 0 0) (get_or c.self.inside.read (get_or c.in-Read.args 0 0) 0 + n)) c.len.ensures in
     subst (λ (counts : List ℕ). IsCounted c.self.inside.log.now (c.self.inside.time + 1) (c.self.inside.done + 1) counts c.self.inside.written) (sym counts) counted
 
@@ -63,3 +63,11 @@ returns-in-Write-clause-after c =
     let fits : SFits w32 c.in-Write.moved = search rules in
     let after = rw (to_z-of_z w32 c.in-Write.moved fits) at c.answer-in-Write.ensures in
     answered_is c.self.inside.log.now c.self.inside.time c.self.inside.done c.self.inside.machine c.args.self.now c.self.view_is r c.answer-in-Write.new.self a.front after
+
+pub returns-in-Read-clause-after : goal.returns-in-Read-clause-after
+returns-in-Read-clause-after c =
+    let r = Read c.in-Read.at c.in-Read.args c.in-Read.moved c.in-Read.bytes in
+    let a = answering c.self.inside.log.now c.self.inside.time c.self.inside.done c.self.inside.machine c.args.self.now c.self.view_is c.left-left.result.now c.call-item.result r c.requires.due c.left-left.ensures c.in-len1-up.len_at_least c.call-item.is c.in-Read.is in
+    let fits : SFits w32 c.in-Read.moved = search rules in
+    let after = rw (to_z-of_z w32 c.in-Read.moved fits, c.as_slice.ensures, sym a.answers.1) at c.answer-in-Read.ensures in
+    answered_is c.self.inside.log.now c.self.inside.time c.self.inside.done c.self.inside.machine c.args.self.now c.self.view_is r c.answer-in-Read.new.self a.front after
