@@ -97,7 +97,7 @@ end_expected expects.PlainStep e h = cc
 end_expected (expects.Call r) e h = cc
 end_expected (expects.End end) e h = let same : end ≡ e = cc in ap (λ (y : RunEnd). expects.End y) same
 
-pub end_small : (end : RunEnd) → IsEnd end → end_at end < 2 ^ 32
-end_small (Exit at code) h = h.0
+pub end_small : (end : RunEnd) → IsEnd end → end_at end ≤ 2 ^ 40
+end_small (Exit at code) h = omega (arith, h.0)
 end_small (Trap at kind pc) h = h.0
 end_small (Limit at) h = h

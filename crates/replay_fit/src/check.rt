@@ -91,7 +91,7 @@ pub fn first_divergence(machine: Machine, log: &Log) -> Option<Divergence>
 {
     let last = time_of_end(log.end());
     let mut run = Run::start(machine, log);
-    for time in 0..u64::from(last) + 1 {
+    for time in 0..last + 1 {
         match check_step(&mut run) {
             Ok(Checked::Advanced) => {}
             Ok(Checked::Ended) => return None,

@@ -1,6 +1,6 @@
 //! Comparing what a log keeps with what its program shows.
 
-ghost use Rattle.std.specs.Prelude.{◌≡◌, ◌≤◌, ◌<◌, ◌^◌, length, ◌∷◌, []};
+ghost use Rattle.std.specs.Prelude.{◌≡◌, ◌≤◌, ◌^◌, length, ◌∷◌, []};
 ghost use Rattle.replay_model.specs.Comparison.{compared, allowed, bytes_compared, result as result_compared, at_step};
 ghost use Rattle.replay_fit.specs.Differences.{IsFirst, arguments_compared, compared_of};
 
@@ -17,11 +17,10 @@ pub(crate) struct Difference {
 impl Difference {
     /// The difference, with the number of steps done before it.
     pub(crate) fn at_step(self, step: u64) -> Divergence
-        requires { step < 2 ^ 32 }
         ensures { result ≡ at_step step (compared_of self) }
     {
         Divergence {
-            step: step as u32,
+            step,
             field: self.field,
             kept: self.kept,
             seen: self.seen,

@@ -17,11 +17,6 @@ advance-requires-clause-time c =
     let time : c.step.new.self.moment.time ≡ r.moment.time = ap (λ (x : RunAt). x.moment.time) c.in-Plain.ensures.rest in
     omega (arith, end_is_later r c.form.ensures c.requires.plain, end_small r.log.end c.form.ensures.form.end)
 
-pub at_step-requires : goal.at_step-requires
-at_step-requires c =
-    let r = c.args.run.now in
-    omega (arith, end_is_later r c.form.ensures c.requires.plain, end_small r.log.end c.form.ensures.form.end, c.time-time.ensures)
-
 pub returns-in-Plain : goal.returns-in-Plain
 returns-in-Plain c =
     plain_advances c.args.run.now c.advance.new.self (hart_of c.step.new.self) c.in-Plain.instr c.in-Plain.place c.form.ensures c.requires.plain c.in-Plain.ensures.step (c.advance.ensures ∙ ap later_by_one c.in-Plain.ensures.rest)

@@ -12,9 +12,6 @@ use Rattle.replay_fit.proofs.check.check_step.Goals as goal
 pub step-requires-clause-form : goal.step-requires-clause-form
 step-requires-clause-form c = formed c.args.run.now (expected_of c.expected-expected.result) c.form.ensures c.expected-expected.ensures
 
-pub at_step-requires : goal.at_step-requires
-at_step-requires c = omega (arith, end_small c.args.run.now.log.end c.form.ensures.form.end, c.requires.not_over, c.time-time.ensures)
-
 pub returns-in-Err : goal.returns-in-Err
 returns-in-Err c =
     let r = c.args.run.now in
