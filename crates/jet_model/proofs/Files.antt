@@ -209,7 +209,9 @@ module _ {A : Type 0} where
 
   module _ (read : ℕ → List ℕ → Result A Refusal) where
     each-append : (n : ℕ) (front rest : List (List ℕ)) → each_in_order read n (front ++ rest) ≡ joined (each_in_order read n front) (each_in_order read (n + length front) rest)
-    each-append n [] rest = joined-nil (each_in_order read n rest)
+    each-append n [] rest =
+        let here : n ≡ n + 0 = omega arith in
+        joined-nil (each_in_order read n rest) ∙ ap (λ (k : ℕ). joined (Ok []) (each_in_order read k rest)) here
     each-append n (name ∷ front) rest =
         let m = length front in
         let there : n + 1 + m ≡ n + suc m = omega arith in
@@ -291,11 +293,13 @@ module _ (file : Contents) where
       let f = and_then-is_ok (numbered_query_at file n name) (λ x. and_then (each_in_order (numbered_query_at file) (n + 1) names) (λ xs. Ok (x ∷ xs))) qs h in
       let r = and_then-is_ok (each_in_order (numbered_query_at file) (n + 1) names) (λ xs. Ok (f.0 ∷ xs)) qs f.2 in
       let first = numbered-is_ok n name f.0 f.1 in
-      let rest = queries-is_ok (n + 1) names r.0 r.1 in
-      (first.0 ∷ rest.0, record {
-        there = ap₂ (λ (c : Option (List ℕ)) (cs : List (Option (List ℕ))). c ∷ cs) first.1 rest.1.there;
-        are_queries = ap₂ (λ (c : Result Query (ℕ × QueryKind)) (cs : List (Result Query (ℕ × QueryKind))). c ∷ cs) first.2 rest.1.are_queries ∙ ap (map ok_query) (same_list (f.0 ∷ r.0) qs r.2);
-      })
+      let rest = queries-is_ok (n + 1) names r.0 r.1 in (
+        first.0 ∷ rest.0,
+        record {
+          there = ap₂ (λ (c : Option (List ℕ)) (cs : List (Option (List ℕ))). c ∷ cs) first.1 rest.1.there;
+          are_queries = ap₂ (λ (c : Result Query (ℕ × QueryKind)) (cs : List (Result Query (ℕ × QueryKind))). c ∷ cs) first.2 rest.1.are_queries ∙ ap (map ok_query) (same_list (f.0 ∷ r.0) qs r.2);
+        },
+      )
 
   pub queries_at-is_ok : (names : List (List ℕ)) (qs : List Query) → queries_at file names ≡ Ok qs → (texts : List (List ℕ)) × AreQueriesAt names texts qs
   queries_at-is_ok names qs h = queries-is_ok 1 names qs h

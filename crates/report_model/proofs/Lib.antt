@@ -3,5 +3,5 @@ pub mod PointRows
 pub mod Own
 mod Each
 mod Examples
-mod Members
-mod Turned
+pub mod Members
+pub mod Turned
