@@ -21,3 +21,10 @@ pub values_push : (rs : List CallRecord) (r : CallRecord)
     → clock_values (rs ++ r ∷ []) ≡ clock_values rs ++ clock_values_of r
 values_push rs r = flat_map-append clock_values_of rs (r ∷ [])
     ∙ ap (λ (w : List ℕ). clock_values rs ++ w) (append-nil (clock_values_of r))
+
+pub text_push : (rs : List CallRecord) (r : CallRecord)
+    → length (flat_map record_text (rs ++ r ∷ [])) ≡ length (flat_map record_text rs) + length (record_text r)
+text_push rs r =
+    ap length (flat_map-append record_text rs (r ∷ [])
+    ∙ ap (λ (w : List ℕ). flat_map record_text rs ++ w) (append-nil (record_text r)))
+    ∙ length-append (flat_map record_text rs) (record_text r)
