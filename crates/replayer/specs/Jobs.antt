@@ -1,6 +1,7 @@
 -- What is seen of a job: the state that its run begins in, and the log that fits it.
 use Rattle.std.specs.Prelude.{◌≡◌, ◌≤◌, ◌^◌, List, [], length, Option, Some, None}
 use Rattle.isa.specs.Machine.{State}
+use Rattle.log_model.specs.declared.Version.TheVariants.{Two}
 use Rattle.log_model.specs.Logs.{Log, IsLog, log_text}
 use Rattle.elf_model.specs.Image.{Image}
 use Rattle.elf_model.specs.Window.{start_of}
@@ -19,7 +20,7 @@ trace_of job = trace job.start job.log
 -- true of each job
 pub record IsJob (job : Job) : Type 0 where
   pub form : IsLog job.log
-  pub small : length (log_text job.log) ≤ 2 ^ 26
+  pub small : length (log_text Two job.log) ≤ 2 ^ 27
   pub agrees : divergence job.start job.log ≡ None
 
 -- the state that a run begins in, where the window can hold the image

@@ -2,7 +2,8 @@
 
 ghost use Rattle.std.specs.Prelude.{◌≡◌, ◌≤◌, ◌^◌, length, IfOk, IfErr, Ok};
 ghost use Rattle.elf_model.specs.Image.{image as image_of_file};
-ghost use Rattle.log_model.specs.Logs.{steps, steps_by};
+ghost use Rattle.log_model.specs.Logs.{IsEnd, steps, steps_by};
+ghost use Rattle.log_model.specs.Moved.{received, received_by};
 ghost use Rattle.replay_model.specs.Summary.{calls, bytes_read, bytes_written};
 ghost use Rattle.rv_machine.specs.Hart.{running};
 ghost use Rattle.replayer.specs.Jobs.{IsJob};
@@ -53,12 +54,35 @@ impl Model for Job {
 
 /// The number of steps of a run that ended so. The exit call is a step.
 fn steps_of(end: RunEnd) -> u64
+    requires { IsEnd end }
     ensures { result ≡ steps_by end }
 {
     match end {
-        RunEnd::Exit { at, .. } => u64::from(at) + 1,
-        RunEnd::Trap { at, .. } => u64::from(at),
-        RunEnd::Limit { at } => u64::from(at),
+        RunEnd::Exit { at, .. } => at + 1,
+        RunEnd::Trap { at, .. } => at,
+        RunEnd::Limit { at } => at,
+    }
+}
+
+/// How many bytes a call received on a channel: 0 where it is no read, or one on another channel.
+fn received_on(call: &CallRecord, channel: u32) -> u64
+    ensures { result ≡ length (received_by channel call.now) }
+{
+    match call {
+        CallRecord::Read {
+            args,
+            bytes: received,
+            ..
+        } => {
+            if args[0] == channel {
+                received.len() as u64
+            } else {
+                0
+            }
+        }
+        CallRecord::Write { .. } => 0,
+        CallRecord::Clock { .. } => 0,
+        CallRecord::Other { .. } => 0,
     }
 }
 
@@ -92,7 +116,7 @@ impl Job {
         }
     }
 
-    /// The number of steps of the run, at most 2^32. The exit call is a step, a trapping instruction isn't.
+    /// The number of steps of the run, at most 2^40. The exit call is a step, a trapping instruction isn't.
     pub fn steps(&self) -> u64
         ensures { result ≡ steps self.now.log }
     {
@@ -128,6 +152,18 @@ impl Job {
             written,
             end: self.log.end(),
         }
+    }
+
+    /// How many bytes the run received on a channel, by the reads of its log: 0 where the log has no such input.
+    pub fn received(&self, channel: u32) -> u32
+        ensures bytes { result ≡ length (received channel self.now.log.records) }
+        ensures none { self.now.log.inputs ≤ channel → result ≡ 0 }
+    {
+        let mut count = 0;
+        for call in self.log.records() {
+            count += received_on(call, channel);
+        }
+        count as u32
     }
 
     /// Does nothing: it says what is true of each job.
