@@ -124,7 +124,7 @@ read_range : (refused : ℤ) (whole : List ℕ) (most : ℕ) → CanBe refused �
 read_range (negsuc n) whole most can few = inl (refused_is n can)
 read_range (pos n) whole most can few = inr (omega (arith, ints), omega (arith, ints))
 
-pub read_form : (t : ℕ) (s : State) (channels : ℕ) (part : List ℕ) → t < 2 ^ 32 → length part ≤ reg s 12
+pub read_form : (t : ℕ) (s : State) (channels : ℕ) (part : List ℕ) → t < 2 ^ 40 → length part ≤ reg s 12
     → Moves s (refusal_of s channels (arguments_of s)) part → IsRecord (read_record t s channels part)
 read_form t s channels part early few m =
     let refused : ℤ = refusal_of s channels (arguments_of s) in
@@ -135,7 +135,7 @@ write_range : (refused : ℤ) (whole : List ℕ) (most : ℕ) → CanBe refused 
 write_range (negsuc n) whole most can all = inl (refused_is n can)
 write_range (pos n) whole most can all = inr (ap pos (all (none_is n can)))
 
-pub write_form : (t : ℕ) (s : State) → t < 2 ^ 32
+pub write_form : (t : ℕ) (s : State) → t < 2 ^ 40
     → Moves s (refusal_of s 16 (arguments_of s)) (bytes_at s (reg s 11) (reg s 12)) → IsRecord (write_record t s)
 write_form t s early m =
     let refused : ℤ = refusal_of s 16 (arguments_of s) in
