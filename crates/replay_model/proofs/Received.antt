@@ -12,7 +12,7 @@ use Rattle.log_model.specs.declared.CallRecord.{CallRecord}
 use Rattle.log_model.specs.declared.CallRecord.TheVariants.{Read, Write, Clock, Other}
 use Rattle.log_model.specs.declared.RunEnd.{RunEnd}
 use Rattle.log_model.specs.declared.RunEnd.TheVariants.{Exit, Trap, Limit}
-use Rattle.log_model.specs.Logs.{Log, IsLog, IsRecord, CanHold, FitsChannel, log_text, at_of, end_at, steps, steps_by}
+use Rattle.log_model.specs.Logs.{Log, IsLog, IsRecord, CanHold, log_text, at_of, end_at, steps, steps_by}
 use Rattle.log_model.specs.Moved.{received, received_by}
 use Rattle.log_model.proofs.Moved.{length-received-push, length-received-append}
 use Rattle.flow_model.specs.declared.StepSeen.{StepSeen}
@@ -23,7 +23,7 @@ use Rattle.replay_model.specs.Received.{ReadsByteAt, ReadsAreReceived}
 use Rattle.replay_model.proofs.Agreement.{expects_plain_before, expects_call, plain_agrees, CallAgrees, call_agrees, agrees_at, later_agrees}
 use Rattle.replay_model.proofs.Track.{moment, IsOnTrack, agrees_with, least_rises, advance_plain, advance_call, step_time, stays_on, on_track_at, on_track_start}
 use Rattle.replay_model.proofs.Transfers.{read_held}
-use Rattle.replay_model.proofs.Sizes.{received_fits}
+use Rattle.log_model.proofs.Texts.{can_hold}
 use Rattle.replay_model.proofs.Offsets.{at_moment, in_trace, length-steps_from, steps_within, transfer_offset, call_of_plain}
 
 -- ---- a byte that was received is read by a step
@@ -191,8 +191,4 @@ none_received s log form d channel above = by (cases_lt 0 (length (received chan
     by (inr none) = nil_from_length (received channel log.records) (omega arith)
 
 pub fitting_is_held : (s : State) (log : Log) → IsLog log → divergence s log ≡ None → length (log_text Two log) ≤ 2 ^ 27 → CanHold Two log
-fitting_is_held s log form d small channel = by (cases_lt channel log.inputs)
-  where
-    by : (channel < log.inputs) ⊎ (log.inputs ≤ channel) → FitsChannel log.inputs channel (received channel log.records)
-    by (inl below) = (omega (arith, received_fits channel log below), λ above. absurd (omega arith))
-    by (inr above) = let none = none_received s log form d channel above in (omega (arith, ap length none), λ h. none)
+fitting_is_held s log form d small = can_hold log (none_received s log form d) (omega arith)

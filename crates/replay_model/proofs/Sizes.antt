@@ -1,16 +1,15 @@
--- The bytes that a log's calls moved are no more than its text has. Crates above cite these lemmas.
-use Rattle.std.proofs.Common.{◌≡◌, ℕ, zero, suc, ◌+◌, ◌*◌, ◌^◌, ◌<◌, ◌≤◌, inl, inr, Bool, true, false, List, [], ◌∷◌, ◌++◌, length, map, ℤ, pos, negsuc, ◌<ℤ◌, arith, ap, ◌∙◌, length-append, append-nil}
+-- The bytes that a log's calls moved, and its records, beside the length of its text. Crates above cite these lemmas.
+use Rattle.std.proofs.Common.{◌≡◌, ℕ, ◌+◌, ◌*◌, ◌^◌, ◌<◌, ◌≤◌, Bool, true, false, List, [], ◌∷◌, ◌++◌, length, arith, ap, ◌∙◌, length-append, append-nil}
 use Rattle.std.specs.Prelude.{if◌then◌else◌}
-use Rattle.std.specs.List.{flat_map, range_with_len, AllByRecursion}
-use Rattle.std.proofs.lemmas.Bool.{cases_eq}
-use Rattle.std.proofs.lemmas.Int.{ints}
+use Rattle.std.specs.List.{flat_map, AllByRecursion}
 use Rattle.std.proofs.lemmas.Grind.{flat_map-append}
 use Rattle.std.proofs.lemmas.List.Concat.{flat_map-cons}
 use Rattle.log_model.specs.declared.Version.TheVariants.{Two}
 use Rattle.log_model.specs.declared.CallRecord.{CallRecord}
 use Rattle.log_model.specs.declared.CallRecord.TheVariants.{Read, Write, Clock, Other}
-use Rattle.log_model.specs.Logs.{Log, IsRecord, moved_length, channel_text, kept_channels, log_text, record_text, header_text, end_text, step_text, word32, signed32}
-use Rattle.log_model.specs.Moved.{received_of, written_of, is_on, received, written_by, written}
+use Rattle.log_model.specs.Logs.{Log, IsRecord, channel_text, kept_channels, log_text, record_text, header_text, end_text, step_text, word32, signed32}
+use Rattle.log_model.proofs.Texts.{data_below}
+use Rattle.log_model.specs.Moved.{received_of, written_of, is_on, written_by, written}
 
 -- the bytes of one more call
 pub moved_with : (f : CallRecord → List ℕ) (records : List CallRecord) (r : CallRecord) → length (flat_map f (records ++ r ∷ [])) ≡ length (flat_map f records) + length (f r)
@@ -31,25 +30,6 @@ before_end log = before_records log ++ flat_map (record_text Two) log.records
 text_parts : (log : Log) → length (log_text Two log) ≡ length (header_text Two log) + length (flat_map channel_text (kept_channels Two log)) + length (flat_map (record_text Two) log.records) + length (end_text Two log.end)
 text_parts log =
     omega (arith, length-append (header_text Two log) (flat_map channel_text (kept_channels Two log)), length-append (before_records log) (flat_map (record_text Two) log.records), length-append (before_end log) (end_text Two log.end))
-
--- ---- what was received stands with its channel
-
--- each of these lists is no longer than all of them
-list_fits : (f : ℕ → List ℕ) (a n c : ℕ) → a ≤ c → c < a + n → length (f c) ≤ length (flat_map channel_text (map f (range_with_len a n)))
-list_fits f a zero c low high = absurd (omega arith)
-list_fits f a (suc n) c low high =
-    let first = channel_text (f a) in
-    let rest = flat_map channel_text (map f (range_with_len (a + 1) n)) in
-    let own : length first ≡ 4 + length (f a) = omega (arith, length-append (word32 (length (f a))) (f a)) in
-    let all : length (flat_map channel_text (map f (range_with_len a (suc n)))) ≡ length first + length rest = length-append first rest in
-    elim (cases_eq a c) [
-      | inl e ↦ let same : length (f a) ≡ length (f c) = ap (λ (x : ℕ). length (f x)) e in omega arith
-      | inr other ↦ let above : a + 1 ≤ c = omega (arith, other) in let later = list_fits f (a + 1) n c above (omega arith) in omega arith
-    ]
-
-pub received_fits : (channel : ℕ) (log : Log) → channel < log.inputs → length (received channel log.records) ≤ length (log_text Two log)
-received_fits channel log below =
-    omega (arith, text_parts log, list_fits (λ c. received c log.records) 0 log.inputs channel (omega arith) (omega arith))
 
 -- ---- what was written stands in the records
 
@@ -92,19 +72,15 @@ records_fit_text log = omega (arith, text_parts log, few_records log.records)
 
 -- ---- each call moves fewer than 2^31 bytes
 
-moved_below : (outcome : ℤ) → outcome <ℤ pos (2 ^ 31) → moved_length outcome < 2 ^ 31
-moved_below (pos n) h = omega (arith, ints)
-moved_below (negsuc n) h = omega arith
-
 pub received_of_below : (r : CallRecord) → IsRecord r → length (received_of r) < 2 ^ 31
-received_of_below (Read at args result bytes) is = omega (arith, is.1.whole, moved_below result is.1.fits)
+received_of_below (Read at args result bytes) is = data_below args result bytes is.1
 received_of_below (Write at args result bytes) is = omega arith
 received_of_below (Clock at value) is = omega arith
 received_of_below (Other at number) is = omega arith
 
 pub written_of_below : (r : CallRecord) → IsRecord r → length (written_of r) < 2 ^ 31
 written_of_below (Read at args result bytes) is = omega arith
-written_of_below (Write at args result bytes) is = omega (arith, is.1.whole, moved_below result is.1.fits)
+written_of_below (Write at args result bytes) is = data_below args result bytes is.1
 written_of_below (Clock at value) is = omega arith
 written_of_below (Other at number) is = omega arith
 

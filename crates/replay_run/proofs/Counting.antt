@@ -8,8 +8,9 @@ use Rattle.std.proofs.lemmas.List.Folds.{length-flat_map-take}
 use Rattle.log_model.specs.declared.CallRecord.{CallRecord}
 use Rattle.log_model.specs.declared.CallRecord.TheVariants.{Read, Write, Clock, Other}
 use Rattle.log_model.specs.Logs.{Log, at_of, Rise}
+use Rattle.log_model.proofs.Texts.{received-le-text}
 use Rattle.log_model.specs.Moved.{received_by, received, written_by, written}
-use Rattle.replay_model.proofs.Sizes.{moved_with, received_fits, written_fits}
+use Rattle.replay_model.proofs.Sizes.{moved_with, written_fits}
 use Rattle.replay_run.specs.Counters.{AreCounts, IsCounted}
 
 -- ---- the first record that is left
@@ -118,7 +119,7 @@ module _ (log : Log) (time index : ℕ) (read write : List ℕ) (counted : IsCou
       let all = length-flat_map-take (received_by channel) log.records index r front.below in
       let item : length (received_by channel (get_or log.records index r)) ≡ length (received_by channel r) = ap (λ (x : CallRecord). length (received_by channel x)) (sym front.item) in
       let own : length (received_by channel r) ≡ length bytes = ap (λ (b : Bool). length (if b then bytes else [])) (eq-eqb channel channel refl) in
-      omega (arith, all, item, own, counted.reads.each channel (omega (arith, few, counted.form.inputs)), received_fits channel log few, counted.small)
+      omega (arith, all, item, own, counted.reads.each channel (omega (arith, few, counted.form.inputs)), received-le-text log channel few, counted.small)
 
   pub write_room : (at : ℕ) (args : List ℕ) (result : ℤ) (bytes : List ℕ) → IsFront log.records index (Write at args result bytes) → get_or args 0 0 < 16 → get_or write (get_or args 0 0) 0 + length bytes ≤ 2 ^ 27
   write_room at args result bytes front few =

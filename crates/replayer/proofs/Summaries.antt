@@ -6,8 +6,9 @@ use Rattle.std.proofs.lemmas.List.{take_more}
 use Rattle.std.proofs.lemmas.List.Folds.{length-flat_map-take}
 use Rattle.log_model.specs.declared.CallRecord.{CallRecord}
 use Rattle.log_model.specs.Logs.{IsRecord}
+use Rattle.log_model.proofs.Texts.{received-le-text}
 use Rattle.log_model.specs.Moved.{received}
-use Rattle.replay_model.proofs.Sizes.{moved_with, moved_below_each, records_fit_text, received_fits}
+use Rattle.replay_model.proofs.Sizes.{moved_with, moved_below_each, records_fit_text}
 use Rattle.replay_model.proofs.Received.{none_received}
 use Rattle.replayer.specs.Jobs.{Job, IsJob}
 
@@ -35,5 +36,5 @@ pub received_small : (job : Job) (channel : ℕ) → IsJob job → length (recei
 received_small job channel is = by (cases_lt channel job.log.inputs)
   where
     by : (channel < job.log.inputs) ⊎ (job.log.inputs ≤ channel) → length (received channel job.log.records) ≤ 2 ^ 27
-    by (inl below) = omega (arith, received_fits channel job.log below, is.small)
+    by (inl below) = omega (arith, received-le-text job.log channel below, is.small)
     by (inr above) = omega (arith, ap length (none_received job.start job.log is.form is.agrees channel above))
