@@ -10,11 +10,10 @@ use Rattle.isa.specs.declared.CallKind.{CallKind}
 use Rattle.isa.specs.declared.CallKind.TheVariants as kind
 use Rattle.log_model.specs.declared.CallRecord.{CallRecord}
 use Rattle.log_model.specs.declared.CallRecord.TheVariants.{Read, Write, Clock, Other}
-use Rattle.log_model.specs.Logs.{IsBytes, IsRecord, record_text}
+use Rattle.log_model.specs.Logs.{IsBytes, IsRecord}
 use Rattle.replay_model.specs.Run.{state_after}
 use Rattle.replay_model.specs.Comparison.{arguments_of, call_event, IsLawful}
 use Rattle.replay_model.proofs.Transfers.{IsHeld, read_held}
-use Rattle.log_model.proofs.Texts.{transfer_length, data_below}
 use Rattle.record_model.specs.Recorded.{part_of}
 use Rattle.record_model.specs.Calls.{result_of, bytes_of, read_record, write_record, record_at}
 use Rattle.record_model.proofs.Calls.{CanBe, can_be, none_is, Moves, read_form, write_form, read_lawful, part_few, part_within, bytes_few, unrefused_held}
@@ -53,16 +52,6 @@ got_at source t values p k made kind e form = record {
       p.state) (sym kind);
   form = subst IsRecord (sym e) form;
 }
-
--- ---- how long a record's text is
-
-pub text_short : (r : CallRecord) → IsRecord r → length (record_text r) ≤ 2 ^ 32
-text_short (Read at args result bytes) is = omega
-    (arith, transfer_length 1 at args result bytes is.1, data_below args result bytes is.1)
-text_short (Write at args result bytes) is = omega
-    (arith, transfer_length 2 at args result bytes is.1, data_below args result bytes is.1)
-text_short (Clock at value) is = omega arith
-text_short (Other at number) is = omega arith
 
 -- ---- reads
 
@@ -120,7 +109,7 @@ bytes_in a o x y t b p e = cc
 
 -- a read that waits gets what the recorder computes
 pub read_got : (source : Source) (t : ℕ) (r : Recorder) (call : Call) (outcome : ℤ) (bytes : List ℕ) → IsSource source
-    → IsSafe source t (point_of r) → t < 2 ^ 32 → WaitsFor r.machine call kind.Read
+    → IsSafe source (point_of r) → t < 2 ^ 40 → WaitsFor r.machine call kind.Read
     → AllByRecursion (λ n. n < 2 ^ 32) call.args → IsBytes bytes
     → IsRead source r call outcome bytes → IsGot source t [] (point_of r) (Read t call.args outcome bytes)
 read_got source t r call outcome bytes is_source safe early waits words are_bytes read =
@@ -163,7 +152,7 @@ read_room source t r call outcome bytes waits read form some =
 
 -- and they are counted
 pub read_counts : (source : Source) (t : ℕ) (r : Recorder) (call : Call) (outcome : ℤ) (bytes : List ℕ)
-    → IsSource source → IsSafe source t (point_of r) → WaitsFor r.machine call kind.Read
+    → IsSource source → IsSafe source (point_of r) → WaitsFor r.machine call kind.Read
     → IsRead source r call outcome bytes → IsRecord (Read t call.args outcome bytes) → 0 < length bytes
     → (channel_of call.args < 16) × (get_or r.counts (channel_of call.args) 0 + length bytes ≤ 2 ^ 26)
 read_counts source t r call outcome bytes is_source safe waits read form some =
@@ -256,7 +245,7 @@ written_in a o x y t b p e = cc
 
 -- a write that waits gets what the recorder computes
 pub write_got : (source : Source) (t : ℕ) (r : Recorder) (call : Call) (outcome : ℤ) (bytes : List ℕ)
-    → IsSafe source t (point_of r) → t < 2 ^ 32 → WaitsFor r.machine call kind.Write
+    → IsSafe source (point_of r) → t < 2 ^ 40 → WaitsFor r.machine call kind.Write
     → AllByRecursion (λ n. n < 2 ^ 32) call.args → IsBytes bytes → IsWritten r call outcome bytes
     → IsGot source t [] (point_of r) (Write t call.args outcome bytes)
 write_got source t r call outcome bytes safe early waits words are_bytes written =
@@ -303,7 +292,7 @@ write_records source t r call outcome bytes hart tape waits got machine adds = r
 
 -- ---- other calls
 
-pub clock_records : (source : Source) (t : ℕ) (p : Point) (value : ℕ) (after : Recorder) → t < 2 ^ 32 → value < 2 ^ 64
+pub clock_records : (source : Source) (t : ℕ) (p : Point) (value : ℕ) (after : Recorder) → t < 2 ^ 40 → value < 2 ^ 64
     → (call_of p.state).kind ≡ kind.Clock → Keeps (Clock t value) p after → Records source t (value ∷ []) p after
 clock_records source t p value after early fits k keeps = record {
   made = Clock t value;
@@ -314,7 +303,7 @@ clock_records source t p value after early fits k keeps = record {
   keeps = keeps;
 }
 
-pub other_records : (source : Source) (t : ℕ) (p : Point) (number : ℕ) (after : Recorder) → t < 2 ^ 32 → number < 2 ^ 32
+pub other_records : (source : Source) (t : ℕ) (p : Point) (number : ℕ) (after : Recorder) → t < 2 ^ 40 → number < 2 ^ 32
     → (call_of p.state).kind ≡ kind.Other → number ≡ reg p.state 17 → Keeps (Other t number) p after
     → Records source t [] p after
 other_records source t p number after early fits k e keeps = record {

@@ -1,21 +1,22 @@
 -- The log of a run that was recorded to its end.
-use Rattle.std.proofs.Common.{◌≡◌, ℕ, zero, suc, ◌+◌, ◌^◌, ◌≤◌, List, [], ◌∷◌, length, get_or, Option, Some, Result, Ok, Err, refl, arith, ap, sym, ◌∙◌, subst}
+use Rattle.std.proofs.Common.{◌≡◌, ℕ, zero, suc, ◌+◌, ◌*◌, ◌^◌, ◌≤◌, List, [], ◌∷◌, length, get_or, Option, Some, Result, Ok, Err, refl, arith, ap, sym, ◌∙◌, subst}
 use Rattle.std.specs.Prelude.{IfOk, IfErr}
 use Rattle.std.specs.Global.{Vec}
-use Rattle.std.specs.List.{All, AllByRecursion}
+use Rattle.std.specs.List.{All, AllByRecursion, sum_by}
 use Rattle.std.proofs.lemmas.List.{length-map}
-use Rattle.std.proofs.lemmas.List.Concat.{length-flat_map}
 use Rattle.std.proofs.lemmas.List.Elements.{recursion_from_All}
 use Rattle.isa.specs.Machine.{State}
 use Rattle.elf_model.specs.declared.ImageKind.{ImageKind}
 use Rattle.elf_model.specs.Image.{Image, image}
 use Rattle.elf_model.specs.Window.{start_of}
+use Rattle.log_model.specs.declared.Version.TheVariants.{Two}
 use Rattle.log_model.specs.declared.CallRecord.{CallRecord}
 use Rattle.log_model.specs.declared.RunEnd.{RunEnd}
-use Rattle.log_model.specs.Logs.{Log, IsLog, log_text, record_text, end_text}
+use Rattle.log_model.specs.Logs.{Log, IsLog, CanHold, log_text, end_text, share}
 use Rattle.replay_model.specs.Fits.{start_in_image}
 use Rattle.record_model.specs.Recorded.{IsRecorded, clock_values}
-use Rattle.log_model.proofs.Texts.{text_length}
+use Rattle.record_model.specs.Counts.{capped}
+use Rattle.log_model.proofs.Texts.{wide_length}
 use Rattle.sha2.specs.Sha256.{sha256}
 use Rattle.sha2.proofs.Facts256.{length-sha256}
 use Rattle.call_record.specs.Sources.{contents, IsSource}
@@ -26,7 +27,9 @@ use Rattle.call_record.specs.declared.source.Source.{Source}
 use Rattle.call_record.specs.declared.tape.Tape.{Tape}
 use Rattle.call_record.specs.declared.fault.CaptureFault.{CaptureFault}
 use Rattle.call_record.specs.declared.fault.CaptureFault.TheVariants.{Window, LogTooLong, NoMemory}
+use Rattle.call_record.proofs.Counts.{capped_is, capped_add}
 use Rattle.call_record.proofs.Digests.{digest_fits}
+use Rattle.replay_model.proofs.Received.{fitting_is_held}
 
 -- ---- the inputs
 
@@ -92,36 +95,47 @@ whole_recorded program im pages source s steps end records begins run =
       ends_within = run.ends;
     }
 
-pub whole_size : (program : List ℕ) (im : Image) (pages : ℕ) (source : Source) (s : State) (steps : ℕ) (end : RunEnd)
-    (tape : Tape) (records : List CallRecord) → Begins program im pages source s → IsRunOf s source steps end records
-    → Holds tape records
-    → tape.size + length (end_text end) ≡ length (log_text (whole_log program pages source records end))
-whole_size program im pages source s steps end tape records begins run holds =
+-- the text up to the end has this length
+abbrev size_before : ℕ → List CallRecord → ℕ
+size_before inputs records = 48 + 4 * inputs + sum_by (share inputs) records
+
+whole_size : (program : List ℕ) (im : Image) (pages : ℕ) (source : Source) (s : State) (steps : ℕ) (end : RunEnd)
+    (records : List CallRecord) → Begins program im pages source s → IsRunOf s source steps end records
+    → size_before (length source.inputs.now) records + length (end_text Two end)
+    ≡ length (log_text Two (whole_log program pages source records end))
+whole_size program im pages source s steps end records begins run =
     let log = whole_log program pages source records end in
-    let text = text_length log (whole_form program im pages source s steps end records begins run) in
-    let counted = holds.counted in
-    let each = length-flat_map record_text records in
-    omega arith
+    sym (wide_length log (whole_form program im pages source s steps end records begins run))
+
+tape_size : (source : Source) (tape : Tape) (records : List CallRecord) → tape.inputs ≡ length source.inputs.now
+    → Holds tape records → tape.size ≡ capped (size_before (length source.inputs.now) records)
+tape_size source tape records same holds =
+    holds.counted ∙ ap (λ (n : ℕ). capped (size_before n records)) same
 
 -- the records that the tape keeps are all, where the log may be so long
 pub kept_all : (program : List ℕ) (pages : ℕ) (source : Source) (digest : List ℕ) (end : RunEnd) (tape : Tape)
-    (records : List CallRecord) → digest ≡ sha256 program → Holds tape records → tape.size ≤ 2 ^ 26
-    → log_of tape pages (length source.inputs.now) digest end ≡ whole_log program pages source records end
-kept_all program pages source digest end tape records e holds small =
-    ap (λ (d : List ℕ). log_with pages (length source.inputs.now) d tape.records.items end) e
+    (records : List CallRecord) → digest ≡ sha256 program → tape.inputs ≡ length source.inputs.now → Holds tape records
+    → tape.size ≤ 2 ^ 26 → log_of tape pages digest end ≡ whole_log program pages source records end
+kept_all program pages source digest end tape records e same holds small =
+    ap (λ (n : ℕ). log_with pages n digest tape.records.items end) same
+    ∙ ap (λ (d : List ℕ). log_with pages (length source.inputs.now) d tape.records.items end) e
     ∙ ap (λ (w : List CallRecord). log_with pages (length source.inputs.now) (sha256 program) w end) (holds.kept small)
 
 pub complete : (program : List ℕ) (im : Image) (pages : ℕ) (source : Source) (s : State) (steps : ℕ) (digest : List ℕ)
-    (end : RunEnd) (tape : Tape) (records : List CallRecord) → Begins program im pages source s
-    → IsRunOf s source steps end records → Holds tape records → digest ≡ sha256 program → tape.size ≤ 2 ^ 26
-    → IsComplete (log_of tape pages (length source.inputs.now) digest end) tape.size
-complete program im pages source s steps digest end tape records begins run holds e small =
-    let there : IsComplete (whole_log program pages source records end) tape.size = record {
-      form = whole_form program im pages source s steps end records begins run;
-      counted = whole_size program im pages source s steps end tape records begins run holds;
+    (end : RunEnd) (tape : Tape) (told told_after : Option (List ℕ)) → Begins program im pages source s
+    → IsWhole s source steps end tape told told_after → digest ≡ sha256 program → tape.size ≤ 2 ^ 26
+    → IsComplete (log_of tape pages digest end) tape.size
+complete program im pages source s steps digest end tape told told_after begins whole e small =
+    let size = tape_size source tape whole.records whole.inputs_are whole.holds in
+    let before = size_before (length source.inputs.now) whole.records in
+    let same : before ≡ capped before = capped_is before (omega (arith, size, small)) in
+    let there : IsComplete (whole_log program pages source whole.records end) tape.size = record {
+      form = whole_form program im pages source s steps end whole.records begins whole.run;
+      counted = ap (λ (n : ℕ). n + length (end_text Two end)) (size ∙ sym same)
+          ∙ whole_size program im pages source s steps end whole.records begins whole.run;
     } in
     subst (λ (log : Log). IsComplete log tape.size)
-    (sym (kept_all program pages source digest end tape records e holds small)) there
+    (sym (kept_all program pages source digest end tape whole.records e whole.inputs_are whole.holds small)) there
 
 pub whole_captured : (program : List ℕ) (im : Image) (pages : ℕ) (source : Source) (s : State) (steps : ℕ)
     (end : RunEnd) (tape : Tape) (told told_after : Option (List ℕ)) → Begins program im pages source s
@@ -137,41 +151,63 @@ whole_captured program im pages source s steps end tape told told_after begins w
 -- ---- the answers
 
 -- what is made of the tape: this log, which isn't too long
-abbrev pub IsMade : Tape → ℕ → Source → List ℕ → RunEnd → Log → Type 0
-IsMade tape pages source digest end log = (log ≡ log_of tape pages (length source.inputs.now) digest end) ×
-    (tape.size + length (end_text end) ≤ 2 ^ 26)
+abbrev pub IsMade : Tape → ℕ → List ℕ → RunEnd → Log → Type 0
+IsMade tape pages digest end log = (log ≡ log_of tape pages digest end) × (tape.size + length (end_text Two end) ≤ 2 ^ 26)
 
 pub ok_captured : (program : List ℕ) (im : Image) (pages : ℕ) (source : Source) (s : State) (steps : ℕ)
     (digest : List ℕ) (end : RunEnd) (tape : Tape) (told told_after : Option (List ℕ)) (o : Result Log CaptureFault)
     → Begins program im pages source s → digest ≡ sha256 program → IsWhole s source steps end tape told told_after
-    → IfOk o (IsMade tape pages source digest end)
+    → IfOk o (IsMade tape pages digest end)
     → IfOk o (IsCaptured (setting_of program pages source.inputs.now source.piece steps) told told_after)
 ok_captured program im pages source s steps digest end tape told told_after (Ok log) begins e whole made =
     let small = made.1 in
-    let all = kept_all program pages source digest end tape whole.records e whole.holds (omega arith) in
+    let all = kept_all program pages source digest end tape whole.records e whole.inputs_are whole.holds
+    (omega arith) in
     subst (IsCaptured (setting_of program pages source.inputs.now source.piece steps) told told_after)
     (sym (made.0 ∙ all)) (whole_captured program im pages source s steps end tape told told_after begins whole)
 ok_captured program im pages source s steps digest end tape told told_after (Err f) begins e whole made = made
 
+-- version 2 can hold it
+pub ok_held : (program : List ℕ) (im : Image) (pages : ℕ) (source : Source) (s : State) (steps : ℕ) (digest : List ℕ)
+    (end : RunEnd) (tape : Tape) (told told_after : Option (List ℕ)) (o : Result Log CaptureFault)
+    → Begins program im pages source s → digest ≡ sha256 program → IsWhole s source steps end tape told told_after
+    → IfOk o (IsMade tape pages digest end) → IfOk o (CanHold Two)
+ok_held program im pages source s steps digest end tape told told_after (Ok log) begins e whole made =
+    let small = made.1 in
+    let all = kept_all program pages source digest end tape whole.records e whole.inputs_are whole.holds
+    (omega arith) in
+    let log = whole_log program pages source whole.records end in
+    let before = size_before (length source.inputs.now) whole.records in
+    let size = tape_size source tape whole.records whole.inputs_are whole.holds in
+    let same : before ≡ capped before = capped_is before (omega (arith, size, small)) in
+    let text = whole_size program im pages source s steps end whole.records begins whole.run in
+    subst (CanHold Two) (sym (made.0 ∙ all))
+    (fitting_is_held s log (whole_form program im pages source s steps end whole.records begins whole.run)
+    (whole.run.agrees log refl refl refl) (omega (arith, text, same, size, small)))
+ok_held program im pages source s steps digest end tape told told_after (Err f) begins e whole made = made
+
 too_long : (program : List ℕ) (im : Image) (pages : ℕ) (source : Source) (s : State) (steps : ℕ) (end : RunEnd)
     (tape : Tape) (told told_after : Option (List ℕ)) (f : CaptureFault) → Begins program im pages source s
-    → IsWhole s source steps end tape told told_after → IsTooLongWith (tape.size + length (end_text end)) f
+    → IsWhole s source steps end tape told told_after → IsTooLongWith (tape.size + length (end_text Two end)) f
     → IsCause (setting_of program pages source.inputs.now source.piece steps) im told told_after f
 too_long program im pages source s steps end tape told told_after Window begins whole long = absurd long
 too_long program im pages source s steps end tape told told_after (LogTooLong size) begins whole long =
-    let size_is = long.0 in
-    let over = long.1 in
+    let last = length (end_text Two end) in
+    let before = size_before (length source.inputs.now) whole.records in
+    let all : size ≡ capped (before + last) = long.0
+    ∙ ap (λ (n : ℕ). capped (n + last)) (tape_size source tape whole.records whole.inputs_are whole.holds)
+    ∙ capped_add before last in
     record {
       log = whole_log program pages source whole.records end;
       captured = whole_captured program im pages source s steps end tape told told_after begins whole;
-      size_is = long.0 ∙ whole_size program im pages source s steps end tape whole.records begins whole.run whole.holds;
-      over = omega arith;
+      size_is = all ∙ ap capped (whole_size program im pages source s steps end whole.records begins whole.run);
+      over = omega (arith, long.0, long.1);
     }
 too_long program im pages source s steps end tape told told_after NoMemory begins whole long = absurd long
 
 pub err_cause : (program : List ℕ) (im : Image) (pages : ℕ) (source : Source) (s : State) (steps : ℕ) (end : RunEnd)
     (tape : Tape) (told told_after : Option (List ℕ)) (o : Result Log CaptureFault) → Begins program im pages source s
-    → IsWhole s source steps end tape told told_after → IfErr o (IsTooLongWith (tape.size + length (end_text end)))
+    → IsWhole s source steps end tape told told_after → IfErr o (IsTooLongWith (tape.size + length (end_text Two end)))
     → IfErr o (IsCause (setting_of program pages source.inputs.now source.piece steps) im told told_after)
 err_cause program im pages source s steps end tape told told_after (Ok log) begins whole long = long
 err_cause program im pages source s steps end tape told told_after (Err f) begins whole long = too_long program im pages

@@ -1,4 +1,6 @@
 mod Windows
+mod Counts
+mod Shares
 mod Calls
 mod SoFar
 mod Digests

@@ -1,6 +1,8 @@
 -- A recording so far, as it goes on step by step.
-use Rattle.std.proofs.Common.{◌≡◌, ℕ, zero, suc, ◌+◌, ◌-◌, ◌^◌, ◌<◌, ◌≤◌, ◌⊎◌, inl, inr, false, List, [], ◌∷◌, ◌++◌, length, get_or, replicate, Option, Some, None, refl, arith, ap, sym, ◌∙◌, subst, append-nil}
+use Rattle.std.proofs.Common.{◌≡◌, ℕ, zero, suc, ◌+◌, ◌-◌, ◌*◌, ◌^◌, ◌<◌, ◌≤◌, ◌⊎◌, inl, inr, false, List, [], ◌∷◌, ◌++◌, length, get_or, replicate, Option, Some, None, refl, arith, ap, sym, ◌∙◌, subst, append-nil}
+use Rattle.std.specs.List.{sum_by}
 use Rattle.std.proofs.lemmas.List.{length-map}
+use Rattle.std.proofs.lemmas.List.Sums.{sum_by-append, sum_by-cons}
 use Rattle.std.proofs.lemmas.Bool.{cases_lt}
 use Rattle.isa.specs.Machine.{State, reg, call_of, overwritten}
 use Rattle.isa.specs.Calls.{buffer_of}
@@ -8,7 +10,7 @@ use Rattle.log_model.specs.declared.CallRecord.{CallRecord}
 use Rattle.log_model.specs.declared.CallRecord.TheVariants.{Read, Write, Clock, Other}
 use Rattle.log_model.specs.declared.RunEnd.{RunEnd}
 use Rattle.log_model.specs.declared.RunEnd.TheVariants.{Exit, Trap, Limit}
-use Rattle.log_model.specs.Logs.{Log, IsRecord, IsEnd, end_at}
+use Rattle.log_model.specs.Logs.{Log, IsRecord, IsEnd, end_at, share}
 use Rattle.log_model.specs.Moved.{received, received_by}
 use Rattle.replay_model.specs.Run.{state_after}
 use Rattle.replay_model.specs.Comparison.{divergence}
@@ -16,7 +18,8 @@ use Rattle.replay_model.proofs.Transfers.{read_held, window_end}
 use Rattle.record_model.specs.Recorded.{input_of, clock_values, EndsWithin}
 use Rattle.record_model.specs.Calls.{record_at, EndsIn}
 use Rattle.record_model.proofs.Calls.{next_record, IsHere, next_here}
-use Rattle.record_model.proofs.Pushes.{values_push, text_push}
+use Rattle.record_model.proofs.Pushes.{values_push}
+use Rattle.record_model.specs.Counts.{capped}
 use Rattle.log_model.proofs.Moved.{length-received-push}
 use Rattle.record_model.proofs.Fronts.{received-within}
 use Rattle.record_model.proofs.Runs.{RunsTo, runs_none, runs_plain, runs_call, runs_end, runs_cut}
@@ -30,7 +33,7 @@ use Rattle.call_record.specs.Runs.{IsFresh, IsRunOf, IsWhole}
 use Rattle.call_record.specs.declared.source.Source.{Source}
 use Rattle.call_record.specs.declared.tape.Tape.{Tape}
 use Rattle.call_record.specs.declared.recorder.Recorder.{Recorder}
-use Rattle.call_record.proofs.Calls.{text_short}
+use Rattle.call_record.proofs.Counts.{capped_small, capped_add}
 use Rattle.call_record.proofs.Windows.{overwritten_length, overwritten_none, window_start, step_keeps}
 
 -- the first t steps of a run that begins in a state are recorded
@@ -39,9 +42,10 @@ pub record IsSoFar (start : State) (source : Source) (told : Option (List ℕ)) 
   pub records : List CallRecord
   pub runs : RunsTo start (contents source.inputs.now) source.piece records t r.machine.state
   pub holds : Holds r.tape records
+  pub inputs : r.tape.inputs ≡ length source.inputs.now
   pub counts : (c : ℕ) → get_or r.counts c 0 ≡ length (received c records)
   pub goes_on : r.machine.waits ≡ false
-  pub safe : IsSafe source t (point_of r)
+  pub safe : IsSafe source (point_of r)
   pub gained : Tells told told_now (Gains (clock_values records))
 
 -- ---- the start
@@ -55,18 +59,23 @@ zeros zero c = refl
 zeros (suc n) zero = refl
 zeros (suc n) (suc c) = zeros n c
 
-pub so_far_none : (source : Source) (r : Recorder) (told : Option (List ℕ)) → IsFresh r → r.machine.waits ≡ false
+pub so_far_none : (source : Source) (r : Recorder) (told : Option (List ℕ)) → length source.inputs.now ≤ 16 → IsFresh (length source.inputs.now) r → r.machine.waits ≡ false
     → length r.machine.state.memory ≤ 2 ^ 24 → IsSoFar r.machine.state source told 0 r told
-so_far_none source r told fresh goes_on window =
+so_far_none source r told few fresh goes_on window =
     let none : (c : ℕ) → get_or r.counts c 0 ≡ 0 = λ c. ap (λ (w : List ℕ). get_or w c 0) fresh.counts ∙ zeros 16 c in
-    let size = fresh.size in
+    let before = 48 + 4 * r.tape.inputs + sum_by (share r.tape.inputs) [] in
+    let size : r.tape.size ≡ before = omega (arith, fresh.size, fresh.inputs_are) in
     record {
       records = [];
       runs = runs_none r.machine.state (contents source.inputs.now) source.piece;
-      holds = record { counted = fresh.size; kept = λ h. fresh.records };
+      holds = record {
+        counted = size ∙ sym (capped_small before (omega (arith, few, fresh.inputs_are)));
+        kept = λ h. fresh.records;
+      };
+      inputs = fresh.inputs_are;
       counts = none;
       goes_on = goes_on;
-      safe = record { window = window; within = λ c. let zero = none c in omega arith; room = omega arith };
+      safe = record { window = window; within = λ c. let zero = none c in omega arith };
       gained = tells_none told;
     }
 
@@ -76,8 +85,6 @@ plain_more : (start : State) (source : Source) (told told_now told_after : Optio
     (values : List ℕ) → IsSoFar start source told t r told_now → Tells told_now told_after (Gains values)
     → IsPlain values (point_of r) after → IsSoFar start source told (t + 1) after told_after
 plain_more start source told told_now told_after t r after values so_far gained plain =
-    let room = so_far.safe.room in
-    let size = ap (λ (x : Tape). x.size) plain.tape in
     let window = so_far.safe.window in
     let kept = step_keeps r.machine.state after.machine.state plain.retired in
     record {
@@ -85,13 +92,13 @@ plain_more start source told told_now told_after t r after values so_far gained 
       runs = runs_plain start (contents source.inputs.now) source.piece so_far.records t r.machine.state
           after.machine.state plain.retired so_far.runs;
       holds = subst (λ (x : Tape). Holds x so_far.records) (sym plain.tape) so_far.holds;
+      inputs = ap (λ (x : Tape). x.inputs) plain.tape ∙ so_far.inputs;
       counts = λ c. ap (λ (w : List ℕ). get_or w c 0) plain.counts ∙ so_far.counts c;
       goes_on = plain.goes_on;
       safe = record {
         window = omega arith;
         within = λ c. subst (λ (w : List ℕ). get_or w c 0 ≤ length (input_of (contents source.inputs.now) c))
             (sym plain.counts) (so_far.safe.within c);
-        room = omega arith;
       };
       gained = tells-gains-none told told_now told_after (clock_values so_far.records) so_far.gained
           (subst (λ (w : List ℕ). Tells told_now told_after (Gains w)) plain.no_values gained);
@@ -121,15 +128,25 @@ window_after inputs piece before t s (Write at args result bytes) here = refl
 window_after inputs piece before t s (Clock at value) here = refl
 window_after inputs piece before t s (Other at number) here = refl
 
+shares_push : (inputs : ℕ) (rs : List CallRecord) (r : CallRecord)
+    → sum_by (share inputs) (rs ++ r ∷ []) ≡ sum_by (share inputs) rs + share inputs r
+shares_push inputs rs r = omega
+    (arith, sum_by-append (share inputs) rs (r ∷ []), sum_by-cons (share inputs) r [])
+
 holds_more : (before after : Tape) (records : List CallRecord) (r : CallRecord) → Holds before records
     → Adds before r after → Holds after (records ++ r ∷ [])
 holds_more before after records r holds adds =
-    let counted = holds.counted in
-    let more = adds.counted in
-    let text = text_push records r in
+    let inputs = before.inputs in
+    let all : 48 + 4 * inputs + sum_by (share inputs) records + share inputs r ≡
+    48 + 4 * inputs + sum_by (share inputs) (records ++ r ∷ []) = omega (arith, shares_push inputs records r) in
+    let counted : after.size ≡ capped (48 + 4 * inputs + sum_by (share inputs) (records ++ r ∷ [])) = adds.counted
+    ∙ ap (λ (n : ℕ). capped (n + share inputs r)) holds.counted
+    ∙ capped_add (48 + 4 * inputs + sum_by (share inputs) records) (share inputs r) ∙ ap capped all in
     record {
-      counted = omega arith;
-      kept = λ h. adds.kept h ∙ ap (λ (w : List CallRecord). w ++ r ∷ []) (holds.kept (omega arith));
+      counted = counted
+          ∙ ap (λ (n : ℕ). capped (48 + 4 * n + sum_by (share n) (records ++ r ∷ []))) (sym adds.inputs);
+      kept = λ h. adds.kept h ∙ ap (λ (w : List CallRecord). w ++ r ∷ [])
+          (holds.kept (omega (arith, h, adds.counted, holds.counted)));
     }
 
 -- the record of a call is the one after those so far
@@ -163,22 +180,19 @@ call_more start source told told_now told_after t r after values so_far gained c
     ∙ ap (λ (n : ℕ). n + length (received_by c made)) (so_far.counts c)
     ∙ sym (length-received-push c so_far.records made) in
     let window = so_far.safe.window in
-    let room = so_far.safe.room in
-    let short = text_short made call.records.form in
-    let size = keeps.tape.counted in
     let memory : length after.machine.state.memory ≡ length s.memory = ap (λ (x : State). length x.memory) state
     ∙ window_after inputs source.piece so_far.records t s made here in
     record {
       records = so_far.records ++ made ∷ [];
       runs = subst (RunsTo start inputs source.piece (so_far.records ++ made ∷ []) (t + 1)) (sym state) runs;
       holds = holds_more r.tape after.tape so_far.records made so_far.holds keeps.tape;
+      inputs = keeps.tape.inputs ∙ so_far.inputs;
       counts = counts;
       goes_on = ap (λ (h : Hart). h.waits) keeps.machine;
       safe = record {
         window = omega arith;
         within = λ c. let up = counts c in let below = received-within inputs source.piece (so_far.records ++ made ∷ [])
             runs.form runs.reads c in omega arith;
-        room = omega arith;
       };
       gained = subst (λ (w : List ℕ). Tells told told_after (Gains w))
           (ap (λ (w : List ℕ). clock_values so_far.records ++ w) (sym call.records.values_are)
@@ -224,11 +238,9 @@ ended start source told told_now t steps r end form by so_far agrees =
 
 -- the run ends before its steps are done
 pub so_far_stops : (start : State) (source : Source) (told told_now told_after : Option (List ℕ)) (t steps : ℕ)
-    (r after : Recorder) (end : RunEnd) → t < steps → steps < 2 ^ 32 → IsSoFar start source told t r told_now
+    (r after : Recorder) (end : RunEnd) → t < steps → IsSoFar start source told t r told_now
     → Stops t end (point_of r) after told_now told_after → IsWhole start source steps end after.tape told told_after
-so_far_stops start source told told_now told_after t steps r after end early small so_far stops =
-    let room = so_far.safe.room in
-    let size = ap (λ (x : Tape). x.size) stops.tape in
+so_far_stops start source told told_now told_after t steps r after end early so_far stops =
     record {
       records = so_far.records;
       run = ended start source told told_now t steps r end stops.form
@@ -237,20 +249,19 @@ so_far_stops start source told told_now told_after t steps r after end early sma
           so_far.runs);
       holds = subst (λ (x : Tape). Holds x so_far.records) (sym stops.tape) so_far.holds;
       gained = tells-gains-none told told_now told_after (clock_values so_far.records) so_far.gained stops.gained;
-      room = omega arith;
+      inputs_are = ap (λ (x : Tape). x.inputs) stops.tape ∙ so_far.inputs;
     }
 
 -- the steps are done
 pub so_far_cut : (start : State) (source : Source) (told told_now : Option (List ℕ)) (steps : ℕ) (r : Recorder)
-    → steps < 2 ^ 32 → IsSoFar start source told steps r told_now
+    → steps ≤ 2 ^ 40 → IsSoFar start source told steps r told_now
     → IsWhole start source steps (Limit steps) r.tape told told_now
 so_far_cut start source told told_now steps r small so_far =
-    let room = so_far.safe.room in
     record {
       records = so_far.records;
       run = ended start source told told_now steps steps r (Limit steps) small (refl, refl) so_far
           (runs_cut start (contents source.inputs.now) source.piece so_far.records steps r.machine.state so_far.runs);
       holds = so_far.holds;
       gained = so_far.gained;
-      room = omega arith;
+      inputs_are = so_far.inputs;
     }

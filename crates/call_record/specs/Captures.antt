@@ -3,7 +3,9 @@ use Rattle.std.specs.Prelude.{◌≡◌, ℕ, ◌^◌, ◌<◌, List, [], length
 use Rattle.std.specs.Global.{Vec}
 use Rattle.elf_model.specs.Image.{Image}
 use Rattle.elf_model.specs.Window.{start_of}
+use Rattle.log_model.specs.declared.Version.TheVariants.{Two}
 use Rattle.log_model.specs.Logs.{Log, log_text}
+use Rattle.record_model.specs.Counts.{capped}
 use Rattle.record_model.specs.Recorded.{Setting, IsRecorded}
 use Rattle.outer_io.specs.Tells.{Tells, Gains}
 use Rattle.call_record.specs.Sources.{contents}
@@ -22,11 +24,11 @@ pub record IsCaptured (s : Setting) (told told_after : Option (List ℕ)) (log :
   pub gained : Tells told told_after (Gains answers)
   pub recorded : IsRecorded s answers log
 
--- the log of the run has this many bytes, more than a log may have
+-- the log of the run has this many bytes, more than a recorded log may have
 pub record IsTooLong (s : Setting) (told told_after : Option (List ℕ)) (size : ℕ) : Type 0 where
   pub log : Log
   pub captured : IsCaptured s told told_after log
-  pub size_is : size ≡ length (log_text log)
+  pub size_is : size ≡ capped (length (log_text Two log))
   pub over : 2 ^ 26 < size
 
 -- a window that can't hold the image, where the clock isn't read; a log that is too long; or out of memory

@@ -1,5 +1,5 @@
 -- A whole run that was recorded.
-use Rattle.std.specs.Prelude.{◌≡◌, ℕ, ◌+◌, ◌^◌, ◌<◌, ◌≤◌, List, [], length, Option, None, replicate}
+use Rattle.std.specs.Prelude.{◌≡◌, ℕ, ◌+◌, ◌*◌, ◌≤◌, List, [], length, Option, None, replicate}
 use Rattle.std.specs.List.{AllByRecursion}
 use Rattle.isa.specs.Machine.{State}
 use Rattle.log_model.specs.declared.CallRecord.{CallRecord}
@@ -14,11 +14,12 @@ use Rattle.call_record.specs.declared.source.Source.{Source}
 use Rattle.call_record.specs.declared.tape.Tape.{Tape}
 use Rattle.call_record.specs.declared.recorder.Recorder.{Recorder}
 
--- nothing was received and nothing recorded
-pub record IsFresh (r : Recorder) : Type 0 where
+-- nothing was received and nothing recorded of a run with so many input channels
+pub record IsFresh (inputs : ℕ) (r : Recorder) : Type 0 where
   pub counts : r.counts ≡ replicate 16 0
   pub records : r.tape.records.items ≡ []
-  pub size : r.tape.size ≡ 48
+  pub inputs_are : r.tape.inputs ≡ inputs
+  pub size : r.tape.size ≡ 48 + 4 * inputs
 
 -- these records and this end are those of the run that begins in this state, in every log that has them
 pub record IsRunOf (start : State) (source : Source) (steps : ℕ) (end : RunEnd) (records : List CallRecord) : Type 0
@@ -39,4 +40,4 @@ pub record IsWhole (start : State) (source : Source) (steps : ℕ) (end : RunEnd
   pub run : IsRunOf start source steps end records
   pub holds : Holds tape records
   pub gained : Tells told told_after (Gains (clock_values records))
-  pub room : tape.size + 13 < 2 ^ 64
+  pub inputs_are : tape.inputs ≡ length source.inputs.now

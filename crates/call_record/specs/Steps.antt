@@ -1,5 +1,5 @@
 -- The steps of a run that is being recorded.
-use Rattle.std.specs.Prelude.{◌≡◌, ℕ, ◌+◌, ◌*◌, ◌^◌, ◌≤◌, ◌⊎◌, true, false, List, [], length, Option, Some, None, slice_index}
+use Rattle.std.specs.Prelude.{◌≡◌, ℕ, ◌+◌, ◌^◌, ◌≤◌, ◌⊎◌, true, false, List, [], length, Option, Some, None, slice_index}
 use Rattle.isa.specs.declared.Call.{Call}
 use Rattle.isa.specs.declared.CallKind.{CallKind}
 use Rattle.isa.specs.Machine.{State, Retired, Called, next, reg, call_of}
@@ -28,11 +28,10 @@ pub record Point : Type 0 where
 abbrev pub point_of : Recorder → Point
 point_of r = record { state = r.machine.state; counts = r.counts; tape = r.tape }
 
--- the window is one that runs have, no channel was read past its end, and the tape's size can't overflow
-pub record IsSafe (source : Source) (t : ℕ) (p : Point) : Type 0 where
+-- the window is one that runs have, and no channel was read past its end
+pub record IsSafe (source : Source) (p : Point) : Type 0 where
   pub window : length p.state.memory ≤ 2 ^ 24
   pub within : (c : ℕ) → slice_index p.counts c ≤ length (input_of (contents source.inputs.now) c)
-  pub room : p.tape.size ≤ 48 + t * 2 ^ 32
 
 -- a call of this kind waits for its answer
 pub record WaitsFor (hart : Hart) (call : Call) (k : CallKind) : Type 0 where

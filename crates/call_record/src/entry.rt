@@ -1,7 +1,7 @@
 //! A call as it is recorded.
 
-ghost use Rattle.std.specs.Prelude.{◌≡◌, length, IfOk};
-ghost use Rattle.log_model.specs.Logs.{record_text, IsRecord};
+ghost use Rattle.std.specs.Prelude.{◌≡◌, IfOk};
+ghost use Rattle.log_model.specs.Logs.{share, IsRecord};
 ghost use Rattle.call_record.specs.Entries.{record_of};
 
 use log_model::{CallRecord, Data};
@@ -12,38 +12,45 @@ use std::alloc::Global;
 #[derive(Clone, Copy)]
 pub(crate) enum Entry<'a> {
     Read {
-        at: u32,
+        at: u64,
         args: [u32; 3],
         result: i32,
         bytes: &'a [u8],
     },
     Write {
-        at: u32,
+        at: u64,
         args: [u32; 3],
         result: i32,
         bytes: &'a [u8],
     },
     Clock {
-        at: u32,
+        at: u64,
         value: u64,
     },
     Other {
-        at: u32,
+        at: u64,
         number: u32,
     },
 }
 
 impl Entry<'_> {
-    /// The length of the record's text in bytes.
-    pub(crate) fn text_length(&self) -> u64
+    /// How many bytes the call adds to the text of a log with so many input channels: its record, and what its
+    /// channel keeps of a read.
+    pub(crate) fn share(&self, inputs: u32) -> u64
         requires { IsRecord (record_of self.now) }
-        ensures { result ≡ length (record_text (record_of self.now)) }
+        ensures { result ≡ share inputs (record_of self.now) }
     {
         match self {
-            Entry::Read { bytes, .. } => 21 + bytes.len() as u64,
-            Entry::Write { bytes, .. } => 21 + bytes.len() as u64,
-            Entry::Clock { .. } => 13,
-            Entry::Other { .. } => 9,
+            Entry::Read { args, bytes, .. } => {
+                if args[0] < inputs {
+                    25 + bytes.len() as u64
+                } else {
+                    25
+                }
+            }
+            Entry::Write { bytes, .. } => 25 + bytes.len() as u64,
+            Entry::Clock { .. } => 17,
+            Entry::Other { .. } => 13,
         }
     }
 

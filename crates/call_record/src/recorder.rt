@@ -61,15 +61,16 @@ fn written(machine: &Machine, place: u32, count: u32) -> &[u8]
 }
 
 impl Recorder {
-    /// The recording of a machine that has done no step.
-    pub(crate) fn new(alloc: Global, machine: Machine) -> Recorder
+    /// The recording of a machine that has done no step, in a run with so many input channels.
+    pub(crate) fn new(alloc: Global, machine: Machine, inputs: u32) -> Recorder
+        requires { inputs ≤ 16 }
         ensures machine { result.machine ≡ machine }
-        ensures fresh { IsFresh result }
+        ensures fresh { IsFresh inputs result }
     {
         Recorder {
             machine,
             counts: [0; 16],
-            tape: Tape::new(alloc),
+            tape: Tape::new(alloc, inputs),
         }
     }
 
@@ -78,12 +79,13 @@ impl Recorder {
         &mut self,
         alloc: Global,
         source: &Source<'_>,
-        at: u32,
+        at: u64,
         call: &Call,
     ) -> Result<(), NoMemory>
         requires waits { WaitsFor self.old.machine call.now kind.Read }
         requires source { IsSource source.now }
-        requires safe { IsSafe source.now at (point_of self.old) }
+        requires safe { IsSafe source.now (point_of self.old) }
+        requires early { at < 2 ^ 40 }
         ensures { OnOk result (Records source.now at [] (point_of self.old) self.new) }
     {
         let refusal = self.machine.refusal(call, source.channels());
@@ -111,12 +113,13 @@ impl Recorder {
         &mut self,
         alloc: Global,
         source: &Source<'_>,
-        at: u32,
+        at: u64,
         call: &Call,
     ) -> Result<(), NoMemory>
         requires waits { WaitsFor self.old.machine call.now kind.Write }
         requires source { IsSource source.now }
-        requires safe { IsSafe source.now at (point_of self.old) }
+        requires safe { IsSafe source.now (point_of self.old) }
+        requires early { at < 2 ^ 40 }
         ensures { OnOk result (Records source.now at [] (point_of self.old) self.new) }
     {
         let refusal = self.machine.refusal(call, source.channels());
@@ -139,10 +142,10 @@ impl Recorder {
     }
 
     /// Answers the clock call.
-    fn clock(&mut self, alloc: Global, at: u32, value: u64) -> Result<(), NoMemory>
+    fn clock(&mut self, alloc: Global, at: u64, value: u64) -> Result<(), NoMemory>
         requires waits { self.old.machine.waits ≡ true }
         requires kind { (call_of self.old.machine.state).kind ≡ kind.Clock }
-        requires room { self.old.tape.size + 13 < 2 ^ 64 }
+        requires early { at < 2 ^ 40 }
         ensures { OnOk result (Keeps (ClockOf at value) (point_of self.old) self.new) }
     {
         self.tape.add(alloc, Entry::Clock { at, value })?;
@@ -151,10 +154,10 @@ impl Recorder {
     }
 
     /// Answers a call that there is none of.
-    fn other(&mut self, alloc: Global, at: u32, number: u32) -> Result<(), NoMemory>
+    fn other(&mut self, alloc: Global, at: u64, number: u32) -> Result<(), NoMemory>
         requires waits { self.old.machine.waits ≡ true }
         requires kind { (call_of self.old.machine.state).kind ≡ kind.Other }
-        requires room { self.old.tape.size + 13 < 2 ^ 64 }
+        requires early { at < 2 ^ 40 }
         ensures { OnOk result (Keeps (OtherOf at number) (point_of self.old) self.new) }
     {
         self.tape.add(alloc, Entry::Other { at, number })?;
@@ -168,12 +171,13 @@ impl Recorder {
         alloc: Global,
         source: &Source<'_>,
         clock: &mut K,
-        at: u32,
+        at: u64,
         call: &Call,
     ) -> Result<Option<RunEnd>, NoMemory>
         requires called { IsCalled self.old.machine call.now }
         requires source { IsSource source.now }
-        requires safe { IsSafe source.now at (point_of self.old) }
+        requires safe { IsSafe source.now (point_of self.old) }
+        requires early { at < 2 ^ 40 }
         ensures ok { IfOk result (λ end. IsStepOf source.now at end (point_of self.old) self.new
             (K.answers clock.old) (K.answers clock.new)) }
         ensures gained { OnErr result (Gained (K.answers clock.old) (K.answers clock.new)) }
@@ -208,11 +212,12 @@ impl Recorder {
         alloc: Global,
         source: &Source<'_>,
         clock: &mut K,
-        at: u32,
+        at: u64,
     ) -> Result<Option<RunEnd>, NoMemory>
         requires goes_on { self.old.machine.waits ≡ false }
         requires source { IsSource source.now }
-        requires safe { IsSafe source.now at (point_of self.old) }
+        requires safe { IsSafe source.now (point_of self.old) }
+        requires early { at < 2 ^ 40 }
         ensures ok { IfOk result (λ end. IsStepOf source.now at end (point_of self.old) self.new
             (K.answers clock.old) (K.answers clock.new)) }
         ensures gained { OnErr result (Gained (K.answers clock.old) (K.answers clock.new)) }
@@ -230,12 +235,13 @@ impl Recorder {
         alloc: Global,
         source: &Source<'_>,
         clock: &mut K,
-        steps: u32,
+        steps: u64,
     ) -> Result<RunEnd, NoMemory>
         requires source { IsSource source.now }
-        requires fresh { IsFresh self.old }
+        requires fresh { IsFresh (length source.now.inputs.now) self.old }
         requires goes_on { self.old.machine.waits ≡ false }
         requires window { length self.old.machine.state.memory ≤ 2 ^ 24 }
+        requires limit { steps ≤ 2 ^ 40 }
         ensures ok { IfOk result (λ end. IsWhole self.old.machine.state source.now steps end self.new.tape
             (K.answers clock.old) (K.answers clock.new)) }
         ensures gained { OnErr result (Gained (K.answers clock.old) (K.answers clock.new)) }

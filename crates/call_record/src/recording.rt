@@ -4,6 +4,8 @@ ghost use Rattle.std.specs.Prelude.{◌≡◌, ◌≤◌, ◌^◌, ◌↔◌, No
 ghost use Rattle.std.specs.List.{All};
 ghost use Rattle.elf_model.specs.Image.{image as image_of_file};
 ghost use Rattle.elf_model.specs.Window.{start_of};
+ghost use Rattle.log_model.specs.declared.Version.TheVariants.{Two};
+ghost use Rattle.log_model.specs.Logs.{CanHold};
 ghost use Rattle.call_record.specs.Captures.{setting_of, IsCaptured, IsCause};
 
 use crate::fault::CaptureFault;
@@ -22,11 +24,13 @@ use std::alloc::Global;
 /// bytes: input c is what the guest reads on channel c. A read gets the next bytes of its channel, at most as
 /// many as it asks for and at most `piece`: with a piece of 0 each read that isn't refused gets 0 bytes, as at
 /// the end of its input. The clock is read once for each clock call of the guest, and at no other time. The run
-/// is cut off once `steps` steps are done: with 0 steps the log has no record, and its end is a limit at 0.
+/// is cut off once `steps` steps are done, at most 2^40: with 0 steps the log has no record, and its end is a limit
+/// at 0.
 ///
-/// The log fits the program. The faults are: `Window`, exactly where the window can't hold the image; and
-/// `LogTooLong`, where the log of the whole run has more than 2^26 bytes, with their number: the run goes on to
-/// its end, but no more records are kept. Else out of memory is `NoMemory`.
+/// The log fits the program, and version 2 can hold it. The faults are: `Window`, exactly where the window can't hold
+/// the image; and `LogTooLong`, where the text of the whole run's log in version 2 has more than 2^26 bytes, with their
+/// number, or 2^64 - 1 where they are more: the run goes on to its end, but no more records are kept. Else out of
+/// memory is `NoMemory`.
 pub fn capture<K: Clock>(
     alloc: Global,
     program: &[u8],
@@ -35,15 +39,17 @@ pub fn capture<K: Clock>(
     inputs: &[Vec<u8>],
     clock: &mut K,
     piece: u32,
-    steps: u32,
+    steps: u64,
 ) -> Result<Log, CaptureFault>
     requires image { image_of_file program.now ≡ Ok image.now }
     requires some { 1 ≤ pages }
     requires most { pages ≤ 4096 }
     requires few { length inputs.now ≤ 16 }
     requires short { All (λ v. length v.items ≤ 2 ^ 26) inputs.now }
+    requires limit { steps ≤ 2 ^ 40 }
     ensures captured { IfOk result (IsCaptured (setting_of program.now pages inputs.now piece steps)
         (K.answers clock.old) (K.answers clock.new)) }
+    ensures held { IfOk result (CanHold Two) }
     ensures window { (result ≡ Err CaptureFault.Window) ↔ (start_of image.now pages ≡ None) }
     ensures cause { IfErr result (IsCause (setting_of program.now pages inputs.now piece steps) image.now
         (K.answers clock.old) (K.answers clock.new)) }
@@ -55,8 +61,8 @@ pub fn capture<K: Clock>(
         Err(MachineFault::Window) => return Err(CaptureFault::Window),
         Err(MachineFault::NoMemory) => return Err(CaptureFault::NoMemory),
     };
-    let mut recorder = Recorder::new(alloc, machine);
     let source = Source { inputs, piece };
+    let mut recorder = Recorder::new(alloc, machine, source.channels());
     let end = match recorder.run(alloc, &source, clock, steps) {
         Ok(end) => end,
         Err(_) => return Err(CaptureFault::NoMemory),
@@ -66,5 +72,5 @@ pub fn capture<K: Clock>(
         counts: _,
         tape,
     } = recorder;
-    tape.into_log(pages, inputs.len() as u32, Sha256::digest(program), end)
+    tape.into_log(pages, Sha256::digest(program), end)
 }

@@ -2,7 +2,7 @@ use Rattle.std.proofs.Common.{arith, ◌≡◌, ap, sym, ◌∙◌, Some}
 use Rattle.elf_model.specs.Window.{start_of}
 use Rattle.rv_machine.specs.Hart.{Hart}
 use Rattle.call_record.proofs.Windows.{start_window}
-use Rattle.call_record.proofs.Captured.{is_source, Begins, complete, ok_captured, err_cause}
+use Rattle.call_record.proofs.Captured.{is_source, Begins, complete, ok_captured, ok_held, err_cause}
 use Rattle.call_record.proofs.recording.capture.Given.{Over}
 use Rattle.call_record.proofs.recording.capture.Goals as goal
 use Rattle.call_record.proofs.recording.capture.Goals.{After-new-recorder, In-Ok-run}
@@ -33,16 +33,13 @@ begins g c = record {
   few = c.requires.few;
 }
 
-pub into_log-requires-clause-room : goal.into_log-requires-clause-room
-into_log-requires-clause-room g c = c.in-Ok-run.ensures.ok.room
-
-pub into_log-requires-clause-complete : goal.into_log-requires-clause-complete
-into_log-requires-clause-complete g c =
-    let whole = c.in-Ok-run.ensures.ok in
+pub into_log-requires : goal.into_log-requires
+into_log-requires g c =
     complete c.args.program.now c.args.image.now c.args.pages (record { inputs = c.args.inputs; piece = c.args.piece })
     c.new-recorder.result.machine.state c.args.steps c.digest.result c.in-Ok-run.end c.run.new.self.tape
-    whole.records (begins g (goal.at.into_log-requires-clause-complete g c).After-new-recorder) whole.run
-    whole.holds c.digest.ensures
+    (g.K.Clock.answers c.args.clock.now) (g.K.Clock.answers c.run.new.clock)
+    (begins g (goal.at.into_log-requires g c).After-new-recorder) c.in-Ok-run.ensures.ok
+    c.digest.ensures
 
 pub returns-clause-captured : goal.returns-clause-captured
 returns-clause-captured g c =
@@ -51,6 +48,15 @@ returns-clause-captured g c =
     c.digest.result c.in-Ok-run.end c.run.new.self.tape (g.K.Clock.answers c.args.clock.now)
     (g.K.Clock.answers c.run.new.clock) c.into_log.result
     (begins g (goal.at.returns-clause-captured g c).After-new-recorder) c.digest.ensures c.in-Ok-run.ensures.ok
+    c.into_log.ensures.ok
+
+pub returns-clause-held : goal.returns-clause-held
+returns-clause-held g c =
+    ok_held c.args.program.now c.args.image.now c.args.pages
+    (record { inputs = c.args.inputs; piece = c.args.piece }) c.new-recorder.result.machine.state c.args.steps
+    c.digest.result c.in-Ok-run.end c.run.new.self.tape (g.K.Clock.answers c.args.clock.now)
+    (g.K.Clock.answers c.run.new.clock) c.into_log.result
+    (begins g (goal.at.returns-clause-held g c).After-new-recorder) c.digest.ensures c.in-Ok-run.ensures.ok
     c.into_log.ensures.ok
 
 pub returns-clause-cause : goal.returns-clause-cause

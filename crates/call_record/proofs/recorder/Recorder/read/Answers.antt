@@ -57,11 +57,11 @@ count-requires c =
     c.unless_refused-transfer.result.bytes.now c.requires.source c.requires.safe c.requires.waits (computed at)
     (got at).form
 
-pub add-requires-clause-form : goal.add-requires-clause-form
-add-requires-clause-form c =
+pub add-requires : goal.add-requires
+add-requires c =
     let f : SFits w32 c.unless_refused-transfer.result.outcome = search rules in
     rw (to_z-of_z w32 c.unless_refused-transfer.result.outcome f)
-    ((got (goal.at.add-requires-clause-form c).After-unless_refused-transfer).form)
+    ((got (goal.at.add-requires c).After-unless_refused-transfer).form)
 
 pub answer-requires-clause-answers : goal.answer-requires-clause-answers
 answer-requires-clause-answers c =

@@ -12,7 +12,7 @@ on_err P (Ok x) p = tt
 on_err P (Err e) p = p
 
 pub loop-at-init : goal.loop-at-init
-loop-at-init g c = so_far_none c.args.source.now c.args.self.now (g.K.Clock.answers c.args.clock.now) c.requires.fresh
+loop-at-init g c = so_far_none c.args.source.now c.args.self.now (g.K.Clock.answers c.args.clock.now) c.requires.source.few c.requires.fresh
     c.requires.goes_on c.requires.window
 
 pub returns-in_err-end-clause-gained : goal.returns-in_err-end-clause-gained
@@ -37,7 +37,7 @@ returns-in-Some-clause-ok g c =
     let stops = subst (λ (o : Option RunEnd). IsStepOf c.args.source.now c.loop-at.at o (point_of c.loop-at.self)
     c.step.new.self told_now told_after) c.in-Some.is c.in_ok-end.ensures.ok in
     so_far_stops c.args.self.now.machine.state c.args.source.now told told_now told_after c.loop-at.at c.args.steps
-    c.loop-at.self c.step.new.self c.in-Some.end c.loop-at-test.true (omega arith) c.loop-at.invariant stops
+    c.loop-at.self c.step.new.self c.in-Some.end c.loop-at-test.true c.loop-at.invariant stops
 
 pub loop-at-preserved : goal.loop-at-preserved
 loop-at-preserved g c =

@@ -40,11 +40,11 @@ got c =
       bytes_are = bytes_are;
     })
 
-pub add-requires-clause-form : goal.add-requires-clause-form
-add-requires-clause-form c =
+pub add-requires : goal.add-requires
+add-requires c =
     let f : SFits w32 c.unless_refused-transfer.result.outcome = search rules in
     rw (to_z-of_z w32 c.unless_refused-transfer.result.outcome f)
-    ((got (goal.at.add-requires-clause-form c).After-unless_refused-transfer).form)
+    ((got (goal.at.add-requires c).After-unless_refused-transfer).form)
 
 pub returns : goal.returns
 returns c =
