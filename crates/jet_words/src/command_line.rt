@@ -1,6 +1,6 @@
 //! The command line of the program.
-ghost use Rattle.std.specs.Prelude.{◌≡◌, false, IfOk};
-ghost use Rattle.clap.specs.Words.{app_of};
+ghost use Rattle.std.specs.Prelude.{◌≡◌, false, IfOk, IsOkAnd};
+ghost use Rattle.clap.specs.Words.{app_of, with_subcommand};
 ghost use Rattle.clap.specs.declared.builder.Command.TheViews.{out-Command as fields_of};
 ghost use Rattle.jet_words.specs.CommandLine.{program_and_log as program_and_log_app, query_app, record_app};
 ghost use Rattle.jet_words.specs.CommandLine.{replay_app, output_app, convert_app, influence_app};
@@ -93,16 +93,29 @@ fn bare_command<'a>(alloc: Global) -> Command<'a>
     Command::new(alloc, "jet").subcommand_required(true)
 }
 
+// The command with one more subcommand, where that was made. The error is out of memory.
+fn with_made<'a>(
+    command: Command<'a>,
+    made: Result<Command<'a>, AllocError>,
+) -> Result<Command<'a>, AllocError>
+    requires { IfOk made (λ s. (fields_of s).has_globals ≡ false) }
+    ensures { IfOk result (λ c. IsOkAnd made.entry (λ s.
+        app_of c ≡ with_subcommand (app_of command.entry) (app_of s).top)) }
+{
+    let subcommand = made?;
+    with_command(command, subcommand)
+}
+
 /// The command line. The error is out of memory.
 pub fn command_line<'a>(alloc: Global) -> Result<Command<'a>, AllocError>
     ensures app { IfOk result (λ c. app_of c ≡ jet_app) }
 {
     let command = bare_command(alloc);
-    let command = with_command(command, query_command(alloc)?)?;
-    let command = with_command(command, record_command(alloc)?)?;
-    let command = with_command(command, replay_command(alloc)?)?;
-    let command = with_command(command, output_command(alloc)?)?;
-    let command = with_command(command, convert_command(alloc)?)?;
-    let command = with_command(command, influence_command(alloc)?)?;
-    with_command(command, queries_command(alloc)?)
+    let command = with_made(command, query_command(alloc))?;
+    let command = with_made(command, record_command(alloc))?;
+    let command = with_made(command, replay_command(alloc))?;
+    let command = with_made(command, output_command(alloc))?;
+    let command = with_made(command, convert_command(alloc))?;
+    let command = with_made(command, influence_command(alloc))?;
+    with_made(command, queries_command(alloc))
 }
