@@ -4,3 +4,4 @@ mod NumberLemmas
 mod ParseLemmas
 mod ChoiceLemmas
 mod SpanLemmas
+mod PointLemmas

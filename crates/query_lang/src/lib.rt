@@ -12,6 +12,7 @@ mod fault;
 mod lines;
 mod number;
 mod parser;
+mod points;
 mod query;
 mod statement;
 mod words;
