@@ -5,3 +5,4 @@ mod ParseLemmas
 mod ChoiceLemmas
 mod SpanLemmas
 mod PointLemmas
+mod GatherLemmas

@@ -35,7 +35,7 @@ one_more_byte old before new first place past time from end so_far pushed =
     let here : first + (place - first) ≡ place = omega arith in
     let count : (place - first) + 1 ≡ past - first = omega arith in
     let pushed_here : new ≡ before ++ byte_point first time (place - first) ∷ [] =
-        pushed ∙ ap (λ (p : ℕ). before ++ (record { time = time; loc = Mem p }) ∷ []) (sym here) in
+    pushed ∙ ap (λ (p : ℕ). before ++ (record { time = time; loc = Mem p }) ∷ []) (sym here) in
     subst (λ (n : ℕ). new ≡ old ++ points_of_memory first n time) count (one_more (byte_point first time) old before new (place - first) so_far pushed_here)
 
 -- ---- points in order, each once

@@ -18,7 +18,12 @@ pub enum Points {
 }
 
 /// Adds bytes of memory to points.
-fn add_memory(points: &mut Vec<InnerSink>, first: u32, last: u32, time: u64) -> Result<(), AllocError>
+fn add_memory(
+    points: &mut Vec<InnerSink>,
+    first: u32,
+    last: u32,
+    time: u64,
+) -> Result<(), AllocError>
     ensures { OnOk result (points.new.items ≡ points.old.items ++ points_of_memory first (last + 1 - first) time) }
 {
     for place in first..=last {

@@ -1,11 +1,12 @@
 //! Queries.
 
-ghost use Rattle.std.specs.Prelude.{◌≡◌, IfOk};
+ghost use Rattle.std.specs.Prelude.{◌≡◌, ◌++◌, IfOk, OnOk};
 ghost use Rattle.sorted_set.specs.Sets.{Ascends};
 ghost use Rattle.flow_model.specs.Orders.{inner_cmp};
 ghost use Rattle.flow_model.specs.declared.SinkPoint.TheVariants.{Out};
 ghost use Rattle.report_model.specs.Query.{Alike, has_source, has_sink};
-ghost use Rattle.query_lang.specs.Drafts.{query_by};
+ghost use Rattle.query_lang.specs.Choices.{SameChoices};
+ghost use Rattle.query_lang.specs.Drafts.{choices_in, query_by};
 
 use crate::chosen::{Chosen, Selection};
 use crate::points::each_once;
@@ -52,6 +53,22 @@ impl Query {
             sinks: Chosen::of(alloc, sinks)?,
             points: each_once(points),
         })
+    }
+
+    /// Adds what the query chooses to what is chosen so far.
+    pub(crate) fn add_to(
+        &self,
+        sources: &mut Selection,
+        sinks: &mut Selection,
+        points: &mut Vec<InnerSink>,
+    ) -> Result<(), AllocError>
+        ensures sources { OnOk result (SameChoices (choices_in sources.new) (choices_in sources.old ++ self.now.sources)) }
+        ensures sinks { OnOk result (SameChoices (choices_in sinks.new) (choices_in sinks.old ++ self.now.sinks)) }
+        ensures points { OnOk result (points.new.items ≡ points.old.items ++ self.now.points) }
+    {
+        self.sources.add_to(sources)?;
+        self.sinks.add_to(sinks)?;
+        points.extend_from_slice(&self.points)
     }
 
     /// The rule by which taint propagates.

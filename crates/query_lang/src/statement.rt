@@ -230,7 +230,9 @@ fn register_of(mut operands: Words<'_>) -> Result<Points, QueryKind>
 fn sink_of(operands: Words<'_>) -> Result<Statement, QueryKind>
     ensures { says statement_shown result ≡ sink_by_words (words operands.entry.rest.now) }
 {
-    let mut after = Words { rest: operands.rest };
+    let mut after = Words {
+        rest: operands.rest,
+    };
     let Some(first) = after.next() else {
         return Err(QueryKind::Count);
     };
