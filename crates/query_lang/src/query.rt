@@ -62,8 +62,12 @@ impl Query {
         sinks: &mut Selection,
         points: &mut Vec<InnerSink>,
     ) -> Result<(), AllocError>
-        ensures sources { OnOk result (SameChoices (choices_in sources.new) (choices_in sources.old ++ self.now.sources)) }
-        ensures sinks { OnOk result (SameChoices (choices_in sinks.new) (choices_in sinks.old ++ self.now.sinks)) }
+        ensures sources { OnOk result (SameChoices
+            (choices_in sources.new)
+            (choices_in sources.old ++ self.now.sources)) }
+        ensures sinks { OnOk result (SameChoices
+            (choices_in sinks.new)
+            (choices_in sinks.old ++ self.now.sinks)) }
         ensures points { OnOk result (points.new.items ≡ points.old.items ++ self.now.points) }
     {
         self.sources.add_to(sources)?;
