@@ -180,7 +180,7 @@ fn memory_at(place: &[u8], size: &[u8], time: &[u8]) -> Result<Points, QueryKind
     let place = number_of(place).ok_or(QueryKind::Number)?;
     let size = number_of(size).ok_or(QueryKind::Number)?;
     let time = time_of(time).ok_or(QueryKind::Number)?;
-    if size < 1 || size > LARGEST_SIZE {
+    if !(1..=LARGEST_SIZE).contains(&size) {
         return Err(QueryKind::Range);
     }
     let last = place.checked_add(size - 1).ok_or(QueryKind::Range)?;
@@ -211,7 +211,7 @@ fn register_at(number: &[u8], time: &[u8]) -> Result<Points, QueryKind>
     let number = number_of(number).ok_or(QueryKind::Number)?;
     let time = time_of(time).ok_or(QueryKind::Number)?;
     match u8::try_from(number) {
-        Ok(number) if 1 <= number && number <= 31 => Ok(Points::Register { number, time }),
+        Ok(number) if (1..=31).contains(&number) => Ok(Points::Register { number, time }),
         _ => Err(QueryKind::Range),
     }
 }
