@@ -27,10 +27,11 @@ use Rattle.jet_refusal.specs.declared.refusal.Refusal.TheVariants as refusal
 use Rattle.jet_model.specs.Outcomes.{and_then}
 use Rattle.jet_model.specs.Contents.{Contents, Names, Program, Run, program_at, query_at, queries_at, run_at, inputs_at}
 use Rattle.jet_model.specs.Report.{reports_of, text_from, text_over}
-use Rattle.jet_model.specs.Answer.{digest_check, start_in, unless_diverged, fitting_start, traced_answer, query_answer, unless_other_rule, rules_check, queries_answer, text_answer, log_answer, capped, limited_text, convert_answer, Limits, Source, source_at, setting_of, IsCaptured, IsCaptureAnswer, IsRecordAnswer}
+use Rattle.jet_model.specs.Answer.{digest_check, start_in, unless_diverged, fitting_start, traced_answer, query_answer, unless_other_rule, rules_check, queries_answer, text_answer, log_answer, limited_text, convert_answer, Limits, Source, source_at, setting_of, IsCaptured, IsCaptureAnswer, IsRecordAnswer}
 use Rattle.jet_model.specs.Headline.{IsRunOf, IsGivenByQuery, AreReportsOf, IsGivenBy, IsConversionOf, IsRecordingOf, IsShort, AreShort, AreAllShort}
 use Rattle.jet_model.proofs.AndThen.{ok-one, and_then-ok, and_then-is_ok, AndThen-ok, AndThen-is_ok, AndThen-one, ok_or-is_ok}
 use Rattle.replay_model.proofs.Received.{fitting_is_held}
+use Rattle.record_model.specs.Counts.{capped}
 use Rattle.record_model.proofs.Unique.{one_recording}
 use Rattle.jet_model.proofs.Files.{program_at-there, program_at-is_ok, log_at-there, log_at-is_ok, query_at-there, query_at-is_ok, queries_at-there, queries_at-is_ok, run_at-there, run_at-is_ok, inputs_at-there, inputs_at-is_ok}
 

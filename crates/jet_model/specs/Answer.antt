@@ -1,5 +1,5 @@
 -- What the files of a command come to: the text that it writes, or the first refusal.
-use Rattle.std.specs.Prelude.{◌≡◌, ℕ, ◌-◌, ◌^◌, nat_lt, min, if◌then◌else◌, List, length, Option, Some, None, Result, Ok, Err}
+use Rattle.std.specs.Prelude.{◌≡◌, ℕ, ◌^◌, nat_lt, if◌then◌else◌, List, length, Option, Some, None, Result, Ok, Err}
 use Rattle.std.specs.Option.{ok_or}
 use Rattle.std.specs.Str.{bytes_eq}
 use Rattle.isa.specs.Machine.{State}
@@ -14,6 +14,7 @@ use Rattle.report_model.specs.Together.{first_other_rule}
 use Rattle.replay_model.specs.Run.{trace}
 use Rattle.replay_model.specs.declared.Divergence.{Divergence}
 use Rattle.replay_model.specs.Comparison.{divergence}
+use Rattle.record_model.specs.Counts.{capped}
 use Rattle.record_model.specs.Recorded.{Setting, IsRecorded}
 use Rattle.sha2.specs.Sha256.{sha256}
 use Rattle.jet_refusal.specs.declared.refusal.Refusal.{Refusal}
@@ -86,10 +87,6 @@ abbrev pub log_answer : Contents → List ℕ → List ℕ → (Log → List ℕ
 log_answer file program log text = and_then (run_at file program log) (λ run. text_answer run text)
 
 -- ---- a log that is written
-
--- a count stands still at the end of 64 bits
-abbrev pub capped : ℕ → ℕ
-capped n = min n (2 ^ 64 - 1)
 
 -- the log's text, in version 2, which is to have at most 2 ^ 26 bytes
 abbrev pub limited_text : Log → Result (List ℕ) Refusal
