@@ -2,7 +2,7 @@ pub mod Words
 pub mod Moved
 pub mod Records
 pub mod Faults
-mod Items
+pub mod Items
 mod Results
 pub mod Left
 mod Again

@@ -1,41 +1,51 @@
 -- The record at the front by its tag.
-use Rattle.std.proofs.Common.{◌≡◌, ℕ, List, ℤ, to_z, of_z, SFits, refl, ap, ◌∙◌, rules}
+use Rattle.std.proofs.Common.{◌≡◌, ℕ, ◌^◌, ◌<◌, List, ℤ, to_z, of_z, SFits, refl, ap, ◌∙◌, rules}
 use Rattle.std.specs.Int.{w32, cast_signed}
 use Rattle.std.proofs.lemmas.Int.{ints, to_z-of_z}
 use Rattle.format_model.specs.Fields.{word_at}
+use Rattle.log_model.specs.declared.Version.{Version}
+use Rattle.log_model.specs.declared.Version.TheVariants.{One, Two}
 use Rattle.log_model.specs.declared.CallRecord.TheVariants.{Read, Write, Clock, Other}
 use Rattle.log_model.specs.declared.RunEnd.TheVariants.{Exit, Trap, Limit}
 use Rattle.log_model.specs.declared.Item.TheVariants.{Call, End}
-use Rattle.log_model.specs.Logs.{IsBytes}
-use Rattle.log_model.specs.Faults.{tag_of}
-use Rattle.log_model.specs.Reading.{long_at, arguments_of, result_of, data_of, item_of}
-use Rattle.log_model.proofs.Words.{word_below}
+use Rattle.log_model.specs.Faults.{tag_of, step_of, fields_of, long_at}
+use Rattle.log_model.specs.Reading.{arguments_of, result_of, data_of, read_bytes, item_of}
+use Rattle.replay_log.specs.Records.{bytes_read}
 
-pub read_is : (rest : List ℕ) → tag_of rest ≡ 1 → Call (Read (word_at rest 1) (arguments_of rest) (result_of rest) (data_of (tag_of rest) rest)) ≡ item_of rest
-read_is rest e = rw e refl
+-- the step number and the fields of a record
+pub record IsTaken (v : Version) (rest : List ℕ) (t at : ℕ) (fields : List ℕ) : Type 0 where
+  pub tag : tag_of rest ≡ t
+  pub step : at ≡ step_of v rest
+  pub parts : fields ≡ fields_of v rest
 
-pub write_is : (rest : List ℕ) → tag_of rest ≡ 2 → Call (Write (word_at rest 1) (arguments_of rest) (result_of rest) (data_of (tag_of rest) rest)) ≡ item_of rest
-write_is rest e = rw e refl
+bytes_are : (v : Version) (left : List (List ℕ)) (rest : List ℕ) → bytes_read v left (fields_of v rest) (data_of v 1 rest) ≡ read_bytes v left rest
+bytes_are One left rest = refl
+bytes_are Two left rest = refl
 
-pub clock_is : (rest : List ℕ) → tag_of rest ≡ 3 → Call (Clock (word_at rest 1) (long_at rest 5)) ≡ item_of rest
-clock_is rest e = rw e refl
+pub read_is : (v : Version) (left : List (List ℕ)) (rest : List ℕ) (at : ℕ) (fields bytes : List ℕ) → IsTaken v rest 1 at fields → bytes ≡ data_of v (tag_of rest) rest
+    → Call (Read at (arguments_of fields) (result_of fields) (bytes_read v left fields bytes)) ≡ item_of v left rest
+read_is v left rest at fields bytes is e = rw (e, is.tag, is.step, is.parts, bytes_are v left rest) refl
 
-pub other_is : (rest : List ℕ) → tag_of rest ≡ 4 → Call (Other (word_at rest 1) (word_at rest 5)) ≡ item_of rest
-other_is rest e = rw e refl
+pub write_is : (v : Version) (left : List (List ℕ)) (rest : List ℕ) (at : ℕ) (fields bytes : List ℕ) → IsTaken v rest 2 at fields → bytes ≡ data_of v (tag_of rest) rest → Call (Write at (arguments_of fields) (result_of fields) bytes) ≡ item_of v left rest
+write_is v left rest at fields bytes is e = rw (e, is.tag, is.step, is.parts) refl
 
-pub exit_is : (rest : List ℕ) → tag_of rest ≡ 5 → End (Exit (word_at rest 1) (word_at rest 5)) ≡ item_of rest
-exit_is rest e = rw e refl
+pub clock_is : (v : Version) (left : List (List ℕ)) (rest : List ℕ) (at : ℕ) (fields : List ℕ) → IsTaken v rest 3 at fields → Call (Clock at (long_at fields 0)) ≡ item_of v left rest
+clock_is v left rest at fields is = rw (is.tag, is.step, is.parts) refl
 
-pub trap_is : (rest : List ℕ) → tag_of rest ≡ 6 → End (Trap (word_at rest 1) (word_at rest 5) (word_at rest 9)) ≡ item_of rest
-trap_is rest e = rw e refl
+pub other_is : (v : Version) (left : List (List ℕ)) (rest : List ℕ) (at : ℕ) (fields : List ℕ) → IsTaken v rest 4 at fields → Call (Other at (word_at fields 0)) ≡ item_of v left rest
+other_is v left rest at fields is = rw (is.tag, is.step, is.parts) refl
 
-pub limit_is : (rest : List ℕ) → tag_of rest ≡ 7 → End (Limit (word_at rest 1)) ≡ item_of rest
-limit_is rest e = rw e refl
+pub exit_is : (v : Version) (left : List (List ℕ)) (rest : List ℕ) (at : ℕ) (fields : List ℕ) → IsTaken v rest 5 at fields → End (Exit at (word_at fields 0)) ≡ item_of v left rest
+exit_is v left rest at fields is = rw (is.tag, is.step, is.parts) refl
+
+pub trap_is : (v : Version) (left : List (List ℕ)) (rest : List ℕ) (at : ℕ) (fields : List ℕ) → IsTaken v rest 6 at fields → End (Trap at (word_at fields 0) (word_at fields 4)) ≡ item_of v left rest
+trap_is v left rest at fields is = rw (is.tag, is.step, is.parts) refl
+
+pub limit_is : (v : Version) (left : List (List ℕ)) (rest : List ℕ) (at : ℕ) (fields : List ℕ) → IsTaken v rest 7 at fields → End (Limit at) ≡ item_of v left rest
+limit_is v left rest at fields is = rw (is.tag, is.step) refl
 
 -- the signed number of a word, as code has it
-pub cast_is : (rest : List ℕ) (r : ℤ) (n : ℕ) → IsBytes rest → r ≡ cast_signed w32 n → n ≡ word_at rest 17 → to_z w32 (of_z w32 r) ≡ result_of rest
-cast_is rest r n fits e f =
-    let below = word_below rest 17 fits in
-    let same : r ≡ result_of rest = e ∙ ap (cast_signed w32) f in
-    let range : SFits w32 (result_of rest) = search (rules, ints) in
-    rw same (to_z-of_z w32 (result_of rest) range)
+pub cast_is : (fields : List ℕ) (r : ℤ) (n : ℕ) → n < 2 ^ 32 → r ≡ cast_signed w32 n → n ≡ word_at fields 12 → to_z w32 (of_z w32 r) ≡ result_of fields
+cast_is fields r n below e f =
+    let range : SFits w32 (cast_signed w32 n) = search (rules, ints) in
+    rw e (to_z-of_z w32 (cast_signed w32 n) range ∙ ap (cast_signed w32) f)

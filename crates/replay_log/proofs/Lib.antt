@@ -1,4 +1,9 @@
+mod Headers
+mod Slices
 mod RecordParts
 mod Items
+mod ChannelLoop
 mod Loop
 mod Whole
+mod Shares
+mod Joined

@@ -1,5 +1,6 @@
--- A log put together, and what is true of one that is kept in memory with its size beside it.
+-- A log put together, and what is true of one that is kept in memory with the size of its text of version 2 beside it.
 use Rattle.std.specs.Prelude.{◌≡◌, ℕ, ◌≤◌, ◌^◌, List, length}
+use Rattle.log_model.specs.declared.Version.TheVariants.{Two}
 use Rattle.log_model.specs.declared.CallRecord.{CallRecord}
 use Rattle.log_model.specs.declared.RunEnd.{RunEnd}
 use Rattle.log_model.specs.Logs.{Log, IsLog, log_text}
@@ -11,5 +12,5 @@ log_of_parts pages inputs digest records end =
 
 pub record IsLogOfSize (log : Log) (size : ℕ) : Type 0 where
   pub form : IsLog log
-  pub whole : size ≡ length (log_text log)
-  pub limit : size ≤ 2 ^ 26
+  pub whole : size ≡ length (log_text Two log)
+  pub limit : size ≤ 2 ^ 27

@@ -1,6 +1,7 @@
 //! A log in memory.
 
 ghost use Rattle.std.specs.Prelude.{◌≡◌, ◌≤◌, ◌^◌, length};
+ghost use Rattle.log_model.specs.declared.Version.TheVariants.{Two};
 ghost use Rattle.log_model.specs.Logs.{log_text, IsLog};
 ghost use Rattle.replay_log.specs.Logs.{log_of_parts};
 
@@ -8,7 +9,7 @@ use log_model::{CallRecord, RunEnd};
 use std::marker::Model;
 
 /// A log of a run: the window's pages, the number of input channels, the digest of the program's file, the calls
-/// and the end. Each value has the form of a log, and its text is at most 2^26 bytes long.
+/// and the end. Each value has the form of a log, and its text in version 2 is at most 2^27 bytes long.
 #[derive(Drop)]
 pub struct Log {
     pages: u32,
@@ -32,8 +33,8 @@ impl Model for Log {
 }
 
 impl Log {
-    /// The log of these parts: a log's form is theirs, and `size` is the length of its text in bytes, at most 2^26.
-    /// It takes no memory.
+    /// The log of these parts: a log's form is theirs, and `size` is the length of its text of version 2 in bytes,
+    /// at most 2^27. It takes no memory.
     pub fn from_parts(
         pages: u32,
         inputs: u32,
@@ -43,8 +44,8 @@ impl Log {
         size: u64,
     ) -> Log
         requires form { IsLog (log_of_parts pages inputs digest records.items end) }
-        requires size { size ≡ length (log_text (log_of_parts pages inputs digest records.items end)) }
-        requires limit { size ≤ 2 ^ 26 }
+        requires size { size ≡ length (log_text Two (log_of_parts pages inputs digest records.items end)) }
+        requires limit { size ≤ 2 ^ 27 }
         ensures { result ≡ log_of_parts pages inputs digest records.items end }
     {
         Log {
@@ -92,10 +93,10 @@ impl Log {
         self.end
     }
 
-    /// The length of the log's text in bytes, at most 2^26.
+    /// The length of the log's text of version 2 in bytes, at most 2^27.
     pub fn size(&self) -> u64
-        ensures length { result ≡ length (log_text self.now) }
-        ensures limit { result ≤ 2 ^ 26 }
+        ensures length { result ≡ length (log_text Two self.now) }
+        ensures limit { result ≤ 2 ^ 27 }
     {
         self.size
     }

@@ -1,23 +1,51 @@
 //! The record at the front of the bytes that are left, taken apart: here each fault of a record is found.
 
-ghost use Rattle.std.specs.Prelude.{◌≡◌, ◌≤◌, ◌^◌, nat_lt, if◌then◌else◌, length, IfOk, IfErr};
-ghost use Rattle.std.specs.Int.{w32, cast_unsigned};
-ghost use Rattle.log_model.specs.Faults.{fixed_length, data_length, is_read_result_wrong, is_write_result_wrong, is_trap_kind_wrong, is_result_wrong, record_fault};
+ghost use Rattle.std.specs.Prelude.{◌≡◌, ◌≤◌, IfOk, IfErr, length};
+ghost use Rattle.log_model.specs.Faults.{fields_length, moved, step_bound, data_length, is_step_wrong, is_read_result_wrong, is_write_result_wrong, is_trap_kind_wrong, is_result_wrong, are_bytes_wrong, record_fault};
 ghost use Rattle.log_model.specs.Faults.{is_refusal as is_refusal_word};
 ghost use Rattle.replay_log.specs.Tags.{number};
-ghost use Rattle.replay_log.specs.Records.{ArePartsOf};
+ghost use Rattle.replay_log.specs.Records.{ArePartsOf, data_count};
 
+use crate::channels::Channels;
+use crate::steps::{fields_of, step_of};
 use crate::tags::Tag;
 use crate::words::word_at;
-use log_model::LogKind;
+use log_model::{LogKind, Version};
 
-/// A record's kind and step number, the bytes of its data, and the bytes after the record.
+/// A record's kind and step number, what follows the step number, the bytes of its data, and the bytes after the
+/// record.
 #[derive(Drop)]
 pub struct RecordParts<'a> {
     pub tag: Tag,
-    pub at: u32,
+    pub at: u64,
+    pub fields: &'a [u8],
     pub bytes: &'a [u8],
     pub after: &'a [u8],
+}
+
+/// A call's step number is below this.
+const CALL_BOUND: u64 = 1 << 40;
+
+/// Step numbers of records of this kind are below this.
+fn step_bound(tag: Tag) -> u64
+    ensures { result ≡ step_bound (number tag) }
+{
+    match tag {
+        Tag::Read => CALL_BOUND,
+        Tag::Write => CALL_BOUND,
+        Tag::Clock => CALL_BOUND,
+        Tag::Other => CALL_BOUND,
+        Tag::Exit => CALL_BOUND,
+        Tag::Trap => CALL_BOUND + 1,
+        Tag::Limit => CALL_BOUND + 1,
+    }
+}
+
+/// Whether the step number isn't above that of the record before, or is too high.
+fn is_step_wrong(least: u64, tag: Tag, at: u64) -> bool
+    ensures { result ≡ is_step_wrong least (number tag) at }
+{
+    at < least || at >= step_bound(tag)
 }
 
 /// Whether the result says that the call was refused: there is no such channel, or the buffer isn't in the window.
@@ -49,14 +77,14 @@ fn is_trap_kind_wrong(kind: u32) -> bool
 }
 
 /// Whether the result of a read or a write, or the kind of a trap, is none that there is.
-fn is_outcome_wrong(tag: Tag, rest: &[u8]) -> bool
-    requires { fixed_length (number tag) ≤ length rest.now }
-    ensures { result ≡ is_result_wrong (number tag) rest.now }
+fn is_outcome_wrong(tag: Tag, fields: &[u8]) -> bool
+    requires { fields_length (number tag) ≤ length fields.now }
+    ensures { result ≡ is_result_wrong (number tag) fields.now }
 {
     match tag {
-        Tag::Read => is_read_result_wrong(word_at(rest, 13), word_at(rest, 17)),
-        Tag::Write => is_write_result_wrong(word_at(rest, 13), word_at(rest, 17)),
-        Tag::Trap => is_trap_kind_wrong(word_at(rest, 5)),
+        Tag::Read => is_read_result_wrong(word_at(fields, 8), word_at(fields, 12)),
+        Tag::Write => is_write_result_wrong(word_at(fields, 8), word_at(fields, 12)),
+        Tag::Trap => is_trap_kind_wrong(word_at(fields, 0)),
         Tag::Clock => false,
         Tag::Other => false,
         Tag::Exit => false,
@@ -64,21 +92,57 @@ fn is_outcome_wrong(tag: Tag, rest: &[u8]) -> bool
     }
 }
 
-/// How many bytes a result says were moved.
-fn moved_bytes(word: u32) -> usize
-    ensures { result ≡ (if nat_lt word (2 ^ 31) then word else 0) }
+/// How many bytes a read or a write with these fields moved.
+pub fn moved(fields: &[u8]) -> usize
+    requires { 16 ≤ length fields.now }
+    ensures { result ≡ moved fields.now }
 {
-    if word < 1 << 31 { word as usize } else { 0 }
+    let outcome = word_at(fields, 12);
+    if outcome < 1 << 31 {
+        outcome as usize
+    } else {
+        0
+    }
 }
 
-/// How many bytes of data follow the fixed fields.
-fn length_of_data(tag: Tag, rest: &[u8]) -> usize
-    requires { fixed_length (number tag) ≤ length rest.now }
-    ensures { result ≡ data_length (number tag) rest.now }
+/// Whether a read takes more than its channel has left.
+fn is_too_much(version: Version, left: &Channels, fields: &[u8]) -> bool
+    requires { 16 ≤ length fields.now }
+    ensures { result ≡ are_bytes_wrong version 1 left.now fields.now }
+{
+    match version {
+        Version::One => false,
+        Version::Two => left.left_on(word_at(fields, 0)).len() < moved(fields),
+    }
+}
+
+/// Whether a read takes more than its channel has left, or a channel has bytes left at the end.
+fn are_bytes_wrong(version: Version, tag: Tag, left: &Channels, fields: &[u8]) -> bool
+    requires { fields_length (number tag) ≤ length fields.now }
+    ensures { result ≡ are_bytes_wrong version (number tag) left.now fields.now }
 {
     match tag {
-        Tag::Read => moved_bytes(word_at(rest, 17)),
-        Tag::Write => moved_bytes(word_at(rest, 17)),
+        Tag::Read => is_too_much(version, left, fields),
+        Tag::Write => false,
+        Tag::Clock => false,
+        Tag::Other => false,
+        Tag::Exit => left.are_left(),
+        Tag::Trap => left.are_left(),
+        Tag::Limit => left.are_left(),
+    }
+}
+
+/// How many bytes of data follow the fields.
+fn length_of_data(version: Version, tag: Tag, fields: &[u8]) -> usize
+    requires { fields_length (number tag) ≤ length fields.now }
+    ensures { result ≡ data_count version (number tag) fields.now }
+{
+    match tag {
+        Tag::Read => match version {
+            Version::One => moved(fields),
+            Version::Two => 0,
+        },
+        Tag::Write => moved(fields),
         Tag::Clock => 0,
         Tag::Other => 0,
         Tag::Exit => 0,
@@ -87,10 +151,16 @@ fn length_of_data(tag: Tag, rest: &[u8]) -> usize
     }
 }
 
-/// The record at the front, where its step number has to be at least `least`, or its first fault.
-pub fn parts_of(least: u64, rest: &[u8]) -> Result<RecordParts, LogKind>
-    ensures ok { IfOk result (ArePartsOf least rest.now) }
-    ensures fault { IfErr result (λ kind. record_fault least rest.now ≡ Some kind) }
+/// The record at the front, where its step number has to be at least `least` and this is left of the channels; or its
+/// first fault.
+pub fn parts_of<'a>(
+    version: Version,
+    least: u64,
+    left: &Channels,
+    rest: &'a [u8],
+) -> Result<RecordParts<'a>, LogKind>
+    ensures ok { IfOk result (ArePartsOf version least left.now rest.now) }
+    ensures fault { IfErr result (λ kind. record_fault version least left.now rest.now ≡ Some kind) }
 {
     let Some(first) = rest.first() else {
         return Err(LogKind::Short);
@@ -98,19 +168,23 @@ pub fn parts_of(least: u64, rest: &[u8]) -> Result<RecordParts, LogKind>
     let Some(tag) = Tag::of(*first) else {
         return Err(LogKind::Tag);
     };
-    let fixed = tag.fixed_length();
+    let fixed = tag.fixed_length(version);
     if rest.len() < fixed {
         return Err(LogKind::Short);
     }
-    let at = word_at(rest, 1);
-    if u64::from(at) < least {
+    let at = step_of(version, rest);
+    if is_step_wrong(least, tag, at) {
         return Err(LogKind::Order);
     }
-    if is_outcome_wrong(tag, rest) {
+    let fields = fields_of(version, rest);
+    if is_outcome_wrong(tag, fields) {
         return Err(LogKind::Result);
     }
-    let length = length_of_data(tag, rest);
-    let unfixed = &rest[fixed..];
+    if are_bytes_wrong(version, tag, left, fields) {
+        return Err(LogKind::Bytes);
+    }
+    let unfixed = &fields[tag.fields_length()..];
+    let length = length_of_data(version, tag, fields);
     if unfixed.len() < length {
         return Err(LogKind::Short);
     }
@@ -118,6 +192,7 @@ pub fn parts_of(least: u64, rest: &[u8]) -> Result<RecordParts, LogKind>
     Ok(RecordParts {
         tag,
         at,
+        fields,
         bytes,
         after,
     })

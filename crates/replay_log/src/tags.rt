@@ -1,8 +1,11 @@
 //! The kinds of records.
 
 ghost use Rattle.std.specs.Prelude.{◌≡◌, ◌<◌, ◌⊎◌, MatchOption};
-ghost use Rattle.log_model.specs.Faults.{fixed_length};
+ghost use Rattle.log_model.specs.Faults.{fields_length, fixed_length};
 ghost use Rattle.replay_log.specs.Tags.{number};
+
+use crate::steps::step_length;
+use log_model::Version;
 
 /// The kind of a record, which its first byte says.
 #[derive(Clone, Copy)]
@@ -48,18 +51,25 @@ impl Tag {
         }
     }
 
-    /// How many bytes the tag and the fixed fields take.
-    pub fn fixed_length(self) -> usize
-        ensures { result ≡ fixed_length (number self) }
+    /// How many bytes the fields after the step number take.
+    pub fn fields_length(self) -> usize
+        ensures { result ≡ fields_length (number self) }
     {
         match self {
-            Tag::Read => 21,
-            Tag::Write => 21,
-            Tag::Clock => 13,
-            Tag::Other => 9,
-            Tag::Exit => 9,
-            Tag::Trap => 13,
-            Tag::Limit => 5,
+            Tag::Read => 16,
+            Tag::Write => 16,
+            Tag::Clock => 8,
+            Tag::Other => 4,
+            Tag::Exit => 4,
+            Tag::Trap => 8,
+            Tag::Limit => 0,
         }
+    }
+
+    /// How many bytes the tag, the step number and the fields take.
+    pub fn fixed_length(self, version: Version) -> usize
+        ensures { result ≡ fixed_length version (number self) }
+    {
+        1 + step_length(version) + self.fields_length()
     }
 }

@@ -2,7 +2,7 @@
 
 ghost use Rattle.std.specs.Prelude.{◌≡◌, ◌+◌, ◌≤◌, length};
 ghost use Rattle.format_model.specs.Fields.{word_at};
-ghost use Rattle.log_model.specs.Reading.{long_at};
+ghost use Rattle.log_model.specs.Faults.{long_at};
 
 /// The number of four bytes at a place.
 pub fn word_at(bytes: &[u8], at: usize) -> u32

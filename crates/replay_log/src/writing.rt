@@ -1,14 +1,16 @@
-//! Writing logs. Each function appends to the bytes written before.
+//! Writing logs, in version 2. Each function appends to the bytes written before.
 
-ghost use Rattle.std.specs.Prelude.{◌≡◌, ◌∷◌, ◌++◌, IfOk, OnOk};
+ghost use Rattle.std.specs.Prelude.{◌≡◌, ◌∷◌, ◌++◌, ◌^◌, ◌<◌, length, IfOk, OnOk};
 ghost use Rattle.std.specs.List.{flat_map};
-ghost use Rattle.log_model.specs.Logs.{word32, word64, signed32, header_text, record_text, end_text, log_text};
+ghost use Rattle.log_model.specs.declared.Version.TheVariants.{Two};
+ghost use Rattle.log_model.specs.Moved.{received, received_by};
+ghost use Rattle.log_model.specs.Logs.{word32, word64, signed32, header_text, channel_text, kept_channels, record_text, end_text, log_text, CanHold};
 ghost use Rattle.replay_log.specs.Tags.{number};
 
-use crate::header::MAGIC;
+use crate::header::magic;
 use crate::logs::Log;
 use crate::tags::Tag;
-use log_model::{CallRecord, RunEnd};
+use log_model::{CallRecord, RunEnd, Version};
 use no_memory::NoMemory;
 use std::alloc::Global;
 
@@ -32,9 +34,9 @@ fn push_words(out: &mut Vec<u8>, words: &[u32]) -> Result<(), NoMemory>
 
 /// Appends the header.
 fn push_header(out: &mut Vec<u8>, log: &Log) -> Result<(), NoMemory>
-    ensures { OnOk result (out.new.items ≡ out.old.items ++ header_text log.now) }
+    ensures { OnOk result (out.new.items ≡ out.old.items ++ header_text Two log.now) }
 {
-    out.extend_from_slice(&MAGIC)?;
+    out.extend_from_slice(&magic(Version::Two))?;
     out.extend_from_slice(&log.digest())?;
     push_word(out, log.pages())?;
     push_word(out, log.inputs())?;
@@ -42,42 +44,36 @@ fn push_header(out: &mut Vec<u8>, log: &Log) -> Result<(), NoMemory>
 }
 
 /// Appends what each record begins with: the tag and the step number.
-fn push_start(out: &mut Vec<u8>, tag: Tag, at: u32) -> Result<(), NoMemory>
-    ensures { OnOk result (out.new.items ≡ out.old.items ++ (number tag ∷ word32 at)) }
+fn push_start(out: &mut Vec<u8>, tag: Tag, at: u64) -> Result<(), NoMemory>
+    ensures { OnOk result (out.new.items ≡ out.old.items ++ (number tag ∷ word64 at)) }
 {
     out.push(tag.number())?;
-    push_word(out, at)?;
+    out.extend_from_slice(&at.to_le_bytes())?;
     Ok(())
 }
 
-/// Appends what follows in the record of a read or a write: the arguments, the result and the data.
-fn push_transfer(
-    out: &mut Vec<u8>,
-    args: &[u32],
-    outcome: i32,
-    bytes: &[u8],
-) -> Result<(), NoMemory>
-    ensures { OnOk result (out.new.items ≡ out.old.items ++ flat_map word32 args.now ++ signed32 outcome ++ bytes.now) }
+/// Appends what follows in the record of a read or a write: the arguments and the result.
+fn push_transfer(out: &mut Vec<u8>, args: &[u32], outcome: i32) -> Result<(), NoMemory>
+    ensures { OnOk result (out.new.items ≡ out.old.items ++ flat_map word32 args.now ++ signed32 outcome) }
 {
     push_words(out, args)?;
     push_word(out, outcome.cast_unsigned())?;
-    out.extend_from_slice(bytes)?;
     Ok(())
 }
 
 /// Appends the record of a call.
 fn push_record(out: &mut Vec<u8>, call: &CallRecord) -> Result<(), NoMemory>
-    ensures { OnOk result (out.new.items ≡ out.old.items ++ record_text call.now) }
+    ensures { OnOk result (out.new.items ≡ out.old.items ++ record_text Two call.now) }
 {
     match call {
         CallRecord::Read {
             at,
             args,
             result: outcome,
-            bytes,
+            ..
         } => {
             push_start(out, Tag::Read, *at)?;
-            push_transfer(out, args, *outcome, bytes.as_slice())?;
+            push_transfer(out, args, *outcome)?;
             Ok(())
         }
         CallRecord::Write {
@@ -87,7 +83,8 @@ fn push_record(out: &mut Vec<u8>, call: &CallRecord) -> Result<(), NoMemory>
             bytes,
         } => {
             push_start(out, Tag::Write, *at)?;
-            push_transfer(out, args, *outcome, bytes.as_slice())?;
+            push_transfer(out, args, *outcome)?;
+            out.extend_from_slice(bytes.as_slice())?;
             Ok(())
         }
         CallRecord::Clock { at, value } => {
@@ -105,7 +102,7 @@ fn push_record(out: &mut Vec<u8>, call: &CallRecord) -> Result<(), NoMemory>
 
 /// Appends the records of the calls, one after another.
 fn push_records(out: &mut Vec<u8>, calls: &[CallRecord]) -> Result<(), NoMemory>
-    ensures { OnOk result (out.new.items ≡ out.old.items ++ flat_map record_text calls.now) }
+    ensures { OnOk result (out.new.items ≡ out.old.items ++ flat_map (record_text Two) calls.now) }
 {
     for call in calls {
         push_record(out, call)?;
@@ -115,7 +112,7 @@ fn push_records(out: &mut Vec<u8>, calls: &[CallRecord]) -> Result<(), NoMemory>
 
 /// Appends the end record.
 fn push_end(out: &mut Vec<u8>, end: RunEnd) -> Result<(), NoMemory>
-    ensures { OnOk result (out.new.items ≡ out.old.items ++ end_text end) }
+    ensures { OnOk result (out.new.items ≡ out.old.items ++ end_text Two end) }
 {
     match end {
         RunEnd::Exit { at, code } => {
@@ -133,13 +130,68 @@ fn push_end(out: &mut Vec<u8>, end: RunEnd) -> Result<(), NoMemory>
     }
 }
 
-/// Writes a log: the bytes are its text, and `read_log` reads it from them. The room for the text is taken once,
-/// before the first byte is written. It gives up with NoMemory alone.
+/// The bytes that a call read on a channel: none where it is no read, or one on another channel.
+fn bytes_on(call: &CallRecord, channel: u32) -> &[u8]
+    ensures { result.now ≡ received_by channel call.now }
+{
+    match call {
+        CallRecord::Read { args, bytes, .. } => {
+            if args[0] == channel {
+                bytes.as_slice()
+            } else {
+                &[]
+            }
+        }
+        CallRecord::Write { .. } => &[],
+        CallRecord::Clock { .. } => &[],
+        CallRecord::Other { .. } => &[],
+    }
+}
+
+/// The bytes that these calls read on a channel, in the order of the calls.
+fn received_on(alloc: Global, calls: &[CallRecord], channel: u32) -> Result<Vec<u8>, NoMemory>
+    ensures { IfOk result (λ bytes. bytes.items ≡ received channel calls.now) }
+{
+    let mut bytes = Vec::new(alloc);
+    for call in calls {
+        bytes.extend_from_slice(bytes_on(call, channel))?;
+    }
+    Ok(bytes)
+}
+
+/// Appends a channel: its length and its bytes.
+fn push_channel(out: &mut Vec<u8>, bytes: &[u8]) -> Result<(), NoMemory>
+    requires { length bytes.now < 2 ^ 32 }
+    ensures { OnOk result (out.new.items ≡ out.old.items ++ channel_text bytes.now) }
+{
+    push_word(out, bytes.len() as u32)?;
+    out.extend_from_slice(bytes)?;
+    Ok(())
+}
+
+/// Appends what was read on each channel. It goes over the calls once for each of the channels, of which there are at
+/// most 16: so it takes a time that is linear in the log.
+fn push_channels(alloc: Global, out: &mut Vec<u8>, log: &Log) -> Result<(), NoMemory>
+    requires { CanHold Two log.now }
+    ensures { OnOk result (out.new.items ≡ out.old.items ++ flat_map channel_text (kept_channels Two log.now)) }
+{
+    let calls = log.records();
+    for channel in 0..log.inputs() {
+        let bytes = received_on(alloc, calls, channel)?;
+        push_channel(out, bytes.as_slice())?;
+    }
+    Ok(())
+}
+
+/// Writes a log, which version 2 can hold: the bytes are its text in that version, and `read_log` reads it from them.
+/// The room for the text is taken once, before the first byte is written. It gives up with NoMemory alone.
 pub fn write_log(alloc: Global, log: &Log) -> Result<Vec<u8>, NoMemory>
-    ensures { IfOk result (λ bytes. bytes.items ≡ log_text log.now) }
+    requires { CanHold Two log.now }
+    ensures { IfOk result (λ bytes. bytes.items ≡ log_text Two log.now) }
 {
     let mut out = Vec::with_capacity(alloc, log.size() as usize)?;
     push_header(&mut out, log)?;
+    push_channels(alloc, &mut out, log)?;
     push_records(&mut out, log.records())?;
     push_end(&mut out, log.end())?;
     Ok(out)

@@ -1,22 +1,66 @@
-use Rattle.std.proofs.Common.{ℕ, ◌≤◌, length, drop, sym, subst, ap, ◌∙◌}
-use Rattle.replay_log.proofs.RecordParts.{cut_parts, are_parts}
+use Rattle.std.proofs.Common.{◌≡◌, ℕ, ◌-◌, ◌<◌, ◌≤◌, ◌++◌, length, drop, sym, ap, subst, ◌∙◌, arith}
+use Rattle.std.proofs.lemmas.List.{take_rest, length-drop}
+use Rattle.replay_log.proofs.RecordParts.{IsBegun, cut_parts, are_parts, result_fault, bytes_fault, short_fault}
 use Rattle.replay_log.proofs.record_parts.parts_of.Goals as goal
+
+pub returns-then-is_outcome_wrong-clause-fault : goal.returns-then-is_outcome_wrong-clause-fault
+returns-then-is_outcome_wrong-clause-fault c =
+    let rest = c.args.rest.now in
+    let begun : IsBegun c.args.version c.args.least rest c.in-Some-of.tag c.step_of-at.result c.fields_of-fields.result.now = record {
+      tag_is = c.in-Some-of.ensures ∙ c.in-Some.ensures.item.3.1 0;
+      fixed = subst (λ (k : ℕ). k ≤ length rest) c.fixed_length-fixed.ensures c.if-rest-fixed.false;
+      at_is = c.step_of-at.ensures;
+      step = sym c.is_step_wrong.ensures ∙ c.if-is_step_wrong.false;
+      fields_are = c.fields_of-fields.ensures;
+    } in
+    result_fault c.args.version c.args.least c.args.left.now rest _ _ _ begun (sym c.is_outcome_wrong.ensures ∙ c.if-is_outcome_wrong.true)
+
+pub returns-then-are_bytes_wrong-clause-fault : goal.returns-then-are_bytes_wrong-clause-fault
+returns-then-are_bytes_wrong-clause-fault c =
+    let rest = c.args.rest.now in
+    let begun : IsBegun c.args.version c.args.least rest c.in-Some-of.tag c.step_of-at.result c.fields_of-fields.result.now = record {
+      tag_is = c.in-Some-of.ensures ∙ c.in-Some.ensures.item.3.1 0;
+      fixed = subst (λ (k : ℕ). k ≤ length rest) c.fixed_length-fixed.ensures c.if-rest-fixed.false;
+      at_is = c.step_of-at.ensures;
+      step = sym c.is_step_wrong.ensures ∙ c.if-is_step_wrong.false;
+      fields_are = c.fields_of-fields.ensures;
+    } in
+    bytes_fault c.args.version c.args.least c.args.left.now rest _ _ _ begun (sym c.is_outcome_wrong.ensures ∙ c.if-is_outcome_wrong.false) (sym c.are_bytes_wrong.ensures ∙ c.if-are_bytes_wrong.true)
+
+pub returns-then-unfixed-length-clause-fault : goal.returns-then-unfixed-length-clause-fault
+returns-then-unfixed-length-clause-fault c =
+    let rest = c.args.rest.now in
+    let begun : IsBegun c.args.version c.args.least rest c.in-Some-of.tag c.step_of-at.result c.fields_of-fields.result.now = record {
+      tag_is = c.in-Some-of.ensures ∙ c.in-Some.ensures.item.3.1 0;
+      fixed = subst (λ (k : ℕ). k ≤ length rest) c.fixed_length-fixed.ensures c.if-rest-fixed.false;
+      at_is = c.step_of-at.ensures;
+      step = sym c.is_step_wrong.ensures ∙ c.if-is_step_wrong.false;
+      fields_are = c.fields_of-fields.ensures;
+    } in
+    let fields = c.fields_of-fields.result.now in
+    let fixed = c.fields_length.result in
+    let short : length fields - fixed < c.length_of_data-length.result = omega (arith, c.if-unfixed-length.true, ap length (take_rest fields fixed), length-drop fixed fields) in
+    short_fault c.args.version c.args.least c.args.left.now rest _ _ _ c.length_of_data-length.result begun (sym c.is_outcome_wrong.ensures ∙ c.if-is_outcome_wrong.false) (sym c.are_bytes_wrong.ensures ∙ c.if-are_bytes_wrong.false)
+    c.length_of_data-length.ensures (subst (λ (k : ℕ). length fields - k < c.length_of_data-length.result) c.fields_length.ensures short)
 
 pub returns-clause-ok : goal.returns-clause-ok
 returns-clause-ok c =
     let rest = c.args.rest.now in
-    let byte = c.in-Some.ensures.item in
-    let fixed = c.fixed_length-fixed.ensures in
+    let fields = c.fields_of-fields.result.now in
+    let begun : IsBegun c.args.version c.args.least rest c.in-Some-of.tag c.step_of-at.result fields = record {
+      tag_is = c.in-Some-of.ensures ∙ c.in-Some.ensures.item.3.1 0;
+      fixed = subst (λ (k : ℕ). k ≤ length rest) c.fixed_length-fixed.ensures c.if-rest-fixed.false;
+      at_is = c.step_of-at.ensures;
+      step = sym c.is_step_wrong.ensures ∙ c.if-is_step_wrong.false;
+      fields_are = c.fields_of-fields.ensures;
+    } in
     let cut = c.split_at.ensures in
     let bytes = c.split_at.result.0.now in
     let after = c.split_at.result.1.now in
-    are_parts c.args.least rest _ record {
-      tag = c.in-Some-of.ensures ∙ byte.3.1 0;
-      some = byte.3.0;
-      fixed = subst (λ (k : ℕ). k ≤ length rest) fixed c.if-rest-fixed.false;
-      at = c.word_at-at.ensures;
-      order = subst (λ (k : ℕ). c.args.least ≤ k) (c.from.ensures ∙ c.word_at-at.ensures) c.if-from-least.false;
+    are_parts c.args.version c.args.least c.args.left.now rest _ record {
+      begun = begun;
       outcome = sym c.is_outcome_wrong.ensures ∙ c.if-is_outcome_wrong.false;
+      allowed = sym c.are_bytes_wrong.ensures ∙ c.if-are_bytes_wrong.false;
       size = cut.front_len ∙ c.length_of_data-length.ensures;
-      cut = ap (λ (k : ℕ). drop k rest) (sym fixed) ∙ cut_parts rest bytes after c.fixed_length-fixed.result c.length_of_data-length.result cut.front cut.back;
+      cut = subst (λ (k : ℕ). drop k fields ≡ bytes ++ after) c.fields_length.ensures (cut_parts fields bytes after c.fields_length.result c.length_of_data-length.result cut.front cut.back);
     }

@@ -1,0 +1,22 @@
+-- Texts, one after another.
+use Rattle.std.proofs.Common.{◌≡◌, ℕ, ◌+◌, List, [], ◌++◌, map, sym, ap, ◌∙◌, append_assoc, refl, arith}
+use Rattle.std.specs.List.{flat_map, range_with_len}
+use Rattle.std.proofs.lemmas.List.{flat_map_more}
+use Rattle.std.proofs.lemmas.List.FromFn.{map-range_with_len_more}
+use Rattle.log_model.specs.declared.CallRecord.{CallRecord}
+use Rattle.log_model.specs.Moved.{received}
+use Rattle.log_model.specs.Logs.{channel_text}
+
+pub two_texts : (old start more one two : List ℕ) → one ≡ old ++ start → two ≡ one ++ more → two ≡ old ++ (start ++ more)
+two_texts old start more one two d e = e ∙ ap (λ (x : List ℕ). x ++ more) d ∙ append_assoc old start more
+
+pub four_texts : (x y z u none one two three four : List ℕ) → none ≡ [] → one ≡ none ++ x → two ≡ one ++ y → three ≡ two ++ z → four ≡ three ++ u → four ≡ x ++ y ++ z ++ u
+four_texts x y z u none one two three four a b d e f = rw (f, e, d, b, a) refl
+
+pub more_channels : (old so_far new bytes : List ℕ) (calls : List CallRecord) (k : ℕ) → so_far ≡ old ++ flat_map channel_text (map (λ c. received c calls) (range_with_len 0 k)) → new ≡ so_far ++ channel_text bytes → bytes ≡ received k calls
+    → new ≡ old ++ flat_map channel_text (map (λ c. received c calls) (range_with_len 0 (k + 1)))
+more_channels old so_far new bytes calls k d e f =
+    let channels = map (λ c. received c calls) (range_with_len 0 k) in
+    e ∙ ap (λ (x : List ℕ). x ++ channel_text bytes) d ∙ ap (λ (x : List ℕ). (old ++ flat_map channel_text channels) ++ channel_text x) f
+    ∙ flat_map_more channel_text old channels (received k calls)
+    ∙ ap (λ (x : List (List ℕ)). old ++ flat_map channel_text x) (sym (map-range_with_len_more (λ c. received c calls) 0 k k (omega arith)))
