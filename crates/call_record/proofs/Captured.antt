@@ -167,6 +167,35 @@ ok_captured program im pages source s steps digest end tape told told_after (Ok 
     (sym (made.0 ∙ all)) (whole_captured program im pages source s steps end tape told told_after begins whole)
 ok_captured program im pages source s steps digest end tape told told_after (Err f) begins e whole made = made
 
+-- its text is short
+made_small : (program : List ℕ) (im : Image) (pages : ℕ) (source : Source) (s : State) (steps : ℕ) (end : RunEnd)
+    (tape : Tape) (told told_after : Option (List ℕ)) → Begins program im pages source s
+    → (whole : IsWhole s source steps end tape told told_after) → tape.size + length (end_text Two end) ≤ 2 ^ 26
+    → length (log_text Two (whole_log program pages source whole.records end)) ≤ 2 ^ 26
+made_small program im pages source s steps end tape told told_after begins whole small =
+    let before = size_before (length source.inputs.now) whole.records in
+    let size = tape_size source tape whole.records whole.inputs_are whole.holds in
+    let same : before ≡ capped before = capped_is before (omega (arith, size, small)) in
+    omega (
+      arith,
+      whole_size program im pages source s steps end whole.records begins whole.run,
+      same,
+      size,
+      small,
+    )
+
+pub ok_small : (program : List ℕ) (im : Image) (pages : ℕ) (source : Source) (s : State) (steps : ℕ) (digest : List ℕ)
+    (end : RunEnd) (tape : Tape) (told told_after : Option (List ℕ)) (o : Result Log CaptureFault)
+    → Begins program im pages source s → digest ≡ sha256 program → IsWhole s source steps end tape told told_after
+    → IfOk o (IsMade tape pages digest end) → IfOk o (λ log. length (log_text Two log) ≤ 2 ^ 26)
+ok_small program im pages source s steps digest end tape told told_after (Ok log) begins e whole made =
+    let small = made.1 in
+    let all = kept_all program pages source digest end tape whole.records e whole.inputs_are whole.holds
+    (omega arith) in
+    subst (λ (l : Log). length (log_text Two l) ≤ 2 ^ 26) (sym (made.0 ∙ all))
+    (made_small program im pages source s steps end tape told told_after begins whole small)
+ok_small program im pages source s steps digest end tape told told_after (Err f) begins e whole made = made
+
 -- version 2 can hold it
 pub ok_held : (program : List ℕ) (im : Image) (pages : ℕ) (source : Source) (s : State) (steps : ℕ) (digest : List ℕ)
     (end : RunEnd) (tape : Tape) (told told_after : Option (List ℕ)) (o : Result Log CaptureFault)
@@ -177,13 +206,10 @@ ok_held program im pages source s steps digest end tape told told_after (Ok log)
     let all = kept_all program pages source digest end tape whole.records e whole.inputs_are whole.holds
     (omega arith) in
     let log = whole_log program pages source whole.records end in
-    let before = size_before (length source.inputs.now) whole.records in
-    let size = tape_size source tape whole.records whole.inputs_are whole.holds in
-    let same : before ≡ capped before = capped_is before (omega (arith, size, small)) in
-    let text = whole_size program im pages source s steps end whole.records begins whole.run in
+    let text = made_small program im pages source s steps end tape told told_after begins whole small in
     subst (CanHold Two) (sym (made.0 ∙ all))
     (fitting_is_held s log (whole_form program im pages source s steps end whole.records begins whole.run)
-    (whole.run.agrees log refl refl refl) (omega (arith, text, same, size, small)))
+    (whole.run.agrees log refl refl refl) (omega (arith, text)))
 ok_held program im pages source s steps digest end tape told told_after (Err f) begins e whole made = made
 
 too_long : (program : List ℕ) (im : Image) (pages : ℕ) (source : Source) (s : State) (steps : ℕ) (end : RunEnd)

@@ -24,7 +24,7 @@ pub record IsCaptured (s : Setting) (told told_after : Option (List ℕ)) (log :
   pub gained : Tells told told_after (Gains answers)
   pub recorded : IsRecorded s answers log
 
--- the log of the run has this many bytes, more than a recorded log may have
+-- the log of the run has this many bytes as far as they are counted, more than a recorded log may have
 pub record IsTooLong (s : Setting) (told told_after : Option (List ℕ)) (size : ℕ) : Type 0 where
   pub log : Log
   pub captured : IsCaptured s told told_after log

@@ -1,4 +1,4 @@
--- The records of a run, as far as a log may be long.
+-- The records of a run, as far as a recorded log may be long. The length of its text is counted as a number of 64 bits.
 use Rattle.std.specs.Prelude.{◌≡◌, ℕ, ◌+◌, ◌*◌, ◌^◌, ◌<◌, ◌≤◌, List, [], ◌∷◌, ◌++◌, length}
 use Rattle.std.specs.List.{sum_by}
 use Rattle.log_model.specs.declared.Version.TheVariants.{Two}
@@ -30,12 +30,12 @@ log_with pages inputs digest records end = record
 abbrev pub log_of : Tape → ℕ → List ℕ → RunEnd → Log
 log_of tape pages digest end = log_with pages tape.inputs digest tape.records.items end
 
--- these are all the records of a log, up to whose end its text has this length
+-- these are all the records of a log, whose text without the end has this length
 pub record IsComplete (log : Log) (size : ℕ) : Type 0 where
   pub form : IsLog log
   pub counted : size + length (end_text Two log.end) ≡ length (log_text Two log)
 
--- a length that no log has
+-- a length that no recorded log has, as far as it is counted
 abbrev pub IsTooLongWith : ℕ → CaptureFault → Type 0
 IsTooLongWith size Window = ⊥
 IsTooLongWith size (LogTooLong told) = (told ≡ capped size) × (2 ^ 26 < size)

@@ -5,7 +5,7 @@ ghost use Rattle.std.specs.List.{All};
 ghost use Rattle.elf_model.specs.Image.{image as image_of_file};
 ghost use Rattle.elf_model.specs.Window.{start_of};
 ghost use Rattle.log_model.specs.declared.Version.TheVariants.{Two};
-ghost use Rattle.log_model.specs.Logs.{CanHold};
+ghost use Rattle.log_model.specs.Logs.{CanHold, log_text};
 ghost use Rattle.call_record.specs.Captures.{setting_of, IsCaptured, IsCause};
 
 use crate::fault::CaptureFault;
@@ -27,10 +27,10 @@ use std::alloc::Global;
 /// is cut off once `steps` steps are done, at most 2^40: with 0 steps the log has no record, and its end is a limit
 /// at 0.
 ///
-/// The log fits the program, and version 2 can hold it. The faults are: `Window`, exactly where the window can't hold
-/// the image; and `LogTooLong`, where the text of the whole run's log in version 2 has more than 2^26 bytes, with their
-/// number, or 2^64 - 1 where they are more: the run goes on to its end, but no more records are kept. Else out of
-/// memory is `NoMemory`.
+/// The log fits the program, version 2 can hold it, and its text there has at most 2^26 bytes. The faults are:
+/// `Window`, exactly where the window can't hold the image; and `LogTooLong`, where the text of the whole run's log has
+/// more bytes than that, with their number, or 2^64 - 1 where they are more: the run goes on to its end, but no more
+/// records are kept. Else out of memory is `NoMemory`.
 pub fn capture<K: Clock>(
     alloc: Global,
     program: &[u8],
@@ -49,6 +49,7 @@ pub fn capture<K: Clock>(
     requires limit { steps ≤ 2 ^ 40 }
     ensures captured { IfOk result (IsCaptured (setting_of program.now pages inputs.now piece steps)
         (K.answers clock.old) (K.answers clock.new)) }
+    ensures small { IfOk result (λ log. length (log_text Two log) ≤ 2 ^ 26) }
     ensures held { IfOk result (CanHold Two) }
     ensures window { (result ≡ Err CaptureFault.Window) ↔ (start_of image.now pages ≡ None) }
     ensures cause { IfErr result (IsCause (setting_of program.now pages inputs.now piece steps) image.now

@@ -13,12 +13,12 @@ use no_memory::NoMemory;
 use replay_log::{HEADER_LENGTH, Log, end_length};
 use std::alloc::Global;
 
-/// How many bytes a log has at most.
+/// How many bytes a recorded log has at most.
 const LIMIT: u64 = 1 << 26;
 
-/// The records that a run has made so far, the number of its input channels, and the length of the log's text up to
-/// its end. Where the text is longer than a log may be, it is counted on, but no more records are kept. The count
-/// stands still at 2^64 - 1.
+/// The records that a run has made so far, the number of its input channels, and the length of the log's text without
+/// its end. Where the text is longer than a recorded log may be, it is counted on, but no more records are kept. The
+/// count stands still at 2^64 - 1.
 #[derive(Drop)]
 pub(crate) struct Tape {
     pub records: Vec<CallRecord>,

@@ -2,7 +2,7 @@ use Rattle.std.proofs.Common.{arith, ◌≡◌, ap, sym, ◌∙◌, Some}
 use Rattle.elf_model.specs.Window.{start_of}
 use Rattle.rv_machine.specs.Hart.{Hart}
 use Rattle.call_record.proofs.Windows.{start_window}
-use Rattle.call_record.proofs.Captured.{is_source, Begins, complete, ok_captured, ok_held, err_cause}
+use Rattle.call_record.proofs.Captured.{is_source, Begins, complete, ok_captured, ok_small, ok_held, err_cause}
 use Rattle.call_record.proofs.recording.capture.Given.{Over}
 use Rattle.call_record.proofs.recording.capture.Goals as goal
 use Rattle.call_record.proofs.recording.capture.Goals.{After-new-recorder, In-Ok-run}
@@ -48,6 +48,15 @@ returns-clause-captured g c =
     c.digest.result c.in-Ok-run.end c.run.new.self.tape (g.K.Clock.answers c.args.clock.now)
     (g.K.Clock.answers c.run.new.clock) c.into_log.result
     (begins g (goal.at.returns-clause-captured g c).After-new-recorder) c.digest.ensures c.in-Ok-run.ensures.ok
+    c.into_log.ensures.ok
+
+pub returns-clause-small : goal.returns-clause-small
+returns-clause-small g c =
+    ok_small c.args.program.now c.args.image.now c.args.pages
+    (record { inputs = c.args.inputs; piece = c.args.piece }) c.new-recorder.result.machine.state c.args.steps
+    c.digest.result c.in-Ok-run.end c.run.new.self.tape (g.K.Clock.answers c.args.clock.now)
+    (g.K.Clock.answers c.run.new.clock) c.into_log.result
+    (begins g (goal.at.returns-clause-small g c).After-new-recorder) c.digest.ensures c.in-Ok-run.ensures.ok
     c.into_log.ensures.ok
 
 pub returns-clause-held : goal.returns-clause-held
