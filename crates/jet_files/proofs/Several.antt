@@ -89,7 +89,7 @@ ask-push (k ∷ ks) [] q w h a = absurd h
 ask-push (k ∷ ks) (x ∷ xs) q w h a = (h.0, ask-push ks xs q w h.1 a)
 
 texts-length : (names : List (Bor (List ℕ))) (i : ℕ) → i < length names → 1 + length (texts (take i names)) ≡ i + 1
-texts-length names i inside = omega (arith, length-map (λ (name : Bor (List ℕ)). name.now) (take i names), length-take i names, inside)
+texts-length names i inside = omega (arith, length-map (take i names) (λ (name : Bor (List ℕ)). name.now), length-take i names, inside)
 
 -- the query of this number, by its place in the list
 numbered-there : (names : List (Bor (List ℕ))) (i : ℕ) (name : Text) (kept : Result Query Refusal) (file : Contents) → i < length names
