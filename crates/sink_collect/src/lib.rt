@@ -1,4 +1,5 @@
-//! What a taint replay collects: the source bytes of each output byte, and the report of them.
+//! What a taint replay collects: the source bytes of each output byte and of each point inside the run; the report of
+//! them, and the same turned round.
 #![tactic(auto)]
 
 mod report;

@@ -1,4 +1,4 @@
-//! A report: the sets of a replay in the order of their output bytes.
+//! A report: the sets of a replay in the order of their output bytes and points.
 
 ghost use Rattle.std.specs.Prelude.{◌≡◌, length, IfOk, OnOk};
 ghost use Rattle.sorted_set.specs.Sets.{set_of};
@@ -11,7 +11,8 @@ use no_memory::NoMemory;
 use std::alloc::Global;
 use std::marker::Model;
 
-/// The rows of a report, by channel and then offset.
+/// The rows of a report: those of output bytes, by channel and then offset, and then those of points, by time and
+/// then location.
 #[derive(Drop)]
 pub struct Report {
     rows: Vec<SinkSet>,
@@ -53,7 +54,7 @@ impl Report {
     }
 }
 
-/// The report of these sets: sorted by output byte. No output byte may stand twice. It fails only where
+/// The report of these sets: sorted by output byte or point, of which none may stand twice. It fails only where
 /// there is no memory.
 pub fn gather(alloc: Global, sets: Vec<SinkSet>) -> Result<Report, NoMemory>
     requires { AreDistinct sets.items }
@@ -64,7 +65,7 @@ pub fn gather(alloc: Global, sets: Vec<SinkSet>) -> Result<Report, NoMemory>
     Ok(Report { rows })
 }
 
-/// Sorts sets by their output bytes.
+/// Sorts sets by their output bytes and points.
 fn sort(alloc: Global, sets: &mut [SinkSet]) -> Result<(), NoMemory>
     requires { AreDistinct sets.old }
     ensures { OnOk result (sets.new ≡ set_of row_cmp sets.old) }

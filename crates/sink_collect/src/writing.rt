@@ -3,11 +3,11 @@
 ghost use Rattle.std.specs.Prelude.{◌≡◌, ◌++◌, ◌∷◌, [], codes, length, take, IfOk, OnOk};
 ghost use Rattle.std.specs.List.{flat_map};
 ghost use Rattle.std.specs.Fmt.{decimal};
-ghost use Rattle.report_model.specs.Text.{name_text, source_text, row_text, report_text};
+ghost use Rattle.report_model.specs.Text.{name_text, loc_text, point_text, source_text, row_text, report_text};
 
 use crate::report::Report;
 use crate::sets::SinkSet;
-use flow_model::SourceByte;
+use flow_model::{Loc, SinkPoint, SourceByte};
 use itoa::Buffer;
 use no_memory::NoMemory;
 use std::alloc::Global;
@@ -23,6 +23,42 @@ fn push_name(out: &mut Vec<u8>, channel: u8, offset: u32) -> Result<(), NoMemory
     Ok(())
 }
 
+/// Appends `r:R.i` of lane i of register R, `m:A` of address A.
+fn push_loc(out: &mut Vec<u8>, loc: Loc) -> Result<(), NoMemory>
+    ensures { OnOk result (out.new.items ≡ out.old.items ++ loc_text loc) }
+{
+    let mut buffer = Buffer::new();
+    match loc {
+        Loc::Reg { number, lane } => {
+            out.extend_from_slice(b"r:")?;
+            out.extend_from_slice(buffer.format(number).as_bytes())?;
+            out.push(b'.')?;
+            out.extend_from_slice(buffer.format(lane).as_bytes())?;
+        }
+        Loc::Mem { place } => {
+            out.extend_from_slice(b"m:")?;
+            out.extend_from_slice(buffer.format(place).as_bytes())?;
+        }
+    }
+    Ok(())
+}
+
+/// Appends `c:o` of an output byte; the location and `@T` of a point at time T.
+fn push_point(out: &mut Vec<u8>, point: SinkPoint) -> Result<(), NoMemory>
+    ensures { OnOk result (out.new.items ≡ out.old.items ++ point_text point) }
+{
+    match point {
+        SinkPoint::Out(byte) => push_name(out, byte.channel, byte.offset),
+        SinkPoint::At(inner) => {
+            let mut buffer = Buffer::new();
+            push_loc(out, inner.loc)?;
+            out.push(b'@')?;
+            out.extend_from_slice(buffer.format(inner.time).as_bytes())?;
+            Ok(())
+        }
+    }
+}
+
 /// Appends a blank and the name of each source byte.
 fn push_sources(out: &mut Vec<u8>, sources: &[SourceByte]) -> Result<(), NoMemory>
     ensures { OnOk result (out.new.items ≡ out.old.items ++ flat_map source_text sources.now) }
@@ -34,12 +70,11 @@ fn push_sources(out: &mut Vec<u8>, sources: &[SourceByte]) -> Result<(), NoMemor
     Ok(())
 }
 
-/// Appends the line of an output byte.
+/// Appends the line of an output byte or a point.
 fn push_row(out: &mut Vec<u8>, set: &SinkSet) -> Result<(), NoMemory>
     ensures { OnOk result (out.new.items ≡ out.old.items ++ row_text set.now) }
 {
-    let sink = set.sink();
-    push_name(out, sink.channel, sink.offset)?;
+    push_point(out, set.sink())?;
     push_sources(out, set.sources())?;
     out.push(b'\n')?;
     Ok(())
