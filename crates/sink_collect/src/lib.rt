@@ -2,10 +2,12 @@
 //! them, and the same turned round.
 #![tactic(auto)]
 
+mod influence;
 mod report;
 mod sets;
 mod writing;
 
+pub use influence::{Influence, SourceReach, turn_round};
 pub use report::{Report, gather};
 pub use sets::{SinkSet, SinkSets};
-pub use writing::text;
+pub use writing::{influence_text, text};

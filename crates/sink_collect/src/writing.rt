@@ -1,10 +1,12 @@
-//! The text of a report.
+//! The texts of a report and of an influence.
 
 ghost use Rattle.std.specs.Prelude.{◌≡◌, ◌++◌, ◌∷◌, [], codes, length, take, IfOk, OnOk};
 ghost use Rattle.std.specs.List.{flat_map};
 ghost use Rattle.std.specs.Fmt.{decimal};
 ghost use Rattle.report_model.specs.Text.{name_text, loc_text, point_text, source_text, row_text, report_text};
+ghost use Rattle.report_model.specs.Influence.{sink_text, reach_text, influence_text as text_of_influence};
 
+use crate::influence::{Influence, SourceReach};
 use crate::report::Report;
 use crate::sets::SinkSet;
 use flow_model::{Loc, SinkPoint, SourceByte};
@@ -89,6 +91,37 @@ fn push_rows(out: &mut Vec<u8>, rows: &[SinkSet]) -> Result<(), NoMemory>
     Ok(())
 }
 
+/// Appends a blank and the name of each output byte and point.
+fn push_sinks(out: &mut Vec<u8>, sinks: &[SinkPoint]) -> Result<(), NoMemory>
+    ensures { OnOk result (out.new.items ≡ out.old.items ++ flat_map sink_text sinks.now) }
+{
+    for sink in sinks {
+        out.push(b' ')?;
+        push_point(out, *sink)?;
+    }
+    Ok(())
+}
+
+/// Appends the line of a source byte.
+fn push_reach(out: &mut Vec<u8>, reach: &SourceReach) -> Result<(), NoMemory>
+    ensures { OnOk result (out.new.items ≡ out.old.items ++ reach_text reach.now) }
+{
+    let source = reach.source();
+    push_name(out, source.channel, source.offset)?;
+    push_sinks(out, reach.sinks())?;
+    out.push(b'\n')?;
+    Ok(())
+}
+
+fn push_reaches(out: &mut Vec<u8>, reaches: &[SourceReach]) -> Result<(), NoMemory>
+    ensures { OnOk result (out.new.items ≡ out.old.items ++ flat_map reach_text reaches.now) }
+{
+    for reach in reaches {
+        push_reach(out, reach)?;
+    }
+    Ok(())
+}
+
 /// Appends `end N`.
 fn push_end(out: &mut Vec<u8>, lines: u64) -> Result<(), NoMemory>
     ensures { OnOk result (out.new.items ≡ out.old.items ++ codes "end " ++ decimal lines ++ 0x0a ∷ []) }
@@ -107,5 +140,15 @@ pub fn text(alloc: Global, report: &Report) -> Result<Vec<u8>, NoMemory>
     let mut out = Vec::new(alloc);
     push_rows(&mut out, report.rows())?;
     push_end(&mut out, report.lines())?;
+    Ok(out)
+}
+
+/// The text of an influence: a line for each source byte, and then `end N`. It fails only where there is no memory.
+pub fn influence_text(alloc: Global, influence: &Influence) -> Result<Vec<u8>, NoMemory>
+    ensures { IfOk result (λ text. text.items ≡ text_of_influence influence.now) }
+{
+    let mut out = Vec::new(alloc);
+    push_reaches(&mut out, influence.reaches())?;
+    push_end(&mut out, influence.lines())?;
     Ok(out)
 }
