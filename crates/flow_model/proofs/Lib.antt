@@ -4,4 +4,5 @@ mod Origins
 mod FlowOrder
 pub mod OriginsRead
 mod Members
+pub mod Narrowed
 pub mod Located

@@ -1,4 +1,6 @@
 pub mod RowLemmas
+pub mod PointRows
+pub mod Own
 mod Each
 mod Examples
 mod Members

@@ -6,3 +6,4 @@ pub mod RowLaws
 pub mod Influence
 pub mod InfluenceLaws
 pub mod Together
+pub mod TogetherLaws

@@ -1,7 +1,8 @@
 //! Laws of the definitions: each is the contract of a function that does nothing.
 
-ghost use Rattle.report_model.specs.RowLaws.{AlikeHaveSameRows, RowsAscend, RowsWereWritten, NoRowIsMissing};
+ghost use Rattle.report_model.specs.RowLaws.{AlikeHaveSameRows, RowsAscend, RowsWereWritten, NoRowIsMissing, PointsHaveRows};
 ghost use Rattle.report_model.specs.InfluenceLaws.{InfluenceTurnsRows};
+ghost use Rattle.report_model.specs.TogetherLaws.{PointsAscend, OnlyIsOwn, TogetherCovers, TogetherAscends, EachIsOwn};
 
 /// Queries that have one rule and the same points, and choose the same bytes, have the same rows, over each trace.
 pub fn alike_have_same_rows()
@@ -23,8 +24,36 @@ pub fn no_row_is_missing()
     ensures { NoRowIsMissing }
 {}
 
+/// The points that have a row are those of the query up to the end of the run, and a point's row has the source bytes that
+/// its location came from, after as many steps as its time says.
+pub fn points_have_rows()
+    ensures { PointsHaveRows }
+{}
+
 /// A source byte, and an output byte or a point, stand together in the influence exactly where they do in the rows: none
 /// is lost, since each source byte of a row was received, and the query chooses it.
 pub fn influence_turns_rows()
     ensures { InfluenceTurnsRows }
+{}
+
+/// The points of a query that a text stands for ascend.
+pub fn points_ascend()
+    ensures { PointsAscend }
+{}
+
+/// Where a query covers another, the other's rows are what of its rows is of that one's own: the rows of the output bytes
+/// and points that it chooses, each with those of its source bytes that it chooses.
+pub fn only_is_own()
+    ensures { OnlyIsOwn }
+{}
+
+/// Queries of one rule, taken together, cover each of them, and the points of all ascend.
+pub fn together_covers()
+    ensures covers { TogetherCovers }
+    ensures points { TogetherAscends }
+{}
+
+/// So the rows of each of several queries of one rule are its own of the rows of them all together.
+pub fn each_is_own()
+    ensures { EachIsOwn }
 {}
