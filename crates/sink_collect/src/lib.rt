@@ -2,6 +2,7 @@
 //! them, and the same turned round.
 #![tactic(auto)]
 
+mod choosing;
 mod influence;
 mod report;
 mod sets;

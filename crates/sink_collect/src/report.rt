@@ -3,11 +3,14 @@
 ghost use Rattle.std.specs.Prelude.{◌≡◌, length, IfOk, OnOk};
 ghost use Rattle.sorted_set.specs.Sets.{set_of};
 ghost use Rattle.report_model.specs.Rows.{row_cmp};
+ghost use Rattle.report_model.specs.Together.{only};
 ghost use Rattle.sink_collect.specs.Distinct.{AreDistinct};
 ghost use Rattle.sink_collect.specs.Pairs.{pairs, capped};
 
+use crate::choosing::{chosen_part, is_chosen};
 use crate::sets::SinkSet;
 use no_memory::NoMemory;
+use query_lang::Query;
 use std::alloc::Global;
 use std::marker::Model;
 
@@ -51,6 +54,20 @@ impl Report {
             count = count.saturating_add(row.sources().len() as u64);
         }
         count
+    }
+
+    /// The rows of what a query chooses, each with those of its source bytes that the query chooses. It fails only
+    /// where there is no memory.
+    pub fn only(&self, alloc: Global, query: &Query) -> Result<Report, NoMemory>
+        ensures { IfOk result (λ report. report ≡ only query.now self.now) }
+    {
+        let mut rows = Vec::new(alloc);
+        for row in self.rows.as_slice() {
+            if is_chosen(query, row.sink()) {
+                rows.push(chosen_part(alloc, query, row)?)?;
+            }
+        }
+        Ok(Report { rows })
     }
 }
 
