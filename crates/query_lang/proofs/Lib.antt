@@ -4,3 +4,5 @@ mod NumberLemmas
 mod ParseLemmas
 mod ChoiceLemmas
 mod SpanLemmas
+mod PointLemmas
+mod GatherLemmas

@@ -4,10 +4,13 @@ use Rattle.std.specs.Prelude.{Option, Some, None, Err, map, is_some, ◌||◌, �
 use Rattle.std.specs.List.{flat_map}
 use Rattle.std.proofs.lemmas.List.{append_assoc, append-nil}
 use Rattle.std.proofs.lemmas.List.Folds.{list_any-append}
+use Rattle.sorted_set.specs.Sets.{set_of}
+use Rattle.flow_model.specs.declared.InnerSink.{InnerSink}
+use Rattle.flow_model.specs.Orders.{inner_cmp}
 use Rattle.report_model.specs.declared.QueryKind.{QueryKind}
 use Rattle.report_model.specs.declared.QueryKind.TheVariants.{NoRule}
 use Rattle.report_model.specs.Query.{Choice, Query, chooses, is_channel, is_within}
-use Rattle.report_model.specs.Grammar.{lines, read_line, read_lines, first_fault, or_later, rule_in, sources_in, sinks_in, rule_among, query, unless, query_of}
+use Rattle.report_model.specs.Grammar.{lines, read_line, read_lines, first_fault, or_later, rule_in, sources_in, sinks_in, points_in, rule_among, query, unless, query_of}
 use Rattle.query_lang.specs.declared.draft.Draft.{Draft}
 use Rattle.query_lang.specs.declared.fault.QueryFault.{QueryFault}
 use Rattle.query_lang.specs.declared.fault.QueryFault.TheVariants.{At, NoMemory}
@@ -39,13 +42,15 @@ pub record IsPartOf (text : List ℕ) (number : ℕ) (draft : Draft) (left : Lis
   pub rule : rule_with draft.rule (map read_line left) ≡ rule_among (read_lines text)
   pub sources : SameChoices (choices_in draft.sources ++ flat_map sources_in (map read_line left)) (flat_map sources_in (read_lines text))
   pub sinks : SameChoices (choices_in draft.sinks ++ flat_map sinks_in (map read_line left)) (flat_map sinks_in (read_lines text))
+  pub points : draft.points.items ++ flat_map points_in (map read_line left) ≡ flat_map points_in (read_lines text)
 
-pub nothing_read : (text : List ℕ) (draft : Draft) → draft.rule ≡ None → choices_in draft.sources ≡ [] → choices_in draft.sinks ≡ [] → IsPartOf text 0 draft (lines text)
-nothing_read text draft r a b = record {
+pub nothing_read : (text : List ℕ) (draft : Draft) → draft.rule ≡ None → choices_in draft.sources ≡ [] → choices_in draft.sinks ≡ [] → draft.points.items ≡ [] → IsPartOf text 0 draft (lines text)
+nothing_read text draft r a b n = record {
   fault = rw r refl;
   rule = rw r refl;
   sources = λ c o. rw a refl;
   sinks = λ c o. rw b refl;
+  points = rw n refl;
 }
 
 -- what was chosen by a line, and by the lines after it
@@ -59,6 +64,7 @@ one_more_line text number old new line rest p t = record {
   rule = sym (t.rule (map read_line rest)) ∙ p.rule;
   sources = chosen_more _ _ _ _ _ t.sources p.sources;
   sinks = chosen_more _ _ _ _ _ t.sinks p.sinks;
+  points = ap (λ (xs : List InnerSink). xs ++ flat_map points_in (map read_line rest)) t.points ∙ append_assoc old.points.items (points_in (read_line line)) (flat_map points_in (map read_line rest)) ∙ p.points;
 }
 
 told_of : (text : List ℕ) (n : ℕ) (kind : QueryKind) → first_fault 1 false (read_lines text) ≡ Some (n, kind) → query text ≡ Err (n, kind)
@@ -87,8 +93,9 @@ all_read text number draft q p f =
       stands = ap (λ (g : Option (ℕ × QueryKind)). unless g (query_of (read_lines text))) (sym p.fault ∙ end);
       alike = record {
         rule = sym rule ∙ p.rule;
-        sources = λ c o. f.sources c o ∙ ap (λ (xs : List Choice). chooses xs c o) (sym (append-nil (choices_in draft.sources))) ∙ p.sources c o;
-        sinks = λ c o. f.sinks c o ∙ ap (λ (xs : List Choice). chooses xs c o) (sym (append-nil (choices_in draft.sinks))) ∙ p.sinks c o;
+        sources = λ c o. f.alike.sources c o ∙ ap (λ (xs : List Choice). chooses xs c o) (sym (append-nil (choices_in draft.sources))) ∙ p.sources c o;
+        sinks = λ c o. f.alike.sinks c o ∙ ap (λ (xs : List Choice). chooses xs c o) (sym (append-nil (choices_in draft.sinks))) ∙ p.sinks c o;
+        points = f.alike.points ∙ ap (set_of inner_cmp) (sym (append-nil draft.points.items) ∙ p.points);
       };
     }
 

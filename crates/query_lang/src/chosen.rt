@@ -123,6 +123,16 @@ impl Chosen {
         Ok(Chosen { all, spans })
     }
 
+    /// Adds the bytes to those of a selection.
+    pub fn add_to(&self, selection: &mut Selection) -> Result<(), AllocError>
+        ensures { OnOk result (SameChoices
+            (choices_of selection.new.all selection.new.spans.items)
+            (choices_of selection.old.all selection.old.spans.items ++ self.now)) }
+    {
+        selection.all = selection.all || self.all;
+        selection.spans.extend_from_slice(&self.spans)
+    }
+
     /// Whether the byte is chosen.
     pub fn has(&self, channel: u8, offset: u32) -> bool
         ensures { result ≡ chooses self.now channel offset }

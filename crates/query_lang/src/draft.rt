@@ -7,7 +7,7 @@ ghost use Rattle.query_lang.specs.Drafts.{choices_in, TakesUp, IsFaultIn};
 use crate::chosen::Selection;
 use crate::fault::QueryFault;
 use crate::statement::{Statement, statement_of};
-use flow_model::Rule;
+use flow_model::{InnerSink, Rule};
 use report_model::QueryKind;
 use std::alloc::Global;
 
@@ -17,6 +17,7 @@ pub struct Draft {
     pub rule: Option<Rule>,
     pub sources: Selection,
     pub sinks: Selection,
+    pub points: Vec<InnerSink>,
 }
 
 impl Draft {
@@ -25,11 +26,13 @@ impl Draft {
         ensures rule { result.rule ≡ None }
         ensures sources { choices_in result.sources ≡ [] }
         ensures sinks { choices_in result.sinks ≡ [] }
+        ensures points { result.points.items ≡ [] }
     {
         Draft {
             rule: None,
             sources: Selection::new(alloc),
             sinks: Selection::new(alloc),
+            points: Vec::new(alloc),
         }
     }
 
@@ -55,6 +58,9 @@ impl Draft {
             Some(Statement::Sink(choice)) => {
                 self.sinks.add(choice).map_err(|_| QueryFault::NoMemory)
             }
+            Some(Statement::Points(points)) => points
+                .add_to(&mut self.points)
+                .map_err(|_| QueryFault::NoMemory),
         }
     }
 }

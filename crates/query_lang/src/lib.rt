@@ -1,8 +1,8 @@
-//! The query language: which source bytes taint, which sink bytes are reported, and the rule by which
-//! taint propagates.
+//! The query language: which source bytes taint, which sink bytes and points inside the run are reported,
+//! and the rule by which taint propagates.
 //!
 //! `parse` gives the query that a text stands for, or the number of the first faulty line and the first
-//! of its faults. What a text stands for is defined in report_model.
+//! of its faults. What a text stands for is defined in report_model. `together` makes several queries one.
 #![tactic(auto)]
 
 mod choice;
@@ -12,7 +12,9 @@ mod fault;
 mod lines;
 mod number;
 mod parser;
+mod points;
 mod query;
+mod several;
 mod statement;
 mod words;
 
@@ -20,3 +22,4 @@ pub use fault::QueryFault;
 pub use parser::parse;
 pub use query::Query;
 pub use report_model::QueryKind;
+pub use several::{TogetherFault, together};

@@ -4,7 +4,6 @@ ghost use Rattle.std.specs.Prelude.{◌≡◌, ◌≤◌, ◌^◌, length, IfOk,
 ghost use Rattle.query_lang.specs.Answers.{StandsFor, IsTold};
 ghost use Rattle.query_lang.specs.Drafts.{IsFinished, IsUnfinished};
 
-use crate::chosen::Chosen;
 use crate::draft::Draft;
 use crate::fault::QueryFault;
 use crate::lines::split_line;
@@ -21,14 +20,13 @@ fn finish(alloc: Global, draft: Draft) -> Result<Query, QueryFault>
         rule,
         sources,
         sinks,
+        points,
     } = draft;
     let rule = rule.ok_or(QueryFault::At {
         line: 0,
         kind: QueryKind::NoRule,
     })?;
-    let sources = Chosen::of(alloc, sources).map_err(|_| QueryFault::NoMemory)?;
-    let sinks = Chosen::of(alloc, sinks).map_err(|_| QueryFault::NoMemory)?;
-    Ok(Query::new(rule, sources, sinks))
+    Query::of(alloc, rule, sources, sinks, points).map_err(|_| QueryFault::NoMemory)
 }
 
 /// The query that a text of at most 2^26 bytes stands for.

@@ -1,39 +1,74 @@
 //! Queries.
 
-ghost use Rattle.std.specs.Prelude.{◌≡◌};
-ghost use Rattle.report_model.specs.Query.{has_source, has_sink};
+ghost use Rattle.std.specs.Prelude.{◌≡◌, ◌++◌, IfOk, OnOk};
+ghost use Rattle.sorted_set.specs.Sets.{Ascends};
+ghost use Rattle.flow_model.specs.Orders.{inner_cmp};
+ghost use Rattle.flow_model.specs.declared.SinkPoint.TheVariants.{Out};
+ghost use Rattle.report_model.specs.Query.{Alike, has_source, has_sink};
+ghost use Rattle.query_lang.specs.Choices.{SameChoices};
+ghost use Rattle.query_lang.specs.Drafts.{choices_in, query_by};
 
-use crate::chosen::Chosen;
-use flow_model::{Rule, SinkByte, SourceByte};
+use crate::chosen::{Chosen, Selection};
+use crate::points::each_once;
+use flow_model::{InnerSink, Rule, SinkByte, SourceByte};
+use std::alloc::{AllocError, Global};
 use std::marker::Model;
 
 /// A query: which of the bytes that a run reads taint, by which rule taint propagates, and which of the
-/// bytes that it writes the report lists.
+/// bytes that it writes and of the points inside it the report lists.
 #[derive(Drop)]
 pub struct Query {
     rule: Rule,
     sources: Chosen,
     sinks: Chosen,
+    points: Vec<InnerSink>,
 }
 
 impl Model for Query {
+    ghost use Rattle.sorted_set.specs.Sets.{Ascends};
+    ghost use Rattle.flow_model.specs.Orders.{inner_cmp};
     ghost use Rattle.report_model.specs.Query.{Query as Meaning};
 
     ghost Value = { Meaning };
 
-    ghost view = { λ q. record { rule = q.rule; sources = q.sources; sinks = q.sinks } };
+    ghost view = { λ q. record { rule = q.rule; sources = q.sources; sinks = q.sinks; points = q.points.items } };
+
+    ghost invariant = { λ q. Ascends inner_cmp q.points.items };
 }
 
 impl Query {
-    /// A query of these parts.
-    pub(crate) fn new(rule: Rule, sources: Chosen, sinks: Chosen) -> Self
-        ensures { result ≡ record { rule = rule; sources = sources; sinks = sinks } }
+    /// The query by this rule of what these choose, of the points each once.
+    pub(crate) fn of(
+        alloc: Global,
+        rule: Rule,
+        sources: Selection,
+        sinks: Selection,
+        points: Vec<InnerSink>,
+    ) -> Result<Query, AllocError>
+        ensures { IfOk result (λ q. Alike q (query_by rule sources sinks points.items)) }
     {
-        Query {
+        Ok(Query {
             rule,
-            sources,
-            sinks,
-        }
+            sources: Chosen::of(alloc, sources)?,
+            sinks: Chosen::of(alloc, sinks)?,
+            points: each_once(points),
+        })
+    }
+
+    /// Adds what the query chooses to what is chosen so far.
+    pub(crate) fn add_to(
+        &self,
+        sources: &mut Selection,
+        sinks: &mut Selection,
+        points: &mut Vec<InnerSink>,
+    ) -> Result<(), AllocError>
+        ensures sources { OnOk result (SameChoices (choices_in sources.new) (choices_in sources.old ++ self.now.sources)) }
+        ensures sinks { OnOk result (SameChoices (choices_in sinks.new) (choices_in sinks.old ++ self.now.sinks)) }
+        ensures points { OnOk result (points.new.items ≡ points.old.items ++ self.now.points) }
+    {
+        self.sources.add_to(sources)?;
+        self.sinks.add_to(sinks)?;
+        points.extend_from_slice(&self.points)
     }
 
     /// The rule by which taint propagates.
@@ -52,8 +87,16 @@ impl Query {
 
     /// Whether the query chooses a byte that a run writes.
     pub fn sink_has(&self, byte: SinkByte) -> bool
-        ensures { result ≡ has_sink self.now byte }
+        ensures { result ≡ has_sink self.now (Out byte) }
     {
         self.sinks.has(byte.channel, byte.offset)
+    }
+
+    /// The points inside the run that the query chooses, by time and then location, each once.
+    pub fn points(&self) -> &[InnerSink]
+        ensures value { result.now ≡ self.now.points }
+        ensures ascending { Ascends inner_cmp self.now.points }
+    {
+        &self.points
     }
 }

@@ -1,17 +1,22 @@
 //! What a line says.
 
-ghost use Rattle.std.specs.Prelude.{◌≡◌, ◌<◌, ◌∷◌, Err, MatchOption, MatchResult, option_map};
+ghost use Rattle.std.specs.Prelude.{◌≡◌, ◌<◌, ◌∷◌, codes, Err, MatchOption, MatchResult, option_map};
 ghost use Rattle.report_model.specs.Grammar.{words, says, read_line};
 ghost use Rattle.report_model.specs.Grammar.{rule_named as rule_by_name, rule_of as rule_by_words, channel_of as channel_by_word, range_of as range_by_words, choice_of as choice_by_words, statement_of as statement_by_words};
+ghost use Rattle.report_model.specs.Grammar.{memory_at as memory_by_words, memory_of as memory_points, register_at as register_by_words, register_of as register_points, sink_of as sink_by_words};
 ghost use Rattle.report_model.specs.declared.QueryKind.TheVariants.{Channel, Count};
 ghost use Rattle.query_lang.specs.Choices.{choice_shown, span_choice, map_ok};
-ghost use Rattle.query_lang.specs.Statements.{statement_shown, AreOperands};
+ghost use Rattle.query_lang.specs.Statements.{statement_shown, points_shown, after_at, AreOperands};
 
 use crate::choice::{Choice, Offsets, Span};
-use crate::number::number_of;
+use crate::number::{number_of, time_of};
+use crate::points::Points;
 use crate::words::{Words, has_bad_byte, is_comment};
 use flow_model::Rule;
 use report_model::QueryKind;
+
+/// The most bytes of memory that one line chooses.
+const LARGEST_SIZE: u32 = 65_536;
 
 /// What a line says that is neither empty nor a comment.
 #[derive(Clone, Copy)]
@@ -19,6 +24,7 @@ pub enum Statement {
     RuleIs(Rule),
     Source(Choice),
     Sink(Choice),
+    Points(Points),
 }
 
 /// The words after `source` or `sink`.
@@ -148,6 +154,97 @@ fn choice_of(operands: Words<'_>) -> Result<Choice, QueryKind>
     }
 }
 
+/// The word after `at`, where no other word follows.
+fn word_after_at(mut operands: Words<'_>) -> Result<&[u8], QueryKind>
+    ensures { map_ok (λ word. word.now) result ≡ after_at (words operands.entry.rest.now) }
+{
+    let Some(at) = operands.next() else {
+        return Err(QueryKind::Count);
+    };
+    if at != b"at".as_slice() {
+        return Err(QueryKind::Word);
+    }
+    let Some(time) = operands.next() else {
+        return Err(QueryKind::Count);
+    };
+    match operands.next() {
+        None => Ok(time),
+        Some(_) => Err(QueryKind::Count),
+    }
+}
+
+/// So many bytes of memory from an address on, at a time.
+fn memory_at(place: &[u8], size: &[u8], time: &[u8]) -> Result<Points, QueryKind>
+    ensures { map_ok points_shown result ≡ memory_by_words place.now size.now (codes "at") time.now }
+{
+    let place = number_of(place).ok_or(QueryKind::Number)?;
+    let size = number_of(size).ok_or(QueryKind::Number)?;
+    let time = time_of(time).ok_or(QueryKind::Number)?;
+    if size < 1 || size > LARGEST_SIZE {
+        return Err(QueryKind::Range);
+    }
+    let last = place.checked_add(size - 1).ok_or(QueryKind::Range)?;
+    Ok(Points::Memory {
+        first: place,
+        last,
+        time,
+    })
+}
+
+/// The bytes of memory that the words after `sink mem` choose.
+fn memory_of(mut operands: Words<'_>) -> Result<Points, QueryKind>
+    ensures { map_ok points_shown result ≡ memory_points (words operands.entry.rest.now) }
+{
+    let Some(place) = operands.next() else {
+        return Err(QueryKind::Count);
+    };
+    let Some(size) = operands.next() else {
+        return Err(QueryKind::Count);
+    };
+    memory_at(place, size, word_after_at(operands)?)
+}
+
+/// A register at a time.
+fn register_at(number: &[u8], time: &[u8]) -> Result<Points, QueryKind>
+    ensures { map_ok points_shown result ≡ register_by_words number.now (codes "at") time.now }
+{
+    let number = number_of(number).ok_or(QueryKind::Number)?;
+    let time = time_of(time).ok_or(QueryKind::Number)?;
+    match u8::try_from(number) {
+        Ok(number) if 1 <= number && number <= 31 => Ok(Points::Register { number, time }),
+        _ => Err(QueryKind::Range),
+    }
+}
+
+/// The lanes of a register that the words after `sink reg` choose.
+fn register_of(mut operands: Words<'_>) -> Result<Points, QueryKind>
+    ensures { map_ok points_shown result ≡ register_points (words operands.entry.rest.now) }
+{
+    let Some(number) = operands.next() else {
+        return Err(QueryKind::Count);
+    };
+    register_at(number, word_after_at(operands)?)
+}
+
+/// What the words after `sink` say.
+fn sink_of(operands: Words<'_>) -> Result<Statement, QueryKind>
+    ensures { says statement_shown result ≡ sink_by_words (words operands.entry.rest.now) }
+{
+    let mut after = Words {
+        rest: operands.rest,
+    };
+    let Some(first) = after.next() else {
+        return Err(QueryKind::Count);
+    };
+    if first == b"mem".as_slice() {
+        return Ok(Statement::Points(memory_of(after)?));
+    }
+    if first == b"reg".as_slice() {
+        return Ok(Statement::Points(register_of(after)?));
+    }
+    Ok(Statement::Sink(choice_of(operands)?))
+}
+
 /// What a line says that begins with the keyword.
 fn statement_by(keyword: &[u8], operands: Words<'_>) -> Result<Statement, QueryKind>
     ensures { says statement_shown result ≡ statement_by_words (keyword.now ∷ words operands.entry.rest.now) }
@@ -159,7 +256,7 @@ fn statement_by(keyword: &[u8], operands: Words<'_>) -> Result<Statement, QueryK
         return Ok(Statement::Source(choice_of(operands)?));
     }
     if keyword == b"sink".as_slice() {
-        return Ok(Statement::Sink(choice_of(operands)?));
+        return sink_of(operands);
     }
     Err(QueryKind::Word)
 }
