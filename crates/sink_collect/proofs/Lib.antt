@@ -1,1 +1,3 @@
 mod Arranging
+mod Search
+mod Reaching

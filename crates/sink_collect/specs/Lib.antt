@@ -1,2 +1,4 @@
 pub mod Distinct
 pub mod Pairs
+pub mod Reaching
+pub mod Own

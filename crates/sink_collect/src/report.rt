@@ -1,17 +1,21 @@
-//! A report: the sets of a replay in the order of their output bytes.
+//! A report: the sets of a replay in the order of their output bytes and points.
 
 ghost use Rattle.std.specs.Prelude.{◌≡◌, length, IfOk, OnOk};
 ghost use Rattle.sorted_set.specs.Sets.{set_of};
 ghost use Rattle.report_model.specs.Rows.{row_cmp};
+ghost use Rattle.report_model.specs.Together.{only};
 ghost use Rattle.sink_collect.specs.Distinct.{AreDistinct};
 ghost use Rattle.sink_collect.specs.Pairs.{pairs, capped};
 
+use crate::choosing::{chosen_part, is_chosen};
 use crate::sets::SinkSet;
 use no_memory::NoMemory;
+use query_lang::Query;
 use std::alloc::Global;
 use std::marker::Model;
 
-/// The rows of a report, by channel and then offset.
+/// The rows of a report: those of output bytes, by channel and then offset, and then those of points, by time and
+/// then location.
 #[derive(Drop)]
 pub struct Report {
     rows: Vec<SinkSet>,
@@ -51,9 +55,23 @@ impl Report {
         }
         count
     }
+
+    /// The rows of what a query chooses, each with those of its source bytes that the query chooses. It fails only
+    /// where there is no memory.
+    pub fn only(&self, alloc: Global, query: &Query) -> Result<Report, NoMemory>
+        ensures { IfOk result (λ report. report ≡ only query.now self.now) }
+    {
+        let mut rows = Vec::new(alloc);
+        for row in self.rows.as_slice() {
+            if is_chosen(query, row.sink()) {
+                rows.push(chosen_part(alloc, query, row)?)?;
+            }
+        }
+        Ok(Report { rows })
+    }
 }
 
-/// The report of these sets: sorted by output byte. No output byte may stand twice. It fails only where
+/// The report of these sets: sorted by output byte or point, of which none may stand twice. It fails only where
 /// there is no memory.
 pub fn gather(alloc: Global, sets: Vec<SinkSet>) -> Result<Report, NoMemory>
     requires { AreDistinct sets.items }
@@ -64,7 +82,7 @@ pub fn gather(alloc: Global, sets: Vec<SinkSet>) -> Result<Report, NoMemory>
     Ok(Report { rows })
 }
 
-/// Sorts sets by their output bytes.
+/// Sorts sets by their output bytes and points.
 fn sort(alloc: Global, sets: &mut [SinkSet]) -> Result<(), NoMemory>
     requires { AreDistinct sets.old }
     ensures { OnOk result (sets.new ≡ set_of row_cmp sets.old) }

@@ -1,16 +1,16 @@
-//! The source bytes of one output byte, and lists of those.
+//! The source bytes of one output byte or point inside a run, and lists of those.
 
 ghost use Rattle.std.specs.Prelude.{◌≡◌};
 ghost use Rattle.sorted_set.specs.Sets.{Ascends};
 ghost use Rattle.flow_model.specs.Orders.{source_cmp};
 
-use flow_model::{SinkByte, SourceByte};
+use flow_model::{SinkPoint, SourceByte};
 use std::marker::Model;
 
-/// An output byte with its source bytes, which ascend by channel and then offset, each once.
+/// An output byte or a point with its source bytes, which ascend by channel and then offset, each once.
 #[derive(Drop)]
 pub struct SinkSet {
-    sink: SinkByte,
+    sink: SinkPoint,
     sources: Vec<SourceByte>,
 }
 
@@ -27,16 +27,16 @@ impl Model for SinkSet {
 }
 
 impl SinkSet {
-    /// The set of an output byte. It takes no memory.
-    pub fn new(sink: SinkByte, sources: Vec<SourceByte>) -> SinkSet
+    /// The set of an output byte or a point. It takes no memory.
+    pub fn new(sink: SinkPoint, sources: Vec<SourceByte>) -> SinkSet
         requires { Ascends source_cmp sources.items }
         ensures { result ≡ record { sink = sink; sources = sources.items } }
     {
         SinkSet { sink, sources }
     }
 
-    /// The output byte.
-    pub fn sink(&self) -> SinkByte
+    /// The output byte or the point.
+    pub fn sink(&self) -> SinkPoint
         ensures { result ≡ self.now.sink }
     {
         self.sink
@@ -51,7 +51,7 @@ impl SinkSet {
     }
 }
 
-/// Sets of output bytes, seen as their list.
+/// Sets of output bytes and points, seen as their list.
 #[derive(Drop)]
 pub struct SinkSets {
     sets: Vec<SinkSet>,
