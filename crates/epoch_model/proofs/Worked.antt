@@ -1,8 +1,8 @@
--- A run of four steps, cut in the middle and at each step: it reads two bytes, loads the first, stores it elsewhere, and
+-- A run of four steps, cut in the middle and at each step: it reads two bytes, loads the first, stores it elsewhere and
 -- writes it. Besides the query has a point at the start, one at the cut in the middle, and one past the end.
 use Rattle.std.proofs.Common.{◌≡◌, List, [], ◌∷◌, refl, true, pos}
-use Rattle.std.specs.Prelude.{Some, None}
-use Rattle.isa.specs.declared.Instr.TheVariants.{Lb, Sb, Ecall}
+use Rattle.std.specs.Prelude.{ℕ, Some, None}
+use Rattle.isa.specs.declared.Instr.TheVariants.{Lb, Sb, Addi, Ecall}
 use Rattle.isa.specs.declared.CallKind.TheVariants as kind
 use Rattle.flow_model.specs.declared.Loc.TheVariants.{Reg, Mem}
 use Rattle.flow_model.specs.declared.Rule.TheVariants.{Copy}
@@ -97,6 +97,35 @@ in_one = refl
 
 no_step : joined [] [] (summaries_of asking [] 0 (0 ∷ [])) ≡ record { sink = At (record { time = 0; loc = Mem 0x100 }); sources = [] } ∷ []
 no_step = refl
+
+-- ---- four bytes are copied: read in step 5, written in step 8. The other steps move nothing
+
+abbrev idle : ℕ → StepSeen
+idle number = record { number = number; instr = Addi 5 0 (pos 1); place = 0; call = None }
+
+abbrev copy : List StepSeen
+copy =
+    idle 0 ∷ idle 1 ∷ idle 2 ∷ idle 3 ∷ idle 4
+    ∷ record { number = 5; instr = Ecall; place = 0; call = Some (record { kind = kind.Read; channel = 0; place = 0x1000; offset = 0; length = 4 }) }
+    ∷ idle 6 ∷ idle 7
+    ∷ record { number = 8; instr = Ecall; place = 0; call = Some (record { kind = kind.Write; channel = 1; place = 0x1000; offset = 0; length = 4 }) }
+    ∷ []
+
+abbrev every_output : Query
+every_output = record { rule = Copy; sources = asking.sources; sinks = asking.sinks; points = [] }
+
+abbrev copied : ℕ → Row
+copied i = record { sink = Out (record { channel = 1; offset = i }); sources = record { channel = 0; offset = i } ∷ [] }
+
+-- after the read the four bytes of memory are asked, before it nothing is
+asked_after_the_read : crossing_at every_output copy 6 (9 ∷ []) ≡ Mem 0x1000 ∷ Mem 0x1001 ∷ Mem 0x1002 ∷ Mem 0x1003 ∷ []
+asked_after_the_read = refl
+
+asked_before_the_read : crossing_at every_output copy 5 (9 ∷ []) ≡ []
+asked_before_the_read = refl
+
+copied_bytes : joined [] [] (summaries_of every_output copy 0 (6 ∷ 9 ∷ [])) ≡ copied 0 ∷ copied 1 ∷ copied 2 ∷ copied 3 ∷ []
+copied_bytes = refl
 
 -- ---- of equals the first is asked
 

@@ -54,7 +54,8 @@ crossing_at q trace s cuts = crossing (summaries_of q trace s cuts)
 -- the union of the locations at time s that flow into these sinks
 abbrev pub needed_by : Policy → List StepSeen → ℕ → List Sink → List Loc
 needed_by policy trace s [] = []
-needed_by policy trace s (k ∷ ks) = union loc_cmp (past policy.rule trace s (k.time - s) k.loc) (needed_by policy trace s ks)
+needed_by policy trace s (k ∷ ks) =
+    union loc_cmp (past policy.rule trace s (k.time - s) k.loc) (needed_by policy trace s ks)
 
 -- the locations at time s that flow into chosen output bytes of the n steps from there on, or into points above s up to
 -- their end

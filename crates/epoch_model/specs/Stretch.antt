@@ -47,7 +47,7 @@ abbrev pub sinks_at_step : Query → ℕ → Option StepSeen → List Sink
 sinks_at_step q t None = []
 sinks_at_step q t (Some step) = filter (λ k. has_sink q k.name) (sinks_of_step t step.call) ++ points_at q (t + 1)
 
--- the chosen output bytes of the n steps from time s on, and the points above s up to their end, in the order of the run
+-- the chosen output bytes of the n steps from time s on, and the points above s up to their end, in the run's order
 abbrev pub sinks_between : Query → List StepSeen → ℕ → ℕ → List Sink
 sinks_between q trace s zero = []
 sinks_between q trace s (suc n) = sinks_between q trace s n ++ sinks_at_step q (s + n) (step_at trace (s + n))

@@ -34,4 +34,5 @@ StretchesAreTheirSteps = (policy : Policy) (trace : List StepSeen) (s : ℕ) (ot
 abbrev pub PiecesCompose : Type 0
 PiecesCompose = (policy : Policy) (xs ys : List StepSeen) (n : ℕ) (l : Loc)
     → origins policy (xs ++ ys) (length xs + n) l
-    ≡ union source_cmp (born policy ys 0 n l) (union_over (origins policy xs (length xs)) (past policy.rule ys 0 n l))
+    ≡ union source_cmp (born policy ys 0 n l)
+    (union_over (origins policy xs (length xs)) (past policy.rule ys 0 n l))
