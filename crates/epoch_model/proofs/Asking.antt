@@ -17,7 +17,7 @@ use Rattle.epoch_model.specs.Stretch.{past, sinks_between, sinks_of_epoch}
 use Rattle.epoch_model.specs.Cutting.{RisesTo}
 use Rattle.epoch_model.specs.Summary.{Summary, Terms, SinkTerms, IsSummary, AreSummaries, sink_terms}
 use Rattle.epoch_model.specs.Crossing.{added_all, wanted, asked_by, crossing, crossing_at, needed_by}
-use Rattle.epoch_model.specs.JoinLaws.{AsksWhatIsNeeded, AsksLocations, AsksByCuts, AsksOnce}
+use Rattle.epoch_model.specs.JoinLaws.{AsksWhatIsNeeded, AsksLocations, AsksByCuts, AsksOnce, DefinedAreSummaries}
 use Rattle.epoch_model.proofs.AnyOf.{any_flat, any_union}
 use Rattle.epoch_model.proofs.Composing.{any_past}
 use Rattle.epoch_model.proofs.Lists.{all-append, all-weaker, all-flat, all-map, any_agreeing, flat_agreeing}
@@ -153,3 +153,7 @@ by_cuts q trace steps points s (c ∷ cs) (e ∷ es) a =
 pub asks_by_cuts : AsksByCuts
 asks_by_cuts q trace s cuts es steps points a =
     by_cuts q trace (recursion_from_All IsInRange trace steps) (recursion_from_All (λ (p : InnerSink). IsLocation p.loc) q.points points) s cuts es a
+
+pub defined_are_summaries : DefinedAreSummaries
+defined_are_summaries q trace s [] = tt
+defined_are_summaries q trace s (c ∷ cs) = (record { ends = λ l h. refl; sinks = refl }, defined_are_summaries q trace c cs)

@@ -12,7 +12,7 @@ use Rattle.report_model.specs.Query.{Query}
 use Rattle.report_model.specs.Rows.{rows_as_written}
 use Rattle.epoch_model.specs.Cutting.{RisesTo, IsCutting}
 use Rattle.epoch_model.specs.Summary.{Summary, AreSummaries, ArePointsLocated}
-use Rattle.epoch_model.specs.Crossing.{crossing, crossing_at, needed}
+use Rattle.epoch_model.specs.Crossing.{crossing, summaries_of, crossing_at, needed}
 use Rattle.epoch_model.specs.Join.{joined}
 
 -- what the epochs from a cut s on ask there are exactly the locations that are needed there
@@ -37,6 +37,11 @@ AsksByCuts = (q : Query) (trace : List StepSeen) (s : ℕ) (cuts : List ℕ) (es
 -- each is asked once
 abbrev pub AsksOnce : Type 0
 AsksOnce = (es : List Summary) → IsDistinct (eq_by_cmp loc_cmp) (crossing es)
+
+-- those of the definitions are summaries
+abbrev pub DefinedAreSummaries : Type 0
+DefinedAreSummaries = (q : Query) (trace : List StepSeen) (s : ℕ) (cuts : List ℕ)
+    → AreSummaries q trace s cuts (summaries_of q trace s cuts)
 
 -- the summaries of the epochs of a trace, joined by lists, give its rows
 abbrev pub JoinGivesRows : Type 0

@@ -1,7 +1,8 @@
 //! Laws of the definitions: each is the contract of a function that does nothing.
 
 ghost use Rattle.epoch_model.specs.StretchLaws.{OriginsCompose, PastComposes, StretchesAreTheirSteps, PiecesCompose};
-ghost use Rattle.epoch_model.specs.JoinLaws.{AsksWhatIsNeeded, AsksLocations, AsksByCuts, AsksOnce, JoinGivesRows};
+ghost use Rattle.epoch_model.specs.JoinLaws.{AsksWhatIsNeeded, AsksLocations, AsksByCuts, AsksOnce, DefinedAreSummaries, JoinGivesRows};
+ghost use Rattle.epoch_model.specs.PointLaws.{PointsOfTexts, PointsTogether};
 
 /// What is known over two stretches of a trace is known over both together.
 pub fn stretches_compose()
@@ -25,6 +26,15 @@ pub fn epochs_ask_what_is_needed()
 {}
 
 /// For every cutting, the summaries of the epochs, joined by lists, give the rows of the whole trace.
+/// There are such summaries: those of the definitions.
 pub fn summaries_join()
-    ensures { JoinGivesRows }
+    ensures rows { JoinGivesRows }
+    ensures defined { DefinedAreSummaries }
+{}
+
+/// The points of queries that texts stand for are at locations, and so are those of several of them taken
+/// together.
+pub fn points_are_located()
+    ensures texts { PointsOfTexts }
+    ensures together { PointsTogether }
 {}
