@@ -63,8 +63,8 @@ module _ (q : Query) (trace : List StepSeen) (s : ℕ) (before : Loc → List So
         (ap (resolved before) (i.ends l b.0) ∙ resolved_terms (c - s) l front ∙ ap (λ (t : ℕ). origins (policy_of q) trace t l) when)
         (answers_known ls b.1 (all-rest _ (e.ends l).starts rest a))
 
-    -- where the origins at the epoch's start are known, its rows are those of its sinks, and it answers the origins at its
-    -- end
+    -- where the origins at the epoch's start are known, its rows are those of its sinks, and its answers the origins at
+    -- its end
     pub epoch_known : AllByRecursion (λ p. IsLocation p.loc) q.points → (ls : List Loc) → AllByRecursion IsLocation ls → AreOrigins (policy_of q) trace s before (wanted e ls)
         → (rows_of e before ≡ map (row q trace) (sinks_of_epoch q trace s (c - s))) × (answers_of e before ls ≡ map (origins (policy_of q) trace c) ls)
     epoch_known points ls b a =

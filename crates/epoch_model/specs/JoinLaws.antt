@@ -1,4 +1,4 @@
--- What epochs ask of each other is what is needed, and joined by lists they give the rows. Steps are in range, and points
+-- What epochs ask of each other is what is needed, and joined by lists they give the rows. Steps are in range and points
 -- at locations, so that what is asked are locations.
 use Rattle.std.specs.Prelude.{◌≡◌, ℕ, ◌+◌, ◌<◌, List, [], length, All}
 use Rattle.std.specs.List.{IsDistinct}

@@ -27,7 +27,8 @@ HaveSameSteps trace s other r n = (i : ℕ) → i < n → step_at trace (s + i) 
 abbrev pub StretchesAreTheirSteps : Type 0
 StretchesAreTheirSteps = (policy : Policy) (trace : List StepSeen) (s : ℕ) (other : List StepSeen) (r n : ℕ) (l : Loc)
     → HaveSameSteps trace s other r n
-    → (past policy.rule trace s n l ≡ past policy.rule other r n l) × (born policy trace s n l ≡ born policy other r n l)
+    → (past policy.rule trace s n l ≡ past policy.rule other r n l)
+    × (born policy trace s n l ≡ born policy other r n l)
 
 -- the origins over a trace in two pieces are what was born in the second, and the origins over the first of what flows
 -- into the second
