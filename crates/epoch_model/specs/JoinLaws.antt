@@ -1,5 +1,5 @@
--- What epochs ask of each other is what is needed, and joined by lists they give the rows. Steps are in range and points
--- at locations, so that what is asked are locations.
+-- What epochs ask of each other is what is needed, and joined by lists they give the rows. Steps are in range, and
+-- points at locations, so that what is asked are locations.
 use Rattle.std.specs.Prelude.{◌≡◌, ℕ, ◌+◌, ◌<◌, List, [], length, All}
 use Rattle.std.specs.List.{IsDistinct}
 use Rattle.std.specs.Ordering.{eq_by_cmp}
