@@ -1,4 +1,5 @@
 -- What `list_any` answers over the lists that the definitions build. Two sets are equal where it answers alike.
+-- Crates above cite these lemmas.
 use Rattle.std.proofs.Common.{◌≡◌, List, [], ◌∷◌, refl, ap, ap₂, sym, ◌∙◌, Bool, true, false, ◌||◌}
 use Rattle.std.specs.List.{list_any, flat_map}
 use Rattle.std.specs.FinMap.{IsAntisymmetric}

@@ -1,4 +1,4 @@
--- Stretches of a trace compose.
+-- Stretches of a trace compose. Crates above cite these lemmas.
 use Rattle.std.proofs.Common.{◌≡◌, ℕ, zero, suc, ◌+◌, List, [], ◌∷◌, ap, ap₂, sym, ◌∙◌, Bool, ◌||◌, arith}
 use Rattle.std.specs.Prelude.{Option, Some, None}
 use Rattle.std.specs.List.{list_any}

@@ -1,4 +1,4 @@
--- What flows over a stretch depends on its steps alone.
+-- What flows over a stretch depends on its steps alone. Crates above cite these lemmas.
 use Rattle.std.proofs.Common.{◌≡◌, ℕ, zero, suc, ◌+◌, ◌<◌, List, [], ◌∷◌, ◌++◌, length, refl, ap, ap₂, ◌∙◌, arith}
 use Rattle.std.specs.Prelude.{Option, Some, None}
 use Rattle.flow_model.specs.declared.Loc.{Loc}

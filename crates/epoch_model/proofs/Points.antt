@@ -1,4 +1,4 @@
--- The points of the queries that texts stand for are at locations.
+-- The points of the queries that texts stand for are at locations. Crates above cite these lemmas.
 use Rattle.std.proofs.Common.{◌≡◌, ℕ, zero, suc, ◌+◌, ◌≤◌, ◌<◌, nat_lt, List, [], ◌∷◌, Bool, true, false, ◌||◌, if◌then◌else◌, map, refl, subst, arith}
 use Rattle.std.specs.Prelude.{not, ◌&&◌, Option, Some, None, Result, Ok, Err, codes}
 use Rattle.std.specs.Str.{bytes_eq}
