@@ -114,12 +114,7 @@ fn tell_changes(
 }
 
 /// Logs with this one's header, and these parts after it.
-fn tell_logs(
-    rt: &impl Print,
-    alloc: Global,
-    log: &[u8],
-    logs: &[&[&[u8]]],
-) -> anyhow::Result<()> {
+fn tell_logs(rt: &impl Print, alloc: Global, log: &[u8], logs: &[&[&[u8]]]) -> anyhow::Result<()> {
     for parts in logs {
         let bytes = headed(alloc, log, parts)?;
         tell(rt, alloc, &bytes)?;
@@ -130,7 +125,12 @@ fn tell_logs(
 /// Version 1: prefixes, changes, logs with each kind of call and of end, and a read on a channel that there isn't.
 fn tell_version_1(rt: &impl Print, alloc: Global) -> anyhow::Result<()> {
     println!(rt; "version 1")?;
-    tell_prefixes(rt, alloc, &LOG_1, &[0, 7, 8, 47, 48, 72, 73, 97, 98, 106, 107])?;
+    tell_prefixes(
+        rt,
+        alloc,
+        &LOG_1,
+        &[0, 7, 8, 47, 48, 72, 73, 97, 98, 106, 107],
+    )?;
     let longest = &[255, 255, 255, 255, 255, 255, 255, 127];
     let changes: [(usize, &[u8]); 9] = [
         (40, &[0, 0]),

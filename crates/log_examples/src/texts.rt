@@ -26,6 +26,7 @@ pub const LOG_2: [u8; 123] = [
 
 /// A channel of three bytes, and one of five.
 pub const THREE: [u8; 7] = [3, 0, 0, 0, 0x41, 0x42, 0x43];
+
 pub const FIVE: [u8; 9] = [5, 0, 0, 0, 0x41, 0x42, 0x43, 0x44, 0x45];
 
 /// In version 1 a clock call at step 3 and a call of number 42 at step 4.
@@ -47,6 +48,9 @@ pub const UNMOVED: [u8; 63] = [
 
 /// In version 2 a clock call at the last step before 2^40, one at step 2^40, a limit at step 2^40, and one after it.
 pub const LATE_CALL: [u8; 17] = [3, 255, 255, 255, 255, 255, 0, 0, 0, 2, 0, 0, 0, 1, 0, 0, 0];
+
 pub const TOO_LATE_CALL: [u8; 17] = [3, 0, 0, 0, 0, 0, 1, 0, 0, 2, 0, 0, 0, 1, 0, 0, 0];
+
 pub const LATE_LIMIT: [u8; 9] = [7, 0, 0, 0, 0, 0, 1, 0, 0];
+
 pub const TOO_LATE_LIMIT: [u8; 9] = [7, 1, 0, 0, 0, 0, 1, 0, 0];
