@@ -196,8 +196,8 @@ fn is_kept(inputs: u32, call: &CallRecord) -> bool
     }
 }
 
-/// Whether version 2 can hold the log: each read that got bytes is on one of the run's channels. Only a log that was
-/// read from version 1 may have others.
+/// Whether version 2 can hold the log: each read that got bytes is on one of the run's channels. A log that was read
+/// from version 1 may have others.
 pub fn can_write(log: &Log) -> bool
     ensures { result ≡ true ↔ CanHold Two log.now }
 {
