@@ -1,9 +1,5 @@
-use Rattle.std.proofs.Common.{◌≡◌, ◌∙◌, sym, subst, ap, refl, length, arith}
-use Rattle.std.specs.List.{AllByRecursion}
+use Rattle.std.proofs.Common.{◌∙◌, sym, refl, arith}
 use Rattle.std.proofs.lemmas.List.{take_all}
-use Rattle.log_model.specs.declared.CallRecord.{CallRecord}
-use Rattle.std.proofs.Common.{List}
-use Rattle.replay_log.specs.Logs.{IsKept}
 use Rattle.replay_log.proofs.KeptCalls.{held_each, kept_held}
 use Rattle.replay_log.proofs.writing.can_write.Goals as goal
 
