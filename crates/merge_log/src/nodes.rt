@@ -1,6 +1,6 @@
 //! The log, and what its nodes are.
 
-ghost use Rattle.std.specs.Prelude.{◌≡◌, ◌+◌, ◌<◌, ◌≤◌, ◌^◌, [], ◌∷◌, length, Ok, Some, Contains, IsOk, IfOk, OnOk, OnErr};
+ghost use Rattle.std.specs.Prelude.{◌≡◌, ◌+◌, ◌<◌, [], length, Some, Contains, IsOk, IfOk, OnErr};
 ghost use Rattle.merge_log.specs.Log.{IsLog, IsNode, IsBefore, IsNoted, KeepsNodes, IsUnited, HasUnion, terms, no_terms, source_term, start_term, entry_at, entry_terms, joined, union_entry};
 ghost use Rattle.merge_log.specs.Walk.{leaves_of};
 ghost use Rattle.merge_log.specs.declared.nodes.Entry.TheVariants as entry;
@@ -12,7 +12,11 @@ use no_memory::NoMemory;
 use std::alloc::Global;
 use std::marker::Model;
 
-/// What a node is. The operands of a union are nodes above 0 and below the union, the smaller one first.
+/// A node of a log: 0 is the empty one, and the others count up in the order of making.
+pub type Node = u64;
+
+/// What a node is made of. The operands of a union are nodes above 0 and below the union, the smaller one
+/// first.
 #[derive(Clone, Copy, PartialEq, Eq, Hash)]
 pub enum Entry {
     Source(SourceByte),
@@ -20,14 +24,17 @@ pub enum Entry {
     Union { left: u32, right: u32 },
 }
 
-/// A node of a log: 0 is the empty one.
-pub type Node = u64;
-
 /// The nodes of a log, each once. Node 0 has no entry, and node `n + 1` is the entry of index `n`.
+///
+/// A call that makes a node fails where there is no memory for it, or where 2^32 - 1 nodes were made. It then
+/// changes nothing. It never fails where its node is there already.
 #[derive(Drop)]
 pub struct MergeLog {
     entries: IndexSet<Entry>,
 }
+
+/// The most entries of a log: its nodes fit into 32 bits.
+const MOST_ENTRIES: usize = u32::MAX as usize;
 
 impl Model for MergeLog {
     ghost use Rattle.std.specs.Prelude.{List};
@@ -42,7 +49,7 @@ impl Model for MergeLog {
 }
 
 impl MergeLog {
-    /// A log with the empty node alone.
+    /// A log with the empty node alone. It takes no memory.
     pub fn new(alloc: Global) -> Self
         ensures { result ≡ [] }
     {
@@ -62,7 +69,8 @@ impl MergeLog {
     pub fn form(&self)
         ensures { IsLog self.now }
     {
-        let _few = self.entries.len();
+        // what is known of the field is known from its first use on
+        let _entries = self.entries.len();
     }
 
     /// The empty node.
@@ -84,7 +92,7 @@ impl MergeLog {
         self.insert(Entry::Source(byte))
     }
 
-    /// The node of the content of a location at the start.
+    /// The node of what a location has at the start.
     pub fn leaf_symbol(&mut self, loc: Loc) -> Result<Node, NoMemory>
         ensures terms { IfOk result (λ n. terms self.new n ≡ start_term loc) }
         ensures noted { IfOk result (λ n. IsNoted self.old (entry.Start loc) self.new n) }
@@ -95,12 +103,12 @@ impl MergeLog {
         self.insert(Entry::Start(loc))
     }
 
-    /// The node of the leaves of two nodes: the node itself where they are the same or one is empty.
+    /// The node of the leaves of two nodes. Where they are the same, or one is empty, it is one of them.
     pub fn union(&mut self, a: Node, b: Node) -> Result<Node, NoMemory>
         requires left { IsNode self.old a }
         requires right { IsNode self.old b }
         ensures terms { IfOk result (λ n. terms self.new n ≡ joined (terms self.old a) (terms self.old b)) }
-        ensures noted { IfOk result (λ n. IsUnited self.old a b self.new n) }
+        ensures united { IfOk result (λ n. IsUnited self.old a b self.new n) }
         ensures kept { KeepsNodes self.old self.new }
         ensures there { HasUnion self.old a b → IsOk result }
         ensures err { OnErr result (self.new ≡ self.old) }
@@ -115,18 +123,18 @@ impl MergeLog {
         self.insert(union_of(a as u32, b as u32))
     }
 
-    /// The leaves under a node, each once: source bytes ascending, and then start locations ascending. For
-    /// many nodes take a reader.
+    /// The leaves under a node, each once: source bytes ascending, and then start locations ascending. It
+    /// fails where there is no memory for them, or for a mark for each node. For many nodes take a reader.
     pub fn terms(&self, alloc: Global, node: Node) -> Result<Vec<Leaf>, NoMemory>
         requires { IsNode self.now node }
-        ensures { IfOk result (λ all. all.items ≡ leaves_of (terms self.now node)) }
+        ensures { IfOk result (λ leaves. leaves.items ≡ leaves_of (terms self.now node)) }
     {
         let mut reader = TermsReader::new(alloc);
         reader.read(self, node)?;
         reader.leaves(alloc)
     }
 
-    /// What a node is.
+    /// What a node is made of.
     pub(crate) fn entry(&self, node: u32) -> Entry
         requires above_0 { 0 < node }
         requires stands { IsNode self.now node }
@@ -136,7 +144,7 @@ impl MergeLog {
         self.entries.as_slice()[node as usize - 1]
     }
 
-    /// The node of a new entry, or the node that it has.
+    /// The node of an entry, which is made unless it is there.
     fn insert(&mut self, entry: Entry) -> Result<Node, NoMemory>
         requires { IsBefore (length self.old + 1) entry }
         ensures terms { IfOk result (λ n. terms self.new n ≡ entry_terms (terms self.new) entry) }
@@ -145,7 +153,7 @@ impl MergeLog {
         ensures there { Contains self.old entry → IsOk result }
         ensures err { OnErr result (self.new ≡ self.old) }
     {
-        if self.entries.len() < LIMIT {
+        if self.entries.len() < MOST_ENTRIES {
             let (index, _) = self.entries.insert_full(entry)?;
             return Ok(index as u64 + 1);
         }
@@ -166,6 +174,3 @@ fn union_of(a: u32, b: u32) -> Entry
         Entry::Union { left: b, right: a }
     }
 }
-
-/// The entries that a log can have: their nodes fit into 32 bits.
-const LIMIT: usize = u32::MAX as usize;

@@ -3,11 +3,11 @@ use Rattle.merge_log.proofs.Keys.{log_after, noted_by, noted_at, keeps_more, not
 use Rattle.merge_log.proofs.nodes.MergeLog.insert.Goals as goal
 use Rattle.merge_log.proofs.nodes.MergeLog.insert.Goals.{in-Some, in-None}
 
-pub invariant_of-self-then-len-lt-LIMIT : goal.invariant_of-self-then-len-lt-LIMIT
-invariant_of-self-then-len-lt-LIMIT c = log_after _ _ _ c.self.invariant (omega (arith, c.len.ensures.len)) (rw (← c.self.view_is) at c.requires) c.in_ok-index.ensures.keys
+pub invariant_of-self-then-len-lt-MOST_ENTRIES : goal.invariant_of-self-then-len-lt-MOST_ENTRIES
+invariant_of-self-then-len-lt-MOST_ENTRIES c = log_after _ _ _ c.self.invariant (omega (arith, c.len.ensures.len)) (rw (← c.self.view_is) at c.requires) c.in_ok-index.ensures.keys
 
-pub returns-then-len-lt-LIMIT : goal.returns-then-len-lt-LIMIT
-returns-then-len-lt-LIMIT c =
+pub returns-then-len-lt-MOST_ENTRIES : goal.returns-then-len-lt-MOST_ENTRIES
+returns-then-len-lt-MOST_ENTRIES c =
     let log = c.self.inside.entries.keys in
     let new = c.insert_full.new.self.keys in
     let form = log_after log c.args.entry new c.self.invariant (omega (arith, c.len.ensures.len)) (rw (← c.self.view_is) at c.requires) c.in_ok-index.ensures.keys in
