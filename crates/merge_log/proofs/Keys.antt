@@ -12,7 +12,7 @@ use Rattle.flow_model.specs.declared.Loc.TheVariants.{Reg, Mem}
 use Rattle.merge_log.specs.contracts.nodes.EntryPartialEq.TheImpl as test
 use Rattle.merge_log.specs.declared.nodes.Entry.{Entry}
 use Rattle.merge_log.specs.declared.nodes.Entry.TheVariants.{Source, Start, Union}
-use Rattle.merge_log.specs.Log.{IsBefore, AreDistinct, IsLog, IsNoted, KeepsNodes, entry_at, terms, entry_terms}
+use Rattle.merge_log.specs.Log.{HasOperandsBefore, AreDistinct, IsLog, IsNoted, KeepsNodes, entry_at, terms, entry_terms}
 use Rattle.merge_log.proofs.Terms.{ordered_more, kept, terms_step, entry_before}
 
 -- the derived test
@@ -64,13 +64,13 @@ distinct_more (x ∷ log) e d h = (
   by (inr p) = h (0, omega arith, sym p)
 
 -- the log after an entry is put into the set is a log
-pub log_after : (log : List Entry) (e : Entry) (new : List Entry) → IsLog log → length log < 4294967295 → IsBefore (length log + 1) e → new ≡ insert_key alike log e → IsLog new
+pub log_after : (log : List Entry) (e : Entry) (new : List Entry) → IsLog log → length log < 4294967295 → HasOperandsBefore (length log + 1) e → new ≡ insert_key alike log e → IsLog new
 log_after log e new h few before is = subst IsLog (sym is) (by (list_any (alike e) log) refl) where
   by : (b : Bool) → list_any (alike e) log ≡ b → IsLog (if b then log else log ++ e ∷ [])
   by true p = h
   by false p = record {
     few = rw length-append (omega (arith, few));
-    ordered = ordered_more 1 log e h.ordered (let later : length log + 1 ≡ 1 + length log = omega arith in subst (λ (n : ℕ). IsBefore n e) later before);
+    ordered = ordered_more 1 log e h.ordered (let later : length log + 1 ≡ 1 + length log = omega arith in subst (λ (n : ℕ). HasOperandsBefore n e) later before);
     distinct = distinct_more log e h.distinct (not_there log e p);
   }
 

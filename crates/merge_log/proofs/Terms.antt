@@ -13,7 +13,7 @@ use Rattle.flow_model.specs.declared.Loc.{Loc}
 use Rattle.flow_model.specs.declared.SourceByte.{SourceByte}
 use Rattle.merge_log.specs.declared.nodes.Entry.{Entry}
 use Rattle.merge_log.specs.declared.nodes.Entry.TheVariants.{Source, Start, Union}
-use Rattle.merge_log.specs.Log.{Terms, no_terms, joined, entry_terms, with_node, terms_from, terms, IsNode, IsBefore, AreOrdered, entry_at, KeepsNodes, union_entry}
+use Rattle.merge_log.specs.Log.{Terms, no_terms, joined, entry_terms, with_node, terms_from, terms, IsNode, HasOperandsBefore, AreOrdered, entry_at, KeepsNodes, union_entry}
 
 -- ---- one more node
 
@@ -51,14 +51,14 @@ kept log more n h =
 
 -- ---- what a node is
 
-same_operands : (f g : ℕ → Terms) (n : ℕ) (e : Entry) → ((i : ℕ) → i < n → f i ≡ g i) → IsBefore n e → entry_terms f e ≡ entry_terms g e
+same_operands : (f g : ℕ → Terms) (n : ℕ) (e : Entry) → ((i : ℕ) → i < n → f i ≡ g i) → HasOperandsBefore n e → entry_terms f e ≡ entry_terms g e
 same_operands f g n (Source b) h k = refl
 same_operands f g n (Start l) h k = refl
 same_operands f g n (Union a b) h k =
     let lower : a < n = omega arith in
     ap₂ joined (h a lower) (h b k.2)
 
-unfolds : (before : ℕ → Terms) (n : ℕ) (es : List Entry) (k : ℕ) (e : Entry) → slice_get es k ≡ Some e → IsBefore (n + k) e → terms_from before n es (n + k) ≡ entry_terms (terms_from before n es) e
+unfolds : (before : ℕ → Terms) (n : ℕ) (es : List Entry) (k : ℕ) (e : Entry) → slice_get es k ≡ Some e → HasOperandsBefore (n + k) e → terms_from before n es (n + k) ≡ entry_terms (terms_from before n es) e
 unfolds before n [] k e h b = cc
 unfolds before n (x ∷ es) zero e h b =
     let none : n + 0 ≡ n = omega arith in
@@ -71,39 +71,39 @@ unfolds before n (x ∷ es) zero e h b =
 unfolds before n (x ∷ es) (suc k) e h b =
     let later : n + suc k ≡ suc n + k = omega arith in
     ap (λ (i : ℕ). terms_from before n (x ∷ es) i) later
-    ∙ unfolds (with_node before n x) (suc n) es k e h (subst (λ (i : ℕ). IsBefore i e) later b)
+    ∙ unfolds (with_node before n x) (suc n) es k e h (subst (λ (i : ℕ). HasOperandsBefore i e) later b)
 
 -- the terms of a node are those of its entry
-pub terms_step : (log : List Entry) (n : ℕ) (e : Entry) → entry_at log n ≡ Some e → IsBefore n e → terms log n ≡ entry_terms (terms log) e
+pub terms_step : (log : List Entry) (n : ℕ) (e : Entry) → entry_at log n ≡ Some e → HasOperandsBefore n e → terms log n ≡ entry_terms (terms log) e
 terms_step log zero e h b = cc
 terms_step log (suc k) e h b =
     let later : suc k ≡ 1 + k = omega arith in
-    ap (terms log) later ∙ unfolds (λ i. no_terms) 1 log k e h (subst (λ (i : ℕ). IsBefore i e) later b)
+    ap (terms log) later ∙ unfolds (λ i. no_terms) 1 log k e h (subst (λ (i : ℕ). HasOperandsBefore i e) later b)
 
-ordered_at : (n : ℕ) (es : List Entry) (k : ℕ) (e : Entry) → AreOrdered n es → slice_get es k ≡ Some e → IsBefore (n + k) e
+ordered_at : (n : ℕ) (es : List Entry) (k : ℕ) (e : Entry) → AreOrdered n es → slice_get es k ≡ Some e → HasOperandsBefore (n + k) e
 ordered_at n [] k e o h = cc
 ordered_at n (x ∷ es) zero e o h =
     let none : n ≡ n + 0 = omega arith in
     let same : x ≡ e = cc in
-    subst (λ (i : ℕ). IsBefore i e) none (subst (IsBefore n) same o.0)
+    subst (λ (i : ℕ). HasOperandsBefore i e) none (subst (HasOperandsBefore n) same o.0)
 ordered_at n (x ∷ es) (suc k) e o h =
     let later : suc n + k ≡ n + suc k = omega arith in
-    subst (λ (i : ℕ). IsBefore i e) later (ordered_at (suc n) es k e o.1 h)
+    subst (λ (i : ℕ). HasOperandsBefore i e) later (ordered_at (suc n) es k e o.1 h)
 
 -- the operands of a node stand before it
-pub entry_before : (log : List Entry) (n : ℕ) (e : Entry) → AreOrdered 1 log → entry_at log n ≡ Some e → IsBefore n e
+pub entry_before : (log : List Entry) (n : ℕ) (e : Entry) → AreOrdered 1 log → entry_at log n ≡ Some e → HasOperandsBefore n e
 entry_before log zero e o h = cc
 entry_before log (suc k) e o h =
     let later : 1 + k ≡ suc k = omega arith in
-    subst (λ (i : ℕ). IsBefore i e) later (ordered_at 1 log k e o h)
+    subst (λ (i : ℕ). HasOperandsBefore i e) later (ordered_at 1 log k e o h)
 
-pub ordered_more : (n : ℕ) (es : List Entry) (e : Entry) → AreOrdered n es → IsBefore (n + length es) e → AreOrdered n (es ++ e ∷ [])
+pub ordered_more : (n : ℕ) (es : List Entry) (e : Entry) → AreOrdered n es → HasOperandsBefore (n + length es) e → AreOrdered n (es ++ e ∷ [])
 ordered_more n [] e o b =
     let none : n + 0 ≡ n = omega arith in
-    (subst (λ (i : ℕ). IsBefore i e) none b, tt)
+    (subst (λ (i : ℕ). HasOperandsBefore i e) none b, tt)
 ordered_more n (x ∷ es) e o b =
     let later : n + suc (length es) ≡ suc n + length es = omega arith in
-    (o.0, ordered_more (suc n) es e o.1 (subst (λ (i : ℕ). IsBefore i e) later b))
+    (o.0, ordered_more (suc n) es e o.1 (subst (λ (i : ℕ). HasOperandsBefore i e) later b))
 
 -- ---- sets
 

@@ -9,7 +9,7 @@ use Rattle.flow_model.specs.declared.SourceByte.{SourceByte}
 use Rattle.merge_log.specs.declared.nodes.Entry.{Entry}
 use Rattle.merge_log.specs.declared.nodes.Entry.TheVariants.{Source, Start, Union}
 use Rattle.merge_log.specs.declared.reader.Leaf.{Leaf}
-use Rattle.merge_log.specs.Log.{Terms, source_term, start_term, terms, IsNode, IsBefore, AreOrdered, IsLog, entry_at}
+use Rattle.merge_log.specs.Log.{Terms, source_term, start_term, terms, IsNode, HasOperandsBefore, AreOrdered, IsLog, entry_at}
 use Rattle.merge_log.specs.Walk.{has_leaf, visited}
 use Rattle.merge_log.proofs.Leaves.{no, or_left, or_right, or_cases, same_bool, has-joined, has-source, has-start}
 use Rattle.merge_log.proofs.Marks.{IsMarked, IsOn, IsVisit, cost, marked_more, marked_back, on_pushed, on_top, on_back, on_visited, visit_length, visit_marks, visit_marked, visit_cost}
@@ -151,7 +151,7 @@ all_found log root round marks found o w (suc n) m h k q t = elim (w.settled m k
   | inr (inl p) ↦ by (λ i l j u. all_found log root round marks found o w n i l j q u) p.0 p.1 p.2 (entry_before log m p.0 o p.1)
   | inr (inr p) ↦ absurd p
 ] where
-  by : ((i : ℕ) → i < n → IsMarked marks round i → has_leaf q (terms log i) ≡ true → has_leaf q found ≡ true) → (e : Entry) → entry_at log m ≡ Some e → IsDone marks round found e → IsBefore m e → has_leaf q found ≡ true
+  by : ((i : ℕ) → i < n → IsMarked marks round i → has_leaf q (terms log i) ≡ true → has_leaf q found ≡ true) → (e : Entry) → entry_at log m ≡ Some e → IsDone marks round found e → HasOperandsBefore m e → has_leaf q found ≡ true
   by ih (Source b) at d before = d q (sym (ap (has_leaf q) (terms_step log m (Source b) at before)) ∙ t)
   by ih (Start l) at d before = d q (sym (ap (has_leaf q) (terms_step log m (Start l) at before)) ∙ t)
   by ih (Union x y) at d before =
@@ -166,14 +166,14 @@ walk_ends log root round marks found form w q =
 
 -- ---- operands
 
-pub under_left : (log : List Entry) (root next a b : ℕ) → entry_at log next ≡ Some (Union a b) → IsBefore next (Union a b) → IsUnder log root next → IsUnder log root a
+pub under_left : (log : List Entry) (root next a b : ℕ) → entry_at log next ≡ Some (Union a b) → HasOperandsBefore next (Union a b) → IsUnder log root next → IsUnder log root a
 under_left log root next a b at before u = record {
   above_0 = before.0;
   stands = omega (arith, before, u.stands);
   leaves = λ q h. u.leaves q (ap (has_leaf q) (terms_step log next (Union a b) at before) ∙ has-joined q (terms log a) (terms log b) ∙ or_left (has_leaf q (terms log a)) (has_leaf q (terms log b)) h);
 }
 
-pub under_right : (log : List Entry) (root next a b : ℕ) → entry_at log next ≡ Some (Union a b) → IsBefore next (Union a b) → IsUnder log root next → IsUnder log root b
+pub under_right : (log : List Entry) (root next a b : ℕ) → entry_at log next ≡ Some (Union a b) → HasOperandsBefore next (Union a b) → IsUnder log root next → IsUnder log root b
 under_right log root next a b at before u = record {
   above_0 = omega (arith, before);
   stands = omega (arith, before, u.stands);
@@ -220,7 +220,7 @@ start_step log root round marks stack rest next sources starts more l is put at 
 
 -- the union that was taken is done, when both operands were visited
 pub union_step : (log : List Entry) (root round round1 round2 : ℕ) (marks marks1 marks2 stack rest stack1 stack2 : List ℕ) (next : ℕ) (found : Terms) (a b : ℕ)
-    → stack ≡ rest ++ next ∷ [] → length log < length marks → entry_at log next ≡ Some (Union a b) → IsBefore next (Union a b)
+    → stack ≡ rest ++ next ∷ [] → length log < length marks → entry_at log next ≡ Some (Union a b) → HasOperandsBefore next (Union a b)
     → IsVisit marks round rest a marks1 round1 stack1 → IsVisit marks1 round1 stack1 b marks2 round2 stack2
     → IsWalk log root round marks stack found none_open
     → IsWalk log root round2 marks2 stack2 found none_open

@@ -56,16 +56,16 @@ terms log i = terms_from (λ i. no_terms) 1 log i
 abbrev pub IsNode : List Entry → ℕ → Type 0
 IsNode log n = n ≤ length log
 
--- the operands of a union that is the node n stand before it and above 0, the smaller one first
-abbrev pub IsBefore : ℕ → Entry → Type 0
-IsBefore n (Source b) = Unit {0}
-IsBefore n (Start l) = Unit {0}
-IsBefore n (Union a b) = (0 < a) × (a < b) × (b < n)
+-- the entry may be that of the node n: the operands of a union are nodes above 0 and below n, the smaller one first
+abbrev pub HasOperandsBefore : ℕ → Entry → Type 0
+HasOperandsBefore n (Source b) = Unit {0}
+HasOperandsBefore n (Start l) = Unit {0}
+HasOperandsBefore n (Union a b) = (0 < a) × (a < b) × (b < n)
 
 -- the operands of each entry stand before it, where the entries are the nodes n, n + 1 and so on
 abbrev pub AreOrdered : ℕ → List Entry → Type 0
 AreOrdered n [] = Unit {0}
-AreOrdered n (e ∷ es) = IsBefore n e × AreOrdered (suc n) es
+AreOrdered n (e ∷ es) = HasOperandsBefore n e × AreOrdered (suc n) es
 
 -- no two nodes are alike: each leaf has one node, and so has each pair of operands
 abbrev pub AreDistinct : List Entry → Type 0
@@ -90,8 +90,8 @@ pub record KeepsNodes (old new : List Entry) : Type 0 where
   pub nodes : (n : ℕ) → IsNode old n → IsNode new n
   pub terms : (n : ℕ) → IsNode old n → terms new n ≡ terms old n
 
--- the entry stands in the log, as its node n: the log is as it was where the entry stood there, and else has it as its one
--- new entry
+-- the entry stands in the log, as its node n: where the entry stood there the log is as it was, and else that entry is all
+-- that is new
 pub record IsNoted (old : List Entry) (e : Entry) (new : List Entry) (n : ℕ) : Type 0 where
   pub stands : IsNode new n
   pub entry : entry_at new n ≡ Some e
@@ -106,7 +106,7 @@ union_entry a b = if nat_lt a b then Union a b else Union b a
 abbrev pub HasUnion : List Entry → ℕ → ℕ → Type 0
 HasUnion log a b = (a ≡ b) ⊎ (a ≡ 0) ⊎ (b ≡ 0) ⊎ Contains log (union_entry a b)
 
--- the union of the nodes a and b stands in the log, as its node n: of a node with itself, or with the empty node, it is that
+-- the union of the nodes a and b stands in the log, as its node n. That of a node with itself, or with the empty node, is that
 -- node, and the log is as it was
 pub record IsUnited (old : List Entry) (a b : ℕ) (new : List Entry) (n : ℕ) : Type 0 where
   pub stands : IsNode new n

@@ -1,7 +1,7 @@
 //! The log, and what its nodes are.
 
 ghost use Rattle.std.specs.Prelude.{◌≡◌, ◌+◌, ◌<◌, [], length, Some, Contains, IsOk, IfOk, OnErr};
-ghost use Rattle.merge_log.specs.Log.{IsLog, IsNode, IsBefore, IsNoted, KeepsNodes, IsUnited, HasUnion, terms, no_terms, source_term, start_term, entry_at, entry_terms, joined, union_entry};
+ghost use Rattle.merge_log.specs.Log.{IsLog, IsNode, HasOperandsBefore, IsNoted, KeepsNodes, IsUnited, HasUnion, terms, no_terms, source_term, start_term, entry_at, entry_terms, joined, union_entry};
 ghost use Rattle.merge_log.specs.Walk.{leaves_of};
 ghost use Rattle.merge_log.specs.declared.nodes.Entry.TheVariants as entry;
 
@@ -113,7 +113,7 @@ impl MergeLog {
         ensures there { HasUnion self.old a b → IsOk result }
         ensures err { OnErr result (self.new ≡ self.old) }
     {
-        self.form();
+        self.form(); // so that nodes fit into 32 bits
         if a == b || b == 0 {
             return Ok(a);
         }
@@ -139,14 +139,14 @@ impl MergeLog {
         requires above_0 { 0 < node }
         requires stands { IsNode self.now node }
         ensures at { entry_at self.now node ≡ Some result }
-        ensures before { IsBefore node result }
+        ensures before { HasOperandsBefore node result }
     {
         self.entries.as_slice()[node as usize - 1]
     }
 
     /// The node of an entry, which is made unless it is there.
     fn insert(&mut self, entry: Entry) -> Result<Node, NoMemory>
-        requires { IsBefore (length self.old + 1) entry }
+        requires { HasOperandsBefore (length self.old + 1) entry }
         ensures terms { IfOk result (λ n. terms self.new n ≡ entry_terms (terms self.new) entry) }
         ensures noted { IfOk result (λ n. IsNoted self.old entry self.new n) }
         ensures kept { KeepsNodes self.old self.new }

@@ -1,6 +1,6 @@
 //! Readers of the terms of nodes, which keep their marks from call to call.
 
-ghost use Rattle.std.specs.Prelude.{◌≡◌, ◌++◌, List, map, IfOk, OnOk};
+ghost use Rattle.std.specs.Prelude.{◌≡◌, ◌++◌, map, IfOk, OnOk};
 ghost use Rattle.sorted_set.specs.Sets.{Ascends, has};
 ghost use Rattle.merge_log.specs.Log.{IsNode, terms, no_terms, start_term};
 ghost use Rattle.merge_log.specs.Walk.{leaves_of};

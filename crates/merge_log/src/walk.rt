@@ -1,8 +1,6 @@
 //! The walk over the nodes under a node, and the marks of those that it reached.
 
 ghost use Rattle.std.specs.Prelude.{◌≡◌, ◌==◌, ◌<◌, ◌≤◌, ◌≢◌, ℕ, [], length, not, OnOk, slice_index, slice_set};
-ghost use Rattle.flow_model.specs.declared.Loc.{Loc as Location};
-ghost use Rattle.flow_model.specs.declared.SourceByte.{SourceByte as Source};
 ghost use Rattle.merge_log.specs.Log.{IsNode, terms};
 ghost use Rattle.merge_log.specs.Walk.{AreAtMost, has_leaf, terms_of, visited};
 ghost use Rattle.merge_log.specs.declared.reader.Leaf.{Leaf as AnyLeaf};
@@ -12,7 +10,7 @@ use flow_model::{Loc, SourceByte};
 use no_memory::NoMemory;
 use std::alloc::Global;
 
-/// For each node the number of the round in which it was reached last, or 0.
+/// For each node the number of the round that reached it last, or 0.
 #[derive(Drop)]
 pub struct Marks {
     round: u32,
