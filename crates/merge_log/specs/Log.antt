@@ -90,8 +90,8 @@ pub record KeepsNodes (old new : List Entry) : Type 0 where
   pub nodes : (n : ℕ) → IsNode old n → IsNode new n
   pub terms : (n : ℕ) → IsNode old n → terms new n ≡ terms old n
 
--- the entry stands in the log, as its node n: where the entry stood there the log is as it was, and else that entry is all
--- that is new
+-- the entry stands in the log, as its node n: where the entry stood there the log is as it was, and else that entry is
+-- all that is new
 pub record IsNoted (old : List Entry) (e : Entry) (new : List Entry) (n : ℕ) : Type 0 where
   pub stands : IsNode new n
   pub entry : entry_at new n ≡ Some e
@@ -106,8 +106,8 @@ union_entry a b = if nat_lt a b then Union a b else Union b a
 abbrev pub HasUnion : List Entry → ℕ → ℕ → Type 0
 HasUnion log a b = (a ≡ b) ⊎ (a ≡ 0) ⊎ (b ≡ 0) ⊎ Contains log (union_entry a b)
 
--- the union of the nodes a and b stands in the log, as its node n. That of a node with itself, or with the empty node, is that
--- node, and the log is as it was
+-- the union of the nodes a and b stands in the log, as its node n. That of a node with itself, or with the empty node,
+-- is that node, and the log is as it was
 pub record IsUnited (old : List Entry) (a b : ℕ) (new : List Entry) (n : ℕ) : Type 0 where
   pub stands : IsNode new n
   pub same : a ≡ b → (n ≡ a) × (new ≡ old)
