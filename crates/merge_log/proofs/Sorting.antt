@@ -20,7 +20,7 @@ use Rattle.flow_model.proofs.Orders.{loc_total, loc_same, source_total, source_s
 use Rattle.merge_log.specs.declared.nodes.Entry.{Entry}
 use Rattle.merge_log.specs.declared.reader.Leaf.{Leaf}
 use Rattle.merge_log.specs.declared.reader.Leaf.TheVariants as leaf
-use Rattle.merge_log.specs.Log.{Terms, terms}
+use Rattle.merge_log.specs.Log.{Terms, AreSets, terms}
 use Rattle.merge_log.specs.Walk.{has_leaf}
 use Rattle.merge_log.proofs.Terms.{ascend-terms, nothing_under_0}
 
@@ -93,6 +93,15 @@ pub record IsSetOf {K : Type 0} (R : K → K → Ordering) (set items : List K) 
   pub members : (x : K) → has R x set ≡ has R x items
   pub ascending : Ascends R set
 
+of_sources : (sources sources1 : List SourceByte) → IsSetOf source_compared sources1 sources → IsSetOf source_cmp sources1 sources
+of_sources sources sources1 s = subst (λ (R : SourceByte → SourceByte → Ordering). IsSetOf R sources1 sources) source_order_is s
+
+of_starts : (starts starts1 : List Loc) → IsSetOf loc_compared starts1 starts → IsSetOf loc_cmp starts1 starts
+of_starts starts starts1 l = subst (λ (R : Loc → Loc → Ordering). IsSetOf R starts1 starts) loc_order_is l
+
+pub read_sets : (sources sources1 : List SourceByte) (starts starts1 : List Loc) → IsSetOf source_compared sources1 sources → IsSetOf loc_compared starts1 starts → AreSets (record { sources = sources1; starts = starts1 })
+read_sets sources sources1 starts starts1 s l = record { sources = (of_sources sources sources1 s).ascending; starts = (of_starts starts starts1 l).ascending }
+
 -- sets of what was found are the terms of the node
 pub read_terms : (log : List Entry) (n : ℕ) (sources sources1 : List SourceByte) (starts starts1 : List Loc)
     → ((q : Leaf) → has_leaf q (record { sources = sources; starts = starts }) ≡ has_leaf q (terms log n))
@@ -100,8 +109,8 @@ pub read_terms : (log : List Entry) (n : ℕ) (sources sources1 : List SourceByt
     → record { sources = sources1; starts = starts1 } ≡ terms log n
 read_terms log n sources sources1 starts starts1 found s l =
     let make : List SourceByte → List Loc → Terms = λ xs ys. record { sources = xs; starts = ys } in
-    let t : IsSetOf source_cmp sources1 sources = subst (λ (R : SourceByte → SourceByte → Ordering). IsSetOf R sources1 sources) source_order_is s in
-    let m : IsSetOf loc_cmp starts1 starts = subst (λ (R : Loc → Loc → Ordering). IsSetOf R starts1 starts) loc_order_is l in
+    let t = of_sources sources sources1 s in
+    let m = of_starts starts starts1 l in
     ap₂ make
     (same_list source_total source_same sources1 (terms log n).sources t.ascending (ascend-terms log n).sources (λ q. t.members q ∙ found (leaf.Source q)))
     (same_list loc_total loc_same starts1 (terms log n).starts m.ascending (ascend-terms log n).starts (λ q. m.members q ∙ found (leaf.Start q)))

@@ -7,13 +7,12 @@ use Rattle.std.specs.FinMap.{IsAntisymmetric}
 use Rattle.std.specs.declared.cmp.Ordering.{Ordering}
 use Rattle.sorted_set.specs.Sets.{union, Ascends, has}
 use Rattle.sorted_set.proofs.Algebra.{Ascends-union, same_list, union_comm, union-nil, has-union}
-use Rattle.flow_model.specs.Orders.{loc_cmp, source_cmp}
 use Rattle.flow_model.proofs.Orders.{loc_total, loc_same, source_total, source_same}
 use Rattle.flow_model.specs.declared.Loc.{Loc}
 use Rattle.flow_model.specs.declared.SourceByte.{SourceByte}
 use Rattle.merge_log.specs.declared.nodes.Entry.{Entry}
 use Rattle.merge_log.specs.declared.nodes.Entry.TheVariants.{Source, Start, Union}
-use Rattle.merge_log.specs.Log.{Terms, no_terms, joined, entry_terms, with_node, terms_from, terms, IsNode, HasOperandsBefore, AreOrdered, entry_at, KeepsNodes, union_entry}
+use Rattle.merge_log.specs.Log.{Terms, AreSets, no_terms, joined, entry_terms, with_node, terms_from, terms, IsNode, HasOperandsBefore, AreOrdered, entry_at, KeepsNodes, union_entry}
 
 -- ---- one more node
 
@@ -107,32 +106,28 @@ ordered_more n (x ∷ es) e o b =
 
 -- ---- sets
 
-pub record AscendBoth (t : Terms) : Type 0 where
-  pub sources : Ascends source_cmp t.sources
-  pub starts : Ascends loc_cmp t.starts
-
-pub ascend-joined : (a b : Terms) → AscendBoth b → AscendBoth (joined a b)
+pub ascend-joined : (a b : Terms) → AreSets b → AreSets (joined a b)
 ascend-joined a b h = record { sources = Ascends-union source_total a.sources b.sources h.sources; starts = Ascends-union loc_total a.starts b.starts h.starts }
 
-ascend-entry : (f : ℕ → Terms) → ((i : ℕ) → AscendBoth (f i)) → (e : Entry) → AscendBoth (entry_terms f e)
+ascend-entry : (f : ℕ → Terms) → ((i : ℕ) → AreSets (f i)) → (e : Entry) → AreSets (entry_terms f e)
 ascend-entry f h (Source b) = record { sources = (tt, tt); starts = tt }
 ascend-entry f h (Start l) = record { sources = tt; starts = (tt, tt) }
 ascend-entry f h (Union a b) = ascend-joined (f a) (f b) (h b)
 
-ascend-node : (f : ℕ → Terms) (n : ℕ) (e : Entry) → ((i : ℕ) → AscendBoth (f i)) → (i : ℕ) → AscendBoth (with_node f n e i)
+ascend-node : (f : ℕ → Terms) (n : ℕ) (e : Entry) → ((i : ℕ) → AreSets (f i)) → (i : ℕ) → AreSets (with_node f n e i)
 ascend-node f n e h i = by (i == n) where
-  by : (b : Bool) → AscendBoth (if b then entry_terms f e else f i)
+  by : (b : Bool) → AreSets (if b then entry_terms f e else f i)
   by true = ascend-entry f h e
   by false = h i
 
-ascend-from : (f : ℕ → Terms) (n : ℕ) (es : List Entry) → ((i : ℕ) → AscendBoth (f i)) → (i : ℕ) → AscendBoth (terms_from f n es i)
+ascend-from : (f : ℕ → Terms) (n : ℕ) (es : List Entry) → ((i : ℕ) → AreSets (f i)) → (i : ℕ) → AreSets (terms_from f n es i)
 ascend-from f n [] h i = h i
 ascend-from f n (e ∷ es) h i = ascend-from (with_node f n e) (suc n) es (ascend-node f n e h) i
 
-pub ascend-terms : (log : List Entry) (i : ℕ) → AscendBoth (terms log i)
+pub ascend-terms : (log : List Entry) (i : ℕ) → AreSets (terms log i)
 ascend-terms log i = ascend-from (λ i. no_terms) 1 log (λ i. record { sources = tt; starts = tt }) i
 
-pub joined_comm : (a b : Terms) → AscendBoth a → AscendBoth b → joined a b ≡ joined b a
+pub joined_comm : (a b : Terms) → AreSets a → AreSets b → joined a b ≡ joined b a
 joined_comm a b h k =
     let make : List SourceByte → List Loc → Terms = λ s l. record { sources = s; starts = l } in
     ap₂ make (union_comm source_total source_same a.sources b.sources h.sources k.sources) (union_comm loc_total loc_same a.starts b.starts h.starts k.starts)
@@ -145,12 +140,12 @@ module _ {K : Type 0} {R : K → K → Ordering} (o : IsTotalOrder R) (same : Is
   union_itself : (xs : List K) → Ascends R xs → union R xs xs ≡ xs
   union_itself xs a = same_list o same (union R xs xs) xs (Ascends-union o xs xs a) a (λ q. has-union o xs xs q ∙ or_itself (has R q xs))
 
-pub joined_itself : (a : Terms) → AscendBoth a → joined a a ≡ a
+pub joined_itself : (a : Terms) → AreSets a → joined a a ≡ a
 joined_itself a h =
     let make : List SourceByte → List Loc → Terms = λ s l. record { sources = s; starts = l } in
     ap₂ make (union_itself source_total source_same a.sources h.sources) (union_itself loc_total loc_same a.starts h.starts)
 
-pub joined_nothing : (a : Terms) → AscendBoth a → joined a no_terms ≡ a
+pub joined_nothing : (a : Terms) → AreSets a → joined a no_terms ≡ a
 joined_nothing a h =
     let make : List SourceByte → List Loc → Terms = λ s l. record { sources = s; starts = l } in
     ap₂ make (union-nil source_total a.sources h.sources) (union-nil loc_total a.starts h.starts)

@@ -2,7 +2,7 @@
 
 ghost use Rattle.std.specs.Prelude.{◌≡◌, ◌++◌, map, IfOk, OnOk};
 ghost use Rattle.sorted_set.specs.Sets.{Ascends, has};
-ghost use Rattle.merge_log.specs.Log.{IsNode, terms, no_terms, start_term};
+ghost use Rattle.merge_log.specs.Log.{IsNode, AreSets, terms, no_terms, start_term};
 ghost use Rattle.merge_log.specs.Walk.{leaves_of};
 ghost use Rattle.merge_log.specs.declared.reader.Leaf.TheVariants as leaf;
 
@@ -80,7 +80,8 @@ impl TermsReader {
 
     /// Reads one start location, as if from a node that is its leaf.
     pub fn read_start(&mut self, loc: Loc) -> Result<(), NoMemory>
-        ensures { OnOk result (self.new ≡ start_term loc) }
+        ensures read { OnOk result (self.new ≡ start_term loc) }
+        ensures ascending { OnOk result (AreSets self.new) }
     {
         self.found.sources.clear();
         self.found.starts.clear();
@@ -92,7 +93,8 @@ impl TermsReader {
     /// have read part of them, and can go on with any node of any log.
     pub fn read(&mut self, log: &MergeLog, node: Node) -> Result<(), NoMemory>
         requires { IsNode log.now node }
-        ensures { OnOk result (self.new ≡ terms log.now node) }
+        ensures read { OnOk result (self.new ≡ terms log.now node) }
+        ensures ascending { OnOk result (AreSets self.new) }
     {
         log.form();
         self.found.sources.clear();
