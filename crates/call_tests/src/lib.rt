@@ -11,6 +11,8 @@ mod images;
 #[cfg(test)]
 mod machine;
 #[cfg(test)]
+mod nodes;
+#[cfg(test)]
 mod outside;
 #[cfg(test)]
 mod queries;
