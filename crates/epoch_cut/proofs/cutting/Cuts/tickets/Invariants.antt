@@ -1,7 +1,7 @@
 use Rattle.std.proofs.Common.{◌≡◌, ◌≤◌, take, vec_len, vec_capacity}
 use Rattle.epoch_cut.specs.Cutting.{epochs}
 use Rattle.epoch_cut.specs.ByLength.{numbered}
-use Rattle.epoch_cut.proofs.cuts.Cuts.tickets.Given as goal
+use Rattle.epoch_cut.proofs.cutting.Cuts.tickets.Given as goal
 
 -- one ticket for each number so far, and room for all
 abbrev pub invariant-loop-number : goal.invariant-loop-number

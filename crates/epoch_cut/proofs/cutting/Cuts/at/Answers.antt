@@ -2,7 +2,7 @@ use Rattle.std.proofs.Common.{◌≡◌, ◌*◌, ◌≤◌, Some, ◌∷◌, le
 use Rattle.std.specs.List.{slice_get}
 use Rattle.epoch_cut.specs.ByLength.{cut_at, cut_times}
 use Rattle.epoch_cut.proofs.CutTimes.{cut_times_counted, cut_times_multiples}
-use Rattle.epoch_cut.proofs.cuts.Cuts.at.Goals as goal
+use Rattle.epoch_cut.proofs.cutting.Cuts.at.Goals as goal
 
 pub returns : goal.returns
 returns c =

@@ -3,7 +3,7 @@ use Rattle.std.proofs.lemmas.List.{take_all}
 use Rattle.epoch_cut.specs.Cutting.{epochs}
 use Rattle.epoch_cut.specs.ByLength.{numbered}
 use Rattle.epoch_cut.proofs.Numbered.{numbered_more, length-numbered}
-use Rattle.epoch_cut.proofs.cuts.Cuts.tickets.Goals as goal
+use Rattle.epoch_cut.proofs.cutting.Cuts.tickets.Goals as goal
 
 pub loop-number-preserved : goal.loop-number-preserved
 loop-number-preserved c = record {
