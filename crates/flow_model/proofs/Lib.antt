@@ -1,6 +1,8 @@
 pub mod Orders
+pub mod Derived
 mod Origins
 mod FlowOrder
 pub mod OriginsRead
 mod Members
+pub mod Narrowed
 pub mod Located

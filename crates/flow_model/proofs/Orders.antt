@@ -1,5 +1,5 @@
--- The orders of locations, source bytes and output bytes are total, and only the same tie. Crates above cite these lemmas.
-use Rattle.std.proofs.Common.{◌≡◌, ℕ, List, ap₂}
+-- The orders of locations, source bytes, output bytes and points inside a run are total, and only the same tie. Crates above cite these lemmas.
+use Rattle.std.proofs.Common.{◌≡◌, ℕ, List, ap, ap₂}
 use Rattle.std.specs.Ordering.{nat_cmp}
 use Rattle.std.specs.Cmp.{IsTotalOrder, on_total}
 use Rattle.std.specs.Cmp.Lexicographic.{slice_cmp, nat_list_cmp_total}
@@ -9,7 +9,10 @@ use Rattle.flow_model.specs.declared.Loc.{Loc}
 use Rattle.flow_model.specs.declared.Loc.TheVariants.{Reg, Mem}
 use Rattle.flow_model.specs.declared.SourceByte.{SourceByte}
 use Rattle.flow_model.specs.declared.SinkByte.{SinkByte}
-use Rattle.flow_model.specs.Orders.{loc_key, source_key, loc_cmp, source_cmp, sink_key, sink_cmp}
+use Rattle.flow_model.specs.declared.InnerSink.{InnerSink}
+use Rattle.flow_model.specs.declared.SinkPoint.{SinkPoint}
+use Rattle.flow_model.specs.declared.SinkPoint.TheVariants.{Out, At}
+use Rattle.flow_model.specs.Orders.{loc_key, source_key, loc_cmp, source_cmp, sink_key, sink_cmp, inner_key, inner_cmp, point_key, point_cmp}
 
 pub source_total : IsTotalOrder source_cmp
 source_total = on_total source_key nat_list_cmp_total
@@ -51,3 +54,28 @@ same_sink a b e =
 
 pub sink_same : IsAntisymmetric sink_cmp
 sink_same a b e = same_sink a b (same_lists (sink_key a) (sink_key b) e)
+
+pub inner_total : IsTotalOrder inner_cmp
+inner_total = on_total inner_key nat_list_cmp_total
+
+same_inner : (a b : InnerSink) → inner_key a ≡ inner_key b → a ≡ b
+same_inner a b e =
+    let make : ℕ → Loc → InnerSink = λ t l. record { time = t; loc = l } in
+    let p : a.time ≡ b.time = cc in
+    let k : loc_key a.loc ≡ loc_key b.loc = cc in
+    ap₂ make p (same_loc a.loc b.loc k)
+
+pub inner_same : IsAntisymmetric inner_cmp
+inner_same a b e = same_inner a b (same_lists (inner_key a) (inner_key b) e)
+
+pub point_total : IsTotalOrder point_cmp
+point_total = on_total point_key nat_list_cmp_total
+
+same_point : (a b : SinkPoint) → point_key a ≡ point_key b → a ≡ b
+same_point (Out a) (Out b) e = let k : sink_key a ≡ sink_key b = cc in ap Out (same_sink a b k)
+same_point (Out a) (At q) e = cc
+same_point (At p) (Out b) e = cc
+same_point (At p) (At q) e = let k : inner_key p ≡ inner_key q = cc in ap At (same_inner p q k)
+
+pub point_same : IsAntisymmetric point_cmp
+point_same a b e = same_point a b (same_lists (point_key a) (point_key b) e)

@@ -1,5 +1,5 @@
 -- The ranges that locations, and the steps of a run, keep to.
-use Rattle.std.specs.Prelude.{ℕ, ◌+◌, ◌^◌, ◌<◌, ◌≤◌, List, [], ◌∷◌, Option, Some, None}
+use Rattle.std.specs.Prelude.{◌+◌, ◌^◌, ◌<◌, ◌≤◌, List, [], ◌∷◌, Option, Some, None}
 use Rattle.isa.specs.Encodings.{Fits}
 use Rattle.flow_model.specs.declared.Loc.{Loc}
 use Rattle.flow_model.specs.declared.Loc.TheVariants.{Reg, Mem}
@@ -24,7 +24,7 @@ IsTable (t ∷ ts) = IsLocation t.loc × AreLocations t.origins × IsTable ts
 -- a read or a write that moves bytes: its channel, the offsets of its bytes, and their addresses
 pub record IsTransferInRange (call : CallSeen) : Type 0 where
   pub channel : call.channel < 16
-  pub offsets : call.offset + call.length ≤ 2 ^ 26
+  pub offsets : call.offset + call.length ≤ 2 ^ 27
   pub places : call.place + call.length ≤ 2 ^ 32
 
 abbrev pub IsCallInRange : Option CallSeen → Type 0

@@ -33,6 +33,21 @@ pub struct SinkByte {
     pub offset: u32,
 }
 
+/// A location at a time inside a run: its content after `time` steps. The order is by time and then location.
+#[derive(Clone, Copy, PartialEq, Eq, PartialOrd, Ord)]
+pub struct InnerSink {
+    pub time: u64,
+    pub loc: Loc,
+}
+
+/// What a query may ask the sources of: an output byte, or a location at a time inside the run. Output bytes
+/// come first.
+#[derive(Clone, Copy, PartialEq, Eq, PartialOrd, Ord)]
+pub enum SinkPoint {
+    Out(SinkByte),
+    At(InnerSink),
+}
+
 /// Which flows count.
 #[derive(Clone, Copy, Debug, PartialEq, Eq)]
 pub enum Rule {

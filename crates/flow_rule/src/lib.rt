@@ -7,7 +7,7 @@ mod locations;
 mod shape;
 mod table;
 
-pub use flow_model::{Loc, Rule, SinkByte, SourceByte};
+pub use flow_model::{InnerSink, Loc, Rule, SinkByte, SinkPoint, SourceByte};
 pub use flows::Flow;
 pub use locations::Locations;
 pub use shape::{Shape, shape_of};

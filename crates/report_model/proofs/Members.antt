@@ -2,7 +2,7 @@
 use Rattle.std.proofs.Common.{◌≡◌, ℕ, nat_eq, slice_index_or, zero, suc, ◌+◌, ◌<◌, ◌≤◌, List, [], ◌∷◌, ◌++◌, Bool, true, false, cond, refl, sym, subst, inl, inr, arith, map, length}
 use Rattle.std.specs.Prelude.{◌⊎◌, Contains, Any}
 use Rattle.std.proofs.lemmas.Bool.{eqb-true, eqb-false}
-use Rattle.std.specs.List.{filter, range_with_len}
+use Rattle.std.specs.List.{filter, range_with_len, AllByRecursion}
 
 module _ {X : Type 0} where
   -- P holds of some element
@@ -40,6 +40,12 @@ module _ {X : Type 0} where
   some-gives P Q f [] h = absurd h
   some-gives P Q f (x ∷ xs) (inl p) = f x p
   some-gives P Q f (x ∷ xs) (inr h) = some-gives P Q f xs h
+
+  -- what holds of some element, and what holds of each, holds of one both
+  pub some-each-too : (P Q : X → Type 0) (xs : List X) → Some_in P xs → AllByRecursion Q xs → Some_in (λ x. P x × Q x) xs
+  some-each-too P Q [] h e = absurd h
+  some-each-too P Q (x ∷ xs) (inl p) e = inl (p, e.0)
+  some-each-too P Q (x ∷ xs) (inr h) e = inr (some-each-too P Q xs h e.1)
 
   pub some-left : (P : X → Type 0) (xs ys : List X) → Some_in P xs → Some_in P (xs ++ ys)
   some-left P [] ys h = absurd h

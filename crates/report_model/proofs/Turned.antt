@@ -1,4 +1,4 @@
--- A source byte and an output byte stand together in the influence exactly where they do in the rows.
+-- A source byte, and an output byte or point, stand together in the influence exactly where they do in the rows.
 use Rattle.std.proofs.Common.{◌≡◌, ℕ, zero, suc, ◌<◌, List, [], ◌∷◌, true, sym, ap, ◌∙◌, subst, arith}
 use Rattle.std.specs.Prelude.{Some, Contains}
 use Rattle.std.specs.List.{filter, range_with_len}
@@ -10,7 +10,7 @@ use Rattle.isa.specs.declared.CallKind.TheVariants as kind
 use Rattle.flow_model.specs.declared.Loc.{Loc}
 use Rattle.flow_model.specs.declared.Loc.TheVariants.{Reg, Mem}
 use Rattle.flow_model.specs.declared.SourceByte.{SourceByte}
-use Rattle.flow_model.specs.declared.SinkByte.{SinkByte}
+use Rattle.flow_model.specs.declared.SinkPoint.{SinkPoint}
 use Rattle.flow_model.specs.declared.StepSeen.{StepSeen}
 use Rattle.flow_model.specs.declared.CallSeen.{CallSeen}
 use Rattle.flow_model.specs.Flow.{is_received, is_received_by, distance}
@@ -30,17 +30,17 @@ use Rattle.report_model.proofs.Members.{Some_in, some-Any, Any-some, some-Contai
 
 -- ---- what is reached, both ways
 
-pub reached-from : (rs : List Row) (b : SourceByte) (s : SinkByte) → Contains (reached rs b) s → IsListed s b rs
+pub reached-from : (rs : List Row) (b : SourceByte) (s : SinkPoint) → Contains (reached rs b) s → IsListed s b rs
 reached-from rs b s c =
-    let mapped = map-some (λ (t : SinkByte). t ≡ s) (λ (r : Row). r.sink) (filter (λ r. has source_cmp b r.sources) rs) (some-Contains (reached rs b) s c) in
+    let mapped = map-some (λ (t : SinkPoint). t ≡ s) (λ (r : Row). r.sink) (filter (λ r. has source_cmp b r.sources) rs) (some-Contains (reached rs b) s c) in
     let kept = filter-some (λ (r : Row). r.sink ≡ s) (λ r. has source_cmp b r.sources) rs mapped in
     Any-some _ rs (some-each _ _ (λ (r : Row) p. (p.1, Contains-has source_total source_same r.sources b p.0)) rs kept)
 
-pub reached-has : (rs : List Row) (b : SourceByte) (s : SinkByte) → IsListed s b rs → Contains (reached rs b) s
+pub reached-has : (rs : List Row) (b : SourceByte) (s : SinkPoint) → IsListed s b rs → Contains (reached rs b) s
 reached-has rs b s a =
     let listed = some-Any (λ (r : Row). (r.sink ≡ s) × Contains r.sources b) rs a in
     let kept = some-each _ (λ (r : Row). (has source_cmp b r.sources ≡ true) × (r.sink ≡ s)) (λ (r : Row) p. (has-Contains source_total r.sources b p.1, p.0)) rs listed in
-    Contains-some (reached rs b) s (some-map (λ (t : SinkByte). t ≡ s) (λ (r : Row). r.sink) _ (some-filter (λ (r : Row). r.sink ≡ s) (λ r. has source_cmp b r.sources) rs kept))
+    Contains-some (reached rs b) s (some-map (λ (t : SinkPoint). t ≡ s) (λ (r : Row). r.sink) _ (some-filter (λ (r : Row). r.sink ≡ s) (λ r. has source_cmp b r.sources) rs kept))
 
 -- ---- the source bytes that were read are those of the trace
 
@@ -92,13 +92,13 @@ of_written q trace r b written c =
 
 -- ---- the law
 
-from_influence : (q : Query) (trace : List StepSeen) (s : SinkByte) (b : SourceByte) → HasReached b s (influence q trace) → IsListed s b (rows q trace)
+from_influence : (q : Query) (trace : List StepSeen) (s : SinkPoint) (b : SourceByte) → HasReached b s (influence q trace) → IsListed s b (rows q trace)
 from_influence q trace s b h =
     let rs = rows q trace in
     let made = map-some (λ (r : Reach). (r.source ≡ b) × Contains r.sinks s) (λ c. record { source = c; sinks = reached rs c }) (chosen_sources q trace) (some-Any _ (influence q trace) h) in
     some-gives _ (IsListed s b rs) (λ (c : SourceByte) p. reached-from rs b s (subst (λ (x : SourceByte). Contains (reached rs x) s) p.0 p.1)) (chosen_sources q trace) made
 
-to_influence : (q : Query) (trace : List StepSeen) (s : SinkByte) (b : SourceByte) → IsListed s b (rows q trace) → HasReached b s (influence q trace)
+to_influence : (q : Query) (trace : List StepSeen) (s : SinkPoint) (b : SourceByte) → IsListed s b (rows q trace) → HasReached b s (influence q trace)
 to_influence q trace s b a =
     let rs = rows q trace in
     let written = All-contains (λ (r : Row). Contains (rows_as_written q trace) r × (has_sink q r.sink ≡ true)) rs a.1 (all_written q trace) (a.0, a.2, a.3) in

@@ -5,14 +5,14 @@ use Rattle.std.specs.Fmt.{decimal}
 use Rattle.isa.specs.declared.CallKind.{CallKind}
 use Rattle.isa.specs.declared.CallKind.TheVariants as kind
 use Rattle.flow_model.specs.declared.SourceByte.{SourceByte}
-use Rattle.flow_model.specs.declared.SinkByte.{SinkByte}
+use Rattle.flow_model.specs.declared.SinkPoint.{SinkPoint}
 use Rattle.flow_model.specs.declared.StepSeen.{StepSeen}
 use Rattle.flow_model.specs.declared.CallSeen.{CallSeen}
 use Rattle.sorted_set.specs.Sets.{set_of, has}
 use Rattle.flow_model.specs.Orders.{source_cmp}
 use Rattle.report_model.specs.Query.{Query, has_source}
 use Rattle.report_model.specs.Rows.{Row, rows}
-use Rattle.report_model.specs.Text.{name_text}
+use Rattle.report_model.specs.Text.{name_text, point_text}
 
 -- the i-th byte of a read
 abbrev pub source_at : CallSeen → ℕ → SourceByte
@@ -38,13 +38,13 @@ sources_of trace = flat_map (λ s. sources_of_step s.call) trace
 abbrev pub chosen_sources : Query → List StepSeen → List SourceByte
 chosen_sources q trace = set_of source_cmp (filter (has_source q) (sources_of trace))
 
--- a source byte, with the output bytes that it came to, ascending
+-- a source byte, with the output bytes and the points that it came to, ascending
 pub record Reach : Type 0 where
   pub source : SourceByte
-  pub sinks : List SinkByte
+  pub sinks : List SinkPoint
 
--- the output bytes of those rows that list a source byte
-abbrev pub reached : List Row → SourceByte → List SinkByte
+-- the output bytes and points of those rows that list a source byte
+abbrev pub reached : List Row → SourceByte → List SinkPoint
 reached rs b = map (λ r. r.sink) (filter (λ r. has source_cmp b r.sources) rs)
 
 -- rows turned round, for these source bytes
@@ -57,10 +57,10 @@ influence q trace = turned (rows q trace) (chosen_sources q trace)
 
 -- ---- its text
 
-abbrev pub sink_text : SinkByte → List ℕ
-sink_text b = codes " " ++ name_text b.channel b.offset
+abbrev pub sink_text : SinkPoint → List ℕ
+sink_text s = codes " " ++ point_text s
 
--- the source byte, the output bytes that it came to in order, each after a blank, and a line feed
+-- the source byte, the output bytes and points that it came to in order, each after a blank, and a line feed
 abbrev pub reach_text : Reach → List ℕ
 reach_text r = name_text r.source.channel r.source.offset ++ flat_map sink_text r.sinks ++ 0x0a ∷ []
 

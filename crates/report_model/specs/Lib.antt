@@ -5,3 +5,5 @@ pub mod Text
 pub mod RowLaws
 pub mod Influence
 pub mod InfluenceLaws
+pub mod Together
+pub mod TogetherLaws

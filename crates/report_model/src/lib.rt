@@ -16,20 +16,23 @@ pub enum QueryKind {
     /// A byte other than tab and 0x20 to 0x7e, outside a comment.
     #[error("a byte that no line may have")]
     BadByte,
-    /// The first word is none of `rule`, `source` and `sink`; or a rule's name is no rule.
+    /// The first word is none of `rule`, `source` and `sink`; or a rule's name is no rule; or the word before the time of a
+    /// `sink mem` or `sink reg` line is not `at`.
     #[error("an unknown word")]
     Word,
     /// Too few or too many words.
     #[error("too few or too many words")]
     Count,
-    /// A word that stands for a number is none: 1 to 10 decimal digits, at most 4294967295.
+    /// A word that stands for a number is none: 1 to 10 decimal digits, at most 4294967295; or a time: 1 to 13 decimal
+    /// digits, at most 1099511627776.
     #[error("a word that is no number")]
     Number,
     /// A channel above 15.
     #[error("a channel above 15")]
     Channel,
-    /// A range that ends before it begins.
-    #[error("a range that ends before it begins")]
+    /// A range that ends before it begins. Of `sink mem`, no bytes, more than 65536 of them, or some past address
+    /// 2^32 - 1; of `sink reg`, register 0 or one above 31.
+    #[error("a range or a register out of bounds")]
     Range,
     /// A second `rule` line.
     #[error("a second rule")]

@@ -1,3 +1,4 @@
 pub mod Algebra
 mod Places
 pub mod Sorting
+pub mod Filters

@@ -1,0 +1,8 @@
+use Rattle.epoch_model.proofs.Points.{points_of_texts, points_together}
+use Rattle.epoch_model.proofs.laws.points_are_located.Goals as goal
+
+pub returns-clause-texts : goal.returns-clause-texts
+returns-clause-texts c = points_of_texts
+
+pub returns-clause-together : goal.returns-clause-together
+returns-clause-together c = points_together

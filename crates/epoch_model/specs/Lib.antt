@@ -1,0 +1,8 @@
+pub mod Stretch
+pub mod Cutting
+pub mod Summary
+pub mod Crossing
+pub mod Join
+pub mod PointLaws
+pub mod StretchLaws
+pub mod JoinLaws
