@@ -1,7 +1,7 @@
 -- Epochs with their numbers, one after another.
 use Rattle.std.proofs.Common.{◌≡◌, ℕ, zero, suc, ◌+◌, Some, List, [], ◌∷◌, ◌++◌, length, take, refl, ap, ◌∙◌, subst, arith}
 use Rattle.std.specs.List.{slice_get}
-use Rattle.epoch_cut.specs.Cutting.{epochs}
+use Rattle.epoch_model.specs.Cutting.{epochs}
 use Rattle.epoch_cut.specs.ByLength.{NumberedEpoch, numbered}
 
 abbrev ticket : ℕ → ℕ → ℕ → NumberedEpoch

@@ -2,7 +2,7 @@
 use Rattle.std.specs.Prelude.{ℕ, suc, ◌*◌, min, max, List, [], ◌∷◌, map}
 use Rattle.std.specs.Int.{div_ceil}
 use Rattle.std.specs.List.{range_with_len}
-use Rattle.epoch_cut.specs.Cutting.{Epoch}
+use Rattle.epoch_model.specs.Cutting.{Epoch}
 
 -- how many epochs a run of so many steps has: the steps by the length, rounded up, and one at least
 abbrev pub epoch_count : ℕ → ℕ → ℕ

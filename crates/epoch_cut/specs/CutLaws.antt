@@ -1,13 +1,13 @@
 -- What holds of the cut times of every run, by every length of 1 at least.
 use Rattle.std.specs.Prelude.{◌≡◌, ℕ, ◌≤◌, Some, ◌∷◌, length, slice_get}
-use Rattle.epoch_cut.specs.Cutting.{IsCutting}
+use Rattle.epoch_model.specs.Cutting.{IsCutting}
 use Rattle.epoch_cut.specs.ByLength.{epoch_count, cut_at, cut_times}
 
 -- they rise strictly from 0 to the number of steps, and are 0 alone where there is no step
 abbrev pub CutTimesAreCutting : Type 0
 CutTimesAreCutting = (steps by : ℕ) → 1 ≤ by → IsCutting steps (cut_times steps by)
 
--- there are as many as epochs
+-- there are as many as there are epochs
 abbrev pub CutTimesAreCounted : Type 0
 CutTimesAreCounted = (steps by : ℕ) → length (cut_times steps by) ≡ epoch_count steps by
 

@@ -1,10 +1,10 @@
 //! The cuts of a run.
 
 ghost use Rattle.std.specs.Prelude.{◌≡◌, ◌≤◌, Some, ◌∷◌, length, slice_get, IfOk};
-ghost use Rattle.epoch_cut.specs.Cutting.{epochs};
+ghost use Rattle.epoch_model.specs.Cutting.{epochs};
 ghost use Rattle.epoch_cut.specs.ByLength.{numbered};
 
-use crate::by_length::epoch_count;
+use crate::by_length::{MOST_EPOCHS, epoch_count};
 use crate::ticket::EpochTicket;
 use no_memory::NoMemory;
 use std::alloc::Global;
@@ -31,10 +31,10 @@ impl Model for Cuts {
 }
 
 impl Cuts {
-    /// How many epochs there are: 1 to 4096.
+    /// How many epochs there are: 1 to [`MOST_EPOCHS`].
     pub fn count(&self) -> u32
         ensures is { result ≡ length self.now }
-        ensures in_range { (1 ≤ result) × (result ≤ 4096) }
+        ensures in_range { (1 ≤ result) × (result ≤ MOST_EPOCHS) }
     {
         epoch_count(self.steps, self.epoch_length) as u32
     }
