@@ -5,6 +5,8 @@
 #[cfg(test)]
 mod assembly;
 #[cfg(test)]
+mod cuts;
+#[cfg(test)]
 mod flows;
 #[cfg(test)]
 mod images;
