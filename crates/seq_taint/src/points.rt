@@ -28,7 +28,8 @@ pub fn collect_due<'a>(
 ) -> Result<&'a [InnerSink], NoMemory>
     requires ascending { Ascends inner_cmp points.now }
     requires none_before { All (λ p. time ≤ p.time) points.now }
-    ensures rows { OnOk result ((sources : Location → List SourceByte) → Shows places.now sources → sets.new.items ≡ sets.old.items ++ point_rows sources (at_time time points.now)) }
+    ensures rows { OnOk result ((sources : Location → List SourceByte) → Shows places.now sources
+        → sets.new.items ≡ sets.old.items ++ point_rows sources (at_time time points.now)) }
     ensures later { IfOk result (λ later. later.now ≡ from_time (time + 1) points.now) }
 {
     let mut due = 0;
@@ -45,7 +46,8 @@ fn point_set(
     places: &Places<SourceSet>,
     point: InnerSink,
 ) -> Result<SinkSet, NoMemory>
-    ensures { IfOk result (λ set. (sources : Location → List SourceByte) → Shows places.now sources → set ≡ row_by sources (point_sink point)) }
+    ensures { IfOk result (λ set. (sources : Location → List SourceByte) → Shows places.now sources
+        → set ≡ row_by sources (point_sink point)) }
 {
     let name = SinkPoint::At(point);
     if is_location(point.loc) {

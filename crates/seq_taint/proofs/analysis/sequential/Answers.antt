@@ -81,19 +81,18 @@ loop-step-init c =
 
 -- ---- the points due at the end
 
-at_end : (c : goal.After-sets-2-1) → c.steps.result ≡ c.loop-step.cursor.time
-at_end c = c.steps.ensures ∙ sym (c.in_default.ensures.done ∙ ap (λ (j : Job). steps j.log) c.loop-step.invariant.job)
-
 pub collect_due-requires-2-clause-ascending : goal.collect_due-requires-2-clause-ascending
 collect_due-requires-2-clause-ascending c =
-    left_ascend c.loop-step.cursor.time c.steps.result c.loop-step.points.now c.args.query.now.points (at_end c) c.loop-step.invariant.points c.points-points.ensures.ascending
+    let done = c.in_default.ensures.done ∙ ap (λ (j : Job). steps j.log) c.loop-step.invariant.job in
+    left_ascend c.loop-step.cursor.time c.steps.result c.loop-step.points.now c.args.query.now.points (c.steps.ensures ∙ sym done) c.loop-step.invariant.points c.points-points.ensures.ascending
 
 pub collect_due-requires-2-clause-none_before : goal.collect_due-requires-2-clause-none_before
 collect_due-requires-2-clause-none_before c =
-    left_in_time c.loop-step.cursor.time c.steps.result c.loop-step.points.now c.args.query.now.points (at_end c) c.loop-step.invariant.points
+    let done = c.in_default.ensures.done ∙ ap (λ (j : Job). steps j.log) c.loop-step.invariant.job in
+    left_in_time c.loop-step.cursor.time c.steps.result c.loop-step.points.now c.args.query.now.points (c.steps.ensures ∙ sym done) c.loop-step.invariant.points
 
-all_written : (c : goal.After-drop-cursor-inside-2) → c.collect_due-2.new.sets.items ≡ rows_as_written c.args.query.now (trace_of c.args.job.now)
-all_written c =
+pub returns : goal.returns
+returns c =
     let q = c.args.query.now in
     let job = c.args.job.now in
     let t = c.loop-step.cursor.time in
@@ -103,12 +102,6 @@ all_written c =
     let due : c.collect_due-2.new.sets.items ≡ c.loop-step.sets.items ++ point_rows by_now (at_time t q.points) =
     c.in_ok-collect_due.ensures.rows by_now shows
     ∙ ap (λ (ps : List InnerSink). c.loop-step.sets.items ++ point_rows by_now ps) (due_now t c.steps.result c.loop-step.points.now q.points (c.steps.ensures ∙ sym done) c.loop-step.invariant.points) in
-    all_rows q (steps job.log) (start job.start job.log) t done c.loop-step.sets.items c.collect_due-2.new.sets.items c.loop-step.invariant.rows due
-
-pub returns-clause-rows : goal.returns-clause-rows
-returns-clause-rows c = all_written c
-
-pub returns-clause-distinct : goal.returns-clause-distinct
-returns-clause-distinct c =
-    let job = c.args.job.now in
-    subst AreDistinct (sym (all_written c)) (distinct_rows c.args.query.now (trace_of job) c.points-points.ensures.ascending (writes_apart job.start job.log))
+    let rows : c.collect_due-2.new.sets.items ≡ rows_as_written q (trace_of job) =
+    all_rows q (steps job.log) (start job.start job.log) t done c.loop-step.sets.items c.collect_due-2.new.sets.items c.loop-step.invariant.rows due in
+    record { rows = rows; distinct = subst AreDistinct (sym rows) (distinct_rows q (trace_of job) c.points-points.ensures.ascending (writes_apart job.start job.log)) }
