@@ -3,3 +3,4 @@ mod Delivered
 mod Fitting
 mod Working
 mod Recording
+mod Reporting

@@ -6,7 +6,9 @@ use Rattle.isa.specs.Machine.{State}
 use Rattle.elf_model.specs.declared.ImageKind.{ImageKind}
 use Rattle.elf_model.specs.Image.{Image, image}
 use Rattle.elf_model.specs.Window.{start_of}
+use Rattle.log_model.specs.declared.Version.TheVariants.{Two}
 use Rattle.log_model.specs.Logs.{Log, log_text}
+use Rattle.record_model.specs.Counts.{capped}
 use Rattle.replay_model.specs.Fits.{start_in_image}
 use Rattle.record_model.specs.Recorded.{IsRecorded}
 use Rattle.call_record.specs.Captures.{IsCaptured, IsTooLong, IsCause}
@@ -29,13 +31,17 @@ use Rattle.jet_cli.proofs.Working.{follows-answer}
 -- ---- a run that was captured
 
 abbrev text_if : Bool → Log → Result (List ℕ) Refusal
-text_if long log = if long then Err (refusal.LogTooLong (length (log_text log))) else Ok (log_text log)
+text_if long log = if long then Err (refusal.LogTooLong (capped (length (log_text Two log)))) else Ok (log_text Two log)
 
-short_text : (log : Log) → length (log_text log) ≤ 2 ^ 26 → limited_text log ≡ Ok (log_text log)
-short_text log short = ap (λ b. text_if b log) (le-ltb (2 ^ 26) (length (log_text log)) short)
+-- a count that stands still beyond the limit is one beyond the limit
+over_limit : (n size : ℕ) → size ≡ capped n → 2 ^ 26 < size → 2 ^ 26 < n
+over_limit n size e over = omega (arith, e, over)
 
-long_text : (log : Log) → 2 ^ 26 < length (log_text log) → limited_text log ≡ Err (refusal.LogTooLong (length (log_text log)))
-long_text log long = ap (λ b. text_if b log) (lt-ltb (2 ^ 26) (length (log_text log)) long)
+pub short_text : (log : Log) → length (log_text Two log) ≤ 2 ^ 26 → limited_text log ≡ Ok (log_text Two log)
+short_text log short = ap (λ b. text_if b log) (le-ltb (2 ^ 26) (length (log_text Two log)) short)
+
+pub long_text : (log : Log) → 2 ^ 26 < length (log_text Two log) → limited_text log ≡ Err (refusal.LogTooLong (capped (length (log_text Two log))))
+long_text log long = ap (λ b. text_if b log) (lt-ltb (2 ^ 26) (length (log_text Two log)) long)
 
 module _ (source : Source) (limits : Limits) (heard heard_after : Option (List ℕ)) (loads : image source.program.bytes ≡ Ok source.program.image) where
   abbrev Captures : Result (List ℕ) Refusal → Type 0
@@ -55,13 +61,13 @@ module _ (source : Source) (limits : Limits) (heard heard_after : Option (List �
         (ap (λ o. ok_or o (refusal.Window limits.pages)) (begins log c.answers c.recorded)) (record { log = log; recorded = c.recorded; text = e });
   }
 
-  pub captured-text : (log : Log) (text : List ℕ) → IsCaptured (setting_of source limits) heard heard_after log → length (log_text log) ≤ 2 ^ 26 → text ≡ log_text log → Captures (Ok text)
+  pub captured-text : (log : Log) (text : List ℕ) → IsCaptured (setting_of source limits) heard heard_after log → length (log_text Two log) ≤ 2 ^ 26 → text ≡ log_text Two log → Captures (Ok text)
   captured-text log text c short e = captured_as log c (Ok text) (ap Ok e ∙ sym (short_text log short))
 
   captured-too_long : (size : ℕ) → IsTooLong (setting_of source limits) heard heard_after size → Captures (Err (refusal.LogTooLong size))
   captured-too_long size t =
       captured_as t.log t.captured (Err (refusal.LogTooLong size))
-      (ap (λ (n : ℕ). Err (refusal.LogTooLong n)) t.size_is ∙ sym (long_text t.log (subst (λ (n : ℕ). 2 ^ 26 < n) t.size_is t.over)))
+      (ap (λ (n : ℕ). Err (refusal.LogTooLong n)) t.size_is ∙ sym (long_text t.log (over_limit (length (log_text Two t.log)) size t.size_is t.over)))
 
   captured-window : start_of source.program.image limits.pages ≡ None → Tells heard heard_after (Gains []) → Captures (Err (refusal.Window limits.pages))
   captured-window none gained = record {

@@ -25,7 +25,7 @@ pub struct Limits {
     pub pages: u32,
     /// The greatest number of bytes that a read gets.
     pub piece: u32,
-    /// The number of steps after which the run is cut off.
+    /// The number of steps after which the run is cut off, at most 2^40.
     pub steps: u64,
 }
 
@@ -51,6 +51,7 @@ fn log_text<K: Clock>(
     requires image { image_of_file program.now.bytes.items ≡ Ok program.now.image }
     requires some { 1 ≤ limits.pages }
     requires most { limits.pages ≤ 4096 }
+    requires steps { limits.steps ≤ 2 ^ 40 }
     requires few { length inputs.now ≤ 16 }
     requires short { All (λ v. length v.items ≤ 2 ^ 26) inputs.now }
     ensures answer { IsWorkOf (IsCapture (record { program = program_of program.now; inputs = contents inputs.now })
@@ -73,14 +74,10 @@ fn log_text<K: Clock>(
         piece,
         steps,
     ) {
-        Ok(log) => {
-            // The contract of `size` says that the text is short enough.
-            let _size = log.size();
-            match write_log(alloc, &log) {
-                Ok(text) => Ok(text),
-                Err(NoMemory) => Err(Refusal::NoMemory),
-            }
-        }
+        Ok(log) => match write_log(alloc, &log) {
+            Ok(text) => Ok(text),
+            Err(NoMemory) => Err(Refusal::NoMemory),
+        },
         Err(fault) => Err(of_capture(fault, pages)),
     }
 }
@@ -97,6 +94,7 @@ pub fn record<S: Store, K: Clock>(
 ) -> Result<Vec<u8>, Refusal>
     requires some { 1 ≤ limits.pages }
     requires most { limits.pages ≤ 4096 }
+    requires steps { limits.steps ≤ 2 ^ 40 }
     requires few { length inputs.now ≤ 16 }
     ensures answer { Follows (IsRecording program.now (map (λ name. name.now) inputs.now) (limits_of limits.pages limits.piece limits.steps)
         (K.answers clock.old) (K.answers clock.new)) (S.shown store.old) (S.shown store.new) (seen_by bytes_of result) }

@@ -1,5 +1,7 @@
 //! Reports: of one query, and of several by one replay.
 ghost use Rattle.std.specs.Prelude.{◌≡◌, ◌≤◌, ◌++◌, Err, length, IfOk, IfErr, OnOk};
+ghost use Rattle.sorted_set.specs.Sets.{Ascends};
+ghost use Rattle.flow_model.specs.Orders.{inner_cmp};
 ghost use Rattle.report_model.specs.Rows.{rows};
 ghost use Rattle.jet_model.specs.Report.{report_of, reports_of as reports_by};
 ghost use Rattle.replayer.specs.Jobs.{trace_of};
@@ -62,8 +64,11 @@ fn push_report(
     all: &Report,
     query: &Query,
 ) -> Result<(), NoMemory>
-    ensures { OnOk result (out.new.items ≡ out.old.items ++ numbered_text number query.now all.now) }
+    ensures text { OnOk result (out.new.items ≡ out.old.items ++ numbered_text number query.now all.now) }
+    ensures points { Ascends inner_cmp query.now.points }
 {
+    // The contract of `points` says that they ascend.
+    let _points = query.points();
     let mut buffer = Buffer::new();
     out.extend_from_slice(b"query ")?;
     out.extend_from_slice(buffer.format(number).as_bytes())?;

@@ -12,3 +12,9 @@ returns-in-Replay-clause-keeps g c = keeps-more (target_of (plain_command c.args
 
 pub returns-in-Output-clause-keeps : goal.returns-in-Output-clause-keeps
 returns-in-Output-clause-keeps g c = keeps-more (target_of (plain_command c.args.command.now)) _ _ (keeps-none (g.S.Store.shown c.args.store.now).files)
+
+pub returns-in-Influence-clause-keeps : goal.returns-in-Influence-clause-keeps
+returns-in-Influence-clause-keeps g c = keeps-more (target_of (plain_command c.args.command.now)) _ _ (keeps-none (g.S.Store.shown c.args.store.now).files)
+
+pub returns-in-Queries-clause-keeps : goal.returns-in-Queries-clause-keeps
+returns-in-Queries-clause-keeps g c = keeps-more (target_of (plain_command c.args.command.now)) _ _ (keeps-none (g.S.Store.shown c.args.store.now).files)

@@ -1,5 +1,4 @@
-use Rattle.std.proofs.Common.{sym, subst, arith, ◌≤◌, ◌^◌, length, List, [], ℕ, Err}
-use Rattle.log_model.specs.Logs.{log_text}
+use Rattle.std.proofs.Common.{sym, subst, ◌≤◌, List, [], ℕ, Err}
 use Rattle.call_record.specs.Captures.{IsCaptured, IsCause, setting_of as captured_setting}
 use Rattle.call_record.specs.Sources.{contents}
 use Rattle.outer_io.specs.Tells.{Tells, Gains}
@@ -17,8 +16,7 @@ returns-in-Ok-write_log-clause-answer g c =
     let source : Source = record { program = program_of a.program.now; inputs = contents a.inputs.now } in
     let limits : Limits = limits_of a.limits.pages a.limits.piece a.limits.steps in
     let captured = subst (λ (bytes : List ℕ). IsCaptured (captured_setting bytes a.limits.pages a.inputs.now a.limits.piece a.limits.steps) (g.K.Clock.answers a.clock.now) (g.K.Clock.answers c.capture.new.clock) c.in-Ok.log) c.deref.ensures.value c.in-Ok.ensures.captured in
-    let short : length (log_text c.in-Ok.log) ≤ 2 ^ 26 = omega (arith, c.size-size.ensures.length, c.size-size.ensures.limit) in
-    captured-text source limits (g.K.Clock.answers a.clock.now) (g.K.Clock.answers c.capture.new.clock) c.requires.image c.in-Ok.log _ captured short c.in-Ok-write_log.ensures
+    captured-text source limits (g.K.Clock.answers a.clock.now) (g.K.Clock.answers c.capture.new.clock) c.requires.image c.in-Ok.log _ captured c.in-Ok.ensures.small c.in-Ok-write_log.ensures
 
 pub returns-clause-answer : goal.returns-clause-answer
 returns-clause-answer g c =

@@ -1,26 +1,24 @@
-use Rattle.std.proofs.Common.{rules, ◌∙◌, ap, subst, List, ℕ, Err}
+use Rattle.std.proofs.Common.{◌∙◌, ap, List, rules, Err}
+use Rattle.std.proofs.lemmas.Result.{IfOk-weaker}
 use Rattle.log_model.specs.declared.CallRecord.{CallRecord}
 use Rattle.log_model.specs.Logs.{Log}
 use Rattle.log_model.specs.Moved.{written}
-use Rattle.replayer.specs.Checks.{IsChecked}
 use Rattle.run_output.specs.Output.{output}
 use Rattle.jet_model.specs.Answer.{fitting_start, text_answer}
 use Rattle.jet_files.specs.Outcome.{IsWork}
 use Rattle.jet_files.specs.Views.{run_of}
 use Rattle.jet_files.proofs.Composing.{work-stops}
-use Rattle.jet_cli.proofs.Working.{text-gives}
+use Rattle.jet_cli.proofs.Working.{work-text, text-gives}
 use Rattle.jet_cli.proofs.work.output.Goals as goal
 
 pub returns-in_err-job : goal.returns-in_err-job
 returns-in_err-job c =
     let run = run_of c.args.run in
-    let refused : IsWork (text_answer run (output c.args.channel)) (Err c.in_err-job.field-0.0) =
-    work-stops (fitting_start run.program run.log) _ c.in_err-job.field-0.0
-    (subst (λ (b : List ℕ). IsWork (fitting_start (record { bytes = b; image = run.program.image }) run.log) (Err c.in_err-job.field-0.0)) c.deref.ensures.value c.in_err-job.ensures.err) in
+    let refused : IsWork (text_answer run (output c.args.channel)) (Err c.in_err-job.field-0.0) = work-stops (fitting_start run.program run.log) _ c.in_err-job.field-0.0 c.in_err-job.ensures.err in
     search rules
 
-pub returns-in-Ok : goal.returns-in-Ok
-returns-in-Ok c =
+pub returns : goal.returns
+returns c =
     let run = run_of c.args.run in
-    text-gives run (output c.args.channel) c.in_ok-job.job _ (subst (λ (b : List ℕ). IsChecked b run.program.image run.log c.in_ok-job.job) c.deref.ensures.value c.in_ok-job.ensures.ok)
-    (c.in-Ok.ensures ∙ ap (λ (calls : List CallRecord). written c.args.channel calls) (c.records.ensures ∙ ap (λ (l : Log). l.records) c.log.ensures))
+    work-text c.output_on.result c.or_memory.result (text_answer run (output c.args.channel)) c.or_memory.ensures.ok c.or_memory.ensures.err
+    (IfOk-weaker c.output_on.result _ _ (λ text e. text-gives run (output c.args.channel) c.in_ok-job.job text.items c.in_ok-job.ensures.ok (e ∙ ap (λ (calls : List CallRecord). written c.args.channel calls) (c.records.ensures ∙ ap (λ (l : Log). l.records) c.log.ensures))) c.output_on.ensures)
