@@ -16,6 +16,7 @@ use Rattle.seq_taint.specs.Words.{set_words}
 abbrev pub sources_at : Places (List SourceByte) → Loc → List SourceByte
 sources_at places l = meaning_at (set_words {A = Unit {0}}) tt places l
 
+-- the row of a sink, with the source bytes of its location
 abbrev pub row_by : (Loc → List SourceByte) → Sink → Row
 row_by sources s = record { sink = s.name; sources = sources s.loc }
 
@@ -25,13 +26,15 @@ rows_by q sources sinks = map (row_by sources) (filter (λ s. has_sink q s.name)
 
 -- ---- points
 
--- the points at a time, and those at it or later
+-- the points at a time
 abbrev pub at_time : ℕ → List InnerSink → List InnerSink
 at_time t points = filter (λ p. p.time == t) points
 
+-- the points at a time or later
 abbrev pub from_time : ℕ → List InnerSink → List InnerSink
 from_time t points = filter (λ p. nat_le t p.time) points
 
+-- the rows of points
 abbrev pub point_rows : (Loc → List SourceByte) → List InnerSink → List Row
 point_rows sources points = map (row_by sources) (map point_sink points)
 

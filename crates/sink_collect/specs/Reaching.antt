@@ -7,6 +7,7 @@ use Rattle.sorted_set.specs.Sets.{has}
 use Rattle.report_model.specs.Rows.{Row}
 use Rattle.report_model.specs.Influence.{Reach}
 
+-- s where the test holds, and nothing otherwise
 abbrev pub one_if : Bool → SinkPoint → List SinkPoint
 one_if true s = s ∷ []
 one_if false s = []
