@@ -152,7 +152,8 @@ whole_captured program im pages source s steps end tape told told_after begins w
 
 -- what is made of the tape: this log, which isn't too long
 abbrev pub IsMade : Tape → ℕ → List ℕ → RunEnd → Log → Type 0
-IsMade tape pages digest end log = (log ≡ log_of tape pages digest end) × (tape.size + length (end_text Two end) ≤ 2 ^ 26)
+IsMade tape pages digest end log = (log ≡ log_of tape pages digest end) ×
+    (tape.size + length (end_text Two end) ≤ 2 ^ 26)
 
 pub ok_captured : (program : List ℕ) (im : Image) (pages : ℕ) (source : Source) (s : State) (steps : ℕ)
     (digest : List ℕ) (end : RunEnd) (tape : Tape) (told told_after : Option (List ℕ)) (o : Result Log CaptureFault)

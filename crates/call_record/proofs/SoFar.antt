@@ -59,7 +59,8 @@ zeros zero c = refl
 zeros (suc n) zero = refl
 zeros (suc n) (suc c) = zeros n c
 
-pub so_far_none : (source : Source) (r : Recorder) (told : Option (List ℕ)) → length source.inputs.now ≤ 16 → IsFresh (length source.inputs.now) r → r.machine.waits ≡ false
+pub so_far_none : (source : Source) (r : Recorder) (told : Option (List ℕ)) → length source.inputs.now ≤ 16
+    → IsFresh (length source.inputs.now) r → r.machine.waits ≡ false
     → length r.machine.state.memory ≤ 2 ^ 24 → IsSoFar r.machine.state source told 0 r told
 so_far_none source r told few fresh goes_on window =
     let none : (c : ℕ) → get_or r.counts c 0 ≡ 0 = λ c. ap (λ (w : List ℕ). get_or w c 0) fresh.counts ∙ zeros 16 c in

@@ -5,11 +5,15 @@
 #[cfg(test)]
 mod assembly;
 #[cfg(test)]
+mod cuts;
+#[cfg(test)]
 mod flows;
 #[cfg(test)]
 mod images;
 #[cfg(test)]
 mod machine;
+#[cfg(test)]
+mod nodes;
 #[cfg(test)]
 mod outside;
 #[cfg(test)]

@@ -43,7 +43,12 @@ fn sources_of(alloc: Global, job: &Job, query: &Query) -> Result<Vec<SourceByte>
     job.form();
     let mut sources = Vec::new(alloc);
     for channel in 0..CHANNELS {
-        push_sources(&mut sources, channel, job.received(u32::from(channel)), query)?;
+        push_sources(
+            &mut sources,
+            channel,
+            job.received(u32::from(channel)),
+            query,
+        )?;
     }
     Ok(sources)
 }

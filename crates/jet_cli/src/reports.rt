@@ -39,11 +39,13 @@ pub fn union_of(alloc: Global, queries: &[Query]) -> Result<Query, Refusal>
 {
     match together(alloc, queries) {
         Ok(union) => Ok(union),
-        Err(TogetherFault::Rules {
-            first,
-            index,
-            other,
-        }) => Err(Refusal::Rules {
+        Err(
+            TogetherFault::Rules {
+                first,
+                index,
+                other,
+            },
+        ) => Err(Refusal::Rules {
             first,
             index,
             other,

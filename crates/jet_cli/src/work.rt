@@ -71,12 +71,7 @@ pub enum Listing {
 }
 
 /// The text of a listing.
-fn listed(
-    alloc: Global,
-    job: &Job,
-    query: &Query,
-    listing: Listing,
-) -> Result<Vec<u8>, NoMemory>
+fn listed(alloc: Global, job: &Job, query: &Query, listing: Listing) -> Result<Vec<u8>, NoMemory>
     ensures { IfOk result (λ text. text.items ≡ given_by listing query.now (trace_of job.now)) }
 {
     match listing {
@@ -86,12 +81,7 @@ fn listed(
 }
 
 /// The listing of a query over the run, for each query that this one stands for.
-pub fn list(
-    alloc: Global,
-    run: Run,
-    query: &Query,
-    listing: Listing,
-) -> Result<Vec<u8>, Refusal>
+pub fn list(alloc: Global, run: Run, query: &Query, listing: Listing) -> Result<Vec<u8>, Refusal>
     requires image { image_of_file run.program.bytes.items ≡ Ok run.program.image }
     ensures { IsWorkOf (IsGivenAlike listing (run_of run) query.now) (seen_by bytes_of result) }
 {

@@ -7,3 +7,4 @@ mod Loop
 mod Whole
 mod Shares
 mod Joined
+mod KeptCalls

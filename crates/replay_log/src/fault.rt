@@ -11,7 +11,7 @@ use thiserror::Error;
 #[derive(Debug, Drop, Error)]
 pub enum LogFault {
     /// The bytes are no log. Their first fault, met by reading from the front, is at this offset in bytes:
-    /// of a record that is at fault the offset of its tag.
+    /// of a record that is at fault the offset of its tag, of a channel that isn't whole that of its length.
     #[error("no log: {kind:?} at byte {offset}")]
     At { kind: LogKind, offset: u64 },
     /// There was no memory for the log.

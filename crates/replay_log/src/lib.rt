@@ -21,4 +21,4 @@ pub use lengths::{end_length, share};
 pub use log_model::{CallRecord, Data, LogKind, RunEnd};
 pub use logs::Log;
 pub use reading::read_log;
-pub use writing::write_log;
+pub use writing::{can_write, write_log};

@@ -1,10 +1,11 @@
 //! Writing logs, in version 2. Each function appends to the bytes written before.
 
-ghost use Rattle.std.specs.Prelude.{◌≡◌, ◌∷◌, ◌++◌, ◌^◌, ◌<◌, length, IfOk, OnOk};
+ghost use Rattle.std.specs.Prelude.{◌≡◌, ◌∷◌, ◌++◌, ◌^◌, ◌<◌, ◌↔◌, true, length, IfOk, OnOk};
 ghost use Rattle.std.specs.List.{flat_map};
 ghost use Rattle.log_model.specs.declared.Version.TheVariants.{Two};
 ghost use Rattle.log_model.specs.Moved.{received, received_by};
 ghost use Rattle.log_model.specs.Logs.{word32, word64, signed32, header_text, channel_text, kept_channels, record_text, end_text, log_text, CanHold};
+ghost use Rattle.replay_log.specs.Logs.{IsKept};
 ghost use Rattle.replay_log.specs.Tags.{number};
 
 use crate::header::magic;
@@ -181,6 +182,32 @@ fn push_channels(alloc: Global, out: &mut Vec<u8>, log: &Log) -> Result<(), NoMe
         push_channel(out, bytes.as_slice())?;
     }
     Ok(())
+}
+
+/// Whether a call takes no bytes from a channel that there isn't.
+fn is_kept(inputs: u32, call: &CallRecord) -> bool
+    ensures { result ≡ true ↔ IsKept inputs call.now }
+{
+    match call {
+        CallRecord::Read { args, bytes, .. } => bytes.len() == 0 || args[0] < inputs,
+        CallRecord::Write { .. } => true,
+        CallRecord::Clock { .. } => true,
+        CallRecord::Other { .. } => true,
+    }
+}
+
+/// Whether version 2 can hold the log: each read that got bytes is on one of the run's channels. A log that was read
+/// from version 1 may have others.
+pub fn can_write(log: &Log) -> bool
+    ensures { result ≡ true ↔ CanHold Two log.now }
+{
+    let _size = log.size();
+    for call in log.records() {
+        if !is_kept(log.inputs(), call) {
+            return false;
+        }
+    }
+    true
 }
 
 /// Writes a log, which version 2 can hold: the bytes are its text in that version, and `read_log` reads it from them.

@@ -41,10 +41,12 @@ pub fn writes_apart()
 /// Where nothing differs, a source byte is read by some step exactly where its offset is below the number of bytes that
 /// the log received on its channel.
 pub fn reads_are_received()
-    ensures { (start : State) (log : Log) → IsLog log → divergence start log ≡ None → ReadsAreReceived (trace start log) log.records }
+    ensures { (start : State) (log : Log) → IsLog log → divergence start log ≡ None
+        → ReadsAreReceived (trace start log) log.records }
 {}
 
 /// Where nothing differs, version 2 can hold a log whose text in it is at most 2^27 bytes long.
 pub fn fitting_is_held()
-    ensures { (start : State) (log : Log) → IsLog log → divergence start log ≡ None → length (log_text Two log) ≤ 2 ^ 27 → CanHold Two log }
+    ensures { (start : State) (log : Log) → IsLog log → divergence start log ≡ None
+        → length (log_text Two log) ≤ 2 ^ 27 → CanHold Two log }
 {}

@@ -1,3 +1,4 @@
 pub mod Hart
 pub mod Effects
 pub mod Start
+pub mod Saved

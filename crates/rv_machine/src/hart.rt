@@ -23,8 +23,8 @@ const ILLEGAL_INSTRUCTION: u32 = 2;
 /// A hart with its window of memory, and whether a call of it waits for its answer.
 #[derive(Drop)]
 pub struct Machine {
-    state: HartState,
-    waits: bool,
+    pub(crate) state: HartState,
+    pub(crate) waits: bool,
 }
 
 impl Model for Machine {

@@ -6,10 +6,12 @@
 #![tactic(auto)]
 
 mod hart;
+mod saved;
 mod state;
 
 pub use hart::Machine;
 pub use isa::{Call, CallKind, Instr};
+pub use saved::{MachineState, Rest};
 use thiserror::Error;
 
 /// Why there is no machine for an image.

@@ -1,10 +1,12 @@
 //! The state of a hart: pc, registers and the window of memory.
 
-ghost use Rattle.std.specs.Prelude.{◌≡◌, ℕ, ◌+◌, ◌^◌, ◌<◌, ◌≤◌, length};
+ghost use Rattle.std.specs.Prelude.{◌≡◌, ℕ, ◌+◌, ◌^◌, ◌<◌, ◌≤◌, length, IfOk};
 ghost use Rattle.isa.specs.Machine.{reg, moved_on, moved_on_with, is_aligned, address_of};
 ghost use Rattle.rv_machine.specs.Effects.{IsSmall, Executes};
 
 use isa::Effect;
+use no_memory::NoMemory;
+use std::alloc::Global;
 use std::marker::Model;
 
 mod arithmetic;
@@ -24,10 +26,10 @@ const STORE_OUTSIDE: u32 = 7;
 
 #[derive(Drop)]
 pub struct HartState {
-    pc: u32,
-    registers: [u32; 32],
-    base: u32,
-    memory: Vec<u8>,
+    pub(crate) pc: u32,
+    pub(crate) registers: [u32; 32],
+    pub(crate) base: u32,
+    pub(crate) memory: Vec<u8>,
 }
 
 impl Model for HartState {
@@ -67,6 +69,20 @@ pub fn address_of(effect: &Effect) -> u32
 }
 
 impl HartState {
+    /// This state once more.
+    pub fn copied(&self, alloc: Global) -> Result<HartState, NoMemory>
+        ensures { IfOk result (λ s. s ≡ self.now) }
+    {
+        let mut memory = Vec::with_capacity(alloc, self.memory.len())?;
+        memory.extend_from_slice(self.memory.as_slice())?;
+        Ok(HartState {
+            pc: self.pc,
+            registers: self.registers,
+            base: self.base,
+            memory,
+        })
+    }
+
     pub fn pc(&self) -> u32
         ensures { result ≡ self.now.pc }
     {

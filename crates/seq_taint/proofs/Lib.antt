@@ -1,4 +1,6 @@
 mod Order
 mod Steps
+mod Due
+mod Beyond
 mod Written
 mod Distinct

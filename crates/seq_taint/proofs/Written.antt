@@ -1,29 +1,30 @@
--- The rows of the output bytes of a trace, one step after another.
-use Rattle.std.proofs.Common.{◌≡◌, ℕ, zero, suc, ◌+◌, ◌<◌, ◌≤◌, ◌^◌, List, [], ◌∷◌, ◌++◌, map, take, length, refl, ap, ap₂, sym, ◌∙◌, Bool, true, false, cond, arith, append-nil, append_assoc}
+-- The rows of the points and of the output bytes of a trace, one step after another.
+use Rattle.std.proofs.Common.{◌≡◌, ℕ, zero, suc, ◌+◌, ◌<◌, ◌≤◌, ◌^◌, List, [], ◌∷◌, ◌++◌, map, take, length, nat_eq, refl, ap, ap₂, sym, ◌∙◌, Bool, true, false, cond, arith, append-nil, append_assoc}
 use Rattle.std.specs.Prelude.{Option, Some, None}
 use Rattle.std.specs.List.{filter, range_with_len}
-use Rattle.std.proofs.lemmas.List.Elements.{filter-append}
+use Rattle.std.proofs.lemmas.Bool.{eqb-true}
 use Rattle.std.proofs.lemmas.List.FromFn.{filter_of_map_range_with_len_more}
 use Rattle.std.proofs.lemmas.List.{take_all, map-append}
 use Rattle.isa.specs.declared.CallKind.{CallKind}
 use Rattle.isa.specs.declared.CallKind.TheVariants as kind
 use Rattle.flow_model.specs.declared.SourceByte.{SourceByte}
+use Rattle.flow_model.specs.declared.InnerSink.{InnerSink}
+use Rattle.flow_model.specs.declared.SinkPoint.TheVariants.{At}
 use Rattle.flow_model.specs.declared.StepSeen.{StepSeen}
 use Rattle.flow_model.specs.declared.CallSeen.{CallSeen}
 use Rattle.flow_model.specs.declared.Loc.TheVariants.{Mem}
 use Rattle.isa.specs.Machine.{wrap}
 use Rattle.flow_model.specs.Origins.{step_at, origins}
 use Rattle.report_model.specs.Query.{Query, has_sink, policy_of}
-use Rattle.report_model.specs.Rows.{Sink, Row, row, sink_at, sinks_of_call, sinks_of_step, sinks_from, rows_as_written}
+use Rattle.report_model.specs.Rows.{Sink, Row, row, sink_at, point_sink, points_at, sinks_of_call, sinks_of_step, sinks_from, rows_as_written}
 use Rattle.replay_model.specs.Run.{Moment, steps_from}
 use Rattle.replay_model.proofs.Offsets.{length-steps_from}
-use Rattle.seq_taint.specs.Sinks.{row_by, rows_by}
+use Rattle.seq_taint.specs.Sinks.{row_by, rows_by, at_time, point_rows}
 use Rattle.flow_model.specs.declared.Loc.{Loc}
 use Rattle.flow_model.specs.Ranges.{IsLocation}
 
--- the rows of those output bytes that the query asks for
 abbrev pub rows_of : Query → List StepSeen → List Sink → List Row
-rows_of q trace sinks = map (row q trace) (filter (λ s. has_sink q s.name) sinks)
+rows_of q trace sinks = map (row q trace) sinks
 
 chosen : {X Y : Type 0} (f : X → Y) (b : Bool) (x : X) → map f (cond b (x ∷ []) []) ≡ cond b (f x ∷ []) []
 chosen f true x = refl
@@ -59,20 +60,49 @@ module _ (q : Query) (sources : Loc → List SourceByte) (t : ℕ) (call : CallS
       let same : call.place + i ≡ wrap (call.place + i) = omega arith in
       with_byte true asked more (m ∙ ap (λ (r : Row). sets ++ r ∷ []) (s ∙ ap make same))
 
--- the output bytes of one more step
-one_more_step : (n : ℕ) (trace : List StepSeen) (t : ℕ) (step : StepSeen) → step_at trace t ≡ Some step → sinks_from n (take (t + 1) trace) ≡ sinks_from n (take t trace) ++ sinks_of_step (n + t) step.call
-one_more_step n [] t step e = cc
-one_more_step n (s ∷ ss) zero step e =
+-- the chosen sinks of a trace but for the points at its end
+abbrev pub sinks_before : Query → ℕ → List StepSeen → List Sink
+sinks_before q n [] = []
+sinks_before q n (s ∷ ss) = points_at q n ++ filter (λ x. has_sink q x.name) (sinks_of_step n s.call) ++ sinks_before q (n + 1) ss
+
+pub with_last : (q : Query) (n : ℕ) (trace : List StepSeen) → sinks_from q n trace ≡ sinks_before q n trace ++ points_at q (n + length trace)
+with_last q n [] = let here : n ≡ n + 0 = omega arith in ap (points_at q) here
+with_last q n (s ∷ ss) =
+    let first = points_at q n ++ filter (λ x. has_sink q x.name) (sinks_of_step n s.call) in
+    let later : n + 1 + length ss ≡ n + length (s ∷ ss) = omega arith in
+    ap (λ (ws : List Sink). first ++ ws) (with_last q (n + 1) ss)
+    ∙ sym (append_assoc first (sinks_before q (n + 1) ss) (points_at q (n + 1 + length ss)))
+    ∙ ap (λ (k : ℕ). (first ++ sinks_before q (n + 1) ss) ++ points_at q k) later
+
+-- those of one step more
+of_one_step : Query → ℕ → StepSeen → List Sink
+of_one_step q n s = points_at q n ++ filter (λ x. has_sink q x.name) (sinks_of_step n s.call)
+
+one_more_step : (q : Query) (n : ℕ) (trace : List StepSeen) (t : ℕ) (step : StepSeen) → step_at trace t ≡ Some step → sinks_before q n (take (t + 1) trace) ≡ sinks_before q n (take t trace) ++ of_one_step q (n + t) step
+unfolding of_one_step
+one_more_step q n [] t step e = cc
+one_more_step q n (s ∷ ss) zero step e =
     let same : s ≡ step = cc in
     let here : n + 0 ≡ n = omega arith in
-    append-nil (sinks_of_step n s.call) ∙ ap₂ (λ (k : ℕ) (r : StepSeen). sinks_of_step k r.call) (sym here) same
-one_more_step n (s ∷ ss) (suc t) step e =
+    append-nil (of_one_step q n s) ∙ ap₂ (of_one_step q) (sym here) same
+one_more_step q n (s ∷ ss) (suc t) step e =
     let next : suc t + 1 ≡ suc (t + 1) = omega arith in
     let later : n + 1 + t ≡ n + suc t = omega arith in
-    ap (λ (k : ℕ). sinks_from n (take k (s ∷ ss))) next
-    ∙ ap (λ (ws : List Sink). sinks_of_step n s.call ++ ws) (one_more_step (n + 1) ss t step e)
-    ∙ sym (append_assoc (sinks_of_step n s.call) (sinks_from (n + 1) (take t ss)) (sinks_of_step (n + 1 + t) step.call))
-    ∙ ap (λ (k : ℕ). (sinks_of_step n s.call ++ sinks_from (n + 1) (take t ss)) ++ sinks_of_step k step.call) later
+    ap (λ (k : ℕ). sinks_before q n (take k (s ∷ ss))) next
+    ∙ ap (λ (ws : List Sink). of_one_step q n s ++ ws) (one_more_step q (n + 1) ss t step e)
+    ∙ sym (append_assoc (of_one_step q n s) (sinks_before q (n + 1) (take t ss)) (of_one_step q (n + 1 + t) step))
+    ∙ ap (λ (k : ℕ). (of_one_step q n s ++ sinks_before q (n + 1) (take t ss)) ++ of_one_step q k step) later
+
+-- the rows of the points at a time, by the origins at that time
+pub of_points : (q : Query) (trace : List StepSeen) (t : ℕ) (points : List InnerSink) → point_rows (origins (policy_of q) trace t) (at_time t points) ≡ rows_of q trace (map point_sink (at_time t points))
+of_points q trace t [] = refl
+of_points q trace t (p ∷ ps) = by (nat_eq p.time t) refl (of_points q trace t ps) where
+  by : (b : Bool) → nat_eq p.time t ≡ b → point_rows (origins (policy_of q) trace t) (at_time t ps) ≡ rows_of q trace (map point_sink (at_time t ps))
+      → point_rows (origins (policy_of q) trace t) (cond b (p ∷ at_time t ps) (at_time t ps)) ≡ rows_of q trace (map point_sink (cond b (p ∷ at_time t ps) (at_time t ps)))
+  by true e ih =
+      let make : ℕ → Row = λ k. record { sink = At p; sources = origins (policy_of q) trace k p.loc } in
+      ap₂ (λ (r : Row) (rs : List Row). r ∷ rs) (ap make (sym (eqb-true p.time t e))) ih
+  by false e ih = ih
 
 -- locations that have the origins at a time give the rows of the bytes written then
 module _ (q : Query) (trace : List StepSeen) (t : ℕ) (sources : Loc → List SourceByte) (h : (l : Loc) → IsLocation l → sources l ≡ origins (policy_of q) trace t l) where
@@ -81,7 +111,7 @@ module _ (q : Query) (trace : List StepSeen) (t : ℕ) (sources : Loc → List S
       let make : List SourceByte → Row = λ bytes. record { sink = (sink_at t call i).name; sources = bytes } in
       ap make (h (Mem (wrap (call.place + i))) (omega arith))
 
-  of_bytes : (call : CallSeen) (is : List ℕ) → rows_by q sources (map (sink_at t call) is) ≡ rows_of q trace (map (sink_at t call) is)
+  of_bytes : (call : CallSeen) (is : List ℕ) → rows_by q sources (map (sink_at t call) is) ≡ rows_of q trace (filter (λ s. has_sink q s.name) (map (sink_at t call) is))
   of_bytes call [] = refl
   of_bytes call (i ∷ is) = by (has_sink q (sink_at t call i).name) (of_bytes call is) where
     rest : List Sink
@@ -91,32 +121,40 @@ module _ (q : Query) (trace : List StepSeen) (t : ℕ) (sources : Loc → List S
     by true ih = ap₂ (λ (r : Row) (rs : List Row). r ∷ rs) (of_byte call i) ih
     by false ih = ih
 
-  of_kind : (call : CallSeen) (k : CallKind) → rows_by q sources (sinks_of_call t call k) ≡ rows_of q trace (sinks_of_call t call k)
+  of_kind : (call : CallSeen) (k : CallKind) → rows_by q sources (sinks_of_call t call k) ≡ rows_of q trace (filter (λ s. has_sink q s.name) (sinks_of_call t call k))
   of_kind call kind.Write = of_bytes call (range_with_len 0 call.length)
   of_kind call kind.Read = refl
   of_kind call kind.Clock = refl
   of_kind call kind.Other = refl
   of_kind call kind.Exit = refl
 
-  of_step : (call : Option CallSeen) → rows_by q sources (sinks_of_step t call) ≡ rows_of q trace (sinks_of_step t call)
+  of_step : (call : Option CallSeen) → rows_by q sources (sinks_of_step t call) ≡ rows_of q trace (filter (λ s. has_sink q s.name) (sinks_of_step t call))
   of_step None = refl
   of_step (Some call) = of_kind call call.kind
 
   -- the rows of one more step
-  pub more_rows : (step : StepSeen) → step_at trace t ≡ Some step → (sets more : List Row) → sets ≡ rows_of q trace (sinks_from 0 (take t trace))
-      → more ≡ sets ++ rows_by q sources (sinks_of_step t step.call) → more ≡ rows_of q trace (sinks_from 0 (take (t + 1) trace))
-  more_rows step at sets more e m =
-      let asked : Sink → Bool = λ s. has_sink q s.name in
-      let so_far = sinks_from 0 (take t trace) in
+  pub more_rows : (step : StepSeen) → step_at trace t ≡ Some step → (sets due more : List Row) → sets ≡ rows_of q trace (sinks_before q 0 (take t trace))
+      → due ≡ sets ++ point_rows (origins (policy_of q) trace t) (at_time t q.points) → more ≡ due ++ rows_by q sources (sinks_of_step t step.call)
+      → more ≡ rows_of q trace (sinks_before q 0 (take (t + 1) trace))
+  unfolding of_one_step
+  more_rows step at sets due more e d m =
+      let so_far = sinks_before q 0 (take t trace) in
+      let written = filter (λ s. has_sink q s.name) (sinks_of_step t step.call) in
       let here : 0 + t ≡ t = omega arith in
-      m ∙ ap₂ (λ (xs ys : List Row). xs ++ ys) e (of_step step.call)
-      ∙ sym (map-append (row q trace) (filter asked so_far) (filter asked (sinks_of_step t step.call)))
-      ∙ ap (map (row q trace)) (sym (filter-append asked so_far (sinks_of_step t step.call)))
-      ∙ ap (rows_of q trace) (sym (one_more_step 0 trace t step at ∙ ap (λ (k : ℕ). so_far ++ sinks_of_step k step.call) here))
+      m ∙ ap₂ (λ (xs ys : List Row). xs ++ ys) (d ∙ ap₂ (λ (xs ys : List Row). xs ++ ys) e (of_points q trace t q.points)) (of_step step.call)
+      ∙ append_assoc (rows_of q trace so_far) (rows_of q trace (points_at q t)) (rows_of q trace written)
+      ∙ ap (λ (rs : List Row). rows_of q trace so_far ++ rs) (sym (map-append (row q trace) (points_at q t) written))
+      ∙ sym (map-append (row q trace) so_far (points_at q t ++ written))
+      ∙ ap (rows_of q trace) (sym (one_more_step q 0 trace t step at ∙ ap (λ (k : ℕ). so_far ++ of_one_step q k step) here))
 
--- the rows of all steps
-pub all_rows : (q : Query) (n : ℕ) (m : Moment) (t : ℕ) → t ≡ n → rows_of q (steps_from n m) (sinks_from 0 (take t (steps_from n m))) ≡ rows_as_written q (steps_from n m)
-all_rows q n m t e =
+-- the rows of all steps, and of the points at the end
+pub all_rows : (q : Query) (n : ℕ) (m : Moment) (t : ℕ) → t ≡ n → (sets all : List Row) → sets ≡ rows_of q (steps_from n m) (sinks_before q 0 (take t (steps_from n m)))
+    → all ≡ sets ++ point_rows (origins (policy_of q) (steps_from n m) t) (at_time t q.points) → all ≡ rows_as_written q (steps_from n m)
+all_rows q n m t e sets all s a =
     let trace = steps_from n m in
     let long : length trace ≤ t = omega (arith, length-steps_from n m) in
-    ap (λ (ss : List StepSeen). rows_of q trace (sinks_from 0 ss)) (take_all t trace long)
+    let last : t ≡ 0 + length trace = omega (arith, length-steps_from n m) in
+    a ∙ ap₂ (λ (xs ys : List Row). xs ++ ys) (s ∙ ap (λ (ss : List StepSeen). rows_of q trace (sinks_before q 0 ss)) (take_all t trace long)) (of_points q trace t q.points)
+    ∙ sym (map-append (row q trace) (sinks_before q 0 trace) (points_at q t))
+    ∙ ap (λ (k : ℕ). rows_of q trace (sinks_before q 0 trace ++ points_at q k)) last
+    ∙ ap (rows_of q trace) (sym (with_last q 0 trace))

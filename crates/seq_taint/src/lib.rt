@@ -1,9 +1,10 @@
 //! Taint analysis, one step after another: which source bytes the content of each location came from, and
-//! so the sources of each output byte that a query asks for.
+//! so the sources of each output byte and of each point inside the run that a query asks for.
 #![tactic(auto)]
 
 mod analysis;
 mod labels;
+mod points;
 mod sinks;
 mod source_set;
 

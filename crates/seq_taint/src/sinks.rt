@@ -9,7 +9,7 @@ ghost use Rattle.seq_taint.specs.Sinks.{sources_at, rows_by};
 
 use crate::source_set::SourceSet;
 use flow_model::{CallSeen, StepSeen};
-use flow_rule::{Loc, SinkByte};
+use flow_rule::{Loc, SinkByte, SinkPoint};
 use isa::CallKind;
 use no_memory::NoMemory;
 use query_lang::Query;
@@ -58,7 +58,7 @@ fn collect_written(
             sets.push(sink_set(
                 alloc,
                 places,
-                sink,
+                SinkPoint::Out(sink),
                 Loc::Mem {
                     place: call.place + i,
                 },
@@ -68,11 +68,11 @@ fn collect_written(
     Ok(())
 }
 
-/// The set of an output byte that is written from a location.
-fn sink_set(
+/// The set of an output byte that is written from a location, or of a point at it.
+pub(crate) fn sink_set(
     alloc: Global,
     places: &Places<SourceSet>,
-    sink: SinkByte,
+    sink: SinkPoint,
     loc: Loc,
 ) -> Result<SinkSet, NoMemory>
     requires { IsLocation loc }

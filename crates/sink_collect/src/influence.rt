@@ -41,7 +41,10 @@ impl SourceReach {
 
     /// Adds an output byte or a point, the last so far.
     fn push(&mut self, sink: SinkPoint) -> Result<(), NoMemory>
-        ensures { OnOk result (self.new ≡ record { source = self.old.source; sinks = self.old.sinks ++ sink ∷ [] }) }
+        ensures { OnOk result (self.new ≡ record {
+          source = self.old.source;
+          sinks = self.old.sinks ++ sink ∷ [];
+        }) }
     {
         self.sinks.push(sink)?;
         Ok(())

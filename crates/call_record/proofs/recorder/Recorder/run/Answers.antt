@@ -12,8 +12,8 @@ on_err P (Ok x) p = tt
 on_err P (Err e) p = p
 
 pub loop-at-init : goal.loop-at-init
-loop-at-init g c = so_far_none c.args.source.now c.args.self.now (g.K.Clock.answers c.args.clock.now) c.requires.source.few c.requires.fresh
-    c.requires.goes_on c.requires.window
+loop-at-init g c = so_far_none c.args.source.now c.args.self.now (g.K.Clock.answers c.args.clock.now)
+    c.requires.source.few c.requires.fresh c.requires.goes_on c.requires.window
 
 pub returns-in_err-end-clause-gained : goal.returns-in_err-end-clause-gained
 returns-in_err-end-clause-gained g c =

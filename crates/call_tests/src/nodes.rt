@@ -1,0 +1,87 @@
+//! The nodes of a small log: which node each call gives, and the leaves under it.
+
+ghost use Rattle.std.specs.Prelude.{◌≡◌, IfOk};
+ghost use Rattle.merge_log.specs.Log.{IsNode};
+
+use flow_model::{Loc, SourceByte};
+use merge_log::{Leaf, MergeLog, Node};
+use std::alloc::Global;
+use std::process::Abort;
+use std::test::Fail;
+
+/// How a node is asked for.
+enum Asked {
+    Source(SourceByte),
+    Start(Loc),
+    Union(Node, Node),
+}
+
+/// How a node is asked for, the node that is given, and the leaves under it.
+type Case = (Asked, Node, &'static [Leaf]);
+
+const FIRST: SourceByte = SourceByte {
+    channel: 0,
+    offset: 1,
+};
+
+const THIRD: SourceByte = SourceByte {
+    channel: 0,
+    offset: 3,
+};
+
+const X5: Loc = Loc::Reg { number: 5, lane: 0 };
+
+/// In turn, in one log. The last three give nodes that are there.
+const CASES: [Case; 9] = [
+    (Asked::Source(THIRD), 1, &[Leaf::Source(THIRD)]),
+    (Asked::Source(FIRST), 2, &[Leaf::Source(FIRST)]),
+    (Asked::Start(X5), 3, &[Leaf::Start(X5)]),
+    (Asked::Union(1, 2), 4, BOTH),
+    (Asked::Union(4, 1), 5, BOTH),
+    (Asked::Union(5, 3), 6, ALL),
+    (Asked::Source(THIRD), 1, &[Leaf::Source(THIRD)]),
+    (Asked::Union(2, 1), 4, BOTH),
+    (Asked::Union(6, 6), 6, ALL),
+];
+
+const BOTH: &[Leaf] = &[Leaf::Source(FIRST), Leaf::Source(THIRD)];
+
+const ALL: &[Leaf] = &[Leaf::Source(FIRST), Leaf::Source(THIRD), Leaf::Start(X5)];
+
+/// The node that is asked for, or the empty node where an operand isn't there.
+fn node_of(log: &mut MergeLog, asked: &Asked) -> Result<Node, Fail>
+    ensures { IfOk result (IsNode log.new) }
+{
+    match *asked {
+        Asked::Source(byte) => Ok(log.leaf_source(byte)?),
+        Asked::Start(loc) => Ok(log.leaf_symbol(loc)?),
+        Asked::Union(a, b) => {
+            if a >= log.size() || b >= log.size() {
+                return Ok(0);
+            }
+            Ok(log.union(a, b)?)
+        }
+    }
+}
+
+/// Compares a node, and the leaves under it, with what is written out.
+fn compare(rt: &impl Abort, alloc: Global, log: &mut MergeLog, case: &Case) -> Result<(), Fail> {
+    let (asked, want, leaves) = case;
+    let node = node_of(log, asked)?;
+    assert_eq!(rt; node, *want);
+    let found = log.terms(alloc, node)?;
+    assert_eq!(rt; found.as_slice(), *leaves);
+    Ok(())
+}
+
+#[test]
+fn equal_nodes_are_one(rt: HostRuntime) -> Result<(), Fail> {
+    let alloc = rt.alloc();
+    let mut log = MergeLog::new(alloc);
+    for case in &CASES {
+        compare(&rt, alloc, &mut log, case)?;
+    }
+    assert_eq!(rt; log.size(), 7);
+    assert_eq!(rt; log.terms(alloc, 0)?.len(), 0);
+    Ok(())
+}

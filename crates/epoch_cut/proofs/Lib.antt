@@ -1,0 +1,2 @@
+mod CutTimes
+mod Numbered

@@ -1,0 +1,37 @@
+//! How a run is cut.
+
+ghost use Rattle.std.specs.Prelude.{◌≡◌, ◌<◌, ◌≤◌, IfOk, IfErr};
+ghost use Rattle.epoch_cut.specs.ByLength.{epoch_count, cut_times};
+
+use crate::cutting::Cuts;
+use crate::fault::CutFault;
+
+/// The most epochs that a run is cut into.
+pub const MOST_EPOCHS: u64 = 4096;
+
+/// How many epochs a run of so many steps has, by a length of 1 at least.
+pub(crate) fn epoch_count(steps: u64, length: u64) -> u64
+    requires { 1 ≤ length }
+    ensures { result ≡ epoch_count steps length }
+{
+    steps.div_ceil(length).max(1)
+}
+
+/// The cuts of a run of so many steps into epochs of `length` steps, 1 at least. It takes no memory.
+///
+/// The fault is TooMany exactly where there would be more than [`MOST_EPOCHS`] epochs.
+pub fn cuts(steps: u64, length: u64) -> Result<Cuts, CutFault>
+    requires { 1 ≤ length }
+    ensures cut { IfOk result (λ cuts. cuts ≡ cut_times steps length) }
+    ensures few { IfOk result (λ _. epoch_count steps length ≤ MOST_EPOCHS) }
+    ensures many { IfErr result (λ fault. (fault ≡ CutFault.TooMany (epoch_count steps length)) × (MOST_EPOCHS < epoch_count steps length)) }
+{
+    let count = epoch_count(steps, length);
+    if count > MOST_EPOCHS {
+        return Err(CutFault::TooMany(count));
+    }
+    Ok(Cuts {
+        steps,
+        epoch_length: length,
+    })
+}

@@ -1,0 +1,15 @@
+//! Laws of the definitions: the functions do nothing, and each contract is a law.
+
+ghost use Rattle.epoch_cut.specs.CutLaws.{CutTimesAreCutting, CutTimesAreCounted, CutTimesAreMultiples};
+
+/// The times at which the epochs of a run end rise strictly from 0 to its number of steps, and are 0 alone where it has none.
+pub fn cut_times_are_cutting()
+    ensures { CutTimesAreCutting }
+{}
+
+/// There is one epoch for each time that the length goes into the steps, one more for what is left, and one at least. All
+/// epochs but the last have `length` steps: the first k of them end after k times the length, or with the run.
+pub fn epochs_have_the_length()
+    ensures count { CutTimesAreCounted }
+    ensures multiples { CutTimesAreMultiples }
+{}

@@ -1,0 +1,6 @@
+mod Terms
+mod Keys
+mod Leaves
+mod Marks
+mod Walking
+mod Sorting

@@ -1,0 +1,122 @@
+-- A list that was sorted, and has each member once, is a set; and what a reader has then is the terms of the node.
+use Rattle.std.proofs.Common.{◌≡◌, ℕ, List, [], ◌∷◌, refl, ap, ap₂, sym, ◌∙◌, subst, Bool, true, false, ◌||◌, cond, nat_cmp}
+use Rattle.std.specs.List.{dedup, dedup_from, AllByRecursion}
+use Rattle.std.specs.List.Sorted.{IsSorted, IsStrictlySortedBy, IsPermutation}
+use Rattle.std.specs.Ordering.{eq_by_cmp, is_eq, ordering_then}
+use Rattle.std.specs.Cmp.{IsTotalOrder, alike_right}
+use Rattle.std.specs.declared.cmp.Ordering.{Ordering}
+use Rattle.std.specs.declared.cmp.Ordering.TheVariants.{Less, Equal, Greater}
+use Rattle.std.proofs.lemmas.List.Kept.{IsStrictlySortedBy-dedup}
+use Rattle.std.proofs.lemmas.List.Sorted.{list_any-IsPermutation}
+use Rattle.sorted_set.specs.Sets.{Ascends, IsBelow, has}
+use Rattle.sorted_set.proofs.Algebra.{same_list, tied_by}
+use Rattle.flow_model.specs.Orders.{loc_cmp, source_cmp}
+use Rattle.flow_model.specs.declared.Loc.{Loc}
+use Rattle.flow_model.specs.declared.Loc.TheVariants.{Reg, Mem}
+use Rattle.flow_model.specs.declared.SourceByte.{SourceByte}
+use Rattle.flow_model.specs.contracts.LocOrd.TheImpl as of_loc
+use Rattle.flow_model.specs.contracts.SourceByteOrd.TheImpl as of_source
+use Rattle.flow_model.proofs.Orders.{loc_total, loc_same, source_total, source_same}
+use Rattle.merge_log.specs.declared.nodes.Entry.{Entry}
+use Rattle.merge_log.specs.declared.reader.Leaf.{Leaf}
+use Rattle.merge_log.specs.declared.reader.Leaf.TheVariants as leaf
+use Rattle.merge_log.specs.Log.{Terms, AreSets, terms}
+use Rattle.merge_log.specs.Walk.{has_leaf}
+use Rattle.merge_log.proofs.Terms.{ascend-terms, nothing_under_0}
+
+-- ---- sorted, and each once
+
+module _ {K : Type 0} (R : K → K → Ordering) where
+  below_all : (x : K) (xs : List K) → AllByRecursion (λ y. R x y ≡ Less) xs → IsBelow R x xs
+  below_all x [] h = tt
+  below_all x (y ∷ ys) h = (h.0, below_all x ys h.1)
+
+  ascending : (xs : List K) → IsStrictlySortedBy R xs → Ascends R xs
+  unfolding IsStrictlySortedBy
+  ascending [] h = tt
+  ascending (x ∷ xs) h = (below_all x xs h.0, ascending xs h.1)
+
+module _ {K : Type 0} {R : K → K → Ordering} (o : IsTotalOrder R) (E : K → K → Bool) (ties : (x y : K) → E x y ≡ eq_by_cmp R x y) where
+  pub Ascends-dedup : (xs ys : List K) → IsSorted R xs → ys ≡ dedup E xs → Ascends R ys
+  Ascends-dedup xs ys h is = subst (Ascends R) (sym is) (ascending R (dedup E xs) (IsStrictlySortedBy-dedup o ties xs h))
+
+  or_twice : (b c : Bool) → (b || c) ≡ (b || (b || c))
+  or_twice true c = refl
+  or_twice false c = refl
+
+  has-dedup_from : (q k : K) (xs : List K) → has R q (dedup_from E k xs) ≡ (eq_by_cmp R q k || has R q xs)
+  has-dedup_from q k [] = refl
+  has-dedup_from q k (x ∷ xs) = by (has-dedup_from q k xs) (has-dedup_from q x xs) (E x k) refl where
+    by : has R q (dedup_from E k xs) ≡ (eq_by_cmp R q k || has R q xs) → has R q (dedup_from E x xs) ≡ (eq_by_cmp R q x || has R q xs)
+        → (b : Bool) → E x k ≡ b → has R q (cond b (dedup_from E k xs) (k ∷ dedup_from E x xs)) ≡ (eq_by_cmp R q k || (eq_by_cmp R q x || has R q xs))
+    by ih later true e =
+        let alike : eq_by_cmp R q k ≡ eq_by_cmp R q x = sym (ap is_eq (alike_right o x k q (tied_by (R x k) (sym (ties x k) ∙ e)))) in
+        ih ∙ or_twice (eq_by_cmp R q k) (has R q xs) ∙ ap (λ (b : Bool). eq_by_cmp R q k || (b || has R q xs)) alike
+    by ih later false e = ap (λ (b : Bool). eq_by_cmp R q k || b) later
+
+  has-dedup : (q : K) (xs : List K) → has R q (dedup E xs) ≡ has R q xs
+  has-dedup q [] = refl
+  has-dedup q (x ∷ xs) = has-dedup_from q x xs
+
+  pub has-sorted : (q : K) (xs ys zs : List K) → IsPermutation xs ys → zs ≡ dedup E ys → has R q zs ≡ has R q xs
+  has-sorted q xs ys zs p is = ap (has R q) is ∙ has-dedup q ys ∙ sym (list_any-IsPermutation (eq_by_cmp R q) xs ys p)
+
+-- ---- the derived orders are those of the definitions
+
+then_equal : (o : Ordering) → ordering_then o Equal ≡ o
+then_equal Less = refl
+then_equal Equal = refl
+then_equal Greater = refl
+
+abbrev pub source_compared : SourceByte → SourceByte → Ordering
+source_compared = of_source.cmp-value.it
+
+abbrev pub loc_compared : Loc → Loc → Ordering
+loc_compared = of_loc.cmp-value.it
+
+source_order_is : source_compared ≡ source_cmp
+source_order_is = λ i a b. sym (ap (ordering_then (nat_cmp a.channel b.channel)) (then_equal (nat_cmp a.offset b.offset))) i
+
+loc_alike : (a b : Loc) → loc_compared a b ≡ loc_cmp a b
+loc_alike (Reg r i) (Reg s j) = sym (ap (ordering_then (nat_cmp r s)) (then_equal (nat_cmp i j)))
+loc_alike (Reg r i) (Mem q) = refl
+loc_alike (Mem p) (Reg s j) = refl
+loc_alike (Mem p) (Mem q) = sym (then_equal (nat_cmp p q))
+
+loc_order_is : loc_compared ≡ loc_cmp
+loc_order_is = λ i a b. loc_alike a b i
+
+-- ---- what a reader has at the end
+
+-- the set of a list
+pub record IsSetOf {K : Type 0} (R : K → K → Ordering) (set items : List K) : Type 0 where
+  pub members : (x : K) → has R x set ≡ has R x items
+  pub ascending : Ascends R set
+
+of_sources : (sources sources1 : List SourceByte) → IsSetOf source_compared sources1 sources → IsSetOf source_cmp sources1 sources
+of_sources sources sources1 s = subst (λ (R : SourceByte → SourceByte → Ordering). IsSetOf R sources1 sources) source_order_is s
+
+of_starts : (starts starts1 : List Loc) → IsSetOf loc_compared starts1 starts → IsSetOf loc_cmp starts1 starts
+of_starts starts starts1 l = subst (λ (R : Loc → Loc → Ordering). IsSetOf R starts1 starts) loc_order_is l
+
+pub read_sets : (sources sources1 : List SourceByte) (starts starts1 : List Loc) → IsSetOf source_compared sources1 sources → IsSetOf loc_compared starts1 starts → AreSets (record { sources = sources1; starts = starts1 })
+read_sets sources sources1 starts starts1 s l = record { sources = (of_sources sources sources1 s).ascending; starts = (of_starts starts starts1 l).ascending }
+
+-- sets of what was found are the terms of the node
+pub read_terms : (log : List Entry) (n : ℕ) (sources sources1 : List SourceByte) (starts starts1 : List Loc)
+    → ((q : Leaf) → has_leaf q (record { sources = sources; starts = starts }) ≡ has_leaf q (terms log n))
+    → IsSetOf source_compared sources1 sources → IsSetOf loc_compared starts1 starts
+    → record { sources = sources1; starts = starts1 } ≡ terms log n
+read_terms log n sources sources1 starts starts1 found s l =
+    let make : List SourceByte → List Loc → Terms = λ xs ys. record { sources = xs; starts = ys } in
+    let t = of_sources sources sources1 s in
+    let m = of_starts starts starts1 l in
+    ap₂ make
+    (same_list source_total source_same sources1 (terms log n).sources t.ascending (ascend-terms log n).sources (λ q. t.members q ∙ found (leaf.Source q)))
+    (same_list loc_total loc_same starts1 (terms log n).starts m.ascending (ascend-terms log n).starts (λ q. m.members q ∙ found (leaf.Start q)))
+
+-- under node 0 nothing is found
+pub read_nothing : (log : List Entry) (n : ℕ) (sources : List SourceByte) (starts : List Loc) → n ≡ 0 → sources ≡ [] → starts ≡ [] → record { sources = sources; starts = starts } ≡ terms log n
+read_nothing log n sources starts h s t =
+    let make : List SourceByte → List Loc → Terms = λ xs ys. record { sources = xs; starts = ys } in
+    ap₂ make s t ∙ sym (ap (terms log) h ∙ nothing_under_0 log)

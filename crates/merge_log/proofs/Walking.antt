@@ -1,0 +1,248 @@
+-- A walk goes on, and ends with the leaves under its root.
+use Rattle.std.proofs.Common.{◌≡◌, ℕ, zero, suc, ◌+◌, ◌<◌, ◌≤◌, ◌-◌, ◌==◌, List, [], ◌∷◌, ◌++◌, length, refl, ap, sym, ◌∙◌, subst, Bool, true, false, ◌||◌, if◌then◌else◌, arith, get_or, slice_index, ◌⊎◌, inl, inr, length-append}
+use Rattle.std.specs.Prelude.{Some}
+use Rattle.std.proofs.Math.ListN.{set}
+use Rattle.std.proofs.lemmas.Grind.{common_steps}
+use Rattle.std.proofs.lemmas.Option.{slice_get-get_or}
+use Rattle.flow_model.specs.declared.Loc.{Loc}
+use Rattle.flow_model.specs.declared.SourceByte.{SourceByte}
+use Rattle.merge_log.specs.declared.nodes.Entry.{Entry}
+use Rattle.merge_log.specs.declared.nodes.Entry.TheVariants.{Source, Start, Union}
+use Rattle.merge_log.specs.declared.reader.Leaf.{Leaf}
+use Rattle.merge_log.specs.Log.{Terms, source_term, start_term, terms, IsNode, HasOperandsBefore, AreOrdered, IsLog, entry_at}
+use Rattle.merge_log.specs.Walk.{has_leaf, visited}
+use Rattle.merge_log.proofs.Leaves.{no, or_left, or_right, or_cases, same_bool, has-joined, has-source, has-start}
+use Rattle.merge_log.proofs.Marks.{IsMarked, IsOn, IsVisit, cost, marked_more, marked_back, on_pushed, on_top, on_back, on_visited, visit_length, visit_marks, visit_marked, visit_cost}
+use Rattle.merge_log.proofs.Terms.{terms_step, entry_before}
+
+-- ---- what is true of a walk
+
+-- what is asked of a marked node that is not on the stack: its leaf is found, and its operands are marked
+abbrev pub IsDone : List ℕ → ℕ → Terms → Entry → Type 0
+IsDone marks round found (Source b) = (q : Leaf) → has_leaf q (source_term b) ≡ true → has_leaf q found ≡ true
+IsDone marks round found (Start l) = (q : Leaf) → has_leaf q (start_term l) ≡ true → has_leaf q found ≡ true
+IsDone marks round found (Union a b) = IsMarked marks round a × IsMarked marks round b
+
+-- the node stands in the log, and its leaves are among those of the root
+pub record IsUnder (log : List Entry) (root m : ℕ) : Type 0 where
+  pub above_0 : 0 < m
+  pub stands : IsNode log m
+  pub leaves : (q : Leaf) → has_leaf q (terms log m) ≡ true → has_leaf q (terms log root) ≡ true
+
+-- a walk in which a marked node that is open may be neither done nor on the stack
+pub record IsWalk (log : List Entry) (root round : ℕ) (marks stack : List ℕ) (found : Terms) (is_open : ℕ → Type 0) : Type 0 where
+  pub stacked : (m : ℕ) → IsOn stack m → IsUnder log root m
+  pub begun : IsMarked marks round root
+  pub settled : (m : ℕ) → IsMarked marks round m → IsOn stack m ⊎ ((e : Entry) × (entry_at log m ≡ Some e) × IsDone marks round found e) ⊎ is_open m
+  pub within : (q : Leaf) → has_leaf q found ≡ true → has_leaf q (terms log root) ≡ true
+
+-- each marked node is done or on the stack
+abbrev pub none_open : ℕ → Type 0
+none_open m = ⊥
+
+pub entry_there : (log : List Entry) (n : ℕ) (d : Entry) → 0 < n → n ≤ length log → entry_at log n ≡ Some (get_or log (n - 1) d)
+entry_there log zero d h k = absurd (omega arith)
+entry_there log (suc i) d h k =
+    let less : i < length log = omega arith in
+    let one : i ≡ suc i - 1 = omega arith in
+    slice_get-get_or log i d less ∙ ap (λ (j : ℕ). Some (get_or log j d)) one
+
+done_more : (marks : List ℕ) (round a : ℕ) (found : Terms) (e : Entry) → a < length marks → IsDone marks round found e → IsDone (set marks a round) round found e
+done_more marks round a found (Source b) h d = d
+done_more marks round a found (Start l) h d = d
+done_more marks round a found (Union p q) h d = (marked_more marks round a p h d.0, marked_more marks round a q h d.1)
+
+-- ---- a walk goes on
+
+-- the node on top is taken from the stack
+pub popped : (log : List Entry) (root round : ℕ) (marks stack rest : List ℕ) (next : ℕ) (found : Terms) → stack ≡ rest ++ next ∷ [] → IsWalk log root round marks stack found none_open
+    → IsUnder log root next × IsWalk log root round marks rest found (λ m. m ≡ next)
+popped log root round marks stack rest next found is w =
+    let on : (m : ℕ) → IsOn rest m → IsOn stack m = λ m h. subst (λ (s : List ℕ). IsOn s m) (sym is) (on_pushed rest next m h) in (
+      w.stacked next (subst (λ (s : List ℕ). IsOn s next) (sym is) (on_top rest next)),
+      record {
+        stacked = λ m h. w.stacked m (on m h);
+        begun = w.begun;
+        settled = λ m h. elim (w.settled m h) [
+          | inl p ↦ elim (on_back rest next m (subst (λ (s : List ℕ). IsOn s m) is p)) [ inl q ↦ inl q | inr q ↦ inr (inr q) ]
+          | inr (inl p) ↦ inr (inl p)
+          | inr (inr p) ↦ absurd p
+        ];
+        within = w.within;
+      },
+    )
+
+visited_walk : (log : List Entry) (root round : ℕ) (marks stack : List ℕ) (found : Terms) (is_open : ℕ → Type 0) (a : ℕ) → a < length marks → IsUnder log root a
+    → IsWalk log root round marks stack found is_open → IsWalk log root round (set marks a round) (visited marks round a stack) found is_open
+visited_walk log root round marks stack found is_open a h u w = record {
+  stacked = λ m k. stacked (slice_index marks a == round) m k;
+  begun = marked_more marks round a root h w.begun;
+  settled = λ m k. elim (marked_back marks round a m h k) [ inl p ↦ moved m p | inr p ↦ subst (λ (i : ℕ). IsSettled i) (sym p) (at_a (slice_index marks a == round) refl) ];
+  within = w.within;
+} where
+  IsSettled : ℕ → Type 0
+  IsSettled m = IsOn (visited marks round a stack) m ⊎ ((e : Entry) × (entry_at log m ≡ Some e) × IsDone (set marks a round) round found e) ⊎ is_open m
+
+  moved : (m : ℕ) → IsMarked marks round m → IsSettled m
+  moved m p = elim (w.settled m p) [
+    | inl q ↦ inl (on_visited marks round a stack m q)
+    | inr (inl q) ↦ inr (inl (q.0, q.1, done_more marks round a found q.0 h q.2))
+    | inr (inr q) ↦ inr (inr q)
+  ]
+
+  at_a : (b : Bool) → (slice_index marks a == round) ≡ b → IsSettled a
+  at_a true p = let marked : IsMarked marks round a = grind (arith, common_steps) in moved a marked
+  at_a false p = inl (subst (λ (b : Bool). IsOn (if b then stack else stack ++ a ∷ []) a) (sym p) (on_top stack a))
+
+  stacked : (b : Bool) (m : ℕ) → IsOn (if b then stack else stack ++ a ∷ []) m → IsUnder log root m
+  stacked true m k = w.stacked m k
+  stacked false m k = elim (on_back stack a m k) [ inl p ↦ w.stacked m p | inr p ↦ subst (IsUnder log root) (sym p) u ]
+
+pub visit_walk : {marks : List ℕ} {round : ℕ} {stack : List ℕ} {a : ℕ} {marks1 : List ℕ} {round1 : ℕ} {stack1 : List ℕ} → IsVisit marks round stack a marks1 round1 stack1
+    → (log : List Entry) (root : ℕ) (found : Terms) (is_open : ℕ → Type 0) → a < length marks → IsUnder log root a
+    → IsWalk log root round marks stack found is_open → IsWalk log root round1 marks1 stack1 found is_open
+visit_walk {marks = marks} {round = round} {stack = stack} {a = a} {marks1 = marks1} {round1 = round1} v log root found is_open h u w =
+    let walk = visited_walk log root round marks stack found is_open a h u w in
+    subst (λ (s : List ℕ). IsWalk log root round1 marks1 s found is_open) (sym v.stacked)
+    (subst (λ (ms : List ℕ). IsWalk log root round1 ms (visited marks round a stack) found is_open) (sym v.marked)
+    (subst (λ (r : ℕ). IsWalk log root r (set marks a round) (visited marks round a stack) found is_open) (sym v.same_round) walk))
+
+-- the node that was taken is done
+pub closed : (log : List Entry) (root round : ℕ) (marks stack : List ℕ) (found : Terms) (next : ℕ) (e : Entry) → entry_at log next ≡ Some e → IsDone marks round found e
+    → IsWalk log root round marks stack found (λ m. m ≡ next) → IsWalk log root round marks stack found none_open
+closed log root round marks stack found next e at d w = record {
+  stacked = w.stacked;
+  begun = w.begun;
+  settled = λ m h. elim (w.settled m h) [
+    | inl p ↦ inl p
+    | inr (inl p) ↦ inr (inl p)
+    | inr (inr p) ↦ inr (inl (e, ap (entry_at log) p ∙ at, d))
+  ];
+  within = w.within;
+}
+
+done_found : (marks : List ℕ) (round : ℕ) (found more : Terms) (e : Entry) → ((q : Leaf) → has_leaf q found ≡ true → has_leaf q more ≡ true) → IsDone marks round found e → IsDone marks round more e
+done_found marks round found more (Source b) h d = λ q k. h q (d q k)
+done_found marks round found more (Start l) h d = λ q k. h q (d q k)
+done_found marks round found more (Union p q) h d = d
+
+-- a leaf under the root is found
+pub found_more : (log : List Entry) (root round : ℕ) (marks stack : List ℕ) (found more : Terms) (is_open : ℕ → Type 0)
+    → ((q : Leaf) → has_leaf q found ≡ true → has_leaf q more ≡ true) → ((q : Leaf) → has_leaf q more ≡ true → has_leaf q (terms log root) ≡ true)
+    → IsWalk log root round marks stack found is_open → IsWalk log root round marks stack more is_open
+found_more log root round marks stack found more is_open h k w = record {
+  stacked = w.stacked;
+  begun = w.begun;
+  settled = λ m p. elim (w.settled m p) [
+    | inl q ↦ inl q
+    | inr (inl q) ↦ inr (inl (q.0, q.1, done_found marks round found more q.0 h q.2))
+    | inr (inr q) ↦ inr (inr q)
+  ];
+  within = k;
+}
+
+-- ---- the end
+
+all_found : (log : List Entry) (root round : ℕ) (marks : List ℕ) (found : Terms) → AreOrdered 1 log → IsWalk log root round marks [] found none_open
+    → (n m : ℕ) → m < n → IsMarked marks round m → (q : Leaf) → has_leaf q (terms log m) ≡ true → has_leaf q found ≡ true
+all_found log root round marks found o w zero m h k q t = absurd (omega arith)
+all_found log root round marks found o w (suc n) m h k q t = elim (w.settled m k) [
+  | inl p ↦ no (sym p)
+  | inr (inl p) ↦ by (λ i l j u. all_found log root round marks found o w n i l j q u) p.0 p.1 p.2 (entry_before log m p.0 o p.1)
+  | inr (inr p) ↦ absurd p
+] where
+  by : ((i : ℕ) → i < n → IsMarked marks round i → has_leaf q (terms log i) ≡ true → has_leaf q found ≡ true) → (e : Entry) → entry_at log m ≡ Some e → IsDone marks round found e → HasOperandsBefore m e → has_leaf q found ≡ true
+  by ih (Source b) at d before = d q (sym (ap (has_leaf q) (terms_step log m (Source b) at before)) ∙ t)
+  by ih (Start l) at d before = d q (sym (ap (has_leaf q) (terms_step log m (Start l) at before)) ∙ t)
+  by ih (Union x y) at d before =
+      let either = or_cases (has_leaf q (terms log x)) (has_leaf q (terms log y)) (sym (has-joined q (terms log x) (terms log y)) ∙ sym (ap (has_leaf q) (terms_step log m (Union x y) at before)) ∙ t) in
+      let x_less : x < n = omega arith in
+      let y_less : y < n = omega arith in
+      elim either [ inl p ↦ ih x x_less d.0 p | inr p ↦ ih y y_less d.1 p ]
+
+pub walk_ends : (log : List Entry) (root round : ℕ) (marks : List ℕ) (found : Terms) → IsLog log → IsWalk log root round marks [] found none_open → (q : Leaf) → has_leaf q found ≡ has_leaf q (terms log root)
+walk_ends log root round marks found form w q =
+    same_bool (has_leaf q found) (has_leaf q (terms log root)) (w.within q) (all_found log root round marks found form.ordered w (suc root) root (omega arith) w.begun q)
+
+-- ---- operands
+
+pub under_left : (log : List Entry) (root next a b : ℕ) → entry_at log next ≡ Some (Union a b) → HasOperandsBefore next (Union a b) → IsUnder log root next → IsUnder log root a
+under_left log root next a b at before u = record {
+  above_0 = before.0;
+  stands = omega (arith, before, u.stands);
+  leaves = λ q h. u.leaves q (ap (has_leaf q) (terms_step log next (Union a b) at before) ∙ has-joined q (terms log a) (terms log b) ∙ or_left (has_leaf q (terms log a)) (has_leaf q (terms log b)) h);
+}
+
+pub under_right : (log : List Entry) (root next a b : ℕ) → entry_at log next ≡ Some (Union a b) → HasOperandsBefore next (Union a b) → IsUnder log root next → IsUnder log root b
+under_right log root next a b at before u = record {
+  above_0 = omega (arith, before);
+  stands = omega (arith, before, u.stands);
+  leaves = λ q h. u.leaves q (ap (has_leaf q) (terms_step log next (Union a b) at before) ∙ has-joined q (terms log a) (terms log b) ∙ or_right (has_leaf q (terms log a)) (has_leaf q (terms log b)) h);
+}
+
+pub under_itself : (log : List Entry) (root : ℕ) → 0 < root → IsNode log root → IsUnder log root root
+under_itself log root h k = record { above_0 = h; stands = k; leaves = λ q t. t }
+
+-- ---- one turn of the loop
+
+abbrev found_of : List SourceByte → List Loc → Terms
+found_of sources starts = record { sources = sources; starts = starts }
+
+pub source_step : (log : List Entry) (root round : ℕ) (marks stack rest : List ℕ) (next : ℕ) (sources more : List SourceByte) (starts : List Loc) (b : SourceByte)
+    → stack ≡ rest ++ next ∷ [] → more ≡ sources ++ b ∷ [] → entry_at log next ≡ Some (Source b)
+    → IsWalk log root round marks stack (record { sources = sources; starts = starts }) none_open
+    → IsWalk log root round marks rest (record { sources = more; starts = starts }) none_open
+source_step log root round marks stack rest next sources more starts b is put at w =
+    let p = popped log root round marks stack rest next (found_of sources starts) is w in
+    let new : Terms = source_term b in
+    let under : terms log next ≡ new = terms_step log next (Source b) at tt in
+    let has-more : (q : Leaf) → has_leaf q (found_of more starts) ≡ (has_leaf q (found_of sources starts) || has_leaf q new) = λ q. ap (λ (xs : List SourceByte). has_leaf q (found_of xs starts)) put ∙ has-source q sources starts b in
+    closed log root round marks rest (found_of more starts) next (Source b) at (λ q h. has-more q ∙ or_right (has_leaf q (found_of sources starts)) (has_leaf q new) h)
+    (found_more log root round marks rest (found_of sources starts) (found_of more starts) (λ m. m ≡ next)
+    (λ q h. has-more q ∙ or_left (has_leaf q (found_of sources starts)) (has_leaf q new) h)
+    (λ q h. elim (or_cases (has_leaf q (found_of sources starts)) (has_leaf q new) (sym (has-more q) ∙ h)) [ inl k ↦ w.within q k | inr k ↦ p.0.leaves q (ap (has_leaf q) under ∙ k) ])
+    p.1)
+
+pub start_step : (log : List Entry) (root round : ℕ) (marks stack rest : List ℕ) (next : ℕ) (sources : List SourceByte) (starts more : List Loc) (l : Loc)
+    → stack ≡ rest ++ next ∷ [] → more ≡ starts ++ l ∷ [] → entry_at log next ≡ Some (Start l)
+    → IsWalk log root round marks stack (record { sources = sources; starts = starts }) none_open
+    → IsWalk log root round marks rest (record { sources = sources; starts = more }) none_open
+start_step log root round marks stack rest next sources starts more l is put at w =
+    let p = popped log root round marks stack rest next (found_of sources starts) is w in
+    let new : Terms = start_term l in
+    let under : terms log next ≡ new = terms_step log next (Start l) at tt in
+    let has-more : (q : Leaf) → has_leaf q (found_of sources more) ≡ (has_leaf q (found_of sources starts) || has_leaf q new) = λ q. ap (λ (xs : List Loc). has_leaf q (found_of sources xs)) put ∙ has-start q sources starts l in
+    closed log root round marks rest (found_of sources more) next (Start l) at (λ q h. has-more q ∙ or_right (has_leaf q (found_of sources starts)) (has_leaf q new) h)
+    (found_more log root round marks rest (found_of sources starts) (found_of sources more) (λ m. m ≡ next)
+    (λ q h. has-more q ∙ or_left (has_leaf q (found_of sources starts)) (has_leaf q new) h)
+    (λ q h. elim (or_cases (has_leaf q (found_of sources starts)) (has_leaf q new) (sym (has-more q) ∙ h)) [ inl k ↦ w.within q k | inr k ↦ p.0.leaves q (ap (has_leaf q) under ∙ k) ])
+    p.1)
+
+-- the union that was taken is done, when both operands were visited
+pub union_step : (log : List Entry) (root round round1 round2 : ℕ) (marks marks1 marks2 stack rest stack1 stack2 : List ℕ) (next : ℕ) (found : Terms) (a b : ℕ)
+    → stack ≡ rest ++ next ∷ [] → length log < length marks → entry_at log next ≡ Some (Union a b) → HasOperandsBefore next (Union a b)
+    → IsVisit marks round rest a marks1 round1 stack1 → IsVisit marks1 round1 stack1 b marks2 round2 stack2
+    → IsWalk log root round marks stack found none_open
+    → IsWalk log root round2 marks2 stack2 found none_open
+union_step log root round round1 round2 marks marks1 marks2 stack rest stack1 stack2 next found a b is room at before one two w =
+    let p = popped log root round marks stack rest next found is w in
+    let u = under_left log root next a b at before p.0 in
+    let v = under_right log root next a b at before p.0 in
+    let a_in : a < length marks = omega (arith, u.stands, room) in
+    let b_in : b < length marks1 = omega (arith, v.stands, room, visit_length one) in
+    let first = visit_walk one log root found (λ m. m ≡ next) a_in u p.1 in
+    let second = visit_walk two log root found (λ m. m ≡ next) b_in v first in
+    closed log root round2 marks2 stack2 found next (Union a b) at (visit_marked two b_in a (visit_marks one a_in), visit_marks two b_in) second
+
+-- and then fewer steps are left
+pub union_cost : (round round1 round2 : ℕ) (marks marks1 marks2 stack rest stack1 stack2 : List ℕ) (next a b : ℕ)
+    → stack ≡ rest ++ next ∷ [] → a < length marks → b < length marks1
+    → IsVisit marks round rest a marks1 round1 stack1 → IsVisit marks1 round1 stack1 b marks2 round2 stack2
+    → cost marks2 round2 stack2 < cost marks round stack
+union_cost round round1 round2 marks marks1 marks2 stack rest stack1 stack2 next a b is a_in b_in one two =
+    let top : length stack ≡ length rest + 1 = ap length is ∙ length-append rest (next ∷ []) in
+    omega (arith, visit_cost one a_in, visit_cost two b_in, top)
+
+pub nothing_left : (stack : List ℕ) → length stack ≡ 0 → stack ≡ []
+nothing_left [] h = refl
+nothing_left (x ∷ stack) h = absurd (omega (arith, h))

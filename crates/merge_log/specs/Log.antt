@@ -1,0 +1,121 @@
+-- The nodes of a merge log, as the list of their entries in the order of making, and the leaves under each of them.
+-- Node 0 is the empty one and has no entry; the entry of index k is node k + 1.
+use Rattle.std.specs.Prelude.{◌≡◌, ℕ, zero, suc, ◌<◌, ◌≤◌, ◌^◌, ◌==◌, if◌then◌else◌, List, [], ◌∷◌, ◌++◌, length, Option, Some, None, slice_get, nat_lt, Contains, ◌⊎◌}
+use Rattle.sorted_set.specs.Sets.{union, Ascends}
+use Rattle.flow_model.specs.declared.Loc.{Loc}
+use Rattle.flow_model.specs.declared.SourceByte.{SourceByte}
+use Rattle.flow_model.specs.Orders.{loc_cmp, source_cmp}
+use Rattle.merge_log.specs.declared.nodes.Entry.{Entry}
+use Rattle.merge_log.specs.declared.nodes.Entry.TheVariants.{Source, Start, Union}
+
+-- ---- the leaves under a node
+
+-- a set of source bytes, and a set of start locations
+pub record Terms : Type 0 where
+  pub sources : List SourceByte
+  pub starts : List Loc
+
+-- both ascend, and so have no repeats
+pub record AreSets (t : Terms) : Type 0 where
+  pub sources : Ascends source_cmp t.sources
+  pub starts : Ascends loc_cmp t.starts
+
+-- no source byte and no start location
+abbrev pub no_terms : Terms
+no_terms = record { sources = []; starts = [] }
+
+-- one source byte
+abbrev pub source_term : SourceByte → Terms
+source_term b = record { sources = b ∷ []; starts = [] }
+
+-- one start location
+abbrev pub start_term : Loc → Terms
+start_term l = record { sources = []; starts = l ∷ [] }
+
+-- the source bytes of both, and the start locations of both
+abbrev pub joined : Terms → Terms → Terms
+joined a b = record { sources = union source_cmp a.sources b.sources; starts = union loc_cmp a.starts b.starts }
+
+-- the terms of a new node: its one leaf, or those of both operands, by the terms of the nodes before it
+abbrev pub entry_terms : (ℕ → Terms) → Entry → Terms
+entry_terms before (Source b) = source_term b
+entry_terms before (Start l) = start_term l
+entry_terms before (Union a b) = joined (before a) (before b)
+
+-- the terms of each node i: of the new node n by its entry, of any other as before
+abbrev pub with_node : (ℕ → Terms) → ℕ → Entry → ℕ → Terms
+with_node before n e i = if i == n then entry_terms before e else before i
+
+-- the terms of each node i, after the entries have been made in turn as the nodes n, n + 1 and so on
+abbrev pub terms_from : (ℕ → Terms) → ℕ → List Entry → ℕ → Terms
+terms_from before n [] i = before i
+terms_from before n (e ∷ es) i = terms_from (with_node before n e) (suc n) es i
+
+-- the leaves under the node i of a log: at first no node has any, and then its entries are made as the nodes from 1 on
+abbrev pub terms : List Entry → ℕ → Terms
+terms log i = terms_from (λ i. no_terms) 1 log i
+
+-- ---- logs
+
+-- the node stands in the log
+abbrev pub IsNode : List Entry → ℕ → Type 0
+IsNode log n = n ≤ length log
+
+-- the entry may be that of the node n: the operands of a union are nodes above 0 and below n, the smaller one first
+abbrev pub HasOperandsBefore : ℕ → Entry → Type 0
+HasOperandsBefore n (Source b) = Unit {0}
+HasOperandsBefore n (Start l) = Unit {0}
+HasOperandsBefore n (Union a b) = (0 < a) × (a < b) × (b < n)
+
+-- the operands of each entry stand before it, where the entries are the nodes n, n + 1 and so on
+abbrev pub AreOrdered : ℕ → List Entry → Type 0
+AreOrdered n [] = Unit {0}
+AreOrdered n (e ∷ es) = HasOperandsBefore n e × AreOrdered (suc n) es
+
+-- no two nodes are alike: each leaf has one node, and so has each pair of operands
+abbrev pub AreDistinct : List Entry → Type 0
+AreDistinct [] = Unit {0}
+AreDistinct (e ∷ es) = (Contains es e → ⊥) × AreDistinct es
+
+-- a log's nodes fit into 32 bits, their operands stand before them, and no two are alike
+pub record IsLog (log : List Entry) : Type 0 where
+  pub few : length log < 2 ^ 32
+  pub ordered : AreOrdered 1 log
+  pub distinct : AreDistinct log
+
+-- what a node is made of: node 0 of nothing
+abbrev pub entry_at : List Entry → ℕ → Option Entry
+entry_at log zero = None
+entry_at log (suc n) = slice_get log n
+
+-- ---- how a log grows
+
+-- each node that stood stands, with the same terms
+pub record KeepsNodes (old new : List Entry) : Type 0 where
+  pub nodes : (n : ℕ) → IsNode old n → IsNode new n
+  pub terms : (n : ℕ) → IsNode old n → terms new n ≡ terms old n
+
+-- the entry stands in the log, as its node n: where the entry stood there the log is as it was, and else that entry is
+-- all that is new
+pub record IsNoted (old : List Entry) (e : Entry) (new : List Entry) (n : ℕ) : Type 0 where
+  pub stands : IsNode new n
+  pub entry : entry_at new n ≡ Some e
+  pub there : Contains old e → new ≡ old
+  pub added : (Contains old e → ⊥) → new ≡ old ++ e ∷ []
+
+-- the entry of the union of two nodes: the smaller one is its first operand
+abbrev pub union_entry : ℕ → ℕ → Entry
+union_entry a b = if nat_lt a b then Union a b else Union b a
+
+-- the union of two nodes stands in the log: they are the same, one of them is empty, or the entry stands there
+abbrev pub HasUnion : List Entry → ℕ → ℕ → Type 0
+HasUnion log a b = (a ≡ b) ⊎ (a ≡ 0) ⊎ (b ≡ 0) ⊎ Contains log (union_entry a b)
+
+-- the union of the nodes a and b stands in the log, as its node n. That of a node with itself, or with the empty node,
+-- is that node, and the log is as it was
+pub record IsUnited (old : List Entry) (a b : ℕ) (new : List Entry) (n : ℕ) : Type 0 where
+  pub stands : IsNode new n
+  pub same : a ≡ b → (n ≡ a) × (new ≡ old)
+  pub left_empty : a ≡ 0 → (n ≡ b) × (new ≡ old)
+  pub right_empty : b ≡ 0 → (n ≡ a) × (new ≡ old)
+  pub other : (a ≡ b → ⊥) → 0 < a → 0 < b → IsNoted old (union_entry a b) new n

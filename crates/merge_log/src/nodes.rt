@@ -1,0 +1,176 @@
+//! The log, and what its nodes are.
+
+ghost use Rattle.std.specs.Prelude.{◌≡◌, ◌+◌, ◌<◌, [], length, Some, Contains, IsOk, IfOk, OnErr};
+ghost use Rattle.merge_log.specs.Log.{IsLog, IsNode, HasOperandsBefore, IsNoted, KeepsNodes, IsUnited, HasUnion, terms, no_terms, source_term, start_term, entry_at, entry_terms, joined, union_entry};
+ghost use Rattle.merge_log.specs.Walk.{leaves_of};
+ghost use Rattle.merge_log.specs.declared.nodes.Entry.TheVariants as entry;
+
+use crate::reader::{Leaf, TermsReader};
+use flow_model::{Loc, SourceByte};
+use indexmap::IndexSet;
+use no_memory::NoMemory;
+use std::alloc::Global;
+use std::marker::Model;
+
+/// A node of a log: 0 is the empty one, and the others count up in the order of making.
+pub type Node = u64;
+
+/// What a node is made of. The operands of a union are nodes above 0 and below the union, the smaller one
+/// first.
+#[derive(Clone, Copy, PartialEq, Eq, Hash)]
+pub enum Entry {
+    Source(SourceByte),
+    Start(Loc),
+    Union { left: u32, right: u32 },
+}
+
+/// The nodes of a log, each once. Node 0 has no entry, and node `n + 1` is the entry of index `n`.
+///
+/// A call that makes a node fails where there is no memory for it, or where 2^32 - 1 nodes were made. It then
+/// changes nothing. It never fails where its node is there already.
+#[derive(Drop)]
+pub struct MergeLog {
+    entries: IndexSet<Entry>,
+}
+
+/// The most entries of a log: its nodes fit into 32 bits.
+const MOST_ENTRIES: usize = u32::MAX as usize;
+
+impl Model for MergeLog {
+    ghost use Rattle.std.specs.Prelude.{List};
+    ghost use Rattle.merge_log.specs.declared.nodes.Entry.{Entry};
+    ghost use Rattle.merge_log.specs.Log.{IsLog};
+
+    ghost Value = { List Entry };
+
+    ghost view = { λ log. log.entries.keys };
+
+    ghost invariant = { λ log. IsLog log.entries.keys };
+}
+
+impl MergeLog {
+    /// A log with the empty node alone. It takes no memory.
+    pub fn new(alloc: Global) -> Self
+        ensures { result ≡ [] }
+    {
+        MergeLog {
+            entries: IndexSet::new(alloc),
+        }
+    }
+
+    /// The number of nodes, node 0 included.
+    pub fn size(&self) -> u64
+        ensures { result ≡ length self.now + 1 }
+    {
+        self.entries.len() as u64 + 1
+    }
+
+    /// What is true of every log: no two nodes are alike, and the operands of a union stand before it.
+    pub fn form(&self)
+        ensures { IsLog self.now }
+    {
+        // what is known of the field is known from its first use on
+        let _entries = self.entries.len();
+    }
+
+    /// The empty node.
+    pub fn nothing(&self) -> Node
+        ensures number { result ≡ 0 }
+        ensures terms { terms self.now result ≡ no_terms }
+    {
+        0
+    }
+
+    /// The node of one source byte.
+    pub fn leaf_source(&mut self, byte: SourceByte) -> Result<Node, NoMemory>
+        ensures terms { IfOk result (λ n. terms self.new n ≡ source_term byte) }
+        ensures noted { IfOk result (λ n. IsNoted self.old (entry.Source byte) self.new n) }
+        ensures kept { KeepsNodes self.old self.new }
+        ensures there { Contains self.old (entry.Source byte) → IsOk result }
+        ensures err { OnErr result (self.new ≡ self.old) }
+    {
+        self.insert(Entry::Source(byte))
+    }
+
+    /// The node of what a location has at the start.
+    pub fn leaf_symbol(&mut self, loc: Loc) -> Result<Node, NoMemory>
+        ensures terms { IfOk result (λ n. terms self.new n ≡ start_term loc) }
+        ensures noted { IfOk result (λ n. IsNoted self.old (entry.Start loc) self.new n) }
+        ensures kept { KeepsNodes self.old self.new }
+        ensures there { Contains self.old (entry.Start loc) → IsOk result }
+        ensures err { OnErr result (self.new ≡ self.old) }
+    {
+        self.insert(Entry::Start(loc))
+    }
+
+    /// The node of the leaves of two nodes. Where they are the same, or one is empty, it is one of them.
+    pub fn union(&mut self, a: Node, b: Node) -> Result<Node, NoMemory>
+        requires left { IsNode self.old a }
+        requires right { IsNode self.old b }
+        ensures terms { IfOk result (λ n. terms self.new n ≡ joined (terms self.old a) (terms self.old b)) }
+        ensures united { IfOk result (λ n. IsUnited self.old a b self.new n) }
+        ensures kept { KeepsNodes self.old self.new }
+        ensures there { HasUnion self.old a b → IsOk result }
+        ensures err { OnErr result (self.new ≡ self.old) }
+    {
+        self.form(); // so that nodes fit into 32 bits
+        if a == b || b == 0 {
+            return Ok(a);
+        }
+        if a == 0 {
+            return Ok(b);
+        }
+        self.insert(union_of(a as u32, b as u32))
+    }
+
+    /// The leaves under a node, each once: source bytes ascending, and then start locations ascending. It
+    /// fails where there is no memory for them, or for a mark for each node. For many nodes take a reader.
+    pub fn terms(&self, alloc: Global, node: Node) -> Result<Vec<Leaf>, NoMemory>
+        requires { IsNode self.now node }
+        ensures { IfOk result (λ leaves. leaves.items ≡ leaves_of (terms self.now node)) }
+    {
+        let mut reader = TermsReader::new(alloc);
+        reader.read(self, node)?;
+        reader.leaves(alloc)
+    }
+
+    /// What a node is made of.
+    pub(crate) fn entry(&self, node: u32) -> Entry
+        requires above_0 { 0 < node }
+        requires stands { IsNode self.now node }
+        ensures at { entry_at self.now node ≡ Some result }
+        ensures before { HasOperandsBefore node result }
+    {
+        self.entries.as_slice()[node as usize - 1]
+    }
+
+    /// The node of an entry, which is made unless it is there.
+    fn insert(&mut self, entry: Entry) -> Result<Node, NoMemory>
+        requires { HasOperandsBefore (length self.old + 1) entry }
+        ensures terms { IfOk result (λ n. terms self.new n ≡ entry_terms (terms self.new) entry) }
+        ensures noted { IfOk result (λ n. IsNoted self.old entry self.new n) }
+        ensures kept { KeepsNodes self.old self.new }
+        ensures there { Contains self.old entry → IsOk result }
+        ensures err { OnErr result (self.new ≡ self.old) }
+    {
+        if self.entries.len() < MOST_ENTRIES {
+            let (index, _) = self.entries.insert_full(entry)?;
+            return Ok(index as u64 + 1);
+        }
+        match self.entries.get_index_of(&entry) {
+            Some(index) => Ok(index as u64 + 1),
+            None => Err(NoMemory),
+        }
+    }
+}
+
+/// The union of two nodes, the smaller one first.
+fn union_of(a: u32, b: u32) -> Entry
+    ensures { result ≡ union_entry a b }
+{
+    if a < b {
+        Entry::Union { left: a, right: b }
+    } else {
+        Entry::Union { left: b, right: a }
+    }
+}
