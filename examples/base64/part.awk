@@ -1,5 +1,5 @@
-# Of a report on channel 1, the lines of offsets from `from` up to and without `past`, each with those of its source bytes
-# whose offset on channel 0 is below `sources`.
+# Of a report on channel 1, the lines of offsets from `from` up to and without `past`, each with those of its source
+# bytes whose offset on channel 0 is below `sources`.
 BEGIN { FS = "[ :]" }
 
 $1 != "end" && $2 >= from && $2 < past {
