@@ -1,6 +1,8 @@
 //! Rows as text: in order, turned round, and of what a query chooses.
 
 ghost use Rattle.std.specs.Prelude.{◌≡◌, IfOk};
+ghost use Rattle.sorted_set.specs.Sets.{Ascends};
+ghost use Rattle.flow_model.specs.Orders.{source_cmp};
 
 use flow_model::{InnerSink, Loc, SinkByte, SinkPoint, SourceByte};
 use query_lang::{Query, parse};
@@ -84,7 +86,9 @@ fn rows_come_in_their_order(rt: HostRuntime) -> Result<(), Fail> {
 }
 
 /// The bytes 7 and 8 of channel 0, and byte 2 of channel 15.
-fn sources(alloc: Global) -> Result<Vec<SourceByte>, AllocError> {
+fn sources(alloc: Global) -> Result<Vec<SourceByte>, AllocError>
+    ensures { IfOk result (λ sources. Ascends source_cmp sources.items) }
+{
     let mut sources = Vec::new(alloc);
     sources.push(SourceByte {
         channel: 0,
