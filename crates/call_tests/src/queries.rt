@@ -1,8 +1,9 @@
 //! Texts against what they stand for.
 
-use flow_model::{Rule, SinkByte, SourceByte};
-use query_lang::{Query, QueryFault, QueryKind, parse};
+use flow_model::{InnerSink, Loc, Rule, SinkByte, SourceByte};
+use query_lang::{Query, QueryFault, QueryKind, TogetherFault, parse, together};
 use std::alloc::Global;
+use std::test::Fail;
 
 /// Texts, and the line and the kind of their first fault.
 const FAULTS: [(&[u8], u32, QueryKind); 18] = [
@@ -115,4 +116,76 @@ fn good_texts_choose_their_bytes(rt: HostRuntime) {
         };
         assert!(rt; is_read, "{text:?}");
     }
+}
+
+/// One query of the two that these texts stand for.
+fn of_two(alloc: Global, first: &[u8], second: &[u8]) -> Result<Query, TogetherFault> {
+    let (Ok(first), Ok(second)) = (read(alloc, first), read(alloc, second)) else {
+        return Err(TogetherFault::NoMemory);
+    };
+    let queries = [first, second];
+    together(alloc, queries.as_slice())
+}
+
+/// Byte `lane` of x1 after five steps.
+fn lane(lane: u8) -> InnerSink {
+    InnerSink {
+        time: 5,
+        loc: Loc::Reg { number: 1, lane },
+    }
+}
+
+/// A byte of memory after six steps.
+fn place(place: u32) -> InnerSink {
+    InnerSink {
+        time: 6,
+        loc: Loc::Mem { place },
+    }
+}
+
+/// The points of the query are x1 after five steps, and two bytes of memory after six, each once.
+fn has_its_points(query: &Query) -> bool {
+    let points = [
+        lane(0),
+        lane(1),
+        lane(2),
+        lane(3),
+        place(65792),
+        place(65793),
+    ];
+    query.points() == points.as_slice()
+}
+
+#[test]
+fn two_queries_together_choose_what_either_does(rt: HostRuntime) -> Result<(), Fail> {
+    let query = of_two(
+        rt.alloc(),
+        b"rule copy\nsource 0 1 2\nsink 1\nsink mem 65792 2 at 6",
+        b"rule copy\nsource 0 4 6\nsink 15 0 1\nsink mem 65793 1 at 6\nsink reg 1 at 5",
+    )?;
+    assert!(rt; query.rule() == Rule::Copy);
+    assert!(rt; has_its_points(&query));
+    assert!(rt;
+        chooses(
+            &query,
+            [(0, 1), (0, 4), (0, 5)].as_slice(),
+            [(1, 0), (1, 9), (1, 4294967295), (15, 0)].as_slice()
+        )
+    );
+    Ok(())
+}
+
+#[test]
+fn two_rules_are_not_made_one(rt: HostRuntime) {
+    let is_told = match of_two(rt.alloc(), b"rule copy", b"rule index") {
+        Err(
+            TogetherFault::Rules {
+                first: Rule::Copy,
+                index: 2,
+                other: Rule::Index,
+            },
+        ) => true,
+        _ => false,
+    };
+    assert!(rt; is_told);
 }

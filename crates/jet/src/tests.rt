@@ -1,7 +1,11 @@
 //! Commands over files in memory, from their words to what they write.
 
+mod convert;
 mod guests;
+mod influence;
 mod outside;
+mod points;
+mod queries;
 mod record;
 mod refusals;
 mod runs;
@@ -52,7 +56,22 @@ const NO_INSTRUCTION: Instr = Instr::Addi {
     imm: 5000,
 };
 
-/// A log's header and these records.
+/// The header of a log whose first line is this.
+fn header(
+    alloc: Global,
+    magic: &[u8],
+    program: &[u8],
+    pages: u32,
+    inputs: u32,
+) -> Result<Vec<u8>, AllocError> {
+    let mut out = Vec::new(alloc);
+    out.extend_from_slice(magic)?;
+    out.extend_from_slice(&Sha256::digest(program))?;
+    push_words(&mut out, [pages, inputs].as_slice())?;
+    Ok(out)
+}
+
+/// The header of a log in version 1 and these records.
 fn log(
     alloc: Global,
     program: &[u8],
@@ -60,15 +79,29 @@ fn log(
     inputs: u32,
     records: &[u8],
 ) -> Result<Vec<u8>, AllocError> {
-    let mut out = Vec::new(alloc);
-    out.extend_from_slice(b"JETLOG1\n")?;
-    out.extend_from_slice(&Sha256::digest(program))?;
-    push_words(&mut out, [pages, inputs].as_slice())?;
+    let mut out = header(alloc, b"JETLOG1\n", program, pages, inputs)?;
     out.extend_from_slice(records)?;
     Ok(out)
 }
 
-/// The record of a read (tag 1) or a write (tag 2).
+/// The version of a log. Version 2 has wide steps, and the bytes of reads stand in its channels.
+#[derive(Clone, Copy)]
+enum Version {
+    One,
+    Two,
+}
+
+/// A record's tag and its step.
+fn push_tag(out: &mut Vec<u8>, version: Version, tag: u8, at: u32) -> Result<(), AllocError> {
+    out.push(tag)?;
+    push_words(out, [at].as_slice())?;
+    match version {
+        Version::One => Ok(()),
+        Version::Two => push_words(out, [0].as_slice()),
+    }
+}
+
+/// The record of a read (tag 1) or a write (tag 2), with its bytes in version 1.
 fn push_transfer(
     out: &mut Vec<u8>,
     tag: u8,
@@ -76,11 +109,23 @@ fn push_transfer(
     args: [u32; 3],
     bytes: &[u8],
 ) -> Result<(), AllocError> {
-    out.push(tag)?;
-    let [channel, address, asked] = args;
-    let length = u32::try_from(bytes.len()).unwrap_or(0);
-    push_words(out, [at, channel, address, asked, length].as_slice())?;
+    push_moved(out, Version::One, tag, at, args, bytes.len())?;
     out.extend_from_slice(bytes)
+}
+
+/// The fields of a read or a write that moved so many bytes.
+fn push_moved(
+    out: &mut Vec<u8>,
+    version: Version,
+    tag: u8,
+    at: u32,
+    args: [u32; 3],
+    length: usize,
+) -> Result<(), AllocError> {
+    push_tag(out, version, tag, at)?;
+    let [channel, address, asked] = args;
+    let length = u32::try_from(length).unwrap_or(0);
+    push_words(out, [channel, address, asked, length].as_slice())
 }
 
 /// The program file of a guest. A table's field costs the proof more than a guest that is lent.
@@ -142,43 +187,66 @@ enum Entry {
     Limit(u32),
 }
 
-fn push_entry(out: &mut Vec<u8>, entry: Entry) -> Result<(), AllocError> {
-    match entry {
-        Entry::Read(at, channel, asked, bytes) => {
-            push_transfer(out, 1, at, [channel, 0x10100, asked], bytes)
-        }
-        Entry::Write(at, channel, asked, bytes) => {
-            push_transfer(out, 2, at, [channel, 0x10100, asked], bytes)
-        }
-        Entry::Refused(tag, at, channel, asked) => {
-            out.push(tag)?;
-            push_words(out, [at, channel, 0x10100, asked, 0xffff_fff7].as_slice())
-        }
-        Entry::Time(at, time) => {
-            out.push(3)?;
-            push_words(out, [at].as_slice())?;
-            out.extend_from_slice(&time.to_le_bytes())
-        }
-        Entry::Other(at, number) => {
-            out.push(4)?;
-            push_words(out, [at, number].as_slice())
-        }
-        Entry::Exit(at, code) => {
-            out.push(5)?;
-            push_words(out, [at, code].as_slice())
-        }
-        Entry::Trap(at, kind, pc) => {
-            out.push(6)?;
-            push_words(out, [at, kind, pc].as_slice())
-        }
-        Entry::Limit(at) => {
-            out.push(7)?;
-            push_words(out, [at].as_slice())
-        }
+/// A read or a write with the buffer at 0x10100.
+fn push_bytes(
+    out: &mut Vec<u8>,
+    version: Version,
+    tag: u8,
+    step: (u32, u32, u32),
+    bytes: &[u8],
+) -> Result<(), AllocError> {
+    let (at, channel, asked) = step;
+    let args = [channel, 0x10100, asked];
+    push_moved(out, version, tag, at, args, bytes.len())?;
+    match (version, tag) {
+        (Version::Two, 1) => Ok(()),
+        _ => out.extend_from_slice(bytes),
     }
 }
 
-/// A log of these records.
+/// A record of a tag, a step and these fields.
+fn push_fields(
+    out: &mut Vec<u8>,
+    version: Version,
+    tag: u8,
+    at: u32,
+    fields: &[u32],
+) -> Result<(), AllocError> {
+    push_tag(out, version, tag, at)?;
+    push_words(out, fields)
+}
+
+fn push_entry(out: &mut Vec<u8>, version: Version, entry: Entry) -> Result<(), AllocError> {
+    match entry {
+        Entry::Read(at, channel, asked, bytes) => {
+            push_bytes(out, version, 1, (at, channel, asked), bytes)
+        }
+        Entry::Write(at, channel, asked, bytes) => {
+            push_bytes(out, version, 2, (at, channel, asked), bytes)
+        }
+        Entry::Refused(tag, at, channel, asked) => {
+            let fields = [channel, 0x10100, asked, 0xffff_fff7];
+            push_fields(out, version, tag, at, fields.as_slice())
+        }
+        Entry::Time(at, time) => {
+            push_tag(out, version, 3, at)?;
+            out.extend_from_slice(&time.to_le_bytes())
+        }
+        Entry::Other(at, number) => push_fields(out, version, 4, at, [number].as_slice()),
+        Entry::Exit(at, code) => push_fields(out, version, 5, at, [code].as_slice()),
+        Entry::Trap(at, kind, pc) => push_fields(out, version, 6, at, [kind, pc].as_slice()),
+        Entry::Limit(at) => push_tag(out, version, 7, at),
+    }
+}
+
+fn push_entries(out: &mut Vec<u8>, version: Version, entries: &[Entry]) -> Result<(), AllocError> {
+    for entry in entries {
+        push_entry(out, version, *entry)?;
+    }
+    Ok(())
+}
+
+/// A log of these records in version 1.
 fn log_of(
     alloc: Global,
     program: &[u8],
@@ -186,11 +254,35 @@ fn log_of(
     inputs: u32,
     entries: &[Entry],
 ) -> Result<Vec<u8>, AllocError> {
-    let mut records = Vec::new(alloc);
-    for entry in entries {
-        push_entry(&mut records, *entry)?;
+    let mut out = header(alloc, b"JETLOG1\n", program, pages, inputs)?;
+    push_entries(&mut out, Version::One, entries)?;
+    Ok(out)
+}
+
+/// What was read on each channel, in order.
+type Channels = &'static [&'static [u8]];
+
+/// A log of these records in version 2.
+fn wide_log_of(
+    alloc: Global,
+    program: &[u8],
+    pages: u32,
+    channels: Channels,
+    entries: &[Entry],
+) -> Result<Vec<u8>, AllocError> {
+    let inputs = u32::try_from(channels.len()).unwrap_or(0);
+    let mut out = header(alloc, b"JETLOG2\n", program, pages, inputs)?;
+    for bytes in channels {
+        push_channel(&mut out, bytes)?;
     }
-    log(alloc, program, pages, inputs, &records)
+    push_entries(&mut out, Version::Two, entries)?;
+    Ok(out)
+}
+
+fn push_channel(out: &mut Vec<u8>, bytes: &[u8]) -> Result<(), AllocError> {
+    let length = u32::try_from(bytes.len()).unwrap_or(0);
+    push_words(out, [length].as_slice())?;
+    out.extend_from_slice(bytes)
 }
 
 /// Bytes that are put in place of those at an offset.
@@ -340,17 +432,18 @@ fn assert_query<R: AllocGlobal + Abort>(
     assert_command(rt, QUERY, program, log, query, ending)
 }
 
-/// The report of a guest's run.
-fn assert_report<R: AllocGlobal + Abort>(
+/// A command over a guest's run and a query ends so.
+fn assert_guest<R: AllocGlobal + Abort>(
     rt: &R,
+    line: Line,
     guest: &Guest,
     query: &str,
-    report: &str,
+    ending: Ending<'_>,
 ) -> Result<(), Fail> {
     let alloc = rt.alloc();
     let program = program_of(alloc, guest)?;
     let log = log_with(alloc, guest, &program, guest.write.bytes)?;
-    assert_query(rt, &program, &log, query.as_bytes(), Ending::report(report))
+    assert_command(rt, line, &program, &log, query.as_bytes(), ending)
 }
 
 /// The sum or the product of two words depends on all eight bytes, in each of its own.
@@ -411,7 +504,7 @@ const REPORTS: &[(&Guest, &str, &str)] = &[
 #[test]
 fn bytes_are_followed(rt: HostRuntime) -> Result<(), Fail> {
     for &(guest, query, report) in REPORTS {
-        assert_report(&rt, guest, query, report)?;
+        assert_guest(&rt, QUERY, guest, query, Ending::report(report))?;
     }
     Ok(())
 }

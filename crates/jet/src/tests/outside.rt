@@ -3,7 +3,7 @@
 ghost use Rattle.std.specs.Prelude.{◌<◌};
 
 use super::guests::COPY_FOUR;
-use super::runs::{NUMBERS, OUTPUT, REPLAY};
+use super::runs::{CONVERT, INFLUENCE, NUMBERS, OUTPUT, QUERIES, REPLAY};
 use super::{
     COPIED, COPY, Ending, Line, QUERY, assert_ends, assert_outside, files, log_with, program_of,
     status_of,
@@ -18,6 +18,12 @@ const COMMANDS: &[(Line, u64, &str)] = &[
     (QUERY, 9, COPIED),
     (REPLAY, 6, NUMBERS),
     (OUTPUT, 6, "ABCD"),
+    (INFLUENCE, 9, "0:0 1:0\n0:1 1:1\n0:2 1:2\n0:3 1:3\nend 4\n"),
+    (
+        QUERIES,
+        9,
+        "query 1\n1:0 0:0\n1:1 0:1\n1:2 0:2\n1:3 0:3\nend 4\n",
+    ),
 ];
 
 /// The three files of the four-byte copy; the log has these bytes as written.
@@ -114,7 +120,7 @@ fn assert_put_fails<R: AllocGlobal + Abort>(
 #[test]
 fn each_failing_put_is_a_write_fault(rt: HostRuntime) -> Result<(), Fail> {
     for &(line, _, text) in COMMANDS {
-        for put in 0..46 {
+        for put in 0..47 {
             assert_put_fails(&rt, line, text, put, 1)?;
         }
     }
@@ -170,6 +176,16 @@ const WORDS: &[(Line, u8, &str)] = &[
     (&["jet", "record", "prog", "log"], 7, "jet: read fault\n"),
     (REPLAY, 7, "jet: read fault\n"),
     (OUTPUT, 7, "jet: read fault\n"),
+    (&["jet", "convert", "prog", "log"], 2, "jet: usage\n"),
+    (&["jet", "influence", "prog", "log"], 2, "jet: usage\n"),
+    (
+        &["jet", "influence", "prog", "log", "query", "query"],
+        2,
+        "jet: usage\n",
+    ),
+    (CONVERT, 7, "jet: read fault\n"),
+    (INFLUENCE, 7, "jet: read fault\n"),
+    (QUERIES, 7, "jet: read fault\n"),
 ];
 
 /// Over a store of no files the command of these words ends so.

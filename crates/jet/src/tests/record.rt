@@ -5,8 +5,8 @@ ghost use Rattle.std.specs.Prelude.{◌<◌};
 use super::guests::COPY_CODE;
 use super::runs::{COPIES, ON_TWO, WRITE_ON_TWO};
 use super::{
-    BASE, COMPUTE, COPIED, COPY, Ending, Entry, Line, NO_INSTRUCTION, QUERY, TIME, assert_ends,
-    log_of, patched, program, push_file,
+    BASE, COMPUTE, COPIED, COPY, Channels, Ending, Entry, Line, NO_INSTRUCTION, QUERY, TIME,
+    assert_ends, patched, program, push_file, wide_log_of,
 };
 use guest_assembler::{Instr, code};
 use jet_files::read_file;
@@ -77,35 +77,48 @@ const WIDEST: Line = &["jet", "record", "prog", "log", "--pages", "4096"];
 /// The log takes the place of the program.
 const OVER_THE_PROGRAM: Line = &["jet", "record", "prog", "prog", "in", "--pages", "1"];
 
-/// A guest, the words that record it, and its log: the pages and the inputs, the records, and the length of all. Then
-/// a query of the log, and its report.
+/// A guest, the words that record it, and its log: the pages, what was read of each input, the records, and the length of
+/// all. Then a query of the log, and its report.
 #[derive(Clone, Copy)]
-struct Recording {
-    code: &'static [Instr],
-    line: Line,
-    header: (u32, u32),
-    entries: &'static [Entry],
-    length: usize,
-    query: &'static str,
-    report: &'static str,
+pub struct Recording {
+    pub code: &'static [Instr],
+    pub line: Line,
+    pub pages: u32,
+    pub channels: Channels,
+    pub entries: &'static [Entry],
+    pub length: usize,
+    pub query: &'static str,
+    pub report: &'static str,
 }
 
-const RECORDINGS: &[Recording] = &[
+impl Recording {
+    /// The log of the run.
+    pub fn log(&self, alloc: Global, program: &[u8]) -> Result<Vec<u8>, AllocError> {
+        wide_log_of(alloc, program, self.pages, self.channels, self.entries)
+    }
+}
+
+/// What the four-byte copy reads.
+pub const FOUR: Channels = &[b"ABCD"];
+
+pub const RECORDINGS: &[Recording] = &[
     Recording {
         code: COPY_CODE,
         line: RECORD,
-        header: (1, 1),
+        pages: 1,
+        channels: FOUR,
         entries: COPIES,
-        length: 107,
+        length: 123,
         query: COPY,
         report: COPIED,
     },
     Recording {
         code: COPY_CODE,
         line: &["jet", "record", "prog", "log", "in"],
-        header: (256, 1),
+        pages: 256,
+        channels: FOUR,
         entries: COPIES,
-        length: 107,
+        length: 123,
         query: COPY,
         report: COPIED,
     },
@@ -138,11 +151,14 @@ const RECORDINGS: &[Recording] = &[
             "--piece",
             "16777216",
             "--steps",
-            "4294967295",
+            "1099511627776",
         ],
-        header: (4096, 16),
+        pages: 4096,
+        channels: &[
+            b"ABCD", b"", b"", b"", b"", b"", b"", b"", b"", b"", b"", b"", b"", b"", b"", b"",
+        ],
         entries: COPIES,
-        length: 107,
+        length: 183,
         query: COPY,
         report: COPIED,
     },
@@ -152,13 +168,14 @@ const RECORDINGS: &[Recording] = &[
         line: &[
             "jet", "record", "prog", "log", "in", "--pages", "1", "--piece", "2",
         ],
-        header: (1, 1),
+        pages: 1,
+        channels: &[b"AB"],
         entries: &[
             Entry::Read(5, 0, 4, b"AB"),
             Entry::Write(8, 1, 4, b"AB\0\0"),
             Entry::Exit(11, 0),
         ],
-        length: 105,
+        length: 121,
         query: COPY,
         report: "1:0 0:0\n1:1 0:1\n1:2\n1:3\nend 4\n",
     },
@@ -166,13 +183,14 @@ const RECORDINGS: &[Recording] = &[
     Recording {
         code: COPY_CODE,
         line: &["jet", "record", "prog", "log", "--pages", "1"],
-        header: (1, 0),
+        pages: 1,
+        channels: &[],
         entries: &[
             Entry::Refused(1, 5, 0, 4),
             Entry::Write(8, 1, 4, b"\0\0\0\0"),
             Entry::Exit(11, 0),
         ],
-        length: 103,
+        length: 115,
         query: COPY,
         report: "1:0\n1:1\n1:2\n1:3\nend 4\n",
     },
@@ -182,9 +200,10 @@ const RECORDINGS: &[Recording] = &[
         line: &[
             "jet", "record", "prog", "log", "four", "--pages", "1", "--steps", "5",
         ],
-        header: (1, 1),
+        pages: 1,
+        channels: &[b""],
         entries: &[Entry::Limit(5)],
-        length: 53,
+        length: 61,
         query: COPY,
         report: "end 0\n",
     },
@@ -193,9 +212,10 @@ const RECORDINGS: &[Recording] = &[
         line: &[
             "jet", "record", "prog", "log", "four", "--pages", "1", "--steps", "6",
         ],
-        header: (1, 1),
+        pages: 1,
+        channels: FOUR,
         entries: &[Entry::Read(5, 0, 4, b"ABCD"), Entry::Limit(6)],
-        length: 78,
+        length: 90,
         query: COPY,
         report: "end 0\n",
     },
@@ -204,22 +224,24 @@ const RECORDINGS: &[Recording] = &[
         line: &[
             "jet", "record", "prog", "log", "four", "--pages", "1", "--steps", "12",
         ],
-        header: (1, 1),
+        pages: 1,
+        channels: FOUR,
         entries: COPIES,
-        length: 107,
+        length: 123,
         query: COPY,
         report: COPIED,
     },
     Recording {
         code: TELL_THE_TIME,
         line: &["jet", "record", "prog", "log", "--pages", "1"],
-        header: (1, 0),
+        pages: 1,
+        channels: &[],
         entries: &[
             Entry::Time(3, TIME),
             Entry::Write(10, 1, 8, b"\x02\0\0\0\x01\0\0\0"),
             Entry::Exit(13, 0),
         ],
-        length: 99,
+        length: 111,
         query: COMPUTE,
         report: "1:0\n1:1\n1:2\n1:3\n1:4\n1:5\n1:6\n1:7\nend 8\n",
     },
@@ -228,13 +250,14 @@ const RECORDINGS: &[Recording] = &[
         line: &[
             "jet", "record", "prog", "log", "in", "other", "--pages", "1",
         ],
-        header: (1, 2),
+        pages: 1,
+        channels: &[b"", b"WXYZ"],
         entries: &[
             Entry::Read(5, 1, 4, b"WXYZ"),
             Entry::Write(8, 1, 4, b"WXYZ"),
             Entry::Exit(11, 0),
         ],
-        length: 107,
+        length: 127,
         query: COPY,
         report: "1:0 1:0\n1:1 1:1\n1:2 1:2\n1:3 1:3\nend 4\n",
     },
@@ -242,9 +265,10 @@ const RECORDINGS: &[Recording] = &[
     Recording {
         code: WRITE_ON_TWO,
         line: &["jet", "record", "prog", "log", "four", "--pages", "1"],
-        header: (1, 1),
+        pages: 1,
+        channels: FOUR,
         entries: ON_TWO,
-        length: 173,
+        length: 205,
         query: COPY,
         report: "1:0 0:0\n1:1 0:1\n1:2 0:2\n1:3 0:3\n1:4 0:0\n2:0 0:0\nend 6\n",
     },
@@ -254,9 +278,10 @@ const RECORDINGS: &[Recording] = &[
         line: &[
             "jet", "record", "prog", "log", "four", "--pages", "1", "--steps", "1",
         ],
-        header: (1, 1),
+        pages: 1,
+        channels: &[b""],
         entries: &[Entry::Trap(0, 2, BASE)],
-        length: 61,
+        length: 69,
         query: COPY,
         report: "end 0\n",
     },
@@ -296,10 +321,10 @@ fn store(
 }
 
 /// No call has this number.
-const NEVER: u64 = 1 << 40;
+pub const NEVER: u64 = 1 << 40;
 
 /// The store's file of this name has these bytes, or there is no such file.
-fn assert_file<R: AllocGlobal + Abort>(
+pub fn assert_file<R: AllocGlobal + Abort>(
     rt: &R,
     store: &mut MemoryStore,
     name: &str,
@@ -316,8 +341,7 @@ fn assert_file<R: AllocGlobal + Abort>(
 fn assert_recording<R: AllocGlobal + Abort>(rt: &R, recording: &Recording) -> Result<(), Fail> {
     let alloc = rt.alloc();
     let program = program(alloc, recording.code)?;
-    let (pages, inputs) = recording.header;
-    let log = log_of(alloc, &program, pages, inputs, recording.entries)?;
+    let log = recording.log(alloc, &program)?;
     assert_eq!(rt; log.len(), recording.length);
     let mut store = store(alloc, &program, recording.query, NEVER, 65536)?;
     assert_ends(rt, recording.line, &mut store, Ending::report(""))?;
@@ -370,6 +394,19 @@ const REFUSED: &[(Line, u8, &str)] = &[
         2,
         "jet: usage\n",
     ),
+    (
+        &[
+            "jet",
+            "record",
+            "prog",
+            "log",
+            "in",
+            "--steps",
+            "1099511627777",
+        ],
+        2,
+        "jet: usage\n",
+    ),
 ];
 
 /// The command of these words is refused so, and writes no file.
@@ -397,7 +434,7 @@ fn a_refused_recording_writes_no_file(rt: HostRuntime) -> Result<(), Fail> {
 #[test]
 fn a_log_that_is_too_long_is_not_written(rt: HostRuntime) -> Result<(), Fail> {
     let program = program(rt.alloc(), WRITE_MUCH)?;
-    let ending = Ending::refusal(9, "jet: limit log 83558562\n");
+    let ending = Ending::refusal(9, "jet: limit log 83558586\n");
     assert_unwritten(&rt, &program, WIDEST, ending)
 }
 
@@ -424,7 +461,7 @@ fn assert_failing_call<R: AllocGlobal + Abort>(
     let mut store = store(alloc, program, COPY, call, 10)?;
     let (ending, written) = if call < 19 {
         (Ending::refusal(7, "jet: read fault\n"), None)
-    } else if call < 32 {
+    } else if call < 34 {
         (Ending::refusal(8, "jet: write fault\n"), None)
     } else {
         (Ending::report(""), Some(log))
@@ -435,14 +472,14 @@ fn assert_failing_call<R: AllocGlobal + Abort>(
     assert_files(rt, &mut store, program, written)
 }
 
-/// The program is read in 16 calls of ten bytes and the input in 3; the log is created, put in 11 pieces, and finished.
+/// The program is read in 16 calls of ten bytes and the input in 3; the log is created, put in 13 pieces, and finished.
 /// Each of these calls fails once, and then no file differs.
 #[test]
 fn a_failing_store_leaves_the_files(rt: HostRuntime) -> Result<(), Fail> {
     let alloc = rt.alloc();
     let program = program(alloc, COPY_CODE)?;
-    let log = log_of(alloc, &program, 1, 1, COPIES)?;
-    for call in 0..33 {
+    let log = wide_log_of(alloc, &program, 1, FOUR, COPIES)?;
+    for call in 0..35 {
         assert_failing_call(&rt, &program, &log, call)?;
     }
     Ok(())
@@ -452,7 +489,7 @@ fn a_failing_store_leaves_the_files(rt: HostRuntime) -> Result<(), Fail> {
 fn a_log_may_take_the_place_of_its_program(rt: HostRuntime) -> Result<(), Fail> {
     let alloc = rt.alloc();
     let program = program(alloc, COPY_CODE)?;
-    let log = log_of(alloc, &program, 1, 1, COPIES)?;
+    let log = wide_log_of(alloc, &program, 1, FOUR, COPIES)?;
     let mut store = store(alloc, &program, COPY, NEVER, 65536)?;
     assert_ends(&rt, OVER_THE_PROGRAM, &mut store, Ending::report(""))?;
     assert_file(&rt, &mut store, "prog", Some(&log))?;

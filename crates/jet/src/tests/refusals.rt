@@ -1,13 +1,18 @@
 //! Files that are refused, each with its status and its line.
 
 use super::guests::COPY_FOUR;
-use super::{COPIED, COPY, Ending, Patch, assert_query, log_with, patched, program_of, push_words};
+use super::record::FOUR;
+use super::runs::COPIES;
+use super::{
+    COPIED, COPY, Channels, Ending, Entry, Patch, assert_query, log_with, patched, program_of,
+    push_words, wide_log_of,
+};
 use std::alloc::{AllocError, Global};
 use std::process::Abort;
 use std::test::Fail;
 
 /// The program and the log of the four-byte copy.
-fn copied(alloc: Global) -> Result<(Vec<u8>, Vec<u8>), AllocError> {
+pub fn copied(alloc: Global) -> Result<(Vec<u8>, Vec<u8>), AllocError> {
     let program = program_of(alloc, &COPY_FOUR)?;
     let log = log_with(alloc, &COPY_FOUR, &program, b"ABCD")?;
     Ok((program, log))
@@ -32,6 +37,17 @@ const LOGS: &[Prefix] = &[
     (97, 4, "jet: log 3 Short at 73\n"),
     (106, 4, "jet: log 3 Short at 98\n"),
     (107, 0, COPIED),
+];
+
+/// Prefixes of the log in version 2.
+const WIDE_LOGS: &[Prefix] = &[
+    (7, 4, "jet: log 1 Magic at 0\n"),
+    (47, 4, "jet: log 2 Header at 8\n"),
+    (55, 4, "jet: log 2 Header at 48\n"),
+    (80, 4, "jet: log 3 Short at 56\n"),
+    (109, 4, "jet: log 3 Short at 81\n"),
+    (122, 4, "jet: log 3 Short at 110\n"),
+    (123, 0, COPIED),
 ];
 
 /// Prefixes of the query.
@@ -95,6 +111,116 @@ fn each_prefix_of_a_file_has_its_ending(rt: HostRuntime) -> Result<(), Fail> {
             &query[..length],
             ending_of(length, QUERIES),
         )?;
+    }
+    Ok(())
+}
+
+/// Each prefix of a log ends as the table says.
+fn assert_prefixes<R: AllocGlobal + Abort>(
+    rt: &R,
+    program: &[u8],
+    log: &[u8],
+    prefixes: &'static [Prefix],
+) -> Result<(), Fail> {
+    for length in 0..=log.len() {
+        let ending = ending_of(length, prefixes);
+        assert_query(rt, program, &log[..length], COPY.as_bytes(), ending)?;
+    }
+    Ok(())
+}
+
+#[test]
+fn each_prefix_of_a_log_in_version_2_has_its_ending(rt: HostRuntime) -> Result<(), Fail> {
+    let alloc = rt.alloc();
+    let program = program_of(alloc, &COPY_FOUR)?;
+    let log = wide_log_of(alloc, &program, 1, FOUR, COPIES)?;
+    assert_prefixes(&rt, &program, &log, WIDE_LOGS)
+}
+
+/// The channels of the four-byte copy, its records, bytes in place of others, and the status and the line.
+type WideCase = (Channels, &'static [Entry], Patch, u8, &'static str);
+
+/// No byte is changed.
+const AS_IT_IS: Patch = (0, b"");
+
+/// The same records with a channel of another length, and other faults that version 2 alone has.
+const WIDE_CASES: &[WideCase] = &[
+    (&[b"ABC"], COPIES, AS_IT_IS, 4, "jet: log 8 Bytes at 55\n"),
+    (
+        &[b"ABCDE"],
+        COPIES,
+        AS_IT_IS,
+        4,
+        "jet: log 8 Bytes at 111\n",
+    ),
+    // The read is on a channel that there is none of.
+    (FOUR, COPIES, (65, b"\x01"), 4, "jet: log 8 Bytes at 56\n"),
+    // The channel's length is more than the file.
+    (
+        FOUR,
+        COPIES,
+        (48, b"\xff\xff\xff\xff"),
+        4,
+        "jet: log 2 Header at 48\n",
+    ),
+    // Another byte was read than is written.
+    (
+        FOUR,
+        COPIES,
+        (54, b"X"),
+        5,
+        "jet: diverged at 8 byte 2 kept 67 seen 88\n",
+    ),
+    // The upper half of a step counts.
+    (FOUR, COPIES, (61, b"\x01"), 4, "jet: log 5 Order at 81\n"),
+    (
+        &[],
+        &[Entry::Limit(5)],
+        (49, b"\x01\0\0\0\0\x01\0\0"),
+        4,
+        "jet: log 5 Order at 48\n",
+    ),
+    (
+        &[],
+        &[Entry::Limit(5)],
+        (49, b"\0\0\0\0\0\x01\0\0"),
+        5,
+        "jet: diverged at 5 event kept 0 seen 1\n",
+    ),
+    // A call stands below that.
+    (
+        &[],
+        &[Entry::Other(5, 7), Entry::Limit(6)],
+        (49, b"\0\0\0\0\0\x01\0\0"),
+        4,
+        "jet: log 5 Order at 48\n",
+    ),
+];
+
+/// The log of these records, patched, ends so.
+fn assert_wide<R: AllocGlobal + Abort>(
+    rt: &R,
+    program: &[u8],
+    case: &WideCase,
+) -> Result<(), Fail> {
+    let alloc = rt.alloc();
+    let (channels, entries, patch, status, line) = *case;
+    let log = wide_log_of(alloc, program, 1, channels, entries)?;
+    let log = patched(alloc, &log, patch)?;
+    assert_query(
+        rt,
+        program,
+        &log,
+        COPY.as_bytes(),
+        Ending::refusal(status, line),
+    )
+}
+
+#[test]
+fn faults_of_version_2_are_told(rt: HostRuntime) -> Result<(), Fail> {
+    let program = program_of(rt.alloc(), &COPY_FOUR)?;
+    for case in WIDE_CASES {
+        assert_wide(&rt, &program, case)?;
     }
     Ok(())
 }
@@ -190,12 +316,31 @@ fn changed_bytes_are_refused(rt: HostRuntime) -> Result<(), Fail> {
     Ok(())
 }
 
+/// The log and one byte more is refused with this line.
+fn assert_trailing<R: AllocGlobal + Abort>(
+    rt: &R,
+    program: &[u8],
+    log: &[u8],
+    line: &str,
+) -> Result<(), Fail> {
+    let mut longer = log.to_vec(rt.alloc())?;
+    longer.push(0)?;
+    assert_query(
+        rt,
+        program,
+        &longer,
+        COPY.as_bytes(),
+        Ending::refusal(4, line),
+    )
+}
+
 #[test]
 fn a_byte_after_a_log_is_refused(rt: HostRuntime) -> Result<(), Fail> {
-    let (program, mut log) = copied(rt.alloc())?;
-    log.push(0)?;
-    let ending = Ending::refusal(4, "jet: log 7 Trailing at 107\n");
-    assert_query(&rt, &program, &log, COPY.as_bytes(), ending)
+    let alloc = rt.alloc();
+    let (program, log) = copied(alloc)?;
+    assert_trailing(&rt, &program, &log, "jet: log 7 Trailing at 107\n")?;
+    let wide = wide_log_of(alloc, &program, 1, FOUR, COPIES)?;
+    assert_trailing(&rt, &program, &wide, "jet: log 7 Trailing at 123\n")
 }
 
 /// Queries, and the line of their status 6.

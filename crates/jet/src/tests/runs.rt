@@ -16,6 +16,15 @@ pub const REPLAY: Line = &["jet", "replay", "prog", "log"];
 
 pub const OUTPUT: Line = &["jet", "output", "prog", "log", "1"];
 
+pub const CONVERT: Line = &["jet", "convert", "prog", "log", "new"];
+
+pub const INFLUENCE: Line = &["jet", "influence", "prog", "log", "query"];
+
+pub const QUERIES: Line = &["jet", "queries", "prog", "log", "query"];
+
+/// The commands over a log.
+pub const READERS: [Line; 6] = [QUERY, REPLAY, OUTPUT, CONVERT, INFLUENCE, QUERIES];
+
 /// The numbers of the four-byte copy.
 pub const NUMBERS: &str = "steps 12\ncalls 2\nread 4\nwritten 4\nend exit 0\n";
 
@@ -128,6 +137,25 @@ const RUNS: &[(Line, &[Instr], &[Entry], &str)] = &[
         &[Entry::Trap(0, 2, BASE)],
         "end 0\n",
     ),
+    (
+        INFLUENCE,
+        &[NO_INSTRUCTION],
+        &[Entry::Trap(0, 2, BASE)],
+        "end 0\n",
+    ),
+    (INFLUENCE, COPY_CODE, CUT, "0:0\n0:1\n0:2\n0:3\nend 4\n"),
+    (
+        INFLUENCE,
+        WRITE_ON_TWO,
+        ON_TWO,
+        "0:0 1:0 1:4 2:0\n0:1 1:1\n0:2 1:2\n0:3 1:3\nend 4\n",
+    ),
+    (
+        QUERIES,
+        &[NO_INSTRUCTION],
+        &[Entry::Trap(0, 2, BASE)],
+        "query 1\nend 0\n",
+    ),
     (QUERY, JUMP_ASTRAY, &[Entry::Trap(0, 0, BASE)], "end 0\n"),
     (QUERY, BREAK, &[Entry::Trap(0, 3, BASE)], "end 0\n"),
 ];
@@ -162,7 +190,7 @@ fn assert_refused<R: AllocGlobal + Abort>(
     log: &[u8],
     ending: Ending<'_>,
 ) -> Result<(), Fail> {
-    for line in [QUERY, REPLAY, OUTPUT] {
+    for line in READERS {
         assert_command(rt, line, program, log, COPY.as_bytes(), ending)?;
     }
     Ok(())
@@ -193,7 +221,7 @@ fn runs_have_numbers_and_outputs(rt: HostRuntime) -> Result<(), Fail> {
 #[test]
 fn a_run_that_diverges_is_refused(rt: HostRuntime) -> Result<(), Fail> {
     for &(code, entries, said) in DIVERGING {
-        for line in [QUERY, REPLAY, OUTPUT] {
+        for line in READERS {
             assert_run(&rt, line, code, entries, Ending::refusal(5, said))?;
         }
     }
@@ -223,25 +251,31 @@ fn a_changed_log_is_refused(rt: HostRuntime) -> Result<(), Fail> {
     Ok(())
 }
 
-/// Words whose log is missing.
+/// Words whose log or last query is missing.
 const MISSING: &[Line] = &[
     &["jet", "query", "prog", "none", "query"],
     &["jet", "replay", "prog", "none"],
     &["jet", "output", "prog", "none", "1"],
+    &["jet", "convert", "prog", "none", "log"],
+    &["jet", "influence", "prog", "none", "query"],
+    &["jet", "queries", "prog", "none", "query"],
+    &["jet", "queries", "prog", "log", "query", "none"],
 ];
 
 #[test]
-fn a_log_that_is_missing_is_a_read_fault(rt: HostRuntime) -> Result<(), Fail> {
-    let program = program_of(rt.alloc(), &COPY_FOUR)?;
+fn a_file_that_is_missing_is_a_read_fault(rt: HostRuntime) -> Result<(), Fail> {
+    let alloc = rt.alloc();
+    let program = program_of(alloc, &COPY_FOUR)?;
+    let log = log_with(alloc, &COPY_FOUR, &program, b"ABCD")?;
     let missing = Ending::refusal(7, "jet: read fault\n");
     for &line in MISSING {
-        assert_command(&rt, line, &program, b"", COPY.as_bytes(), missing)?;
+        assert_command(&rt, line, &program, &log, COPY.as_bytes(), missing)?;
     }
     Ok(())
 }
 
 /// The line that a log of one program and another program are refused with.
-fn program_line(alloc: Global, kept: &[u8], seen: &[u8]) -> Result<String, Fail> {
+pub fn program_line(alloc: Global, kept: &[u8], seen: &[u8]) -> Result<String, Fail> {
     let kept = hex::encode(alloc, Sha256::digest(kept))?;
     let seen = hex::encode(alloc, Sha256::digest(seen))?;
     Ok(format!(in alloc; "jet: program kept {kept} seen {seen}\n")?)

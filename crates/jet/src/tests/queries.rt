@@ -1,0 +1,203 @@
+//! Several queries in one run.
+
+use super::guests::{ADD_WORDS, COPY_FOUR, Guest};
+use super::{COMPUTE, COPY, Ending, Line, assert_ends, log_with, program_of, push_file};
+use outer_io::{MemoryFile, MemoryStore};
+use std::alloc::{AllocError, Global};
+use std::process::Abort;
+use std::test::Fail;
+
+/// The names of the files of queries, in their order.
+const NAMES: [&str; 3] = ["first", "second", "third"];
+
+const ONE: Line = &["jet", "queries", "prog", "log", "first"];
+
+const TWO: Line = &["jet", "queries", "prog", "log", "first", "second"];
+
+const THREE: Line = &["jet", "queries", "prog", "log", "first", "second", "third"];
+
+/// As many as there may be.
+const SIXTEEN: Line = &[
+    "jet", "queries", "prog", "log", "first", "first", "first", "first", "first", "first", "first",
+    "first", "first", "first", "first", "first", "first", "first", "first", "second",
+];
+
+const SEVENTEEN: Line = &[
+    "jet", "queries", "prog", "log", "first", "first", "first", "first", "first", "first", "first",
+    "first", "first", "first", "first", "first", "first", "first", "first", "first", "first",
+];
+
+const FIRST_HALF: &str = "rule compute\nsource 0 0 4\nsink all\n";
+
+const ONE_BYTE: &str = "rule compute\nsource 0 2 8\nsink 1 0 1\n";
+
+/// Words, queries, and their reports.
+const REPORTS: &[(&Guest, Line, &[&str], &str)] = &[
+    (
+        &ADD_WORDS,
+        TWO,
+        &[FIRST_HALF, ONE_BYTE],
+        "query 1
+1:0 0:0 0:1 0:2 0:3
+1:1 0:0 0:1 0:2 0:3
+1:2 0:0 0:1 0:2 0:3
+1:3 0:0 0:1 0:2 0:3
+end 4
+query 2
+1:0 0:2 0:3 0:4 0:5 0:6 0:7
+end 1
+",
+    ),
+    (
+        &COPY_FOUR,
+        ONE,
+        &["rule copy\nsource all\nsink 1 2 3\n"],
+        "query 1\n1:2 0:2\nend 1\n",
+    ),
+    // One chooses no sources, one no sinks, and one a point.
+    (
+        &COPY_FOUR,
+        THREE,
+        &[
+            "rule copy\nsink 1 0 1\n",
+            "rule copy\nsource all\n",
+            "rule copy\nsource 0 1 2\nsink mem 65792 2 at 6\n",
+        ],
+        "query 1\n1:0\nend 1\nquery 2\nend 0\nquery 3\nm:65792@6\nm:65793@6 0:1\nend 2\n",
+    ),
+    (
+        &COPY_FOUR,
+        SIXTEEN,
+        &["rule copy\n", "rule copy\nsource all\nsink 1 3 4\n"],
+        "query 1\nend 0
+query 2\nend 0
+query 3\nend 0
+query 4\nend 0
+query 5\nend 0
+query 6\nend 0
+query 7\nend 0
+query 8\nend 0
+query 9\nend 0
+query 10\nend 0
+query 11\nend 0
+query 12\nend 0
+query 13\nend 0
+query 14\nend 0
+query 15\nend 0
+query 16\n1:3 0:3\nend 1
+",
+    ),
+];
+
+/// Words, queries, their status and their line.
+const REFUSED: &[(Line, &[&str], u8, &str)] = &[
+    (TWO, &[COPY, COMPUTE], 11, "jet: rules copy 2 compute\n"),
+    (
+        THREE,
+        &[COMPUTE, COMPUTE, "rule index\n"],
+        11,
+        "jet: rules compute 3 index\n",
+    ),
+    // Of two others the first is told.
+    (
+        THREE,
+        &["rule index\n", COPY, COMPUTE],
+        11,
+        "jet: rules index 2 copy\n",
+    ),
+    (TWO, &[COPY, "sink 16"], 6, "jet: query 2 line 1 Channel\n"),
+    (ONE, &["sink 16"], 6, "jet: query 1 line 1 Channel\n"),
+    // All queries are read before the rules are compared.
+    (
+        THREE,
+        &[COPY, COMPUTE, "rule copy\nsink 1 3 2"],
+        6,
+        "jet: query 3 line 2 Range\n",
+    ),
+    (THREE, &[COPY, COMPUTE], 7, "jet: read fault\n"),
+    (SEVENTEEN, &[COPY], 2, "jet: usage\n"),
+    (&["jet", "queries", "prog", "log"], &[], 2, "jet: usage\n"),
+];
+
+/// A program, a log and queries.
+fn files(
+    alloc: Global,
+    program: &[u8],
+    log: &[u8],
+    queries: &[&str],
+) -> Result<Vec<MemoryFile>, AllocError> {
+    let mut files = Vec::new(alloc);
+    push_file(&mut files, "prog", program)?;
+    push_file(&mut files, "log", log)?;
+    for (name, query) in NAMES.iter().zip(queries) {
+        push_file(&mut files, name, query.as_bytes())?;
+    }
+    Ok(files)
+}
+
+/// The command of these words ends so over a program, a log and queries.
+fn assert_queries<R: AllocGlobal + Abort>(
+    rt: &R,
+    line: Line,
+    program: &[u8],
+    log: &[u8],
+    queries: &[&str],
+    ending: Ending<'_>,
+) -> Result<(), Fail> {
+    let alloc = rt.alloc();
+    let files = files(alloc, program, log, queries)?;
+    let mut store = MemoryStore::new(alloc, files, Vec::new(alloc), 65536, 0)?;
+    assert_ends(rt, line, &mut store, ending)
+}
+
+/// The same over a guest's run.
+fn assert_guest_queries<R: AllocGlobal + Abort>(
+    rt: &R,
+    guest: &Guest,
+    line: Line,
+    queries: &[&str],
+    ending: Ending<'_>,
+) -> Result<(), Fail> {
+    let alloc = rt.alloc();
+    let program = program_of(alloc, guest)?;
+    let log = log_with(alloc, guest, &program, guest.write.bytes)?;
+    assert_queries(rt, line, &program, &log, queries, ending)
+}
+
+#[test]
+fn several_queries_have_their_reports(rt: HostRuntime) -> Result<(), Fail> {
+    for &(guest, line, queries, text) in REPORTS {
+        assert_guest_queries(&rt, guest, line, queries, Ending::report(text))?;
+    }
+    Ok(())
+}
+
+#[test]
+fn several_queries_are_refused(rt: HostRuntime) -> Result<(), Fail> {
+    for &(line, queries, status, said) in REFUSED {
+        let ending = Ending::refusal(status, said);
+        assert_guest_queries(&rt, &COPY_FOUR, line, queries, ending)?;
+    }
+    Ok(())
+}
+
+/// Rules that differ are told even where the log is of another program, and a log that is none before them.
+#[test]
+fn rules_are_compared_before_the_log_is_fitted(rt: HostRuntime) -> Result<(), Fail> {
+    let alloc = rt.alloc();
+    let program = program_of(alloc, &ADD_WORDS)?;
+    let copy = program_of(alloc, &COPY_FOUR)?;
+    let log = log_with(alloc, &COPY_FOUR, &copy, b"ABCD")?;
+    let queries = [COPY, COMPUTE];
+    let rules = Ending::refusal(11, "jet: rules copy 2 compute\n");
+    assert_queries(&rt, TWO, &program, &log, queries.as_slice(), rules)?;
+    let short = Ending::refusal(4, "jet: log 3 Short at 98\n");
+    assert_queries(
+        &rt,
+        TWO,
+        &program,
+        &log[..log.len().min(106)],
+        queries.as_slice(),
+        short,
+    )
+}
