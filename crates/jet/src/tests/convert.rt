@@ -171,15 +171,30 @@ fn a_failing_store_leaves_the_files(rt: HostRuntime) -> Result<(), Fail> {
     Ok(())
 }
 
-/// The file of this name is the new log, and a third file is as before.
-fn assert_in_place<R: AllocGlobal + Abort>(rt: &R, line: Line, name: &str) -> Result<(), Fail> {
+/// The file of this name becomes the new log, and a third file is as before.
+fn assert_placed<R: AllocGlobal + Abort>(
+    rt: &R,
+    store: &mut MemoryStore,
+    line: Line,
+    name: &str,
+    wide: &[u8],
+) -> Result<(), Fail> {
+    assert_ends(rt, line, store, Ending::report(""))?;
+    assert_file(rt, store, name, Some(wide))?;
+    assert_file(rt, store, "query", Some(COPY.as_bytes()))
+}
+
+/// The same over the four-byte copy.
+fn assert_in_place<R: AllocGlobal + Abort>(
+    rt: &R,
+    line: Line,
+    name: &'static str,
+) -> Result<(), Fail> {
     let alloc = rt.alloc();
     let (program, log) = copied(alloc)?;
     let wide = wide_log_of(alloc, &program, 1, FOUR, COPIES)?;
     let mut store = store(alloc, &program, &log, COPY, NEVER, 65536)?;
-    assert_ends(rt, line, &mut store, Ending::report(""))?;
-    assert_file(rt, &mut store, name, Some(&wide))?;
-    assert_file(rt, &mut store, "query", Some(COPY.as_bytes()))
+    assert_placed(rt, &mut store, line, name, &wide)
 }
 
 #[test]
