@@ -3,3 +3,4 @@ mod Comparing
 mod Checking
 mod Loops
 mod PlainSteps
+mod Passing

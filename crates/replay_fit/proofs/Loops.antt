@@ -63,9 +63,6 @@ module _ (log : Log) (s : State) (i : ℕ) (run : RunAt) (c : IsChecking log s i
       let end = end_is in
       sym ((none_exactly s log).1 (record { none = λ k h. none_to ended.agrees k (omega arith) }))
 
-  pub checking_over : end_at log.end + 1 ≤ i → None ≡ divergence s log
-  checking_over h = sym ((none_exactly s log).1 (record { none = λ k b. c.none_before k (omega arith) }))
-
   pub checking_differs : (d : Divergence) → i < end_at log.end + 1 → IsDifferent run d → Some d ≡ divergence s log
   checking_differs d h different =
       let step : d.step ≡ i = ap (λ (x : Divergence). x.step) different.divergence ∙ c.time in

@@ -1,5 +1,5 @@
 -- What the check of one step says.
-use Rattle.std.specs.Prelude.{◌≡◌, ◌<◌, ◌≤◌, false, Some, None, Result, Ok, Err}
+use Rattle.std.specs.Prelude.{◌≡◌, ℕ, zero, suc, ◌<◌, ◌≤◌, false, Some, None, Result, Ok, Err}
 use Rattle.log_model.specs.Logs.{end_at}
 use Rattle.replay_model.specs.Run.{advance}
 use Rattle.replay_model.specs.Comparison.{Compared, at_step, difference}
@@ -29,3 +29,31 @@ abbrev pub IsStepChecked : RunAt → Result Checked Divergence → RunAt → Typ
 IsStepChecked before (Ok Advanced) after = IsAdvanced before after
 IsStepChecked before (Ok Ended) after = IsEnded before
 IsStepChecked before (Err d) after = IsDifferent before d
+
+-- ---- plain steps
+
+-- one plain step was made, with no difference, or this differs
+abbrev pub IsPlainStepChecked : {T : Type 0} → RunAt → Result T Divergence → RunAt → Type 0
+IsPlainStepChecked before (Ok done) after = IsAdvanced before after × (after.moment.left ≡ before.moment.left)
+IsPlainStepChecked before (Err d) after = IsDifferent before d
+
+-- so many steps were made, and nothing differed before any of them
+abbrev pub Advances : ℕ → RunAt → RunAt → Type 0
+Advances zero before after = after ≡ before
+Advances (suc n) before after = (between : RunAt) × Advances n before between × IsAdvanced between after
+
+-- some steps were made with no difference
+pub record IsPassed (before after : RunAt) : Type 0 where
+  pub count : ℕ
+  pub steps : Advances count before after
+
+-- after some steps with no difference this differs
+pub record DiffersLater (before : RunAt) (d : Divergence) : Type 0 where
+  pub there : RunAt
+  pub passed : IsPassed before there
+  pub different : IsDifferent there d
+
+-- steps were made with no difference, or this is the first difference
+abbrev pub AreChecked : {T : Type 0} → RunAt → Result T Divergence → RunAt → Type 0
+AreChecked before (Ok done) after = IsPassed before after
+AreChecked before (Err d) after = DiffersLater before d

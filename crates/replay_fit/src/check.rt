@@ -8,7 +8,7 @@ ghost use Rattle.replay_run.specs.Expects.{expected_of};
 ghost use Rattle.replay_run.specs.Runs.{hart_of, with_hart};
 ghost use Rattle.replay_fit.specs.Differences.{IsFirst};
 ghost use Rattle.replay_fit.specs.Comparisons.{IsFormed, compares};
-ghost use Rattle.replay_fit.specs.CheckedSteps.{IsStepChecked};
+ghost use Rattle.replay_fit.specs.CheckedSteps.{IsStepChecked, IsPlainStepChecked, AreChecked};
 
 use crate::compare::{compare, event_in_place_of_a_step, is_limit, kept_code, seen_code};
 use crate::difference::{Difference, compare_words};
@@ -41,20 +41,32 @@ fn step(run: &mut Run<'_>, expected: &Expected<'_>, inputs: u32) -> Result<Stepp
 }
 
 /// Makes a step where the log has a plain one next: whatever else happens is a difference of events.
-fn check_plain_step(run: &mut Run<'_>) -> Result<Checked, Divergence>
+fn check_plain_step(run: &mut Run<'_>) -> Result<(), Divergence>
     requires goes_on { run.old.waits ≡ false }
     requires plain { expected run.old.moment.time run.old.moment.left run.old.log.end ≡ PlainStep }
-    ensures { IsStepChecked run.old result run.new }
+    ensures { IsPlainStepChecked run.old result run.new }
 {
     run.form();
     let time = run.time();
     match run.step() {
         Stepped::Plain { .. } => {
             run.advance();
-            Ok(Checked::Advanced)
+            Ok(())
         }
         stepped => Err(event_in_place_of_a_step(&stepped).at_step(time)),
     }
+}
+
+/// Makes the plain steps that the log has before its next call, or before its end.
+fn check_plain_steps(run: &mut Run<'_>) -> Result<(), Divergence>
+    requires goes_on { run.old.waits ≡ false }
+    ensures { AreChecked run.old result run.new }
+{
+    let event = run.event_time();
+    for time in run.time()..event {
+        check_plain_step(run)?;
+    }
+    Ok(())
 }
 
 /// Makes the next step, if the log has it so. It says where the log differs, or that its end is reached.
@@ -65,9 +77,6 @@ fn check_step(run: &mut Run<'_>) -> Result<Checked, Divergence>
 {
     run.form();
     let expected = run.expected();
-    if let Expected::PlainStep = expected {
-        return check_plain_step(run);
-    }
     let time = run.time();
     if is_limit(&expected) {
         return Ok(Checked::Ended);
@@ -91,7 +100,11 @@ pub fn first_divergence(machine: Machine, log: &Log) -> Option<Divergence>
 {
     let last = time_of_end(log.end());
     let mut run = Run::start(machine, log);
-    for time in 0..last + 1 {
+    for event in 0..last + 1 {
+        match check_plain_steps(&mut run) {
+            Ok(()) => {}
+            Err(divergence) => return Some(divergence),
+        }
         match check_step(&mut run) {
             Ok(Checked::Advanced) => {}
             Ok(Checked::Ended) => return None,

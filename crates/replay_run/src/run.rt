@@ -5,7 +5,7 @@ ghost use Rattle.replay_model.specs.Run.{start, after_call, call_seen, simple_ca
 ghost use Rattle.replay_model.specs.Comparison.{expected};
 ghost use Rattle.rv_machine.specs.Hart.{IsStep};
 ghost use Rattle.flow_model.specs.Ranges.{IsInRange};
-ghost use Rattle.replay_run.specs.Expects.{expected_of};
+ghost use Rattle.replay_run.specs.Expects.{expected_of, event_time};
 ghost use Rattle.replay_run.specs.Runs.{hart_of, with_hart, later_by_one, IsUnderLog, IsDue, IsLater, IsReady, IsFinished};
 
 use crate::expected::{Expected, time_of_call, time_of_end};
@@ -153,6 +153,16 @@ impl<'a> Run<'a> {
                     Expected::Call(call)
                 }
             }
+        }
+    }
+
+    /// The number of steps done before the next call that the log has, or before its end.
+    pub fn event_time(&self) -> u64
+        ensures { result ≡ event_time self.now.moment.left self.now.log.end }
+    {
+        match self.left() {
+            [] => time_of_end(self.log.end()),
+            [call, ..] => time_of_call(call),
         }
     }
 

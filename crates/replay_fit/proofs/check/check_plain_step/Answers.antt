@@ -19,7 +19,10 @@ advance-requires-clause-time c =
 
 pub returns-in-Plain : goal.returns-in-Plain
 returns-in-Plain c =
-    plain_advances c.args.run.now c.advance.new.self (hart_of c.step.new.self) c.in-Plain.instr c.in-Plain.place c.form.ensures c.requires.plain c.in-Plain.ensures.step (c.advance.ensures ∙ ap later_by_one c.in-Plain.ensures.rest)
+    let moved = c.advance.ensures ∙ ap later_by_one c.in-Plain.ensures.rest in (
+      plain_advances c.args.run.now c.advance.new.self (hart_of c.step.new.self) c.in-Plain.instr c.in-Plain.place c.form.ensures c.requires.plain c.in-Plain.ensures.step moved,
+      ap (λ (r : RunAt). r.moment.left) moved,
+    )
 
 pub returns-in_default : goal.returns-in_default
 returns-in_default c =

@@ -27,7 +27,7 @@ finish-requires c =
     let r = c.args.run.now in
     let inputs = c.inputs-inputs.ensures ∙ ap (λ (l : Log). l.inputs) c.log.ensures in
     let agrees = difference_is r.log r.moment c.inputs-inputs.result (expected_of c.expected-expected.result) None inputs c.expected-expected.ensures (sym c.is_limit.ensures ∙ c.if-is_limit.false) c.in-Ok.ensures.first in
-    let early = before_end r c.form.ensures (none_left r.log r.moment (expected_of c.expected-expected.result) c.expected-expected.ensures (λ e h. c.in_default-expected.not-End e (end_expected c.expected-expected.result e h))) in
+    let early = before_end r c.form.ensures (none_left r.log r.moment (expected_of c.expected-expected.result) c.expected-expected.ensures (λ e h. c.in_default.not-End e (end_expected c.expected-expected.result e h))) in
     let within = end_within r.log.end in
     let time : c.step.new.run.moment.time ≡ r.moment.time = ap (λ (x : RunAt). x.moment.time) c.in-Ok.ensures.rest in
     record {
@@ -40,7 +40,7 @@ returns c =
     let r = c.args.run.now in
     let inputs = c.inputs-inputs.ensures ∙ ap (λ (l : Log). l.inputs) c.log.ensures in
     let agrees = difference_is r.log r.moment c.inputs-inputs.result (expected_of c.expected-expected.result) None inputs c.expected-expected.ensures (sym c.is_limit.ensures ∙ c.if-is_limit.false) c.in-Ok.ensures.first in
-    let early = before_end r c.form.ensures (none_left r.log r.moment (expected_of c.expected-expected.result) c.expected-expected.ensures (λ e h. c.in_default-expected.not-End e (end_expected c.expected-expected.result e h))) in
+    let early = before_end r c.form.ensures (none_left r.log r.moment (expected_of c.expected-expected.result) c.expected-expected.ensures (λ e h. c.in_default.not-End e (end_expected c.expected-expected.result e h))) in
     let finished = subst (λ (x : RunAt). IsFinished x.moment c.in-Ok.stepped c.finish.result c.finish.new.self.moment) c.in-Ok.ensures.rest c.finish.ensures.finished in
     let moved = (done r.moment c.in-Ok.stepped (hart_of c.step.new.run) c.finish.result c.finish.new.self.moment c.in-Ok.ensures.step finished).moved in
     let same_log : c.finish.new.self.log ≡ r.log = c.finish.ensures.rest.0 ∙ ap (λ (x : RunAt). x.log) c.in-Ok.ensures.rest in
