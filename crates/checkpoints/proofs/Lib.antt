@@ -1,2 +1,3 @@
 mod Splitting
 mod Holding
+mod Rising

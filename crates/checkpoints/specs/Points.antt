@@ -48,6 +48,11 @@ pub record IsCheckpoint (job : Job) (pages : List (List ℕ)) (point : Checkpoin
   pub rest : point.rest ≡ rest_of saved
   pub paged : ArePagesOf pages point.numbers saved.machine.memory
 
+-- the numbers of the last checkpoint's pages, and these where there is no checkpoint
+abbrev pub last_numbers : List ℕ → List CheckpointAt → List ℕ
+last_numbers numbers [] = numbers
+last_numbers numbers (point ∷ points) = last_numbers point.numbers points
+
 -- each is one of the job, and no page is held beyond those that changed
 pub record AreCheckpoints (job : Job) (pages : List (List ℕ)) (points : List CheckpointAt) : Type 0 where
   pub each : All (IsCheckpoint job pages) points

@@ -3,7 +3,7 @@
 ghost use Rattle.std.specs.Prelude.{◌≡◌, ◌+◌, ◌<◌, ◌≤◌, Some, [], ◌∷◌, ◌++◌, length, slice_get, IfOk};
 ghost use Rattle.log_model.specs.Logs.{steps};
 ghost use Rattle.epoch_model.specs.Cutting.{IsCutting};
-ghost use Rattle.checkpoints.specs.Points.{beginnings, held};
+ghost use Rattle.checkpoints.specs.Points.{beginnings, held, last_numbers};
 
 use crate::checkpoint::Checkpoint;
 use crate::pages::Pages;
@@ -46,6 +46,16 @@ fn advance(cursor: &mut Cursor<'_>, count: u64)
     }
 }
 
+/// The numbers of the last checkpoint's pages: none where there is no checkpoint.
+fn last_numbers(points: &[Checkpoint]) -> &[u32]
+    ensures { result.now ≡ last_numbers [] points.now }
+{
+    match points.last() {
+        Some(last) => last.numbers.as_slice(),
+        None => &[],
+    }
+}
+
 impl<'a> Checkpoints<'a> {
     /// No checkpoint.
     fn none(alloc: Global, job: &'a Job) -> Checkpoints<'a>
@@ -69,10 +79,8 @@ impl<'a> Checkpoints<'a> {
             mut points,
         } = self;
         let (bytes, rest) = cursor.save(alloc)?.apart();
-        let numbers = match points.last() {
-            Some(last) => split(alloc, &mut pages, last.numbers.as_slice(), bytes.as_slice())?,
-            None => split(alloc, &mut pages, &[], bytes.as_slice())?,
-        };
+        let before = last_numbers(points.as_slice());
+        let numbers = split(alloc, &mut pages, before, bytes.as_slice())?;
         points.push(Checkpoint { numbers, rest })?;
         Ok(Checkpoints { job, pages, points })
     }
@@ -86,7 +94,9 @@ impl<'a> Checkpoints<'a> {
         let mut cursor = Cursor::start(alloc, job)?;
         let mut points = Checkpoints::none(alloc, job).with(alloc, &cursor)?;
         for number in 1..cuts.count() {
-            advance(&mut cursor, cuts.at(number) - cuts.at(number - 1));
+            let before = cuts.at(number - 1);
+            let first = cuts.at(number);
+            advance(&mut cursor, first - before);
             points = points.with(alloc, &cursor)?;
         }
         Ok(points)
