@@ -4,10 +4,10 @@ use Rattle.std.specs.List.{All}
 use Rattle.std.proofs.lemmas.Bool.{cases_lt}
 use Rattle.std.proofs.lemmas.List.{get_or_append_left, get_or_push, get_or_default, map_push}
 use Rattle.replayer.specs.Jobs.{Job}
-use Rattle.replayer.specs.Saved.{SavedCursor, RestOfCursor, rest_of, IsOfJob}
+use Rattle.replayer.specs.Saved.{RestOfCursor}
 use Rattle.checkpoints.specs.Pages.{changed, ArePagesOf, IsExtended}
-use Rattle.checkpoints.specs.Points.{CheckpointAt, time_of, window_at, held_after, held, last_numbers, IsCheckpoint, AreCheckpoints}
-use Rattle.checkpoints.proofs.Splitting.{pages_later}
+use Rattle.checkpoints.specs.Points.{CheckpointAt, time_of, window_at, changed_after, held_at, last_numbers, IsCheckpoint, AreCheckpoints}
+use Rattle.checkpoints.proofs.Splitting.{changed_none, pages_later}
 
 -- ---- the last checkpoint
 
@@ -16,9 +16,14 @@ abbrev pub last_window : Job → List ℕ → List ℕ → List ℕ
 last_window job before [] = before
 last_window job before (t ∷ ts) = last_window job (window_at job t) ts
 
-pub held_more : (job : Job) (before ts : List ℕ) (t : ℕ) → held_after job before (ts ++ t ∷ []) ≡ held_after job before ts + changed (last_window job before ts) (window_at job t)
+held_more : (job : Job) (before ts : List ℕ) (t : ℕ) → changed_after job before (ts ++ t ∷ []) ≡ changed_after job before ts + changed (last_window job before ts) (window_at job t)
 held_more job before [] t = omega arith
 held_more job before (s ∷ ts) t = omega (arith, held_more job (window_at job s) ts t)
+
+-- no window is before the first, so that all its pages are new
+held_first : (job : Job) (ts : List ℕ) → held_at job ts ≡ changed_after job [] ts
+held_first job [] = refl
+held_first job (t ∷ ts) = ap (λ (n : ℕ). n + changed_after job (window_at job t) ts) (sym (changed_none (window_at job t)))
 
 -- the window of a checkpoint is that at its time
 pub memory_is : (job : Job) (pages : List (List ℕ)) (point : CheckpointAt) (is : IsCheckpoint job pages point) → is.saved.machine.memory ≡ window_at job (time_of point)
@@ -70,8 +75,8 @@ module _ (job : Job) (before after : List (List ℕ)) (points : List CheckpointA
     with_one count =
         let window = last_window job [] (map time_of points) in
         let last = last_paged job before [] [] points are.each (none_paged before) in
-        let all : length after ≡ held_after job [] (map time_of points ++ time_of point ∷ []) = omega (arith, count window last, are.count, held_more job [] (map time_of points) (time_of point)) in
+        let all : length after ≡ changed_after job [] (map time_of points ++ time_of point ∷ []) = omega (arith, count window last, are.count, held_first job (map time_of points), held_more job [] (map time_of points) (time_of point)) in
         record {
           each = λ k d h. one k d h (cases_lt k (length points));
-          count = all ∙ ap (held_after job []) (sym (map_push time_of points point));
+          count = all ∙ ap (changed_after job []) (sym (map_push time_of points point)) ∙ sym (held_first job (map time_of (points ++ point ∷ [])));
         }

@@ -1,11 +1,10 @@
 -- Windows of memory, page by page.
 use Rattle.std.proofs.Common.{◌≡◌, ℕ, zero, suc, ◌+◌, ◌-◌, ◌*◌, ◌<◌, ◌≤◌, ◌⊎◌, inl, inr, min, List, [], ◌∷◌, ◌++◌, length, take, drop, get_or, refl, arith, ap, sym, ◌∙◌, length-take, length-drop, length-append, append_assoc, subst}
-use Rattle.std.specs.Prelude.{Some, None}
 use Rattle.std.proofs.lemmas.Option.{slice_get-get_or, slice_get_past}
 use Rattle.std.proofs.lemmas.Grind.{div_ceil_times}
 use Rattle.std.proofs.lemmas.Bool.{cases_lt}
 use Rattle.std.proofs.lemmas.List.{take_all, drop_all, take_min, get_or_append_left, get_or_push}
-use Rattle.checkpoints.specs.Pages.{page, page_count, page_before, page_of, IsHeld, ArePagesOf, IsExtended}
+use Rattle.checkpoints.specs.Pages.{page, page_count, differs, changed_among, changed, page_before, page_of, IsHeld, ArePagesOf, IsExtended}
 
 -- the pages up to a place, and the page there
 take_nil : (n : ℕ) → take {A = ℕ} n [] ≡ []
@@ -38,6 +37,20 @@ page_cut window k past e =
 
 pub nonempty : (window : List ℕ) (k : ℕ) → k < page_count window → 0 < length (page window k)
 nonempty window k h = let c = div_ceil_times (length window) 4096 (omega arith) in omega (arith, h, c.1, length-take 4096 (drop (k * 4096) window), length-drop (k * 4096) window)
+
+-- each page of a window differs from none
+differs_none : (bytes : List ℕ) → 0 < length bytes → differs [] bytes ≡ 1
+differs_none [] h = absurd (omega (arith, h))
+differs_none (x ∷ xs) h = refl
+
+none_among : (window : List ℕ) (n : ℕ) → n ≤ page_count window → changed_among n [] window ≡ n
+none_among window zero h = refl
+none_among window (suc n) h =
+    let one : differs (page [] n) (page window n) ≡ 1 = ap (λ (was : List ℕ). differs was (page window n)) (past_pages [] n (omega arith)) ∙ differs_none (page window n) (nonempty window n (omega (arith, h))) in
+    omega (arith, one, none_among window n (omega (arith, h)))
+
+pub changed_none : (window : List ℕ) → changed [] window ≡ page_count window
+changed_none window = none_among window (page_count window) (omega arith)
 
 -- what was at a place before is the page of the window before
 before_by : (pages : List (List ℕ)) (numbers window : List ℕ) (k : ℕ) → ArePagesOf pages numbers window → (k < length numbers) ⊎ (length numbers ≤ k) → page_before pages numbers k ≡ page window k

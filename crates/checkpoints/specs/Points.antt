@@ -4,7 +4,7 @@ use Rattle.std.specs.List.{All}
 use Rattle.replay_model.specs.Run.{start, moment_after}
 use Rattle.replayer.specs.Jobs.{Job}
 use Rattle.replayer.specs.Saved.{SavedCursor, RestOfCursor, rest_of, IsOfJob}
-use Rattle.checkpoints.specs.Pages.{changed, ArePagesOf}
+use Rattle.checkpoints.specs.Pages.{page_count, changed, ArePagesOf}
 
 -- a checkpoint: the numbers of its window's pages, and all else of the saved cursor
 pub record CheckpointAt : Type 0 where
@@ -30,14 +30,19 @@ beginnings cuts = take (length cuts) (0 ∷ cuts)
 abbrev pub window_at : Job → ℕ → List ℕ
 window_at job t = (moment_after t (start job.start job.log)).state.memory
 
--- after a window, the places of each further one whose page isn't that of the window before it
-abbrev pub held_after : Job → List ℕ → List ℕ → ℕ
-held_after job before [] = 0
-held_after job before (t ∷ ts) = changed before (window_at job t) + held_after job (window_at job t) ts
+-- the windows at these times, each with the one before it: at how many places the two have pages that differ
+abbrev pub changed_after : Job → List ℕ → List ℕ → ℕ
+changed_after job before [] = 0
+changed_after job before (t ∷ ts) = changed before (window_at job t) + changed_after job (window_at job t) ts
 
--- all pages of the first window, since none is before it, and the changed ones of each later window
+-- all pages of the first window, and those of each later one that differ from the page at their place in the one before
+abbrev pub held_at : Job → List ℕ → ℕ
+held_at job [] = 0
+held_at job (t ∷ ts) = page_count (window_at job t) + changed_after job (window_at job t) ts
+
+-- how many pages are held
 abbrev pub held : CheckpointsAt → ℕ
-held points = held_after points.job [] points.times
+held points = held_at points.job points.times
 
 -- ---- what is true of checkpoints
 
@@ -53,7 +58,7 @@ abbrev pub last_numbers : List ℕ → List CheckpointAt → List ℕ
 last_numbers numbers [] = numbers
 last_numbers numbers (point ∷ points) = last_numbers point.numbers points
 
--- each is one of the job, and no page is held beyond those that changed
+-- each is one of the job, and no page is held but those of the first window and those that changed
 pub record AreCheckpoints (job : Job) (pages : List (List ℕ)) (points : List CheckpointAt) : Type 0 where
   pub each : All (IsCheckpoint job pages) points
   pub count : length pages ≡ held record { job = job; times = map time_of points }

@@ -12,7 +12,13 @@ use std::alloc::Global;
 const PAGE_SIZE: usize = 4096;
 
 /// The number of a page. Where it has the bytes of the page that was at its place before, it is that page's number.
-fn keep(alloc: Global, pages: &mut Pages, before: &[u32], place: usize, page: &[u8]) -> Result<u32, NoMemory>
+fn keep(
+    alloc: Global,
+    pages: &mut Pages,
+    before: &[u32],
+    place: usize,
+    page: &[u8],
+) -> Result<u32, NoMemory>
     requires held { All (λ number. number < length pages.old) before.now }
     requires some { 0 < length page.now }
     ensures held { IfOk result (λ number. IsHeld pages.new number page.now) }
@@ -30,7 +36,12 @@ fn keep(alloc: Global, pages: &mut Pages, before: &[u32], place: usize, page: &[
 
 /// The numbers of a window's pages. A page that is as it was at its place in the window before keeps its number, and only
 /// the others are kept anew. It gives up with NoMemory alone.
-pub fn split(alloc: Global, pages: &mut Pages, before: &[u32], bytes: &[u8]) -> Result<Vec<u32>, NoMemory>
+pub fn split(
+    alloc: Global,
+    pages: &mut Pages,
+    before: &[u32],
+    bytes: &[u8],
+) -> Result<Vec<u32>, NoMemory>
     requires { All (λ number. number < length pages.old) before.now }
     ensures paged { IfOk result (λ numbers. ArePagesOf pages.new numbers.items bytes.now) }
     ensures extended { IfOk result (λ _. IsExtended pages.old pages.new) }

@@ -1,5 +1,5 @@
 use Rattle.std.proofs.Common.{rules, ◌≡◌, ℕ, ◌+◌, ◌<◌, suc, List, length, get_or, arith, ap, ap₂, sym, ◌∙◌, subst, add-one}
-use Rattle.checkpoints.specs.Pages.{page, changed_among, differs, page_before, IsHeld, ArePagesOf}
+use Rattle.checkpoints.specs.Pages.{page, changed_among, differs, IsHeld}
 use Rattle.checkpoints.proofs.Splitting.{page_cut, before_is, next_is_held, extended_twice, pages_later}
 use Rattle.checkpoints.proofs.paging.split.Goals as goal
 

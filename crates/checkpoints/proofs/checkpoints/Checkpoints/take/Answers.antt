@@ -1,4 +1,4 @@
-use Rattle.std.proofs.Common.{◌≡◌, ℕ, ◌+◌, ◌-◌, ◌<◌, ◌≤◌, List, [], ◌∷◌, ◌++◌, length, take, get_or, arith, ap, ap₂, sym, ◌∙◌}
+use Rattle.std.proofs.Common.{◌≡◌, ℕ, ◌+◌, ◌-◌, ◌<◌, List, [], ◌∷◌, ◌++◌, length, take, get_or, arith, ap, ap₂, sym, ◌∙◌}
 use Rattle.std.proofs.lemmas.List.{take_more}
 use Rattle.std.proofs.lemmas.Option.{get_or_from_slice_get}
 use Rattle.log_model.specs.Logs.{steps}
@@ -34,12 +34,12 @@ loop-number-preserved c =
     let was : c.loop-number.cursor.time ≡ c.at-before.result = ap (λ (p : CursorAt). p.time) c.loop-number.invariant.cursor ∙ get_or_from_slice_get (0 ∷ cuts) (number - 1) c.at-before.result 0 c.at-before.ensures in
     let time : c.loop-number.cursor.time + (first - c.at-before.result) ≡ first = omega (arith, was, epoch.rises) in
     let moved : c.advance.new.cursor ≡ record { job = job; time = first } =
-        c.advance.ensures ∙ ap₂ (λ (j : Job) (t : ℕ). record { job = j; time = t }) (ap (λ (p : CursorAt). p.job) c.loop-number.invariant.cursor) time in
+    c.advance.ensures ∙ ap₂ (λ (j : Job) (t : ℕ). record { job = j; time = t }) (ap (λ (p : CursorAt). p.job) c.loop-number.invariant.cursor) time in
     let item : get_or (0 ∷ cuts) number 0 ≡ first = get_or_from_slice_get (0 ∷ cuts) number first 0 c.at-first.ensures in
     let place : number ≡ number + 1 - 1 = omega arith in
     let times : c.loop-number.points.times ++ c.advance.new.cursor.time ∷ [] ≡ take (number + 1) (0 ∷ cuts) =
-        ap₂ (λ (ts : List ℕ) (t : ℕ). ts ++ t ∷ []) (ap (λ (p : CheckpointsAt). p.times) c.loop-number.invariant.points) (ap (λ (p : CursorAt). p.time) moved ∙ sym item)
-        ∙ sym (take_more (0 ∷ cuts) number 0 within) in
+    ap₂ (λ (ts : List ℕ) (t : ℕ). ts ++ t ∷ []) (ap (λ (p : CheckpointsAt). p.times) c.loop-number.invariant.points) (ap (λ (p : CursorAt). p.time) moved ∙ sym item)
+    ∙ sym (take_more (0 ∷ cuts) number 0 within) in
     record {
       some = omega arith;
       cursor = moved ∙ ap (λ (t : ℕ). record { job = job; time = t }) (sym item ∙ ap (λ (k : ℕ). get_or (0 ∷ cuts) k 0) place);
