@@ -4,8 +4,10 @@
 //! What a run's moments and steps are stands in `replay_model`'s definitions.
 #![tactic(auto)]
 
+mod counters;
 mod expected;
 mod run;
 
+pub use counters::Counters;
 pub use expected::{Expected, time_of_call, time_of_end};
 pub use run::Run;

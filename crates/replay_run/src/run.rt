@@ -7,7 +7,9 @@ ghost use Rattle.rv_machine.specs.Hart.{IsStep};
 ghost use Rattle.flow_model.specs.Ranges.{IsInRange};
 ghost use Rattle.replay_run.specs.Expects.{expected_of, event_time};
 ghost use Rattle.replay_run.specs.Runs.{hart_of, with_hart, later_by_one, IsUnderLog, IsDue, IsLater, IsReady, IsFinished};
+ghost use Rattle.replay_run.specs.Counters.{run_at, CountRecords};
 
+use crate::counters::Counters;
 use crate::expected::{Expected, time_of_call, time_of_end};
 use flow_model::{CallSeen, StepSeen};
 use isa::{CallKind, Instr};
@@ -95,6 +97,40 @@ impl<'a> Run<'a> {
             time: 0,
             read: [0; 16],
             written: [0; 16],
+        }
+    }
+
+    /// The run of a machine that stands where these counters were taken, under the same log. It takes no memory.
+    pub fn resume(machine: Machine, log: &'a Log, counters: Counters) -> Run<'a>
+        requires { CountRecords log.now counters }
+        ensures { result ≡ run_at log.now counters.time machine counters.done }
+    {
+        let Counters {
+            time,
+            done,
+            read,
+            written,
+        } = counters;
+        Run {
+            machine,
+            log,
+            done,
+            time,
+            read,
+            written,
+        }
+    }
+
+    /// The numbers that the run keeps beside its machine and its log, with which [`Run::resume`] makes it again.
+    pub fn counters(&self) -> Counters
+        ensures counted { CountRecords self.now.log result }
+        ensures again { run_at self.now.log result.time (hart_of self.now) result.done ≡ self.now }
+    {
+        Counters {
+            time: self.time,
+            done: self.done,
+            read: self.read,
+            written: self.written,
         }
     }
 

@@ -3,3 +3,4 @@ pub mod Positions
 pub mod Cursors
 pub mod Nexts
 pub mod Checks
+pub mod Saved

@@ -15,8 +15,8 @@ use std::marker::Model;
 /// A place in the run of a job: so many of its steps are done.
 #[derive(Drop)]
 pub struct Cursor<'a> {
-    job: &'a Job,
-    run: Run<'a>,
+    pub(crate) job: &'a Job,
+    pub(crate) run: Run<'a>,
 }
 
 /// What a cursor gives next.

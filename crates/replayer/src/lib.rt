@@ -7,9 +7,11 @@
 mod cursor;
 mod fault;
 mod job;
+mod saved;
 
 pub use cursor::{Cursor, Next};
 pub use fault::CheckFault;
 pub use flow_model::{CallSeen, StepSeen};
 pub use job::{Job, ReplaySummary};
 pub use replay_model::{Divergence, Field};
+pub use saved::{CursorState, Rest};

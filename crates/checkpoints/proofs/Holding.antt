@@ -1,0 +1,82 @@
+-- How many pages checkpoints hold, and what one more checkpoint adds.
+use Rattle.std.proofs.Common.{◌≡◌, ℕ, zero, suc, ◌+◌, ◌-◌, ◌<◌, ◌≤◌, ◌⊎◌, inl, inr, List, [], ◌∷◌, ◌++◌, length, map, get_or, refl, arith, ap, sym, ◌∙◌, subst, length-append}
+use Rattle.std.specs.List.{All}
+use Rattle.std.proofs.lemmas.Bool.{cases_lt}
+use Rattle.std.proofs.lemmas.List.{get_or_append_left, get_or_push, get_or_default, map_push}
+use Rattle.replayer.specs.Jobs.{Job}
+use Rattle.replayer.specs.Saved.{RestOfCursor}
+use Rattle.checkpoints.specs.Pages.{changed, ArePagesOf, IsExtended}
+use Rattle.checkpoints.specs.Points.{CheckpointAt, time_of, window_at, changed_after, held_at, last_numbers, IsCheckpoint, AreCheckpoints}
+use Rattle.checkpoints.proofs.Splitting.{changed_none, pages_later}
+
+-- ---- the last checkpoint
+
+-- the last window of these times, after one
+abbrev pub last_window : Job → List ℕ → List ℕ → List ℕ
+last_window job before [] = before
+last_window job before (t ∷ ts) = last_window job (window_at job t) ts
+
+held_more : (job : Job) (before ts : List ℕ) (t : ℕ) → changed_after job before (ts ++ t ∷ []) ≡ changed_after job before ts + changed (last_window job before ts) (window_at job t)
+held_more job before [] t = omega arith
+held_more job before (s ∷ ts) t = omega (arith, held_more job (window_at job s) ts t)
+
+-- no window is before the first, so that all its pages are new
+held_first : (job : Job) (ts : List ℕ) → held_at job ts ≡ changed_after job [] ts
+held_first job [] = refl
+held_first job (t ∷ ts) = ap (λ (n : ℕ). n + changed_after job (window_at job t) ts) (sym (changed_none (window_at job t)))
+
+-- the window of a checkpoint is that at its time
+pub memory_is : (job : Job) (pages : List (List ℕ)) (point : CheckpointAt) (is : IsCheckpoint job pages point) → is.saved.machine.memory ≡ window_at job (time_of point)
+memory_is job pages point is =
+    let window : is.saved.machine.memory ≡ window_at job is.saved.counters.time = ap (λ m. m.state.memory) is.of_job.here in
+    let time : is.saved.counters.time ≡ time_of point = sym (ap (λ (r : RestOfCursor). r.counters.time) is.rest) in
+    window ∙ ap (window_at job) time
+
+pub last_paged : (job : Job) (pages : List (List ℕ)) (numbers before : List ℕ) (points : List CheckpointAt) → All (IsCheckpoint job pages) points → ArePagesOf pages numbers before
+    → ArePagesOf pages (last_numbers numbers points) (last_window job before (map time_of points))
+last_paged job pages numbers before [] each are = are
+last_paged job pages numbers before (point ∷ points) each are =
+    let here = each zero point (omega arith) in
+    let later : All (IsCheckpoint job pages) points = λ k d h. each (suc k) d (omega (arith, h)) in
+    last_paged job pages point.numbers (window_at job (time_of point)) points later (subst (ArePagesOf pages point.numbers) (memory_is job pages point here) here.paged)
+
+pub none_paged : (pages : List (List ℕ)) → ArePagesOf pages [] []
+none_paged pages = record { count = refl; each = λ k h. absurd (omega (arith, h)) }
+
+pub last_below : (job : Job) (pages : List (List ℕ)) (points : List CheckpointAt) → AreCheckpoints job pages points → All (λ number. number < length pages) (last_numbers [] points)
+last_below job pages points are k d h =
+    let last = last_paged job pages [] [] points are.each (none_paged pages) in
+    subst (λ (number : ℕ). number < length pages) (get_or_default (last_numbers [] points) k 0 d h) (last.each k h).below
+
+-- the last checkpoint's numbers, as a slice has it
+pub last_is : (numbers : List ℕ) (points : List CheckpointAt) (d : CheckpointAt) → 0 < length points → last_numbers numbers points ≡ (get_or points (length points - 1) d).numbers
+last_is numbers [] d h = absurd (omega (arith, h))
+last_is numbers (p ∷ []) d h = refl
+last_is numbers (p ∷ q ∷ points) d h =
+    let more = last_is p.numbers (q ∷ points) d (omega arith) in
+    let place : suc (length (q ∷ points) - 1) ≡ length (p ∷ q ∷ points) - 1 = omega arith in
+    more ∙ ap (λ (k : ℕ). (get_or (p ∷ q ∷ points) k d).numbers) place
+
+-- ---- one more checkpoint
+
+module _ (job : Job) (before after : List (List ℕ)) (points : List CheckpointAt) (are : AreCheckpoints job before points) (more : IsExtended before after) where
+  later : (point : CheckpointAt) → IsCheckpoint job before point → IsCheckpoint job after point
+  later point is = record { saved = is.saved; of_job = is.of_job; rest = is.rest; paged = pages_later before after point.numbers is.saved.machine.memory more is.paged }
+
+  module _ (point : CheckpointAt) (is : IsCheckpoint job after point) where
+    one : (k : ℕ) (d : CheckpointAt) → k < length (points ++ point ∷ []) → (k < length points) ⊎ (length points ≤ k) → IsCheckpoint job after (get_or (points ++ point ∷ []) k d)
+    one k d h (inl below) = rw (get_or_append_left points (point ∷ []) d k below) (later (get_or points k d) (are.each k d below))
+    one k d h (inr past) =
+        let here : length points ≡ k = omega (arith, h, past, length-append points (point ∷ [])) in
+        rw (get_or_push points point d k here) is
+
+    pub with_one : ((window : List ℕ) → ArePagesOf before (last_numbers [] points) window → length after ≡ length before + changed window (window_at job (time_of point)))
+        → AreCheckpoints job after (points ++ point ∷ [])
+    with_one count =
+        let window = last_window job [] (map time_of points) in
+        let last = last_paged job before [] [] points are.each (none_paged before) in
+        let all : length after ≡ changed_after job [] (map time_of points ++ time_of point ∷ []) = omega (arith, count window last, are.count, held_first job (map time_of points), held_more job [] (map time_of points) (time_of point)) in
+        record {
+          each = λ k d h. one k d h (cases_lt k (length points));
+          count = all ∙ ap (changed_after job []) (sym (map_push time_of points point)) ∙ sym (held_first job (map time_of (points ++ point ∷ [])));
+        }

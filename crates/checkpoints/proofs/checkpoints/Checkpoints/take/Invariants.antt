@@ -1,0 +1,10 @@
+use Rattle.std.proofs.Common.{◌≡◌, ◌-◌, ◌≤◌, ◌∷◌, take, get_or}
+use Rattle.checkpoints.proofs.checkpoints.Checkpoints.take.Given as goal
+
+-- the cursor stands at the last checkpoint
+abbrev pub invariant-loop-number : goal.invariant-loop-number
+invariant-loop-number l = record {
+  some : 1 ≤ l.number;
+  cursor : l.cursor ≡ record { job = l.job; time = get_or (0 ∷ l.cuts) (l.number - 1) 0 };
+  points : l.points ≡ record { job = l.job; times = take l.number (0 ∷ l.cuts) };
+}

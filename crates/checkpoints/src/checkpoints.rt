@@ -1,0 +1,123 @@
+//! The checkpoints of a job's run.
+
+ghost use Rattle.std.specs.Prelude.{◌≡◌, ◌+◌, ◌<◌, ◌≤◌, Some, [], ◌∷◌, ◌++◌, length, slice_get, IfOk};
+ghost use Rattle.log_model.specs.Logs.{steps};
+ghost use Rattle.epoch_model.specs.Cutting.{IsCutting};
+ghost use Rattle.checkpoints.specs.Points.{beginnings, held, last_numbers};
+
+use crate::checkpoint::Checkpoint;
+use crate::pages::Pages;
+use crate::paging::{join, split};
+use epoch_cut::Cuts;
+use no_memory::NoMemory;
+use replayer::{Cursor, CursorState, Job, Next};
+use std::alloc::Global;
+use std::marker::Model;
+
+/// Where the run of a job stands at the beginning of each epoch.
+#[derive(Drop)]
+pub struct Checkpoints<'a> {
+    job: &'a Job,
+    pages: Pages,
+    points: Vec<Checkpoint>,
+}
+
+impl<'a> Model for Checkpoints<'a> {
+    ghost use Rattle.std.specs.Prelude.{map};
+    ghost use Rattle.checkpoints.specs.Points.{CheckpointsAt, time_of, AreCheckpoints};
+
+    ghost Value = { CheckpointsAt };
+
+    ghost view = { λ c. record { job = c.job.now; times = map time_of c.points.items } };
+
+    ghost invariant = { λ c. AreCheckpoints c.job.now c.pages c.points.items };
+}
+
+/// Makes so many of the next steps, which the run has.
+fn advance(cursor: &mut Cursor<'_>, count: u64)
+    requires { cursor.old.time + count ≤ steps cursor.old.job.log }
+    ensures { cursor.new ≡ record { job = cursor.old.job; time = cursor.old.time + count } }
+{
+    for _ in 0..count {
+        match cursor.next() {
+            Next::Step(_) => {}
+            Next::End(_) => unreachable!(),
+        }
+    }
+}
+
+/// The numbers of the last checkpoint's pages: none where there is no checkpoint.
+fn last_numbers(points: &[Checkpoint]) -> &[u32]
+    ensures { result.now ≡ last_numbers [] points.now }
+{
+    match points.last() {
+        Some(last) => last.numbers.as_slice(),
+        None => &[],
+    }
+}
+
+impl<'a> Checkpoints<'a> {
+    /// No checkpoint.
+    fn none(alloc: Global, job: &'a Job) -> Checkpoints<'a>
+        ensures { result ≡ record { job = job.now; times = [] } }
+    {
+        Checkpoints {
+            job,
+            pages: Pages::new(alloc),
+            points: Vec::new(alloc),
+        }
+    }
+
+    /// These checkpoints, and one more where the cursor stands.
+    fn with(self, alloc: Global, cursor: &Cursor<'_>) -> Result<Checkpoints<'a>, NoMemory>
+        requires { cursor.now.job ≡ self.job }
+        ensures { IfOk result (λ more. more ≡ record { job = self.entry.job; times = self.entry.times ++ cursor.now.time ∷ [] }) }
+    {
+        let Checkpoints {
+            job,
+            mut pages,
+            mut points,
+        } = self;
+        let (bytes, rest) = cursor.save(alloc)?.apart();
+        let before = last_numbers(points.as_slice());
+        let numbers = split(alloc, &mut pages, before, bytes.as_slice())?;
+        points.push(Checkpoint { numbers, rest })?;
+        Ok(Checkpoints { job, pages, points })
+    }
+
+    /// Takes a checkpoint at the beginning of each epoch of a run that is cut so, in one replay. It gives up with NoMemory
+    /// alone.
+    pub fn take(alloc: Global, job: &'a Job, cuts: &Cuts) -> Result<Checkpoints<'a>, NoMemory>
+        requires { IsCutting (steps job.now.log) cuts.now }
+        ensures { IfOk result (λ points. points ≡ record { job = job.now; times = beginnings cuts.now }) }
+    {
+        let mut cursor = Cursor::start(alloc, job)?;
+        let mut points = Checkpoints::none(alloc, job).with(alloc, &cursor)?;
+        for number in 1..cuts.count() {
+            let before = cuts.at(number - 1);
+            let first = cuts.at(number);
+            advance(&mut cursor, first - before);
+            points = points.with(alloc, &cursor)?;
+        }
+        Ok(points)
+    }
+
+    /// A cursor at the beginning of epoch `k`. It gives up with NoMemory alone.
+    pub fn start(&self, alloc: Global, k: u32) -> Result<Cursor<'a>, NoMemory>
+        requires { k < length self.now.times }
+        ensures job { IfOk result (λ cursor. cursor.job ≡ self.now.job) }
+        ensures time { IfOk result (λ cursor. slice_get self.now.times k ≡ Some cursor.time) }
+    {
+        let point = &self.points[k as usize];
+        let bytes = join(alloc, &self.pages, point.numbers.as_slice())?;
+        let rest = point.rest;
+        Ok(Cursor::from(self.job, CursorState::whole(bytes, rest)))
+    }
+
+    /// How many pages of 4096 bytes are held: those of the window, and those that changed from one checkpoint to the next.
+    pub fn held(&self) -> u64
+        ensures { result ≡ held self.now }
+    {
+        self.pages.count()
+    }
+}

@@ -1,0 +1,12 @@
+//! Checkpoints: where the run of a job stands at the beginning of each epoch, taken in one replay.
+//!
+//! A checkpoint keeps the numbers of its window's pages, and a page that is as it was at the checkpoint before is kept
+//! once for both. So the memory that they take is the pages that changed.
+#![tactic(auto)]
+
+mod checkpoint;
+mod checkpoints;
+mod pages;
+mod paging;
+
+pub use checkpoints::Checkpoints;

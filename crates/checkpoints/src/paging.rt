@@ -1,0 +1,71 @@
+//! A window's pages, kept and put together again.
+
+ghost use Rattle.std.specs.Prelude.{◌≡◌, ℕ, ◌+◌, ◌<◌, List, length, get_or, IfOk};
+ghost use Rattle.std.specs.List.{All};
+ghost use Rattle.checkpoints.specs.Pages.{page, changed, differs, IsHeld, ArePagesOf, IsExtended, page_before};
+
+use crate::pages::Pages;
+use no_memory::NoMemory;
+use std::alloc::Global;
+
+/// How many bytes a page has.
+const PAGE_SIZE: usize = 4096;
+
+/// The number of a page. Where it has the bytes of the page that was at its place before, it is that page's number.
+fn keep(
+    alloc: Global,
+    pages: &mut Pages,
+    before: &[u32],
+    place: usize,
+    page: &[u8],
+) -> Result<u32, NoMemory>
+    requires held { All (λ number. number < length pages.old) before.now }
+    requires some { 0 < length page.now }
+    ensures held { IfOk result (λ number. IsHeld pages.new number page.now) }
+    ensures extended { IfOk result (λ _. IsExtended pages.old pages.new) }
+    ensures count { IfOk result (λ _. length pages.new ≡ length pages.old + differs (page_before pages.old before.now place) page.now) }
+{
+    if place < before.len() {
+        let number = before[place];
+        if pages.page(number) == page {
+            return Ok(number);
+        }
+    }
+    pages.push(alloc, page)
+}
+
+/// The numbers of a window's pages. A page that is as it was at its place in the window before keeps its number, and only
+/// the others are kept anew. It gives up with NoMemory alone.
+pub fn split(
+    alloc: Global,
+    pages: &mut Pages,
+    before: &[u32],
+    bytes: &[u8],
+) -> Result<Vec<u32>, NoMemory>
+    requires { All (λ number. number < length pages.old) before.now }
+    ensures paged { IfOk result (λ numbers. ArePagesOf pages.new numbers.items bytes.now) }
+    ensures extended { IfOk result (λ _. IsExtended pages.old pages.new) }
+    ensures count { IfOk result (λ _. (window : List ℕ) → ArePagesOf pages.old before.now window → length pages.new ≡ length pages.old + changed window bytes.now) }
+{
+    let count = bytes.len().div_ceil(PAGE_SIZE);
+    let mut numbers = Vec::with_capacity(alloc, count)?;
+    for place in 0..count {
+        let first = place * PAGE_SIZE;
+        let past = bytes.len().min(first + PAGE_SIZE);
+        let number = keep(alloc, pages, before, place, &bytes[first..past])?;
+        numbers.push(number)?;
+    }
+    Ok(numbers)
+}
+
+/// The window that has the pages of these numbers. It gives up with NoMemory alone.
+pub fn join(alloc: Global, pages: &Pages, numbers: &[u32]) -> Result<Vec<u8>, NoMemory>
+    requires { All (λ number. number < length pages.now) numbers.now }
+    ensures { IfOk result (λ bytes. (window : List ℕ) → ArePagesOf pages.now numbers.now window → bytes.items ≡ window) }
+{
+    let mut bytes = Vec::with_capacity(alloc, numbers.len().saturating_mul(PAGE_SIZE))?;
+    for &number in numbers {
+        bytes.extend_from_slice(pages.page(number))?;
+    }
+    Ok(bytes)
+}

@@ -1,0 +1,94 @@
+//! A cursor taken out of its job, and put back.
+
+ghost use Rattle.std.specs.Prelude.{◌≡◌, length, IfOk};
+ghost use Rattle.replayer.specs.Saved.{IsOfJob, position_of, rest_of, put_together};
+
+use crate::cursor::Cursor;
+use crate::job::Job;
+use no_memory::NoMemory;
+use replay_run::{Counters, Run};
+use rv_machine::{Machine, MachineState};
+use std::alloc::Global;
+use std::marker::Model;
+
+/// All that a cursor is but its job: its machine, the place in the log and the channels' offsets.
+#[derive(Drop)]
+pub struct CursorState {
+    machine: MachineState,
+    counters: Counters,
+}
+
+impl Model for CursorState {
+    ghost use Rattle.replayer.specs.Saved.{SavedCursor};
+
+    ghost Value = { SavedCursor };
+
+    ghost view = { λ s. record { machine = s.machine; counters = s.counters } };
+}
+
+/// A cursor's state without the bytes of the machine's window.
+#[derive(Clone, Copy)]
+pub struct Rest {
+    machine: rv_machine::Rest,
+    counters: Counters,
+}
+
+impl Model for Rest {
+    ghost use Rattle.replayer.specs.Saved.{RestOfCursor};
+
+    ghost Value = { RestOfCursor };
+
+    ghost view = { λ r. record { machine = r.machine; counters = r.counters } };
+
+    ghost inverse = { λ v. record { machine = v.machine; counters = v.counters } };
+}
+
+impl<'a> Cursor<'a> {
+    /// The cursor's state, copied, from which [`Cursor::from`] makes the cursor again. It gives up with NoMemory alone.
+    pub fn save(&self, alloc: Global) -> Result<CursorState, NoMemory>
+        ensures of_job { IfOk result (λ saved. IsOfJob self.now.job saved) }
+        ensures again { IfOk result (λ saved. position_of self.now.job saved ≡ self.now) }
+    {
+        let counters = self.run.counters();
+        let machine = self.run.machine().export_state(alloc)?;
+        Ok(CursorState { machine, counters })
+    }
+
+    /// The cursor of a state that one of this job's cursors had. It takes no memory.
+    pub fn from(job: &'a Job, state: CursorState) -> Cursor<'a>
+        requires { IsOfJob job.now state }
+        ensures { result ≡ position_of job.now state }
+    {
+        job.form();
+        let CursorState { machine, counters } = state;
+        Cursor {
+            job,
+            run: Run::resume(Machine::import_state(machine), job.log(), counters),
+        }
+    }
+}
+
+impl CursorState {
+    /// The bytes of the machine's window, and all else, which [`CursorState::whole`] puts together again. It takes no
+    /// memory.
+    pub fn apart(self) -> (Vec<u8>, Rest)
+        ensures bytes { result.0.items ≡ self.machine.memory }
+        ensures rest { result.1 ≡ rest_of self }
+        ensures again { put_together result.0.items result.1 ≡ self }
+    {
+        let CursorState { machine, counters } = self;
+        let (memory, machine) = machine.apart();
+        (memory, Rest { machine, counters })
+    }
+
+    /// The state whose window has these bytes, as many as it had, and all else as in the rest. It takes no memory.
+    pub fn whole(bytes: Vec<u8>, rest: Rest) -> CursorState
+        requires { length bytes.items ≡ rest.machine.size }
+        ensures { result ≡ put_together bytes.items rest }
+    {
+        CursorState {
+            machine: MachineState::whole(bytes, rest.machine),
+            counters: rest.counters,
+        }
+    }
+}
