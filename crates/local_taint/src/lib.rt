@@ -1,0 +1,6 @@
+//! One epoch by itself: what the content of each location came from, where the content at the epoch's start is unknown.
+#![tactic(auto)]
+
+mod labels;
+
+pub use labels::Nodes;
