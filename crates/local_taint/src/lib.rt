@@ -2,5 +2,6 @@
 #![tactic(auto)]
 
 mod labels;
+mod sinks;
 
 pub use labels::Nodes;
