@@ -2,6 +2,7 @@
 #![tactic(auto)]
 
 mod labels;
+mod points;
 mod sinks;
 
 pub use labels::Nodes;
