@@ -1,9 +1,12 @@
 -- Sinks that are noted one after another.
-use Rattle.std.proofs.Common.{◌≡◌, ℕ, ◌+◌, ◌<◌, ◌^◌, List, [], ◌∷◌, ◌++◌, map, refl, ap, ap₂, sym, ◌∙◌, subst, Bool, true, false, cond, arith, append-nil, append_assoc}
+use Rattle.std.proofs.Common.{◌≡◌, ℕ, ◌+◌, ◌<◌, ◌^◌, length, get_or, slice_get, List, [], ◌∷◌, ◌++◌, map, refl, ap, ap₂, sym, ◌∙◌, subst, Bool, true, false, cond, arith, append-nil, append_assoc}
 use Rattle.std.specs.Prelude.{Option, Some, None}
+use Rattle.std.specs.Option.{option_map}
+use Rattle.std.proofs.lemmas.Option.{slice_get-map, slice_get_read}
 use Rattle.std.specs.List.{range_with_len, AllByRecursion}
 use Rattle.std.proofs.lemmas.List.FromFn.{filter_of_map_range_with_len_more}
-use Rattle.std.proofs.lemmas.List.{map-append}
+use Rattle.std.proofs.lemmas.List.{map-append, length-map}
+use Rattle.std.proofs.lemmas.List.Elements.{All-push, recursion_from_All}
 use Rattle.isa.specs.Machine.{wrap}
 use Rattle.flow_model.specs.declared.Loc.{Loc}
 use Rattle.flow_model.specs.declared.Loc.TheVariants.{Mem}
@@ -37,18 +40,15 @@ keeps_chain a b c p q n h =
     record { stands = two.stands; means = two.means ∙ one.means }
 
 pub stand_kept : (old new : Nodes) (sinks : List SinkNode) → KeepsLabels node_words old new → AreNamed old sinks → AreNamed new sinks
-stand_kept old new [] k h = tt
-stand_kept old new (x ∷ xs) k h = ((k x.node h.0).stands, stand_kept old new xs k h.1)
+stand_kept old new sinks k h i d l = (k _ (h i d l)).stands
 
 pub named_kept : (old new : Nodes) (sinks : List SinkNode) → KeepsLabels node_words old new → AreNamed old sinks → map (named new) sinks ≡ map (named old) sinks
-named_kept old new [] k h = refl
-named_kept old new (x ∷ xs) k h =
-    let make : Terms → SinkTerms = λ t. record { name = x.name; terms = t } in
-    ap₂ (λ (r : SinkTerms) (rs : List SinkTerms). r ∷ rs) (ap make (k x.node h.0).means) (named_kept old new xs k h.1)
-
-stand_more : (nodes : Nodes) (sinks : List SinkNode) (x : SinkNode) → AreNamed nodes sinks → IsNode nodes.log x.node → AreNamed nodes (sinks ++ x ∷ [])
-stand_more nodes [] x h n = (n, tt)
-stand_more nodes (y ∷ ys) x h n = (h.0, stand_more nodes ys x h.1 n)
+named_kept old new sinks k h = each sinks (recursion_from_All (λ x. IsNode old.log x.node) sinks h) where
+  each : (xs : List SinkNode) → AllByRecursion (λ x. IsNode old.log x.node) xs → map (named new) xs ≡ map (named old) xs
+  each [] a = refl
+  each (x ∷ xs) a =
+      let make : Terms → SinkTerms = λ t. record { name = x.name; terms = t } in
+      ap₂ (λ (r : SinkTerms) (rs : List SinkTerms). r ∷ rs) (ap make (k x.node a.0).means) (each xs a.1)
 
 -- ---- what is kept for locations goes on standing
 
@@ -86,7 +86,7 @@ one_note places sink old new before after n k h stands means is =
     let make : Terms → List SinkTerms = λ t. record { name = sink.name; terms = t } ∷ [] in
     record {
       keeps = k;
-      stand = subst (AreNamed new) (sym is) (stand_more new before last (stand_kept old new before k h) stands);
+      stand = subst (AreNamed new) (sym is) (All-push (λ x. IsNode new.log x.node) before last (stand_kept old new before k h) stands);
       rows = λ f s.
           ap (map (named new)) is
           ∙ map-append (named new) before (last ∷ [])
@@ -125,3 +125,12 @@ one_more_byte q t call i within =
     let same : wrap (call.place + i) ≡ call.place + i = omega arith in
     filter_of_map_range_with_len_more asked (sink_at t call) 0 i i (omega arith)
     ∙ ap (λ (p : ℕ). chosen q (map (sink_at t call) (range_with_len 0 i)) ++ chosen q (at p ∷ [])) same
+
+-- ---- a sink by its number
+
+pub nth : {X : Type 0} (v : SinkTerms → X) (nodes : Nodes) (sinks : List SinkNode) (i : ℕ) (x : SinkNode) → i < length (map (named nodes) sinks) → x ≡ get_or sinks i x
+    → slice_get (map v (map (named nodes) sinks)) i ≡ Some (v (named nodes x))
+nth v nodes sinks i x inside is =
+    let within : i < length sinks = omega (arith, inside, length-map sinks (named nodes)) in
+    slice_get-map v (map (named nodes) sinks) i
+    ∙ ap (option_map v) (slice_get-map (named nodes) sinks i ∙ ap (option_map (named nodes)) (slice_get_read sinks (length sinks) i x refl within is))

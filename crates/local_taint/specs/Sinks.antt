@@ -1,6 +1,6 @@
 -- The sinks of an epoch, each with a node.
-use Rattle.std.specs.Prelude.{◌≡◌, ℕ, ◌≤◌, ◌⊎◌, ◌==◌, ◌++◌, nat_le, List, map}
-use Rattle.std.specs.List.{filter, AllByRecursion}
+use Rattle.std.specs.Prelude.{◌≡◌, ℕ, ◌≤◌, ◌⊎◌, ◌==◌, ◌++◌, nat_le, List, map, All}
+use Rattle.std.specs.List.{filter}
 use Rattle.flow_model.specs.declared.Loc.{Loc}
 use Rattle.flow_model.specs.declared.Loc.TheVariants.{Reg, Mem}
 use Rattle.flow_model.specs.declared.InnerSink.{InnerSink}
@@ -22,7 +22,7 @@ named nodes k = record { name = k.name; terms = node_words.means nodes k.node }
 
 -- the node of each of the sinks stands
 abbrev pub AreNamed : Nodes → List SinkNode → Type 0
-AreNamed nodes sinks = AllByRecursion (λ k. IsNode nodes.log k.node) sinks
+AreNamed nodes sinks = All (λ k. IsNode nodes.log k.node) sinks
 
 -- a sink with what f gives for its location
 abbrev pub found : (Loc → Terms) → Sink → SinkTerms

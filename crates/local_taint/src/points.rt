@@ -35,6 +35,7 @@ pub fn collect_first<'a>(
     requires named { AreNamed nodes.old sinks.old.items }
     ensures noted { OnOk result (Notes places.now (points_at_start query.now first) nodes.old sinks.old.items nodes.new sinks.new.items) }
     ensures later { IfOk result (λ later. later.now ≡ from_time (first + 1) query.now.points) }
+    ensures ascending { Ascends inner_cmp query.now.points }
 {
     let points = query.points();
     if first == 0 {
