@@ -15,11 +15,11 @@ use Rattle.report_model.specs.Rows.{Sink, sink_at, point_sink, sinks_of_call, si
 use Rattle.epoch_model.specs.Stretch.{points_at_start, sinks_at_step, sinks_between, sinks_of_epoch}
 use Rattle.epoch_model.specs.Summary.{SinkTerms, terms, sink_terms}
 use Rattle.taint_shadow.specs.declared.places.Places.{Places}
-use Rattle.taint_shadow.specs.Labels.{LabelWords, KeepsLabels}
+use Rattle.taint_shadow.specs.Labels.{KeepsLabels}
 use Rattle.local_taint.specs.declared.labels.Nodes.{Nodes}
 use Rattle.local_taint.specs.declared.sinks.SinkNode.{SinkNode}
 use Rattle.local_taint.specs.Words.{node_words}
-use Rattle.local_taint.specs.Sinks.{named, AreNamed, found, chosen, Shows, Notes, at_time, sinks_at}
+use Rattle.local_taint.specs.Sinks.{named, found, chosen, Shows, Notes, at_time, sinks_at}
 use Rattle.local_taint.proofs.Notes.{named_kept}
 
 -- ---- the times of sinks
@@ -83,9 +83,6 @@ first_sinks q trace s places old new none sinks shows empty notes =
 -- ---- the sinks of one step more
 
 module _ (q : Query) (trace : List StepSeen) (s n t : ℕ) (now : t ≡ s + n) (step : StepSeen) (at : step_at trace (s + n) ≡ Some step) where
-
-
-
   one_more_step : sinks_of_epoch q trace s (n + 1) ≡ sinks_of_epoch q trace s n ++ (chosen q (sinks_of_step t step.call) ++ sinks_at (t + 1) q.points)
   one_more_step =
       let start = points_at_start q s in
@@ -111,7 +108,7 @@ module _ (q : Query) (trace : List StepSeen) (s n t : ℕ) (now : t ≡ s + n) (
       due.rows (terms policy trace s (n + 1)) shows_later
       ∙ ap₂ (λ (xs ys : List SinkTerms). xs ++ ys)
       (named_kept b c y keeps written.stand ∙ written.rows (terms policy trace s n) shows
-       ∙ ap₂ (λ (xs ys : List SinkTerms). xs ++ ys) e (found_are policy trace s n t now wrote (at_chosen t q (sinks_of_step t step.call) (at_step t step.call))))
+      ∙ ap₂ (λ (xs ys : List SinkTerms). xs ++ ys) e (found_are policy trace s n t now wrote (at_chosen t q (sinks_of_step t step.call) (at_step t step.call))))
       (found_are policy trace s (n + 1) (t + 1) next points (at_points (t + 1) q.points))
       ∙ append_assoc (map F so_far) (map F wrote) (map F points)
       ∙ ap (λ (rs : List SinkTerms). map F so_far ++ rs) (sym (map-append F wrote points))

@@ -11,18 +11,15 @@ use Rattle.isa.specs.Machine.{wrap}
 use Rattle.flow_model.specs.declared.Loc.{Loc}
 use Rattle.flow_model.specs.declared.Loc.TheVariants.{Mem}
 use Rattle.flow_model.specs.declared.CallSeen.{CallSeen}
-use Rattle.flow_model.specs.declared.SinkByte.{SinkByte}
-use Rattle.flow_model.specs.declared.SinkPoint.{SinkPoint}
 use Rattle.flow_model.specs.declared.SinkPoint.TheVariants.{Out}
-use Rattle.flow_model.specs.Ranges.{IsLocation}
 use Rattle.report_model.specs.Query.{Query, has_sink}
 use Rattle.report_model.specs.Rows.{Sink, sink_at}
 use Rattle.epoch_model.specs.Summary.{Terms, SinkTerms}
 use Rattle.merge_log.specs.Log.{IsNode}
 use Rattle.taint_shadow.specs.declared.places.Places.{Places}
-use Rattle.taint_shadow.specs.Labels.{LabelWords, KeepsLabels, MakesLabel}
+use Rattle.taint_shadow.specs.Labels.{KeepsLabels}
 use Rattle.taint_shadow.specs.Places.{kept}
-use Rattle.taint_shadow.specs.Steps.{AreStanding, meaning_or, meaning_at}
+use Rattle.taint_shadow.specs.Steps.{AreStanding, meaning_or}
 use Rattle.local_taint.specs.declared.labels.Nodes.{Nodes}
 use Rattle.local_taint.specs.declared.sinks.SinkNode.{SinkNode}
 use Rattle.local_taint.specs.Words.{node_words}

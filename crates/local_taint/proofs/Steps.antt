@@ -18,7 +18,6 @@ use Rattle.epoch_model.specs.Stretch.{locations_over, from_step, fresh_step, pas
 use Rattle.epoch_model.specs.Summary.{Terms, terms}
 use Rattle.taint_shadow.specs.Places.{AreKept}
 use Rattle.taint_shadow.specs.declared.places.Places.{Places}
-use Rattle.taint_shadow.specs.Labels.{LabelWords}
 use Rattle.taint_shadow.specs.Steps.{AreStanding, Holds, meaning_or, united_over, introduced as brought_in, after}
 use Rattle.local_taint.specs.declared.labels.Nodes.{Nodes}
 use Rattle.local_taint.specs.Words.{node_words, together, of_itself}

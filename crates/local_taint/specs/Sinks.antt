@@ -10,7 +10,7 @@ use Rattle.report_model.specs.Rows.{Sink, point_sink}
 use Rattle.epoch_model.specs.Summary.{Terms, SinkTerms}
 use Rattle.merge_log.specs.Log.{IsNode}
 use Rattle.taint_shadow.specs.declared.places.Places.{Places}
-use Rattle.taint_shadow.specs.Labels.{LabelWords, KeepsLabels}
+use Rattle.taint_shadow.specs.Labels.{KeepsLabels}
 use Rattle.taint_shadow.specs.Steps.{meaning_at}
 use Rattle.local_taint.specs.declared.labels.Nodes.{Nodes}
 use Rattle.local_taint.specs.declared.sinks.SinkNode.{SinkNode}

@@ -1,7 +1,6 @@
 -- Nodes of a merge log as labels, in the words of epochs.
-use Rattle.std.specs.Prelude.{ℕ, List, [], ◌∷◌}
+use Rattle.std.specs.Prelude.{ℕ, [], ◌∷◌}
 use Rattle.flow_model.specs.declared.Loc.{Loc}
-use Rattle.flow_model.specs.declared.SourceByte.{SourceByte}
 use Rattle.flow_model.specs.Orders.{loc_cmp, source_cmp}
 use Rattle.sorted_set.specs.Sets.{union}
 use Rattle.epoch_model.specs.Summary.{Terms}

@@ -23,7 +23,7 @@ use taint_shadow::Places;
 pub fn analyse(
     alloc: Global,
     ticket: EpochTicket,
-    cursor: Cursor,
+    mut cursor: Cursor,
     query: &Query,
 ) -> Result<Summary, NoMemory>
     requires begins { cursor.time ≡ ticket.first }
@@ -31,7 +31,6 @@ pub fn analyse(
     ensures summary { IfOk result (λ e. IsSummary query.now (trace_of cursor.entry.job) ticket.first (ticket.past_last - ticket.first) (summary_of e)) }
     ensures number { IfOk result (λ e. number_of e ≡ ticket.number) }
 {
-    let mut cursor = cursor;
     let mut nodes = Nodes {
         log: MergeLog::new(alloc),
     };

@@ -2,7 +2,7 @@
 
 ghost use Rattle.std.specs.Prelude.{◌≡◌};
 
-use flow_rule::{Loc, SourceByte};
+use flow_model::{Loc, SourceByte};
 use merge_log::{MergeLog, Node};
 use no_memory::NoMemory;
 use std::collections::LinkedList;
@@ -27,7 +27,7 @@ impl Model for NodeTerms {
 /// Makes nodes, and unites them, in a log. A location that no step touched has none until it is read.
 #[derive(Drop)]
 pub struct Nodes {
-    pub log: MergeLog,
+    pub(crate) log: MergeLog,
 }
 
 impl Labels for Nodes {

@@ -8,5 +8,4 @@ mod sinks;
 mod summary;
 
 pub use analysis::analyse;
-pub use labels::Nodes;
 pub use summary::Summary;

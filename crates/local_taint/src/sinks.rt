@@ -10,8 +10,7 @@ ghost use Rattle.local_taint.specs.Words.{node_words};
 ghost use Rattle.local_taint.specs.Sinks.{AreNamed, Notes, chosen};
 
 use crate::labels::Nodes;
-use flow_model::{CallSeen, StepSeen};
-use flow_rule::{Loc, SinkByte, SinkPoint};
+use flow_model::{CallSeen, Loc, SinkByte, SinkPoint, StepSeen};
 use isa::CallKind;
 use merge_log::Node;
 use no_memory::NoMemory;

@@ -9,7 +9,7 @@ ghost use Rattle.local_taint.specs.Sinks.{AreNamed};
 
 use crate::labels::Nodes;
 use crate::sinks::SinkNode;
-use flow_rule::{Loc, SinkPoint};
+use flow_model::{Loc, SinkPoint};
 use merge_log::{Node, TermsReader};
 use no_memory::NoMemory;
 use taint_shadow::Places;

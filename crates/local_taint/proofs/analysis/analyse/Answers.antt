@@ -94,7 +94,7 @@ loop-time-preserved c =
       points = c.in_ok-points-2.ensures.later ∙ later_now (time + 1) (time + 1) left q.points refl before.points;
       rows = subst (λ k. map (named c.collect_due.new.nodes) c.collect_due.new.sinks.items ≡ map (sink_terms policy trace s) (sinks_of_epoch q trace s k)) (sym next)
           (more_sinks q trace s n time here step at places later_places c.loop-time.nodes c.collect.new.nodes c.step.new.labels c.collect_due.new.nodes c.loop-time.sinks.items c.collect.new.sinks.items c.collect_due.new.sinks.items
-           before.rows before.shows written stepped.keeps shows_later due);
+          before.rows before.shows written stepped.keeps shows_later due);
     }
 
 -- ---- where it ends

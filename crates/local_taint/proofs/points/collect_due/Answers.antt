@@ -34,8 +34,8 @@ loop-due-preserved c =
       later = later_more time points due first inside here c.if-points-due.true before.later;
     }
 
-pub returns-clause-noted : goal.returns-clause-noted
-returns-clause-noted c =
+pub returns : goal.returns
+returns c =
     let time = c.args.time in
     let points = c.args.points.now in
     let due = c.loop-due.due in
@@ -49,21 +49,8 @@ returns-clause-noted c =
           after_due time points due first inside (get_or_default points due none first inside) c.requires.ascending (omega (arith, not_sooner, not_now))
       | else-loop-due-test w ↦ after_all time points due w.loop-due-test.false
     ] in
-    subst (λ ps. Notes c.args.places.now (map point_sink ps) c.args.nodes.now c.args.sinks.now.items c.loop-due.nodes c.loop-due.sinks.items) (sym (due_are time points due after c.loop-due.invariant.turn)) c.loop-due.invariant.noted
-
-pub returns-clause-later : goal.returns-clause-later
-returns-clause-later c =
-    let time = c.args.time in
-    let points = c.args.points.now in
-    let due = c.loop-due.due in
-    let after : AreAfter time (drop due points) = elim c.loop-due-test.branch [
-      | then-loop-due-test+else-points-due w ↦
-          let inside = w.loop-due-test.true in
-          let first = get_or points due none in
-          let not_sooner = c.requires.none_before due none inside in
-          let not_now = w.if-points-due.false in
-          after_due time points due first inside (get_or_default points due none first inside) c.requires.ascending (omega (arith, not_sooner, not_now))
-      | else-loop-due-test w ↦ after_all time points due w.loop-due-test.false
-    ] in
     let long : length (drop due points) ≤ length points - due = omega (arith, length-drop due points) in
-    take_all (length points - due) (drop due points) long ∙ later_are time points due after c.loop-due.invariant.later
+    record {
+      noted = subst (λ ps. Notes c.args.places.now (map point_sink ps) c.args.nodes.now c.args.sinks.now.items c.loop-due.nodes c.loop-due.sinks.items) (sym (due_are time points due after c.loop-due.invariant.turn)) c.loop-due.invariant.noted;
+      later = take_all (length points - due) (drop due points) long ∙ later_are time points due after c.loop-due.invariant.later;
+    }

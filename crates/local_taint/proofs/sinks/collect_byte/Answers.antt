@@ -15,4 +15,4 @@ returns c t =
     let made = c.in_ok-node.ensures.made in
     subst (λ (ks : _). Notes c.args.places.now ks c.args.nodes.now c.args.sinks.now.items c.label_at.new.labels c.push.new.self.items) (sym (chosen_one q sink asked))
     (one_note c.args.places.now sink c.args.nodes.now c.label_at.new.labels c.args.sinks.now.items c.push.new.self.items c.in_ok-node.node c.label_at.ensures.keeps c.requires.named made.stands
-     (λ f shows. made.means ∙ shows.at c.args.loc c.requires.location) c.in_ok-push.ensures.items)
+    (λ f shows. made.means ∙ shows.at c.args.loc c.requires.location) c.in_ok-push.ensures.items)

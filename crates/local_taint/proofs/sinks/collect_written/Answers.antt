@@ -1,6 +1,6 @@
 use Rattle.std.proofs.Common.{◌≡◌, ◌+◌, ◌<◌, ◌^◌, map, arith, sym, subst}
 use Rattle.std.specs.List.{range_with_len}
-use Rattle.report_model.specs.Rows.{Sink, sink_at}
+use Rattle.report_model.specs.Rows.{sink_at}
 use Rattle.local_taint.specs.Sinks.{Notes, chosen}
 use Rattle.local_taint.proofs.Notes.{standing_kept, no_notes, more_notes, one_more_byte}
 use Rattle.local_taint.proofs.sinks.collect_written.Goals as goal

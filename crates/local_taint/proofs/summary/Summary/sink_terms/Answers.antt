@@ -2,7 +2,6 @@ use Rattle.std.proofs.Common.{◌≡◌, sym, ap, ◌∙◌}
 use Rattle.std.specs.Prelude.{Some, slice_get}
 use Rattle.std.proofs.lemmas.Result.{on_ok_weaker}
 use Rattle.merge_log.specs.Log.{terms}
-use Rattle.epoch_model.specs.Summary.{Terms}
 use Rattle.local_taint.specs.Words.{as_terms}
 use Rattle.local_taint.specs.Summaries.{terms_of}
 use Rattle.local_taint.proofs.Notes.{nth}
