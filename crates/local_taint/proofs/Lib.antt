@@ -1,0 +1,4 @@
+mod Notes
+mod Due
+mod Steps
+mod Between

@@ -1,0 +1,3 @@
+pub mod Words
+pub mod Sinks
+pub mod Summaries

@@ -1,0 +1,63 @@
+-- The sinks of an epoch, each with a node.
+use Rattle.std.specs.Prelude.{◌≡◌, ℕ, ◌≤◌, ◌⊎◌, ◌==◌, ◌++◌, nat_le, List, map, All}
+use Rattle.std.specs.List.{filter}
+use Rattle.flow_model.specs.declared.Loc.{Loc}
+use Rattle.flow_model.specs.declared.Loc.TheVariants.{Reg, Mem}
+use Rattle.flow_model.specs.declared.InnerSink.{InnerSink}
+use Rattle.flow_model.specs.Ranges.{IsLocation}
+use Rattle.report_model.specs.Query.{Query, has_sink}
+use Rattle.report_model.specs.Rows.{Sink, point_sink}
+use Rattle.epoch_model.specs.Summary.{Terms, SinkTerms}
+use Rattle.merge_log.specs.Log.{IsNode}
+use Rattle.taint_shadow.specs.declared.places.Places.{Places}
+use Rattle.taint_shadow.specs.Labels.{KeepsLabels}
+use Rattle.taint_shadow.specs.Steps.{meaning_at}
+use Rattle.local_taint.specs.declared.labels.Nodes.{Nodes}
+use Rattle.local_taint.specs.declared.sinks.SinkNode.{SinkNode}
+use Rattle.local_taint.specs.Words.{node_words, of_itself}
+
+-- a sink with the terms of its node
+abbrev pub named : Nodes → SinkNode → SinkTerms
+named nodes k = record { name = k.name; terms = node_words.means nodes k.node }
+
+-- the node of each of the sinks stands
+abbrev pub AreNamed : Nodes → List SinkNode → Type 0
+AreNamed nodes sinks = All (λ k. IsNode nodes.log k.node) sinks
+
+-- a sink with what f gives for its location
+abbrev pub found : (Loc → Terms) → Sink → SinkTerms
+found f k = record { name = k.name; terms = f k.loc }
+
+-- those of the sinks that the query chooses
+abbrev pub chosen : Query → List Sink → List Sink
+chosen q sinks = filter (λ k. has_sink q k.name) sinks
+
+-- a lane that no register has
+abbrev pub IsNoLane : Loc → Type 0
+IsNoLane (Reg r i) = (32 ≤ r) ⊎ (4 ≤ i)
+IsNoLane (Mem p) = ⊥
+
+-- f gives the terms that are kept for each location, and of a lane that no register has itself
+pub record Shows (nodes : Nodes) (places : Places ℕ) (f : Loc → Terms) : Type 0 where
+  pub at : (l : Loc) → IsLocation l → meaning_at node_words nodes places l ≡ f l
+  pub beyond : (l : Loc) → IsNoLane l → f l ≡ of_itself l
+
+-- after these sinks came to those that were noted, each of them has the terms that are kept for its location
+pub record Notes (places : Places ℕ) (sinks : List Sink) (old : Nodes) (before : List SinkNode) (new : Nodes) (after : List SinkNode) : Type 0 where
+  pub keeps : KeepsLabels node_words old new
+  pub stand : AreNamed new after
+  pub rows : (f : Loc → Terms) → Shows old places f → map (named new) after ≡ map (named old) before ++ map (found f) sinks
+
+-- ---- points
+
+-- the points at a time
+abbrev pub at_time : ℕ → List InnerSink → List InnerSink
+at_time t points = filter (λ p. p.time == t) points
+
+-- the points at a time or later
+abbrev pub from_time : ℕ → List InnerSink → List InnerSink
+from_time t points = filter (λ p. nat_le t p.time) points
+
+-- the points at a time, as sinks
+abbrev pub sinks_at : ℕ → List InnerSink → List Sink
+sinks_at t points = map point_sink (at_time t points)

@@ -1,0 +1,26 @@
+-- What the analysis of an epoch found.
+use Rattle.std.specs.Prelude.{ℕ, List, map}
+use Rattle.flow_model.specs.declared.SinkPoint.{SinkPoint}
+use Rattle.epoch_model.specs.Summary.{Terms, Summary as EpochSummary}
+use Rattle.taint_shadow.specs.Steps.{meaning_at}
+use Rattle.local_taint.specs.declared.summary.Summary.{Summary}
+use Rattle.local_taint.specs.Words.{node_words}
+use Rattle.local_taint.specs.Sinks.{named}
+
+-- the number of its epoch
+abbrev pub number_of : Summary → ℕ
+number_of e = e.number
+
+-- the terms of each location at the epoch's end, and of each sink: those of the nodes that are kept
+abbrev pub summary_of : Summary → EpochSummary
+summary_of e = record {
+  ends = λ l. meaning_at node_words e.nodes e.places l;
+  sinks = map (named e.nodes) e.sinks.items;
+}
+
+-- the names of its sinks, and their terms
+abbrev pub names_of : Summary → List SinkPoint
+names_of e = map (λ k. k.name) (summary_of e).sinks
+
+abbrev pub terms_of : Summary → List Terms
+terms_of e = map (λ k. k.terms) (summary_of e).sinks

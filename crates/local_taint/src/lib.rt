@@ -1,0 +1,11 @@
+//! One epoch by itself: what the content of each location came from, where the content at the epoch's start is unknown.
+#![tactic(auto)]
+
+mod analysis;
+mod labels;
+mod points;
+mod sinks;
+mod summary;
+
+pub use analysis::analyse;
+pub use summary::Summary;

@@ -1,0 +1,122 @@
+//! The nodes of the points inside a run.
+
+ghost use Rattle.std.specs.Prelude.{◌≡◌, ◌+◌, ◌≤◌, ◌∷◌, [], All, IsTrue, false, IfOk, OnOk};
+ghost use Rattle.flow_model.specs.Orders.{inner_cmp};
+ghost use Rattle.flow_model.specs.Ranges.{IsLocation};
+ghost use Rattle.flow_model.specs.declared.Loc.{Loc as Location};
+ghost use Rattle.epoch_model.specs.Stretch.{points_at_start};
+ghost use Rattle.epoch_model.specs.Summary.{Terms};
+ghost use Rattle.merge_log.specs.Log.{IsNode};
+ghost use Rattle.report_model.specs.Rows.{point_sink};
+ghost use Rattle.sorted_set.specs.Sets.{Ascends};
+ghost use Rattle.taint_shadow.specs.Labels.{KeepsLabels};
+ghost use Rattle.taint_shadow.specs.Steps.{AreStanding};
+ghost use Rattle.local_taint.specs.Words.{node_words};
+ghost use Rattle.local_taint.specs.Sinks.{AreNamed, Notes, Shows, IsNoLane, sinks_at, from_time};
+
+use crate::labels::Nodes;
+use crate::sinks::SinkNode;
+use flow_model::{InnerSink, Loc, SinkPoint};
+use merge_log::Node;
+use no_memory::NoMemory;
+use query_lang::Query;
+use taint_shadow::{Labels, Places, label_at};
+
+/// Notes the points at the beginning of an epoch that belong to it, which are those at time 0, and gives those after its
+/// beginning.
+pub fn collect_first<'a>(
+    nodes: &mut Nodes,
+    places: &Places<Node>,
+    query: &'a Query,
+    first: u64,
+    sinks: &mut Vec<SinkNode>,
+) -> Result<&'a [InnerSink], NoMemory>
+    requires standing { AreStanding node_words nodes.old places.now }
+    requires named { AreNamed nodes.old sinks.old.items }
+    ensures noted { OnOk result (Notes places.now (points_at_start query.now first) nodes.old sinks.old.items nodes.new sinks.new.items) }
+    ensures later { IfOk result (λ later. later.now ≡ from_time (first + 1) query.now.points) }
+    ensures ascending { Ascends inner_cmp query.now.points }
+{
+    let points = query.points();
+    if first == 0 {
+        return collect_due(nodes, places, points, 0, sinks);
+    }
+    Ok(points_after(points, first))
+}
+
+/// The points after a time, of points that ascend.
+fn points_after(points: &[InnerSink], time: u64) -> &[InnerSink]
+    requires { Ascends inner_cmp points.now }
+    ensures { result.now ≡ from_time (time + 1) points.now }
+{
+    let passed = points.partition_point(|point| point.time <= time);
+    &points[passed..]
+}
+
+/// Notes the points at a time, which come first among these, and gives the later ones. What is kept for locations is
+/// that at the time.
+pub fn collect_due<'a>(
+    nodes: &mut Nodes,
+    places: &Places<Node>,
+    points: &'a [InnerSink],
+    time: u64,
+    sinks: &mut Vec<SinkNode>,
+) -> Result<&'a [InnerSink], NoMemory>
+    requires ascending { Ascends inner_cmp points.now }
+    requires none_before { All (λ p. time ≤ p.time) points.now }
+    requires standing { AreStanding node_words nodes.old places.now }
+    requires named { AreNamed nodes.old sinks.old.items }
+    ensures noted { OnOk result (Notes places.now (sinks_at time points.now) nodes.old sinks.old.items nodes.new sinks.new.items) }
+    ensures later { IfOk result (λ later. later.now ≡ from_time (time + 1) points.now) }
+{
+    let mut due = 0;
+    while due < points.len() && points[due].time == time {
+        collect_point(nodes, places, points[due], sinks)?;
+        due += 1;
+    }
+    Ok(&points[due..])
+}
+
+/// Notes one point.
+fn collect_point(
+    nodes: &mut Nodes,
+    places: &Places<Node>,
+    point: InnerSink,
+    sinks: &mut Vec<SinkNode>,
+) -> Result<(), NoMemory>
+    requires standing { AreStanding node_words nodes.old places.now }
+    requires named { AreNamed nodes.old sinks.old.items }
+    ensures { OnOk result (Notes places.now (point_sink point ∷ []) nodes.old sinks.old.items nodes.new sinks.new.items) }
+{
+    let node = point_node(nodes, places, point.loc)?;
+    sinks.push(SinkNode {
+        name: SinkPoint::At(point),
+        node,
+    })?;
+    Ok(())
+}
+
+/// The node of the location of a point. No step touches a lane that no register has.
+fn point_node(nodes: &mut Nodes, places: &Places<Node>, loc: Loc) -> Result<Node, NoMemory>
+    requires standing { AreStanding node_words nodes.old places.now }
+    ensures stands { IfOk result (λ n. IsNode nodes.new.log n) }
+    ensures means { IfOk result (λ n. (f : Location → Terms) → Shows nodes.old places.now f → node_words.means nodes.new n ≡ f loc) }
+    ensures keeps { KeepsLabels node_words nodes.old nodes.new }
+{
+    if is_location(loc) {
+        label_at(nodes, places, loc)
+    } else {
+        nodes.untouched(loc)
+    }
+}
+
+/// Whether this is an address, or a lane that a register has.
+fn is_location(loc: Loc) -> bool
+    ensures location { IsTrue result → IsLocation loc }
+    ensures no_lane { result ≡ false → IsNoLane loc }
+{
+    match loc {
+        Loc::Reg { number, lane } => number < 32 && lane < 4,
+        Loc::Mem { .. } => true,
+    }
+}

@@ -1,0 +1,76 @@
+//! What is known of an epoch by itself.
+
+ghost use Rattle.std.specs.Prelude.{◌≡◌, ◌<◌, Some, length, slice_get, OnOk};
+ghost use Rattle.flow_model.specs.Ranges.{IsLocation};
+ghost use Rattle.merge_log.specs.Log.{AreSets};
+ghost use Rattle.taint_shadow.specs.Steps.{AreStanding};
+ghost use Rattle.local_taint.specs.Words.{node_words, as_terms};
+ghost use Rattle.local_taint.specs.Sinks.{AreNamed};
+
+use crate::labels::Nodes;
+use crate::sinks::SinkNode;
+use flow_model::{Loc, SinkPoint};
+use merge_log::{Node, TermsReader};
+use no_memory::NoMemory;
+use taint_shadow::Places;
+
+/// What the analysis of an epoch found: the terms of each location at the epoch's end, and the epoch's sinks with their
+/// terms, in the order of the run. A location that the epoch doesn't touch takes no room.
+#[derive(Drop)]
+pub struct Summary {
+    pub(crate) number: u32,
+    pub(crate) nodes: Nodes,
+    pub(crate) places: Places<Node>,
+    pub(crate) sinks: Vec<SinkNode>,
+    ghost standing: { AreStanding node_words nodes places },
+    ghost named: { AreNamed nodes sinks.items },
+}
+
+impl Summary {
+    ghost use Rattle.local_taint.specs.Summaries.{number_of, summary_of, names_of, terms_of};
+
+    /// The number of the epoch: 0 for the first.
+    pub fn number(&self) -> u32
+        ensures { result ≡ number_of self.now }
+    {
+        self.number
+    }
+
+    /// Reads the terms of a location at the epoch's end: the location itself where the epoch doesn't touch it. When out
+    /// of memory, the reader may have read part of them, and can go on with any node.
+    pub fn end_terms(&self, reader: &mut TermsReader, loc: Loc) -> Result<(), NoMemory>
+        requires { IsLocation loc }
+        ensures read { OnOk result (as_terms reader.new ≡ (summary_of self.now).ends loc) }
+        ensures ascending { OnOk result (AreSets reader.new) }
+    {
+        match self.places.get(loc) {
+            Some(node) => reader.read(&self.nodes.log, *node),
+            None => reader.read_start(loc),
+        }
+    }
+
+    /// How many sinks the epoch has.
+    pub fn sink_count(&self) -> usize
+        ensures { result ≡ length (summary_of self.now).sinks }
+    {
+        self.sinks.len()
+    }
+
+    /// The sink of this number, counted from 0 in the order of the run.
+    pub fn sink(&self, number: usize) -> SinkPoint
+        requires { number < length (summary_of self.now).sinks }
+        ensures { slice_get (names_of self.now) number ≡ Some result }
+    {
+        self.sinks[number].name
+    }
+
+    /// Reads the terms of the sink of this number. When out of memory, the reader may have read part of them, and can go
+    /// on with any node.
+    pub fn sink_terms(&self, reader: &mut TermsReader, number: usize) -> Result<(), NoMemory>
+        requires { number < length (summary_of self.now).sinks }
+        ensures read { OnOk result (slice_get (terms_of self.now) number ≡ Some (as_terms reader.new)) }
+        ensures ascending { OnOk result (AreSets reader.new) }
+    {
+        reader.read(&self.nodes.log, self.sinks[number].node)
+    }
+}
