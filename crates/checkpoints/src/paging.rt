@@ -1,8 +1,8 @@
 //! A window's pages, kept and put together again.
 
-ghost use Rattle.std.specs.Prelude.{◌≡◌, ℕ, ◌+◌, ◌<◌, List, length, get_or, IfOk};
+ghost use Rattle.std.specs.Prelude.{◌≡◌, ℕ, ◌+◌, ◌<◌, List, length, IfOk};
 ghost use Rattle.std.specs.List.{All};
-ghost use Rattle.checkpoints.specs.Pages.{page, changed, differs, IsHeld, ArePagesOf, IsExtended, page_before};
+ghost use Rattle.checkpoints.specs.Pages.{changed, differs, IsHeld, ArePagesOf, IsExtended, page_before};
 
 use crate::pages::Pages;
 use no_memory::NoMemory;
