@@ -34,8 +34,8 @@ fn keep(
     pages.push(alloc, page)
 }
 
-/// The numbers of a window's pages. A page that is as it was at its place in the window before keeps its number, and only
-/// the others are kept anew. It gives up with NoMemory alone.
+/// The numbers of a window's pages. A page that is as it was at its place in the window before keeps its number, and
+/// only the others are kept anew. It gives up with NoMemory alone.
 pub fn split(
     alloc: Global,
     pages: &mut Pages,

@@ -25,13 +25,14 @@ pub record IsCounted (log : Log) (time index : ℕ) (read write : List ℕ) : Ty
   pub reads : AreCounts read (λ c. received c (take index log.records))
   pub writes : AreCounts write (λ c. written c (take index log.records))
 
--- the numbers of a run: the steps and the records that are done, and the bytes read and written on each of the 16 channels
+-- the numbers of a run: how many steps and how many records are done, and how many bytes were read and written on each of
+-- the 16 channels
 pub record RunCounters : Type 0 where
   pub time : ℕ
   pub done : ℕ
   pub read : List ℕ
   pub written : List ℕ
 
--- the numbers are those of a run under this log: its first records are done, and the channels have their bytes
+-- the numbers are those of a run under this log: so many of its records are done, and the channels have their bytes
 abbrev pub CountRecords : Log → RunCounters → Type 0
 CountRecords log c = IsCounted log c.time c.done c.read c.written
