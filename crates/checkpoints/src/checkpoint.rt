@@ -1,7 +1,5 @@
 //! One checkpoint.
 
-ghost use Rattle.std.specs.Prelude.{◌≡◌};
-
 use replayer::Rest;
 use std::marker::Model;
 

@@ -85,8 +85,8 @@ impl<'a> Checkpoints<'a> {
         Ok(Checkpoints { job, pages, points })
     }
 
-    /// Takes a checkpoint at the beginning of each epoch of a run that is cut so, in one replay. It gives up with NoMemory
-    /// alone.
+    /// Takes a checkpoint at the beginning of each epoch of a run that is cut so, in one replay. It gives up with
+    /// NoMemory alone.
     pub fn take(alloc: Global, job: &'a Job, cuts: &Cuts) -> Result<Checkpoints<'a>, NoMemory>
         requires { IsCutting (steps job.now.log) cuts.now }
         ensures { IfOk result (λ points. points ≡ record { job = job.now; times = beginnings cuts.now }) }
@@ -114,7 +114,8 @@ impl<'a> Checkpoints<'a> {
         Ok(Cursor::from(self.job, CursorState::whole(bytes, rest)))
     }
 
-    /// How many pages of 4096 bytes are held: those of the window, and those that changed from one checkpoint to the next.
+    /// How many pages of 4096 bytes are held: those of the window, and those that changed from one checkpoint to the
+    /// next.
     pub fn held(&self) -> u64
         ensures { result ≡ held self.now }
     {

@@ -1,8 +1,8 @@
 //! A window's pages, kept and put together again.
 
-ghost use Rattle.std.specs.Prelude.{◌≡◌, ℕ, ◌+◌, ◌<◌, List, length, get_or, IfOk};
+ghost use Rattle.std.specs.Prelude.{◌≡◌, ℕ, ◌+◌, ◌<◌, List, length, IfOk};
 ghost use Rattle.std.specs.List.{All};
-ghost use Rattle.checkpoints.specs.Pages.{page, changed, differs, IsHeld, ArePagesOf, IsExtended, page_before};
+ghost use Rattle.checkpoints.specs.Pages.{changed, differs, IsHeld, ArePagesOf, IsExtended, page_before};
 
 use crate::pages::Pages;
 use no_memory::NoMemory;
@@ -34,8 +34,8 @@ fn keep(
     pages.push(alloc, page)
 }
 
-/// The numbers of a window's pages. A page that is as it was at its place in the window before keeps its number, and only
-/// the others are kept anew. It gives up with NoMemory alone.
+/// The numbers of a window's pages. A page that is as it was at its place in the window before keeps its number, and
+/// only the others are kept anew. It gives up with NoMemory alone.
 pub fn split(
     alloc: Global,
     pages: &mut Pages,
