@@ -37,6 +37,21 @@ pub fn analyse(
     ensures summary { IfOk result (λ e. IsSummary query.now (trace_of cursor.entry.job) ticket.first (ticket.past_last - ticket.first) (summary_of e)) }
     ensures number { IfOk result (λ e. number_of e ≡ ticket.number) }
 {
+    summarize(alloc, &ticket, &mut cursor, query)
+}
+
+/// The summary of an epoch. The cursor stands at its first step, and is left where the analysis ends.
+fn summarize(
+    alloc: Global,
+    ticket: &EpochTicket,
+    cursor: &mut Cursor,
+    query: &Query,
+) -> Result<Summary, NoMemory>
+    requires begins { cursor.old.time ≡ ticket.now.first }
+    requires ends { ticket.now.past_last ≤ steps cursor.old.job.log }
+    ensures summary { IfOk result (λ e. IsSummary query.now (trace_of cursor.old.job) ticket.now.first (ticket.now.past_last - ticket.now.first) (summary_of e)) }
+    ensures number { IfOk result (λ e. number_of e ≡ ticket.now.number) }
+{
     let mut nodes = Nodes {
         log: MergeLog::new(alloc),
     };
@@ -44,7 +59,7 @@ pub fn analyse(
     let mut sinks = Vec::new(alloc);
     let (first, past_last) = (ticket.first(), ticket.past_last());
     follow(
-        &mut cursor,
+        cursor,
         first,
         past_last,
         query,
