@@ -6,14 +6,14 @@ use Rattle.epoch_model.specs.Summary.{terms, sink_terms}
 use Rattle.taint_shadow.specs.Steps.{AreStanding}
 use Rattle.local_taint.specs.Words.{node_words}
 use Rattle.local_taint.specs.Sinks.{AreNamed, named, Shows, from_time}
-use Rattle.local_taint.proofs.analysis.analyse.Given as goal
+use Rattle.local_taint.proofs.analysis.follow.Given as goal
 
 abbrev pub invariant-loop-time : goal.invariant-loop-time
-invariant-loop-time l = let first = l.ticket.first in let trace = trace_of l.fn.cursor.job in let n = l.time - first in record {
-  job : l.cursor.job ≡ l.fn.cursor.job;
+invariant-loop-time l = let first = l.first in let trace = trace_of l.initial.cursor.job in let n = l.time - first in record {
+  job : l.cursor.job ≡ l.initial.cursor.job;
   now : l.cursor.time ≡ l.time;
   begun : first ≤ l.time;
-  within : n ≤ l.ticket.past_last - first;
+  within : n ≤ l.past_last - first;
   standing : AreStanding node_words l.nodes l.places;
   stand : AreNamed l.nodes l.sinks.items;
   shows : Shows l.nodes l.places (terms (policy_of l.query) trace first n);

@@ -4,15 +4,14 @@ use Rattle.flow_model.specs.Origins.{step_at}
 use Rattle.replayer.specs.Jobs.{Job, trace_of}
 use Rattle.report_model.specs.Query.{policy_of}
 use Rattle.report_model.specs.Rows.{point_sink}
-use Rattle.epoch_model.specs.Stretch.{points_at_start, sinks_of_epoch}
+use Rattle.epoch_model.specs.Stretch.{sinks_of_epoch}
 use Rattle.epoch_model.specs.Summary.{terms, sink_terms}
-use Rattle.local_taint.specs.declared.labels.Nodes.{Nodes}
-use Rattle.local_taint.specs.Sinks.{Notes, Shows, named, from_time}
+use Rattle.local_taint.specs.Sinks.{Notes, Shows, named}
 use Rattle.local_taint.proofs.Notes.{stand_kept, standing_kept, shows_kept}
 use Rattle.local_taint.proofs.Due.{due_now, later_now, left_in_time, left_ascend}
 use Rattle.local_taint.proofs.Steps.{one_more, none_kept, none_stand}
 use Rattle.local_taint.proofs.Between.{first_sinks, more_sinks}
-use Rattle.local_taint.proofs.analysis.analyse.Goals as goal
+use Rattle.local_taint.proofs.analysis.follow.Goals as goal
 
 -- ---- where the epoch begins
 
@@ -20,29 +19,27 @@ pub loop-time-init : goal.loop-time-init
 loop-time-init c =
     let q = c.args.query.now in
     let policy = policy_of q in
-    let first = c.args.ticket.first in
-    let trace = trace_of c.args.cursor.job in
-    let places = c.in_ok-places.places in
-    let old : Nodes = record { log = c.new.result } in
+    let first = c.args.first in
+    let trace = trace_of c.args.cursor.now.job in
+    let places = c.args.places.now in
+    let old = c.args.nodes.now in
     let new = c.collect_first.new.nodes in
     let sinks = c.collect_first.new.sinks.items in
-    let begins : c.first.result ≡ first = c.first.ensures in
-    let same : c.first.result ≡ c.first-time.result = c.first.ensures ∙ sym c.first-time.ensures in
-    let none_yet : c.first-time.result - first ≡ 0 = omega (arith, c.first-time.ensures) in
-    let shows = none_kept policy trace first old places c.in_ok-places.ensures in
-    let stand = none_stand old places c.in_ok-places.ensures in
-    let noted = subst (λ t. Notes places (points_at_start q t) old c.new-sinks.result.items new sinks) begins c.in_ok-points.ensures.noted in
+    let none_yet : first - first ≡ 0 = omega arith in
+    let shows = none_kept policy trace first old places c.requires.untouched in
+    let stand = none_stand old places c.requires.untouched in
+    let noted = c.in_ok-points.ensures.noted in
     record {
       job = refl;
-      now = c.requires.begins ∙ sym c.first-time.ensures;
-      begun = omega (arith, c.first-time.ensures);
+      now = c.requires.begins;
+      begun = omega arith;
       within = omega (arith, none_yet);
       standing = standing_kept old new places noted.keeps stand;
       stand = noted.stand;
       shows = subst (λ n. Shows new places (terms policy trace first n)) (sym none_yet) (shows_kept old new places noted.keeps stand (terms policy trace first 0) shows);
-      points = subst (λ t. c.in_ok-points.points.now ≡ from_time (t + 1) q.points) same c.in_ok-points.ensures.later;
+      points = c.in_ok-points.ensures.later;
       rows = subst (λ n. map (named new) sinks ≡ map (sink_terms policy trace first) (sinks_of_epoch q trace first n)) (sym none_yet)
-          (first_sinks q trace first places old new c.new-sinks.result.items sinks shows c.new-sinks.ensures.items noted);
+          (first_sinks q trace first places old new c.args.sinks.now.items sinks shows c.requires.none_noted noted);
     }
 
 -- ---- one step
@@ -63,8 +60,8 @@ pub loop-time-preserved : goal.loop-time-preserved
 loop-time-preserved c =
     let q = c.args.query.now in
     let policy = policy_of q in
-    let trace = trace_of c.args.cursor.job in
-    let s = c.args.ticket.first in
+    let trace = trace_of c.args.cursor.now.job in
+    let s = c.args.first in
     let before = c.loop-time.invariant in
     let time = c.loop-time.time in
     let n = time - s in
@@ -86,7 +83,7 @@ loop-time-preserved c =
       job = ap (λ k. k.job) made.moved ∙ before.job;
       now = ap (λ k. k.time) made.moved ∙ ap (λ t. t + 1) before.now;
       begun = omega (arith, before.begun);
-      within = omega (arith, c.loop-time-test.true, c.past_last-time-end.ensures);
+      within = omega (arith, c.loop-time-test.true);
       standing = standing_kept c.step.new.labels c.collect_due.new.nodes later_places due.keeps stepped.standing;
       stand = due.stand;
       shows = subst (λ k. Shows c.collect_due.new.nodes later_places (terms policy trace s k)) (sym next)
@@ -99,13 +96,15 @@ loop-time-preserved c =
 
 -- ---- where it ends
 
-pub returns-clause-summary : goal.returns-clause-summary
-returns-clause-summary c =
+pub returns : goal.returns
+returns c =
     let q = c.args.query.now in
-    let trace = trace_of c.args.cursor.job in
-    let s = c.args.ticket.first in
-    let all : c.loop-time.time - s ≡ c.args.ticket.past_last - s = omega (arith, c.loop-time-test.false, c.loop-time.invariant.begun, c.loop-time.invariant.within, c.past_last-time-end.ensures) in
+    let trace = trace_of c.args.cursor.now.job in
+    let s = c.args.first in
+    let all : c.loop-time.time - s ≡ c.args.past_last - s = omega (arith, c.loop-time-test.false, c.loop-time.invariant.begun, c.loop-time.invariant.within) in
     record {
-      ends = λ l here. c.loop-time.invariant.shows.at l here ∙ ap (λ n. terms (policy_of q) trace s n l) all;
+      standing = c.loop-time.invariant.standing;
+      named = c.loop-time.invariant.stand;
+      ends = subst (λ n. Shows c.loop-time.nodes c.loop-time.places (terms (policy_of q) trace s n)) all c.loop-time.invariant.shows;
       sinks = c.loop-time.invariant.rows ∙ ap (λ n. map (sink_terms (policy_of q) trace s) (sinks_of_epoch q trace s n)) all;
     }
