@@ -18,9 +18,10 @@ summary_of e = record {
   sinks = map (named e.nodes) e.sinks.items;
 }
 
--- the names of its sinks, and their terms
+-- the names of its sinks, in the order of the run
 abbrev pub names_of : Summary → List SinkPoint
 names_of e = map (λ k. k.name) (summary_of e).sinks
 
+-- the terms of its sinks, in the same order
 abbrev pub terms_of : Summary → List Terms
 terms_of e = map (λ k. k.terms) (summary_of e).sinks

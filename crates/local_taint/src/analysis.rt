@@ -24,8 +24,8 @@ use replayer::{Cursor, Next};
 use std::alloc::Global;
 use taint_shadow::Places;
 
-/// The summary of the ticket's epoch, over the steps of a run. The cursor stands at the epoch's first step, and the epoch
-/// ends with the run at the latest.
+/// The summary of the ticket's epoch, over the steps of a run. The cursor stands at the epoch's first step, and the
+/// epoch ends with the run at the latest.
 pub fn analyse(
     alloc: Global,
     ticket: EpochTicket,

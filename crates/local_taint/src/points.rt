@@ -22,8 +22,8 @@ use no_memory::NoMemory;
 use query_lang::Query;
 use taint_shadow::{Labels, Places, label_at};
 
-/// Notes the points at the beginning of an epoch that belong to it, which are those at time 0, and gives those after its
-/// beginning.
+/// Notes the points at the beginning of an epoch that belong to it, which are those at time 0, and gives those after
+/// its beginning.
 pub fn collect_first<'a>(
     nodes: &mut Nodes,
     places: &Places<Node>,

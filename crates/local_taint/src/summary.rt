@@ -64,8 +64,8 @@ impl Summary {
         self.sinks[number].name
     }
 
-    /// Reads the terms of the sink of this number. When out of memory, the reader may have read part of them, and can go
-    /// on with any node.
+    /// Reads the terms of the sink of this number. When out of memory, the reader may have read part of them, and can
+    /// go on with any node.
     pub fn sink_terms(&self, reader: &mut TermsReader, number: usize) -> Result<(), NoMemory>
         requires { number < length (summary_of self.now).sinks }
         ensures read { OnOk result (slice_get (terms_of self.now) number ≡ Some (as_terms reader.new)) }
