@@ -5,7 +5,7 @@ ghost use Rattle.std.specs.List.{flat_map};
 ghost use Rattle.flow_model.specs.Ranges.{IsLocation};
 ghost use Rattle.epoch_model.specs.Crossing.{added_all, asked_by};
 ghost use Rattle.local_taint.specs.Summaries.{summary_of};
-ghost use Rattle.jet_core.specs.Asking.{SumUp, crossings_back};
+ghost use Rattle.jet_core.specs.Asking.{AreOfOneTrace, crossings_back};
 
 use local_taint::{Asked, Summary};
 use merge_log::TermsReader;
@@ -15,7 +15,7 @@ use std::alloc::Global;
 /// What the epochs ask at each cut, from the last cut to the first. The epochs are those of a run, in its order, and
 /// what each asks rests on what the next one asks of it. It gives up with NoMemory alone.
 pub fn crossings(alloc: Global, summaries: &[Summary]) -> Result<Vec<Asked>, NoMemory>
-    requires { SumUp (map summary_of summaries.now) }
+    requires { AreOfOneTrace (map summary_of summaries.now) }
     ensures { IfOk result (λ all. all.items ≡ crossings_back (map summary_of summaries.now)) }
 {
     let mut reader = TermsReader::new(alloc);
