@@ -17,8 +17,8 @@ abbrev pub crossings_back : List Summary → List (List Loc)
 crossings_back [] = []
 crossings_back (e ∷ es) = asked_back es
 
--- they are the summaries of the epochs of one trace from a time on, for one query: the trace's steps are in range, and the
--- query's points at locations
+-- they are the summaries of the epochs of one trace from a time on, for one query; the trace's steps are in range, and
+-- the query's points at locations
 pub record AreOfOneTrace (es : List Summary) : Type 0 where
   pub query : Query
   pub trace : List StepSeen
