@@ -1,11 +1,20 @@
 -- What the epochs of a run ask of each other.
 use Rattle.std.specs.Prelude.{ℕ, List, [], ◌∷◌, ◌++◌, All}
+use Rattle.std.specs.List.{flat_map}
 use Rattle.flow_model.specs.declared.Loc.{Loc}
 use Rattle.flow_model.specs.declared.StepSeen.{StepSeen}
 use Rattle.flow_model.specs.Ranges.{IsInRange}
 use Rattle.report_model.specs.Query.{Query}
 use Rattle.epoch_model.specs.Summary.{Summary, AreSummaries, ArePointsLocated}
 use Rattle.epoch_model.specs.Crossing.{crossing}
+
+-- the start locations of an epoch's sinks, one sink after another
+abbrev pub sink_starts : Summary → List Loc
+sink_starts e = flat_map (λ k. k.terms.starts) e.sinks
+
+-- those of some locations at its end
+abbrev pub end_starts : Summary → List Loc → List Loc
+end_starts e ls = flat_map (λ l. (e.ends l).starts) ls
 
 -- what each of some epochs asks, from the last to the first
 abbrev pub asked_back : List Summary → List (List Loc)
