@@ -2,3 +2,4 @@ mod Notes
 mod Due
 mod Steps
 mod Between
+mod Alike

@@ -2,10 +2,12 @@
 #![tactic(auto)]
 
 mod analysis;
+mod asked;
 mod labels;
 mod points;
 mod sinks;
 mod summary;
 
 pub use analysis::analyse;
+pub use asked::Asked;
 pub use summary::Summary;

@@ -1,0 +1,87 @@
+//! What one epoch asks of the one before it.
+
+ghost use Rattle.std.specs.Prelude.{◌≡◌, ◌<◌, [], length, slice_get, Some, is_some, IfSome, OnOk, OnErr};
+ghost use Rattle.std.specs.List.{IsDistinct};
+ghost use Rattle.std.specs.Ordering.{eq_by_cmp};
+ghost use Rattle.flow_model.specs.Orders.{loc_cmp};
+ghost use Rattle.sorted_set.specs.Sets.{has};
+ghost use Rattle.epoch_model.specs.Crossing.{added};
+
+use flow_model::Loc;
+use indexmap::IndexSet;
+use no_memory::NoMemory;
+use std::alloc::Global;
+use std::marker::Model;
+
+/// Locations that an epoch asks the one before it for, each once, in the order of asking.
+///
+/// Contracts see it as the list of them.
+#[derive(Drop)]
+pub struct Asked {
+    locations: IndexSet<Loc>,
+}
+
+impl Model for Asked {
+    ghost use Rattle.std.specs.Prelude.{List};
+    ghost use Rattle.std.specs.List.{IsDistinct};
+    ghost use Rattle.std.specs.Ordering.{eq_by_cmp};
+    ghost use Rattle.flow_model.specs.declared.Loc.{Loc};
+    ghost use Rattle.flow_model.specs.Orders.{loc_cmp};
+
+    ghost Value = { List Loc };
+
+    ghost view = { λ asked. asked.locations.keys };
+
+    ghost invariant = { λ asked. IsDistinct (eq_by_cmp loc_cmp) asked.locations.keys };
+}
+
+impl Asked {
+    /// Nothing is asked. It takes no memory.
+    pub fn new(alloc: Global) -> Self
+        ensures { result ≡ [] }
+    {
+        Asked {
+            locations: IndexSet::new(alloc),
+        }
+    }
+
+    /// What is true of all that is asked: each location is asked once.
+    pub fn form(&self)
+        ensures { IsDistinct (eq_by_cmp loc_cmp) self.now }
+    {
+        // what is known of the field is known from its first use on
+        let _locations = self.locations.len();
+    }
+
+    /// How many locations are asked.
+    pub fn count(&self) -> usize
+        ensures { result ≡ length self.now }
+    {
+        self.locations.len()
+    }
+
+    /// The location at a place, counted from 0.
+    pub fn get(&self, place: usize) -> Loc
+        requires { place < length self.now }
+        ensures { slice_get self.now place ≡ Some result }
+    {
+        self.locations.as_slice()[place]
+    }
+
+    /// The place of a location, if it is asked.
+    pub fn place_of(&self, loc: Loc) -> Option<usize>
+        ensures asked { is_some result ≡ has loc_cmp loc self.now }
+        ensures place { IfSome result (λ place. slice_get self.now place ≡ Some loc) }
+    {
+        self.locations.get_index_of(&loc)
+    }
+
+    /// Asks for a location too, unless it is asked already. When out of memory nothing changes.
+    pub fn add(&mut self, loc: Loc) -> Result<(), NoMemory>
+        ensures added { OnOk result (self.new ≡ added self.old loc) }
+        ensures err { OnErr result (self.new ≡ self.old) }
+    {
+        self.locations.insert(loc)?;
+        Ok(())
+    }
+}
