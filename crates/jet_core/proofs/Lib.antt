@@ -1,3 +1,5 @@
-pub mod Members
-pub mod Finding
-pub mod Each
+mod More
+mod Back
+mod Members
+mod Finding
+mod Each

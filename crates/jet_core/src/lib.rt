@@ -1,10 +1,12 @@
-//! What epochs ask of each other, what they answer, and the rows of the whole run that come of it.
+//! The epochs of a run together: what each asks of the one before it, what each answers, and the rows of them all.
 #![tactic(auto)]
 
 mod answering;
 mod answers;
+mod asking;
 mod resolving;
 
 pub use answering::{answer_requests, rows};
 pub use answers::Answers;
+pub use asking::{asked_by, crossings};
 pub use resolving::resolved;
