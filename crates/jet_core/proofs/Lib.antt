@@ -3,3 +3,4 @@ mod Back
 mod Members
 mod Finding
 mod Each
+mod Cuts

@@ -4,9 +4,11 @@
 mod answering;
 mod answers;
 mod asking;
+mod joining;
 mod resolving;
 
 pub use answering::{answer_requests, rows};
 pub use answers::Answers;
 pub use asking::{asked_by, crossings};
+pub use joining::join;
 pub use resolving::resolved;
