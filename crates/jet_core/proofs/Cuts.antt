@@ -1,6 +1,5 @@
 -- The rows of one epoch more, and the cuts that are left.
-use Rattle.std.proofs.Common.{◌≡◌, ℕ, zero, suc, ◌+◌, ◌<◌, List, [], ◌∷◌, ◌++◌, map, drop, length, get_or, refl, ap, ap₂, sym, ◌∙◌, arith, append_assoc}
-use Rattle.std.specs.List.{IsLastAndRest}
+use Rattle.std.proofs.Common.{◌≡◌, ℕ, ◌+◌, add-one, ◌<◌, List, [], ◌∷◌, ◌++◌, map, drop, length, get_or, refl, ap, ap₂, sym, ◌∙◌, arith, append_assoc}
 use Rattle.std.proofs.lemmas.List.{length-append}
 use Rattle.flow_model.specs.declared.Loc.{Loc}
 use Rattle.flow_model.specs.declared.SourceByte.{SourceByte}
@@ -9,6 +8,7 @@ use Rattle.epoch_model.specs.Summary.{Summary}
 use Rattle.epoch_model.specs.Crossing.{crossing}
 use Rattle.epoch_model.specs.Join.{answer_to, rows_of, answers_of, joined}
 use Rattle.jet_core.specs.Asking.{asked_back, crossings_back}
+use Rattle.jet_core.proofs.Back.{drop_at}
 
 -- ---- the next cut
 
@@ -43,17 +43,13 @@ next_none (e ∷ es) cuts n is =
 -- ---- one epoch more
 
 module _ {S : Type 0} (v : S → Summary) where
-  drop_at : (xs : List S) (k : ℕ) (x : S) → k < length xs → x ≡ get_or xs k x → drop k (map v xs) ≡ v x ∷ drop (k + 1) (map v xs)
-  drop_at [] k x h is = absurd (omega arith)
-  drop_at (y ∷ ys) zero x h is = ap (λ z. v z ∷ map v ys) (sym is)
-  drop_at (y ∷ ys) (suc k) x h is =
-      let n : suc k + 1 ≡ suc (k + 1) = omega arith in
-      drop_at ys k x (omega (arith, h)) is ∙ ap (λ m. v x ∷ drop m (v y ∷ map v ys)) (sym n)
+  from_here : (xs : List S) (k : ℕ) (x : S) → k < length xs → x ≡ get_or xs k x → drop k (map v xs) ≡ v x ∷ drop (k + 1) (map v xs)
+  from_here xs k x h is = drop_at v xs k x h is ∙ ap (λ n. v x ∷ drop n (map v xs)) (sym (add-one k))
 
   -- the cuts that are left when an epoch comes are those that the later ones ask at
   pub cuts_at : (xs : List S) (k : ℕ) (x : S) (cuts : List (List Loc)) → k < length xs → x ≡ get_or xs k x
       → cuts ≡ crossings_back (drop k (map v xs)) → cuts ≡ asked_back (drop (k + 1) (map v xs))
-  cuts_at xs k x cuts h is e = e ∙ ap crossings_back (drop_at xs k x h is)
+  cuts_at xs k x cuts h is e = e ∙ ap crossings_back (from_here xs k x h is)
 
   pub joined_more : (xs : List S) (k : ℕ) (x : S) (before own : List Row) (asked requests : List Loc) (answers given : List (List SourceByte)) (all : List Row)
       → k < length xs → x ≡ get_or xs k x
@@ -68,5 +64,5 @@ module _ {S : Type 0} (v : S → Summary) where
       ∙ ap (λ (rs : List Row). before ++ rs)
       (ap₂ (λ (x : List Row) (y : List Row). x ++ y) o
       (ap₂ (λ (ls : List Loc) (given : List (List SourceByte)). joined ls given es) r (g ∙ ap (answers_of (v x) f) r)))
-      ∙ ap (λ (ds : List Summary). before ++ joined asked answers ds) (sym (drop_at xs k x h is))
+      ∙ ap (λ (ds : List Summary). before ++ joined asked answers ds) (sym (from_here xs k x h is))
       ∙ was

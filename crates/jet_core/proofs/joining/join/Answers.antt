@@ -1,4 +1,4 @@
-use Rattle.std.proofs.Common.{◌≡◌, ◌+◌, ◌++◌, map, drop, sym, subst, ◌∙◌, ap, All}
+use Rattle.std.proofs.Common.{◌+◌, ◌++◌, map, drop, sym, subst, ◌∙◌, ap, All}
 use Rattle.flow_model.specs.Ranges.{IsLocation}
 use Rattle.epoch_model.specs.Join.{joined}
 use Rattle.local_taint.specs.Summaries.{summary_of}
