@@ -55,7 +55,7 @@ asks_locations es k h =
 -- ---- one epoch more
 
 module _ {S : Type 0} (v : S → Summary) where
-  drop_at : (xs : List S) (k : ℕ) (x : S) → k < length xs → x ≡ get_or xs k x → drop k (map v xs) ≡ v x ∷ drop (suc k) (map v xs)
+  pub drop_at : (xs : List S) (k : ℕ) (x : S) → k < length xs → x ≡ get_or xs k x → drop k (map v xs) ≡ v x ∷ drop (suc k) (map v xs)
   drop_at [] k x h is = absurd (omega arith)
   drop_at (y ∷ ys) zero x h is = ap (λ z. v z ∷ map v ys) (sym is)
   drop_at (y ∷ ys) (suc k) x h is = drop_at ys k x (omega (arith, h)) is

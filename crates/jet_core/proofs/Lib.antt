@@ -1,2 +1,6 @@
 mod More
 mod Back
+mod Members
+mod Finding
+mod Each
+mod Cuts

@@ -9,4 +9,4 @@ mod reader;
 mod walk;
 
 pub use nodes::{Entry, MergeLog, Node};
-pub use reader::{Leaf, TermsReader};
+pub use reader::{Leaf, TermsReader, ascend};

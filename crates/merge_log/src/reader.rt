@@ -137,7 +137,7 @@ fn push_starts(starts: &[Loc], leaves: &mut Vec<Leaf>) -> Result<(), NoMemory>
 }
 
 /// Makes a set of a list: its members ascending, each once.
-fn ascend<T: Ord + Copy>(items: &mut Vec<T>)
+pub fn ascend<T: Ord + Copy>(items: &mut Vec<T>)
     ensures members { (x : T) → has T.cmp x items.new.items ≡ has T.cmp x items.old.items }
     ensures ascending { Ascends T.cmp items.new.items }
 {
