@@ -87,3 +87,73 @@ fn epochs_begin_at_their_checkpoints(rt: HostRuntime) -> Result<(), Fail> {
     }
     Ok(())
 }
+
+/// The first of the buffer's bytes.
+const BUFFER: u32 = 0x1_0100;
+
+/// What an epoch's summary has for some locations at its end: their source bytes, and their start locations.
+const ENDS: [(Loc, &[SourceByte], &[Loc]); 2] = [
+    (
+        Loc::Mem { place: BUFFER },
+        &[SourceByte {
+            channel: 0,
+            offset: 0,
+        }],
+        &[],
+    ),
+    (
+        Loc::Reg { number: 5, lane: 0 },
+        &[],
+        &[Loc::Reg { number: 5, lane: 0 }],
+    ),
+];
+
+/// Whether the reader has read these.
+fn assert_read(rt: &impl Abort, reader: &TermsReader, sources: &[SourceByte], starts: &[Loc]) {
+    assert_eq!(rt; reader.sources(), sources);
+    assert_eq!(rt; reader.starts(), starts);
+}
+
+/// Whether the summary is that of the whole run.
+fn assert_summary(rt: &impl Abort, alloc: Global, summary: &Summary) -> Result<(), Fail> {
+    let mut reader = TermsReader::new(alloc);
+    assert_eq!(rt; summary.number(), 0);
+    assert_eq!(rt; summary.sink_count(), 4);
+    for i in 0..summary.sink_count() {
+        let byte = SinkByte {
+            channel: 1,
+            offset: i as u32,
+        };
+        let source = SourceByte {
+            channel: 0,
+            offset: i as u32,
+        };
+        let SinkPoint::Out(written) = summary.sink(i) else {
+            rt.abort()
+        };
+        assert_eq!(rt; written, byte);
+        summary.sink_terms(&mut reader, i)?;
+        assert_read(rt, &reader, &[source], &[]);
+    }
+    for (loc, sources, starts) in ENDS {
+        summary.end_terms(&mut reader, loc)?;
+        assert_read(rt, &reader, sources, starts);
+    }
+    Ok(())
+}
+
+#[test]
+fn an_epoch_is_analysed_by_itself(rt: HostRuntime) -> Result<(), Fail> {
+    let alloc = rt.alloc();
+    let job = job(alloc)?;
+    let query = parse(alloc, b"rule copy\nsource all\nsink all\n")?;
+    let mut tickets = cuts(job.steps(), 12)?.tickets(alloc)?;
+    let Some(ticket) = tickets.pop() else {
+        rt.abort()
+    };
+    if ticket.first() != 0 || ticket.past_last() > job.steps() {
+        rt.abort()
+    }
+    let summary = analyse(alloc, ticket, Cursor::start(alloc, &job)?, &query)?;
+    assert_summary(&rt, alloc, &summary)
+}
