@@ -7,6 +7,8 @@ mod assembly;
 #[cfg(test)]
 mod cuts;
 #[cfg(test)]
+mod epochs;
+#[cfg(test)]
 mod flows;
 #[cfg(test)]
 mod images;
