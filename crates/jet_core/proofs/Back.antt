@@ -1,5 +1,5 @@
 -- What epochs ask, from the last to the first.
-use Rattle.std.proofs.Common.{◌≡◌, ℕ, zero, suc, add-one, ◌+◌, ◌-◌, ◌<◌, ◌≤◌, List, [], ◌∷◌, ◌++◌, map, drop, length, get_or, slice_get, refl, ap, ap₂, sym, ◌∙◌, arith, length-append, Bor}
+use Rattle.std.proofs.Common.{◌≡◌, ℕ, zero, suc, ◌+◌, ◌-◌, ◌<◌, ◌≤◌, List, [], ◌∷◌, ◌++◌, map, drop, length, get_or, slice_get, refl, ap, ap₂, sym, ◌∙◌, arith, length-append, Bor}
 use Rattle.std.specs.Prelude.{Option, Some, None, All}
 use Rattle.std.specs.List.{AllByRecursion}
 use Rattle.std.specs.Option.{unwrap_or, option_copied}
@@ -37,29 +37,6 @@ latest es items (Some x) nothing requests is at none r = ap (λ b. b.now) r ∙ 
   by : (es : List Summary) → Some x.now ≡ slice_get (asked_back es) (length (asked_back es) - 1) → x.now ≡ crossing es
   by [] h = cc
   by (e ∷ es) h = let last : Some x.now ≡ Some (crossing (e ∷ es)) = h ∙ at_end (asked_back es) (crossing (e ∷ es)) in cc
-
--- ---- the list of what is asked
-
-in_front : {X : Type 0} (xs ys : List X) (i : ℕ) (x : X) → slice_get xs i ≡ Some x → slice_get (xs ++ ys) i ≡ Some x
-in_front [] ys i x h = cc
-in_front (z ∷ zs) ys zero x h = h
-in_front (z ∷ zs) ys (suc i) x h = in_front zs ys i x h
-
-pub length-asked_back : (es : List Summary) → length (asked_back es) ≡ length es
-length-asked_back [] = refl
-length-asked_back (e ∷ es) = length-append (asked_back es) (crossing (e ∷ es) ∷ []) ∙ add-one (length (asked_back es)) ∙ ap suc (length-asked_back es)
-
--- what the epochs from the k-th on ask stands at the k-th place from the end
-pub asked_at : (es : List Summary) (k : ℕ) → k < length es → slice_get (asked_back es) (length es - (k + 1)) ≡ Some (crossing (drop k es))
-asked_at [] k h = absurd (omega arith)
-asked_at (e ∷ es) zero h =
-    let there : length (asked_back es ++ crossing (e ∷ es) ∷ []) ≡ length (e ∷ es) = length-asked_back (e ∷ es) in
-    let last : suc (length es) - (0 + 1) ≡ length (asked_back es ++ crossing (e ∷ es) ∷ []) - 1 = omega (arith, there) in
-    ap (slice_get (asked_back (e ∷ es))) last ∙ at_end (asked_back es) (crossing (e ∷ es))
-asked_at (e ∷ es) (suc k) h =
-    let here : suc (length es) - (suc k + 1) ≡ length es - (k + 1) = omega arith in
-    let inside : k < length es = omega (arith, h) in
-    ap (slice_get (asked_back (e ∷ es))) here ∙ in_front (asked_back es) (crossing (e ∷ es) ∷ []) (length es - (k + 1)) (crossing (drop k es)) (asked_at es k inside)
 
 -- ---- they are locations
 

@@ -1,11 +1,10 @@
 //! What epochs ask of each other, from the last to the first.
 
-ghost use Rattle.std.specs.Prelude.{◌≡◌, ◌++◌, map, All, IfOk, OnOk};
-ghost use Rattle.std.specs.List.{flat_map};
+ghost use Rattle.std.specs.Prelude.{◌≡◌, map, All, IfOk, OnOk};
 ghost use Rattle.flow_model.specs.Ranges.{IsLocation};
 ghost use Rattle.epoch_model.specs.Crossing.{added_all, asked_by};
 ghost use Rattle.local_taint.specs.Summaries.{summary_of};
-ghost use Rattle.jet_core.specs.Asking.{AreOfOneTrace, crossings_back};
+ghost use Rattle.jet_core.specs.Asking.{AreOfOneTrace, crossings_back, sink_starts, end_starts};
 
 use local_taint::{Asked, Summary};
 use merge_log::TermsReader;
@@ -53,7 +52,7 @@ pub fn asked_by(
 
 /// Asks for the start locations of the sinks, in the order of the run.
 fn add_sinks(reader: &mut TermsReader, summary: &Summary, asked: &mut Asked) -> Result<(), NoMemory>
-    ensures { OnOk result (asked.new ≡ added_all asked.old (flat_map (λ k. k.terms.starts) (summary_of summary.now).sinks)) }
+    ensures { OnOk result (asked.new ≡ added_all asked.old (sink_starts (summary_of summary.now))) }
 {
     for number in 0..summary.sink_count() {
         summary.sink_terms(reader, number)?;
@@ -70,7 +69,7 @@ fn add_requests(
     asked: &mut Asked,
 ) -> Result<(), NoMemory>
     requires { All IsLocation requests.now }
-    ensures { OnOk result (asked.new ≡ added_all asked.old (flat_map (λ l. ((summary_of summary.now).ends l).starts) requests.now)) }
+    ensures { OnOk result (asked.new ≡ added_all asked.old (end_starts (summary_of summary.now) requests.now)) }
 {
     for place in 0..requests.count() {
         summary.end_terms(reader, requests.get(place))?;
