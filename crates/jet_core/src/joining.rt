@@ -15,9 +15,9 @@ use no_memory::NoMemory;
 use sink_collect::{SinkSet, SinkSets};
 use std::alloc::Global;
 
-/// The rows of all epochs, where this is what they ask at the cuts, from the last cut to the first. The epochs are those
-/// of a run, in its order, and what each answers rests on the answers of the one before it. It gives up with NoMemory
-/// alone.
+/// The rows of all epochs, where this is what they ask at the cuts, from the last cut to the first. The epochs are
+/// those of a run, in its order, and what each answers rests on the answers of the one before it. It gives up with
+/// NoMemory alone.
 pub fn join(alloc: Global, summaries: &[Summary], crossings: &[Asked]) -> Result<SinkSets, NoMemory>
     requires trace { AreOfOneTrace (map summary_of summaries.now) }
     requires crossings { crossings.now ≡ crossings_back (map summary_of summaries.now) }

@@ -17,8 +17,8 @@ use std::alloc::Global;
 /// The source bytes of the terms that were read last, ascending, where this was asked and these are the answers. It
 /// fails only where there is no memory.
 ///
-/// Room is taken for about twice the source bytes of the result and for those of one answer, however many of the start
-/// locations have the same answer.
+/// However many start locations have the same answer, it has room for few more than three times the source bytes of the
+/// result at once, and the result takes no more than it needs.
 pub fn resolved(
     alloc: Global,
     terms: &TermsReader,
@@ -37,15 +37,16 @@ pub fn resolved(
     Ok(gathered.into_set())
 }
 
-/// Source bytes from several sets, of which fewer than half stand twice wherever they are many.
+/// Source bytes that are gathered from sets. Those that stand twice are left out at the end, and before that whenever
+/// there are twice as many as were left the last time.
 #[derive(Drop)]
 struct Gathered {
     bytes: Vec<SourceByte>,
-    /// how many there may be until those that stand twice are left out
+    /// how many there may be until then
     most: usize,
 }
 
-/// Up to so many source bytes none is left out before the end.
+/// Up to so many source bytes all are kept until the end.
 const FEW: usize = 64;
 
 impl Gathered {
@@ -70,13 +71,14 @@ impl Gathered {
         Ok(())
     }
 
-    /// The set of all that was added.
+    /// The set of all that was added, in no more room than it needs.
     fn into_set(self) -> Vec<SourceByte>
         ensures members { (b : Source) → has source_cmp b result.items ≡ has source_cmp b self.bytes.items }
         ensures ascending { Ascends source_cmp result.items }
     {
         let mut bytes = self.bytes;
         ascend(&mut bytes);
+        bytes.shrink_to_fit();
         bytes
     }
 }
