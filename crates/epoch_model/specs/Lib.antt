@@ -3,6 +3,5 @@ pub mod Cutting
 pub mod Summary
 pub mod Crossing
 pub mod Join
-pub mod PointLaws
 pub mod StretchLaws
 pub mod JoinLaws
