@@ -1,0 +1,15 @@
+mod Lanes
+mod Bytes
+mod Window
+mod Sets
+mod Targets
+mod Operands
+mod Behind
+mod Table
+mod Products
+mod Decoded
+mod Sound
+mod Calls
+mod Steps
+mod Single
+mod Nested

@@ -1,0 +1,34 @@
+//! Laws of the definitions: each is the contract of a function that does nothing.
+
+ghost use Rattle.flow_model.specs.declared.Rule.TheVariants.{Copy, Compute, Index};
+ghost use Rattle.flow_meaning.specs.StepLaws.{StaysSound, CopyIsSingle, CopyMoves, DeterminedBy, ReceivedIsThere, FlowsWithin};
+ghost use Rattle.flow_meaning.specs.RunLaws.{OriginsWithin};
+
+/// A step leaves a sound state sound: 32 registers of words, of which the first is 0, and a window of bytes.
+pub fn steps_stay_sound()
+    ensures { StaysSound }
+{}
+
+/// What flows by copy is the very byte: at most one location flows into another, and the content after the step is that
+/// location's before it.
+pub fn copy_moves()
+    ensures single { CopyIsSingle }
+    ensures step { CopyMoves }
+{}
+
+/// What flows by compute determines the content after the step, unless the step receives it, among steps with one
+/// effective address. What flows by index determines it among those too that load from other addresses.
+pub fn flow_determines()
+    ensures compute { DeterminedBy Compute }
+    ensures index { DeterminedBy Index }
+    ensures received { ReceivedIsThere }
+{}
+
+/// The rules nest: what flows by copy flows by compute, and what flows by compute flows by index, in each step. So it is
+/// with the origins of each location, at each time and in each trace.
+pub fn rules_nest()
+    ensures copied { FlowsWithin Copy Compute }
+    ensures computed { FlowsWithin Compute Index }
+    ensures copied_origins { OriginsWithin Copy Compute }
+    ensures computed_origins { OriginsWithin Compute Index }
+{}
