@@ -13,3 +13,9 @@ mod Calls
 mod Steps
 mod Single
 mod Nested
+mod Done
+mod Transferred
+mod After
+mod Runs
+mod Rows
+mod Beginning
