@@ -8,7 +8,7 @@ use Rattle.std.proofs.lemmas.Int.{ints}
 use Rattle.isa.specs.declared.CallKind.{CallKind}
 use Rattle.isa.specs.declared.CallKind.TheVariants as kind
 use Rattle.isa.specs.Machine.{State, reg, overwritten, as_word, wrap}
-use Rattle.isa.specs.Calls.{channel_of, buffer_of, no_such_call, after_read, after_write, after_clock, after_other, after_exit}
+use Rattle.isa.specs.Calls.{channel_of, buffer_of, no_such_call, after_read, after_clock, after_exit}
 use Rattle.log_model.specs.declared.CallRecord.{CallRecord}
 use Rattle.log_model.specs.declared.CallRecord.TheVariants.{Read, Write, Clock, Other}
 use Rattle.log_model.specs.Moved.{received}

@@ -19,3 +19,5 @@ mod After
 mod Runs
 mod Rows
 mod Beginning
+mod Matters
+mod Worked

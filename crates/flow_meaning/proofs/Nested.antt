@@ -1,12 +1,12 @@
 -- The rules nest: what flows by copy flows by compute, and what flows by compute flows by index.
-use Rattle.std.proofs.Common.{◌≡◌, ℕ, zero, suc, ◌+◌, ◌-◌, Bool, true, false, cond, List, [], ◌∷◌, map, refl, sym, ◌∙◌, ap, ℤ, pos, Option, Some, None}
+use Rattle.std.proofs.Common.{◌≡◌, ℕ, zero, suc, ◌+◌, ◌-◌, Bool, true, false, cond, List, [], ◌∷◌, map, refl, sym, ◌∙◌, ℤ, pos, Option, Some, None}
 use Rattle.std.specs.Prelude.{◌==◌, nat_lt, if◌then◌else◌, ◌||◌}
 use Rattle.std.specs.Ordering.{int_eq}
 use Rattle.std.specs.List.{range_with_len}
 use Rattle.isa.specs.declared.Instr.{Instr}
 use Rattle.isa.specs.declared.Instr.TheVariants.{Lui, Auipc, Jal, Jalr, Beq, Bne, Blt, Bge, Bltu, Bgeu, Lb, Lh, Lw, Lbu, Lhu, Sb, Sh, Sw, Addi, Slti, Sltiu, Xori, Ori, Andi, Slli, Srli, Srai, Add, Sub, Sll, Slt, Sltu, Xor, Srl, Sra, Or, And, Mul, Mulh, Mulhsu, Mulhu, Div, Divu, Rem, Remu, Fence, Ecall, Ebreak}
 use Rattle.isa.specs.Machine.{wrap}
-use Rattle.sorted_set.specs.Sets.{union, has}
+use Rattle.sorted_set.specs.Sets.{has}
 use Rattle.sorted_set.proofs.Algebra.{has-union, has-Contains, Contains-has}
 use Rattle.flow_model.specs.declared.Loc.{Loc}
 use Rattle.flow_model.specs.declared.Loc.TheVariants.{Reg, Mem}
@@ -15,13 +15,13 @@ use Rattle.flow_model.specs.declared.Rule.TheVariants.{Copy, Compute, Index}
 use Rattle.flow_model.specs.declared.SourceByte.{SourceByte}
 use Rattle.flow_model.specs.declared.StepSeen.{StepSeen}
 use Rattle.flow_model.specs.declared.CallSeen.{CallSeen}
-use Rattle.flow_model.specs.Orders.{source_cmp, loc_cmp}
+use Rattle.flow_model.specs.Orders.{source_cmp}
 use Rattle.flow_model.specs.Flow.{flow, from, from_call, from_instruction_or, origins_by, loc_eq, to_register, to_memory, nothing, computed, with_base, byte_of, lane, lanes, loaded_byte, signed_load, moved_or, each_lane, all_lanes, shifted_lanes, in_first_lane}
-use Rattle.flow_model.specs.Origins.{Policy, origins, fresh, union_over, after_step, step_at}
+use Rattle.flow_model.specs.Origins.{origins, fresh, union_over, after_step, step_at}
 use Rattle.flow_model.proofs.Orders.{source_total, source_same, loc_total, loc_same}
 use Rattle.flow_meaning.specs.StepLaws.{FlowsWithin}
 use Rattle.flow_meaning.specs.RunLaws.{under, OriginsWithin}
-use Rattle.flow_meaning.proofs.Sets.{Within, within_same, within_none, within_union, over_within, or_true}
+use Rattle.flow_meaning.proofs.Sets.{Within, within_same, within_none, within_union, over_within}
 
 -- what two rules say of each kind of flow
 pub record Nest (few many : Rule) : Type 0 where

@@ -1,10 +1,6 @@
 -- Operands: what it says of two states that they agree at the lanes of registers, and what moves and operations carry.
 use Rattle.std.proofs.Common.{◌≡◌, ℕ, zero, suc, ◌+◌, ◌-◌, ◌*◌, ◌^◌, ◌%◌, ◌<◌, ◌≤◌, ◌⊎◌, inl, inr, Bool, true, false, cond, List, [], ◌∷◌, refl, arith, ap, ap₂, sym, ◌∙◌, subst, length, get_or, eqb-true, ltb-true, ltb-false, drop, length-take, get_or-take, get_or-drop, mod-eq_of_lt, ℤ}
 use Rattle.std.specs.Prelude.{◌==◌, nat_lt, if◌then◌else◌}
-use Rattle.std.specs.List.{AllByRecursion}
-use Rattle.std.specs.FinMap.{IsAntisymmetric}
-use Rattle.std.specs.declared.cmp.Ordering.{Ordering}
-use Rattle.std.specs.declared.cmp.Ordering.TheVariants.{Less, Equal, Greater}
 use Rattle.std.proofs.lemmas.List.{get_or_past}
 use Rattle.std.proofs.lemmas.Bool.{cases_lt}
 use Rattle.isa.specs.Machine.{State, reg, flag, bytes_at, little_endian, sign_extended, low_bytes, effective_address, as_word, wrap}
@@ -12,8 +8,6 @@ use Rattle.flow_model.specs.declared.Loc.{Loc}
 use Rattle.flow_model.specs.declared.Loc.TheVariants.{Reg, Mem}
 use Rattle.flow_model.specs.declared.Rule.{Rule}
 use Rattle.flow_model.specs.declared.Rule.TheVariants.{Copy, Compute, Index}
-use Rattle.sorted_set.specs.Sets.{union, inserted, placed}
-use Rattle.flow_model.specs.Orders.{loc_cmp}
 use Rattle.flow_model.specs.Flow.{lane, lanes, computed, in_first_lane, with_base, byte_of, loaded_byte, signed_load, moved_or, each_lane, all_lanes, shifted_lanes}
 use Rattle.flow_model.proofs.Orders.{loc_same}
 use Rattle.flow_meaning.specs.Content.{content, lane_of, byte_in, AgreeAt, IsSound}

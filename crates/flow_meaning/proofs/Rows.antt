@@ -7,7 +7,6 @@ use Rattle.isa.specs.declared.CallKind.TheVariants as kind
 use Rattle.isa.specs.Machine.{State}
 use Rattle.log_model.specs.Logs.{Log, steps}
 use Rattle.sorted_set.proofs.Algebra.{All-set_of}
-use Rattle.flow_model.specs.declared.Loc.{Loc}
 use Rattle.flow_model.specs.declared.Rule.{Rule}
 use Rattle.flow_model.specs.declared.Rule.TheVariants.{Copy}
 use Rattle.flow_model.specs.declared.InnerSink.{InnerSink}
@@ -20,7 +19,7 @@ use Rattle.report_model.specs.Query.{Query, has_source, has_sink}
 use Rattle.report_model.specs.Rows.{Sink, sink_at, sinks_of_call, sinks_of_step, point_sink, points_at, sinks_from, chosen_sinks, Row, row, rows, rows_as_written, row_cmp}
 use Rattle.replay_model.specs.Run.{Moment, start, advance, moment_after, step_of, steps_from, trace, call_seen}
 use Rattle.flow_meaning.specs.Content.{content}
-use Rattle.flow_meaning.specs.StepLaws.{SameStep, DeterminedBy}
+use Rattle.flow_meaning.specs.StepLaws.{DeterminedBy}
 use Rattle.flow_meaning.specs.RunLaws.{IsRun, moment_at, content_at, byte_at_sink, under, AlikeAt, AlikeElsewhere, SamePath, IsCopied, CopiedRows, DeterminedRows}
 use Rattle.flow_meaning.proofs.Steps.{Does, Plain, Calls, does, same_call}
 use Rattle.flow_meaning.proofs.Done.{on_track, done_at, sound_at}

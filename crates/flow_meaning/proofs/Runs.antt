@@ -18,8 +18,8 @@ use Rattle.flow_model.specs.Origins.{Policy, origins, introduced, byte_at, union
 use Rattle.replay_model.specs.Run.{Moment, start, advance, moment_after, step_of, steps_from, trace, call_seen}
 use Rattle.replay_model.proofs.Offsets.{step_at_from, moment_later}
 use Rattle.flow_meaning.specs.Content.{content, AgreeAt}
-use Rattle.flow_meaning.specs.StepLaws.{SameStep, DeterminedBy, receives, receives_by, bytes_given}
-use Rattle.flow_meaning.specs.RunLaws.{IsRun, byte_received, moment_at, content_at, under, AlikeAt, AlikeElsewhere, IsCopied, NoOrigin, OneOrigin, SamePath, CopiedContents, SamePathSameTrace, DeterminedContents}
+use Rattle.flow_meaning.specs.StepLaws.{DeterminedBy, receives, bytes_given}
+use Rattle.flow_meaning.specs.RunLaws.{IsRun, byte_received, moment_at, content_at, under, AlikeElsewhere, IsCopied, NoOrigin, OneOrigin, SamePath, CopiedContents, SamePathSameTrace, DeterminedContents}
 use Rattle.flow_meaning.proofs.Window.{byte_beyond}
 use Rattle.flow_meaning.proofs.Single.{IsPlace, AtMostOne, Nothing, One, single_place}
 use Rattle.flow_meaning.proofs.Steps.{Does, Plain, Calls, does, same_call, copy_moves, received_is_there}

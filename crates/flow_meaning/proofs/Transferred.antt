@@ -1,5 +1,5 @@
 -- Which bytes of a log a call moves: those after the bytes that the records before it moved on its channel.
-use Rattle.std.proofs.Common.{◌≡◌, ℕ, zero, suc, ◌+◌, ◌^◌, ◌<◌, ◌≤◌, Bool, true, false, List, [], ◌∷◌, ◌++◌, length, get_or, None, refl, arith, ap, sym, ◌∙◌, ℤ, pos, append_assoc, get_or-append-add, ltb-true, mod-eq_of_lt}
+use Rattle.std.proofs.Common.{◌≡◌, ℕ, zero, suc, ◌+◌, ◌^◌, ◌<◌, ◌≤◌, Bool, true, false, List, [], ◌∷◌, ◌++◌, length, get_or, None, refl, arith, ap, sym, ◌∙◌, ℤ, pos, get_or-append-add, ltb-true, mod-eq_of_lt}
 use Rattle.std.specs.Prelude.{◌==◌, if◌then◌else◌}
 use Rattle.std.proofs.lemmas.Bool.{eq-eqb}
 use Rattle.std.proofs.lemmas.List.{get_or_append_left}
@@ -9,7 +9,7 @@ use Rattle.isa.specs.Calls.{channel_of, buffer_of, refusal_of}
 use Rattle.log_model.specs.declared.CallRecord.{CallRecord}
 use Rattle.log_model.specs.declared.CallRecord.TheVariants.{Read, Write, Clock, Other}
 use Rattle.log_model.specs.Logs.{Log}
-use Rattle.log_model.specs.Moved.{received_by, received, written_by, written}
+use Rattle.log_model.specs.Moved.{received, written}
 use Rattle.log_model.proofs.Moved.{received-append, written-append}
 use Rattle.flow_model.specs.declared.Loc.TheVariants.{Mem}
 use Rattle.flow_model.specs.Flow.{is_received, distance}
@@ -21,10 +21,10 @@ use Rattle.replay_model.specs.Comparison.{result as result_compared}
 use Rattle.replay_model.specs.declared.Field.TheVariants as field
 use Rattle.replay_model.proofs.Agreement.{first_agrees, rest_agrees}
 use Rattle.replay_model.proofs.Offsets.{transfer_offset}
-use Rattle.replay_model.proofs.Transfers.{read_held, write_held}
+use Rattle.replay_model.proofs.Transfers.{write_held}
 use Rattle.flow_meaning.specs.Content.{content, IsSound}
 use Rattle.flow_meaning.specs.StepLaws.{IsAnswered, bytes_given}
-use Rattle.flow_meaning.specs.RunLaws.{byte_received, byte_written, byte_at_sink}
+use Rattle.flow_meaning.specs.RunLaws.{byte_received, byte_at_sink}
 use Rattle.flow_meaning.proofs.Window.{holds_by, bytes_length, byte_of_window}
 
 no : {A : Type 0} → true ≡ false → A
