@@ -10,9 +10,7 @@ use Rattle.flow_model.specs.Orders.{source_cmp}
 use Rattle.flow_model.specs.Flow.{from, is_received}
 use Rattle.flow_model.specs.Origins.{Policy, introduced, fresh_by, byte_at, union_over, after_step}
 use Rattle.flow_meaning.specs.StepLaws.{receives, receives_by}
-
-no : {A : Type 0} → true ≡ false → A
-no e = cc
+use Rattle.flow_meaning.proofs.Never.{no}
 
 pub record Receives (step : StepSeen) (l : Loc) : Type 0 where
   pub call : CallSeen

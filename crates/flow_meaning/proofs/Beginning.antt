@@ -13,12 +13,10 @@ use Rattle.log_model.specs.Logs.{Log}
 use Rattle.replay_model.specs.Fits.{beginning, start_in_image}
 use Rattle.flow_meaning.specs.Content.{IsSound}
 use Rattle.flow_meaning.specs.RunLaws.{FitsMakesRun}
+use Rattle.flow_meaning.proofs.Never.{no, none_is}
 use Rattle.flow_meaning.proofs.Bytes.{AreBytes}
 use Rattle.flow_meaning.proofs.Window.{over_length}
 use Rattle.flow_meaning.proofs.Sound.{put_bytes}
-
-no : {A : Type 0} → true ≡ false → A
-no e = cc
 
 -- ---- segments
 
@@ -152,20 +150,14 @@ sound_start im pages s g e = by (can_hold im pages) refl e
           ends = omega arith;
         } in
         subst IsSound same sound
-    by false f e = absurd (none e)
-      where
-        none : None ≡ Some s → ⊥
-        none e = cc
+    by false f e = none_is e
 
 begins_sound : (program : List ℕ) (log : Log) (s : State) → AllByRecursion (λ b. b < 256) program → beginning program log ≡ Some s → IsSound s
 begins_sound program log s b e = by (image program) refl e
   where
     by : (r : Result Image ImageKind) → image program ≡ r → start_in_image r log.pages ≡ Some s → IsSound s
     by (Ok im) f e = sound_start im log.pages s (good_image program im (file_bytes program b) f) e
-    by (Err fault) f e = absurd (none e)
-      where
-        none : None ≡ Some s → ⊥
-        none e = cc
+    by (Err fault) f e = none_is e
 
 pub fits_makes_run : FitsMakesRun
 fits_makes_run program log b form f = record { form = form; sound = begins_sound program log f.start b f.begins; agrees = f.agrees }

@@ -22,14 +22,12 @@ use Rattle.replay_model.specs.Comparison.{call_event}
 use Rattle.replay_model.proofs.Transfers.{read_held}
 use Rattle.flow_meaning.specs.Content.{content, lane_of, byte_in, IsSound}
 use Rattle.flow_meaning.specs.StepLaws.{IsAnswered, words_given}
+use Rattle.flow_meaning.proofs.Never.{negative_word}
 use Rattle.flow_meaning.proofs.Bytes.{AreBytes}
 use Rattle.flow_meaning.proofs.Window.{Holds, holds_by, put_in, put_out, over_nothing}
 use Rattle.flow_meaning.proofs.Targets.{Carries, carry, kept, to_set, set_in, put_at}
-use Rattle.flow_meaning.proofs.Operands.{still}
+use Rattle.flow_meaning.proofs.Operands.{still, same_value}
 use Rattle.flow_meaning.proofs.Sound.{sound_set, sound_put, sound_pc}
-
-no : {A : Type 0} → true ≡ false → A
-no e = cc
 
 -- ---- the buffer of a read
 
@@ -83,11 +81,8 @@ Same a b = a ≡ b
 
 -- two calls with one effect
 module _ {s t : State} (ss : IsSound s) (st : IsSound t) {rule : Rule} {P : List Loc → ℕ → ℕ → Type 0} (c : Carries s t rule P) where
-  same_value : (v w i : ℕ) → v ≡ w → P (nothing i) (lane_of v i) (lane_of w i)
-  same_value v w i e = still ss st c (lane_of v i) (lane_of w i) (ap (λ (x : ℕ). lane_of x i) e)
-
   result_carries : (v w : ℕ) (l : Loc) → v ≡ w → P (origins_by (to_register 10 nothing) l) (content (set_in s (wrap (s.pc + 4)) 10 v) l) (content (set_in t (wrap (t.pc + 4)) 10 w) l)
-  result_carries v w l e = to_set c 10 v w (wrap (s.pc + 4)) (wrap (t.pc + 4)) nothing ss st (omega arith) (λ i h. same_value v w i e) l
+  result_carries v w l e = to_set c 10 v w (wrap (s.pc + 4)) (wrap (t.pc + 4)) nothing ss st (omega arith) (λ i h. same_value ss st c v w i e) l
 
   read_carries : (v w : ℤ) (a b : ℕ) (xs ys : List ℕ) (l : Loc) → as_word v ≡ as_word w → HasRoom s a xs → HasRoom t b ys → ((q : ℕ) → l ≡ Mem q → nat_lt (distance a q) (length xs) ≡ false) → ((q : ℕ) → l ≡ Mem q → nat_lt (distance b q) (length ys) ≡ false)
       → P (origins_by (cleared kind.Read) l) (content (after_read s a v xs) l) (content (after_read t b w ys) l)
@@ -97,9 +92,6 @@ module _ {s t : State} (ss : IsSound s) (st : IsSound t) {rule : Rule} {P : List
       (unread s.base s.memory a xs q ss.ends hs (f q refl)) (unread t.base t.memory b ys q st.ends ht (g q refl)) (c.self (Mem q))
 
   -- the clock sets two registers
-  clock_registers : List ℕ → ℕ → ℕ → List ℕ
-  clock_registers xs v w = slice_set (slice_set xs 10 v) 11 w
-
   at_ten : (xs : List ℕ) (v w i : ℕ) → length xs ≡ 32 → lane_of (get_or (slice_set (slice_set xs 10 v) 11 w) 10 0) i ≡ lane_of v i
   at_ten xs v w i h = ap (λ (x : ℕ). lane_of x i) (get_or-set_other (slice_set xs 10 v) 11 10 w 0 (λ e. omega arith) ∙ get_or-set_same xs 10 v 0 (omega arith))
 
@@ -113,7 +105,7 @@ module _ {s t : State} (ss : IsSound s) (st : IsSound t) {rule : Rule} {P : List
   clock_carries x y (Reg r i) e f = by (10 == r) refl
     where
       high : (i : ℕ) → P (origins_by (to_register 11 nothing) (Reg r i)) (lane_of (get_or (slice_set s.registers 11 (x / 2 ^ 32)) r 0) i) (lane_of (get_or (slice_set t.registers 11 (y / 2 ^ 32)) r 0) i)
-      high i = to_set c 11 (x / 2 ^ 32) (y / 2 ^ 32) (wrap (s.pc + 4)) (wrap (t.pc + 4)) nothing ss st (omega arith) (λ j h. same_value (x / 2 ^ 32) (y / 2 ^ 32) j f) (Reg r i)
+      high i = to_set c 11 (x / 2 ^ 32) (y / 2 ^ 32) (wrap (s.pc + 4)) (wrap (t.pc + 4)) nothing ss st (omega arith) (λ j h. same_value ss st c (x / 2 ^ 32) (y / 2 ^ 32) j f) (Reg r i)
 
       none : (v w : ℕ) → v ≡ w → P [] v w
       none v w e = still ss st c v w e
@@ -127,10 +119,10 @@ module _ {s t : State} (ss : IsSound s) (st : IsSound t) {rule : Rule} {P : List
       first false false false false ls v w e h = h
 
       ten : (i : ℕ) → P (cond (0 == i) [] (cond (1 == i) [] (cond (2 == i) [] (cond (3 == i) [] (origins_by (to_register 11 nothing) (Reg r i)))))) (lane_of (x % 2 ^ 32) i) (lane_of (y % 2 ^ 32) i)
-      ten zero = same_value (x % 2 ^ 32) (y % 2 ^ 32) 0 e
-      ten (suc zero) = same_value (x % 2 ^ 32) (y % 2 ^ 32) 1 e
-      ten (suc (suc zero)) = same_value (x % 2 ^ 32) (y % 2 ^ 32) 2 e
-      ten (suc (suc (suc zero))) = same_value (x % 2 ^ 32) (y % 2 ^ 32) 3 e
+      ten zero = same_value ss st c (x % 2 ^ 32) (y % 2 ^ 32) 0 e
+      ten (suc zero) = same_value ss st c (x % 2 ^ 32) (y % 2 ^ 32) 1 e
+      ten (suc (suc zero)) = same_value ss st c (x % 2 ^ 32) (y % 2 ^ 32) 2 e
+      ten (suc (suc (suc zero))) = same_value ss st c (x % 2 ^ 32) (y % 2 ^ 32) 3 e
       ten (suc (suc (suc (suc i)))) = let j : ℕ = suc (suc (suc (suc i))) in first (0 == j) (1 == j) (2 == j) (3 == j) (origins_by (to_register 11 nothing) (Reg r j)) 0 0 refl (high j)
 
       by : (b : Bool) → (10 == r) ≡ b → P (cond (b && (0 == i)) [] (cond (b && (1 == i)) [] (cond (b && (2 == i)) [] (cond (b && (3 == i)) [] (origins_by (to_register 11 nothing) (Reg r i))))))
@@ -188,10 +180,7 @@ are_bytes (b ∷ bs) h (suc k) = are_bytes bs h.1 k
 
 result_word : (z : ℤ) → z <ℤ pos (2 ^ 31) → as_word z < 2 ^ 32
 result_word (pos n) h = let x : pos n <ℤ pos 2147483648 = h in omega (arith, ints)
-result_word (negsuc n) h = wide n
-  where
-    wide : (n : ℕ) → 2 ^ 32 - suc n < 2 ^ 32
-    wide n = omega arith
+result_word (negsuc n) h = negative_word n
 
 read_sound : (s : State) (p a : ℕ) (bytes : List ℕ) → IsSound s → HasRoom s a bytes → AreBytes bytes → IsSound (put_at s p a bytes)
 read_sound s p a bytes h (inl e) b =

@@ -1,5 +1,5 @@
 -- What is true of the instructions that words stand for: the register that is set is one of 32, and an immediate is a word.
-use Rattle.std.proofs.Common.{◌≡◌, ℕ, suc, ◌-◌, ◌*◌, ◌^◌, ◌%◌, ◌<◌, Bool, true, false, List, [], ◌∷◌, refl, arith, subst, pos, negsuc, Option, Some, None}
+use Rattle.std.proofs.Common.{◌≡◌, ℕ, ◌-◌, ◌*◌, ◌^◌, ◌%◌, ◌<◌, Bool, true, false, List, [], ◌∷◌, refl, arith, subst, pos, negsuc, Option, Some, None}
 use Rattle.std.specs.Prelude.{◌==◌, nat_lt, if◌then◌else◌}
 use Rattle.std.specs.List.{AllByRecursion}
 use Rattle.std.specs.Option.{option_and_then, option_map}
@@ -7,6 +7,7 @@ use Rattle.isa.specs.declared.Instr.{Instr}
 use Rattle.isa.specs.declared.Instr.TheVariants.{Lui, Auipc, Jal, Jalr, Beq, Bne, Blt, Bge, Bltu, Bgeu, Lb, Lh, Lw, Lbu, Lhu, Sb, Sh, Sw, Addi, Slti, Sltiu, Xori, Ori, Andi, Slli, Srli, Srai, Add, Sub, Sll, Slt, Sltu, Xor, Srl, Sra, Or, And, Mul, Mulh, Mulhsu, Mulhu, Div, Divu, Rem, Remu, Fence, Ecall, Ebreak}
 use Rattle.isa.specs.Words.{field, signed, rd, funct3, imm_i, imm_u, imm_j, entry, branches, loads, stores, immediates, shifts, operations, jumps, fences, systems, looked_up, funct7_funct3, immediate, opcodes, opcode, instruction_of}
 use Rattle.isa.specs.Machine.{as_word, State, fetch, fetch_if, decoded, Fetched, OutsideWindow, Illegal, in_window, little_endian, bytes_at}
+use Rattle.flow_meaning.proofs.Never.{none_is, negative_word}
 use Rattle.flow_meaning.proofs.Table.{sets}
 
 -- the immediate that is set, or an operand of a bitwise operation, as a word
@@ -70,10 +71,7 @@ signed_word n v h = by (nat_lt v (2 ^ (n - 1)))
   where
     by : (b : Bool) → as_word (if b then pos v else negsuc (2 ^ n - 1 - v)) < 2 ^ 32
     by true = h
-    by false = let m : ℕ = 2 ^ n - 1 - v in wide m
-      where
-        wide : (m : ℕ) → 2 ^ 32 - suc m < 2 ^ 32
-        wide m = omega arith
+    by false = negative_word (2 ^ n - 1 - v)
 
 rd_small : (w : ℕ) → rd w < 32
 rd_small w = omega arith
@@ -91,10 +89,7 @@ chosen true x y o Q h g e = let same : x ≡ y = cc in subst Q same h
 chosen false x y o Q h g e = g e
 
 entry_all : {X : Type 0} (Q : X → Type 0) (rows : List (ℕ × X)) (k : ℕ) (x : X) → AllByRecursion (λ row. Q row.1) rows → entry rows k ≡ Some x → Q x
-entry_all Q [] k x h e = absurd (none e)
-  where
-    none : None ≡ Some x → ⊥
-    none e = cc
+entry_all Q [] k x h e = none_is e
 entry_all Q (row ∷ rows) k x h e = chosen (row.0 == k) row.1 x (entry rows k) Q h.0 (entry_all Q rows k x h.1) e
 
 -- what a row makes of each word
@@ -102,10 +97,7 @@ abbrev MakesInRange : (ℕ → Instr) → Type 0
 MakesInRange make = (w : ℕ) → InRange (make w)
 
 mapped : (o : Option (ℕ → Instr)) (w : ℕ) (i : Instr) → ((make : ℕ → Instr) → o ≡ Some make → MakesInRange make) → option_map (λ make. make w) o ≡ Some i → InRange i
-mapped None w i h e = absurd (none e)
-  where
-    none : None ≡ Some i → ⊥
-    none e = cc
+mapped None w i h e = none_is e
 mapped (Some make) w i h e = let same : make w ≡ i = cc in subst InRange same (h make refl w)
 
 looked : (table : List (ℕ × (ℕ → Instr))) → AllByRecursion (λ row. MakesInRange row.1) table → (k w : ℕ) (i : Instr) → looked_up table k w ≡ Some i → InRange i
@@ -185,10 +177,7 @@ opcodes_range = (
 )
 
 row_found : (o : Option (ℕ → Option Instr)) (w : ℕ) (i : Instr) → ((row : ℕ → Option Instr) → o ≡ Some row → RowInRange row) → option_and_then (λ row. row w) o ≡ Some i → InRange i
-row_found None w i h e = absurd (none e)
-  where
-    none : None ≡ Some i → ⊥
-    none e = cc
+row_found None w i h e = none_is e
 row_found (Some row) w i h e = h row refl w i e
 
 -- each instruction that a word stands for

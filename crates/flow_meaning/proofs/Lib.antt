@@ -1,3 +1,4 @@
+mod Never
 mod Lanes
 mod Bytes
 mod Window

@@ -1,40 +1,41 @@
--- Which origins of the compute table can matter: for each of them two states that differ there alone, and a content that
--- then differs. docs/MEANING.md has the table that these examples make up.
-use Rattle.std.proofs.Common.{◌≡◌, ℕ, ◌+◌, ◌-◌, ◌*◌, ◌^◌, Bool, false, not, ◌||◌, ◌&&◌, List, [], ◌∷◌, map, refl, pos, negsuc, replicate}
+-- The flow table against values. Each origin of the compute table can matter, but for those that docs/MEANING.md tells: two
+-- states differ there alone, and the target's contents after the instruction differ. And what matters is listed.
+use Rattle.std.proofs.Common.{◌≡◌, ℕ, ◌+◌, ◌-◌, ◌*◌, ◌^◌, Bool, true, false, not, ◌||◌, ◌&&◌, List, [], ◌∷◌, ◌++◌, map, refl, pos, negsuc, replicate}
 use Rattle.std.specs.Prelude.{◌==◌, nat_lt, nat_le, slice_set}
-use Rattle.std.specs.List.{filter, flat_map, list_any, range_with_len}
+use Rattle.std.specs.List.{filter, flat_map, list_all, list_any, range_with_len}
 use Rattle.std.specs.Int.{w32, to_le_bytes}
 use Rattle.isa.specs.declared.Instr.{Instr}
 use Rattle.isa.specs.declared.Instr.TheVariants.{Lb, Lh, Lw, Lbu, Lhu, Sb, Sh, Sw, Addi, Slti, Sltiu, Xori, Ori, Andi, Slli, Srli, Srai, Add, Sub, Sll, Slt, Sltu, Xor, Srl, Sra, Or, And, Mul, Mulh, Mulhsu, Mulhu, Div, Divu, Rem, Remu}
 use Rattle.isa.specs.Machine.{State, Outcome, Retired, Called, Trapped, reg, execute, effect_of, place_of}
 use Rattle.flow_model.specs.declared.Loc.{Loc}
 use Rattle.flow_model.specs.declared.Loc.TheVariants.{Reg, Mem}
-use Rattle.flow_model.specs.declared.Rule.TheVariants.{Compute}
-use Rattle.flow_model.specs.Flow.{flow}
+use Rattle.flow_model.specs.declared.Rule.{Rule}
+use Rattle.flow_model.specs.declared.Rule.TheVariants.{Copy, Compute, Index}
+use Rattle.flow_model.specs.Flow.{Target, flow, origins_by, loc_eq}
 use Rattle.flow_meaning.specs.Content.{content, lane_of}
 
 -- ---- two states that differ at one location
 
--- x1 and x2 have these words, and so has memory from 64 on; x4 is 64
+-- x1 and x2 have these words, and so has memory
 abbrev state_of : ℕ → ℕ → State
-state_of v w = record { pc = 0; registers = 0 ∷ v ∷ w ∷ 0 ∷ 64 ∷ replicate 27 0; base = 64; memory = to_le_bytes w32 v }
+state_of v w = record { pc = 0; registers = 0 ∷ v ∷ w ∷ replicate 29 0; base = 0; memory = to_le_bytes w32 v ++ to_le_bytes w32 w }
 
 -- the state with another byte at a location
 abbrev with_byte : State → Loc → ℕ → State
 with_byte s (Reg r i) b = record s { registers = slice_set s.registers r (reg s r - lane_of (reg s r) i * 256 ^ i + b * 256 ^ i) }
 with_byte s (Mem p) b = record s { memory = slice_set s.memory (p - s.base) b }
 
-abbrev state_in : State → Outcome → State
-state_in s (Retired t) = t
-state_in s (Called call) = s
-state_in s (Trapped kind) = s
-
-abbrev after : Instr → State → State
-after i s = state_in s (execute s (effect_of s i))
+-- where both retire, they leave other contents
+abbrev leave_others : Loc → Outcome → Outcome → Bool
+leave_others target (Retired s) (Retired t) = not (content s target == content t target)
+leave_others target (Retired s) (Called call) = false
+leave_others target (Retired s) (Trapped kind) = false
+leave_others target (Called call) o = false
+leave_others target (Trapped kind) o = false
 
 -- the target's content after the instruction is another where the origin has this byte
 abbrev differs : Instr → Loc → Loc → State → ℕ → Bool
-differs i target origin s b = not (content (after i s) target == content (after i (with_byte s origin b)) target)
+differs i target origin s b = let t = with_byte s origin b in leave_others target (execute s (effect_of s i)) (execute t (effect_of t i))
 
 abbrev tried : List State
 tried =
@@ -47,9 +48,12 @@ matters i target origin = list_any (λ s. list_any (differs i target origin s) (
 
 -- ---- the table
 
+abbrev table : Rule → Instr → List Target
+table rule i = flow rule i (place_of (state_of 0 0) i)
+
 -- each target with each of its origins
 abbrev listed : Instr → List (Loc × Loc)
-listed i = flat_map (λ t. map (λ o. (t.loc, o)) t.origins) (flow Compute i (place_of (state_of 0 0) i))
+listed i = flat_map (λ t. map (λ o. (t.loc, o)) t.origins) (table Compute i)
 
 -- those for which no states were found
 abbrev idle : Instr → List (Loc × Loc)
@@ -82,11 +86,11 @@ unsigned_lanes i = filter (λ p. nat_lt (lane_number p.1) 3) (listed i)
 -- each origin matters
 abbrev all_of_them : List Instr
 all_of_them =
-    Lb 3 4 (pos 0) ∷ Lh 3 4 (pos 0) ∷ Lw 3 4 (pos 0) ∷ Lbu 3 4 (pos 0) ∷ Lhu 3 4 (pos 0) ∷
-    Sb 4 1 (pos 0) ∷ Sh 4 1 (pos 0) ∷ Sw 4 1 (pos 0) ∷
+    Lb 3 5 (pos 0) ∷ Lh 3 5 (pos 0) ∷ Lw 3 5 (pos 0) ∷ Lbu 3 5 (pos 0) ∷ Lhu 3 5 (pos 0) ∷ Sb 5 1 (pos 0) ∷ Sh 5 1 (pos 0) ∷ Sw 5 1 (pos 0) ∷
     Addi 3 1 (pos 0) ∷ Add 3 1 0 ∷ Add 3 0 2 ∷ Or 3 1 0 ∷ Or 3 0 2 ∷ Xor 3 1 0 ∷ Xor 3 0 2 ∷
     Or 3 1 2 ∷ Xor 3 1 2 ∷ And 3 1 2 ∷ Slt 3 1 2 ∷ Sltu 3 1 2 ∷ Slt 3 0 2 ∷ Sltu 3 0 2 ∷
     Mulh 3 1 2 ∷ Mulhsu 3 1 2 ∷ Mulhu 3 1 2 ∷ Div 3 1 2 ∷ Rem 3 1 2 ∷ Remu 3 1 2 ∷ Div 3 0 2 ∷ Divu 3 0 2 ∷
+    And 3 1 1 ∷ Or 3 1 1 ∷ Mulh 3 1 1 ∷ Div 3 1 1 ∷ Divu 3 1 1 ∷
     Xori 3 1 (pos 255) ∷ Andi 3 1 (negsuc 0) ∷ Ori 3 1 (pos 0) ∷ Slti 3 1 (pos 1) ∷ Sltiu 3 1 (pos 1) ∷ []
 
 all_matter : flat_map idle all_of_them ≡ []
@@ -144,6 +148,10 @@ lowest_filled = refl
 upper_filled : idle (Ori 3 1 (negsuc 255)) ≡ (Reg 3 1, Reg 1 1) ∷ (Reg 3 2, Reg 1 2) ∷ (Reg 3 3, Reg 1 3) ∷ []
 upper_filled = refl
 
+-- no carry comes from lane 0 where the immediate's is 0
+no_carry : idle (Addi 3 1 (pos 256)) ≡ filter (λ p. nat_lt (lane_number p.0) (lane_number p.1) || (nat_lt 0 (lane_number p.0) && (lane_number p.1 == 0))) (listed (Addi 3 1 (pos 256)))
+no_carry = refl
+
 -- ---- shifts by an immediate: an origin matters where a bit of it comes into the target
 
 -- bits from a up to a + 8, and bits from b up to b + 8, have some in common
@@ -171,3 +179,59 @@ right_shifts = refl
 
 signed_shifts : map (λ k. idle (Srai 3 1 k)) (range_with_len 0 32) ≡ map (λ k. unmoved (to_right_signed k) (Srai 3 1 k)) (range_with_len 0 32)
 signed_shifts = refl
+
+-- ---- what matters is listed
+
+abbrev pairs : List Loc → List Loc → List (Loc × Loc)
+pairs ls ms = flat_map (λ l. map (λ m. (l, m)) ms) ls
+
+abbrev lanes_of : ℕ → List Loc
+lanes_of r = map (λ i. Reg r i) (range_with_len 0 4)
+
+abbrev bytes_of_memory : List Loc
+bytes_of_memory = map (λ p. Mem p) (range_with_len 0 8)
+
+abbrev is_listed : Rule → Instr → Loc → Loc → Bool
+is_listed rule i target origin = list_any (loc_eq origin) (origins_by (table rule i) target)
+
+-- of these targets and locations those of which the location matters, and isn't listed
+abbrev unlisted : Rule → List Loc → List Loc → Instr → List (Loc × Loc)
+unlisted rule targets from i = filter (λ p. matters i p.0 p.1) (filter (λ p. not (is_listed rule i p.0 p.1)) (pairs targets from))
+
+abbrev loads : List Instr
+loads = Lb 3 5 (pos 0) ∷ Lh 3 5 (pos 0) ∷ Lw 3 5 (pos 0) ∷ Lbu 3 5 (pos 0) ∷ Lhu 3 5 (pos 0) ∷ []
+
+abbrev stores : List Instr
+stores = Sb 5 1 (pos 0) ∷ Sh 5 1 (pos 0) ∷ Sw 5 1 (pos 0) ∷ []
+
+abbrev operations : List Instr
+operations =
+    Addi 3 1 (pos 0) ∷ Addi 3 1 (pos 1) ∷ Slti 3 1 (pos 1) ∷ Sltiu 3 1 (pos 1) ∷ Xori 3 1 (pos 255) ∷ Ori 3 1 (pos 255) ∷ Andi 3 1 (pos 255) ∷
+    Slli 3 1 9 ∷ Srli 3 1 9 ∷ Srai 3 1 9 ∷ Add 3 1 2 ∷ Add 3 1 0 ∷ Sub 3 1 2 ∷ Sll 3 1 2 ∷ Slt 3 1 2 ∷ Sltu 3 1 2 ∷ Xor 3 1 2 ∷ Xor 3 0 2 ∷
+    Srl 3 1 2 ∷ Sra 3 1 2 ∷ Or 3 1 2 ∷ Or 3 1 0 ∷ And 3 1 2 ∷ Mul 3 1 2 ∷ Mulh 3 1 2 ∷ Mulhsu 3 1 2 ∷ Mulhu 3 1 2 ∷ Div 3 1 2 ∷ Divu 3 1 2 ∷ Rem 3 1 2 ∷ Remu 3 1 2 ∷ []
+
+no_operand_unlisted : flat_map (unlisted Compute (lanes_of 3) (lanes_of 1 ++ lanes_of 2)) operations ≡ []
+no_operand_unlisted = refl
+
+no_loaded_byte_unlisted : flat_map (unlisted Compute (lanes_of 3) bytes_of_memory) loads ≡ []
+no_loaded_byte_unlisted = refl
+
+no_stored_lane_unlisted : flat_map (unlisted Compute bytes_of_memory (lanes_of 1)) stores ≡ []
+no_stored_lane_unlisted = refl
+
+-- under index the base of a load too
+no_base_unlisted : flat_map (unlisted Index (lanes_of 3) (lanes_of 5)) loads ≡ []
+no_base_unlisted = refl
+
+-- ---- what flows by copy is the byte
+
+abbrev leaves : Loc → ℕ → Outcome → Bool
+leaves target v (Retired s) = content s target == v
+leaves target v (Called call) = true
+leaves target v (Trapped kind) = true
+
+abbrev is_moved : Instr → Target → Bool
+is_moved i t = list_all (λ o. list_all (λ s. leaves t.loc (content s o) (execute s (effect_of s i))) tried) t.origins
+
+copies_move : list_all (λ i. list_all (is_moved i) (table Copy i)) (loads ++ stores ++ operations) ≡ true
+copies_move = refl

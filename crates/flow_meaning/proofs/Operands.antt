@@ -1,20 +1,19 @@
 -- Operands: what it says of two states that they agree at the lanes of registers, and what moves and operations carry.
-use Rattle.std.proofs.Common.{◌≡◌, ℕ, zero, suc, ◌+◌, ◌-◌, ◌*◌, ◌^◌, ◌%◌, ◌<◌, ◌≤◌, ◌⊎◌, inl, inr, Bool, true, false, cond, List, [], ◌∷◌, refl, arith, ap, ap₂, sym, ◌∙◌, subst, length, get_or, eqb-true, ltb-true, ltb-false, drop, length-take, get_or-take, get_or-drop, mod-eq_of_lt, ℤ}
+use Rattle.std.proofs.Common.{◌≡◌, ℕ, zero, suc, ◌+◌, ◌-◌, ◌*◌, ◌^◌, ◌%◌, ◌<◌, Bool, true, false, cond, List, [], ◌∷◌, refl, arith, ap, ap₂, sym, ◌∙◌, subst, length, get_or, eqb-true, ltb-true, ltb-false, mod-eq_of_lt, ℤ}
 use Rattle.std.specs.Prelude.{◌==◌, nat_lt, if◌then◌else◌}
 use Rattle.std.proofs.lemmas.List.{get_or_past}
-use Rattle.std.proofs.lemmas.Bool.{cases_lt}
 use Rattle.isa.specs.Machine.{State, reg, flag, bytes_at, little_endian, sign_extended, low_bytes, effective_address, as_word, wrap}
 use Rattle.flow_model.specs.declared.Loc.{Loc}
 use Rattle.flow_model.specs.declared.Loc.TheVariants.{Reg, Mem}
 use Rattle.flow_model.specs.declared.Rule.{Rule}
 use Rattle.flow_model.specs.declared.Rule.TheVariants.{Copy, Compute, Index}
-use Rattle.flow_model.specs.Flow.{lane, lanes, computed, in_first_lane, with_base, byte_of, loaded_byte, signed_load, moved_or, each_lane, all_lanes, shifted_lanes}
+use Rattle.flow_model.specs.Flow.{nothing, lane, lanes, computed, in_first_lane, with_base, byte_of, loaded_byte, signed_load, moved_or, each_lane, all_lanes, shifted_lanes}
 use Rattle.flow_model.proofs.Orders.{loc_same}
 use Rattle.flow_meaning.specs.Content.{content, lane_of, byte_in, AgreeAt, IsSound}
 use Rattle.flow_meaning.proofs.Sets.{union-all}
 use Rattle.flow_meaning.proofs.Lanes.{same_word, flag_lane, low_byte}
-use Rattle.flow_meaning.proofs.Bytes.{Size, Short, ShortOne, ShortTwo, AreBytes, lanes_of_bytes, signed_lanes, sign_byte}
-use Rattle.flow_meaning.proofs.Window.{Holds, bytes_length, byte_of_window}
+use Rattle.flow_meaning.proofs.Bytes.{Size, Short, ShortOne, ShortTwo, lanes_of_bytes, signed_lanes, sign_byte}
+use Rattle.flow_meaning.proofs.Window.{window_bytes, Holds, bytes_length, byte_of_window}
 use Rattle.flow_meaning.proofs.Targets.{AgreesOn, Carries, carry}
 
 -- ---- operands that agree
@@ -70,6 +69,10 @@ module _ {s t : State} (ss : IsSound s) (st : IsSound t) where
     pub still : (v w : ℕ) → v ≡ w → P [] v w
     still v w e = carry c [] v w w w e refl (c.none w)
 
+    -- a register's word that came from nowhere
+    pub same_value : (v w i : ℕ) → v ≡ w → P (nothing i) (lane_of v i) (lane_of w i)
+    same_value v w i e = still (lane_of v i) (lane_of w i) (ap (λ (x : ℕ). lane_of x i) e)
+
     -- a lane that is moved
     pub moves : (a i : ℕ) → P (lane a i) (lane_of (reg s a) i) (lane_of (reg t a) i)
     moves a i = by (a == 0) refl
@@ -123,13 +126,6 @@ module _ {s t : State} (ss : IsSound s) (st : IsSound t) where
 
     -- ---- loads and stores
 
-    bytes_of : (u : State) (su : IsSound u) (a n : ℕ) → AreBytes (bytes_at u a n)
-    bytes_of u su a n k = by (cases_lt k n)
-      where
-        by : (k < n) ⊎ (n ≤ k) → get_or (bytes_at u a n) k 0 < 2 ^ 8
-        by (inl h) = subst (λ (x : ℕ). x < 2 ^ 8) (sym (get_or-take n (drop (a - u.base) u.memory) k 0 h ∙ get_or-drop (a - u.base) u.memory k 0)) (su.bytes (a - u.base + k))
-        by (inr h) = subst (λ (x : ℕ). x < 2 ^ 8) (sym (get_or_past (bytes_at u a n) k 0 (omega (arith, length-take n (drop (a - u.base) u.memory))))) (omega arith)
-
     -- a byte of memory
     of_memory : (a n i : ℕ) → Holds s.base (length s.memory) a n → Holds t.base (length t.memory) a n → i < n → P (Mem (wrap (a + i)) ∷ []) (get_or (bytes_at s a n) i 0) (get_or (bytes_at t a n) i 0)
     of_memory a n i hs ht g =
@@ -155,7 +151,7 @@ module _ {s t : State} (ss : IsSound s) (st : IsSound t) where
         b = effective_address t k imm
 
         value : (u : State) → IsSound u → (a : ℕ) → Holds u.base (length u.memory) a n → lane_of (little_endian (bytes_at u a n)) i ≡ get_or (bytes_at u a n) i 0
-        value u su a hu = lanes_of_bytes n i (bytes_at u a n) z (bytes_length u a n hu) (bytes_of u su a n)
+        value u su a hu = lanes_of_bytes n i (bytes_at u a n) z (bytes_length u a n hu) (window_bytes u su a n)
 
         by : (x : Bool) → nat_lt i n ≡ x → P (cond x (with_base rule k (byte_of a i)) []) (get_or (bytes_at s a n) i 0) (get_or (bytes_at t b n) i 0)
         by true e = c.based k imm (byte_of a i) _ _ on (λ same. of_two_memories a b n i same hs ht (ltb-true i n e))
@@ -205,7 +201,7 @@ module _ {s t : State} (ss : IsSound s) (st : IsSound t) where
         extended_byte u a x = if x then get_or (bytes_at u a n) i 0 else sign_byte (get_or (bytes_at u a n) (n - 1) 0)
 
         value : (u : State) → IsSound u → (a : ℕ) → Holds u.base (length u.memory) a n → lane_of (sign_extended (8 * n) (little_endian (bytes_at u a n))) i ≡ extended_byte u a (nat_lt i n)
-        value u su a hu = signed_lanes n i (bytes_at u a n) z (bytes_length u a n hu) (bytes_of u su a n) f
+        value u su a hu = signed_lanes n i (bytes_at u a n) z (bytes_length u a n hu) (window_bytes u su a n) f
 
         by : (x : Bool) → nat_lt i n ≡ x → P (signed_load rule k a n i) (extended_byte s a x) (extended_byte t b x)
         by true e = subst (λ (ls : List Loc). P ls (extended_byte s a true) (extended_byte t b true)) (sym (below rule k a n i e)) (c.based k imm (byte_of a i) _ _ on (λ same. of_two_memories a b n i same hs ht (ltb-true i n e)))

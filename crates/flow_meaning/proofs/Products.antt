@@ -5,14 +5,12 @@ use Rattle.std.proofs.Math.IntN.{nat_abs}
 use Rattle.std.proofs.Math.Nat.{div-le_self, mod-le}
 use Rattle.std.proofs.lemmas.Nat.{mul-le}
 use Rattle.isa.specs.Machine.{as_word, as_signed, upper_word, quotient, remainder, unsigned_quotient, unsigned_remainder}
-
-wide : (n : ℕ) → 2 ^ 32 - suc n < 2 ^ 32
-wide n = omega arith
+use Rattle.flow_meaning.proofs.Never.{negative_word}
 
 -- a negative number of any size
 negated_word : (k : ℕ) → as_word (neg_ℤ (pos k)) < 2 ^ 32
 negated_word zero = omega arith
-negated_word (suc k) = wide k
+negated_word (suc k) = negative_word k
 
 abbrev signed_if : Bool → ℕ → ℤ
 signed_if low v = if low then pos v else negsuc (2 ^ 32 - 1 - v)
@@ -31,7 +29,7 @@ upper_positive k h = omega arith
 
 upper_negated : (k : ℕ) → upper_word (neg_ℤ (pos k)) < 2 ^ 32
 upper_negated zero = omega arith
-upper_negated (suc k) = wide (k / 2 ^ 32)
+upper_negated (suc k) = negative_word (k / 2 ^ 32)
 
 upper_product : (x y : ℤ) → nat_abs x ≤ 2 ^ 31 → nat_abs y ≤ 2 ^ 32 → upper_word (x *ℤ y) < 2 ^ 32
 upper_product (pos a) (pos b) h g = upper_positive (a * b) (mul-le a b (2 ^ 31) (2 ^ 32) h g)

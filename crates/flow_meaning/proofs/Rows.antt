@@ -21,6 +21,8 @@ use Rattle.replay_model.specs.Run.{Moment, start, advance, moment_after, step_of
 use Rattle.flow_meaning.specs.Content.{content}
 use Rattle.flow_meaning.specs.StepLaws.{DeterminedBy}
 use Rattle.flow_meaning.specs.RunLaws.{IsRun, moment_at, content_at, byte_at_sink, under, AlikeAt, AlikeElsewhere, SamePath, IsCopied, CopiedRows, DeterminedRows}
+use Rattle.flow_meaning.proofs.Never.{none_is, some_is}
+use Rattle.flow_meaning.proofs.Sets.{all-gives}
 use Rattle.flow_meaning.proofs.Steps.{Does, Plain, Calls, does, same_call}
 use Rattle.flow_meaning.proofs.Done.{on_track, done_at, sound_at}
 use Rattle.flow_meaning.proofs.Transferred.{written_given}
@@ -90,10 +92,6 @@ all_rows Q q trace h = All-from_recursion Q (rows q trace) (All-set_of row_cmp Q
     made [] h = tt
     made (x ∷ xs) h = (h.0, made xs h.1)
 
-all_points : (Q P : InnerSink → Type 0) → ((p : InnerSink) → P p → Q p) → (ps : List InnerSink) → AllByRecursion P ps → AllByRecursion Q ps
-all_points Q P f [] h = tt
-all_points Q P f (p ∷ ps) h = (f p h.0, all_points Q P f ps h.1)
-
 each_point : (Q : InnerSink → Type 0) → ((p : InnerSink) → Q p) → (ps : List InnerSink) → AllByRecursion Q ps
 each_point Q f [] = tt
 each_point Q f (p ∷ ps) = (f p, each_point Q f ps)
@@ -107,12 +105,6 @@ output_is log s t call i run h e w g = by (does log.inputs m (done_at log s t ru
   where
     m : Moment
     m = moment_at s log t
-
-    some_is : {x y : CallSeen} → Some x ≡ Some y → x ≡ y
-    some_is e = cc
-
-    none_is : {A : Type 0} → None ≡ Some call → A
-    none_is e = cc
 
     by : Does log.inputs m → content_at s log t (sink_at t call i).loc ≡ byte_at_sink s log (sink_at t call i).name
     by (Plain u x f se sa) = none_is (sym (ap (λ (z : StepSeen). z.call) se) ∙ e)
@@ -128,7 +120,7 @@ HasCopied log s rule introduces x = IsCopied log (byte_at_sink s log x.name) (or
 
 copied_sinks : (log : Log) (s : State) → IsRun log s → (q : Query) → All (λ p. IsLocation p.loc) q.points → AllByRecursion (HasCopied log s Copy (has_source q)) (chosen_sinks q (trace s log))
 copied_sinks log s run q located = all_sinks (HasCopied log s Copy (has_source q)) q s log
-    (all_points (λ p. p.time ≤ steps log → HasCopied log s Copy (has_source q) (point_sink p)) (λ p. IsLocation p.loc) (λ p l h. copied_contents log s run (has_source q) p.time p.loc h l) q.points (recursion_from_All (λ p. IsLocation p.loc) q.points located))
+    (all-gives (λ p. IsLocation p.loc) (λ p. p.time ≤ steps log → HasCopied log s Copy (has_source q) (point_sink p)) (λ p l h. copied_contents log s run (has_source q) p.time p.loc h l) q.points (recursion_from_All (λ p. IsLocation p.loc) q.points located))
     (λ t h call e w i g. subst (λ (v : ℕ). IsCopied log v (origins (under Copy (has_source q)) (trace s log) t (sink_at t call i).loc)) (output_is log s t call i run h e w g)
     (copied_contents log s run (has_source q) t (sink_at t call i).loc (omega arith) (is_place (call.place + i))))
   where

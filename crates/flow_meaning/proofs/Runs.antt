@@ -1,5 +1,5 @@
 -- Contents and origins along a run.
-use Rattle.std.proofs.Common.{◌≡◌, ℕ, zero, suc, ◌^◌, ◌<◌, ◌≤◌, ◌⊎◌, inl, inr, Bool, true, false, cond, List, [], ◌∷◌, Option, Some, None, refl, arith, ap, ap₂, sym, ◌∙◌, subst, get_or}
+use Rattle.std.proofs.Common.{◌≡◌, ℕ, zero, suc, ◌^◌, ◌<◌, ◌≤◌, ◌⊎◌, inl, inr, Bool, true, false, cond, List, [], ◌∷◌, Option, Some, refl, arith, ap, ap₂, sym, ◌∙◌, subst, get_or}
 use Rattle.std.specs.List.{AllByRecursion}
 use Rattle.std.proofs.lemmas.Bool.{cases_lt}
 use Rattle.std.proofs.lemmas.List.Elements.{recursion_from_All}
@@ -20,6 +20,7 @@ use Rattle.replay_model.proofs.Offsets.{step_at_from, moment_later}
 use Rattle.flow_meaning.specs.Content.{content, AgreeAt}
 use Rattle.flow_meaning.specs.StepLaws.{DeterminedBy, receives, bytes_given}
 use Rattle.flow_meaning.specs.RunLaws.{IsRun, byte_received, moment_at, content_at, under, AlikeElsewhere, IsCopied, NoOrigin, OneOrigin, SamePath, CopiedContents, SamePathSameTrace, DeterminedContents}
+use Rattle.flow_meaning.proofs.Never.{no, none_is, some_is}
 use Rattle.flow_meaning.proofs.Window.{byte_beyond}
 use Rattle.flow_meaning.proofs.Single.{IsPlace, AtMostOne, Nothing, One, single_place}
 use Rattle.flow_meaning.proofs.Steps.{Does, Plain, Calls, does, same_call, copy_moves, received_is_there}
@@ -47,12 +48,6 @@ received_now log s t call p run h e r = by (does log.inputs m (done_at log s t r
     m : Moment
     m = moment_at s log t
 
-    some_is : {x y : CallSeen} → Some x ≡ Some y → x ≡ y
-    some_is e = cc
-
-    none_is : {A : Type 0} → None ≡ Some call → A
-    none_is e = cc
-
     by : Does log.inputs m → byte_received log (byte_at call (Mem p)) ≡ get_or (bytes_given m.left) (distance call.place p) 0
     by (Plain u x f se sa) = none_is (sym (ap (λ (z : StepSeen). z.call) se) ∙ e)
     by (Calls c f g se sa) =
@@ -67,9 +62,6 @@ received_content log s t call p run h x e r =
     content_after s log t (Mem p)
     ∙ (received_is_there log.inputs (moment_at s log t) call p (sound_at log s t run (omega arith)) (done_at log s t run h) x e r).content_is
     ∙ sym (received_now log s t call p run h e r)
-
-no : {A : Type 0} → true ≡ false → A
-no e = cc
 
 -- ---- copy
 

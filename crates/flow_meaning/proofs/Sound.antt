@@ -1,5 +1,5 @@
 -- Each step keeps a state sound.
-use Rattle.std.proofs.Common.{◌≡◌, ℕ, suc, ◌+◌, ◌-◌, ◌*◌, ◌/◌, ◌^◌, ◌%◌, ◌<◌, ◌≤◌, ◌⊎◌, inl, inr, Bool, true, false, cond, not, List, [], ◌∷◌, refl, arith, sym, ◌∙◌, subst, length, get_or, drop, pos, negsuc, ◌*ℤ◌, bit_and, bit_or, bit_xor, int_lt, get_or-set_same, get_or-set_other, length-take, get_or-take, get_or-drop}
+use Rattle.std.proofs.Common.{◌≡◌, ℕ, suc, ◌+◌, ◌-◌, ◌*◌, ◌/◌, ◌^◌, ◌%◌, ◌<◌, ◌≤◌, ◌⊎◌, inl, inr, Bool, true, false, cond, not, List, [], ◌∷◌, refl, arith, sym, ◌∙◌, subst, length, get_or, pos, negsuc, ◌*ℤ◌, bit_and, bit_or, bit_xor, int_lt, get_or-set_same, get_or-set_other, length-take}
 use Rattle.std.specs.Prelude.{◌==◌, nat_lt, nat_le, if◌then◌else◌, slice_set}
 use Rattle.std.specs.Int.{w32, to_le_bytes, int_shr}
 use Rattle.std.proofs.lemmas.Bool.{eqb-false, cases_lt, cases_eq}
@@ -10,9 +10,10 @@ use Rattle.isa.specs.declared.Instr.{Instr}
 use Rattle.isa.specs.declared.Instr.TheVariants.{Lui, Auipc, Jal, Jalr, Beq, Bne, Blt, Bge, Bltu, Bgeu, Lb, Lh, Lw, Lbu, Lhu, Sb, Sh, Sw, Addi, Slti, Sltiu, Xori, Ori, Andi, Slli, Srli, Srai, Add, Sub, Sll, Slt, Sltu, Xor, Srl, Sra, Or, And, Mul, Mulh, Mulhsu, Mulhu, Div, Divu, Rem, Remu, Fence, Ecall, Ebreak}
 use Rattle.isa.specs.Machine.{State, reg, execute, effect_of, effective_address, relative, as_word, as_signed, flag, arithmetic_right, wrap, in_window, jumped, landed, is_aligned, branched, loaded, stored, extended, little_endian, bytes_at, low_bytes, moved_on_with, overwritten, upper_word, quotient, remainder, unsigned_quotient, unsigned_remainder}
 use Rattle.flow_meaning.specs.Content.{IsSound}
+use Rattle.flow_meaning.proofs.Never.{negative_word}
 use Rattle.flow_meaning.proofs.Lanes.{lane_small, low_byte}
-use Rattle.flow_meaning.proofs.Bytes.{Size, OneByte, TwoBytes, FourBytes, AreBytes}
-use Rattle.flow_meaning.proofs.Window.{Holds, holds_by, over_in, over_before, over_behind, over_length, bytes_length}
+use Rattle.flow_meaning.proofs.Bytes.{low_length, Size, OneByte, TwoBytes, FourBytes, AreBytes}
+use Rattle.flow_meaning.proofs.Window.{window_bytes, Holds, holds_by, over_in, over_before, over_behind, over_length, bytes_length}
 use Rattle.flow_meaning.proofs.Targets.{set_in, put_at}
 use Rattle.flow_meaning.proofs.Behind.{Behind, on_landed, on_branched, on_loaded, on_stored}
 use Rattle.flow_meaning.proofs.Products.{signed_product_word, mixed_product_word, unsigned_product_word, quotient_word, remainder_word, unsigned_quotient_word, unsigned_remainder_word}
@@ -75,12 +76,9 @@ shifted_word v k h = let x = shr_le v k in omega arith
 arithmetic_word : (v k : ℕ) → v < 2 ^ 32 → arithmetic_right v k < 2 ^ 32
 arithmetic_word v k h = by (nat_lt v 2147483648)
   where
-    wide : (m : ℕ) → 2 ^ 32 - suc m < 2 ^ 32
-    wide m = omega arith
-
     by : (b : Bool) → as_word (int_shr (if b then pos v else negsuc (2 ^ 32 - 1 - v)) k) < 2 ^ 32
     by true = shifted_word v k h
-    by false = wide ((2 ^ 32 - 1 - v) / 2 ^ k)
+    by false = negative_word ((2 ^ 32 - 1 - v) / 2 ^ k)
 
 bytes_word : (n : ℕ) (bs : List ℕ) → Size n → length bs ≡ n → AreBytes bs → little_endian bs < 2 ^ 32
 bytes_word n [] z l h = omega arith
@@ -111,13 +109,6 @@ extended_word : (is_signed : Bool) (n v : ℕ) → v < 2 ^ 32 → extended is_si
 extended_word true n v h = signed_word (8 * n) v h
 extended_word false n v h = h
 
-window_bytes : (s : State) → IsSound s → (a n : ℕ) → AreBytes (bytes_at s a n)
-window_bytes s h a n k = by (cases_lt k n)
-  where
-    by : (k < n) ⊎ (n ≤ k) → get_or (bytes_at s a n) k 0 < 2 ^ 8
-    by (inl g) = subst (λ (x : ℕ). x < 2 ^ 8) (sym (get_or-take n (drop (a - s.base) s.memory) k 0 g ∙ get_or-drop (a - s.base) s.memory k 0)) (h.bytes (a - s.base + k))
-    by (inr g) = subst (λ (x : ℕ). x < 2 ^ 8) (sym (get_or_past (bytes_at s a n) k 0 (omega (arith, length-take n (drop (a - s.base) s.memory))))) (omega arith)
-
 low_are_bytes : (n v : ℕ) → AreBytes (low_bytes n v)
 low_are_bytes n v k = by (cases_lt k n)
   where
@@ -140,11 +131,6 @@ module _ {s : State} (h : IsSound s) where
   load_on : (d a n : ℕ) (is_signed : Bool) → Size n → Behind (loaded s (in_window s a n) d a n is_signed) IsSound
   load_on d a n is_signed z = on_loaded s (in_window s a n) d a n is_signed IsSound
       (λ e. set_on d (extended is_signed n (little_endian (bytes_at s a n))) (extended_word is_signed n (little_endian (bytes_at s a n)) (bytes_word n (bytes_at s a n) z (bytes_length s a n (holds_by s a n e)) (window_bytes s h a n))))
-
-  low_length : (n v : ℕ) → Size n → length (low_bytes n v) ≡ n
-  low_length n v OneByte = refl
-  low_length n v TwoBytes = refl
-  low_length n v FourBytes = refl
 
   store_on : (a n v : ℕ) → Size n → Behind (stored s (in_window s a n) a n v) IsSound
   store_on a n v z = on_stored s (in_window s a n) a n v IsSound

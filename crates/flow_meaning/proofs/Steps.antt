@@ -18,6 +18,7 @@ use Rattle.flow_model.specs.Flow.{flow, from, from_call, from_instruction_or, or
 use Rattle.replay_model.specs.Run.{Moment, advance, after_outcome, step_of, step_by, plain_step, call_seen}
 use Rattle.flow_meaning.specs.Content.{content, AgreeAt, IsSound}
 use Rattle.flow_meaning.specs.StepLaws.{IsAnswered, IsDoneBy, IsDone, words_given, answer_by, bytes_given, receives_by, receives, is_load, on_path, SameStep, StaysSound, CopyMoves, DeterminedBy, IsReceivedThere, ReceivedIsThere}
+use Rattle.flow_meaning.proofs.Never.{no, none_is, some_is}
 use Rattle.flow_meaning.proofs.Targets.{agrees_on, Carries}
 use Rattle.flow_meaning.proofs.Operands.{base_agrees}
 use Rattle.flow_meaning.proofs.Behind.{Behind, behind_is}
@@ -25,9 +26,6 @@ use Rattle.flow_meaning.proofs.Table.{SamePlace, SamePlaceIf, carries}
 use Rattle.flow_meaning.proofs.Decoded.{fetched_in_range}
 use Rattle.flow_meaning.proofs.Sound.{stays_sound}
 use Rattle.flow_meaning.proofs.Calls.{calls_carry, call_sound, state_given, state_given_is, read_room, read_there}
-
-no : {A : Type 0} → true ≡ false → A
-no e = cc
 
 -- ---- what a moment does
 
@@ -123,11 +121,6 @@ module _ (inputs others : ℕ) (m n : Moment) (ss : IsSound m.state) (st : IsSou
   abbrev Carried : Loc → StepSeen → State → State → Type 0
   Carried l step u v = receives step l ≡ false → P (from rule step l) (content u l) (content v l)
 
-  call_apart : (i : Instr) (w : State) (h : Executes m.state w) → h.instr ≡ Ecall → ⊥
-  call_apart i w h e =
-      let same : execute m.state (effect_of m.state Ecall) ≡ Retired w = ap (λ (j : Instr). execute m.state (effect_of m.state j)) (sym e) ∙ h.executes in
-      cc
-
   pub step_carries : IsDone inputs m → IsDone others n → SameStep rule m n → (l : Loc) → Carried l (step_of m) (advance m).state (advance n).state
   step_carries dm dn same l = by (does inputs m dm) (does others n dn)
     where
@@ -136,24 +129,18 @@ module _ (inputs others : ℕ) (m n : Moment) (ss : IsSound m.state) (st : IsSou
           subst (λ (x : StepSeen). Carried l x (advance m).state (advance n).state) (sym e)
           (subst (λ (x : State). Carried l step x (advance n).state) (sym f) (subst (λ (x : State). Carried l step u x) (sym g) h))
 
-      none_is : {A : Type 0} (x : CallSeen) → None ≡ Some x → A
-      none_is x e = cc
-
       by : Does inputs m → Does others n → Carried l (step_of m) (advance m).state (advance n).state
       by (Plain s x e se sa) (Plain t y f te ta) =
           let steps : on_path rule (instruction_step m x.instr) ≡ on_path rule (instruction_step n y.instr) = ap (on_path rule) (sym se) ∙ same.step ∙ ap (on_path rule) te in
           moved (instruction_step m x.instr) s t se sa ta (λ g. plain_carries l s t x y same.pc (same_instr rule (instruction_step m x.instr) (instruction_step n y.instr) steps) (same_place rule (instruction_step m x.instr) (instruction_step n y.instr) steps))
-      by (Plain s x e se sa) (Calls call f g te ta) = none_is (call_seen n n.left) (ap (λ (z : StepSeen). z.call) (sym se) ∙ same_call rule (step_of m) (step_of n) same.step ∙ ap (λ (z : StepSeen). z.call) te)
-      by (Calls call e g se sa) (Plain t y f te ta) = none_is (call_seen m m.left) (sym (ap (λ (z : StepSeen). z.call) (sym se) ∙ same_call rule (step_of m) (step_of n) same.step ∙ ap (λ (z : StepSeen). z.call) te))
+      by (Plain s x e se sa) (Calls call f g te ta) = none_is (ap (λ (z : StepSeen). z.call) (sym se) ∙ same_call rule (step_of m) (step_of n) same.step ∙ ap (λ (z : StepSeen). z.call) te)
+      by (Calls call e g se sa) (Plain t y f te ta) = none_is (sym (ap (λ (z : StepSeen). z.call) (sym se) ∙ same_call rule (step_of m) (step_of n) same.step ∙ ap (λ (z : StepSeen). z.call) te))
       by (Calls call e g se sa) (Calls call' e' g' te ta) =
           let seen : Some (call_seen m m.left) ≡ Some (call_seen n n.left) = ap (λ (z : StepSeen). z.call) (sym se) ∙ same_call rule (step_of m) (step_of n) same.step ∙ ap (λ (z : StepSeen). z.call) te in
           let words : words_given m.left ≡ words_given n.left = sym (ap (λ (o : Outcome). answer_by o m.left) e) ∙ same.answer ∙ ap (λ (o : Outcome). answer_by o n.left) e' in
           moved (call_step m) (state_given m.state m.left) (state_given n.state n.left) se sa ta
           (λ h. subst (λ (ls : List Loc). P ls (content (state_given m.state m.left) l) (content (state_given n.state n.left) l)) (sym (not_received (call_seen m m.left) l h))
           (calls_carry ss st c m n inputs others m.left n.left l g g' (some_is seen) words h))
-        where
-          some_is : {x y : CallSeen} → Some x ≡ Some y → x ≡ y
-          some_is e = cc
 
 -- ---- the rules
 
@@ -233,13 +220,7 @@ pub received_is_there : ReceivedIsThere
 received_is_there inputs m call p h d x e r = by (does inputs m d)
   where
     by : Does inputs m → IsReceivedThere m call p
-    by (Plain t y f se sa) = none (sym (ap (λ (z : StepSeen). z.call) se) ∙ e)
-      where
-        none : {A : Type 0} → None ≡ Some call → A
-        none e = cc
+    by (Plain t y f se sa) = none_is (sym (ap (λ (z : StepSeen). z.call) se) ∙ e)
     by (Calls c f g se sa) =
         let there = there_by m.state m inputs m.left call p h g x (some_is (sym (ap (λ (z : StepSeen). z.call) se) ∙ e)) r in
         record { inside = there.0; content_is = ap (λ (s : State). content s (Mem p)) sa ∙ there.1 }
-      where
-        some_is : {x y : CallSeen} → Some x ≡ Some y → x ≡ y
-        some_is e = cc

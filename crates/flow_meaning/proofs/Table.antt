@@ -1,5 +1,5 @@
 -- What one instruction carries, row by row of the flow table.
-use Rattle.std.proofs.Common.{◌≡◌, ℕ, ◌+◌, ◌-◌, ◌*◌, ◌/◌, ◌^◌, ◌%◌, ◌<◌, Bool, true, false, not, List, [], ◌∷◌, refl, arith, ap, ◌∙◌, subst, length, ℤ, pos, ◌*ℤ◌, bit_and, bit_or, bit_xor, int_lt, get_or}
+use Rattle.std.proofs.Common.{◌≡◌, ℕ, ◌+◌, ◌-◌, ◌*◌, ◌/◌, ◌^◌, ◌%◌, ◌<◌, Bool, true, false, not, List, [], ◌∷◌, refl, arith, ap, ◌∙◌, subst, ℤ, pos, ◌*ℤ◌, bit_and, bit_or, bit_xor, int_lt, get_or}
 use Rattle.std.specs.Prelude.{◌==◌, nat_lt, nat_le, if◌then◌else◌}
 use Rattle.std.specs.Ordering.{int_eq}
 use Rattle.std.specs.Int.Bits.{xor_zero_l, xor_zero_r, or_zero_l, or_zero_r}
@@ -13,10 +13,10 @@ use Rattle.flow_model.specs.Flow.{flow, origins_by, to_register, to_memory, noth
 use Rattle.flow_meaning.specs.Content.{content, lane_of, IsSound}
 use Rattle.flow_meaning.specs.StepLaws.{is_load}
 use Rattle.flow_meaning.proofs.Lanes.{xor_lane, or_lane, and_lane}
-use Rattle.flow_meaning.proofs.Bytes.{Size, OneByte, TwoBytes, FourBytes, Short, ShortOne, ShortTwo}
+use Rattle.flow_meaning.proofs.Bytes.{low_length, Size, OneByte, TwoBytes, FourBytes, Short, ShortOne, ShortTwo}
 use Rattle.flow_meaning.proofs.Window.{holds_by}
 use Rattle.flow_meaning.proofs.Targets.{AgreesOn, agrees_on, Carries, carry, kept, to_set, to_put}
-use Rattle.flow_meaning.proofs.Operands.{still, moves, of_one, of_two, of_shift, of_bytes, of_byte, of_test, of_tests, of_move, of_load, of_signed_load, of_store}
+use Rattle.flow_meaning.proofs.Operands.{same_value, moves, of_one, of_two, of_shift, of_bytes, of_byte, of_test, of_tests, of_move, of_load, of_signed_load, of_store}
 use Rattle.flow_meaning.proofs.Behind.{Behind, on_landed, on_branched, on_loaded, on_stored}
 
 -- the register that an instruction sets; 0 where it sets none
@@ -86,14 +86,10 @@ module _ {s t : State} (ss : IsSound s) (st : IsSound t) {rule : Rule} {P : List
   set_both : (d v w : ℕ) (origins : ℕ → List Loc) → d < 32 → ((i : ℕ) → i < 4 → P (origins i) (lane_of v i) (lane_of w i)) → (l : Loc) → P (origins_by (to_register d origins) l) (content (moved_on_with s d v) l) (content (moved_on_with t d w) l)
   set_both d v w origins h each l = to_set c d v w (wrap (s.pc + 4)) (wrap (t.pc + 4)) origins ss st h each l
 
-  -- a register gets what came from nowhere
-  same_value : (v w i : ℕ) → v ≡ w → P (nothing i) (lane_of v i) (lane_of w i)
-  same_value v w i e = still ss st c (lane_of v i) (lane_of w i) (ap (λ (x : ℕ). lane_of x i) e)
-
   jump_both : (d p q : ℕ) → d < 32 → s.pc ≡ t.pc → (l : Loc) → Behind (landed (is_aligned p) (jumped s d p)) (λ x. Behind (landed (is_aligned q) (jumped t d q)) (λ y. P (origins_by (to_register d nothing) l) (content x l) (content y l)))
   jump_both d p q h e l =
       on_landed (is_aligned p) (jumped s d p) _ (on_landed (is_aligned q) (jumped t d q) _
-      (to_set c d (wrap (s.pc + 4)) (wrap (t.pc + 4)) p q nothing ss st h (λ i g. same_value (wrap (s.pc + 4)) (wrap (t.pc + 4)) i (ap (λ (x : ℕ). wrap (x + 4)) e)) l))
+      (to_set c d (wrap (s.pc + 4)) (wrap (t.pc + 4)) p q nothing ss st h (λ i g. same_value ss st c (wrap (s.pc + 4)) (wrap (t.pc + 4)) i (ap (λ (x : ℕ). wrap (x + 4)) e)) l))
 
   branch_both : (x y : Bool) (p q : ℕ) (l : Loc) → Behind (branched s x p) (λ u. Behind (branched t y q) (λ v. P (l ∷ []) (content u l) (content v l)))
   branch_both x y p q l = on_branched s x p _ (λ p. on_branched t y q _ (λ q. kept c p q l))
@@ -121,15 +117,10 @@ module _ {s t : State} (ss : IsSound s) (st : IsSound t) {rule : Rule} {P : List
   abbrev StoresTo : (a n r : ℕ) → (ℕ → List Loc) → Loc → ℕ → Type 0
   StoresTo a n r origins l b = Behind (stored s (in_window s a n) a n (reg s r)) (λ x. Behind (stored t (in_window t b n) b n (reg t r)) (λ y. P (origins_by (to_memory a n origins) l) (content x l) (content y l)))
 
-  store_length : (n v : ℕ) → Size n → length (low_bytes n v) ≡ n
-  store_length n v OneByte = refl
-  store_length n v TwoBytes = refl
-  store_length n v FourBytes = refl
-
   store_to : (a b n r : ℕ) (origins : ℕ → List Loc) → Size n → a ≡ b → ((i : ℕ) → i < n → P (origins i) (get_or (low_bytes n (reg s r)) i 0) (get_or (low_bytes n (reg t r)) i 0)) → (l : Loc) → StoresTo a n r origins l b
   store_to a b n r origins z e each l = subst (StoresTo a n r origins l) e
       (on_stored s (in_window s a n) a n (reg s r) _ (λ x. on_stored t (in_window t a n) a n (reg t r) _ (λ y.
-      to_put c a n (wrap (s.pc + 4)) (wrap (t.pc + 4)) (low_bytes n (reg s r)) (low_bytes n (reg t r)) origins ss st (store_length n (reg s r) z) (store_length n (reg t r) z) (holds_by s a n x) (holds_by t a n y) each l)))
+      to_put c a n (wrap (s.pc + 4)) (wrap (t.pc + 4)) (low_bytes n (reg s r)) (low_bytes n (reg t r)) origins ss st (low_length n (reg s r) z) (low_length n (reg t r) z) (holds_by s a n x) (holds_by t a n y) each l)))
 
   store_both : (k : ℕ) (imm : ℤ) (n r : ℕ) → Size n → effective_address s k imm ≡ effective_address t k imm → (l : Loc)
       → StoresTo (effective_address s k imm) n r (λ i. with_base rule k (lane r i)) l (effective_address t k imm)
@@ -155,8 +146,8 @@ module _ {s t : State} (ss : IsSound s) (st : IsSound t) {rule : Rule} {P : List
 
   -- what each instruction carries
   pub carries : (i : Instr) → sets i < 32 → s.pc ≡ t.pc → SamePlace rule i (place_of s i) (place_of t i) → (l : Loc) → StepCarries i l
-  carries (Lui d imm) h e p l = set_both d (as_word imm) (as_word imm) (nothing) h (λ i g. same_value (as_word imm) (as_word imm) i refl) l
-  carries (Auipc d imm) h e p l = set_both d (relative s imm) (relative t imm) (nothing) h (λ i g. same_value (relative s imm) (relative t imm) i (ap (λ (x : ℕ). wrap (x + as_word imm)) e)) l
+  carries (Lui d imm) h e p l = set_both d (as_word imm) (as_word imm) (nothing) h (λ i g. same_value ss st c (as_word imm) (as_word imm) i refl) l
+  carries (Auipc d imm) h e p l = set_both d (relative s imm) (relative t imm) (nothing) h (λ i g. same_value ss st c (relative s imm) (relative t imm) i (ap (λ (x : ℕ). wrap (x + as_word imm)) e)) l
   carries (Jal d imm) h e p l = jump_both d (relative s imm) (relative t imm) h e l
   carries (Jalr d a imm) h e p l = jump_both d (effective_address s a imm / 2 * 2) (effective_address t a imm / 2 * 2) h e l
   carries (Beq a b imm) h e p l = branch_both (reg s a == reg s b) (reg t a == reg t b) (relative s imm) (relative t imm) l

@@ -10,6 +10,7 @@ use Rattle.flow_model.specs.declared.Rule.{Rule}
 use Rattle.flow_model.specs.declared.Rule.TheVariants.{Copy, Compute, Index}
 use Rattle.flow_model.specs.Flow.{Target, to_register, to_memory, computed, with_base, origins_by}
 use Rattle.flow_meaning.specs.Content.{content, lane_of, byte_in, AgreeAt, IsSound}
+use Rattle.flow_meaning.proofs.Never.{no}
 use Rattle.flow_meaning.proofs.Window.{Holds, put_in, put_out}
 
 -- two runs load from one address; under the rule index from any two
@@ -34,9 +35,6 @@ pub record Carries (s t : State) (rule : Rule) (P : List Loc → ℕ → ℕ →
   -- what is moved to or from memory, by the base register a
   pub based : (a : ℕ) (imm : ℤ) (ls : List Loc) (v w : ℕ) → AgreesOn rule (effective_address s a imm) (effective_address t a imm)
       → (effective_address s a imm ≡ effective_address t a imm → P ls v w) → P (with_base rule a ls) v w
-
-no : {A : Type 0} → true ≡ false → A
-no e = cc
 
 abbrev pub set_in : State → ℕ → ℕ → ℕ → State
 set_in s p d v = record s { pc = p; registers = with_register s.registers d v }

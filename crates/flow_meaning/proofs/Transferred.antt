@@ -1,5 +1,5 @@
 -- Which bytes of a log a call moves: those after the bytes that the records before it moved on its channel.
-use Rattle.std.proofs.Common.{◌≡◌, ℕ, zero, suc, ◌+◌, ◌^◌, ◌<◌, ◌≤◌, Bool, true, false, List, [], ◌∷◌, ◌++◌, length, get_or, None, refl, arith, ap, sym, ◌∙◌, ℤ, pos, get_or-append-add, ltb-true, mod-eq_of_lt}
+use Rattle.std.proofs.Common.{◌≡◌, ℕ, zero, suc, ◌+◌, ◌^◌, ◌<◌, ◌≤◌, Bool, true, List, [], ◌∷◌, ◌++◌, length, get_or, None, refl, arith, ap, sym, ◌∙◌, ℤ, pos, get_or-append-add, ltb-true, mod-eq_of_lt}
 use Rattle.std.specs.Prelude.{◌==◌, if◌then◌else◌}
 use Rattle.std.proofs.lemmas.Bool.{eq-eqb}
 use Rattle.std.proofs.lemmas.List.{get_or_append_left}
@@ -25,10 +25,8 @@ use Rattle.replay_model.proofs.Transfers.{write_held}
 use Rattle.flow_meaning.specs.Content.{content, IsSound}
 use Rattle.flow_meaning.specs.StepLaws.{IsAnswered, bytes_given}
 use Rattle.flow_meaning.specs.RunLaws.{byte_received, byte_at_sink}
+use Rattle.flow_meaning.proofs.Never.{no}
 use Rattle.flow_meaning.proofs.Window.{holds_by, bytes_length, byte_of_window}
-
-no : {A : Type 0} → true ≡ false → A
-no e = cc
 
 -- a byte of the middle of three lists
 middle : (before bytes rest whole : List ℕ) (i : ℕ) → whole ≡ before ++ (bytes ++ rest) → i < length bytes → get_or whole (length before + i) 0 ≡ get_or bytes i 0
