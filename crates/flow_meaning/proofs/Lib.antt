@@ -22,3 +22,4 @@ mod Rows
 mod Beginning
 mod Matters
 mod Worked
+mod Fewer

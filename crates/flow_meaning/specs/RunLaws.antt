@@ -94,7 +94,7 @@ abbrev pub DeterminedRows : Rule → Type 0
 DeterminedRows rule = (a b : Log) (s : State) → IsRun a s → IsRun b s → SamePath rule s a b → (q : Query) → q.rule ≡ rule → AlikeElsewhere (has_source q) a b
     → All (λ r. AlikeAt a b r.sources → byte_at_sink s a r.sink ≡ byte_at_sink s b r.sink) (rows q (trace s a))
 
--- two runs that take one path have one trace
+-- two runs that take one path, addresses of loads and all, have one trace
 abbrev pub SamePathSameTrace : Type 0
 SamePathSameTrace = (a b : Log) (s : State) → SamePath Compute s a b → trace s a ≡ trace s b
 

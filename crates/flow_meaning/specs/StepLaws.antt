@@ -78,8 +78,8 @@ is_load (Lbu d a imm) = true
 is_load (Lhu d a imm) = true
 is_load other = false
 
--- what of a step makes the path of a run: all of it. Under the rule index the effective address of a load doesn't, since
--- what is loaded comes from the base register too
+-- what two runs on one path have in common of a step: all of it, but under the rule index not the effective address of a
+-- load, since what is loaded comes from the base register too
 abbrev pub on_path : Rule → StepSeen → StepSeen
 on_path Copy step = step
 on_path Compute step = step

@@ -2,6 +2,7 @@
 
 ghost use Rattle.flow_model.specs.declared.Rule.TheVariants.{Copy, Compute, Index};
 ghost use Rattle.flow_meaning.specs.StepLaws.{StaysSound, CopyIsSingle, CopyMoves, DeterminedBy, ReceivedIsThere, FlowsWithin};
+ghost use Rattle.flow_meaning.specs.FewerLaws.{FewerDetermine};
 ghost use Rattle.flow_meaning.specs.RunLaws.{FitsMakesRun, CopiedContents, CopiedRows, DeterminedContents, DeterminedRows, SamePathSameTrace, OriginsWithin};
 
 /// A step leaves a sound state sound: 32 registers of words, of which the first is 0, and a window of bytes.
@@ -57,4 +58,10 @@ pub fn compute_loses_no_flow()
 pub fn index_loses_no_flow()
     ensures contents { DeterminedContents Index }
     ensures rows { DeterminedRows Index }
+{}
+
+/// Fewer origins than compute lists determine a lane of some results: lanes above have no part in a sum, a product or a
+/// shift to the left, and lanes below none in a shift to the right or an unsigned quotient.
+pub fn fewer_origins_determine()
+    ensures { FewerDetermine }
 {}
