@@ -17,7 +17,7 @@ use Rattle.flow_model.specs.declared.Rule.TheVariants.{Copy, Compute, Index}
 use Rattle.flow_model.specs.declared.SourceByte.{SourceByte}
 use Rattle.flow_model.specs.declared.SinkByte.{SinkByte}
 use Rattle.flow_model.specs.declared.StepSeen.{StepSeen}
-use Rattle.flow_model.specs.Flow.{flow, origins_by}
+use Rattle.flow_model.specs.Flow.{flow, from, origins_by}
 use Rattle.flow_model.specs.Origins.{origins}
 use Rattle.replay_model.specs.Run.{step_of, trace}
 use Rattle.flow_meaning.specs.Content.{content, IsSound}
@@ -226,6 +226,17 @@ further_on = refl
 
 content_further_on : content_at branch_start (log_of 6 1 12) 1 (Mem 4294967356) ≡ 0
 content_further_on = refl
+
+-- ---- a call's result comes from nowhere
+
+result_from_nowhere : from Copy (step_of (moment_at branch_start (log_of 6 1 12) 0)) (Reg 10 0) ≡ []
+result_from_nowhere = refl
+
+before_call : content_at branch_start (log_of 6 1 12) 0 (Reg 10 0) ≡ 0
+before_call = refl
+
+after_call : content_at branch_start (log_of 6 1 12) 1 (Reg 10 0) ≡ 1
+after_call = refl
 
 -- ---- states that no run reaches
 
