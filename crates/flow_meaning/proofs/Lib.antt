@@ -5,7 +5,7 @@ mod Window
 mod Sets
 mod Targets
 mod Operands
-mod Behind
+mod Leaves
 mod Table
 mod Products
 mod Decoded

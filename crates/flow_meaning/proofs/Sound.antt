@@ -13,9 +13,9 @@ use Rattle.flow_meaning.specs.Content.{IsSound}
 use Rattle.flow_meaning.proofs.Never.{negative_word}
 use Rattle.flow_meaning.proofs.Lanes.{lane_small, low_byte}
 use Rattle.flow_meaning.proofs.Bytes.{low_length, Size, OneByte, TwoBytes, FourBytes, AreBytes}
-use Rattle.flow_meaning.proofs.Window.{window_bytes, Holds, holds_by, over_in, over_before, over_behind, over_length, bytes_length}
+use Rattle.flow_meaning.proofs.Window.{window_bytes, Holds, holds_by, over_in, over_before, over_after, over_length, bytes_length}
 use Rattle.flow_meaning.proofs.Targets.{set_in, put_at}
-use Rattle.flow_meaning.proofs.Behind.{Behind, on_landed, on_branched, on_loaded, on_stored}
+use Rattle.flow_meaning.proofs.Leaves.{Leaves, on_landed, on_branched, on_loaded, on_stored}
 use Rattle.flow_meaning.proofs.Products.{signed_product_word, mixed_product_word, unsigned_product_word, quotient_word, remainder_word, unsigned_quotient_word, unsigned_remainder_word}
 use Rattle.flow_meaning.proofs.Decoded.{InRange, signed_word}
 
@@ -51,7 +51,7 @@ put_bytes mem j bs h m b k = by (cases_lt k j) (cases_lt k (j + length bs))
     by : (k < j) ⊎ (j ≤ k) → (k < j + length bs) ⊎ (j + length bs ≤ k) → get_or (overwritten mem j bs) k 0 < 2 ^ 8
     by (inl x) y = subst (λ (n : ℕ). n < 2 ^ 8) (sym (over_before mem j bs k x h)) (m k)
     by (inr x) (inl y) = subst (λ (n : ℕ). n < 2 ^ 8) (sym (over_in mem j bs k (k - j) (omega arith) (omega arith) h)) (b (k - j))
-    by (inr x) (inr y) = subst (λ (n : ℕ). n < 2 ^ 8) (sym (over_behind mem j bs k y h)) (m k)
+    by (inr x) (inr y) = subst (λ (n : ℕ). n < 2 ^ 8) (sym (over_after mem j bs k y h)) (m k)
 
 pub sound_put : (s : State) (p a : ℕ) (bs : List ℕ) → IsSound s → Holds s.base (length s.memory) a (length bs) → AreBytes bs → IsSound (put_at s p a bs)
 sound_put s p a bs h w b =
@@ -122,21 +122,21 @@ module _ {s : State} (h : IsSound s) where
   set_on : (d v : ℕ) → v < 2 ^ 32 → IsSound (moved_on_with s d v)
   set_on d v g = sound_set s (wrap (s.pc + 4)) d v h g
 
-  jump_on : (d p : ℕ) → Behind (landed (is_aligned p) (jumped s d p)) IsSound
+  jump_on : (d p : ℕ) → Leaves (landed (is_aligned p) (jumped s d p)) IsSound
   jump_on d p = on_landed (is_aligned p) (jumped s d p) IsSound (sound_set s p d (wrap (s.pc + 4)) h (wrap_word (s.pc + 4)))
 
-  branch_on : (b : Bool) (p : ℕ) → Behind (branched s b p) IsSound
+  branch_on : (b : Bool) (p : ℕ) → Leaves (branched s b p) IsSound
   branch_on b p = on_branched s b p IsSound (λ q. sound_pc s q h)
 
-  load_on : (d a n : ℕ) (is_signed : Bool) → Size n → Behind (loaded s (in_window s a n) d a n is_signed) IsSound
+  load_on : (d a n : ℕ) (is_signed : Bool) → Size n → Leaves (loaded s (in_window s a n) d a n is_signed) IsSound
   load_on d a n is_signed z = on_loaded s (in_window s a n) d a n is_signed IsSound
       (λ e. set_on d (extended is_signed n (little_endian (bytes_at s a n))) (extended_word is_signed n (little_endian (bytes_at s a n)) (bytes_word n (bytes_at s a n) z (bytes_length s a n (holds_by s a n e)) (window_bytes s h a n))))
 
-  store_on : (a n v : ℕ) → Size n → Behind (stored s (in_window s a n) a n v) IsSound
+  store_on : (a n v : ℕ) → Size n → Leaves (stored s (in_window s a n) a n v) IsSound
   store_on a n v z = on_stored s (in_window s a n) a n v IsSound
       (λ e. sound_put s (wrap (s.pc + 4)) a (low_bytes n v) h (subst (Holds s.base (length s.memory) a) (sym (low_length n v z)) (holds_by s a n e)) (low_are_bytes n v))
 
-  pub stays_sound : (i : Instr) → InRange i → Behind (execute s (effect_of s i)) IsSound
+  pub stays_sound : (i : Instr) → InRange i → Leaves (execute s (effect_of s i)) IsSound
   stays_sound (Lui d imm) r = set_on d (as_word imm) (r.word)
   stays_sound (Auipc d imm) r = set_on d (relative s imm) (wrap_word (s.pc + as_word imm))
   stays_sound (Jal d imm) r = jump_on d (relative s imm)

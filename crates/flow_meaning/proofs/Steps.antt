@@ -21,7 +21,7 @@ use Rattle.flow_meaning.specs.StepLaws.{IsAnswered, IsDoneBy, IsDone, words_give
 use Rattle.flow_meaning.proofs.Never.{no, none_is, some_is}
 use Rattle.flow_meaning.proofs.Targets.{agrees_on, Carries}
 use Rattle.flow_meaning.proofs.Operands.{base_agrees}
-use Rattle.flow_meaning.proofs.Behind.{Behind, behind_is}
+use Rattle.flow_meaning.proofs.Leaves.{Leaves, leaves_is}
 use Rattle.flow_meaning.proofs.Table.{SamePlace, SamePlaceIf, carries}
 use Rattle.flow_meaning.proofs.Decoded.{fetched_in_range}
 use Rattle.flow_meaning.proofs.Sound.{stays_sound}
@@ -48,7 +48,7 @@ retires_by s t (Fetched i) e h = record { instr = i; is_fetched = e; executes = 
 pub retires : (s t : State) → next s ≡ Retired t → Executes s t
 retires s t h = retires_by s t (fetch s) refl h
 
--- the step and the state behind it, of an instruction and of a call
+-- the step of an instruction, and that of a call
 abbrev pub instruction_step : Moment → Instr → StepSeen
 instruction_step m i = record { number = m.time; instr = i; place = place_of m.state i; call = None }
 
@@ -75,7 +75,7 @@ pub sound_after : StaysSound
 sound_after inputs m h d = by (does inputs m d)
   where
     by : Does inputs m → IsSound (advance m).state
-    by (Plain t x e st a) = subst IsSound (sym a) (behind_is (execute m.state (effect_of m.state x.instr)) t IsSound x.executes (stays_sound h x.instr (fetched_in_range m.state x.instr x.is_fetched)))
+    by (Plain t x e st a) = subst IsSound (sym a) (leaves_is (execute m.state (effect_of m.state x.instr)) t IsSound x.executes (stays_sound h x.instr (fetched_in_range m.state x.instr x.is_fetched)))
     by (Calls call e g st a) = subst IsSound (sym a) (call_sound m.state inputs m.left h g)
 
 -- ---- what two steps on one path have in common
@@ -113,8 +113,8 @@ module _ (inputs others : ℕ) (m n : Moment) (ss : IsSound m.state) (st : IsSou
   plain_carries l s t x y pc i p =
       let p' : SamePlace rule x.instr (place_of m.state x.instr) (place_of n.state x.instr) = subst (λ (j : Instr). SamePlace rule x.instr (place_of m.state x.instr) (place_of n.state j)) (sym i) p in
       let executes : execute n.state (effect_of n.state x.instr) ≡ Retired t = ap (λ (j : Instr). execute n.state (effect_of n.state j)) i ∙ y.executes in
-      behind_is (execute n.state (effect_of n.state x.instr)) t (λ u. P (origins_by (flow rule x.instr (place_of m.state x.instr)) l) (content s l) (content u l)) executes
-      (behind_is (execute m.state (effect_of m.state x.instr)) s (λ u. Behind (execute n.state (effect_of n.state x.instr)) (λ v. P (origins_by (flow rule x.instr (place_of m.state x.instr)) l) (content u l) (content v l))) x.executes
+      leaves_is (execute n.state (effect_of n.state x.instr)) t (λ u. P (origins_by (flow rule x.instr (place_of m.state x.instr)) l) (content s l) (content u l)) executes
+      (leaves_is (execute m.state (effect_of m.state x.instr)) s (λ u. Leaves (execute n.state (effect_of n.state x.instr)) (λ v. P (origins_by (flow rule x.instr (place_of m.state x.instr)) l) (content u l) (content v l))) x.executes
       (carries ss st c x.instr (fetched_in_range m.state x.instr x.is_fetched).register pc p' l))
 
   -- the step and both states, where they are known by other names

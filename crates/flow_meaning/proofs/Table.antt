@@ -17,7 +17,7 @@ use Rattle.flow_meaning.proofs.Bytes.{low_length, Size, OneByte, TwoBytes, FourB
 use Rattle.flow_meaning.proofs.Window.{holds_by}
 use Rattle.flow_meaning.proofs.Targets.{AgreesOn, agrees_on, Carries, carry, kept, to_set, to_put}
 use Rattle.flow_meaning.proofs.Operands.{same_value, moves, of_one, of_two, of_shift, of_bytes, of_byte, of_test, of_tests, of_move, of_load, of_signed_load, of_store}
-use Rattle.flow_meaning.proofs.Behind.{Behind, on_landed, on_branched, on_loaded, on_stored}
+use Rattle.flow_meaning.proofs.Leaves.{Leaves, on_landed, on_branched, on_loaded, on_stored}
 
 -- the register that an instruction sets; 0 where it sets none
 abbrev pub sets : Instr → ℕ
@@ -80,23 +80,23 @@ SamePlace rule i x y = SamePlaceIf (is_load i) rule x y
 
 module _ {s t : State} (ss : IsSound s) (st : IsSound t) {rule : Rule} {P : List Loc → ℕ → ℕ → Type 0} (c : Carries s t rule P) where
   abbrev pub StepCarries : Instr → Loc → Type 0
-  StepCarries i l = Behind (execute s (effect_of s i)) (λ x. Behind (execute t (effect_of t i)) (λ y. P (origins_by (flow rule i (place_of s i)) l) (content x l) (content y l)))
+  StepCarries i l = Leaves (execute s (effect_of s i)) (λ x. Leaves (execute t (effect_of t i)) (λ y. P (origins_by (flow rule i (place_of s i)) l) (content x l) (content y l)))
 
   -- a register is set
   set_both : (d v w : ℕ) (origins : ℕ → List Loc) → d < 32 → ((i : ℕ) → i < 4 → P (origins i) (lane_of v i) (lane_of w i)) → (l : Loc) → P (origins_by (to_register d origins) l) (content (moved_on_with s d v) l) (content (moved_on_with t d w) l)
   set_both d v w origins h each l = to_set c d v w (wrap (s.pc + 4)) (wrap (t.pc + 4)) origins ss st h each l
 
-  jump_both : (d p q : ℕ) → d < 32 → s.pc ≡ t.pc → (l : Loc) → Behind (landed (is_aligned p) (jumped s d p)) (λ x. Behind (landed (is_aligned q) (jumped t d q)) (λ y. P (origins_by (to_register d nothing) l) (content x l) (content y l)))
+  jump_both : (d p q : ℕ) → d < 32 → s.pc ≡ t.pc → (l : Loc) → Leaves (landed (is_aligned p) (jumped s d p)) (λ x. Leaves (landed (is_aligned q) (jumped t d q)) (λ y. P (origins_by (to_register d nothing) l) (content x l) (content y l)))
   jump_both d p q h e l =
       on_landed (is_aligned p) (jumped s d p) _ (on_landed (is_aligned q) (jumped t d q) _
       (to_set c d (wrap (s.pc + 4)) (wrap (t.pc + 4)) p q nothing ss st h (λ i g. same_value ss st c (wrap (s.pc + 4)) (wrap (t.pc + 4)) i (ap (λ (x : ℕ). wrap (x + 4)) e)) l))
 
-  branch_both : (x y : Bool) (p q : ℕ) (l : Loc) → Behind (branched s x p) (λ u. Behind (branched t y q) (λ v. P (l ∷ []) (content u l) (content v l)))
+  branch_both : (x y : Bool) (p q : ℕ) (l : Loc) → Leaves (branched s x p) (λ u. Leaves (branched t y q) (λ v. P (l ∷ []) (content u l) (content v l)))
   branch_both x y p q l = on_branched s x p _ (λ p. on_branched t y q _ (λ q. kept c p q l))
 
   -- the origins of a load, against the states after it
   abbrev LoadsTo : (d a b n : ℕ) → Bool → (ℕ → List Loc) → Loc → Type 0
-  LoadsTo d a b n is_signed origins l = Behind (loaded s (in_window s a n) d a n is_signed) (λ x. Behind (loaded t (in_window t b n) d b n is_signed) (λ y. P (origins_by (to_register d origins) l) (content x l) (content y l)))
+  LoadsTo d a b n is_signed origins l = Leaves (loaded s (in_window s a n) d a n is_signed) (λ x. Leaves (loaded t (in_window t b n) d b n is_signed) (λ y. P (origins_by (to_register d origins) l) (content x l) (content y l)))
 
   load_both : (d k : ℕ) (imm : ℤ) (n : ℕ) → Size n → d < 32 → AgreesOn rule (effective_address s k imm) (effective_address t k imm) → (l : Loc)
       → LoadsTo d (effective_address s k imm) (effective_address t k imm) n false (loaded_byte rule k (effective_address s k imm) n) l
@@ -115,7 +115,7 @@ module _ {s t : State} (ss : IsSound s) (st : IsSound t) {rule : Rule} {P : List
       set_both d (sign_extended (8 * n) (little_endian (bytes_at s a n))) (sign_extended (8 * n) (little_endian (bytes_at t b n))) (signed_load rule k a n) h (λ i g. of_signed_load ss st c k imm n i z g on (holds_by s a n x) (holds_by t b n y)) l))
 
   abbrev StoresTo : (a n r : ℕ) → (ℕ → List Loc) → Loc → ℕ → Type 0
-  StoresTo a n r origins l b = Behind (stored s (in_window s a n) a n (reg s r)) (λ x. Behind (stored t (in_window t b n) b n (reg t r)) (λ y. P (origins_by (to_memory a n origins) l) (content x l) (content y l)))
+  StoresTo a n r origins l b = Leaves (stored s (in_window s a n) a n (reg s r)) (λ x. Leaves (stored t (in_window t b n) b n (reg t r)) (λ y. P (origins_by (to_memory a n origins) l) (content x l) (content y l)))
 
   store_to : (a b n r : ℕ) (origins : ℕ → List Loc) → Size n → a ≡ b → ((i : ℕ) → i < n → P (origins i) (get_or (low_bytes n (reg s r)) i 0) (get_or (low_bytes n (reg t r)) i 0)) → (l : Loc) → StoresTo a n r origins l b
   store_to a b n r origins z e each l = subst (StoresTo a n r origins l) e

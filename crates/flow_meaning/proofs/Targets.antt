@@ -1,4 +1,4 @@
--- What a table of targets says of the states behind a step: the origins of a location against the contents.
+-- What a table of targets says of the states after a step: the origins of a location against the contents.
 use Rattle.std.proofs.Common.{◌≡◌, ℕ, ℤ, zero, suc, ◌+◌, ◌-◌, ◌^◌, ◌<◌, ◌≤◌, ◌⊎◌, inl, inr, Bool, true, false, cond, List, [], ◌∷◌, map, refl, arith, ap, sym, ◌∙◌, subst, length, get_or, get_or-set_same, get_or-set_other, eqb-true, mod-eq_of_lt}
 use Rattle.std.specs.Prelude.{◌==◌, ◌&&◌, slice_set}
 use Rattle.std.specs.List.{range_with_len}

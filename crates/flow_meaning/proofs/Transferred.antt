@@ -70,8 +70,8 @@ written_content s inputs at args kept bytes rs i sound a h =
     let rest = bytes_compared 0 bytes (bytes_at s (reg s 11) (length bytes)) in
     let held = write_held s inputs at args kept bytes rest a.0 a.1 (omega arith) in
     let w = holds_by s (reg s 11) (length bytes) held.held in
-    let behind = rest_agrees (arguments s args) (result_compared kept (allowed (refusal_of s 16 (arguments_of s)) kept (reg s 12)) ∷ rest) a.1 in
-    let same = (first_agrees (result_compared kept (allowed (refusal_of s 16 (arguments_of s)) kept (reg s 12))) rest behind).1 in
+    let later = rest_agrees (arguments s args) (result_compared kept (allowed (refusal_of s 16 (arguments_of s)) kept (reg s 12)) ∷ rest) a.1 in
+    let same = (first_agrees (result_compared kept (allowed (refusal_of s 16 (arguments_of s)) kept (reg s 12))) rest later).1 in
     let long : length (bytes_at s (reg s 11) (length bytes)) ≡ length bytes = bytes_length s (reg s 11) (length bytes) w in
     let whole : wrap (buffer_of args + i) ≡ reg s 11 + i = place (buffer_of args) (reg s 11) held.buffer w.below sound.ends in
     ap (λ (p : ℕ). content s (Mem p)) whole ∙ sym (byte_of_window s (reg s 11) (length bytes) i w h) ∙ sym (same_bytes 0 bytes (bytes_at s (reg s 11) (length bytes)) i same h (omega arith))
