@@ -16,7 +16,7 @@ use Rattle.flow_meaning.specs.Content.{content, lane_of}
 
 -- ---- two states that differ at one location
 
--- x1 and x2 have these words, and so has memory
+-- x1 and x2 have these words, and so has memory from 0 on; the other registers are 0
 abbrev state_of : ℕ → ℕ → State
 state_of v w = record { pc = 0; registers = 0 ∷ v ∷ w ∷ replicate 29 0; base = 0; memory = to_le_bytes w32 v ++ to_le_bytes w32 w }
 
@@ -67,7 +67,7 @@ abbrev is_of : ℕ → Loc → Bool
 is_of q (Reg r i) = r == q
 is_of q (Mem p) = false
 
--- a target with an origin in a lane above its own, in a lane of x1 below, in another lane
+-- the targets with origins in a lane above their own, in a lane of x1 below, in another lane
 abbrev above : Instr → List (Loc × Loc)
 above i = filter (λ p. nat_lt (lane_number p.0) (lane_number p.1)) (listed i)
 
@@ -83,17 +83,22 @@ unsigned_lanes i = filter (λ p. nat_lt (lane_number p.1) 3) (listed i)
 
 -- ---- what was found
 
--- each origin matters
-abbrev all_of_them : List Instr
-all_of_them =
-    Lb 3 5 (pos 0) ∷ Lh 3 5 (pos 0) ∷ Lw 3 5 (pos 0) ∷ Lbu 3 5 (pos 0) ∷ Lhu 3 5 (pos 0) ∷ Sb 5 1 (pos 0) ∷ Sh 5 1 (pos 0) ∷ Sw 5 1 (pos 0) ∷
+-- of these each origin matters
+abbrev loads : List Instr
+loads = Lb 3 5 (pos 0) ∷ Lh 3 5 (pos 0) ∷ Lw 3 5 (pos 0) ∷ Lbu 3 5 (pos 0) ∷ Lhu 3 5 (pos 0) ∷ []
+
+abbrev stores : List Instr
+stores = Sb 5 1 (pos 0) ∷ Sh 5 1 (pos 0) ∷ Sw 5 1 (pos 0) ∷ []
+
+abbrev tight : List Instr
+tight =
     Addi 3 1 (pos 0) ∷ Add 3 1 0 ∷ Add 3 0 2 ∷ Or 3 1 0 ∷ Or 3 0 2 ∷ Xor 3 1 0 ∷ Xor 3 0 2 ∷
     Or 3 1 2 ∷ Xor 3 1 2 ∷ And 3 1 2 ∷ Slt 3 1 2 ∷ Sltu 3 1 2 ∷ Slt 3 0 2 ∷ Sltu 3 0 2 ∷
     Mulh 3 1 2 ∷ Mulhsu 3 1 2 ∷ Mulhu 3 1 2 ∷ Div 3 1 2 ∷ Rem 3 1 2 ∷ Remu 3 1 2 ∷ Div 3 0 2 ∷ Divu 3 0 2 ∷
     And 3 1 1 ∷ Or 3 1 1 ∷ Mulh 3 1 1 ∷ Div 3 1 1 ∷ Divu 3 1 1 ∷
     Xori 3 1 (pos 255) ∷ Andi 3 1 (negsuc 0) ∷ Ori 3 1 (pos 0) ∷ Slti 3 1 (pos 1) ∷ Sltiu 3 1 (pos 1) ∷ []
 
-all_matter : flat_map idle all_of_them ≡ []
+all_matter : flat_map idle (loads ++ stores ++ tight) ≡ []
 all_matter = refl
 
 -- a sum, a product and a shift to the left have no content from lanes above
@@ -197,12 +202,6 @@ is_listed rule i target origin = list_any (loc_eq origin) (origins_by (table rul
 -- of these targets and locations those of which the location matters, and isn't listed
 abbrev unlisted : Rule → List Loc → List Loc → Instr → List (Loc × Loc)
 unlisted rule targets from i = filter (λ p. matters i p.0 p.1) (filter (λ p. not (is_listed rule i p.0 p.1)) (pairs targets from))
-
-abbrev loads : List Instr
-loads = Lb 3 5 (pos 0) ∷ Lh 3 5 (pos 0) ∷ Lw 3 5 (pos 0) ∷ Lbu 3 5 (pos 0) ∷ Lhu 3 5 (pos 0) ∷ []
-
-abbrev stores : List Instr
-stores = Sb 5 1 (pos 0) ∷ Sh 5 1 (pos 0) ∷ Sw 5 1 (pos 0) ∷ []
 
 abbrev operations : List Instr
 operations =
