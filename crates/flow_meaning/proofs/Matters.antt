@@ -157,6 +157,10 @@ upper_filled = refl
 no_carry : idle (Addi 3 1 (pos 256)) ≡ filter (λ p. nat_lt (lane_number p.0) (lane_number p.1) || (nat_lt 0 (lane_number p.0) && (lane_number p.1 == 0))) (listed (Addi 3 1 (pos 256)))
 no_carry = refl
 
+-- a register that is doubled is shifted by one bit
+doubled : idle (Add 3 1 1) ≡ filter (λ p. nat_lt (lane_number p.0) (lane_number p.1) || nat_lt (lane_number p.1 + 1) (lane_number p.0)) (listed (Add 3 1 1))
+doubled = refl
+
 -- ---- shifts by an immediate: an origin matters where a bit of it comes into the target
 
 -- bits from a up to a + 8, and bits from b up to b + 8, have some in common
