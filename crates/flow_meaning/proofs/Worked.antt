@@ -227,6 +227,17 @@ further_on = refl
 content_further_on : content_at branch_start (log_of 6 1 12) 1 (Mem 4294967356) ≡ 0
 content_further_on = refl
 
+-- ---- nothing flows where a read puts a byte, and the bytes differ
+
+nothing_flows : from Compute (step_of (moment_at branch_start (log_of 6 1 12) 0)) (Mem 60) ≡ []
+nothing_flows = refl
+
+first_byte : content_at branch_start (log_of 6 1 12) 1 (Mem 60) ≡ 1
+first_byte = refl
+
+second_byte : content_at branch_start (log_of 6 0 36) 1 (Mem 60) ≡ 0
+second_byte = refl
+
 -- ---- a call's result comes from nowhere
 
 result_from_nowhere : from Copy (step_of (moment_at branch_start (log_of 6 1 12) 0)) (Reg 10 0) ≡ []
