@@ -1,0 +1,163 @@
+-- The state that a program begins in is sound.
+use Rattle.std.proofs.Common.{◌≡◌, ℕ, zero, suc, ◌+◌, ◌-◌, ◌*◌, ◌/◌, ◌^◌, ◌<◌, ◌≤◌, ◌⊎◌, inl, inr, Bool, true, false, ◌||◌, List, [], ◌∷◌, map, length, get_or, take, drop, replicate, Option, Some, None, Result, Ok, Err, refl, arith, sym, ◌∙◌, subst, leb-true, ltb-false, length-take, get_or-take, get_or-drop}
+use Rattle.std.specs.Prelude.{nat_le, nat_lt, if◌then◌else◌}
+use Rattle.std.specs.List.{AllByRecursion, list_all}
+use Rattle.std.proofs.lemmas.Bool.{and_parts, cases_lt}
+use Rattle.std.proofs.lemmas.List.{get_or_past, length-replicate}
+use Rattle.isa.specs.Machine.{State, overwritten}
+use Rattle.elf_model.specs.declared.ImageKind.{ImageKind}
+use Rattle.format_model.specs.FirstTrue.{first_true}
+use Rattle.elf_model.specs.Image.{Image, LoadedSegment, ProgramHeader, image, image_of, unless_faulty, faults, segment, lowest, loaded_headers, is_segment_wrong, is_any_segment_wrong}
+use Rattle.elf_model.specs.Window.{start_of, start_with, start_in, can_hold, laid_out}
+use Rattle.log_model.specs.Logs.{Log}
+use Rattle.replay_model.specs.Fits.{beginning, start_in_image}
+use Rattle.flow_meaning.specs.Content.{IsSound}
+use Rattle.flow_meaning.specs.RunLaws.{FitsMakesRun}
+use Rattle.flow_meaning.proofs.Never.{no, none_is}
+use Rattle.flow_meaning.proofs.Bytes.{AreBytes}
+use Rattle.flow_meaning.proofs.Window.{over_length}
+use Rattle.flow_meaning.proofs.Sound.{put_bytes}
+
+-- ---- segments
+
+pub record IsGood (base : ℕ) (s : LoadedSegment) : Type 0 where
+  pub above : base ≤ s.place
+  pub short : length s.bytes ≤ s.size
+  pub bytes : AreBytes s.bytes
+
+or_parts : (a b : Bool) → (a || b) ≡ false → (a ≡ false) × (b ≡ false)
+or_parts true b e = no e
+or_parts false b e = (refl, e)
+
+file_bytes : (file : List ℕ) → AllByRecursion (λ b. b < 256) file → AreBytes file
+file_bytes [] h k = omega arith
+file_bytes (b ∷ bs) h zero = h.0
+file_bytes (b ∷ bs) h (suc k) = file_bytes bs h.1 k
+
+piece_bytes : (file : List ℕ) (n i : ℕ) → AreBytes file → AreBytes (take n (drop i file))
+piece_bytes file n i h k = by (cases_lt k n)
+  where
+    by : (k < n) ⊎ (n ≤ k) → get_or (take n (drop i file)) k 0 < 2 ^ 8
+    by (inl g) = subst (λ (x : ℕ). x < 2 ^ 8) (sym (get_or-take n (drop i file) k 0 g ∙ get_or-drop i file k 0)) (h (i + k))
+    by (inr g) = subst (λ (x : ℕ). x < 2 ^ 8) (sym (get_or_past (take n (drop i file)) k 0 (omega (arith, length-take n (drop i file))))) (omega arith)
+
+good_segment : (file : List ℕ) (base : ℕ) (h : ProgramHeader) → AreBytes file → base ≤ h.p_vaddr → h.p_filesz ≤ h.p_memsz → IsGood base (segment file h)
+good_segment file base h b x y = record { above = x; short = omega (arith, length-take h.p_filesz (drop h.p_offset file)); bytes = piece_bytes file h.p_filesz h.p_offset b }
+
+pub record IsRight (n before : ℕ) (h : ProgramHeader) : Type 0 where
+  pub short : h.p_filesz ≤ h.p_memsz
+  pub after : before ≤ h.p_vaddr
+
+right_by : (n before : ℕ) (h : ProgramHeader) → is_segment_wrong n before h ≡ false → IsRight n before h
+right_by n before h e =
+    let last = or_parts _ (nat_lt h.p_vaddr before) e in
+    let third = or_parts _ (nat_lt (2 ^ 32) (h.p_vaddr + h.p_memsz)) last.0 in
+    let first = or_parts (nat_lt h.p_memsz h.p_filesz) _ third.0 in
+    record { short = ltb-false h.p_memsz h.p_filesz first.0; after = ltb-false h.p_vaddr before last.1 }
+
+good_from : (file : List ℕ) (base n before : ℕ) (hs : List ProgramHeader) → AreBytes file → base ≤ before → is_any_segment_wrong n before hs ≡ false → AllByRecursion (IsGood base) (map (segment file) hs)
+good_from file base n before [] b x e = tt
+good_from file base n before (h ∷ hs) b x e =
+    let both = or_parts (is_segment_wrong n before h) (is_any_segment_wrong n (h.p_vaddr + h.p_memsz) hs) e in
+    let right = right_by n before h both.0 in
+    let after = right.after in
+    (good_segment file base h b (omega arith) right.short, good_from file base n (h.p_vaddr + h.p_memsz) hs b (omega arith) both.1)
+
+good_all : (file : List ℕ) (n : ℕ) (hs : List ProgramHeader) → AreBytes file → is_any_segment_wrong n 0 hs ≡ false → AllByRecursion (IsGood (lowest (map (segment file) hs) / 4096 * 4096)) (map (segment file) hs)
+good_all file n [] b e = tt
+good_all file n (h ∷ hs) b e =
+    let both = or_parts (is_segment_wrong n 0 h) (is_any_segment_wrong n (h.p_vaddr + h.p_memsz) hs) e in
+    let right = right_by n 0 h both.0 in
+    let low = rounded h.p_vaddr in
+    (good_segment file (h.p_vaddr / 4096 * 4096) h b low right.short, good_from file (h.p_vaddr / 4096 * 4096) n (h.p_vaddr + h.p_memsz) hs b (omega arith) both.1)
+  where
+    rounded : (n : ℕ) → n / 4096 * 4096 ≤ n
+    rounded n = omega arith
+
+-- ---- a file without faults
+
+none_true : {X : Type 0} (b : Bool) (x : X) (o : Option X) → (if b then Some x else o) ≡ None → (b ≡ false) × (o ≡ None)
+none_true true x o e = absurd (some e)
+  where
+    some : Some x ≡ None → ⊥
+    some e = cc
+none_true false x o e = (refl, e)
+
+all_false : {X : Type 0} (rows : List (Bool × X)) → first_true rows ≡ None → AllByRecursion (λ row. row.0 ≡ false) rows
+all_false [] e = tt
+all_false (row ∷ rows) e = let both = none_true row.0 row.1 (first_true rows) e in (both.0, all_false rows both.1)
+
+segments_right : (file : List ℕ) → first_true (faults file) ≡ None → is_any_segment_wrong (length file) 0 (loaded_headers file) ≡ false
+segments_right file e = (all_false (faults file) e).1.1.1.1.1.1.1.0
+
+abbrev IsGoodImage : Image → Type 0
+IsGoodImage im = AllByRecursion (IsGood im.base) im.segments
+
+good_image : (file : List ℕ) (im : Image) → AreBytes file → image file ≡ Ok im → IsGoodImage im
+good_image file im b e = by (first_true (faults file)) refl e
+  where
+    by : (o : Option ImageKind) → first_true (faults file) ≡ o → unless_faulty file o ≡ Ok im → IsGoodImage im
+    by None f e = let same : image_of file ≡ im = cc in subst IsGoodImage same (good_all file (length file) (loaded_headers file) b (segments_right file f))
+    by (Some fault) f e = absurd (wrong e)
+      where
+        wrong : Err fault ≡ Ok im → ⊥
+        wrong e = cc
+
+-- ---- the window
+
+pub record IsWindow (size : ℕ) (mem : List ℕ) : Type 0 where
+  pub long : length mem ≡ size
+  pub bytes : AreBytes mem
+
+laid_window : (base size : ℕ) (mem : List ℕ) (ss : List LoadedSegment) → IsWindow size mem → AllByRecursion (IsGood base) ss → list_all (λ s. nat_le (s.place + s.size) (base + size)) ss ≡ true → IsWindow size (laid_out base mem ss)
+laid_window base size mem [] w g e = w
+laid_window base size mem (s ∷ ss) w g e =
+    let both = and_parts (nat_le (s.place + s.size) (base + size)) (list_all (λ s. nat_le (s.place + s.size) (base + size)) ss) e in
+    let fits = leb-true (s.place + s.size) (base + size) both.0 in
+    let above = g.0.above in
+    let short = g.0.short in
+    let long = w.long in
+    let room : (s.place - base) + length s.bytes ≤ length mem = omega arith in
+    laid_window base size (overwritten mem (s.place - base) s.bytes) ss
+    (record { long = over_length mem (s.place - base) s.bytes room ∙ w.long; bytes = put_bytes mem (s.place - base) s.bytes room w.bytes g.0.bytes }) g.1 both.1
+
+zero_bytes : (n k : ℕ) → get_or (replicate {A = ℕ} n 0) k 0 < 2 ^ 8
+zero_bytes zero k = omega arith
+zero_bytes (suc n) zero = omega arith
+zero_bytes (suc n) (suc k) = zero_bytes n k
+
+start_words : (top r : ℕ) → top < 2 ^ 32 → get_or (0 ∷ 0 ∷ top ∷ replicate 29 0) r 0 < 2 ^ 32
+start_words top zero h = omega arith
+start_words top (suc zero) h = omega arith
+start_words top (suc (suc zero)) h = h
+start_words top (suc (suc (suc r))) h = let x = zero_bytes 29 r in omega arith
+
+sound_start : (im : Image) (pages : ℕ) (s : State) → IsGoodImage im → start_of im pages ≡ Some s → IsSound s
+sound_start im pages s g e = by (can_hold im pages) refl e
+  where
+    by : (b : Bool) → can_hold im pages ≡ b → start_with im pages (if b then Some (laid_out im.base (replicate (pages * 4096) 0) im.segments) else None) ≡ Some s → IsSound s
+    by true f e =
+        let both = and_parts (nat_le (im.base + pages * 4096) (2 ^ 32)) (list_all (λ s. nat_le (s.place + s.size) (im.base + pages * 4096)) im.segments) f in
+        let ends = leb-true (im.base + pages * 4096) (2 ^ 32) both.0 in
+        let w = laid_window im.base (pages * 4096) (replicate (pages * 4096) 0) im.segments (record { long = length-replicate (pages * 4096) 0; bytes = zero_bytes (pages * 4096) }) g both.1 in
+        let long = w.long in
+        let same : start_in im pages (laid_out im.base (replicate (pages * 4096) 0) im.segments) ≡ s = cc in
+        let sound : IsSound (start_in im pages (laid_out im.base (replicate (pages * 4096) 0) im.segments)) = record {
+          count = refl;
+          first = refl;
+          words = λ r. start_words (im.base + pages * 4096 - 16) r (omega arith);
+          bytes = w.bytes;
+          ends = omega arith;
+        } in
+        subst IsSound same sound
+    by false f e = none_is e
+
+begins_sound : (program : List ℕ) (log : Log) (s : State) → AllByRecursion (λ b. b < 256) program → beginning program log ≡ Some s → IsSound s
+begins_sound program log s b e = by (image program) refl e
+  where
+    by : (r : Result Image ImageKind) → image program ≡ r → start_in_image r log.pages ≡ Some s → IsSound s
+    by (Ok im) f e = sound_start im log.pages s (good_image program im (file_bytes program b) f) e
+    by (Err fault) f e = none_is e
+
+pub fits_makes_run : FitsMakesRun
+fits_makes_run program log b form f = record { form = form; sound = begins_sound program log f.start b f.begins; agrees = f.agrees }

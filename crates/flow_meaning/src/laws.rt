@@ -1,0 +1,67 @@
+//! Laws of the definitions: each is the contract of a function that does nothing.
+
+ghost use Rattle.flow_model.specs.declared.Rule.TheVariants.{Copy, Compute, Index};
+ghost use Rattle.flow_meaning.specs.StepLaws.{StaysSound, CopyIsSingle, CopyMoves, DeterminedBy, ReceivedIsThere, FlowsWithin};
+ghost use Rattle.flow_meaning.specs.FewerLaws.{FewerDetermine};
+ghost use Rattle.flow_meaning.specs.RunLaws.{FitsMakesRun, CopiedContents, CopiedRows, DeterminedContents, DeterminedRows, SamePathSameTrace, OriginsWithin};
+
+/// A step leaves a sound state sound: 32 registers of words, of which the first is 0, and a window of bytes.
+pub fn steps_stay_sound()
+    ensures { StaysSound }
+{}
+
+/// What flows by copy is the very byte: at most one location flows into another, and the content after the step is that
+/// location's before it.
+pub fn copy_moves()
+    ensures single { CopyIsSingle }
+    ensures step { CopyMoves }
+{}
+
+/// What flows by compute determines the content after the step, unless the step receives it, among steps with one
+/// effective address. What flows by index determines it among those too that load from other addresses.
+pub fn flow_determines()
+    ensures compute { DeterminedBy Compute }
+    ensures index { DeterminedBy Index }
+    ensures received { ReceivedIsThere }
+{}
+
+/// The rules nest: what flows by copy flows by compute, and what flows by compute flows by index, in each step. So it is
+/// with the origins of each location, at each time and in each trace.
+pub fn rules_nest()
+    ensures copied { FlowsWithin Copy Compute }
+    ensures computed { FlowsWithin Compute Index }
+    ensures copied_origins { OriginsWithin Copy Compute }
+    ensures computed_origins { OriginsWithin Compute Index }
+{}
+
+/// A log that fits a program of bytes makes a run that these laws speak of.
+pub fn fits_makes_run()
+    ensures { FitsMakesRun }
+{}
+
+/// Copied bytes are the bytes: under copy each location has at most one origin at each time, and where it has one, its
+/// content is the byte received there. So has each row: an output byte that has a source is the byte received there.
+pub fn copied_bytes_are_received()
+    ensures contents { CopiedContents }
+    ensures rows { CopiedRows }
+{}
+
+/// Compute loses no explicit flow: where two runs of one beginning take one path, and received the same at all sources of
+/// a row and at the bytes that no one chose, they have the same byte there.
+pub fn compute_loses_no_flow()
+    ensures contents { DeterminedContents Compute }
+    ensures rows { DeterminedRows Compute }
+    ensures trace { SamePathSameTrace }
+{}
+
+/// Index loses no flow by the addresses of loads: the same holds of runs whose loads go to other addresses.
+pub fn index_loses_no_flow()
+    ensures contents { DeterminedContents Index }
+    ensures rows { DeterminedRows Index }
+{}
+
+/// Fewer origins than compute lists determine a lane of some results: lanes above have no part in a sum, a product or a
+/// shift to the left, and lanes below none in a shift to the right or an unsigned quotient.
+pub fn fewer_origins_determine()
+    ensures { FewerDetermine }
+{}
