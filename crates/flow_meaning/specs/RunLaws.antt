@@ -13,7 +13,7 @@ use Rattle.flow_model.specs.declared.SinkPoint.TheVariants.{Out, At}
 use Rattle.flow_model.specs.declared.StepSeen.{StepSeen}
 use Rattle.flow_model.specs.Origins.{Policy, origins}
 use Rattle.flow_model.specs.Ranges.{IsLocation}
-use Rattle.report_model.specs.Query.{Query, has_source}
+use Rattle.report_model.specs.Query.{Query, AreLocated, has_source}
 use Rattle.report_model.specs.Rows.{rows}
 use Rattle.replay_model.specs.Run.{Moment, start, moment_after, trace}
 use Rattle.replay_model.specs.Comparison.{divergence}
@@ -80,7 +80,7 @@ CopiedContents = (log : Log) (s : State) → IsRun log s → (introduces : Sourc
 
 -- and so has each row of a report, of an output byte or of a point
 abbrev pub CopiedRows : Type 0
-CopiedRows = (log : Log) (s : State) → IsRun log s → (q : Query) → q.rule ≡ Copy → All (λ p. IsLocation p.loc) q.points
+CopiedRows = (log : Log) (s : State) → IsRun log s → (q : Query) → q.rule ≡ Copy → AreLocated q.points
     → All (λ r. IsCopied log (byte_at_sink s log r.sink) r.sources) (rows q (trace s log))
 
 -- where two runs take one path and received the same bytes apart from those that introduce taint, and at all origins of
