@@ -14,7 +14,7 @@ use Rattle.epoch_model.specs.Crossing.{added_all, wanted, asked_by}
 use Rattle.epoch_model.specs.Join.{answer_to, resolved, rows_of}
 use Rattle.stream_model.specs.Streams.{is_ended, requests, heard, is_resolvable, end_if, asks_for, answer, then_if, answers_for, asked_of}
 use Rattle.stream_model.specs.StreamLaws.{IsPrefix}
-use Rattle.stream_model.specs.Passes.{Links, Asking, Answering, asking_start, got_at_start, asked_more, wanted_for, is_whole_message, whole_if, push_ask, walk, pop_ask, drop_ask, end_asks, broken_asking, whole_asking, asking_by, asking_event, asking_after, answering_start, push_answer, pop_answer, build, build_or_pop, resolve, drop_answer, end_answers, resolve_or_end, pop_or_end, broken_answering, whole_answering, answering_by, answering_event, answering_after, rows_or_none}
+use Rattle.stream_model.specs.Passes.{Links, Asking, Answering, asking_start, got_at_start, asked_more, wanted_for, is_whole_message, asked_if, push_ask, walk, pop_ask, drop_ask, end_asks, broken_asking, whole_asking, asking_by, asking_event, asking_after, answering_start, push_answer, pop_answer, build, build_or_pop, resolve, drop_answer, end_answers, resolve_or_end, pop_or_end, broken_answering, whole_answering, answering_by, answering_event, answering_after, rows_or_none}
 use Rattle.stream_model.specs.PassLaws.{AsksSent, AskingSends, AnswersSent, AnsweringSends, PassesEndDone}
 use Rattle.stream_model.proofs.Growing.{prefix_same, prefix_trans, added_all-append, added_all_keeps, requests_more, resolvable_stays, ended_stays, answers_stay}
 
@@ -115,9 +115,8 @@ module _ (first last : Bool) (e : Summary) (links : Links) (a : Asking) (h : Ask
         over = λ t. no (sym t ∙ o);
       }
 
-  on_take : (m : Message) → a.is_over ≡ false → a.left ≡ [] → is_ended a.got ≡ false → (b : Bool)
-      → (whole_if b (record a { got = a.got ++ m ∷ []; asked = asked_more first a.asked (wanted_for e m) })).is_whole ≡ true
-      → AskingHolds first last e (whole_if b (record a { got = a.got ++ m ∷ []; asked = asked_more first a.asked (wanted_for e m) }))
+  on_take : (m : Message) → a.is_over ≡ false → a.left ≡ [] → is_ended a.got ≡ false → (b : Bool) → b ≡ true
+      → AskingHolds first last e (record a { got = a.got ++ m ∷ []; asked = asked_if b (asked_more first a.asked (wanted_for e m)); is_whole = b })
   on_take m o w running false t = no (sym t)
   on_take m o w running true t =
       let front = take_front a.pushed a.asked (asked_more first a.asked (wanted_for e m)) h.within (more_keeps first a.asked (wanted_for e m)) in

@@ -71,20 +71,22 @@ push_ask true a l = record a { pushed = a.pushed + 1; sent = a.sent ++ Ask l ∷
 push_ask false a l = a
 
 -- a pass that breaks forgets what it asked
-abbrev pub whole_if : Bool → Asking → Asking
-whole_if true a = a
-whole_if false a = record a { asked = []; is_whole = false }
+abbrev pub asked_if : Bool → List Loc → List Loc
+asked_if true asked = asked
+asked_if false asked = []
 
 -- in these the first test is whether a growth is refused
 abbrev pub walk : Bool → Bool → Asking → SinkTerms → List SinkTerms → Asking
-walk true first a k left = whole_if false a
+walk true first a k left = record a { asked = []; is_whole = false }
 walk false first a k left = record a { left = left; asked = asked_more first a.asked k.terms.starts }
 
 abbrev pub take_ask : Bool → Bool → Summary → Asking → Message → Asking
-take_ask true first e a m = whole_if false (record a { got = a.got ++ m ∷ [] })
-take_ask false first e a m =
-    whole_if (is_whole_message m)
-    (record a { got = a.got ++ m ∷ []; asked = asked_more first a.asked (wanted_for e m) })
+take_ask true first e a m = record a { got = a.got ++ m ∷ []; asked = []; is_whole = false }
+take_ask false first e a m = record a {
+  got = a.got ++ m ∷ [];
+  asked = asked_if (is_whole_message m) (asked_more first a.asked (wanted_for e m));
+  is_whole = is_whole_message m;
+}
 
 abbrev pub pop_ask : Bool → Bool → Summary → Asking → Option Message → Asking
 pop_ask refused first e a None = a
