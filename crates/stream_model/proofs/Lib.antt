@@ -6,3 +6,4 @@ pub mod Moving
 pub mod NeverStill
 pub mod Running
 pub mod Work
+mod Worked

@@ -27,11 +27,11 @@ use Rattle.epoch_model.specs.Stretch.{points_at_start, sinks_between, sinks_of_e
 use Rattle.epoch_model.specs.Cutting.{RisesTo, IsCutting}
 use Rattle.epoch_model.specs.Summary.{Summary, IsSummary, AreSummaries, ArePointsLocated}
 use Rattle.epoch_model.specs.Crossing.{asked_by, crossing}
-use Rattle.epoch_model.specs.Join.{answer_to, resolved, rows_of, answers_of}
+use Rattle.epoch_model.specs.Join.{answer_to, resolved, rows_of}
 use Rattle.epoch_model.proofs.Sinks.{sinks-all, sinks-later, sinks-split}
 use Rattle.epoch_model.proofs.Asking.{rises_up, located-crossing, asks_what_is_needed, asks_by_cuts, asks_once}
 use Rattle.epoch_model.proofs.Joining.{epoch_known, wanted_known}
-use Rattle.stream_model.specs.Streams.{is_ended, requests, answers_in, heard, is_answered, end_if, asks_for, answer, then_if, answers_for, Node, asked_of, IsDone, AreDone, summaries}
+use Rattle.stream_model.specs.Streams.{is_ended, requests, answers_in, heard, is_answered, end_if, asks_for, answer, then_if, answers_for, Node, asked_of, AreDone, summaries}
 use Rattle.stream_model.specs.StreamLaws.{answers_to, LinksCarry, HaveRows, DoneNodesMeet}
 
 -- ---- ascending lists

@@ -11,7 +11,7 @@ use Rattle.flow_rule.specs.declared.Message.TheVariants.{Ask, Byte, Close, End}
 use Rattle.report_model.specs.Query.{Query, policy_of}
 use Rattle.report_model.specs.Rows.{Row, rows_as_written}
 use Rattle.epoch_model.specs.Cutting.{IsCutting}
-use Rattle.epoch_model.specs.Summary.{Summary, SinkTerms, AreSummaries, ArePointsLocated}
+use Rattle.epoch_model.specs.Summary.{Summary, SinkTerms, AreSummaries}
 use Rattle.epoch_model.specs.Crossing.{crossing_at}
 use Rattle.epoch_model.specs.Join.{resolved_row}
 use Rattle.stream_model.specs.Streams.{is_ended, requests, heard, is_resolvable, answer, answers_for, end_if, Node, summaries}
