@@ -1,5 +1,5 @@
 -- The events of the pass backwards are those of the definitions.
-use Rattle.std.proofs.Common.{◌≡◌, ℕ, zero, suc, ◌+◌, List, [], ◌∷◌, ◌++◌, drop, map, refl, ap, ap₂, sym, ◌∙◌, Bool, true, false, append-nil, subst}
+use Rattle.std.proofs.Common.{◌≡◌, ℕ, zero, suc, ◌+◌, List, [], ◌∷◌, ◌++◌, drop, refl, ap, ap₂, sym, ◌∙◌, Bool, true, false, append-nil, subst}
 use Rattle.std.specs.Prelude.{Option, Some, None, is_none, IfNone}
 use Rattle.std.proofs.lemmas.List.{map-append}
 use Rattle.std.proofs.lemmas.List.Elements.{All-from_recursion}

@@ -1,6 +1,6 @@
 -- Start locations that are asked, and their places.
 use Rattle.std.proofs.Common.{◌≡◌, ℕ, zero, suc, ◌+◌, ◌<◌, max, List, [], ◌∷◌, ◌++◌, length, take, get_or, refl, ap, ap₂, sym, ◌∙◌, Bool, true, false, ◌||◌, cond, arith, slice_get, Some}
-use Rattle.std.specs.List.{list_any, AllByRecursion, IsDistinct}
+use Rattle.std.specs.List.{AllByRecursion, IsDistinct}
 use Rattle.std.specs.Ordering.{eq_by_cmp, is_eq, ordering_reverse}
 use Rattle.std.proofs.Math.Seq.{take-suc}
 use Rattle.std.proofs.lemmas.Bool.{and_from}
@@ -15,7 +15,6 @@ use Rattle.std.specs.declared.cmp.Ordering.TheVariants.{Less, Equal, Greater}
 use Rattle.flow_model.proofs.Orders.{loc_total}
 use Rattle.epoch_model.proofs.Adding.{any_added_all}
 use Rattle.stream_model.specs.Streams.{places_up_to, places_needed}
-use Rattle.stream_model.specs.StreamLaws.{IsPrefix}
 use Rattle.stream_model.proofs.Growing.{added_all-append, added_all_keeps}
 use Rattle.stream_model.proofs.Counting.{places_stay}
 

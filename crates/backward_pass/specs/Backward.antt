@@ -10,7 +10,7 @@ use Rattle.stream_model.specs.PassLaws.{AsksSent}
 use Rattle.stream_model.specs.Schedules.{begun}
 use Rattle.pass_parts.specs.declared.pass_turn.PassTurn.{PassTurn}
 use Rattle.pass_parts.specs.declared.requests.Request.{Request}
-use Rattle.pass_parts.specs.Ends.{got_by, sent_by, fresh_end, EndsWhole}
+use Rattle.pass_parts.specs.Ends.{got_by, sent_by, EndsWhole}
 use Rattle.pass_parts.specs.Known.{known}
 use Rattle.pass_parts.specs.Requests.{locations, IsCounted, AreCounted}
 use Rattle.pass_parts.specs.Turns.{OnMoved}

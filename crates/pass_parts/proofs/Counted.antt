@@ -1,13 +1,12 @@
 -- Requests with their counts. Crates above cite these lemmas.
-use Rattle.std.proofs.Common.{◌≡◌, ℕ, List, [], ◌∷◌, ◌++◌, length, refl, ap, sym, ◌∙◌, Bool, true, false, ◌||◌, nat_le}
-use Rattle.std.specs.List.{list_any, list_all}
+use Rattle.std.proofs.Common.{◌≡◌, ℕ, List, [], ◌∷◌, ◌++◌, length, refl, ap, sym, ◌∙◌, Bool, true, ◌||◌, nat_le}
 use Rattle.std.specs.Ordering.{eq_by_cmp}
 use Rattle.std.proofs.lemmas.Bool.{and_parts, and_from}
 use Rattle.std.proofs.lemmas.List.Folds.{list_any-append}
 use Rattle.flow_model.specs.declared.Loc.{Loc}
 use Rattle.sorted_set.specs.Sets.{has, is_within}
 use Rattle.flow_model.specs.Orders.{loc_cmp}
-use Rattle.stream_model.specs.Streams.{is_ended, answers_in, places_needed}
+use Rattle.stream_model.specs.Streams.{is_ended, answers_in}
 use Rattle.stream_model.proofs.Counting.{places_stay, resolvable_by_count}
 use Rattle.pass_parts.specs.PartLaws.{CountsStay, AnswerableByCount}
 

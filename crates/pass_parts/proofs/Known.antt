@@ -1,9 +1,9 @@
 -- What the passes know of an epoch. Crates above cite these lemmas.
-use Rattle.std.proofs.Common.{◌≡◌, ◌<◌, refl, ap, sym, ◌∙◌, Bool, true, false, cond, arith}
+use Rattle.std.proofs.Common.{◌≡◌, refl, ap, ◌∙◌, Bool, true, false, cond, arith}
 use Rattle.flow_model.specs.declared.Loc.{Loc}
 use Rattle.flow_model.specs.declared.Loc.TheVariants.{Reg, Mem}
 use Rattle.flow_model.specs.Ranges.{IsLocation}
-use Rattle.epoch_model.specs.Summary.{Summary, Terms, IsSummary}
+use Rattle.epoch_model.specs.Summary.{Summary}
 use Rattle.local_taint.specs.Words.{of_itself}
 use Rattle.pass_parts.specs.Known.{is_location, located}
 use Rattle.pass_parts.specs.PartLaws.{KnownIsSummary}

@@ -1,9 +1,8 @@
-use Rattle.std.proofs.Common.{rules, ◌≡◌, false, refl, sym, ◌∙◌}
+use Rattle.std.proofs.Common.{rules, refl, sym, ◌∙◌}
 use Rattle.local_taint.specs.Summaries.{summary_of}
 use Rattle.local_taint.specs.Words.{as_terms}
 use Rattle.pass_parts.specs.declared.requests.Request.{Request}
 use Rattle.pass_parts.specs.Known.{located}
-use Rattle.pass_parts.specs.Requests.{IsCounted}
 use Rattle.backward_pass.proofs.Backing.{no}
 use Rattle.backward_pass.proofs.Counts.{counted_now}
 use Rattle.backward_pass.proofs.asking.add_request.Goals as goal
