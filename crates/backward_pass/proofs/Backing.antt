@@ -362,10 +362,6 @@ happens_at {new = new} {got = got} {sent = sent} {got' = got'} {sent' = sent'} {
 pub happens_to : {old v new : BackView} {got sent got' sent' : Option (List Message)} {turn : PassTurn} → v ≡ new → Happens old got sent v got' sent' turn → Happens old got sent new got' sent' turn
 happens_to {old = old} {got = got} {sent = sent} {got' = got'} {sent' = sent'} {turn = turn} is h = subst (λ v. Happens old got sent v got' sent' turn) is h
 
--- nothing waits to be sent where all was sent
-pub quiet_of : (p : BackView) → drop p.pushed p.asked ≡ [] → p.left ≡ [] → IsQuiet p
-quiet_of p d l = λ _. (d, l)
-
 pub quiet_broken : (p : BackView) → p.whole ≡ false → IsQuiet p
 quiet_broken p w = λ t. no (sym t ∙ w)
 
@@ -413,31 +409,6 @@ sends_for v got sent r = λ w. by w v.summary refl where
       let same = r.is ∙ ap (λ s. asking_after v.first (knows v) r.schedule (begun (is_none s) v.last (knows v))) is in
       subst (AsksSent v.first (knows v)) (sym same) (asking_sends v.first v.last (knows v) r.schedule (sym (ap (λ (a : Asking). a.is_whole) same) ∙ w))
 
-pub keeps_new : (s : Option Summary) (first last : Bool) → Keeps (new_back s first last) (fresh_end last) (fresh_end first)
-keeps_new s first last = record {
-  fits = record { known = λ t. t; silent = λ _. refl; forgets = λ _. refl };
-  heard = heard last;
-  alone = alone first;
-  requested = λ _. asked last;
-  counted = λ _ _. All-from_recursion (IsCounted [] (known s)) [] tt;
-  ends = λ _. ends last;
-} where
-  ends : (b : Bool) → b ≡ true → EndsWhole (got_by (fresh_end b))
-  ends true e = ([], refl)
-  ends false e = no (sym e)
-
-  heard : (b : Bool) → b ≡ is_ended (got_by (fresh_end b))
-  heard true = refl
-  heard false = refl
-
-  alone : (b : Bool) → IfNone (fresh_end b) (b ≡ true)
-  alone true = refl
-  alone false = tt
-
-  asked : (b : Bool) → [] ≡ requests (got_by (fresh_end b))
-  asked true = refl
-  asked false = refl
-
 pub reached_new : (s : Option Summary) (first last : Bool) → Reached (new_back s first last) (fresh_end last) (fresh_end first)
 reached_new None true true = record { schedule = []; is = refl }
 reached_new None true false = record { schedule = []; is = refl }
@@ -447,9 +418,6 @@ reached_new (Some s) true true = record { schedule = []; is = refl }
 reached_new (Some s) true false = record { schedule = []; is = refl }
 reached_new (Some s) false true = record { schedule = []; is = refl }
 reached_new (Some s) false false = record { schedule = []; is = refl }
-
-pub keeps_made : (s : Option Summary) (first last : Bool) (v : BackView) → v ≡ new_back s first last → Keeps v (fresh_end last) (fresh_end first)
-keeps_made s first last v e = subst (λ v. Keeps v (fresh_end last) (fresh_end first)) (sym e) (keeps_new s first last)
 
 pub reached_made : (s : Option Summary) (first last : Bool) (v : BackView) → v ≡ new_back s first last → Reached v (fresh_end last) (fresh_end first)
 reached_made s first last v e = subst (λ v. Reached v (fresh_end last) (fresh_end first)) (sym e) (reached_new s first last)

@@ -40,8 +40,8 @@ fn add_starts(reader: &TermsReader, asked: &mut Asked) -> Result<usize, NoMemory
     Ok(needed)
 }
 
-/// Asks for where the content of a sink was at the epoch's start. The first epoch asks nothing. When out of memory, part
-/// of it may be asked.
+/// Asks for where the content of a sink was at the epoch's start. The first epoch asks nothing. When out of
+/// memory, part of it may be asked.
 pub(crate) fn add_sink(
     summary: &Summary,
     reader: &mut TermsReader,

@@ -16,9 +16,9 @@ use std::alloc::Global;
 
 /// Asks the node before for what the epoch's sinks and the requests of the node behind need.
 ///
-/// It is broken where there is no summary, once it was refused memory, and once a broken End came. Then it asks nothing
-/// more, takes what comes, and ends, not whole. Only an event that walks a sink or takes a request takes memory, and only
-/// while it is whole.
+/// It is broken where there is no summary, once it was refused memory, and once a broken End came. Then it asks
+/// nothing more, takes what comes, and ends, not whole. Only an event that walks a sink or takes a request takes
+/// memory, and only while it is whole.
 #[derive(Drop)]
 pub struct Back {
     alloc: Global,
@@ -207,9 +207,9 @@ impl Back {
         PassTurn::Over
     }
 
-    /// The next event. It is NotYet only where the one link that it needs refused in this call, and then nothing else
-    /// changed. It is Over exactly where the End is sent in this call or was before. A push takes no memory, and neither
-    /// does any event of a broken pass.
+    /// The next event. It is NotYet only where the one link that it needs refused in this call, and then nothing
+    /// else changed. It is Over exactly where the End is sent in this call or was before. A push takes no memory,
+    /// and neither does any event of a broken pass.
     pub fn event<I: Inlet<Message>, O: Outlet<Message>>(
         &mut self,
         inlet: &mut Option<I>,

@@ -15,9 +15,6 @@ location_passes (Mem p) h = refl
 pub located_at : (e : Summary) (l : Loc) → is_location l ≡ true → (located e).ends l ≡ e.ends l
 located_at e l h = ap (λ (b : Bool). cond b (e.ends l) (of_itself l)) h
 
-pub not_located : (e : Summary) (l : Loc) → is_location l ≡ false → (located e).ends l ≡ of_itself l
-not_located e l h = ap (λ (b : Bool). cond b (e.ends l) (of_itself l)) h
-
 pub known_is_summary : KnownIsSummary
 known_is_summary q trace s n e i = record {
   ends = λ l h. located_at e l (location_passes l h) ∙ i.ends l h;

@@ -267,9 +267,9 @@ abbrev pub EndHolds : Option Phase → Type 0
 EndHolds None = Unit {0}
 EndHolds (Some p) = LastHolds p
 
-abbrev pub CoreHolds : Option Phase → List NodeState → Type 0
-CoreHolds before [] = EndHolds before
-CoreHolds before (n ∷ ns) = PhaseHolds n.phase × BeforeHolds before n.phase × CoreHolds (Some n.phase) ns
+abbrev pub NodesHold : Option Phase → List NodeState → Type 0
+NodesHold before [] = EndHolds before
+NodesHold before (n ∷ ns) = PhaseHolds n.phase × BeforeHolds before n.phase × NodesHold (Some n.phase) ns
 
 record Kept (before behind : Option Phase) (p : Phase) : Type 0 where
   pub phase : PhaseHolds p
@@ -333,22 +333,22 @@ module _ (capacity : ℕ) (refused : Bool) where
       let links = answering_links capacity refused before behind f in
       answers_keep before behind a f (answering_event e a.asked links f) (answering_moves e a.asked links f h.2) h x y
 
-  behind_of : (p : Phase) (ns : List NodeState) → CoreHolds (Some p) ns → BehindHolds p (phase_of_first ns)
+  behind_of : (p : Phase) (ns : List NodeState) → NodesHold (Some p) ns → BehindHolds p (phase_of_first ns)
   behind_of p [] h = h
   behind_of p (n ∷ ns) h = h.1
 
-  with_new : (p q : Phase) (ns : List NodeState) → CoreHolds (Some p) ns → BehindHolds q (phase_of_first ns) → CoreHolds (Some q) ns
+  with_new : (p q : Phase) (ns : List NodeState) → NodesHold (Some p) ns → BehindHolds q (phase_of_first ns) → NodesHold (Some q) ns
   with_new p q [] h l = l
   with_new p q (n ∷ ns) h l = (h.0, l, h.2)
 
-  core_keeps : (k : ℕ) (before : Option Phase) (ns : List NodeState) → CoreHolds before ns → CoreHolds before (event_at capacity refused k before ns)
-  core_keeps k before [] h = h
-  core_keeps zero before (n ∷ ns) h =
+  nodes_keep : (k : ℕ) (before : Option Phase) (ns : List NodeState) → NodesHold before ns → NodesHold before (event_at capacity refused k before ns)
+  nodes_keep k before [] h = h
+  nodes_keep zero before (n ∷ ns) h =
       let kept = node_keeps before (phase_of_first ns) n.summary n.phase h.0 h.1 (behind_of n.phase ns h.2) in
       (kept.phase, kept.early, with_new n.phase _ ns h.2 kept.late)
-  core_keeps (suc k) before (n ∷ ns) h = (h.0, h.1, core_keeps k (Some n.phase) ns h.2)
+  nodes_keep (suc k) before (n ∷ ns) h = (h.0, h.1, nodes_keep k (Some n.phase) ns h.2)
 
-nodes_starts : (before : Option Phase) → ((q : Phase) → before ≡ Some q → q ≡ Fresh) → (es : List Summary) → CoreHolds before (nodes_start es)
+nodes_starts : (before : Option Phase) → ((q : Phase) → before ≡ Some q → q ≡ Fresh) → (es : List Summary) → NodesHold before (nodes_start es)
 nodes_starts None f [] = tt
 nodes_starts (Some p) f [] = subst LastHolds (sym (f p refl)) tt
 nodes_starts before f (e ∷ es) = (tt, by before f, nodes_starts (Some Fresh) (λ q same. cc) es) where
@@ -356,9 +356,9 @@ nodes_starts before f (e ∷ es) = (tt, by before f, nodes_starts (Some Fresh) (
   by None f = tt
   by (Some p) f = subst (λ (q : Phase). LinkHolds q Fresh) (sym (f p refl)) (record { asks = ([], refl); answers = ([], refl) })
 
-pub reached : (capacity : ℕ) (schedule : List Event) (ns : List NodeState) → CoreHolds None ns → CoreHolds None (nodes_after capacity schedule ns)
+pub reached : (capacity : ℕ) (schedule : List Event) (ns : List NodeState) → NodesHold None ns → NodesHold None (nodes_after capacity schedule ns)
 reached capacity [] ns h = h
-reached capacity (m ∷ ms) ns h = reached capacity ms (event_at capacity m.is_refused m.node None ns) (core_keeps capacity m.is_refused m.node None ns h)
+reached capacity (m ∷ ms) ns h = reached capacity ms (event_at capacity m.is_refused m.node None ns) (nodes_keep capacity m.is_refused m.node None ns h)
 
-pub started : (es : List Summary) → CoreHolds None (nodes_start es)
+pub started : (es : List Summary) → NodesHold None (nodes_start es)
 started es = nodes_starts None (λ q same. cc) es

@@ -14,7 +14,7 @@ use Rattle.stream_model.specs.Schedules.{Phase, Fresh, Asks, Answers, NodeState,
 use Rattle.stream_model.specs.ScheduleLaws.{NeverStill, StillAsking, StillAnswering}
 use Rattle.stream_model.proofs.Growing.{ended_stays}
 use Rattle.stream_model.proofs.Passing.{no, neither}
-use Rattle.stream_model.proofs.Moving.{PhaseHolds, LinkHolds, BeforeHolds, BehindHolds, CoreHolds, drop_front, reached, started}
+use Rattle.stream_model.proofs.Moving.{PhaseHolds, LinkHolds, BeforeHolds, BehindHolds, NodesHold, drop_front, reached, started}
 
 -- ---- what a link gives
 
@@ -161,7 +161,7 @@ module _ (capacity : ℕ) (c : 0 < capacity) where
     by (inr s) = inr (inl s)
 
   -- some event moves, or the first of these nodes is stopped, or none asks
-  down : (before : Option Phase) (ns : List NodeState) → CoreHolds before ns → Moves capacity before ns ⊎ (Stopped capacity before ns ⊎ AllAnswering ns)
+  down : (before : Option Phase) (ns : List NodeState) → NodesHold before ns → Moves capacity before ns ⊎ (Stopped capacity before ns ⊎ AllAnswering ns)
   down before [] h = inr (inr tt)
   down before (n ∷ []) h = by (under_answering before None n.summary n.phase h.0 h.2 (λ q same. cc)) where
     by : (node_moves capacity before None n.summary n.phase ≡ true) ⊎ (IsStopped capacity before n.phase ⊎ IsAnswering n.phase) → Moves capacity before (n ∷ []) ⊎ (Stopped capacity before (n ∷ []) ⊎ AllAnswering (n ∷ []))
@@ -211,7 +211,7 @@ module _ (capacity : ℕ) (c : 0 < capacity) where
   room_at_last (Asks a) s = s
   room_at_last (Answers a f) s = no s
 
-  up : (before : Option Phase) (n : NodeState) (ns : List NodeState) → CoreHolds before (n ∷ ns) → Hears before n.phase → AllAnswering ns → Moves capacity before (n ∷ ns)
+  up : (before : Option Phase) (n : NodeState) (ns : List NodeState) → NodesHold before (n ∷ ns) → Hears before n.phase → AllAnswering ns → Moves capacity before (n ∷ ns)
   up before n [] h t all = by (go_up before None n.summary n.phase t) where
     by : (node_moves capacity before None n.summary n.phase ≡ true) ⊎ IsFull capacity None n.phase → Moves capacity before (n ∷ [])
     by (inl m) = (zero, m)
@@ -237,7 +237,7 @@ module _ (capacity : ℕ) (c : 0 < capacity) where
     by true o = inl (o, (h.2.over o).0)
     by false o = inr (o, waits before l d)
 
-  seek : (before : Option Phase) (ns : List NodeState) → CoreHolds before ns → AllAnswering ns → ((q : Phase) → before ≡ Some q → is_ended (answers_sent_in q) ≡ true) → AllDone ns ⊎ Moves capacity before ns
+  seek : (before : Option Phase) (ns : List NodeState) → NodesHold before ns → AllAnswering ns → ((q : Phase) → before ≡ Some q → is_ended (answers_sent_in q) ≡ true) → AllDone ns ⊎ Moves capacity before ns
   seek before [] h all d = inl tt
   seek before (n ∷ ns) h all d = by (done_or_hears before n.phase h.0 h.1 all.0 d) (seek (Some n.phase) ns h.2 all.1) where
     rest : is_done n.phase ≡ true → AllDone ns ⊎ Moves capacity (Some n.phase) ns → AllDone (n ∷ ns) ⊎ Moves capacity before (n ∷ ns)
@@ -256,9 +256,9 @@ module _ (capacity : ℕ) (c : 0 < capacity) where
   room_at_first (Asks a) s = no s
   room_at_first (Answers a f) s = s
 
-  goes_on : (ns : List NodeState) → CoreHolds None ns → AllDone ns ⊎ Moves capacity None ns
+  goes_on : (ns : List NodeState) → NodesHold None ns → AllDone ns ⊎ Moves capacity None ns
   goes_on ns h = by ns h (down None ns h) where
-    by : (ns : List NodeState) → CoreHolds None ns → Moves capacity None ns ⊎ (Stopped capacity None ns ⊎ AllAnswering ns) → AllDone ns ⊎ Moves capacity None ns
+    by : (ns : List NodeState) → NodesHold None ns → Moves capacity None ns ⊎ (Stopped capacity None ns ⊎ AllAnswering ns) → AllDone ns ⊎ Moves capacity None ns
     by ns h (inl m) = inr m
     by [] h (inr (inl s)) = absurd s
     by (n ∷ ns) h (inr (inl s)) = absurd (room_at_first n.phase s)

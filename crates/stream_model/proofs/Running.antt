@@ -13,7 +13,7 @@ use Rattle.stream_model.specs.ScheduleLaws.{EveryScheduleMeets}
 use Rattle.stream_model.proofs.Growing.{nothing_is_left, asks_end_last, answers_end_last}
 use Rattle.stream_model.proofs.Meeting.{done_nodes_meet}
 use Rattle.stream_model.proofs.Passing.{no, AskingHolds, AnsweringHolds, asking_keeps, asking_starts, asks_are_sent, answering_keeps, answering_starts, answers_are_sent, begun_whole}
-use Rattle.stream_model.proofs.Moving.{LinkHolds, CoreHolds, reached, started}
+use Rattle.stream_model.proofs.Moving.{LinkHolds, NodesHold, reached, started}
 
 -- ---- the invariants of the passes, along a schedule
 
@@ -139,7 +139,7 @@ AllDone ns = AllByRecursion (λ n. is_done n.phase ≡ true) ns
 abbrev pub AllWhole : List NodeState → Type 0
 AllWhole ns = AllByRecursion (λ n. is_whole_in n.phase ≡ true) ns
 
-pub are_done : (before : Option Phase) (n : NodeState) (ns : List NodeState) → CoreHolds before (n ∷ ns) → RunHolds before (n ∷ ns) → AllDone (n ∷ ns) → AllWhole (n ∷ ns) → AreDone (is_none before) (map node_in (n ∷ ns))
+pub are_done : (before : Option Phase) (n : NodeState) (ns : List NodeState) → NodesHold before (n ∷ ns) → RunHolds before (n ∷ ns) → AllDone (n ∷ ns) → AllWhole (n ∷ ns) → AreDone (is_none before) (map node_in (n ∷ ns))
 are_done before n [] h r d w = let x = facts (is_none before) true n.summary n.phase r.0 d.0 w.0 in (x.done, x.at_last refl)
 are_done before n (b ∷ ns) h r d w =
     let x = facts (is_none before) false n.summary n.phase r.0 d.0 w.0 in
@@ -147,7 +147,7 @@ are_done before n (b ∷ ns) h r d w =
     let both = linked (is_none before) (is_none (phase_of_first ns)) n b x y h.2.1 in
     (x.done, both.0, both.1, are_done (Some n.phase) b ns h.2 r.1 d.1 w.1)
 
-pub all_are_done : (ns : List NodeState) → CoreHolds None ns → RunHolds None ns → AllDone ns → AllWhole ns → AreAllDone (map node_in ns)
+pub all_are_done : (ns : List NodeState) → NodesHold None ns → RunHolds None ns → AllDone ns → AllWhole ns → AreAllDone (map node_in ns)
 all_are_done [] h r d w = tt
 all_are_done (n ∷ ns) h r d w = ((facts true (is_none (phase_of_first ns)) n.summary n.phase r.0 d.0 w.0).at_first refl, are_done None n ns h r d w)
 

@@ -21,7 +21,7 @@ use Rattle.stream_model.specs.Schedules.{Phase, Fresh, Asks, Answers, NodeState,
 use Rattle.stream_model.specs.ScheduleLaws.{one_if, moves_in, asked_in_all, listed, listed_in_all, SameWork}
 use Rattle.stream_model.proofs.Meeting.{asks_back}
 use Rattle.stream_model.proofs.Passing.{no, stays_broken, answering_stays_broken, begun_whole}
-use Rattle.stream_model.proofs.Moving.{CoreHolds, reached, started}
+use Rattle.stream_model.proofs.Moving.{NodesHold, reached, started}
 use Rattle.stream_model.proofs.Running.{PassHolds, RunHolds, AllDone, AllWhole, facts, linked, run_holds, run_starts, kept_summaries, first_summaries, as_many, every_schedule_meets}
 
 one_longer : {X : Type 0} (xs : List X) (x : X) → length (xs ++ x ∷ []) ≡ length xs + 1
@@ -285,7 +285,7 @@ answers_length policy trace c (l ∷ ls) =
 -- ---- the sum
 
 module _ (q : Query) (trace : List StepSeen) where
-  total : (before : Option Phase) (s : ℕ) (cs : List ℕ) (n : NodeState) (ns : List NodeState) → CoreHolds before (n ∷ ns) → RunHolds before (n ∷ ns) → AllDone (n ∷ ns) → AllWhole (n ∷ ns)
+  total : (before : Option Phase) (s : ℕ) (cs : List ℕ) (n : NodeState) (ns : List NodeState) → NodesHold before (n ∷ ns) → RunHolds before (n ∷ ns) → AllDone (n ∷ ns) → AllWhole (n ∷ ns)
       → AreSummaries q trace s cs (summaries (map node_in (n ∷ ns))) → LinksCarry q trace cs (map node_in (n ∷ ns))
       → gain_all (n ∷ ns) + 2 ≡ length (node_in n).asks_sent + length (node_in n).answers_got + 6 * length (n ∷ ns) + length (flat_map (λ m. m.rows) (map node_in (n ∷ ns)))
       + 5 * asked_in_all q trace cs + 2 * listed_in_all q trace cs
@@ -333,7 +333,7 @@ no_cuts zero h = cc
 no_cuts (suc n) h = omega (arith, h)
 
 module _ (q : Query) (trace : List StepSeen) where
-  finish : (cuts : List ℕ) (moves : ℕ) (ns : List NodeState) → CoreHolds None ns → RunHolds None ns → AllDone ns → AllWhole ns → IsCutting (length trace) cuts
+  finish : (cuts : List ℕ) (moves : ℕ) (ns : List NodeState) → NodesHold None ns → RunHolds None ns → AllDone ns → AllWhole ns → IsCutting (length trace) cuts
       → AreSummaries q trace 0 cuts (summaries (map node_in ns)) → Meets q trace cuts (map node_in ns) → gain_all ns ≡ debt_all None ns + moves
       → moves + 2 ≡ 6 * length (summaries (map node_in ns)) + length (rows_as_written q trace) + 5 * asked_in_all q trace cuts + 2 * listed_in_all q trace cuts
   finish [] moves [] h r d w c i m g = absurd (no_cuts (length trace) c)

@@ -66,6 +66,7 @@ is_whole_message (Byte b) = true
 is_whole_message (Close l) = true
 is_whole_message (End whole) = whole
 
+-- the first location that waits is asked, where there is room
 abbrev pub push_ask : Bool → Asking → Loc → Asking
 push_ask true a l = record a { pushed = a.pushed + 1; sent = a.sent ++ Ask l ∷ [] }
 push_ask false a l = a
@@ -75,11 +76,13 @@ abbrev pub asked_if : Bool → List Loc → List Loc
 asked_if true asked = asked
 asked_if false asked = []
 
--- in these the first test is whether a growth is refused
+-- the next sink is walked: the start locations of its terms are asked too. In this and the next the first test is
+-- whether a growth is refused
 abbrev pub walk : Bool → Bool → Asking → SinkTerms → List SinkTerms → Asking
 walk true first a k left = record a { asked = []; is_whole = false }
 walk false first a k left = record a { left = left; asked = asked_more first a.asked k.terms.starts }
 
+-- what comes is taken: the start locations of the terms of a request are asked too
 abbrev pub take_ask : Bool → Bool → Summary → Asking → Message → Asking
 take_ask true first e a m = record a { got = a.got ++ m ∷ []; asked = []; is_whole = false }
 take_ask false first e a m = record a {
@@ -92,6 +95,7 @@ abbrev pub pop_ask : Bool → Bool → Summary → Asking → Option Message →
 pop_ask refused first e a None = a
 pop_ask refused first e a (Some m) = take_ask refused first e a m
 
+-- what comes to a broken pass is dropped, and counts only as got
 abbrev pub drop_ask : Asking → Option Message → Asking
 drop_ask a None = a
 drop_ask a (Some m) = record a { got = a.got ++ m ∷ [] }
@@ -112,6 +116,7 @@ whole_asking first e links a [] (k ∷ left) ended = walk links.is_refused first
 whole_asking first e links a [] [] false = pop_ask links.is_refused first e a links.next
 whole_asking first e links a [] [] true = end_asks links.has_room a
 
+-- an event of a pass that is over or not, and whole or not
 abbrev pub asking_by : Bool → Summary → Links → Asking → Bool → Bool → Asking
 asking_by first e links a true whole = a
 asking_by first e links a false true = whole_asking first e links a (drop a.pushed a.asked) a.left (is_ended a.got)
@@ -120,6 +125,7 @@ asking_by first e links a false false = broken_asking links a (is_ended a.got)
 abbrev pub asking_event : Bool → Summary → Links → Asking → Asking
 asking_event first e links a = asking_by first e links a a.is_over a.is_whole
 
+-- the state after some events
 abbrev pub asking_after : Bool → Summary → List Links → Asking → Asking
 asking_after first e [] a = a
 asking_after first e (links ∷ schedule) a = asking_after first e schedule (asking_event first e links a)
@@ -153,7 +159,7 @@ abbrev pub push_answer : Bool → Answering → Message → List Message → Ans
 push_answer true f m sending = record f { sending = sending; sent = f.sent ++ m ∷ [] }
 push_answer false f m sending = f
 
--- in these too the first test is whether a growth is refused
+-- what comes is taken, unless a growth is refused
 abbrev pub take_answer : Bool → Answering → Message → Answering
 take_answer true f m = record f { got = f.got ++ m ∷ []; is_whole = false }
 take_answer false f m = record f { got = f.got ++ m ∷ []; is_whole = is_whole_message m }
@@ -162,6 +168,7 @@ abbrev pub pop_answer : Bool → Answering → Option Message → Answering
 pop_answer refused f None = f
 pop_answer refused f (Some m) = take_answer refused f m
 
+-- the answer to the request l is made, unless a growth is refused
 abbrev pub build : Bool → Summary → List Loc → Answering → Loc → List Loc → Answering
 build true e asked f l left = record f { is_whole = false }
 build false e asked f l left = record f { left = left; sending = answer l (resolved (heard asked f.got) (e.ends l)) }
@@ -170,6 +177,7 @@ abbrev pub build_or_pop : Bool → Summary → List Loc → Links → Answering 
 build_or_pop true e asked links f l left = build links.is_refused e asked f l left
 build_or_pop false e asked links f l left = pop_answer links.is_refused f links.next
 
+-- the rows of the sinks are made, unless a growth is refused
 abbrev pub resolve : Bool → Summary → List Loc → Answering → Answering
 resolve true e asked f = record f { is_whole = false }
 resolve false e asked f = record f { rows = Some (rows_of e (heard asked f.got)) }

@@ -13,6 +13,7 @@ pub data Phase : Type 0 where
   Asks : Asking → Phase
   Answers : Asking → Answering → Phase
 
+-- a node, as far as it has come
 pub record NodeState : Type 0 where
   pub summary : Summary
   pub phase : Phase
@@ -75,6 +76,7 @@ answering_links capacity refused before behind f = record {
 
 -- ---- the events
 
+-- a node that was refused memory for its summary asks, broken from the beginning
 abbrev pub begun : Bool → Bool → Summary → Asking
 begun true last e = record (asking_start last e) { is_whole = false }
 begun false last e = asking_start last e
