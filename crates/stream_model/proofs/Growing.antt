@@ -7,7 +7,7 @@ use Rattle.std.proofs.lemmas.Bool.{and_parts, and_from}
 use Rattle.flow_model.specs.declared.Loc.{Loc}
 use Rattle.flow_model.specs.declared.SourceByte.{SourceByte}
 use Rattle.std.specs.Ordering.{eq_by_cmp}
-use Rattle.sorted_set.specs.Sets.{inserted, union, has}
+use Rattle.sorted_set.specs.Sets.{inserted, union, has, Ascends}
 use Rattle.flow_model.specs.Orders.{loc_cmp, source_cmp}
 use Rattle.flow_model.specs.Origins.{union_over}
 use Rattle.flow_rule.specs.declared.Message.{Message}
@@ -16,7 +16,9 @@ use Rattle.epoch_model.specs.Summary.{Summary, Terms}
 use Rattle.epoch_model.specs.Crossing.{added, added_all, wanted, asked_by}
 use Rattle.epoch_model.specs.Join.{answer_to, resolved}
 use Rattle.stream_model.specs.Streams.{is_ended, requests, answers_in, heard, is_answered, is_resolvable, end_if, asks_for, answer, then_if, answers_for}
-use Rattle.stream_model.specs.StreamLaws.{IsPrefix, AsksGrow, AnswersGrow, EndsLast, NothingIsLeft, AsksEndLast, AnswersEndLast}
+use Rattle.stream_model.specs.StreamLaws.{IsPrefix, AsksGrow, AnswersGrow, EndsLast, NothingIsLeft, AsksEndLast, AnswersEndLast, HeardAscends}
+use Rattle.sorted_set.proofs.Algebra.{Ascends-inserted}
+use Rattle.flow_model.proofs.Orders.{source_total}
 use Rattle.epoch_model.proofs.Adding.{union_over_same}
 
 -- ---- prefixes
@@ -208,3 +210,23 @@ answers_end_last e asked (l ∷ ls) got = by (answers_end_last e asked ls got) (
   by : EndsLast (answers_for e asked ls got) → (b : Bool) → EndsLast (then_if b (answer l set) (answers_for e asked ls got))
   by ih false = tt
   by ih true = rw (append_assoc (map Byte set) (Close l ∷ []) (answers_for e asked ls got)) (after_bytes set (Close l ∷ answers_for e asked ls got) ih)
+
+-- ---- what was got ascends
+
+answers_ascend : (so_far : List SourceByte) (got : List Message) → Ascends source_cmp so_far → AllByRecursion (Ascends source_cmp) (answers_in so_far got)
+answers_ascend so_far [] a = tt
+answers_ascend so_far (Ask l ∷ ms) a = answers_ascend so_far ms a
+answers_ascend so_far (Byte b ∷ ms) a = answers_ascend (inserted source_cmp b so_far) ms (Ascends-inserted source_total b so_far a)
+answers_ascend so_far (Close l ∷ ms) a = (a, answers_ascend [] ms tt)
+answers_ascend so_far (End whole ∷ ms) a = (a, tt)
+
+answer_ascends : (asked : List Loc) (answers : List (List SourceByte)) (l : Loc) → AllByRecursion (Ascends source_cmp) answers → Ascends source_cmp (answer_to asked answers l)
+answer_ascends [] answers l a = tt
+answer_ascends (m ∷ asked) [] l a = tt
+answer_ascends (m ∷ asked) (x ∷ xs) l a = by (answer_ascends asked xs l a.1) (eq_by_cmp loc_cmp l m) where
+  by : Ascends source_cmp (answer_to asked xs l) → (b : Bool) → Ascends source_cmp (cond b x (answer_to asked xs l))
+  by ih true = a.0
+  by ih false = ih
+
+pub heard_ascends : HeardAscends
+heard_ascends asked got l = answer_ascends asked (answers_in [] got) l (answers_ascend [] got tt)

@@ -1,24 +1,24 @@
 -- What a node sends only grows with what it got; and in a row of nodes that are done the links carry exactly what is
--- needed and its origins, and the sets are those of the whole trace.
+-- needed and its origins, and the rows are those of the whole trace.
 use Rattle.std.specs.Prelude.{◌≡◌, ℕ, ◌-◌, nat_le, true, ◌||◌, List, [], ◌∷◌, ◌++◌, map, length, All}
 use Rattle.std.specs.List.{flat_map, IsDistinct}
 use Rattle.std.specs.Ordering.{eq_by_cmp}
 use Rattle.flow_model.specs.declared.Loc.{Loc}
 use Rattle.flow_model.specs.declared.SourceByte.{SourceByte}
 use Rattle.flow_model.specs.declared.StepSeen.{StepSeen}
-use Rattle.flow_model.specs.Orders.{loc_cmp}
+use Rattle.flow_model.specs.Orders.{loc_cmp, source_cmp}
 use Rattle.flow_model.specs.Origins.{origins}
 use Rattle.flow_model.specs.Ranges.{IsInRange}
 use Rattle.flow_rule.specs.declared.Message.{Message}
 use Rattle.flow_rule.specs.declared.Message.TheVariants.{Ask, Byte, Close, End}
 use Rattle.report_model.specs.Query.{Query, policy_of}
 use Rattle.report_model.specs.Rows.{row, rows_as_written}
-use Rattle.sorted_set.specs.Sets.{has, is_within}
+use Rattle.sorted_set.specs.Sets.{Ascends, has, is_within}
 use Rattle.epoch_model.specs.Stretch.{sinks_of_epoch}
 use Rattle.epoch_model.specs.Cutting.{IsCutting}
 use Rattle.epoch_model.specs.Summary.{Summary, Terms, AreSummaries, ArePointsLocated}
 use Rattle.epoch_model.specs.Crossing.{crossing_at, needed}
-use Rattle.stream_model.specs.Streams.{is_ended, answers_in, is_resolvable, places_needed, asks_for, answer, answers_for, Node, AreAllDone, summaries}
+use Rattle.stream_model.specs.Streams.{is_ended, answers_in, heard, is_resolvable, places_needed, asks_for, answer, answers_for, Node, AreAllDone, summaries}
 
 abbrev pub IsPrefix : {X : Type 0} → List X → List X → Type 0
 IsPrefix {X} front whole = (rest : List X) × (front ++ rest ≡ whole)
@@ -48,6 +48,10 @@ AsksEndLast = (e : Summary) (got : List Message) → EndsLast (asks_for e got)
 
 abbrev pub AnswersEndLast : Type 0
 AnswersEndLast = (e : Summary) (asked ls : List Loc) (got : List Message) → EndsLast (answers_for e asked ls got)
+
+-- a set that was got ascends, whatever the neighbour sent
+abbrev pub HeardAscends : Type 0
+HeardAscends = (asked : List Loc) (got : List Message) (l : Loc) → Ascends source_cmp (heard asked got l)
 
 -- an answer to each location, and the End
 abbrev pub answers_to : (Loc → List SourceByte) → List Loc → List Message

@@ -1,6 +1,6 @@
 //! Laws of the definitions: each is the contract of a function that does nothing.
 
-ghost use Rattle.stream_model.specs.StreamLaws.{AsksGrow, AnswersGrow, AsksEndLast, AnswersEndLast, NothingIsLeft, ResolvableByCount, PlacesStay, DoneNodesMeet};
+ghost use Rattle.stream_model.specs.StreamLaws.{AsksGrow, AnswersGrow, AsksEndLast, AnswersEndLast, NothingIsLeft, HeardAscends, ResolvableByCount, PlacesStay, DoneNodesMeet};
 ghost use Rattle.stream_model.specs.PassLaws.{AskingSends, AnsweringSends, PassesEndDone};
 ghost use Rattle.stream_model.specs.ScheduleLaws.{NeverStill, StillAsking, StillAnswering, EveryScheduleMeets, SameWork};
 
@@ -15,6 +15,11 @@ pub fn end_is_last()
     ensures asks { AsksEndLast }
     ensures answers { AnswersEndLast }
     ensures left { NothingIsLeft }
+{}
+
+/// A set that was got ascends, whatever the neighbour sent.
+pub fn sets_got_ascend()
+    ensures { HeardAscends }
 {}
 
 /// Terms are resolvable once as many answers came as their start locations need, and that number stays when
