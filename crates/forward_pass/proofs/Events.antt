@@ -1,6 +1,6 @@
 -- What the pass does in an event is what the definition says.
 use Rattle.std.proofs.Common.{◌≡◌, List, [], ◌∷◌, ◌++◌, refl, ap, ap₂, sym, subst, ◌∙◌, Bool, true, false, ◌||◌, ⊎_elim, nat_le, length}
-use Rattle.std.specs.Prelude.{is_some, IsSome, Option, Some, None, IfNone}
+use Rattle.std.specs.Prelude.{IsSome, Option, Some, None, IfNone}
 use Rattle.flow_model.specs.declared.Loc.{Loc}
 use Rattle.flow_model.specs.declared.SourceByte.{SourceByte}
 use Rattle.flow_rule.specs.declared.Message.{Message}
@@ -14,12 +14,13 @@ use Rattle.stream_model.specs.Schedules.{Need, Item, answering_need, answering_n
 use Rattle.stream_model.proofs.Passing.{no}
 use Rattle.pass_parts.specs.declared.pass_turn.PassTurn.TheVariants.{Moved, NotYet, Over}
 use Rattle.pass_parts.specs.declared.requests.Request.{Request}
-use Rattle.pass_parts.specs.Ends.{EndsWhole, got_by, unsent, sent_by, fresh_end, with}
+use Rattle.pass_parts.specs.Ends.{got_by, unsent, sent_by, with}
 use Rattle.pass_parts.specs.Requests.{locations, AreCounted}
 use Rattle.pass_parts.specs.Turns.{Waits}
-use Rattle.forward_pass.specs.Came.{Came, IsFrom, is_answerable}
+use Rattle.forward_pass.specs.Came.{is_answerable}
 use Rattle.forward_pass.specs.Rest.{rest_of}
-use Rattle.forward_pass.specs.Forward.{ForeView, known_by, before, answering_of, fore_state, ForeKeeps, ForeHappens, with_answer, with_rows, Builds, Resolves, CannotAnswer, IsIdle, is_whole_after, Takes, Moves, Sends, IsAtRest}
+use Rattle.forward_pass.specs.Forward.{ForeView, known_by, answering_of, fore_state, ForeKeeps, ForeHappens}
+use Rattle.forward_pass.specs.Steps.{with_answer, with_rows, Builds, Resolves, CannotAnswer, is_whole_after, Takes, Moves, Sends, IsAtRest}
 use Rattle.forward_pass.proofs.Messages.{ended_by, from_more, heard_is, answerable_is, counted_left}
 
 -- ---- the definition's event, by cases

@@ -1,5 +1,5 @@
 -- What came, by what was got.
-use Rattle.std.proofs.Common.{◌≡◌, ℕ, List, [], ◌∷◌, ◌++◌, length, refl, ap, ap₂, sym, subst, ◌∙◌, Bool, true, false, ◌||◌, nat_le, append-nil, append_assoc}
+use Rattle.std.proofs.Common.{◌≡◌, List, [], ◌∷◌, ◌++◌, length, refl, ap, ap₂, sym, subst, ◌∙◌, Bool, true, false, ◌||◌, nat_le, append-nil, append_assoc}
 use Rattle.std.specs.List.{list_all}
 use Rattle.std.proofs.lemmas.List.Elements.{recursion_from_All, All-from_recursion}
 use Rattle.flow_model.specs.declared.Loc.{Loc}
@@ -13,7 +13,7 @@ use Rattle.stream_model.proofs.Passing.{no}
 use Rattle.pass_parts.specs.declared.requests.Request.{Request}
 use Rattle.pass_parts.specs.Requests.{IsCounted, AreCounted}
 use Rattle.pass_parts.proofs.Counted.{answerable_by_count}
-use Rattle.forward_pass.specs.Came.{Came, came_with, IsFrom, is_answerable}
+use Rattle.forward_pass.specs.Came.{Came, came_with, CameFrom, is_answerable}
 
 pub ended_by : (got ms : List Message) → is_ended got ≡ false → is_ended (got ++ ms) ≡ is_ended ms
 ended_by [] ms h = refl
@@ -24,12 +24,12 @@ ended_by (End whole ∷ got) ms h = no h
 
 -- one message more
 pub from_more : (m : Message) (got : List Message) (asked : List Loc) (old new : Came) → old.is_ended ≡ false → new ≡ came_with old m
-    → IsFrom got asked old → IsFrom (got ++ m ∷ []) asked new
-from_more m got asked old new o e r = subst (IsFrom (got ++ m ∷ []) asked) (sym e) (by m) where
+    → CameFrom got asked old → CameFrom (got ++ m ∷ []) asked new
+from_more m got asked old new o e r = subst (CameFrom (got ++ m ∷ []) asked) (sym e) (by m) where
   goes_on : (m : Message) (more : List Message) → answers_in [] ((got ++ m ∷ []) ++ more) ≡ old.answers ++ answers_in old.so_far (m ∷ more)
   goes_on m more = ap (answers_in []) (append_assoc got (m ∷ []) more) ∙ r.running o (m ∷ more)
 
-  by : (m : Message) → IsFrom (got ++ m ∷ []) asked (came_with old m)
+  by : (m : Message) → CameFrom (got ++ m ∷ []) asked (came_with old m)
   by (Ask l) = record { running = λ _. goes_on (Ask l); ended = λ t. no (sym t ∙ o) }
   by (Byte b) = record { running = λ _. goes_on (Byte b); ended = λ t. no (sym t ∙ o) }
   by (Close l) = record {
@@ -42,10 +42,10 @@ from_more m got asked old new o e r = subst (IsFrom (got ++ m ∷ []) asked) (sy
   }
 
 -- until the End, what came are the answers in what was got
-running_answers : (got : List Message) (asked : List Loc) (c : Came) → IsFrom got asked c → c.is_ended ≡ false → c.answers ≡ answers_in [] got
+running_answers : (got : List Message) (asked : List Loc) (c : Came) → CameFrom got asked c → c.is_ended ≡ false → c.answers ≡ answers_in [] got
 running_answers got asked c r o = sym (append-nil c.answers) ∙ sym (r.running o []) ∙ ap (answers_in []) (append-nil got)
 
-pub heard_is : (got : List Message) (asked : List Loc) (c : Came) → IsFrom got asked c → answer_to asked c.answers ≡ heard asked got
+pub heard_is : (got : List Message) (asked : List Loc) (c : Came) → CameFrom got asked c → answer_to asked c.answers ≡ heard asked got
 heard_is got asked c r = by c.is_ended refl where
   by : (b : Bool) → c.is_ended ≡ b → answer_to asked c.answers ≡ heard asked got
   by true e = λ i l. r.ended e l i
@@ -53,7 +53,7 @@ heard_is got asked c r = by c.is_ended refl where
 
 -- the count tells whether the terms of the request are resolvable
 pub answerable_is : (e : EpochSummary) (got : List Message) (asked : List Loc) (c : Came) (r : Request) (left : List Request)
-    → c.is_ended ≡ is_ended got → IsFrom got asked c → (c.is_ended ≡ false → AreCounted asked e (r ∷ left))
+    → c.is_ended ≡ is_ended got → CameFrom got asked c → (c.is_ended ≡ false → AreCounted asked e (r ∷ left))
     → is_answerable c r ≡ is_resolvable asked got (e.ends r.loc)
 answerable_is e got asked c r left h f counted = by c.is_ended refl where
   by : (b : Bool) → c.is_ended ≡ b → is_answerable c r ≡ is_resolvable asked got (e.ends r.loc)

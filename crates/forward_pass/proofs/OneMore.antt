@@ -1,5 +1,5 @@
 -- The place of one more member in a set.
-use Rattle.std.proofs.Common.{◌≡◌, ℕ, zero, suc, ◌+◌, ◌-◌, ◌<◌, ◌≤◌, List, [], ◌∷◌, ◌++◌, length, take, drop, get_or, refl, ap, ap₂, sym, ◌∙◌, subst, arith, ⊎_elim, Bool, true, false}
+use Rattle.std.proofs.Common.{◌≡◌, ℕ, zero, suc, ◌-◌, ◌<◌, ◌≤◌, List, [], ◌∷◌, ◌++◌, length, take, drop, get_or, refl, ap, ap₂, sym, ◌∙◌, subst, arith, ⊎_elim}
 use Rattle.std.specs.Prelude.{Result, Ok, Err, OnOk, OnErr, Some, slice_get}
 use Rattle.std.specs.List.Sorted.{IsBinarySearchResult, IsNonDecreasingBy}
 use Rattle.std.specs.Cmp.{IsTotalOrder, alike_right, tied_back}
@@ -10,7 +10,7 @@ use Rattle.std.proofs.lemmas.Bool.{cases_lt}
 use Rattle.std.proofs.lemmas.List.{take_all, drop_all}
 use Rattle.std.proofs.lemmas.List.Folds.{list_any_at}
 use Rattle.std.proofs.lemmas.Option.{slice_get-get_or}
-use Rattle.sorted_set.specs.Sets.{inserted, placed, has, Ascends}
+use Rattle.sorted_set.specs.Sets.{inserted, placed, Ascends}
 use Rattle.sorted_set.proofs.Algebra.{less_turned, greater_turned, Ascends-at, inserted_member, Ascends-inserted}
 use Rattle.no_memory.specs.declared.NoMemory.{NoMemory}
 use Rattle.flow_model.specs.declared.SourceByte.{SourceByte}
@@ -45,8 +45,8 @@ module _ {K : Type 0} {R : K → K → Ordering} (o : IsTotalOrder R) where
             ⊎_elim
             (λ inner. o.trans (get_or xs j d) (get_or xs (length xs - 1) d) x (Ascends-at o xs j (length xs - 1) d a inner within) (ap (λ (y : K). R y x) is_last ∙ less))
             (λ outer.
-                let same : j ≡ length xs - 1 = omega (arith, h, outer) in
-                ap (λ (n : ℕ). R (get_or xs n d) x) same ∙ ap (λ (y : K). R y x) is_last ∙ less)
+            let same : j ≡ length xs - 1 = omega (arith, h, outer) in
+            ap (λ (n : ℕ). R (get_or xs n d) x) same ∙ ap (λ (y : K). R y x) is_last ∙ less)
             (cases_lt j (length xs - 1))
 
   -- ---- what a binary search finds
@@ -72,15 +72,21 @@ module _ {K : Type 0} {R : K → K → Ordering} (o : IsTotalOrder R) where
       (λ equal. let same : n ≡ m = omega arith in subst (λ (p : ℕ). ordering_index (R (get_or xs m d) q) ≤ ordering_index (R (get_or xs p d) q)) (sym same) (omega arith))
       (cases_lt m n)
 
-  -- a member stays as it is
-  pub stands : (xs : List K) (x : K) → Ascends R xs → (i : ℕ) → i < length xs → IsBinarySearchResult (λ y. R y x) xs (Ok i) → xs ≡ inserted R x xs
-  stands xs x a i h at = sym (inserted_member o x xs a (list_any_at (eq_by_cmp R x) xs i x h (ap is_eq (tied_back o _ x (at x)))))
+  -- of the members, as they were searched
+  module _ (xs members : List K) (x : K) (same : xs ≡ members) (a : Ascends R members) (i : ℕ) where
+    ascends : Ascends R xs
+    ascends = subst (Ascends R) (sym same) a
 
-  -- any other comes to its place
-  pub placed_in : (xs : List K) (x : K) → Ascends R xs → (i : ℕ) → i ≤ length xs → IsBinarySearchResult (λ y. R y x) xs (Err i) → take i xs ++ x ∷ drop i xs ≡ inserted R x xs
-  placed_in xs x a i h at =
-      let parted = at (sorted xs x a) in
-      sym (inserted_at x xs i h (λ j d k. parted.0 j d (omega arith) k) (λ d k. parted.1 i d (omega arith) k))
+    -- a member stays as it is
+    pub stands : i < length xs → IsBinarySearchResult (λ y. R y x) xs (Ok i) → members ≡ inserted R x members
+    stands h at =
+        subst (λ ys. ys ≡ inserted R x ys) same (sym (inserted_member o x xs ascends (list_any_at (eq_by_cmp R x) xs i x h (ap is_eq (tied_back o _ x (at x))))))
+
+    -- any other comes to its place
+    pub takes_place : i ≤ length xs → IsBinarySearchResult (λ y. R y x) xs (Err i) → (new : List K) → new ≡ take i members ++ x ∷ drop i members → new ≡ inserted R x members
+    takes_place h at new e =
+        let parted = at (sorted xs x ascends) in
+        e ∙ subst (λ ys. take i ys ++ x ∷ drop i ys ≡ inserted R x ys) same (sym (inserted_at x xs i h (λ j d k. parted.0 j d (omega arith) k) (λ d k. parted.1 i d (omega arith) k)))
 
 -- source bytes ascend with one more, and without it where there is no memory for it
 pub ascends_after : (b : SourceByte) (r : Result (Unit {0}) NoMemory) (old new : List SourceByte) → Ascends source_cmp old

@@ -28,7 +28,7 @@ came_with c (Close l) = closed c
 came_with c (End whole) = record (closed c) { is_ended = true }
 
 -- it is what was got. Until the End whatever is got yet goes on from it; then it has what was heard
-pub record IsFrom (got : List Message) (asked : List Loc) (c : Came) : Type 0 where
+pub record CameFrom (got : List Message) (asked : List Loc) (c : Came) : Type 0 where
   pub running : c.is_ended ≡ false → (more : List Message) → answers_in [] (got ++ more) ≡ c.answers ++ answers_in c.so_far more
   pub ended : c.is_ended ≡ true → (l : Loc) → answer_to asked c.answers l ≡ heard asked got l
 

@@ -9,7 +9,8 @@ ghost use Rattle.pass_parts.specs.Ends.{IsEndFrom, IsRefused, fresh_end};
 ghost use Rattle.pass_parts.specs.Known.{known};
 ghost use Rattle.pass_parts.specs.Requests.{locations, AreCounted};
 ghost use Rattle.pass_parts.specs.Turns.{OnOver, OnOpen, OnNotYet, Waits};
-ghost use Rattle.forward_pass.specs.Forward.{fore_of, new_fore, known_by, fore_state, ForeKeeps, IsSameFore, ForeHappens, ForeReached, ForeSends, CannotAnswer, Builds, Resolves, Takes, IsNext};
+ghost use Rattle.forward_pass.specs.Forward.{fore_of, new_fore, known_by, fore_state, ForeKeeps, IsSameFore, ForeHappens, ForeReached, ForeSends};
+ghost use Rattle.forward_pass.specs.Steps.{CannotAnswer, Builds, Resolves, Takes, IsNext};
 
 use crate::next::Next;
 use crate::received::Received;
@@ -90,7 +91,6 @@ impl Fore {
         ensures keeps { ForeKeeps (fore_of result) (fresh_end first) (fresh_end last) }
         ensures reached { ForeReached first (locations requests.items) whole (fore_of result) (fresh_end first) (fresh_end last) }
     {
-        let _ = last;
         Fore {
             summary,
             asked,
@@ -234,7 +234,14 @@ impl Fore {
         }
         let alloc = *self.requests.allocator();
         let answers = self.received.answers();
-        let Ok(set) = answer_for(alloc, &mut self.reader, summary, request.loc, &self.asked, answers) else {
+        let Ok(set) = answer_for(
+            alloc,
+            &mut self.reader,
+            summary,
+            request.loc,
+            &self.asked,
+            answers,
+        ) else {
             self.whole = false;
             return true;
         };

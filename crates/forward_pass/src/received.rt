@@ -111,13 +111,14 @@ impl Received {
         insert(&mut self.so_far, byte)
     }
 
-    /// Completes the answer that is open.
+    /// Completes the answer that is open, in no more room than it needs.
     fn close(&mut self) -> Result<(), NoMemory>
         ensures closed { OnOk result (self.new ≡ closed self.old) }
         ensures ended { self.new.is_ended ≡ self.old.is_ended }
     {
         let alloc = *self.so_far.allocator();
-        let set = std::mem::replace(&mut self.so_far, Vec::new(alloc));
+        let mut set = std::mem::replace(&mut self.so_far, Vec::new(alloc));
+        set.shrink_to_fit();
         self.answers.push(set)
     }
 }

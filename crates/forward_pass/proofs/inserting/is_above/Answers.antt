@@ -1,4 +1,4 @@
-use Rattle.std.proofs.Common.{◌∙◌, sym}
+use Rattle.std.proofs.Common.{sym}
 use Rattle.forward_pass.proofs.OneMore.{inserted_last}
 use Rattle.forward_pass.proofs.inserting.is_above.Goals as goal
 

@@ -1,6 +1,6 @@
 use Rattle.std.proofs.Common.{◌∙◌, ap, arith}
 use Rattle.forward_pass.specs.Rest.{rest_of}
-use Rattle.forward_pass.proofs.Lists.{byte_sent, close_sent}
+use Rattle.forward_pass.proofs.Lists.{byte_sent}
 use Rattle.forward_pass.proofs.sending.Sending.advance.Goals as goal
 
 pub returns-then-self-len : goal.returns-then-self-len
