@@ -1,18 +1,14 @@
 -- Parts of lists.
-use Rattle.std.proofs.Common.{◌≡◌, ℕ, zero, suc, ◌+◌, ◌<◌, ◌≤◌, List, [], ◌∷◌, length, drop, refl, ap, sym, ◌∙◌, arith}
+use Rattle.std.proofs.Common.{◌≡◌, ℕ, ◌+◌, ◌<◌, ◌≤◌, List, [], ◌∷◌, length, drop, get_or, refl, ap, sym, arith}
 use Rattle.std.specs.Prelude.{Option, Some, None}
-use Rattle.std.proofs.lemmas.List.{drop_all}
+use Rattle.std.proofs.lemmas.List.{drop_all, drop_more}
 use Rattle.flow_model.specs.declared.Loc.{Loc}
 use Rattle.flow_model.specs.declared.SourceByte.{SourceByte}
 use Rattle.forward_pass.specs.Rest.{rest_of_answer, rest_of}
 
 pub next_behind : {X : Type 0} (xs : List X) (i : ℕ) → i < length xs → (x : X) × (drop i xs ≡ x ∷ drop (i + 1) xs)
 next_behind [] i h = absurd (omega arith)
-next_behind (x ∷ xs) zero h = (x, refl)
-next_behind (x ∷ xs) (suc i) h =
-    let later : suc i + 1 ≡ suc (i + 1) = omega arith in
-    let next = next_behind xs i (omega arith) in
-    (next.0, next.1 ∙ ap (λ (j : ℕ). next.0 ∷ drop j (x ∷ xs)) (sym later))
+next_behind (x ∷ xs) i h = (get_or (x ∷ xs) i x, drop_more (x ∷ xs) i x h)
 
 -- a source byte of the answer is sent
 pub byte_sent : (set : List SourceByte) (i : ℕ) (closing : Option Loc) → i < length set

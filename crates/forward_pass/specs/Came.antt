@@ -27,9 +27,11 @@ came_with c (Byte b) = record c { so_far = inserted source_cmp b c.so_far }
 came_with c (Close l) = closed c
 came_with c (End whole) = record (closed c) { is_ended = true }
 
--- it is what was got. Until the End whatever is got yet goes on from it; then it has what was heard
+-- what came is from what was got: until the End whatever is got later continues it, and from then on the answer to
+-- each location is the one that was heard
 pub record CameFrom (got : List Message) (asked : List Loc) (c : Came) : Type 0 where
-  pub running : c.is_ended ≡ false → (more : List Message) → answers_in [] (got ++ more) ≡ c.answers ++ answers_in c.so_far more
+  pub running : c.is_ended ≡ false → (more : List Message)
+      → answers_in [] (got ++ more) ≡ c.answers ++ answers_in c.so_far more
   pub ended : c.is_ended ≡ true → (l : Loc) → answer_to asked c.answers l ≡ heard asked got l
 
 -- as many answers are complete as the request needs, or the End came

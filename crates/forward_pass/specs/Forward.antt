@@ -72,10 +72,12 @@ answering_of v got sent = record {
 abbrev pub fore_state : ForeView → Option (List Message) → Option (List Message) → Answering
 fore_state v got sent = answering_of v (got_by got) (sent_by v.over v.whole sent)
 
--- what the pass keeps of what went through its ends
+-- what holds between a pass and what went through its ends, from one event to the next
 pub record ForeKeeps (v : ForeView) (got sent : Option (List Message)) : Type 0 where
   pub known : v.whole ≡ true → IsSome v.summary
+  -- the End came through the inlet, or there is none
   pub heard : v.came.is_ended ≡ is_ended (got_by got)
+  -- the last node answers nothing
   pub alone : IfNone sent ((v.left ≡ []) × (v.sending ≡ []))
   pub received : v.whole ≡ true → CameFrom (got_by got) v.asked v.came
   pub counted : v.whole ≡ true → v.came.is_ended ≡ false → AreCounted v.asked (known_by v) v.left
@@ -87,13 +89,15 @@ pub record IsSameFore (new old : ForeView) : Type 0 where
   pub asked : new.asked ≡ old.asked
 
 -- the event is that of the definition, for what the links did in it
-pub record ForeHappens (old : ForeView) (got sent : Option (List Message)) (new : ForeView) (got' sent' : Option (List Message)) (turn : PassTurn) : Type 0 where
+pub record ForeHappens (old : ForeView) (got sent : Option (List Message))
+    (new : ForeView) (got' sent' : Option (List Message)) (turn : PassTurn) : Type 0 where
   pub links : Links
   pub went : OnMoved turn ((links.has_room ≡ true) × IsSome links.next)
   pub is : fore_state new got' sent' ≡ answering_event (known_by old) old.asked links (fore_state old got sent)
 
 -- the pass came there from its start by the events of the definition
-pub record ForeReached (first : Bool) (requests : List Loc) (whole : Bool) (v : ForeView) (got sent : Option (List Message)) : Type 0 where
+pub record ForeReached (first : Bool) (requests : List Loc) (whole : Bool)
+    (v : ForeView) (got sent : Option (List Message)) : Type 0 where
   pub schedule : List Links
   pub is : fore_state v got sent ≡ answering_after (known_by v) v.asked schedule (answering_start whole first requests)
 

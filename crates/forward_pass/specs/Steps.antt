@@ -20,7 +20,8 @@ before v = answer_to v.asked v.came.answers
 -- in these the first test is whether a growth is refused
 abbrev pub with_answer : Bool → ForeView → Request → List Request → ForeView
 with_answer true v r left = record v { whole = false }
-with_answer false v r left = record v { left = left; sending = answer r.loc (resolved (before v) ((known_by v).ends r.loc)) }
+with_answer false v r left =
+    record v { left = left; sending = answer r.loc (resolved (before v) ((known_by v).ends r.loc)) }
 
 abbrev pub with_rows : Bool → ForeView → ForeView
 with_rows true v = record v { whole = false }
