@@ -1,0 +1,78 @@
+-- The answer that stands at the place of what was asked.
+use Rattle.std.proofs.Common.{◌≡◌, ℕ, zero, suc, List, [], ◌∷◌, get_or, slice_get, Some, length, map, ◌<◌, ◌≤◌, arith, refl, ap, sym, subst, ◌∙◌, Bool, true, false, ◌||◌, cond}
+use Rattle.std.specs.List.{AllByRecursion, IsDistinct, All}
+use Rattle.std.specs.Cmp.{tied_itself}
+use Rattle.std.specs.Ordering.{eq_by_cmp, is_eq}
+use Rattle.std.proofs.lemmas.Map.Keys.{IsDistinct-head, IsDistinct-tail}
+use Rattle.std.proofs.lemmas.List.Elements.{recursion_from_All}
+use Rattle.std.proofs.lemmas.List.{get_or-map, get_or_past, length-map}
+use Rattle.flow_model.specs.declared.Loc.{Loc}
+use Rattle.flow_model.specs.declared.SourceByte.{SourceByte}
+use Rattle.flow_model.specs.Orders.{loc_cmp, source_cmp}
+use Rattle.flow_model.proofs.Orders.{loc_total, loc_same}
+use Rattle.sorted_set.specs.Sets.{Ascends, has}
+use Rattle.sorted_set.proofs.Algebra.{tied_by}
+use Rattle.epoch_model.specs.Join.{answer_to}
+
+loc_itself : (l : Loc) → eq_by_cmp loc_cmp l l ≡ true
+loc_itself l = ap is_eq (tied_itself loc_total l)
+
+pub all_at : (P : Loc → Type 0) (ls : List Loc) (i : ℕ) (l : Loc) → AllByRecursion P ls → slice_get ls i ≡ Some l → P l
+all_at P [] i l a e = cc
+all_at P (m ∷ ms) zero l a e = let same : m ≡ l = cc in subst P same a.0
+all_at P (m ∷ ms) (suc i) l a e = all_at P ms i l a.1 e
+
+-- where it isn't asked there is none
+pub answer_none : (asked : List Loc) (answers : List (List SourceByte)) (l : Loc) → has loc_cmp l asked ≡ false → answer_to asked answers l ≡ []
+answer_none [] answers l e = refl
+answer_none (m ∷ ms) [] l e = refl
+answer_none (m ∷ ms) (a ∷ rest) l e = by (answer_none ms rest l) (eq_by_cmp loc_cmp l m) e where
+  by : (has loc_cmp l ms ≡ false → answer_to ms rest l ≡ []) → (b : Bool) → (b || has loc_cmp l ms) ≡ false → cond b a (answer_to ms rest l) ≡ []
+  by ih true h = cc
+  by ih false h = ih h
+
+-- each is asked once, so it is the one at the place of what was asked
+pub answer_at : (asked : List Loc) (answers : List (List SourceByte)) (i : ℕ) (l : Loc) → IsDistinct (eq_by_cmp loc_cmp) asked → slice_get asked i ≡ Some l
+    → answer_to asked answers l ≡ get_or answers i []
+answer_at [] answers i l d e = cc
+answer_at (m ∷ ms) [] i l d e = refl
+answer_at (m ∷ ms) (a ∷ rest) zero l d e =
+    let same : m ≡ l = cc in
+    ap (λ (b : Bool). cond b a (answer_to ms rest l)) (subst (λ (k : Loc). eq_by_cmp loc_cmp l k ≡ true) (sym same) (loc_itself l))
+answer_at (m ∷ ms) (a ∷ rest) (suc i) l d e =
+    by (all_at (λ k. eq_by_cmp loc_cmp m k ≡ false) ms i l (IsDistinct-head (eq_by_cmp loc_cmp) m ms d) e) (eq_by_cmp loc_cmp l m) refl
+    (answer_at ms rest i l (IsDistinct-tail (eq_by_cmp loc_cmp) m ms d) e) where
+      by : eq_by_cmp loc_cmp m l ≡ false → (b : Bool) → eq_by_cmp loc_cmp l m ≡ b → answer_to ms rest l ≡ get_or rest i [] → cond b a (answer_to ms rest l) ≡ get_or rest i []
+      by apart true same ih =
+          let alike : l ≡ m = loc_same l m (tied_by (loc_cmp l m) same) in
+          let clash : eq_by_cmp loc_cmp m m ≡ false = subst (λ (k : Loc). eq_by_cmp loc_cmp m k ≡ false) alike apart in
+          let itself = loc_itself m in
+          cc
+      by apart false other ih = ih
+
+-- as the answers are kept
+module _ {X : Type 0} (f : X → List SourceByte) (xs : List X) (answers : List (List SourceByte)) (v : answers ≡ map f xs) (i : ℕ) where
+  kept_at : (x : X) → i < length xs → x ≡ get_or xs i x → f x ≡ get_or answers i []
+  kept_at x h e = ap f e ∙ sym (ap (λ (ys : List (List SourceByte)). get_or ys i []) v ∙ get_or-map f xs i x [] h)
+
+  none_at : length xs ≤ i → [] ≡ get_or answers i []
+  none_at h = sym (ap (λ (ys : List (List SourceByte)). get_or ys i []) v ∙ get_or_past (map f xs) i [] (omega (arith, length-map xs f, h)))
+
+  module _ (asked : List Loc) (l : Loc) (d : IsDistinct (eq_by_cmp loc_cmp) asked) (e : slice_get asked i ≡ Some l) where
+    pub answer_kept : (x : X) → i < length xs → x ≡ get_or xs i x → f x ≡ answer_to asked answers l
+    answer_kept x h g = kept_at x h g ∙ sym (answer_at asked answers i l d e)
+
+    pub answer_past : length xs ≤ i → [] ≡ answer_to asked answers l
+    answer_past h = none_at h ∙ sym (answer_at asked answers i l d e)
+
+Ascends-answer : (asked : List Loc) (answers : List (List SourceByte)) (l : Loc) → AllByRecursion (Ascends source_cmp) answers → Ascends source_cmp (answer_to asked answers l)
+Ascends-answer [] answers l h = tt
+Ascends-answer (m ∷ ms) [] l h = tt
+Ascends-answer (m ∷ ms) (a ∷ rest) l h = by (Ascends-answer ms rest l h.1) (eq_by_cmp loc_cmp l m) where
+  by : Ascends source_cmp (answer_to ms rest l) → (b : Bool) → Ascends source_cmp (cond b a (answer_to ms rest l))
+  by ih true = h.0
+  by ih false = ih
+
+-- where all answers ascend, each does
+pub ascends_answer : (asked : List Loc) (answers : List (List SourceByte)) → All (Ascends source_cmp) answers → (l : Loc) → Ascends source_cmp (answer_to asked answers l)
+ascends_answer asked answers h l = Ascends-answer asked answers l (recursion_from_All (Ascends source_cmp) answers h)

@@ -1,0 +1,3 @@
+pub mod Members
+mod Finding
+mod Each

@@ -1,0 +1,4 @@
+mod Lists
+mod Starts
+mod Counts
+mod Backing

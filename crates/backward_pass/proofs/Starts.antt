@@ -1,0 +1,116 @@
+-- Start locations that are asked, and their places.
+use Rattle.std.proofs.Common.{◌≡◌, ℕ, zero, suc, ◌+◌, ◌<◌, max, List, [], ◌∷◌, ◌++◌, length, take, get_or, refl, ap, ap₂, sym, ◌∙◌, Bool, true, false, ◌||◌, cond, arith, slice_get, Some}
+use Rattle.std.specs.List.{AllByRecursion, IsDistinct}
+use Rattle.std.specs.Ordering.{eq_by_cmp, is_eq, ordering_reverse}
+use Rattle.std.proofs.Math.Seq.{take-suc}
+use Rattle.std.proofs.lemmas.Bool.{and_from}
+use Rattle.std.proofs.lemmas.List.Folds.{list_any-append}
+use Rattle.flow_model.specs.declared.Loc.{Loc}
+use Rattle.sorted_set.specs.Sets.{has, is_within}
+use Rattle.flow_model.specs.Orders.{loc_cmp}
+use Rattle.epoch_model.specs.Crossing.{added, added_all}
+use Rattle.std.specs.Cmp.{tied_itself}
+use Rattle.std.specs.declared.cmp.Ordering.{Ordering}
+use Rattle.std.specs.declared.cmp.Ordering.TheVariants.{Less, Equal, Greater}
+use Rattle.flow_model.proofs.Orders.{loc_total}
+use Rattle.epoch_model.proofs.Adding.{any_added_all}
+use Rattle.stream_model.specs.Streams.{places_up_to, places_needed}
+use Rattle.stream_model.proofs.Growing.{added_all-append, added_all_keeps}
+use Rattle.stream_model.proofs.Counting.{places_stay}
+
+no : {A : Type 0} → true ≡ false → A
+no e = cc
+
+-- ---- the place of one location
+
+loc_itself : (l : Loc) → eq_by_cmp loc_cmp l l ≡ true
+loc_itself l = ap is_eq (tied_itself loc_total l)
+
+is_eq_turned : (r : Ordering) → is_eq (ordering_reverse r) ≡ is_eq r
+is_eq_turned Less = refl
+is_eq_turned Equal = refl
+is_eq_turned Greater = refl
+
+loc_eq_turned : (l m : Loc) → eq_by_cmp loc_cmp m l ≡ eq_by_cmp loc_cmp l m
+loc_eq_turned l m = ap is_eq (loc_total.antisymm m l) ∙ is_eq_turned (loc_cmp l m)
+
+-- one that is not asked comes after all
+pub all_before : (asked : List Loc) (l : Loc) → has loc_cmp l asked ≡ false → places_up_to asked l ≡ length asked
+all_before [] l e = refl
+all_before (m ∷ ms) l e = by (all_before ms l) (eq_by_cmp loc_cmp l m) e where
+  by : (has loc_cmp l ms ≡ false → places_up_to ms l ≡ length ms) → (b : Bool) → (b || has loc_cmp l ms) ≡ false → cond b 1 (1 + places_up_to ms l) ≡ suc (length ms)
+  by ih true h = no h
+  by ih false h = let rest = ih h in omega (arith, rest)
+
+-- where each is asked once, a location stands at one place alone
+pub place_is : (asked : List Loc) (l : Loc) (i : ℕ) → IsDistinct (eq_by_cmp loc_cmp) asked → slice_get asked i ≡ Some l → places_up_to asked l ≡ i + 1
+unfolding IsDistinct
+place_is [] l i d is = cc
+place_is (m ∷ ms) l zero d is =
+    let same : m ≡ l = cc in
+    ap (λ (k : Loc). cond (eq_by_cmp loc_cmp l k) 1 (1 + places_up_to ms l)) same ∙ ap (λ (b : Bool). cond b 1 (1 + places_up_to ms l)) (loc_itself l)
+place_is (m ∷ ms) l (suc i) d is =
+    let rest = place_is ms l i d.1 is in
+    ap (λ (b : Bool). cond b 1 (1 + places_up_to ms l)) (other ms i d.0 is) ∙ omega (arith, rest)
+  where
+    other : (ls : List Loc) (i : ℕ) → AllByRecursion (λ k. eq_by_cmp loc_cmp m k ≡ false) ls → slice_get ls i ≡ Some l → eq_by_cmp loc_cmp l m ≡ false
+    other [] i a is = cc
+    other (k ∷ ls) zero a is =
+        let same : k ≡ l = cc in
+        loc_eq_turned m l ∙ ap (eq_by_cmp loc_cmp m) (sym same) ∙ a.0
+    other (k ∷ ls) (suc i) a is = other ls i a.1 is
+
+-- ---- several locations
+
+needed_next : (asked ls : List Loc) (l : Loc) → places_needed asked (ls ++ l ∷ []) ≡ max (places_up_to asked l) (places_needed asked ls)
+needed_next asked [] l = refl
+needed_next asked (m ∷ ms) l =
+    let rest = needed_next asked ms l in
+    ap (max (places_up_to asked m)) rest ∙ grind arith
+
+-- each that was added is asked
+pub within_added : (asked ls : List Loc) → is_within loc_cmp ls (added_all asked ls) ≡ true
+within_added asked [] = refl
+within_added asked (l ∷ ls) =
+    let more = added_all_keeps (added asked l) ls in
+    and_from _ _
+    (ap (has loc_cmp l) (sym more.1) ∙ list_any-append (eq_by_cmp loc_cmp l) (added asked l) more.0 ∙ ap (λ (b : Bool). b || has loc_cmp l more.0) own)
+    (within_added (added asked l) ls)
+  where
+    either : (a b : Bool) → b ≡ true → (a || b) ≡ true
+    either true b e = refl
+    either false b e = e
+
+    own : has loc_cmp l (added asked l) ≡ true
+    own = any_added_all (eq_by_cmp loc_cmp l) asked (l ∷ []) ∙ either (has loc_cmp l asked) _ (ap (λ (b : Bool). b || false) (loc_itself l))
+
+-- one more is added
+pub added_next : (asked ls : List Loc) (i : ℕ) (d : Loc) → i < length ls → added_all asked (take (i + 1) ls) ≡ added (added_all asked (take i ls)) (get_or ls i d)
+added_next asked ls i d h =
+    let later : i + 1 ≡ suc i = omega arith in
+    ap (λ (j : ℕ). added_all asked (take j ls)) later ∙ ap (added_all asked) (take-suc ls i d h)
+    ∙ added_all-append asked (take i ls) (get_or ls i d ∷ [])
+
+-- and the number that is needed is that of the last of them
+needed_more : (asked ls : List Loc) (i : ℕ) (d : Loc) → i < length ls
+    → let now = added_all asked (take i ls) in
+    max (places_up_to (added now (get_or ls i d)) (get_or ls i d)) (places_needed now (take i ls)) ≡ places_needed (added now (get_or ls i d)) (take (i + 1) ls)
+needed_more asked ls i d h =
+    let now = added_all asked (take i ls) in
+    let l = get_or ls i d in
+    let later : i + 1 ≡ suc i = omega arith in
+    let more = added_all_keeps now (l ∷ []) in
+    ap (max (places_up_to (added now l) l))
+    (sym (places_stay now more.0 (take i ls) (within_added asked (take i ls))) ∙ ap (λ (ms : List Loc). places_needed ms (take i ls)) more.1)
+    ∙ sym (needed_next (added now l) (take i ls) l)
+    ∙ ap (places_needed (added now l)) (sym (ap (λ (j : ℕ). take j ls) later ∙ take-suc ls i d h))
+
+-- the same where the lists are given by equations
+pub needed_step : (asked ls : List Loc) (i : ℕ) (d : Loc) (now new : List Loc) → i < length ls → now ≡ added_all asked (take i ls) → new ≡ added now (get_or ls i d)
+    → max (places_up_to new (get_or ls i d)) (places_needed now (take i ls)) ≡ places_needed new (take (i + 1) ls)
+needed_step asked ls i d now new h n e =
+    let l = get_or ls i d in
+    let is : new ≡ added (added_all asked (take i ls)) l = e ∙ ap (λ (ms : List Loc). added ms l) n in
+    ap₂ (λ (p q : List Loc). max (places_up_to p l) (places_needed q (take i ls))) is n
+    ∙ needed_more asked ls i d h
+    ∙ ap (λ (p : List Loc). places_needed p (take (i + 1) ls)) (sym is)

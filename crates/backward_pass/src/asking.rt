@@ -1,0 +1,83 @@
+//! What is asked for a sink, and for a request of the next epoch.
+
+ghost use Rattle.std.specs.Prelude.{◌≡◌, ◌<◌, length, Some, IfOk, OnOk};
+ghost use Rattle.epoch_model.specs.Crossing.{added_all};
+ghost use Rattle.stream_model.specs.Streams.{places_up_to, places_needed};
+ghost use Rattle.stream_model.specs.Passes.{asked_more};
+ghost use Rattle.local_taint.specs.Summaries.{summary_of};
+ghost use Rattle.pass_parts.specs.Known.{known};
+ghost use Rattle.backward_pass.specs.Backward.{IsWalked, IsRequested};
+
+use flow_rule::Loc;
+use local_taint::{Asked, Summary};
+use merge_log::TermsReader;
+use no_memory::NoMemory;
+use pass_parts::{Request, Requests, read_end_terms};
+
+/// How many of the asked locations there are up to this one: all of them where it is not asked.
+fn places_up_to(asked: &Asked, loc: Loc) -> usize
+    ensures { result ≡ places_up_to asked.now loc }
+{
+    asked.form();
+    let count = asked.count();
+    match asked.place_of(loc) {
+        Some(place) => place + 1,
+        None => count,
+    }
+}
+
+/// Asks for the start locations that were read last. It gives how many of the asked locations there are up to the last
+/// of them. When out of memory, part of them may be asked.
+fn add_starts(reader: &TermsReader, asked: &mut Asked) -> Result<usize, NoMemory>
+    ensures added { OnOk result (asked.new ≡ added_all asked.old reader.now.starts) }
+    ensures needed { IfOk result (λ n. n ≡ places_needed asked.new reader.now.starts) }
+{
+    let mut needed = 0;
+    for start in reader.starts() {
+        asked.add(*start)?;
+        needed = places_up_to(asked, *start).max(needed);
+    }
+    Ok(needed)
+}
+
+/// Asks for where the content of a sink was at the epoch's start. The first epoch asks nothing. When out of
+/// memory, part of it may be asked.
+pub(crate) fn add_sink(
+    summary: &Summary,
+    reader: &mut TermsReader,
+    number: usize,
+    first: bool,
+    asked: &mut Asked,
+) -> Result<(), NoMemory>
+    requires { number < length (summary_of summary.now).sinks }
+    ensures { OnOk result (IsWalked first (summary_of summary.now).sinks number asked.old asked.new) }
+{
+    if first {
+        return Ok(());
+    }
+    summary.sink_terms(reader, number)?;
+    add_starts(reader, asked)?;
+    Ok(())
+}
+
+/// Asks for where the content of a requested location was at the epoch's start, and notes the request. The first epoch
+/// asks nothing. When out of memory, part of it may be asked.
+pub(crate) fn add_request(
+    summary: &Summary,
+    reader: &mut TermsReader,
+    loc: Loc,
+    first: bool,
+    asked: &mut Asked,
+    requests: &mut Requests,
+) -> Result<(), NoMemory>
+    ensures asked { OnOk result (asked.new ≡ asked_more first asked.old ((known (Some summary.now)).ends loc).starts) }
+    ensures noted { OnOk result (IsRequested first asked.new (known (Some summary.now)) loc requests.old.items requests.new.items) }
+{
+    let mut needed_first = 0;
+    if !first {
+        read_end_terms(summary, reader, loc)?;
+        needed_first = add_starts(reader, asked)?;
+    }
+    requests.push(Request { loc, needed_first })?;
+    Ok(())
+}

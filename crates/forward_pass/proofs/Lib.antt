@@ -1,0 +1,5 @@
+mod OneMore
+mod Lists
+mod Messages
+mod Events
+mod Reaching

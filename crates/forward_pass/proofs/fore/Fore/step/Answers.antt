@@ -1,0 +1,50 @@
+use Rattle.std.proofs.Common.{List, ap, refl}
+use Rattle.std.specs.Prelude.{option_map}
+use Rattle.flow_rule.specs.declared.Message.{Message}
+use Rattle.pass_parts.specs.Ends.{IsRefused}
+use Rattle.forward_pass.specs.Forward.{fore_of}
+use Rattle.forward_pass.proofs.Events.{happens_moved, keeps_moved, over_next, full_next, push_next, empty_next, needs_item, waits_item, pop_next, pop_keeps, no_room_next, end_next}
+use Rattle.forward_pass.proofs.fore.Fore.step.Goals as goal
+
+pub returns-in-Moved-clause-event : goal.returns-in-Moved-clause-event
+returns-in-Moved-clause-event g c = happens_moved (fore_of c.args.self.now) _ _ c.requires.keeps (fore_of c.next.new.self) c.in-Moved.ensures
+
+pub returns-in-Moved-clause-keeps : goal.returns-in-Moved-clause-keeps
+returns-in-Moved-clause-keeps g c = keeps_moved (fore_of c.args.self.now) _ _ c.requires.keeps (fore_of c.next.new.self) c.in-Moved.ensures
+
+pub returns-then-not-push_message-clause-event : goal.returns-then-not-push_message-clause-event
+returns-then-not-push_message-clause-event g c =
+    full_next (fore_of c.args.self.now) (fore_of c.next.new.self) _ _ c.in-Send.ensures.0 _ c.in-Send.message c.in-Send.ensures.1 (c.if-not-push_message.ensures.full refl)
+
+pub returns-else-not-push_message-clause-event : goal.returns-else-not-push_message-clause-event
+returns-else-not-push_message-clause-event g c =
+    push_next (fore_of c.args.self.now) (fore_of c.next.new.self) _ _ c.in-Send.ensures.0 _ _ c.in-Send.message c.in-Send.ensures.1 c.requires.keeps (c.if-not-push_message.ensures.sent refl)
+    (ap (λ (ms : List Message). record (fore_of c.next.new.self) { sending = ms }) c.advance.ensures)
+
+pub returns-in_default-clause-event : goal.returns-in_default-clause-event
+returns-in_default-clause-event g c =
+    empty_next (fore_of c.args.self.now) (fore_of c.next.new.self) _ _ c.in-Receive.ensures.0 _ c.in-Receive.ensures.1 c.requires.keeps c.in_default.ensures.none
+
+pub returns-in_default-clause-waits : goal.returns-in_default-clause-waits
+returns-in_default-clause-waits g c =
+    waits_item _ _ (IsRefused g.O.Outlet.refusals g.O.Outlet.ready c.args.outlet.now c.args.outlet.now)
+    (needs_item (fore_of c.args.self.now) (option_map g.I.Inlet.got c.args.inlet.now) (option_map g.O.Outlet.sent c.args.outlet.now) c.requires.keeps c.in-Receive.ensures.1) c.in_default.ensures.refused
+
+pub returns-in-Some-clause-event : goal.returns-in-Some-clause-event
+returns-in-Some-clause-event g c =
+    pop_next (fore_of c.args.self.now) (fore_of c.next.new.self) _ _ c.in-Receive.ensures.0 (fore_of c.take.new.self) _ c.in-Some.message c.in-Receive.ensures.1 c.requires.keeps c.in-Some.ensures.some c.take.ensures
+
+pub returns-in-Some-clause-keeps : goal.returns-in-Some-clause-keeps
+returns-in-Some-clause-keeps g c =
+    pop_keeps (fore_of c.args.self.now) (fore_of c.next.new.self) _ _ c.in-Receive.ensures.0 (fore_of c.take.new.self) _ c.in-Some.message c.in-Receive.ensures.1 c.requires.keeps c.in-Some.ensures.some c.take.ensures
+
+pub returns-then-not-push_message-2-clause-event : goal.returns-then-not-push_message-2-clause-event
+returns-then-not-push_message-2-clause-event g c =
+    no_room_next (fore_of c.args.self.now) (fore_of c.next.new.self) _ _ c.in-End.ensures.0 _ c.in-End.ensures.1 c.requires.keeps (c.if-not-push_message-2.ensures.full refl)
+
+pub returns-else-not-push_message-2-clause-event : goal.returns-else-not-push_message-2-clause-event
+returns-else-not-push_message-2-clause-event g c =
+    end_next (fore_of c.args.self.now) (fore_of c.next.new.self) _ _ c.in-End.ensures.0 _ c.in-End.ensures.1 c.requires.keeps (c.if-not-push_message-2.ensures.sent refl)
+
+pub returns-in-Over-clause-event : goal.returns-in-Over-clause-event
+returns-in-Over-clause-event g c = over_next (fore_of c.args.self.now) (fore_of c.next.new.self) _ _ c.in-Over.ensures.0 c.in-Over.ensures.1

@@ -1,0 +1,4 @@
+pub mod Came
+pub mod Rest
+pub mod Forward
+pub mod Steps

@@ -1,0 +1,292 @@
+//! The pass forwards.
+
+ghost use Rattle.std.specs.Prelude.{◌≡◌, ◌∷◌, [], List, Option, option_map, true, false, Some, Bool, IsSome, IfOk};
+ghost use Rattle.flow_model.specs.declared.Loc.{Loc};
+ghost use Rattle.epoch_model.specs.Join.{answer_to, resolved as resolved_terms};
+ghost use Rattle.stream_model.specs.Passes.{is_whole_message, rows_or_none};
+ghost use Rattle.stream_model.specs.Schedules.{answering_need};
+ghost use Rattle.pass_parts.specs.Ends.{IsEndFrom, IsRefused, fresh_end};
+ghost use Rattle.pass_parts.specs.Known.{known};
+ghost use Rattle.pass_parts.specs.Requests.{locations, AreCounted};
+ghost use Rattle.pass_parts.specs.Turns.{OnOver, OnOpen, OnNotYet, Waits};
+ghost use Rattle.forward_pass.specs.Forward.{fore_of, new_fore, known_by, fore_state, ForeKeeps, IsSameFore, ForeHappens, ForeReached, ForeSends};
+ghost use Rattle.forward_pass.specs.Steps.{CannotAnswer, Builds, Resolves, Takes, IsNext};
+
+use crate::next::Next;
+use crate::received::Received;
+use crate::sending::Sending;
+use answer_sets::{Answers, resolved, rows};
+use epoch_link::{Inlet, Outlet};
+use flow_rule::{Loc, Message, SourceByte};
+use local_taint::{Asked, Summary};
+use merge_log::TermsReader;
+use no_memory::NoMemory;
+use pass_parts::{PassTurn, Requests, pop_message, push_message, read_end_terms};
+use sink_collect::SinkSets;
+use std::alloc::Global;
+
+/// Answers what the node behind asked, and resolves the sinks of the epoch.
+///
+/// It is broken from where a growth is refused or an End comes that isn't whole. A broken pass takes no memory, sends
+/// nothing of what waits, and ends, not whole.
+#[derive(Drop)]
+pub struct Fore {
+    summary: Option<Summary>,
+    asked: Asked,
+    requests: Requests,
+    // How many of the requests are answered, the one whose answer is being sent among them.
+    answered: usize,
+    sending: Sending,
+    received: Received,
+    rows: Option<SinkSets>,
+    // It keeps its marks from one set to the next.
+    reader: TermsReader,
+    whole: bool,
+    over: bool,
+}
+
+/// The answer to a location, where this was asked and these answers came. It gives up with NoMemory alone.
+fn answer_for(
+    alloc: Global,
+    reader: &mut TermsReader,
+    summary: &Summary,
+    loc: Loc,
+    asked: &Asked,
+    answers: &Answers,
+) -> Result<Vec<SourceByte>, NoMemory>
+    ensures { IfOk result (λ set. set.items ≡ resolved_terms (answer_to asked.now answers.now) ((known (Some summary.now)).ends loc)) }
+{
+    read_end_terms(summary, reader, loc)?;
+    resolved(alloc, reader, asked, answers)
+}
+
+/// Whether a pass that takes the message stays whole.
+fn is_whole(message: Message) -> bool
+    ensures { result ≡ is_whole_message message }
+{
+    match message {
+        Message::Ask(_) => true,
+        Message::Byte(_) => true,
+        Message::Close(_) => true,
+        Message::End { whole } => whole,
+    }
+}
+
+impl Fore {
+    /// A pass that has answered nothing yet, of a node that has asked this and is asked for these. The first node has no
+    /// link to get from, the last one none to send through. It takes no memory.
+    pub fn new(
+        alloc: Global,
+        summary: Option<Summary>,
+        asked: Asked,
+        requests: Requests,
+        whole: bool,
+        first: bool,
+        last: bool,
+    ) -> Fore
+        requires summary { whole ≡ true → IsSome summary }
+        requires last { last ≡ true → requests.items ≡ [] }
+        requires counted { whole ≡ true → first ≡ false → AreCounted asked (known summary) requests.items }
+        ensures made { fore_of result ≡ new_fore summary asked requests.items whole first }
+        ensures keeps { ForeKeeps (fore_of result) (fresh_end first) (fresh_end last) }
+        ensures reached { ForeReached first (locations requests.items) whole (fore_of result) (fresh_end first) (fresh_end last) }
+    {
+        Fore {
+            summary,
+            asked,
+            requests,
+            answered: 0,
+            sending: Sending::nothing(alloc),
+            received: Received::new(alloc, first),
+            rows: None,
+            reader: TermsReader::new(alloc),
+            whole,
+            over: false,
+        }
+    }
+
+    /// Whether it was made whole, no growth was refused, and no End came that isn't whole.
+    pub fn whole(&self) -> bool
+        ensures { result ≡ (fore_of self.now).whole }
+    {
+        self.whole
+    }
+
+    /// The rows of the epoch's sinks, none if they were not resolved, and what was asked. It takes no memory.
+    pub fn into_sets(self) -> (SinkSets, Asked)
+        ensures rows { result.0 ≡ rows_or_none (fore_of self).rows }
+        ensures asked { result.1 ≡ (fore_of self).asked }
+    {
+        let alloc = *self.requests.allocator();
+        let nothing = SinkSets::from_vec(Vec::new(alloc));
+        (self.rows.unwrap_or(nothing), self.asked)
+    }
+
+    /// The next event. NotYet only where the one link that it needs refused in this call, and then nothing else
+    /// changed; Over exactly where the End is sent, in this call or before.
+    pub fn event<I: Inlet<Message>, O: Outlet<Message>>(
+        &mut self,
+        inlet: &mut Option<I>,
+        outlet: &mut Option<O>,
+    ) -> PassTurn
+        requires keeps { ForeKeeps (fore_of self.old) (option_map I.got inlet.old) (option_map O.sent outlet.old) }
+        ensures event { ForeHappens (fore_of self.old) (option_map I.got inlet.old) (option_map O.sent outlet.old) (fore_of self.new) (option_map I.got inlet.new) (option_map O.sent outlet.new) result }
+        ensures keeps { ForeKeeps (fore_of self.new) (option_map I.got inlet.new) (option_map O.sent outlet.new) }
+        ensures reached { (first whole : Bool) (requests : List Loc) → ForeReached first requests whole (fore_of self.old) (option_map I.got inlet.old) (option_map O.sent outlet.old) → ForeReached first requests whole (fore_of self.new) (option_map I.got inlet.new) (option_map O.sent outlet.new) }
+        ensures sends { (first whole : Bool) (requests : List Loc) → ForeReached first requests whole (fore_of self.old) (option_map I.got inlet.old) (option_map O.sent outlet.old) → ForeSends requests (fore_of self.new) (option_map I.got inlet.new) (option_map O.sent outlet.new) }
+        ensures same { IsSameFore (fore_of self.new) (fore_of self.old) }
+        ensures inlet { IsEndFrom I.link I.capacity I.other inlet.new inlet.old }
+        ensures outlet { IsEndFrom O.link O.capacity O.other outlet.new outlet.old }
+        ensures over { OnOver result ((fore_of self.new).over ≡ true) }
+        ensures open { OnOpen result ((fore_of self.new).over ≡ false) }
+        ensures not_yet { OnNotYet result ((fore_of self.new ≡ fore_of self.old) × (option_map I.got inlet.new ≡ option_map I.got inlet.old) × (option_map O.sent outlet.new ≡ option_map O.sent outlet.old)) }
+        ensures waits { OnNotYet result (Waits (answering_need (known_by (fore_of self.old)) (fore_of self.old).asked (fore_state (fore_of self.old) (option_map I.got inlet.old) (option_map O.sent outlet.old))) (IsRefused I.refusals I.ready inlet.old inlet.new) (IsRefused O.refusals O.ready outlet.old outlet.new)) }
+    {
+        self.step(inlet, outlet)
+    }
+
+    // The event, without what follows of it by the laws.
+    fn step<I: Inlet<Message>, O: Outlet<Message>>(
+        &mut self,
+        inlet: &mut Option<I>,
+        outlet: &mut Option<O>,
+    ) -> PassTurn
+        requires keeps { ForeKeeps (fore_of self.old) (option_map I.got inlet.old) (option_map O.sent outlet.old) }
+        ensures event { ForeHappens (fore_of self.old) (option_map I.got inlet.old) (option_map O.sent outlet.old) (fore_of self.new) (option_map I.got inlet.new) (option_map O.sent outlet.new) result }
+        ensures keeps { ForeKeeps (fore_of self.new) (option_map I.got inlet.new) (option_map O.sent outlet.new) }
+        ensures same { IsSameFore (fore_of self.new) (fore_of self.old) }
+        ensures inlet { IsEndFrom I.link I.capacity I.other inlet.new inlet.old }
+        ensures outlet { IsEndFrom O.link O.capacity O.other outlet.new outlet.old }
+        ensures over { OnOver result ((fore_of self.new).over ≡ true) }
+        ensures open { OnOpen result ((fore_of self.new).over ≡ false) }
+        ensures not_yet { OnNotYet result ((fore_of self.new ≡ fore_of self.old) × (option_map I.got inlet.new ≡ option_map I.got inlet.old) × (option_map O.sent outlet.new ≡ option_map O.sent outlet.old)) }
+        ensures waits { OnNotYet result (Waits (answering_need (known_by (fore_of self.old)) (fore_of self.old).asked (fore_state (fore_of self.old) (option_map I.got inlet.old) (option_map O.sent outlet.old))) (IsRefused I.refusals I.ready inlet.old inlet.new) (IsRefused O.refusals O.ready outlet.old outlet.new)) }
+    {
+        match self.next() {
+            Next::Moved => PassTurn::Moved,
+            Next::Send(message) => {
+                if !push_message(outlet, message) {
+                    return PassTurn::NotYet;
+                }
+                self.sending.advance();
+                PassTurn::Moved
+            }
+            Next::Receive => {
+                let Some(message) = pop_message(inlet) else {
+                    return PassTurn::NotYet;
+                };
+                self.take(message);
+                PassTurn::Moved
+            }
+            Next::End => {
+                let end = Message::End { whole: self.whole };
+                if !push_message(outlet, end) {
+                    return PassTurn::NotYet;
+                }
+                self.over = true;
+                PassTurn::Over
+            }
+            Next::Over => PassTurn::Over,
+        }
+    }
+
+    /// What the pass does next. What needs no link is done.
+    fn next(&mut self) -> Next
+        requires { self.old.whole ≡ true → IsSome self.old.summary }
+        ensures { IsNext result (fore_of self.new) (fore_of self.old) }
+    {
+        if self.over {
+            return Next::Over;
+        }
+        if self.whole {
+            if let Some(message) = self.sending.next() {
+                return Next::Send(message);
+            }
+            if self.build() {
+                return Next::Moved;
+            }
+            if self.resolve() {
+                return Next::Moved;
+            }
+        }
+        if self.received.ended() {
+            Next::End
+        } else {
+            Next::Receive
+        }
+    }
+
+    /// Builds the answer to the next request, if enough answers came. Where a growth is refused, the pass is broken.
+    fn build(&mut self) -> bool
+        requires { IsSome self.old.summary }
+        ensures none { result ≡ false → (fore_of self.new ≡ fore_of self.old) × CannotAnswer (fore_of self.old).came (fore_of self.old).left }
+        ensures built { result ≡ true → Builds (fore_of self.old) (fore_of self.new) }
+    {
+        let Some(summary) = &self.summary else {
+            return false;
+        };
+        if self.answered >= self.requests.len() {
+            return false;
+        }
+        let request = self.requests[self.answered];
+        if !self.received.is_enough(request) {
+            return false;
+        }
+        let alloc = *self.requests.allocator();
+        let answers = self.received.answers();
+        let Ok(set) = answer_for(
+            alloc,
+            &mut self.reader,
+            summary,
+            request.loc,
+            &self.asked,
+            answers,
+        ) else {
+            self.whole = false;
+            return true;
+        };
+        self.sending = Sending::answer(request.loc, set);
+        self.answered += 1;
+        true
+    }
+
+    /// Resolves the sinks, if no request is left and the End came. Where a growth is refused, the pass is broken.
+    fn resolve(&mut self) -> bool
+        requires { IsSome self.old.summary }
+        ensures none { result ≡ false → (fore_of self.new ≡ fore_of self.old) × ((fore_of self.old).left ≡ [] → (fore_of self.old).came.is_ended ≡ true → IsSome (fore_of self.old).rows) }
+        ensures resolved { result ≡ true → Resolves (fore_of self.old) (fore_of self.new) }
+    {
+        let Some(summary) = &self.summary else {
+            return false;
+        };
+        if self.answered < self.requests.len() {
+            return false;
+        }
+        if !self.received.ended() || self.rows.is_some() {
+            return false;
+        }
+        let alloc = *self.requests.allocator();
+        let answers = self.received.answers();
+        let Ok(rows) = rows(alloc, &mut self.reader, summary, &self.asked, answers) else {
+            self.whole = false;
+            return true;
+        };
+        self.rows = Some(SinkSets::from_vec(rows));
+        true
+    }
+
+    /// Takes a message. Where a growth is refused, or an End isn't whole, the pass is broken.
+    fn take(&mut self, message: Message)
+        ensures { Takes message (fore_of self.old) (fore_of self.new) }
+    {
+        if !self.whole {
+            self.received.let_go(message);
+            return;
+        }
+        let Ok(()) = self.received.take(message) else {
+            self.whole = false;
+            return;
+        };
+        self.whole = is_whole(message);
+    }
+}

@@ -1,0 +1,5 @@
+pub mod Ends
+pub mod Turns
+pub mod Known
+pub mod Requests
+pub mod PartLaws

@@ -1,0 +1,34 @@
+//! The terms of any location that a neighbour asks for.
+
+ghost use Rattle.std.specs.Prelude.{◌≡◌, Some, OnOk};
+ghost use Rattle.merge_log.specs.Log.{AreSets};
+ghost use Rattle.local_taint.specs.Words.{as_terms};
+ghost use Rattle.pass_parts.specs.Known.{is_location, known};
+
+use flow_rule::Loc;
+use local_taint::Summary;
+use merge_log::TermsReader;
+use no_memory::NoMemory;
+
+/// Whether a lane is one of a register. Each address is a location.
+fn is_location(loc: Loc) -> bool
+    ensures { result ≡ is_location loc }
+{
+    match loc {
+        Loc::Reg { number, lane } => number < 32 && lane < 4,
+        Loc::Mem { place: _ } => true,
+    }
+}
+
+/// Reads the terms of a location at the epoch's end: the location itself where the epoch doesn't touch it, or where no
+/// register has such a lane. When out of memory, the reader may have read part of them, and can go on.
+pub fn read_end_terms(summary: &Summary, reader: &mut TermsReader, loc: Loc) -> Result<(), NoMemory>
+    ensures read { OnOk result (as_terms reader.new ≡ (known (Some summary.now)).ends loc) }
+    ensures ascending { OnOk result (AreSets reader.new) }
+{
+    if is_location(loc) {
+        summary.end_terms(reader, loc)
+    } else {
+        reader.read_start(loc)
+    }
+}

@@ -1,0 +1,15 @@
+//! What both passes of a node share: the answer of an event, messages through links that may be missing, the
+//! requests that one pass hands to the other, and what both know of the epoch.
+#![tactic(auto)]
+
+mod end_terms;
+mod ends;
+pub mod laws;
+mod pass_turn;
+mod requests;
+
+pub use end_terms::read_end_terms;
+pub use ends::{pop_message, push_message};
+pub use flow_rule::{Loc, Message, SourceByte};
+pub use pass_turn::PassTurn;
+pub use requests::{Request, Requests};

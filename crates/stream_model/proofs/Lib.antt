@@ -1,0 +1,9 @@
+pub mod Growing
+pub mod Counting
+pub mod Meeting
+pub mod Passing
+pub mod Moving
+pub mod NeverStill
+pub mod Running
+pub mod Work
+mod Worked

@@ -1,0 +1,364 @@
+-- What events change, and what they keep between neighbours.
+use Rattle.std.proofs.Common.{◌≡◌, ◌⊎◌, inl, inr, ℕ, zero, suc, List, [], ◌∷◌, ◌++◌, length, drop, refl, ap, sym, subst, ◌∙◌, Bool, true, false, append-nil, append_assoc}
+use Rattle.std.specs.Prelude.{Option, Some, None, is_none}
+use Rattle.flow_model.specs.declared.Loc.{Loc}
+use Rattle.flow_model.specs.declared.SourceByte.{SourceByte}
+use Rattle.flow_rule.specs.declared.Message.{Message}
+use Rattle.flow_rule.specs.declared.Message.TheVariants.{Ask, Byte, Close, End}
+use Rattle.report_model.specs.Rows.{Row}
+use Rattle.epoch_model.specs.Summary.{Summary, SinkTerms}
+use Rattle.epoch_model.specs.Join.{resolved}
+use Rattle.stream_model.specs.Streams.{is_ended, heard, is_resolvable, answer}
+use Rattle.stream_model.specs.StreamLaws.{IsPrefix}
+use Rattle.stream_model.specs.Passes.{Links, Asking, Answering, push_ask, walk, pop_ask, drop_ask, end_asks, broken_asking, whole_asking, asking_by, asking_event, push_answer, pop_answer, build, build_or_pop, resolve, drop_answer, end_answers, resolve_or_end, pop_or_end, broken_answering, whole_answering, answering_by, answering_event}
+use Rattle.stream_model.specs.Schedules.{Phase, Fresh, Asks, Answers, NodeState, Event, asks_sent_in, asks_got_in, answers_sent_in, answers_got_in, first_of, next_item, asking_links, answering_links, begun, settled_by, node_event, phase_of_first, event_at, nodes_start, nodes_after}
+use Rattle.stream_model.proofs.Growing.{prefix_trans, ended_stays}
+use Rattle.stream_model.proofs.Passing.{no}
+
+-- ---- Ends in lists
+
+pub ended_after : (xs ys : List Message) → is_ended xs ≡ false → is_ended (xs ++ ys) ≡ is_ended ys
+ended_after [] ys h = refl
+ended_after (Ask l ∷ xs) ys h = ended_after xs ys h
+ended_after (Byte b ∷ xs) ys h = ended_after xs ys h
+ended_after (Close l ∷ xs) ys h = ended_after xs ys h
+ended_after (End whole ∷ xs) ys h = no h
+
+no_end : (l : Loc) (set : List SourceByte) → is_ended (answer l set) ≡ false
+no_end l [] = refl
+no_end l (b ∷ bs) = no_end l bs
+
+apart : (m : Message) (ms : List Message) → is_ended (m ∷ ms) ≡ false → (is_ended (m ∷ []) ≡ false) × (is_ended ms ≡ false)
+apart (Ask l) ms n = (refl, n)
+apart (Byte b) ms n = (refl, n)
+apart (Close l) ms n = (refl, n)
+apart (End whole) ms n = no n
+
+-- ---- what an event gets
+
+-- the next item was got, or nothing
+abbrev pub IsGot : Option Message → List Message → List Message → Type 0
+IsGot next got new = (new ≡ got) ⊎ ((m : Message) × (next ≡ Some m) × (new ≡ got ++ m ∷ []))
+
+pub drop_front : (xs ys : List Message) → drop (length xs) (xs ++ ys) ≡ ys
+drop_front [] ys = refl
+drop_front (x ∷ xs) ys = drop_front xs ys
+
+-- what was got stays a part of what was sent
+pub got_fits : (got new sent : List Message) → IsPrefix got sent → IsGot (next_item got sent) got new → IsPrefix new sent
+got_fits got new sent p (inl e) = (p.0, ap (λ (xs : List Message). xs ++ p.0) e ∙ p.1)
+got_fits got new sent p (inr g) = by p.0 p.1 (ap first_of (sym (drop_front got p.0) ∙ ap (drop (length got)) p.1) ∙ g.1) where
+  by : (held : List Message) → got ++ held ≡ sent → first_of held ≡ Some g.0 → IsPrefix new sent
+  by [] e f = cc
+  by (x ∷ rest) e f =
+      let same : x ≡ g.0 = cc in
+      (rest, ap (λ (xs : List Message). xs ++ rest) g.2 ∙ append_assoc got (g.0 ∷ []) rest ∙ ap (λ (m : Message). got ++ m ∷ rest) (sym same) ∙ e)
+
+pub ended_got : (next : Option Message) (got new : List Message) → IsGot next got new → is_ended got ≡ true → is_ended new ≡ true
+ended_got next got new (inl e) h = ap is_ended e ∙ h
+ended_got next got new (inr g) h = ap is_ended g.2 ∙ ended_stays got (g.0 ∷ []) h
+
+same_prefix : (xs : List Message) → IsPrefix xs xs
+same_prefix xs = ([], append-nil xs)
+
+-- ---- asking
+
+pub record AskMoved (next : Option Message) (a b : Asking) : Type 0 where
+  pub sent : IsPrefix a.sent b.sent
+  pub got : IsGot next a.got b.got
+  pub running : b.is_over ≡ false → is_ended b.sent ≡ false
+  pub over : b.is_over ≡ true → (is_ended b.sent ≡ true) × (is_ended b.got ≡ true)
+
+module _ (first : Bool) (e : Summary) (links : Links) (a : Asking) (o : a.is_over ≡ false) (r : is_ended a.sent ≡ false) where
+  -- nothing sent or got
+  ask_within : (b : Asking) → b.sent ≡ a.sent → b.got ≡ a.got → b.is_over ≡ a.is_over → AskMoved links.next a b
+  ask_within b s g v = record {
+    sent = ([], append-nil a.sent ∙ sym s);
+    got = inl g;
+    running = λ _. ap is_ended s ∙ r;
+    over = λ t. no (sym t ∙ v ∙ o);
+  }
+
+  ask_got : (m : Message) (b : Asking) → links.next ≡ Some m → b.sent ≡ a.sent → b.got ≡ a.got ++ m ∷ [] → b.is_over ≡ a.is_over → AskMoved links.next a b
+  ask_got m b n s g v = record {
+    sent = ([], append-nil a.sent ∙ sym s);
+    got = inr (m, n, g);
+    running = λ _. ap is_ended s ∙ r;
+    over = λ t. no (sym t ∙ v ∙ o);
+  }
+
+  ask_pushed : (room : Bool) (l : Loc) → AskMoved links.next a (push_ask room a l)
+  ask_pushed false l = ask_within a refl refl refl
+  ask_pushed true l = record {
+    sent = (Ask l ∷ [], refl);
+    got = inl refl;
+    running = λ _. ended_after a.sent (Ask l ∷ []) r;
+    over = λ t. no (sym t ∙ o);
+  }
+
+  ask_walked : (refused : Bool) (k : SinkTerms) (left : List SinkTerms) → AskMoved links.next a (walk refused first a k left)
+  ask_walked true k left = ask_within _ refl refl refl
+  ask_walked false k left = ask_within _ refl refl refl
+
+  ask_popped : (refused : Bool) (next : Option Message) → links.next ≡ next → AskMoved links.next a (pop_ask refused first e a next)
+  ask_popped refused None n = ask_within a refl refl refl
+  ask_popped true (Some m) n = ask_got m _ n refl refl refl
+  ask_popped false (Some m) n = ask_got m _ n refl refl refl
+
+  ask_dropped : (next : Option Message) → links.next ≡ next → AskMoved links.next a (drop_ask a next)
+  ask_dropped None n = ask_within a refl refl refl
+  ask_dropped (Some m) n = ask_got m _ n refl refl refl
+
+  ask_ended : (room : Bool) → is_ended a.got ≡ true → AskMoved links.next a (end_asks room a)
+  ask_ended false d = ask_within a refl refl refl
+  ask_ended true d = record {
+    sent = (End a.is_whole ∷ [], refl);
+    got = inl refl;
+    running = λ f. no f;
+    over = λ _. (ended_after a.sent (End a.is_whole ∷ []) r, d);
+  }
+
+  ask_whole : (waiting : List Loc) (left : List SinkTerms) (ended : Bool) → is_ended a.got ≡ ended → AskMoved links.next a (whole_asking first e links a waiting left ended)
+  ask_whole (l ∷ waiting) left ended d = ask_pushed links.has_room l
+  ask_whole [] (k ∷ left) ended d = ask_walked links.is_refused k left
+  ask_whole [] [] false d = ask_popped links.is_refused links.next refl
+  ask_whole [] [] true d = ask_ended links.has_room d
+
+  ask_broken : (ended : Bool) → is_ended a.got ≡ ended → AskMoved links.next a (broken_asking links a ended)
+  ask_broken false d = ask_dropped links.next refl
+  ask_broken true d = ask_ended links.has_room d
+
+  ask_by : (over whole : Bool) → AskMoved links.next a (asking_by first e links a over whole)
+  ask_by true whole = ask_within a refl refl refl
+  ask_by false true = ask_whole (drop a.pushed a.asked) a.left (is_ended a.got) refl
+  ask_by false false = ask_broken (is_ended a.got) refl
+
+  pub asking_moves : AskMoved links.next a (asking_event first e links a)
+  asking_moves = ask_by a.is_over a.is_whole
+
+-- ---- answering
+
+pub record AnswerFits (f : Answering) : Type 0 where
+  pub running : f.is_over ≡ false → (is_ended f.sent ≡ false) × (is_ended f.sending ≡ false)
+  pub over : f.is_over ≡ true → (is_ended f.sent ≡ true) × (is_ended f.got ≡ true)
+
+pub record AnswerMoved (next : Option Message) (f g : Answering) : Type 0 where
+  pub sent : IsPrefix f.sent g.sent
+  pub got : IsGot next f.got g.got
+  pub fits : AnswerFits g
+
+module _ (e : Summary) (asked : List Loc) (links : Links) (f : Answering) (h : AnswerFits f) where
+  answer_within : AnswerMoved links.next f f
+  answer_within = record { sent = same_prefix f.sent; got = inl refl; fits = h }
+
+  module _ (o : f.is_over ≡ false) where
+    -- nothing sent or got
+    answer_kept : (g : Answering) → g.sent ≡ f.sent → g.got ≡ f.got → is_ended g.sending ≡ false → g.is_over ≡ f.is_over → AnswerMoved links.next f g
+    answer_kept g s t n v = record {
+      sent = ([], append-nil f.sent ∙ sym s);
+      got = inl t;
+      fits = record { running = λ _. (ap is_ended s ∙ (h.running o).0, n); over = λ u. no (sym u ∙ v ∙ o) };
+    }
+
+    answer_got : (m : Message) (g : Answering) → links.next ≡ Some m → g.sent ≡ f.sent → g.got ≡ f.got ++ m ∷ [] → g.sending ≡ f.sending → g.is_over ≡ f.is_over → AnswerMoved links.next f g
+    answer_got m g n s t k v = record {
+      sent = ([], append-nil f.sent ∙ sym s);
+      got = inr (m, n, t);
+      fits = record { running = λ _. (ap is_ended s ∙ (h.running o).0, ap is_ended k ∙ (h.running o).1); over = λ u. no (sym u ∙ v ∙ o) };
+    }
+
+    answer_pushed : (room : Bool) (m : Message) (sending : List Message) → f.sending ≡ m ∷ sending → AnswerMoved links.next f (push_answer room f m sending)
+    answer_pushed false m sending k = answer_within
+    answer_pushed true m sending k =
+        let none : is_ended (m ∷ sending) ≡ false = ap is_ended (sym k) ∙ (h.running o).1 in
+        let parts = apart m sending none in
+        record {
+          sent = (m ∷ [], refl);
+          got = inl refl;
+          fits = record { running = λ _. (ended_after f.sent (m ∷ []) (h.running o).0 ∙ parts.0, parts.1); over = λ u. no (sym u ∙ o) };
+        }
+
+    answer_popped : (refused : Bool) (next : Option Message) → links.next ≡ next → AnswerMoved links.next f (pop_answer refused f next)
+    answer_popped refused None n = answer_within
+    answer_popped true (Some m) n = answer_got m _ n refl refl refl refl
+    answer_popped false (Some m) n = answer_got m _ n refl refl refl refl
+
+    answer_dropped : (next : Option Message) → links.next ≡ next → AnswerMoved links.next f (drop_answer f next)
+    answer_dropped None n = answer_within
+    answer_dropped (Some m) n = answer_got m _ n refl refl refl refl
+
+    answer_built : (refused : Bool) (l : Loc) (left : List Loc) → AnswerMoved links.next f (build refused e asked f l left)
+    answer_built true l left = answer_kept _ refl refl (h.running o).1 refl
+    answer_built false l left = answer_kept _ refl refl (no_end l (resolved (heard asked f.got) (e.ends l))) refl
+
+    answer_request : (b : Bool) (l : Loc) (left : List Loc) → AnswerMoved links.next f (build_or_pop b e asked links f l left)
+    answer_request true l left = answer_built links.is_refused l left
+    answer_request false l left = answer_popped links.is_refused links.next refl
+
+    answer_resolved : (refused : Bool) → AnswerMoved links.next f (resolve refused e asked f)
+    answer_resolved true = answer_kept _ refl refl (h.running o).1 refl
+    answer_resolved false = answer_kept _ refl refl (h.running o).1 refl
+
+    answer_ended : (room : Bool) → is_ended f.got ≡ true → AnswerMoved links.next f (end_answers room f)
+    answer_ended false d = answer_within
+    answer_ended true d = record {
+      sent = (End f.is_whole ∷ [], refl);
+      got = inl refl;
+      fits = record { running = λ t. no t; over = λ _. (ended_after f.sent (End f.is_whole ∷ []) (h.running o).0, d) };
+    }
+
+    answer_rows : (rows : Option (List Row)) → is_ended f.got ≡ true → AnswerMoved links.next f (resolve_or_end e asked links f rows)
+    answer_rows None d = answer_resolved links.is_refused
+    answer_rows (Some rows) d = answer_ended links.has_room d
+
+    answer_last : (ended : Bool) → is_ended f.got ≡ ended → AnswerMoved links.next f (pop_or_end e asked links f ended)
+    answer_last false d = answer_popped links.is_refused links.next refl
+    answer_last true d = answer_rows f.rows d
+
+    answer_whole : (sending : List Message) → f.sending ≡ sending → (left : List Loc) → AnswerMoved links.next f (whole_answering e asked links f sending left)
+    answer_whole (m ∷ sending) k left = answer_pushed links.has_room m sending k
+    answer_whole [] k (l ∷ left) = answer_request (is_resolvable asked f.got (e.ends l)) l left
+    answer_whole [] k [] = answer_last (is_ended f.got) refl
+
+    answer_broken : (ended : Bool) → is_ended f.got ≡ ended → AnswerMoved links.next f (broken_answering links f ended)
+    answer_broken false d = answer_dropped links.next refl
+    answer_broken true d = answer_ended links.has_room d
+
+  answer_by : (over : Bool) → f.is_over ≡ over → (whole : Bool) → AnswerMoved links.next f (answering_by e asked links f over whole)
+  answer_by true o whole = answer_within
+  answer_by false o true = answer_whole o f.sending refl f.left
+  answer_by false o false = answer_broken o (is_ended f.got) refl
+
+  pub answering_moves : AnswerMoved links.next f (answering_event e asked links f)
+  answering_moves = answer_by f.is_over refl f.is_whole
+
+-- ---- what holds of a node and between neighbours
+
+abbrev pub PhaseHolds : Phase → Type 0
+PhaseHolds Fresh = Unit {0}
+PhaseHolds (Asks a) = (a.is_over ≡ false) × (is_ended a.sent ≡ false)
+PhaseHolds (Answers a f) = (is_ended a.sent ≡ true) × (is_ended a.got ≡ true) × AnswerFits f
+
+-- what was got is a part of what was sent, on the two links between p and the node q behind it
+pub record LinkHolds (p q : Phase) : Type 0 where
+  pub asks : IsPrefix (asks_got_in p) (asks_sent_in q)
+  pub answers : IsPrefix (answers_got_in q) (answers_sent_in p)
+
+-- where there is no link, the End counts as seen
+abbrev pub FirstHolds : Phase → Type 0
+FirstHolds Fresh = Unit {0}
+FirstHolds (Asks a) = Unit {0}
+FirstHolds (Answers a f) = is_ended f.got ≡ true
+
+abbrev pub LastHolds : Phase → Type 0
+LastHolds Fresh = Unit {0}
+LastHolds (Asks a) = is_ended a.got ≡ true
+LastHolds (Answers a f) = Unit {0}
+
+abbrev pub BeforeHolds : Option Phase → Phase → Type 0
+BeforeHolds None p = FirstHolds p
+BeforeHolds (Some before) p = LinkHolds before p
+
+abbrev pub BehindHolds : Phase → Option Phase → Type 0
+BehindHolds p None = LastHolds p
+BehindHolds p (Some behind) = LinkHolds p behind
+
+abbrev pub EndHolds : Option Phase → Type 0
+EndHolds None = Unit {0}
+EndHolds (Some p) = LastHolds p
+
+abbrev pub NodesHold : Option Phase → List NodeState → Type 0
+NodesHold before [] = EndHolds before
+NodesHold before (n ∷ ns) = PhaseHolds n.phase × BeforeHolds before n.phase × NodesHold (Some n.phase) ns
+
+record Kept (before behind : Option Phase) (p : Phase) : Type 0 where
+  pub phase : PhaseHolds p
+  pub early : BeforeHolds before p
+  pub late : BehindHolds p behind
+
+begun_keeps : (refused : Bool) (before behind : Option Phase) (e : Summary) → BeforeHolds before Fresh → BehindHolds Fresh behind → Kept before behind (Asks (begun refused (is_none behind) e))
+begun_keeps refused before behind e b l = record { phase = phase refused; early = early refused before b; late = late refused behind l } where
+  phase : (refused : Bool) → PhaseHolds (Asks (begun refused (is_none behind) e))
+  phase true = (refl, refl)
+  phase false = (refl, refl)
+
+  early : (refused : Bool) (before : Option Phase) → BeforeHolds before Fresh → BeforeHolds before (Asks (begun refused (is_none behind) e))
+  early refused None b = tt
+  early true (Some p) b = record { asks = b.asks; answers = b.answers }
+  early false (Some p) b = record { asks = b.asks; answers = b.answers }
+
+  late : (refused : Bool) (behind : Option Phase) → BehindHolds Fresh behind → BehindHolds (Asks (begun refused (is_none behind) e)) behind
+  late true None l = refl
+  late false None l = refl
+  late true (Some q) l = record { asks = l.asks; answers = l.answers }
+  late false (Some q) l = record { asks = l.asks; answers = l.answers }
+
+module _ (capacity : ℕ) (refused : Bool) where
+  asks_keep : (before behind : Option Phase) (a b : Asking) → AskMoved (asking_links capacity refused before behind a).next a b → BeforeHolds before (Asks a) → BehindHolds (Asks a) behind
+      → (over : Bool) → b.is_over ≡ over → Kept before behind (settled_by over (is_none before) b)
+  asks_keep before behind a b s x y over o = record { phase = phase over o; early = early before x over; late = late behind s.got y over } where
+    phase : (over : Bool) → b.is_over ≡ over → PhaseHolds (settled_by over (is_none before) b)
+    phase false o = (o, s.running o)
+    phase true o = ((s.over o).0, (s.over o).1, record { running = λ _. (refl, refl); over = λ t. no (sym t) })
+
+    early : (before : Option Phase) → BeforeHolds before (Asks a) → (over : Bool) → BeforeHolds before (settled_by over (is_none before) b)
+    early None x true = refl
+    early None x false = tt
+    early (Some p) x true = record { asks = prefix_trans (asks_got_in p) a.sent b.sent x.asks s.sent; answers = (answers_sent_in p, refl) }
+    early (Some p) x false = record { asks = prefix_trans (asks_got_in p) a.sent b.sent x.asks s.sent; answers = (answers_sent_in p, refl) }
+
+    late : (behind : Option Phase) → IsGot (asking_links capacity refused before behind a).next a.got b.got → BehindHolds (Asks a) behind → (over : Bool) → BehindHolds (settled_by over (is_none before) b) behind
+    late None g y true = tt
+    late None g y false = ended_got None a.got b.got g y
+    late (Some q) g y true = record { asks = got_fits a.got b.got (asks_sent_in q) y.asks g; answers = y.answers }
+    late (Some q) g y false = record { asks = got_fits a.got b.got (asks_sent_in q) y.asks g; answers = y.answers }
+
+  answers_keep : (before behind : Option Phase) (a : Asking) (f g : Answering) → AnswerMoved (answering_links capacity refused before behind f).next f g
+      → PhaseHolds (Answers a f) → BeforeHolds before (Answers a f) → BehindHolds (Answers a f) behind → Kept before behind (Answers a g)
+  answers_keep before behind a f g s h x y = record { phase = (h.0, h.1, s.fits); early = early before s.got x; late = late behind y } where
+    early : (before : Option Phase) → IsGot (answering_links capacity refused before behind f).next f.got g.got → BeforeHolds before (Answers a f) → BeforeHolds before (Answers a g)
+    early None t x = ended_got None f.got g.got t x
+    early (Some p) t x = record { asks = x.asks; answers = got_fits f.got g.got (answers_sent_in p) x.answers t }
+
+    late : (behind : Option Phase) → BehindHolds (Answers a f) behind → BehindHolds (Answers a g) behind
+    late None y = tt
+    late (Some q) y = record { asks = y.asks; answers = prefix_trans (answers_got_in q) f.sent g.sent y.answers s.sent }
+
+  node_keeps : (before behind : Option Phase) (e : Summary) (p : Phase) → PhaseHolds p → BeforeHolds before p → BehindHolds p behind → Kept before behind (node_event capacity refused before behind e p)
+  node_keeps before behind e Fresh h x y = begun_keeps refused before behind e x y
+  node_keeps before behind e (Asks a) h x y =
+      let links = asking_links capacity refused before behind a in
+      asks_keep before behind a (asking_event (is_none before) e links a) (asking_moves (is_none before) e links a h.0 h.1) x y _ refl
+  node_keeps before behind e (Answers a f) h x y =
+      let links = answering_links capacity refused before behind f in
+      answers_keep before behind a f (answering_event e a.asked links f) (answering_moves e a.asked links f h.2) h x y
+
+  behind_of : (p : Phase) (ns : List NodeState) → NodesHold (Some p) ns → BehindHolds p (phase_of_first ns)
+  behind_of p [] h = h
+  behind_of p (n ∷ ns) h = h.1
+
+  with_new : (p q : Phase) (ns : List NodeState) → NodesHold (Some p) ns → BehindHolds q (phase_of_first ns) → NodesHold (Some q) ns
+  with_new p q [] h l = l
+  with_new p q (n ∷ ns) h l = (h.0, l, h.2)
+
+  nodes_keep : (k : ℕ) (before : Option Phase) (ns : List NodeState) → NodesHold before ns → NodesHold before (event_at capacity refused k before ns)
+  nodes_keep k before [] h = h
+  nodes_keep zero before (n ∷ ns) h =
+      let kept = node_keeps before (phase_of_first ns) n.summary n.phase h.0 h.1 (behind_of n.phase ns h.2) in
+      (kept.phase, kept.early, with_new n.phase _ ns h.2 kept.late)
+  nodes_keep (suc k) before (n ∷ ns) h = (h.0, h.1, nodes_keep k (Some n.phase) ns h.2)
+
+nodes_starts : (before : Option Phase) → ((q : Phase) → before ≡ Some q → q ≡ Fresh) → (es : List Summary) → NodesHold before (nodes_start es)
+nodes_starts None f [] = tt
+nodes_starts (Some p) f [] = subst LastHolds (sym (f p refl)) tt
+nodes_starts before f (e ∷ es) = (tt, by before f, nodes_starts (Some Fresh) (λ q same. cc) es) where
+  by : (before : Option Phase) → ((q : Phase) → before ≡ Some q → q ≡ Fresh) → BeforeHolds before Fresh
+  by None f = tt
+  by (Some p) f = subst (λ (q : Phase). LinkHolds q Fresh) (sym (f p refl)) (record { asks = ([], refl); answers = ([], refl) })
+
+pub reached : (capacity : ℕ) (schedule : List Event) (ns : List NodeState) → NodesHold None ns → NodesHold None (nodes_after capacity schedule ns)
+reached capacity [] ns h = h
+reached capacity (m ∷ ms) ns h = reached capacity ms (event_at capacity m.is_refused m.node None ns) (nodes_keep capacity m.is_refused m.node None ns h)
+
+pub started : (es : List Summary) → NodesHold None (nodes_start es)
+started es = nodes_starts None (λ q same. cc) es

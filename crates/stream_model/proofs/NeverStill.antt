@@ -1,0 +1,351 @@
+-- In every state that a schedule reaches, all nodes are done or some event moves.
+use Rattle.std.proofs.Common.{◌≡◌, ◌⊎◌, inl, inr, ℕ, zero, suc, ◌+◌, ◌<◌, List, [], ◌∷◌, ◌++◌, length, drop, refl, ap, sym, ◌∙◌, Bool, true, false, subst, append-nil, arith}
+use Rattle.std.specs.Prelude.{Option, Some, None, is_some, nat_lt}
+use Rattle.std.specs.List.{AllByRecursion}
+use Rattle.std.proofs.lemmas.Grind.{common_steps}
+use Rattle.flow_model.specs.declared.Loc.{Loc}
+use Rattle.flow_rule.specs.declared.Message.{Message}
+use Rattle.report_model.specs.Rows.{Row}
+use Rattle.epoch_model.specs.Summary.{Summary, SinkTerms}
+use Rattle.stream_model.specs.Streams.{is_ended, is_resolvable}
+use Rattle.stream_model.specs.StreamLaws.{IsPrefix}
+use Rattle.stream_model.specs.Passes.{Links, Asking, push_ask, pop_ask, drop_ask, end_asks, broken_asking, whole_asking, asking_by, Answering, push_answer, pop_answer, build_or_pop, drop_answer, end_answers, resolve_or_end, pop_or_end, broken_answering, whole_answering, answering_by}
+use Rattle.stream_model.specs.Schedules.{Phase, Fresh, Asks, Answers, NodeState, asks_sent_in, asks_got_in, answers_sent_in, answers_got_in, first_of, next_item, has_room_for, room_to, item_from, asking_links, answering_links, nodes_start, Need, is_met, item_or_room, whole_asking_need, asking_need_by, asking_need, nothing_or_room, last_need, nothing_or_item, whole_answering_need, answering_need_by, answering_need, node_moves, moves_at, is_done}
+use Rattle.stream_model.specs.ScheduleLaws.{NeverStill, StillAsking, StillAnswering}
+use Rattle.stream_model.proofs.Growing.{ended_stays}
+use Rattle.stream_model.proofs.Passing.{no, neither}
+use Rattle.stream_model.proofs.Moving.{PhaseHolds, LinkHolds, BeforeHolds, BehindHolds, NodesHold, drop_front, reached, started}
+
+-- ---- what a link gives
+
+-- what is held on a link is the rest of what was sent
+module _ (got sent : List Message) (p : IsPrefix got sent) where
+  held : drop (length got) sent ≡ p.0
+  held = ap (drop (length got)) (sym p.1) ∙ drop_front got p.0
+
+  -- where the End was sent and not got, an item waits
+  end_waits : is_ended got ≡ false → is_ended sent ≡ true → is_some (next_item got sent) ≡ true
+  end_waits g s = by p.0 refl where
+    by : (rest : List Message) → p.0 ≡ rest → is_some (next_item got sent) ≡ true
+    by [] e = no (sym s ∙ ap is_ended (sym p.1 ∙ ap (λ (r : List Message). got ++ r) e ∙ append-nil got) ∙ g)
+    by (m ∷ rest) e = ap (λ (r : List Message). is_some (first_of r)) (held ∙ e)
+
+  -- where the link is full, an item waits
+  full_waits : (capacity : ℕ) → 0 < capacity → has_room_for capacity sent got ≡ false → is_some (next_item got sent) ≡ true
+  full_waits capacity c f = by p.0 refl where
+    by : (rest : List Message) → p.0 ≡ rest → is_some (next_item got sent) ≡ true
+    by [] e =
+        let same : length sent ≡ length got = ap length (sym p.1 ∙ ap (λ (r : List Message). got ++ r) e ∙ append-nil got) in
+        let room : nat_lt (length sent) (length got + capacity) ≡ true = grind (arith, common_steps, same, c) in
+        no (sym room ∙ f)
+    by (m ∷ rest) e = ap (λ (r : List Message). is_some (first_of r)) (held ∙ e)
+
+  -- where the End was got, it was sent
+  end_was_sent : is_ended got ≡ true → is_ended sent ≡ true
+  end_was_sent g = ap is_ended (sym p.1) ∙ ended_stays got p.0 g
+
+-- ---- an event moves, or a full link stops it
+
+abbrev Goes : Need → Links → Type 0
+Goes need links = (is_met need links ≡ true) ⊎ (links.has_room ≡ false)
+
+either_way : (b : Bool) → (b ≡ true) ⊎ (b ≡ false)
+either_way true = inl refl
+either_way false = inr refl
+
+module _ (links : Links) where
+  item_goes : (ended : Bool) → (ended ≡ false → is_some links.next ≡ true) → Goes (item_or_room ended) links
+  item_goes true n = either_way links.has_room
+  item_goes false n = inl (n refl)
+
+  asking_whole_goes : (waiting : List Loc) (left : List SinkTerms) (ended : Bool) → (ended ≡ false → is_some links.next ≡ true) → Goes (whole_asking_need waiting left ended) links
+  asking_whole_goes (l ∷ waiting) left ended n = either_way links.has_room
+  asking_whole_goes [] (k ∷ left) ended n = inl refl
+  asking_whole_goes [] [] ended n = item_goes ended n
+
+  asking_goes : (a : Asking) → a.is_over ≡ false → (is_ended a.got ≡ false → is_some links.next ≡ true) → Goes (asking_need a) links
+  asking_goes a o n = by a.is_over o a.is_whole where
+    by : (over : Bool) → over ≡ false → (whole : Bool) → Goes (asking_need_by a over whole) links
+    by true o whole = no o
+    by false o true = asking_whole_goes (drop a.pushed a.asked) a.left (is_ended a.got) n
+    by false o false = item_goes (is_ended a.got) n
+
+  answering_goes : (e : Summary) (asked : List Loc) (f : Answering) → f.is_over ≡ false → (is_ended f.got ≡ false → is_some links.next ≡ true) → Goes (answering_need e asked f) links
+  answering_goes e asked f o n = by f.is_over o f.is_whole where
+    rows : (r : Option (List Row)) → Goes (nothing_or_room r) links
+    rows None = inl refl
+    rows (Some r) = either_way links.has_room
+
+    last : (ended : Bool) → is_ended f.got ≡ ended → Goes (last_need ended f.rows) links
+    last true d = rows f.rows
+    last false d = inl (n d)
+
+    request : (l : Loc) (b : Bool) → is_resolvable asked f.got (e.ends l) ≡ b → Goes (nothing_or_item b) links
+    request l true r = inl refl
+    request l false r = inl (n (neither (is_ended f.got) _ r))
+
+    whole_goes : (sending : List Message) (left : List Loc) → Goes (whole_answering_need e asked f sending left) links
+    whole_goes (m ∷ sending) left = either_way links.has_room
+    whole_goes [] (l ∷ left) = request l (is_resolvable asked f.got (e.ends l)) refl
+    whole_goes [] [] = last (is_ended f.got) refl
+
+    by : (over : Bool) → over ≡ false → (whole : Bool) → Goes (answering_need_by e asked f over whole) links
+    by true o whole = no o
+    by false o true = whole_goes f.sending f.left
+    by false o false = item_goes (is_ended f.got) n
+
+-- ---- while some node asks
+
+abbrev IsAnswering : Phase → Type 0
+IsAnswering Fresh = ⊥
+IsAnswering (Asks a) = ⊥
+IsAnswering (Answers a f) = Unit {0}
+
+abbrev AllAnswering : List NodeState → Type 0
+AllAnswering ns = AllByRecursion (λ n. IsAnswering n.phase) ns
+
+abbrev AllDone : List NodeState → Type 0
+AllDone ns = AllByRecursion (λ n. is_done n.phase ≡ true) ns
+
+abbrev Moves : ℕ → Option Phase → List NodeState → Type 0
+Moves capacity before ns = (k : ℕ) × (moves_at capacity k before ns ≡ true)
+
+-- the node asks, and a full link to the one before stops it
+abbrev IsStopped : ℕ → Option Phase → Phase → Type 0
+IsStopped capacity before Fresh = ⊥
+IsStopped capacity before (Asks a) = room_to capacity asks_got_in a.sent before ≡ false
+IsStopped capacity before (Answers a f) = ⊥
+
+abbrev Stopped : ℕ → Option Phase → List NodeState → Type 0
+Stopped capacity before [] = ⊥
+Stopped capacity before (n ∷ ns) = IsStopped capacity before n.phase
+
+-- the node answers, is not done, and has something to get where it needs it
+abbrev Hears : Option Phase → Phase → Type 0
+Hears before Fresh = ⊥
+Hears before (Asks a) = ⊥
+Hears before (Answers a f) = (f.is_over ≡ false) × (is_ended f.got ≡ false → is_some (item_from answers_sent_in f.got before) ≡ true)
+
+-- the node answers, and the link to the node behind it is full
+abbrev IsFull : ℕ → Option Phase → Phase → Type 0
+IsFull capacity behind Fresh = ⊥
+IsFull capacity behind (Asks a) = ⊥
+IsFull capacity behind (Answers a f) = room_to capacity answers_got_in f.sent behind ≡ false
+
+module _ (capacity : ℕ) (c : 0 < capacity) where
+  -- a node before one that is stopped has an item to get
+  under_stopped : (before : Option Phase) (e : Summary) (p q : Phase) → PhaseHolds p → PhaseHolds q → LinkHolds p q → IsStopped capacity (Some p) q
+      → (node_moves capacity before (Some q) e p ≡ true) ⊎ IsStopped capacity before p
+  under_stopped before e p Fresh hp hq l s = absurd s
+  under_stopped before e p (Answers a f) hp hq l s = absurd s
+  under_stopped before e Fresh (Asks b) hp hq l s = inl refl
+  under_stopped before e (Asks a) (Asks b) hp hq l s =
+      asking_goes (asking_links capacity false before (Some (Asks b)) a) a hp.0 (λ running. full_waits a.got b.sent l.asks capacity c s)
+  under_stopped before e (Answers a f) (Asks b) hp hq l s = no (sym (end_was_sent a.got b.sent l.asks hp.1) ∙ hq.1)
+
+  -- a node before one that answers, and the last one, has an End to get
+  under_answering : (before behind : Option Phase) (e : Summary) (p : Phase) → PhaseHolds p → BehindHolds p behind → ((q : Phase) → behind ≡ Some q → PhaseHolds q × IsAnswering q)
+      → (node_moves capacity before behind e p ≡ true) ⊎ (IsStopped capacity before p ⊎ IsAnswering p)
+  under_answering before behind e Fresh hp l w = inl refl
+  under_answering before behind e (Answers a f) hp l w = inr (inr tt)
+  under_answering before behind e (Asks a) hp l w = by (asking_goes (asking_links capacity false before behind a) a hp.0 (waits behind l w)) where
+    waits : (behind : Option Phase) → BehindHolds (Asks a) behind → ((q : Phase) → behind ≡ Some q → PhaseHolds q × IsAnswering q)
+        → is_ended a.got ≡ false → is_some (item_from asks_sent_in a.got behind) ≡ true
+    waits None l w running = no (sym l ∙ running)
+    waits (Some Fresh) l w running = absurd (w Fresh refl).1
+    waits (Some (Asks b)) l w running = absurd (w (Asks b) refl).1
+    waits (Some (Answers b f)) l w running = end_waits a.got b.sent l.asks running (w (Answers b f) refl).0.0
+
+    by : Goes (asking_need a) (asking_links capacity false before behind a) → (node_moves capacity before behind e (Asks a) ≡ true) ⊎ (IsStopped capacity before (Asks a) ⊎ IsAnswering (Asks a))
+    by (inl m) = inl m
+    by (inr s) = inr (inl s)
+
+  -- some event moves, or the first of these nodes is stopped, or none asks
+  down : (before : Option Phase) (ns : List NodeState) → NodesHold before ns → Moves capacity before ns ⊎ (Stopped capacity before ns ⊎ AllAnswering ns)
+  down before [] h = inr (inr tt)
+  down before (n ∷ []) h = by (under_answering before None n.summary n.phase h.0 h.2 (λ q same. cc)) where
+    by : (node_moves capacity before None n.summary n.phase ≡ true) ⊎ (IsStopped capacity before n.phase ⊎ IsAnswering n.phase) → Moves capacity before (n ∷ []) ⊎ (Stopped capacity before (n ∷ []) ⊎ AllAnswering (n ∷ []))
+    by (inl m) = inl (zero, m)
+    by (inr (inl s)) = inr (inl s)
+    by (inr (inr a)) = inr (inr (a, tt))
+  down before (n ∷ b ∷ ns) h = on (down (Some n.phase) (b ∷ ns) h.2) where
+    stopped : (node_moves capacity before (Some b.phase) n.summary n.phase ≡ true) ⊎ IsStopped capacity before n.phase → Moves capacity before (n ∷ b ∷ ns) ⊎ (Stopped capacity before (n ∷ b ∷ ns) ⊎ AllAnswering (n ∷ b ∷ ns))
+    stopped (inl m) = inl (zero, m)
+    stopped (inr s) = inr (inl s)
+
+    answering : AllAnswering (b ∷ ns) → (node_moves capacity before (Some b.phase) n.summary n.phase ≡ true) ⊎ (IsStopped capacity before n.phase ⊎ IsAnswering n.phase)
+        → Moves capacity before (n ∷ b ∷ ns) ⊎ (Stopped capacity before (n ∷ b ∷ ns) ⊎ AllAnswering (n ∷ b ∷ ns))
+    answering a (inl m) = inl (zero, m)
+    answering a (inr (inl s)) = inr (inl s)
+    answering a (inr (inr x)) = inr (inr (x, a))
+
+    on : Moves capacity (Some n.phase) (b ∷ ns) ⊎ (Stopped capacity (Some n.phase) (b ∷ ns) ⊎ AllAnswering (b ∷ ns))
+        → Moves capacity before (n ∷ b ∷ ns) ⊎ (Stopped capacity before (n ∷ b ∷ ns) ⊎ AllAnswering (n ∷ b ∷ ns))
+    on (inl m) = inl (suc m.0, m.1)
+    on (inr (inl s)) = stopped (under_stopped before n.summary n.phase b.phase h.0 h.2.0 h.2.1 s)
+    on (inr (inr a)) = answering a (under_answering before (Some b.phase) n.summary n.phase h.0 h.2.1
+        (λ q same. (subst PhaseHolds (inside same) h.2.0, subst IsAnswering (inside same) a.0))) where
+          inside : {p q : Phase} → Some p ≡ Some q → p ≡ q
+          inside same = cc
+
+  -- ---- once all nodes answer
+
+  go_up : (before behind : Option Phase) (e : Summary) (p : Phase) → Hears before p → (node_moves capacity before behind e p ≡ true) ⊎ IsFull capacity behind p
+  go_up before behind e Fresh t = absurd t
+  go_up before behind e (Asks a) t = absurd t
+  go_up before behind e (Answers a f) t = answering_goes (answering_links capacity false before behind f) e a.asked f t.0 t.1
+
+  -- the node behind a full link is not done, and has an item to get
+  hears_too : (before : Option Phase) (p q : Phase) → PhaseHolds p → PhaseHolds q → LinkHolds p q → Hears before p → IsAnswering q → IsFull capacity (Some q) p → Hears (Some p) q
+  hears_too before Fresh q hp hq l t x s = absurd t
+  hears_too before (Asks a) q hp hq l t x s = absurd t
+  hears_too before (Answers a f) Fresh hp hq l t x s = absurd x
+  hears_too before (Answers a f) (Asks b) hp hq l t x s = absurd x
+  hears_too before (Answers a f) (Answers b g) hp hq l t x s = by g.is_over refl where
+    by : (over : Bool) → g.is_over ≡ over → Hears (Some (Answers a f)) (Answers b g)
+    by true o = no (sym (end_was_sent g.got f.sent l.answers (hq.2.over o).1) ∙ (hp.2.running t.0).0)
+    by false o = (o, λ running. full_waits g.got f.sent l.answers capacity c s)
+
+  room_at_last : (p : Phase) → IsFull capacity None p → ⊥
+  room_at_last Fresh s = s
+  room_at_last (Asks a) s = s
+  room_at_last (Answers a f) s = no s
+
+  up : (before : Option Phase) (n : NodeState) (ns : List NodeState) → NodesHold before (n ∷ ns) → Hears before n.phase → AllAnswering ns → Moves capacity before (n ∷ ns)
+  up before n [] h t all = by (go_up before None n.summary n.phase t) where
+    by : (node_moves capacity before None n.summary n.phase ≡ true) ⊎ IsFull capacity None n.phase → Moves capacity before (n ∷ [])
+    by (inl m) = (zero, m)
+    by (inr s) = absurd (room_at_last n.phase s)
+  up before n (b ∷ ns) h t all = by (go_up before (Some b.phase) n.summary n.phase t) (λ s. up (Some n.phase) b ns h.2 (hears_too before n.phase b.phase h.0 h.2.0 h.2.1 t all.0 s) all.1) where
+    by : (node_moves capacity before (Some b.phase) n.summary n.phase ≡ true) ⊎ IsFull capacity (Some b.phase) n.phase → (IsFull capacity (Some b.phase) n.phase → Moves capacity (Some n.phase) (b ∷ ns))
+        → Moves capacity before (n ∷ b ∷ ns)
+    by (inl m) rest = (zero, m)
+    by (inr s) rest = let m = rest s in (suc m.0, m.1)
+
+  -- a node that answers is done, or it hears, where what comes before it is done
+  done_or_hears : (before : Option Phase) (p : Phase) → PhaseHolds p → BeforeHolds before p → IsAnswering p → ((q : Phase) → before ≡ Some q → is_ended (answers_sent_in q) ≡ true)
+      → ((is_done p ≡ true) × (is_ended (answers_sent_in p) ≡ true)) ⊎ Hears before p
+  done_or_hears before Fresh h l x d = absurd x
+  done_or_hears before (Asks a) h l x d = absurd x
+  done_or_hears before (Answers a f) h l x d = by f.is_over refl where
+    waits : (before : Option Phase) → BeforeHolds before (Answers a f) → ((q : Phase) → before ≡ Some q → is_ended (answers_sent_in q) ≡ true)
+        → is_ended f.got ≡ false → is_some (item_from answers_sent_in f.got before) ≡ true
+    waits None l d running = no (sym l ∙ running)
+    waits (Some q) l d running = end_waits f.got (answers_sent_in q) l.answers running (d q refl)
+
+    by : (over : Bool) → f.is_over ≡ over → ((f.is_over ≡ true) × (is_ended f.sent ≡ true)) ⊎ Hears before (Answers a f)
+    by true o = inl (o, (h.2.over o).0)
+    by false o = inr (o, waits before l d)
+
+  seek : (before : Option Phase) (ns : List NodeState) → NodesHold before ns → AllAnswering ns → ((q : Phase) → before ≡ Some q → is_ended (answers_sent_in q) ≡ true) → AllDone ns ⊎ Moves capacity before ns
+  seek before [] h all d = inl tt
+  seek before (n ∷ ns) h all d = by (done_or_hears before n.phase h.0 h.1 all.0 d) (seek (Some n.phase) ns h.2 all.1) where
+    rest : is_done n.phase ≡ true → AllDone ns ⊎ Moves capacity (Some n.phase) ns → AllDone (n ∷ ns) ⊎ Moves capacity before (n ∷ ns)
+    rest x (inl all) = inl (x, all)
+    rest x (inr m) = inr (suc m.0, m.1)
+
+    by : ((is_done n.phase ≡ true) × (is_ended (answers_sent_in n.phase) ≡ true)) ⊎ Hears before n.phase
+        → (((q : Phase) → Some n.phase ≡ Some q → is_ended (answers_sent_in q) ≡ true) → AllDone ns ⊎ Moves capacity (Some n.phase) ns) → AllDone (n ∷ ns) ⊎ Moves capacity before (n ∷ ns)
+    by (inl x) next = rest x.0 (next (λ q same. subst (λ (p : Phase). is_ended (answers_sent_in p) ≡ true) (inside same) x.1)) where
+      inside : {p q : Phase} → Some p ≡ Some q → p ≡ q
+      inside same = cc
+    by (inr t) next = inr (up before n ns h t all.1)
+
+  room_at_first : (p : Phase) → IsStopped capacity None p → ⊥
+  room_at_first Fresh s = s
+  room_at_first (Asks a) s = no s
+  room_at_first (Answers a f) s = s
+
+  goes_on : (ns : List NodeState) → NodesHold None ns → AllDone ns ⊎ Moves capacity None ns
+  goes_on ns h = by ns h (down None ns h) where
+    by : (ns : List NodeState) → NodesHold None ns → Moves capacity None ns ⊎ (Stopped capacity None ns ⊎ AllAnswering ns) → AllDone ns ⊎ Moves capacity None ns
+    by ns h (inl m) = inr m
+    by [] h (inr (inl s)) = absurd s
+    by (n ∷ ns) h (inr (inl s)) = absurd (room_at_first n.phase s)
+    by ns h (inr (inr all)) = seek None ns h all (λ q same. cc)
+
+pub never_still : NeverStill
+never_still capacity es schedule c = goes_on capacity c _ (reached capacity schedule (nodes_start es) (started es))
+
+-- ---- what does not move stays
+
+module _ (first : Bool) (e : Summary) (links : Links) (a : Asking) where
+  still_item : (refused : Bool) (next : Option Message) → is_some next ≡ false → pop_ask refused first e a next ≡ a
+  still_item refused None s = refl
+  still_item refused (Some m) s = no s
+
+  still_drop : (next : Option Message) → is_some next ≡ false → drop_ask a next ≡ a
+  still_drop None s = refl
+  still_drop (Some m) s = no s
+
+  still_push : (room : Bool) (l : Loc) → room ≡ false → push_ask room a l ≡ a
+  still_push true l s = no s
+  still_push false l s = refl
+
+  still_end : (room : Bool) → room ≡ false → end_asks room a ≡ a
+  still_end true s = no s
+  still_end false s = refl
+
+  still_whole : (waiting : List Loc) (left : List SinkTerms) (ended : Bool) → is_met (whole_asking_need waiting left ended) links ≡ false → whole_asking first e links a waiting left ended ≡ a
+  still_whole (l ∷ waiting) left ended s = still_push links.has_room l s
+  still_whole [] (k ∷ left) ended s = no s
+  still_whole [] [] true s = still_end links.has_room s
+  still_whole [] [] false s = still_item links.is_refused links.next s
+
+  still_broken : (ended : Bool) → is_met (item_or_room ended) links ≡ false → broken_asking links a ended ≡ a
+  still_broken true s = still_end links.has_room s
+  still_broken false s = still_drop links.next s
+
+  still_by : (over whole : Bool) → is_met (asking_need_by a over whole) links ≡ false → asking_by first e links a over whole ≡ a
+  still_by true whole s = refl
+  still_by false true s = still_whole (drop a.pushed a.asked) a.left (is_ended a.got) s
+  still_by false false s = still_broken (is_ended a.got) s
+
+pub still_asking : StillAsking
+still_asking first e links a s = still_by first e links a a.is_over a.is_whole s
+
+module _ (e : Summary) (asked : List Loc) (links : Links) (f : Answering) where
+  still_answer_item : (refused : Bool) (next : Option Message) → is_some next ≡ false → pop_answer refused f next ≡ f
+  still_answer_item refused None s = refl
+  still_answer_item refused (Some m) s = no s
+
+  still_answer_drop : (next : Option Message) → is_some next ≡ false → drop_answer f next ≡ f
+  still_answer_drop None s = refl
+  still_answer_drop (Some m) s = no s
+
+  still_answer_push : (room : Bool) (m : Message) (sending : List Message) → room ≡ false → push_answer room f m sending ≡ f
+  still_answer_push true m sending s = no s
+  still_answer_push false m sending s = refl
+
+  still_answer_end : (room : Bool) → room ≡ false → end_answers room f ≡ f
+  still_answer_end true s = no s
+  still_answer_end false s = refl
+
+  still_rows : (rows : Option (List Row)) → is_met (nothing_or_room rows) links ≡ false → resolve_or_end e asked links f rows ≡ f
+  still_rows None s = no s
+  still_rows (Some rows) s = still_answer_end links.has_room s
+
+  still_last : (ended : Bool) → is_met (last_need ended f.rows) links ≡ false → pop_or_end e asked links f ended ≡ f
+  still_last true s = still_rows f.rows s
+  still_last false s = still_answer_item links.is_refused links.next s
+
+  still_request : (b : Bool) (l : Loc) (left : List Loc) → is_met (nothing_or_item b) links ≡ false → build_or_pop b e asked links f l left ≡ f
+  still_request true l left s = no s
+  still_request false l left s = still_answer_item links.is_refused links.next s
+
+  still_answers : (sending : List Message) (left : List Loc) → is_met (whole_answering_need e asked f sending left) links ≡ false → whole_answering e asked links f sending left ≡ f
+  still_answers (m ∷ sending) left s = still_answer_push links.has_room m sending s
+  still_answers [] (l ∷ left) s = still_request (is_resolvable asked f.got (e.ends l)) l left s
+  still_answers [] [] s = still_last (is_ended f.got) s
+
+  still_broken_answers : (ended : Bool) → is_met (item_or_room ended) links ≡ false → broken_answering links f ended ≡ f
+  still_broken_answers true s = still_answer_end links.has_room s
+  still_broken_answers false s = still_answer_drop links.next s
+
+  still_answers_by : (over whole : Bool) → is_met (answering_need_by e asked f over whole) links ≡ false → answering_by e asked links f over whole ≡ f
+  still_answers_by true whole s = refl
+  still_answers_by false true s = still_answers f.sending f.left s
+  still_answers_by false false s = still_broken_answers (is_ended f.got) s
+
+pub still_answering : StillAnswering
+still_answering e asked links f s = still_answers_by e asked links f f.is_over f.is_whole s

@@ -1,0 +1,423 @@
+-- The invariants of the two passes.
+use Rattle.std.proofs.Common.{◌≡◌, ℕ, zero, suc, ◌+◌, ◌≤◌, List, [], ◌∷◌, ◌++◌, map, length, take, drop, refl, ap, ap₂, sym, ◌∙◌, Bool, true, false, ◌||◌, append-nil, append_assoc, length-append, arith}
+use Rattle.std.specs.Prelude.{Option, Some, None}
+use Rattle.std.specs.List.{flat_map}
+use Rattle.std.proofs.lemmas.List.{map-append, take-append-le}
+use Rattle.std.proofs.lemmas.List.Concat.{flat_map-append}
+use Rattle.flow_model.specs.declared.Loc.{Loc}
+use Rattle.flow_model.specs.declared.SourceByte.{SourceByte}
+use Rattle.flow_rule.specs.declared.Message.{Message}
+use Rattle.flow_rule.specs.declared.Message.TheVariants.{Ask, Byte, Close, End}
+use Rattle.report_model.specs.Rows.{Row}
+use Rattle.epoch_model.specs.Summary.{Summary, SinkTerms}
+use Rattle.epoch_model.specs.Crossing.{added_all, wanted, asked_by}
+use Rattle.epoch_model.specs.Join.{answer_to, resolved, rows_of}
+use Rattle.stream_model.specs.Streams.{is_ended, requests, heard, is_resolvable, end_if, asks_for, answer, then_if, answers_for, asked_of}
+use Rattle.stream_model.specs.StreamLaws.{IsPrefix}
+use Rattle.stream_model.specs.Passes.{Links, Asking, Answering, asking_start, got_at_start, asked_more, wanted_for, is_whole_message, asked_if, push_ask, walk, pop_ask, drop_ask, end_asks, broken_asking, whole_asking, asking_by, asking_event, asking_after, answering_start, push_answer, pop_answer, build, build_or_pop, resolve, drop_answer, end_answers, resolve_or_end, pop_or_end, broken_answering, whole_answering, answering_by, answering_event, answering_after, rows_or_none}
+use Rattle.stream_model.specs.PassLaws.{AsksSent, AskingSends, AnswersSent, AnsweringSends, PassesEndDone}
+use Rattle.stream_model.proofs.Growing.{prefix_same, prefix_trans, added_all-append, added_all_keeps, requests_more, resolvable_stays, ended_stays, answers_stay}
+
+-- ---- parts of a list
+
+module _ {X : Type 0} where
+  -- the next item behind the first n
+  one_more : (n : ℕ) (xs : List X) (x : X) (rest : List X) → drop n xs ≡ x ∷ rest → (take (n + 1) xs ≡ take n xs ++ x ∷ []) × (n + 1 ≤ length xs)
+  one_more zero [] x rest e = cc
+  one_more zero (y ∷ ys) x rest e =
+      let same : y ≡ x = cc in
+      (ap (λ (z : X). z ∷ []) same, omega arith)
+  one_more (suc n) [] x rest e = cc
+  one_more (suc n) (y ∷ ys) x rest e =
+      let later : suc n + 1 ≡ suc (n + 1) = omega arith in
+      let more = one_more n ys x rest e in
+      (ap (λ (i : ℕ). take i (y ∷ ys)) later ∙ ap (λ (zs : List X). y ∷ zs) more.0, omega (arith, more.1))
+
+  none_more : (n : ℕ) (xs : List X) → drop n xs ≡ [] → take n xs ≡ xs
+  none_more zero [] e = refl
+  none_more zero (y ∷ ys) e = cc
+  none_more (suc n) [] e = refl
+  none_more (suc n) (y ∷ ys) e = ap (λ (zs : List X). y ∷ zs) (none_more n ys e)
+
+  front_of : (n : ℕ) (xs : List X) → IsPrefix (take n xs) xs
+  front_of zero xs = (xs, refl)
+  front_of (suc n) [] = ([], refl)
+  front_of (suc n) (y ∷ ys) = let front = front_of n ys in (front.0, ap (λ (zs : List X). y ∷ zs) front.1)
+
+  take_front : (n : ℕ) (xs ys : List X) → n ≤ length xs → IsPrefix xs ys → (take n ys ≡ take n xs) × (n ≤ length ys)
+  take_front n xs ys h p =
+      let long : length ys ≡ length xs + length p.0 = ap length (sym p.1) ∙ length-append xs p.0 in
+      (ap (take n) (sym p.1) ∙ take-append-le n xs p.0 h, omega (arith, long, h))
+
+pub no : {A : Type 0} → true ≡ false → A
+no e = cc
+
+-- ---- asking
+
+abbrev starts : List SinkTerms → List Loc
+starts ks = flat_map (λ k. k.terms.starts) ks
+
+-- a part of what is asked is sent; with the sinks that are left it is all that is to be asked for what was got
+pub record AskingHolds (first last : Bool) (e : Summary) (a : Asking) : Type 0 where
+  pub sent : a.is_over ≡ false → a.sent ≡ map Ask (take a.pushed a.asked)
+  pub within : a.pushed ≤ length a.asked
+  pub nothing : first ≡ true → a.asked ≡ []
+  pub asked : first ≡ false → added_all a.asked (starts a.left) ≡ asked_by e (requests a.got)
+  pub alone : last ≡ true → a.got ≡ End true ∷ []
+  pub over : a.is_over ≡ true → (a.left ≡ []) × (is_ended a.got ≡ true) × (a.sent ≡ map Ask a.asked ++ End true ∷ [])
+
+more_keeps : (first : Bool) (asked ls : List Loc) → IsPrefix asked (asked_more first asked ls)
+more_keeps true asked ls = ([], append-nil asked)
+more_keeps false asked ls = added_all_keeps asked ls
+
+nothing_more : (first : Bool) (asked ls : List Loc) → first ≡ true → asked ≡ [] → asked_more first asked ls ≡ []
+nothing_more true asked ls f e = e
+nothing_more false asked ls f e = no (sym f)
+
+one_request : (e : Summary) (asked : List Loc) (m : Message) → added_all asked (wanted_for e m) ≡ added_all asked (flat_map (λ l. (e.ends l).starts) (requests (m ∷ [])))
+one_request e asked (Ask l) = ap (added_all asked) (sym (append-nil (e.ends l).starts))
+one_request e asked (Byte b) = refl
+one_request e asked (Close l) = refl
+one_request e asked (End whole) = refl
+
+-- what is asked for more requests
+asked_then : (e : Summary) (xs ys : List Loc) → asked_by e (xs ++ ys) ≡ added_all (asked_by e xs) (flat_map (λ l. (e.ends l).starts) ys)
+asked_then e xs ys =
+    let ends : Loc → List Loc = λ l. (e.ends l).starts in
+    ap (added_all []) (ap (λ (ls : List Loc). starts e.sinks ++ ls) (flat_map-append ends xs ys) ∙ sym (append_assoc (starts e.sinks) (flat_map ends xs) (flat_map ends ys)))
+    ∙ added_all-append [] (wanted e xs) (flat_map ends ys)
+
+module _ (first last : Bool) (e : Summary) (links : Links) (a : Asking) (h : AskingHolds first last e a) (whole : a.is_whole ≡ true) where
+  on_push : (room : Bool) (l : Loc) (waiting : List Loc) → a.is_over ≡ false → drop a.pushed a.asked ≡ l ∷ waiting → AskingHolds first last e (push_ask room a l)
+  on_push false l waiting o w = h
+  on_push true l waiting o w =
+      let more = one_more a.pushed a.asked l waiting w in
+      record {
+        sent = λ _. ap (λ (ms : List Message). ms ++ Ask l ∷ []) (h.sent o) ∙ sym (map-append Ask (take a.pushed a.asked) (l ∷ [])) ∙ ap (map Ask) (sym more.0);
+        within = more.1;
+        nothing = h.nothing;
+        asked = h.asked;
+        alone = h.alone;
+        over = λ t. no (sym t ∙ o);
+      }
+
+  on_walk : (refused : Bool) (k : SinkTerms) (left : List SinkTerms) → a.is_over ≡ false → a.left ≡ k ∷ left → (walk refused first a k left).is_whole ≡ true → AskingHolds first last e (walk refused first a k left)
+  on_walk true k left o w t = no (sym t)
+  on_walk false k left o w t =
+      let front = take_front a.pushed a.asked (asked_more first a.asked k.terms.starts) h.within (more_keeps first a.asked k.terms.starts) in
+      record {
+        sent = λ _. h.sent o ∙ ap (map Ask) (sym front.0);
+        within = front.1;
+        nothing = λ f. nothing_more first a.asked k.terms.starts f (h.nothing f);
+        asked = λ f. ap (λ (b : Bool). added_all (asked_more b a.asked k.terms.starts) (starts left)) f
+            ∙ sym (added_all-append a.asked k.terms.starts (starts left)) ∙ ap (λ (ks : List SinkTerms). added_all a.asked (starts ks)) (sym w) ∙ h.asked f;
+        alone = h.alone;
+        over = λ t. no (sym t ∙ o);
+      }
+
+  on_take : (m : Message) → a.is_over ≡ false → a.left ≡ [] → is_ended a.got ≡ false → (b : Bool) → b ≡ true
+      → AskingHolds first last e (record a { got = a.got ++ m ∷ []; asked = asked_if b (asked_more first a.asked (wanted_for e m)); is_whole = b })
+  on_take m o w running false t = no (sym t)
+  on_take m o w running true t =
+      let front = take_front a.pushed a.asked (asked_more first a.asked (wanted_for e m)) h.within (more_keeps first a.asked (wanted_for e m)) in
+      record {
+        sent = λ _. h.sent o ∙ ap (map Ask) (sym front.0);
+        within = front.1;
+        nothing = λ f. nothing_more first a.asked (wanted_for e m) f (h.nothing f);
+        asked = λ f. ap₂ (λ (b : Bool) (ks : List SinkTerms). added_all (asked_more b a.asked (wanted_for e m)) (starts ks)) f w
+            ∙ one_request e a.asked m
+            ∙ ap (λ (ls : List Loc). added_all ls (flat_map (λ l. (e.ends l).starts) (requests (m ∷ [])))) (ap (λ (ks : List SinkTerms). added_all a.asked (starts ks)) (sym w) ∙ h.asked f)
+            ∙ sym (asked_then e (requests a.got) (requests (m ∷ []))) ∙ ap (asked_by e) (sym (requests_more a.got (m ∷ []) running));
+        alone = λ l. no (sym (ap is_ended (h.alone l)) ∙ running);
+        over = λ t. no (sym t ∙ o);
+      }
+
+  on_pop : (refused : Bool) (next : Option Message) → a.is_over ≡ false → a.left ≡ [] → is_ended a.got ≡ false → (pop_ask refused first e a next).is_whole ≡ true → AskingHolds first last e (pop_ask refused first e a next)
+  on_pop refused None o w running t = h
+  on_pop true (Some m) o w running t = no (sym t)
+  on_pop false (Some m) o w running t = on_take m o w running (is_whole_message m) t
+
+  on_end : (room : Bool) → a.is_over ≡ false → drop a.pushed a.asked ≡ [] → a.left ≡ [] → is_ended a.got ≡ true → AskingHolds first last e (end_asks room a)
+  on_end false o w l ended = h
+  on_end true o w l ended =
+      record {
+        sent = no;
+        within = h.within;
+        nothing = h.nothing;
+        asked = h.asked;
+        alone = h.alone;
+        over = λ _. (l, ended, ap₂ (λ (ms : List Message) (b : Bool). ms ++ End b ∷ []) (h.sent o ∙ ap (map Ask) (none_more a.pushed a.asked w)) whole);
+      }
+
+  on_whole : a.is_over ≡ false → (waiting : List Loc) → drop a.pushed a.asked ≡ waiting → (left : List SinkTerms) → a.left ≡ left → (ended : Bool) → is_ended a.got ≡ ended
+      → (whole_asking first e links a waiting left ended).is_whole ≡ true → AskingHolds first last e (whole_asking first e links a waiting left ended)
+  on_whole o (x ∷ waiting) w left l ended d t = on_push links.has_room x waiting o w
+  on_whole o [] w (k ∷ left) l ended d t = on_walk links.is_refused k left o l t
+  on_whole o [] w [] l false d t = on_pop links.is_refused links.next o l d t
+  on_whole o [] w [] l true d t = on_end links.has_room o w l d
+
+pub stays_broken : (links : Links) (a : Asking) (ended : Bool) → (broken_asking links a ended).is_whole ≡ a.is_whole
+stays_broken links a false = by links.next where
+  by : (next : Option Message) → (drop_ask a next).is_whole ≡ a.is_whole
+  by None = refl
+  by (Some m) = refl
+stays_broken links a true = by links.has_room where
+  by : (room : Bool) → (end_asks room a).is_whole ≡ a.is_whole
+  by true = refl
+  by false = refl
+
+-- it is kept by each event that leaves the pass whole
+pub asking_keeps : (first last : Bool) (e : Summary) (links : Links) (a : Asking) → (a.is_whole ≡ true → AskingHolds first last e a)
+    → (asking_event first e links a).is_whole ≡ true → AskingHolds first last e (asking_event first e links a)
+asking_keeps first last e links a h = by a.is_over refl a.is_whole refl where
+  by : (over : Bool) → a.is_over ≡ over → (whole : Bool) → a.is_whole ≡ whole → (asking_by first e links a over whole).is_whole ≡ true → AskingHolds first last e (asking_by first e links a over whole)
+  by true o whole w t = h t
+  by false o true w t = on_whole first last e links a (h w) w o (drop a.pushed a.asked) refl a.left refl (is_ended a.got) refl t
+  by false o false w t = no (sym t ∙ stays_broken links a (is_ended a.got) ∙ w)
+
+pub asking_starts : (first last : Bool) (e : Summary) → AskingHolds first last e (asking_start last e)
+asking_starts first last e = record {
+  sent = λ _. refl;
+  within = omega arith;
+  nothing = λ _. refl;
+  asked = λ _. by last;
+  alone = λ l. ap got_at_start l;
+  over = λ t. no (sym t);
+} where
+  by : (b : Bool) → added_all [] (starts e.sinks) ≡ asked_by e (requests (got_at_start b))
+  by true = ap (added_all []) (sym (append-nil (starts e.sinks)))
+  by false = ap (added_all []) (sym (append-nil (starts e.sinks)))
+
+asking_after_holds : (first last : Bool) (e : Summary) (schedule : List Links) (a : Asking) → (a.is_whole ≡ true → AskingHolds first last e a)
+    → (asking_after first e schedule a).is_whole ≡ true → AskingHolds first last e (asking_after first e schedule a)
+asking_after_holds first last e [] a h = h
+asking_after_holds first last e (links ∷ schedule) a h = asking_after_holds first last e schedule (asking_event first e links a) (asking_keeps first last e links a h)
+
+asked_front : (xs ys : List Loc) → IsPrefix xs ys → IsPrefix (map Ask xs) (map Ask ys)
+asked_front xs ys p = (map Ask p.0, sym (map-append Ask xs p.0) ∙ ap (map Ask) p.1)
+
+pub asks_are_sent : (first last : Bool) (e : Summary) (a : Asking) → AskingHolds first last e a → AsksSent first e a
+asks_are_sent first last e a h = record {
+  part = λ f. by f a.is_over refl;
+  whole = whole;
+  asked = λ o. asked o first refl;
+  ended = λ o. (h.over o).1;
+} where
+  all_asked : a.is_over ≡ true → first ≡ false → a.asked ≡ asked_by e (requests a.got)
+  all_asked o f = ap (λ (ks : List SinkTerms). added_all a.asked (starts ks)) (sym (h.over o).0) ∙ h.asked f
+
+  whole : a.is_over ≡ true → first ≡ false → a.sent ≡ asks_for e a.got
+  whole o f = (h.over o).2 ∙ ap₂ (λ (ls : List Loc) (b : Bool). map Ask ls ++ end_if b) (all_asked o f) (sym (h.over o).1)
+
+  asked : a.is_over ≡ true → (b : Bool) → first ≡ b → a.asked ≡ asked_of b e (requests a.got)
+  asked o true f = h.nothing f
+  asked o false f = all_asked o f
+
+  by : first ≡ false → (b : Bool) → a.is_over ≡ b → IsPrefix a.sent (asks_for e a.got)
+  by f true o = prefix_same _ _ (whole o f)
+  by f false o =
+      let now = map Ask (take a.pushed a.asked) in
+      prefix_trans a.sent now _ (prefix_same a.sent now (h.sent o))
+      (prefix_trans now (map Ask (asked_by e (requests a.got))) _
+      (asked_front _ _ (prefix_trans (take a.pushed a.asked) a.asked _ (front_of a.pushed a.asked)
+      (let kept = added_all_keeps a.asked (starts a.left) in (kept.0, kept.1 ∙ h.asked f))))
+      (end_if (is_ended a.got), refl))
+
+pub asking_sends : AskingSends
+asking_sends first last e schedule w = asks_are_sent first last e _ (asking_after_holds first last e schedule (asking_start last e) (λ _. asking_starts first last e) w)
+
+-- ---- answering
+
+-- what is sent, what is being sent and what is to be sent for the requests that are left are what is to be sent for all,
+-- whatever comes yet
+pub record AnsweringHolds (first : Bool) (e : Summary) (asked ls : List Loc) (f : Answering) : Type 0 where
+  pub sent : f.is_over ≡ false → (more : List Message) → f.sent ++ (f.sending ++ answers_for e asked f.left (f.got ++ more)) ≡ answers_for e asked ls (f.got ++ more)
+  pub alone : first ≡ true → f.got ≡ End true ∷ []
+  pub resolved : (r : List Row) → f.rows ≡ Some r → (is_ended f.got ≡ true) × (r ≡ rows_of e (heard asked f.got))
+  pub over : f.is_over ≡ true → (is_ended f.got ≡ true) × (f.sent ≡ answers_for e asked ls f.got) × (f.rows ≡ Some (rows_of e (heard asked f.got))) × (f.left ≡ [])
+
+pub either : (a b : Bool) → a ≡ true → (a || b) ≡ true
+either true b e = refl
+either false b e = no (sym e)
+
+pub neither : (a b : Bool) → (a || b) ≡ false → a ≡ false
+neither true b e = no e
+neither false b e = refl
+
+-- the answer to a request that is resolvable, whatever comes yet
+first_answer : (e : Summary) (asked : List Loc) (l : Loc) (left : List Loc) (got more : List Message) → is_resolvable asked got (e.ends l) ≡ true
+    → answer l (resolved (heard asked got) (e.ends l)) ++ answers_for e asked left (got ++ more) ≡ answers_for e asked (l ∷ left) (got ++ more)
+first_answer e asked l left got more h = by (is_ended got) refl where
+  both : (is_resolvable asked (got ++ more) (e.ends l) ≡ true) × (resolved (heard asked got) (e.ends l) ≡ resolved (heard asked (got ++ more)) (e.ends l))
+      → answer l (resolved (heard asked got) (e.ends l)) ++ answers_for e asked left (got ++ more) ≡ answers_for e asked (l ∷ left) (got ++ more)
+  both stays =
+      ap (λ (set : List SourceByte). answer l set ++ answers_for e asked left (got ++ more)) stays.1
+      ∙ ap (λ (b : Bool). then_if b (answer l (resolved (heard asked (got ++ more)) (e.ends l))) (answers_for e asked left (got ++ more))) (sym stays.0)
+
+  by : (b : Bool) → is_ended got ≡ b → answer l (resolved (heard asked got) (e.ends l)) ++ answers_for e asked left (got ++ more) ≡ answers_for e asked (l ∷ left) (got ++ more)
+  by true ended = both (
+    either (is_ended (got ++ more)) _ (ended_stays got more ended),
+    ap (λ (xs : List (List SourceByte)). resolved (answer_to asked xs) (e.ends l)) (answers_stay [] got more ended),
+  )
+  by false running = both (resolvable_stays asked got more (e.ends l) running h)
+
+module _ (first : Bool) (e : Summary) (asked ls : List Loc) (links : Links) (f : Answering) (h : AnsweringHolds first e asked ls f) (whole : f.is_whole ≡ true) where
+  on_send : (room : Bool) (m : Message) (sending : List Message) → f.is_over ≡ false → f.sending ≡ m ∷ sending → AnsweringHolds first e asked ls (push_answer room f m sending)
+  on_send false m sending o s = h
+  on_send true m sending o s = record {
+    sent = λ _ more.
+        append_assoc f.sent (m ∷ []) (sending ++ answers_for e asked f.left (f.got ++ more))
+        ∙ ap (λ (ms : List Message). f.sent ++ (ms ++ answers_for e asked f.left (f.got ++ more))) (sym s) ∙ h.sent o more;
+    alone = h.alone;
+    resolved = h.resolved;
+    over = λ t. no (sym t ∙ o);
+  }
+
+  on_receive : (refused : Bool) (next : Option Message) → f.is_over ≡ false → is_ended f.got ≡ false → (pop_answer refused f next).is_whole ≡ true → AnsweringHolds first e asked ls (pop_answer refused f next)
+  on_receive refused None o running t = h
+  on_receive true (Some m) o running t = no (sym t)
+  on_receive false (Some m) o running t = record {
+    sent = λ _ more.
+        let grown = append_assoc f.got (m ∷ []) more in
+        ap (λ (got : List Message). f.sent ++ (f.sending ++ answers_for e asked f.left got)) grown ∙ h.sent o (m ∷ more) ∙ ap (answers_for e asked ls) (sym grown);
+    alone = λ t. no (sym (ap is_ended (h.alone t)) ∙ running);
+    resolved = λ r s. no (sym (h.resolved r s).0 ∙ running);
+    over = λ t. no (sym t ∙ o);
+  }
+
+  on_build : (refused : Bool) (l : Loc) (left : List Loc) → f.is_over ≡ false → f.sending ≡ [] → f.left ≡ l ∷ left → is_resolvable asked f.got (e.ends l) ≡ true
+      → (build refused e asked f l left).is_whole ≡ true → AnsweringHolds first e asked ls (build refused e asked f l left)
+  on_build true l left o s w r t = no (sym t)
+  on_build false l left o s w r t = record {
+    sent = λ _ more.
+        ap (λ (ms : List Message). f.sent ++ ms) (first_answer e asked l left f.got more r)
+        ∙ ap₂ (λ (ms : List Message) (ks : List Loc). f.sent ++ (ms ++ answers_for e asked ks (f.got ++ more))) (sym s) (sym w) ∙ h.sent o more;
+    alone = h.alone;
+    resolved = h.resolved;
+    over = λ u. no (sym u ∙ o);
+  }
+
+  on_request : (b : Bool) (l : Loc) (left : List Loc) → f.is_over ≡ false → f.sending ≡ [] → f.left ≡ l ∷ left → is_resolvable asked f.got (e.ends l) ≡ b
+      → (build_or_pop b e asked links f l left).is_whole ≡ true → AnsweringHolds first e asked ls (build_or_pop b e asked links f l left)
+  on_request false l left o s w r t = on_receive links.is_refused links.next o (neither (is_ended f.got) _ r) t
+  on_request true l left o s w r t = on_build links.is_refused l left o s w r t
+
+  on_resolve : (refused : Bool) → f.is_over ≡ false → is_ended f.got ≡ true → (resolve refused e asked f).is_whole ≡ true → AnsweringHolds first e asked ls (resolve refused e asked f)
+  on_resolve true o ended t = no (sym t)
+  on_resolve false o ended t = record {
+    sent = h.sent;
+    alone = h.alone;
+    resolved = λ r same. (ended, cc);
+    over = λ u. no (sym u ∙ o);
+  }
+
+  on_rows : (rows : Option (List Row)) → f.rows ≡ rows → f.is_over ≡ false → f.sending ≡ [] → f.left ≡ [] → is_ended f.got ≡ true
+      → (resolve_or_end e asked links f rows).is_whole ≡ true → AnsweringHolds first e asked ls (resolve_or_end e asked links f rows)
+  on_rows None is o s w ended t = on_resolve links.is_refused o ended t
+  on_rows (Some rows) is o s w ended t = by links.has_room where
+    all : f.sent ++ End true ∷ [] ≡ answers_for e asked ls f.got
+    all =
+        let none = append-nil f.got in
+        ap (λ (b : Bool). f.sent ++ end_if b) (sym ended)
+        ∙ ap (λ (got : List Message). f.sent ++ answers_for e asked [] got) (sym none)
+        ∙ ap₂ (λ (ms : List Message) (ks : List Loc). f.sent ++ (ms ++ answers_for e asked ks (f.got ++ []))) (sym s) (sym w)
+        ∙ h.sent o [] ∙ ap (answers_for e asked ls) none
+
+    by : (room : Bool) → AnsweringHolds first e asked ls (end_answers room f)
+    by false = h
+    by true = record {
+      sent = no;
+      alone = h.alone;
+      resolved = h.resolved;
+      over = λ _. (ended, ap (λ (b : Bool). f.sent ++ End b ∷ []) whole ∙ all, is ∙ ap (λ (r : List Row). Some r) (h.resolved rows is).1, w);
+    }
+
+  on_end_or_pop : (b : Bool) → is_ended f.got ≡ b → f.is_over ≡ false → f.sending ≡ [] → f.left ≡ [] → (pop_or_end e asked links f b).is_whole ≡ true → AnsweringHolds first e asked ls (pop_or_end e asked links f b)
+  on_end_or_pop false d o s w t = on_receive links.is_refused links.next o d t
+  on_end_or_pop true d o s w t = on_rows f.rows refl o s w d t
+
+  on_whole_answering : f.is_over ≡ false → (sending : List Message) → f.sending ≡ sending → (left : List Loc) → f.left ≡ left
+      → (whole_answering e asked links f sending left).is_whole ≡ true → AnsweringHolds first e asked ls (whole_answering e asked links f sending left)
+  on_whole_answering o (m ∷ sending) s left w t = on_send links.has_room m sending o s
+  on_whole_answering o [] s (l ∷ left) w t = on_request (is_resolvable asked f.got (e.ends l)) l left o s w refl t
+  on_whole_answering o [] s [] w t = on_end_or_pop (is_ended f.got) refl o s w t
+
+pub answering_stays_broken : (links : Links) (f : Answering) (ended : Bool) → (broken_answering links f ended).is_whole ≡ f.is_whole
+answering_stays_broken links f false = by links.next where
+  by : (next : Option Message) → (drop_answer f next).is_whole ≡ f.is_whole
+  by None = refl
+  by (Some m) = refl
+answering_stays_broken links f true = by links.has_room where
+  by : (room : Bool) → (end_answers room f).is_whole ≡ f.is_whole
+  by true = refl
+  by false = refl
+
+-- it is kept by each event that leaves the pass whole
+pub answering_keeps : (first : Bool) (e : Summary) (asked ls : List Loc) (links : Links) (f : Answering) → (f.is_whole ≡ true → AnsweringHolds first e asked ls f)
+    → (answering_event e asked links f).is_whole ≡ true → AnsweringHolds first e asked ls (answering_event e asked links f)
+answering_keeps first e asked ls links f h = by f.is_over refl f.is_whole refl where
+  by : (over : Bool) → f.is_over ≡ over → (whole : Bool) → f.is_whole ≡ whole → (answering_by e asked links f over whole).is_whole ≡ true → AnsweringHolds first e asked ls (answering_by e asked links f over whole)
+  by true o whole w t = h t
+  by false o true w t = on_whole_answering first e asked ls links f (h w) w o f.sending refl f.left refl t
+  by false o false w t = no (sym t ∙ answering_stays_broken links f (is_ended f.got) ∙ w)
+
+pub answering_starts : (whole first : Bool) (e : Summary) (asked ls : List Loc) → AnsweringHolds first e asked ls (answering_start whole first ls)
+answering_starts whole first e asked ls = record {
+  sent = λ _ more. refl;
+  alone = λ t. ap got_at_start t;
+  resolved = λ r s. cc;
+  over = λ t. no (sym t);
+}
+
+answering_after_holds : (first : Bool) (e : Summary) (asked ls : List Loc) (schedule : List Links) (f : Answering) → (f.is_whole ≡ true → AnsweringHolds first e asked ls f)
+    → (answering_after e asked schedule f).is_whole ≡ true → AnsweringHolds first e asked ls (answering_after e asked schedule f)
+answering_after_holds first e asked ls [] f h = h
+answering_after_holds first e asked ls (links ∷ schedule) f h = answering_after_holds first e asked ls schedule (answering_event e asked links f) (answering_keeps first e asked ls links f h)
+
+pub answers_are_sent : (first : Bool) (e : Summary) (asked ls : List Loc) (f : Answering) → AnsweringHolds first e asked ls f → AnswersSent e asked ls f
+answers_are_sent first e asked ls f h = record {
+  part = by f.is_over refl;
+  whole = λ o. (h.over o).1;
+  rows = λ o. (h.over o).2;
+  ended = λ o. (h.over o).0;
+} where
+  by : (b : Bool) → f.is_over ≡ b → IsPrefix f.sent (answers_for e asked ls f.got)
+  by true o = prefix_same _ _ (h.over o).1
+  by false o = (f.sending ++ answers_for e asked f.left (f.got ++ []), h.sent o [] ∙ ap (answers_for e asked ls) (append-nil f.got))
+
+pub answering_sends : AnsweringSends
+answering_sends first e asked ls schedule w =
+    answers_are_sent first e asked ls _ (answering_after_holds first e asked ls schedule (answering_start true first ls) (λ _. answering_starts true first e asked ls) w)
+
+-- ---- both passes
+
+-- what ends whole began whole
+pub begun_whole : (e : Summary) (asked : List Loc) (schedule : List Links) (f : Answering) → (answering_after e asked schedule f).is_whole ≡ true → f.is_whole ≡ true
+begun_whole e asked [] f w = w
+begun_whole e asked (links ∷ schedule) f w = by f.is_whole refl (begun_whole e asked schedule (answering_event e asked links f) w) where
+  by : (b : Bool) → f.is_whole ≡ b → (answering_event e asked links f).is_whole ≡ true → b ≡ true
+  by true is t = refl
+  by false is t = over f.is_over (ap (λ (b : Bool). (answering_by e asked links f f.is_over b).is_whole) (sym is) ∙ t) where
+    over : (o : Bool) → (answering_by e asked links f o false).is_whole ≡ true → false ≡ true
+    over true t = sym is ∙ t
+    over false t = sym is ∙ sym (answering_stays_broken links f (is_ended f.got)) ∙ t
+
+pub passes_end_done : PassesEndDone
+passes_end_done first last e schedule later =
+    let a = asking_after first e schedule (asking_start last e) in
+    let start = answering_start a.is_whole first (requests a.got) in
+    let f = answering_after e a.asked later start in
+    λ o p w.
+    let x = asking_after_holds first last e schedule (asking_start last e) (λ _. asking_starts first last e) (begun_whole e a.asked later start w) in
+    let y = answering_after_holds first e a.asked (requests a.got) later start (λ _. answering_starts a.is_whole first e a.asked (requests a.got)) w in
+    let asks = asks_are_sent first last e a x in
+    let answers = answers_are_sent first e a.asked (requests a.got) f y in (
+      record {
+        asked = asks.asked o;
+        asks = λ t. asks.whole o t;
+        answers = λ _. answers.whole p;
+        rows = ap rows_or_none (answers.rows p);
+      },
+      x.alone,
+      y.alone,
+    )

@@ -1,0 +1,6 @@
+pub mod Streams
+pub mod Passes
+pub mod Schedules
+pub mod StreamLaws
+pub mod PassLaws
+pub mod ScheduleLaws
