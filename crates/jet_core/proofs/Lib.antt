@@ -1,7 +1,5 @@
 mod More
 mod Back
-mod Members
-mod Finding
 mod Each
 mod Cuts
 mod Tickets

@@ -7,8 +7,8 @@ ghost use Rattle.epoch_model.specs.Summary.{Summary as Epoch};
 ghost use Rattle.local_taint.specs.Summaries.{summary_of};
 ghost use Rattle.jet_core.specs.Asking.{AreOfOneTrace, asked_back, crossings_back};
 
-use crate::answering::{answer_requests, rows};
-use crate::answers::Answers;
+use crate::answering::answer_requests;
+use answer_sets::{Answers, rows};
 use local_taint::{Asked, Summary};
 use merge_log::TermsReader;
 use no_memory::NoMemory;

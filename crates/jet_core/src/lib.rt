@@ -3,17 +3,13 @@
 
 mod analysing;
 mod answering;
-mod answers;
 mod asking;
 mod crossed;
 mod joining;
-mod resolving;
 mod whole;
 
-pub use answering::{answer_requests, rows};
-pub use answers::Answers;
+pub use answering::answer_requests;
 pub use asking::{asked_by, crossings};
 pub use crossed::Crossed;
 pub use joining::join;
-pub use resolving::resolved;
 pub use whole::{joined, query};

@@ -19,13 +19,13 @@ use Rattle.flow_model.specs.Origins.{Policy, fresh, union_over, step_at, after_s
 use Rattle.flow_model.specs.Ranges.{IsLocation, IsInRange}
 use Rattle.flow_rule.specs.declared.Message.{Message}
 use Rattle.flow_rule.specs.declared.Message.TheVariants.{Ask, Byte, Close, End}
-use Rattle.report_model.specs.Query.{Query, policy_of}
+use Rattle.report_model.specs.Query.{Query, AreLocated, policy_of}
 use Rattle.report_model.specs.Rows.{Sink, Row, row}
 use Rattle.sorted_set.proofs.Algebra.{tied_by, less_turned, Ascends-union}
 use Rattle.flow_model.proofs.Orders.{loc_same, source_total}
 use Rattle.epoch_model.specs.Stretch.{points_at_start, sinks_between, sinks_of_epoch}
 use Rattle.epoch_model.specs.Cutting.{RisesTo, IsCutting}
-use Rattle.epoch_model.specs.Summary.{Summary, IsSummary, AreSummaries, ArePointsLocated}
+use Rattle.epoch_model.specs.Summary.{Summary, IsSummary, AreSummaries}
 use Rattle.epoch_model.specs.Crossing.{asked_by, crossing}
 use Rattle.epoch_model.specs.Join.{answer_to, resolved, rows_of}
 use Rattle.epoch_model.proofs.Sinks.{sinks-all, sinks-later, sinks-split}
@@ -167,7 +167,7 @@ record Known (q : Query) (trace : List StepSeen) (s : ℕ) (cs : List ℕ) (ns :
 abbrev Hears : Query → List StepSeen → ℕ → Node → List Summary → Type 0
 Hears q trace s a es = (l : Loc) → has loc_cmp l (crossing (a.summary ∷ es)) ≡ true → heard a.asked a.answers_got l ≡ origins (policy_of q) trace s l
 
-module _ (q : Query) (trace : List StepSeen) (steps : All IsInRange trace) (points : ArePointsLocated q) where
+module _ (q : Query) (trace : List StepSeen) (steps : All IsInRange trace) (points : AreLocated q.points) where
   on_points : AllByRecursion (λ p. IsLocation p.loc) q.points
   on_points = recursion_from_All (λ (p : InnerSink). IsLocation p.loc) q.points points
 

@@ -5,10 +5,10 @@ use Rattle.flow_model.specs.declared.Loc.{Loc}
 use Rattle.flow_model.specs.declared.StepSeen.{StepSeen}
 use Rattle.flow_model.specs.Origins.{Policy, origins}
 use Rattle.flow_model.specs.Ranges.{IsInRange}
-use Rattle.report_model.specs.Query.{Query, policy_of}
+use Rattle.report_model.specs.Query.{Query, AreLocated, policy_of}
 use Rattle.report_model.specs.Rows.{rows_as_written}
 use Rattle.epoch_model.specs.Cutting.{IsCutting}
-use Rattle.epoch_model.specs.Summary.{Summary, AreSummaries, ArePointsLocated}
+use Rattle.epoch_model.specs.Summary.{Summary, AreSummaries}
 use Rattle.epoch_model.specs.Crossing.{crossing_at}
 use Rattle.stream_model.specs.StreamLaws.{Meets}
 use Rattle.stream_model.specs.Passes.{Links, Asking, asking_event, Answering, answering_event}
@@ -31,7 +31,7 @@ NeverStill = (capacity : ℕ) (es : List Summary) (schedule : List Event) → 0 
 -- what is needed and its origins, and the nodes have the rows of the whole trace
 abbrev pub EveryScheduleMeets : Type 0
 EveryScheduleMeets = (q : Query) (trace : List StepSeen) (cuts : List ℕ) (capacity : ℕ) (es : List Summary) (schedule : List Event)
-    → All IsInRange trace → ArePointsLocated q
+    → All IsInRange trace → AreLocated q.points
     → IsCutting (length trace) cuts → AreSummaries q trace 0 cuts es
     → let ns = nodes_after capacity schedule (nodes_start es) in
     AllByRecursion (λ n. is_done n.phase ≡ true) ns → AllByRecursion (λ n. is_whole_in n.phase ≡ true) ns
@@ -67,7 +67,7 @@ listed_in_all q trace (c ∷ d ∷ cs) = listed (policy_of q) trace c (crossing_
 -- every schedule that ends with all nodes done, and none broken, has the same number of events that move
 abbrev pub SameWork : Type 0
 SameWork = (q : Query) (trace : List StepSeen) (cuts : List ℕ) (capacity : ℕ) (es : List Summary) (schedule : List Event)
-    → All IsInRange trace → ArePointsLocated q
+    → All IsInRange trace → AreLocated q.points
     → IsCutting (length trace) cuts → AreSummaries q trace 0 cuts es
     → let ns = nodes_after capacity schedule (nodes_start es) in
     AllByRecursion (λ n. is_done n.phase ≡ true) ns → AllByRecursion (λ n. is_whole_in n.phase ≡ true) ns

@@ -11,12 +11,12 @@ use Rattle.flow_model.specs.Origins.{origins}
 use Rattle.flow_model.specs.Ranges.{IsInRange}
 use Rattle.flow_rule.specs.declared.Message.{Message}
 use Rattle.flow_rule.specs.declared.Message.TheVariants.{Ask, Byte, Close, End}
-use Rattle.report_model.specs.Query.{Query, policy_of}
+use Rattle.report_model.specs.Query.{Query, AreLocated, policy_of}
 use Rattle.report_model.specs.Rows.{row, rows_as_written}
 use Rattle.sorted_set.specs.Sets.{Ascends, has, is_within}
 use Rattle.epoch_model.specs.Stretch.{sinks_of_epoch}
 use Rattle.epoch_model.specs.Cutting.{IsCutting}
-use Rattle.epoch_model.specs.Summary.{Summary, Terms, AreSummaries, ArePointsLocated}
+use Rattle.epoch_model.specs.Summary.{Summary, Terms, AreSummaries}
 use Rattle.epoch_model.specs.Crossing.{crossing_at, needed}
 use Rattle.stream_model.specs.Streams.{is_ended, answers_in, heard, is_resolvable, places_needed, asks_for, answer, answers_for, Node, AreAllDone, summaries}
 
@@ -100,6 +100,6 @@ pub record Meets (q : Query) (trace : List StepSeen) (cuts : List ℕ) (ns : Lis
 -- whatever the cutting: nodes that are done, whose summaries are those of the epochs, have the rows of the whole trace
 abbrev pub DoneNodesMeet : Type 0
 DoneNodesMeet = (q : Query) (trace : List StepSeen) (cuts : List ℕ) (ns : List Node)
-    → All IsInRange trace → ArePointsLocated q
+    → All IsInRange trace → AreLocated q.points
     → IsCutting (length trace) cuts → AreSummaries q trace 0 cuts (summaries ns) → AreAllDone ns
     → Meets q trace cuts ns

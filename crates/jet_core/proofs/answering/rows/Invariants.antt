@@ -1,7 +1,0 @@
-use Rattle.std.proofs.Common.{◌≡◌, take}
-use Rattle.epoch_model.specs.Join.{answer_to, rows_of}
-use Rattle.local_taint.specs.Summaries.{summary_of}
-use Rattle.jet_core.proofs.answering.rows.Given as goal
-
-abbrev pub invariant-loop-number : goal.invariant-loop-number
-invariant-loop-number l = l.rows.items ≡ take l.number (rows_of (summary_of l.summary) (answer_to l.asked l.answers))
