@@ -1,5 +1,16 @@
 //! A command of the program.
 
+/// How a run is cut into epochs, and how these are analysed.
+#[derive(Clone, Copy)]
+pub struct Pipeline {
+    /// The steps in an epoch, 1 to 1099511627776 (2^40).
+    pub epoch: u64,
+    /// The workers that analyse epochs, 1 to 64.
+    pub workers: u32,
+    /// The messages that the link between two epochs holds, 1 to 65536.
+    pub link: u32,
+}
+
 /// What words stand for.
 #[derive(Drop)]
 pub enum Command<'a> {
@@ -8,6 +19,7 @@ pub enum Command<'a> {
         program: &'a str,
         log: &'a str,
         query: &'a str,
+        pipeline: Pipeline,
     },
     /// The recording of a run.
     Record {
@@ -49,6 +61,7 @@ pub enum Command<'a> {
         program: &'a str,
         log: &'a str,
         query: &'a str,
+        pipeline: Pipeline,
     },
     /// The reports of several queries.
     Queries {
@@ -58,5 +71,6 @@ pub enum Command<'a> {
         log: &'a str,
         /// The names of the query files, 1 to 16.
         queries: Vec<&'a str>,
+        pipeline: Pipeline,
     },
 }
