@@ -5,16 +5,16 @@
 pub struct Pipeline {
     /// The steps in an epoch, 1 to 1099511627776 (2^40).
     pub epoch: u64,
-    /// The workers that analyse epochs, 1 to 64.
+    /// How many workers analyse the epochs, 1 to 64.
     pub workers: u32,
-    /// The messages that the link between two epochs holds, 1 to 65536.
+    /// How many messages the link between two epochs holds, 1 to 65536.
     pub link: u32,
 }
 
 /// What words stand for.
 #[derive(Drop)]
 pub enum Command<'a> {
-    /// The report of a query: the names of the program, the log and the query.
+    /// The report of a query: the names of the program, the log and the query, and how the run is analysed.
     Query {
         program: &'a str,
         log: &'a str,
@@ -56,7 +56,7 @@ pub enum Command<'a> {
         log: &'a str,
         new: &'a str,
     },
-    /// The report of a query, turned round: the names of the program, the log and the query.
+    /// The report of a query, turned round: the names of the program, the log and the query, and how the run is analysed.
     Influence {
         program: &'a str,
         log: &'a str,
@@ -71,6 +71,7 @@ pub enum Command<'a> {
         log: &'a str,
         /// The names of the query files, 1 to 16.
         queries: Vec<&'a str>,
+        /// How the run is analysed.
         pipeline: Pipeline,
     },
 }

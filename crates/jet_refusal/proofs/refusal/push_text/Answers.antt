@@ -1,4 +1,4 @@
-use Rattle.std.proofs.Common.{◌≡◌, ◌∙◌, ap, sym, List, ℕ, ◌++◌, codes, append_assoc}
+use Rattle.std.proofs.Common.{◌∙◌, ap, sym, List, ℕ, ◌++◌, codes, append_assoc}
 use Rattle.std.specs.Fmt.{decimal}
 use Rattle.jet_refusal.specs.declared.refusal.Refusal.{Refusal}
 use Rattle.jet_refusal.specs.Refusals.{text_of}
