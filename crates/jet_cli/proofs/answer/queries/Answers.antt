@@ -1,4 +1,4 @@
-use Rattle.std.proofs.Common.{rules, subst, sym, map, List, ℕ, Bor, [], ◌∷◌, Err}
+use Rattle.std.proofs.Common.{rules, subst, map, List, ℕ, Bor, [], ◌∷◌, Err}
 use Rattle.std.proofs.lemmas.Result.{err_from_is_err_and}
 use Rattle.outer_io.proofs.TellsLemmas.{tells-gains}
 use Rattle.report_model.specs.Query.{Query}

@@ -1,7 +1,7 @@
 use Rattle.std.proofs.Common.{rules, [], ◌∷◌, Err}
 use Rattle.std.proofs.lemmas.Result.{err_from_is_err_and}
 use Rattle.outer_io.proofs.TellsLemmas.{tells-gains}
-use Rattle.report_model.specs.Query.{Query, Alike}
+use Rattle.report_model.specs.Query.{Alike}
 use Rattle.jet_model.specs.Outcomes.{and_then}
 use Rattle.jet_model.specs.Contents.{Contents, run_at, query_at}
 use Rattle.jet_model.specs.Answer.{traced_answer, query_answer}

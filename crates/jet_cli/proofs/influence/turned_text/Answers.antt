@@ -1,5 +1,4 @@
-use Rattle.std.proofs.Common.{List, sym, subst}
-use Rattle.flow_model.specs.declared.SourceByte.{SourceByte}
+use Rattle.std.proofs.Common.{sym, subst}
 use Rattle.flow_model.specs.Orders.{source_cmp}
 use Rattle.flow_model.proofs.Orders.{source_total}
 use Rattle.std.specs.List.{filter}
