@@ -5,7 +5,6 @@ pub mod Adding
 pub mod Sinks
 pub mod Asking
 pub mod Joining
-pub mod Points
 mod Lists
 mod Located
 mod Worked

@@ -4,6 +4,5 @@ pub mod ByLength
 pub mod Summary
 pub mod Crossing
 pub mod Join
-pub mod PointLaws
 pub mod StretchLaws
 pub mod JoinLaws

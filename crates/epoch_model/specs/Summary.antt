@@ -44,7 +44,3 @@ pub record IsSummary (q : Query) (trace : List StepSeen) (s n : ℕ) (e : Summar
 abbrev pub AreSummaries : Query → List StepSeen → ℕ → List ℕ → List Summary → Type 0
 AreSummaries q trace s cuts es =
     AllZip (λ epoch e. IsSummary q trace epoch.first (epoch.past_last - epoch.first) e) (epochs s cuts) es
-
--- each point of the query is at a location
-abbrev pub ArePointsLocated : Query → Type 0
-ArePointsLocated q = All (λ p. IsLocation p.loc) q.points

@@ -2,7 +2,6 @@
 
 ghost use Rattle.epoch_model.specs.StretchLaws.{OriginsCompose, PastComposes, StretchesAreTheirSteps, PiecesCompose};
 ghost use Rattle.epoch_model.specs.JoinLaws.{AsksWhatIsNeeded, AsksLocations, AsksByCuts, AsksOnce, DefinedAreSummaries, JoinGivesRows};
-ghost use Rattle.epoch_model.specs.PointLaws.{PointsOfTexts, PointsTogether};
 
 /// What is known over two stretches of a trace is known over both together.
 pub fn stretches_compose()
@@ -30,11 +29,4 @@ pub fn epochs_ask_what_is_needed()
 pub fn summaries_join()
     ensures rows { JoinGivesRows }
     ensures defined { DefinedAreSummaries }
-{}
-
-/// The points of queries that texts stand for are at locations, and so are those of several of them taken
-/// together.
-pub fn points_are_located()
-    ensures texts { PointsOfTexts }
-    ensures together { PointsTogether }
 {}

@@ -4,8 +4,8 @@ use Rattle.std.specs.List.{flat_map}
 use Rattle.flow_model.specs.declared.Loc.{Loc}
 use Rattle.flow_model.specs.declared.StepSeen.{StepSeen}
 use Rattle.flow_model.specs.Ranges.{IsInRange}
-use Rattle.report_model.specs.Query.{Query}
-use Rattle.epoch_model.specs.Summary.{Summary, AreSummaries, ArePointsLocated}
+use Rattle.report_model.specs.Query.{Query, AreLocated}
+use Rattle.epoch_model.specs.Summary.{Summary, AreSummaries}
 use Rattle.epoch_model.specs.Crossing.{crossing}
 
 -- the start locations of an epoch's sinks, one sink after another
@@ -34,5 +34,5 @@ pub record AreOfOneTrace (es : List Summary) : Type 0 where
   pub first : ℕ
   pub cuts : List ℕ
   pub in_range : All IsInRange trace
-  pub located : ArePointsLocated query
+  pub located : AreLocated query.points
   pub summaries : AreSummaries query trace first cuts es

@@ -1,5 +1,5 @@
 -- What is read so far, and what the definition gives for the rest, is what it gives for all.
-use Rattle.std.proofs.Common.{◌≡◌, ℕ, ◌+◌, ◌<◌, ◌≤◌, List, [], ◌∷◌, ◌++◌, length, refl, ap, sym, ◌∙◌, Bool, true, false, Bor, arith}
+use Rattle.std.proofs.Common.{◌≡◌, ℕ, ◌+◌, ◌<◌, ◌≤◌, List, [], ◌∷◌, ◌++◌, length, refl, ap, sym, subst, ◌∙◌, Bool, true, false, Bor, arith}
 use Rattle.std.specs.Prelude.{Option, Some, None, Err, map, is_some, ◌||◌, ◌&&◌, MatchOption, IfSome}
 use Rattle.std.specs.List.{flat_map}
 use Rattle.std.proofs.lemmas.List.{append_assoc, append-nil}
@@ -9,8 +9,9 @@ use Rattle.flow_model.specs.declared.InnerSink.{InnerSink}
 use Rattle.flow_model.specs.Orders.{inner_cmp}
 use Rattle.report_model.specs.declared.QueryKind.{QueryKind}
 use Rattle.report_model.specs.declared.QueryKind.TheVariants.{NoRule}
-use Rattle.report_model.specs.Query.{Choice, Query, chooses, is_channel, is_within}
+use Rattle.report_model.specs.Query.{Choice, Query, AreLocated, chooses, is_channel, is_within}
 use Rattle.report_model.specs.Grammar.{lines, read_line, read_lines, first_fault, or_later, rule_in, sources_in, sinks_in, points_in, rule_among, query, unless, query_of}
+use Rattle.report_model.proofs.Located.{lines_located}
 use Rattle.query_lang.specs.declared.draft.Draft.{Draft}
 use Rattle.query_lang.specs.declared.fault.QueryFault.{QueryFault}
 use Rattle.query_lang.specs.declared.fault.QueryFault.TheVariants.{At, NoMemory}
@@ -98,6 +99,9 @@ all_read text number draft q p f =
         points = f.alike.points ∙ ap (set_of inner_cmp) (sym (append-nil draft.points.items) ∙ p.points);
       };
     }
+
+pub all_located : (text : List ℕ) (number : ℕ) (draft : Draft) → IsPartOf text number draft [] → AreLocated draft.points.items
+all_located text number draft p = subst AreLocated (sym p.points ∙ append-nil draft.points.items) (lines_located text)
 
 -- ---- a line that is split off
 

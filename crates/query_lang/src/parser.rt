@@ -1,6 +1,7 @@
 //! From a text to a query.
 
 ghost use Rattle.std.specs.Prelude.{◌≡◌, ◌≤◌, ◌^◌, length, IfOk, IfErr};
+ghost use Rattle.report_model.specs.Query.{AreLocated};
 ghost use Rattle.query_lang.specs.Answers.{StandsFor, IsTold};
 ghost use Rattle.query_lang.specs.Drafts.{IsFinished, IsUnfinished};
 
@@ -13,6 +14,7 @@ use std::alloc::Global;
 
 /// The query of which all lines were taken up.
 fn finish(alloc: Global, draft: Draft) -> Result<Query, QueryFault>
+    requires { AreLocated draft.points.items }
     ensures ok { IfOk result (IsFinished draft) }
     ensures fault { IfErr result (IsUnfinished draft) }
 {

@@ -4,7 +4,7 @@ ghost use Rattle.std.specs.Prelude.{◌≡◌, ◌++◌, IfOk, OnOk};
 ghost use Rattle.sorted_set.specs.Sets.{Ascends};
 ghost use Rattle.flow_model.specs.Orders.{inner_cmp};
 ghost use Rattle.flow_model.specs.declared.SinkPoint.TheVariants.{Out};
-ghost use Rattle.report_model.specs.Query.{Alike, has_source, has_sink};
+ghost use Rattle.report_model.specs.Query.{Alike, AreLocated, has_source, has_sink};
 ghost use Rattle.query_lang.specs.Choices.{SameChoices};
 ghost use Rattle.query_lang.specs.Drafts.{choices_in, query_by};
 
@@ -27,17 +27,17 @@ pub struct Query {
 impl Model for Query {
     ghost use Rattle.sorted_set.specs.Sets.{Ascends};
     ghost use Rattle.flow_model.specs.Orders.{inner_cmp};
-    ghost use Rattle.report_model.specs.Query.{Query as Meaning};
+    ghost use Rattle.report_model.specs.Query.{Query as Meaning, AreLocated};
 
     ghost Value = { Meaning };
 
     ghost view = { λ q. record { rule = q.rule; sources = q.sources; sinks = q.sinks; points = q.points.items } };
 
-    ghost invariant = { λ q. Ascends inner_cmp q.points.items };
+    ghost invariant = { λ q. Ascends inner_cmp q.points.items × AreLocated q.points.items };
 }
 
 impl Query {
-    /// The query by this rule of what these choose, of the points each once.
+    /// The query by this rule of what these choose, of the points each once. The points are at locations.
     pub(crate) fn of(
         alloc: Global,
         rule: Rule,
@@ -45,6 +45,7 @@ impl Query {
         sinks: Selection,
         points: Vec<InnerSink>,
     ) -> Result<Query, AllocError>
+        requires { AreLocated points.items }
         ensures { IfOk result (λ q. Alike q (query_by rule sources sinks points.items)) }
     {
         Ok(Query {
@@ -69,6 +70,7 @@ impl Query {
             (choices_in sinks.new)
             (choices_in sinks.old ++ self.now.sinks)) }
         ensures points { OnOk result (points.new.items ≡ points.old.items ++ self.now.points) }
+        ensures located { AreLocated self.now.points }
     {
         self.sources.add_to(sources)?;
         self.sinks.add_to(sinks)?;
@@ -96,10 +98,11 @@ impl Query {
         self.sinks.has(byte.channel, byte.offset)
     }
 
-    /// The points inside the run that the query chooses, by time and then location, each once.
+    /// The points inside the run that the query chooses, by time and then location, each once. Each is at a location.
     pub fn points(&self) -> &[InnerSink]
         ensures value { result.now ≡ self.now.points }
         ensures ascending { Ascends inner_cmp self.now.points }
+        ensures located { AreLocated self.now.points }
     {
         &self.points
     }

@@ -7,3 +7,4 @@ pub mod Influence
 pub mod InfluenceLaws
 pub mod Together
 pub mod TogetherLaws
+pub mod PointLaws

@@ -1,5 +1,5 @@
 -- Queries, and which bytes and points they choose.
-use Rattle.std.specs.Prelude.{◌≡◌, ℕ, ◌==◌, nat_lt, nat_le, Bool, true, ◌&&◌, List, Option, Some, None}
+use Rattle.std.specs.Prelude.{◌≡◌, ℕ, ◌==◌, nat_lt, nat_le, Bool, true, ◌&&◌, List, All, Option, Some, None}
 use Rattle.std.specs.List.{list_any}
 use Rattle.flow_model.specs.declared.Rule.{Rule}
 use Rattle.flow_model.specs.declared.SourceByte.{SourceByte}
@@ -8,6 +8,7 @@ use Rattle.flow_model.specs.declared.SinkPoint.{SinkPoint}
 use Rattle.flow_model.specs.declared.SinkPoint.TheVariants.{Out, At}
 use Rattle.flow_model.specs.Orders.{inner_cmp}
 use Rattle.flow_model.specs.Origins.{Policy}
+use Rattle.flow_model.specs.Ranges.{IsLocation}
 use Rattle.sorted_set.specs.Sets.{has}
 
 -- the offsets from one up to another, and without it; all of them where none are named
@@ -45,6 +46,10 @@ has_source q b = chooses q.sources b.channel b.offset
 abbrev pub has_sink : Query → SinkPoint → Bool
 has_sink q (Out b) = chooses q.sinks b.channel b.offset
 has_sink q (At p) = has inner_cmp p q.points
+
+-- each of the points is at a lane of a register, or at an address
+abbrev pub AreLocated : List InnerSink → Type 0
+AreLocated points = All (λ p. IsLocation p.loc) points
 
 -- taint comes from the chosen source bytes, and propagates by the query's rule
 abbrev pub policy_of : Query → Policy

@@ -3,6 +3,7 @@
 ghost use Rattle.report_model.specs.RowLaws.{AlikeHaveSameRows, RowsAscend, RowsWereWritten, NoRowIsMissing, PointsHaveRows};
 ghost use Rattle.report_model.specs.InfluenceLaws.{InfluenceTurnsRows};
 ghost use Rattle.report_model.specs.TogetherLaws.{PointsAscend, OnlyIsOwn, TogetherCovers, TogetherAscends, EachIsOwn};
+ghost use Rattle.report_model.specs.PointLaws.{PointsOfTexts, PointsTogether};
 
 /// Queries that have one rule and the same points, and choose the same bytes, have the same rows, over each trace.
 pub fn alike_have_same_rows()
@@ -39,6 +40,13 @@ pub fn influence_turns_rows()
 /// The points of a query that a text stands for ascend.
 pub fn points_ascend()
     ensures { PointsAscend }
+{}
+
+/// The points of queries that texts stand for are at locations, and so are those of several of them taken
+/// together.
+pub fn points_are_located()
+    ensures texts { PointsOfTexts }
+    ensures together { PointsTogether }
 {}
 
 /// Where a query covers another, the other's rows are what of its rows is of that one's own: the rows of the output bytes

@@ -2,7 +2,7 @@ use Rattle.std.proofs.Common.{◌≡◌, ◌∷◌, ◌+◌, List, ℕ, Option, 
 use Rattle.std.proofs.lemmas.Result.{IfOk-weaker}
 use Rattle.query_lang.specs.Answers.{StandsFor}
 use Rattle.query_lang.specs.Drafts.{IsFinished}
-use Rattle.query_lang.proofs.ParseLemmas.{IsPartOf, lines_left, size_left, one_more_line, all_read, lines_split, less_left}
+use Rattle.query_lang.proofs.ParseLemmas.{IsPartOf, lines_left, size_left, one_more_line, all_read, all_located, lines_split, less_left}
 use Rattle.query_lang.proofs.parser.parse.Goals as goal
 
 pub loop-left-preserved : goal.loop-left-preserved
@@ -17,6 +17,11 @@ loop-left-preserved c =
       part = one_more_line c.args.text.now before.number before.draft c.take_up.new.self line (lines_left rest) part c.in_ok-take_up.ensures.ok;
       size = omega (arith, less_left (length c.in-Some.part.now) rest c.split_line.ensures.shorter, size);
     }
+
+pub finish-requires : goal.finish-requires
+finish-requires c =
+    let part = subst (λ (left : Option (Bor (List ℕ))). IsPartOf c.args.text.now c.loop-left.number c.loop-left.draft (lines_left left)) c.in_default.is c.loop-left.invariant.part in
+    all_located c.args.text.now c.loop-left.number c.loop-left.draft part
 
 pub returns-clause-read : goal.returns-clause-read
 returns-clause-read c =

@@ -1,5 +1,5 @@
 -- The points of the queries that texts stand for are at locations. Crates above cite these lemmas.
-use Rattle.std.proofs.Common.{◌≡◌, ℕ, zero, suc, ◌+◌, ◌≤◌, ◌<◌, nat_lt, List, [], ◌∷◌, Bool, true, false, ◌||◌, if◌then◌else◌, map, refl, subst, arith}
+use Rattle.std.proofs.Common.{◌≡◌, ℕ, zero, suc, ◌+◌, ◌≤◌, ◌<◌, nat_lt, List, [], ◌∷◌, ◌++◌, Bool, true, false, ◌||◌, if◌then◌else◌, map, refl, subst, arith}
 use Rattle.std.specs.Prelude.{not, ◌&&◌, Option, Some, None, Result, Ok, Err, codes}
 use Rattle.std.specs.Str.{bytes_eq}
 use Rattle.std.specs.List.{range_with_len, flat_map, list_any, AllByRecursion}
@@ -10,22 +10,21 @@ use Rattle.flow_model.specs.declared.InnerSink.{InnerSink}
 use Rattle.flow_model.specs.declared.Rule.{Rule}
 use Rattle.flow_model.specs.Orders.{inner_cmp}
 use Rattle.flow_model.specs.Ranges.{IsLocation}
+use Rattle.sorted_set.specs.Sets.{set_of}
 use Rattle.sorted_set.proofs.Algebra.{All-set_of}
 use Rattle.report_model.specs.declared.QueryKind.{QueryKind}
 use Rattle.report_model.specs.declared.QueryKind.TheVariants.{BadByte, Word, Count, Number, Range}
-use Rattle.report_model.specs.Query.{Query, Choice}
+use Rattle.report_model.specs.Query.{Query, Choice, AreLocated}
 use Rattle.report_model.specs.Grammar.{Statement, RuleIs, Source, Sink, Points, says, byte_point, memory_unless, register_unless, is_at, is_number, is_time, value_of, count_or_word, memory_at, register_at, memory_of, register_of, rule_of, choice_of, sink_of, statement_of, is_comment, is_bad_byte, read_line, words, points_in, read_lines, lines, first_fault, query_of, unless}
-use Rattle.epoch_model.specs.Summary.{ArePointsLocated}
-use Rattle.epoch_model.specs.PointLaws.{PointsOfTexts, PointsTogether}
-use Rattle.epoch_model.proofs.Lists.{all-flat}
+use Rattle.report_model.specs.PointLaws.{PointsOfTexts, PointsTogether}
 
 abbrev IsLocated : InnerSink → Type 0
 IsLocated p = IsLocation p.loc
 
 -- the points that are read, if they are, are at locations
-abbrev AreLocated : Result (List InnerSink) QueryKind → Type 0
-AreLocated (Ok ps) = AllByRecursion IsLocated ps
-AreLocated (Err kind) = Unit {0}
+abbrev AreRead : Result (List InnerSink) QueryKind → Type 0
+AreRead (Ok ps) = AllByRecursion IsLocated ps
+AreRead (Err kind) = Unit {0}
 
 -- ---- what `sink mem` and `sink reg` choose
 
@@ -33,10 +32,10 @@ bytes : (a t i n : ℕ) → a + (i + n) ≤ 4294967296 → AllByRecursion IsLoca
 bytes a t i zero h = tt
 bytes a t i (suc n) h = (omega (arith, h), bytes a t (i + 1) n (omega (arith, h)))
 
-in_memory : (place size word time : List ℕ) → AreLocated (memory_at place size word time)
+in_memory : (place size word time : List ℕ) → AreRead (memory_at place size word time)
 in_memory place size word time = by (not (is_at word)) (not (is_number place && is_number size && is_time time)) (nat_lt (value_of size) 1) (nat_lt 65536 (value_of size)) (nat_lt 4294967296 (value_of place + value_of size)) refl where
   by : (b c d e f : Bool) → nat_lt 4294967296 (value_of place + value_of size) ≡ f
-      → AreLocated (memory_unless (first_true ((b, Word) ∷ (c, Number) ∷ (d || e || f, Range) ∷ [])) (value_of place) (value_of size) (value_of time))
+      → AreRead (memory_unless (first_true ((b, Word) ∷ (c, Number) ∷ (d || e || f, Range) ∷ [])) (value_of place) (value_of size) (value_of time))
   by true c d e f h = tt
   by false true d e f h = tt
   by false false true e f h = tt
@@ -44,9 +43,9 @@ in_memory place size word time = by (not (is_at word)) (not (is_number place && 
   by false false false false true h = tt
   by false false false false false h = let low = ltb-false 4294967296 (value_of place + value_of size) h in bytes (value_of place) (value_of time) 0 (value_of size) (omega (arith, low))
 
-in_register : (register word time : List ℕ) → AreLocated (register_at register word time)
+in_register : (register word time : List ℕ) → AreRead (register_at register word time)
 in_register register word time = by (not (is_at word)) (not (is_number register && is_time time)) (nat_lt (value_of register) 1) (nat_lt 31 (value_of register)) refl where
-  by : (b c d f : Bool) → nat_lt 31 (value_of register) ≡ f → AreLocated (register_unless (first_true ((b, Word) ∷ (c, Number) ∷ (d || f, Range) ∷ [])) (value_of register) (value_of time))
+  by : (b c d f : Bool) → nat_lt 31 (value_of register) ≡ f → AreRead (register_unless (first_true ((b, Word) ∷ (c, Number) ∷ (d || f, Range) ∷ [])) (value_of register) (value_of time))
   by true c d f h = tt
   by false true d f h = tt
   by false false true f h = tt
@@ -56,13 +55,13 @@ in_register register word time = by (not (is_at word)) (not (is_number register 
       let below : value_of register < 32 = omega (arith, low) in
       ((below, omega arith), ((below, omega arith), ((below, omega arith), ((below, omega arith), tt))))
 
-neither : (word : List ℕ) → AreLocated (count_or_word word)
+neither : (word : List ℕ) → AreRead (count_or_word word)
 neither word = by (is_at word) where
-  by : (b : Bool) → AreLocated (if b then Err Count else Err Word)
+  by : (b : Bool) → AreRead (if b then Err Count else Err Word)
   by true = tt
   by false = tt
 
-of_memory : (more : List (List ℕ)) → AreLocated (memory_of more)
+of_memory : (more : List (List ℕ)) → AreRead (memory_of more)
 of_memory [] = tt
 of_memory (place ∷ []) = tt
 of_memory (place ∷ size ∷ []) = tt
@@ -70,7 +69,7 @@ of_memory (place ∷ size ∷ word ∷ []) = neither word
 of_memory (place ∷ size ∷ word ∷ time ∷ []) = in_memory place size word time
 of_memory (place ∷ size ∷ word ∷ time ∷ next ∷ more) = neither word
 
-of_register : (more : List (List ℕ)) → AreLocated (register_of more)
+of_register : (more : List (List ℕ)) → AreRead (register_of more)
 of_register [] = tt
 of_register (register ∷ []) = tt
 of_register (register ∷ word ∷ []) = neither word
@@ -83,7 +82,7 @@ of_register (register ∷ word ∷ time ∷ next ∷ more) = neither word
 abbrev AreSaid : Result (Option Statement) QueryKind → Type 0
 AreSaid said = AllByRecursion IsLocated (points_in said)
 
-said_points : (r : Result (List InnerSink) QueryKind) → AreLocated r → AreSaid (says Points r)
+said_points : (r : Result (List InnerSink) QueryKind) → AreRead r → AreSaid (says Points r)
 said_points (Ok ps) a = a
 said_points (Err kind) a = tt
 
@@ -129,22 +128,36 @@ in_lines (l ∷ ls) = (in_line l, in_lines ls)
 
 -- ---- texts, and queries taken together
 
-each_located : (text : List ℕ) → AllByRecursion IsLocated (query_of (read_lines text)).points
-each_located text = All-set_of inner_cmp IsLocated (flat_map points_in (read_lines text)) (all-flat IsLocated points_in (read_lines text) (in_lines (lines text)))
+all-append : (ps qs : List InnerSink) → AllByRecursion IsLocated ps → AllByRecursion IsLocated qs → AllByRecursion IsLocated (ps ++ qs)
+all-append [] qs a b = b
+all-append (p ∷ ps) qs a b = (a.0, all-append ps qs a.1 b)
+
+all-flat : {X : Type 0} (f : X → List InnerSink) (xs : List X) → AllByRecursion (λ x. AllByRecursion IsLocated (f x)) xs → AllByRecursion IsLocated (flat_map f xs)
+all-flat f [] a = tt
+all-flat f (x ∷ xs) a = all-append (f x) (flat_map f xs) a.0 (all-flat f xs a.1)
+
+-- what the lines of a text choose, one after another
+pub lines_located : (text : List ℕ) → AreLocated (flat_map points_in (read_lines text))
+lines_located text = All-from_recursion IsLocated (flat_map points_in (read_lines text)) (all-flat points_in (read_lines text) (in_lines (lines text)))
+
+-- each once, they are at locations too
+pub set_located : (points : List InnerSink) → AreLocated points → AreLocated (set_of inner_cmp points)
+set_located points a =
+    All-from_recursion IsLocated (set_of inner_cmp points) (All-set_of inner_cmp IsLocated points (recursion_from_All IsLocated points a))
 
 pub points_of_texts : PointsOfTexts
 points_of_texts text q e = by (first_fault 1 false (read_lines text)) e where
-  by : (fault : Option (ℕ × QueryKind)) → unless fault (query_of (read_lines text)) ≡ Ok q → ArePointsLocated q
+  by : (fault : Option (ℕ × QueryKind)) → unless fault (query_of (read_lines text)) ≡ Ok q → AreLocated q.points
   by None f =
       let same : query_of (read_lines text) ≡ q = cc in
-      subst ArePointsLocated same (All-from_recursion IsLocated (query_of (read_lines text)).points (each_located text))
+      subst (λ q. AreLocated q.points) same (set_located (flat_map points_in (read_lines text)) (lines_located text))
   by (Some fault) f = cc
 
-each_of : (qs : List Query) → AllByRecursion ArePointsLocated qs → AllByRecursion (λ q. AllByRecursion IsLocated q.points) qs
+each_of : (qs : List Query) → AllByRecursion (λ q. AreLocated q.points) qs → AllByRecursion (λ q. AllByRecursion IsLocated q.points) qs
 each_of [] a = tt
 each_of (q ∷ qs) a = (recursion_from_All IsLocated q.points a.0, each_of qs a.1)
 
 pub points_together : PointsTogether
 points_together qs a =
     let points = flat_map (λ q. q.points) qs in
-    All-from_recursion IsLocated _ (All-set_of inner_cmp IsLocated points (all-flat IsLocated (λ q. q.points) qs (each_of qs (recursion_from_All ArePointsLocated qs a))))
+    set_located points (All-from_recursion IsLocated points (all-flat (λ q. q.points) qs (each_of qs (recursion_from_All (λ q. AreLocated q.points) qs a))))
