@@ -68,16 +68,18 @@ IsDecided status None change = Unit {0}
 IsDecided status (Some command) change = (u : IsUndisturbed change) → IsHeard command change → (answer : Result (List ℕ) Refusal)
     → IsAnswer command change.before.heard change.after.heard u.told.file answer → (status ≡ status_after answer) ⊎ (status ≡ 10)
 
--- the files that are read have at most 2 ^ 26 bytes each, and so has a log that is written; and a run that is analysed has at
--- most 4096 epochs of the length that the words say
-abbrev pub AreWithinLimits : (command : CommandOf) (change : Change) (file : Contents) (text : List ℕ) → IsWanted command change file text → Type 0
+-- the files that are read have at most 2 ^ 26 bytes each, and so has a log that is written; and a run that is analysed
+-- has at most 4096 epochs of the length that the words say
+abbrev pub AreWithinLimits : (command : CommandOf) (change : Change) (file : Contents) (text : List ℕ)
+    → IsWanted command change file text → Type 0
 AreWithinLimits (QueryOf program log query pipeline) change file text is =
     AreShort file (named program log query) × HasFewEpochs pipeline.epoch is.log
 AreWithinLimits (RecordOf program log inputs pages piece steps) change file text is =
     IsShort (file program) × AreAllShort file inputs × (length text ≤ 2 ^ 26)
 AreWithinLimits (ReplayOf program log) change file text is = IsShort (file program) × IsShort (file log)
 AreWithinLimits (OutputOf program log channel) change file text is = IsShort (file program) × IsShort (file log)
-AreWithinLimits (ConvertOf program log new) change file text is = IsShort (file program) × IsShort (file log) × (length text ≤ 2 ^ 26)
+AreWithinLimits (ConvertOf program log new) change file text is =
+    IsShort (file program) × IsShort (file log) × (length text ≤ 2 ^ 26)
 AreWithinLimits (InfluenceOf program log query pipeline) change file text is =
     AreShort file (named program log query) × HasFewEpochs pipeline.epoch is.log
 AreWithinLimits (QueriesOf program log queries pipeline) change file text is =
@@ -87,4 +89,5 @@ AreWithinLimits (QueriesOf program log queries pipeline) change file text is =
 abbrev pub IsComplete : ℕ → Option CommandOf → Change → Type 0
 IsComplete status None change = Unit {0}
 IsComplete status (Some command) change = (u : IsUndisturbed change) → IsHeard command change → (text : List ℕ)
-    → (is : IsWanted command change u.told.file text) → AreWithinLimits command change u.told.file text is → (status ≡ 0) ⊎ (status ≡ 10)
+    → (is : IsWanted command change u.told.file text) → AreWithinLimits command change u.told.file text is
+    → (status ≡ 0) ⊎ (status ≡ 10)

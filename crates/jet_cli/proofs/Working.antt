@@ -53,11 +53,6 @@ follows-answer R Q T x f g step first (Err r) work =
 
 -- ---- a text, or out of memory
 
-pub work_of-text : (text : Result (Vec ℕ Global) NoMemory) (result : Result (Vec ℕ Global) Refusal) (is : Result (List ℕ) Refusal → Type 0)
-    → IfOk text (λ bytes. result ≡ Ok bytes) → OnErr text (result ≡ Err refusal.NoMemory) → IfOk text (λ bytes. is (Ok bytes.items)) → IsWorkOf is (seen_by bytes_of result)
-work_of-text (Ok bytes) result is ok err h = subst (λ (r : Result (Vec ℕ Global) Refusal). IsWorkOf is (seen_by bytes_of r)) (sym ok) h
-work_of-text (Err e) result is ok err h = subst (λ (r : Result (Vec ℕ Global) Refusal). IsWorkOf is (seen_by bytes_of r)) (sym err) tt
-
 pub work-text : (text : Result (Vec ℕ Global) NoMemory) (result : Result (Vec ℕ Global) Refusal) (answer : Result (List ℕ) Refusal)
     → IfOk text (λ bytes. result ≡ Ok bytes) → OnErr text (result ≡ Err refusal.NoMemory) → IfOk text (λ bytes. answer ≡ Ok bytes.items) → IsWork answer (seen_by bytes_of result)
 work-text (Ok bytes) result answer ok err h = subst (λ (r : Result (Vec ℕ Global) Refusal). IsWork answer (seen_by bytes_of r)) (sym ok) h

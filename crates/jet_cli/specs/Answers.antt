@@ -79,7 +79,8 @@ given_by BySource = influence_of
 
 -- the answer is what every query gives that asks alike
 abbrev pub IsGivenAlike : Listing → ℕ → Run → Query → Result (List ℕ) Refusal → Type 0
-IsGivenAlike listing epoch run kept answer = (q : Query) → Alike kept q → traced_answer epoch run (given_by listing q) ≡ answer
+IsGivenAlike listing epoch run kept answer =
+    (q : Query) → Alike kept q → traced_answer epoch run (given_by listing q) ≡ answer
 
 -- the reports of several queries, whose rules are compared first
 abbrev pub several_answer : ℕ → Run → List Query → Result (List ℕ) Refusal

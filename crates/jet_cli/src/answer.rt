@@ -33,7 +33,8 @@ fn query<R: Threads + Wait + Sync, S: Store, G: Gate>(
     pipeline: Pipeline,
 ) -> Result<Vec<u8>, Refusal>
     requires { IsPipeline pipeline }
-    ensures answer { Comes (λ file. query_answer (given_by listing) pipeline.epoch file (named program.now log.now query.now))
+    ensures answer { Comes
+        (λ file. query_answer (given_by listing) pipeline.epoch file (named program.now log.now query.now))
         (S.shown store.old) (S.shown store.new) (seen_by bytes_of result) }
     ensures keeps { KeepsAll (S.shown store.old) (S.shown store.new) }
     ensures opened { OpensFirst (program.now ∷ log.now ∷ query.now ∷ []) (S.shown store.old) (S.shown store.new) }
@@ -57,7 +58,8 @@ fn queries<R: Threads + Wait + Sync, S: Store, G: Gate>(
     requires some { 1 ≤ length names.now }
     requires few { length names.now ≤ 16 }
     requires pipeline { IsPipeline pipeline }
-    ensures answer { Comes (λ file. queries_answer pipeline.epoch file program.now log.now (map (λ name. name.now) names.now))
+    ensures answer { Comes
+        (λ file. queries_answer pipeline.epoch file program.now log.now (map (λ name. name.now) names.now))
         (S.shown store.old) (S.shown store.new) (seen_by bytes_of result) }
     ensures keeps { KeepsAll (S.shown store.old) (S.shown store.new) }
     ensures opened { OpensFirst (program.now ∷ log.now ∷ map (λ name. name.now) names.now) (S.shown store.old) (S.shown store.new) }

@@ -70,7 +70,8 @@ fn turned_text(
     query: &Query,
     report: &Report,
 ) -> Result<Vec<u8>, NoMemory>
-    ensures { IfOk result (λ text. text.items ≡ text_of_influence (turned report.now (chosen_sources query.now (trace_of job.now)))) }
+    ensures { IfOk result (λ text.
+        text.items ≡ text_of_influence (turned report.now (chosen_sources query.now (trace_of job.now)))) }
 {
     let sources = sources_of(alloc, job, query)?;
     let influence = turn_round(alloc, report, sources)?;
@@ -85,7 +86,8 @@ pub fn influence_of<R: Threads + Wait + Sync, G: Gate>(
     pipeline: Pipeline,
 ) -> Result<Vec<u8>, Refusal>
     requires { IsPipeline pipeline }
-    ensures { IsWork (cut_answer pipeline.epoch job.now.start job.now.log (influence_text_of query.now)) (seen_by bytes_of result) }
+    ensures { IsWork (cut_answer pipeline.epoch job.now.start job.now.log (influence_text_of query.now))
+        (seen_by bytes_of result) }
 {
     let report = rows_of(engine, job, query, pipeline)?;
     or_memory(turned_text(engine.alloc, job, query, &report))

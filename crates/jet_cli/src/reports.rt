@@ -1,4 +1,4 @@
-//! Reports: of one query, and of several by one replay.
+//! Reports: of one query, and of several by one analysis of the run.
 ghost use Rattle.std.specs.Prelude.{◌≡◌, ◌≤◌, ◌++◌, List, Err, length, IfOk, IfErr, OnOk};
 ghost use Rattle.sorted_set.specs.Sets.{Ascends};
 ghost use Rattle.flow_model.specs.Orders.{inner_cmp};
@@ -34,7 +34,8 @@ pub fn report_text<R: Threads + Wait + Sync, G: Gate>(
     pipeline: Pipeline,
 ) -> Result<Vec<u8>, Refusal>
     requires { IsPipeline pipeline }
-    ensures { IsWork (cut_answer pipeline.epoch job.now.start job.now.log (report_of query.now)) (seen_by bytes_of result) }
+    ensures { IsWork (cut_answer pipeline.epoch job.now.start job.now.log (report_of query.now))
+        (seen_by bytes_of result) }
 {
     let report = rows_of(engine, job, query, pipeline)?;
     or_memory(text(engine.alloc, &report))
@@ -101,7 +102,7 @@ fn own_reports(alloc: Global, all: &Report, queries: &[Query]) -> Result<Vec<u8>
     Ok(out)
 }
 
-/// The reports of several queries, one after another: one replay finds the rows of all.
+/// The reports of several queries, one after another: the rows of all are found at once.
 pub fn reports_of<R: Threads + Wait + Sync, G: Gate>(
     engine: &Engine<R, G>,
     job: &Job,
@@ -112,7 +113,8 @@ pub fn reports_of<R: Threads + Wait + Sync, G: Gate>(
     requires union { IsUnion queries.now union.now }
     requires few { length queries.now ≤ 16 }
     requires pipeline { IsPipeline pipeline }
-    ensures { IsWork (cut_answer pipeline.epoch job.now.start job.now.log (reports_by queries.now)) (seen_by bytes_of result) }
+    ensures { IsWork (cut_answer pipeline.epoch job.now.start job.now.log (reports_by queries.now))
+        (seen_by bytes_of result) }
 {
     let all = rows_of(engine, job, union, pipeline)?;
     or_memory(own_reports(engine.alloc, &all, queries))

@@ -54,8 +54,8 @@ fn analysed<R: Threads + Wait + Sync, G: Gate>(
     gather(alloc, sequential(alloc, job, query)?)
 }
 
-/// The rows of a query over the run. It gives up with `TooManyEpochs`, where the run has too many epochs of the pipeline's
-/// length, or with `NoMemory`.
+/// The rows of a query over the run. It gives up with `TooManyEpochs`, where the run has too many epochs of the
+/// pipeline's length, or with `NoMemory`.
 pub fn rows_of<R: Threads + Wait + Sync, G: Gate>(
     engine: &Engine<R, G>,
     job: &Job,

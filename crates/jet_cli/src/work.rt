@@ -73,7 +73,8 @@ fn listed<R: Threads + Wait + Sync, G: Gate>(
     pipeline: Pipeline,
 ) -> Result<Vec<u8>, Refusal>
     requires { IsPipeline pipeline }
-    ensures { IsWork (cut_answer pipeline.epoch job.now.start job.now.log (given_by listing query.now)) (seen_by bytes_of result) }
+    ensures { IsWork (cut_answer pipeline.epoch job.now.start job.now.log (given_by listing query.now))
+        (seen_by bytes_of result) }
 {
     match listing {
         Listing::BySink => report_text(engine, job, query, pipeline),
@@ -97,8 +98,8 @@ pub fn list<R: Threads + Wait + Sync, G: Gate>(
     listed(engine, &job, query, listing, pipeline)
 }
 
-/// The reports of several queries over the run, for all queries that these stand for. The rules are compared first; then one
-/// replay serves all.
+/// The reports of several queries over the run, for all queries that these stand for. The rules are compared first; then
+/// the run is analysed once for all.
 pub fn reports<R: Threads + Wait + Sync, G: Gate>(
     engine: &Engine<R, G>,
     run: Run,

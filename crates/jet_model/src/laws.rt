@@ -32,15 +32,15 @@ pub fn given_is_answer()
         → query_answer given epoch file names ≡ Ok text }
 {}
 
-/// Where a program, a log and several queries come to a text, it is their reports, one after another, whatever the length
-/// of an epoch.
+/// Where a program, a log and several queries come to a text, it is their reports, one after another, whatever the
+/// length of an epoch.
 pub fn reports_are_given()
     ensures { (epoch : ℕ) (file : Contents) (program log : List ℕ) (names : List (List ℕ)) (text : List ℕ)
         → queries_answer epoch file program log names ≡ Ok text → AreReportsOf file program log names text }
 {}
 
-/// A program, a log and several queries come to their reports, where no file has more than 2^26 bytes, and the run no more
-/// than 4096 epochs.
+/// A program, a log and several queries come to their reports, where no file has more than 2^26 bytes, and the run no
+/// more than 4096 epochs.
 pub fn given_are_reports()
     ensures { (epoch : ℕ) (file : Contents) (program log : List ℕ) (names : List (List ℕ)) (text : List ℕ)
         → IsShort (file program) → IsShort (file log) → AreAllShort file names

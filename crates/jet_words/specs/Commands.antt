@@ -36,8 +36,8 @@ pipeline_of rows = record {
 }
 
 abbrev pub query_of : List Row → CommandOf
-query_of rows =
-    QueryOf (value_of (codes "PROG") rows) (value_of (codes "LOG") rows) (value_of (codes "QUERY") rows) (pipeline_of rows)
+query_of rows = QueryOf (value_of (codes "PROG") rows) (value_of (codes "LOG") rows) (value_of (codes "QUERY") rows)
+    (pipeline_of rows)
 
 abbrev pub record_of : List Row → CommandOf
 record_of rows = RecordOf (value_of (codes "PROG") rows) (value_of (codes "LOG") rows) (values_of (codes "IN") rows)
@@ -53,12 +53,12 @@ abbrev pub convert_of : List Row → CommandOf
 convert_of rows = ConvertOf (value_of (codes "PROG") rows) (value_of (codes "LOG") rows) (value_of (codes "NEW") rows)
 
 abbrev pub influence_of : List Row → CommandOf
-influence_of rows =
-    InfluenceOf (value_of (codes "PROG") rows) (value_of (codes "LOG") rows) (value_of (codes "QUERY") rows) (pipeline_of rows)
+influence_of rows = InfluenceOf (value_of (codes "PROG") rows) (value_of (codes "LOG") rows) (value_of (codes "QUERY") rows)
+    (pipeline_of rows)
 
 abbrev pub queries_of : List Row → CommandOf
-queries_of rows =
-    QueriesOf (value_of (codes "PROG") rows) (value_of (codes "LOG") rows) (values_of (codes "QUERY") rows) (pipeline_of rows)
+queries_of rows = QueriesOf (value_of (codes "PROG") rows) (value_of (codes "LOG") rows) (values_of (codes "QUERY") rows)
+    (pipeline_of rows)
 
 -- the command of a subcommand, by its name and the values of its arguments
 abbrev pub command_by : Text × List Row → Option CommandOf
@@ -84,7 +84,8 @@ plain_command (Replay program log) = ReplayOf program.now log.now
 plain_command (Output program log channel) = OutputOf program.now log.now channel
 plain_command (Convert program log new) = ConvertOf program.now log.now new.now
 plain_command (Influence program log query pipeline) = InfluenceOf program.now log.now query.now pipeline
-plain_command (Queries program log queries pipeline) = QueriesOf program.now log.now (map (λ s. s.now) queries.items) pipeline
+plain_command (Queries program log queries pipeline) =
+    QueriesOf program.now log.now (map (λ s. s.now) queries.items) pipeline
 
 -- the numbers of the options lie in the ranges of the command line
 abbrev pub IsPipeline : Pipeline → Type 0

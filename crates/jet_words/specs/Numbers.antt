@@ -6,7 +6,8 @@ use Rattle.clap_command.specs.Numbers.{IsNumber, IsLongNumber}
 
 -- the numbers of the pipeline can be read
 abbrev pub HasPipelineNumbers : List Row → Type 0
-HasPipelineNumbers rows = IsLongNumber (codes "epoch") rows × IsNumber (codes "workers") rows × IsNumber (codes "link") rows
+HasPipelineNumbers rows =
+    IsLongNumber (codes "epoch") rows × IsNumber (codes "workers") rows × IsNumber (codes "link") rows
 
 -- each number of the subcommand can be read
 abbrev pub HasNumbers : Text × List Row → Type 0

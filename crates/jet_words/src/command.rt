@@ -56,7 +56,8 @@ pub enum Command<'a> {
         log: &'a str,
         new: &'a str,
     },
-    /// The report of a query, turned round: the names of the program, the log and the query, and how the run is analysed.
+    /// The report of a query, turned round: the names of the program, the log and the query, and how the run is
+    /// analysed.
     Influence {
         program: &'a str,
         log: &'a str,

@@ -2,8 +2,8 @@
 ghost use Rattle.std.specs.Prelude.{◌≡◌, false, IfOk, IsOkAnd};
 ghost use Rattle.clap.specs.Words.{app_of, with_subcommand};
 ghost use Rattle.clap.specs.declared.builder.Command.TheViews.{out-Command as fields_of};
-ghost use Rattle.jet_words.specs.CommandLine.{program_and_log as program_and_log_app, with_pipeline as with_pipeline_app};
-ghost use Rattle.jet_words.specs.CommandLine.{query_app, record_app};
+ghost use Rattle.jet_words.specs.CommandLine.{program_and_log as program_and_log_app};
+ghost use Rattle.jet_words.specs.CommandLine.{with_pipeline as with_pipeline_app, query_app, record_app};
 ghost use Rattle.jet_words.specs.CommandLine.{replay_app, output_app, convert_app, influence_app};
 ghost use Rattle.jet_words.specs.CommandLine.{queries_app, bare_app, jet_app};
 
