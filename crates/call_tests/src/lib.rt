@@ -22,6 +22,7 @@ mod outside;
 mod queries;
 #[cfg(test)]
 mod reports;
+mod runs;
 #[cfg(test)]
 mod sets;
 #[cfg(test)]

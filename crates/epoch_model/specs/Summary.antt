@@ -1,5 +1,5 @@
 -- What one epoch knows by itself.
-use Rattle.std.specs.Prelude.{◌≡◌, ℕ, ◌-◌, List, map, All}
+use Rattle.std.specs.Prelude.{◌≡◌, ℕ, ◌-◌, List, map}
 use Rattle.std.specs.List.{AllZip}
 use Rattle.flow_model.specs.declared.Loc.{Loc}
 use Rattle.flow_model.specs.declared.SourceByte.{SourceByte}

@@ -4,3 +4,5 @@ mod Members
 mod Finding
 mod Each
 mod Cuts
+mod Tickets
+mod Together

@@ -1,6 +1,7 @@
 -- What one step makes of the terms of each location.
-use Rattle.std.proofs.Common.{◌≡◌, ℕ, ◌+◌, List, [], ◌∷◌, refl, ap, sym, ◌∙◌, Bool, true, false, if◌then◌else◌, arith, add-one}
-use Rattle.std.specs.Prelude.{Option, Some, None}
+use Rattle.std.proofs.Common.{◌≡◌, ℕ, ◌+◌, List, [], ◌∷◌, refl, ap, sym, subst, ◌<◌, ◌∙◌, Bool, true, false, if◌then◌else◌, arith, add-one}
+use Rattle.std.specs.Prelude.{◌==◌, Option, Some, None}
+use Rattle.std.proofs.lemmas.Bool.{eqb-true, eqb-false}
 use Rattle.std.proofs.lemmas.Bool.Decides.{nat_tests}
 use Rattle.isa.specs.Encodings.{Fits}
 use Rattle.flow_model.specs.declared.Loc.{Loc}
@@ -11,7 +12,7 @@ use Rattle.flow_model.specs.declared.CallSeen.{CallSeen}
 use Rattle.sorted_set.specs.Sets.{union}
 use Rattle.flow_model.specs.Orders.{source_cmp}
 use Rattle.flow_model.specs.Flow.{Target, flow, cleared, loc_eq, origins_by, is_received, from_instruction_or}
-use Rattle.flow_model.specs.Ranges.{IsLocation, IsTable}
+use Rattle.flow_model.specs.Ranges.{IsLocation, IsTable, IsInRange}
 use Rattle.flow_model.specs.Origins.{Policy, union_over, introduced, byte_at, fresh_by, step_at}
 use Rattle.flow_model.proofs.Located.{flow_table, cleared_table}
 use Rattle.epoch_model.specs.Stretch.{locations_over, from_step, fresh_step, past, born}
@@ -22,6 +23,7 @@ use Rattle.taint_shadow.specs.Steps.{AreStanding, Holds, meaning_or, united_over
 use Rattle.local_taint.specs.declared.labels.Nodes.{Nodes}
 use Rattle.local_taint.specs.Words.{node_words, together, of_itself}
 use Rattle.local_taint.specs.Sinks.{IsNoLane, Shows}
+use Rattle.local_taint.specs.Summaries.{AreInRange}
 
 -- ---- what flows into a location
 
@@ -101,3 +103,13 @@ none_kept policy trace s nodes places n = record {
 
 pub none_stand : (nodes : Nodes) (places : Places ℕ) → AreKept places (λ l. None) → AreStanding node_words nodes places
 none_stand nodes places n = record { at = λ l label here is. let no : None ≡ Some label = sym (n.at l here) ∙ is in cc }
+
+-- with a step that is in range, one more of the trace's steps are
+pub one_in_range : (trace : List StepSeen) (s n : ℕ) (step : StepSeen) → step_at trace (s + n) ≡ Some step → IsInRange step → AreInRange trace s n → AreInRange trace s (n + 1)
+one_in_range trace s n step at this before i other below is = by (i == n) refl where
+  by : (b : Bool) → (i == n) ≡ b → IsInRange other
+  by true e =
+      let same : Some other ≡ Some step = sym is ∙ ap (λ k. step_at trace (s + k)) (eqb-true i n e) ∙ at in
+      let one : other ≡ step = cc in
+      subst IsInRange (sym one) this
+  by false e = let less : i < n = omega (arith, below, eqb-false i n e) in before i other less is

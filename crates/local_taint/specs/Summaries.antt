@@ -1,6 +1,9 @@
 -- What the analysis of an epoch found.
-use Rattle.std.specs.Prelude.{ℕ, List, map}
+use Rattle.std.specs.Prelude.{◌≡◌, ℕ, ◌+◌, ◌<◌, List, Some, map}
 use Rattle.flow_model.specs.declared.SinkPoint.{SinkPoint}
+use Rattle.flow_model.specs.declared.StepSeen.{StepSeen}
+use Rattle.flow_model.specs.Origins.{step_at}
+use Rattle.flow_model.specs.Ranges.{IsInRange}
 use Rattle.epoch_model.specs.Summary.{Terms, Summary as EpochSummary}
 use Rattle.taint_shadow.specs.Steps.{meaning_at}
 use Rattle.local_taint.specs.declared.summary.Summary.{Summary}
@@ -25,3 +28,7 @@ names_of e = map (λ k. k.name) (summary_of e).sinks
 -- the terms of its sinks, in the same order
 abbrev pub terms_of : Summary → List Terms
 terms_of e = map (λ k. k.terms) (summary_of e).sinks
+
+-- each of the n steps from time s on is in range
+abbrev pub AreInRange : List StepSeen → ℕ → ℕ → Type 0
+AreInRange trace s n = (i : ℕ) (step : StepSeen) → i < n → step_at trace (s + i) ≡ Some step → IsInRange step

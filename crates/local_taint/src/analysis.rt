@@ -10,7 +10,7 @@ ghost use Rattle.taint_shadow.specs.Places.{AreKept};
 ghost use Rattle.taint_shadow.specs.Steps.{AreStanding};
 ghost use Rattle.local_taint.specs.Words.{node_words};
 ghost use Rattle.local_taint.specs.Sinks.{AreNamed, Shows, named};
-ghost use Rattle.local_taint.specs.Summaries.{number_of, summary_of};
+ghost use Rattle.local_taint.specs.Summaries.{number_of, summary_of, AreInRange};
 
 use crate::labels::Nodes;
 use crate::points::{collect_due, collect_first};
@@ -24,8 +24,8 @@ use replayer::{Cursor, Next};
 use std::alloc::Global;
 use taint_shadow::Places;
 
-/// The summary of the ticket's epoch, over the steps of a run. The cursor stands at the epoch's first step, and the
-/// epoch ends with the run at the latest.
+/// The summary of the ticket's epoch, over the steps of a run, which are found to be in range. The cursor stands at the
+/// epoch's first step, and the epoch ends with the run at the latest.
 pub fn analyse(
     alloc: Global,
     ticket: EpochTicket,
@@ -36,6 +36,7 @@ pub fn analyse(
     requires ends { ticket.past_last ≤ steps cursor.job.log }
     ensures summary { IfOk result (λ e. IsSummary query.now (trace_of cursor.entry.job) ticket.first (ticket.past_last - ticket.first) (summary_of e)) }
     ensures number { IfOk result (λ e. number_of e ≡ ticket.number) }
+    ensures in_range { OnOk result (AreInRange (trace_of cursor.entry.job) ticket.first (ticket.past_last - ticket.first)) }
 {
     summarize(alloc, &ticket, &mut cursor, query)
 }
@@ -51,6 +52,7 @@ fn summarize(
     requires ends { ticket.now.past_last ≤ steps cursor.old.job.log }
     ensures summary { IfOk result (λ e. IsSummary query.now (trace_of cursor.old.job) ticket.now.first (ticket.now.past_last - ticket.now.first) (summary_of e)) }
     ensures number { IfOk result (λ e. number_of e ≡ ticket.now.number) }
+    ensures in_range { OnOk result (AreInRange (trace_of cursor.old.job) ticket.now.first (ticket.now.past_last - ticket.now.first)) }
 {
     let mut nodes = Nodes {
         log: MergeLog::new(alloc),
@@ -94,6 +96,7 @@ fn follow(
     ensures named { OnOk result (AreNamed nodes.new sinks.new.items) }
     ensures ends { OnOk result (Shows nodes.new places.new (terms (policy_of query.now) (trace_of cursor.old.job) first (past_last - first))) }
     ensures sinks { OnOk result (map (named nodes.new) sinks.new.items ≡ map (sink_terms (policy_of query.now) (trace_of cursor.old.job) first) (sinks_of_epoch query.now (trace_of cursor.old.job) first (past_last - first))) }
+    ensures in_range { OnOk result (AreInRange (trace_of cursor.old.job) first (past_last - first)) }
 {
     let mut points = collect_first(nodes, places, query, first, sinks)?;
     for time in first..past_last {

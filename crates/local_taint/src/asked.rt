@@ -68,6 +68,13 @@ impl Asked {
         self.locations.as_slice()[place]
     }
 
+    /// All locations that are asked, in the order of asking.
+    pub fn locations(&self) -> &[Loc]
+        ensures { result.now ≡ self.now }
+    {
+        self.locations.as_slice()
+    }
+
     /// The place of a location, if it is asked.
     pub fn place_of(&self, loc: Loc) -> Option<usize>
         ensures asked { is_some result ≡ has loc_cmp loc self.now }

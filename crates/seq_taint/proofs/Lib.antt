@@ -3,4 +3,4 @@ mod Steps
 mod Due
 mod Beyond
 mod Written
-mod Distinct
+pub mod Distinct

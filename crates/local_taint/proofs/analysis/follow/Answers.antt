@@ -9,7 +9,8 @@ use Rattle.epoch_model.specs.Summary.{terms, sink_terms}
 use Rattle.local_taint.specs.Sinks.{Notes, Shows, named}
 use Rattle.local_taint.proofs.Notes.{stand_kept, standing_kept, shows_kept}
 use Rattle.local_taint.proofs.Due.{due_now, later_now, left_in_time, left_ascend}
-use Rattle.local_taint.proofs.Steps.{one_more, none_kept, none_stand}
+use Rattle.local_taint.specs.Summaries.{AreInRange}
+use Rattle.local_taint.proofs.Steps.{one_more, one_in_range, none_kept, none_stand}
 use Rattle.local_taint.proofs.Between.{first_sinks, more_sinks}
 use Rattle.local_taint.proofs.analysis.follow.Goals as goal
 
@@ -40,6 +41,7 @@ loop-time-init c =
       points = c.in_ok-points.ensures.later;
       rows = subst (λ n. map (named new) sinks ≡ map (sink_terms policy trace first) (sinks_of_epoch q trace first n)) (sym none_yet)
           (first_sinks q trace first places old new c.args.sinks.now.items sinks shows c.requires.none_noted noted);
+      in_range = λ i step below at. absurd (omega (arith, below, none_yet));
     }
 
 -- ---- one step
@@ -92,6 +94,7 @@ loop-time-preserved c =
       rows = subst (λ k. map (named c.collect_due.new.nodes) c.collect_due.new.sinks.items ≡ map (sink_terms policy trace s) (sinks_of_epoch q trace s k)) (sym next)
           (more_sinks q trace s n time here step at places later_places c.loop-time.nodes c.collect.new.nodes c.step.new.labels c.collect_due.new.nodes c.loop-time.sinks.items c.collect.new.sinks.items c.collect_due.new.sinks.items
           before.rows before.shows written stepped.keeps shows_later due);
+      in_range = subst (AreInRange trace s) (sym next) (one_in_range trace s n step at made.in_range before.in_range);
     }
 
 -- ---- where it ends
@@ -107,4 +110,5 @@ returns c =
       named = c.loop-time.invariant.stand;
       ends = subst (λ n. Shows c.loop-time.nodes c.loop-time.places (terms (policy_of q) trace s n)) all c.loop-time.invariant.shows;
       sinks = c.loop-time.invariant.rows ∙ ap (λ n. map (sink_terms (policy_of q) trace s) (sinks_of_epoch q trace s n)) all;
+      in_range = subst (AreInRange trace s) all c.loop-time.invariant.in_range;
     }

@@ -6,6 +6,7 @@ use Rattle.epoch_model.specs.Summary.{terms, sink_terms}
 use Rattle.taint_shadow.specs.Steps.{AreStanding}
 use Rattle.local_taint.specs.Words.{node_words}
 use Rattle.local_taint.specs.Sinks.{AreNamed, named, Shows, from_time}
+use Rattle.local_taint.specs.Summaries.{AreInRange}
 use Rattle.local_taint.proofs.analysis.follow.Given as goal
 
 abbrev pub invariant-loop-time : goal.invariant-loop-time
@@ -19,4 +20,5 @@ invariant-loop-time l = let first = l.first in let trace = trace_of l.initial.cu
   shows : Shows l.nodes l.places (terms (policy_of l.query) trace first n);
   points : l.points ≡ from_time (l.time + 1) l.query.points;
   rows : map (named l.nodes) l.sinks.items ≡ map (sink_terms (policy_of l.query) trace first) (sinks_of_epoch l.query trace first n);
+  in_range : AreInRange trace first n;
 }

@@ -1,0 +1,134 @@
+-- The tickets of a run's epochs begin at its checkpoints, and what is found of these epochs is of all steps.
+use Rattle.std.proofs.Common.{◌≡◌, ℕ, zero, suc, ◌+◌, ◌-◌, ◌<◌, ◌≤◌, List, [], ◌∷◌, map, take, length, get_or, slice_get, refl, ap, sym, subst, ◌∙◌, arith, Bool, true, false}
+use Rattle.std.specs.Prelude.{Some, Result, Ok, Err, All, nat_lt, IfOk, MatchResult}
+use Rattle.std.specs.List.{AllByRecursion, AllZip, Contains}
+use Rattle.std.proofs.lemmas.Bool.{ltb-true, ltb-false}
+use Rattle.std.proofs.lemmas.List.Elements.{All-from_recursion}
+use Rattle.flow_model.specs.declared.StepSeen.{StepSeen}
+use Rattle.flow_model.specs.Origins.{step_at}
+use Rattle.flow_model.specs.Ranges.{IsInRange}
+use Rattle.log_model.specs.Logs.{steps}
+use Rattle.report_model.specs.Query.{Query}
+use Rattle.replay_model.specs.Run.{start}
+use Rattle.replay_model.proofs.Offsets.{length-steps_from}
+use Rattle.replayer.specs.Jobs.{Job, trace_of}
+use Rattle.epoch_model.specs.Cutting.{RisesTo, IsCutting, epochs}
+use Rattle.epoch_model.specs.Summary.{AreSummaries}
+use Rattle.epoch_model.proofs.Asking.{rises_up}
+use Rattle.epoch_cut.specs.ByLength.{numbered}
+use Rattle.checkpoints.specs.Points.{beginnings}
+use Rattle.local_taint.specs.declared.summary.Summary.{Summary}
+use Rattle.local_taint.specs.Summaries.{summary_of}
+use Rattle.jet_core.specs.Tickets.{BeginsAt, AreFound}
+
+-- ---- where epochs begin
+
+-- each cut is within the run
+within : (s n : ℕ) (cs : List ℕ) → RisesTo s cs n → AllByRecursion (λ c. c ≤ n) cs
+within s n [] r = tt
+within s n (c ∷ cs) r = (rises_up c cs n r.1, within c n cs r.1)
+
+all_within : (n : ℕ) (cuts : List ℕ) → IsCutting n cuts → AllByRecursion (λ c. c ≤ n) cuts
+all_within zero cuts e = subst (AllByRecursion (λ c. c ≤ 0)) (sym e) (omega arith, tt)
+all_within (suc n) cuts r = within 0 (suc n) cuts r
+
+get_taken : {X : Type 0} (n k : ℕ) (xs : List X) → k < n → slice_get (take n xs) k ≡ slice_get xs k
+get_taken zero k xs h = absurd (omega (arith, h))
+get_taken (suc n) k [] h = refl
+get_taken (suc n) zero (x ∷ xs) h = refl
+get_taken (suc n) (suc k) (x ∷ xs) h = get_taken n k xs (omega (arith, h))
+
+taken_long : {X : Type 0} (xs : List X) (x : X) → length (take (length xs) (x ∷ xs)) ≡ length xs
+taken_long [] x = refl
+taken_long (y ∷ ys) x = ap suc (taken_long ys y)
+
+-- the cuts cs that are left, and the time s before them, stand in all cuts from place k on
+record AreLeft (cuts : List ℕ) (k s : ℕ) (cs : List ℕ) : Type 0 where
+  count : k + length cs ≡ length cuts
+  at : (j : ℕ) → slice_get (0 ∷ cuts) (k + j) ≡ slice_get (s ∷ cs) j
+
+one_left : (cuts : List ℕ) (k s c : ℕ) (cs : List ℕ) → AreLeft cuts k s (c ∷ cs) → AreLeft cuts (suc k) c cs
+one_left cuts k s c cs h = record {
+  count = omega (arith, h.count);
+  at = λ j. let place : suc k + j ≡ k + suc j = omega arith in ap (slice_get (0 ∷ cuts)) place ∙ h.at (suc j);
+}
+
+module _ (job : Job) (cuts : List ℕ) where
+  from_place : (k s : ℕ) (cs : List ℕ) → AreLeft cuts k s cs → AllByRecursion (λ c. c ≤ steps job.log) cs
+      → AllByRecursion (BeginsAt (record { job = job; times = beginnings cuts })) (numbered k (epochs s cs))
+  from_place k s [] h a = tt
+  from_place k s (c ∷ cs) h a =
+      let below : k < length cuts = omega (arith, h.count) in
+      let place : k + 0 ≡ k = omega arith in (
+        record {
+          number = omega (arith, below, taken_long cuts 0);
+          first = get_taken (length cuts) k (0 ∷ cuts) below ∙ ap (slice_get (0 ∷ cuts)) (sym place) ∙ h.at 0;
+          past_last = a.0;
+        },
+        from_place (suc k) c cs (one_left cuts k s c cs h) a.1,
+      )
+
+  pub tickets_begin : IsCutting (steps job.log) cuts → All (BeginsAt (record { job = job; times = beginnings cuts })) (numbered 0 (epochs 0 cuts))
+  tickets_begin h =
+      All-from_recursion (BeginsAt (record { job = job; times = beginnings cuts })) (numbered 0 (epochs 0 cuts))
+      (from_place 0 0 cuts (record { count = omega arith; at = λ j. let place : 0 + j ≡ j = omega arith in ap (slice_get (0 ∷ cuts)) place }) (all_within (steps job.log) cuts h))
+
+-- ---- what is found
+
+module _ (q : Query) (trace : List StepSeen) where
+  pub found_summaries : (k s : ℕ) (cs : List ℕ) (es : List Summary) → AreFound q trace (numbered k (epochs s cs)) es → AreSummaries q trace s cs (map summary_of es)
+  found_summaries k s [] [] a = tt
+  found_summaries k s [] (e ∷ es) a = absurd a
+  found_summaries k s (c ∷ cs) [] a = absurd a
+  found_summaries k s (c ∷ cs) (e ∷ es) a = (a.0.summary, found_summaries (suc k) c cs es a.1)
+
+  -- a step from time s on is one of an epoch
+  in_some_epoch : (k s n : ℕ) (cs : List ℕ) (es : List Summary) → RisesTo s cs n → AreFound q trace (numbered k (epochs s cs)) es
+      → (t : ℕ) (step : StepSeen) → s ≤ t → t < n → step_at trace t ≡ Some step → IsInRange step
+  in_some_epoch k s n [] es r a t step low high at = absurd (omega (arith, r, low, high))
+  in_some_epoch k s n (c ∷ cs) [] r a t step low high at = absurd a
+  in_some_epoch k s n (c ∷ cs) (e ∷ es) r a t step low high at =
+      by (λ later. in_some_epoch (suc k) c n cs es r.1 a.1 t step later high at) (nat_lt t c) refl where
+        by : (c ≤ t → IsInRange step) → (b : Bool) → nat_lt t c ≡ b → IsInRange step
+        by go true h =
+            let here : t < c = ltb-true t c h in
+            let place : s + (t - s) ≡ t = omega (arith, low) in
+            a.0.in_range (t - s) step (omega (arith, low, here)) (ap (step_at trace) place ∙ at)
+        by go false h = go (ltb-false t c h)
+
+step_in : (trace : List StepSeen) (i : ℕ) (d : StepSeen) → i < length trace → step_at trace i ≡ Some (get_or trace i d)
+step_in [] i d h = absurd (omega (arith, h))
+step_in (s ∷ ss) zero d h = refl
+step_in (s ∷ ss) (suc i) d h = step_in ss i d (omega (arith, h))
+
+pub found_in_range : (q : Query) (trace : List StepSeen) (cuts : List ℕ) (es : List Summary) → IsCutting (length trace) cuts
+    → AreFound q trace (numbered 0 (epochs 0 cuts)) es → All IsInRange trace
+found_in_range q [] cuts es h a = λ i d below. absurd (omega (arith, below))
+found_in_range q (s ∷ ss) cuts es h a =
+    λ i d below. in_some_epoch q (s ∷ ss) 0 0 (length (s ∷ ss)) cuts es h a i (get_or (s ∷ ss) i d) (omega arith) below (step_in (s ∷ ss) i d below)
+
+-- a run has as many steps as its log says
+pub trace_long : (job : Job) → length (trace_of job) ≡ steps job.log
+trace_long job = length-steps_from (steps job.log) (start job.start job.log)
+
+-- ---- what came of several analyses
+
+module _ {X Y E : Type 0} (R : X → Y → Type 0) where
+  all_ok : (xs : List X) (ys : List Y) (us : List (Result Y E)) → us ≡ map Ok ys → AllZip (λ x u. IfOk u (R x)) xs us → AllZip R xs ys
+  all_ok [] [] us e a = tt
+  all_ok [] (y ∷ ys) [] e a = cc
+  all_ok [] (y ∷ ys) (u ∷ us) e a = absurd a
+  all_ok (x ∷ xs) [] [] e a = absurd a
+  all_ok (x ∷ xs) [] (u ∷ us) e a = cc
+  all_ok (x ∷ xs) (y ∷ ys) [] e a = cc
+  all_ok (x ∷ xs) (y ∷ ys) (u ∷ us) e a =
+      let first : u ≡ Ok y = cc in
+      let rest : us ≡ map Ok ys = cc in
+      (subst (λ v. IfOk v (R x)) first a.0, all_ok xs ys us rest a.1)
+
+  -- where none gave up, what is true of each is true of those that are collected
+  pub all_collected : {C : Type 0} (items : C → List Y) (xs : List X) (us : List (Result Y E)) (r : Result C E) → AllZip (λ x u. IfOk u (R x)) xs us
+      → MatchResult r (λ c. (ys : List Y) × (us ≡ map Ok ys) × (items c ≡ ys)) (λ e. Contains us (Err e)) → IfOk r (λ c. AllZip R xs (items c))
+  all_collected items xs us (Ok c) a m =
+      subst (λ ys. AllZip R xs ys) (sym m.2) (all_ok xs m.0 us m.1 a)
+  all_collected items xs us (Err e) a m = tt

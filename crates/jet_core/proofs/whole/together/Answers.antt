@@ -1,0 +1,70 @@
+use Rattle.std.proofs.Common.{◌∙◌, ap, sym, subst, arith, List, [], map}
+use Rattle.std.specs.Prelude.{All}
+use Rattle.report_model.specs.Rows.{row_cmp}
+use Rattle.sorted_set.specs.Sets.{set_of}
+use Rattle.replay_model.proofs.Offsets.{writes_apart}
+use Rattle.replayer.specs.Jobs.{trace_of}
+use Rattle.epoch_cut.specs.ByLength.{NumberedEpoch}
+use Rattle.checkpoints.specs.Points.{CheckpointsAt, beginnings}
+use Rattle.sink_collect.specs.Distinct.{AreDistinct}
+use Rattle.seq_taint.proofs.Distinct.{distinct_rows}
+use Rattle.local_taint.specs.declared.summary.Summary.{Summary}
+use Rattle.local_taint.specs.Summaries.{summary_of}
+use Rattle.epoch_model.specs.Join.{joined}
+use Rattle.jet_core.specs.Asking.{AreOfOneTrace, crossings_back}
+use Rattle.jet_core.specs.Tickets.{BeginsAt}
+use Rattle.jet_core.proofs.Tickets.{tickets_begin}
+use Rattle.jet_core.proofs.Together.{few_crossings, one_trace, found_join, found_crossed, found_at}
+use Rattle.jet_core.proofs.whole.together.Goals as goal
+
+pub found_at_once-requires-after_bounds : goal.found_at_once-requires-after_bounds
+found_at_once-requires-after_bounds g c κs within =
+    subst (λ (points : CheckpointsAt). All (BeginsAt points) c.in_ok-tickets.tickets.items) (sym c.in_ok-checkpoints.ensures)
+    (subst (λ (ts : List NumberedEpoch). All (BeginsAt (record { job = c.args.job.now; times = beginnings c.args.cuts })) ts) (sym c.in_ok-tickets.ensures)
+    (tickets_begin c.args.job.now c.args.cuts c.requires))
+
+pub crossings-requires : goal.crossings-requires
+crossings-requires g c =
+    let es = c.in_ok-summaries.summaries.items in
+    let a = found_at c.args.job.now c.args.query.now c.args.cuts es c.in_ok-checkpoints.checkpoints c.in_ok-tickets.tickets.items c.in_ok-checkpoints.ensures c.in_ok-tickets.ensures c.in_ok-summaries.ensures in
+    subst (λ (xs : List Summary). AreOfOneTrace (map summary_of xs)) (sym c.deref.ensures.value)
+    (one_trace c.args.job.now c.args.query.now c.args.cuts es c.points-points.ensures.located c.requires a)
+
+pub join-requires-clause-trace : goal.join-requires-clause-trace
+join-requires-clause-trace g c =
+    let es = c.in_ok-summaries.summaries.items in
+    let a = found_at c.args.job.now c.args.query.now c.args.cuts es c.in_ok-checkpoints.checkpoints c.in_ok-tickets.tickets.items c.in_ok-checkpoints.ensures c.in_ok-tickets.ensures c.in_ok-summaries.ensures in
+    subst (λ (xs : List Summary). AreOfOneTrace (map summary_of xs)) (sym c.deref-2.ensures.value)
+    (one_trace c.args.job.now c.args.query.now c.args.cuts es c.points-points.ensures.located c.requires a)
+
+pub gather-requires : goal.gather-requires
+gather-requires g c =
+    let q = c.args.query.now in
+    let job = c.args.job.now in
+    let es = c.in_ok-summaries.summaries.items in
+    let a = found_at job q c.args.cuts es c.in_ok-checkpoints.checkpoints c.in_ok-tickets.tickets.items c.in_ok-checkpoints.ensures c.in_ok-tickets.ensures c.in_ok-summaries.ensures in
+    let rows = c.into_vec.ensures ∙ c.in_ok-sets.ensures ∙ ap (λ (xs : List Summary). joined [] [] (map summary_of xs)) c.deref-2.ensures.value ∙ found_join job q c.args.cuts es c.points-points.ensures.located c.requires a in
+    subst AreDistinct (sym rows) (distinct_rows q (trace_of job) c.points-points.ensures.ascending (writes_apart job.start job.log))
+
+pub number-requires : goal.number-requires
+number-requires g c =
+    let es = c.in_ok-summaries.summaries.items in
+    let a = found_at c.args.job.now c.args.query.now c.args.cuts es c.in_ok-checkpoints.checkpoints c.in_ok-tickets.tickets.items c.in_ok-checkpoints.ensures c.in_ok-tickets.ensures c.in_ok-summaries.ensures in
+    let asked = c.in_ok-crossings.ensures ∙ ap (λ (xs : List Summary). crossings_back (map summary_of xs)) c.deref.ensures.value in
+    omega (arith, few_crossings c.args.job.now c.args.query.now c.args.cuts es c.points-points.ensures.located c.requires a c.in_ok-crossings.crossings.items asked, c.count-count.ensures.is, c.count-count.ensures.in_range)
+
+pub returns-clause-report : goal.returns-clause-report
+returns-clause-report g c =
+    let q = c.args.query.now in
+    let job = c.args.job.now in
+    let es = c.in_ok-summaries.summaries.items in
+    let a = found_at job q c.args.cuts es c.in_ok-checkpoints.checkpoints c.in_ok-tickets.tickets.items c.in_ok-checkpoints.ensures c.in_ok-tickets.ensures c.in_ok-summaries.ensures in
+    let rows = c.into_vec.ensures ∙ c.in_ok-sets.ensures ∙ ap (λ (xs : List Summary). joined [] [] (map summary_of xs)) c.deref-2.ensures.value ∙ found_join job q c.args.cuts es c.points-points.ensures.located c.requires a in
+    c.in_ok-report.ensures ∙ ap (set_of row_cmp) rows
+
+pub returns-clause-crossed : goal.returns-clause-crossed
+returns-clause-crossed g c =
+    let es = c.in_ok-summaries.summaries.items in
+    let a = found_at c.args.job.now c.args.query.now c.args.cuts es c.in_ok-checkpoints.checkpoints c.in_ok-tickets.tickets.items c.in_ok-checkpoints.ensures c.in_ok-tickets.ensures c.in_ok-summaries.ensures in
+    let asked = c.in_ok-crossings.ensures ∙ ap (λ (xs : List Summary). crossings_back (map summary_of xs)) c.deref.ensures.value in
+    c.in_ok-crossed.ensures ∙ found_crossed c.args.job.now c.args.query.now c.args.cuts es c.points-points.ensures.located c.requires a c.in_ok-crossings.crossings.items asked
