@@ -7,7 +7,7 @@ use Rattle.std.proofs.lemmas.Grind.{div_ceil_times}
 use Rattle.std.proofs.lemmas.List.FromFn.{length-map-range_with_len, get_or-map-range_with_len}
 use Rattle.std.proofs.lemmas.Option.{slice_get-get_or}
 use Rattle.epoch_model.specs.Cutting.{RisesTo}
-use Rattle.epoch_cut.specs.ByLength.{epoch_count, cut_at, cut_times}
+use Rattle.epoch_model.specs.ByLength.{epoch_count, cut_at, cut_times}
 use Rattle.epoch_cut.specs.CutLaws.{CutTimesAreCutting, CutTimesAreCounted, CutTimesAreMultiples}
 
 pub cut_times_counted : CutTimesAreCounted

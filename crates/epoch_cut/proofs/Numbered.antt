@@ -2,7 +2,7 @@
 use Rattle.std.proofs.Common.{◌≡◌, ℕ, zero, suc, ◌+◌, Some, List, [], ◌∷◌, ◌++◌, length, take, refl, ap, ◌∙◌, subst, arith}
 use Rattle.std.specs.List.{slice_get}
 use Rattle.epoch_model.specs.Cutting.{epochs}
-use Rattle.epoch_cut.specs.ByLength.{NumberedEpoch, numbered}
+use Rattle.epoch_cut.specs.Numbered.{NumberedEpoch, numbered}
 
 abbrev ticket : ℕ → ℕ → ℕ → NumberedEpoch
 ticket number first past = record { number = number; first = first; past_last = past }

@@ -1,7 +1,7 @@
 -- What holds of the cut times of every run, by every length of 1 at least.
 use Rattle.std.specs.Prelude.{◌≡◌, ℕ, ◌≤◌, Some, ◌∷◌, length, slice_get}
 use Rattle.epoch_model.specs.Cutting.{IsCutting}
-use Rattle.epoch_cut.specs.ByLength.{epoch_count, cut_at, cut_times}
+use Rattle.epoch_model.specs.ByLength.{epoch_count, cut_at, cut_times}
 
 -- they rise strictly from 0 to the number of steps, and are 0 alone where there is no step
 abbrev pub CutTimesAreCutting : Type 0

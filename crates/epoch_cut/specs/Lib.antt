@@ -1,2 +1,2 @@
-pub mod ByLength
+pub mod Numbered
 pub mod CutLaws

@@ -1,7 +1,7 @@
 //! How a run is cut.
 
 ghost use Rattle.std.specs.Prelude.{◌≡◌, ◌<◌, ◌≤◌, IfOk, IfErr};
-ghost use Rattle.epoch_cut.specs.ByLength.{epoch_count, cut_times};
+ghost use Rattle.epoch_model.specs.ByLength.{epoch_count, cut_times};
 
 use crate::cutting::Cuts;
 use crate::fault::CutFault;

@@ -2,7 +2,7 @@
 
 ghost use Rattle.std.specs.Prelude.{◌≡◌, ◌≤◌, Some, ◌∷◌, length, slice_get, IfOk};
 ghost use Rattle.epoch_model.specs.Cutting.{epochs};
-ghost use Rattle.epoch_cut.specs.ByLength.{numbered};
+ghost use Rattle.epoch_cut.specs.Numbered.{numbered};
 
 use crate::by_length::{MOST_EPOCHS, epoch_count};
 use crate::ticket::EpochTicket;
@@ -21,7 +21,7 @@ pub struct Cuts {
 
 impl Model for Cuts {
     ghost use Rattle.std.specs.Prelude.{ℕ, ◌≤◌, List};
-    ghost use Rattle.epoch_cut.specs.ByLength.{epoch_count, cut_times};
+    ghost use Rattle.epoch_model.specs.ByLength.{epoch_count, cut_times};
 
     ghost Value = { List ℕ };
 

@@ -15,7 +15,7 @@ pub struct EpochTicket {
 }
 
 impl Model for EpochTicket {
-    ghost use Rattle.epoch_cut.specs.ByLength.{NumberedEpoch};
+    ghost use Rattle.epoch_cut.specs.Numbered.{NumberedEpoch};
 
     ghost Value = { NumberedEpoch };
 

@@ -1,5 +1,6 @@
 pub mod Stretch
 pub mod Cutting
+pub mod ByLength
 pub mod Summary
 pub mod Crossing
 pub mod Join

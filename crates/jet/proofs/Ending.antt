@@ -39,7 +39,7 @@ module _ (change : Change) (file : Contents) where
   Answers command = IsAnswer command change.before.heard change.after.heard file
 
   one_answer : (command : CommandOf) (a b : Result (List ℕ) Refusal) → IsHeard command change → Answers command a → Answers command b → a ≡ b
-  one_answer (QueryOf program log query) a b told p q = sym p ∙ q
+  one_answer (QueryOf program log query pipeline) a b told p q = sym p ∙ q
   one_answer (RecordOf program log inputs pages piece steps) a b told p q =
       let limits = limits_of pages piece steps in
       one_record_answer file program inputs limits q.answers a b
@@ -47,28 +47,28 @@ module _ (change : Change) (file : Contents) where
   one_answer (ReplayOf program log) a b told p q = sym p ∙ q
   one_answer (OutputOf program log channel) a b told p q = sym p ∙ q
   one_answer (ConvertOf program log new) a b told p q = sym p ∙ q
-  one_answer (InfluenceOf program log query) a b told p q = sym p ∙ q
-  one_answer (QueriesOf program log queries) a b told p q = sym p ∙ q
+  one_answer (InfluenceOf program log query pipeline) a b told p q = sym p ∙ q
+  one_answer (QueriesOf program log queries pipeline) a b told p q = sym p ∙ q
 
   wanted : (command : CommandOf) (text : List ℕ) → Answers command (Ok text) → IsWanted command change file text
-  wanted (QueryOf program log query) text h = answer-is_given report_of file (named program log query) text h
+  wanted (QueryOf program log query pipeline) text h = answer-is_given report_of pipeline.epoch file (named program log query) text h
   wanted (RecordOf program log inputs pages piece steps) text h =
       record { answers = h.answers; gained = h.gained; holds = record_answer-is_recording file program inputs (limits_of pages piece steps) h.answers text h.holds }
   wanted (ReplayOf program log) text h = log_answer-is_given file program log summary_text text h
   wanted (OutputOf program log channel) text h = log_answer-is_given file program log (output channel) text h
   wanted (ConvertOf program log new) text h = convert-is_given file program log text h
-  wanted (InfluenceOf program log query) text h = answer-is_given influence_of file (named program log query) text h
-  wanted (QueriesOf program log queries) text h = reports-are_given file program log queries text h
+  wanted (InfluenceOf program log query pipeline) text h = answer-is_given influence_of pipeline.epoch file (named program log query) text h
+  wanted (QueriesOf program log queries pipeline) text h = reports-are_given pipeline.epoch file program log queries text h
 
-  answered : (command : CommandOf) (text : List ℕ) → AreWithinLimits command file text → IsWanted command change file text → Answers command (Ok text)
-  answered (QueryOf program log query) text short h = given-is_answer report_of file (named program log query) text short h
-  answered (RecordOf program log inputs pages piece steps) text short h =
-      record { answers = h.answers; gained = h.gained; holds = recording-is_record_answer file program inputs (limits_of pages piece steps) h.answers text short.0 short.1 short.2 h.holds }
-  answered (ReplayOf program log) text short h = given-is_log_answer file program log summary_text text short.0 short.1 h
-  answered (OutputOf program log channel) text short h = given-is_log_answer file program log (output channel) text short.0 short.1 h
-  answered (ConvertOf program log new) text short h = given-is_convert file program log text short.0 short.1 short.2 h.given
-  answered (InfluenceOf program log query) text short h = given-is_answer influence_of file (named program log query) text short h
-  answered (QueriesOf program log queries) text short h = given-are_reports file program log queries text short.0 short.1 short.2 h
+  answered : (command : CommandOf) (text : List ℕ) (is : IsWanted command change file text) → AreWithinLimits command change file text is → Answers command (Ok text)
+  answered (QueryOf program log query pipeline) text h within = given-is_answer report_of pipeline.epoch file (named program log query) text within.0 h within.1
+  answered (RecordOf program log inputs pages piece steps) text h within =
+      record { answers = h.answers; gained = h.gained; holds = recording-is_record_answer file program inputs (limits_of pages piece steps) h.answers text within.0 within.1 within.2 h.holds }
+  answered (ReplayOf program log) text h within = given-is_log_answer file program log summary_text text within.0 within.1 h
+  answered (OutputOf program log channel) text h within = given-is_log_answer file program log (output channel) text within.0 within.1 h
+  answered (ConvertOf program log new) text h within = given-is_convert file program log text within.0 within.1 within.2 h.given
+  answered (InfluenceOf program log query pipeline) text h within = given-is_answer influence_of pipeline.epoch file (named program log query) text within.0 h within.1
+  answered (QueriesOf program log queries pipeline) text h within = given-are_reports pipeline.epoch file program log queries text within.0 within.1 within.2 h within.3
 
 -- ---- 0, and 8
 
@@ -145,5 +145,5 @@ decided (Some command) change r status e h = λ u told answer is. by_status stat
 
 pub complete : (command : Option CommandOf) (change : Change) (r : Result (Unit {0}) Refusal) (status : ℕ) → status ≡ status_after r → Ends command change r → IsComplete status command change
 complete None change r status e h = tt
-complete (Some command) change r status e h = λ u told text short is.
-    by_status status (status_after r) 0 e (decided-some command change u told (Ok text) (answered change u.told.file command text short is) r h)
+complete (Some command) change r status e h = λ u told text is within.
+    by_status status (status_after r) 0 e (decided-some command change u told (Ok text) (answered change u.told.file command text is within) r h)

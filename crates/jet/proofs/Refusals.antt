@@ -19,6 +19,7 @@ status_of-range (refusal.QueryOf file line kind) = (omega arith, omega arith)
 status_of-range (refusal.Rules first index other) = (omega arith, omega arith)
 status_of-range refusal.TooLong = (omega arith, omega arith)
 status_of-range (refusal.LogTooLong size) = (omega arith, omega arith)
+status_of-range (refusal.TooManyEpochs count) = (omega arith, omega arith)
 status_of-range refusal.ReadFault = (omega arith, omega arith)
 status_of-range refusal.WriteFault = (omega arith, omega arith)
 status_of-range refusal.NoMemory = (omega arith, omega arith)
@@ -39,6 +40,7 @@ is_usage (refusal.QueryOf file line kind) e = let f : ⊥ = omega (arith, e) in 
 is_usage (refusal.Rules first index other) e = let f : ⊥ = omega (arith, e) in absurd f
 is_usage refusal.TooLong e = let f : ⊥ = omega (arith, e) in absurd f
 is_usage (refusal.LogTooLong size) e = let f : ⊥ = omega (arith, e) in absurd f
+is_usage (refusal.TooManyEpochs count) e = let f : ⊥ = omega (arith, e) in absurd f
 is_usage refusal.ReadFault e = let f : ⊥ = omega (arith, e) in absurd f
 is_usage refusal.WriteFault e = let f : ⊥ = omega (arith, e) in absurd f
 is_usage refusal.NoMemory e = let f : ⊥ = omega (arith, e) in absurd f
@@ -56,6 +58,7 @@ of_any_cause P (refusal.QueryOf file line kind) memory p = p
 of_any_cause P (refusal.Rules first index other) memory p = p
 of_any_cause P refusal.TooLong memory p = p
 of_any_cause P (refusal.LogTooLong size) memory p = p
+of_any_cause P (refusal.TooManyEpochs count) memory p = p
 of_any_cause P refusal.ReadFault memory p = p
 of_any_cause P refusal.WriteFault memory p = p
 of_any_cause P refusal.NoMemory memory p = memory refl
@@ -73,6 +76,7 @@ of_write_fault P causes (refusal.QueryOf file line kind) e step p = let f : ⊥ 
 of_write_fault P causes (refusal.Rules first index other) e step p = let f : ⊥ = omega (arith, e) in absurd f
 of_write_fault P causes refusal.TooLong e step p = let f : ⊥ = omega (arith, e) in absurd f
 of_write_fault P causes (refusal.LogTooLong size) e step p = let f : ⊥ = omega (arith, e) in absurd f
+of_write_fault P causes (refusal.TooManyEpochs count) e step p = let f : ⊥ = omega (arith, e) in absurd f
 of_write_fault P causes refusal.ReadFault e step p = let f : ⊥ = omega (arith, e) in absurd f
 of_write_fault P causes refusal.WriteFault e step p = step p
 of_write_fault P causes refusal.NoMemory e step p = let f : ⊥ = omega (arith, e) in absurd f

@@ -7,7 +7,7 @@ use Rattle.jet_refusal.specs.declared.refusal.Refusal.{Refusal}
 use Rattle.jet_refusal.specs.Refusals.{status_of, line_of}
 use Rattle.jet_refusal.specs.Causes.{IsOwedTo}
 use Rattle.jet_model.specs.Contents.{Contents}
-use Rattle.jet_model.specs.Headline.{IsReportOf, IsInfluenceOf, AreReportsOf, IsGivenBy, IsConversionOf, IsRecordingOf, IsShort, AreShort, AreAllShort}
+use Rattle.jet_model.specs.Headline.{IsReportOf, IsInfluenceOf, AreReportsOf, IsGivenBy, IsConversionOf, IsRecordingOf, IsShort, AreShort, AreAllShort, HasFewEpochs}
 use Rattle.run_output.specs.Summary.{summary_text}
 use Rattle.run_output.specs.Output.{output}
 use Rattle.jet_cli.specs.Answers.{IsAnswer, Hears, named, limits_of}
@@ -23,14 +23,14 @@ IsStatus status = (status ≡ 0) ⊎ ((2 ≤ status) × (status ≤ 11))
 -- the text is the report of a query; the log of a run, by the clock's answers; the numbers of a run; what a run wrote on a
 -- channel; a log in version 2; an influence; or the reports of several queries
 abbrev pub IsWanted : CommandOf → Change → Contents → List ℕ → Type 0
-IsWanted (QueryOf program log query) change file text = IsReportOf file (named program log query) text
+IsWanted (QueryOf program log query pipeline) change file text = IsReportOf file (named program log query) text
 IsWanted (RecordOf program log inputs pages piece steps) change file text =
     Hears change.before.heard change.after.heard (λ answers. IsRecordingOf file program inputs (limits_of pages piece steps) answers text)
 IsWanted (ReplayOf program log) change file text = IsGivenBy file program log summary_text text
 IsWanted (OutputOf program log channel) change file text = IsGivenBy file program log (output channel) text
 IsWanted (ConvertOf program log new) change file text = IsConversionOf file program log text
-IsWanted (InfluenceOf program log query) change file text = IsInfluenceOf file (named program log query) text
-IsWanted (QueriesOf program log queries) change file text = AreReportsOf file program log queries text
+IsWanted (InfluenceOf program log query pipeline) change file text = IsInfluenceOf file (named program log query) text
+IsWanted (QueriesOf program log queries pipeline) change file text = AreReportsOf file program log queries text
 
 abbrev pub IsDone : Option CommandOf → Change → Type 0
 IsDone None change = ⊥
@@ -54,13 +54,13 @@ pub record IsRefused (status : ℕ) (command : Option CommandOf) (says : List �
 
 -- where the clock is read, it tells its answers
 abbrev pub IsHeard : CommandOf → Change → Type 0
-IsHeard (QueryOf program log query) change = Unit {0}
+IsHeard (QueryOf program log query pipeline) change = Unit {0}
 IsHeard (RecordOf program log inputs pages piece steps) change = IsSome change.after.heard
 IsHeard (ReplayOf program log) change = Unit {0}
 IsHeard (OutputOf program log channel) change = Unit {0}
 IsHeard (ConvertOf program log new) change = Unit {0}
-IsHeard (InfluenceOf program log query) change = Unit {0}
-IsHeard (QueriesOf program log queries) change = Unit {0}
+IsHeard (InfluenceOf program log query pipeline) change = Unit {0}
+IsHeard (QueriesOf program log queries pipeline) change = Unit {0}
 
 -- the status is that of what the files come to
 abbrev pub IsDecided : ℕ → Option CommandOf → Change → Type 0
@@ -68,18 +68,26 @@ IsDecided status None change = Unit {0}
 IsDecided status (Some command) change = (u : IsUndisturbed change) → IsHeard command change → (answer : Result (List ℕ) Refusal)
     → IsAnswer command change.before.heard change.after.heard u.told.file answer → (status ≡ status_after answer) ⊎ (status ≡ 10)
 
--- the files that are read have at most 2 ^ 26 bytes each, and so has a log that is written
-abbrev pub AreWithinLimits : CommandOf → Contents → List ℕ → Type 0
-AreWithinLimits (QueryOf program log query) file text = AreShort file (named program log query)
-AreWithinLimits (RecordOf program log inputs pages piece steps) file text = IsShort (file program) × AreAllShort file inputs × (length text ≤ 2 ^ 26)
-AreWithinLimits (ReplayOf program log) file text = IsShort (file program) × IsShort (file log)
-AreWithinLimits (OutputOf program log channel) file text = IsShort (file program) × IsShort (file log)
-AreWithinLimits (ConvertOf program log new) file text = IsShort (file program) × IsShort (file log) × (length text ≤ 2 ^ 26)
-AreWithinLimits (InfluenceOf program log query) file text = AreShort file (named program log query)
-AreWithinLimits (QueriesOf program log queries) file text = IsShort (file program) × IsShort (file log) × AreAllShort file queries
+-- the files that are read have at most 2 ^ 26 bytes each, and so has a log that is written; and a run that is analysed
+-- has at most 4096 epochs of the length that the words say
+abbrev pub AreWithinLimits : (command : CommandOf) (change : Change) (file : Contents) (text : List ℕ)
+    → IsWanted command change file text → Type 0
+AreWithinLimits (QueryOf program log query pipeline) change file text is =
+    AreShort file (named program log query) × HasFewEpochs pipeline.epoch is.log
+AreWithinLimits (RecordOf program log inputs pages piece steps) change file text is =
+    IsShort (file program) × AreAllShort file inputs × (length text ≤ 2 ^ 26)
+AreWithinLimits (ReplayOf program log) change file text is = IsShort (file program) × IsShort (file log)
+AreWithinLimits (OutputOf program log channel) change file text is = IsShort (file program) × IsShort (file log)
+AreWithinLimits (ConvertOf program log new) change file text is =
+    IsShort (file program) × IsShort (file log) × (length text ≤ 2 ^ 26)
+AreWithinLimits (InfluenceOf program log query pipeline) change file text is =
+    AreShort file (named program log query) × HasFewEpochs pipeline.epoch is.log
+AreWithinLimits (QueriesOf program log queries pipeline) change file text is =
+    IsShort (file program) × IsShort (file log) × AreAllShort file queries × HasFewEpochs pipeline.epoch is.log
 
--- files that have what the words want, and are short enough, are answered with 0
+-- files that have what the words want, and are within the limits, are answered with 0
 abbrev pub IsComplete : ℕ → Option CommandOf → Change → Type 0
 IsComplete status None change = Unit {0}
 IsComplete status (Some command) change = (u : IsUndisturbed change) → IsHeard command change → (text : List ℕ)
-    → AreWithinLimits command u.told.file text → IsWanted command change u.told.file text → (status ≡ 0) ⊎ (status ≡ 10)
+    → (is : IsWanted command change u.told.file text) → AreWithinLimits command change u.told.file text is
+    → (status ≡ 0) ⊎ (status ≡ 10)

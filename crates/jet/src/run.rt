@@ -11,11 +11,13 @@ ghost use Rattle.jet.specs.Statuses.{IsStatus, IsDone, IsDoneInPart, IsRefused, 
 
 use jet_cli::{conclude, obey};
 use outer_io::{Clock, Gate, Sink, Store};
+use std::sync::Wait;
+use std::thread::Threads;
 
 /// All that the program does, but for what `main` makes: the words begin with the program's name. The
 /// status is 0 where what the words stand for was written whole, and else says why not (docs/FORMATS.md), as does one line
-/// on `err`.
-pub fn jet<R: AllocGlobal, S: Store, O: Sink, E: Sink, K: Clock, G: Gate>(
+/// on `err`. Epochs are analysed in threads of `rt`, and `gate` is told of each.
+pub fn jet<R: Threads + Wait + Sync + AllocGlobal, S: Store, O: Sink, E: Sink, K: Clock, G: Gate>(
     rt: &R,
     words: &[String],
     store: &mut S,
@@ -52,7 +54,6 @@ pub fn jet<R: AllocGlobal, S: Store, O: Sink, E: Sink, K: Clock, G: Gate>(
     ensures clock { IfUntimedIn (command_in words.now) (clock.new ≡ clock.old) }
     ensures unasked { 2 ≤ result → result ≤ 7 → Tells (K.answers clock.old) (K.answers clock.new) (Gains []) }
 {
-    let _ = gate;
-    let outcome = obey(rt.alloc(), words, store, out, clock);
+    let outcome = obey(rt, rt.alloc(), words, store, out, clock, gate);
     conclude(err, outcome)
 }

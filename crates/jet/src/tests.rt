@@ -20,7 +20,9 @@ use outer_io::{ListClock, MemoryFile, MemorySink, MemoryStore, OpenGate, Sink, S
 use sha2::{Digest, Sha256};
 use std::alloc::{AllocError, Global};
 use std::process::Abort;
+use std::sync::Wait;
 use std::test::Fail;
+use std::thread::Threads;
 
 const COPY: &str = "rule copy\nsource all\nsink all\n";
 
@@ -363,7 +365,7 @@ impl Ending<'_> {
 }
 
 /// The status of the command of these words.
-fn status_of<R: AllocGlobal, S: Store, O: Sink, E: Sink>(
+fn status_of<R: Threads + Wait + Sync + AllocGlobal, S: Store, O: Sink, E: Sink>(
     rt: &R,
     line: Line,
     store: &mut S,
@@ -377,7 +379,7 @@ fn status_of<R: AllocGlobal, S: Store, O: Sink, E: Sink>(
 }
 
 /// The command of these words ends so over this store and these outputs.
-fn assert_outside<R: AllocGlobal + Abort>(
+fn assert_outside<R: Threads + Wait + Sync + AllocGlobal + Abort>(
     rt: &R,
     line: Line,
     store: &mut MemoryStore,
@@ -394,7 +396,7 @@ fn assert_outside<R: AllocGlobal + Abort>(
 }
 
 /// The command of these words ends so over this store.
-fn assert_ends<R: AllocGlobal + Abort>(
+fn assert_ends<R: Threads + Wait + Sync + AllocGlobal + Abort>(
     rt: &R,
     line: Line,
     store: &mut MemoryStore,
@@ -407,7 +409,7 @@ fn assert_ends<R: AllocGlobal + Abort>(
 }
 
 /// The command of these words ends so over these files.
-fn assert_command<R: AllocGlobal + Abort>(
+fn assert_command<R: Threads + Wait + Sync + AllocGlobal + Abort>(
     rt: &R,
     line: Line,
     program: &[u8],
@@ -422,7 +424,7 @@ fn assert_command<R: AllocGlobal + Abort>(
 }
 
 /// A query of these files ends so.
-fn assert_query<R: AllocGlobal + Abort>(
+fn assert_query<R: Threads + Wait + Sync + AllocGlobal + Abort>(
     rt: &R,
     program: &[u8],
     log: &[u8],
@@ -433,7 +435,7 @@ fn assert_query<R: AllocGlobal + Abort>(
 }
 
 /// A command over a guest's run and a query ends so.
-fn assert_guest<R: AllocGlobal + Abort>(
+fn assert_guest<R: Threads + Wait + Sync + AllocGlobal + Abort>(
     rt: &R,
     line: Line,
     guest: &Guest,

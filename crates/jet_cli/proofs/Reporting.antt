@@ -1,6 +1,6 @@
 -- The reports of several queries, by the rows of one that asks for what any of them does.
-use Rattle.std.proofs.Common.{◌≡◌, ◌∙◌, ap, ap₂, sym, refl, subst, arith, ℕ, suc, ◌+◌, ◌<◌, List, [], ◌∷◌, ◌++◌, append_assoc, append-nil, length, get_or, take, None}
-use Rattle.std.specs.Prelude.{codes, All, Contains}
+use Rattle.std.proofs.Common.{◌≡◌, ◌∙◌, ap, ap₂, sym, subst, arith, ℕ, suc, ◌+◌, ◌<◌, List, [], ◌∷◌, ◌++◌, append_assoc, append-nil, length, get_or, take}
+use Rattle.std.specs.Prelude.{codes, Contains}
 use Rattle.std.specs.Fmt.{decimal}
 use Rattle.report_model.specs.Text.{report_text}
 use Rattle.std.proofs.lemmas.List.{take_more, length-take}

@@ -3,6 +3,7 @@ use Rattle.std.proofs.Common.{◌≡◌, ◌∙◌, ap, ap₂, sym, refl, subst,
 use Rattle.std.specs.Prelude.{codes, if◌then◌else◌}
 use Rattle.std.specs.List.{filter}
 use Rattle.std.specs.Fmt.{decimal}
+use Rattle.isa.specs.Machine.{State}
 use Rattle.log_model.specs.Logs.{Log}
 use Rattle.outer_io.specs.Faults.{Rose}
 use Rattle.outer_io.specs.Tells.{Tells}
@@ -27,7 +28,7 @@ use Rattle.jet_refusal.proofs.Causes.{IsOwedTo-map}
 use Rattle.jet_model.specs.Outcomes.{and_then}
 use Rattle.jet_model.specs.Contents.{Contents, Run, run_at}
 use Rattle.jet_model.specs.Report.{reports_from, reports_of}
-use Rattle.jet_model.specs.Answer.{fitting_start, traced_answer, unless_other_rule, rules_check, text_answer, limited_text}
+use Rattle.jet_model.specs.Answer.{fitting_start, epochs_check, cut_answer, traced_answer, unless_other_rule, rules_check, text_answer, limited_text}
 use Rattle.jet_model.proofs.AndThen.{and_then-ok, and_then-err}
 use Rattle.std.specs.declared.alloc.Global.{Global}
 use Rattle.no_memory.specs.declared.NoMemory.{NoMemory}
@@ -52,15 +53,16 @@ follows-answer R Q T x f g step first (Err r) work =
 
 -- ---- a text, or out of memory
 
-pub work_of-text : (text : Result (Vec ℕ Global) NoMemory) (result : Result (Vec ℕ Global) Refusal) (is : Result (List ℕ) Refusal → Type 0)
-    → IfOk text (λ bytes. result ≡ Ok bytes) → OnErr text (result ≡ Err refusal.NoMemory) → IfOk text (λ bytes. is (Ok bytes.items)) → IsWorkOf is (seen_by bytes_of result)
-work_of-text (Ok bytes) result is ok err h = subst (λ (r : Result (Vec ℕ Global) Refusal). IsWorkOf is (seen_by bytes_of r)) (sym ok) h
-work_of-text (Err e) result is ok err h = subst (λ (r : Result (Vec ℕ Global) Refusal). IsWorkOf is (seen_by bytes_of r)) (sym err) tt
-
 pub work-text : (text : Result (Vec ℕ Global) NoMemory) (result : Result (Vec ℕ Global) Refusal) (answer : Result (List ℕ) Refusal)
     → IfOk text (λ bytes. result ≡ Ok bytes) → OnErr text (result ≡ Err refusal.NoMemory) → IfOk text (λ bytes. answer ≡ Ok bytes.items) → IsWork answer (seen_by bytes_of result)
 work-text (Ok bytes) result answer ok err h = subst (λ (r : Result (Vec ℕ Global) Refusal). IsWork answer (seen_by bytes_of r)) (sym ok) h
 work-text (Err e) result answer ok err h = subst (λ (r : Result (Vec ℕ Global) Refusal). IsWork answer (seen_by bytes_of r)) (sym err) tt
+
+-- what holds of the answer of some work
+work-holds : (answer : Result (List ℕ) Refusal) (is : Result (List ℕ) Refusal → Type 0) → ((outcome : Result (List ℕ) Refusal) → answer ≡ outcome → is outcome)
+    → (outcome : Result (List ℕ) Refusal) → IsWork answer outcome → IsWorkOf is outcome
+work-holds answer is step (Ok x) work = step (Ok x) work
+work-holds answer is step (Err r) work = IsOwedTo-map (by_reading (answer ≡ Err r) ⊥) (by_reading (is (Err r)) ⊥) (λ p. p) (step (Err r)) (λ p. p) (λ p. p) r work
 
 -- ---- a query that was read
 
@@ -100,14 +102,18 @@ fitting : (run : Run) (job : Job) → IsChecked run.program.bytes run.program.im
 fitting run job checked = fitting_start-ok run.program run.log job.start checked.digest checked.start checked.agrees
 
 -- a text over the trace
-traced-gives : (run : Run) (given : List StepSeen → List ℕ) (job : Job) (text : List ℕ) → IsChecked run.program.bytes run.program.image run.log job
-    → text ≡ given (trace_of job) → traced_answer run given ≡ Ok text
-traced-gives run given job text checked e =
-    and_then-ok (fitting_start run.program run.log) (λ start. Ok (given (trace start run.log))) job.start (fitting run job checked)
-    ∙ ap (λ (l : Log). Ok (given (trace job.start l))) (sym checked.same_log) ∙ ap Ok (sym e)
+traced-cut : (epoch : ℕ) (run : Run) (given : List StepSeen → List ℕ) (job : Job) → IsChecked run.program.bytes run.program.image run.log job
+    → traced_answer epoch run given ≡ cut_answer epoch job.start job.log given
+traced-cut epoch run given job checked =
+    and_then-ok (fitting_start run.program run.log) (λ start. cut_answer epoch start run.log given) job.start (fitting run job checked)
+    ∙ ap (λ (l : Log). cut_answer epoch job.start l given) (sym checked.same_log)
 
-traced-stops : (run : Run) (given : List StepSeen → List ℕ) (r : Refusal) → fitting_start run.program run.log ≡ Err r → traced_answer run given ≡ Err r
-traced-stops run given r e = and_then-err (fitting_start run.program run.log) (λ start. Ok (given (trace start run.log))) r e
+traced-stops : (epoch : ℕ) (run : Run) (given : List StepSeen → List ℕ) (r : Refusal) → fitting_start run.program run.log ≡ Err r → traced_answer epoch run given ≡ Err r
+traced-stops epoch run given r e = and_then-err (fitting_start run.program run.log) (λ start. cut_answer epoch start run.log given) r e
+
+same_cut : (epoch : ℕ) (start : State) (log : Log) (given other : List StepSeen → List ℕ) → given (trace start log) ≡ other (trace start log)
+    → cut_answer epoch start log given ≡ cut_answer epoch start log other
+same_cut epoch start log given other e = ap (λ (text : List ℕ). and_then (epochs_check epoch log) (λ few. Ok text)) e
 
 -- ---- the listing of a query
 
@@ -119,17 +125,19 @@ same_listing BySink q p steps a = ap report_text (same_rows q p steps a)
 same_listing BySource q p steps a = ap₂ (λ (rs : List Row) (bs : List SourceByte). influence_text (turned rs bs)) (same_rows q p steps a) (same_sources q p steps a)
 
 -- a log that doesn't fit
-pub listing-stops : (listing : Listing) (run : Run) (kept : Query) (r : Refusal) → IsWork (fitting_start run.program run.log) (Err r)
-    → IsWorkOf (IsGivenAlike listing run kept) (Err r)
-listing-stops listing run kept r =
-    IsOwedTo-map (by_reading (fitting_start run.program run.log ≡ Err r) ⊥) (by_reading (IsGivenAlike listing run kept (Err r)) ⊥) (λ p. p)
-    (λ e q alike. traced-stops run (given_by listing q) r e) (λ p. p) (λ p. p) r
+pub listing-stops : (listing : Listing) (epoch : ℕ) (run : Run) (kept : Query) (r : Refusal) → IsWork (fitting_start run.program run.log) (Err r)
+    → IsWorkOf (IsGivenAlike listing epoch run kept) (Err r)
+listing-stops listing epoch run kept r =
+    IsOwedTo-map (by_reading (fitting_start run.program run.log ≡ Err r) ⊥) (by_reading (IsGivenAlike listing epoch run kept (Err r)) ⊥) (λ p. p)
+    (λ e q alike. traced-stops epoch run (given_by listing q) r e) (λ p. p) (λ p. p) r
 
 -- what one query gives is what every query gives that asks alike
-pub listing-gives : (listing : Listing) (run : Run) (kept : Query) (job : Job) (text : List ℕ) → IsChecked run.program.bytes run.program.image run.log job
-    → text ≡ given_by listing kept (trace_of job) → IsGivenAlike listing run kept (Ok text)
-listing-gives listing run kept job text checked e q alike =
-    traced-gives run (given_by listing q) job text checked (e ∙ same_listing listing kept q (trace_of job) alike)
+pub listing-gives : (listing : Listing) (epoch : ℕ) (run : Run) (kept : Query) (job : Job) → IsChecked run.program.bytes run.program.image run.log job
+    → (outcome : Result (List ℕ) Refusal) → IsWork (cut_answer epoch job.start job.log (given_by listing kept)) outcome → IsWorkOf (IsGivenAlike listing epoch run kept) outcome
+listing-gives listing epoch run kept job checked =
+    work-holds (cut_answer epoch job.start job.log (given_by listing kept)) (IsGivenAlike listing epoch run kept)
+    (λ outcome e q alike. traced-cut epoch run (given_by listing q) job checked
+    ∙ same_cut epoch job.start job.log (given_by listing q) (given_by listing kept) (sym (same_listing listing kept q (trace_of job) alike)) ∙ e)
 
 -- ---- several queries
 
@@ -157,26 +165,28 @@ same_reports n (k ∷ ks) (q ∷ qs) steps h =
     ap₂ (λ (rs : List Row) (rest : List ℕ). codes "query " ++ decimal n ++ 0x0a ∷ [] ++ report_text rs ++ rest) (same_rows k q steps h.0) (same_reports (n + 1) ks qs steps h.1)
 
 -- the rules differ
-pub rules-stop : (run : Run) (kept : List Query) (r : Refusal) → IsWork (rules_check kept) (Err r) → IsWorkOf (AreGivenAlike run kept) (Err r)
-rules-stop run kept r =
-    IsOwedTo-map (by_reading (rules_check kept ≡ Err r) ⊥) (by_reading (AreGivenAlike run kept (Err r)) ⊥) (λ p. p)
-    (λ e qs alike. and_then-err (rules_check qs) (λ same. traced_answer run (reports_of qs)) r (sym (same_check kept qs alike) ∙ e)) (λ p. p) (λ p. p) r
+pub rules-stop : (epoch : ℕ) (run : Run) (kept : List Query) (r : Refusal) → IsWork (rules_check kept) (Err r) → IsWorkOf (AreGivenAlike epoch run kept) (Err r)
+rules-stop epoch run kept r =
+    IsOwedTo-map (by_reading (rules_check kept ≡ Err r) ⊥) (by_reading (AreGivenAlike epoch run kept (Err r)) ⊥) (λ p. p)
+    (λ e qs alike. and_then-err (rules_check qs) (λ same. traced_answer epoch run (reports_of qs)) r (sym (same_check kept qs alike) ∙ e)) (λ p. p) (λ p. p) r
 
 one_rule-check : (kept qs : List Query) → AskAlike kept qs → first_other_rule kept ≡ None → rules_check qs ≡ Ok tt
 one_rule-check kept qs alike e = sym (same_check kept qs alike) ∙ ap unless_other_rule e
 
 -- a log that doesn't fit
-pub reports-stop : (run : Run) (kept : List Query) (r : Refusal) → first_other_rule kept ≡ None → IsWork (fitting_start run.program run.log) (Err r)
-    → IsWorkOf (AreGivenAlike run kept) (Err r)
-reports-stop run kept r one =
-    IsOwedTo-map (by_reading (fitting_start run.program run.log ≡ Err r) ⊥) (by_reading (AreGivenAlike run kept (Err r)) ⊥) (λ p. p)
-    (λ e qs alike. and_then-ok (rules_check qs) (λ same. traced_answer run (reports_of qs)) tt (one_rule-check kept qs alike one) ∙ traced-stops run (reports_of qs) r e) (λ p. p) (λ p. p) r
+pub reports-stop : (epoch : ℕ) (run : Run) (kept : List Query) (r : Refusal) → first_other_rule kept ≡ None → IsWork (fitting_start run.program run.log) (Err r)
+    → IsWorkOf (AreGivenAlike epoch run kept) (Err r)
+reports-stop epoch run kept r one =
+    IsOwedTo-map (by_reading (fitting_start run.program run.log ≡ Err r) ⊥) (by_reading (AreGivenAlike epoch run kept (Err r)) ⊥) (λ p. p)
+    (λ e qs alike. and_then-ok (rules_check qs) (λ same. traced_answer epoch run (reports_of qs)) tt (one_rule-check kept qs alike one) ∙ traced-stops epoch run (reports_of qs) r e) (λ p. p) (λ p. p) r
 
-pub reports-give : (run : Run) (kept : List Query) (job : Job) (text : List ℕ) → first_other_rule kept ≡ None → IsChecked run.program.bytes run.program.image run.log job
-    → text ≡ reports_of kept (trace_of job) → AreGivenAlike run kept (Ok text)
-reports-give run kept job text one checked e qs alike =
-    and_then-ok (rules_check qs) (λ same. traced_answer run (reports_of qs)) tt (one_rule-check kept qs alike one)
-    ∙ traced-gives run (reports_of qs) job text checked (e ∙ same_reports 1 kept qs (trace_of job) alike)
+pub reports-give : (epoch : ℕ) (run : Run) (kept : List Query) (job : Job) → first_other_rule kept ≡ None → IsChecked run.program.bytes run.program.image run.log job
+    → (outcome : Result (List ℕ) Refusal) → IsWork (cut_answer epoch job.start job.log (reports_of kept)) outcome → IsWorkOf (AreGivenAlike epoch run kept) outcome
+reports-give epoch run kept job one checked =
+    work-holds (cut_answer epoch job.start job.log (reports_of kept)) (AreGivenAlike epoch run kept)
+    (λ outcome e qs alike. and_then-ok (rules_check qs) (λ same. traced_answer epoch run (reports_of qs)) tt (one_rule-check kept qs alike one)
+    ∙ traced-cut epoch run (reports_of qs) job checked
+    ∙ same_cut epoch job.start job.log (reports_of qs) (reports_of kept) (sym (same_reports 1 kept qs (trace_of job) alike)) ∙ e)
 
 -- ---- a text that the log gives
 

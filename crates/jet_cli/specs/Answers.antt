@@ -47,14 +47,17 @@ IsRecording program inputs limits heard heard_after file answer =
 
 -- the content of the files comes to this answer
 abbrev pub IsAnswer : CommandOf → Option (List ℕ) → Option (List ℕ) → Contents → Result (List ℕ) Refusal → Type 0
-IsAnswer (QueryOf program log query) heard heard_after file answer = query_answer report_of file (named program log query) ≡ answer
+IsAnswer (QueryOf program log query pipeline) heard heard_after file answer =
+    query_answer report_of pipeline.epoch file (named program log query) ≡ answer
 IsAnswer (RecordOf program log inputs pages piece steps) heard heard_after file answer =
     IsRecording program inputs (limits_of pages piece steps) heard heard_after file answer
 IsAnswer (ReplayOf program log) heard heard_after file answer = log_answer file program log summary_text ≡ answer
 IsAnswer (OutputOf program log channel) heard heard_after file answer = log_answer file program log (output channel) ≡ answer
 IsAnswer (ConvertOf program log new) heard heard_after file answer = convert_answer file program log ≡ answer
-IsAnswer (InfluenceOf program log query) heard heard_after file answer = query_answer influence_of file (named program log query) ≡ answer
-IsAnswer (QueriesOf program log queries) heard heard_after file answer = queries_answer file program log queries ≡ answer
+IsAnswer (InfluenceOf program log query pipeline) heard heard_after file answer =
+    query_answer influence_of pipeline.epoch file (named program log query) ≡ answer
+IsAnswer (QueriesOf program log queries pipeline) heard heard_after file answer =
+    queries_answer pipeline.epoch file program log queries ≡ answer
 
 -- the outcome of work that reads no file is so, or memory is out
 abbrev pub IsWorkOf : {A : Type 0} → (Result A Refusal → Type 0) → Result A Refusal → Type 0
@@ -75,16 +78,17 @@ given_by BySink = report_of
 given_by BySource = influence_of
 
 -- the answer is what every query gives that asks alike
-abbrev pub IsGivenAlike : Listing → Run → Query → Result (List ℕ) Refusal → Type 0
-IsGivenAlike listing run kept answer = (q : Query) → Alike kept q → traced_answer run (given_by listing q) ≡ answer
+abbrev pub IsGivenAlike : Listing → ℕ → Run → Query → Result (List ℕ) Refusal → Type 0
+IsGivenAlike listing epoch run kept answer =
+    (q : Query) → Alike kept q → traced_answer epoch run (given_by listing q) ≡ answer
 
 -- the reports of several queries, whose rules are compared first
-abbrev pub several_answer : Run → List Query → Result (List ℕ) Refusal
-several_answer run qs = and_then (rules_check qs) (λ same. traced_answer run (reports_of qs))
+abbrev pub several_answer : ℕ → Run → List Query → Result (List ℕ) Refusal
+several_answer epoch run qs = and_then (rules_check qs) (λ same. traced_answer epoch run (reports_of qs))
 
 -- the answer is what all queries give that ask alike
-abbrev pub AreGivenAlike : Run → List Query → Result (List ℕ) Refusal → Type 0
-AreGivenAlike run kept answer = (qs : List Query) → AskAlike kept qs → several_answer run qs ≡ answer
+abbrev pub AreGivenAlike : ℕ → Run → List Query → Result (List ℕ) Refusal → Type 0
+AreGivenAlike epoch run kept answer = (qs : List Query) → AskAlike kept qs → several_answer epoch run qs ≡ answer
 
 -- several queries have one rule, and this one asks for what any of them does
 pub record IsUnion (queries : List Query) (union : Query) : Type 0 where

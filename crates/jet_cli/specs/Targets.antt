@@ -10,13 +10,13 @@ command_in words = command_of (map string_bytes words)
 
 -- the files that are read, in their order
 abbrev pub sources_of : CommandOf → List Text
-sources_of (QueryOf program log query) = program ∷ log ∷ query ∷ []
+sources_of (QueryOf program log query pipeline) = program ∷ log ∷ query ∷ []
 sources_of (RecordOf program log inputs pages piece steps) = program ∷ inputs
 sources_of (ReplayOf program log) = program ∷ log ∷ []
 sources_of (OutputOf program log channel) = program ∷ log ∷ []
 sources_of (ConvertOf program log new) = program ∷ log ∷ []
-sources_of (InfluenceOf program log query) = program ∷ log ∷ query ∷ []
-sources_of (QueriesOf program log queries) = program ∷ log ∷ queries
+sources_of (InfluenceOf program log query pipeline) = program ∷ log ∷ query ∷ []
+sources_of (QueriesOf program log queries pipeline) = program ∷ log ∷ queries
 
 -- where a command writes
 pub data Target : Type 0 where
@@ -24,13 +24,13 @@ pub data Target : Type 0 where
   ToFile : Text → Target
 
 abbrev pub target_of : CommandOf → Target
-target_of (QueryOf program log query) = ToOutput
+target_of (QueryOf program log query pipeline) = ToOutput
 target_of (RecordOf program log inputs pages piece steps) = ToFile log
 target_of (ReplayOf program log) = ToOutput
 target_of (OutputOf program log channel) = ToOutput
 target_of (ConvertOf program log new) = ToFile new
-target_of (InfluenceOf program log query) = ToOutput
-target_of (QueriesOf program log queries) = ToOutput
+target_of (InfluenceOf program log query pipeline) = ToOutput
+target_of (QueriesOf program log queries pipeline) = ToOutput
 
 abbrev pub target_in : Option CommandOf → Target
 target_in None = ToOutput
@@ -53,13 +53,13 @@ IfFile (ToFile name) P = P
 
 -- what holds where a command never reads the clock: all but a recording
 abbrev pub IfUntimed : CommandOf → Type 0 → Type 0
-IfUntimed (QueryOf program log query) P = P
+IfUntimed (QueryOf program log query pipeline) P = P
 IfUntimed (RecordOf program log inputs pages piece steps) P = Unit {0}
 IfUntimed (ReplayOf program log) P = P
 IfUntimed (OutputOf program log channel) P = P
 IfUntimed (ConvertOf program log new) P = P
-IfUntimed (InfluenceOf program log query) P = P
-IfUntimed (QueriesOf program log queries) P = P
+IfUntimed (InfluenceOf program log query pipeline) P = P
+IfUntimed (QueriesOf program log queries pipeline) P = P
 
 -- the same of the command that words stand for, if they stand for one
 abbrev pub IfUntimedIn : Option CommandOf → Type 0 → Type 0

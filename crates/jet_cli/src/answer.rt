@@ -4,53 +4,62 @@ ghost use Rattle.outer_io.specs.Tells.{Tells, Gains};
 ghost use Rattle.jet_model.specs.Answer.{query_answer, queries_answer, log_answer, convert_answer};
 ghost use Rattle.run_output.specs.Summary.{summary_text};
 ghost use Rattle.run_output.specs.Output.{output as output_of};
-ghost use Rattle.jet_words.specs.Commands.{plain_command, IsInRange};
+ghost use Rattle.jet_words.specs.Commands.{plain_command, IsPipeline, IsInRange};
 ghost use Rattle.jet_files.specs.Outcome.{Comes, Follows, seen_by, bytes_of};
 ghost use Rattle.jet_cli.specs.Targets.{sources_of, IfUntimed};
 ghost use Rattle.jet_cli.specs.Answers.{IsAnswer, given_by, named};
 ghost use Rattle.jet_cli.specs.Ending.{status_after};
 ghost use Rattle.jet_cli.specs.Keeping.{OpensAll, OpensFirst, KeepsAll};
 
+use crate::engine::Engine;
 use crate::record::{Limits, record};
 use crate::work::{Listing, conversion, list, output, reports, summary};
 use jet_files::{open_queries, open_query, open_run};
 use jet_refusal::Refusal;
-use jet_words::Command;
-use outer_io::{Clock, Store};
+use jet_words::{Command, Pipeline};
+use outer_io::{Clock, Gate, Store};
 use std::alloc::Global;
+use std::sync::Wait;
+use std::thread::Threads;
 
 /// The listing of a query.
-fn query<S: Store>(
-    alloc: Global,
+fn query<R: Threads + Wait + Sync, S: Store, G: Gate>(
+    engine: &Engine<R, G>,
     store: &mut S,
     program: &str,
     log: &str,
     query: &str,
     listing: Listing,
+    pipeline: Pipeline,
 ) -> Result<Vec<u8>, Refusal>
-    ensures answer { Comes (λ file. query_answer (given_by listing) file (named program.now log.now query.now))
+    requires { IsPipeline pipeline }
+    ensures answer { Comes
+        (λ file. query_answer (given_by listing) pipeline.epoch file (named program.now log.now query.now))
         (S.shown store.old) (S.shown store.new) (seen_by bytes_of result) }
     ensures keeps { KeepsAll (S.shown store.old) (S.shown store.new) }
     ensures opened { OpensFirst (program.now ∷ log.now ∷ query.now ∷ []) (S.shown store.old) (S.shown store.new) }
     ensures all { OnOk result (OpensAll (program.now ∷ log.now ∷ query.now ∷ []) (S.shown store.old) (S.shown store.new)) }
     ensures later { (S.shown store.old).faults ≤ (S.shown store.new).faults }
 {
-    let run = open_run(alloc, store, program, log)?;
-    let query = open_query(alloc, store, query)?;
-    list(alloc, run, &query, listing)
+    let run = open_run(engine.alloc, store, program, log)?;
+    let query = open_query(engine.alloc, store, query)?;
+    list(engine, run, &query, listing, pipeline)
 }
 
 /// The reports of several queries.
-fn queries<S: Store>(
-    alloc: Global,
+fn queries<R: Threads + Wait + Sync, S: Store, G: Gate>(
+    engine: &Engine<R, G>,
     store: &mut S,
     program: &str,
     log: &str,
     names: &[&str],
+    pipeline: Pipeline,
 ) -> Result<Vec<u8>, Refusal>
     requires some { 1 ≤ length names.now }
     requires few { length names.now ≤ 16 }
-    ensures answer { Comes (λ file. queries_answer file program.now log.now (map (λ name. name.now) names.now))
+    requires pipeline { IsPipeline pipeline }
+    ensures answer { Comes
+        (λ file. queries_answer pipeline.epoch file program.now log.now (map (λ name. name.now) names.now))
         (S.shown store.old) (S.shown store.new) (seen_by bytes_of result) }
     ensures keeps { KeepsAll (S.shown store.old) (S.shown store.new) }
     ensures opened { OpensFirst (program.now ∷ log.now ∷ map (λ name. name.now) names.now) (S.shown store.old) (S.shown store.new) }
@@ -58,9 +67,9 @@ fn queries<S: Store>(
         (S.shown store.old) (S.shown store.new)) }
     ensures later { (S.shown store.old).faults ≤ (S.shown store.new).faults }
 {
-    let run = open_run(alloc, store, program, log)?;
-    let queries = open_queries(alloc, store, names)?;
-    reports(alloc, run, &queries)
+    let run = open_run(engine.alloc, store, program, log)?;
+    let queries = open_queries(engine.alloc, store, names)?;
+    reports(engine, run, &queries, pipeline)
 }
 
 /// The numbers of a run.
@@ -119,8 +128,8 @@ fn convert<S: Store>(
 }
 
 /// The text of a command, which `deliver` writes.
-pub fn answer<S: Store, K: Clock>(
-    alloc: Global,
+pub fn answer<R: Threads + Wait + Sync, S: Store, K: Clock, G: Gate>(
+    engine: &Engine<R, G>,
     store: &mut S,
     clock: &mut K,
     command: &Command,
@@ -136,12 +145,22 @@ pub fn answer<S: Store, K: Clock>(
     ensures unasked { 2 ≤ status_after result → status_after result ≤ 7
         → Tells (K.answers clock.old) (K.answers clock.new) (Gains []) }
 {
+    let alloc = engine.alloc;
     match command {
         Command::Query {
             program,
             log,
             query: name,
-        } => query(alloc, store, program, log, name, Listing::BySink),
+            pipeline,
+        } => query(
+            engine,
+            store,
+            program,
+            log,
+            name,
+            Listing::BySink,
+            *pipeline,
+        ),
         Command::Record {
             program,
             inputs,
@@ -168,11 +187,21 @@ pub fn answer<S: Store, K: Clock>(
             program,
             log,
             query: name,
-        } => query(alloc, store, program, log, name, Listing::BySource),
+            pipeline,
+        } => query(
+            engine,
+            store,
+            program,
+            log,
+            name,
+            Listing::BySource,
+            *pipeline,
+        ),
         Command::Queries {
             program,
             log,
             queries: names,
-        } => queries(alloc, store, program, log, names),
+            pipeline,
+        } => queries(engine, store, program, log, names, *pipeline),
     }
 }

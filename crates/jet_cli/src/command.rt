@@ -11,14 +11,17 @@ ghost use Rattle.jet_cli.specs.Ending.{Ends, IsUnwritten, status_after};
 
 use crate::answer::answer;
 use crate::delivery::deliver;
+use crate::engine::Engine;
 use jet_refusal::Refusal;
 use jet_words::{Command, WordsFault, read_words};
-use outer_io::{Clock, Sink, Store, WriteFault};
+use outer_io::{Clock, Gate, Sink, Store, WriteFault};
 use std::alloc::Global;
+use std::sync::Wait;
+use std::thread::Threads;
 
 /// Does what a command stands for: makes its text of its files, and writes it.
-fn carry_out<S: Store, O: Sink, K: Clock>(
-    alloc: Global,
+fn carry_out<R: Threads + Wait + Sync, S: Store, O: Sink, K: Clock, G: Gate>(
+    engine: &Engine<R, G>,
     command: &Command,
     store: &mut S,
     out: &mut O,
@@ -38,7 +41,7 @@ fn carry_out<S: Store, O: Sink, K: Clock>(
     ensures unasked { 2 ≤ status_after result → status_after result ≤ 7
         → Tells (K.answers clock.old) (K.answers clock.new) (Gains []) }
 {
-    let text = answer(alloc, store, clock, command)?;
+    let text = answer(engine, store, clock, command)?;
     match deliver(store, out, command, &text) {
         Ok(()) => Ok(()),
         Err(WriteFault) => Err(Refusal::WriteFault),
@@ -47,13 +50,15 @@ fn carry_out<S: Store, O: Sink, K: Clock>(
 
 /// Does what the words stand for, of which the first is the program's name. It gives up with `Usage`, where they stand
 /// for no command; with what the files are refused for, `ReadFault` or `WriteFault`, where the store or the output fails,
-/// or `NoMemory`.
-pub fn obey<S: Store, O: Sink, K: Clock>(
+/// or `NoMemory`. Epochs are analysed in threads; the gate is told of each.
+pub fn obey<R: Threads + Wait + Sync, S: Store, O: Sink, K: Clock, G: Gate>(
+    rt: &R,
     alloc: Global,
     words: &[String],
     store: &mut S,
     out: &mut O,
     clock: &mut K,
+    gate: &G,
 ) -> Result<(), Refusal>
     // It is `Usage` exactly where the command line doesn't take the words, out of memory aside.
     ensures usage { result ≡ Err Refusal.Usage → takes jet_app (map string_bytes words.now) ≡ false }
@@ -75,8 +80,9 @@ pub fn obey<S: Store, O: Sink, K: Clock>(
     ensures unasked { 2 ≤ status_after result → status_after result ≤ 7
         → Tells (K.answers clock.old) (K.answers clock.new) (Gains []) }
 {
+    let engine = Engine { rt, alloc, gate };
     match read_words(alloc, words) {
-        Ok(command) => carry_out(alloc, &command, store, out, clock),
+        Ok(command) => carry_out(&engine, &command, store, out, clock),
         Err(WordsFault::Usage) => Err(Refusal::Usage),
         Err(WordsFault::NoMemory) => Err(Refusal::NoMemory),
     }

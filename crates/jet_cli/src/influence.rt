@@ -2,18 +2,28 @@
 ghost use Rattle.std.specs.Prelude.{◌≡◌, ◌++◌, ◌<◌, map, IfOk, OnOk};
 ghost use Rattle.std.specs.List.{filter, range_with_len};
 ghost use Rattle.report_model.specs.Query.{has_source};
-ghost use Rattle.report_model.specs.Influence.{chosen_sources};
+ghost use Rattle.report_model.specs.Influence.{chosen_sources, turned, influence_text as text_of_influence};
 ghost use Rattle.jet_model.specs.Report.{influence_of as influence_text_of};
 ghost use Rattle.replayer.specs.Jobs.{trace_of};
+ghost use Rattle.jet_model.specs.Answer.{cut_answer};
 ghost use Rattle.jet_model.specs.Sources.{sources_on};
+ghost use Rattle.jet_words.specs.Commands.{IsPipeline};
+ghost use Rattle.jet_files.specs.Outcome.{IsWork, seen_by, bytes_of};
 
+use crate::engine::Engine;
+use crate::memory::or_memory;
+use crate::rows::rows_of;
 use flow_model::SourceByte;
+use jet_refusal::Refusal;
+use jet_words::Pipeline;
 use no_memory::NoMemory;
+use outer_io::Gate;
 use query_lang::Query;
 use replayer::Job;
-use seq_taint::sequential;
-use sink_collect::{gather, influence_text, turn_round};
+use sink_collect::{Report, influence_text, turn_round};
 use std::alloc::Global;
+use std::sync::Wait;
+use std::thread::Threads;
 
 /// There are at most so many input channels.
 const CHANNELS: u8 = 16;
@@ -53,12 +63,32 @@ fn sources_of(alloc: Global, job: &Job, query: &Query) -> Result<Vec<SourceByte>
     Ok(sources)
 }
 
-/// The text of the influence of the source bytes that a query chooses.
-pub fn influence_of(alloc: Global, job: &Job, query: &Query) -> Result<Vec<u8>, NoMemory>
-    ensures { IfOk result (λ text. text.items ≡ influence_text_of query.now (trace_of job.now)) }
+/// The text of a report turned round: of the source bytes that the query chooses.
+fn turned_text(
+    alloc: Global,
+    job: &Job,
+    query: &Query,
+    report: &Report,
+) -> Result<Vec<u8>, NoMemory>
+    ensures { IfOk result (λ text.
+        text.items ≡ text_of_influence (turned report.now (chosen_sources query.now (trace_of job.now)))) }
 {
-    let report = gather(alloc, sequential(alloc, job, query)?)?;
     let sources = sources_of(alloc, job, query)?;
-    let influence = turn_round(alloc, &report, sources)?;
+    let influence = turn_round(alloc, report, sources)?;
     influence_text(alloc, &influence)
+}
+
+/// The text of the influence of the source bytes that a query chooses.
+pub fn influence_of<R: Threads + Wait + Sync, G: Gate>(
+    engine: &Engine<R, G>,
+    job: &Job,
+    query: &Query,
+    pipeline: Pipeline,
+) -> Result<Vec<u8>, Refusal>
+    requires { IsPipeline pipeline }
+    ensures { IsWork (cut_answer pipeline.epoch job.now.start job.now.log (influence_text_of query.now))
+        (seen_by bytes_of result) }
+{
+    let report = rows_of(engine, job, query, pipeline)?;
+    or_memory(turned_text(engine.alloc, job, query, &report))
 }

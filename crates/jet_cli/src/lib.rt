@@ -11,9 +11,12 @@ mod answer;
 mod command;
 mod delivery;
 mod ending;
+mod engine;
 mod influence;
+mod memory;
 mod record;
 mod reports;
+mod rows;
 mod work;
 
 pub use command::obey;

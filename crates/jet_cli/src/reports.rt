@@ -1,35 +1,44 @@
-//! Reports: of one query, and of several by one replay.
-ghost use Rattle.std.specs.Prelude.{◌≡◌, ◌≤◌, ◌++◌, Err, length, IfOk, IfErr, OnOk};
+//! Reports: of one query, and of several by one analysis of the run.
+ghost use Rattle.std.specs.Prelude.{◌≡◌, ◌≤◌, ◌++◌, List, Err, length, IfOk, IfErr, OnOk};
 ghost use Rattle.sorted_set.specs.Sets.{Ascends};
 ghost use Rattle.flow_model.specs.Orders.{inner_cmp};
+ghost use Rattle.flow_model.specs.declared.StepSeen.{StepSeen as Step};
+ghost use Rattle.report_model.specs.Query.{Query as Choice};
 ghost use Rattle.report_model.specs.Rows.{rows};
 ghost use Rattle.jet_model.specs.Report.{report_of, reports_of as reports_by};
-ghost use Rattle.replayer.specs.Jobs.{trace_of};
-ghost use Rattle.jet_model.specs.Answer.{rules_check};
-ghost use Rattle.jet_files.specs.Outcome.{IsWork};
+ghost use Rattle.jet_words.specs.Commands.{IsPipeline};
+ghost use Rattle.jet_model.specs.Answer.{cut_answer, rules_check};
+ghost use Rattle.jet_files.specs.Outcome.{IsWork, seen_by, bytes_of};
 ghost use Rattle.jet_cli.specs.Answers.{IsUnion, numbered_text};
 
+use crate::engine::Engine;
+use crate::memory::or_memory;
+use crate::rows::rows_of;
 use itoa::Buffer;
 use jet_refusal::Refusal;
+use jet_words::Pipeline;
 use no_memory::NoMemory;
+use outer_io::Gate;
 use query_lang::{Query, TogetherFault, together};
 use replayer::Job;
-use seq_taint::sequential;
-use sink_collect::{Report, gather, text};
+use sink_collect::{Report, text};
 use std::alloc::Global;
-
-/// The rows of a query over the run.
-fn rows_of(alloc: Global, job: &Job, query: &Query) -> Result<Report, NoMemory>
-    ensures { IfOk result (λ report. report ≡ rows query.now (trace_of job.now)) }
-{
-    gather(alloc, sequential(alloc, job, query)?)
-}
+use std::sync::Wait;
+use std::thread::Threads;
 
 /// The text of a query's report.
-pub fn report_text(alloc: Global, job: &Job, query: &Query) -> Result<Vec<u8>, NoMemory>
-    ensures { IfOk result (λ text. text.items ≡ report_of query.now (trace_of job.now)) }
+pub fn report_text<R: Threads + Wait + Sync, G: Gate>(
+    engine: &Engine<R, G>,
+    job: &Job,
+    query: &Query,
+    pipeline: Pipeline,
+) -> Result<Vec<u8>, Refusal>
+    requires { IsPipeline pipeline }
+    ensures { IsWork (cut_answer pipeline.epoch job.now.start job.now.log (report_of query.now))
+        (seen_by bytes_of result) }
 {
-    text(alloc, &rows_of(alloc, job, query)?)
+    let report = rows_of(engine, job, query, pipeline)?;
+    or_memory(text(engine.alloc, &report))
 }
 
 /// One query that chooses what any of several does. It gives up with `Rules`, where their rules differ, or with `NoMemory`.
@@ -78,23 +87,35 @@ fn push_report(
     Ok(())
 }
 
-/// The reports of several queries, one after another: one replay finds the rows of all.
-pub fn reports_of(
-    alloc: Global,
-    job: &Job,
-    union: &Query,
-    queries: &[Query],
-) -> Result<Vec<u8>, NoMemory>
-    requires union { IsUnion queries.now union.now }
-    requires few { length queries.now ≤ 16 }
-    ensures { IfOk result (λ text. text.items ≡ reports_by queries.now (trace_of job.now)) }
+/// The reports of several queries, one after another, by the rows of one that asks for what any of them does.
+fn own_reports(alloc: Global, all: &Report, queries: &[Query]) -> Result<Vec<u8>, NoMemory>
+    requires { length queries.now ≤ 16 }
+    ensures { IfOk result (λ text. (union : Choice) (trace : List Step)
+        → IsUnion queries.now union → all.now ≡ rows union trace → text.items ≡ reports_by queries.now trace) }
 {
-    let all = rows_of(alloc, job, union)?;
     let mut out = Vec::new(alloc);
     let mut number = 0;
     for query in queries {
         number += 1;
-        push_report(alloc, &mut out, number, &all, query)?;
+        push_report(alloc, &mut out, number, all, query)?;
     }
     Ok(out)
+}
+
+/// The reports of several queries, one after another: the rows of all are found at once.
+pub fn reports_of<R: Threads + Wait + Sync, G: Gate>(
+    engine: &Engine<R, G>,
+    job: &Job,
+    union: &Query,
+    queries: &[Query],
+    pipeline: Pipeline,
+) -> Result<Vec<u8>, Refusal>
+    requires union { IsUnion queries.now union.now }
+    requires few { length queries.now ≤ 16 }
+    requires pipeline { IsPipeline pipeline }
+    ensures { IsWork (cut_answer pipeline.epoch job.now.start job.now.log (reports_by queries.now))
+        (seen_by bytes_of result) }
+{
+    let all = rows_of(engine, job, union, pipeline)?;
+    or_memory(own_reports(engine.alloc, &all, queries))
 }

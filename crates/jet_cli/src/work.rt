@@ -3,26 +3,31 @@
 ghost use Rattle.std.specs.Prelude.{◌≡◌, ◌≤◌, Ok, Err, length, IfOk, IfErr, OnErr};
 ghost use Rattle.elf_model.specs.Image.{image as image_of_file};
 ghost use Rattle.replayer.specs.Checks.{IsChecked};
-ghost use Rattle.replayer.specs.Jobs.{trace_of};
 ghost use Rattle.run_output.specs.Summary.{summary_text as summary_text_of};
 ghost use Rattle.run_output.specs.Output.{output as output_of};
 ghost use Rattle.jet_model.specs.Outcomes.{and_then};
-ghost use Rattle.jet_model.specs.Answer.{fitting_start, text_answer, limited_text};
+ghost use Rattle.jet_words.specs.Commands.{IsPipeline};
+ghost use Rattle.jet_model.specs.Answer.{fitting_start, cut_answer, text_answer, limited_text};
 ghost use Rattle.jet_files.specs.Outcome.{IsWork, seen_by, bytes_of};
 ghost use Rattle.jet_files.specs.Views.{run_of};
 ghost use Rattle.jet_cli.specs.Answers.{IsWorkOf, IsGivenAlike, AreGivenAlike, given_by};
 
+use crate::engine::Engine;
 use crate::influence::influence_of;
+use crate::memory::or_memory;
 use crate::reports::{report_text, reports_of, union_of};
 use elf_image::Image;
 use jet_files::{LONGEST_FILE, Program, Run};
 use jet_refusal::Refusal;
-use no_memory::NoMemory;
+use jet_words::Pipeline;
+use outer_io::Gate;
 use query_lang::Query;
 use replay_log::{Log, write_log};
 use replayer::{CheckFault, Job};
 use run_output::{output_on, summary_text};
 use std::alloc::Global;
+use std::sync::Wait;
+use std::thread::Threads;
 
 /// The log fitted to its program.
 fn fitted(alloc: Global, program: &[u8], image: Image, log: Log) -> Result<Job, Refusal>
@@ -50,17 +55,6 @@ fn fitted_run(alloc: Global, run: Run) -> Result<Job, Refusal>
     fitted(alloc, &bytes, image, log)
 }
 
-/// A text, or out of memory.
-fn or_memory(text: Result<Vec<u8>, NoMemory>) -> Result<Vec<u8>, Refusal>
-    ensures ok { IfOk text (λ bytes. result ≡ Ok bytes) }
-    ensures err { OnErr text (result ≡ Err Refusal.NoMemory) }
-{
-    match text {
-        Ok(bytes) => Ok(bytes),
-        Err(NoMemory) => Err(Refusal::NoMemory),
-    }
-}
-
 /// What is listed of a query's rows.
 #[derive(Clone, Copy)]
 pub enum Listing {
@@ -71,35 +65,56 @@ pub enum Listing {
 }
 
 /// The text of a listing.
-fn listed(alloc: Global, job: &Job, query: &Query, listing: Listing) -> Result<Vec<u8>, NoMemory>
-    ensures { IfOk result (λ text. text.items ≡ given_by listing query.now (trace_of job.now)) }
+fn listed<R: Threads + Wait + Sync, G: Gate>(
+    engine: &Engine<R, G>,
+    job: &Job,
+    query: &Query,
+    listing: Listing,
+    pipeline: Pipeline,
+) -> Result<Vec<u8>, Refusal>
+    requires { IsPipeline pipeline }
+    ensures { IsWork (cut_answer pipeline.epoch job.now.start job.now.log (given_by listing query.now))
+        (seen_by bytes_of result) }
 {
     match listing {
-        Listing::BySink => report_text(alloc, job, query),
-        Listing::BySource => influence_of(alloc, job, query),
+        Listing::BySink => report_text(engine, job, query, pipeline),
+        Listing::BySource => influence_of(engine, job, query, pipeline),
     }
 }
 
 /// The listing of a query over the run, for each query that this one stands for.
-pub fn list(alloc: Global, run: Run, query: &Query, listing: Listing) -> Result<Vec<u8>, Refusal>
+pub fn list<R: Threads + Wait + Sync, G: Gate>(
+    engine: &Engine<R, G>,
+    run: Run,
+    query: &Query,
+    listing: Listing,
+    pipeline: Pipeline,
+) -> Result<Vec<u8>, Refusal>
     requires image { image_of_file run.program.bytes.items ≡ Ok run.program.image }
-    ensures { IsWorkOf (IsGivenAlike listing (run_of run) query.now) (seen_by bytes_of result) }
+    requires pipeline { IsPipeline pipeline }
+    ensures { IsWorkOf (IsGivenAlike listing pipeline.epoch (run_of run) query.now) (seen_by bytes_of result) }
 {
-    let job = fitted_run(alloc, run)?;
-    or_memory(listed(alloc, &job, query, listing))
+    let job = fitted_run(engine.alloc, run)?;
+    listed(engine, &job, query, listing, pipeline)
 }
 
-/// The reports of several queries over the run, for all queries that these stand for. The rules are compared first; then one
-/// replay serves all.
-pub fn reports(alloc: Global, run: Run, queries: &[Query]) -> Result<Vec<u8>, Refusal>
+/// The reports of several queries over the run, for all queries that these stand for. The rules are compared first; then
+/// the run is analysed once for all.
+pub fn reports<R: Threads + Wait + Sync, G: Gate>(
+    engine: &Engine<R, G>,
+    run: Run,
+    queries: &[Query],
+    pipeline: Pipeline,
+) -> Result<Vec<u8>, Refusal>
     requires image { image_of_file run.program.bytes.items ≡ Ok run.program.image }
     requires some { 1 ≤ length queries.now }
     requires few { length queries.now ≤ 16 }
-    ensures { IsWorkOf (AreGivenAlike (run_of run) queries.now) (seen_by bytes_of result) }
+    requires pipeline { IsPipeline pipeline }
+    ensures { IsWorkOf (AreGivenAlike pipeline.epoch (run_of run) queries.now) (seen_by bytes_of result) }
 {
-    let union = union_of(alloc, queries)?;
-    let job = fitted_run(alloc, run)?;
-    or_memory(reports_of(alloc, &job, &union, queries))
+    let union = union_of(engine.alloc, queries)?;
+    let job = fitted_run(engine.alloc, run)?;
+    reports_of(engine, &job, &union, queries, pipeline)
 }
 
 /// The numbers of the run, as text.

@@ -10,7 +10,7 @@ use Rattle.elf_model.specs.declared.ImageKind.{ImageKind}
 use Rattle.elf_model.specs.Image.{Image, image}
 use Rattle.elf_model.specs.Window.{start_of}
 use Rattle.log_model.specs.declared.Version.TheVariants.{Two}
-use Rattle.log_model.specs.Logs.{Log, IsLog, log_text}
+use Rattle.log_model.specs.Logs.{Log, IsLog, steps, log_text}
 use Rattle.log_model.specs.Reading.{log_of}
 use Rattle.log_model.proofs.Reading.{reads_log}
 use Rattle.flow_model.specs.declared.Rule.{Rule}
@@ -27,10 +27,11 @@ use Rattle.jet_refusal.specs.declared.refusal.Refusal.TheVariants as refusal
 use Rattle.jet_model.specs.Outcomes.{and_then}
 use Rattle.jet_model.specs.Contents.{Contents, Names, Program, Run, program_at, query_at, queries_at, run_at, inputs_at}
 use Rattle.jet_model.specs.Report.{reports_of, text_from, text_over}
-use Rattle.jet_model.specs.Answer.{digest_check, start_in, unless_diverged, fitting_start, traced_answer, query_answer, unless_other_rule, rules_check, queries_answer, text_answer, log_answer, limited_text, convert_answer, Limits, Source, source_at, setting_of, IsCaptured, IsCaptureAnswer, IsRecordAnswer}
-use Rattle.jet_model.specs.Headline.{IsRunOf, IsGivenByQuery, AreReportsOf, IsGivenBy, IsConversionOf, IsRecordingOf, IsShort, AreShort, AreAllShort}
+use Rattle.jet_model.specs.Answer.{digest_check, start_in, unless_diverged, fitting_start, epochs_check, cut_answer, traced_answer, query_answer, unless_other_rule, rules_check, queries_answer, text_answer, log_answer, limited_text, convert_answer, Limits, Source, source_at, setting_of, IsCaptured, IsCaptureAnswer, IsRecordAnswer}
+use Rattle.jet_model.specs.Headline.{IsRunOf, IsGivenByQuery, AreReportsOf, IsGivenBy, IsConversionOf, IsRecordingOf, IsShort, AreShort, AreAllShort, HasFewEpochs}
 use Rattle.jet_model.proofs.AndThen.{ok-one, and_then-ok, and_then-is_ok, AndThen-ok, AndThen-is_ok, AndThen-one, ok_or-is_ok}
 use Rattle.replay_model.proofs.Received.{fitting_is_held}
+use Rattle.epoch_model.specs.ByLength.{epoch_count}
 use Rattle.record_model.specs.Counts.{capped}
 use Rattle.record_model.proofs.Unique.{one_recording}
 use Rattle.jet_model.proofs.Files.{program_at-there, program_at-is_ok, log_at-there, log_at-is_ok, query_at-there, query_at-is_ok, queries_at-there, queries_at-is_ok, run_at-there, run_at-is_ok, inputs_at-there, inputs_at-is_ok}
@@ -143,18 +144,39 @@ is_over : (program : List ℕ) (log : Log) (given : Text) (f : Fits program log)
 is_over program log given f start text same e =
     e ∙ ap (λ (s : State). given (trace s log)) (sym same) ∙ over_run program log f given
 
-traced : (run : Run) (start : State) (given : Text) → fitting_start run.program run.log ≡ Ok start → traced_answer run given ≡ Ok (given (trace start run.log))
-traced run start given e = and_then-ok (fitting_start run.program run.log) (λ s. Ok (given (trace s run.log))) start e
+-- the run has few epochs
+epochs-few : (epoch : ℕ) (log : Log) → HasFewEpochs epoch log → epochs_check epoch log ≡ Ok tt
+epochs-few epoch log few =
+    ap (λ (b : Bool). if b then Err (refusal.TooManyEpochs (epoch_count (steps log) epoch)) else Ok tt) (le-ltb 4096 (epoch_count (steps log) epoch) few)
+
+-- the text is made where the log fits and its run has few epochs
+traced : (epoch : ℕ) (run : Run) (start : State) (given : Text) → fitting_start run.program run.log ≡ Ok start → HasFewEpochs epoch run.log
+    → traced_answer epoch run given ≡ Ok (given (trace start run.log))
+traced epoch run start given e few =
+    and_then-ok (fitting_start run.program run.log) (λ s. cut_answer epoch s run.log given) start e
+    ∙ and_then-ok (epochs_check epoch run.log) (λ few. Ok (given (trace start run.log))) tt (epochs-few epoch run.log few)
+
+-- where it was made, the log fits
+record IsTraced (run : Run) (given : Text) (text : List ℕ) : Type 0 where
+  start : State
+  begins : fitting_start run.program run.log ≡ Ok start
+  gives : text ≡ given (trace start run.log)
+
+traced-is_ok : (epoch : ℕ) (run : Run) (given : Text) (text : List ℕ) → traced_answer epoch run given ≡ Ok text → IsTraced run given text
+traced-is_ok epoch run given text h =
+    let s = and_then-is_ok (fitting_start run.program run.log) (λ start. cut_answer epoch start run.log given) text h in
+    let few = and_then-is_ok (epochs_check epoch run.log) (λ few. Ok (given (trace s.0 run.log))) text s.2 in
+    record { start = s.0; begins = s.1; gives = sym (ok_same _ _ few.2) }
 
 -- ---- a query
 
-pub answer-is_given : (given : Query → Text) (file : Contents) (names : Names) (text : List ℕ) → query_answer given file names ≡ Ok text → IsGivenByQuery given file names text
-answer-is_given given file names text h =
-    let r = and_then-is_ok (run_at file names.program names.log) (λ run. and_then (query_at file names.query) (λ q. traced_answer run (given q))) text h in
+pub answer-is_given : (given : Query → Text) (epoch : ℕ) (file : Contents) (names : Names) (text : List ℕ) → query_answer given epoch file names ≡ Ok text → IsGivenByQuery given file names text
+answer-is_given given epoch file names text h =
+    let r = and_then-is_ok (run_at file names.program names.log) (λ run. and_then (query_at file names.query) (λ q. traced_answer epoch run (given q))) text h in
     let run = r.0 in
-    let q = and_then-is_ok (query_at file names.query) (λ q. traced_answer run (given q)) text r.2 in
-    let s = and_then-is_ok (fitting_start run.program run.log) (λ start. Ok (given q.0 (trace start run.log))) text q.2 in
-    let found = fitting_run file names.program names.log run s.0 r.1 s.1 in
+    let q = and_then-is_ok (query_at file names.query) (λ q. traced_answer epoch run (given q)) text r.2 in
+    let s = traced-is_ok epoch run (given q.0) text q.2 in
+    let found = fitting_run file names.program names.log run s.start r.1 s.begins in
     let found_query = query_at-is_ok file names.query q.0 q.1 in
     record {
       program = run.program.bytes;
@@ -164,16 +186,17 @@ answer-is_given given file names text h =
       the_query = q.0;
       query_file = found_query.1;
       is_query = found_query.2;
-      gives = is_over run.program.bytes run.log (given q.0) found.the_run.fits s.0 text found.start_is (sym (ok_same _ _ s.2));
+      gives = is_over run.program.bytes run.log (given q.0) found.the_run.fits s.start text found.start_is s.gives;
     }
 
-pub given-is_answer : (given : Query → Text) (file : Contents) (names : Names) (text : List ℕ) → AreShort file names → IsGivenByQuery given file names text → query_answer given file names ≡ Ok text
-given-is_answer given file names text short g =
+pub given-is_answer : (given : Query → Text) (epoch : ℕ) (file : Contents) (names : Names) (text : List ℕ) → AreShort file names → (g : IsGivenByQuery given file names text) → HasFewEpochs epoch g.log
+    → query_answer given epoch file names ≡ Ok text
+given-is_answer given epoch file names text short g few =
     let r = read_run file names.program names.log g.program g.log short.program short.log g.run in
     let start = g.run.fits.start in
-    and_then-ok (run_at file names.program names.log) (λ x. and_then (query_at file names.query) (λ q. traced_answer x (given q))) r.run r.is_read
-    ∙ and_then-ok (query_at file names.query) (λ q. traced_answer r.run (given q)) g.the_query (query_at-there file names.query g.query_text g.the_query g.query_file short.query g.is_query)
-    ∙ traced r.run start (given g.the_query) r.begins
+    and_then-ok (run_at file names.program names.log) (λ x. and_then (query_at file names.query) (λ q. traced_answer epoch x (given q))) r.run r.is_read
+    ∙ and_then-ok (query_at file names.query) (λ q. traced_answer epoch r.run (given q)) g.the_query (query_at-there file names.query g.query_text g.the_query g.query_file short.query g.is_query)
+    ∙ traced epoch r.run start (given g.the_query) r.begins (subst (HasFewEpochs epoch) (sym r.same_log) few)
     ∙ ap (λ (l : Log). ok_text (given g.the_query (trace start l))) r.same_log
     ∙ ap ok_text (over_run g.program g.log g.run.fits (given g.the_query) ∙ sym g.gives)
 
@@ -186,14 +209,14 @@ rules-is_ok (Some x) same h = cc
 rules-one : (qs : List Query) → first_other_rule qs ≡ None → rules_check qs ≡ Ok tt
 rules-one qs e = ap unless_other_rule e
 
-pub reports-are_given : (file : Contents) (program log : List ℕ) (names : List (List ℕ)) (text : List ℕ) → queries_answer file program log names ≡ Ok text → AreReportsOf file program log names text
-reports-are_given file program log names text h =
-    let r = and_then-is_ok (run_at file program log) (λ run. and_then (queries_at file names) (λ qs. and_then (rules_check qs) (λ same. traced_answer run (reports_of qs)))) text h in
+pub reports-are_given : (epoch : ℕ) (file : Contents) (program log : List ℕ) (names : List (List ℕ)) (text : List ℕ) → queries_answer epoch file program log names ≡ Ok text → AreReportsOf file program log names text
+reports-are_given epoch file program log names text h =
+    let r = and_then-is_ok (run_at file program log) (λ run. and_then (queries_at file names) (λ qs. and_then (rules_check qs) (λ same. traced_answer epoch run (reports_of qs)))) text h in
     let run = r.0 in
-    let q = and_then-is_ok (queries_at file names) (λ qs. and_then (rules_check qs) (λ same. traced_answer run (reports_of qs))) text r.2 in
-    let one = and_then-is_ok (rules_check q.0) (λ same. traced_answer run (reports_of q.0)) text q.2 in
-    let s = and_then-is_ok (fitting_start run.program run.log) (λ start. Ok (reports_of q.0 (trace start run.log))) text one.2 in
-    let found = fitting_run file program log run s.0 r.1 s.1 in
+    let q = and_then-is_ok (queries_at file names) (λ qs. and_then (rules_check qs) (λ same. traced_answer epoch run (reports_of qs))) text r.2 in
+    let one = and_then-is_ok (rules_check q.0) (λ same. traced_answer epoch run (reports_of q.0)) text q.2 in
+    let s = traced-is_ok epoch run (reports_of q.0) text one.2 in
+    let found = fitting_run file program log run s.start r.1 s.begins in
     let found_queries = queries_at-is_ok file names q.0 q.1 in
     record {
       program = run.program.bytes;
@@ -204,20 +227,20 @@ reports-are_given file program log names text h =
       query_files = found_queries.1.there;
       are_queries = found_queries.1.are_queries;
       one_rule = rules-is_ok (first_other_rule q.0) one.0 one.1;
-      gives = is_over run.program.bytes run.log (reports_of q.0) found.the_run.fits s.0 text found.start_is (sym (ok_same _ _ s.2));
+      gives = is_over run.program.bytes run.log (reports_of q.0) found.the_run.fits s.start text found.start_is s.gives;
     }
 
-pub given-are_reports : (file : Contents) (program log : List ℕ) (names : List (List ℕ)) (text : List ℕ) → IsShort (file program) → IsShort (file log) → AreAllShort file names
-    → AreReportsOf file program log names text → queries_answer file program log names ≡ Ok text
-given-are_reports file program log names text short short_log all g =
+pub given-are_reports : (epoch : ℕ) (file : Contents) (program log : List ℕ) (names : List (List ℕ)) (text : List ℕ) → IsShort (file program) → IsShort (file log) → AreAllShort file names
+    → (g : AreReportsOf file program log names text) → HasFewEpochs epoch g.log → queries_answer epoch file program log names ≡ Ok text
+given-are_reports epoch file program log names text short short_log all g few =
     let r = read_run file program log g.program g.log short short_log g.run in
     let start = g.run.fits.start in
     let qs = g.the_queries in
-    and_then-ok (run_at file program log) (λ x. and_then (queries_at file names) (λ qs. and_then (rules_check qs) (λ same. traced_answer x (reports_of qs)))) r.run r.is_read
-    ∙ and_then-ok (queries_at file names) (λ qs. and_then (rules_check qs) (λ same. traced_answer r.run (reports_of qs))) qs
+    and_then-ok (run_at file program log) (λ x. and_then (queries_at file names) (λ qs. and_then (rules_check qs) (λ same. traced_answer epoch x (reports_of qs)))) r.run r.is_read
+    ∙ and_then-ok (queries_at file names) (λ qs. and_then (rules_check qs) (λ same. traced_answer epoch r.run (reports_of qs))) qs
     (queries_at-there file names g.query_texts qs (record { there = g.query_files; are_queries = g.are_queries }) all)
-    ∙ and_then-ok (rules_check qs) (λ same. traced_answer r.run (reports_of qs)) tt (rules-one qs g.one_rule)
-    ∙ traced r.run start (reports_of qs) r.begins
+    ∙ and_then-ok (rules_check qs) (λ same. traced_answer epoch r.run (reports_of qs)) tt (rules-one qs g.one_rule)
+    ∙ traced epoch r.run start (reports_of qs) r.begins (subst (HasFewEpochs epoch) (sym r.same_log) few)
     ∙ ap (λ (l : Log). ok_text (reports_of qs (trace start l))) r.same_log
     ∙ ap ok_text (over_run g.program g.log g.run.fits (reports_of qs) ∙ sym g.gives)
 

@@ -1,13 +1,10 @@
 -- The source bytes of a trace are those that its log received.
 use Rattle.std.proofs.Common.{◌≡◌, ℕ, zero, suc, ◌+◌, ◌-◌, ◌<◌, ◌≤◌, nat_eq, List, [], ◌∷◌, ◌++◌, Bool, true, false, refl, sym, ap, ap₂, subst, ◌∙◌, arith, map, length, inl, inr}
-use Rattle.std.specs.Prelude.{◌⊎◌, Some, None, Option, Contains}
+use Rattle.std.specs.Prelude.{◌⊎◌, Some, None, Option}
 use Rattle.std.specs.List.{filter, flat_map, range_with_len, AllByRecursion}
 use Rattle.std.specs.Option.{option_and_then}
-use Rattle.std.specs.Ordering.{nat_cmp}
 use Rattle.std.specs.Cmp.{nat_cmp_is}
-use Rattle.std.specs.Cmp.Lexicographic.{slice_cmp}
-use Rattle.std.specs.declared.cmp.Ordering.{Ordering}
-use Rattle.std.specs.declared.cmp.Ordering.TheVariants.{Less, Equal, Greater}
+use Rattle.std.specs.declared.cmp.Ordering.TheVariants.{Less, Equal}
 use Rattle.std.proofs.lemmas.List.Concat.{flat_map-cons}
 use Rattle.std.proofs.lemmas.Bool.{eqb-true, eqb-false, cases_lt}
 use Rattle.isa.specs.Machine.{State}
@@ -26,11 +23,10 @@ use Rattle.log_model.specs.Logs.{Log, IsLog}
 use Rattle.log_model.specs.Moved.{received}
 use Rattle.report_model.specs.Query.{Query, has_source}
 use Rattle.report_model.specs.Influence.{source_at, sources_of_call, sources_of_step, sources_of, chosen_sources}
-use Rattle.report_model.proofs.Members.{Some_in, some-Contains, Contains-some, some-each, some-gives, some-left, some-right, map-some, some-map, some-range}
+use Rattle.report_model.proofs.Members.{Some_in, some-Contains, Contains-some, some-each, some-left, some-right, map-some, some-map, some-range}
 use Rattle.replay_model.specs.Run.{trace}
 use Rattle.replay_model.specs.Comparison.{divergence}
-use Rattle.replay_model.specs.Offsets.{call_at}
-use Rattle.replay_model.specs.Received.{IsReceived, ReadsByteAt}
+use Rattle.replay_model.specs.Received.{IsReceived}
 use Rattle.replay_model.proofs.Received.{reads_are_received, none_received}
 use Rattle.jet_model.specs.Sources.{source_on, sources_on, received_sources}
 

@@ -6,7 +6,7 @@ use Rattle.isa.specs.Machine.{State}
 use Rattle.elf_model.specs.Image.{Image}
 use Rattle.elf_model.specs.Window.{start_of}
 use Rattle.log_model.specs.declared.Version.TheVariants.{Two}
-use Rattle.log_model.specs.Logs.{Log, log_text}
+use Rattle.log_model.specs.Logs.{Log, steps, log_text}
 use Rattle.flow_model.specs.declared.Rule.{Rule}
 use Rattle.flow_model.specs.declared.StepSeen.{StepSeen}
 use Rattle.report_model.specs.Query.{Query}
@@ -14,6 +14,7 @@ use Rattle.report_model.specs.Together.{first_other_rule}
 use Rattle.replay_model.specs.Run.{trace}
 use Rattle.replay_model.specs.declared.Divergence.{Divergence}
 use Rattle.replay_model.specs.Comparison.{divergence}
+use Rattle.epoch_model.specs.ByLength.{epoch_count}
 use Rattle.record_model.specs.Counts.{capped}
 use Rattle.record_model.specs.Recorded.{Setting, IsRecorded}
 use Rattle.sha2.specs.Sha256.{sha256}
@@ -48,18 +49,29 @@ fitting_start program log =
 
 -- ---- what a program, a log and queries come to
 
--- a text that is made of the run's trace
-abbrev pub traced_answer : Run → (List StepSeen → List ℕ) → Result (List ℕ) Refusal
-traced_answer run text =
+-- the log's run has at most 4096 epochs of this length
+abbrev pub epochs_check : ℕ → Log → Result (Unit {0}) Refusal
+epochs_check epoch log = let count = epoch_count (steps log) epoch in
+    if nat_lt 4096 count then Err (refusal.TooManyEpochs count) else Ok tt
+
+-- what is made of the trace of a run from this state, where it has few epochs of this length
+abbrev pub cut_answer : {A : Type 0} → ℕ → State → Log → (List StepSeen → A) → Result A Refusal
+cut_answer epoch start log given =
+    and_then (epochs_check epoch log) (λ few.
+    Ok (given (trace start log)))
+
+-- a text that is made of a run's trace
+abbrev pub traced_answer : ℕ → Run → (List StepSeen → List ℕ) → Result (List ℕ) Refusal
+traced_answer epoch run text =
     and_then (fitting_start run.program run.log) (λ start.
-    Ok (text (trace start run.log)))
+    cut_answer epoch start run.log text)
 
 -- the text that a query gives of a trace, as `report_of` or `influence_of`
-abbrev pub query_answer : (Query → List StepSeen → List ℕ) → Contents → Names → Result (List ℕ) Refusal
-query_answer given file names =
+abbrev pub query_answer : (Query → List StepSeen → List ℕ) → ℕ → Contents → Names → Result (List ℕ) Refusal
+query_answer given epoch file names =
     and_then (run_at file names.program names.log) (λ run.
     and_then (query_at file names.query) (λ q.
-    traced_answer run (given q)))
+    traced_answer epoch run (given q)))
 
 abbrev pub unless_other_rule : Option (Rule × ℕ × Rule) → Result (Unit {0}) Refusal
 unless_other_rule None = Ok tt
@@ -70,12 +82,12 @@ abbrev pub rules_check : List Query → Result (Unit {0}) Refusal
 rules_check qs = unless_other_rule (first_other_rule qs)
 
 -- the reports of several queries. All of them are read before their rules are compared
-abbrev pub queries_answer : Contents → List ℕ → List ℕ → List (List ℕ) → Result (List ℕ) Refusal
-queries_answer file program log names =
+abbrev pub queries_answer : ℕ → Contents → List ℕ → List ℕ → List (List ℕ) → Result (List ℕ) Refusal
+queries_answer epoch file program log names =
     and_then (run_at file program log) (λ run.
     and_then (queries_at file names) (λ qs.
     and_then (rules_check qs) (λ same.
-    traced_answer run (reports_of qs))))
+    traced_answer epoch run (reports_of qs))))
 
 -- ---- what a program and a log come to
 

@@ -3,13 +3,14 @@ use Rattle.std.specs.Prelude.{◌≡◌, ◌≤◌, ◌^◌, ℕ, List, length, 
 use Rattle.std.specs.List.{AllByRecursion}
 use Rattle.flow_model.specs.declared.StepSeen.{StepSeen}
 use Rattle.log_model.specs.declared.Version.TheVariants.{Two}
-use Rattle.log_model.specs.Logs.{Log, log_text, IsLog, IsTextOf}
+use Rattle.log_model.specs.Logs.{Log, steps, log_text, IsLog, IsTextOf}
 use Rattle.log_model.specs.Reading.{log_of}
 use Rattle.report_model.specs.Query.{Query}
 use Rattle.report_model.specs.Grammar.{query}
 use Rattle.report_model.specs.Together.{first_other_rule}
 use Rattle.replay_model.specs.Fits.{Fits}
 use Rattle.record_model.specs.Recorded.{IsRecorded}
+use Rattle.epoch_model.specs.ByLength.{epoch_count}
 use Rattle.jet_model.specs.Contents.{Contents, Names}
 use Rattle.jet_model.specs.Answer.{Limits}
 use Rattle.jet_model.specs.Report.{report_of, influence_of, reports_of, text_over}
@@ -77,7 +78,7 @@ pub record IsRecordingOf (file : Contents) (program_name : List ℕ) (input_name
   pub recorded : IsRecorded (record { program = program; pages = limits.pages; inputs = inputs; piece = limits.piece; steps = limits.steps }) answers log
   pub gives : text ≡ log_text Two log
 
--- ---- the limit of a file's length
+-- ---- the limits of a file's length, and of epochs
 
 -- a file has at most 2 ^ 26 bytes
 abbrev pub IsShort : Option (List ℕ) → Type 0
@@ -93,3 +94,7 @@ pub record AreShort (file : Contents) (names : Names) : Type 0 where
 -- each of these files
 abbrev pub AreAllShort : Contents → List (List ℕ) → Type 0
 AreAllShort file names = AllByRecursion (λ name. IsShort (file name)) names
+
+-- the log's run has at most 4096 epochs of this length
+abbrev pub HasFewEpochs : ℕ → Log → Type 0
+HasFewEpochs epoch log = epoch_count (steps log) epoch ≤ 4096

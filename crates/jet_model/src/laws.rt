@@ -15,32 +15,37 @@ ghost use Rattle.jet_refusal.specs.declared.refusal.Refusal.{Refusal};
 ghost use Rattle.jet_model.specs.Contents.{Contents, Names};
 ghost use Rattle.jet_model.specs.Sources.{received_sources};
 ghost use Rattle.jet_model.specs.Answer.{Limits, query_answer, queries_answer, log_answer, convert_answer, IsRecordAnswer};
-ghost use Rattle.jet_model.specs.Headline.{IsGivenByQuery, AreReportsOf, IsGivenBy, IsConversionOf, IsRecordingOf, IsShort, AreShort, AreAllShort};
+ghost use Rattle.jet_model.specs.Headline.{IsGivenByQuery, AreReportsOf, IsGivenBy, IsConversionOf, IsRecordingOf};
+ghost use Rattle.jet_model.specs.Headline.{IsShort, AreShort, AreAllShort, HasFewEpochs};
 
-/// Where three files come to a text, it is what the query gives over the run, as a report or an influence: the log fits the
-/// program, and the query can be read.
+/// Where three files come to a text, it is what the query gives over the run, as a report or an influence, whatever the
+/// length of an epoch: the log fits the program, and the query can be read.
 pub fn answer_is_given()
-    ensures { (given : Query → List Step → List ℕ) (file : Contents) (names : Names) (text : List ℕ)
-        → query_answer given file names ≡ Ok text → IsGivenByQuery given file names text }
+    ensures { (given : Query → List Step → List ℕ) (epoch : ℕ) (file : Contents) (names : Names) (text : List ℕ)
+        → query_answer given epoch file names ≡ Ok text → IsGivenByQuery given file names text }
 {}
 
-/// Three files come to what the query gives, where none has more than 2^26 bytes.
+/// Three files come to what the query gives, where none has more than 2^26 bytes, and the run no more than 4096 epochs.
 pub fn given_is_answer()
-    ensures { (given : Query → List Step → List ℕ) (file : Contents) (names : Names) (text : List ℕ)
-        → AreShort file names → IsGivenByQuery given file names text → query_answer given file names ≡ Ok text }
+    ensures { (given : Query → List Step → List ℕ) (epoch : ℕ) (file : Contents) (names : Names) (text : List ℕ)
+        → AreShort file names → (g : IsGivenByQuery given file names text) → HasFewEpochs epoch g.log
+        → query_answer given epoch file names ≡ Ok text }
 {}
 
-/// Where a program, a log and several queries come to a text, it is their reports, one after another.
+/// Where a program, a log and several queries come to a text, it is their reports, one after another, whatever the
+/// length of an epoch.
 pub fn reports_are_given()
-    ensures { (file : Contents) (program log : List ℕ) (names : List (List ℕ)) (text : List ℕ)
-        → queries_answer file program log names ≡ Ok text → AreReportsOf file program log names text }
+    ensures { (epoch : ℕ) (file : Contents) (program log : List ℕ) (names : List (List ℕ)) (text : List ℕ)
+        → queries_answer epoch file program log names ≡ Ok text → AreReportsOf file program log names text }
 {}
 
-/// A program, a log and several queries come to their reports, where no file has more than 2^26 bytes.
+/// A program, a log and several queries come to their reports, where no file has more than 2^26 bytes, and the run no
+/// more than 4096 epochs.
 pub fn given_are_reports()
-    ensures { (file : Contents) (program log : List ℕ) (names : List (List ℕ)) (text : List ℕ)
+    ensures { (epoch : ℕ) (file : Contents) (program log : List ℕ) (names : List (List ℕ)) (text : List ℕ)
         → IsShort (file program) → IsShort (file log) → AreAllShort file names
-        → AreReportsOf file program log names text → queries_answer file program log names ≡ Ok text }
+        → (g : AreReportsOf file program log names text) → HasFewEpochs epoch g.log
+        → queries_answer epoch file program log names ≡ Ok text }
 {}
 
 /// Where a program and a log come to a text, it is that of the log, which fits the program.

@@ -16,6 +16,7 @@ IsOwedTo-map a b usage files read write (refusal.QueryOf file line kind) h = fil
 IsOwedTo-map a b usage files read write (refusal.Rules first index other) h = files h
 IsOwedTo-map a b usage files read write refusal.TooLong h = files h
 IsOwedTo-map a b usage files read write (refusal.LogTooLong size) h = files h
+IsOwedTo-map a b usage files read write (refusal.TooManyEpochs count) h = files h
 IsOwedTo-map a b usage files read write refusal.ReadFault h = read h
 IsOwedTo-map a b usage files read write refusal.WriteFault h = write h
 IsOwedTo-map a b usage files read write refusal.NoMemory h = h

@@ -74,6 +74,10 @@ a_long_log : line_of (refusal.LogTooLong 83558562) ≡ codes "jet: limit log 835
 unfolding digits
 a_long_log = refl
 
+many_epochs : line_of (refusal.TooManyEpochs 4097) ≡ codes "jet: limit epochs 4097\n"
+unfolding digits
+many_epochs = refl
+
 a_fault_of_reading : line_of refusal.ReadFault ≡ codes "jet: read fault\n"
 a_fault_of_reading = refl
 

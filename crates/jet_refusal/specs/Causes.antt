@@ -23,6 +23,7 @@ IsOwedTo causes (refusal.QueryOf file line kind) = causes.files
 IsOwedTo causes (refusal.Rules first index other) = causes.files
 IsOwedTo causes refusal.TooLong = causes.files
 IsOwedTo causes (refusal.LogTooLong size) = causes.files
+IsOwedTo causes (refusal.TooManyEpochs count) = causes.files
 IsOwedTo causes refusal.ReadFault = causes.read
 IsOwedTo causes refusal.WriteFault = causes.write
 IsOwedTo causes refusal.NoMemory = Unit {0}

@@ -74,6 +74,12 @@ log_fault_text kind offset = codes "log " ++ log_fault_name kind ++ codes " at "
 abbrev pub log_limit_text : ℕ → List ℕ
 log_limit_text size = codes "limit log " ++ decimal size
 
+-- ---- the epochs
+
+-- the run would be cut into so many epochs
+abbrev pub epochs_limit_text : ℕ → List ℕ
+epochs_limit_text count = codes "limit epochs " ++ decimal count
+
 -- ---- the log and the program together
 
 -- the digest that the log keeps and the program's, in lower-case hexadecimal digits

@@ -1,6 +1,6 @@
 -- The status and the line of each refusal.
 use Rattle.std.specs.Prelude.{ℕ, List}
-use Rattle.jet_refusal.specs.Lines.{err_line, usage_text, image_text, window_text, log_fault_text, program_text, divergence_text, query_text, query_of_text, rules_text, file_limit_text, log_limit_text, read_fault_text, write_fault_text, memory_text}
+use Rattle.jet_refusal.specs.Lines.{err_line, usage_text, image_text, window_text, log_fault_text, program_text, divergence_text, query_text, query_of_text, rules_text, file_limit_text, log_limit_text, epochs_limit_text, read_fault_text, write_fault_text, memory_text}
 use Rattle.jet_refusal.specs.declared.refusal.Refusal.{Refusal}
 use Rattle.jet_refusal.specs.declared.refusal.Refusal.TheVariants as refusal
 
@@ -19,6 +19,7 @@ status_of refusal.ReadFault = 7
 status_of refusal.WriteFault = 8
 status_of refusal.TooLong = 9
 status_of (refusal.LogTooLong size) = 9
+status_of (refusal.TooManyEpochs count) = 9
 status_of refusal.NoMemory = 10
 status_of (refusal.Rules first index other) = 11
 
@@ -36,6 +37,7 @@ text_of (refusal.QueryOf file line kind) = query_of_text file line kind
 text_of (refusal.Rules first index other) = rules_text first index other
 text_of refusal.TooLong = file_limit_text
 text_of (refusal.LogTooLong size) = log_limit_text size
+text_of (refusal.TooManyEpochs count) = epochs_limit_text count
 text_of refusal.ReadFault = read_fault_text
 text_of refusal.WriteFault = write_fault_text
 text_of refusal.NoMemory = memory_text

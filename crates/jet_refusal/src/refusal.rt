@@ -59,6 +59,8 @@ pub enum Refusal {
     TooLong,
     /// The log of the run has so many bytes, more than 2^26.
     LogTooLong(u64),
+    /// The run would be cut into so many epochs, more than 4096.
+    TooManyEpochs(u64),
     /// The store failed while a file was read.
     ReadFault,
     /// The output failed, or the store while a file was written.
@@ -85,6 +87,7 @@ impl Refusal {
             Refusal::WriteFault => 8,
             Refusal::TooLong => 9,
             Refusal::LogTooLong(_) => 9,
+            Refusal::TooManyEpochs(_) => 9,
             Refusal::NoMemory => 10,
             Refusal::Rules { .. } => 11,
         }
@@ -133,6 +136,10 @@ fn push_text(line: &mut Line, refusal: &Refusal)
         Refusal::LogTooLong(size) => {
             line.push_str("limit log ");
             line.push_number(*size);
+        }
+        Refusal::TooManyEpochs(count) => {
+            line.push_str("limit epochs ");
+            line.push_number(*count);
         }
         Refusal::ReadFault => line.push_str("read fault"),
         Refusal::WriteFault => line.push_str("write fault"),

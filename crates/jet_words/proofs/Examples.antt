@@ -5,6 +5,7 @@ use Rattle.std.specs.Str.{chars}
 use Rattle.clap.specs.Words.{Text}
 use Rattle.clap.specs.Walk.{walked, bundle_met}
 use Rattle.clap.specs.Takes.{walk_passes, flags_pass}
+use Rattle.jet_words.specs.declared.command.Pipeline.{Pipeline}
 use Rattle.jet_words.specs.Commands.{CommandOf, command_of, QueryOf, RecordOf, ReplayOf, OutputOf, ConvertOf, InfluenceOf, QueriesOf}
 
 abbrev before_word : Bool → ℕ → List Text → List Text
@@ -46,8 +47,12 @@ short_flags = refl
 
 -- ---- query
 
+-- the options that aren't given
+abbrev usual : Pipeline
+usual = record { epoch = 1048576; workers = 4; link = 256 }
+
 abbrev query : Text → Text → Text → Text → Line
-query line program log name = (line, QueryOf program log name)
+query line program log name = (line, QueryOf program log name usual)
 
 reports : Stands (
     query (codes "jet query a b c") (codes "a") (codes "b") (codes "c")
@@ -69,6 +74,32 @@ no_reports : AreRefused (
     codes "jet query a b" ∷ codes "jet query a b c d" ∷ codes "jet query --help a b c" ∷ codes "jet query a b --c" ∷ codes "jet query a b c --epoch" ∷ [])
 unfolding command_of walked walk_passes
 no_reports = refl
+
+-- ---- the options of query, influence and queries
+
+abbrev piped : Text → Pipeline → Line
+piped line pipeline = (line, QueryOf (codes "p") (codes "l") (codes "q") pipeline)
+
+pipelines : Stands (
+    piped (codes "jet query p l q --epoch 1") (record usual { epoch = 1 })
+    ∷ piped (codes "jet query p l q --epoch 1099511627776") (record usual { epoch = 1099511627776 })
+    ∷ piped (codes "jet query p l q --workers 1") (record usual { workers = 1 })
+    ∷ piped (codes "jet query p l q --workers 64") (record usual { workers = 64 })
+    ∷ piped (codes "jet query p l q --link 1") (record usual { link = 1 })
+    ∷ piped (codes "jet query p l q --link 65536") (record usual { link = 65536 })
+    ∷ piped (codes "jet query --link=3 p l --workers 2 q --epoch 5") (record { epoch = 5; workers = 2; link = 3 }) ∷ [])
+unfolding command_of walked walk_passes
+pipelines = refl
+
+no_pipelines : AreRefused (
+    codes "jet query p l q --epoch 0" ∷ codes "jet query p l q --epoch 1099511627777"
+    ∷ codes "jet query p l q --workers 0" ∷ codes "jet query p l q --workers 65"
+    ∷ codes "jet query p l q --link 0" ∷ codes "jet query p l q --link 65537"
+    ∷ codes "jet query p l q --link 1 --link 1" ∷ codes "jet query p l q --workers a" ∷ codes "jet query p l --epoch 1"
+    -- they are of these three commands alone
+    ∷ codes "jet replay p l --epoch 1" ∷ codes "jet convert p l n --workers 1" ∷ codes "jet output p l 1 --link 1" ∷ [])
+unfolding command_of walked walk_passes
+no_pipelines = refl
 
 -- ---- record
 
@@ -155,30 +186,42 @@ no_conversions = refl
 
 -- ---- influence
 
-influences : Stands ((codes "jet influence p l q", InfluenceOf (codes "p") (codes "l") (codes "q")) ∷ [])
+abbrev turned : Text → Pipeline → Line
+turned line pipeline = (line, InfluenceOf (codes "p") (codes "l") (codes "q") pipeline)
+
+influences : Stands (
+    turned (codes "jet influence p l q") usual
+    ∷ turned (codes "jet influence p l q --epoch 5 --workers 2 --link 3") (record { epoch = 5; workers = 2; link = 3 }) ∷ [])
 unfolding command_of walked walk_passes
 influences = refl
 
-no_influences : AreRefused (codes "jet influence p l" ∷ codes "jet influence p l q r" ∷ codes "jet influence p l q --steps 1" ∷ [])
+no_influences : AreRefused (codes "jet influence p l" ∷ codes "jet influence p l q r" ∷ codes "jet influence p l q --steps 1"
+    ∷ codes "jet influence p l q --workers 65" ∷ [])
 unfolding command_of walked walk_passes
 no_influences = refl
 
 -- ---- queries
 
 abbrev several : Text → List Text → Line
-several line queries = (line, QueriesOf (codes "p") (codes "l") queries)
+several line queries = (line, QueriesOf (codes "p") (codes "l") queries usual)
 
 several_queries : Stands (
     several (codes "jet queries p l q") (codes "q" ∷ [])
     ∷ several (codes "jet queries p l q r q") (codes "q" ∷ codes "r" ∷ codes "q" ∷ [])
     ∷ several (codes "jet queries p l a b c d e f g h i j k l m n o p") (words_of (codes "a b c d e f g h i j k l m n o p"))
-    ∷ several (codes "jet queries p l q -- --r") (codes "q" ∷ codes "--r" ∷ []) ∷ [])
+    ∷ several (codes "jet queries p l q -- --r") (codes "q" ∷ codes "--r" ∷ [])
+    ∷ (
+      codes "jet queries p l --epoch 5 q r --workers 2 --link 3",
+      QueriesOf (codes "p") (codes "l") (codes "q" ∷ codes "r" ∷ []) (record { epoch = 5; workers = 2; link = 3 }),
+    ) ∷ [])
 unfolding command_of walked walk_passes
 several_queries = refl
 
 -- none, or seventeen
 no_several_queries : AreRefused (
     codes "jet queries p l" ∷ codes "jet queries p l --" ∷ codes "jet queries p l a b c d e f g h i j k l m n o p q" ∷ codes "jet queries p"
-    ∷ codes "jet queries p l q --steps 1" ∷ [])
+    ∷ codes "jet queries p l q --steps 1"
+    -- an option doesn't interrupt the list
+    ∷ codes "jet queries p l q --epoch 5 r" ∷ codes "jet queries p l q --link 65537" ∷ [])
 unfolding command_of walked walk_passes
 no_several_queries = refl

@@ -1,13 +1,16 @@
 -- Where the words are taken, the subcommand's numbers can be read, and it stands for a command with its numbers and its
 -- list in their ranges.
-use Rattle.std.proofs.Common.{◌≡◌, refl, true, List, codes, IsSomeAnd}
+use Rattle.std.proofs.Common.{◌≡◌, refl, true, false, List, [], codes, IsSomeAnd}
+use Rattle.clap.specs.Walk.{nothing_held, rows_after}
+use Rattle.clap.specs.Takes.{level_passes}
 use Rattle.clap.specs.Words.{Row, Text, takes, subcommand_of}
-use Rattle.clap.specs.Simple.{App, Shape, built_leaf, inherited, marked_built, on_top, with_leaf_noted}
-use Rattle.clap_command.proofs.Rows.{list-filled, list-length, number-in_range, option-in_range}
+use Rattle.clap.specs.Simple.{App, Shape, built_leaf, filled, inherited, marked_built, on_top, with_leaf_noted}
+use Rattle.clap_command.specs.Plain.{is_plain_subcommand}
+use Rattle.clap_command.proofs.Rows.{Only, list-filled, list-length, number-in_range, option-in_range}
 use Rattle.clap_command.proofs.Subcommands.{AtTaken, at_subcommand, help-not_named}
-use Rattle.jet_words.specs.CommandLine.{convert_app, influence_app, jet_app, output_app, queries_app, query_app, record_app, replay_app}
-use Rattle.jet_words.specs.Commands.{IsInRange, command_by}
-use Rattle.jet_words.specs.Numbers.{HasNumbers}
+use Rattle.jet_words.specs.CommandLine.{epoch_option, workers_option, link_option, convert_app, influence_app, jet_app, output_app, queries_app, query_app, record_app, replay_app}
+use Rattle.jet_words.specs.Commands.{IsPipeline, IsInRange, pipeline_of, command_by}
+use Rattle.jet_words.specs.Numbers.{HasPipelineNumbers, HasNumbers}
 
 pub record IsSound (named : Text × List Row) : Type 0 where
   pub numbers : HasNumbers named
@@ -17,8 +20,35 @@ pub record IsSound (named : Text × List Row) : Type 0 where
 abbrev leaf : App → Shape
 leaf a = built_leaf (inherited (on_top with_leaf_noted (on_top marked_built jet_app)).top a.top)
 
+-- ---- the options of the pipeline
+
+record IsPipelineSound (rows : List Row) : Type 0 where
+  numbers : HasPipelineNumbers rows
+  ranges : IsPipeline (pipeline_of rows)
+
+-- a subcommand has the options, as they are built
+abbrev HasOptions : Shape → Type 0
+HasOptions s =
+    Only s.rules (codes "epoch") (filled epoch_option) × Only s.rules (codes "workers") (filled workers_option)
+    × Only s.rules (codes "link") (filled link_option)
+
+pipeline_sound : (s : Shape) (words : List Text) → is_plain_subcommand s ≡ true → HasOptions s → level_passes s [] nothing_held words false ≡ true
+    → IsPipelineSound (rows_after s.rules [] words)
+pipeline_sound s words plain has e =
+    let epoch = option-in_range s words plain e (codes "epoch") _ 18446744073709551615 1 1099511627776 has.0 refl refl refl refl in
+    let workers = option-in_range s words plain e (codes "workers") _ 4294967295 1 64 has.1 refl refl refl refl in
+    let link = option-in_range s words plain e (codes "link") _ 4294967295 1 65536 has.2 refl refl refl refl in
+    record {
+      numbers = (epoch.can_be_read, workers.can_be_read, link.can_be_read);
+      ranges = (epoch.at_least, epoch.at_most, workers.at_least, workers.at_most, link.at_least, link.at_most);
+    }
+
+-- ---- each subcommand
+
 query_sound : AtTaken IsSound (leaf query_app)
-query_sound words e = record { numbers = (λ bad. cc, λ bad. cc); ranges = tt }
+query_sound words e =
+    let p = pipeline_sound (leaf query_app) words refl (refl, refl, refl) e in
+    record { numbers = (λ bad. cc, λ bad. cc, λ here. p.numbers, λ bad. cc, λ bad. cc); ranges = p.ranges }
 
 record_sound : AtTaken IsSound (leaf record_app)
 record_sound words e =
@@ -26,7 +56,7 @@ record_sound words e =
     let piece = option-in_range (leaf record_app) words refl e (codes "piece") _ 4294967295 1 16777216 refl refl refl refl refl in
     let steps = option-in_range (leaf record_app) words refl e (codes "steps") _ 18446744073709551615 1 1099511627776 refl refl refl refl refl in
     record {
-      numbers = (λ here. (pages.can_be_read, piece.can_be_read, steps.can_be_read), λ bad. cc);
+      numbers = (λ here. (pages.can_be_read, piece.can_be_read, steps.can_be_read), λ bad. cc, λ bad. cc, λ bad. cc, λ bad. cc);
       ranges = (
         list-length (leaf record_app) words refl e (codes "IN") _ 16 refl refl,
         pages.at_least,
@@ -39,27 +69,32 @@ record_sound words e =
     }
 
 replay_sound : AtTaken IsSound (leaf replay_app)
-replay_sound words e = record { numbers = (λ bad. cc, λ bad. cc); ranges = tt }
+replay_sound words e = record { numbers = (λ bad. cc, λ bad. cc, λ bad. cc, λ bad. cc, λ bad. cc); ranges = tt }
 
 output_sound : AtTaken IsSound (leaf output_app)
 output_sound words e =
     let channel = number-in_range (leaf output_app) words refl e (codes "C") _ 4294967295 0 15 refl refl refl refl refl in
-    record { numbers = (λ bad. cc, λ here. channel.can_be_read); ranges = channel.at_most }
+    record { numbers = (λ bad. cc, λ here. channel.can_be_read, λ bad. cc, λ bad. cc, λ bad. cc); ranges = channel.at_most }
 
 convert_sound : AtTaken IsSound (leaf convert_app)
-convert_sound words e = record { numbers = (λ bad. cc, λ bad. cc); ranges = tt }
+convert_sound words e = record { numbers = (λ bad. cc, λ bad. cc, λ bad. cc, λ bad. cc, λ bad. cc); ranges = tt }
 
 influence_sound : AtTaken IsSound (leaf influence_app)
-influence_sound words e = record { numbers = (λ bad. cc, λ bad. cc); ranges = tt }
+influence_sound words e =
+    let p = pipeline_sound (leaf influence_app) words refl (refl, refl, refl) e in
+    record { numbers = (λ bad. cc, λ bad. cc, λ bad. cc, λ here. p.numbers, λ bad. cc); ranges = p.ranges }
 
 queries_sound : AtTaken IsSound (leaf queries_app)
-queries_sound words e = record {
-  numbers = (λ bad. cc, λ bad. cc);
-  ranges = (
-    list-filled (leaf queries_app) words refl e (codes "QUERY") _ 1 refl refl refl,
-    list-length (leaf queries_app) words refl e (codes "QUERY") _ 16 refl refl,
-  );
-}
+queries_sound words e =
+    let p = pipeline_sound (leaf queries_app) words refl (refl, refl, refl) e in
+    record {
+      numbers = (λ bad. cc, λ bad. cc, λ bad. cc, λ bad. cc, λ here. p.numbers);
+      ranges = (
+        list-filled (leaf queries_app) words refl e (codes "QUERY") _ 1 refl refl refl,
+        list-length (leaf queries_app) words refl e (codes "QUERY") _ 16 refl refl,
+        p.ranges,
+      );
+    }
 
 -- the subcommand that the words name, where they are taken
 pub taken_sound : (words : List Text) → takes jet_app words ≡ true → IsSomeAnd (subcommand_of jet_app words) IsSound

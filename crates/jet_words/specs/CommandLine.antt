@@ -1,6 +1,6 @@
 -- The command line of the program, as a command of `clap`.
 use Rattle.std.specs.Prelude.{codes}
-use Rattle.clap.specs.Words.{App, Text, new_app, with_rule, with_subcommand}
+use Rattle.clap.specs.Words.{App, Rule, Text, new_app, with_rule, with_subcommand}
 use Rattle.clap.specs.Simple.{on_top}
 use Rattle.clap_command.specs.Arguments.{positional, number, list, required_list, number_option, requires_subcommand}
 
@@ -8,9 +8,25 @@ use Rattle.clap_command.specs.Arguments.{positional, number, list, required_list
 abbrev pub program_and_log : Text → App
 program_and_log name = with_rule (with_rule (new_app name) (positional (codes "PROG"))) (positional (codes "LOG"))
 
--- query PROG LOG QUERY
+-- [--epoch N]
+abbrev pub epoch_option : Rule
+epoch_option = number_option (codes "epoch") 1 1099511627776 (codes "1048576")
+
+-- [--workers W]
+abbrev pub workers_option : Rule
+workers_option = number_option (codes "workers") 1 64 (codes "4")
+
+-- [--link C]
+abbrev pub link_option : Rule
+link_option = number_option (codes "link") 1 65536 (codes "256")
+
+-- COMMAND .. [--epoch N] [--workers W] [--link C]
+abbrev pub with_pipeline : App → App
+with_pipeline command = with_rule (with_rule (with_rule command epoch_option) workers_option) link_option
+
+-- query PROG LOG QUERY [--epoch N] [--workers W] [--link C]
 abbrev pub query_app : App
-query_app = with_rule (program_and_log (codes "query")) (positional (codes "QUERY"))
+query_app = with_pipeline (with_rule (program_and_log (codes "query")) (positional (codes "QUERY")))
 
 -- record PROG LOG [IN].. [--pages N] [--piece N] [--steps N]
 abbrev pub record_app : App
@@ -32,13 +48,13 @@ output_app = with_rule (program_and_log (codes "output")) (number (codes "C") 0 
 abbrev pub convert_app : App
 convert_app = with_rule (program_and_log (codes "convert")) (positional (codes "NEW"))
 
--- influence PROG LOG QUERY
+-- influence PROG LOG QUERY [--epoch N] [--workers W] [--link C]
 abbrev pub influence_app : App
-influence_app = with_rule (program_and_log (codes "influence")) (positional (codes "QUERY"))
+influence_app = with_pipeline (with_rule (program_and_log (codes "influence")) (positional (codes "QUERY")))
 
--- queries PROG LOG QUERY.., 1 to 16 of them
+-- queries PROG LOG QUERY.. [--epoch N] [--workers W] [--link C], 1 to 16 of QUERY
 abbrev pub queries_app : App
-queries_app = with_rule (program_and_log (codes "queries")) (required_list (codes "QUERY") 16)
+queries_app = with_pipeline (with_rule (program_and_log (codes "queries")) (required_list (codes "QUERY") 16))
 
 -- jet, with a subcommand that has to be there
 abbrev pub bare_app : App

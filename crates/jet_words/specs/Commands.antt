@@ -4,13 +4,14 @@ use Rattle.std.specs.Str.{bytes_eq}
 use Rattle.clap.specs.Words.{Row, Text, takes, subcommand_of}
 use Rattle.clap_command.specs.Values.{value_of, values_of, number_of}
 use Rattle.jet_words.specs.CommandLine.{jet_app}
+use Rattle.jet_words.specs.declared.command.Pipeline.{Pipeline}
 use Rattle.jet_words.specs.declared.command.Command.{Command}
 use Rattle.jet_words.specs.declared.command.Command.TheVariants.{Query, Record, Replay, Output, Convert, Influence, Queries}
 
 -- a command; files are told by their names
 pub data CommandOf : Type 0 where
   -- the report of a query
-  QueryOf : (program log query : Text) → CommandOf
+  QueryOf : (program log query : Text) (pipeline : Pipeline) → CommandOf
   -- the log of a run over these input files, with so many pages of memory, at most `piece` bytes to a read, and cut off after
   -- `steps` steps
   RecordOf : (program log : Text) (inputs : List Text) (pages piece steps : ℕ) → CommandOf
@@ -21,14 +22,22 @@ pub data CommandOf : Type 0 where
   -- the log, written anew into another file
   ConvertOf : (program log new : Text) → CommandOf
   -- the report of a query, turned round
-  InfluenceOf : (program log query : Text) → CommandOf
+  InfluenceOf : (program log query : Text) (pipeline : Pipeline) → CommandOf
   -- the reports of several queries
-  QueriesOf : (program log : Text) (queries : List Text) → CommandOf
+  QueriesOf : (program log : Text) (queries : List Text) (pipeline : Pipeline) → CommandOf
 
 -- ---- the command of each subcommand, by the values of its arguments
 
+abbrev pub pipeline_of : List Row → Pipeline
+pipeline_of rows = record {
+  epoch = number_of (codes "epoch") rows;
+  workers = number_of (codes "workers") rows;
+  link = number_of (codes "link") rows;
+}
+
 abbrev pub query_of : List Row → CommandOf
 query_of rows = QueryOf (value_of (codes "PROG") rows) (value_of (codes "LOG") rows) (value_of (codes "QUERY") rows)
+    (pipeline_of rows)
 
 abbrev pub record_of : List Row → CommandOf
 record_of rows = RecordOf (value_of (codes "PROG") rows) (value_of (codes "LOG") rows) (values_of (codes "IN") rows)
@@ -45,9 +54,11 @@ convert_of rows = ConvertOf (value_of (codes "PROG") rows) (value_of (codes "LOG
 
 abbrev pub influence_of : List Row → CommandOf
 influence_of rows = InfluenceOf (value_of (codes "PROG") rows) (value_of (codes "LOG") rows) (value_of (codes "QUERY") rows)
+    (pipeline_of rows)
 
 abbrev pub queries_of : List Row → CommandOf
 queries_of rows = QueriesOf (value_of (codes "PROG") rows) (value_of (codes "LOG") rows) (values_of (codes "QUERY") rows)
+    (pipeline_of rows)
 
 -- the command of a subcommand, by its name and the values of its arguments
 abbrev pub command_by : Text × List Row → Option CommandOf
@@ -67,21 +78,27 @@ command_of words = if takes jet_app words then option_and_then command_by (subco
 -- ---- the command that was read
 
 abbrev pub plain_command : Command → CommandOf
-plain_command (Query program log query) = QueryOf program.now log.now query.now
+plain_command (Query program log query pipeline) = QueryOf program.now log.now query.now pipeline
 plain_command (Record program log inputs pages piece steps) = RecordOf program.now log.now (map (λ s. s.now) inputs.items) pages piece steps
 plain_command (Replay program log) = ReplayOf program.now log.now
 plain_command (Output program log channel) = OutputOf program.now log.now channel
 plain_command (Convert program log new) = ConvertOf program.now log.now new.now
-plain_command (Influence program log query) = InfluenceOf program.now log.now query.now
-plain_command (Queries program log queries) = QueriesOf program.now log.now (map (λ s. s.now) queries.items)
+plain_command (Influence program log query pipeline) = InfluenceOf program.now log.now query.now pipeline
+plain_command (Queries program log queries pipeline) =
+    QueriesOf program.now log.now (map (λ s. s.now) queries.items) pipeline
 
--- its numbers lie in the ranges of the command line
+-- the numbers of the options lie in the ranges of the command line
+abbrev pub IsPipeline : Pipeline → Type 0
+IsPipeline p =
+    (1 ≤ p.epoch) × (p.epoch ≤ 1099511627776) × (1 ≤ p.workers) × (p.workers ≤ 64) × (1 ≤ p.link) × (p.link ≤ 65536)
+
+-- the numbers of the command do
 abbrev pub IsInRange : CommandOf → Type 0
-IsInRange (QueryOf program log query) = ⊤
+IsInRange (QueryOf program log query pipeline) = IsPipeline pipeline
 IsInRange (RecordOf program log inputs pages piece steps) =
     (length inputs ≤ 16) × (1 ≤ pages) × (pages ≤ 4096) × (1 ≤ piece) × (piece ≤ 16777216) × (1 ≤ steps) × (steps ≤ 1099511627776)
 IsInRange (ReplayOf program log) = ⊤
 IsInRange (OutputOf program log channel) = channel ≤ 15
 IsInRange (ConvertOf program log new) = ⊤
-IsInRange (InfluenceOf program log query) = ⊤
-IsInRange (QueriesOf program log queries) = (1 ≤ length queries) × (length queries ≤ 16)
+IsInRange (InfluenceOf program log query pipeline) = IsPipeline pipeline
+IsInRange (QueriesOf program log queries pipeline) = (1 ≤ length queries) × (length queries ≤ 16) × IsPipeline pipeline

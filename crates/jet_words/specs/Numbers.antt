@@ -4,8 +4,16 @@ use Rattle.std.specs.Str.{bytes_eq}
 use Rattle.clap.specs.Words.{Row, Text}
 use Rattle.clap_command.specs.Numbers.{IsNumber, IsLongNumber}
 
+-- the numbers of the pipeline can be read
+abbrev pub HasPipelineNumbers : List Row → Type 0
+HasPipelineNumbers rows =
+    IsLongNumber (codes "epoch") rows × IsNumber (codes "workers") rows × IsNumber (codes "link") rows
+
 -- each number of the subcommand can be read
 abbrev pub HasNumbers : Text × List Row → Type 0
 HasNumbers (name, rows) =
     (bytes_eq name (codes "record") ≡ true → IsNumber (codes "pages") rows × IsNumber (codes "piece") rows × IsLongNumber (codes "steps") rows)
     × (bytes_eq name (codes "output") ≡ true → IsNumber (codes "C") rows)
+    × (bytes_eq name (codes "query") ≡ true → HasPipelineNumbers rows)
+    × (bytes_eq name (codes "influence") ≡ true → HasPipelineNumbers rows)
+    × (bytes_eq name (codes "queries") ≡ true → HasPipelineNumbers rows)

@@ -1,13 +1,25 @@
 //! A command of the program.
 
+/// How a run is cut into epochs, and how these are analysed.
+#[derive(Clone, Copy)]
+pub struct Pipeline {
+    /// The steps in an epoch, 1 to 1099511627776 (2^40).
+    pub epoch: u64,
+    /// How many workers analyse the epochs, 1 to 64.
+    pub workers: u32,
+    /// How many messages the link between two epochs holds, 1 to 65536.
+    pub link: u32,
+}
+
 /// What words stand for.
 #[derive(Drop)]
 pub enum Command<'a> {
-    /// The report of a query: the names of the program, the log and the query.
+    /// The report of a query: the names of the program, the log and the query, and how the run is analysed.
     Query {
         program: &'a str,
         log: &'a str,
         query: &'a str,
+        pipeline: Pipeline,
     },
     /// The recording of a run.
     Record {
@@ -44,11 +56,13 @@ pub enum Command<'a> {
         log: &'a str,
         new: &'a str,
     },
-    /// The report of a query, turned round: the names of the program, the log and the query.
+    /// The report of a query, turned round: the names of the program, the log and the query, and how the run is
+    /// analysed.
     Influence {
         program: &'a str,
         log: &'a str,
         query: &'a str,
+        pipeline: Pipeline,
     },
     /// The reports of several queries.
     Queries {
@@ -58,5 +72,7 @@ pub enum Command<'a> {
         log: &'a str,
         /// The names of the query files, 1 to 16.
         queries: Vec<&'a str>,
+        /// How the run is analysed.
+        pipeline: Pipeline,
     },
 }

@@ -2,7 +2,8 @@
 ghost use Rattle.std.specs.Prelude.{◌≡◌, false, IfOk, IsOkAnd};
 ghost use Rattle.clap.specs.Words.{app_of, with_subcommand};
 ghost use Rattle.clap.specs.declared.builder.Command.TheViews.{out-Command as fields_of};
-ghost use Rattle.jet_words.specs.CommandLine.{program_and_log as program_and_log_app, query_app, record_app};
+ghost use Rattle.jet_words.specs.CommandLine.{program_and_log as program_and_log_app};
+ghost use Rattle.jet_words.specs.CommandLine.{with_pipeline as with_pipeline_app, query_app, record_app};
 ghost use Rattle.jet_words.specs.CommandLine.{replay_app, output_app, convert_app, influence_app};
 ghost use Rattle.jet_words.specs.CommandLine.{queries_app, bare_app, jet_app};
 
@@ -22,12 +23,25 @@ fn program_and_log<'a>(alloc: Global, name: &'a str) -> Result<Command<'a>, Allo
     with_argument(command, positional(alloc, "LOG"))
 }
 
+// A command with the options of the pipeline.
+fn with_pipeline<'a>(alloc: Global, command: Command<'a>) -> Result<Command<'a>, AllocError>
+    requires { (fields_of command).has_globals ≡ false }
+    ensures app { IfOk result (λ c. app_of c ≡ with_pipeline_app (app_of command.entry)) }
+    ensures globals { IfOk result (λ c. (fields_of c).has_globals ≡ false) }
+{
+    let epoch = number_option(alloc, "epoch", 1, 1099511627776, "1048576");
+    let command = with_argument(command, epoch)?;
+    let command = with_argument(command, number_option(alloc, "workers", 1, 64, "4"))?;
+    with_argument(command, number_option(alloc, "link", 1, 65536, "256"))
+}
+
 fn query_command<'a>(alloc: Global) -> Result<Command<'a>, AllocError>
     ensures app { IfOk result (λ c. app_of c ≡ query_app) }
     ensures globals { IfOk result (λ c. (fields_of c).has_globals ≡ false) }
 {
     let command = program_and_log(alloc, "query")?;
-    with_argument(command, positional(alloc, "QUERY"))
+    let command = with_argument(command, positional(alloc, "QUERY"))?;
+    with_pipeline(alloc, command)
 }
 
 fn record_command<'a>(alloc: Global) -> Result<Command<'a>, AllocError>
@@ -75,7 +89,8 @@ fn influence_command<'a>(alloc: Global) -> Result<Command<'a>, AllocError>
     ensures globals { IfOk result (λ c. (fields_of c).has_globals ≡ false) }
 {
     let command = program_and_log(alloc, "influence")?;
-    with_argument(command, positional(alloc, "QUERY"))
+    let command = with_argument(command, positional(alloc, "QUERY"))?;
+    with_pipeline(alloc, command)
 }
 
 fn queries_command<'a>(alloc: Global) -> Result<Command<'a>, AllocError>
@@ -83,7 +98,8 @@ fn queries_command<'a>(alloc: Global) -> Result<Command<'a>, AllocError>
     ensures globals { IfOk result (λ c. (fields_of c).has_globals ≡ false) }
 {
     let command = program_and_log(alloc, "queries")?;
-    with_argument(command, required_list(alloc, "QUERY", 16))
+    let command = with_argument(command, required_list(alloc, "QUERY", 16))?;
+    with_pipeline(alloc, command)
 }
 
 // The command itself, with no subcommand yet.

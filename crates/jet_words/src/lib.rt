@@ -13,5 +13,5 @@ pub mod laws;
 mod read;
 
 pub use clap_command::WordsFault;
-pub use command::Command;
+pub use command::{Command, Pipeline};
 pub use read::read_words;

@@ -5,11 +5,11 @@ ghost use Rattle.clap.specs.Words.{takes, subcommand_of, subcommand_rows_of, row
 ghost use Rattle.clap_command.specs.Numbers.{IsNumber, IsLongNumber};
 ghost use Rattle.jet_words.specs.CommandLine.{jet_app};
 ghost use Rattle.jet_words.specs.Commands.{command_of, command_by, plain_command, IsInRange};
-ghost use Rattle.jet_words.specs.Commands.{query_of, record_of, replay_of, output_of};
+ghost use Rattle.jet_words.specs.Commands.{pipeline_of, query_of, record_of, replay_of, output_of};
 ghost use Rattle.jet_words.specs.Commands.{convert_of, influence_of, queries_of};
-ghost use Rattle.jet_words.specs.Numbers.{HasNumbers};
+ghost use Rattle.jet_words.specs.Numbers.{HasPipelineNumbers, HasNumbers};
 
-use crate::command::Command;
+use crate::command::{Command, Pipeline};
 use crate::command_line::command_line;
 use clap::ArgMatches;
 use clap_command::{WordsFault, parse, read_long_number, read_number, read_value, read_values};
@@ -27,13 +27,26 @@ fn parse_words<'a>(alloc: Global, words: &'a [String]) -> Result<ArgMatches<'a>,
     parse(line, words)
 }
 
+fn read_pipeline(matches: &ArgMatches) -> Pipeline
+    requires { HasPipelineNumbers (rows_of (found_of matches.now)) }
+    ensures { result ≡ pipeline_of (rows_of (found_of matches.now)) }
+{
+    Pipeline {
+        epoch: read_long_number(matches, "epoch"),
+        workers: read_number(matches, "workers"),
+        link: read_number(matches, "link"),
+    }
+}
+
 fn read_query<'a>(matches: &ArgMatches<'a>) -> Command<'a>
+    requires { HasPipelineNumbers (rows_of (found_of matches.now)) }
     ensures { plain_command result ≡ query_of (rows_of (found_of matches.now)) }
 {
     Command::Query {
         program: read_value(matches, "PROG"),
         log: read_value(matches, "LOG"),
         query: read_value(matches, "QUERY"),
+        pipeline: read_pipeline(matches),
     }
 }
 
@@ -85,16 +98,19 @@ fn read_convert<'a>(matches: &ArgMatches<'a>) -> Command<'a>
 }
 
 fn read_influence<'a>(matches: &ArgMatches<'a>) -> Command<'a>
+    requires { HasPipelineNumbers (rows_of (found_of matches.now)) }
     ensures { plain_command result ≡ influence_of (rows_of (found_of matches.now)) }
 {
     Command::Influence {
         program: read_value(matches, "PROG"),
         log: read_value(matches, "LOG"),
         query: read_value(matches, "QUERY"),
+        pipeline: read_pipeline(matches),
     }
 }
 
 fn read_queries<'a>(alloc: Global, matches: &ArgMatches<'a>) -> Result<Command<'a>, AllocError>
+    requires { HasPipelineNumbers (rows_of (found_of matches.now)) }
     ensures { IfOk result (λ c. plain_command c ≡ queries_of (rows_of (found_of matches.now))) }
 {
     let queries = read_values(alloc, matches, "QUERY")?;
@@ -102,6 +118,7 @@ fn read_queries<'a>(alloc: Global, matches: &ArgMatches<'a>) -> Result<Command<'
         program: read_value(matches, "PROG"),
         log: read_value(matches, "LOG"),
         queries,
+        pipeline: read_pipeline(matches),
     })
 }
 

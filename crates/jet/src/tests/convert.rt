@@ -14,7 +14,9 @@ use jet_files::read_file;
 use outer_io::MemoryStore;
 use std::alloc::{AllocError, Global};
 use std::process::Abort;
+use std::sync::Wait;
 use std::test::Fail;
+use std::thread::Threads;
 
 const AGAIN: Line = &["jet", "convert", "prog", "new", "again"];
 
@@ -60,7 +62,7 @@ fn a_log_is_converted_byte_by_byte(rt: HostRuntime) -> Result<(), Fail> {
 }
 
 /// The log `new` is this one, the query tells the same of it, and it is what it is converted to.
-fn assert_new<R: AllocGlobal + Abort>(
+fn assert_new<R: Threads + Wait + Sync + AllocGlobal + Abort>(
     rt: &R,
     store: &mut MemoryStore,
     log: &[u8],
@@ -74,7 +76,10 @@ fn assert_new<R: AllocGlobal + Abort>(
 }
 
 /// The run's log in version 1 is converted to what its recording writes.
-fn assert_conversion<R: AllocGlobal + Abort>(rt: &R, recording: &Recording) -> Result<(), Fail> {
+fn assert_conversion<R: Threads + Wait + Sync + AllocGlobal + Abort>(
+    rt: &R,
+    recording: &Recording,
+) -> Result<(), Fail> {
     let alloc = rt.alloc();
     let program = program(alloc, recording.code)?;
     let inputs = u32::try_from(recording.channels.len()).unwrap_or(0);
@@ -93,7 +98,7 @@ fn logs_are_converted_to_what_is_recorded(rt: HostRuntime) -> Result<(), Fail> {
 }
 
 /// A conversion of this program and this log is refused so, and writes no file.
-fn assert_refused<R: AllocGlobal + Abort>(
+fn assert_refused<R: Threads + Wait + Sync + AllocGlobal + Abort>(
     rt: &R,
     program: &[u8],
     log: &[u8],
@@ -123,7 +128,7 @@ fn a_log_of_another_program_is_not_converted(rt: HostRuntime) -> Result<(), Fail
 }
 
 /// The other files are as before, and the new log has these bytes or isn't there.
-fn assert_files<R: AllocGlobal + Abort>(
+fn assert_files<R: Threads + Wait + Sync + AllocGlobal + Abort>(
     rt: &R,
     store: &mut MemoryStore,
     program: &[u8],
@@ -137,7 +142,7 @@ fn assert_files<R: AllocGlobal + Abort>(
 }
 
 /// A conversion over a store of which this call fails.
-fn assert_failing_call<R: AllocGlobal + Abort>(
+fn assert_failing_call<R: Threads + Wait + Sync + AllocGlobal + Abort>(
     rt: &R,
     program: &[u8],
     log: &[u8],
@@ -172,7 +177,7 @@ fn a_failing_store_leaves_the_files(rt: HostRuntime) -> Result<(), Fail> {
 }
 
 /// The file of this name becomes the new log, and a third file is as before.
-fn assert_placed<R: AllocGlobal + Abort>(
+fn assert_placed<R: Threads + Wait + Sync + AllocGlobal + Abort>(
     rt: &R,
     store: &mut MemoryStore,
     line: Line,
@@ -185,7 +190,7 @@ fn assert_placed<R: AllocGlobal + Abort>(
 }
 
 /// The same over the four-byte copy.
-fn assert_in_place<R: AllocGlobal + Abort>(
+fn assert_in_place<R: Threads + Wait + Sync + AllocGlobal + Abort>(
     rt: &R,
     line: Line,
     name: &'static str,

@@ -11,7 +11,9 @@ use super::{
 use outer_io::{MemoryFile, MemorySink, MemoryStore, SureSink, SureStore};
 use std::alloc::{AllocError, Global};
 use std::process::Abort;
+use std::sync::Wait;
 use std::test::Fail;
+use std::thread::Threads;
 
 /// The words of commands over the four-byte copy, how often they call the store, and what they write.
 const COMMANDS: &[(Line, u64, &str)] = &[
@@ -54,7 +56,7 @@ fn sink(alloc: Global, put: u64, piece: usize) -> Result<MemorySink, AllocError>
 }
 
 /// A command that calls the store so often ends so where this call fails.
-fn assert_read_fails<R: AllocGlobal + Abort>(
+fn assert_read_fails<R: Threads + Wait + Sync + AllocGlobal + Abort>(
     rt: &R,
     line: Line,
     calls: u64,
@@ -100,7 +102,7 @@ fn ending_at(text: &str, put: u64, piece: usize) -> Ending<'_> {
 }
 
 /// A command whose output takes at most so many bytes at a time, and fails at this put, ends so.
-fn assert_put_fails<R: AllocGlobal + Abort>(
+fn assert_put_fails<R: Threads + Wait + Sync + AllocGlobal + Abort>(
     rt: &R,
     line: Line,
     text: &str,
@@ -128,7 +130,11 @@ fn each_failing_put_is_a_write_fault(rt: HostRuntime) -> Result<(), Fail> {
 }
 
 /// A diverging log is refused where standard error fails at this put, and so much of the line is said.
-fn assert_said<R: AllocGlobal + Abort>(rt: &R, put: u64, said: &str) -> Result<(), Fail> {
+fn assert_said<R: Threads + Wait + Sync + AllocGlobal + Abort>(
+    rt: &R,
+    put: u64,
+    said: &str,
+) -> Result<(), Fail> {
     let alloc = rt.alloc();
     let mut store = store(alloc, b"ABXD", NEVER)?;
     let mut out = sink(alloc, NEVER, 256)?;
@@ -145,7 +151,7 @@ fn a_failing_standard_error_changes_no_status(rt: HostRuntime) -> Result<(), Fai
 }
 
 /// A query over a sure outside gives the same.
-fn assert_sure<R: AllocGlobal + Abort>(
+fn assert_sure<R: Threads + Wait + Sync + AllocGlobal + Abort>(
     rt: &R,
     store: &mut SureStore,
     out: &mut SureSink,
@@ -189,7 +195,7 @@ const WORDS: &[(Line, u8, &str)] = &[
 ];
 
 /// Over a store of no files the command of these words ends so.
-fn assert_without_files<R: AllocGlobal + Abort>(
+fn assert_without_files<R: Threads + Wait + Sync + AllocGlobal + Abort>(
     rt: &R,
     line: Line,
     ending: Ending<'_>,

@@ -5,7 +5,9 @@ use super::{COMPUTE, COPY, Ending, Line, assert_ends, log_with, program_of, push
 use outer_io::{MemoryFile, MemoryStore};
 use std::alloc::{AllocError, Global};
 use std::process::Abort;
+use std::sync::Wait;
 use std::test::Fail;
+use std::thread::Threads;
 
 /// The names of the files of queries, in their order.
 const NAMES: [&str; 3] = ["first", "second", "third"];
@@ -136,7 +138,7 @@ fn files(
 }
 
 /// The command of these words ends so over a program, a log and queries.
-fn assert_queries<R: AllocGlobal + Abort>(
+fn assert_queries<R: Threads + Wait + Sync + AllocGlobal + Abort>(
     rt: &R,
     line: Line,
     program: &[u8],
@@ -151,7 +153,7 @@ fn assert_queries<R: AllocGlobal + Abort>(
 }
 
 /// The same over a guest's run.
-fn assert_guest_queries<R: AllocGlobal + Abort>(
+fn assert_guest_queries<R: Threads + Wait + Sync + AllocGlobal + Abort>(
     rt: &R,
     guest: &Guest,
     line: Line,

@@ -13,7 +13,9 @@ use jet_files::read_file;
 use outer_io::{MemoryFile, MemoryStore};
 use std::alloc::{AllocError, Global};
 use std::process::Abort;
+use std::sync::Wait;
 use std::test::Fail;
+use std::thread::Threads;
 
 /// Asks for the time, and writes it.
 const TELL_THE_TIME: &[Instr] = &code![
@@ -324,7 +326,7 @@ fn store(
 pub const NEVER: u64 = 1 << 40;
 
 /// The store's file of this name has these bytes, or there is no such file.
-pub fn assert_file<R: AllocGlobal + Abort>(
+pub fn assert_file<R: Threads + Wait + Sync + AllocGlobal + Abort>(
     rt: &R,
     store: &mut MemoryStore,
     name: &str,
@@ -338,7 +340,10 @@ pub fn assert_file<R: AllocGlobal + Abort>(
     Ok(())
 }
 
-fn assert_recording<R: AllocGlobal + Abort>(rt: &R, recording: &Recording) -> Result<(), Fail> {
+fn assert_recording<R: Threads + Wait + Sync + AllocGlobal + Abort>(
+    rt: &R,
+    recording: &Recording,
+) -> Result<(), Fail> {
     let alloc = rt.alloc();
     let program = program(alloc, recording.code)?;
     let log = recording.log(alloc, &program)?;
@@ -410,7 +415,7 @@ const REFUSED: &[(Line, u8, &str)] = &[
 ];
 
 /// The command of these words is refused so, and writes no file.
-fn assert_unwritten<R: AllocGlobal + Abort>(
+fn assert_unwritten<R: Threads + Wait + Sync + AllocGlobal + Abort>(
     rt: &R,
     program: &[u8],
     line: Line,
@@ -439,7 +444,7 @@ fn a_log_that_is_too_long_is_not_written(rt: HostRuntime) -> Result<(), Fail> {
 }
 
 /// The program and the input are there as before, and the log has these bytes or isn't there.
-fn assert_files<R: AllocGlobal + Abort>(
+fn assert_files<R: Threads + Wait + Sync + AllocGlobal + Abort>(
     rt: &R,
     store: &mut MemoryStore,
     program: &[u8],
@@ -451,7 +456,7 @@ fn assert_files<R: AllocGlobal + Abort>(
 }
 
 /// A recording over a store of which this call fails.
-fn assert_failing_call<R: AllocGlobal + Abort>(
+fn assert_failing_call<R: Threads + Wait + Sync + AllocGlobal + Abort>(
     rt: &R,
     program: &[u8],
     log: &[u8],

@@ -9,7 +9,9 @@ use super::{
 };
 use std::alloc::{AllocError, Global};
 use std::process::Abort;
+use std::sync::Wait;
 use std::test::Fail;
+use std::thread::Threads;
 
 /// The program and the log of the four-byte copy.
 pub fn copied(alloc: Global) -> Result<(Vec<u8>, Vec<u8>), AllocError> {
@@ -116,7 +118,7 @@ fn each_prefix_of_a_file_has_its_ending(rt: HostRuntime) -> Result<(), Fail> {
 }
 
 /// Each prefix of a log ends as the table says.
-fn assert_prefixes<R: AllocGlobal + Abort>(
+fn assert_prefixes<R: Threads + Wait + Sync + AllocGlobal + Abort>(
     rt: &R,
     program: &[u8],
     log: &[u8],
@@ -198,7 +200,7 @@ const WIDE_CASES: &[WideCase] = &[
 ];
 
 /// The log of these records, patched, ends so.
-fn assert_wide<R: AllocGlobal + Abort>(
+fn assert_wide<R: Threads + Wait + Sync + AllocGlobal + Abort>(
     rt: &R,
     program: &[u8],
     case: &WideCase,
@@ -269,7 +271,7 @@ enum Changed {
 }
 
 /// With a patch of one of the two files the query ends so.
-fn assert_patched<R: AllocGlobal + Abort>(
+fn assert_patched<R: Threads + Wait + Sync + AllocGlobal + Abort>(
     rt: &R,
     files: (&[u8], &[u8]),
     changed: Changed,
@@ -317,7 +319,7 @@ fn changed_bytes_are_refused(rt: HostRuntime) -> Result<(), Fail> {
 }
 
 /// The log and one byte more is refused with this line.
-fn assert_trailing<R: AllocGlobal + Abort>(
+fn assert_trailing<R: Threads + Wait + Sync + AllocGlobal + Abort>(
     rt: &R,
     program: &[u8],
     log: &[u8],

@@ -10,7 +10,9 @@ use guest_assembler::{Instr, code};
 use sha2::{Digest, Sha256};
 use std::alloc::Global;
 use std::process::Abort;
+use std::sync::Wait;
 use std::test::Fail;
+use std::thread::Threads;
 
 pub const REPLAY: Line = &["jet", "replay", "prog", "log"];
 
@@ -184,7 +186,7 @@ const DIVERGING: &[(&[Instr], &[Entry], &str)] = &[
 ];
 
 /// Each command is refused so over these files.
-fn assert_refused<R: AllocGlobal + Abort>(
+fn assert_refused<R: Threads + Wait + Sync + AllocGlobal + Abort>(
     rt: &R,
     program: &[u8],
     log: &[u8],
@@ -197,7 +199,7 @@ fn assert_refused<R: AllocGlobal + Abort>(
 }
 
 /// A command over the log of these records ends so.
-fn assert_run<R: AllocGlobal + Abort>(
+fn assert_run<R: Threads + Wait + Sync + AllocGlobal + Abort>(
     rt: &R,
     line: Line,
     code: &[Instr],
@@ -229,7 +231,7 @@ fn a_run_that_diverges_is_refused(rt: HostRuntime) -> Result<(), Fail> {
 }
 
 /// Each command is refused so with these bytes changed in the log.
-fn assert_changed<R: AllocGlobal + Abort>(
+fn assert_changed<R: Threads + Wait + Sync + AllocGlobal + Abort>(
     rt: &R,
     program: &[u8],
     log: &[u8],

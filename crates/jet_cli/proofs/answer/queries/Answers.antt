@@ -1,4 +1,4 @@
-use Rattle.std.proofs.Common.{rules, subst, sym, map, List, ℕ, Bor, [], ◌∷◌, Err}
+use Rattle.std.proofs.Common.{rules, subst, map, List, ℕ, Bor, [], ◌∷◌, Err}
 use Rattle.std.proofs.lemmas.Result.{err_from_is_err_and}
 use Rattle.outer_io.proofs.TellsLemmas.{tells-gains}
 use Rattle.report_model.specs.Query.{Query}
@@ -18,8 +18,8 @@ pub returns-in_err-run-clause-answer : goal.returns-in_err-run-clause-answer
 returns-in_err-run-clause-answer g c =
     let a = c.args in
     let names : List (List ℕ) = map (λ (name : Bor (List ℕ)). name.now) a.names.now in
-    let refused : Comes (λ file. queries_answer file a.program.now a.log.now names) (g.S.Store.shown a.store.now) (g.S.Store.shown c.open_run.new.store) (Err c.in_err-run.field-0.0) =
-    comes-stops (λ (file : Contents). run_at file a.program.now a.log.now) (λ run file. and_then (queries_at file names) (several_answer run)) (g.S.Store.shown a.store.now) (g.S.Store.shown c.open_run.new.store) c.in_err-run.field-0.0 c.in_err-run.ensures.outcome in
+    let refused : Comes (λ file. queries_answer a.pipeline.epoch file a.program.now a.log.now names) (g.S.Store.shown a.store.now) (g.S.Store.shown c.open_run.new.store) (Err c.in_err-run.field-0.0) =
+    comes-stops (λ (file : Contents). run_at file a.program.now a.log.now) (λ run file. and_then (queries_at file names) (several_answer a.pipeline.epoch run)) (g.S.Store.shown a.store.now) (g.S.Store.shown c.open_run.new.store) c.in_err-run.field-0.0 c.in_err-run.ensures.outcome in
     search rules
 
 pub returns-in_err-queries-clause-answer : goal.returns-in_err-queries-clause-answer
@@ -28,9 +28,9 @@ returns-in_err-queries-clause-answer g c =
     let names : List (List ℕ) = map (λ (name : Bor (List ℕ)). name.now) a.names.now in
     let p = err_from_is_err_and c.from_residual-in_err-queries.result c.from_residual-in_err-queries.ensures.1 in
     rw (p.1, p.2)
-    (after_run a.program.now a.log.now (λ file. queries_at file names) several_answer (run_of c.in_ok-run.run') (g.S.Store.shown a.store.now) (g.S.Store.shown c.open_run.new.store) (g.S.Store.shown c.open_queries.new.store)
+    (after_run a.program.now a.log.now (λ file. queries_at file names) (several_answer a.pipeline.epoch) (run_of c.in_ok-run.run') (g.S.Store.shown a.store.now) (g.S.Store.shown c.open_run.new.store) (g.S.Store.shown c.open_queries.new.store)
     c.in_ok-run.ensures.outcome (record { files = c.open_run.ensures.keeps; faults = c.open_run.ensures.later }) c.open_queries.ensures.later
-    (Err c.in_err-queries.field-0.0) (kept-refused AskAlike (λ file. queries_at file names) (several_answer (run_of c.in_ok-run.run')) (g.S.Store.shown c.open_run.new.store) (g.S.Store.shown c.open_queries.new.store) c.in_err-queries.field-0.0 c.in_err-queries.ensures.outcome))
+    (Err c.in_err-queries.field-0.0) (kept-refused AskAlike (λ file. queries_at file names) (several_answer a.pipeline.epoch (run_of c.in_ok-run.run')) (g.S.Store.shown c.open_run.new.store) (g.S.Store.shown c.open_queries.new.store) c.in_err-queries.field-0.0 c.in_err-queries.ensures.outcome))
 
 pub returns-in_err-queries-clause-keeps : goal.returns-in_err-queries-clause-keeps
 returns-in_err-queries-clause-keeps g c = keeps-keeps _ _ _ c.open_run.ensures.keeps c.open_queries.ensures.keeps
@@ -43,10 +43,10 @@ returns-clause-answer g c =
     let a = c.args in
     let names : List (List ℕ) = map (λ (name : Bor (List ℕ)). name.now) a.names.now in
     let kept : List Query = c.in_ok-queries.queries.items in
-    after_run a.program.now a.log.now (λ file. queries_at file names) several_answer (run_of c.in_ok-run.run') (g.S.Store.shown a.store.now) (g.S.Store.shown c.open_run.new.store) (g.S.Store.shown c.open_queries.new.store)
+    after_run a.program.now a.log.now (λ file. queries_at file names) (several_answer a.pipeline.epoch) (run_of c.in_ok-run.run') (g.S.Store.shown a.store.now) (g.S.Store.shown c.open_run.new.store) (g.S.Store.shown c.open_queries.new.store)
     c.in_ok-run.ensures.outcome (record { files = c.open_run.ensures.keeps; faults = c.open_run.ensures.later }) c.open_queries.ensures.later
-    (seen_by bytes_of c.reports.result) (kept-given AskAlike (λ file. queries_at file names) (several_answer (run_of c.in_ok-run.run')) (g.S.Store.shown c.open_run.new.store) (g.S.Store.shown c.open_queries.new.store) kept c.in_ok-queries.ensures.outcome (seen_by bytes_of c.reports.result)
-    (subst (λ (qs : List Query). IsWorkOf (AreGivenAlike (run_of c.in_ok-run.run') qs) (seen_by bytes_of c.reports.result)) c.deref.ensures.value c.reports.ensures))
+    (seen_by bytes_of c.reports.result) (kept-given AskAlike (λ file. queries_at file names) (several_answer a.pipeline.epoch (run_of c.in_ok-run.run')) (g.S.Store.shown c.open_run.new.store) (g.S.Store.shown c.open_queries.new.store) kept c.in_ok-queries.ensures.outcome (seen_by bytes_of c.reports.result)
+    (subst (λ (qs : List Query). IsWorkOf (AreGivenAlike a.pipeline.epoch (run_of c.in_ok-run.run') qs) (seen_by bytes_of c.reports.result)) c.deref.ensures.value c.reports.ensures))
 
 pub returns-clause-keeps : goal.returns-clause-keeps
 returns-clause-keeps g c = keeps-keeps _ _ _ c.open_run.ensures.keeps c.open_queries.ensures.keeps

@@ -1,14 +1,27 @@
-use Rattle.std.proofs.Common.{List, sym, subst}
-use Rattle.flow_model.specs.declared.SourceByte.{SourceByte}
-use Rattle.flow_model.specs.Orders.{source_cmp}
-use Rattle.flow_model.proofs.Orders.{source_total}
-use Rattle.std.specs.List.{filter}
-use Rattle.report_model.specs.Query.{has_source}
-use Rattle.report_model.specs.Influence.{sources_of}
+use Rattle.std.proofs.Common.{◌∙◌, ap, rules, List, Err}
+use Rattle.std.proofs.lemmas.Result.{IfOk-weaker}
+use Rattle.report_model.specs.Rows.{Row, rows}
+use Rattle.report_model.specs.Influence.{chosen_sources, turned, influence_text}
 use Rattle.replayer.specs.Jobs.{trace_of}
-use Rattle.sorted_set.specs.Sets.{Ascends}
-use Rattle.sorted_set.proofs.Algebra.{Ascends-set_of}
+use Rattle.jet_model.specs.Report.{influence_of}
+use Rattle.jet_model.specs.Answer.{epochs_check, cut_answer}
+use Rattle.jet_files.specs.Outcome.{IsWork}
+use Rattle.jet_cli.proofs.Cutting.{made-more, made-stops}
+use Rattle.jet_cli.proofs.Working.{work-text}
 use Rattle.jet_cli.proofs.influence.influence_of.Goals as goal
 
-pub turn_round-requires : goal.turn_round-requires
-turn_round-requires c = subst (Ascends source_cmp) (sym c.in_ok-sources.ensures) (Ascends-set_of source_total (filter (has_source c.args.query.now) (sources_of (trace_of c.args.job.now))))
+pub returns-in_err-report : goal.returns-in_err-report
+returns-in_err-report g c =
+    let job = c.args.job.now in
+    let q = c.args.query.now in
+    let refused : IsWork (cut_answer c.args.pipeline.epoch job.start job.log (influence_of q)) (Err c.in_err-report.field-0.0) =
+    made-stops (epochs_check c.args.pipeline.epoch job.log) (rows q (trace_of job)) (influence_of q (trace_of job)) c.in_err-report.field-0.0 c.in_err-report.ensures in
+    search rules
+
+pub returns : goal.returns
+returns g c =
+    let job = c.args.job.now in
+    let q = c.args.query.now in
+    work-text c.turned_text.result c.or_memory.result (cut_answer c.args.pipeline.epoch job.start job.log (influence_of q)) c.or_memory.ensures.ok c.or_memory.ensures.err
+    (IfOk-weaker c.turned_text.result _ _ (λ text e. made-more (epochs_check c.args.pipeline.epoch job.log) (rows q (trace_of job)) c.in_ok-report.report (influence_of q (trace_of job)) text.items c.in_ok-report.ensures
+    (λ same. e ∙ ap (λ (rs : List Row). influence_text (turned rs (chosen_sources q (trace_of job)))) same)) c.turned_text.ensures)

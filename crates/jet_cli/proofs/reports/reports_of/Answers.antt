@@ -1,16 +1,27 @@
-use Rattle.std.proofs.Common.{arith, ap, ◌∙◌, ℕ, ◌+◌, ◌++◌, ◌≡◌, List}
-use Rattle.report_model.specs.Rows.{Row}
-use Rattle.jet_cli.specs.Answers.{numbered_text}
+use Rattle.std.proofs.Common.{rules, Err}
+use Rattle.std.proofs.lemmas.Result.{IfOk-weaker}
+use Rattle.report_model.specs.Rows.{rows}
 use Rattle.replayer.specs.Jobs.{trace_of}
-use Rattle.jet_cli.proofs.Reporting.{reports_more}
+use Rattle.jet_model.specs.Report.{reports_of}
+use Rattle.jet_model.specs.Answer.{epochs_check, cut_answer}
+use Rattle.jet_files.specs.Outcome.{IsWork}
+use Rattle.jet_cli.proofs.Cutting.{made-more, made-stops}
+use Rattle.jet_cli.proofs.Working.{work-text}
 use Rattle.jet_cli.proofs.reports.reports_of.Goals as goal
 
-pub loop-query-preserved : goal.loop-query-preserved
-loop-query-preserved c =
-    let i : ℕ = c.loop-query.query-index in
-    let number : c.loop-query.number + 1 ≡ i + 1 = omega (arith, c.loop-query.invariant.number) in
-    record {
-      number = number;
-      text = reports_more c.args.queries.now c.args.union.now (trace_of c.args.job.now) c.requires.union i (c.loop-query.number + 1) c.query-item.result c.loop-query.out.items c.push_report.new.out.items
-          c.loop-query-test.true c.query-item.is number c.push_report.ensures.points c.loop-query.invariant.text (c.in_ok-push_report.ensures.text ∙ ap (λ (rs : List Row). c.loop-query.out.items ++ numbered_text (c.loop-query.number + 1) c.query-item.result rs) c.in_ok-all.ensures);
-    }
+pub returns-in_err-all : goal.returns-in_err-all
+returns-in_err-all g c =
+    let job = c.args.job.now in
+    let qs = c.args.queries.now in
+    let refused : IsWork (cut_answer c.args.pipeline.epoch job.start job.log (reports_of qs)) (Err c.in_err-all.field-0.0) =
+    made-stops (epochs_check c.args.pipeline.epoch job.log) (rows c.args.union.now (trace_of job)) (reports_of qs (trace_of job)) c.in_err-all.field-0.0 c.in_err-all.ensures in
+    search rules
+
+pub returns : goal.returns
+returns g c =
+    let job = c.args.job.now in
+    let qs = c.args.queries.now in
+    let union = c.args.union.now in
+    work-text c.own_reports.result c.or_memory.result (cut_answer c.args.pipeline.epoch job.start job.log (reports_of qs)) c.or_memory.ensures.ok c.or_memory.ensures.err
+    (IfOk-weaker c.own_reports.result _ _ (λ text e. made-more (epochs_check c.args.pipeline.epoch job.log) (rows union (trace_of job)) c.in_ok-all.all (reports_of qs (trace_of job)) text.items c.in_ok-all.ensures
+    (e union (trace_of job) c.requires.union)) c.own_reports.ensures)

@@ -1,16 +1,13 @@
-use Rattle.std.proofs.Common.{◌≡◌, ◌∙◌, ap, sym, subst, arith, ◌≤◌, ◌<◌, ◌^◌, ℕ, List, length, Result, Ok, Err}
+use Rattle.std.proofs.Common.{◌≡◌, ◌∙◌, ap, sym, subst, arith, ◌≤◌, ◌<◌, ◌^◌, ℕ, length, Ok, Err}
 use Rattle.std.proofs.lemmas.Result.{IfOk-weaker}
 use Rattle.log_model.specs.declared.Version.TheVariants.{Two}
 use Rattle.log_model.specs.Logs.{Log, CanHold, log_text}
 use Rattle.replay_model.proofs.Received.{fitting_is_held}
 use Rattle.record_model.specs.Counts.{capped}
-use Rattle.jet_refusal.specs.declared.refusal.Refusal.{Refusal}
 use Rattle.jet_refusal.specs.declared.refusal.Refusal.TheVariants as refusal
 use Rattle.jet_model.specs.Outcomes.{and_then}
 use Rattle.jet_model.specs.Answer.{fitting_start, limited_text}
-use Rattle.jet_files.specs.Outcome.{IsWork}
 use Rattle.jet_files.specs.Views.{run_of}
-use Rattle.jet_files.proofs.Composing.{work-stops}
 use Rattle.jet_cli.proofs.Recording.{short_text, long_text}
 use Rattle.jet_cli.proofs.Working.{work-text, conversion-gives}
 use Rattle.jet_cli.proofs.work.conversion.Goals as goal

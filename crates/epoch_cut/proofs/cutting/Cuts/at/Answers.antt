@@ -1,6 +1,6 @@
 use Rattle.std.proofs.Common.{◌≡◌, ◌*◌, ◌≤◌, Some, ◌∷◌, length, ap, sym, ◌∙◌, subst, arith}
 use Rattle.std.specs.List.{slice_get}
-use Rattle.epoch_cut.specs.ByLength.{cut_at, cut_times}
+use Rattle.epoch_model.specs.ByLength.{cut_at, cut_times}
 use Rattle.epoch_cut.proofs.CutTimes.{cut_times_counted, cut_times_multiples}
 use Rattle.epoch_cut.proofs.cutting.Cuts.at.Goals as goal
 

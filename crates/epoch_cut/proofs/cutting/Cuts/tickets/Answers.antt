@@ -1,7 +1,7 @@
 use Rattle.std.proofs.Common.{◌∙◌, arith, rules}
 use Rattle.std.proofs.lemmas.List.{take_all}
 use Rattle.epoch_model.specs.Cutting.{epochs}
-use Rattle.epoch_cut.specs.ByLength.{numbered}
+use Rattle.epoch_cut.specs.Numbered.{numbered}
 use Rattle.epoch_cut.proofs.Numbered.{numbered_more, length-numbered}
 use Rattle.epoch_cut.proofs.cutting.Cuts.tickets.Goals as goal
 

@@ -1,6 +1,6 @@
 use Rattle.std.proofs.Common.{◌≡◌, ◌≤◌, take, vec_len, vec_capacity}
 use Rattle.epoch_model.specs.Cutting.{epochs}
-use Rattle.epoch_cut.specs.ByLength.{numbered}
+use Rattle.epoch_cut.specs.Numbered.{numbered}
 use Rattle.epoch_cut.proofs.cutting.Cuts.tickets.Given as goal
 
 -- one ticket for each number so far, and room for all

@@ -1,8 +1,7 @@
--- Runs that are cut by a length, and epochs with their numbers.
-use Rattle.std.specs.Prelude.{ℕ, suc, ◌*◌, min, max, List, [], ◌∷◌, map}
+-- Runs that are cut by a length.
+use Rattle.std.specs.Prelude.{ℕ, ◌*◌, min, max, List, map}
 use Rattle.std.specs.Int.{div_ceil}
 use Rattle.std.specs.List.{range_with_len}
-use Rattle.epoch_model.specs.Cutting.{Epoch}
 
 -- how many epochs a run of so many steps has: the steps by the length, rounded up, and one at least
 abbrev pub epoch_count : ℕ → ℕ → ℕ
@@ -15,14 +14,3 @@ cut_at steps length k = min (k * length) steps
 -- the times at which the epochs end, one for each
 unfoldable pub cut_times : ℕ → ℕ → List ℕ
 cut_times steps length = map (cut_at steps length) (range_with_len 1 (epoch_count steps length))
-
--- an epoch with its number
-pub record NumberedEpoch : Type 0 where
-  pub number : ℕ
-  pub first : ℕ
-  pub past_last : ℕ
-
--- the epochs in order, numbered from k on
-abbrev pub numbered : ℕ → List Epoch → List NumberedEpoch
-numbered k [] = []
-numbered k (e ∷ es) = record { number = k; first = e.first; past_last = e.past_last } ∷ numbered (suc k) es
