@@ -16,6 +16,7 @@ use Rattle.pass_parts.specs.Requests.{locations, IsCounted, AreCounted}
 use Rattle.pass_parts.specs.Turns.{OnMoved}
 use Rattle.backward_pass.specs.declared.back.Back.{Back}
 
+-- the pass, where the ends don't stand in it
 pub record BackView : Type 0 where
   pub summary : Option Summary
   pub first : Bool
@@ -31,9 +32,11 @@ pub record BackView : Type 0 where
   pub whole : Bool
   pub over : Bool
 
+-- what it knows of the epoch
 abbrev pub knows : BackView → EpochSummary
 knows v = known v.summary
 
+-- what contracts see of it
 abbrev pub back_of : Back → BackView
 back_of b = record {
   summary = b.summary;
@@ -48,6 +51,7 @@ back_of b = record {
   over = b.over;
 }
 
+-- one that has asked nothing yet
 abbrev pub new_back : Option Summary → Bool → Bool → BackView
 new_back s first last = record {
   summary = s;
