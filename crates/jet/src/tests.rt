@@ -1,6 +1,7 @@
 //! Commands over files in memory, from their words to what they write.
 
 mod convert;
+mod epochs;
 mod guests;
 mod influence;
 mod outside;

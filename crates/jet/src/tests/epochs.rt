@@ -1,0 +1,150 @@
+//! Runs that are cut into epochs: the length of these, how many workers there are and how much a link holds change nothing
+//! of what is written.
+
+use super::guests::{ADD_WORDS, COPY_FOUR, Guest};
+use super::{
+    COMPUTE, COPIED, COPY, Ending, Line, SUM, assert_command, assert_guest, log, program,
+    push_words,
+};
+use guest_assembler::{Instr, code};
+use std::test::Fail;
+
+/// A query with one step in each epoch, many workers and the smallest links.
+const BY_STEPS: Line = &[
+    "jet",
+    "query",
+    "prog",
+    "log",
+    "query",
+    "--epoch",
+    "1",
+    "--workers",
+    "8",
+    "--link",
+    "1",
+];
+
+/// A query with six steps in each epoch.
+const BY_SIX: Line = &["jet", "query", "prog", "log", "query", "--epoch", "6"];
+
+/// A query with seven steps in each epoch, on one worker.
+const BY_SEVEN: Line = &[
+    "jet",
+    "query",
+    "prog",
+    "log",
+    "query",
+    "--epoch",
+    "7",
+    "--workers",
+    "1",
+];
+
+/// A query with all steps in one epoch.
+const WHOLE: Line = &[
+    "jet",
+    "query",
+    "prog",
+    "log",
+    "query",
+    "--epoch",
+    "1099511627776",
+    "--workers",
+    "64",
+    "--link",
+    "65536",
+];
+
+/// Points before a cut, at one, and after it.
+const POINTS: &str =
+    "rule copy\nsource all\nsink mem 65792 1 at 5\nsink mem 65792 1 at 6\nsink mem 65792 1 at 7\n";
+
+/// Guests, queries and their reports.
+const REPORTS: &[(&Guest, &str, &str)] = &[
+    (&COPY_FOUR, COPY, COPIED),
+    (&ADD_WORDS, COMPUTE, SUM),
+    (
+        &COPY_FOUR,
+        POINTS,
+        "m:65792@5\nm:65792@6 0:0\nm:65792@7 0:0\nend 3\n",
+    ),
+];
+
+#[test]
+fn a_report_is_the_same_by_any_epochs(rt: HostRuntime) -> Result<(), Fail> {
+    for line in [BY_STEPS, BY_SIX, BY_SEVEN, WHOLE] {
+        for &(guest, query, report) in REPORTS {
+            assert_guest(&rt, line, guest, query, Ending::report(report))?;
+        }
+    }
+    Ok(())
+}
+
+/// Counts down from 2047 and exits: 4,097 steps.
+const COUNT_DOWN: [Instr; 5] = code![
+    li(x5, 2047),
+    addi(x5, x5, -1),
+    bne(x5, x0, -4),
+    li(x17, 93),
+    ecall(),
+];
+
+/// The command lines over its run, and how they end: 4,097 epochs are too many, and 2,049 are not.
+const LIMITS: &[(Line, Ending<'static>)] = &[
+    (
+        BY_STEPS,
+        Ending {
+            status: 9,
+            out: &[],
+            err: "jet: limit epochs 4097\n",
+        },
+    ),
+    (
+        &["jet", "query", "prog", "log", "query", "--epoch", "2"],
+        Ending {
+            status: 0,
+            out: b"end 0\n",
+            err: "",
+        },
+    ),
+    (
+        &["jet", "influence", "prog", "log", "query", "--epoch", "1"],
+        Ending {
+            status: 9,
+            out: &[],
+            err: "jet: limit epochs 4097\n",
+        },
+    ),
+    (
+        &[
+            "jet", "queries", "prog", "log", "query", "query", "--epoch", "1",
+        ],
+        Ending {
+            status: 9,
+            out: &[],
+            err: "jet: limit epochs 4097\n",
+        },
+    ),
+    (
+        &["jet", "query", "prog", "log", "query", "--workers", "0"],
+        Ending {
+            status: 2,
+            out: &[],
+            err: "jet: usage\n",
+        },
+    ),
+];
+
+#[test]
+fn too_many_epochs_are_refused(rt: HostRuntime) -> Result<(), Fail> {
+    let alloc = rt.alloc();
+    let file = program(alloc, &COUNT_DOWN)?;
+    let mut records = Vec::new(alloc);
+    records.push(5)?;
+    push_words(&mut records, [4096, 0].as_slice())?;
+    let log = log(alloc, &file, 1, 0, &records)?;
+    for &(line, ending) in LIMITS {
+        assert_command(&rt, line, &file, &log, COPY.as_bytes(), ending)?;
+    }
+    Ok(())
+}
