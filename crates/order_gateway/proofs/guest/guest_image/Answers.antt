@@ -1,4 +1,4 @@
-use Rattle.std.proofs.Common.{◌≡◌, ◌∙◌, sym, ap, subst, Ok, Err}
+use Rattle.std.proofs.Common.{◌≡◌, ◌∙◌, ap, subst, Ok, Err}
 use Rattle.elf_model.specs.Image.{image}
 use Rattle.elf_image.specs.Answers.{IsFaultOf}
 use Rattle.workload_model.specs.Guest.{guest_image}
