@@ -10,7 +10,8 @@ use thiserror::Error;
 /// Why [`crate::recorded`] gave no log.
 #[derive(Debug, Drop, Error)]
 pub enum RecordFault {
-    /// The text of the run's log has this many bytes, which are more than 2^26; of 2^64 bytes and more it says 2^64 - 1.
+    /// The text of the run's log has this many bytes, which are more than 2^26; of 2^64 bytes and more it says
+    /// 2^64 - 1.
     #[error("the log has {0} bytes")]
     LogTooLong(u64),
     /// Out of memory.

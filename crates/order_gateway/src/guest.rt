@@ -8,7 +8,7 @@ use guest_assembler::{Instr, code, program};
 use no_memory::NoMemory;
 use std::alloc::Global;
 
-/// Messages are read to x8 and orders written from x9; the positions of the accounts stand from x18 on, four bytes each.
+/// Messages are read to x8, and orders are written from x9. The positions of the accounts stand from x18 on.
 const GUEST: &[Instr] = &code![
     lui(x8, 0x11000),
     lui(x9, 0x12000),

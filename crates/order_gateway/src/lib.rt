@@ -1,7 +1,7 @@
-//! The workload of `bench`, made: the guest's file and its input, the log of its run, its query, and the lines that are
-//! printed.
+//! The workload of `bench`: the guest's file and its input, the log of its run, its query, and the lines that are printed
+//! of it.
 //!
-//! What they are stands in `workload_model`'s definitions.
+//! What each of them is stands in `workload_model`'s definitions.
 #![tactic(auto)]
 
 mod fault;

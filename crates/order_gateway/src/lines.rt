@@ -24,8 +24,9 @@ fn push_digest(out: &mut Vec<u8>, digest: &[u8; 32]) -> Result<(), NoMemory>
     Ok(())
 }
 
-/// The six lines of these numbers: `steps N`, `epochs N`, `sinks N`, `pairs N`, `asked N` and `report H`, each with a line
-/// feed. Numbers are decimals, and H is the digest in 64 lower-case hexadecimal digits. It gives up with NoMemory alone.
+/// The six lines of these numbers: `steps N`, `epochs N`, `sinks N`, `pairs N`, `asked N` and `report H`, each with a
+/// line feed. Numbers are decimals, and H is the digest in 64 lower-case hexadecimal digits. It gives up with NoMemory
+/// alone.
 pub fn text_of(alloc: Global, numbers: &Numbers) -> Result<Vec<u8>, NoMemory>
     ensures { IfOk result (λ text. text.items ≡ numbers_text numbers.now) }
 {

@@ -37,15 +37,19 @@ outcome_of epoch_length log = and_then log (λ short. lines_of short (limited_cu
 short_log : (log : Log) → size_of log ≤ 2 ^ 26 → limited_log log ≡ Ok log
 short_log log short = ap (λ b. log_if b log) (le-ltb (2 ^ 26) (size_of log) short)
 
-pub long_log-outcome : (log : Log) (epoch_length : ℕ) → 2 ^ 26 < size_of log → bench_outcome log epoch_length ≡ Err (LogTooLong (capped (size_of log)))
+pub long_log-outcome : (log : Log) (epoch_length : ℕ) → 2 ^ 26 < size_of log
+    → bench_outcome log epoch_length ≡ Err (LogTooLong (capped (size_of log)))
 long_log-outcome log epoch_length long = ap (λ b. outcome_of epoch_length (log_if b log)) (lt-ltb (2 ^ 26) (size_of log) long)
 
-pub many_epochs-outcome : (log : Log) (epoch_length : ℕ) → size_of log ≤ 2 ^ 26 → 4096 < epoch_count (steps log) epoch_length → bench_outcome log epoch_length ≡ Err (TooManyEpochs (epoch_count (steps log) epoch_length))
+pub many_epochs-outcome : (log : Log) (epoch_length : ℕ) → size_of log ≤ 2 ^ 26 → 4096 < epoch_count (steps log) epoch_length
+    → bench_outcome log epoch_length ≡ Err (TooManyEpochs (epoch_count (steps log) epoch_length))
 many_epochs-outcome log epoch_length short many =
     ap (outcome_of epoch_length) (short_log log short)
     ∙ ap (λ b. lines_of log (cuts_if b (steps log) epoch_length)) (lt-ltb 4096 (epoch_count (steps log) epoch_length) many)
 
-pub lines-outcome : (log : Log) (epoch_length : ℕ) → size_of log ≤ 2 ^ 26 → epoch_count (steps log) epoch_length ≤ 4096 → (start : State) → beginning guest_file log ≡ Some start → (q : Query) → Alike q workload_query → bench_outcome log epoch_length ≡ Ok (numbers_text (numbers_of q (cut_times (steps log) epoch_length) (trace start log)))
+pub lines-outcome : (log : Log) (epoch_length : ℕ) → size_of log ≤ 2 ^ 26 → epoch_count (steps log) epoch_length ≤ 4096
+    → (start : State) → beginning guest_file log ≡ Some start → (q : Query) → Alike q workload_query
+    → bench_outcome log epoch_length ≡ Ok (numbers_text (numbers_of q (cut_times (steps log) epoch_length) (trace start log)))
 lines-outcome log epoch_length short few start begins q alike =
     let cuts = cut_times (steps log) epoch_length in
     ap (outcome_of epoch_length) (short_log log short)

@@ -1,5 +1,6 @@
--- The guest: an order gateway. It reads messages of 8 bytes on channel 0 (side, account, a quantity of two bytes and a price
--- of four), keeps a position for each account, and writes 9 bytes on channel 1 for each message (account, position and price).
+-- The guest: an order gateway. It reads messages of 8 bytes on channel 0 (side, account, a quantity of two bytes and a
+-- price of four), keeps a position for each account, and writes 9 bytes on channel 1 for each message (account, position
+-- and price).
 use Rattle.std.specs.Prelude.{ℕ, List, [], ◌∷◌, ◌++◌, pos}
 use Rattle.isa.specs.declared.Instr.{Instr}
 use Rattle.isa.specs.declared.Instr.TheVariants.{Lui, Jal, Beq, Bne, Lw, Lbu, Lhu, Sb, Sw, Addi, Andi, Slli, Add, Sub, Ecall}
@@ -23,7 +24,7 @@ take_apart = Lbu 6 8 (pos 0) ∷ Lbu 7 8 (pos 1) ∷ Lhu 28 8 (pos 2) ∷ Lw 29 
 
 -- the account's position to x31, and its address to x30
 abbrev pub look_up : List Instr
-look_up = Slli 30 7 (2) ∷ Add 30 30 18 ∷ Lw 31 30 (pos 0) ∷ []
+look_up = Slli 30 7 2 ∷ Add 30 30 18 ∷ Lw 31 30 (pos 0) ∷ []
 
 -- where the side's lowest bit is 1, a sale, the quantity is negated: one step more than for a purchase
 abbrev pub sign_quantity : List Instr

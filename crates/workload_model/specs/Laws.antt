@@ -32,7 +32,8 @@ TextIsQuery = query query_text ≡ Ok workload_query
 
 -- alike queries have the same numbers
 abbrev pub AlikeHaveSameNumbers : Type 0
-AlikeHaveSameNumbers = (q p : Query) (cuts : List ℕ) (trace : List StepSeen) → Alike q p → numbers_of q cuts trace ≡ numbers_of p cuts trace
+AlikeHaveSameNumbers = (q p : Query) (cuts : List ℕ) (trace : List StepSeen)
+    → Alike q p → numbers_of q cuts trace ≡ numbers_of p cuts trace
 
 -- ---- what a log comes to
 
@@ -43,12 +44,14 @@ LongLogIsRefused = (log : Log) (epoch_length : ℕ) → 2 ^ 26 < length (log_tex
 
 -- else that of the epochs, where there are more than 4096
 abbrev pub ManyEpochsAreRefused : Type 0
-ManyEpochsAreRefused = (log : Log) (epoch_length : ℕ) → length (log_text Two log) ≤ 2 ^ 26 → 4096 < epoch_count (steps log) epoch_length
+ManyEpochsAreRefused = (log : Log) (epoch_length : ℕ)
+    → length (log_text Two log) ≤ 2 ^ 26 → 4096 < epoch_count (steps log) epoch_length
     → bench_outcome log epoch_length ≡ Err (TooManyEpochs (epoch_count (steps log) epoch_length))
 
 -- and else the lines, of any query that asks alike
 abbrev pub LinesAreGiven : Type 0
-LinesAreGiven = (log : Log) (epoch_length : ℕ) → length (log_text Two log) ≤ 2 ^ 26 → epoch_count (steps log) epoch_length ≤ 4096
+LinesAreGiven = (log : Log) (epoch_length : ℕ)
+    → length (log_text Two log) ≤ 2 ^ 26 → epoch_count (steps log) epoch_length ≤ 4096
     → (start : State) → beginning guest_file log ≡ Some start → (q : Query) → Alike q workload_query
     → bench_outcome log epoch_length ≡ Ok (numbers_text (numbers_of q (cut_times (steps log) epoch_length) (trace start log)))
 

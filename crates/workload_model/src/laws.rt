@@ -1,7 +1,7 @@
 //! Laws of the definitions. Each is a function that does nothing: its contract is the law.
 
-ghost use Rattle.workload_model.specs.Laws.{GuestHasWords, GuestIsImage, WindowHoldsGuest, TextIsQuery, AlikeHaveSameNumbers, HasOneAnswer};
-ghost use Rattle.workload_model.specs.Laws.{LongLogIsRefused, ManyEpochsAreRefused, LinesAreGiven};
+ghost use Rattle.workload_model.specs.Laws.{GuestHasWords, GuestIsImage, WindowHoldsGuest, TextIsQuery, AlikeHaveSameNumbers};
+ghost use Rattle.workload_model.specs.Laws.{LongLogIsRefused, ManyEpochsAreRefused, LinesAreGiven, HasOneAnswer};
 
 /// A word stands for each instruction of the guest, its file is a program file, and a window of the workload's pages can
 /// hold its image.

@@ -1,5 +1,5 @@
-//! The workload of `bench` as definitions: a guest and its input, how its run is recorded and queried, and the lines that
-//! are printed of it.
+//! The workload of `bench` as definitions: a guest and its input, how its run is recorded and queried, and the lines
+//! that are printed of it.
 //!
 //! What there is to read stands in specs/. proofs/ has worked examples, which the checker computes.
 #![tactic(auto)]
