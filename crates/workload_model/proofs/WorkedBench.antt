@@ -11,15 +11,16 @@ use Rattle.log_model.specs.Logs.{Log, IsBytes, IsLog}
 use Rattle.replay_model.specs.Comparison.{divergence}
 use Rattle.replay_model.specs.Fits.{beginning}
 use Rattle.record_model.specs.Recorded.{IsRecorded}
+use Rattle.jet_refusal.specs.declared.refusal.Refusal.TheVariants as refusal
 use Rattle.jet_model.specs.Report.{report}
 use Rattle.sha2.specs.Sha256.{sha256, digest_bytes, hash_after, compress, rounds, first_words, schedule}
 use Rattle.sha2.proofs.Facts256.{length-sha256}
 use Rattle.hex.specs.Hex.{encode_with}
-use Rattle.epoch_cut.specs.ByLength.{cut_times}
+use Rattle.epoch_model.specs.ByLength.{cut_times}
 use Rattle.guest_assembler.specs.ProgramFile.{bytes_of}
 use Rattle.workload_model.specs.Guest.{guest, guest_file, guest_image}
 use Rattle.workload_model.specs.Workload.{workload, workload_query}
-use Rattle.workload_model.specs.Answer.{bench_outcome, TooManyEpochs, IsBenchAnswer}
+use Rattle.workload_model.specs.Answer.{bench_outcome, IsBenchAnswer}
 
 abbrev log_of : List CallRecord → ℕ → Log
 log_of records steps = record { pages = 4; inputs = 1; digest = sha256 guest_file; records = records; end = Limit steps }
@@ -47,7 +48,7 @@ set_up-outcome : bench_outcome (log_of [] 3) 4096 ≡ Ok (codes "steps 3\nepochs
 unfolding guest_file digits sha256 digest_bytes hash_after compress rounds first_words schedule encode_with cut_times
 set_up-outcome = refl
 
-too_many-outcome : bench_outcome (log_of [] 4097) 1 ≡ Err (TooManyEpochs 4097)
+too_many-outcome : bench_outcome (log_of [] 4097) 1 ≡ Err (refusal.TooManyEpochs 4097)
 unfolding guest_file sha256 digest_bytes hash_after compress rounds first_words schedule
 too_many-outcome = refl
 
@@ -96,5 +97,6 @@ one_order-recorded = record {
 }
 
 -- so this is the answer to seed 1, 30 steps and epochs of 15 steps
-one_order-answer : IsBenchAnswer 1 30 15 [] (Ok one_order-text)
-one_order-answer = record { log = one_order; recorded = one_order-recorded; outcome = sym one_order-outcome }
+one_order-answer : IsBenchAnswer 1 30 15 (Ok one_order-text)
+one_order-answer = record
+    { log = one_order; is_log = record { asked = 0; recorded = one_order-recorded }; outcome = sym one_order-outcome }

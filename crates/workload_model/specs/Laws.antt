@@ -12,11 +12,14 @@ use Rattle.guest_assembler.specs.ProgramFile.{HaveWords}
 use Rattle.replay_model.specs.Fits.{beginning}
 use Rattle.replay_model.specs.Run.{trace}
 use Rattle.record_model.specs.Counts.{capped}
-use Rattle.epoch_cut.specs.ByLength.{epoch_count, cut_times}
+use Rattle.epoch_model.specs.ByLength.{epoch_count, cut_times}
+use Rattle.jet_refusal.specs.declared.refusal.Refusal.{Refusal}
+use Rattle.jet_refusal.specs.declared.refusal.Refusal.TheVariants as refusal
+use Rattle.jet_model.specs.Headline.{HasFewEpochs}
 use Rattle.workload_model.specs.Guest.{guest, guest_file, guest_image}
 use Rattle.workload_model.specs.Workload.{query_text, workload_query}
 use Rattle.workload_model.specs.Lines.{numbers_text, numbers_of}
-use Rattle.workload_model.specs.Answer.{PastLimit, LogTooLong, TooManyEpochs, bench_outcome, IsBenchAnswer}
+use Rattle.workload_model.specs.Answer.{bench_outcome, IsBenchAnswer, IsBenchOf}
 
 abbrev pub GuestHasWords : Type 0
 GuestHasWords = HaveWords guest
@@ -40,13 +43,13 @@ AlikeHaveSameNumbers = (q p : Query) (cuts : List ℕ) (trace : List StepSeen)
 -- its limit, where its text has more bytes than that
 abbrev pub LongLogIsRefused : Type 0
 LongLogIsRefused = (log : Log) (epoch_length : ℕ) → 2 ^ 26 < length (log_text Two log)
-    → bench_outcome log epoch_length ≡ Err (LogTooLong (capped (length (log_text Two log))))
+    → bench_outcome log epoch_length ≡ Err (refusal.LogTooLong (capped (length (log_text Two log))))
 
 -- else that of the epochs, where there are more than 4096
 abbrev pub ManyEpochsAreRefused : Type 0
 ManyEpochsAreRefused = (log : Log) (epoch_length : ℕ)
     → length (log_text Two log) ≤ 2 ^ 26 → 4096 < epoch_count (steps log) epoch_length
-    → bench_outcome log epoch_length ≡ Err (TooManyEpochs (epoch_count (steps log) epoch_length))
+    → bench_outcome log epoch_length ≡ Err (refusal.TooManyEpochs (epoch_count (steps log) epoch_length))
 
 -- and else the lines, of any query that asks alike
 abbrev pub LinesAreGiven : Type 0
@@ -57,5 +60,16 @@ LinesAreGiven = (log : Log) (epoch_length : ℕ)
 
 -- two answers are the same
 abbrev pub HasOneAnswer : Type 0
-HasOneAnswer = (seed steps epoch_length : ℕ) (answers : List ℕ) (a b : Result (List ℕ) PastLimit)
-    → IsBenchAnswer seed steps epoch_length answers a → IsBenchAnswer seed steps epoch_length answers b → a ≡ b
+HasOneAnswer = (seed steps epoch_length : ℕ) (a b : Result (List ℕ) Refusal)
+    → IsBenchAnswer seed steps epoch_length a → IsBenchAnswer seed steps epoch_length b → a ≡ b
+
+-- a text that is the answer is the lines of the run
+abbrev pub AnswerIsLines : Type 0
+AnswerIsLines = (seed steps epoch_length : ℕ) (text : List ℕ)
+    → IsBenchAnswer seed steps epoch_length (Ok text) → IsBenchOf seed steps epoch_length text
+
+-- and the lines of a run that is within the limits are the answer
+abbrev pub LinesAreAnswer : Type 0
+LinesAreAnswer = (seed steps epoch_length : ℕ) (text : List ℕ) (is : IsBenchOf seed steps epoch_length text)
+    → length (log_text Two is.log) ≤ 2 ^ 26 → HasFewEpochs epoch_length is.log
+    → IsBenchAnswer seed steps epoch_length (Ok text)

@@ -1,7 +1,8 @@
 //! Laws of the definitions. Each is a function that does nothing: its contract is the law.
 
 ghost use Rattle.workload_model.specs.Laws.{GuestHasWords, GuestIsImage, WindowHoldsGuest, TextIsQuery, AlikeHaveSameNumbers};
-ghost use Rattle.workload_model.specs.Laws.{LongLogIsRefused, ManyEpochsAreRefused, LinesAreGiven, HasOneAnswer};
+ghost use Rattle.workload_model.specs.Laws.{LongLogIsRefused, ManyEpochsAreRefused, LinesAreGiven};
+ghost use Rattle.workload_model.specs.Laws.{HasOneAnswer, AnswerIsLines, LinesAreAnswer};
 
 /// A word stands for each instruction of the guest, its file is a program file, and a window of the workload's pages can
 /// hold its image.
@@ -29,7 +30,13 @@ pub fn logs_come_to_lines()
     ensures lines { LinesAreGiven }
 {}
 
-/// A seed, a number of steps, a length of epochs and the clock's answers have one answer.
+/// A seed, a number of steps and a length of epochs have one answer.
 pub fn one_bench_answer()
     ensures { HasOneAnswer }
+{}
+
+/// A text is the answer where it is the lines of the workload's run, and the run is within the limits; else there is none.
+pub fn bench_answer_is_lines()
+    ensures answer { AnswerIsLines }
+    ensures lines { LinesAreAnswer }
 {}
