@@ -1,1 +1,2 @@
 mod Generated
+mod Zeros

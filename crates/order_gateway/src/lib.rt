@@ -4,6 +4,7 @@
 //! What each of them is stands in `workload_model`'s definitions.
 #![tactic(auto)]
 
+mod clock;
 mod fault;
 mod generator;
 mod guest;

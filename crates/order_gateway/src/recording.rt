@@ -4,14 +4,15 @@ ghost use Rattle.std.specs.Prelude.{◌≡◌, ◌≤◌, ◌^◌, length, IfOk,
 ghost use Rattle.log_model.specs.declared.Version.TheVariants.{Two};
 ghost use Rattle.log_model.specs.Logs.{CanHold, log_text};
 ghost use Rattle.workload_model.specs.Guest.{guest_file, guest_image};
-ghost use Rattle.order_gateway.specs.Recordings.{IsRunLog, IsCause};
+ghost use Rattle.workload_model.specs.Answer.{IsWorkloadLog};
+ghost use Rattle.order_gateway.specs.Recordings.{IsCause};
 
+use crate::clock::StoppedClock;
 use crate::fault::RecordFault;
 use crate::generator::input;
 use crate::guest::{guest_file, guest_image};
 use call_record::{CaptureFault, capture};
 use elf_image::Image;
-use outer_io::ListClock;
 use replay_log::Log;
 use std::alloc::Global;
 
@@ -40,7 +41,7 @@ pub fn recorded(alloc: Global, seed: u64, steps: u64) -> Result<Recording, Recor
     requires { steps ≤ MOST_STEPS }
     ensures program { IfOk result (λ run. run.program.items ≡ guest_file) }
     ensures image { IfOk result (λ run. run.image ≡ guest_image) }
-    ensures log { IfOk result (λ run. IsRunLog seed steps run.log) }
+    ensures log { IfOk result (λ run. IsWorkloadLog seed steps run.log) }
     ensures short { IfOk result (λ run. length (log_text Two run.log) ≤ 2 ^ 26) }
     ensures held { IfOk result (λ run. CanHold Two run.log) }
     ensures cause { IfErr result (IsCause seed steps) }
@@ -48,16 +49,22 @@ pub fn recorded(alloc: Global, seed: u64, steps: u64) -> Result<Recording, Recor
     let program = guest_file(alloc)?;
     let image = guest_image(alloc, &program)?;
     let inputs = [input(alloc, seed, steps)?];
-    let mut clock = ListClock::new(alloc, &[])?;
+    let mut clock = StoppedClock::new();
     match capture(
         alloc, &program, &image, PAGES, &inputs, &mut clock, PIECE, steps,
     ) {
-        Ok(log) => Ok(Recording {
-            program,
-            image,
-            log,
-        }),
-        Err(CaptureFault::LogTooLong(size)) => Err(RecordFault::LogTooLong(size)),
+        Ok(log) => {
+            clock.counted()?;
+            Ok(Recording {
+                program,
+                image,
+                log,
+            })
+        }
+        Err(CaptureFault::LogTooLong(size)) => {
+            clock.counted()?;
+            Err(RecordFault::LogTooLong(size))
+        }
         Err(CaptureFault::NoMemory) => Err(RecordFault::NoMemory),
         Err(CaptureFault::Window) => unreachable!(),
     }
