@@ -18,8 +18,7 @@ use no_memory::NoMemory;
 use outer_io::Gate;
 use query_lang::Query;
 use replayer::Job;
-use seq_taint::sequential;
-use sink_collect::{Report, gather};
+use sink_collect::Report;
 use std::sync::Wait;
 use std::thread::Threads;
 
@@ -48,10 +47,17 @@ fn analysed<R: Threads + Wait + Sync, G: Gate>(
     requires pipeline { IsPipeline pipeline }
     ensures { IfOk result (λ report. report ≡ rows query.now (trace_of job.now)) }
 {
-    let _ = cuts;
-    let _ = pipeline;
-    let alloc = engine.alloc;
-    gather(alloc, sequential(alloc, job, query)?)
+    let (report, _) = jet_core::query(
+        engine.rt,
+        engine.alloc,
+        engine.gate,
+        job,
+        query,
+        cuts,
+        pipeline.workers,
+        pipeline.link,
+    )?;
+    Ok(report)
 }
 
 /// The rows of a query over the run. It gives up with `TooManyEpochs`, where the run has too many epochs of the

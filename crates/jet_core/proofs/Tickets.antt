@@ -15,7 +15,7 @@ use Rattle.replayer.specs.Jobs.{Job, trace_of}
 use Rattle.epoch_model.specs.Cutting.{RisesTo, IsCutting, epochs}
 use Rattle.epoch_model.specs.Summary.{AreSummaries}
 use Rattle.epoch_model.proofs.Asking.{rises_up}
-use Rattle.epoch_cut.specs.ByLength.{numbered}
+use Rattle.epoch_cut.specs.Numbered.{numbered}
 use Rattle.checkpoints.specs.Points.{beginnings}
 use Rattle.local_taint.specs.declared.summary.Summary.{Summary}
 use Rattle.local_taint.specs.Summaries.{summary_of}

@@ -13,7 +13,7 @@ use Rattle.epoch_model.specs.Crossing.{crossing}
 use Rattle.epoch_model.specs.Join.{joined}
 use Rattle.epoch_model.proofs.Asking.{asks_by_cuts}
 use Rattle.epoch_model.proofs.Joining.{join_gives_rows}
-use Rattle.epoch_cut.specs.ByLength.{NumberedEpoch, numbered as numbered_epochs}
+use Rattle.epoch_cut.specs.Numbered.{NumberedEpoch, numbered as numbered_epochs}
 use Rattle.checkpoints.specs.Points.{CheckpointsAt, beginnings}
 use Rattle.log_model.specs.Logs.{steps}
 use Rattle.replayer.specs.Jobs.{Job, trace_of}

@@ -5,7 +5,7 @@ use Rattle.flow_model.specs.declared.StepSeen.{StepSeen}
 use Rattle.log_model.specs.Logs.{steps}
 use Rattle.report_model.specs.Query.{Query}
 use Rattle.epoch_model.specs.Summary.{IsSummary}
-use Rattle.epoch_cut.specs.ByLength.{NumberedEpoch}
+use Rattle.epoch_cut.specs.Numbered.{NumberedEpoch}
 use Rattle.checkpoints.specs.Points.{CheckpointsAt}
 use Rattle.local_taint.specs.declared.summary.Summary.{Summary}
 use Rattle.local_taint.specs.Summaries.{summary_of, AreInRange}

@@ -4,7 +4,7 @@ use Rattle.report_model.specs.Rows.{row_cmp}
 use Rattle.sorted_set.specs.Sets.{set_of}
 use Rattle.replay_model.proofs.Offsets.{writes_apart}
 use Rattle.replayer.specs.Jobs.{trace_of}
-use Rattle.epoch_cut.specs.ByLength.{NumberedEpoch}
+use Rattle.epoch_cut.specs.Numbered.{NumberedEpoch}
 use Rattle.checkpoints.specs.Points.{CheckpointsAt, beginnings}
 use Rattle.sink_collect.specs.Distinct.{AreDistinct}
 use Rattle.seq_taint.proofs.Distinct.{distinct_rows}
