@@ -32,15 +32,15 @@ abbrev few_if : Bool → ℕ → Result (Unit {0}) Refusal
 few_if many count = if many then Err (refusal.TooManyEpochs count) else Ok tt
 
 -- what a log that is short enough comes to
-abbrev after_few : Log → ℕ → Result (Unit {0}) Refusal → Result (List ℕ) Refusal
+abbrev pub after_few : Log → ℕ → Result (Unit {0}) Refusal → Result (List ℕ) Refusal
 after_few log epoch_length few = and_then few (λ fit. Ok (lines_of log epoch_length))
 
 abbrev after_text : Log → ℕ → Result (List ℕ) Refusal → Result (List ℕ) Refusal
 after_text log epoch_length text = and_then text (λ short. after_few log epoch_length (epochs_check epoch_length log))
 
-short_log : (log : Log) (epoch_length : ℕ) → size_of log ≤ 2 ^ 26
+pub short_log-outcome : (log : Log) (epoch_length : ℕ) → size_of log ≤ 2 ^ 26
     → bench_outcome log epoch_length ≡ after_few log epoch_length (epochs_check epoch_length log)
-short_log log epoch_length short = ap (λ b. after_text log epoch_length (text_if b log)) (le-ltb (2 ^ 26) (size_of log) short)
+short_log-outcome log epoch_length short = ap (λ b. after_text log epoch_length (text_if b log)) (le-ltb (2 ^ 26) (size_of log) short)
 
 pub long_log-outcome : (log : Log) (epoch_length : ℕ) → 2 ^ 26 < size_of log
     → bench_outcome log epoch_length ≡ Err (refusal.LogTooLong (capped (size_of log)))
@@ -50,13 +50,13 @@ pub many_epochs-outcome : (log : Log) (epoch_length : ℕ) → size_of log ≤ 2
     → bench_outcome log epoch_length ≡ Err (refusal.TooManyEpochs (epoch_count (steps log) epoch_length))
 many_epochs-outcome log epoch_length short many =
     let count = epoch_count (steps log) epoch_length in
-    short_log log epoch_length short ∙ ap (λ b. after_few log epoch_length (few_if b count)) (lt-ltb 4096 count many)
+    short_log-outcome log epoch_length short ∙ ap (λ b. after_few log epoch_length (few_if b count)) (lt-ltb 4096 count many)
 
 pub given-outcome : (log : Log) (epoch_length : ℕ) → size_of log ≤ 2 ^ 26 → epoch_count (steps log) epoch_length ≤ 4096
     → bench_outcome log epoch_length ≡ Ok (lines_of log epoch_length)
 given-outcome log epoch_length short few =
     let count = epoch_count (steps log) epoch_length in
-    short_log log epoch_length short ∙ ap (λ b. after_few log epoch_length (few_if b count)) (le-ltb 4096 count few)
+    short_log-outcome log epoch_length short ∙ ap (λ b. after_few log epoch_length (few_if b count)) (le-ltb 4096 count few)
 
 -- the lines of any query that asks alike
 pub same-lines : (log : Log) (epoch_length : ℕ) (start : State) → beginning guest_file log ≡ Some start → (q : Query) → Alike q workload_query
