@@ -1,5 +1,5 @@
 -- From the recorded run of the workload to what `bench` comes to.
-use Rattle.std.proofs.Common.{◌≡◌, ◌∙◌, ap, ap₂, sym, refl, subst, IfOk, OnErr, Vec, ℕ, suc, ◌+◌, ◌≤◌, ◌<◌, ◌^◌, arith, List, [], ◌∷◌, length, sum_by, Option, Some, None, Result, Ok, Err}
+use Rattle.std.proofs.Common.{◌≡◌, ◌∙◌, ap, sym, refl, subst, IfOk, OnErr, Vec, ℕ, ◌+◌, ◌≤◌, ◌<◌, ◌^◌, arith, List, [], ◌∷◌, length, sum_by, Option, Some, None, Result, Ok, Err}
 use Rattle.std.specs.declared.alloc.Global.{Global}
 use Rattle.std.proofs.lemmas.List.Sums.{sum_by-cons}
 use Rattle.sha2.specs.Sha256.{sha256}
@@ -11,11 +11,10 @@ use Rattle.log_model.specs.declared.Version.TheVariants.{Two}
 use Rattle.log_model.specs.Logs.{Log, log_text, steps}
 use Rattle.flow_model.specs.declared.Loc.{Loc}
 use Rattle.flow_model.specs.declared.StepSeen.{StepSeen}
-use Rattle.report_model.specs.Query.{Query, Alike}
-use Rattle.report_model.specs.Rows.{Row, rows}
+use Rattle.report_model.specs.Query.{Query}
+use Rattle.report_model.specs.Rows.{rows}
 use Rattle.report_model.specs.Text.{report_text}
 use Rattle.replay_model.specs.Fits.{Fits, beginning, start_in_image}
-use Rattle.replay_model.specs.Run.{trace}
 use Rattle.record_model.specs.Counts.{capped}
 use Rattle.epoch_model.specs.ByLength.{cut_times}
 use Rattle.epoch_model.specs.Crossing.{crossing_at}
@@ -39,7 +38,7 @@ use Rattle.jet_model.proofs.AndThen.{and_then-ok, and_then-err}
 use Rattle.workload_model.specs.Guest.{guest_file, guest_image}
 use Rattle.workload_model.specs.declared.Numbers.{Numbers}
 use Rattle.workload_model.specs.Lines.{asked_lists, numbers_of, bench_text}
-use Rattle.workload_model.specs.Answer.{lines_of, bench_outcome, IsWorkloadLog, IsBenchAnswer}
+use Rattle.workload_model.specs.Answer.{lines_of, IsWorkloadLog, IsBenchAnswer}
 use Rattle.workload_model.proofs.Guests.{guest-image}
 use Rattle.workload_model.proofs.Outcomes.{short_log-outcome, long_log-outcome}
 use Rattle.order_gateway.specs.declared.fault.RecordFault.{RecordFault}

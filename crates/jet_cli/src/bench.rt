@@ -46,11 +46,13 @@ fn workload_job(alloc: Global, seed: u64, steps: u64) -> Result<Job, Refusal>
     ensures err { IfErr result (λ r. (epoch : ℕ) → IsWorkOf (IsBenchAnswer seed steps epoch) (Err r)) }
 {
     match recorded(alloc, seed, steps) {
-        Ok(Recording {
-            program,
-            image,
-            log,
-        }) => fitted(alloc, &program, image, log),
+        Ok(
+            Recording {
+                program,
+                image,
+                log,
+            },
+        ) => fitted(alloc, &program, image, log),
         Err(fault) => Err(of_recording(fault)),
     }
 }

@@ -1,10 +1,9 @@
-use Rattle.std.proofs.Common.{◌∙◌, ap, sym, List, ℕ, length}
+use Rattle.std.proofs.Common.{◌∙◌, ap, sym, List, length}
 use Rattle.sha2.specs.Sha256.{sha256}
 use Rattle.report_model.specs.Rows.{Row}
 use Rattle.report_model.specs.Text.{report_text}
 use Rattle.record_model.specs.Counts.{capped}
 use Rattle.sink_collect.specs.Pairs.{pairs}
-use Rattle.jet_core.specs.Crossings.{CrossedAt}
 use Rattle.replayer.specs.Jobs.{trace_of}
 use Rattle.replay_model.proofs.Offsets.{length-steps_from}
 use Rattle.replay_model.specs.Run.{start}

@@ -26,4 +26,4 @@ pub returns-in-Err-clause-err : goal.returns-in-Err-clause-err
 returns-in-Err-clause-err c =
     let why = c.in-Err.fault in
     λ epoch. subst (λ (r : Refusal). IsWorkOf (IsBenchAnswer c.args.seed c.args.steps epoch) (Err r)) (sym c.of_recording.ensures)
-        (recording-stops c.args.seed c.args.steps epoch why c.in-Err.ensures.cause)
+    (recording-stops c.args.seed c.args.steps epoch why c.in-Err.ensures.cause)
