@@ -5,7 +5,7 @@ use Rattle.outer_io.specs.Faults.{Rose}
 use Rattle.outer_io.specs.Tells.{Tells, Gains}
 use Rattle.outer_io.specs.Files.{Files}
 use Rattle.outer_io.proofs.TellsLemmas.{tells-map}
-use Rattle.jet_words.specs.Commands.{CommandOf, QueryOf, RecordOf, ReplayOf, OutputOf, ConvertOf, InfluenceOf, QueriesOf}
+use Rattle.jet_words.specs.Commands.{CommandOf, QueryOf, RecordOf, ReplayOf, OutputOf, ConvertOf, InfluenceOf, QueriesOf, BenchOf}
 use Rattle.jet_refusal.specs.declared.refusal.Refusal.{Refusal}
 use Rattle.jet_refusal.specs.declared.refusal.Refusal.TheVariants as refusal
 use Rattle.jet_refusal.specs.Refusals.{status_of, line_of}
@@ -15,6 +15,7 @@ use Rattle.jet_model.specs.Contents.{Contents}
 use Rattle.jet_model.specs.Answer.{IsRecordAnswer}
 use Rattle.jet_model.specs.Report.{report_of, influence_of}
 use Rattle.jet_model.proofs.Headline.{answer-is_given, given-is_answer, reports-are_given, given-are_reports, log_answer-is_given, given-is_log_answer, convert-is_given, given-is_convert, record_answer-is_recording, recording-is_record_answer, one_record_answer}
+use Rattle.workload_model.proofs.Outcomes.{one_answer as one_bench_answer, answer-is_lines, lines-are_answer}
 use Rattle.run_output.specs.Summary.{summary_text}
 use Rattle.run_output.specs.Output.{output}
 use Rattle.jet_files.specs.Outcome.{Found}
@@ -49,6 +50,7 @@ module _ (change : Change) (file : Contents) where
   one_answer (ConvertOf program log new) a b told p q = sym p ∙ q
   one_answer (InfluenceOf program log query pipeline) a b told p q = sym p ∙ q
   one_answer (QueriesOf program log queries pipeline) a b told p q = sym p ∙ q
+  one_answer (BenchOf seed steps pipeline) a b told p q = one_bench_answer seed steps pipeline.epoch a b p q
 
   wanted : (command : CommandOf) (text : List ℕ) → Answers command (Ok text) → IsWanted command change file text
   wanted (QueryOf program log query pipeline) text h = answer-is_given report_of pipeline.epoch file (named program log query) text h
@@ -59,6 +61,7 @@ module _ (change : Change) (file : Contents) where
   wanted (ConvertOf program log new) text h = convert-is_given file program log text h
   wanted (InfluenceOf program log query pipeline) text h = answer-is_given influence_of pipeline.epoch file (named program log query) text h
   wanted (QueriesOf program log queries pipeline) text h = reports-are_given pipeline.epoch file program log queries text h
+  wanted (BenchOf seed steps pipeline) text h = answer-is_lines seed steps pipeline.epoch text h
 
   answered : (command : CommandOf) (text : List ℕ) (is : IsWanted command change file text) → AreWithinLimits command change file text is → Answers command (Ok text)
   answered (QueryOf program log query pipeline) text h within = given-is_answer report_of pipeline.epoch file (named program log query) text within.0 h within.1
@@ -69,6 +72,7 @@ module _ (change : Change) (file : Contents) where
   answered (ConvertOf program log new) text h within = given-is_convert file program log text within.0 within.1 within.2 h.given
   answered (InfluenceOf program log query pipeline) text h within = given-is_answer influence_of pipeline.epoch file (named program log query) text within.0 h within.1
   answered (QueriesOf program log queries pipeline) text h within = given-are_reports pipeline.epoch file program log queries text within.0 within.1 within.2 h within.3
+  answered (BenchOf seed steps pipeline) text h within = lines-are_answer seed steps pipeline.epoch text h within.0 within.1
 
 -- ---- 0, and 8
 

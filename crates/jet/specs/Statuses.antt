@@ -2,12 +2,15 @@
 -- clock show before the call and after it.
 use Rattle.std.specs.Prelude.{◌≡◌, ◌⊎◌, ◌≤◌, ◌^◌, ℕ, List, length, Option, Some, None, IsSome, Result, Ok}
 use Rattle.outer_io.specs.Files.{Files}
-use Rattle.jet_words.specs.Commands.{CommandOf, QueryOf, RecordOf, ReplayOf, OutputOf, ConvertOf, InfluenceOf, QueriesOf}
+use Rattle.jet_words.specs.Commands.{CommandOf, QueryOf, RecordOf, ReplayOf, OutputOf, ConvertOf, InfluenceOf, QueriesOf, BenchOf}
+use Rattle.log_model.specs.declared.Version.TheVariants.{Two}
+use Rattle.log_model.specs.Logs.{log_text}
 use Rattle.jet_refusal.specs.declared.refusal.Refusal.{Refusal}
 use Rattle.jet_refusal.specs.Refusals.{status_of, line_of}
 use Rattle.jet_refusal.specs.Causes.{IsOwedTo}
 use Rattle.jet_model.specs.Contents.{Contents}
 use Rattle.jet_model.specs.Headline.{IsReportOf, IsInfluenceOf, AreReportsOf, IsGivenBy, IsConversionOf, IsRecordingOf, IsShort, AreShort, AreAllShort, HasFewEpochs}
+use Rattle.workload_model.specs.Answer.{IsBenchOf}
 use Rattle.run_output.specs.Summary.{summary_text}
 use Rattle.run_output.specs.Output.{output}
 use Rattle.jet_cli.specs.Answers.{IsAnswer, Hears, named, limits_of}
@@ -21,7 +24,7 @@ IsStatus status = (status ≡ 0) ⊎ ((2 ≤ status) × (status ≤ 11))
 -- ---- 0: the text that the words want was written whole
 
 -- the text is the report of a query; the log of a run, by the clock's answers; the numbers of a run; what a run wrote on a
--- channel; a log in version 2; an influence; or the reports of several queries
+-- channel; a log in version 2; an influence; the reports of several queries; or the numbers of the workload's run
 abbrev pub IsWanted : CommandOf → Change → Contents → List ℕ → Type 0
 IsWanted (QueryOf program log query pipeline) change file text = IsReportOf file (named program log query) text
 IsWanted (RecordOf program log inputs pages piece steps) change file text =
@@ -31,6 +34,7 @@ IsWanted (OutputOf program log channel) change file text = IsGivenBy file progra
 IsWanted (ConvertOf program log new) change file text = IsConversionOf file program log text
 IsWanted (InfluenceOf program log query pipeline) change file text = IsInfluenceOf file (named program log query) text
 IsWanted (QueriesOf program log queries pipeline) change file text = AreReportsOf file program log queries text
+IsWanted (BenchOf seed steps pipeline) change file text = IsBenchOf seed steps pipeline.epoch text
 
 abbrev pub IsDone : Option CommandOf → Change → Type 0
 IsDone None change = ⊥
@@ -61,6 +65,7 @@ IsHeard (OutputOf program log channel) change = Unit {0}
 IsHeard (ConvertOf program log new) change = Unit {0}
 IsHeard (InfluenceOf program log query pipeline) change = Unit {0}
 IsHeard (QueriesOf program log queries pipeline) change = Unit {0}
+IsHeard (BenchOf seed steps pipeline) change = Unit {0}
 
 -- the status is that of what the files come to
 abbrev pub IsDecided : ℕ → Option CommandOf → Change → Type 0
@@ -68,7 +73,7 @@ IsDecided status None change = Unit {0}
 IsDecided status (Some command) change = (u : IsUndisturbed change) → IsHeard command change → (answer : Result (List ℕ) Refusal)
     → IsAnswer command change.before.heard change.after.heard u.told.file answer → (status ≡ status_after answer) ⊎ (status ≡ 10)
 
--- the files that are read have at most 2 ^ 26 bytes each, and so has a log that is written; and a run that is analysed
+-- the files that are read have at most 2 ^ 26 bytes each, and so has a log that is recorded or written; and a run that is analysed
 -- has at most 4096 epochs of the length that the words say
 abbrev pub AreWithinLimits : (command : CommandOf) (change : Change) (file : Contents) (text : List ℕ)
     → IsWanted command change file text → Type 0
@@ -84,6 +89,8 @@ AreWithinLimits (InfluenceOf program log query pipeline) change file text is =
     AreShort file (named program log query) × HasFewEpochs pipeline.epoch is.log
 AreWithinLimits (QueriesOf program log queries pipeline) change file text is =
     IsShort (file program) × IsShort (file log) × AreAllShort file queries × HasFewEpochs pipeline.epoch is.log
+AreWithinLimits (BenchOf seed steps pipeline) change file text is =
+    (length (log_text Two is.log) ≤ 2 ^ 26) × HasFewEpochs pipeline.epoch is.log
 
 -- files that have what the words want, and are within the limits, are answered with 0
 abbrev pub IsComplete : ℕ → Option CommandOf → Change → Type 0

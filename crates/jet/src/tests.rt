@@ -1,5 +1,6 @@
 //! Commands over files in memory, from their words to what they write.
 
+mod bench;
 mod convert;
 mod epochs;
 mod guests;

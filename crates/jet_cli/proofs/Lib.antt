@@ -5,3 +5,4 @@ mod Working
 mod Cutting
 mod Recording
 mod Reporting
+mod Benching

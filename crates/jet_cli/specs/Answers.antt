@@ -5,7 +5,7 @@ use Rattle.outer_io.specs.Files.{Text}
 use Rattle.outer_io.specs.Tells.{Tells, Gains}
 use Rattle.call_record.specs.declared.fault.CaptureFault.{CaptureFault}
 use Rattle.call_record.specs.declared.fault.CaptureFault.TheVariants as capture
-use Rattle.jet_words.specs.Commands.{CommandOf, QueryOf, RecordOf, ReplayOf, OutputOf, ConvertOf, InfluenceOf, QueriesOf}
+use Rattle.jet_words.specs.Commands.{CommandOf, QueryOf, RecordOf, ReplayOf, OutputOf, ConvertOf, InfluenceOf, QueriesOf, BenchOf}
 use Rattle.jet_refusal.specs.declared.refusal.Refusal.{Refusal}
 use Rattle.jet_refusal.specs.declared.refusal.Refusal.TheVariants as refusal
 use Rattle.flow_model.specs.declared.StepSeen.{StepSeen}
@@ -17,6 +17,7 @@ use Rattle.jet_model.specs.Outcomes.{and_then}
 use Rattle.jet_model.specs.Contents.{Contents, Names, Run}
 use Rattle.jet_model.specs.Report.{report_of, influence_of, reports_of}
 use Rattle.jet_model.specs.Answer.{Limits, Source, IsCaptureAnswer, IsRecordAnswer, traced_answer, query_answer, rules_check, queries_answer, log_answer, convert_answer}
+use Rattle.workload_model.specs.Answer.{IsBenchAnswer}
 use Rattle.jet_refusal.specs.Causes.{IsOwedTo}
 use Rattle.jet_cli.specs.declared.work.Listing.{Listing}
 use Rattle.jet_cli.specs.declared.work.Listing.TheVariants.{BySink, BySource}
@@ -58,6 +59,7 @@ IsAnswer (InfluenceOf program log query pipeline) heard heard_after file answer 
     query_answer influence_of pipeline.epoch file (named program log query) ≡ answer
 IsAnswer (QueriesOf program log queries pipeline) heard heard_after file answer =
     queries_answer pipeline.epoch file program log queries ≡ answer
+IsAnswer (BenchOf seed steps pipeline) heard heard_after file answer = IsBenchAnswer seed steps pipeline.epoch answer
 
 -- the outcome of work that reads no file is so, or memory is out
 abbrev pub IsWorkOf : {A : Type 0} → (Result A Refusal → Type 0) → Result A Refusal → Type 0

@@ -2,7 +2,7 @@
 use Rattle.std.specs.Prelude.{List, [], ◌∷◌, ◌++◌, map, Option, Some, None, String, string_bytes}
 use Rattle.std.specs.declared.alloc.Global.{Global}
 use Rattle.outer_io.specs.Files.{Text}
-use Rattle.jet_words.specs.Commands.{CommandOf, QueryOf, RecordOf, ReplayOf, OutputOf, ConvertOf, InfluenceOf, QueriesOf, command_of}
+use Rattle.jet_words.specs.Commands.{CommandOf, QueryOf, RecordOf, ReplayOf, OutputOf, ConvertOf, InfluenceOf, QueriesOf, BenchOf, command_of}
 
 -- the command that the words stand for, if they stand for one
 abbrev pub command_in : List (String Global) → Option CommandOf
@@ -17,6 +17,7 @@ sources_of (OutputOf program log channel) = program ∷ log ∷ []
 sources_of (ConvertOf program log new) = program ∷ log ∷ []
 sources_of (InfluenceOf program log query pipeline) = program ∷ log ∷ query ∷ []
 sources_of (QueriesOf program log queries pipeline) = program ∷ log ∷ queries
+sources_of (BenchOf seed steps pipeline) = []
 
 -- where a command writes
 pub data Target : Type 0 where
@@ -31,6 +32,7 @@ target_of (OutputOf program log channel) = ToOutput
 target_of (ConvertOf program log new) = ToFile new
 target_of (InfluenceOf program log query pipeline) = ToOutput
 target_of (QueriesOf program log queries pipeline) = ToOutput
+target_of (BenchOf seed steps pipeline) = ToOutput
 
 abbrev pub target_in : Option CommandOf → Target
 target_in None = ToOutput
@@ -60,6 +62,7 @@ IfUntimed (OutputOf program log channel) P = P
 IfUntimed (ConvertOf program log new) P = P
 IfUntimed (InfluenceOf program log query pipeline) P = P
 IfUntimed (QueriesOf program log queries pipeline) P = P
+IfUntimed (BenchOf seed steps pipeline) P = P
 
 -- the same of the command that words stand for, if they stand for one
 abbrev pub IfUntimedIn : Option CommandOf → Type 0 → Type 0

@@ -11,6 +11,7 @@ ghost use Rattle.jet_cli.specs.Answers.{IsAnswer, given_by, named};
 ghost use Rattle.jet_cli.specs.Ending.{status_after};
 ghost use Rattle.jet_cli.specs.Keeping.{OpensAll, OpensFirst, KeepsAll};
 
+use crate::bench::bench;
 use crate::engine::Engine;
 use crate::record::{Limits, record};
 use crate::work::{Listing, conversion, list, output, reports, summary};
@@ -203,5 +204,10 @@ pub fn answer<R: Threads + Wait + Sync, S: Store, K: Clock, G: Gate>(
             queries: names,
             pipeline,
         } => queries(engine, store, program, log, names, *pipeline),
+        Command::Bench {
+            seed,
+            steps,
+            pipeline,
+        } => bench(engine, *seed, *steps, *pipeline),
     }
 }

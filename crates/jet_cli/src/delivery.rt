@@ -36,5 +36,6 @@ pub fn deliver<S: Store, O: Sink>(
         Command::Convert { new, .. } => write_file(store, new, text),
         Command::Influence { .. } => write_whole(out, text),
         Command::Queries { .. } => write_whole(out, text),
+        Command::Bench { .. } => write_whole(out, text),
     }
 }

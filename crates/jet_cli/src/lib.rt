@@ -8,6 +8,7 @@
 #![tactic(auto)]
 
 mod answer;
+mod bench;
 mod command;
 mod delivery;
 mod ending;

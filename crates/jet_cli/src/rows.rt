@@ -3,6 +3,7 @@ ghost use Rattle.std.specs.Prelude.{◌≡◌, ◌≤◌, IfOk};
 ghost use Rattle.log_model.specs.Logs.{steps};
 ghost use Rattle.report_model.specs.Rows.{rows};
 ghost use Rattle.replayer.specs.Jobs.{trace_of};
+ghost use Rattle.epoch_model.specs.ByLength.{cut_times};
 ghost use Rattle.epoch_model.specs.Cutting.{IsCutting};
 ghost use Rattle.jet_words.specs.Commands.{IsPipeline};
 ghost use Rattle.jet_model.specs.Answer.{epochs_check, cut_answer};
@@ -23,8 +24,9 @@ use std::sync::Wait;
 use std::thread::Threads;
 
 /// The cuts of the run into epochs of this length. It gives up with `TooManyEpochs`.
-fn cuts_of(job: &Job, epoch: u64) -> Result<Cuts, Refusal>
+pub fn cuts_of(job: &Job, epoch: u64) -> Result<Cuts, Refusal>
     requires { 1 ≤ epoch }
+    ensures times { IfOk result (λ cuts. cuts ≡ cut_times (steps job.now.log) epoch) }
     ensures check { IsWork (epochs_check epoch job.now.log) (seen_by (λ cuts. tt) result) }
     ensures cutting { IfOk result (λ cuts. IsCutting (steps job.now.log) cuts) }
 {

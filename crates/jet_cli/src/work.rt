@@ -30,7 +30,7 @@ use std::sync::Wait;
 use std::thread::Threads;
 
 /// The log fitted to its program.
-fn fitted(alloc: Global, program: &[u8], image: Image, log: Log) -> Result<Job, Refusal>
+pub fn fitted(alloc: Global, program: &[u8], image: Image, log: Log) -> Result<Job, Refusal>
     requires image { image_of_file program.now ≡ Ok image }
     ensures ok { IfOk result (λ job. IsChecked program.now image log job) }
     ensures err { IfErr result (λ r. IsWork (fitting_start (record { bytes = program.now; image = image }) log) (Err r)) }

@@ -6,7 +6,7 @@ use Rattle.clap.specs.Words.{Text}
 use Rattle.clap.specs.Walk.{walked, bundle_met}
 use Rattle.clap.specs.Takes.{walk_passes, flags_pass}
 use Rattle.jet_words.specs.declared.command.Pipeline.{Pipeline}
-use Rattle.jet_words.specs.Commands.{CommandOf, command_of, QueryOf, RecordOf, ReplayOf, OutputOf, ConvertOf, InfluenceOf, QueriesOf}
+use Rattle.jet_words.specs.Commands.{CommandOf, command_of, QueryOf, RecordOf, ReplayOf, OutputOf, ConvertOf, InfluenceOf, QueriesOf, BenchOf}
 
 abbrev before_word : Bool → ℕ → List Text → List Text
 before_word true c words = [] ∷ words
@@ -225,3 +225,29 @@ no_several_queries : AreRefused (
     ∷ codes "jet queries p l q --epoch 5 r" ∷ codes "jet queries p l q --link 65537" ∷ [])
 unfolding command_of walked walk_passes
 no_several_queries = refl
+
+-- ---- bench
+
+abbrev made : Text → ℕ → ℕ → Pipeline → Line
+made line seed steps pipeline = (line, BenchOf seed steps pipeline)
+
+-- the options of `bench` that aren't given
+abbrev shorter : Pipeline
+shorter = record usual { epoch = 4096 }
+
+benches : Stands (
+    made (codes "jet bench 1 30") 1 30 shorter
+    ∷ made (codes "jet bench 0 1") 0 1 shorter
+    ∷ made (codes "jet bench 18446744073709551615 2000000") 18446744073709551615 2000000 shorter
+    ∷ made (codes "jet bench 1 30 --epoch 15") 1 30 (record shorter { epoch = 15 })
+    ∷ made (codes "jet bench --link 3 1 --workers 2 30 --epoch 1048576") 1 30
+    (record { epoch = 1048576; workers = 2; link = 3 }) ∷ [])
+unfolding command_of walked walk_passes
+benches = refl
+
+no_benches : AreRefused (
+    codes "jet bench" ∷ codes "jet bench 1" ∷ codes "jet bench 1 2 3" ∷ codes "jet bench 1 0" ∷ codes "jet bench 1 2000001"
+    ∷ codes "jet bench 18446744073709551616 1" ∷ codes "jet bench a 1" ∷ codes "jet bench 1 a"
+    ∷ codes "jet bench 1 30 --epoch 0" ∷ codes "jet bench 1 30 --steps 1" ∷ [])
+unfolding command_of walked walk_passes
+no_benches = refl

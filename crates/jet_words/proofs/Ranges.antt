@@ -8,7 +8,7 @@ use Rattle.clap.specs.Simple.{App, Shape, built_leaf, filled, inherited, marked_
 use Rattle.clap_command.specs.Plain.{is_plain_subcommand}
 use Rattle.clap_command.proofs.Rows.{Only, list-filled, list-length, number-in_range, option-in_range}
 use Rattle.clap_command.proofs.Subcommands.{AtTaken, at_subcommand, help-not_named}
-use Rattle.jet_words.specs.CommandLine.{epoch_option, workers_option, link_option, convert_app, influence_app, jet_app, output_app, queries_app, query_app, record_app, replay_app}
+use Rattle.jet_words.specs.CommandLine.{epoch_option, workers_option, link_option, usual_epoch, workload_epoch, bench_app, convert_app, influence_app, jet_app, output_app, queries_app, query_app, record_app, replay_app}
 use Rattle.jet_words.specs.Commands.{IsPipeline, IsInRange, pipeline_of, command_by}
 use Rattle.jet_words.specs.Numbers.{HasPipelineNumbers, HasNumbers}
 
@@ -27,14 +27,14 @@ record IsPipelineSound (rows : List Row) : Type 0 where
   ranges : IsPipeline (pipeline_of rows)
 
 -- a subcommand has the options, as they are built
-abbrev HasOptions : Shape → Type 0
-HasOptions s =
-    Only s.rules (codes "epoch") (filled epoch_option) × Only s.rules (codes "workers") (filled workers_option)
+abbrev HasOptions : Text → Shape → Type 0
+HasOptions usual s =
+    Only s.rules (codes "epoch") (filled (epoch_option usual)) × Only s.rules (codes "workers") (filled workers_option)
     × Only s.rules (codes "link") (filled link_option)
 
-pipeline_sound : (s : Shape) (words : List Text) → is_plain_subcommand s ≡ true → HasOptions s → level_passes s [] nothing_held words false ≡ true
+pipeline_sound : (usual : Text) (s : Shape) (words : List Text) → is_plain_subcommand s ≡ true → HasOptions usual s → level_passes s [] nothing_held words false ≡ true
     → IsPipelineSound (rows_after s.rules [] words)
-pipeline_sound s words plain has e =
+pipeline_sound usual s words plain has e =
     let epoch = option-in_range s words plain e (codes "epoch") _ 18446744073709551615 1 1099511627776 has.0 refl refl refl refl in
     let workers = option-in_range s words plain e (codes "workers") _ 4294967295 1 64 has.1 refl refl refl refl in
     let link = option-in_range s words plain e (codes "link") _ 4294967295 1 65536 has.2 refl refl refl refl in
@@ -47,8 +47,8 @@ pipeline_sound s words plain has e =
 
 query_sound : AtTaken IsSound (leaf query_app)
 query_sound words e =
-    let p = pipeline_sound (leaf query_app) words refl (refl, refl, refl) e in
-    record { numbers = (λ bad. cc, λ bad. cc, λ here. p.numbers, λ bad. cc, λ bad. cc); ranges = p.ranges }
+    let p = pipeline_sound usual_epoch (leaf query_app) words refl (refl, refl, refl) e in
+    record { numbers = (λ bad. cc, λ bad. cc, λ here. p.numbers, λ bad. cc, λ bad. cc, λ bad. cc); ranges = p.ranges }
 
 record_sound : AtTaken IsSound (leaf record_app)
 record_sound words e =
@@ -56,7 +56,7 @@ record_sound words e =
     let piece = option-in_range (leaf record_app) words refl e (codes "piece") _ 4294967295 1 16777216 refl refl refl refl refl in
     let steps = option-in_range (leaf record_app) words refl e (codes "steps") _ 18446744073709551615 1 1099511627776 refl refl refl refl refl in
     record {
-      numbers = (λ here. (pages.can_be_read, piece.can_be_read, steps.can_be_read), λ bad. cc, λ bad. cc, λ bad. cc, λ bad. cc);
+      numbers = (λ here. (pages.can_be_read, piece.can_be_read, steps.can_be_read), λ bad. cc, λ bad. cc, λ bad. cc, λ bad. cc, λ bad. cc);
       ranges = (
         list-length (leaf record_app) words refl e (codes "IN") _ 16 refl refl,
         pages.at_least,
@@ -69,31 +69,48 @@ record_sound words e =
     }
 
 replay_sound : AtTaken IsSound (leaf replay_app)
-replay_sound words e = record { numbers = (λ bad. cc, λ bad. cc, λ bad. cc, λ bad. cc, λ bad. cc); ranges = tt }
+replay_sound words e = record { numbers = (λ bad. cc, λ bad. cc, λ bad. cc, λ bad. cc, λ bad. cc, λ bad. cc); ranges = tt }
 
 output_sound : AtTaken IsSound (leaf output_app)
 output_sound words e =
     let channel = number-in_range (leaf output_app) words refl e (codes "C") _ 4294967295 0 15 refl refl refl refl refl in
-    record { numbers = (λ bad. cc, λ here. channel.can_be_read, λ bad. cc, λ bad. cc, λ bad. cc); ranges = channel.at_most }
+    record { numbers = (λ bad. cc, λ here. channel.can_be_read, λ bad. cc, λ bad. cc, λ bad. cc, λ bad. cc); ranges = channel.at_most }
 
 convert_sound : AtTaken IsSound (leaf convert_app)
-convert_sound words e = record { numbers = (λ bad. cc, λ bad. cc, λ bad. cc, λ bad. cc, λ bad. cc); ranges = tt }
+convert_sound words e = record { numbers = (λ bad. cc, λ bad. cc, λ bad. cc, λ bad. cc, λ bad. cc, λ bad. cc); ranges = tt }
 
 influence_sound : AtTaken IsSound (leaf influence_app)
 influence_sound words e =
-    let p = pipeline_sound (leaf influence_app) words refl (refl, refl, refl) e in
-    record { numbers = (λ bad. cc, λ bad. cc, λ bad. cc, λ here. p.numbers, λ bad. cc); ranges = p.ranges }
+    let p = pipeline_sound usual_epoch (leaf influence_app) words refl (refl, refl, refl) e in
+    record { numbers = (λ bad. cc, λ bad. cc, λ bad. cc, λ here. p.numbers, λ bad. cc, λ bad. cc); ranges = p.ranges }
 
 queries_sound : AtTaken IsSound (leaf queries_app)
 queries_sound words e =
-    let p = pipeline_sound (leaf queries_app) words refl (refl, refl, refl) e in
+    let p = pipeline_sound usual_epoch (leaf queries_app) words refl (refl, refl, refl) e in
     record {
-      numbers = (λ bad. cc, λ bad. cc, λ bad. cc, λ bad. cc, λ here. p.numbers);
+      numbers = (λ bad. cc, λ bad. cc, λ bad. cc, λ bad. cc, λ here. p.numbers, λ bad. cc);
       ranges = (
         list-filled (leaf queries_app) words refl e (codes "QUERY") _ 1 refl refl refl,
         list-length (leaf queries_app) words refl e (codes "QUERY") _ 16 refl refl,
         p.ranges,
       );
+    }
+
+bench_sound : AtTaken IsSound (leaf bench_app)
+bench_sound words e =
+    let seed = number-in_range (leaf bench_app) words refl e (codes "SEED") _ 18446744073709551615 0 18446744073709551615 refl refl refl refl refl in
+    let steps = number-in_range (leaf bench_app) words refl e (codes "STEPS") _ 18446744073709551615 1 2000000 refl refl refl refl refl in
+    let p = pipeline_sound workload_epoch (leaf bench_app) words refl (refl, refl, refl) e in
+    record {
+      numbers = (
+        λ bad. cc,
+        λ bad. cc,
+        λ bad. cc,
+        λ bad. cc,
+        λ bad. cc,
+        λ here. (seed.can_be_read, steps.can_be_read, p.numbers),
+      );
+      ranges = (seed.at_most, steps.at_least, steps.at_most, p.ranges);
     }
 
 -- the subcommand that the words name, where they are taken
@@ -106,7 +123,13 @@ taken_sound words = at_subcommand IsSound jet_app words refl (
       λ word named other. replay_sound,
       (
         λ word named other. output_sound,
-        (λ word named other. convert_sound, (λ word named other. influence_sound, (λ word named other. queries_sound, (help-not_named IsSound, tt)))),
+        (
+          λ word named other. convert_sound,
+          (
+            λ word named other. influence_sound,
+            (λ word named other. queries_sound, (λ word named other. bench_sound, (help-not_named IsSound, tt))),
+          ),
+        ),
       ),
     ),
   ),

@@ -6,7 +6,7 @@ use Rattle.clap_command.specs.Values.{value_of, values_of, number_of}
 use Rattle.jet_words.specs.CommandLine.{jet_app}
 use Rattle.jet_words.specs.declared.command.Pipeline.{Pipeline}
 use Rattle.jet_words.specs.declared.command.Command.{Command}
-use Rattle.jet_words.specs.declared.command.Command.TheVariants.{Query, Record, Replay, Output, Convert, Influence, Queries}
+use Rattle.jet_words.specs.declared.command.Command.TheVariants.{Query, Record, Replay, Output, Convert, Influence, Queries, Bench}
 
 -- a command; files are told by their names
 pub data CommandOf : Type 0 where
@@ -25,6 +25,8 @@ pub data CommandOf : Type 0 where
   InfluenceOf : (program log query : Text) (pipeline : Pipeline) → CommandOf
   -- the reports of several queries
   QueriesOf : (program log : Text) (queries : List Text) (pipeline : Pipeline) → CommandOf
+  -- the numbers of the workload's run by this seed, cut off after `steps` steps
+  BenchOf : (seed steps : ℕ) (pipeline : Pipeline) → CommandOf
 
 -- ---- the command of each subcommand, by the values of its arguments
 
@@ -60,6 +62,9 @@ abbrev pub queries_of : List Row → CommandOf
 queries_of rows = QueriesOf (value_of (codes "PROG") rows) (value_of (codes "LOG") rows) (values_of (codes "QUERY") rows)
     (pipeline_of rows)
 
+abbrev pub bench_of : List Row → CommandOf
+bench_of rows = BenchOf (number_of (codes "SEED") rows) (number_of (codes "STEPS") rows) (pipeline_of rows)
+
 -- the command of a subcommand, by its name and the values of its arguments
 abbrev pub command_by : Text × List Row → Option CommandOf
 command_by (name, rows) =
@@ -69,7 +74,8 @@ command_by (name, rows) =
     else (if bytes_eq name (codes "output") then Some (output_of rows)
     else (if bytes_eq name (codes "convert") then Some (convert_of rows)
     else (if bytes_eq name (codes "influence") then Some (influence_of rows)
-    else (if bytes_eq name (codes "queries") then Some (queries_of rows) else None))))))
+    else (if bytes_eq name (codes "queries") then Some (queries_of rows)
+    else (if bytes_eq name (codes "bench") then Some (bench_of rows) else None)))))))
 
 -- the command that words stand for; none where the command line doesn't take them. The first word is the program's name
 unfoldable pub command_of : List Text → Option CommandOf
@@ -86,6 +92,7 @@ plain_command (Convert program log new) = ConvertOf program.now log.now new.now
 plain_command (Influence program log query pipeline) = InfluenceOf program.now log.now query.now pipeline
 plain_command (Queries program log queries pipeline) =
     QueriesOf program.now log.now (map (λ s. s.now) queries.items) pipeline
+plain_command (Bench seed steps pipeline) = BenchOf seed steps pipeline
 
 -- the numbers of the options lie in the ranges of the command line
 abbrev pub IsPipeline : Pipeline → Type 0
@@ -102,3 +109,5 @@ IsInRange (OutputOf program log channel) = channel ≤ 15
 IsInRange (ConvertOf program log new) = ⊤
 IsInRange (InfluenceOf program log query pipeline) = IsPipeline pipeline
 IsInRange (QueriesOf program log queries pipeline) = (1 ≤ length queries) × (length queries ≤ 16) × IsPipeline pipeline
+IsInRange (BenchOf seed steps pipeline) =
+    (seed ≤ 18446744073709551615) × (1 ≤ steps) × (steps ≤ 2000000) × IsPipeline pipeline

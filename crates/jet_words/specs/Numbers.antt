@@ -17,3 +17,5 @@ HasNumbers (name, rows) =
     × (bytes_eq name (codes "query") ≡ true → HasPipelineNumbers rows)
     × (bytes_eq name (codes "influence") ≡ true → HasPipelineNumbers rows)
     × (bytes_eq name (codes "queries") ≡ true → HasPipelineNumbers rows)
+    × (bytes_eq name (codes "bench") ≡ true →
+    IsLongNumber (codes "SEED") rows × IsLongNumber (codes "STEPS") rows × HasPipelineNumbers rows)

@@ -75,4 +75,13 @@ pub enum Command<'a> {
         /// How the run is analysed.
         pipeline: Pipeline,
     },
+    /// The numbers of a run that is made in memory.
+    Bench {
+        /// The seed of the bytes that the run reads.
+        seed: u64,
+        /// The number of steps after which the run is cut off, 1 to 2000000.
+        steps: u64,
+        /// How the run is analysed.
+        pipeline: Pipeline,
+    },
 }

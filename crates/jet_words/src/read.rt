@@ -6,7 +6,7 @@ ghost use Rattle.clap_command.specs.Numbers.{IsNumber, IsLongNumber};
 ghost use Rattle.jet_words.specs.CommandLine.{jet_app};
 ghost use Rattle.jet_words.specs.Commands.{command_of, command_by, plain_command, IsInRange};
 ghost use Rattle.jet_words.specs.Commands.{pipeline_of, query_of, record_of, replay_of, output_of};
-ghost use Rattle.jet_words.specs.Commands.{convert_of, influence_of, queries_of};
+ghost use Rattle.jet_words.specs.Commands.{convert_of, influence_of, queries_of, bench_of};
 ghost use Rattle.jet_words.specs.Numbers.{HasPipelineNumbers, HasNumbers};
 
 use crate::command::{Command, Pipeline};
@@ -122,6 +122,19 @@ fn read_queries<'a>(alloc: Global, matches: &ArgMatches<'a>) -> Result<Command<'
     })
 }
 
+fn read_bench<'a>(matches: &ArgMatches<'a>) -> Command<'a>
+    requires seed { IsLongNumber (codes "SEED") (rows_of (found_of matches.now)) }
+    requires steps { IsLongNumber (codes "STEPS") (rows_of (found_of matches.now)) }
+    requires pipeline { HasPipelineNumbers (rows_of (found_of matches.now)) }
+    ensures { plain_command result ≡ bench_of (rows_of (found_of matches.now)) }
+{
+    Command::Bench {
+        seed: read_long_number(matches, "SEED"),
+        steps: read_long_number(matches, "STEPS"),
+        pipeline: read_pipeline(matches),
+    }
+}
+
 // The command of the subcommand of this name. The error is out of memory.
 fn command_by_name<'a>(
     alloc: Global,
@@ -145,6 +158,8 @@ fn command_by_name<'a>(
         Ok(Some(read_influence(matches)))
     } else if name == "queries" {
         Ok(Some(read_queries(alloc, matches)?))
+    } else if name == "bench" {
+        Ok(Some(read_bench(matches)))
     } else {
         Ok(None)
     }

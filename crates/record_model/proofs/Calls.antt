@@ -1,6 +1,6 @@
 -- The record that a call gets is lawful, has the ranges of a log and reads on; and each record that does is this one.
 -- Crates above cite these lemmas.
-use Rattle.std.proofs.Common.{◌≡◌, ℕ, ◌+◌, ◌^◌, ◌<◌, ◌≤◌, ◌⊎◌, inl, inr, Bool, true, false, List, [], ◌∷◌, ◌++◌, length, get_or, drop, ℤ, pos, negsuc, None, Some, refl, arith, ap, sym, ◌∙◌, subst, length-take, length-drop}
+use Rattle.std.proofs.Common.{◌≡◌, ℕ, ◌+◌, ◌^◌, ◌<◌, ◌≤◌, ◌⊎◌, inl, inr, Bool, true, false, List, [], ◌∷◌, ◌++◌, length, get_or, take, drop, ℤ, pos, negsuc, None, Some, refl, arith, ap, sym, ◌∙◌, subst, length-take, length-drop}
 use Rattle.std.specs.Prelude.{◌==◌, nat_lt, not, min, if◌then◌else◌, ◌≤ℤ◌, IsTrue, slice_index}
 use Rattle.std.specs.List.{AllByRecursion}
 use Rattle.std.proofs.lemmas.Int.{ints}
@@ -19,7 +19,7 @@ use Rattle.replay_model.specs.Comparison.{Compared, compared, first_different, C
 use Rattle.replay_model.specs.Comparison.{result as result_compared}
 use Rattle.replay_model.proofs.Agreement.{first_agrees, rest_agrees, kind_by}
 use Rattle.replay_model.proofs.Transfers.{same_arguments, write_held, length_held}
-use Rattle.record_model.specs.Recorded.{ReadsNext, part_of, input_of, clock_values}
+use Rattle.record_model.specs.Recorded.{ReadsNext, IsFrontOf, part_of, input_of, clock_values}
 use Rattle.record_model.specs.Calls.{result_of, bytes_of, read_record, write_record, record_at}
 
 -- ---- comparisons
@@ -356,10 +356,18 @@ other_is : (t at number : ℕ) (s : State) → at ≡ t
 other_is t at number s e d = let same : pos number
     ≡ pos (reg s 17) = (first_agrees (compared field.Number number (reg s 17)) [] d).0 in cc
 
-clock_is : (t at value : ℕ) (more answers : List ℕ) → at ≡ t → value ∷ more ≡ answers
+-- the first of a list that is not empty, and the rest
+front_head : (value : ℕ) (more answers : List ℕ) → IsFrontOf (value ∷ more) answers
+    → (value ≡ slice_index answers 0) × IsFrontOf more (drop 1 answers)
+front_head value more [] front = cc
+front_head value more (a ∷ others) front =
+    let first : value ≡ a = cc in
+    let rest : take (length more) others ≡ more = cc in
+    (first, rest)
+
+clock_is : (t at value : ℕ) (answers : List ℕ) → at ≡ t → value ≡ slice_index answers 0
     → Clock at value ≡ Clock t (slice_index answers 0)
-clock_is t at value more answers e same = let first : value
-    ≡ slice_index answers 0 = ap (λ (w : List ℕ). slice_index w 0) same in cc
+clock_is t at value answers e same = cc
 
 -- the answers of the clock that are left after a call
 abbrev pub answers_after : List ℕ → CallKind → List ℕ
@@ -372,16 +380,17 @@ answers_after answers kind.Exit = answers
 -- the record is the one that its call gets
 abbrev pub IsTheOne : List (List ℕ) → ℕ → List ℕ → List CallRecord → ℕ → State → CallRecord → List CallRecord → Type 0
 IsTheOne inputs piece answers before t s r rs = (r ≡ next_record inputs piece before answers t s (kind_by r)) ×
-    (clock_values rs ≡ answers_after answers (kind_by r))
+    IsFrontOf (clock_values rs) (answers_after answers (kind_by r))
 
 pub record_is : (inputs : List (List ℕ)) (piece : ℕ) (answers : List ℕ) (before : List CallRecord) (t : ℕ) (s : State)
-    (r : CallRecord) (rs : List CallRecord) → IsHere inputs piece before t s r → clock_values (r ∷ rs) ≡ answers
+    (r : CallRecord) (rs : List CallRecord) → IsHere inputs piece before t s r → IsFrontOf (clock_values (r ∷ rs)) answers
     → IsTheOne inputs piece answers before t s r rs
 record_is inputs piece answers before t s (Read at args kept bytes) rs here e =
     (read_is inputs piece answers before t s at args kept bytes here, e)
 record_is inputs piece answers before t s (Write at args kept bytes) rs here e =
     (write_is inputs piece answers before t s at args kept bytes here, e)
 record_is inputs piece answers before t s (Clock at value) rs here e =
-    (clock_is t at value (clock_values rs) answers here.time e, ap (drop 1) e)
+    let parts = front_head value (clock_values rs) answers e in
+    (clock_is t at value answers here.time parts.0, parts.1)
 record_is inputs piece answers before t s (Other at number) rs here e =
     (other_is t at number s here.time here.lawful, e)

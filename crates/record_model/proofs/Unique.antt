@@ -1,6 +1,8 @@
--- A run is recorded in one way: at each step the machine says how the log goes on. Crates above cite one_recording.
-use Rattle.std.proofs.Common.{◌≡◌, ℕ, zero, suc, ◌+◌, ◌-◌, ◌<◌, ◌≤◌, ◌⊎◌, inl, inr, List, [], ◌∷◌, ◌++◌, length, pos, Some, None, refl, arith, ap, sym, ◌∙◌, subst}
+-- A run is recorded in one way: at each step the machine says how the log goes on. Crates above cite one_recording and
+-- one_recording_by_zeros.
+use Rattle.std.proofs.Common.{◌≡◌, ℕ, zero, suc, ◌+◌, ◌-◌, ◌<◌, ◌≤◌, ◌⊎◌, inl, inr, List, [], ◌∷◌, ◌++◌, length, pos, Some, None, refl, arith, ap, sym, ◌∙◌, subst, take, replicate}
 use Rattle.std.specs.List.{AllByRecursion}
+use Rattle.std.proofs.lemmas.List.{take_all, take_at, replicate-append-replicate}
 use Rattle.std.proofs.lemmas.Bool.{cases_lt}
 use Rattle.isa.specs.Machine.{State, Outcome, Retired, Called, Trapped, next, reg}
 use Rattle.isa.specs.declared.CallKind.{CallKind}
@@ -17,7 +19,7 @@ use Rattle.replay_model.specs.Comparison.{compared, IsLawful, PlainStep, CallOf,
 use Rattle.replay_model.specs.Fits.{start_in_image}
 use Rattle.replay_model.proofs.Agreement.{first_agrees, expects_plain_at_end, expects_plain_before, expects_call, expects_end, plain_agrees, call_agrees, exit_agrees, trap_agrees, agrees_at, later_agrees, kind_by}
 use Rattle.replay_model.proofs.Track.{moment, agrees_with, least_rises}
-use Rattle.record_model.specs.Recorded.{Setting, AllReadNext, clock_values, EndsWithin, IsRecorded}
+use Rattle.record_model.specs.Recorded.{Setting, AllReadNext, IsFrontOf, clock_values, EndsWithin, IsRecorded}
 use Rattle.record_model.proofs.Calls.{next_record, IsHere, IsTheOne, answers_after, record_is}
 
 -- ---- the rest of a recorded log, after t steps and these calls
@@ -29,7 +31,7 @@ record IsRest (st : Setting) (log : Log) (answers : List ℕ) (t : ℕ) (s : Sta
     rise : Rise t left
     ends_after : least_after t left ≤ end_at log.end
     reads : AllReadNext st.inputs st.piece before left
-    has_answers : clock_values left ≡ answers
+    has_answers : IsFrontOf (clock_values left) answers
     ends : EndsWithin st.steps log.end
     agrees : divergence_from log (end_at log.end + 1 - t) (moment t s before left) ≡ None
 
@@ -278,9 +280,9 @@ same_rest st a b (suc k) answers t s before left rest e x y =
 
 -- ---- whole logs
 
-whole_rest : (st : Setting) (answers : List ℕ) (log : Log) (s : State) → IsRecorded st answers log
-    → divergence s log ≡ None → IsRest st log answers 0 s [] log.records
-whole_rest st answers log s is d =
+whole_rest : (st : Setting) (front answers : List ℕ) (log : Log) (s : State) → IsFrontOf front answers
+    → IsRecorded st front log → divergence s log ≡ None → IsRest st log answers 0 s [] log.records
+whole_rest st front answers log s first is d =
     let n : end_at log.end + 1 ≡ end_at log.end + 1 - 0 = omega arith in
     record {
       channels = is.has_channels;
@@ -288,7 +290,7 @@ whole_rest st answers log s is d =
       rise = is.is_log.rise;
       ends_after = is.is_log.ends_after;
       reads = is.reads_inputs;
-      has_answers = is.has_answers;
+      has_answers = subst (λ (w : List ℕ). IsFrontOf w answers) (sym is.has_answers) first;
       ends = is.ends_within;
       agrees = subst (λ (k : ℕ). divergence_from log k (start s log) ≡ None) n d;
     }
@@ -309,16 +311,36 @@ log_is a b p i d r e =
 same_start : (x y : State) → Some x ≡ Some y → x ≡ y
 same_start x y e = cc
 
-pub one_recording : (st : Setting) (answers : List ℕ) (a b : Log) → IsRecorded st answers a → IsRecorded st answers b
-    → a ≡ b
-one_recording st answers a b x y =
+-- two recordings with the first answers of one list
+pub one_recording_of_fronts : (st : Setting) (xs ys answers : List ℕ) (a b : Log) → IsFrontOf xs answers
+    → IsFrontOf ys answers → IsRecorded st xs a → IsRecorded st ys b → a ≡ b
+one_recording_of_fronts st xs ys answers a b first_a first_b x y =
     let same_pages = x.has_pages ∙ sym y.has_pages in
     let begins : Some y.fits.start ≡ Some x.fits.start = sym y.fits.begins
     ∙ ap (start_in_image (image st.program)) (sym same_pages) ∙ x.fits.begins in
     let start_is = same_start y.fits.start x.fits.start begins in
-    let rest_a = whole_rest st answers a x.fits.start x x.fits.agrees in
-    let rest_b = whole_rest st answers b x.fits.start y
+    let rest_a = whole_rest st xs answers a x.fits.start first_a x x.fits.agrees in
+    let rest_b = whole_rest st ys answers b x.fits.start first_b y
     (subst (λ (s : State). divergence s b ≡ None) start_is y.fits.agrees) in
     let same = same_rest st a b st.steps answers 0 x.fits.start [] a.records b.records (omega arith) rest_a rest_b in
     log_is a b same_pages (x.has_channels ∙ sym y.has_channels) (x.fits.digest ∙ sym y.fits.digest) same.records
     same.end
+
+pub one_recording : (st : Setting) (answers : List ℕ) (a b : Log) → IsRecorded st answers a → IsRecorded st answers b
+    → a ≡ b
+one_recording st answers a b x y =
+    let all : IsFrontOf answers answers = take_all (length answers) answers (omega arith) in
+    one_recording_of_fronts st answers answers answers a b all all x y
+
+-- the same where the clock answered 0 each time, however often
+zeros_front : (n m : ℕ) → IsFrontOf (replicate n 0) (replicate (n + m) 0)
+zeros_front n m =
+    ap (take (length (replicate n 0))) (sym (replicate-append-replicate n m 0))
+    ∙ take_at (replicate n 0) (replicate m 0) (length (replicate n 0)) refl
+
+pub one_recording_by_zeros : (st : Setting) (n m : ℕ) (a b : Log) → IsRecorded st (replicate n 0) a
+    → IsRecorded st (replicate m 0) b → a ≡ b
+one_recording_by_zeros st n m a b x y =
+    let whole : m + n ≡ n + m = omega arith in
+    one_recording_of_fronts st (replicate n 0) (replicate m 0) (replicate (n + m) 0) a b (zeros_front n m)
+    (subst (λ (k : ℕ). IsFrontOf (replicate m 0) (replicate k 0)) whole (zeros_front m n)) x y

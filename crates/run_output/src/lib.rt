@@ -6,4 +6,4 @@ mod output;
 mod summary;
 
 pub use output::output_on;
-pub use summary::summary_text;
+pub use summary::{push_number, summary_text};

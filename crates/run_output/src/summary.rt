@@ -12,8 +12,8 @@ use std::alloc::Global;
 /// The length of the longest text: its names, blanks and line feeds, four numbers of 20 digits and two of 10.
 const MOST_BYTES: usize = 140;
 
-/// Appends a name, a blank, a number and a line feed.
-fn push_number(out: &mut Vec<u8>, name: &[u8], number: u64) -> Result<(), NoMemory>
+/// Appends a name, a blank, a number and a line feed. It gives up with NoMemory alone.
+pub fn push_number(out: &mut Vec<u8>, name: &[u8], number: u64) -> Result<(), NoMemory>
     ensures { OnOk result (out.new.items ≡ out.old.items ++ number_line name.now number) }
 {
     let mut buffer = Buffer::new();

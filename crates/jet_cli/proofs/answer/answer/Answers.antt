@@ -1,7 +1,12 @@
-use Rattle.std.proofs.Common.{rules, subst, map, List, ℕ, Bor}
-use Rattle.jet_words.specs.Commands.{RecordOf, OutputOf}
+use Rattle.std.proofs.Common.{rules, subst, map, List, [], ℕ, Bor, OnOk}
+use Rattle.jet_words.specs.Commands.{RecordOf, OutputOf, BenchOf}
 use Rattle.jet_files.specs.Outcome.{Follows, seen_by, bytes_of}
 use Rattle.jet_cli.specs.Answers.{IsRecording, IsAnswer, limits_of}
+use Rattle.workload_model.specs.Answer.{IsBenchAnswer}
+use Rattle.jet_files.proofs.Names.{keeps-none}
+use Rattle.jet_cli.specs.Keeping.{OpensAll, OpensFirst}
+use Rattle.jet_cli.proofs.KeepingLemmas.{on_ok, gains-none, opens-none}
+use Rattle.jet_cli.proofs.Benching.{follows-always}
 use Rattle.jet_cli.proofs.answer.answer.Goals as goal
 
 pub returns-in-Record-clause-answer : goal.returns-in-Record-clause-answer
@@ -17,3 +22,30 @@ pub returns-in-Output-clause-answer : goal.returns-in-Output-clause-answer
 returns-in-Output-clause-answer g c =
     let answer : Follows (IsAnswer (OutputOf c.in-Output.program.now c.in-Output.log.now c.in-Output.channel) (g.K.Clock.answers c.args.clock.now) (g.K.Clock.answers c.args.clock.now)) (g.S.Store.shown c.args.store.now) (g.S.Store.shown c.written.new.store) (seen_by bytes_of c.written.result) = c.written.ensures.answer in
     search rules
+
+pub returns-in-Bench-clause-answer : goal.returns-in-Bench-clause-answer
+returns-in-Bench-clause-answer g c =
+    let heard = g.K.Clock.answers c.args.clock.now in
+    let shown = g.S.Store.shown c.args.store.now in
+    let b = c.in-Bench in
+    let answer : Follows (IsAnswer (BenchOf b.seed b.steps b.pipeline) heard heard) shown shown (seen_by bytes_of c.bench.result) =
+    follows-always (IsBenchAnswer b.seed b.steps b.pipeline.epoch) shown (seen_by bytes_of c.bench.result) c.bench.ensures in
+    search rules
+
+pub returns-in-Bench-clause-keeps : goal.returns-in-Bench-clause-keeps
+returns-in-Bench-clause-keeps g c = keeps-none (g.S.Store.shown c.args.store.now).files
+
+pub returns-in-Bench-clause-opened : goal.returns-in-Bench-clause-opened
+returns-in-Bench-clause-opened g c =
+    let shown = g.S.Store.shown c.args.store.now in
+    let opened : OpensFirst [] shown shown = opens-none shown in
+    search rules
+
+pub returns-in-Bench-clause-all : goal.returns-in-Bench-clause-all
+returns-in-Bench-clause-all g c =
+    let shown = g.S.Store.shown c.args.store.now in
+    let all : OnOk c.bench.result (OpensAll [] shown shown) = on_ok c.bench.result (gains-none shown.opened) in
+    search rules
+
+pub returns-in-Bench-clause-unasked : goal.returns-in-Bench-clause-unasked
+returns-in-Bench-clause-unasked g c = λ refused read. gains-none (g.K.Clock.answers c.args.clock.now)

@@ -18,3 +18,6 @@ returns-in-Influence-clause-keeps g c = keeps-more (target_of (plain_command c.a
 
 pub returns-in-Queries-clause-keeps : goal.returns-in-Queries-clause-keeps
 returns-in-Queries-clause-keeps g c = keeps-more (target_of (plain_command c.args.command.now)) _ _ (keeps-none (g.S.Store.shown c.args.store.now).files)
+
+pub returns-in-Bench-clause-keeps : goal.returns-in-Bench-clause-keeps
+returns-in-Bench-clause-keeps g c = keeps-more (target_of (plain_command c.args.command.now)) _ _ (keeps-none (g.S.Store.shown c.args.store.now).files)

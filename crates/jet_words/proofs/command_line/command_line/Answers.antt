@@ -13,7 +13,8 @@ with_one (Err e) command before own its same is got = absurd got
 pub returns : goal.returns
 returns c =
     record {
-      app = IfOk-weaker c.with_made-7.result _ _ (λ m h. with_one c.queries_command.result _ _ _ _
+      app = IfOk-weaker c.with_made-8.result _ _ (λ m h. with_one c.bench_command.result _ _ _ _
+          (with_one c.queries_command.result _ _ _ _
           (with_one c.influence_command.result _ _ _ _
           (with_one c.convert_command.result _ _ _ _
           (with_one c.output_command.result _ _ _ _
@@ -25,6 +26,7 @@ returns c =
           c.output_command.ensures.app c.in_ok-command-4.ensures)
           c.convert_command.ensures.app c.in_ok-command-5.ensures)
           c.influence_command.ensures.app c.in_ok-command-6.ensures)
-          c.queries_command.ensures.app h)
-          c.with_made-7.ensures;
+          c.queries_command.ensures.app c.in_ok-command-7.ensures)
+          c.bench_command.ensures.app h)
+          c.with_made-8.ensures;
     }

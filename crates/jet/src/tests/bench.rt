@@ -1,0 +1,131 @@
+//! The workload's run: its numbers, and its limits.
+
+use super::{Ending, Line, assert_ends, status_of};
+use outer_io::{MemorySink, MemoryStore};
+use std::alloc::{AllocError, Global};
+use std::process::Abort;
+use std::sync::Wait;
+use std::test::Fail;
+use std::thread::Threads;
+
+/// Words, and the lines that are printed. The counts and the digests were computed by another program.
+const NUMBERS: &[(Line, &str)] = &[
+    (
+        &["jet", "bench", "1", "30", "--epoch", "15"],
+        "steps 30
+epochs 2
+sinks 9
+pairs 13
+asked 13
+report b1f4f2e2be8647edfa75968354cde6bf10ae7ca2951ee3c58c4e44a59d626a01
+",
+    ),
+    // With one epoch nothing is asked, and the report is the same.
+    (
+        &["jet", "bench", "1", "30"],
+        "steps 30
+epochs 1
+sinks 9
+pairs 13
+asked 0
+report b1f4f2e2be8647edfa75968354cde6bf10ae7ca2951ee3c58c4e44a59d626a01
+",
+    ),
+    (
+        &["jet", "bench", "1", "3"],
+        "steps 3
+epochs 1
+sinks 0
+pairs 0
+asked 0
+report 73c903eb97b1052378529a73a681ba334bc9229f05ccb42c73b84a350db83e4f
+",
+    ),
+    (
+        &[
+            "jet",
+            "bench",
+            "18446744073709551615",
+            "1000",
+            "--workers",
+            "1",
+            "--link",
+            "1",
+        ],
+        "steps 1000
+epochs 1
+sinks 324
+pairs 484
+asked 0
+report a48dafd02fad1119543dd99668e27ec4f974ecaf0eda1699ea5f43edb983973d
+",
+    ),
+];
+
+/// Words, their status and their line.
+const REFUSED: &[(Line, u8, &str)] = &[
+    (&["jet", "bench", "1", "0"], 2, "jet: usage\n"),
+    (&["jet", "bench", "1"], 2, "jet: usage\n"),
+    (
+        &["jet", "bench", "1", "2000000", "--epoch", "1"],
+        9,
+        "jet: limit epochs 2000000\n",
+    ),
+    (
+        &["jet", "bench", "1", "8194", "--epoch", "2"],
+        9,
+        "jet: limit epochs 4097\n",
+    ),
+];
+
+/// A store with no file, whose first call fails.
+fn closed_store(alloc: Global) -> Result<MemoryStore, AllocError> {
+    let failing = [0].as_slice().to_vec(alloc)?;
+    MemoryStore::new(alloc, Vec::new(alloc), failing, 65536, 0)
+}
+
+/// The command of these words ends so, and calls no store.
+fn assert_bench<R: Threads + Wait + Sync + AllocGlobal + Abort>(
+    rt: &R,
+    line: Line,
+    ending: Ending<'_>,
+) -> Result<(), Fail> {
+    let mut store = closed_store(rt.alloc())?;
+    assert_ends(rt, line, &mut store, ending)
+}
+
+#[test]
+fn a_workload_has_its_numbers(rt: HostRuntime) -> Result<(), Fail> {
+    for &(line, text) in NUMBERS {
+        assert_bench(&rt, line, Ending::report(text))?;
+    }
+    Ok(())
+}
+
+#[test]
+fn a_workload_is_refused(rt: HostRuntime) -> Result<(), Fail> {
+    for &(line, status, said) in REFUSED {
+        assert_bench(&rt, line, Ending::refusal(status, said))?;
+    }
+    Ok(())
+}
+
+const MOST_EPOCHS: Line = &["jet", "bench", "1", "8192", "--epoch", "2"];
+
+/// The lines before and after that of what was asked.
+const BEFORE: &[u8] = b"steps 8192\nepochs 4096\nsinks 2682\npairs 5370\nasked ";
+
+const AFTER: &[u8] = b"report 9cb3bca2a3dcfd78574f62b6d0cc0736836fd181c589774c758cf49680d89c79\n";
+
+#[test]
+fn a_run_has_up_to_4096_epochs(rt: HostRuntime) -> Result<(), Fail> {
+    let alloc = rt.alloc();
+    let mut store = closed_store(alloc)?;
+    let mut out = MemorySink::new(alloc, Vec::new(alloc), 65536, 256)?;
+    let mut err = MemorySink::new(alloc, Vec::new(alloc), 65536, 256)?;
+    let status = status_of(&rt, MOST_EPOCHS, &mut store, &mut out, &mut err)?;
+    assert_eq!(rt; status, 0);
+    assert!(rt; out.bytes().starts_with(BEFORE));
+    assert!(rt; out.bytes().ends_with(AFTER));
+    Ok(())
+}

@@ -1,0 +1,136 @@
+//! The command `bench`: the workload's run is recorded in memory and analysed, and its numbers are printed.
+ghost use Rattle.std.specs.Prelude.{◌≡◌, ◌≤◌, ℕ, Err, IfOk, IfErr};
+ghost use Rattle.log_model.specs.Logs.{steps as steps_of};
+ghost use Rattle.replayer.specs.Jobs.{trace_of};
+ghost use Rattle.epoch_model.specs.Cutting.{IsCutting};
+ghost use Rattle.workload_model.specs.Lines.{numbers_of, bench_text};
+ghost use Rattle.workload_model.specs.Answer.{IsBenchAnswer};
+ghost use Rattle.jet_words.specs.Commands.{IsPipeline};
+ghost use Rattle.jet_files.specs.Outcome.{seen_by, bytes_of};
+ghost use Rattle.jet_cli.specs.Answers.{IsWorkOf};
+ghost use Rattle.jet_cli.specs.Bench.{recording_refusal, IsWorkloadJob, asked_in_all};
+
+use crate::engine::Engine;
+use crate::memory::or_memory;
+use crate::rows::cuts_of;
+use crate::work::fitted;
+use epoch_cut::Cuts;
+use jet_core::Crossed;
+use jet_refusal::Refusal;
+use jet_words::Pipeline;
+use no_memory::NoMemory;
+use order_gateway::{MOST_STEPS, Numbers, RecordFault, Recording, query, recorded, text_of};
+use outer_io::Gate;
+use query_lang::Query;
+use replayer::Job;
+use sha2::{Digest, Sha256};
+use sink_collect::text;
+use std::alloc::Global;
+use std::sync::Wait;
+use std::thread::Threads;
+
+/// Why the workload's run was not recorded.
+fn of_recording(fault: RecordFault) -> Refusal
+    ensures { result ≡ recording_refusal fault }
+{
+    match fault {
+        RecordFault::LogTooLong(size) => Refusal::LogTooLong(size),
+        RecordFault::NoMemory => Refusal::NoMemory,
+    }
+}
+
+/// The recorded run of the workload. It gives up with `LogTooLong`, or with `NoMemory`.
+fn workload_job(alloc: Global, seed: u64, steps: u64) -> Result<Job, Refusal>
+    requires { steps ≤ MOST_STEPS }
+    ensures ok { IfOk result (IsWorkloadJob seed steps) }
+    ensures err { IfErr result (λ r. (epoch : ℕ) → IsWorkOf (IsBenchAnswer seed steps epoch) (Err r)) }
+{
+    match recorded(alloc, seed, steps) {
+        Ok(
+            Recording {
+                program,
+                image,
+                log,
+            },
+        ) => fitted(alloc, &program, image, log),
+        Err(fault) => Err(of_recording(fault)),
+    }
+}
+
+/// How many locations were asked at the cuts in all, or 2^64 - 1 where they are more.
+fn count_asked(crossed: &[Crossed]) -> u64
+    ensures { result ≡ asked_in_all crossed.now }
+{
+    let mut count = 0u64;
+    for crossing in crossed {
+        count = count.saturating_add(crossing.asked().len() as u64);
+    }
+    count
+}
+
+/// The numbers of a query over the run, of which the epochs are analysed.
+fn numbers<R: Threads + Wait + Sync, G: Gate>(
+    engine: &Engine<R, G>,
+    job: &Job,
+    query: &Query,
+    cuts: Cuts,
+    pipeline: Pipeline,
+) -> Result<Numbers, NoMemory>
+    requires cuts { IsCutting (steps_of job.now.log) cuts }
+    requires pipeline { IsPipeline pipeline }
+    ensures { IfOk result (λ numbers. numbers ≡ numbers_of query.now cuts (trace_of job.now)) }
+{
+    let epochs = u64::from(cuts.count());
+    let (report, crossed) = jet_core::query(
+        engine.rt,
+        engine.alloc,
+        engine.gate,
+        job,
+        query,
+        cuts,
+        pipeline.workers,
+        pipeline.link,
+    )?;
+    let text = text(engine.alloc, &report)?;
+    Ok(Numbers {
+        steps: job.steps(),
+        epochs,
+        sinks: report.lines(),
+        pairs: report.pairs(),
+        asked: count_asked(&crossed),
+        digest: Sha256::digest(&text),
+    })
+}
+
+/// The lines of the run with these cuts.
+fn lines<R: Threads + Wait + Sync, G: Gate>(
+    engine: &Engine<R, G>,
+    job: &Job,
+    cuts: Cuts,
+    pipeline: Pipeline,
+) -> Result<Vec<u8>, NoMemory>
+    requires cuts { IsCutting (steps_of job.now.log) cuts }
+    requires pipeline { IsPipeline pipeline }
+    ensures { IfOk result (λ text. text.items ≡ bench_text cuts (trace_of job.now)) }
+{
+    let query = query(engine.alloc)?;
+    let numbers = numbers(engine, job, &query, cuts, pipeline)?;
+    text_of(engine.alloc, &numbers)
+}
+
+/// The lines of the workload's run by this seed, of so many steps. It gives up with `LogTooLong`, then with
+/// `TooManyEpochs`, or with `NoMemory`.
+pub fn bench<R: Threads + Wait + Sync, G: Gate>(
+    engine: &Engine<R, G>,
+    seed: u64,
+    steps: u64,
+    pipeline: Pipeline,
+) -> Result<Vec<u8>, Refusal>
+    requires steps { steps ≤ MOST_STEPS }
+    requires pipeline { IsPipeline pipeline }
+    ensures { IsWorkOf (IsBenchAnswer seed steps pipeline.epoch) (seen_by bytes_of result) }
+{
+    let job = workload_job(engine.alloc, seed, steps)?;
+    let cuts = cuts_of(&job, pipeline.epoch)?;
+    or_memory(lines(engine, &job, cuts, pipeline))
+}

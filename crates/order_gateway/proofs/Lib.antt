@@ -1,0 +1,2 @@
+mod Generated
+mod Zeros

@@ -1,0 +1,2 @@
+pub mod StoppedClock
+pub mod Recordings

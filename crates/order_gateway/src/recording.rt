@@ -1,0 +1,71 @@
+//! The run of the guest, recorded in memory.
+
+ghost use Rattle.std.specs.Prelude.{◌≡◌, ◌≤◌, ◌^◌, length, IfOk, IfErr};
+ghost use Rattle.log_model.specs.declared.Version.TheVariants.{Two};
+ghost use Rattle.log_model.specs.Logs.{CanHold, log_text};
+ghost use Rattle.workload_model.specs.Guest.{guest_file, guest_image};
+ghost use Rattle.workload_model.specs.Answer.{IsWorkloadLog};
+ghost use Rattle.order_gateway.specs.Recordings.{IsCause};
+
+use crate::clock::StoppedClock;
+use crate::fault::RecordFault;
+use crate::generator::input;
+use crate::guest::{guest_file, guest_image};
+use call_record::{CaptureFault, capture};
+use elf_image::Image;
+use replay_log::Log;
+use std::alloc::Global;
+
+/// The most steps after which a run is cut off.
+pub const MOST_STEPS: u64 = 2_000_000;
+
+/// The pages of the run's window.
+const PAGES: u32 = 4;
+
+/// How many bytes a read gets at most.
+const PIECE: u32 = 16_777_216;
+
+/// The guest's program file and its image, and the log of its run.
+#[derive(Drop)]
+pub struct Recording {
+    pub program: Vec<u8>,
+    pub image: Image,
+    pub log: Log,
+}
+
+/// Records the run with this seed, of so many steps, with a clock that answers 0.
+///
+/// The fault is `LogTooLong` where the text of the run's log has more than 2^26 bytes, with their number, or 2^64 - 1
+/// where they are more. Else out of memory is `NoMemory`.
+pub fn recorded(alloc: Global, seed: u64, steps: u64) -> Result<Recording, RecordFault>
+    requires { steps ≤ MOST_STEPS }
+    ensures program { IfOk result (λ run. run.program.items ≡ guest_file) }
+    ensures image { IfOk result (λ run. run.image ≡ guest_image) }
+    ensures log { IfOk result (λ run. IsWorkloadLog seed steps run.log) }
+    ensures short { IfOk result (λ run. length (log_text Two run.log) ≤ 2 ^ 26) }
+    ensures held { IfOk result (λ run. CanHold Two run.log) }
+    ensures cause { IfErr result (IsCause seed steps) }
+{
+    let program = guest_file(alloc)?;
+    let image = guest_image(alloc, &program)?;
+    let inputs = [input(alloc, seed, steps)?];
+    let mut clock = StoppedClock::new();
+    match capture(
+        alloc, &program, &image, PAGES, &inputs, &mut clock, PIECE, steps,
+    ) {
+        Ok(log) => {
+            clock.counted()?;
+            Ok(Recording {
+                program,
+                image,
+                log,
+            })
+        }
+        Err(CaptureFault::LogTooLong(size)) => {
+            clock.counted()?;
+            Err(RecordFault::LogTooLong(size))
+        }
+        Err(CaptureFault::NoMemory) => Err(RecordFault::NoMemory),
+        Err(CaptureFault::Window) => unreachable!(),
+    }
+}

@@ -1,0 +1,5 @@
+mod WorkedGuest
+mod WorkedBench
+pub mod Guests
+pub mod SameNumbers
+pub mod Outcomes

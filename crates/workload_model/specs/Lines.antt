@@ -1,0 +1,50 @@
+-- The lines that `bench` prints.
+use Rattle.std.specs.Prelude.{ℕ, List, [], ◌∷◌, ◌++◌, length, sum_by, codes}
+use Rattle.flow_model.specs.declared.Loc.{Loc}
+use Rattle.flow_model.specs.declared.StepSeen.{StepSeen}
+use Rattle.report_model.specs.Query.{Query}
+use Rattle.report_model.specs.Rows.{rows}
+use Rattle.report_model.specs.Text.{report_text}
+use Rattle.record_model.specs.Counts.{capped}
+use Rattle.sink_collect.specs.Pairs.{pairs}
+use Rattle.run_output.specs.Summary.{number_line}
+use Rattle.epoch_model.specs.Crossing.{crossing_at}
+use Rattle.sha2.specs.Sha256.{sha256}
+use Rattle.hex.specs.Hex.{encode_lower}
+use Rattle.workload_model.specs.declared.Numbers.{Numbers}
+use Rattle.workload_model.specs.Workload.{workload_query}
+
+-- `report`, and the digest in lower-case hexadecimal digits
+abbrev pub digest_line : List ℕ → List ℕ
+digest_line digest = codes "report " ++ encode_lower digest ++ codes "\n"
+
+-- the six lines: each number in decimal
+abbrev pub numbers_text : Numbers → List ℕ
+numbers_text n =
+    number_line (codes "steps") n.steps ++
+    number_line (codes "epochs") n.epochs ++
+    number_line (codes "sinks") n.sinks ++
+    number_line (codes "pairs") n.pairs ++
+    number_line (codes "asked") n.asked ++
+    digest_line n.digest
+
+-- what the epochs ask at each cut but the last, which is the end of the run
+abbrev pub asked_lists : Query → List StepSeen → List ℕ → List (List Loc)
+asked_lists q trace [] = []
+asked_lists q trace (c ∷ []) = []
+asked_lists q trace (c ∷ d ∷ cuts) = crossing_at q trace c (d ∷ cuts) ∷ asked_lists q trace (d ∷ cuts)
+
+-- the numbers of a query over a trace whose epochs end at the cuts
+abbrev pub numbers_of : Query → List ℕ → List StepSeen → Numbers
+numbers_of q cuts trace = let all = rows q trace in record {
+  steps = length trace;
+  epochs = length cuts;
+  sinks = length all;
+  pairs = capped (pairs all);
+  asked = capped (sum_by length (asked_lists q trace cuts));
+  digest = sha256 (report_text all);
+}
+
+-- the lines of the workload's query
+abbrev pub bench_text : List ℕ → List StepSeen → List ℕ
+bench_text cuts trace = numbers_text (numbers_of workload_query cuts trace)
