@@ -1,0 +1,3 @@
+mod Noted
+mod Acting
+mod Stepping

@@ -1,0 +1,12 @@
+//! The node of an epoch: a core, which goes through the passes of its epoch event by event, and its ends of the links to
+//! the nodes before and behind it.
+#![tactic(auto)]
+
+mod beginning;
+mod node_core;
+mod settling;
+mod stage;
+
+pub use node_core::{Broken, Core};
+pub use outer_io::{Gate, OpenGate};
+pub use stage::Phase;
