@@ -1,32 +1,28 @@
 -- What the parts of an event keep.
-use Rattle.std.proofs.Common.{◌≡◌, ◌⊎◌, inl, inr, ℕ, List, [], ◌∷◌, ◌++◌, append-nil, refl, ap, ap₂, sym, subst, ◌∙◌, Bool, true, false}
-use Rattle.std.specs.Prelude.{Option, Some, None, is_none, is_some, option_map}
+use Rattle.std.proofs.Common.{◌≡◌, inl, inr, ℕ, List, [], ◌∷◌, ◌++◌, append-nil, refl, ap, ap₂, sym, subst, ◌∙◌, Bool, true, false}
+use Rattle.std.specs.Prelude.{Option, Some, None, is_none, option_map}
 use Rattle.atomic_table.specs.Seated.{TableId}
 use Rattle.flow_model.specs.declared.Loc.{Loc}
 use Rattle.flow_rule.specs.declared.Message.{Message}
 use Rattle.report_model.specs.Rows.{Row}
-use Rattle.epoch_cut.specs.ByLength.{NumberedEpoch}
 use Rattle.local_taint.specs.declared.summary.Summary.{Summary}
 use Rattle.epoch_model.specs.Join.{rows_of}
 use Rattle.stream_model.specs.Streams.{is_ended, requests, heard, asked_of, asks_for, answers_for}
 use Rattle.stream_model.specs.StreamLaws.{IsPrefix}
-use Rattle.stream_model.specs.Passes.{Asking as AskingState, Answering as AnsweringState, asking_event, answering_event, answering_start, rows_or_none}
+use Rattle.stream_model.specs.Passes.{Answering as AnsweringState, answering_start, rows_or_none}
 use Rattle.stream_model.specs.PassLaws.{AsksSent, AnswersSent}
 use Rattle.stream_model.specs.Schedules.{begun}
-use Rattle.stream_model.proofs.Moving.{IsGot, AskMoved, asking_moves, AnswerFits, AnswerMoved, answering_moves}
+use Rattle.stream_model.proofs.Moving.{IsGot, AskMoved, asking_moves, AnswerMoved, answering_moves}
 use Rattle.stream_model.proofs.Passing.{no, begun_whole}
 use Rattle.pass_parts.specs.declared.pass_turn.PassTurn.{PassTurn}
-use Rattle.pass_parts.specs.declared.pass_turn.PassTurn.TheVariants as pass_turn
-use Rattle.pass_parts.specs.declared.requests.Request.{Request}
-use Rattle.pass_parts.specs.Ends.{IsEndFrom, got_by, sent_by, fresh_end, EndsWhole}
+use Rattle.pass_parts.specs.Ends.{IsEndFrom, got_by, sent_by, fresh_end}
 use Rattle.pass_parts.specs.Known.{known}
 use Rattle.pass_parts.specs.Requests.{locations}
-use Rattle.pass_parts.specs.Turns.{OnOver, OnOpen, OnNotYet}
-use Rattle.backward_pass.specs.Backward.{BackView, new_back, knows, state, Keeps, Reached}
-use Rattle.forward_pass.specs.Forward.{ForeView, new_fore, known_by, fore_state, ForeKeeps, ForeReached, ForeSends}
-use Rattle.epoch_node.specs.Cores.{Given, StageView, Fresh, Asking, Answering, Done, Between, CanStart}
-use Rattle.epoch_node.specs.Keeping.{Told, fresh_told, HasLinks, KnowsEpoch, IsBegun, IsAsking, requests_if, CanSettle, IsSettled, IsAnswering, AtStage, node_by, HasDone}
-use Rattle.epoch_node.specs.Events.{got_at, sent_at, told_at, settled_by, answered_by, Steps, IsMore, CanAct, BackActs, ForeActs, Acts, CanAdvance, BeginsToAsk, BeginsToAnswer, Advances}
+use Rattle.backward_pass.specs.Backward.{BackView, new_back, knows, state}
+use Rattle.forward_pass.specs.Forward.{ForeView, known_by, fore_state, ForeKeeps, ForeReached}
+use Rattle.epoch_node.specs.Cores.{Given, StageView}
+use Rattle.epoch_node.specs.Keeping.{Told, fresh_told, KnowsEpoch, IsBegun, IsAsking, requests_if, CanSettle, IsSettled, IsAnswering, HasDone}
+use Rattle.epoch_node.specs.Events.{IsMore, BackActs, ForeActs}
 
 -- ---- what went through the ends
 
@@ -221,6 +217,10 @@ module _ (i : Given) (f : ForeView) (w : Told) (a : IsAnswering i f w) (next : S
 
 -- ---- at the end
 
+-- where the pass forwards is whole, the pass backwards ended whole
+pub began_whole : (i : Given) (f : ForeView) (w : Told) (a : IsAnswering i f w) → f.whole ≡ true → a.asking.is_whole ≡ true
+began_whole i f w a t = begun_whole (known_by f) f.asked a.reached.schedule (answering_start a.asking.is_whole i.first a.noted) (sym (ap (λ (s : AnsweringState). s.is_whole) a.reached.is) ∙ t)
+
 pub has_done : (i : Given) (f : ForeView) (w : Told) → IsAnswering i f w → f.over ≡ true → f.whole ≡ true → (asked : List Loc) (rows : List Row) → asked ≡ f.asked → rows ≡ rows_or_none f.rows → HasDone i w asked rows
 has_done i f w a o t asked rows asked_is rows_is = record {
   summary = known_by f;
@@ -240,7 +240,7 @@ has_done i f w a o t asked rows asked_is rows_is = record {
   answers = a.sends t
 
   began : a.asking.is_whole ≡ true
-  began = begun_whole (known_by f) f.asked a.reached.schedule (answering_start a.asking.is_whole i.first a.noted) (sym (ap (λ (s : AnsweringState). s.is_whole) a.reached.is) ∙ t)
+  began = began_whole i f w a t
 
   asks : AsksSent i.first (known_by f) a.asking
   asks = a.asks began

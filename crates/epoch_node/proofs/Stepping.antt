@@ -1,5 +1,5 @@
 -- What an event of a core keeps.
-use Rattle.std.proofs.Common.{◌≡◌, List, refl, ap, ap₂, sym, subst, subst₂, ◌∙◌, Bool, true, false}
+use Rattle.std.proofs.Common.{◌≡◌, List, ap, ap₂, sym, subst, subst₂, ◌∙◌, false}
 use Rattle.std.specs.Prelude.{Option, is_none}
 use Rattle.flow_rule.specs.declared.Message.{Message}
 use Rattle.pass_parts.specs.declared.pass_turn.PassTurn.{PassTurn}

@@ -1,6 +1,7 @@
 -- What contracts see of a core.
-use Rattle.std.specs.Prelude.{◌≡◌, ℕ, ◌≤◌, Bool, true, false, Some, slice_get}
+use Rattle.std.specs.Prelude.{◌≡◌, ℕ, ◌≤◌, Bool, true, false, Some, slice_get, List, []}
 use Rattle.log_model.specs.Logs.{steps}
+use Rattle.flow_model.specs.declared.Loc.{Loc}
 use Rattle.report_model.specs.Query.{Query}
 use Rattle.epoch_cut.specs.ByLength.{NumberedEpoch}
 use Rattle.checkpoints.specs.Points.{CheckpointsAt}
@@ -77,3 +78,11 @@ whole_at (Asking b) = b.whole
 whole_at (Answering f) = f.whole
 whole_at (Done f) = f.whole
 whole_at Between = false
+
+-- what is asked so far. A pass that is broken forgets what it asked
+abbrev pub asked_at : StageView → List Loc
+asked_at (Fresh t) = []
+asked_at (Asking b) = b.asked
+asked_at (Answering f) = f.asked
+asked_at (Done f) = f.asked
+asked_at Between = []

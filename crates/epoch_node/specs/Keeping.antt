@@ -1,8 +1,7 @@
 -- What a core keeps of what went through its links.
-use Rattle.std.specs.Prelude.{◌≡◌, ◌-◌, Bool, true, false, Option, None, is_none, is_some, List, [], ◌∷◌}
+use Rattle.std.specs.Prelude.{◌≡◌, ◌-◌, Bool, true, false, Option, None, is_none, is_some, List, []}
 use Rattle.flow_model.specs.declared.Loc.{Loc}
 use Rattle.flow_rule.specs.declared.Message.{Message}
-use Rattle.flow_rule.specs.declared.Message.TheVariants.{End}
 use Rattle.replayer.specs.Jobs.{trace_of}
 use Rattle.epoch_model.specs.Summary.{Summary as EpochSummary, IsSummary}
 use Rattle.local_taint.specs.declared.summary.Summary.{Summary}

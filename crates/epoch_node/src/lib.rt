@@ -3,10 +3,14 @@
 #![tactic(auto)]
 
 mod beginning;
+mod ends;
+mod node;
 mod node_core;
 mod settling;
 mod stage;
 
+pub use ends::Ends;
+pub use node::{Finished, MOST_EVENTS, Node};
 pub use node_core::{Broken, Core};
 pub use outer_io::{Gate, OpenGate};
 pub use stage::Phase;

@@ -4,7 +4,7 @@ ghost use Rattle.std.specs.Prelude.{◌≡◌, option_map, is_ok, IfOk};
 ghost use Rattle.run_board.specs.Turns.{AnswersEnded};
 ghost use Rattle.pass_parts.specs.Ends.{IsEndFrom, IsRefused};
 ghost use Rattle.pass_parts.specs.Turns.{OnNotYet, Waits};
-ghost use Rattle.epoch_node.specs.Cores.{core_of, new_core, phase_of, whole_at, CanStart};
+ghost use Rattle.epoch_node.specs.Cores.{core_of, new_core, phase_of, whole_at, asked_at, CanStart};
 ghost use Rattle.epoch_node.specs.Keeping.{Told, KeepsCore, HasDone, fresh_told};
 ghost use Rattle.epoch_node.specs.Events.{IsReady, StillKeeps, Steps, need_at, WhenNotYet, counted, one_more, IsMore, CanAct, Acts, CanAdvance, Advances};
 
@@ -185,6 +185,7 @@ impl<'a, G> Core<'a, G> {
     pub fn into_result(self) -> (Result<SinkSets, Broken>, Asked)
         requires { phase_of (core_of self).stage ≡ Phase.Done }
         ensures whole { is_ok result.0 ≡ whole_at (core_of self.entry).stage }
+        ensures asked { result.1 ≡ asked_at (core_of self.entry).stage }
         ensures done { (w : Told) → KeepsCore (core_of self.entry) w → IfOk result.0 (λ rows. HasDone (core_of self.entry).given w result.1 rows) }
     {
         let alloc = self.alloc;

@@ -1,4 +1,4 @@
-use Rattle.std.proofs.Common.{◌≡◌, refl, sym, ap, ◌∙◌, subst, true}
+use Rattle.std.proofs.Common.{sym, ◌∙◌, subst}
 use Rattle.forward_pass.specs.Forward.{fore_of}
 use Rattle.epoch_node.specs.Cores.{stage_of, core_of}
 use Rattle.epoch_node.specs.Keeping.{AtStage}
