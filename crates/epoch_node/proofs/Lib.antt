@@ -1,0 +1,4 @@
+mod Noted
+mod Acting
+mod Stepping
+mod NodeSteps

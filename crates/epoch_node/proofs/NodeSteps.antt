@@ -1,0 +1,131 @@
+-- What an event of the core makes of its node, and what a node has sent.
+use Rattle.std.proofs.Common.{◌≡◌, ℕ, ◌-◌, List, [], refl, ap, sym, subst, subst₂, ◌∙◌, Bool, true, false}
+use Rattle.std.specs.Prelude.{Option, Some, None, is_none, option_map, IfSome}
+use Rattle.atomic_table.specs.Seated.{TableId}
+use Rattle.flow_model.specs.declared.Loc.{Loc}
+use Rattle.flow_rule.specs.declared.Message.{Message}
+use Rattle.epoch_link.specs.Ends.{Producing, Consuming}
+use Rattle.replayer.specs.Jobs.{trace_of}
+use Rattle.epoch_model.specs.Summary.{Summary as EpochSummary}
+use Rattle.epoch_model.specs.Crossing.{summary_of}
+use Rattle.stream_model.specs.Streams.{requests, asks_for, answers_for}
+use Rattle.stream_model.specs.StreamLaws.{IsPrefix}
+use Rattle.pass_parts.specs.Ends.{IsEndFrom, got_by, sent_by, fresh_end}
+use Rattle.backward_pass.specs.Backward.{BackView, knows}
+use Rattle.forward_pass.specs.Forward.{ForeView, known_by}
+use Rattle.epoch_node.specs.declared.ends.Ends.{Ends}
+use Rattle.epoch_node.specs.Cores.{Given, StageView, Fresh, Asking, Answering, Done, Between, CoreView, whole_at, asked_at}
+use Rattle.epoch_node.specs.Keeping.{Told, HasLinks, IsOfEpoch, IsAsking, IsAnswering, AtStage, KeepsCore}
+use Rattle.epoch_node.specs.Events.{IsMore}
+use Rattle.epoch_node.specs.Nodes.{told_by, node_of, IsEndLater, later_refl, IsInletLater, IsOutletLater, IsLedFrom, SendsDue}
+use Rattle.epoch_node.proofs.Acting.{began_whole}
+
+-- ---- later
+
+module _ {E : Type 0} (link : E → TableId) (capacity : E → ℕ) (other list : E → List Message) where
+  pub later_end : (new old : Option E) → IsEndFrom link capacity other new old → IsMore (option_map list old) (option_map list new) → IsEndLater link list new old
+  later_end None None h m = tt
+  later_end (Some n) (Some o) h m = (h.0, m)
+  later_end None (Some o) h m = absurd h
+  later_end (Some n) None h m = absurd h
+
+inlet_same : (c : Option (Consuming Message)) → IsInletLater c c
+inlet_same c = later_refl (λ (c : Consuming Message). c.link) (λ c. c.got) c
+
+outlet_same : (p : Option (Producing Message)) → IsOutletLater p p
+outlet_same p = later_refl (λ (p : Producing Message). p.link) (λ p. p.sent) p
+
+module _ (c d : CoreView) (e : Ends) (given : d.given ≡ c.given) (inlet : Option (Consuming Message)) (outlet : Option (Producing Message)) where
+  -- after an event on the links of the asks
+  pub asks_lead : IsEndFrom (λ c. c.link) (λ c. c.capacity) (λ c. []) inlet e.ask_in → IsEndFrom (λ p. p.link) (λ p. p.capacity) (λ p. []) outlet e.ask_out
+      → IsMore (option_map (λ c. c.got) e.ask_in) (option_map (λ c. c.got) inlet) → IsMore (option_map (λ p. p.sent) e.ask_out) (option_map (λ p. p.sent) outlet)
+      → IsLedFrom (node_of d (record e { ask_in = inlet; ask_out = outlet })) (node_of c e)
+  asks_lead i o got sent = record {
+    given = given;
+    ends = record {
+      ask_in = later_end (λ (c : Consuming Message). c.link) (λ c. c.capacity) (λ c. []) (λ c. c.got) inlet e.ask_in i got;
+      ask_out = later_end (λ (p : Producing Message). p.link) (λ p. p.capacity) (λ p. []) (λ p. p.sent) outlet e.ask_out o sent;
+      answer_in = inlet_same e.answer_in;
+      answer_out = outlet_same e.answer_out;
+    };
+  }
+
+  -- after one on those of the answers
+  pub answers_lead : IsEndFrom (λ c. c.link) (λ c. c.capacity) (λ c. []) inlet e.answer_in → IsEndFrom (λ p. p.link) (λ p. p.capacity) (λ p. []) outlet e.answer_out
+      → IsMore (option_map (λ c. c.got) e.answer_in) (option_map (λ c. c.got) inlet) → IsMore (option_map (λ p. p.sent) e.answer_out) (option_map (λ p. p.sent) outlet)
+      → IsLedFrom (node_of d (record e { answer_in = inlet; answer_out = outlet })) (node_of c e)
+  answers_lead i o got sent = record {
+    given = given;
+    ends = record {
+      ask_in = inlet_same e.ask_in;
+      ask_out = outlet_same e.ask_out;
+      answer_in = later_end (λ (c : Consuming Message). c.link) (λ c. c.capacity) (λ c. []) (λ c. c.got) inlet e.answer_in i got;
+      answer_out = later_end (λ (p : Producing Message). p.link) (λ p. p.capacity) (λ p. []) (λ p. p.sent) outlet e.answer_out o sent;
+    };
+  }
+
+-- ---- what is sent
+
+nothing_sent : (b : Bool) (sent : Option (List Message)) (all : List Message) → sent ≡ fresh_end b → IfSome sent (λ s. IsPrefix s all)
+nothing_sent b sent all e = subst (λ o. IfSome o (λ s. IsPrefix s all)) (sym e) (by b) where
+  by : (b : Bool) → IfSome (fresh_end b) (λ s. IsPrefix s all)
+  by true = tt
+  by false = (all, refl)
+
+-- where there is a link, a part of all was sent on it
+part_sent : (over whole first : Bool) (sent : Option (List Message)) (all : List Message) → is_none sent ≡ first → (first ≡ false → IsPrefix (sent_by over whole sent) all) → IfSome sent (λ s. IsPrefix s all)
+part_sent over whole first None all n p = tt
+part_sent over whole first (Some sent) all n p = p (sym n)
+
+record Sends (i : Given) (asked : List Loc) (w : Told) : Type 0 where
+  summary : EpochSummary
+  of_epoch : IsOfEpoch i summary
+  asks : IfSome w.asks_sent (λ sent. IsPrefix sent (asks_for summary (got_by w.asks_got)))
+  answers : IfSome w.answers_sent (λ sent. IsPrefix sent (answers_for summary asked (requests (got_by w.asks_got)) (got_by w.answers_got)))
+
+asking_sends : (i : Given) (v : BackView) (w : Told) → HasLinks i w → IsAsking i v w → v.whole ≡ true → Sends i v.asked w
+asking_sends i v w l a t = record {
+  summary = knows v;
+  of_epoch = a.summary (a.keeps.fits.known t);
+  asks = part_sent v.over v.whole v.first w.asks_sent (asks_for (knows v) (got_by w.asks_got)) (l.asks_sent ∙ sym a.first) (a.sends t).part;
+  answers = nothing_sent i.last w.answers_sent (answers_for (knows v) v.asked (requests (got_by w.asks_got)) (got_by w.answers_got)) a.answers_sent;
+}
+
+answering_sends : (i : Given) (f : ForeView) (w : Told) → HasLinks i w → IsAnswering i f w → f.whole ≡ true → Sends i f.asked w
+answering_sends i f w l a t =
+    let began = began_whole i f w a t in
+    record {
+      summary = known_by f;
+      of_epoch = a.summary (a.keeps.known t);
+      asks = part_sent true a.asking.is_whole i.first w.asks_sent (asks_for (known_by f) (got_by w.asks_got)) l.asks_sent (λ n. subst₂ IsPrefix a.sent (ap (asks_for (known_by f)) a.got) ((a.asks began).part n));
+      answers = part_sent f.over f.whole (is_none w.answers_sent) w.answers_sent (answers_for (known_by f) f.asked (requests (got_by w.asks_got)) (got_by w.answers_got)) refl
+          (λ n. subst (λ noted. IsPrefix (sent_by f.over f.whole w.answers_sent) (answers_for (known_by f) f.asked noted (got_by w.answers_got))) (a.noted_is began) (a.sends t).part);
+    }
+
+sends_at : (i : Given) (s : StageView) (w : Told) → HasLinks i w → AtStage i s w → whole_at s ≡ true → Sends i (asked_at s) w
+sends_at i (Fresh t) w l at h =
+    let e = summary_of i.query (trace_of i.points.job) i.epoch.first (i.epoch.past_last - i.epoch.first) in
+    record {
+      summary = e;
+      of_epoch = record { ends = λ l h. refl; sinks = refl };
+      asks = nothing_sent i.first w.asks_sent (asks_for e (got_by w.asks_got)) (ap (λ w. w.asks_sent) at.2);
+      answers = nothing_sent i.last w.answers_sent (answers_for e [] (requests (got_by w.asks_got)) (got_by w.answers_got)) (ap (λ w. w.answers_sent) at.2);
+    }
+sends_at i (Asking v) w l at h = asking_sends i v w l at h
+sends_at i (Answering f) w l at h = answering_sends i f w l at.0 h
+sends_at i (Done f) w l at h = answering_sends i f w l at.0 h
+sends_at i Between w l at h = absurd at
+
+at_end : {E : Type 0} (list : E → List Message) (all : List Message) (o : Option E) → IfSome (option_map list o) (λ s. IsPrefix s all) → IfSome o (λ x. IsPrefix (list x) all)
+at_end list all None h = tt
+at_end list all (Some x) h = h
+
+pub sends_due : (c : CoreView) (e : Ends) → KeepsCore c (told_by e) → whole_at c.stage ≡ true → SendsDue (node_of c e)
+sends_due c e k h =
+    let s = sends_at c.given c.stage (told_by e) k.links k.stage h in
+    record {
+      summary = s.summary;
+      of_epoch = s.of_epoch;
+      asks = at_end (λ p. p.sent) _ e.ask_out s.asks;
+      answers = at_end (λ p. p.sent) _ e.answer_out s.answers;
+    }

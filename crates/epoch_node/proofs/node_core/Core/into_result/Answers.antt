@@ -1,0 +1,11 @@
+use Rattle.std.proofs.Common.{sym, ◌∙◌, subst}
+use Rattle.forward_pass.specs.Forward.{fore_of}
+use Rattle.epoch_node.specs.Cores.{stage_of, core_of}
+use Rattle.epoch_node.specs.Keeping.{AtStage}
+use Rattle.epoch_node.proofs.Acting.{has_done}
+use Rattle.epoch_node.proofs.node_core.Core.into_result.Goals as goal
+
+pub returns-clause-done : goal.returns-clause-done
+returns-clause-done g c = λ w k.
+    let at = subst (λ s. AtStage (core_of c.args.self).given (stage_of s) w) (sym c.into_inner.ensures ∙ c.in-Done.is) k.stage in
+    has_done (core_of c.args.self).given (fore_of c.in-Done.fore) w at.0 at.1 (sym c.whole-whole.ensures ∙ c.if-not-whole.false) _ _ c.into_sets-sets.ensures.asked c.into_sets-sets.ensures.rows

@@ -1,0 +1,202 @@
+-- What an event of a core does.
+use Rattle.std.specs.Prelude.{◌≡◌, ℕ, ◌+◌, ◌-◌, ◌^◌, min, Bool, true, false, Option, Some, None, is_none, List}
+use Rattle.flow_model.specs.declared.Loc.{Loc}
+use Rattle.flow_rule.specs.declared.Message.{Message}
+use Rattle.stream_model.specs.StreamLaws.{IsPrefix}
+use Rattle.stream_model.specs.Schedules.{Need, begun, asking_need, answering_need}
+use Rattle.stream_model.specs.Schedules as need
+use Rattle.run_board.specs.declared.task.Turn.{Turn}
+use Rattle.run_board.specs.declared.task.Turn.TheVariants as turn
+use Rattle.pass_parts.specs.declared.pass_turn.PassTurn.{PassTurn}
+use Rattle.pass_parts.specs.declared.pass_turn.PassTurn.TheVariants as pass_turn
+use Rattle.pass_parts.specs.Turns.{OnOver, OnOpen, OnNotYet}
+use Rattle.backward_pass.specs.Backward.{BackView, knows, state, Keeps, Reached, SendsFor, IsSameBack, Happens}
+use Rattle.forward_pass.specs.Forward.{ForeView, new_fore, known_by, fore_state, ForeKeeps, ForeReached, ForeSends, IsSameFore, ForeHappens}
+use Rattle.epoch_node.specs.declared.stage.Phase.{Phase}
+use Rattle.epoch_node.specs.declared.stage.Phase.TheVariants as phase
+use Rattle.epoch_node.specs.Cores.{Given, StageView, Fresh, Asking, Answering, Done, Between, CoreView, CanStart}
+use Rattle.epoch_node.specs.Keeping.{Told, KeepsCore, IsBegun, CanSettle, IsSettled, requests_if}
+
+-- ---- the links of a phase
+
+-- what was got and sent on the two links of the phase: those of the asks, and then those of the answers
+abbrev pub got_at : StageView → Told → Option (List Message)
+got_at (Fresh t) w = w.asks_got
+got_at (Asking v) w = w.asks_got
+got_at (Answering f) w = w.answers_got
+got_at (Done f) w = w.answers_got
+got_at Between w = w.answers_got
+
+abbrev pub sent_at : StageView → Told → Option (List Message)
+sent_at (Fresh t) w = w.asks_sent
+sent_at (Asking v) w = w.asks_sent
+sent_at (Answering f) w = w.answers_sent
+sent_at (Done f) w = w.answers_sent
+sent_at Between w = w.answers_sent
+
+-- once this was got and sent on them
+abbrev pub told_at : StageView → Option (List Message) → Option (List Message) → Told → Told
+told_at (Fresh t) got sent w = record w { asks_got = got; asks_sent = sent }
+told_at (Asking v) got sent w = record w { asks_got = got; asks_sent = sent }
+told_at (Answering f) got sent w = record w { answers_got = got; answers_sent = sent }
+told_at (Done f) got sent w = record w { answers_got = got; answers_sent = sent }
+told_at Between got sent w = record w { answers_got = got; answers_sent = sent }
+
+-- the links of the core's phase are those, of four through which went what the core keeps
+pub record IsReady (c : CoreView) (got sent : Option (List Message)) : Type 0 where
+  pub told : Told
+  pub got_is : got_at c.stage told ≡ got
+  pub sent_is : sent_at c.stage told ≡ sent
+  pub keeps : KeepsCore c told
+
+-- what the core keeps of its four links is kept, whatever went through the two that are not of its phase
+abbrev pub StillKeeps : CoreView → Option (List Message) → Option (List Message) → CoreView → Option (List Message) → Option (List Message) → Type 0
+StillKeeps old got sent new got' sent' =
+    (w : Told) → got_at old.stage w ≡ got → sent_at old.stage w ≡ sent → KeepsCore old w → KeepsCore new (told_at old.stage got' sent' w)
+
+-- ---- events
+
+-- where the pass backwards is over, the pass forwards begins
+abbrev pub settled_by : Bool → Given → BackView → StageView
+settled_by true i v = Answering (new_fore v.summary v.asked (requests_if v.whole v.requests) v.whole i.first)
+settled_by false i v = Asking v
+
+abbrev pub answered_by : Bool → ForeView → StageView
+answered_by true f = Done f
+answered_by false f = Answering f
+
+-- the epoch is analysed, and the pass backwards begins, broken where a growth was refused
+pub record Begins (i : Given) (next : StageView) (got sent : Option (List Message)) : Type 0 where
+  pub back : BackView
+  pub is : next ≡ Asking back
+  pub begins : state back got sent ≡ begun (is_none back.summary) i.last (knows back)
+
+-- an event of the pass backwards
+pub record Asks (i : Given) (v : BackView) (got sent : Option (List Message)) (next : StageView) (got' sent' : Option (List Message)) : Type 0 where
+  pub back : BackView
+  pub turn : PassTurn
+  pub happens : Happens v got sent back got' sent' turn
+  pub is : next ≡ settled_by back.over i back
+
+-- an event of the pass forwards
+pub record Answers (f : ForeView) (got sent : Option (List Message)) (next : StageView) (got' sent' : Option (List Message)) : Type 0 where
+  pub fore : ForeView
+  pub turn : PassTurn
+  pub happens : ForeHappens f got sent fore got' sent' turn
+  pub is : next ≡ answered_by fore.over fore
+
+-- the event is that of the definitions: a node begins, then its pass backwards has events until it is over, then its pass
+-- forwards; then it is done
+abbrev pub Steps : Given → StageView → Option (List Message) → Option (List Message) → StageView → Option (List Message) → Option (List Message) → Type 0
+Steps i (Fresh t) got sent next got' sent' = Begins i next got' sent'
+Steps i (Asking v) got sent next got' sent' = Asks i v got sent next got' sent'
+Steps i (Answering f) got sent next got' sent' = Answers f got sent next got' sent'
+Steps i (Done f) got sent next got' sent' = next ≡ Done f
+Steps i Between got sent next got' sent' = ⊥
+
+-- what the next event needs
+abbrev pub need_at : StageView → Option (List Message) → Option (List Message) → Need
+need_at (Fresh t) got sent = need.Nothing
+need_at (Asking v) got sent = asking_need (state v got sent)
+need_at (Answering f) got sent = answering_need (known_by f) f.asked (fore_state f got sent)
+need_at (Done f) got sent = need.Over
+need_at Between got sent = need.Over
+
+-- ---- what the answer of an event says
+
+abbrev pub WhenNotYet : Turn → Type 0 → Type 0
+WhenNotYet turn.Moved P = Unit {0}
+WhenNotYet turn.NotYet P = P
+WhenNotYet turn.Done P = Unit {0}
+
+abbrev pub one_more : ℕ → ℕ
+one_more n = min (n + 1) (2 ^ 64 - 1)
+
+-- the last event moves from another phase to the phase Done
+abbrev pub counted_last : Phase → ℕ → ℕ
+counted_last phase.Fresh n = one_more n
+counted_last phase.Asking n = one_more n
+counted_last phase.Answering n = one_more n
+counted_last phase.Done n = n
+
+-- how many events moved, after one with this answer in a phase
+abbrev pub counted : Turn → Phase → ℕ → ℕ
+counted turn.Moved p n = one_more n
+counted turn.NotYet p n = n
+counted turn.Done p n = counted_last p n
+
+-- a part of what went through the end now went through it then
+abbrev pub IsMore : Option (List Message) → Option (List Message) → Type 0
+IsMore None None = Unit {0}
+IsMore (Some old) (Some new) = IsPrefix old new
+IsMore None (Some new) = ⊥
+IsMore (Some old) None = ⊥
+
+-- ---- parts of an event
+
+-- what the pass of a stage needs
+abbrev pub CanAct : StageView → Option (List Message) → Option (List Message) → Type 0
+CanAct (Fresh t) got sent = Unit {0}
+CanAct (Asking v) got sent = Keeps v got sent × Reached v got sent
+CanAct (Answering f) got sent = ForeKeeps f got sent
+CanAct (Done f) got sent = ⊥
+CanAct Between got sent = ⊥
+
+-- the pass backwards has its event
+pub record BackActs (v : BackView) (got sent : Option (List Message)) (next : StageView) (got' sent' : Option (List Message)) (turn : PassTurn) : Type 0 where
+  pub back : BackView
+  pub is : next ≡ Asking back
+  pub happens : Happens v got sent back got' sent' turn
+  pub keeps : Keeps back got' sent'
+  pub reached : Reached back got' sent'
+  pub sends : SendsFor back got' sent'
+  pub same : IsSameBack back v
+  pub over : OnOver turn (back.over ≡ true)
+  pub running : OnOpen turn (back.over ≡ false)
+  pub not_yet : OnNotYet turn ((back ≡ v) × (got' ≡ got) × (sent' ≡ sent))
+
+-- the pass forwards has its event
+pub record ForeActs (f : ForeView) (got sent : Option (List Message)) (next : StageView) (got' sent' : Option (List Message)) (turn : PassTurn) : Type 0 where
+  pub fore : ForeView
+  pub is : next ≡ Answering fore
+  pub happens : ForeHappens f got sent fore got' sent' turn
+  pub keeps : ForeKeeps fore got' sent'
+  pub reached : (first whole : Bool) (requests : List Loc) → ForeReached first requests whole f got sent → ForeReached first requests whole fore got' sent'
+  pub sends : (first whole : Bool) (requests : List Loc) → ForeReached first requests whole f got sent → ForeSends requests fore got' sent'
+  pub same : IsSameFore fore f
+  pub over : OnOver turn (fore.over ≡ true)
+  pub running : OnOpen turn (fore.over ≡ false)
+  pub not_yet : OnNotYet turn ((fore ≡ f) × (got' ≡ got) × (sent' ≡ sent))
+
+abbrev pub Acts : StageView → Option (List Message) → Option (List Message) → StageView → Option (List Message) → Option (List Message) → PassTurn → Type 0
+Acts (Fresh t) got sent next got' sent' turn = (next ≡ Fresh t) × (got' ≡ got) × (sent' ≡ sent) × (turn ≡ pass_turn.Over)
+Acts (Asking v) got sent next got' sent' turn = BackActs v got sent next got' sent' turn
+Acts (Answering f) got sent next got' sent' turn = ForeActs f got sent next got' sent' turn
+Acts (Done f) got sent next got' sent' turn = ⊥
+Acts Between got sent next got' sent' turn = ⊥
+
+-- what the stage needs to go on to the next
+abbrev pub CanAdvance : Given → StageView → Type 0
+CanAdvance i (Fresh t) = (t ≡ i.epoch) × CanStart i.points t
+CanAdvance i (Asking v) = CanSettle i.first i.last v
+CanAdvance i (Answering f) = Unit {0}
+CanAdvance i (Done f) = ⊥
+CanAdvance i Between = ⊥
+
+pub record BeginsToAsk (i : Given) (next : StageView) : Type 0 where
+  pub back : BackView
+  pub is : next ≡ Asking back
+  pub begun : IsBegun i back
+
+pub record BeginsToAnswer (i : Given) (v : BackView) (next : StageView) : Type 0 where
+  pub fore : ForeView
+  pub is : next ≡ Answering fore
+  pub settled : IsSettled i.first i.last v fore
+
+-- the stage after it
+abbrev pub Advances : Given → StageView → StageView → Type 0
+Advances i (Fresh t) next = BeginsToAsk i next
+Advances i (Asking v) next = BeginsToAnswer i v next
+Advances i (Answering f) next = next ≡ Done f
+Advances i (Done f) next = ⊥
+Advances i Between next = ⊥

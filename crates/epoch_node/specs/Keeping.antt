@@ -1,0 +1,140 @@
+-- What a core keeps of what went through its links.
+use Rattle.std.specs.Prelude.{◌≡◌, ◌-◌, Bool, true, false, Option, None, is_none, is_some, List, []}
+use Rattle.flow_model.specs.declared.Loc.{Loc}
+use Rattle.flow_rule.specs.declared.Message.{Message}
+use Rattle.replayer.specs.Jobs.{trace_of}
+use Rattle.epoch_model.specs.Summary.{Summary as EpochSummary, IsSummary}
+use Rattle.local_taint.specs.declared.summary.Summary.{Summary}
+use Rattle.report_model.specs.Rows.{Row}
+use Rattle.stream_model.specs.Streams.{is_ended, requests, Node, IsDone}
+use Rattle.stream_model.specs.Passes.{Asking as AskingState}
+use Rattle.stream_model.specs.PassLaws.{AsksSent}
+use Rattle.pass_parts.specs.declared.requests.Request.{Request}
+use Rattle.pass_parts.specs.Ends.{got_by, sent_by, fresh_end, EndsWhole}
+use Rattle.pass_parts.specs.Known.{known}
+use Rattle.pass_parts.specs.Requests.{locations}
+use Rattle.backward_pass.specs.Backward.{BackView, new_back, state, Keeps, Reached, SendsFor}
+use Rattle.forward_pass.specs.Forward.{ForeView, new_fore, known_by, fore_state, ForeKeeps, ForeReached, ForeSends}
+use Rattle.epoch_node.specs.Cores.{Given, StageView, Fresh, Asking, Answering, Done, Between, CoreView, CanStart}
+
+-- what went through the four links of a node, where there are any
+pub record Told : Type 0 where
+  pub asks_got : Option (List Message)
+  pub asks_sent : Option (List Message)
+  pub answers_got : Option (List Message)
+  pub answers_sent : Option (List Message)
+
+-- nothing yet. The first node has no links to a node before it, the last none to a node behind it
+abbrev pub fresh_told : Bool → Bool → Told
+fresh_told first last = record {
+  asks_got = fresh_end last;
+  asks_sent = fresh_end first;
+  answers_got = fresh_end first;
+  answers_sent = fresh_end last;
+}
+
+pub record HasLinks (i : Given) (w : Told) : Type 0 where
+  pub asks_got : is_none w.asks_got ≡ i.last
+  pub asks_sent : is_none w.asks_sent ≡ i.first
+  pub answers_got : is_none w.answers_got ≡ i.first
+  pub answers_sent : is_none w.answers_sent ≡ i.last
+
+-- it is the summary of the core's epoch
+abbrev pub IsOfEpoch : Given → EpochSummary → Type 0
+IsOfEpoch i e = IsSummary i.query (trace_of i.points.job) i.epoch.first (i.epoch.past_last - i.epoch.first) e
+
+-- the summary of a pass, where there is one, is that of the epoch
+abbrev pub KnowsEpoch : Given → Option Summary → Type 0
+KnowsEpoch i s = is_some s ≡ true → IsOfEpoch i (known s)
+
+-- a pass backwards that is new. Where a growth was refused it has no summary
+pub record IsBegun (i : Given) (v : BackView) : Type 0 where
+  pub new : v ≡ new_back v.summary i.first i.last
+  pub summary : KnowsEpoch i v.summary
+  pub keeps : Keeps v (fresh_end i.last) (fresh_end i.first)
+  pub reached : Reached v (fresh_end i.last) (fresh_end i.first)
+
+-- the pass backwards, as far as it has come. Nothing was answered yet
+pub record IsAsking (i : Given) (v : BackView) (w : Told) : Type 0 where
+  pub summary : KnowsEpoch i v.summary
+  pub first : v.first ≡ i.first
+  pub last : v.last ≡ i.last
+  pub running : v.over ≡ false
+  pub keeps : Keeps v w.asks_got w.asks_sent
+  pub reached : Reached v w.asks_got w.asks_sent
+  pub sends : SendsFor v w.asks_got w.asks_sent
+  pub unended : is_ended (state v w.asks_got w.asks_sent).sent ≡ false
+  pub answers_got : w.answers_got ≡ fresh_end i.first
+  pub answers_sent : w.answers_sent ≡ fresh_end i.last
+
+-- a broken pass drops what was requested
+abbrev pub requests_if : Bool → List Request → List Request
+requests_if true requests = requests
+requests_if false requests = []
+
+-- a pass backwards of such a node that is over
+pub record CanSettle (first last : Bool) (v : BackView) : Type 0 where
+  pub got : Option (List Message)
+  pub sent : Option (List Message)
+  pub keeps : Keeps v got sent
+  pub first_is : v.first ≡ first
+  pub alone : last ≡ true → got ≡ None
+
+-- the pass forwards, new after this pass backwards
+pub record IsSettled (first last : Bool) (v : BackView) (f : ForeView) : Type 0 where
+  pub new : f ≡ new_fore v.summary v.asked (requests_if v.whole v.requests) v.whole first
+  pub keeps : ForeKeeps f (fresh_end first) (fresh_end last)
+  pub reached : ForeReached first (locations (requests_if v.whole v.requests)) v.whole f (fresh_end first) (fresh_end last)
+
+-- the pass forwards, as far as it has come, and the state in which the pass backwards ended
+pub record IsAnswering (i : Given) (f : ForeView) (w : Told) : Type 0 where
+  pub summary : KnowsEpoch i f.summary
+  pub asking : AskingState
+  pub got : asking.got ≡ got_by w.asks_got
+  pub sent : asking.sent ≡ sent_by true asking.is_whole w.asks_sent
+  pub over : asking.is_over ≡ true
+  pub asked : asking.asked ≡ f.asked
+  pub asks : asking.is_whole ≡ true → AsksSent i.first (known_by f) asking
+  pub ends : asking.is_whole ≡ true → EndsWhole (got_by w.asks_got)
+  pub noted : List Loc
+  pub noted_is : asking.is_whole ≡ true → noted ≡ requests (got_by w.asks_got)
+  pub keeps : ForeKeeps f w.answers_got w.answers_sent
+  pub reached : ForeReached i.first noted asking.is_whole f w.answers_got w.answers_sent
+  pub sends : ForeSends noted f w.answers_got w.answers_sent
+  pub unended : f.over ≡ false → (is_ended (fore_state f w.answers_got w.answers_sent).sent ≡ false) × (is_ended f.sending ≡ false)
+  pub ended : f.over ≡ true → (is_ended (fore_state f w.answers_got w.answers_sent).sent ≡ true) × (is_ended (got_by w.answers_got) ≡ true)
+
+abbrev pub AtStage : Given → StageView → Told → Type 0
+AtStage i (Fresh t) w = (t ≡ i.epoch) × CanStart i.points t × (w ≡ fresh_told i.first i.last)
+AtStage i (Asking v) w = IsAsking i v w
+AtStage i (Answering f) w = IsAnswering i f w × (f.over ≡ false)
+AtStage i (Done f) w = IsAnswering i f w × (f.over ≡ true)
+AtStage i Between w = ⊥
+
+-- what a core keeps of what went through its links
+pub record KeepsCore (c : CoreView) (w : Told) : Type 0 where
+  pub links : HasLinks c.given w
+  pub stage : AtStage c.given c.stage w
+
+-- ---- at the end
+
+-- a node with this summary, once all is sent and no End was broken
+abbrev pub node_by : EpochSummary → Told → List Loc → List Row → Node
+node_by e w asked rows = record {
+  summary = e;
+  asks_got = got_by w.asks_got;
+  asks_sent = sent_by true true w.asks_sent;
+  answers_got = got_by w.answers_got;
+  answers_sent = sent_by true true w.answers_sent;
+  asked = asked;
+  rows = rows;
+}
+
+-- the core has sent all that it is to send for what it got, this is what it asked, and these are its rows; and what it
+-- got ends whole
+pub record HasDone (i : Given) (w : Told) (asked : List Loc) (rows : List Row) : Type 0 where
+  pub summary : EpochSummary
+  pub of_epoch : IsOfEpoch i summary
+  pub done : IsDone i.first i.last (node_by summary w asked rows)
+  pub asks_end : EndsWhole (got_by w.asks_got)
+  pub answers_end : EndsWhole (got_by w.answers_got)

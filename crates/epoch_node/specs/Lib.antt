@@ -1,0 +1,4 @@
+pub mod Cores
+pub mod Keeping
+pub mod Events
+pub mod Nodes

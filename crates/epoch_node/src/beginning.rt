@@ -1,0 +1,50 @@
+//! How a node begins: its epoch is analysed.
+
+ghost use Rattle.std.specs.Prelude.{◌≡◌, ◌-◌, ◌≤◌, Some, slice_get, IfOk, is_some, true};
+ghost use Rattle.log_model.specs.Logs.{steps};
+ghost use Rattle.epoch_model.specs.Summary.{IsSummary};
+ghost use Rattle.replayer.specs.Jobs.{trace_of};
+ghost use Rattle.local_taint.specs.Summaries.{summary_of};
+ghost use Rattle.pass_parts.specs.Ends.{fresh_end};
+ghost use Rattle.pass_parts.specs.Known.{known};
+ghost use Rattle.backward_pass.specs.Backward.{back_of, new_back, Keeps, Reached};
+ghost use Rattle.epoch_node.specs.Cores.{CanStart};
+ghost use Rattle.epoch_node.specs.Keeping.{IsBegun};
+
+use backward_pass::Back;
+use checkpoints::Checkpoints;
+use epoch_cut::EpochTicket;
+use local_taint::{Summary, analyse};
+use no_memory::NoMemory;
+use query_lang::Query;
+use std::alloc::Global;
+
+/// The summary of the ticket's epoch, from its checkpoint on. It gives up with NoMemory alone.
+fn summarize(
+    alloc: Global,
+    ticket: EpochTicket,
+    checkpoints: &Checkpoints<'_>,
+    query: &Query,
+) -> Result<Summary, NoMemory>
+    requires { CanStart checkpoints.now ticket }
+    ensures { IfOk result (λ e. IsSummary query.now (trace_of checkpoints.now.job) ticket.first (ticket.past_last - ticket.first) (summary_of e)) }
+{
+    let cursor = checkpoints.start(alloc, ticket.number())?;
+    analyse(alloc, ticket, cursor, query)
+}
+
+/// The pass backwards of the ticket's epoch. Where a growth is refused, the pass has no summary, and is broken.
+pub(crate) fn begin(
+    alloc: Global,
+    ticket: EpochTicket,
+    checkpoints: &Checkpoints<'_>,
+    query: &Query,
+    first: bool,
+    last: bool,
+) -> Back
+    requires { CanStart checkpoints.now ticket }
+    ensures { IsBegun (record { points = checkpoints.now; query = query.now; epoch = ticket; first = first; last = last }) (back_of result) }
+{
+    let summary = summarize(alloc, ticket, checkpoints, query).ok();
+    Back::new(alloc, summary, first, last)
+}

@@ -1,0 +1,185 @@
+//! A node: a core with its four ends.
+
+ghost use Rattle.std.specs.Prelude.{◌≡◌, ◌+◌, ◌≤◌, is_ok, true, IfOk};
+ghost use Rattle.run_board.specs.Turns.{AnswersEnded};
+ghost use Rattle.epoch_node.specs.Cores.{core_of, new_core, CanStart};
+ghost use Rattle.epoch_node.specs.Keeping.{fresh_told, HasDone};
+ghost use Rattle.epoch_node.specs.Events.{WhenNotYet, counted};
+ghost use Rattle.epoch_node.specs.Nodes.{told_by, new_node, IsLedFrom, HasWaited, SendsDue};
+
+use crate::ends::Ends;
+use crate::node_core::{Broken, Core};
+use crate::stage::Phase;
+use local_taint::Asked;
+use outer_io::Gate;
+use run_board::{Task, Turn};
+use sink_collect::SinkSets;
+use std::marker::Model;
+
+/// The most events of a turn.
+pub const MOST_EVENTS: u32 = 1024;
+
+/// What is left of a node that is done.
+#[derive(Drop)]
+pub struct Finished {
+    /// The number of its epoch.
+    pub number: u32,
+    /// The rows of the epoch's sinks, unless the node is broken.
+    pub sets: Result<SinkSets, Broken>,
+    /// What it asked the node before it.
+    pub asked: Asked,
+    /// How many events moved.
+    pub events: u64,
+    pub ends: Ends,
+}
+
+/// An epoch's node. Contracts see what it was given, how far it has come, and its ends.
+#[derive(Drop)]
+pub struct Node<'a, G> {
+    core: Core<'a, G>,
+    ends: Ends,
+}
+
+impl<'a, G> Model for Node<'a, G> {
+    ghost use Rattle.epoch_node.specs.Cores.{core_of};
+    ghost use Rattle.epoch_node.specs.Keeping.{KeepsCore};
+    ghost use Rattle.epoch_node.specs.Nodes.{NodeView, node_of, told_by};
+
+    ghost Value = { NodeView };
+
+    ghost view = { λ n. node_of (core_of n.core) n.ends };
+
+    ghost invariant = { λ n. KeepsCore (core_of n.core) (told_by n.ends) };
+}
+
+impl<'a, G> Node<'a, G> {
+    /// A node of a core that hasn't begun, and of new ends: none to a node before the first, and none to a node behind the
+    /// last.
+    pub fn new(core: Core<'a, G>, ends: Ends) -> Node<'a, G>
+        requires fresh { core_of core ≡ new_core (core_of core).given }
+        requires starts { CanStart (core_of core).given.points (core_of core).given.epoch }
+        requires ends { told_by ends ≡ fresh_told (core_of core).given.first (core_of core).given.last }
+        ensures { result ≡ new_node (core_of core.entry).given ends }
+    {
+        Node { core, ends }
+    }
+
+    /// What is true of each node that is not broken: it has sent a part of what is to be sent for what it got.
+    pub fn form(&self)
+        ensures { self.now.whole ≡ true → SendsDue self.now }
+    {
+        // what is known of the fields is known from their first use on
+        let _ends = &self.ends;
+    }
+
+    fn is_fresh(&self) -> bool {
+        self.core.phase() == Phase::Fresh
+    }
+
+    fn gate(&self) -> &'a G {
+        self.core.gate()
+    }
+
+    // One event. A node that begins has entered the gate.
+    fn step(&mut self) -> Turn
+        ensures led { IsLedFrom self.new self.old }
+        ensures done { AnswersEnded result (self.new.phase ≡ Phase.Done) }
+        ensures not_yet { WhenNotYet result (HasWaited self.new self.old) }
+        ensures counted { self.new.events ≡ counted result self.old.phase self.old.events }
+    {
+        let Node { core, ends } = self;
+        let Ends {
+            ask_in,
+            ask_out,
+            answer_in,
+            answer_out,
+        } = ends;
+        match core.phase() {
+            Phase::Fresh => core.step(ask_in, ask_out),
+            Phase::Asking => core.step(ask_in, ask_out),
+            Phase::Answering => core.step(answer_in, answer_out),
+            Phase::Done => Turn::Done,
+        }
+    }
+
+    // At most [`MOST_EVENTS`] events. A node that begins has entered the gate.
+    fn steps(&mut self) -> Turn
+        ensures led { IsLedFrom self.new self.old }
+        ensures few { self.new.events ≤ self.old.events + MOST_EVENTS }
+        ensures done { AnswersEnded result (self.new.phase ≡ Phase.Done) }
+        ensures not_yet { WhenNotYet result (HasWaited self.new self.old) }
+    {
+        if self.core.phase() == Phase::Done {
+            return Turn::Done;
+        }
+        let mut moved = false;
+        for event in 0..MOST_EVENTS {
+            match self.step() {
+                Turn::Moved => moved = true,
+                Turn::NotYet => return if moved { Turn::Moved } else { Turn::NotYet },
+                Turn::Done => return Turn::Done,
+            }
+        }
+        Turn::Moved
+    }
+
+    /// What is left of a node that is done.
+    pub fn finish(self) -> Finished
+        requires { self.phase ≡ Phase.Done }
+        ensures number { result.number ≡ self.entry.given.epoch.number }
+        ensures events { result.events ≡ self.entry.events }
+        ensures ends { result.ends ≡ self.entry.ends }
+        ensures asked { result.asked ≡ self.entry.asked }
+        ensures whole { is_ok result.sets ≡ self.entry.whole }
+        ensures done { IfOk result.sets (λ rows. HasDone self.entry.given (told_by self.entry.ends) result.asked rows) }
+    {
+        let Node { core, ends } = self;
+        let number = core.number();
+        let events = core.events();
+        let (sets, asked) = core.into_result();
+        Finished {
+            number,
+            sets,
+            asked,
+            events,
+            ends,
+        }
+    }
+}
+
+impl<'a, G: Gate> Task for Node<'a, G> {
+    ghost use Rattle.std.specs.Prelude.{◌≡◌, ◌+◌, ◌≤◌};
+    ghost use Rattle.epoch_node.specs.declared.stage.Phase.TheVariants.{Done};
+    ghost use Rattle.run_board.specs.Turns.{AnswersEnded};
+    ghost use Rattle.epoch_node.specs.Events.{WhenNotYet};
+    ghost use Rattle.epoch_node.specs.Nodes.{IsLedFrom, HasWaited, led_refl, led_trans};
+
+    ghost words = { record {
+      number = λ n. n.given.epoch.number;
+      led_from = IsLedFrom;
+      ended = λ n. n.phase ≡ Done;
+    } };
+
+    fn number(&self) -> u32 {
+        self.core.number()
+    }
+
+    /// At most [`MOST_EVENTS`] events. It is NotYet only where no event moved, and the one link that the next event needs
+    /// refused in this call.
+    fn turn(&mut self) -> Turn
+        ensures led { IsLedFrom self.new self.old }
+        ensures number { self.new.given.epoch.number ≡ self.old.given.epoch.number }
+        ensures few { self.new.events ≤ self.old.events + MOST_EVENTS }
+        ensures done { AnswersEnded result (self.new.phase ≡ Done) }
+        ensures not_yet { WhenNotYet result (HasWaited self.new self.old) }
+    {
+        if self.is_fresh() {
+            self.gate().enter(self.number());
+        }
+        self.steps()
+    }
+
+    ghost reflexive = { led_refl };
+
+    ghost transitive = { led_trans };
+}

@@ -1,0 +1,230 @@
+//! A node without its ends.
+
+ghost use Rattle.std.specs.Prelude.{◌≡◌, option_map, is_ok, IfOk};
+ghost use Rattle.run_board.specs.Turns.{AnswersEnded};
+ghost use Rattle.pass_parts.specs.Ends.{IsEndFrom, IsRefused};
+ghost use Rattle.pass_parts.specs.Turns.{OnNotYet, Waits};
+ghost use Rattle.epoch_node.specs.Cores.{core_of, new_core, phase_of, whole_at, asked_at, CanStart};
+ghost use Rattle.epoch_node.specs.Keeping.{Told, KeepsCore, HasDone, fresh_told};
+ghost use Rattle.epoch_node.specs.Events.{IsReady, StillKeeps, Steps, need_at, WhenNotYet, counted, one_more, IsMore, CanAct, Acts, CanAdvance, Advances};
+
+use crate::beginning::begin;
+use crate::settling::settle;
+use crate::stage::{Phase, Stage};
+use checkpoints::Checkpoints;
+use epoch_cut::EpochTicket;
+use epoch_link::{Inlet, Outlet};
+use flow_rule::Message;
+use local_taint::Asked;
+use no_memory::NoMemory;
+use outer_io::Gate;
+use pass_parts::PassTurn;
+use query_lang::Query;
+use run_board::Turn;
+use sink_collect::SinkSets;
+use std::alloc::Global;
+use std::mem;
+
+/// A growth was refused in the node, or in another one that told of it.
+#[derive(Clone, Copy, Debug, PartialEq, Eq)]
+pub struct Broken;
+
+/// What a node is without its ends: its epoch, and how far it has come.
+#[derive(Drop)]
+pub struct Core<'a, G> {
+    alloc: Global,
+    checkpoints: &'a Checkpoints<'a>,
+    query: &'a Query,
+    gate: &'a G,
+    number: u32,
+    // The steps of the epoch, as its ticket has them.
+    first_step: u64,
+    past_last: u64,
+    // There is no node before it, and none behind it.
+    first: bool,
+    last: bool,
+    // How many events moved.
+    events: u64,
+    // The passes are large, and a node is moved often.
+    stage: Box<Stage>,
+}
+
+impl<'a, G> Core<'a, G> {
+    /// A core that hasn't begun. It gives up with NoMemory alone.
+    pub fn new(
+        alloc: Global,
+        ticket: EpochTicket,
+        checkpoints: &'a Checkpoints<'a>,
+        query: &'a Query,
+        gate: &'a G,
+        first: bool,
+        last: bool,
+    ) -> Result<Core<'a, G>, NoMemory>
+        requires { CanStart checkpoints.now ticket }
+        ensures made { IfOk result (λ core. core_of core ≡ new_core (record { points = checkpoints.now; query = query.now; epoch = ticket; first = first; last = last })) }
+        ensures keeps { IfOk result (λ core. KeepsCore (core_of core) (fresh_told first last)) }
+    {
+        let number = ticket.number();
+        let first_step = ticket.first();
+        let past_last = ticket.past_last();
+        Ok(Core {
+            alloc,
+            checkpoints,
+            query,
+            gate,
+            number,
+            first_step,
+            past_last,
+            first,
+            last,
+            events: 0,
+            stage: Box::new(alloc, Stage::Fresh(ticket))?,
+        })
+    }
+
+    /// The number of its epoch: 0 for the first.
+    pub fn number(&self) -> u32
+        ensures { result ≡ (core_of self.now).given.epoch.number }
+    {
+        self.number
+    }
+
+    /// How far it has come.
+    pub fn phase(&self) -> Phase
+        ensures { result ≡ phase_of (core_of self.now).stage }
+    {
+        self.stage.phase()
+    }
+
+    /// How many events moved so far. The count stands still at its last value.
+    pub fn events(&self) -> u64
+        ensures { result ≡ (core_of self.now).events }
+    {
+        self.events
+    }
+
+    /// The gate that it enters as it begins.
+    pub(crate) fn gate(&self) -> &'a G {
+        self.gate
+    }
+
+    /// One event more.
+    fn count(&mut self)
+        ensures { self.new ≡ record self.old { events = one_more self.old.events } }
+    {
+        self.events = self.events.saturating_add(1);
+    }
+
+    /// Goes on to the next phase.
+    fn advance(&mut self)
+        requires { CanAdvance (core_of self.old).given (core_of self.old).stage }
+        ensures advances { Advances (core_of self.old).given (core_of self.old).stage (core_of self.new).stage }
+        ensures given { (core_of self.new).given ≡ (core_of self.old).given }
+        ensures events { (core_of self.new).events ≡ (core_of self.old).events }
+    {
+        let next = match mem::replace(&mut *self.stage, Stage::Between) {
+            Stage::Fresh(ticket) => Stage::Asking(begin(
+                self.alloc,
+                ticket,
+                self.checkpoints,
+                self.query,
+                self.first,
+                self.last,
+            )),
+            Stage::Asking(back) => {
+                Stage::Answering(settle(self.alloc, back, self.first, self.last))
+            }
+            Stage::Answering(fore) => Stage::Done(fore),
+            Stage::Done(_) => unreachable!(),
+            Stage::Between => unreachable!(),
+        };
+        *self.stage = next;
+    }
+
+    /// One event. A core that begins has entered the gate.
+    pub(crate) fn step<I: Inlet<Message>, O: Outlet<Message>>(
+        &mut self,
+        inlet: &mut Option<I>,
+        outlet: &mut Option<O>,
+    ) -> Turn
+        requires ready { IsReady (core_of self.old) (option_map I.got inlet.old) (option_map O.sent outlet.old) }
+        ensures event { Steps (core_of self.old).given (core_of self.old).stage (option_map I.got inlet.old) (option_map O.sent outlet.old) (core_of self.new).stage (option_map I.got inlet.new) (option_map O.sent outlet.new) }
+        ensures keeps { StillKeeps (core_of self.old) (option_map I.got inlet.old) (option_map O.sent outlet.old) (core_of self.new) (option_map I.got inlet.new) (option_map O.sent outlet.new) }
+        ensures given { (core_of self.new).given ≡ (core_of self.old).given }
+        ensures got { IsMore (option_map I.got inlet.old) (option_map I.got inlet.new) }
+        ensures sent { IsMore (option_map O.sent outlet.old) (option_map O.sent outlet.new) }
+        ensures inlet { IsEndFrom I.link I.capacity I.other inlet.new inlet.old }
+        ensures outlet { IsEndFrom O.link O.capacity O.other outlet.new outlet.old }
+        ensures done { AnswersEnded result (phase_of (core_of self.new).stage ≡ Phase.Done) }
+        ensures not_yet { WhenNotYet result ((core_of self.new ≡ core_of self.old) × (option_map I.got inlet.new ≡ option_map I.got inlet.old) × (option_map O.sent outlet.new ≡ option_map O.sent outlet.old)) }
+        ensures waits { WhenNotYet result (Waits (need_at (core_of self.old).stage (option_map I.got inlet.old) (option_map O.sent outlet.old)) (IsRefused I.refusals I.ready inlet.old inlet.new) (IsRefused O.refusals O.ready outlet.old outlet.new)) }
+        ensures counted { (core_of self.new).events ≡ counted result (phase_of (core_of self.old).stage) (core_of self.old).events }
+    {
+        if self.phase() == Phase::Done {
+            return Turn::Done;
+        }
+        match self.stage.act(inlet, outlet) {
+            PassTurn::Moved => {
+                self.count();
+                Turn::Moved
+            }
+            PassTurn::NotYet => Turn::NotYet,
+            PassTurn::Over => {
+                self.advance();
+                self.count();
+                if self.phase() == Phase::Done {
+                    Turn::Done
+                } else {
+                    Turn::Moved
+                }
+            }
+        }
+    }
+
+    /// The rows of the epoch's sinks, unless the core is broken, and what it asked. It takes no memory.
+    pub fn into_result(self) -> (Result<SinkSets, Broken>, Asked)
+        requires { phase_of (core_of self).stage ≡ Phase.Done }
+        ensures whole { is_ok result.0 ≡ whole_at (core_of self.entry).stage }
+        ensures asked { result.1 ≡ asked_at (core_of self.entry).stage }
+        ensures done { (w : Told) → KeepsCore (core_of self.entry) w → IfOk result.0 (λ rows. HasDone (core_of self.entry).given w result.1 rows) }
+    {
+        let alloc = self.alloc;
+        let Stage::Done(fore) = Box::into_inner(self.stage) else {
+            return (Err(Broken), Asked::new(alloc));
+        };
+        let whole = fore.whole();
+        let (sets, asked) = fore.into_sets();
+        if !whole {
+            return (Err(Broken), asked);
+        }
+        (Ok(sets), asked)
+    }
+}
+
+impl<'a, G: Gate> Core<'a, G> {
+    /// One event, with the inlet and the outlet of its phase: those of the asks, and then those of the answers. It is
+    /// NotYet only where the one link that the event needs refused in this call, and then nothing else changed.
+    pub fn event<I: Inlet<Message>, O: Outlet<Message>>(
+        &mut self,
+        inlet: &mut Option<I>,
+        outlet: &mut Option<O>,
+    ) -> Turn
+        requires ready { IsReady (core_of self.old) (option_map I.got inlet.old) (option_map O.sent outlet.old) }
+        ensures event { Steps (core_of self.old).given (core_of self.old).stage (option_map I.got inlet.old) (option_map O.sent outlet.old) (core_of self.new).stage (option_map I.got inlet.new) (option_map O.sent outlet.new) }
+        ensures keeps { StillKeeps (core_of self.old) (option_map I.got inlet.old) (option_map O.sent outlet.old) (core_of self.new) (option_map I.got inlet.new) (option_map O.sent outlet.new) }
+        ensures given { (core_of self.new).given ≡ (core_of self.old).given }
+        ensures got { IsMore (option_map I.got inlet.old) (option_map I.got inlet.new) }
+        ensures sent { IsMore (option_map O.sent outlet.old) (option_map O.sent outlet.new) }
+        ensures inlet { IsEndFrom I.link I.capacity I.other inlet.new inlet.old }
+        ensures outlet { IsEndFrom O.link O.capacity O.other outlet.new outlet.old }
+        ensures done { AnswersEnded result (phase_of (core_of self.new).stage ≡ Phase.Done) }
+        ensures not_yet { WhenNotYet result ((core_of self.new ≡ core_of self.old) × (option_map I.got inlet.new ≡ option_map I.got inlet.old) × (option_map O.sent outlet.new ≡ option_map O.sent outlet.old)) }
+        ensures waits { WhenNotYet result (Waits (need_at (core_of self.old).stage (option_map I.got inlet.old) (option_map O.sent outlet.old)) (IsRefused I.refusals I.ready inlet.old inlet.new) (IsRefused O.refusals O.ready outlet.old outlet.new)) }
+        ensures counted { (core_of self.new).events ≡ counted result (phase_of (core_of self.old).stage) (core_of self.old).events }
+    {
+        if self.phase() == Phase::Fresh {
+            self.gate.enter(self.number);
+        }
+        self.step(inlet, outlet)
+    }
+}

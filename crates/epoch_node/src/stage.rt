@@ -1,0 +1,74 @@
+//! How far a node has come.
+
+ghost use Rattle.std.specs.Prelude.{◌≡◌, option_map};
+ghost use Rattle.pass_parts.specs.Ends.{IsEndFrom, IsRefused};
+ghost use Rattle.pass_parts.specs.Turns.{OnNotYet, Waits};
+ghost use Rattle.epoch_node.specs.Cores.{stage_of, phase_of};
+ghost use Rattle.epoch_node.specs.Events.{CanAct, Acts, need_at};
+
+use backward_pass::Back;
+use epoch_cut::EpochTicket;
+use epoch_link::{Inlet, Outlet};
+use flow_rule::Message;
+use forward_pass::Fore;
+use pass_parts::PassTurn;
+
+/// The phase of a node.
+#[derive(Clone, Copy, Debug, PartialEq, Eq)]
+pub enum Phase {
+    /// It hasn't begun.
+    Fresh,
+    /// It asks the node before it for what its epoch needs.
+    Asking,
+    /// It answers the node behind it.
+    Answering,
+    /// Its last End is sent.
+    Done,
+}
+
+/// The phase, with what a node has then.
+#[derive(Drop)]
+pub enum Stage {
+    Fresh(EpochTicket),
+    Asking(Back),
+    Answering(Fore),
+    Done(Fore),
+    /// For the time of an event alone.
+    Between,
+}
+
+impl Stage {
+    /// The phase of the stage.
+    pub fn phase(&self) -> Phase
+        ensures { result ≡ phase_of (stage_of self.now) }
+    {
+        match self {
+            Stage::Fresh(_) => Phase::Fresh,
+            Stage::Asking(_) => Phase::Asking,
+            Stage::Answering(_) => Phase::Answering,
+            Stage::Done(_) => Phase::Done,
+            Stage::Between => Phase::Done,
+        }
+    }
+
+    /// The event of the pass that runs. Before there is one, it counts as over.
+    pub(crate) fn act<I: Inlet<Message>, O: Outlet<Message>>(
+        &mut self,
+        inlet: &mut Option<I>,
+        outlet: &mut Option<O>,
+    ) -> PassTurn
+        requires { CanAct (stage_of self.old) (option_map I.got inlet.old) (option_map O.sent outlet.old) }
+        ensures acts { Acts (stage_of self.old) (option_map I.got inlet.old) (option_map O.sent outlet.old) (stage_of self.new) (option_map I.got inlet.new) (option_map O.sent outlet.new) result }
+        ensures inlet { IsEndFrom I.link I.capacity I.other inlet.new inlet.old }
+        ensures outlet { IsEndFrom O.link O.capacity O.other outlet.new outlet.old }
+        ensures waits { OnNotYet result (Waits (need_at (stage_of self.old) (option_map I.got inlet.old) (option_map O.sent outlet.old)) (IsRefused I.refusals I.ready inlet.old inlet.new) (IsRefused O.refusals O.ready outlet.old outlet.new)) }
+    {
+        match self {
+            Stage::Fresh(_) => PassTurn::Over,
+            Stage::Asking(back) => back.event(inlet, outlet),
+            Stage::Answering(fore) => fore.event(inlet, outlet),
+            Stage::Done(_) => unreachable!(),
+            Stage::Between => unreachable!(),
+        }
+    }
+}
