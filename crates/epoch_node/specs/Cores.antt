@@ -3,7 +3,7 @@ use Rattle.std.specs.Prelude.{◌≡◌, ℕ, ◌≤◌, Bool, true, false, Some
 use Rattle.log_model.specs.Logs.{steps}
 use Rattle.flow_model.specs.declared.Loc.{Loc}
 use Rattle.report_model.specs.Query.{Query}
-use Rattle.epoch_cut.specs.ByLength.{NumberedEpoch}
+use Rattle.epoch_cut.specs.Numbered.{NumberedEpoch}
 use Rattle.checkpoints.specs.Points.{CheckpointsAt}
 use Rattle.backward_pass.specs.Backward.{BackView, back_of}
 use Rattle.forward_pass.specs.Forward.{ForeView, fore_of}
