@@ -173,28 +173,37 @@ const CASES: &[Case] = &[
     },
 ];
 
+/// The most bytes that a log or a query has.
+const LONGEST_TEXT: usize = 67_108_864;
+
 /// A program's file with a log of its run.
-fn job_of(alloc: Global, file: &[u8], log: &[u8]) -> Result<Job, Fail> {
+fn job_of(rt: &impl Abort, alloc: Global, file: &[u8], log: &[u8]) -> Result<Job, Fail> {
     let image = load(alloc, file)?;
     let mut bytes = Vec::new(alloc);
     bytes.extend_from_slice(b"JETLOG1\n")?;
     bytes.extend_from_slice(&Sha256::digest(file))?;
     bytes.extend_from_slice(log)?;
+    if bytes.len() > LONGEST_TEXT {
+        rt.abort()
+    }
     let log = read_log(alloc, &bytes)?;
     Ok(Job::check(alloc, file, image, log)?)
 }
 
-/// Whether these addresses, and no other location, were asked for at the cuts from the first on.
+/// Whether these addresses, and no other location, were asked for.
+fn assert_asked(rt: &impl Abort, asked: &[Loc], places: &[u32]) {
+    assert_eq!(rt; asked.len(), places.len());
+    for (loc, place) in asked.iter().zip(places) {
+        assert_eq!(rt; *loc, Loc::Mem { place: *place });
+    }
+}
+
+/// Whether these addresses were asked for at the cuts from the first on.
 fn assert_crossings(rt: &impl Abort, found: &[Crossed], expected: &[&[u32]]) {
     assert_eq!(rt; found.len(), expected.len());
-    let mut cut = 0;
-    for (crossed, places) in found.iter().zip(expected) {
-        cut += 1;
-        assert_eq!(rt; crossed.cut(), cut);
-        assert_eq!(rt; crossed.asked().len(), places.len());
-        for (loc, place) in crossed.asked().iter().zip(*places) {
-            assert_eq!(rt; *loc, Loc::Mem { place: *place });
-        }
+    for k in 0..expected.len().min(found.len()) {
+        assert_eq!(rt; found[k].cut() as usize, k + 1);
+        assert_asked(rt, found[k].asked(), expected[k]);
     }
 }
 
@@ -222,10 +231,11 @@ fn assert_case<R: Threads + Wait + Abort + Sync>(
     rt: &R,
     alloc: Global,
     case: &Case,
-) -> Result<(), Fail>
-    requires { 1 ≤ case.now.length }
-{
-    let job = job_of(alloc, &program(alloc, case.run.code)?, case.run.log)?;
+) -> Result<(), Fail> {
+    if case.length < 1 || case.query.len() > LONGEST_TEXT {
+        rt.abort()
+    }
+    let job = job_of(rt, alloc, &program(alloc, case.run.code)?, case.run.log)?;
     let wanted = parse(alloc, case.query)?;
     let found = assert_reports(rt, alloc, &job, &wanted, case.length, case.report)?;
     assert_crossings(rt, &found, case.crossings);
@@ -297,7 +307,7 @@ fn copied_many(alloc: Global) -> Result<(Vec<u8>, String), Fail> {
 fn a_long_run_is_followed_by_epochs(rt: HostRuntime) -> Result<(), Fail> {
     let alloc = rt.alloc();
     let (log, report) = copied_many(alloc)?;
-    let job = job_of(alloc, &program(alloc, COPY_MANY)?, &log)?;
+    let job = job_of(&rt, alloc, &program(alloc, COPY_MANY)?, &log)?;
     let wanted = parse(alloc, COPY)?;
     assert_eq!(rt; job.steps(), 25015);
     let found = assert_reports(&rt, alloc, &job, &wanted, 1000, &report)?;
