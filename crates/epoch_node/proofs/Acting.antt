@@ -54,7 +54,7 @@ more_sent o w p x None (Some new) n g = no (sym n)
 more_sent o w p x (Some old) None n g = no n
 more_sent o w p x (Some old) (Some new) n g = g
 
-unsent_yet : (o w b : Bool) → o ≡ false → sent_by o w (fresh_end b) ≡ []
+pub unsent_yet : (o w b : Bool) → o ≡ false → sent_by o w (fresh_end b) ≡ []
 unsent_yet true w b e = no e
 unsent_yet false w true e = refl
 unsent_yet false w false e = refl

@@ -2,3 +2,4 @@ mod Noted
 mod Acting
 mod Stepping
 mod NodeSteps
+mod Alike

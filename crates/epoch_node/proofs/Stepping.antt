@@ -1,15 +1,19 @@
 -- What an event of a core keeps.
-use Rattle.std.proofs.Common.{◌≡◌, List, ap, ap₂, sym, subst, subst₂, ◌∙◌, false}
+use Rattle.std.proofs.Common.{refl, ◌≡◌, List, ap, ap₂, sym, subst, subst₂, ◌∙◌, false}
 use Rattle.std.specs.Prelude.{Option, is_none}
 use Rattle.flow_rule.specs.declared.Message.{Message}
 use Rattle.pass_parts.specs.declared.pass_turn.PassTurn.{PassTurn}
 use Rattle.pass_parts.specs.declared.pass_turn.PassTurn.TheVariants as pass_turn
+use Rattle.run_board.specs.declared.task.Turn.TheVariants as turn
+use Rattle.pass_parts.specs.Ends.{fresh_end}
 use Rattle.pass_parts.specs.Turns.{OnOpen}
+use Rattle.backward_pass.specs.Backward.{state}
+use Rattle.epoch_node.specs.declared.stage.Phase.TheVariants as phase
 use Rattle.epoch_node.specs.declared.stage.Stage.{Stage}
-use Rattle.epoch_node.specs.Cores.{Given, stage_of, StageView, Fresh, Asking, Answering, Done, Between, CoreView}
+use Rattle.epoch_node.specs.Cores.{Given, stage_of, StageView, Fresh, Asking, Answering, Done, Between, CoreView, phase_of}
 use Rattle.epoch_node.specs.Keeping.{Told, fresh_told, HasLinks, AtStage, KeepsCore}
-use Rattle.epoch_node.specs.Events.{got_at, sent_at, told_at, IsReady, StillKeeps, IsMore, Acts, Advances}
-use Rattle.epoch_node.proofs.Acting.{more_still, begun_asking, asks_got_more, asks_sent_more, still_asking, begins_to_answer, answers_got_more, answers_sent_more, still_answering}
+use Rattle.epoch_node.specs.Events.{got_at, sent_at, told_at, IsReady, StillKeeps, IsMore, settled_by, Steps, Acts, Advances}
+use Rattle.epoch_node.proofs.Acting.{begins_state, more_still, begun_asking, asks_got_more, asks_sent_more, still_asking, begins_to_answer, answers_got_more, answers_sent_more, still_answering}
 
 pub acts_of : {s t : Stage} → s ≡ t → (next : StageView) (got sent got' sent' : Option (List Message)) (turn : PassTurn)
     → Acts (stage_of s) got sent next got' sent' turn → Acts (stage_of t) got sent next got' sent' turn
@@ -79,21 +83,54 @@ more_sent_at i (Answering f) next w got' sent' turn n at x = answers_sent_more i
 more_sent_at i (Done f) next w got' sent' turn n at x = absurd x
 more_sent_at i Between next w got' sent' turn n at x = absurd x
 
+-- the event in which a node begins, or its pass backwards is over
+over_steps : (i : Given) (s next after : StageView) (w : Told) (got' sent' : Option (List Message)) → (phase_of after ≡ phase.Done → ⊥)
+    → AtStage i s w → Acts s (got_at s w) (sent_at s w) next got' sent' pass_turn.Over → Advances i next after → Steps i s (got_at s w) (sent_at s w) after got' sent' turn.Moved
+over_steps i (Fresh t) next after w got' sent' n at x a =
+    let y = subst (λ n. Advances i n after) x.0 a in
+    record {
+      back = y.back;
+      is = y.is;
+      begins = ap₂ (state y.back) (x.1 ∙ ap (λ w. w.asks_got) at.2) (x.2 ∙ ap (λ w. w.asks_sent) at.2) ∙ ap (λ v. state v (fresh_end i.last) (fresh_end i.first)) y.begun.new ∙ begins_state y.back.summary i.first i.last;
+      got_same = x.1;
+      sent_same = x.2;
+      answered = refl;
+    }
+over_steps i (Asking v) next after w got' sent' n at x a =
+    let y = subst (λ n. Advances i n after) x.is a in
+    record {
+      back = x.back;
+      came_to = pass_turn.Over;
+      happens = x.happens;
+      same = x.same;
+      requested = x.keeps.requested;
+      is = y.is ∙ ap Answering y.settled.new ∙ sym (ap (λ o. settled_by o i x.back) x.over);
+      answered = refl;
+    }
+over_steps i (Answering f) next after w got' sent' n at x a = absurd (n (ap phase_of (subst (λ n. Advances i n after) x.is a)))
+over_steps i (Done f) next after w got' sent' n at x a = absurd x
+over_steps i Between next after w got' sent' n at x a = absurd x
+
 -- ---- the same of a core whose links of its phase are these
 
-module _ (c : CoreView) (next : StageView) (got sent got' sent' : Option (List Message)) (turn : PassTurn) (x : Acts c.stage got sent next got' sent' turn) where
-  acts_at : (w : Told) → got_at c.stage w ≡ got → sent_at c.stage w ≡ sent → Acts c.stage (got_at c.stage w) (sent_at c.stage w) next got' sent' turn
-  acts_at w g s = subst₂ (λ a b. Acts c.stage a b next got' sent' turn) (sym g) (sym s) x
+module _ (c : CoreView) (next : StageView) (got sent got' sent' : Option (List Message)) (came_to : PassTurn) (x : Acts c.stage got sent next got' sent' came_to) where
+  acts_at : (w : Told) → got_at c.stage w ≡ got → sent_at c.stage w ≡ sent → Acts c.stage (got_at c.stage w) (sent_at c.stage w) next got' sent' came_to
+  acts_at w g s = subst₂ (λ a b. Acts c.stage a b next got' sent' came_to) (sym g) (sym s) x
 
   pub core_got_more : is_none got' ≡ is_none got → IsReady c got sent → IsMore got got'
   core_got_more n r =
       subst (λ g. IsMore g got') r.got_is
-      (more_got_at c.given c.stage next r.told got' sent' turn (n ∙ ap is_none (sym r.got_is)) r.keeps.stage (acts_at r.told r.got_is r.sent_is))
+      (more_got_at c.given c.stage next r.told got' sent' came_to (n ∙ ap is_none (sym r.got_is)) r.keeps.stage (acts_at r.told r.got_is r.sent_is))
 
   pub core_sent_more : is_none sent' ≡ is_none sent → IsReady c got sent → IsMore sent sent'
   core_sent_more n r =
       subst (λ s. IsMore s sent') r.sent_is
-      (more_sent_at c.given c.stage next r.told got' sent' turn (n ∙ ap is_none (sym r.sent_is)) r.keeps.stage (acts_at r.told r.got_is r.sent_is))
+      (more_sent_at c.given c.stage next r.told got' sent' came_to (n ∙ ap is_none (sym r.sent_is)) r.keeps.stage (acts_at r.told r.got_is r.sent_is))
+
+  pub core_steps_over : (after : StageView) → came_to ≡ pass_turn.Over → (phase_of after ≡ phase.Done → ⊥) → Advances c.given next after → IsReady c got sent → Steps c.given c.stage got sent after got' sent' turn.Moved
+  core_steps_over after o n a r =
+      subst₂ (λ g s. Steps c.given c.stage g s after got' sent' turn.Moved) r.got_is r.sent_is
+      (over_steps c.given c.stage next after r.told got' sent' n r.keeps.stage (subst (Acts c.stage (got_at c.stage r.told) (sent_at c.stage r.told) next got' sent') o (acts_at r.told r.got_is r.sent_is)) a)
 
   module _ (no_got : is_none got' ≡ is_none got) (no_sent : is_none sent' ≡ is_none sent) (d : CoreView) (same : d.given ≡ c.given) where
     keeps_at : (w : Told) → got_at c.stage w ≡ got → sent_at c.stage w ≡ sent → KeepsCore c w → AtStage c.given d.stage (told_at c.stage got' sent' w) → KeepsCore d (told_at c.stage got' sent' w)
@@ -104,12 +141,12 @@ module _ (c : CoreView) (next : StageView) (got sent got' sent' : Option (List M
           stage = subst (λ i. AtStage i d.stage (told_at c.stage got' sent' w)) (sym same) at;
         }
 
-    pub keeps_open : IsOpenTurn turn → d.stage ≡ next → StillKeeps c got sent d got' sent'
+    pub keeps_open : IsOpenTurn came_to → d.stage ≡ next → StillKeeps c got sent d got' sent'
     keeps_open o is = λ w g s k.
         keeps_at w g s k
-        (subst (λ n. AtStage c.given n (told_at c.stage got' sent' w)) (sym is) (open_at c.given c.stage next w got' sent' turn o k.stage (acts_at w g s)))
+        (subst (λ n. AtStage c.given n (told_at c.stage got' sent' w)) (sym is) (open_at c.given c.stage next w got' sent' came_to o k.stage (acts_at w g s)))
 
-    pub keeps_over : turn ≡ pass_turn.Over → Advances c.given next d.stage → StillKeeps c got sent d got' sent'
+    pub keeps_over : came_to ≡ pass_turn.Over → Advances c.given next d.stage → StillKeeps c got sent d got' sent'
     keeps_over o a = λ w g s k.
         keeps_at w g s k
         (over_at c.given c.stage next d.stage w got' sent' k.stage (subst (Acts c.stage (got_at c.stage w) (sent_at c.stage w) next got' sent') o (acts_at w g s)) a)

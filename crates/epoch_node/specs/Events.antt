@@ -2,6 +2,7 @@
 use Rattle.std.specs.Prelude.{◌≡◌, ℕ, ◌+◌, ◌-◌, ◌^◌, min, Bool, true, false, Option, Some, None, is_none, List}
 use Rattle.flow_model.specs.declared.Loc.{Loc}
 use Rattle.flow_rule.specs.declared.Message.{Message}
+use Rattle.stream_model.specs.Streams.{requests}
 use Rattle.stream_model.specs.StreamLaws.{IsPrefix}
 use Rattle.stream_model.specs.Schedules.{Need, begun, asking_need, answering_need}
 use Rattle.stream_model.specs.Schedules as need
@@ -9,6 +10,8 @@ use Rattle.run_board.specs.declared.task.Turn.{Turn}
 use Rattle.run_board.specs.declared.task.Turn.TheVariants as turn
 use Rattle.pass_parts.specs.declared.pass_turn.PassTurn.{PassTurn}
 use Rattle.pass_parts.specs.declared.pass_turn.PassTurn.TheVariants as pass_turn
+use Rattle.pass_parts.specs.Ends.{got_by}
+use Rattle.pass_parts.specs.Requests.{locations}
 use Rattle.pass_parts.specs.Turns.{OnOver, OnOpen, OnNotYet}
 use Rattle.backward_pass.specs.Backward.{BackView, knows, state, Keeps, Reached, SendsFor, IsSameBack, Happens}
 use Rattle.forward_pass.specs.Forward.{ForeView, new_fore, known_by, fore_state, ForeKeeps, ForeReached, ForeSends, IsSameFore, ForeHappens}
@@ -65,34 +68,61 @@ abbrev pub answered_by : Bool → ForeView → StageView
 answered_by true f = Done f
 answered_by false f = Answering f
 
+-- the answer of the event in which a pass came to this: its node goes on after the pass backwards, and is done after the
+-- pass forwards
+abbrev pub asks_turn : PassTurn → Turn
+asks_turn pass_turn.Moved = turn.Moved
+asks_turn pass_turn.NotYet = turn.NotYet
+asks_turn pass_turn.Over = turn.Moved
+
+abbrev pub answers_turn : PassTurn → Turn
+answers_turn pass_turn.Moved = turn.Moved
+answers_turn pass_turn.NotYet = turn.NotYet
+answers_turn pass_turn.Over = turn.Done
+
 -- the epoch is analysed, and the pass backwards begins, broken where a growth was refused
-pub record Begins (i : Given) (next : StageView) (got sent : Option (List Message)) : Type 0 where
+pub record Begins (i : Given) (got sent : Option (List Message)) (next : StageView) (got' sent' : Option (List Message)) (answer : Turn) : Type 0 where
   pub back : BackView
   pub is : next ≡ Asking back
-  pub begins : state back got sent ≡ begun (is_none back.summary) i.last (knows back)
+  pub begins : state back got' sent' ≡ begun (is_none back.summary) i.last (knows back)
+  pub got_same : got' ≡ got
+  pub sent_same : sent' ≡ sent
+  pub answered : answer ≡ turn.Moved
 
 -- an event of the pass backwards
-pub record Asks (i : Given) (v : BackView) (got sent : Option (List Message)) (next : StageView) (got' sent' : Option (List Message)) : Type 0 where
+pub record Asks (i : Given) (v : BackView) (got sent : Option (List Message)) (next : StageView) (got' sent' : Option (List Message)) (answer : Turn) : Type 0 where
   pub back : BackView
-  pub turn : PassTurn
-  pub happens : Happens v got sent back got' sent' turn
+  pub came_to : PassTurn
+  pub happens : Happens v got sent back got' sent' came_to
+  pub same : IsSameBack back v
+  pub requested : back.whole ≡ true → locations back.requests ≡ requests (got_by got')
   pub is : next ≡ settled_by back.over i back
+  pub answered : answer ≡ asks_turn came_to
 
 -- an event of the pass forwards
-pub record Answers (f : ForeView) (got sent : Option (List Message)) (next : StageView) (got' sent' : Option (List Message)) : Type 0 where
+pub record Answers (f : ForeView) (got sent : Option (List Message)) (next : StageView) (got' sent' : Option (List Message)) (answer : Turn) : Type 0 where
   pub fore : ForeView
-  pub turn : PassTurn
-  pub happens : ForeHappens f got sent fore got' sent' turn
+  pub came_to : PassTurn
+  pub happens : ForeHappens f got sent fore got' sent' came_to
+  pub same : IsSameFore fore f
   pub is : next ≡ answered_by fore.over fore
+  pub answered : answer ≡ answers_turn came_to
+
+-- nothing more happens
+pub record Rests (f : ForeView) (got sent : Option (List Message)) (next : StageView) (got' sent' : Option (List Message)) (answer : Turn) : Type 0 where
+  pub is : next ≡ Done f
+  pub got_same : got' ≡ got
+  pub sent_same : sent' ≡ sent
+  pub answered : answer ≡ turn.Done
 
 -- the event is that of the definitions: a node begins, then its pass backwards has events until it is over, then its pass
 -- forwards; then it is done
-abbrev pub Steps : Given → StageView → Option (List Message) → Option (List Message) → StageView → Option (List Message) → Option (List Message) → Type 0
-Steps i (Fresh t) got sent next got' sent' = Begins i next got' sent'
-Steps i (Asking v) got sent next got' sent' = Asks i v got sent next got' sent'
-Steps i (Answering f) got sent next got' sent' = Answers f got sent next got' sent'
-Steps i (Done f) got sent next got' sent' = next ≡ Done f
-Steps i Between got sent next got' sent' = ⊥
+abbrev pub Steps : Given → StageView → Option (List Message) → Option (List Message) → StageView → Option (List Message) → Option (List Message) → Turn → Type 0
+Steps i (Fresh t) got sent next got' sent' answer = Begins i got sent next got' sent' answer
+Steps i (Asking v) got sent next got' sent' answer = Asks i v got sent next got' sent' answer
+Steps i (Answering f) got sent next got' sent' answer = Answers f got sent next got' sent' answer
+Steps i (Done f) got sent next got' sent' answer = Rests f got sent next got' sent' answer
+Steps i Between got sent next got' sent' answer = ⊥
 
 -- what the next event needs
 abbrev pub need_at : StageView → Option (List Message) → Option (List Message) → Need

@@ -4,6 +4,7 @@
 
 mod beginning;
 mod ends;
+pub mod laws;
 mod node;
 mod node_core;
 mod settling;

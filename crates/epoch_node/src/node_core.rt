@@ -148,7 +148,7 @@ impl<'a, G> Core<'a, G> {
         outlet: &mut Option<O>,
     ) -> Turn
         requires ready { IsReady (core_of self.old) (option_map I.got inlet.old) (option_map O.sent outlet.old) }
-        ensures event { Steps (core_of self.old).given (core_of self.old).stage (option_map I.got inlet.old) (option_map O.sent outlet.old) (core_of self.new).stage (option_map I.got inlet.new) (option_map O.sent outlet.new) }
+        ensures event { Steps (core_of self.old).given (core_of self.old).stage (option_map I.got inlet.old) (option_map O.sent outlet.old) (core_of self.new).stage (option_map I.got inlet.new) (option_map O.sent outlet.new) result }
         ensures keeps { StillKeeps (core_of self.old) (option_map I.got inlet.old) (option_map O.sent outlet.old) (core_of self.new) (option_map I.got inlet.new) (option_map O.sent outlet.new) }
         ensures given { (core_of self.new).given ≡ (core_of self.old).given }
         ensures got { IsMore (option_map I.got inlet.old) (option_map I.got inlet.new) }
@@ -210,7 +210,7 @@ impl<'a, G: Gate> Core<'a, G> {
         outlet: &mut Option<O>,
     ) -> Turn
         requires ready { IsReady (core_of self.old) (option_map I.got inlet.old) (option_map O.sent outlet.old) }
-        ensures event { Steps (core_of self.old).given (core_of self.old).stage (option_map I.got inlet.old) (option_map O.sent outlet.old) (core_of self.new).stage (option_map I.got inlet.new) (option_map O.sent outlet.new) }
+        ensures event { Steps (core_of self.old).given (core_of self.old).stage (option_map I.got inlet.old) (option_map O.sent outlet.old) (core_of self.new).stage (option_map I.got inlet.new) (option_map O.sent outlet.new) result }
         ensures keeps { StillKeeps (core_of self.old) (option_map I.got inlet.old) (option_map O.sent outlet.old) (core_of self.new) (option_map I.got inlet.new) (option_map O.sent outlet.new) }
         ensures given { (core_of self.new).given ≡ (core_of self.old).given }
         ensures got { IsMore (option_map I.got inlet.old) (option_map I.got inlet.new) }

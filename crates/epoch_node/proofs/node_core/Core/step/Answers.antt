@@ -1,9 +1,10 @@
-use Rattle.std.proofs.Common.{refl, sym, ap, ◌∙◌, subst}
+use Rattle.std.proofs.Common.{rules, ◌≡◌, refl, sym, ap, ◌∙◌, subst}
 use Rattle.pass_parts.specs.declared.pass_turn.PassTurn.TheVariants.{Moved, NotYet, Over}
-use Rattle.epoch_node.specs.Cores.{stage_of, core_of}
+use Rattle.epoch_node.specs.declared.stage.Phase.TheVariants.{Done}
+use Rattle.epoch_node.specs.Cores.{stage_of, core_of, phase_of}
 use Rattle.epoch_node.specs.Events.{Advances}
 use Rattle.epoch_node.proofs.Acting.{same_none}
-use Rattle.epoch_node.proofs.Stepping.{acts_of, moved_open, not_yet_open, core_got_more, core_sent_more, keeps_open, keeps_over}
+use Rattle.epoch_node.proofs.Stepping.{acts_of, core_steps_over, moved_open, not_yet_open, core_got_more, core_sent_more, keeps_open, keeps_over}
 use Rattle.epoch_node.proofs.node_core.Core.step.Goals as goal
 
 pub returns-in-Moved-clause-keeps : goal.returns-in-Moved-clause-keeps
@@ -70,3 +71,11 @@ pub returns-else-eq-2-clause-sent : goal.returns-else-eq-2-clause-sent
 returns-else-eq-2-clause-sent g c =
     let e = c.in-Over.ensures in
     core_sent_more (core_of c.args.self.now) _ _ _ _ _ Over (acts_of c.deref_mut.ensures.value (stage_of c.act.new.self) _ _ _ _ _ e.acts) (same_none g.O.Outlet.link g.O.Outlet.capacity g.O.Outlet.other g.O.Outlet.sent _ _ e.outlet) c.requires.ready
+
+pub returns-else-eq-2-clause-event : goal.returns-else-eq-2-clause-event
+returns-else-eq-2-clause-event g c =
+    let counted = ap (core_of {G = g.row.G.Denot}) c.count-in-Over.ensures in
+    let after = (core_of c.count-in-Over.new.self).stage in
+    let not_done : phase_of after ≡ Done → ⊥ = search rules in
+    core_steps_over (core_of c.args.self.now) (stage_of c.act.new.self) _ _ _ _ Over (acts_of c.deref_mut.ensures.value (stage_of c.act.new.self) _ _ _ _ _ c.in-Over.ensures.acts)
+    after refl not_done (subst (Advances (core_of c.args.self.now).given (stage_of c.act.new.self)) (sym (ap (λ d. d.stage) counted)) c.advance.ensures.advances) c.requires.ready
