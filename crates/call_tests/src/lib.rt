@@ -22,6 +22,7 @@ mod outside;
 mod queries;
 #[cfg(test)]
 mod reports;
+#[cfg(test)]
 mod runs;
 #[cfg(test)]
 mod sets;
