@@ -23,8 +23,6 @@ mod queries;
 #[cfg(test)]
 mod reports;
 #[cfg(test)]
-mod runs;
-#[cfg(test)]
 mod sets;
 #[cfg(test)]
 mod words;
