@@ -1,5 +1,5 @@
 -- A layout that grows by one node at its end.
-use Rattle.std.proofs.Common.{◌≡◌, ℕ, suc, ◌+◌, Some, None, List, [], ◌∷◌, ◌++◌, length, refl, sym, ap, ap₂, subst, ◌∙◌, arith}
+use Rattle.std.proofs.Common.{◌≡◌, ℕ, Some, None, List, [], ◌∷◌, ◌++◌, length, refl, sym, ap, ap₂, subst, ◌∙◌, arith}
 use Rattle.std.specs.Prelude.{Option, option_map, is_none, slice_get}
 use Rattle.std.specs.List.{AllByRecursion}
 use Rattle.epoch_cut.specs.Numbered.{NumberedEpoch}
@@ -36,11 +36,11 @@ module _ (capacity : ℕ) (run : CutRun) where
       ap (λ points. node_by points e before after) (λ i. record { job = job i; times = times i })
       ∙ ap₂ (node_by (points_of run) e) bs as_
       ∙ by b a where
-    by : (b a : Option Links) → node_by (points_of run) e (option_map (before_end capacity) b) (option_map (after_end capacity) a) ≡ node_between capacity run e b a
-    by None None = refl
-    by None (Some l) = refl
-    by (Some k) None = refl
-    by (Some k) (Some l) = refl
+        by : (b a : Option Links) → node_by (points_of run) e (option_map (before_end capacity) b) (option_map (after_end capacity) a) ≡ node_between capacity run e b a
+        by None None = refl
+        by None (Some l) = refl
+        by (Some k) None = refl
+        by (Some k) (Some l) = refl
 
 -- ---- one node more
 

@@ -1,7 +1,7 @@
 -- One step of `collect`, which takes the nodes from the last to the first.
-use Rattle.std.proofs.Common.{◌≡◌, ℕ, ◌+◌, ◌^◌, ◌-◌, Some, None, List, [], ◌∷◌, ◌++◌, map, length, reverse, refl, sym, ap, ◌∙◌, append_assoc, subst, subst₂, arith, Bool, true, false}
+use Rattle.std.proofs.Common.{◌≡◌, ℕ, ◌+◌, ◌^◌, ◌-◌, Some, None, List, [], ◌∷◌, ◌++◌, map, length, reverse, refl, sym, ap, ◌∙◌, append_assoc, subst, arith, Bool, true, false}
 use Rattle.std.specs.Prelude.{Option, is_none, All, min}
-use Rattle.std.specs.List.{flat_map, sum_by}
+use Rattle.std.specs.List.{flat_map}
 use Rattle.std.proofs.lemmas.List.Elements.{All-head, All-tail}
 use Rattle.std.proofs.lemmas.Grind.{reverse_onto}
 use Rattle.flow_rule.specs.declared.Message.{Message}
@@ -13,7 +13,7 @@ use Rattle.epoch_node.specs.Cores.{Given}
 use Rattle.epoch_node.specs.Nodes.{NodeView}
 use Rattle.epoch_line.specs.Layouts.{CutRun}
 use Rattle.epoch_line.specs.Lines.{IsOneLink, HasDelivered}
-use Rattle.epoch_line.proofs.Lines.{StandsAt, IsLine, IsPart}
+use Rattle.epoch_line.proofs.Lines.{IsLine, IsPart}
 use Rattle.epoch_line.proofs.Whole.{DoneNode, views, AreClosed, links_closed}
 
 -- the ends that the first of these has towards the node before it
@@ -80,7 +80,7 @@ module _ (run : CutRun) where
     by first (e ∷ es) (d ∷ ds) line f c =
         let later = stands_later es d.view (views ds) line.2 in
         let both = links_closed n d line.1 later.0 later.1 line.0.answer_out (ap (λ (g : Given). g.last) line.0.given)
-            (subst (λ o. HasDelivered o n.view.ends.ask_in) f.0 asks) (subst (λ o. HasDelivered n.view.ends.answer_out o) f.1 answers) in
+        (subst (λ o. HasDelivered o n.view.ends.ask_in) f.0 asks) (subst (λ o. HasDelivered n.view.ends.answer_out o) f.1 answers) in
         (both.0, both.1, c)
 
 -- the count of one node more

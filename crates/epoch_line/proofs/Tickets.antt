@@ -1,21 +1,10 @@
 -- The epochs of a cutting begin at the checkpoints, and what is found of them is of all steps.
-use Rattle.std.proofs.Common.{◌≡◌, ℕ, zero, suc, ◌+◌, ◌-◌, ◌<◌, ◌≤◌, List, [], ◌∷◌, take, length, get_or, slice_get, refl, ap, sym, subst, ◌∙◌, arith, Bool, true, false}
-use Rattle.std.specs.Prelude.{Some, All, nat_lt}
+use Rattle.std.proofs.Common.{◌≡◌, ℕ, zero, suc, ◌+◌, ◌<◌, ◌≤◌, List, [], ◌∷◌, take, length, slice_get, refl, ap, sym, subst, ◌∙◌, arith}
 use Rattle.std.specs.List.{AllByRecursion}
-use Rattle.std.proofs.lemmas.Bool.{ltb-true, ltb-false}
-use Rattle.std.proofs.lemmas.List.Elements.{All-from_recursion}
-use Rattle.flow_model.specs.declared.StepSeen.{StepSeen}
-use Rattle.flow_model.specs.Origins.{step_at}
-use Rattle.flow_model.specs.Ranges.{IsInRange}
 use Rattle.log_model.specs.Logs.{steps}
-use Rattle.replay_model.specs.Run.{start}
-use Rattle.replay_model.proofs.Offsets.{length-steps_from}
-use Rattle.replayer.specs.Jobs.{Job, trace_of}
 use Rattle.epoch_model.specs.Cutting.{RisesTo, IsCutting, epochs}
 use Rattle.epoch_model.proofs.Asking.{rises_up}
 use Rattle.epoch_cut.specs.Numbered.{numbered}
-use Rattle.checkpoints.specs.Points.{beginnings}
-use Rattle.local_taint.specs.Summaries.{AreInRange}
 use Rattle.epoch_node.specs.Cores.{CanStart}
 use Rattle.epoch_line.specs.Layouts.{CutRun, points_of, epochs_of}
 

@@ -10,20 +10,20 @@ use Rattle.flow_model.specs.Origins.{step_at}
 use Rattle.flow_model.specs.Ranges.{IsInRange}
 use Rattle.flow_rule.specs.declared.Message.{Message}
 use Rattle.flow_rule.specs.declared.Message.TheVariants.{Ask, Byte, Close, End}
-use Rattle.report_model.specs.Query.{Query, AreLocated}
+use Rattle.report_model.specs.Query.{AreLocated}
 use Rattle.report_model.specs.Rows.{Row, rows_as_written}
 use Rattle.log_model.specs.Logs.{steps}
 use Rattle.replayer.specs.Jobs.{Job, trace_of}
 use Rattle.replay_model.specs.Run.{start}
 use Rattle.replay_model.proofs.Offsets.{length-steps_from}
 use Rattle.epoch_model.specs.Cutting.{Epoch, RisesTo, IsCutting, epochs}
-use Rattle.epoch_model.specs.Summary.{Summary, AreSummaries}
+use Rattle.epoch_model.specs.Summary.{AreSummaries}
 use Rattle.epoch_cut.specs.Numbered.{NumberedEpoch, numbered}
 use Rattle.local_taint.specs.Summaries.{AreInRange}
 use Rattle.epoch_link.specs.Ends.{Producing, Consuming}
 use Rattle.pass_parts.specs.Ends.{got_by, sent_by, EndsWhole}
-use Rattle.stream_model.specs.Streams.{is_ended, asks_for, answers_for, requests, Node, IsDone, AreDone, AreAllDone, summaries}
-use Rattle.stream_model.specs.StreamLaws.{IsPrefix, EndsLast, LinksCarry, Meets}
+use Rattle.stream_model.specs.Streams.{is_ended, requests, Node, IsDone, AreDone, AreAllDone, summaries}
+use Rattle.stream_model.specs.StreamLaws.{EndsLast, LinksCarry, Meets}
 use Rattle.stream_model.proofs.Growing.{asks_end_last, answers_end_last, nothing_is_left}
 use Rattle.stream_model.proofs.Meeting.{done_nodes_meet}
 use Rattle.epoch_node.specs.Cores.{Given}

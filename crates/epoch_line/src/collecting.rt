@@ -64,10 +64,7 @@ fn back_to_front<T: Drop>(mut items: Vec<T>) -> Vec<T>
 
 /// The rows of a run, and what its nodes asked, of nodes that are done, and led one by one from those of one layout. It
 /// closes their links. It gives up with NoMemory alone, also where a node is broken.
-pub fn collect<'a, G>(
-    alloc: Global,
-    mut nodes: Vec<Node<'a, G>>,
-) -> Result<Collected, NoMemory>
+pub fn collect<'a, G>(alloc: Global, mut nodes: Vec<Node<'a, G>>) -> Result<Collected, NoMemory>
     requires done { All IsNodeDone nodes.items }
     requires led { (run : CutRun) × IsRunOf run nodes.items }
     ensures rows { (run : CutRun) → IsRunOf run nodes.entry.items → IfOk result (λ all. all.sets ≡ rows_as_written run.query (trace_of run.job)) }

@@ -63,25 +63,9 @@ pub fn lay_out<'a, G>(
     let mut before = None;
     for ticket in tickets {
         let (after, next) = join_two(alloc, capacity)?;
-        nodes.push(make_node(
-            alloc,
-            ticket,
-            checkpoints,
-            query,
-            gate,
-            before,
-            Some(after),
-        )?)?;
+        nodes.push(make_node(alloc, ticket, checkpoints, query, gate, before, Some(after))?)?;
         before = Some(next);
     }
-    nodes.push(make_node(
-        alloc,
-        last,
-        checkpoints,
-        query,
-        gate,
-        before,
-        None,
-    )?)?;
+    nodes.push(make_node(alloc, last, checkpoints, query, gate, before, None)?)?;
     Ok(nodes)
 }

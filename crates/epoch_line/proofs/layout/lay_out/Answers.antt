@@ -1,4 +1,4 @@
-use Rattle.std.proofs.Common.{◌≡◌, ◌+◌, Some, None, List, [], ◌∷◌, ◌++◌, length, length-append, append_assoc, ap, ap₂, sym, refl, subst, ◌∙◌, arith}
+use Rattle.std.proofs.Common.{◌≡◌, Some, None, List, [], ◌∷◌, ◌++◌, length, length-append, append_assoc, ap, ap₂, sym, refl, subst, ◌∙◌, arith}
 use Rattle.std.specs.Prelude.{option_map}
 use Rattle.std.specs.List.{AllByRecursion}
 use Rattle.std.specs.Vec.Iter.{into_iter_items}
@@ -6,9 +6,9 @@ use Rattle.epoch_cut.specs.Numbered.{NumberedEpoch}
 use Rattle.checkpoints.specs.Points.{beginnings}
 use Rattle.epoch_node.specs.Cores.{CanStart}
 use Rattle.epoch_node.specs.Nodes.{NodeView}
-use Rattle.epoch_line.specs.Layouts.{CutRun, points_of, epochs_of, before_end, laid_out}
+use Rattle.epoch_line.specs.Layouts.{CutRun, points_of, before_end, laid_out}
 use Rattle.epoch_line.proofs.Tickets.{all_can_start, some_epoch, length-numbered}
-use Rattle.epoch_line.proofs.Layouts.{can_start, at_place, no_items, new_between, last_of, last_push, opened, push_open, push_last}
+use Rattle.epoch_line.proofs.Layouts.{can_start, at_place, no_items, new_between, last_of, last_push, push_open, push_last}
 use Rattle.epoch_line.proofs.layout.lay_out.Goals as goal
 
 pub unreachable-requires : goal.unreachable-requires

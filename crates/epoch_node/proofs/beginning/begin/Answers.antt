@@ -1,4 +1,4 @@
-use Rattle.std.proofs.Common.{◌≡◌, ap, sym, subst, ◌∙◌, true}
+use Rattle.std.proofs.Common.{ap, sym, subst, ◌∙◌}
 use Rattle.std.specs.Prelude.{Result, Ok, Err, IfOk}
 use Rattle.std.specs.Result.{result_ok}
 use Rattle.no_memory.specs.declared.NoMemory.{NoMemory}
@@ -6,7 +6,7 @@ use Rattle.replayer.specs.Jobs.{trace_of}
 use Rattle.local_taint.specs.declared.summary.Summary.{Summary}
 use Rattle.local_taint.specs.Summaries.{summary_of}
 use Rattle.pass_parts.proofs.Known.{known_is_summary}
-use Rattle.backward_pass.specs.Backward.{back_of, new_back}
+use Rattle.backward_pass.specs.Backward.{new_back}
 use Rattle.epoch_node.specs.Cores.{Given}
 use Rattle.epoch_node.specs.Keeping.{IsFoundOf, KnowsEpoch}
 use Rattle.epoch_node.proofs.beginning.begin.Goals as goal
