@@ -224,7 +224,7 @@ began_whole i f w a t = begun_whole (known_by f) f.asked a.reached.schedule (ans
 pub has_done : (i : Given) (f : ForeView) (w : Told) → IsAnswering i f w → f.over ≡ true → f.whole ≡ true → (asked : List Loc) (rows : List Row) → asked ≡ f.asked → rows ≡ rows_or_none f.rows → HasDone i w asked rows
 has_done i f w a o t asked rows asked_is rows_is = record {
   summary = known_by f;
-  of_epoch = a.summary (a.keeps.known t);
+  found = a.summary (a.keeps.known t);
   done = record {
     asked = asked_is ∙ sym a.asked ∙ asks.asked a.over ∙ ap (λ got. asked_of i.first (known_by f) (requests got)) a.got;
     asks = λ n. ap (λ b. sent_by true b w.asks_sent) (sym began) ∙ sym a.sent ∙ asks.whole a.over n ∙ ap (asks_for (known_by f)) a.got;

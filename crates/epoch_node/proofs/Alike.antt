@@ -99,16 +99,16 @@ begun_alike false last e v got sent is k =
 settled_alike : (first last : Bool) (b : AskingState) (v : BackView) (got : List Message) (answers_got answers_sent : Option (List Message))
     → b.got ≡ got → b.is_whole ≡ v.whole → (v.whole ≡ true → locations v.requests ≡ requests got) → answers_got ≡ fresh_end first → answers_sent ≡ fresh_end last
     → IsAlikeAnswering (answering_start b.is_whole first (requests b.got)) (fore_state (new_fore v.summary v.asked (requests_if v.whole v.requests) v.whole first) answers_got answers_sent)
-settled_alike first last b v got answers_got answers_sent g w r no_got no_sent = record { got = got_is; sent = sent_is; whole = w; over = refl; same = same } where
+settled_alike first last b v got answers_got answers_sent g w r fresh_got fresh_sent = record { got = got_is; sent = sent_is; whole = w; over = refl; same = same } where
   start : (b : Bool) → got_at_start b ≡ got_by (fresh_end b)
   start true = refl
   start false = refl
 
   got_is : got_at_start first ≡ got_by answers_got
-  got_is = start first ∙ ap got_by (sym no_got)
+  got_is = start first ∙ ap got_by (sym fresh_got)
 
   sent_is : [] ≡ sent_by false v.whole answers_sent
-  sent_is = sym (ap (sent_by false v.whole) no_sent ∙ unsent_yet false v.whole last refl)
+  sent_is = sym (ap (sent_by false v.whole) fresh_sent ∙ unsent_yet false v.whole last refl)
 
   same : b.is_whole ≡ true → answering_start b.is_whole first (requests b.got) ≡ fore_state (new_fore v.summary v.asked (requests_if v.whole v.requests) v.whole first) answers_got answers_sent
   same t =

@@ -86,7 +86,7 @@ record Sends (i : Given) (asked : List Loc) (w : Told) : Type 0 where
 asking_sends : (i : Given) (v : BackView) (w : Told) → HasLinks i w → IsAsking i v w → v.whole ≡ true → Sends i v.asked w
 asking_sends i v w l a t = record {
   summary = knows v;
-  of_epoch = a.summary (a.keeps.fits.known t);
+  of_epoch = (a.summary (a.keeps.fits.known t)).summary;
   asks = part_sent v.over v.whole v.first w.asks_sent (asks_for (knows v) (got_by w.asks_got)) (l.asks_sent ∙ sym a.first) (a.sends t).part;
   answers = nothing_sent i.last w.answers_sent (answers_for (knows v) v.asked (requests (got_by w.asks_got)) (got_by w.answers_got)) a.answers_sent;
 }
@@ -96,7 +96,7 @@ answering_sends i f w l a t =
     let began = began_whole i f w a t in
     record {
       summary = known_by f;
-      of_epoch = a.summary (a.keeps.known t);
+      of_epoch = (a.summary (a.keeps.known t)).summary;
       asks = part_sent true a.asking.is_whole i.first w.asks_sent (asks_for (known_by f) (got_by w.asks_got)) l.asks_sent (λ n. subst₂ IsPrefix a.sent (ap (asks_for (known_by f)) a.got) ((a.asks began).part n));
       answers = part_sent f.over f.whole (is_none w.answers_sent) w.answers_sent (answers_for (known_by f) f.asked (requests (got_by w.asks_got)) (got_by w.answers_got)) refl
           (λ n. subst (λ noted. IsPrefix (sent_by f.over f.whole w.answers_sent) (answers_for (known_by f) f.asked noted (got_by w.answers_got))) (a.noted_is began) (a.sends t).part);

@@ -104,6 +104,8 @@ over_steps i (Asking v) next after w got' sent' n at x a =
       happens = x.happens;
       same = x.same;
       requested = x.keeps.requested;
+      over = x.over;
+      running = tt;
       is = y.is ∙ ap Answering y.settled.new ∙ sym (ap (λ o. settled_by o i x.back) x.over);
       answered = refl;
     }

@@ -68,8 +68,8 @@ abbrev pub answered_by : Bool → ForeView → StageView
 answered_by true f = Done f
 answered_by false f = Answering f
 
--- the answer of the event in which a pass came to this: its node goes on after the pass backwards, and is done after the
--- pass forwards
+-- the answer of the event in which a pass came to this: its node goes on after the pass backwards, and is done after
+-- the pass forwards
 abbrev pub asks_turn : PassTurn → Turn
 asks_turn pass_turn.Moved = turn.Moved
 asks_turn pass_turn.NotYet = turn.NotYet
@@ -96,6 +96,8 @@ pub record Asks (i : Given) (v : BackView) (got sent : Option (List Message)) (n
   pub happens : Happens v got sent back got' sent' came_to
   pub same : IsSameBack back v
   pub requested : back.whole ≡ true → locations back.requests ≡ requests (got_by got')
+  pub over : OnOver came_to (back.over ≡ true)
+  pub running : OnOpen came_to (back.over ≡ false)
   pub is : next ≡ settled_by back.over i back
   pub answered : answer ≡ asks_turn came_to
 
@@ -105,6 +107,8 @@ pub record Answers (f : ForeView) (got sent : Option (List Message)) (next : Sta
   pub came_to : PassTurn
   pub happens : ForeHappens f got sent fore got' sent' came_to
   pub same : IsSameFore fore f
+  pub over : OnOver came_to (fore.over ≡ true)
+  pub running : OnOpen came_to (fore.over ≡ false)
   pub is : next ≡ answered_by fore.over fore
   pub answered : answer ≡ answers_turn came_to
 
@@ -115,8 +119,8 @@ pub record Rests (f : ForeView) (got sent : Option (List Message)) (next : Stage
   pub sent_same : sent' ≡ sent
   pub answered : answer ≡ turn.Done
 
--- the event is that of the definitions: a node begins, then its pass backwards has events until it is over, then its pass
--- forwards; then it is done
+-- the event is that of the definitions: a node begins, then its pass backwards has events until it is over, then its
+-- pass forwards; then it is done
 abbrev pub Steps : Given → StageView → Option (List Message) → Option (List Message) → StageView → Option (List Message) → Option (List Message) → Turn → Type 0
 Steps i (Fresh t) got sent next got' sent' answer = Begins i got sent next got' sent' answer
 Steps i (Asking v) got sent next got' sent' answer = Asks i v got sent next got' sent' answer

@@ -1,10 +1,14 @@
 -- What a core keeps of what went through its links.
 use Rattle.std.specs.Prelude.{◌≡◌, ◌-◌, Bool, true, false, Option, None, is_none, is_some, List, []}
 use Rattle.flow_model.specs.declared.Loc.{Loc}
+use Rattle.flow_model.specs.declared.StepSeen.{StepSeen}
 use Rattle.flow_rule.specs.declared.Message.{Message}
 use Rattle.replayer.specs.Jobs.{trace_of}
 use Rattle.epoch_model.specs.Summary.{Summary as EpochSummary, IsSummary}
+use Rattle.epoch_cut.specs.Numbered.{NumberedEpoch}
 use Rattle.local_taint.specs.declared.summary.Summary.{Summary}
+use Rattle.local_taint.specs.Summaries.{AreInRange}
+use Rattle.report_model.specs.Query.{Query}
 use Rattle.report_model.specs.Rows.{Row}
 use Rattle.stream_model.specs.Streams.{is_ended, requests, Node, IsDone}
 use Rattle.stream_model.specs.Passes.{Asking as AskingState}
@@ -43,9 +47,18 @@ pub record HasLinks (i : Given) (w : Told) : Type 0 where
 abbrev pub IsOfEpoch : Given → EpochSummary → Type 0
 IsOfEpoch i e = IsSummary i.query (trace_of i.points.job) i.epoch.first (i.epoch.past_last - i.epoch.first) e
 
--- the summary of a pass, where there is one, is that of the epoch
+-- an analysis found the summary of the epoch, and that its steps are in range
+pub record IsFound (q : Query) (trace : List StepSeen) (epoch : NumberedEpoch) (e : EpochSummary) : Type 0 where
+  pub summary : IsSummary q trace epoch.first (epoch.past_last - epoch.first) e
+  pub in_range : AreInRange trace epoch.first (epoch.past_last - epoch.first)
+
+-- it is found of the core's epoch
+abbrev pub IsFoundOf : Given → EpochSummary → Type 0
+IsFoundOf i e = IsFound i.query (trace_of i.points.job) i.epoch e
+
+-- the summary of a pass, where there is one, is found of the epoch
 abbrev pub KnowsEpoch : Given → Option Summary → Type 0
-KnowsEpoch i s = is_some s ≡ true → IsOfEpoch i (known s)
+KnowsEpoch i s = is_some s ≡ true → IsFoundOf i (known s)
 
 -- a pass backwards that is new. Where a growth was refused it has no summary
 pub record IsBegun (i : Given) (v : BackView) : Type 0 where
@@ -134,7 +147,7 @@ node_by e w asked rows = record {
 -- got ends whole
 pub record HasDone (i : Given) (w : Told) (asked : List Loc) (rows : List Row) : Type 0 where
   pub summary : EpochSummary
-  pub of_epoch : IsOfEpoch i summary
+  pub found : IsFoundOf i summary
   pub done : IsDone i.first i.last (node_by summary w asked rows)
   pub asks_end : EndsWhole (got_by w.asks_got)
   pub answers_end : EndsWhole (got_by w.answers_got)

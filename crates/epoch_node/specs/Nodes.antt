@@ -89,8 +89,8 @@ pub record AreEndsLater (new old : Ends) : Type 0 where
   pub answer_in : IsInletLater new.answer_in old.answer_in
   pub answer_out : IsOutletLater new.answer_out old.answer_out
 
--- turns lead from the old node to the new: what it was given is the same, and so are its links; and what was sent and got
--- then is a part of what was sent and got now
+-- turns lead from the old node to the new: what it was given is the same, and so are its links; and what was sent and
+-- got then is a part of what was sent and got now
 pub record IsLedFrom (new old : NodeView) : Type 0 where
   pub given : new.given ≡ old.given
   pub ends : AreEndsLater new.ends old.ends

@@ -1,15 +1,14 @@
 //! How a node begins: its epoch is analysed.
 
-ghost use Rattle.std.specs.Prelude.{◌≡◌, ◌-◌, ◌≤◌, Some, slice_get, IfOk, is_some, true};
+ghost use Rattle.std.specs.Prelude.{◌≡◌, ◌≤◌, Some, slice_get, IfOk, is_some, true};
 ghost use Rattle.log_model.specs.Logs.{steps};
-ghost use Rattle.epoch_model.specs.Summary.{IsSummary};
 ghost use Rattle.replayer.specs.Jobs.{trace_of};
 ghost use Rattle.local_taint.specs.Summaries.{summary_of};
 ghost use Rattle.pass_parts.specs.Ends.{fresh_end};
 ghost use Rattle.pass_parts.specs.Known.{known};
 ghost use Rattle.backward_pass.specs.Backward.{back_of, new_back, Keeps, Reached};
 ghost use Rattle.epoch_node.specs.Cores.{CanStart};
-ghost use Rattle.epoch_node.specs.Keeping.{IsBegun};
+ghost use Rattle.epoch_node.specs.Keeping.{IsFound, IsBegun};
 
 use backward_pass::Back;
 use checkpoints::Checkpoints;
@@ -27,10 +26,11 @@ fn summarize(
     query: &Query,
 ) -> Result<Summary, NoMemory>
     requires { CanStart checkpoints.now ticket }
-    ensures { IfOk result (λ e. IsSummary query.now (trace_of checkpoints.now.job) ticket.first (ticket.past_last - ticket.first) (summary_of e)) }
+    ensures { IfOk result (λ e. IsFound query.now (trace_of checkpoints.now.job) ticket (summary_of e)) }
 {
     let cursor = checkpoints.start(alloc, ticket.number())?;
-    analyse(alloc, ticket, cursor, query)
+    let summary = analyse(alloc, ticket, cursor, query)?;
+    Ok(summary)
 }
 
 /// The pass backwards of the ticket's epoch. Where a growth is refused, the pass has no summary, and is broken.

@@ -1,5 +1,5 @@
-//! The node of an epoch: a core, which goes through the passes of its epoch event by event, and its ends of the links to
-//! the nodes before and behind it.
+//! The node of an epoch: a core, which goes through the passes of its epoch event by event, and its ends of the links
+//! to the nodes before and behind it.
 #![tactic(auto)]
 
 mod beginning;

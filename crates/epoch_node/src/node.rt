@@ -53,8 +53,8 @@ impl<'a, G> Model for Node<'a, G> {
 }
 
 impl<'a, G> Node<'a, G> {
-    /// A node of a core that hasn't begun, and of new ends: none to a node before the first, and none to a node behind the
-    /// last.
+    /// A node of a core that hasn't begun, and of new ends: none to a node before the first, and none to a node behind
+    /// the last.
     pub fn new(core: Core<'a, G>, ends: Ends) -> Node<'a, G>
         requires fresh { core_of core ≡ new_core (core_of core).given }
         requires starts { CanStart (core_of core).given.points (core_of core).given.epoch }
@@ -80,7 +80,7 @@ impl<'a, G> Node<'a, G> {
         self.core.gate()
     }
 
-    // One event. A node that begins has entered the gate.
+    /// One event. A node that begins has entered the gate.
     fn step(&mut self) -> Turn
         ensures led { IsLedFrom self.new self.old }
         ensures done { AnswersEnded result (self.new.phase ≡ Phase.Done) }
@@ -102,7 +102,7 @@ impl<'a, G> Node<'a, G> {
         }
     }
 
-    // At most [`MOST_EVENTS`] events. A node that begins has entered the gate.
+    /// At most [`MOST_EVENTS`] events. A node that begins has entered the gate.
     fn steps(&mut self) -> Turn
         ensures led { IsLedFrom self.new self.old }
         ensures few { self.new.events ≤ self.old.events + MOST_EVENTS }
@@ -164,8 +164,8 @@ impl<'a, G: Gate> Task for Node<'a, G> {
         self.core.number()
     }
 
-    /// At most [`MOST_EVENTS`] events. It is NotYet only where no event moved, and the one link that the next event needs
-    /// refused in this call.
+    /// At most [`MOST_EVENTS`] events. It is NotYet only where no event moved, and the one link that the next event
+    /// needs refused in this call.
     fn turn(&mut self) -> Turn
         ensures led { IsLedFrom self.new self.old }
         ensures number { self.new.given.epoch.number ≡ self.old.given.epoch.number }

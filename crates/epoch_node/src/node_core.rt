@@ -141,7 +141,8 @@ impl<'a, G> Core<'a, G> {
         *self.stage = next;
     }
 
-    /// One event. A core that begins has entered the gate.
+    /// The same as `event`, in a core that has entered the gate where it begins. What a task's turn calls may have no
+    /// bound on a gate.
     pub(crate) fn step<I: Inlet<Message>, O: Outlet<Message>>(
         &mut self,
         inlet: &mut Option<I>,

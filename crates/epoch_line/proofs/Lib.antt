@@ -1,0 +1,6 @@
+mod Tickets
+mod Layouts
+mod Numbers
+mod Lines
+mod Whole
+mod Popping

@@ -1,0 +1,106 @@
+//! What nodes that are done come to.
+
+ghost use Rattle.std.specs.Prelude.{◌≡◌, All, IfOk, drop, reverse};
+ghost use Rattle.std.specs.List.{flat_map, sum_by};
+ghost use Rattle.replayer.specs.Jobs.{trace_of};
+ghost use Rattle.report_model.specs.Rows.{rows_as_written};
+ghost use Rattle.sink_collect.specs.Pairs.{capped};
+ghost use Rattle.epoch_line.specs.Layouts.{CutRun, IsRunOf};
+ghost use Rattle.epoch_line.specs.Lines.{IsNodeDone, IsOneLink, HasDelivered};
+ghost use Rattle.epoch_line.specs.Crossings.{asked_at};
+
+use epoch_link::{Consumer, Producer, close};
+use epoch_node::{Finished, Node};
+use flow_rule::Message;
+use local_taint::Asked;
+use no_memory::NoMemory;
+use sink_collect::{SinkSet, SinkSets};
+use std::alloc::Global;
+
+/// What the nodes of a run come to.
+#[derive(Drop)]
+pub struct Collected {
+    /// The rows of the run, in its order.
+    pub sets: SinkSets,
+    /// What was asked at each inner cut, from the first to the last.
+    pub crossed: Vec<Asked>,
+    /// How many events of the nodes moved, or 2^64 - 1 where they are more.
+    pub events: u64,
+}
+
+/// Closes a link, if there is one.
+fn close_link(producer: Option<Producer<Message>>, consumer: Option<Consumer<Message>>)
+    requires { IsOneLink producer consumer }
+    ensures { HasDelivered producer consumer }
+{
+    match (producer, consumer) {
+        (Some(producer), Some(consumer)) => {
+            let _left = close(producer, consumer);
+        }
+        _ => {}
+    }
+}
+
+/// All sets, where those of the last node come first. It gives up with NoMemory alone.
+fn in_order(alloc: Global, mut sets: Vec<SinkSets>) -> Result<SinkSets, NoMemory>
+    ensures { IfOk result (λ all. all ≡ flat_map (λ rows. rows) (reverse sets.items)) }
+{
+    let mut all: Vec<SinkSet> = Vec::new(alloc);
+    while let Some(next) = sets.pop() {
+        let mut next = next.into_vec();
+        all.append(&mut next)?;
+    }
+    Ok(SinkSets::from_vec(all))
+}
+
+/// The items from the last to the first, without the last.
+fn back_to_front<T: Drop>(mut items: Vec<T>) -> Vec<T>
+    ensures { result.items ≡ drop 1 (reverse items.items) }
+{
+    items.pop();
+    items.reverse();
+    items
+}
+
+/// The rows of a run, and what its nodes asked, of nodes that are done, and led one by one from those of one layout. It
+/// closes their links. It gives up with NoMemory alone, also where a node is broken.
+pub fn collect<'a, G>(alloc: Global, mut nodes: Vec<Node<'a, G>>) -> Result<Collected, NoMemory>
+    requires done { All IsNodeDone nodes.items }
+    requires led { (run : CutRun) × IsRunOf run nodes.items }
+    ensures rows { (run : CutRun) → IsRunOf run nodes.entry.items → IfOk result (λ all. all.sets ≡ rows_as_written run.query (trace_of run.job)) }
+    ensures crossed { (run : CutRun) → IsRunOf run nodes.entry.items → IfOk result (λ all. all.crossed.items ≡ asked_at run.query (trace_of run.job) run.cuts) }
+    ensures events { IfOk result (λ all. all.events ≡ capped (sum_by (λ n. n.events) nodes.entry.items)) }
+{
+    let mut sets = Vec::with_capacity(alloc, nodes.len())?;
+    let mut asked = Vec::with_capacity(alloc, nodes.len())?;
+    let mut events = 0u64;
+    let mut ask_out: Option<Producer<Message>> = None;
+    let mut answer_in: Option<Consumer<Message>> = None;
+    while let Some(node) = nodes.pop() {
+        let Finished {
+            number: _,
+            sets: own,
+            asked: requests,
+            events: moved,
+            ends,
+        } = node.finish();
+        let Ok(own) = own else {
+            return Err(NoMemory);
+        };
+        sets.push(own)?;
+        asked.push(requests)?;
+        events = events.saturating_add(moved);
+        close_link(ask_out, ends.ask_in);
+        close_link(ends.answer_out, answer_in);
+        ask_out = ends.ask_out;
+        answer_in = ends.answer_in;
+    }
+    let sets = in_order(alloc, sets)?;
+    // The first node asks nothing.
+    let crossed = back_to_front(asked);
+    Ok(Collected {
+        sets,
+        crossed,
+        events,
+    })
+}
