@@ -3,7 +3,7 @@ use Rattle.std.specs.Prelude.{ℕ, ◌+◌, List, [], ◌∷◌}
 use Rattle.flow_model.specs.declared.Loc.{Loc}
 use Rattle.flow_model.specs.declared.StepSeen.{StepSeen}
 use Rattle.report_model.specs.Query.{Query}
-use Rattle.epoch_model.specs.Crossing.{crossing_at}
+use Rattle.epoch_line.specs.Crossings.{asked_at}
 
 -- the number of a cut, and the locations that are asked for there
 pub record CrossedAt : Type 0 where
@@ -14,12 +14,6 @@ pub record CrossedAt : Type 0 where
 abbrev pub numbered : ℕ → List (List Loc) → List CrossedAt
 numbered k [] = []
 numbered k (ls ∷ rest) = record { cut = k; asked = ls } ∷ numbered (k + 1) rest
-
--- what is asked at each of these cuts but the last, which is the end of the run
-abbrev pub asked_at : Query → List StepSeen → List ℕ → List (List Loc)
-asked_at q trace [] = []
-asked_at q trace (c ∷ []) = []
-asked_at q trace (c ∷ d ∷ cuts) = crossing_at q trace c (d ∷ cuts) ∷ asked_at q trace (d ∷ cuts)
 
 -- what is asked at the inner cuts of a run, numbered from 1
 abbrev pub crossed : Query → List StepSeen → List ℕ → List CrossedAt

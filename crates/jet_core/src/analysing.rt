@@ -8,16 +8,14 @@ use checkpoints::Checkpoints;
 use epoch_cut::EpochTicket;
 use local_taint::{Summary, analyse};
 use no_memory::NoMemory;
-use outer_io::Gate;
 use query_lang::Query;
 use rayon::prelude::*;
 use std::alloc::Global;
 use std::thread::Threads;
 
-/// The summary of the ticket's epoch, from its checkpoint. It enters the gate first.
-fn found<G: Gate>(
+/// The summary of the ticket's epoch, from its checkpoint.
+fn found(
     alloc: Global,
-    gate: &G,
     checkpoints: &Checkpoints<'_>,
     query: &Query,
     ticket: EpochTicket,
@@ -25,18 +23,15 @@ fn found<G: Gate>(
     requires { BeginsAt checkpoints.now ticket }
     ensures { IfOk result (IsFound query.now (trace_of checkpoints.now.job) ticket) }
 {
-    gate.enter(ticket.number());
     let cursor = checkpoints.start(alloc, ticket.number())?;
     let summary = analyse(alloc, ticket, cursor, query)?;
     Ok(summary)
 }
 
-/// The summaries of all these epochs, in order, in as many threads as `rayon` takes. Each enters the gate as its analysis
-/// begins. It gives up with NoMemory alone.
-pub(crate) fn found_at_once<G: Gate, R: Threads + Sync>(
+/// The summaries of all these epochs, in order, in as many threads as `rayon` takes. It gives up with NoMemory alone.
+pub(crate) fn found_at_once<R: Threads + Sync>(
     rt: &R,
     alloc: Global,
-    gate: &G,
     checkpoints: &Checkpoints<'_>,
     query: &Query,
     tickets: Vec<EpochTicket>,
@@ -51,7 +46,7 @@ pub(crate) fn found_at_once<G: Gate, R: Threads + Sync>(
             |ticket: EpochTicket| -> Result<Summary, NoMemory>
                 requires { BeginsAt checkpoints.now ticket }
                 ensures { IfOk result (IsFound query.entry.now (trace_of checkpoints.entry.now.job) ticket) }
-            { found(alloc, gate, checkpoints, query, ticket) },
+            { found(alloc, checkpoints, query, ticket) },
         )
         .collect(rt, alloc)?;
     all

@@ -1,6 +1,6 @@
 //! What epochs asked at a cut.
 
-ghost use Rattle.std.specs.Prelude.{◌≡◌, ◌<◌, ◌^◌, length, reverse, IfOk};
+ghost use Rattle.std.specs.Prelude.{◌≡◌, ◌<◌, ◌^◌, length, IfOk};
 ghost use Rattle.jet_core.specs.Crossings.{numbered};
 
 use flow_model::Loc;
@@ -42,16 +42,14 @@ impl Crossed {
     }
 }
 
-/// What was asked at the cuts, numbered from 1, where it is handed in from the last cut to the first. It gives up with
-/// NoMemory alone.
+/// What was asked at the cuts, from the first to the last, numbered from 1. It gives up with NoMemory alone.
 pub(crate) fn number(alloc: Global, crossings: Vec<Asked>) -> Result<Vec<Crossed>, NoMemory>
     requires { length crossings.items < 2 ^ 32 }
-    ensures { IfOk result (λ crossed. crossed.items ≡ numbered 1 (reverse crossings.items)) }
+    ensures { IfOk result (λ crossed. crossed.items ≡ numbered 1 crossings.items) }
 {
-    let mut left = crossings;
-    let mut crossed = Vec::with_capacity(alloc, left.len())?;
+    let mut crossed = Vec::with_capacity(alloc, crossings.len())?;
     let mut cut = 0;
-    while let Some(asked) = left.pop() {
+    for asked in crossings {
         cut += 1;
         crossed.push(Crossed { cut, asked })?;
     }

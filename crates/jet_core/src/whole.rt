@@ -13,8 +13,9 @@ use crate::crossed::{Crossed, number};
 use crate::joining::join;
 use checkpoints::Checkpoints;
 use epoch_cut::Cuts;
+use epoch_line::{Collected, work};
 use no_memory::NoMemory;
-use outer_io::{Gate, OpenGate};
+use outer_io::Gate;
 use query_lang::Query;
 use replayer::Job;
 use sink_collect::{Report, gather};
@@ -22,10 +23,11 @@ use std::alloc::Global;
 use std::sync::Wait;
 use std::thread::Threads;
 
-/// The report of a query over a run that is cut into epochs, and what crosses each inner cut. Each epoch is analysed by
-/// itself, several at once, and enters the gate as it begins. It gives up with NoMemory alone.
+/// The report of a query over a run that is cut into epochs, and what crosses each inner cut. There is a node for each
+/// epoch, which analyses it by itself and joins its neighbours by two links; the workers give the nodes turns. Each
+/// enters the gate as its analysis begins. It gives up with NoMemory alone.
 ///
-/// `workers` is 1 to 64, and `capacity`, of messages between two neighbours, 1 to 65536.
+/// `workers` is 1 to 64, and `capacity`, of messages on a link, 1 to 65536.
 pub fn query<G: Gate, R: Threads + Wait + Sync>(
     rt: &R,
     alloc: Global,
@@ -42,13 +44,23 @@ pub fn query<G: Gate, R: Threads + Wait + Sync>(
     ensures report { IfOk result (λ r. r.0 ≡ rows query.now (trace_of job.now)) }
     ensures crossed { IfOk result (λ r. r.1.items ≡ crossed query.now (trace_of job.now) cuts) }
 {
-    // How many threads there are is rayon's choice, and nothing is sent from one epoch to another.
-    let _ = workers;
-    let _ = capacity;
-    together(rt, alloc, gate, job, query, cuts)
+    job.form();
+    // The contracts of these say that no point stands twice, and that the epochs are few.
+    let _points = query.points();
+    let _count = cuts.count();
+    let checkpoints = Checkpoints::take(alloc, job, &cuts)?;
+    let Collected {
+        sets,
+        crossed,
+        events: _,
+    } = work(rt, alloc, gate, &checkpoints, query, cuts, workers, capacity)?;
+    let report = gather(alloc, sets.into_vec())?;
+    let crossed = number(alloc, crossed)?;
+    Ok((report, crossed))
 }
 
-/// The report of a query over a run that is cut into epochs. It gives up with NoMemory alone.
+/// The report of a query over a run that is cut into epochs, analysed at once and joined by lists. It gives up with
+/// NoMemory alone.
 pub fn joined<R: Threads + Sync>(
     rt: &R,
     alloc: Global,
@@ -59,33 +71,13 @@ pub fn joined<R: Threads + Sync>(
     requires { IsCutting (steps job.now.log) cuts }
     ensures { IfOk result (λ report. report ≡ rows query.now (trace_of job.now)) }
 {
-    let (report, _) = together(rt, alloc, &OpenGate, job, query, cuts)?;
-    Ok(report)
-}
-
-/// The epochs analysed at once, and their summaries joined by lists: the report, and what crosses each inner cut.
-fn together<G: Gate, R: Threads + Sync>(
-    rt: &R,
-    alloc: Global,
-    gate: &G,
-    job: &Job,
-    query: &Query,
-    cuts: Cuts,
-) -> Result<(Report, Vec<Crossed>), NoMemory>
-    requires { IsCutting (steps job.now.log) cuts }
-    ensures report { IfOk result (λ r. r.0 ≡ rows query.now (trace_of job.now)) }
-    ensures crossed { IfOk result (λ r. r.1.items ≡ crossed query.now (trace_of job.now) cuts) }
-{
     job.form();
-    // The contracts of these say that the points are at locations, and the epochs few.
+    // The contract of this says that the points are at locations.
     let _points = query.points();
-    let _count = cuts.count();
     let checkpoints = Checkpoints::take(alloc, job, &cuts)?;
     let tickets = cuts.tickets(alloc)?;
-    let summaries = found_at_once(rt, alloc, gate, &checkpoints, query, tickets)?;
+    let summaries = found_at_once(rt, alloc, &checkpoints, query, tickets)?;
     let crossings = crossings(alloc, &summaries)?;
     let sets = join(alloc, &summaries, &crossings)?;
-    let report = gather(alloc, sets.into_vec())?;
-    let crossed = number(alloc, crossings)?;
-    Ok((report, crossed))
+    gather(alloc, sets.into_vec())
 }

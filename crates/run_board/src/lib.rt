@@ -7,6 +7,7 @@
 
 mod board;
 mod filling;
+mod idle;
 mod pool;
 mod steps;
 mod task;

@@ -6,6 +6,7 @@ ghost use Rattle.run_board.specs.Rule.{view_weight, whole_weight};
 ghost use Rattle.run_board.specs.Views.{whole_share};
 ghost use Rattle.run_board.specs.Workers.{HasTaken, IsReady, Follows, view_of};
 
+use crate::idle::Idle;
 use crate::steps::{PutBack, Take, TaskQueue};
 use crate::task::{Task, Turn};
 use crate::worker::Worker;
@@ -29,7 +30,13 @@ fn put_back<T: Task, R: Wait>(rt: &R, queue: &TaskQueue<T>, worker: &mut Worker<
 
 /// Gives the task that the worker took one turn. A task that is then done is kept, any other goes
 /// back into the queue.
-fn turn_once<T: Task, R: Wait>(rt: &R, queue: &TaskQueue<T>, worker: &mut Worker<T>, mut task: T)
+fn turn_once<T: Task, R: Wait>(
+    rt: &R,
+    queue: &TaskQueue<T>,
+    worker: &mut Worker<T>,
+    idle: &mut Idle,
+    mut task: T,
+)
     requires pass { IsPassOf queue.now worker.old.pass }
     requires taken { HasTaken T.words (view_of worker.old) worker.old.finished.items task }
     requires few { length (view_of worker.old).starts ≤ ruled_capacity queue.now }
@@ -38,7 +45,9 @@ fn turn_once<T: Task, R: Wait>(rt: &R, queue: &TaskQueue<T>, worker: &mut Worker
     ensures ready { IsReady T.words (ruled_capacity queue.now) (IsPassOf queue.now) worker.new }
     ensures follows { Follows worker.old worker.new }
 {
-    match task.turn() {
+    let answer = task.turn();
+    idle.note(answer);
+    match answer {
         Turn::Done => worker.finished.push_reserved(task),
         Turn::Moved | Turn::NotYet => put_back(rt, queue, worker, task),
     }
@@ -53,9 +62,11 @@ pub fn turn_until_empty<T: Task, R: Wait>(rt: &R, queue: &TaskQueue<T>, worker: 
     ensures has_all { (view_of worker.new).shares ≡ whole_share → (weight : ℕ → ℕ)
         → view_weight weight (view_of worker.new) ≡ whole_weight (length (view_of worker.new).starts) weight }
 {
+    let mut idle = Idle::new();
     for _ in rt.forever() {
+        idle.rest();
         match queue.pop_as::<Take, R>(rt, &mut worker.pass) {
-            Some(task) => turn_once(rt, queue, worker, task),
+            Some(task) => turn_once(rt, queue, worker, &mut idle, task),
             None => return,
         }
     }

@@ -1,4 +1,4 @@
-use Rattle.std.proofs.Common.{◌∙◌, ap, sym, subst, arith, List, [], map}
+use Rattle.std.proofs.Common.{◌∙◌, ap, sym, subst, List, [], map}
 use Rattle.std.specs.Prelude.{All}
 use Rattle.report_model.specs.Rows.{row_cmp}
 use Rattle.sorted_set.specs.Sets.{set_of}
@@ -11,11 +11,11 @@ use Rattle.seq_taint.proofs.Distinct.{distinct_rows}
 use Rattle.local_taint.specs.declared.summary.Summary.{Summary}
 use Rattle.local_taint.specs.Summaries.{summary_of}
 use Rattle.epoch_model.specs.Join.{joined}
-use Rattle.jet_core.specs.Asking.{AreOfOneTrace, crossings_back}
+use Rattle.jet_core.specs.Asking.{AreOfOneTrace}
 use Rattle.jet_core.specs.Tickets.{BeginsAt}
 use Rattle.jet_core.proofs.Tickets.{tickets_begin}
-use Rattle.jet_core.proofs.Together.{few_crossings, one_trace, found_join, found_crossed, found_at}
-use Rattle.jet_core.proofs.whole.together.Goals as goal
+use Rattle.jet_core.proofs.Together.{one_trace, found_join, found_at}
+use Rattle.jet_core.proofs.whole.joined.Goals as goal
 
 pub found_at_once-requires-after_bounds : goal.found_at_once-requires-after_bounds
 found_at_once-requires-after_bounds g c κs within =
@@ -46,25 +46,11 @@ gather-requires g c =
     let rows = c.into_vec.ensures ∙ c.in_ok-sets.ensures ∙ ap (λ (xs : List Summary). joined [] [] (map summary_of xs)) c.deref-2.ensures.value ∙ found_join job q c.args.cuts es c.points-points.ensures.located c.requires a in
     subst AreDistinct (sym rows) (distinct_rows q (trace_of job) c.points-points.ensures.ascending (writes_apart job.start job.log))
 
-pub number-requires : goal.number-requires
-number-requires g c =
-    let es = c.in_ok-summaries.summaries.items in
-    let a = found_at c.args.job.now c.args.query.now c.args.cuts es c.in_ok-checkpoints.checkpoints c.in_ok-tickets.tickets.items c.in_ok-checkpoints.ensures c.in_ok-tickets.ensures c.in_ok-summaries.ensures in
-    let asked = c.in_ok-crossings.ensures ∙ ap (λ (xs : List Summary). crossings_back (map summary_of xs)) c.deref.ensures.value in
-    omega (arith, few_crossings c.args.job.now c.args.query.now c.args.cuts es c.points-points.ensures.located c.requires a c.in_ok-crossings.crossings.items asked, c.count-count.ensures.is, c.count-count.ensures.in_range)
-
-pub returns-clause-report : goal.returns-clause-report
-returns-clause-report g c =
+pub returns : goal.returns
+returns g c =
     let q = c.args.query.now in
     let job = c.args.job.now in
     let es = c.in_ok-summaries.summaries.items in
     let a = found_at job q c.args.cuts es c.in_ok-checkpoints.checkpoints c.in_ok-tickets.tickets.items c.in_ok-checkpoints.ensures c.in_ok-tickets.ensures c.in_ok-summaries.ensures in
     let rows = c.into_vec.ensures ∙ c.in_ok-sets.ensures ∙ ap (λ (xs : List Summary). joined [] [] (map summary_of xs)) c.deref-2.ensures.value ∙ found_join job q c.args.cuts es c.points-points.ensures.located c.requires a in
     c.in_ok-report.ensures ∙ ap (set_of row_cmp) rows
-
-pub returns-clause-crossed : goal.returns-clause-crossed
-returns-clause-crossed g c =
-    let es = c.in_ok-summaries.summaries.items in
-    let a = found_at c.args.job.now c.args.query.now c.args.cuts es c.in_ok-checkpoints.checkpoints c.in_ok-tickets.tickets.items c.in_ok-checkpoints.ensures c.in_ok-tickets.ensures c.in_ok-summaries.ensures in
-    let asked = c.in_ok-crossings.ensures ∙ ap (λ (xs : List Summary). crossings_back (map summary_of xs)) c.deref.ensures.value in
-    c.in_ok-crossed.ensures ∙ found_crossed c.args.job.now c.args.query.now c.args.cuts es c.points-points.ensures.located c.requires a c.in_ok-crossings.crossings.items asked

@@ -1,0 +1,44 @@
+use Rattle.std.proofs.Common.{◌∙◌, ap, sym, subst, arith, ℕ, List, length}
+use Rattle.flow_model.specs.declared.Loc.{Loc}
+use Rattle.log_model.specs.Logs.{steps}
+use Rattle.epoch_model.specs.Cutting.{IsCutting}
+use Rattle.report_model.specs.Rows.{row_cmp, rows_as_written}
+use Rattle.sorted_set.specs.Sets.{set_of}
+use Rattle.replay_model.proofs.Offsets.{writes_apart}
+use Rattle.replayer.specs.Jobs.{Job, trace_of}
+use Rattle.sink_collect.specs.Distinct.{AreDistinct}
+use Rattle.seq_taint.proofs.Distinct.{distinct_rows}
+use Rattle.epoch_line.specs.Crossings.{asked_at}
+use Rattle.jet_core.specs.Crossings.{numbered}
+use Rattle.jet_core.proofs.Together.{few_crossings}
+use Rattle.jet_core.proofs.whole.query.Goals as goal
+
+pub work-requires-clause-times : goal.work-requires-clause-times
+work-requires-clause-times g c = ap (λ p. p.times) c.in_ok-checkpoints.ensures
+
+pub work-requires-clause-cuts : goal.work-requires-clause-cuts
+work-requires-clause-cuts g c =
+    subst (λ (job : Job). IsCutting (steps job.log) c.args.cuts) (sym (ap (λ p. p.job) c.in_ok-checkpoints.ensures)) c.requires.cuts
+
+pub gather-requires : goal.gather-requires
+gather-requires g c =
+    let q = c.args.query.now in
+    let job = c.args.job.now in
+    let rows = c.into_vec.ensures ∙ c.in_ok-sets.ensures.rows ∙ ap (λ p. rows_as_written q (trace_of p.job)) c.in_ok-checkpoints.ensures in
+    subst AreDistinct (sym rows) (distinct_rows q (trace_of job) c.points-points.ensures.ascending (writes_apart job.start job.log))
+
+pub number-requires : goal.number-requires
+number-requires g c =
+    let asked = ap length c.in_ok-sets.ensures.crossed in
+    omega (arith, asked, few_crossings c.args.query.now (trace_of c.in_ok-checkpoints.checkpoints.job) c.args.cuts, c.count-count.ensures.is, c.count-count.ensures.in_range)
+
+pub returns-clause-report : goal.returns-clause-report
+returns-clause-report g c =
+    let q = c.args.query.now in
+    let rows = c.into_vec.ensures ∙ c.in_ok-sets.ensures.rows ∙ ap (λ p. rows_as_written q (trace_of p.job)) c.in_ok-checkpoints.ensures in
+    c.in_ok-report.ensures ∙ ap (set_of row_cmp) rows
+
+pub returns-clause-crossed : goal.returns-clause-crossed
+returns-clause-crossed g c =
+    c.in_ok-crossed.ensures
+    ∙ ap (numbered 1) (c.in_ok-sets.ensures.crossed ∙ ap (λ p. asked_at c.args.query.now (trace_of p.job) c.args.cuts) c.in_ok-checkpoints.ensures)
