@@ -6,7 +6,7 @@ use Rattle.flow_rule.specs.declared.Message.{Message}
 use Rattle.report_model.specs.Rows.{Row}
 use Rattle.sink_collect.specs.Pairs.{capped}
 use Rattle.epoch_model.specs.Summary.{Summary as EpochSummary}
-use Rattle.epoch_model.specs.Join.{resolved_row}
+use Rattle.epoch_model.specs.Join.{resolved_row, rows_of}
 use Rattle.stream_model.specs.Streams.{requests, heard}
 use Rattle.stream_model.specs.Passes.{Asking as AskingState, got_at_start, asking_event, Answering as AnsweringState, answering_start, answering_event, rows_or_none}
 use Rattle.stream_model.specs.Work.{many_got, node_work}
@@ -52,29 +52,27 @@ begun_counted i v b =
 
 -- a whole pass that is over has walked all sinks
 walked_all : (v : BackView) (got sent : Option (List Message)) → Reached v got sent → v.over ≡ true → v.whole ≡ true → length v.left ≡ 0
-walked_all v got sent r o t = ap (λ (a : AskingState). length a.left) r.is ∙ ap length (holds.over (ap (λ (a : AskingState). a.is_over) (sym r.is) ∙ o)).0 where
-  start : (b : Bool) → (begun b v.last (knows v)).is_whole ≡ true → AskingHolds v.first v.last (knows v) (begun b v.last (knows v))
-  start true t = no (sym t)
-  start false t = asking_starts v.first v.last (knows v)
-
-  holds : AskingHolds v.first v.last (knows v) _
-  holds = asking_after_holds v.first v.last (knows v) r.schedule (begins v) (start (is_none v.summary)) (ap (λ (a : AskingState). a.is_whole) (sym r.is) ∙ t)
+walked_all v got sent r o t =
+    let holds = asking_after_holds v.first v.last (knows v) r.schedule (begins v) (start (is_none v.summary)) (ap (λ (a : AskingState). a.is_whole) (sym r.is) ∙ t) in
+    ap (λ (a : AskingState). length a.left) r.is ∙ ap length (holds.over (ap (λ (a : AskingState). a.is_over) (sym r.is) ∙ o)).0
+  where
+    start : (b : Bool) → (begun b v.last (knows v)).is_whole ≡ true → AskingHolds v.first v.last (knows v) (begun b v.last (knows v))
+    start true t = no (sym t)
+    start false t = asking_starts v.first v.last (knows v)
 
 module _ (i : Given) (v : BackView) (w : Told) (a : IsAsking i v w) (l : HasLinks i w) (next : StageView) (got' sent' : Option (List Message)) (turn : PassTurn)
     (x : BackActs v w.asks_got w.asks_sent next got' sent' turn) (n : is_none got' ≡ is_none w.asks_got) (t : x.back.whole ≡ true) where
-  old_asking : AskingState
+  abbrev old_asking : AskingState
   old_asking = state v w.asks_got w.asks_sent
 
   event_whole : (asking_event v.first (knows v) x.happens.links old_asking).is_whole ≡ true
   event_whole = ap (λ (s : AskingState). s.is_whole) (sym x.happens.is) ∙ t
 
   whole_back : v.whole ≡ true
-  unfolding old_asking
   whole_back = whole_asking_before v.first (knows v) x.happens.links old_asking event_whole
 
   -- in an event that moves
   asks_counted : is_met (asking_need old_asking) (freed x.happens.links) ≡ true → (moved : ℕ) → HasAsked i v w moved → HasAsked i x.back (record w { asks_got = got'; asks_sent = sent' }) (moved + 1)
-  unfolding old_asking
   asks_counted met moved h =
       let count : AskCount old_asking (state x.back got' sent') true =
       subst₂ (AskCount old_asking) (sym x.happens.is) met (count_asking v.first (knows v) x.happens.links old_asking event_whole) in
@@ -102,29 +100,26 @@ settled_counted i v f w s over whole walked requested fresh_got fresh_sent moved
 -- a whole pass that is over has answered all
 answered_all : (first whole : Bool) (ls : List Loc) (f : ForeView) (got sent : Option (List Message)) → ForeReached first ls whole f got sent → f.over ≡ true → f.whole ≡ true → length f.left ≡ 0
 answered_all first whole ls f got sent r o t =
+    let holds =
+    answering_after_holds first (known_by f) f.asked ls r.schedule (answering_start whole first ls) (λ _. answering_starts whole first (known_by f) f.asked ls)
+    (ap (λ (s : AnsweringState). s.is_whole) (sym r.is) ∙ t) in
     sym (as_long (λ (r : Request). r.loc) f.left) ∙ ap (λ (s : AnsweringState). length s.left) r.is
     ∙ ap length (holds.over (ap (λ (s : AnsweringState). s.is_over) (sym r.is) ∙ o)).3
-  where
-    holds =
-        answering_after_holds first (known_by f) f.asked ls r.schedule (answering_start whole first ls) (λ _. answering_starts whole first (known_by f) f.asked ls)
-        (ap (λ (s : AnsweringState). s.is_whole) (sym r.is) ∙ t)
 
 module _ (i : Given) (f : ForeView) (w : Told) (a : IsAnswering i f w) (l : HasLinks i w) (next : StageView) (got' sent' : Option (List Message)) (turn : PassTurn)
     (x : ForeActs f w.answers_got w.answers_sent next got' sent' turn) (n : is_none got' ≡ is_none w.answers_got) (t : x.fore.whole ≡ true) where
-  old_answering : AnsweringState
+  abbrev old_answering : AnsweringState
   old_answering = fore_state f w.answers_got w.answers_sent
 
   answer_whole : (answering_event (known_by f) f.asked x.happens.links old_answering).is_whole ≡ true
   answer_whole = ap (λ (s : AnsweringState). s.is_whole) (sym x.happens.is) ∙ t
 
   whole_fore : f.whole ≡ true
-  unfolding old_answering
   whole_fore = begun_whole (known_by f) f.asked (x.happens.links ∷ []) old_answering answer_whole
 
   -- in an event that moves
   answers_counted : is_met (answering_need (known_by f) f.asked old_answering) (freed x.happens.links) ≡ true → (moved : ℕ) → HasAnswered i f w moved
       → HasAnswered i x.fore (record w { answers_got = got'; answers_sent = sent' }) (moved + 1)
-  unfolding old_answering
   answers_counted met moved h =
       let count : AnswerCount old_answering (fore_state x.fore got' sent') true =
       subst₂ (AnswerCount old_answering) (sym x.happens.is) met (count_answering (known_by f) f.asked x.happens.links old_answering answer_whole) in
@@ -141,9 +136,6 @@ module _ (i : Given) (f : ForeView) (w : Told) (a : IsAnswering i f w) (l : HasL
 record MovesOn (i : Given) (s : StageView) (w : Told) (after : StageView) (w' : Told) : Type 0 where
   whole : whole_at s ≡ true
   more : (moved : ℕ) → MovedAt i s w moved → MovedAt i after w' (moved + 1)
-
-abbrev MovesTo : Given → StageView → Told → StageView → Told → StageView → Type 0
-MovesTo i s w after w' n = whole_at n ≡ true → MovesOn i s w after w'
 
 moved_at : (i : Given) (s next : StageView) (w : Told) (got' sent' : Option (List Message)) → HasLinks i w → is_none got' ≡ is_none (got_at s w)
     → AtStage i s w → Acts s (got_at s w) (sent_at s w) next got' sent' pass_turn.Moved → whole_at next ≡ true → MovesOn i s w next (told_at s got' sent' w)
@@ -255,6 +247,7 @@ module _ (c d : CoreView) (same : d.given ≡ c.given) (w : Told) (got' sent' : 
 pub has_counted : (i : Given) (f : ForeView) (w : Told) → IsAnswering i f w → f.over ≡ true → f.whole ≡ true → (moved : ℕ) → HasAnswered i f w moved → (asked : List Loc) (rows : List Row) (events : ℕ) → rows ≡ rows_or_none f.rows
     → events ≡ capped moved → HasCounted i w asked rows events
 has_counted i f w a o t moved h asked rows events rows_is e = λ epoch. e ∙ ap capped (work epoch) where
+  resolved : f.rows ≡ Some (rows_of (known_by f) (heard f.asked (got_by w.answers_got)))
   resolved = (a.sends t).rows o
 
   work : (epoch : EpochSummary) → moved ≡ node_work i.first i.last (node_by epoch w asked rows)
