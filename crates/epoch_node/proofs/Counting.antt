@@ -133,9 +133,9 @@ module _ (i : Given) (f : ForeView) (w : Told) (a : IsAnswering i f w) (l : HasL
 -- ---- an event of a core
 
 -- a core that is whole after an event was whole before it, and one event more moved
-record MovesOn (i : Given) (s : StageView) (w : Told) (after : StageView) (w' : Told) : Type 0 where
-  whole : whole_at s ≡ true
-  more : (moved : ℕ) → MovedAt i s w moved → MovedAt i after w' (moved + 1)
+pub record MovesOn (i : Given) (s : StageView) (w : Told) (after : StageView) (w' : Told) : Type 0 where
+  pub whole : whole_at s ≡ true
+  pub more : (moved : ℕ) → MovedAt i s w moved → MovedAt i after w' (moved + 1)
 
 moved_at : (i : Given) (s next : StageView) (w : Told) (got' sent' : Option (List Message)) → HasLinks i w → is_none got' ≡ is_none (got_at s w)
     → AtStage i s w → Acts s (got_at s w) (sent_at s w) next got' sent' pass_turn.Moved → whole_at next ≡ true → MovesOn i s w next (told_at s got' sent' w)

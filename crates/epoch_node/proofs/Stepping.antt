@@ -1,5 +1,5 @@
 -- What an event of a core keeps.
-use Rattle.std.proofs.Common.{refl, ◌≡◌, List, ap, ap₂, sym, subst, subst₂, ◌∙◌, false}
+use Rattle.std.proofs.Common.{refl, ◌≡◌, List, ap, ap₂, sym, subst, subst₂, ◌∙◌, true, false}
 use Rattle.std.specs.Prelude.{Option, is_none}
 use Rattle.flow_rule.specs.declared.Message.{Message}
 use Rattle.pass_parts.specs.declared.pass_turn.PassTurn.{PassTurn}
@@ -19,6 +19,14 @@ use Rattle.epoch_node.proofs.Counting.{counted_by, counts_open, counts_over}
 pub acts_of : {s t : Stage} → s ≡ t → (next : StageView) (got sent got' sent' : Option (List Message)) (turn : PassTurn)
     → Acts (stage_of s) got sent next got' sent' turn → Acts (stage_of t) got sent next got' sent' turn
 acts_of e next got sent got' sent' turn x = subst (λ s. Acts (stage_of s) got sent next got' sent' turn) e x
+
+-- where nothing more went through the links of its phase, a core keeps what it kept
+pub told_same : (s : StageView) (w : Told) (got sent : Option (List Message)) → got_at s w ≡ got → sent_at s w ≡ sent → w ≡ told_at s got sent w
+told_same (Fresh t) w got sent g e = ap₂ (λ x y. record w { asks_got = x; asks_sent = y }) g e
+told_same (Asking v) w got sent g e = ap₂ (λ x y. record w { asks_got = x; asks_sent = y }) g e
+told_same (Answering f) w got sent g e = ap₂ (λ x y. record w { answers_got = x; answers_sent = y }) g e
+told_same (Done f) w got sent g e = ap₂ (λ x y. record w { answers_got = x; answers_sent = y }) g e
+told_same Between w got sent g e = ap₂ (λ x y. record w { answers_got = x; answers_sent = y }) g e
 
 -- the event happened or not, and the pass is not over
 pub record IsOpenTurn (turn : PassTurn) : Type 1 where

@@ -18,4 +18,4 @@ returns-clause-counted g c = λ w k.
     let whole = sym c.whole-whole.ensures ∙ c.if-not-whole.false in
     let counts = k.counts (ap (λ s. whole_at (stage_of s)) done ∙ whole) in
     has_counted (core_of c.args.self).given (fore_of c.in-Done.fore) w at.0 at.1 whole counts.moved (subst (λ s. MovedAt (core_of c.args.self).given (stage_of s) w counts.moved) done counts.at_stage)
-    _ _ _ c.into_sets-sets.ensures.rows counts.is
+    c.into_sets-sets.result.1 _ _ c.into_sets-sets.ensures.rows counts.is

@@ -2,10 +2,14 @@ use Rattle.std.proofs.Common.{rules, ◌≡◌, refl, sym, ap, ◌∙◌, subst}
 use Rattle.pass_parts.specs.declared.pass_turn.PassTurn.TheVariants.{Moved, NotYet, Over}
 use Rattle.epoch_node.specs.declared.stage.Phase.TheVariants.{Done}
 use Rattle.epoch_node.specs.Cores.{stage_of, core_of, phase_of}
+use Rattle.epoch_node.specs.Keeping.{KeepsCore}
 use Rattle.epoch_node.specs.Events.{one_more, Advances}
 use Rattle.epoch_node.proofs.Acting.{same_none}
-use Rattle.epoch_node.proofs.Stepping.{acts_of, core_steps_over, moved_open, not_yet_open, core_got_more, core_sent_more, keeps_open, keeps_over}
+use Rattle.epoch_node.proofs.Stepping.{acts_of, told_same, core_steps_over, moved_open, not_yet_open, core_got_more, core_sent_more, keeps_open, keeps_over}
 use Rattle.epoch_node.proofs.node_core.Core.step.Goals as goal
+
+pub returns-then-eq-clause-keeps : goal.returns-then-eq-clause-keeps
+returns-then-eq-clause-keeps g c = λ w got sent k. subst (KeepsCore (core_of c.args.self.now)) (told_same (core_of c.args.self.now).stage w _ _ got sent) k
 
 pub returns-in-Moved-clause-keeps : goal.returns-in-Moved-clause-keeps
 returns-in-Moved-clause-keeps g c =
