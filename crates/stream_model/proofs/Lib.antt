@@ -5,5 +5,7 @@ pub mod Passing
 pub mod Moving
 pub mod NeverStill
 pub mod Running
+pub mod Moves
+pub mod NodeWork
 pub mod Work
 mod Worked
