@@ -24,7 +24,7 @@ use Rattle.local_taint.specs.Summaries.{AreInRange}
 use Rattle.pass_parts.specs.Ends.{got_by, sent_by, EndsWhole}
 use Rattle.stream_model.specs.Streams.{is_ended, requests, Node, IsDone, AreDone, AreAllDone, summaries}
 use Rattle.stream_model.specs.StreamLaws.{EndsLast, LinksCarry}
-use Rattle.stream_model.specs.Work.{node_work, work_in_all, EndsBehind, EndsOutside}
+use Rattle.stream_model.specs.Work.{node_work, work_in_all, asked_at, EndsBehind, EndsOutside}
 use Rattle.stream_model.proofs.Growing.{asks_end_last, answers_end_last}
 use Rattle.stream_model.proofs.Meeting.{done_nodes_meet}
 use Rattle.stream_model.proofs.Running.{all_got}
@@ -34,7 +34,6 @@ use Rattle.epoch_node.specs.Keeping.{node_by, IsFound}
 use Rattle.epoch_node.specs.Events.{IsMore}
 use Rattle.epoch_line.specs.Layouts.{CutRun, epochs_of, given_at}
 use Rattle.epoch_line.specs.DoneLines.{DoneNode, IsPlaced, AreTold, IsDoneLine, crossed, DoneLinesCome}
-use Rattle.epoch_line.specs.Crossings.{asked_at}
 
 abbrev pub stream_of : DoneNode → Node
 stream_of d = node_by d.done.summary d.told d.asked d.rows

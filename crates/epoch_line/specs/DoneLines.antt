@@ -9,12 +9,11 @@ use Rattle.replayer.specs.Jobs.{trace_of}
 use Rattle.sink_collect.specs.Pairs.{capped}
 use Rattle.epoch_model.specs.Cutting.{IsCutting}
 use Rattle.epoch_cut.specs.Numbered.{NumberedEpoch}
-use Rattle.stream_model.specs.Work.{run_work}
+use Rattle.stream_model.specs.Work.{asked_at, run_work}
 use Rattle.epoch_node.specs.Cores.{Given}
 use Rattle.epoch_node.specs.Keeping.{Told, HasLinks, HasDone, HasCounted}
 use Rattle.epoch_node.specs.Events.{IsMore}
 use Rattle.epoch_line.specs.Layouts.{CutRun, epochs_of, given_at}
-use Rattle.epoch_line.specs.Crossings.{asked_at}
 
 -- a node that is done and not broken: what it was given, what went through its links, what it asked, its rows, and its
 -- count of events

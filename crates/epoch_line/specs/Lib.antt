@@ -1,4 +1,3 @@
 pub mod Layouts
 pub mod Lines
-pub mod Crossings
 pub mod DoneLines

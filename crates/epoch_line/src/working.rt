@@ -7,8 +7,7 @@ ghost use Rattle.epoch_model.specs.Cutting.{IsCutting};
 ghost use Rattle.replayer.specs.Jobs.{trace_of};
 ghost use Rattle.checkpoints.specs.Points.{beginnings};
 ghost use Rattle.sink_collect.specs.Pairs.{capped};
-ghost use Rattle.stream_model.specs.Work.{run_work};
-ghost use Rattle.epoch_line.specs.Crossings.{asked_at};
+ghost use Rattle.stream_model.specs.Work.{asked_at, run_work};
 
 use crate::collecting::{Collected, collect};
 use crate::layout::lay_out;

@@ -17,7 +17,7 @@ use Rattle.report_model.specs.Text.{report_text}
 use Rattle.replay_model.specs.Fits.{Fits, beginning, start_in_image}
 use Rattle.record_model.specs.Counts.{capped}
 use Rattle.epoch_model.specs.ByLength.{cut_times}
-use Rattle.epoch_model.specs.Crossing.{crossing_at}
+use Rattle.stream_model.specs.Work.{asked_at, run_work}
 use Rattle.outer_io.specs.Faults.{Rose}
 use Rattle.outer_io.specs.Tells.{Tells}
 use Rattle.outer_io.specs.Files.{Files}
@@ -25,7 +25,7 @@ use Rattle.outer_io.specs.Shown.{StoreShown}
 use Rattle.replayer.specs.Jobs.{Job, trace_of}
 use Rattle.replayer.specs.Checks.{IsChecked}
 use Rattle.sink_collect.specs.Pairs.{pairs}
-use Rattle.jet_core.specs.Crossings.{CrossedAt, numbered, asked_at, crossed}
+use Rattle.jet_core.specs.Crossings.{CrossedAt, numbered, crossed}
 use Rattle.no_memory.specs.declared.NoMemory.{NoMemory}
 use Rattle.jet_refusal.specs.declared.refusal.Refusal.{Refusal}
 use Rattle.jet_refusal.specs.declared.refusal.Refusal.TheVariants as refusal
@@ -37,7 +37,7 @@ use Rattle.jet_model.specs.Answer.{fitting_start, epochs_check}
 use Rattle.jet_model.proofs.AndThen.{and_then-ok, and_then-err}
 use Rattle.workload_model.specs.Guest.{guest_file, guest_image}
 use Rattle.workload_model.specs.declared.Numbers.{Numbers}
-use Rattle.workload_model.specs.Lines.{asked_lists, numbers_of, bench_text}
+use Rattle.workload_model.specs.Lines.{numbers_of, bench_text}
 use Rattle.workload_model.specs.Answer.{lines_of, IsWorkloadLog, IsBenchAnswer}
 use Rattle.workload_model.proofs.Guests.{guest-image}
 use Rattle.workload_model.proofs.Outcomes.{short_log-outcome, long_log-outcome}
@@ -93,11 +93,6 @@ recording-stops seed n epoch fault.NoMemory is = tt
 
 -- ---- its numbers
 
-asked_at-asked_lists : (q : Query) (steps : List StepSeen) (cuts : List ℕ) → asked_at q steps cuts ≡ asked_lists q steps cuts
-asked_at-asked_lists q steps [] = refl
-asked_at-asked_lists q steps (c ∷ []) = refl
-asked_at-asked_lists q steps (c ∷ d ∷ cuts) = ap (λ (all : List (List Loc)). crossing_at q steps c (d ∷ cuts) ∷ all) (asked_at-asked_lists q steps (d ∷ cuts))
-
 sum-numbered : (k : ℕ) (all : List (List Loc)) → sum_by (λ (c : CrossedAt). length c.asked) (numbered k all) ≡ sum_by length all
 sum-numbered k [] = refl
 sum-numbered k (ls ∷ all) =
@@ -105,15 +100,14 @@ sum-numbered k (ls ∷ all) =
     ∙ ap (λ (n : ℕ). length ls + n) (sum-numbered (k + 1) all)
     ∙ sym (sum_by-cons length ls all)
 
-pub asked-in_all : (q : Query) (steps : List StepSeen) (cuts : List ℕ) → asked_in_all (crossed q steps cuts) ≡ capped (sum_by length (asked_lists q steps cuts))
-asked-in_all q steps cuts =
-    ap capped (sum-numbered 1 (asked_at q steps cuts) ∙ ap (λ (all : List (List Loc)). sum_by length all) (asked_at-asked_lists q steps cuts))
+pub asked-in_all : (q : Query) (steps : List StepSeen) (cuts : List ℕ) → asked_in_all (crossed q steps cuts) ≡ capped (sum_by length (asked_at q steps cuts))
+asked-in_all q steps cuts = ap capped (sum-numbered 1 (asked_at q steps cuts))
 
 -- the numbers of these counts and this digest
 pub numbers-are : (q : Query) (cuts : List ℕ) (steps : List StepSeen) (n : Numbers) → n.steps ≡ length steps → n.epochs ≡ length cuts
-    → n.sinks ≡ length (rows q steps) → n.pairs ≡ capped (pairs (rows q steps)) → n.asked ≡ capped (sum_by length (asked_lists q steps cuts))
-    → n.digest ≡ sha256 (report_text (rows q steps)) → n ≡ numbers_of q cuts steps
-numbers-are q cuts steps n a b c d e f = λ i. record { steps = a i; epochs = b i; sinks = c i; pairs = d i; asked = e i; digest = f i }
+    → n.sinks ≡ length (rows q steps) → n.pairs ≡ capped (pairs (rows q steps)) → n.asked ≡ capped (sum_by length (asked_at q steps cuts))
+    → n.digest ≡ sha256 (report_text (rows q steps)) → n.events ≡ capped (run_work q steps cuts) → n ≡ numbers_of q cuts steps
+numbers-are q cuts steps n a b c d e f g = λ i. record { steps = a i; epochs = b i; sinks = c i; pairs = d i; asked = e i; digest = f i; events = g i }
 
 -- ---- what it comes to
 

@@ -81,7 +81,7 @@ fn numbers<R: Threads + Wait + Sync, G: Gate>(
     ensures { IfOk result (λ numbers. numbers ≡ numbers_of query.now cuts (trace_of job.now)) }
 {
     let epochs = u64::from(cuts.count());
-    let (report, crossed) = jet_core::query(
+    let (report, crossed, events) = jet_core::query(
         engine.rt,
         engine.alloc,
         engine.gate,
@@ -99,6 +99,7 @@ fn numbers<R: Threads + Wait + Sync, G: Gate>(
         pairs: report.pairs(),
         asked: count_asked(&crossed),
         digest: Sha256::digest(&text),
+        events,
     })
 }
 

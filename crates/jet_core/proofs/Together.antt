@@ -14,7 +14,7 @@ use Rattle.log_model.specs.Logs.{steps}
 use Rattle.replayer.specs.Jobs.{Job, trace_of}
 use Rattle.local_taint.specs.declared.summary.Summary.{Summary as Found}
 use Rattle.local_taint.specs.Summaries.{summary_of}
-use Rattle.epoch_line.specs.Crossings.{asked_at}
+use Rattle.stream_model.specs.Work.{asked_at}
 use Rattle.jet_core.specs.Asking.{AreOfOneTrace}
 use Rattle.jet_core.specs.Tickets.{AreFound}
 use Rattle.jet_core.proofs.Tickets.{found_summaries, found_in_range, trace_long}

@@ -3,7 +3,7 @@ use Rattle.std.specs.Prelude.{ℕ, ◌+◌, List, [], ◌∷◌}
 use Rattle.flow_model.specs.declared.Loc.{Loc}
 use Rattle.flow_model.specs.declared.StepSeen.{StepSeen}
 use Rattle.report_model.specs.Query.{Query}
-use Rattle.epoch_line.specs.Crossings.{asked_at}
+use Rattle.stream_model.specs.Work.{asked_at}
 
 -- the number of a cut, and the locations that are asked for there
 pub record CrossedAt : Type 0 where

@@ -9,8 +9,8 @@ use run_output::push_number;
 use std::alloc::Global;
 use workload_model::Numbers;
 
-/// The length of the longest text: names, blanks and line feeds, five numbers of 20 digits, and a digest of 64.
-const MOST_BYTES: usize = 208;
+/// The length of the longest text: names, blanks and line feeds, six numbers of 20 digits, and a digest of 64.
+const MOST_BYTES: usize = 236;
 
 /// Appends the line of a digest.
 fn push_digest(out: &mut Vec<u8>, digest: &[u8; 32]) -> Result<(), NoMemory>
@@ -24,9 +24,9 @@ fn push_digest(out: &mut Vec<u8>, digest: &[u8; 32]) -> Result<(), NoMemory>
     Ok(())
 }
 
-/// The six lines of these numbers: `steps N`, `epochs N`, `sinks N`, `pairs N`, `asked N` and `report H`, each with a
-/// line feed. Numbers are decimals, and H is the digest in 64 lower-case hexadecimal digits. It gives up with NoMemory
-/// alone.
+/// The seven lines of these numbers: `steps N`, `epochs N`, `sinks N`, `pairs N`, `asked N`, `report H` and `events N`, each
+/// with a line feed. Numbers are decimals, and H is the digest in 64 lower-case hexadecimal digits. It gives up with
+/// NoMemory alone.
 pub fn text_of(alloc: Global, numbers: &Numbers) -> Result<Vec<u8>, NoMemory>
     ensures { IfOk result (λ text. text.items ≡ numbers_text numbers.now) }
 {
@@ -37,5 +37,6 @@ pub fn text_of(alloc: Global, numbers: &Numbers) -> Result<Vec<u8>, NoMemory>
     push_number(&mut out, b"pairs", numbers.pairs)?;
     push_number(&mut out, b"asked", numbers.asked)?;
     push_digest(&mut out, &numbers.digest)?;
+    push_number(&mut out, b"events", numbers.events)?;
     Ok(out)
 }

@@ -1,4 +1,4 @@
--- How many events move in the nodes of a run.
+-- What is asked at the cuts of a run, and how many events move in its nodes.
 use Rattle.std.specs.Prelude.{◌≡◌, ℕ, ◌+◌, ◌*◌, ◌-◌, Bool, true, false, List, [], ◌∷◌, length, All}
 use Rattle.flow_model.specs.declared.Loc.{Loc}
 use Rattle.flow_model.specs.declared.StepSeen.{StepSeen}
@@ -36,6 +36,12 @@ abbrev pub work_in_all : Bool → List Node → ℕ
 work_in_all first [] = 0
 work_in_all first (n ∷ []) = node_work first true n
 work_in_all first (n ∷ m ∷ ns) = node_work first false n + work_in_all false (m ∷ ns)
+
+-- what is asked at each of these cuts but the last, which is the end of the run
+abbrev pub asked_at : Query → List StepSeen → List ℕ → List (List Loc)
+asked_at q trace [] = []
+asked_at q trace (c ∷ []) = []
+asked_at q trace (c ∷ d ∷ cuts) = crossing_at q trace c (d ∷ cuts) ∷ asked_at q trace (d ∷ cuts)
 
 -- the locations asked at the inner cuts, and their origins there, counted
 abbrev pub asked_in_all : Query → List StepSeen → List ℕ → ℕ

@@ -1,5 +1,6 @@
 -- The numbers of alike queries. Crates above cite this lemma.
-use Rattle.std.proofs.Common.{◌≡◌, ℕ, zero, suc, ◌+◌, ◌-◌, ◌==◌, List, [], ◌∷◌, ◌++◌, length, Bool, map, ap, ap₂, refl, sum_by}
+use Rattle.std.proofs.Common.{◌≡◌, ℕ, zero, suc, ◌+◌, ◌-◌, ◌==◌, List, [], ◌∷◌, ◌++◌, length, Bool, map, ap, ap₂, refl, sym, ◌∙◌, sum_by, arith}
+use Rattle.std.proofs.lemmas.List.{length-map}
 use Rattle.std.specs.Prelude.{Option, Some, None}
 use Rattle.std.specs.List.{filter}
 use Rattle.flow_model.specs.declared.Loc.{Loc}
@@ -11,17 +12,18 @@ use Rattle.flow_model.specs.Orders.{inner_cmp}
 use Rattle.flow_model.specs.Origins.{Policy, step_at}
 use Rattle.sorted_set.specs.Sets.{has}
 use Rattle.report_model.specs.Query.{Query, Alike, has_sink, policy_of}
-use Rattle.report_model.specs.Rows.{Sink, Row, point_sink, points_at, sinks_of_step}
+use Rattle.report_model.specs.Rows.{Sink, Row, row, rows, rows_as_written, point_sink, points_at, sinks_of_step, sinks_from}
 use Rattle.report_model.specs.Text.{report_text}
 use Rattle.report_model.proofs.RowLemmas.{same_rows}
 use Rattle.record_model.specs.Counts.{capped}
 use Rattle.sink_collect.specs.Pairs.{pairs}
 use Rattle.epoch_model.specs.Stretch.{sinks_at_step, sinks_between, points_at_start, sinks_of_epoch}
 use Rattle.epoch_model.specs.Summary.{Summary, terms, sink_terms}
-use Rattle.epoch_model.specs.Crossing.{crossing, summary_of, summaries_of}
+use Rattle.epoch_model.specs.Crossing.{crossing, crossing_at, summary_of, summaries_of}
+use Rattle.stream_model.specs.Work.{asked_at, asked_in_all, listed, listed_in_all, run_work}
 use Rattle.sha2.specs.Sha256.{sha256}
 use Rattle.workload_model.specs.declared.Numbers.{Numbers}
-use Rattle.workload_model.specs.Lines.{asked_lists, numbers_of}
+use Rattle.workload_model.specs.Lines.{numbers_of}
 
 same_policy : (q p : Query) → Alike q p → policy_of q ≡ policy_of p
 same_policy q p a = λ i. record { rule = a.rule i; introduces = λ b. a.sources b.channel b.offset i }
@@ -64,22 +66,59 @@ same_summaries q p a trace s [] = refl
 same_summaries q p a trace s (c ∷ cuts) =
     ap₂ (λ (e : Summary) (es : List Summary). e ∷ es) (same_summary q p a trace s (c - s)) (same_summaries q p a trace c cuts)
 
-same_asked : (q p : Query) → Alike q p → (trace : List StepSeen) (cuts : List ℕ) → asked_lists q trace cuts ≡ asked_lists p trace cuts
+same_crossing : (q p : Query) → Alike q p → (trace : List StepSeen) (c : ℕ) (cuts : List ℕ) → crossing_at q trace c cuts ≡ crossing_at p trace c cuts
+same_crossing q p a trace c cuts = ap crossing (same_summaries q p a trace c cuts)
+
+same_asked : (q p : Query) → Alike q p → (trace : List StepSeen) (cuts : List ℕ) → asked_at q trace cuts ≡ asked_at p trace cuts
 same_asked q p a trace [] = refl
 same_asked q p a trace (c ∷ []) = refl
 same_asked q p a trace (c ∷ d ∷ cuts) =
-    ap₂ (λ (ls : List Loc) (all : List (List Loc)). ls ∷ all) (ap crossing (same_summaries q p a trace c (d ∷ cuts))) (same_asked q p a trace (d ∷ cuts))
+    ap₂ (λ (ls : List Loc) (all : List (List Loc)). ls ∷ all) (same_crossing q p a trace c (d ∷ cuts)) (same_asked q p a trace (d ∷ cuts))
 
--- the numbers of these rows and these asked lists
-abbrev numbers_by : List ℕ → List StepSeen → List Row → List (List Loc) → Numbers
-numbers_by cuts trace all asked = record {
+-- ---- the events
+
+same_asked_in_all : (q p : Query) → Alike q p → (trace : List StepSeen) (cuts : List ℕ) → asked_in_all q trace cuts ≡ asked_in_all p trace cuts
+same_asked_in_all q p a trace [] = refl
+same_asked_in_all q p a trace (c ∷ []) = refl
+same_asked_in_all q p a trace (c ∷ d ∷ cuts) =
+    ap₂ (λ (ls : List Loc) (n : ℕ). length ls + n) (same_crossing q p a trace c (d ∷ cuts)) (same_asked_in_all q p a trace (d ∷ cuts))
+
+same_listed : (q p : Query) → Alike q p → (trace : List StepSeen) (c : ℕ) (cuts : List ℕ)
+    → listed (policy_of q) trace c (crossing_at q trace c cuts) ≡ listed (policy_of p) trace c (crossing_at p trace c cuts)
+same_listed q p a trace c cuts = ap₂ (λ (policy : Policy) (ls : List Loc). listed policy trace c ls) (same_policy q p a) (same_crossing q p a trace c cuts)
+
+same_listed_in_all : (q p : Query) → Alike q p → (trace : List StepSeen) (cuts : List ℕ) → listed_in_all q trace cuts ≡ listed_in_all p trace cuts
+same_listed_in_all q p a trace [] = refl
+same_listed_in_all q p a trace (c ∷ []) = refl
+same_listed_in_all q p a trace (c ∷ d ∷ cuts) = ap₂ (λ (m n : ℕ). m + n) (same_listed q p a trace c (d ∷ cuts)) (same_listed_in_all q p a trace (d ∷ cuts))
+
+same_sinks_from : (q p : Query) → Alike q p → (t : ℕ) (trace : List StepSeen) → sinks_from q t trace ≡ sinks_from p t trace
+same_sinks_from q p a t [] = same_points q p a t
+same_sinks_from q p a t (s ∷ ss) =
+    ap₂ (λ (xs ys : List Sink). xs ++ ys)
+    (ap₂ (λ (xs : List Sink) (f : SinkPoint → Bool). xs ++ filter (λ x. f x.name) (sinks_of_step t s.call)) (same_points q p a t) (same_choice q p a))
+    (same_sinks_from q p a (t + 1) ss)
+
+-- as many rows as sinks
+row_count : (q p : Query) → Alike q p → (trace : List StepSeen) → length (rows_as_written q trace) ≡ length (rows_as_written p trace)
+row_count q p a trace = length-map (sinks_from q 0 trace) (row q trace) ∙ ap length (same_sinks_from q p a 0 trace) ∙ sym (length-map (sinks_from p 0 trace) (row p trace))
+
+same_work : (q p : Query) → Alike q p → (trace : List StepSeen) (cuts : List ℕ) → run_work q trace cuts ≡ run_work p trace cuts
+same_work q p a trace cuts = omega (arith, row_count q p a trace, same_asked_in_all q p a trace cuts, same_listed_in_all q p a trace cuts)
+
+-- the numbers of these rows, asked lists and events
+abbrev numbers_by : List ℕ → List StepSeen → List Row → List (List Loc) → ℕ → Numbers
+numbers_by cuts trace all asked events = record {
   steps = length trace;
   epochs = length cuts;
   sinks = length all;
   pairs = capped (pairs all);
   asked = capped (sum_by length asked);
   digest = sha256 (report_text all);
+  events = capped events;
 }
 
 pub same_numbers : (q p : Query) (cuts : List ℕ) (trace : List StepSeen) → Alike q p → numbers_of q cuts trace ≡ numbers_of p cuts trace
-same_numbers q p cuts trace a = ap₂ (numbers_by cuts trace) (same_rows q p trace a) (same_asked q p a trace cuts)
+same_numbers q p cuts trace a =
+    ap₂ (λ (all : List Row) (asked : List (List Loc)). numbers_by cuts trace all asked (run_work q trace cuts)) (same_rows q p trace a) (same_asked q p a trace cuts)
+    ∙ ap (numbers_by cuts trace (rows p trace) (asked_at p trace cuts)) (same_work q p a trace cuts)

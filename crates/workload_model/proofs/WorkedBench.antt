@@ -36,7 +36,7 @@ unfolding guest_file digits
 one_order-report = refl
 
 abbrev one_order-text : List ℕ
-one_order-text = codes "steps 30\nepochs 2\nsinks 9\npairs 13\nasked 13\nreport b1f4f2e2be8647edfa75968354cde6bf10ae7ca2951ee3c58c4e44a59d626a01\n"
+one_order-text = codes "steps 30\nepochs 2\nsinks 9\npairs 13\nasked 13\nreport b1f4f2e2be8647edfa75968354cde6bf10ae7ca2951ee3c58c4e44a59d626a01\nevents 98\n"
 
 -- at the cut after 15 steps are asked x7's lowest lane, the lanes of x28 and x29, and the four bytes of the position
 one_order-outcome : bench_outcome one_order 15 ≡ Ok one_order-text
@@ -44,7 +44,7 @@ unfolding guest_file digits sha256 digest_bytes hash_after compress rounds first
 one_order-outcome = refl
 
 -- cut off before the first message is read
-set_up-outcome : bench_outcome (log_of [] 3) 4096 ≡ Ok (codes "steps 3\nepochs 1\nsinks 0\npairs 0\nasked 0\nreport 73c903eb97b1052378529a73a681ba334bc9229f05ccb42c73b84a350db83e4f\n")
+set_up-outcome : bench_outcome (log_of [] 3) 4096 ≡ Ok (codes "steps 3\nepochs 1\nsinks 0\npairs 0\nasked 0\nreport 73c903eb97b1052378529a73a681ba334bc9229f05ccb42c73b84a350db83e4f\nevents 4\n")
 unfolding guest_file digits sha256 digest_bytes hash_after compress rounds first_words schedule encode_with cut_times
 set_up-outcome = refl
 

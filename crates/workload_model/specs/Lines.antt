@@ -1,6 +1,5 @@
 -- The lines that `bench` prints.
-use Rattle.std.specs.Prelude.{ℕ, List, [], ◌∷◌, ◌++◌, length, sum_by, codes}
-use Rattle.flow_model.specs.declared.Loc.{Loc}
+use Rattle.std.specs.Prelude.{ℕ, List, ◌++◌, length, sum_by, codes}
 use Rattle.flow_model.specs.declared.StepSeen.{StepSeen}
 use Rattle.report_model.specs.Query.{Query}
 use Rattle.report_model.specs.Rows.{rows}
@@ -8,7 +7,7 @@ use Rattle.report_model.specs.Text.{report_text}
 use Rattle.record_model.specs.Counts.{capped}
 use Rattle.sink_collect.specs.Pairs.{pairs}
 use Rattle.run_output.specs.Summary.{number_line}
-use Rattle.epoch_model.specs.Crossing.{crossing_at}
+use Rattle.stream_model.specs.Work.{asked_at, run_work}
 use Rattle.sha2.specs.Sha256.{sha256}
 use Rattle.hex.specs.Hex.{encode_lower}
 use Rattle.workload_model.specs.declared.Numbers.{Numbers}
@@ -18,7 +17,7 @@ use Rattle.workload_model.specs.Workload.{workload_query}
 abbrev pub digest_line : List ℕ → List ℕ
 digest_line digest = codes "report " ++ encode_lower digest ++ codes "\n"
 
--- the six lines: each number in decimal
+-- the seven lines: each number in decimal
 abbrev pub numbers_text : Numbers → List ℕ
 numbers_text n =
     number_line (codes "steps") n.steps ++
@@ -26,13 +25,8 @@ numbers_text n =
     number_line (codes "sinks") n.sinks ++
     number_line (codes "pairs") n.pairs ++
     number_line (codes "asked") n.asked ++
-    digest_line n.digest
-
--- what the epochs ask at each cut but the last, which is the end of the run
-abbrev pub asked_lists : Query → List StepSeen → List ℕ → List (List Loc)
-asked_lists q trace [] = []
-asked_lists q trace (c ∷ []) = []
-asked_lists q trace (c ∷ d ∷ cuts) = crossing_at q trace c (d ∷ cuts) ∷ asked_lists q trace (d ∷ cuts)
+    digest_line n.digest ++
+    number_line (codes "events") n.events
 
 -- the numbers of a query over a trace whose epochs end at the cuts
 abbrev pub numbers_of : Query → List ℕ → List StepSeen → Numbers
@@ -41,8 +35,9 @@ numbers_of q cuts trace = let all = rows q trace in record {
   epochs = length cuts;
   sinks = length all;
   pairs = capped (pairs all);
-  asked = capped (sum_by length (asked_lists q trace cuts));
+  asked = capped (sum_by length (asked_at q trace cuts));
   digest = sha256 (report_text all);
+  events = capped (run_work q trace cuts);
 }
 
 -- the lines of the workload's query

@@ -21,4 +21,6 @@ pub struct Numbers {
     pub asked: u64,
     /// The SHA-256 digest of the report.
     pub digest: [u8; 32],
+    /// The events that move in the nodes of its epochs, or 2^64 - 1 where they are more.
+    pub events: u64,
 }

@@ -18,6 +18,7 @@ sinks 9
 pairs 13
 asked 13
 report b1f4f2e2be8647edfa75968354cde6bf10ae7ca2951ee3c58c4e44a59d626a01
+events 98
 ",
     ),
     // With one epoch nothing is asked, and the report is the same.
@@ -29,6 +30,7 @@ sinks 9
 pairs 13
 asked 0
 report b1f4f2e2be8647edfa75968354cde6bf10ae7ca2951ee3c58c4e44a59d626a01
+events 13
 ",
     ),
     (
@@ -39,6 +41,7 @@ sinks 0
 pairs 0
 asked 0
 report 73c903eb97b1052378529a73a681ba334bc9229f05ccb42c73b84a350db83e4f
+events 4
 ",
     ),
     (
@@ -58,6 +61,7 @@ sinks 324
 pairs 484
 asked 0
 report a48dafd02fad1119543dd99668e27ec4f974ecaf0eda1699ea5f43edb983973d
+events 328
 ",
     ),
 ];

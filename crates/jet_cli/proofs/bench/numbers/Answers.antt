@@ -23,3 +23,4 @@ returns g c =
     (c.pairs.ensures ∙ ap (λ (rs : List Row). capped (pairs rs)) found)
     (c.count_asked.ensures ∙ ap asked_in_all (c.deref.ensures.value ∙ c.in_ok-report.ensures.crossed) ∙ asked-in_all c.args.query.now (trace_of job) c.args.cuts)
     (c.digest.ensures ∙ ap sha256 (c.in_ok-text.ensures ∙ ap report_text found))
+    c.in_ok-report.ensures.events

@@ -8,7 +8,8 @@ use Rattle.replay_model.proofs.Offsets.{writes_apart}
 use Rattle.replayer.specs.Jobs.{Job, trace_of}
 use Rattle.sink_collect.specs.Distinct.{AreDistinct}
 use Rattle.seq_taint.proofs.Distinct.{distinct_rows}
-use Rattle.epoch_line.specs.Crossings.{asked_at}
+use Rattle.stream_model.specs.Work.{asked_at, run_work}
+use Rattle.sink_collect.specs.Pairs.{capped}
 use Rattle.jet_core.specs.Crossings.{numbered}
 use Rattle.jet_core.proofs.Together.{few_crossings}
 use Rattle.jet_core.proofs.whole.query.Goals as goal
@@ -42,3 +43,7 @@ pub returns-clause-crossed : goal.returns-clause-crossed
 returns-clause-crossed g c =
     c.in_ok-crossed.ensures
     ∙ ap (numbered 1) (c.in_ok-sets.ensures.crossed ∙ ap (λ p. asked_at c.args.query.now (trace_of p.job) c.args.cuts) c.in_ok-checkpoints.ensures)
+
+pub returns-clause-events : goal.returns-clause-events
+returns-clause-events g c =
+    c.in_ok-sets.ensures.events ∙ ap (λ p. capped (run_work c.args.query.now (trace_of p.job) c.args.cuts)) c.in_ok-checkpoints.ensures
