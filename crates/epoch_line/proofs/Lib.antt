@@ -1,6 +1,6 @@
-mod Tickets
-mod Layouts
+pub mod Tickets
+pub mod Layouts
 mod Numbers
 mod Lines
-mod Whole
-mod Popping
+pub mod Whole
+pub mod Popping
