@@ -21,6 +21,29 @@ report b1f4f2e2be8647edfa75968354cde6bf10ae7ca2951ee3c58c4e44a59d626a01
 events 98
 ",
     ),
+    // However many workers there are, and whatever a link holds, as many events move.
+    (
+        &[
+            "jet",
+            "bench",
+            "1",
+            "30",
+            "--epoch",
+            "15",
+            "--workers",
+            "64",
+            "--link",
+            "1",
+        ],
+        "steps 30
+epochs 2
+sinks 9
+pairs 13
+asked 13
+report b1f4f2e2be8647edfa75968354cde6bf10ae7ca2951ee3c58c4e44a59d626a01
+events 98
+",
+    ),
     // With one epoch nothing is asked, and the report is the same.
     (
         &["jet", "bench", "1", "30"],
@@ -116,10 +139,8 @@ fn a_workload_is_refused(rt: HostRuntime) -> Result<(), Fail> {
 
 const SHORT_EPOCHS: Line = &["jet", "bench", "1", "300", "--epoch", "2"];
 
-/// The lines before and after that of what was asked.
-const BEFORE: &[u8] = b"steps 300\nepochs 150\nsinks 90\npairs 130\nasked ";
-
-const AFTER: &[u8] = b"report 767d54ce1e949aff9f0161f92df10167272abb8900f6afc7f8e2673be7e2c2d0\n";
+/// All lines but the last. What is asked was counted where epochs were joined by lists.
+const LINES: &[u8] = b"steps 300\nepochs 150\nsinks 90\npairs 130\nasked 3751\nreport 767d54ce1e949aff9f0161f92df10167272abb8900f6afc7f8e2673be7e2c2d0\nevents ";
 
 #[test]
 fn short_epochs_give_the_same_report(rt: HostRuntime) -> Result<(), Fail> {
@@ -129,7 +150,6 @@ fn short_epochs_give_the_same_report(rt: HostRuntime) -> Result<(), Fail> {
     let mut err = MemorySink::new(alloc, Vec::new(alloc), 65536, 256)?;
     let status = status_of(&rt, SHORT_EPOCHS, &mut store, &mut out, &mut err)?;
     assert_eq!(rt; status, 0);
-    assert!(rt; out.bytes().starts_with(BEFORE));
-    assert!(rt; out.bytes().ends_with(AFTER));
+    assert!(rt; out.bytes().starts_with(LINES));
     Ok(())
 }
