@@ -11,8 +11,10 @@ static unsigned long calls;
 
 static int is_refused(void) {
     const char *number = getenv("FAIL_ALLOC");
-    calls++;
-    return number && calls == strtoul(number, 0, 10);
+    unsigned long call = __atomic_add_fetch(&calls, 1, __ATOMIC_SEQ_CST);
+    if (!number || call != strtoul(number, 0, 10)) return 0;
+    errno = ENOMEM;
+    return 1;
 }
 
 #define NEXT(name) ((__typeof__(&name))dlsym(RTLD_NEXT, #name))
