@@ -40,6 +40,7 @@ impl<L: Drop> Places<L> {
     }
 
     /// The value of a location, if it has one.
+    #[inline(always)]
     pub fn get(&self, loc: Loc) -> Option<&L>
         requires { IsLocation loc }
         ensures { option_copied result ≡ kept self.now loc }
@@ -51,6 +52,7 @@ impl<L: Drop> Places<L> {
     }
 
     /// Puts a value in place of the one of a location.
+    #[inline(always)]
     pub fn set(&mut self, loc: Loc, value: L) -> Result<(), NoMemory>
         requires { IsLocation loc }
         ensures { OnOk result (AreKept self.new (λ l. if loc_eq loc l then Some value else kept self.old l)) }
@@ -65,6 +67,7 @@ impl<L: Drop> Places<L> {
     }
 
     /// Takes the value of a location away.
+    #[inline(always)]
     pub fn remove(&mut self, loc: Loc)
         requires { IsLocation loc }
         ensures { AreKept self.new (λ l. if loc_eq loc l then None else kept self.old l) }
@@ -79,6 +82,7 @@ impl<L: Drop> Places<L> {
 }
 
 /// The lanes of a register stand side by side.
+#[inline(always)]
 fn lane_index(number: u8, lane: u8) -> usize
     requires { lane < 4 }
     ensures { result ≡ 4 * number + lane }

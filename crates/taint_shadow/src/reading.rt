@@ -16,6 +16,7 @@ use flow_rule::{Loc, Locations, Shape};
 use no_memory::NoMemory;
 
 /// The label of a location.
+#[inline(always)]
 pub fn label_at<A: Labels>(
     labels: &mut A,
     places: &Places<A::Label>,
@@ -76,6 +77,7 @@ fn gather<A: Labels>(
 }
 
 /// The label of a lane of a register; x0 has none.
+#[inline(always)]
 fn lane_label<A: Labels>(
     labels: &mut A,
     places: &Places<A::Label>,
@@ -95,6 +97,7 @@ fn lane_label<A: Labels>(
 }
 
 /// The label of a byte that is loaded, by its base register.
+#[inline(always)]
 fn byte_label<A: Labels>(
     labels: &mut A,
     places: &Places<A::Label>,
@@ -114,6 +117,7 @@ fn byte_label<A: Labels>(
 }
 
 /// The label of a lane of a load.
+#[inline(always)]
 fn loaded_label<A: Labels>(
     labels: &mut A,
     places: &Places<A::Label>,
@@ -139,6 +143,7 @@ fn loaded_label<A: Labels>(
 }
 
 /// The label of a byte that is stored, by its base register.
+#[inline(always)]
 pub(crate) fn stored_label<A: Labels>(
     labels: &mut A,
     places: &Places<A::Label>,
@@ -203,6 +208,7 @@ pub(crate) fn target_label<A: Labels>(
 }
 
 /// The label of a lane of a comparison: lane 0 has all lanes of both registers, and the others have none.
+#[inline(always)]
 fn first_lane_label<A: Labels>(
     labels: &mut A,
     places: &Places<A::Label>,
