@@ -34,6 +34,7 @@ pub fn label_at<A: Labels>(
 }
 
 /// The label of what a location has and of another label together.
+#[inline(always)]
 fn unite_at<A: Labels>(
     labels: &mut A,
     places: &Places<A::Label>,
@@ -55,7 +56,7 @@ fn unite_at<A: Labels>(
     }
 }
 
-/// The label of what some locations have together.
+/// The label of what some locations have together, from the last of them on.
 fn gather<A: Labels>(
     labels: &mut A,
     places: &Places<A::Label>,
@@ -66,14 +67,15 @@ fn gather<A: Labels>(
     ensures made { IfOk result (MakesLabel A.words labels.new (united_over A.words (meaning_at A.words labels.old places.now) origins.now)) }
     ensures keeps { KeepsLabels A.words labels.old labels.new }
 {
-    match origins {
-        [] => labels.nothing(),
-        [only] => label_at(labels, places, *only),
-        [first, rest @ ..] => {
-            let others = gather(labels, places, rest)?;
-            unite_at(labels, places, *first, others)
-        }
+    if origins.is_empty() {
+        return labels.nothing();
     }
+    let last = origins.len() - 1;
+    let mut label = label_at(labels, places, origins[last])?;
+    for i in (0..last).rev() {
+        label = unite_at(labels, places, origins[i], label)?;
+    }
+    Ok(label)
 }
 
 /// The label of a lane of a register; x0 has none.
