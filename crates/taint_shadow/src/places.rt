@@ -5,20 +5,21 @@ ghost use Rattle.std.specs.Option.{option_copied};
 ghost use Rattle.flow_model.specs.Flow.{loc_eq};
 ghost use Rattle.flow_model.specs.Ranges.{IsLocation};
 
+use crate::memory;
 use flow_model::Loc;
 use no_memory::NoMemory;
 use std::alloc::Global;
-use std::collections::HashMap;
 
 /// The lanes of 32 registers.
 const LANES: usize = 4 * 32;
 
-/// A value, or none, for each lane of the 32 registers and for each byte of memory. A byte of memory without a value takes no
-/// room.
+/// A value, or none, for each lane of the 32 registers and for each byte of memory. Room for bytes is made as one of them gets
+/// a value, for at most 64 of them side by side.
 #[derive(Drop)]
 pub struct Places<L: Drop> {
     registers: Vec<Option<L>>,
-    memory: HashMap<u32, L>,
+    alloc: Global,
+    memory: Vec<Vec<Vec<Vec<Option<L>>>>>,
     ghost lanes: { length registers.items ≡ 4 * 32 },
 }
 
@@ -35,7 +36,8 @@ impl<L: Drop> Places<L> {
         }
         Ok(Places {
             registers,
-            memory: HashMap::new(alloc),
+            alloc,
+            memory: Vec::new(alloc),
         })
     }
 
@@ -47,7 +49,7 @@ impl<L: Drop> Places<L> {
     {
         match loc {
             Loc::Reg { number, lane } => self.registers[lane_index(number, lane)].as_ref(),
-            Loc::Mem { place } => self.memory.get(&place),
+            Loc::Mem { place } => memory::value_at(self.memory.as_slice(), place),
         }
     }
 
@@ -59,9 +61,7 @@ impl<L: Drop> Places<L> {
     {
         match loc {
             Loc::Reg { number, lane } => self.registers[lane_index(number, lane)] = Some(value),
-            Loc::Mem { place } => {
-                self.memory.insert(place, value)?;
-            }
+            Loc::Mem { place } => memory::put(self.alloc, &mut self.memory, place, value)?,
         }
         Ok(())
     }
@@ -74,9 +74,7 @@ impl<L: Drop> Places<L> {
     {
         match loc {
             Loc::Reg { number, lane } => self.registers[lane_index(number, lane)] = None,
-            Loc::Mem { place } => {
-                self.memory.remove(&place);
-            }
+            Loc::Mem { place } => memory::clear(&mut self.memory, place),
         }
     }
 }
