@@ -9,7 +9,11 @@ use std::alloc::Global;
 
 /// Makes empty tables, until there are at least so many.
 #[inline(always)]
-fn grow_tables<T: Drop>(alloc: Global, tables: &mut Vec<Vec<T>>, size: usize) -> Result<(), NoMemory>
+fn grow_tables<T: Drop>(
+    alloc: Global,
+    tables: &mut Vec<Vec<T>>,
+    size: usize,
+) -> Result<(), NoMemory>
     ensures room { OnOk result (size ≤ length tables.new.items) }
     ensures same { OnOk result ((i : ℕ) → items_at tables.new.items i ≡ items_at tables.old.items i) }
 {

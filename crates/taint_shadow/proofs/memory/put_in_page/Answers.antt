@@ -12,7 +12,7 @@ returns g c =
     let room : c.args.line + 1 ≤ length tables = c.in_ok-grow_tables.ensures.room in
     let was = items_found tables c.args.line c.index_mut.result.now (omega (arith, room)) c.index_mut.ensures.value in
     let step : ((j : ℕ) → in_line new.items j ≡ (if (c.args.cell == j) then value else in_line c.index_mut.result.now.items j))
-        → (i j : ℕ) → in_page (slice_set tables c.args.line new) i j ≡ (if (c.args.line == i) && (c.args.cell == j) then value else in_page c.args.lines.now.items i j)
-        = λ put i j. table_put (λ items. in_line items j) (c.args.cell == j) c.args.lines.now.items tables c.args.line new value (omega (arith, room)) c.in_ok-grow_tables.ensures.same
-        (put j ∙ ap (λ items. if (c.args.cell == j) then value else in_line items j) was) i in
+    → (i j : ℕ) → in_page (slice_set tables c.args.line new) i j ≡ (if (c.args.line == i) && (c.args.cell == j) then value else in_page c.args.lines.now.items i j)
+    = λ put i j. table_put (λ items. in_line items j) (c.args.cell == j) c.args.lines.now.items tables c.args.line new value (omega (arith, room)) c.in_ok-grow_tables.ensures.same
+    (put j ∙ ap (λ items. if (c.args.cell == j) then value else in_line items j) was) i in
     on_ok_weaker _ step c.put_in_line.ensures
