@@ -1,6 +1,6 @@
 -- Tables of tables, as they grow and as one of them changes.
 use Rattle.std.proofs.Common.{◌≡◌, ◌≢◌, ◌<◌, ◌≤◌, ◌==◌, ◌/◌, ◌%◌, ℕ, zero, suc, List, [], ◌∷◌, ◌++◌, length, refl, arith, ap, ◌∙◌, sym, subst, Bool, true, false, if◌then◌else◌, ◌&&◌}
-use Rattle.std.specs.Prelude.{Option, Some, None, slice_set, slice_index_or}
+use Rattle.std.specs.Prelude.{Option, None, slice_set, slice_index_or}
 use Rattle.std.specs.Global.{Vec}
 use Rattle.taint_shadow.specs.Memory.{items_at, in_line}
 

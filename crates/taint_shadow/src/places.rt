@@ -13,8 +13,8 @@ use std::alloc::Global;
 /// The lanes of 32 registers.
 const LANES: usize = 4 * 32;
 
-/// A value, or none, for each lane of the 32 registers and for each byte of memory. Room for bytes is made as one of them gets
-/// a value, for at most 64 of them side by side.
+/// A value, or none, for each lane of the 32 registers and for each byte of memory. A line of 64 bytes that never had a value
+/// has no cells.
 #[derive(Drop)]
 pub struct Places<L: Drop> {
     registers: Vec<Option<L>>,

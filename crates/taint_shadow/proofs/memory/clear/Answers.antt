@@ -1,4 +1,4 @@
-use Rattle.std.proofs.Common.{◌==◌, ◌&&◌, ◌/◌, ◌%◌, ap, ◌∙◌, if◌then◌else◌, Bool, None}
+use Rattle.std.proofs.Common.{◌/◌, ◌%◌, ap, ◌∙◌, if◌then◌else◌, Bool, None}
 use Rattle.taint_shadow.specs.Memory.{in_memory}
 use Rattle.taint_shadow.proofs.Grown.{one_path}
 use Rattle.taint_shadow.proofs.memory.clear.Goals as goal

@@ -1,4 +1,4 @@
-use Rattle.std.proofs.Common.{◌==◌, ◌&&◌, ◌<◌, length, arith, ap, refl, ◌∙◌, if◌then◌else◌, None}
+use Rattle.std.proofs.Common.{◌==◌, ◌<◌, length, arith, ap, refl, ◌∙◌, if◌then◌else◌, None}
 use Rattle.taint_shadow.specs.Memory.{in_line}
 use Rattle.taint_shadow.proofs.Grown.{table_put, table_left, items_found}
 use Rattle.taint_shadow.proofs.memory.clear_in_page.Goals as goal

@@ -1,4 +1,4 @@
-use Rattle.std.proofs.Common.{◌≡◌, ℕ, arith, ap, sym, ◌∙◌, List}
+use Rattle.std.proofs.Common.{arith, ap, ◌∙◌, List}
 use Rattle.std.specs.Prelude.{Option}
 use Rattle.taint_shadow.specs.Memory.{in_line}
 use Rattle.taint_shadow.proofs.Grown.{line_more}

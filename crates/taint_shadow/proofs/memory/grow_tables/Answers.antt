@@ -1,4 +1,4 @@
-use Rattle.std.proofs.Common.{◌≡◌, ℕ, arith, ap, sym, refl, ◌∙◌, List}
+use Rattle.std.proofs.Common.{arith, ap, ◌∙◌, List}
 use Rattle.std.specs.Global.{Vec}
 use Rattle.taint_shadow.specs.Memory.{items_at}
 use Rattle.taint_shadow.proofs.Grown.{items_more}
