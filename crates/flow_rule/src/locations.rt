@@ -20,6 +20,7 @@ pub enum Locations {
 }
 
 impl Locations {
+    #[inline(always)]
     pub fn as_slice(&self) -> &[Loc]
         ensures value { result.now ≡ locs_of self.now }
         ensures short { length result.now ≤ 8 }
@@ -35,6 +36,7 @@ impl Locations {
     }
 
     /// One lane of a register; x0 has none.
+    #[inline(always)]
     pub fn lane(number: u8, lane: u8) -> Self
         ensures { locs_of result ≡ model.lane number lane }
     {
@@ -46,6 +48,7 @@ impl Locations {
     }
 
     /// The same lane of two registers.
+    #[inline(always)]
     pub fn each_lane(a: u8, b: u8, lane: u8) -> Self
         ensures { locs_of result ≡ model.each_lane a b lane }
     {
@@ -60,6 +63,7 @@ impl Locations {
     }
 
     /// The lanes of a register; x0 has none.
+    #[inline(always)]
     pub fn lanes(number: u8) -> Self
         ensures { locs_of result ≡ model.lanes number }
     {
@@ -71,6 +75,7 @@ impl Locations {
     }
 
     /// All lanes of two registers.
+    #[inline(always)]
     pub fn all_lanes(a: u8, b: u8) -> Self
         ensures { locs_of result ≡ model.all_lanes a b 0 }
     {
@@ -85,6 +90,7 @@ impl Locations {
         }
     }
 
+    #[inline(always)]
     fn joined(low: u8, high: u8) -> Self
         ensures { locs_of result ≡ four_lanes low ++ four_lanes high }
     {
@@ -94,6 +100,7 @@ impl Locations {
     }
 
     /// All lanes of a register, and one lane of another.
+    #[inline(always)]
     pub fn lanes_and_one(number: u8, other: u8, lane: u8) -> Self
         requires { lane < 4 }
         ensures { locs_of result ≡ model.with_base Index number (model.lane other lane) }
@@ -114,6 +121,7 @@ impl Locations {
     }
 
     /// All lanes of a register, and a byte of memory.
+    #[inline(always)]
     pub fn lanes_and_byte(number: u8, place: u32) -> Self
         ensures { locs_of result ≡ model.with_base Index number (Mem place ∷ []) }
     {
@@ -126,6 +134,7 @@ impl Locations {
     }
 }
 
+#[inline(always)]
 fn four(number: u8) -> [Loc; 4]
     ensures { result ≡ four_lanes number }
 {
@@ -137,6 +146,7 @@ fn four(number: u8) -> [Loc; 4]
     ]
 }
 
+#[inline(always)]
 fn register_lane(number: u8, lane: u8) -> Loc
     ensures { result ≡ Reg number lane }
 {

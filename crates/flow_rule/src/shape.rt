@@ -69,6 +69,7 @@ pub enum Shape {
 
 /// The shape of an instruction's flow under a rule. `place` is the effective address of a load or a store; the places of
 /// their bytes wrap.
+#[inline(always)]
 pub fn shape_of(instr: &Instr, place: u32, rule: Rule) -> Shape
     ensures targets { targets_of result ≡ model.flow rule instr.now place }
     ensures sizes { HasSizes result }

@@ -55,6 +55,7 @@ fn points_after(points: &[InnerSink], time: u64) -> &[InnerSink]
 
 /// Notes the points at a time, which come first among these, and gives the later ones. What is kept for locations is
 /// that at the time.
+#[inline(always)]
 pub fn collect_due<'a>(
     nodes: &mut Nodes,
     places: &Places<Node>,

@@ -26,6 +26,7 @@ pub struct SinkNode {
 
 /// Notes those bytes that a step writes and the query chooses, in the order of writing. What is kept for locations is
 /// that before the step.
+#[inline(always)]
 pub fn collect(
     nodes: &mut Nodes,
     places: &Places<Node>,

@@ -74,6 +74,7 @@ impl MergeLog {
     }
 
     /// The empty node.
+    #[inline(always)]
     pub fn nothing(&self) -> Node
         ensures number { result ≡ 0 }
         ensures terms { terms self.now result ≡ no_terms }
@@ -104,6 +105,7 @@ impl MergeLog {
     }
 
     /// The node of the leaves of two nodes. Where they are the same, or one is empty, it is one of them.
+    #[inline(always)]
     pub fn union(&mut self, a: Node, b: Node) -> Result<Node, NoMemory>
         requires left { IsNode self.old a }
         requires right { IsNode self.old b }
@@ -165,6 +167,7 @@ impl MergeLog {
 }
 
 /// The union of two nodes, the smaller one first.
+#[inline(always)]
 fn union_of(a: u32, b: u32) -> Entry
     ensures { result ≡ union_entry a b }
 {

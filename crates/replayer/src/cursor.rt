@@ -57,6 +57,7 @@ impl<'a> Cursor<'a> {
     ///
     /// Reads and writes have the channels' offsets: bytes read on a channel, and bytes written on it, are
     /// counted apart, each from 0.
+    #[inline(always)]
     pub fn next(&mut self) -> Next
         ensures { IsNext self.old result self.new }
     {

@@ -1,3 +1,4 @@
 mod Turning
 mod Located
 mod Tables
+mod Grown

@@ -1,6 +1,6 @@
 -- Labels that were made stand and mean the same, whatever is made after them.
-use Rattle.std.proofs.Common.{◌≡◌, ◌≢◌, ◌<◌, ◌^◌, ◌==◌, nat_lt, ℕ, ◌+◌, ◌-◌, ◌≤◌, List, [], ◌∷◌, take, drop, get_or, length, refl, arith, ap, ap₂, sym, ◌∙◌, subst, Bool, true, false, if◌then◌else◌}
-use Rattle.std.proofs.lemmas.List.{take_all}
+use Rattle.std.proofs.Common.{◌≡◌, ◌≢◌, ◌<◌, ◌^◌, ◌==◌, nat_lt, ℕ, zero, suc, ◌+◌, List, [], ◌∷◌, drop, get_or, length, refl, arith, ap, ap₂, sym, ◌∙◌, subst, Bool, true, false, if◌then◌else◌}
+use Rattle.std.proofs.lemmas.List.{drop_all, drop_more, at_drop_more}
 use Rattle.std.specs.Prelude.{Option, Some, None}
 use Rattle.flow_model.specs.declared.Loc.{Loc}
 use Rattle.flow_model.specs.declared.Loc.TheVariants.{Reg, Mem}
@@ -21,9 +21,13 @@ same_loc (Reg r i) (Mem p) e = absurd (grind arith)
 same_loc (Mem p) (Reg r i) e = absurd (grind arith)
 same_loc (Mem p) (Mem q) e = let a : p ≡ q = grind arith in ap Mem a
 
-pub first_located : (ls : List Loc) (d : Loc) → 2 ≤ length ls → AreLocations ls → IsLocation (get_or ls 0 d)
-first_located [] d h a = absurd (omega arith)
-first_located (l ∷ ls) d h a = a.0
+pub at_located : (ls : List Loc) (i : ℕ) (d : Loc) → i < length ls → AreLocations ls → IsLocation (get_or ls i d)
+at_located [] i d h a = absurd (omega arith)
+at_located (l ∷ ls) zero d h a = a.0
+at_located (l ∷ ls) (suc i) d h a = at_located ls i d (omega arith) a.1
+
+nil_is : (l : Loc) (ls : List Loc) → [] ≡ l ∷ ls → ⊥
+nil_is l ls e = cc
 
 module _ {A L M : Type 0} (words : LabelWords A L M) where
   pub keeps_then : (a b c : A) → KeepsLabels words a b → KeepsLabels words b c → KeepsLabels words a c
@@ -49,12 +53,16 @@ module _ {A L M : Type 0} (words : LabelWords A L M) where
   united_same f g same (l ∷ []) here = same l here.0
   united_same f g same (l ∷ m ∷ ls) here = ap₂ words.united (same l here.0) (united_same f g same (m ∷ ls) here.1)
 
-  -- what some locations have is what the first has with what the others have
-  pub united_first : (f : Loc → M) (ls : List Loc) (d : Loc) → 2 ≤ length ls
-      → words.united (f (get_or ls 0 d)) (united_over words f (take (length ls - 1) (drop 1 ls))) ≡ united_over words f ls
-  united_first f [] d h = absurd (omega arith)
-  united_first f (l ∷ []) d h = absurd (omega arith)
-  united_first f (l ∷ m ∷ ls) d h = ap (λ (rest : List Loc). words.united (f l) (united_over words f rest)) (take_all (length (l ∷ m ∷ ls) - 1) (m ∷ ls) (omega arith))
+  -- the last of some locations has what it has alone, and one before it has that together with what the later ones have
+  pub united_last : (f : Loc → M) (ls : List Loc) (i : ℕ) (d : Loc) → i + 1 ≡ length ls → f (get_or ls i d) ≡ united_over words f (drop i ls)
+  united_last f ls i d last = sym (at_drop_more (united_over words f) ls i d (omega arith) ∙ ap (λ (rest : List Loc). united_over words f (get_or ls i d ∷ rest)) (drop_all (i + 1) ls (omega arith)))
+
+  pub united_more : (f : Loc → M) (ls : List Loc) (i : ℕ) (d : Loc) → i + 1 < length ls
+      → words.united (f (get_or ls i d)) (united_over words f (drop (i + 1) ls)) ≡ united_over words f (drop i ls)
+  united_more f ls i d more = by (drop (i + 1) ls) (drop_more ls (i + 1) d more) ∙ sym (at_drop_more (united_over words f) ls i d (omega arith)) where
+    by : (rest : List Loc) → rest ≡ get_or ls (i + 1) d ∷ drop (i + 1 + 1) ls → words.united (f (get_or ls i d)) (united_over words f rest) ≡ united_over words f (get_or ls i d ∷ rest)
+    by [] e = absurd (nil_is _ _ e)
+    by (m ∷ ms) e = refl
 
   none_is : (x : L) → None ≡ Some x → ⊥
   none_is x e = cc

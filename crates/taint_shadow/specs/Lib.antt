@@ -1,4 +1,5 @@
 pub mod Labels
+pub mod Memory
 pub mod Origins
 pub mod Places
 pub mod Steps

@@ -4,6 +4,7 @@
 #![tactic(auto)]
 
 mod labels;
+mod memory;
 mod places;
 mod reading;
 mod shapes;

@@ -16,6 +16,7 @@ use flow_rule::{Loc, Locations, Shape};
 use no_memory::NoMemory;
 
 /// The label of a location.
+#[inline(always)]
 pub fn label_at<A: Labels>(
     labels: &mut A,
     places: &Places<A::Label>,
@@ -33,6 +34,7 @@ pub fn label_at<A: Labels>(
 }
 
 /// The label of what a location has and of another label together.
+#[inline(always)]
 fn unite_at<A: Labels>(
     labels: &mut A,
     places: &Places<A::Label>,
@@ -54,7 +56,7 @@ fn unite_at<A: Labels>(
     }
 }
 
-/// The label of what some locations have together.
+/// The label of what some locations have together, from the last of them on.
 fn gather<A: Labels>(
     labels: &mut A,
     places: &Places<A::Label>,
@@ -65,17 +67,19 @@ fn gather<A: Labels>(
     ensures made { IfOk result (MakesLabel A.words labels.new (united_over A.words (meaning_at A.words labels.old places.now) origins.now)) }
     ensures keeps { KeepsLabels A.words labels.old labels.new }
 {
-    match origins {
-        [] => labels.nothing(),
-        [only] => label_at(labels, places, *only),
-        [first, rest @ ..] => {
-            let others = gather(labels, places, rest)?;
-            unite_at(labels, places, *first, others)
-        }
+    if origins.is_empty() {
+        return labels.nothing();
     }
+    let last = origins.len() - 1;
+    let mut label = label_at(labels, places, origins[last])?;
+    for i in (0..last).rev() {
+        label = unite_at(labels, places, origins[i], label)?;
+    }
+    Ok(label)
 }
 
 /// The label of a lane of a register; x0 has none.
+#[inline(always)]
 fn lane_label<A: Labels>(
     labels: &mut A,
     places: &Places<A::Label>,
@@ -95,6 +99,7 @@ fn lane_label<A: Labels>(
 }
 
 /// The label of a byte that is loaded, by its base register.
+#[inline(always)]
 fn byte_label<A: Labels>(
     labels: &mut A,
     places: &Places<A::Label>,
@@ -114,6 +119,7 @@ fn byte_label<A: Labels>(
 }
 
 /// The label of a lane of a load.
+#[inline(always)]
 fn loaded_label<A: Labels>(
     labels: &mut A,
     places: &Places<A::Label>,
@@ -139,6 +145,7 @@ fn loaded_label<A: Labels>(
 }
 
 /// The label of a byte that is stored, by its base register.
+#[inline(always)]
 pub(crate) fn stored_label<A: Labels>(
     labels: &mut A,
     places: &Places<A::Label>,
@@ -203,6 +210,7 @@ pub(crate) fn target_label<A: Labels>(
 }
 
 /// The label of a lane of a comparison: lane 0 has all lanes of both registers, and the others have none.
+#[inline(always)]
 fn first_lane_label<A: Labels>(
     labels: &mut A,
     places: &Places<A::Label>,

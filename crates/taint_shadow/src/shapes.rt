@@ -145,6 +145,7 @@ fn turn_read_lanes<A: Labels>(
 }
 
 /// Labels bytes of memory with what flows into them from registers.
+#[inline(always)]
 fn turn_bytes<A: Labels>(
     labels: &mut A,
     places: &mut Places<A::Label>,
@@ -171,6 +172,7 @@ fn turn_bytes<A: Labels>(
 }
 
 /// A load: its lanes have what the bytes have, and what the base register has where that counts.
+#[inline(always)]
 fn turn_by_load<A: Labels>(
     labels: &mut A,
     places: &mut Places<A::Label>,
@@ -204,6 +206,7 @@ fn turn_by_load<A: Labels>(
 }
 
 /// Goes on by the flow of an instruction.
+#[inline(always)]
 pub(crate) fn turn_by_shape<A: Labels>(
     labels: &mut A,
     places: &mut Places<A::Label>,

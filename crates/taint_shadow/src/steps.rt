@@ -117,6 +117,7 @@ fn turn_by_call<A: Labels>(
 }
 
 /// Goes on by one step: whatever the locations' labels meant before it, they mean what the step makes of that after it.
+#[inline(always)]
 pub fn step<A: Labels>(
     labels: &mut A,
     places: &mut Places<A::Label>,
