@@ -212,7 +212,7 @@ struct Path {
     cell: usize,
 }
 
-/// Where the cell of a byte is.
+/// Where the cell of a byte is: a line has 64 cells, a page 256 lines, and a region 256 pages.
 #[inline(always)]
 fn path_of(place: u32) -> Path
     ensures { result ≡ record { region = place / 4194304; page = place / 16384 % 256; line = place / 64 % 256; cell = place % 64 } }
