@@ -5,7 +5,7 @@ use Rattle.local_taint.specs.Summaries.{summary_of, AreInRange}
 use Rattle.jet_core.proofs.analysing.found.Goals as goal
 
 pub returns : goal.returns
-returns g c =
+returns c =
     let first = c.args.ticket.first in
     let count = c.args.ticket.past_last - first in
     let e = c.in_ok-summary.summary in

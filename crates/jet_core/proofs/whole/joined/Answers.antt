@@ -1,6 +1,6 @@
 use Rattle.std.proofs.Common.{◌∙◌, ap, sym, subst, List, [], map}
-use Rattle.std.specs.Prelude.{All}
-use Rattle.report_model.specs.Rows.{row_cmp}
+use Rattle.std.specs.Prelude.{◌≡◌, All, IfOk}
+use Rattle.report_model.specs.Rows.{Row, row_cmp}
 use Rattle.sorted_set.specs.Sets.{set_of}
 use Rattle.replay_model.proofs.Offsets.{writes_apart}
 use Rattle.replayer.specs.Jobs.{trace_of}
@@ -53,4 +53,4 @@ returns g c =
     let es = c.in_ok-summaries.summaries.items in
     let a = found_at job q c.args.cuts es c.in_ok-checkpoints.checkpoints c.in_ok-tickets.tickets.items c.in_ok-checkpoints.ensures c.in_ok-tickets.ensures c.in_ok-summaries.ensures in
     let rows = c.into_vec.ensures ∙ c.in_ok-sets.ensures ∙ ap (λ (xs : List Summary). joined [] [] (map summary_of xs)) c.deref-2.ensures.value ∙ found_join job q c.args.cuts es c.points-points.ensures.located c.requires a in
-    c.in_ok-report.ensures ∙ ap (set_of row_cmp) rows
+    subst (λ (rs : List Row). IfOk c.gather.result (λ report. report ≡ set_of row_cmp rs)) rows c.gather.ensures

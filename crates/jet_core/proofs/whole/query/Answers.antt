@@ -15,10 +15,10 @@ use Rattle.jet_core.proofs.Together.{few_crossings}
 use Rattle.jet_core.proofs.whole.query.Goals as goal
 
 pub work-requires-clause-times : goal.work-requires-clause-times
-work-requires-clause-times g c = ap (λ p. p.times) c.in_ok-checkpoints.ensures
+work-requires-clause-times g c κs within = ap (λ p. p.times) c.in_ok-checkpoints.ensures
 
 pub work-requires-clause-cuts : goal.work-requires-clause-cuts
-work-requires-clause-cuts g c =
+work-requires-clause-cuts g c κs within =
     subst (λ (job : Job). IsCutting (steps job.log) c.args.cuts) (sym (ap (λ p. p.job) c.in_ok-checkpoints.ensures)) c.requires.cuts
 
 pub gather-requires : goal.gather-requires
