@@ -140,6 +140,16 @@ signs = Slt 3 1 0 ∷ Slti 3 1 (pos 0) ∷ []
 sign_alone : map idle signs ≡ map unsigned_lanes signs
 sign_alone = refl
 
+-- a comparison with a multiple of 256 doesn't look at the lowest lane
+abbrev coarse : List Instr
+coarse = Slti 3 1 (pos 256) ∷ Slti 3 1 (negsuc 255) ∷ Sltiu 3 1 (pos 256) ∷ Sltiu 3 1 (negsuc 255) ∷ []
+
+abbrev lowest_lanes : Instr → List (Loc × Loc)
+lowest_lanes i = filter (λ p. lane_number p.1 == 0) (listed i)
+
+lowest_unseen : map idle coarse ≡ map lowest_lanes coarse
+lowest_unseen = refl
+
 -- ANDI keeps no lane where the immediate's is 0, ORI none where it is 255
 upper_cleared : idle (Andi 3 1 (pos 255)) ≡ (Reg 3 1, Reg 1 1) ∷ (Reg 3 2, Reg 1 2) ∷ (Reg 3 3, Reg 1 3) ∷ []
 upper_cleared = refl
