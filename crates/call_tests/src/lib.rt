@@ -11,6 +11,8 @@ mod epochs;
 #[cfg(test)]
 mod flows;
 #[cfg(test)]
+mod guests;
+#[cfg(test)]
 mod images;
 #[cfg(test)]
 mod machine;
@@ -22,6 +24,8 @@ mod outside;
 mod queries;
 #[cfg(test)]
 mod reports;
+#[cfg(test)]
+mod runs;
 #[cfg(test)]
 mod sets;
 #[cfg(test)]
