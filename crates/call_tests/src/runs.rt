@@ -278,8 +278,8 @@ fn thousands_of_epochs_are_followed(rt: HostRuntime) -> Result<(), Fail> {
     let job = count_down(&rt, alloc)?;
     let wanted = parse(alloc, COPY)?;
     let line = Line {
-        workers: 8,
-        capacity: 1,
+        workers: 4,
+        capacity: 256,
     };
     let found = answer_of(&rt, alloc, &OpenGate, &job, &wanted, 2, line)?;
     assert_eq!(rt; found.report.as_slice(), b"end 0\n".as_slice());
@@ -300,20 +300,25 @@ fn copied_many(alloc: Global) -> Result<String, Fail> {
     Ok(report)
 }
 
-/// What crosses a cut after a thousand steps for each epoch before it: the bytes that are copied by then where they are copied to, and
-/// the others where they are read to, in the order in which they are written.
-fn assert_many_asked(rt: &impl Abort, crossing: &Crossed) {
-    let copied = u64::from(crossing.cut()).saturating_mul(200);
-    assert_eq!(rt; crossing.asked().len(), 5000);
-    for (i, loc) in crossing.asked().iter().enumerate() {
-        let start = if (i as u64) + 1 < copied {
-            0x13000
-        } else {
-            0x11000
-        };
-        let Loc::Mem { place } = *loc else { rt.abort() };
-        assert_eq!(rt; place as u64, start + i as u64);
+/// What crosses a cut of that run before which so many bytes are copied: in the order in which they are written, these where they are
+/// copied to, and the others where they are read to.
+fn asked_of_many(alloc: Global, copied: u32) -> Result<Vec<Loc>, Fail> {
+    let mut asked = Vec::new(alloc);
+    for i in 0..5000u32 {
+        let start = if i < copied { 0x13000 } else { 0x11000 };
+        asked.push(Loc::Mem { place: start + i })?;
     }
+    Ok(asked)
+}
+
+/// Just these cross the cuts of that run by a thousand steps each: the first eight steps prepare, and then each byte takes five.
+fn assert_many_crossed(rt: &impl Abort, alloc: Global, crossed: &[Crossed]) -> Result<(), Fail> {
+    assert_eq!(rt; crossed.len(), 25);
+    for crossing in crossed {
+        let copied = crossing.cut().saturating_mul(200).saturating_sub(1);
+        assert!(rt; crossing.asked() == asked_of_many(alloc, copied)?.as_slice());
+    }
+    Ok(())
 }
 
 /// Twenty-six epochs of 25,015 steps.
@@ -333,10 +338,7 @@ fn a_long_run_is_followed_by_epochs(rt: HostRuntime) -> Result<(), Fail> {
         };
         let found = answer_of(&rt, alloc, &OpenGate, &job, &wanted, 1000, line)?;
         assert!(rt; found.report.as_slice() == report.as_bytes());
-        assert_eq!(rt; found.crossed.len(), 25);
-        for crossing in &found.crossed {
-            assert_many_asked(&rt, crossing);
-        }
+        assert_many_crossed(&rt, alloc, &found.crossed)?;
     }
     Ok(())
 }
