@@ -254,16 +254,17 @@ fn assert_copied<R: Threads + Wait + Abort + Sync>(
     Ok(())
 }
 
-/// How many workers there are, and how many messages a link holds, and how long an epoch is, change nothing.
+/// How long an epoch is, how many workers there are and how many messages a link holds change nothing.
 #[test]
-fn answers_are_the_same_by_any_workers_and_links(rt: HostRuntime) -> Result<(), Fail> {
+fn answers_are_the_same_by_any_line(rt: HostRuntime) -> Result<(), Fail> {
     let alloc = rt.alloc();
     let job = copy_four(&rt, alloc)?;
     let wanted = parse(alloc, COPY)?;
-    for workers in [1, 2, 8, 64] {
-        for capacity in [1, 2, 256] {
-            let line = Line { workers, capacity };
-            for length in 1..=13 {
+    for length in 1..=13 {
+        assert_joined(&rt, alloc, &job, &wanted, length, COPIED)?;
+        for workers in [1, 2, 8, 64] {
+            for capacity in [1, 2, 256] {
+                let line = Line { workers, capacity };
                 assert_copied(&rt, alloc, &job, &wanted, length, line)?;
             }
         }
