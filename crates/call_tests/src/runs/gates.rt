@@ -1,6 +1,6 @@
 //! Gates that epochs enter.
 
-use super::{ALONE, COPIED, COPY, Line, answer_of};
+use super::{ALONE, COPIED, COPY, Line, answer_of, assert_text};
 use crate::guests::copy_four;
 use outer_io::Gate;
 use query_lang::parse;
@@ -109,6 +109,5 @@ fn two_epochs_are_at_work_at_once(rt: HostRuntime) -> Result<(), Fail> {
     let found = answer_of(&rt, alloc, &gate, &job, &wanted, 6, line)?;
     assert_eq!(rt; gate.given_up.load(Ordering::SeqCst), 0);
     assert!(rt; gate.both.is_entered_by_each_once());
-    assert_eq!(rt; found.report.as_slice(), COPIED.as_bytes());
-    Ok(())
+    assert_text(&rt, alloc, &found.report, COPIED)
 }
