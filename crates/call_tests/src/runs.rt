@@ -116,21 +116,42 @@ struct Case {
     crossed: &'static [usize],
 }
 
-/// A query over a run has this report and these crossings.
+/// The report of a query over a run that is cut by a length has this text, where the summaries are joined by lists.
+fn assert_joined<R: Threads + Abort + Sync>(
+    rt: &R,
+    alloc: Global,
+    job: &Job,
+    wanted: &Query,
+    length: u64,
+    lines: &str,
+) -> Result<(), Fail> {
+    let report = joined(rt, alloc, job, wanted, cuts_of(rt, job, length)?)?;
+    assert_text(rt, alloc, &report, lines)
+}
+
+/// The answer has this report and these crossings.
+fn assert_answer(rt: &impl Abort, alloc: Global, answer: &Answer, case: &Case) -> Result<(), Fail> {
+    assert_crossed(rt, &answer.crossed, case.crossed);
+    assert_text(rt, alloc, &answer.report, case.report)
+}
+
+/// The case's query.
+fn query_of(rt: &impl Abort, alloc: Global, case: &Case) -> Result<Query, Fail> {
+    assert!(rt; case.query.len() <= 4096);
+    Ok(parse(alloc, case.query)?)
+}
+
+/// A query over a run has its report and its crossings by either call.
 fn assert_case<R: Threads + Wait + Abort + Sync>(
     rt: &R,
     alloc: Global,
     job: &Job,
     case: &Case,
 ) -> Result<(), Fail> {
-    assert!(rt; case.query.len() <= 4096);
-    let wanted = parse(alloc, case.query)?;
-    let report = joined(rt, alloc, job, &wanted, cuts_of(rt, job, case.length)?)?;
-    assert_text(rt, alloc, &report, case.report)?;
+    let wanted = query_of(rt, alloc, case)?;
+    assert_joined(rt, alloc, job, &wanted, case.length, case.report)?;
     let found = answer_of(rt, alloc, &OpenGate, job, &wanted, case.length, ALONE)?;
-    assert_text(rt, alloc, &found.report, case.report)?;
-    assert_crossed(rt, &found.crossed, case.crossed);
-    Ok(())
+    assert_answer(rt, alloc, &found, case)
 }
 
 /// Copies what it reads.
@@ -278,8 +299,7 @@ fn assert_copied_by_all<R: Threads + Wait + Abort + Sync>(
     wanted: &Query,
     length: u64,
 ) -> Result<(), Fail> {
-    let report = joined(rt, alloc, job, wanted, cuts_of(rt, job, length)?)?;
-    assert_text(rt, alloc, &report, COPIED)?;
+    assert_joined(rt, alloc, job, wanted, length, COPIED)?;
     for line in LINES {
         assert_copied(rt, alloc, job, wanted, length, line)?;
     }
