@@ -369,25 +369,52 @@ fn assert_many_crossed(rt: &impl Abort, alloc: Global, crossed: &[Crossed]) -> R
     Ok(())
 }
 
-/// Twenty-six epochs of 25,015 steps.
+/// That run is followed by twenty-six epochs, which so many workers turn.
+fn assert_many_by<R: Threads + Wait + Abort + Sync>(
+    rt: &R,
+    alloc: Global,
+    job: &Job,
+    workers: u32,
+) -> Result<(), Fail> {
+    let wanted = parse(alloc, COPY)?;
+    let line = Line {
+        workers,
+        capacity: 256,
+    };
+    let found = answer_of(rt, alloc, &OpenGate, job, &wanted, 1000, line)?;
+    assert_many_copied(rt, &found.report);
+    assert_many_crossed(rt, alloc, &found.crossed)
+}
+
+// Each of these takes some seconds.
+
 #[test]
-fn a_long_run_is_followed_by_epochs(rt: HostRuntime) -> Result<(), Fail> {
+fn a_long_run_is_joined(rt: HostRuntime) -> Result<(), Fail> {
     let alloc = rt.alloc();
     let job = copy_many(&rt, alloc)?;
     let wanted = parse(alloc, COPY)?;
     let report = joined(&rt, alloc, &job, &wanted, cuts_of(&rt, &job, 1000)?)?;
     assert_many_copied(&rt, &report);
     assert_eq!(rt; text(alloc, &report)?.len(), 67789);
-    for workers in [1, 3, 64] {
-        let line = Line {
-            workers,
-            capacity: 256,
-        };
-        let found = answer_of(&rt, alloc, &OpenGate, &job, &wanted, 1000, line)?;
-        assert_many_copied(&rt, &found.report);
-        assert_many_crossed(&rt, alloc, &found.crossed)?;
-    }
     Ok(())
+}
+
+#[test]
+fn a_long_run_is_followed_by_one_worker(rt: HostRuntime) -> Result<(), Fail> {
+    let alloc = rt.alloc();
+    assert_many_by(&rt, alloc, &copy_many(&rt, alloc)?, 1)
+}
+
+#[test]
+fn a_long_run_is_followed_by_three_workers(rt: HostRuntime) -> Result<(), Fail> {
+    let alloc = rt.alloc();
+    assert_many_by(&rt, alloc, &copy_many(&rt, alloc)?, 3)
+}
+
+#[test]
+fn a_long_run_is_followed_by_the_most_workers(rt: HostRuntime) -> Result<(), Fail> {
+    let alloc = rt.alloc();
+    assert_many_by(&rt, alloc, &copy_many(&rt, alloc)?, 64)
 }
 
 /// Of the windows at the beginnings of its epochs the first has five pages. The two pages that are read to change once; those
