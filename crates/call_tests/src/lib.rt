@@ -7,8 +7,6 @@ mod assembly;
 #[cfg(test)]
 mod cuts;
 #[cfg(test)]
-mod epochs;
-#[cfg(test)]
 mod flows;
 #[cfg(test)]
 mod images;

@@ -1,0 +1,163 @@
+//! Programs, each with the log of a run of it.
+
+use elf_image::load;
+use guest_assembler::{Instr, code, program};
+use replay_log::read_log;
+use replayer::Job;
+use sha2::{Digest, Sha256};
+use std::alloc::Global;
+use std::process::Abort;
+use std::test::Fail;
+
+/// The most bytes that a log has.
+const LONGEST_LOG: usize = 67_108_864;
+
+/// A program with a log in version 1, which begins here with the window's pages: all but what names the program.
+fn job_of(rt: &impl Abort, alloc: Global, code: &[Instr], log: &[u8]) -> Result<Job, Fail> {
+    let file = program(alloc, code)?;
+    let image = load(alloc, &file)?;
+    let mut bytes = Vec::new(alloc);
+    bytes.extend_from_slice(b"JETLOG1\n")?;
+    bytes.extend_from_slice(&Sha256::digest(&file))?;
+    bytes.extend_from_slice(log)?;
+    assert!(rt; bytes.len() <= LONGEST_LOG);
+    let log = read_log(alloc, &bytes)?;
+    Ok(Job::check(alloc, &file, image, log)?)
+}
+
+const COPY_FOUR: &[Instr] = &code![
+    lui(x11, 0x10000),
+    addi(x11, x11, 256),
+    li(x10, 0),
+    li(x12, 4),
+    li(x17, 63),
+    ecall(),
+    li(x10, 1),
+    li(x17, 64),
+    ecall(),
+    li(x10, 0),
+    li(x17, 93),
+    ecall(),
+];
+
+/// Reads four bytes to 0x10100 in step 5 and writes them in step 8: twelve steps.
+pub fn copy_four(rt: &impl Abort, alloc: Global) -> Result<Job, Fail> {
+    job_of(
+        rt,
+        alloc,
+        COPY_FOUR,
+        b"\x01\0\0\0\x01\0\0\0\
+        \x01\x05\0\0\0\0\0\0\0\0\x01\x01\0\x04\0\0\0\x04\0\0\0ABCD\
+        \x02\x08\0\0\0\x01\0\0\0\0\x01\x01\0\x04\0\0\0\x04\0\0\0ABCD\
+        \x05\x0b\0\0\0\0\0\0\0",
+    )
+}
+
+const COPY_IN_TWO: &[Instr] = &code![
+    lui(x11, 0x10000),
+    addi(x11, x11, 256),
+    li(x10, 0),
+    li(x12, 3),
+    li(x17, 63),
+    ecall(),
+    addi(x11, x11, 3),
+    li(x10, 0),
+    li(x12, 4),
+    ecall(),
+    addi(x11, x11, -3),
+    li(x10, 1),
+    li(x12, 5),
+    li(x17, 64),
+    ecall(),
+    li(x10, 0),
+    li(x17, 93),
+    ecall(),
+];
+
+/// Reads three bytes to 0x10100, then two more behind them, and writes all five: eighteen steps.
+pub fn copy_in_two(rt: &impl Abort, alloc: Global) -> Result<Job, Fail> {
+    job_of(
+        rt,
+        alloc,
+        COPY_IN_TWO,
+        b"\x01\0\0\0\x01\0\0\0\
+        \x01\x05\0\0\0\0\0\0\0\0\x01\x01\0\x03\0\0\0\x03\0\0\0ABC\
+        \x01\x09\0\0\0\0\0\0\0\x03\x01\x01\0\x04\0\0\0\x02\0\0\0DE\
+        \x02\x0e\0\0\0\x01\0\0\0\0\x01\x01\0\x05\0\0\0\x05\0\0\0ABCDE\
+        \x05\x11\0\0\0\0\0\0\0",
+    )
+}
+
+/// Traps at once, so it makes no step.
+pub fn trap(rt: &impl Abort, alloc: Global) -> Result<Job, Fail> {
+    job_of(
+        rt,
+        alloc,
+        &code![ebreak()],
+        b"\x01\0\0\0\0\0\0\0\x06\0\0\0\0\x03\0\0\0\0\0\x01\0",
+    )
+}
+
+const COUNT_DOWN: &[Instr] = &code![
+    li(x5, 2047),
+    addi(x5, x5, -1),
+    bne(x5, x0, -4),
+    li(x17, 93),
+    ecall(),
+];
+
+/// Counts down from 2047 and exits: 4,097 steps.
+pub fn count_down(rt: &impl Abort, alloc: Global) -> Result<Job, Fail> {
+    job_of(
+        rt,
+        alloc,
+        COUNT_DOWN,
+        b"\x01\0\0\0\0\0\0\0\x05\0\x10\0\0\0\0\0\0",
+    )
+}
+
+const COPY_MANY: &[Instr] = &code![
+    lui(x11, 0x11000),
+    li(x10, 0),
+    lui(x12, 0x1000),
+    addi(x12, x12, 904),
+    li(x17, 63),
+    ecall(),
+    lui(x6, 0x13000),
+    add(x7, x6, x12),
+    lbu(x28, 0(x11)),
+    sb(x28, 0(x6)),
+    addi(x11, x11, 1),
+    addi(x6, x6, 1),
+    bne(x6, x7, -16),
+    lui(x11, 0x13000),
+    li(x10, 1),
+    li(x17, 64),
+    ecall(),
+    li(x10, 0),
+    li(x17, 93),
+    ecall(),
+];
+
+/// The bytes that are copied.
+fn many_bytes(alloc: Global) -> Result<Vec<u8>, Fail> {
+    let mut bytes = Vec::new(alloc);
+    for i in 0..5000u32 {
+        bytes.push((i % 256) as u8)?;
+    }
+    Ok(bytes)
+}
+
+/// Reads 5,000 bytes to 0x11000 in step 5, copies them one by one to 0x13000, byte `i` by a load in step `8 + 5 * i` and
+/// the store behind it, and writes them from there: 25,015 steps, in a window of five pages.
+pub fn copy_many(rt: &impl Abort, alloc: Global) -> Result<Job, Fail> {
+    let bytes = many_bytes(alloc)?;
+    let mut log = Vec::new(alloc);
+    log.extend_from_slice(b"\x05\0\0\0\x01\0\0\0")?;
+    log.extend_from_slice(b"\x01\x05\0\0\0\0\0\0\0\0\x10\x01\0\x88\x13\0\0\x88\x13\0\0")?;
+    log.extend_from_slice(&bytes)?;
+    log.extend_from_slice(b"\x02\xb3\x61\0\0\x01\0\0\0\0\x30\x01\0\x88\x13\0\0\x88\x13\0\0")?;
+    log.extend_from_slice(&bytes)?;
+    log.extend_from_slice(b"\x05\xb6\x61\0\0\0\0\0\0")?;
+    job_of(rt, alloc, COPY_MANY, &log)
+}

@@ -1,0 +1,448 @@
+//! Queries over runs that are cut into epochs: their reports, and what crosses the cuts.
+
+ghost use Rattle.std.specs.Prelude.{◌≤◌, IfOk};
+ghost use Rattle.log_model.specs.Logs.{steps};
+ghost use Rattle.epoch_model.specs.Cutting.{IsCutting};
+
+mod gates;
+
+use crate::guests::{copy_four, copy_in_two, copy_many, count_down, trap};
+use checkpoints::Checkpoints;
+use epoch_cut::laws::cut_times_are_cutting;
+use epoch_cut::{Cuts, cuts};
+use flow_model::{Loc, SinkByte, SinkPoint, SourceByte};
+use jet_core::{Crossed, joined, query};
+use outer_io::{Gate, OpenGate};
+use query_lang::{Query, parse};
+use replayer::Job;
+use sink_collect::{Report, text};
+use std::alloc::Global;
+use std::process::Abort;
+use std::sync::Wait;
+use std::test::Fail;
+use std::thread::Threads;
+
+/// How many workers turn the epochs' nodes, and how many messages a link between two of them holds.
+#[derive(Clone, Copy)]
+struct Line {
+    workers: u32,
+    capacity: u32,
+}
+
+/// One worker, and the smallest links.
+const ALONE: Line = Line {
+    workers: 1,
+    capacity: 1,
+};
+
+/// These are numbers that a query takes.
+fn assert_fits(rt: &impl Abort, line: Line)
+    ensures workers { (1 ≤ line.workers) × (line.workers ≤ 64) }
+    ensures capacity { (1 ≤ line.capacity) × (line.capacity ≤ 65536) }
+{
+    assert!(rt; 1 <= line.workers);
+    assert!(rt; line.workers <= 64);
+    assert!(rt; 1 <= line.capacity);
+    assert!(rt; line.capacity <= 65536);
+}
+
+/// Where a run is cut by a length.
+fn cuts_of(rt: &impl Abort, job: &Job, length: u64) -> Result<Cuts, Fail>
+    ensures { IfOk result (λ cuts. IsCutting (steps job.now.log) cuts) }
+{
+    assert!(rt; 1 <= length);
+    cut_times_are_cutting();
+    Ok(cuts(job.steps(), length)?)
+}
+
+/// What a query answers: its report, what crosses the inner cuts, and how many events moved.
+#[derive(Drop)]
+struct Answer {
+    report: Report,
+    crossed: Vec<Crossed>,
+    events: u64,
+}
+
+/// What a query answers over a run that is cut by a length.
+fn answer_of<G: Gate, R: Threads + Wait + Abort + Sync>(
+    rt: &R,
+    alloc: Global,
+    gate: &G,
+    job: &Job,
+    wanted: &Query,
+    length: u64,
+    line: Line,
+) -> Result<Answer, Fail> {
+    assert_fits(rt, line);
+    let cuts = cuts_of(rt, job, length)?;
+    let Line { workers, capacity } = line;
+    let (report, crossed, events) =
+        query(rt, alloc, gate, job, wanted, cuts, workers, capacity)?;
+    Ok(Answer {
+        report,
+        crossed,
+        events,
+    })
+}
+
+/// The report has this text.
+fn assert_text(rt: &impl Abort, alloc: Global, report: &Report, lines: &str) -> Result<(), Fail> {
+    let written = text(alloc, report)?;
+    assert!(rt; written.as_slice() == lines.as_bytes());
+    Ok(())
+}
+
+/// The buffer of the two short copies.
+const BUFFER: [Loc; 5] = [
+    Loc::Mem { place: 65792 },
+    Loc::Mem { place: 65793 },
+    Loc::Mem { place: 65794 },
+    Loc::Mem { place: 65795 },
+    Loc::Mem { place: 65796 },
+];
+
+/// Just so many of the buffer's bytes cross the cut, in their order.
+fn assert_crosses(rt: &impl Abort, crossing: &Crossed, count: usize) {
+    assert!(rt; BUFFER.get(..count) == Some(crossing.asked()));
+}
+
+/// So many of the buffer's bytes cross each of the cuts.
+fn assert_crossed(rt: &impl Abort, crossed: &[Crossed], counts: &[usize]) {
+    assert_eq!(rt; crossed.len(), counts.len());
+    for (crossing, count) in crossed.iter().zip(counts) {
+        assert_crosses(rt, crossing, *count);
+    }
+}
+
+/// A query, how many steps an epoch has, the report, how many of the buffer's bytes cross each cut, and how many events move.
+struct Case {
+    query: &'static [u8],
+    length: u64,
+    report: &'static str,
+    crossed: &'static [usize],
+    events: u64,
+}
+
+/// The report of a query over a run that is cut by a length has this text, where the summaries are joined by lists.
+fn assert_joined<R: Threads + Abort + Sync>(
+    rt: &R,
+    alloc: Global,
+    job: &Job,
+    wanted: &Query,
+    length: u64,
+    lines: &str,
+) -> Result<(), Fail> {
+    let report = joined(rt, alloc, job, wanted, cuts_of(rt, job, length)?)?;
+    assert_text(rt, alloc, &report, lines)
+}
+
+/// The answer has this report, these crossings, and as many events.
+fn assert_answer(rt: &impl Abort, alloc: Global, answer: &Answer, case: &Case) -> Result<(), Fail> {
+    assert_eq!(rt; answer.events, case.events);
+    assert_crossed(rt, &answer.crossed, case.crossed);
+    assert_text(rt, alloc, &answer.report, case.report)
+}
+
+/// The case's query.
+fn query_of(rt: &impl Abort, alloc: Global, case: &Case) -> Result<Query, Fail> {
+    assert!(rt; case.query.len() <= 4096);
+    Ok(parse(alloc, case.query)?)
+}
+
+/// A query over a run has its report and its crossings by either call.
+fn assert_case<R: Threads + Wait + Abort + Sync>(
+    rt: &R,
+    alloc: Global,
+    job: &Job,
+    case: &Case,
+) -> Result<(), Fail> {
+    let wanted = query_of(rt, alloc, case)?;
+    assert_joined(rt, alloc, job, &wanted, case.length, case.report)?;
+    let found = answer_of(rt, alloc, &OpenGate, job, &wanted, case.length, ALONE)?;
+    assert_answer(rt, alloc, &found, case)
+}
+
+/// Copies what it reads.
+const COPY: &[u8] = b"rule copy\nsource all\nsink all\n";
+
+/// Points of the copy of four bytes at a cut, behind it, and past the run's end.
+const POINTS: &[Case] = &[
+    Case {
+        query: b"rule copy\nsource all\nsink reg 10 at 6\nsink mem 65792 2 at 6\n",
+        length: 6,
+        report: "r:10.0@6\nr:10.1@6\nr:10.2@6\nr:10.3@6\nm:65792@6 0:0\nm:65793@6 0:1\nend 6\n",
+        crossed: &[0],
+        events: 16,
+    },
+    Case {
+        query: b"rule copy\nsource all\nsink reg 10 at 7\nsink mem 65792 2 at 7\n",
+        length: 6,
+        report: "r:10.0@7\nr:10.1@7\nr:10.2@7\nr:10.3@7\nm:65792@7 0:0\nm:65793@7 0:1\nend 6\n",
+        crossed: &[2],
+        events: 30,
+    },
+    Case {
+        query: b"rule copy\nsource all\nsink mem 65792 2 at 13\n",
+        length: 6,
+        report: "end 0\n",
+        crossed: &[0],
+        events: 10,
+    },
+];
+
+#[test]
+fn points_are_followed_by_epochs(rt: HostRuntime) -> Result<(), Fail> {
+    let alloc = rt.alloc();
+    let job = copy_four(&rt, alloc)?;
+    for case in POINTS {
+        assert_case(&rt, alloc, &job, case)?;
+    }
+    Ok(())
+}
+
+/// The copy of five bytes that are read in two epochs, where a third writes them.
+const FIVE: Case = Case {
+    query: COPY,
+    length: 7,
+    report: "1:0 0:0\n1:1 0:1\n1:2 0:2\n1:3 0:3\n1:4 0:4\nend 5\n",
+    crossed: &[3, 5],
+    events: 77,
+};
+
+#[test]
+fn bytes_come_from_several_epochs(rt: HostRuntime) -> Result<(), Fail> {
+    let alloc = rt.alloc();
+    assert_case(&rt, alloc, &copy_in_two(&rt, alloc)?, &FIVE)
+}
+
+/// A run of no step is one epoch.
+const NONE: Case = Case {
+    query: COPY,
+    length: 1,
+    report: "end 0\n",
+    crossed: &[],
+    events: 4,
+};
+
+#[test]
+fn a_run_of_no_step_is_followed(rt: HostRuntime) -> Result<(), Fail> {
+    let alloc = rt.alloc();
+    assert_case(&rt, alloc, &trap(&rt, alloc)?, &NONE)
+}
+
+/// The report of the copy of four bytes.
+const COPIED: &str = "1:0 0:0\n1:1 0:1\n1:2 0:2\n1:3 0:3\nend 4\n";
+
+/// The copy of four bytes has its report, its crossings and its events where it is cut by a length: from their read to their write,
+/// the bytes are asked for, and each has one source byte.
+fn assert_copied<R: Threads + Wait + Abort + Sync>(
+    rt: &R,
+    alloc: Global,
+    job: &Job,
+    wanted: &Query,
+    length: u64,
+    line: Line,
+) -> Result<(), Fail> {
+    let found = answer_of(rt, alloc, &OpenGate, job, wanted, length, line)?;
+    assert_text(rt, alloc, &found.report, COPIED)?;
+    let mut events = 8u64;
+    for crossing in &found.crossed {
+        let count = match length.saturating_mul(u64::from(crossing.cut())) {
+            6..=8 => 4,
+            _ => 0,
+        };
+        assert_crosses(rt, crossing, count);
+        events = events.saturating_add(6 + 7 * count as u64);
+    }
+    assert_eq!(rt; found.events, events);
+    Ok(())
+}
+
+/// The numbers of workers, and the capacities, that are tried.
+const LINES: [Line; 12] = [
+    ALONE,
+    Line {
+        workers: 1,
+        capacity: 2,
+    },
+    Line {
+        workers: 1,
+        capacity: 256,
+    },
+    Line {
+        workers: 2,
+        capacity: 1,
+    },
+    Line {
+        workers: 2,
+        capacity: 2,
+    },
+    Line {
+        workers: 2,
+        capacity: 256,
+    },
+    Line {
+        workers: 8,
+        capacity: 1,
+    },
+    Line {
+        workers: 8,
+        capacity: 2,
+    },
+    Line {
+        workers: 8,
+        capacity: 256,
+    },
+    Line {
+        workers: 64,
+        capacity: 1,
+    },
+    Line {
+        workers: 64,
+        capacity: 2,
+    },
+    Line {
+        workers: 64,
+        capacity: 256,
+    },
+];
+
+/// By epochs of so many steps, the copy of four bytes has the same answers by either call and by every line.
+fn assert_copied_by_all<R: Threads + Wait + Abort + Sync>(
+    rt: &R,
+    alloc: Global,
+    job: &Job,
+    wanted: &Query,
+    length: u64,
+) -> Result<(), Fail> {
+    assert_joined(rt, alloc, job, wanted, length, COPIED)?;
+    for line in LINES {
+        assert_copied(rt, alloc, job, wanted, length, line)?;
+    }
+    Ok(())
+}
+
+/// How long an epoch is, how many workers there are and how many messages a link holds change nothing.
+#[test]
+fn answers_are_the_same_by_any_epochs_and_line(rt: HostRuntime) -> Result<(), Fail> {
+    let alloc = rt.alloc();
+    let job = copy_four(&rt, alloc)?;
+    let wanted = parse(alloc, COPY)?;
+    for length in 1..=13 {
+        assert_copied_by_all(&rt, alloc, &job, &wanted, length)?;
+    }
+    assert_copied_by_all(&rt, alloc, &job, &wanted, 1_099_511_627_776)
+}
+
+/// A run of 4,097 steps by two each is cut into 2,049 epochs, and nothing crosses.
+#[test]
+fn thousands_of_epochs_are_followed(rt: HostRuntime) -> Result<(), Fail> {
+    let alloc = rt.alloc();
+    let job = count_down(&rt, alloc)?;
+    let wanted = parse(alloc, COPY)?;
+    let line = Line {
+        workers: 4,
+        capacity: 256,
+    };
+    let found = answer_of(&rt, alloc, &OpenGate, &job, &wanted, 2, line)?;
+    assert_text(&rt, alloc, &found.report, "end 0\n")?;
+    assert_eq!(rt; found.crossed.len(), 2048);
+    assert_eq!(rt; found.events, 12292);
+    for crossing in &found.crossed {
+        assert_crosses(&rt, crossing, 0);
+    }
+    Ok(())
+}
+
+/// The report of the copy of 5,000 bytes: each comes from the one of its own offset.
+fn assert_many_copied(rt: &impl Abort, report: &Report) {
+    assert_eq!(rt; report.lines(), 5000);
+    for (row, offset) in report.rows().iter().zip(0..5000) {
+        let sink = SinkByte { channel: 1, offset };
+        let source = SourceByte { channel: 0, offset };
+        assert!(rt; row.sink() == SinkPoint::Out(sink));
+        assert!(rt; row.sources() == [source].as_slice());
+    }
+}
+
+/// What crosses a cut of that run before which so many bytes are copied: in the order in which they are written, these where they are
+/// copied to, and the others where they are read to.
+fn asked_of_many(alloc: Global, copied: u32) -> Result<Vec<Loc>, Fail> {
+    let mut asked = Vec::new(alloc);
+    for i in 0..5000u32 {
+        let start = if i < copied { 0x13000 } else { 0x11000 };
+        asked.push(Loc::Mem { place: start + i })?;
+    }
+    Ok(asked)
+}
+
+/// Just these cross the cuts of that run by a thousand steps each: the first eight steps prepare, and then each byte takes five.
+fn assert_many_crossed(rt: &impl Abort, alloc: Global, crossed: &[Crossed]) -> Result<(), Fail> {
+    assert_eq!(rt; crossed.len(), 25);
+    for crossing in crossed {
+        let copied = crossing.cut().saturating_mul(200).saturating_sub(1);
+        assert!(rt; crossing.asked() == asked_of_many(alloc, copied)?.as_slice());
+    }
+    Ok(())
+}
+
+/// That run is followed by twenty-six epochs, which so many workers turn.
+fn assert_many_by<R: Threads + Wait + Abort + Sync>(
+    rt: &R,
+    alloc: Global,
+    job: &Job,
+    workers: u32,
+) -> Result<(), Fail> {
+    let wanted = parse(alloc, COPY)?;
+    let line = Line {
+        workers,
+        capacity: 256,
+    };
+    let found = answer_of(rt, alloc, &OpenGate, job, &wanted, 1000, line)?;
+    assert_many_copied(rt, &found.report);
+    assert_eq!(rt; found.events, 880154);
+    assert_many_crossed(rt, alloc, &found.crossed)
+}
+
+// Each of these takes some seconds.
+
+#[test]
+fn a_long_run_is_joined(rt: HostRuntime) -> Result<(), Fail> {
+    let alloc = rt.alloc();
+    let job = copy_many(&rt, alloc)?;
+    let wanted = parse(alloc, COPY)?;
+    let report = joined(&rt, alloc, &job, &wanted, cuts_of(&rt, &job, 1000)?)?;
+    assert_many_copied(&rt, &report);
+    assert_eq!(rt; text(alloc, &report)?.len(), 67789);
+    Ok(())
+}
+
+#[test]
+fn a_long_run_is_followed_by_one_worker(rt: HostRuntime) -> Result<(), Fail> {
+    let alloc = rt.alloc();
+    assert_many_by(&rt, alloc, &copy_many(&rt, alloc)?, 1)
+}
+
+#[test]
+fn a_long_run_is_followed_by_three_workers(rt: HostRuntime) -> Result<(), Fail> {
+    let alloc = rt.alloc();
+    assert_many_by(&rt, alloc, &copy_many(&rt, alloc)?, 3)
+}
+
+#[test]
+fn a_long_run_is_followed_by_the_most_workers(rt: HostRuntime) -> Result<(), Fail> {
+    let alloc = rt.alloc();
+    assert_many_by(&rt, alloc, &copy_many(&rt, alloc)?, 64)
+}
+
+/// Of the windows at the beginnings of its epochs the first has five pages. The two pages that are read to change once; those
+/// that are copied to change at 21 cuts and at 5.
+#[test]
+fn pages_are_held_once(rt: HostRuntime) -> Result<(), Fail> {
+    let alloc = rt.alloc();
+    let job = copy_many(&rt, alloc)?;
+    assert_eq!(rt; job.steps(), 25015);
+    let points = Checkpoints::take(alloc, &job, &cuts_of(&rt, &job, 1000)?)?;
+    assert_eq!(rt; points.held(), 33);
+    Ok(())
+}
