@@ -12,4 +12,4 @@ pub use answering::answer_requests;
 pub use asking::{asked_by, crossings};
 pub use crossed::Crossed;
 pub use joining::join;
-pub use whole::{joined, query};
+pub use whole::{joined, query, round_robin};
