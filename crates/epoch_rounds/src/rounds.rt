@@ -1,0 +1,77 @@
+//! A run's cores, turned one after another until all are done.
+
+ghost use Rattle.std.specs.Prelude.{◌≡◌, ◌≤◌, ◌<◌, IfOk, map};
+ghost use Rattle.log_model.specs.Logs.{steps};
+ghost use Rattle.report_model.specs.Rows.{rows_as_written};
+ghost use Rattle.epoch_model.specs.Cutting.{IsCutting};
+ghost use Rattle.replayer.specs.Jobs.{trace_of};
+ghost use Rattle.checkpoints.specs.Points.{beginnings};
+ghost use Rattle.epoch_node.specs.Cores.{core_of};
+ghost use Rattle.epoch_line.specs.Layouts.{CutRun};
+ghost use Rattle.epoch_line.specs.Crossings.{asked_at};
+ghost use Rattle.epoch_rounds.specs.Lines.{IsLineOf, IsQuiet, AreDone};
+ghost use Rattle.epoch_rounds.specs.Streams.{AreParts};
+ghost use Rattle.epoch_rounds.specs.Left.{work_left};
+
+use crate::collecting::collect;
+use crate::line::{Line, lay_out};
+use crate::turning::turn_at;
+use checkpoints::Checkpoints;
+use epoch_cut::Cuts;
+use epoch_line::Collected;
+use no_memory::NoMemory;
+use outer_io::Gate;
+use query_lang::Query;
+use std::alloc::Global;
+
+/// The first round, in which each core begins.
+fn begin_all<'a, G: Gate>(line: &mut Line<'a, G>)
+    requires { (capacity : ℕ) × (run : CutRun) × IsQuiet capacity run (map core_of line.old.cores.items) line.old.joints.items }
+    ensures line { (capacity : ℕ) (run : CutRun) → IsQuiet capacity run (map core_of line.old.cores.items) line.old.joints.items
+        → IsLineOf capacity run (map core_of line.new.cores.items) line.new.joints.items × AreParts (map core_of line.new.cores.items) line.new.joints.items }
+{
+    for place in 0..line.cores.len() {
+        turn_at(line, place);
+    }
+}
+
+/// A round: each core has an event, from the first to the last. While not all are done, less work is left after it.
+fn round<'a, G: Gate>(line: &mut Line<'a, G>)
+    requires { (capacity : ℕ) × (run : CutRun) × IsLineOf capacity run (map core_of line.old.cores.items) line.old.joints.items }
+    ensures line { (capacity : ℕ) (run : CutRun) → IsLineOf capacity run (map core_of line.old.cores.items) line.old.joints.items
+        → IsLineOf capacity run (map core_of line.new.cores.items) line.new.joints.items }
+    ensures parts { (capacity : ℕ) (run : CutRun) → IsLineOf capacity run (map core_of line.old.cores.items) line.old.joints.items → AreParts (map core_of line.old.cores.items) line.old.joints.items
+        → AreParts (map core_of line.new.cores.items) line.new.joints.items }
+    ensures less { (capacity : ℕ) (run : CutRun) → IsLineOf capacity run (map core_of line.old.cores.items) line.old.joints.items → AreParts (map core_of line.old.cores.items) line.old.joints.items
+        → ¬ AreDone (map core_of line.old.cores.items)
+        → work_left (map core_of line.new.cores.items) line.new.joints.items < work_left (map core_of line.old.cores.items) line.old.joints.items }
+{
+    for place in 0..line.cores.len() {
+        turn_at(line, place);
+    }
+}
+
+/// The rows of a run that is cut, what crosses its inner cuts, and how many events moved: by a core for each epoch, which
+/// have their events in turn, from the first to the last, again and again, on this thread alone. Each link holds at most
+/// `capacity` messages, 1 to 65536. Each core enters the gate as it begins. It gives up with NoMemory alone.
+pub fn round_robin<G: Gate>(
+    alloc: Global,
+    gate: &G,
+    checkpoints: &Checkpoints<'_>,
+    query: &Query,
+    cuts: Cuts,
+    capacity: u32,
+) -> Result<Collected, NoMemory>
+    requires times { checkpoints.now.times ≡ beginnings cuts }
+    requires cuts { IsCutting (steps checkpoints.now.job.log) cuts }
+    requires capacity { (1 ≤ capacity) × (capacity ≤ 65536) }
+    ensures rows { IfOk result (λ all. all.sets ≡ rows_as_written query.now (trace_of checkpoints.now.job)) }
+    ensures crossed { IfOk result (λ all. all.crossed.items ≡ asked_at query.now (trace_of checkpoints.now.job) cuts) }
+{
+    let mut line = lay_out(alloc, checkpoints, query, gate, cuts, capacity)?;
+    begin_all(&mut line);
+    while !line.is_done() {
+        round(&mut line);
+    }
+    collect(alloc, line)
+}
