@@ -8,7 +8,7 @@ use Rattle.epoch_cut.specs.Numbered.{NumberedEpoch}
 use Rattle.epoch_link.specs.Ends.{Producing, Consuming, new_producer, new_consumer}
 use Rattle.epoch_node.specs.Cores.{Given}
 use Rattle.epoch_node.specs.Nodes.{NodeView, IsLedFrom, IsEndLater, IsInletLater, IsOutletLater}
-use Rattle.epoch_line.specs.Layouts.{CutRun, points_of, epochs_of, Links, before_end, after_end, node_between, laid_out, IsRunOf}
+use Rattle.epoch_line.specs.Layouts.{CutRun, epochs_of, given_at, Links, before_end, after_end, node_between, laid_out, IsRunOf}
 use Rattle.epoch_line.specs.Lines.{IsOneLink}
 
 -- ---- the same ends, later
@@ -51,16 +51,13 @@ pub record AreJoined (n m : NodeView) : Type 0 where
   pub answer : IsOneLink n.ends.answer_out m.ends.answer_in
 
 module _ (run : CutRun) where
-  abbrev pub given_at : NumberedEpoch → Bool → Bool → Given
-  given_at e first last = record { points = points_of run; query = run.query; epoch = e; first = first; last = last }
-
   -- the nodes of these epochs, one by one, each joined to the next
   abbrev pub IsLine : Bool → List NumberedEpoch → List NodeView → Type 0
   IsLine first [] [] = Unit {0}
   IsLine first [] (n ∷ ns) = ⊥
   IsLine first (e ∷ es) [] = ⊥
-  IsLine first (e ∷ es) (n ∷ []) = StandsAt (given_at e first true) n × (es ≡ [])
-  IsLine first (e ∷ es) (n ∷ m ∷ ns) = StandsAt (given_at e first false) n × AreJoined n m × IsLine false es (m ∷ ns)
+  IsLine first (e ∷ es) (n ∷ []) = StandsAt (given_at run e first true) n × (es ≡ [])
+  IsLine first (e ∷ es) (n ∷ m ∷ ns) = StandsAt (given_at run e first false) n × AreJoined n m × IsLine false es (m ∷ ns)
 
   -- a later part of it is one
   pub record IsPart (ns : List NodeView) : Type 0 where
@@ -76,7 +73,7 @@ module _ (run : CutRun) where
   part first (e ∷ es) (f ∷ g ∷ front) ns h = part false es (g ∷ front) ns h.2
 
   module _ (capacity : ℕ) where
-    stands : (e : NumberedEpoch) (b a : Option Links) (n : NodeView) → IsLedFrom n (node_between capacity run e b a) → StandsAt (given_at e (is_none b) (is_none a)) n
+    stands : (e : NumberedEpoch) (b a : Option Links) (n : NodeView) → IsLedFrom n (node_between capacity run e b a) → StandsAt (given_at run e (is_none b) (is_none a)) n
     stands e b a n h = record {
       given = h.given;
       ask_in = stays_inlet n.ends.ask_in _ h.ends.ask_in ∙ none_mapped (λ x. x.ask_in) (after_end capacity) a;

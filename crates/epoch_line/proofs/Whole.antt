@@ -1,7 +1,6 @@
--- Nodes that are done, led from a layout, and whose links are closed: they are done as the streams say, so they have the
--- rows of the run.
-use Rattle.std.proofs.Common.{◌≡◌, ℕ, zero, suc, ◌+◌, ◌-◌, ◌<◌, ◌≤◌, Some, None, List, [], ◌∷◌, ◌++◌, map, length, drop, get_or, refl, sym, ap, ap₂, ◌∙◌, subst, arith, Bool, true, false}
-use Rattle.std.specs.Prelude.{Option, option_map, is_none, All, nat_lt}
+-- A line of nodes that are done: they are done as the streams say, so they have the rows of the run.
+use Rattle.std.proofs.Common.{◌≡◌, ℕ, zero, suc, ◌+◌, ◌-◌, ◌<◌, ◌≤◌, Some, None, List, [], ◌∷◌, ◌++◌, map, length, get_or, refl, sym, ap, ap₂, ◌∙◌, subst, arith, Bool, true, false}
+use Rattle.std.specs.Prelude.{Option, is_none, All, nat_lt}
 use Rattle.std.specs.List.{AllByRecursion, flat_map}
 use Rattle.std.proofs.lemmas.Bool.{ltb-true, ltb-false}
 use Rattle.flow_model.specs.declared.Loc.{Loc}
@@ -11,7 +10,7 @@ use Rattle.flow_model.specs.Ranges.{IsInRange}
 use Rattle.flow_rule.specs.declared.Message.{Message}
 use Rattle.flow_rule.specs.declared.Message.TheVariants.{Ask, Byte, Close, End}
 use Rattle.report_model.specs.Query.{AreLocated}
-use Rattle.report_model.specs.Rows.{Row, rows_as_written}
+use Rattle.report_model.specs.Rows.{Row}
 use Rattle.log_model.specs.Logs.{steps}
 use Rattle.replayer.specs.Jobs.{Job, trace_of}
 use Rattle.replay_model.specs.Run.{start}
@@ -20,47 +19,29 @@ use Rattle.epoch_model.specs.Cutting.{Epoch, RisesTo, IsCutting, epochs}
 use Rattle.epoch_model.specs.Summary.{AreSummaries}
 use Rattle.epoch_cut.specs.Numbered.{NumberedEpoch, numbered}
 use Rattle.local_taint.specs.Summaries.{AreInRange}
-use Rattle.epoch_link.specs.Ends.{Producing, Consuming}
 use Rattle.pass_parts.specs.Ends.{got_by, sent_by, EndsWhole}
 use Rattle.stream_model.specs.Streams.{is_ended, requests, Node, IsDone, AreDone, AreAllDone, summaries}
 use Rattle.stream_model.specs.StreamLaws.{EndsLast, LinksCarry, Meets}
-use Rattle.stream_model.proofs.Growing.{asks_end_last, answers_end_last, nothing_is_left}
+use Rattle.stream_model.proofs.Growing.{asks_end_last, answers_end_last}
 use Rattle.stream_model.proofs.Meeting.{done_nodes_meet}
+use Rattle.stream_model.proofs.Running.{all_got}
 use Rattle.epoch_node.specs.Cores.{Given}
-use Rattle.epoch_node.specs.Keeping.{node_by, IsFound, HasDone}
-use Rattle.epoch_node.specs.Nodes.{NodeView, told_by}
-use Rattle.epoch_line.specs.Layouts.{CutRun, epochs_of}
-use Rattle.epoch_line.specs.Lines.{IsOneLink, HasDelivered}
+use Rattle.epoch_node.specs.Keeping.{node_by, IsFound}
+use Rattle.epoch_node.specs.Events.{IsMore}
+use Rattle.epoch_line.specs.Layouts.{CutRun, epochs_of, given_at}
+use Rattle.epoch_line.specs.DoneLines.{DoneNode, IsPlaced, AreTold, IsDoneLine, crossed, DoneLinesCome}
 use Rattle.epoch_line.specs.Crossings.{asked_at}
-use Rattle.epoch_line.proofs.Lines.{StandsAt, AreJoined, given_at, IsLine}
-
--- ---- nodes that are done
-
--- a node that is done and not broken, and its rows
-pub record DoneNode : Type 0 where
-  pub view : NodeView
-  pub rows : List Row
-  pub done : HasDone view.given (told_by view.ends) view.asked rows
 
 abbrev pub stream_of : DoneNode → Node
-stream_of d = node_by d.done.summary (told_by d.view.ends) d.view.asked d.rows
-
-abbrev pub views : List DoneNode → List NodeView
-views ds = map (λ d. d.view) ds
+stream_of d = node_by d.done.summary d.told d.asked d.rows
 
 abbrev pub streams : List DoneNode → List Node
 streams ds = map stream_of ds
 
--- what each got is what its neighbours sent
-abbrev pub AreClosed : List DoneNode → Type 0
-AreClosed [] = Unit {0}
-AreClosed (a ∷ []) = Unit {0}
-AreClosed (a ∷ b ∷ ds) = ((stream_of a).asks_got ≡ (stream_of b).asks_sent) × ((stream_of b).answers_got ≡ (stream_of a).answers_sent) × AreClosed (b ∷ ds)
+-- ---- a link at the end
 
--- ---- a link that is closed
-
-ended_whole : (ms front : List Message) → ms ≡ front ++ End true ∷ [] → is_ended ms ≡ true
-ended_whole ms front e = ap is_ended e ∙ by front where
+ended_whole : (ms : List Message) → EndsWhole ms → is_ended ms ≡ true
+ended_whole ms e = ap is_ended e.1 ∙ by e.0 where
   by : (front : List Message) → is_ended (front ++ End true ∷ []) ≡ true
   by [] = refl
   by (Ask l ∷ ms) = by ms
@@ -69,55 +50,55 @@ ended_whole ms front e = ap is_ended e ∙ by front where
   by (End whole ∷ ms) = refl
 
 -- who got the End got all that was sent
-all_got : (sent got left due : List Message) → got ++ left ≡ sent → sent ≡ due → EndsLast due → EndsWhole got → got ≡ sent
-all_got sent got left due e is last whole =
-    let none = nothing_is_left got left (subst EndsLast (sym (e ∙ is)) last) (ended_whole got whole.0 whole.1) in
-    sym (append-none got left none) ∙ e
-  where
-    append-none : (got left : List Message) → left ≡ [] → got ++ left ≡ got
-    append-none [] left n = n
-    append-none (m ∷ ms) left n = ap (λ xs. m ∷ xs) (append-none ms left n)
+closed : (got sent : Option (List Message)) → IsMore got sent → is_none got ≡ false → EndsLast (sent_by true true sent) → EndsWhole (got_by got) → got_by got ≡ sent_by true true sent
+closed None sent m some last whole = cc
+closed (Some got) None m some last whole = absurd m
+closed (Some got) (Some sent) m some last whole = all_got got sent m (ended_whole got whole) last
 
--- so where both ends are there, they agree
-closed : (p : Option (Producing Message)) (c : Option (Consuming Message)) (due : List Message) → IsOneLink p c → HasDelivered p c → is_none p ≡ false
-    → sent_by true true (option_map (λ (x : Producing Message). x.sent) p) ≡ due → EndsLast due → EndsWhole (got_by (option_map (λ (x : Consuming Message). x.got) c))
-    → got_by (option_map (λ (x : Consuming Message). x.got) c) ≡ sent_by true true (option_map (λ (x : Producing Message). x.sent) p)
-closed None c due one d some is last whole = cc
-closed (Some p) None due one d some is last whole = absurd one
-closed (Some p) (Some c) due one d some is last whole = all_got p.sent c.got d.0 due d.1 is last whole
-
--- the two links between a node and the next one
-pub links_closed : (a b : DoneNode) → AreJoined a.view b.view → is_none b.view.ends.ask_out ≡ false → b.view.given.first ≡ false → is_none a.view.ends.answer_out ≡ false → a.view.given.last ≡ false
-    → HasDelivered b.view.ends.ask_out a.view.ends.ask_in → HasDelivered a.view.ends.answer_out b.view.ends.answer_in
-    → ((stream_of a).asks_got ≡ (stream_of b).asks_sent) × ((stream_of b).answers_got ≡ (stream_of a).answers_sent)
-links_closed a b j some-ask first some-answer last asks answers = (
-  closed b.view.ends.ask_out a.view.ends.ask_in _ j.ask asks some-ask (b.done.done.asks first) (asks_end_last b.done.summary (stream_of b).asks_got) a.done.asks_end,
-  closed a.view.ends.answer_out b.view.ends.answer_in _ j.answer answers some-answer (a.done.done.answers last) (answers_end_last a.done.summary a.view.asked (requests (stream_of a).asks_got) (stream_of a).answers_got) b.done.answers_end,
-)
+none_got : (got : Option (List Message)) → is_none got ≡ true → got_by got ≡ End true ∷ []
+none_got None h = refl
+none_got (Some got) h = cc
 
 -- ---- all of them
 
-no_inlet : (c : Option (Consuming Message)) → is_none c ≡ true → got_by (option_map (λ (x : Consuming Message). x.got) c) ≡ End true ∷ []
-no_inlet None h = refl
-no_inlet (Some c) h = cc
-
-done_at : (i : Given) (d : DoneNode) → StandsAt i d.view → IsDone i.first i.last (stream_of d)
+done_at : (i : Given) (d : DoneNode) → IsPlaced i d → IsDone i.first i.last (stream_of d)
 done_at i d s = subst (λ (g : Given). IsDone g.first g.last (stream_of d)) s.given d.done.done
 
+-- the two links between a node and the next one
+links_closed : (i k : Given) (a b : DoneNode) → IsPlaced i a → IsPlaced k b → i.last ≡ false → k.first ≡ false → AreTold a b
+    → ((stream_of a).asks_got ≡ (stream_of b).asks_sent) × ((stream_of b).answers_got ≡ (stream_of a).answers_sent)
+links_closed i k a b x y last first t = (
+  closed a.told.asks_got b.told.asks_sent t.asks (x.links.asks_got ∙ last) (subst EndsLast (sym ((done_at k b y).asks first)) (asks_end_last b.done.summary (stream_of b).asks_got)) a.done.asks_end,
+  closed b.told.answers_got a.told.answers_sent t.answers (y.links.answers_got ∙ first)
+      (subst EndsLast (sym ((done_at i a x).answers last)) (answers_end_last a.done.summary a.asked (requests (stream_of a).asks_got) (stream_of a).answers_got)) b.done.answers_end,
+)
+
 module _ (run : CutRun) where
-  are_done : (first : Bool) (es : List NumberedEpoch) (ds : List DoneNode) → IsLine run first es (views ds) → AreClosed ds → AreDone first (streams ds)
-  are_done first es [] line c = tt
-  are_done first [] (d ∷ ds) line c = absurd line
-  are_done first (e ∷ es) (d ∷ []) line c = (done_at (given_at run e first true) d line.0, no_inlet d.view.ends.ask_in line.0.ask_in)
-  are_done first (e ∷ es) (d ∷ b ∷ ds) line c = (done_at (given_at run e first false) d line.0, c.0, c.1, are_done false es (b ∷ ds) line.2 c.2)
+  -- the first of a line stands at its place
+  record StandsFirst (first : Bool) (d : DoneNode) : Type 0 where
+    epoch : NumberedEpoch
+    last : Bool
+    placed : IsPlaced (given_at run epoch first last) d
 
-  all_done : (es : List NumberedEpoch) (ds : List DoneNode) → IsLine run true es (views ds) → AreClosed ds → AreAllDone (streams ds)
-  all_done es [] line c = tt
-  all_done [] (d ∷ ds) line c = absurd line
-  all_done (e ∷ es) (d ∷ []) line c = (no_inlet d.view.ends.answer_in line.0.answer_in, are_done true (e ∷ es) (d ∷ []) line c)
-  all_done (e ∷ es) (d ∷ b ∷ ds) line c = (no_inlet d.view.ends.answer_in line.0.answer_in, are_done true (e ∷ es) (d ∷ b ∷ ds) line c)
+  stands_first : (first : Bool) (es : List NumberedEpoch) (d : DoneNode) (ds : List DoneNode) → IsDoneLine run first es (d ∷ ds) → StandsFirst first d
+  stands_first first [] d ds line = absurd line
+  stands_first first (e ∷ es) d [] line = record { epoch = e; last = true; placed = line.0 }
+  stands_first first (e ∷ es) d (b ∷ ds) line = record { epoch = e; last = false; placed = line.0 }
 
-  found_at : (i : Given) (d : DoneNode) → StandsAt i d.view → IsFound i.query (trace_of i.points.job) i.epoch d.done.summary
+  are_done : (first : Bool) (es : List NumberedEpoch) (ds : List DoneNode) → IsDoneLine run first es ds → AreDone first (streams ds)
+  are_done first es [] line = tt
+  are_done first [] (d ∷ ds) line = absurd line
+  are_done first (e ∷ es) (d ∷ []) line = (done_at (given_at run e first true) d line.0, none_got d.told.asks_got line.0.links.asks_got)
+  are_done first (e ∷ es) (d ∷ b ∷ ds) line =
+      let next = stands_first false es b ds line.2 in
+      let both = links_closed (given_at run e first false) (given_at run next.epoch false next.last) d b line.0 next.placed refl refl line.1 in
+      (done_at (given_at run e first false) d line.0, both.0, both.1, are_done false es (b ∷ ds) line.2)
+
+  all_done : (es : List NumberedEpoch) (ds : List DoneNode) → IsDoneLine run true es ds → AreAllDone (streams ds)
+  all_done es [] line = tt
+  all_done es (d ∷ ds) line = (none_got d.told.answers_got (stands_first true es d ds line).placed.links.answers_got, are_done true es (d ∷ ds) line)
+
+  found_at : (i : Given) (d : DoneNode) → IsPlaced i d → IsFound i.query (trace_of i.points.job) i.epoch d.done.summary
   found_at i d s = subst (λ (g : Given). IsFound g.query (trace_of g.points.job) g.epoch d.done.summary) s.given d.done.found
 
   -- what they know is of the run's epochs, whose steps are in range
@@ -125,7 +106,7 @@ module _ (run : CutRun) where
     summaries : AreSummaries run.query (trace_of run.job) s cs (summaries (streams ds))
     in_range : AllByRecursion (λ (e : Epoch). AreInRange (trace_of run.job) e.first (e.past_last - e.first)) (epochs s cs)
 
-  are_found : (first : Bool) (k s : ℕ) (cs : List ℕ) (ds : List DoneNode) → IsLine run first (numbered k (epochs s cs)) (views ds) → AreFound s cs ds
+  are_found : (first : Bool) (k s : ℕ) (cs : List ℕ) (ds : List DoneNode) → IsDoneLine run first (numbered k (epochs s cs)) ds → AreFound s cs ds
   are_found first k s [] [] line = record { summaries = tt; in_range = tt }
   are_found first k s [] (d ∷ ds) line = absurd line
   are_found first k s (c ∷ cs) [] line = absurd line
@@ -171,36 +152,31 @@ trace_long job = length-steps_from (steps job.log) (start job.start job.log)
 
 -- ---- what they come to
 
-pub meets : (run : CutRun) (ds : List DoneNode) → IsCutting (steps run.job.log) run.cuts → AreLocated run.query.points → IsLine run true (epochs_of run) (views ds) → AreClosed ds
+meets : (run : CutRun) (ds : List DoneNode) → IsCutting (steps run.job.log) run.cuts → AreLocated run.query.points → IsDoneLine run true (epochs_of run) ds
     → Meets run.query (trace_of run.job) run.cuts (streams ds)
-meets run ds cutting located line c =
+meets run ds cutting located line =
     let trace = trace_of run.job in
     let cut : IsCutting (length trace) run.cuts = subst (λ n. IsCutting n run.cuts) (sym (trace_long run.job)) cutting in
     let found = are_found run true 0 0 run.cuts ds line in
-    done_nodes_meet run.query trace run.cuts (streams ds) (all_in_range trace run.cuts cut found.in_range) located cut found.summaries (all_done run (epochs_of run) ds line c)
+    done_nodes_meet run.query trace run.cuts (streams ds) (all_in_range trace run.cuts cut found.in_range) located cut found.summaries (all_done run (epochs_of run) ds line)
 
--- what the nodes asked, but for the first
-abbrev pub crossed_of : List DoneNode → List (List Loc)
-crossed_of ds = drop 1 (map (λ (d : DoneNode). d.view.asked) ds)
+crossings_are : (run : CutRun) (first : Bool) (k s : ℕ) (cs : List ℕ) (ds : List DoneNode) → IsDoneLine run first (numbered k (epochs s cs)) ds
+    → LinksCarry run.query (trace_of run.job) cs (streams ds) → crossed ds ≡ asked_at run.query (trace_of run.job) cs
+crossings_are run first k s [] [] line l = refl
+crossings_are run first k s [] (d ∷ ds) line l = absurd line
+crossings_are run first k s (c ∷ cs) [] line l = absurd line
+crossings_are run first k s (c ∷ []) (d ∷ []) line l = refl
+crossings_are run first k s (c ∷ b ∷ cs) (d ∷ []) line l = let no : length (numbered (suc k) (epochs c (b ∷ cs))) ≡ 0 = ap length line.1 in absurd (omega (arith, no))
+crossings_are run first k s (c ∷ []) (d ∷ b ∷ []) line l = absurd line.2
+crossings_are run first k s (c ∷ []) (d ∷ b ∷ e ∷ ds) line l = absurd line.2
+crossings_are run first k s (c ∷ e ∷ cs) (d ∷ b ∷ ds) line l =
+    ap₂ (λ (x : List Loc) (xs : List (List Loc)). x ∷ xs) l.0.asked (crossings_are run false (suc k) c (e ∷ cs) (b ∷ ds) line.2 l.1)
 
-crossed_are : (run : CutRun) (first : Bool) (k s : ℕ) (cs : List ℕ) (ds : List DoneNode) → IsLine run first (numbered k (epochs s cs)) (views ds)
-    → LinksCarry run.query (trace_of run.job) cs (streams ds) → crossed_of ds ≡ asked_at run.query (trace_of run.job) cs
-crossed_are run first k s [] [] line l = refl
-crossed_are run first k s [] (d ∷ ds) line l = absurd line
-crossed_are run first k s (c ∷ cs) [] line l = absurd line
-crossed_are run first k s (c ∷ []) (d ∷ []) line l = refl
-crossed_are run first k s (c ∷ b ∷ cs) (d ∷ []) line l = let no : length (numbered (suc k) (epochs c (b ∷ cs))) ≡ 0 = ap length line.1 in absurd (omega (arith, no))
-crossed_are run first k s (c ∷ []) (d ∷ b ∷ []) line l = absurd line.2
-crossed_are run first k s (c ∷ []) (d ∷ b ∷ e ∷ ds) line l = absurd line.2
-crossed_are run first k s (c ∷ e ∷ cs) (d ∷ b ∷ ds) line l =
-    ap₂ (λ (x : List Loc) (xs : List (List Loc)). x ∷ xs) l.0.asked (crossed_are run false (suc k) c (e ∷ cs) (b ∷ ds) line.2 l.1)
+rows_are : (ds : List DoneNode) → flat_map (λ (d : DoneNode). d.rows) ds ≡ flat_map (λ (n : Node). n.rows) (streams ds)
+rows_are [] = refl
+rows_are (d ∷ ds) = ap (λ (rs : List Row). d.rows ++ rs) (rows_are ds)
 
-pub rows_are : (run : CutRun) (ds : List DoneNode) → Meets run.query (trace_of run.job) run.cuts (streams ds) → flat_map (λ (d : DoneNode). d.rows) ds ≡ rows_as_written run.query (trace_of run.job)
-rows_are run ds m = by ds ∙ m.all where
-  by : (ds : List DoneNode) → flat_map (λ (d : DoneNode). d.rows) ds ≡ flat_map (λ (n : Node). n.rows) (streams ds)
-  by [] = refl
-  by (d ∷ ds) = ap (λ (rs : List Row). d.rows ++ rs) (by ds)
-
-pub crossings_are : (run : CutRun) (ds : List DoneNode) → IsLine run true (epochs_of run) (views ds) → Meets run.query (trace_of run.job) run.cuts (streams ds)
-    → crossed_of ds ≡ asked_at run.query (trace_of run.job) run.cuts
-crossings_are run ds line m = crossed_are run true 0 0 run.cuts ds line m.links
+pub done_lines_come : DoneLinesCome
+done_lines_come run ds cutting located line =
+    let m = meets run ds cutting located line in
+    record { rows = rows_are ds ∙ m.all; crossed_are = crossings_are run true 0 0 run.cuts ds line m.links }

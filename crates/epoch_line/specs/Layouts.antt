@@ -1,5 +1,5 @@
 -- New nodes of the epochs of a run, joined by new links, and what is led from them.
-use Rattle.std.specs.Prelude.{◌≡◌, ℕ, ◌+◌, Option, Some, None, is_none, option_map, List, [], ◌∷◌, length}
+use Rattle.std.specs.Prelude.{◌≡◌, ℕ, ◌+◌, Bool, Option, Some, None, is_none, option_map, List, [], ◌∷◌, length}
 use Rattle.std.specs.List.{AllZip}
 use Rattle.atomic_table.specs.Seated.{TableId}
 use Rattle.log_model.specs.Logs.{steps}
@@ -10,6 +10,7 @@ use Rattle.replayer.specs.Jobs.{Job}
 use Rattle.checkpoints.specs.Points.{CheckpointsAt, beginnings}
 use Rattle.epoch_link.specs.Ends.{new_producer, new_consumer}
 use Rattle.epoch_node.specs.declared.ends.Ends.{Ends}
+use Rattle.epoch_node.specs.Cores.{Given}
 use Rattle.epoch_node.specs.Nodes.{NodeView, new_node, IsLedFrom}
 use Rattle.epoch_line.specs.declared.ends.Before.{Before}
 use Rattle.epoch_line.specs.declared.ends.After.{After}
@@ -27,6 +28,10 @@ points_of run = record { job = run.job; times = beginnings run.cuts }
 
 abbrev pub epochs_of : CutRun → List NumberedEpoch
 epochs_of run = numbered 0 (epochs 0 run.cuts)
+
+-- what the core of an epoch is given, whether it is the first or the last
+abbrev pub given_at : CutRun → NumberedEpoch → Bool → Bool → Given
+given_at run e first last = record { points = points_of run; query = run.query; epoch = e; first = first; last = last }
 
 -- ---- ends of links
 
@@ -69,8 +74,7 @@ module _ (capacity : ℕ) where
   module _ (run : CutRun) where
     -- the new node of an epoch between these links
     abbrev pub node_between : NumberedEpoch → Option Links → Option Links → NodeView
-    node_between e before after =
-        new_node (record { points = points_of run; query = run.query; epoch = e; first = is_none before; last = is_none after }) (ends_between before after)
+    node_between e before after = new_node (given_at run e (is_none before) (is_none after)) (ends_between before after)
 
     -- the new nodes of these epochs: `before` are the links before the first, and behind each but the last are the next of
     -- the links

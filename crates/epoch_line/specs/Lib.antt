@@ -1,3 +1,4 @@
 pub mod Layouts
 pub mod Lines
 pub mod Crossings
+pub mod DoneLines

@@ -3,6 +3,7 @@
 
 mod collecting;
 mod ends;
+pub mod laws;
 mod layout;
 mod working;
 

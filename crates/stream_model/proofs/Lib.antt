@@ -6,5 +6,7 @@ pub mod Moving
 pub mod NeverStill
 pub mod Progress
 pub mod Running
+pub mod Moves
+pub mod NodeWork
 pub mod Work
 mod Worked

@@ -122,7 +122,7 @@ facts first last e (Answers a f) h d w =
     }
 
 -- who got an End got all
-all_got : (got sent : List Message) → IsPrefix got sent → is_ended got ≡ true → EndsLast sent → got ≡ sent
+pub all_got : (got sent : List Message) → IsPrefix got sent → is_ended got ≡ true → EndsLast sent → got ≡ sent
 all_got got sent p g l = sym (append-nil got) ∙ ap (λ (rest : List Message). got ++ rest) (sym (nothing_is_left got p.0 (subst EndsLast (sym p.1) l) g)) ∙ p.1
 
 pub linked : (first last : Bool) (n b : NodeState) → Facts first false (node_in n) → Facts false last (node_in b) → LinkHolds n.phase b.phase

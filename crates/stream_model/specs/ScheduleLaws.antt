@@ -1,17 +1,15 @@
 -- The nodes of a run never stand still together, and whatever the schedule they end with the rows of the whole trace.
-use Rattle.std.specs.Prelude.{◌≡◌, ◌⊎◌, ℕ, ◌+◌, ◌*◌, ◌<◌, Bool, true, false, List, [], ◌∷◌, map, length, None, All}
+use Rattle.std.specs.Prelude.{◌≡◌, ◌⊎◌, ℕ, ◌+◌, ◌<◌, Bool, true, false, List, [], ◌∷◌, map, length, None, All}
 use Rattle.std.specs.List.{AllByRecursion}
 use Rattle.flow_model.specs.declared.Loc.{Loc}
 use Rattle.flow_model.specs.declared.StepSeen.{StepSeen}
-use Rattle.flow_model.specs.Origins.{Policy, origins}
 use Rattle.flow_model.specs.Ranges.{IsInRange}
-use Rattle.report_model.specs.Query.{Query, AreLocated, policy_of}
-use Rattle.report_model.specs.Rows.{rows_as_written}
+use Rattle.report_model.specs.Query.{Query, AreLocated}
 use Rattle.epoch_model.specs.Cutting.{IsCutting}
 use Rattle.epoch_model.specs.Summary.{Summary, AreSummaries}
-use Rattle.epoch_model.specs.Crossing.{crossing_at}
 use Rattle.stream_model.specs.StreamLaws.{Meets}
 use Rattle.stream_model.specs.Passes.{Links, Asking, asking_event, Answering, answering_event}
+use Rattle.stream_model.specs.Work.{run_work}
 use Rattle.stream_model.specs.Schedules.{NodeState, Event, nodes_start, nodes_after, event_at, is_met, asking_need, answering_need, moves_at, is_done, is_whole_in, node_in}
 
 -- an event that does not move changes nothing
@@ -49,21 +47,6 @@ moves_in capacity (v ∷ vs) ns =
     one_if (moves_at capacity v.node None ns)
     + moves_in capacity vs (event_at capacity v.is_refused v.node None ns)
 
--- the locations asked at the inner cuts, and their origins there, counted
-abbrev pub asked_in_all : Query → List StepSeen → List ℕ → ℕ
-asked_in_all q trace [] = 0
-asked_in_all q trace (c ∷ []) = 0
-asked_in_all q trace (c ∷ d ∷ cs) = length (crossing_at q trace c (d ∷ cs)) + asked_in_all q trace (d ∷ cs)
-
-abbrev pub listed : Policy → List StepSeen → ℕ → List Loc → ℕ
-listed policy trace c [] = 0
-listed policy trace c (l ∷ ls) = length (origins policy trace c l) + listed policy trace c ls
-
-abbrev pub listed_in_all : Query → List StepSeen → List ℕ → ℕ
-listed_in_all q trace [] = 0
-listed_in_all q trace (c ∷ []) = 0
-listed_in_all q trace (c ∷ d ∷ cs) = listed (policy_of q) trace c (crossing_at q trace c (d ∷ cs)) + listed_in_all q trace (d ∷ cs)
-
 -- every schedule that ends with all nodes done, and none broken, has the same number of events that move
 abbrev pub SameWork : Type 0
 SameWork = (q : Query) (trace : List StepSeen) (cuts : List ℕ) (capacity : ℕ) (es : List Summary) (schedule : List Event)
@@ -71,5 +54,4 @@ SameWork = (q : Query) (trace : List StepSeen) (cuts : List ℕ) (capacity : ℕ
     → IsCutting (length trace) cuts → AreSummaries q trace 0 cuts es
     → let ns = nodes_after capacity schedule (nodes_start es) in
     AllByRecursion (λ n. is_done n.phase ≡ true) ns → AllByRecursion (λ n. is_whole_in n.phase ≡ true) ns
-    → moves_in capacity schedule (nodes_start es) + 2
-    ≡ 6 * length es + length (rows_as_written q trace) + 5 * asked_in_all q trace cuts + 2 * listed_in_all q trace cuts
+    → moves_in capacity schedule (nodes_start es) ≡ run_work q trace cuts

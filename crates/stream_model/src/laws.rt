@@ -1,6 +1,7 @@
 //! Laws of the definitions: each is the contract of a function that does nothing.
 
 ghost use Rattle.stream_model.specs.StreamLaws.{AsksGrow, AnswersGrow, AsksEndLast, AnswersEndLast, NothingIsLeft, HeardAscends, ResolvableByCount, PlacesStay, DoneNodesMeet};
+ghost use Rattle.stream_model.specs.Work.{DoneNodesWork};
 ghost use Rattle.stream_model.specs.PassLaws.{AskingSends, AnsweringSends, PassesEndDone};
 ghost use Rattle.stream_model.specs.ScheduleLaws.{NeverStill, StillAsking, StillAnswering, EveryScheduleMeets, SameWork};
 
@@ -57,8 +58,9 @@ pub fn every_schedule_meets()
     ensures { EveryScheduleMeets }
 {}
 
-/// Every schedule that ends with all nodes done, and none of them broken, has the same number of events
-/// that move.
+/// How many events move, whatever the capacity: in nodes that are done, and in every schedule that ends with
+/// all nodes done and none of them broken.
 pub fn same_work()
-    ensures { SameWork }
+    ensures nodes { DoneNodesWork }
+    ensures schedules { SameWork }
 {}
