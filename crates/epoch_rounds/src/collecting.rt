@@ -3,10 +3,9 @@
 ghost use Rattle.std.specs.Prelude.{◌≡◌, IfOk, drop, map};
 ghost use Rattle.replayer.specs.Jobs.{trace_of};
 ghost use Rattle.report_model.specs.Rows.{rows_as_written};
-ghost use Rattle.epoch_line.specs.Layouts.{CutRun};
 ghost use Rattle.epoch_line.specs.Crossings.{asked_at};
 ghost use Rattle.epoch_node.specs.Cores.{core_of};
-ghost use Rattle.epoch_rounds.specs.Lines.{IsLineOf, AreDone};
+ghost use Rattle.epoch_rounds.specs.Lines.{Plan, IsLineOf, AreDone};
 
 use crate::line::Line;
 use epoch_line::Collected;
@@ -28,9 +27,9 @@ fn without_first<T: Drop>(mut items: Vec<T>) -> Vec<T>
 /// a core is broken.
 pub(crate) fn collect<'a, G>(alloc: Global, line: Line<'a, G>) -> Result<Collected, NoMemory>
     requires done { AreDone (map core_of line.cores.items) }
-    requires line { (capacity : ℕ) × (run : CutRun) × IsLineOf capacity run (map core_of line.cores.items) line.joints.items }
-    ensures rows { (capacity : ℕ) (run : CutRun) → IsLineOf capacity run (map core_of line.entry.cores.items) line.entry.joints.items → IfOk result (λ all. all.sets ≡ rows_as_written run.query (trace_of run.job)) }
-    ensures crossed { (capacity : ℕ) (run : CutRun) → IsLineOf capacity run (map core_of line.entry.cores.items) line.entry.joints.items → IfOk result (λ all. all.crossed.items ≡ asked_at run.query (trace_of run.job) run.cuts) }
+    requires line { (plan : Plan) × IsLineOf plan (map core_of line.cores.items) line.joints.items }
+    ensures rows { (plan : Plan) → IsLineOf plan (map core_of line.entry.cores.items) line.entry.joints.items → IfOk result (λ all. all.sets ≡ rows_as_written plan.run.query (trace_of plan.run.job)) }
+    ensures crossed { (plan : Plan) → IsLineOf plan (map core_of line.entry.cores.items) line.entry.joints.items → IfOk result (λ all. all.crossed.items ≡ asked_at plan.run.query (trace_of plan.run.job) plan.run.cuts) }
 {
     let mut sets: Vec<SinkSet> = Vec::new(alloc);
     let mut asked = Vec::new(alloc);

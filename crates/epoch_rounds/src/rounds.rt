@@ -7,9 +7,8 @@ ghost use Rattle.epoch_model.specs.Cutting.{IsCutting};
 ghost use Rattle.replayer.specs.Jobs.{trace_of};
 ghost use Rattle.checkpoints.specs.Points.{beginnings};
 ghost use Rattle.epoch_node.specs.Cores.{core_of};
-ghost use Rattle.epoch_line.specs.Layouts.{CutRun};
 ghost use Rattle.epoch_line.specs.Crossings.{asked_at};
-ghost use Rattle.epoch_rounds.specs.Lines.{IsLineOf, IsQuiet, AreDone};
+ghost use Rattle.epoch_rounds.specs.Lines.{Plan, IsLineOf, IsLaidOut, AreDone};
 ghost use Rattle.epoch_rounds.specs.Streams.{AreParts};
 ghost use Rattle.epoch_rounds.specs.Left.{work_left};
 
@@ -26,9 +25,9 @@ use std::alloc::Global;
 
 /// The first round, in which each core begins.
 fn begin_all<'a, G: Gate>(line: &mut Line<'a, G>)
-    requires { (capacity : ℕ) × (run : CutRun) × IsQuiet capacity run (map core_of line.old.cores.items) line.old.joints.items }
-    ensures line { (capacity : ℕ) (run : CutRun) → IsQuiet capacity run (map core_of line.old.cores.items) line.old.joints.items
-        → IsLineOf capacity run (map core_of line.new.cores.items) line.new.joints.items × AreParts (map core_of line.new.cores.items) line.new.joints.items }
+    requires { (plan : Plan) × IsLaidOut plan (map core_of line.old.cores.items) line.old.joints.items }
+    ensures line { (plan : Plan) → IsLaidOut plan (map core_of line.old.cores.items) line.old.joints.items
+        → IsLineOf plan (map core_of line.new.cores.items) line.new.joints.items × AreParts (map core_of line.new.cores.items) line.new.joints.items }
 {
     for place in 0..line.cores.len() {
         turn_at(line, place);
@@ -37,12 +36,12 @@ fn begin_all<'a, G: Gate>(line: &mut Line<'a, G>)
 
 /// A round: each core has an event, from the first to the last. While not all are done, less work is left after it.
 fn round<'a, G: Gate>(line: &mut Line<'a, G>)
-    requires { (capacity : ℕ) × (run : CutRun) × IsLineOf capacity run (map core_of line.old.cores.items) line.old.joints.items }
-    ensures line { (capacity : ℕ) (run : CutRun) → IsLineOf capacity run (map core_of line.old.cores.items) line.old.joints.items
-        → IsLineOf capacity run (map core_of line.new.cores.items) line.new.joints.items }
-    ensures parts { (capacity : ℕ) (run : CutRun) → IsLineOf capacity run (map core_of line.old.cores.items) line.old.joints.items → AreParts (map core_of line.old.cores.items) line.old.joints.items
+    requires { (plan : Plan) × IsLineOf plan (map core_of line.old.cores.items) line.old.joints.items }
+    ensures line { (plan : Plan) → IsLineOf plan (map core_of line.old.cores.items) line.old.joints.items
+        → IsLineOf plan (map core_of line.new.cores.items) line.new.joints.items }
+    ensures parts { (plan : Plan) → IsLineOf plan (map core_of line.old.cores.items) line.old.joints.items → AreParts (map core_of line.old.cores.items) line.old.joints.items
         → AreParts (map core_of line.new.cores.items) line.new.joints.items }
-    ensures less { (capacity : ℕ) (run : CutRun) → IsLineOf capacity run (map core_of line.old.cores.items) line.old.joints.items → AreParts (map core_of line.old.cores.items) line.old.joints.items
+    ensures less { (plan : Plan) → IsLineOf plan (map core_of line.old.cores.items) line.old.joints.items → AreParts (map core_of line.old.cores.items) line.old.joints.items
         → ¬ AreDone (map core_of line.old.cores.items)
         → work_left (map core_of line.new.cores.items) line.new.joints.items < work_left (map core_of line.old.cores.items) line.old.joints.items }
 {
