@@ -1,5 +1,5 @@
-mod Tickets
-mod Layouts
+pub mod Tickets
+pub mod Layouts
 mod Numbers
 mod Lines
 mod Whole

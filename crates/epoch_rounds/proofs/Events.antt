@@ -36,11 +36,11 @@ use Rattle.epoch_rounds.proofs.Sending.{asking_part, asked_part, answering_part}
 -- ---- numbers
 
 asks_to_asks : (A R T U l l' w w' s s' g g' : ℕ) → l' + w' + s + g + 1 ≤ l + w + s' + g' → s' ≤ A → g' ≤ R → s ≤ s' → g ≤ g'
-    → l' + w' + R + 4 + (A - s') + (R - g') + T + U < l + w + R + 4 + (A - s) + (R - g) + T + U
+    → l' + w' + R + 4 + (A - s') + (R - g') + (T - 0) + (U - 0) < l + w + R + 4 + (A - s) + (R - g) + (T - 0) + (U - 0)
 asks_to_asks A R T U l l' w w' s s' g g' h a r p q = omega (arith, h, a, r, p, q)
 
 asks_to_answers : (A R T U l l' w w' u o s s' g g' t q : ℕ) → l' ≤ R → w' ≤ 1 → u ≤ 1 → o ≤ 1 → s ≤ s' → g ≤ g'
-    → l' + w' + u + o + (A - s') + (R - g') + (T - t) + (U - q) < l + w + R + 4 + (A - s) + (R - g) + T + U
+    → l' + w' + u + o + (A - s') + (R - g') + (T - t) + (U - q) < l + w + R + 4 + (A - s) + (R - g) + (T - 0) + (U - 0)
 asks_to_answers A R T U l l' w w' u o s s' g g' t q a b c d p r = omega (arith, a, b, c, d, p, r)
 
 answers_to_answers : (X Y T U l l' w w' u u' o o' t t' q q' m n : ℕ) → l' + w' + u' + q + t + m ≤ l + w + u + q' + t' → o' + n ≤ o → 1 ≤ m + n → t' ≤ T → q' ≤ U → t ≤ t' → q ≤ q'

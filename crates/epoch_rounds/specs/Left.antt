@@ -1,9 +1,9 @@
 -- How much is left to do in a line whose cores have begun: each event that moves makes it less.
-use Rattle.std.specs.Prelude.{ℕ, ◌+◌, ◌-◌, Bool, true, false, List, [], ◌∷◌, length}
+use Rattle.std.specs.Prelude.{ℕ, ◌+◌, ◌-◌, Bool, true, false, List, [], ◌∷◌, map, length}
 use Rattle.flow_rule.specs.declared.Message.{Message}
 use Rattle.flow_rule.specs.declared.Message.TheVariants.{End}
 use Rattle.stream_model.specs.Passes.{Asking as AskingState}
-use Rattle.stream_model.specs.Schedules.{Phase, Fresh as NotBegun, Asks, Answers, asks_sent_in, asks_got_in, answers_sent_in, answers_got_in}
+use Rattle.stream_model.specs.Schedules.{NodeState, Phase, Fresh as NotBegun, Asks, Answers, asks_sent_in, asks_got_in, answers_sent_in, answers_got_in}
 use Rattle.stream_model.specs.ScheduleLaws.{one_if}
 use Rattle.stream_model.proofs.Progress.{unresolved}
 use Rattle.pass_parts.specs.Ends.{got_by, sent_by}
@@ -13,7 +13,7 @@ use Rattle.epoch_node.specs.Cores.{StageView, Fresh, Asking, Answering, Done, Be
 use Rattle.epoch_node.specs.Keeping.{Told}
 use Rattle.epoch_rounds.specs.declared.joints.Joint.{Joint}
 use Rattle.epoch_rounds.specs.Joints.{told_between}
-use Rattle.epoch_rounds.specs.Streams.{summary_at, summaries_of, all_asks, all_answers}
+use Rattle.epoch_rounds.specs.Streams.{summary_at, all_asks, all_answers}
 
 -- ---- the phase of the definitions that a core is in
 
@@ -61,14 +61,21 @@ core_left asks requests answered answers p =
     + messages_left answered (answers_got_in p)
     + messages_left answers (answers_sent_in p)
 
-abbrev pub line_left : Bool → List Message → List CoreView → List Joint → ℕ
-line_left first answered [] js = 0
-line_left first answered (c ∷ cs) [] = 0
-line_left first answered (c ∷ cs) (j ∷ []) = 0
-line_left first answered (c ∷ cs) (j ∷ i ∷ js) =
-    let answers = all_answers first (summary_at c.stage) (summaries_of cs) answered in
-    core_left (all_asks (summaries_of (c ∷ cs))) (all_asks (summaries_of cs)) answered answers (phase_in c.stage (told_between j i))
-    + line_left false answers cs (i ∷ js)
+-- of nodes in a row, where the first is answered this in all
+abbrev pub row_left : Bool → List Message → List NodeState → ℕ
+row_left first answered [] = 0
+row_left first answered (n ∷ ns) =
+    let es = map (λ m. m.summary) ns in
+    let answers = all_answers first n.summary es answered in
+    core_left (all_asks (n.summary ∷ es)) (all_asks es) answered answers n.phase + row_left false answers ns
 
+-- the nodes of the definitions
+abbrev pub states : List CoreView → List Joint → List NodeState
+states [] js = []
+states (c ∷ cs) [] = []
+states (c ∷ cs) (j ∷ []) = []
+states (c ∷ cs) (j ∷ i ∷ js) = record { summary = summary_at c.stage; phase = phase_in c.stage (told_between j i) } ∷ states cs (i ∷ js)
+
+-- of a line. Before the first core there is an End alone
 abbrev pub work_left : List CoreView → List Joint → ℕ
-work_left cs js = line_left true (End true ∷ []) cs js
+work_left cs js = row_left true (End true ∷ []) (states cs js)

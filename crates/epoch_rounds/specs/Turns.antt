@@ -34,8 +34,8 @@ pub record TurnsOn (old new : CoreView) (inlet outlet inlet' outlet' : Link) (an
   pub given : new.given ≡ old.given
   pub got : IsMore (got_on inlet) (got_on inlet')
   pub sent : IsMore (sent_on outlet) (sent_on outlet')
-  pub inlet : IsInletFrom inlet' inlet
-  pub outlet : IsOutletFrom outlet' outlet
+  pub same_inlet : IsInletFrom inlet' inlet
+  pub same_outlet : IsOutletFrom outlet' outlet
   pub not_yet : WhenNotYet answer ((new ≡ old) × (got_on inlet' ≡ got_on inlet) × (sent_on outlet' ≡ sent_on outlet))
   pub waits : WhenNotYet answer (Waits (need_at old.stage (got_on inlet) (sent_on outlet)) (IsPopRefused inlet inlet') (IsPushRefused outlet outlet'))
 

@@ -4,6 +4,7 @@
 mod collecting;
 mod joints;
 mod line;
+pub mod probe;
 mod rounds;
 mod turning;
 

@@ -1,0 +1,2 @@
+abbrev pub IsProbed : Type 0
+IsProbed = Unit {0}
