@@ -332,7 +332,7 @@ module _ (p : Plan) where
       )
   turned (suc place) first (e ∷ es) answered before (c ∷ cs) (j ∷ i ∷ js) cs' js' s a h b t =
       let answers = all_answers first (summary_at c.stage) (summaries_of cs) answered in
-      let src = source answers (sent_on i.answer) (λ n. no (sym (s.0.keeps.links.answers_sent ∙ ap (λ (g : Given). g.last) s.0.given ∙ not_last es cs t.cores t.joints s.1 t.later) ∙ n)) (λ n. a.0.answers) in
+      let src = source answers (sent_on i.answer) (λ n. no (sym n ∙ s.0.keeps.links.answers_sent ∙ ap (λ (g : Given). g.last) s.0.given ∙ not_last es cs t.cores t.joints s.1 t.later)) (λ n. a.0.answers) in
       let r = turned place false es answers (Some (phase_in c.stage (told_between j i))) cs (i ∷ js) t.cores t.joints s.1 a.1 src (next_before p first e es c j i js s.0) t.later in
       let stands = turn_stands p place false es cs (i ∷ js) t.cores t.joints s.1 t.later in
       subst₂ (LineTurned p.capacity (suc place) first answered before (c ∷ cs) (j ∷ i ∷ js)) (sym t.cores_are) (sym t.joints_are) (by t.joints r stands.0 stands.1)

@@ -29,8 +29,8 @@ fn begin_all<'a, G: Gate>(line: &mut Line<'a, G>)
     ensures line { (plan : Plan) → IsLaidOut plan (map core_of line.old.cores.items) line.old.joints.items
         → IsLineOf plan (map core_of line.new.cores.items) line.new.joints.items × AreParts (map core_of line.new.cores.items) line.new.joints.items }
 {
-    for place in 0..line.cores.len() {
-        turn_at(line, place);
+    for next in 0..line.cores.len() {
+        turn_at(line, next);
     }
 }
 
