@@ -4,7 +4,7 @@ ghost use Rattle.std.specs.Prelude.{◌≡◌, ◌+◌, ◌<◌, map, length};
 ghost use Rattle.epoch_node.specs.Cores.{core_of};
 ghost use Rattle.epoch_node.specs.Keeping.{KeepsCore};
 ghost use Rattle.epoch_rounds.specs.Joints.{told_between};
-ghost use Rattle.epoch_rounds.specs.Turns.{TurnsBetween, KeepsAt, TurnsAt};
+ghost use Rattle.epoch_rounds.specs.Turns.{TurnsIn, TurnsBetween, KeepsAt, TurnsAt};
 
 use crate::joints::Joint;
 use crate::line::Line;
@@ -13,17 +13,25 @@ use outer_io::Gate;
 use run_board::Turn;
 use std::mem;
 
-/// One event of a core, between the links before it and those behind it. A core that is done has none.
-fn turn_between<'a, G: Gate>(core: &mut Core<'a, G>, before: &mut Joint, behind: &mut Joint) -> Turn
+/// One event of a core, on the links of its phase among those before it and those behind it. A core that is done has none.
+fn turn_in_phase<'a, G: Gate>(core: &mut Core<'a, G>, before: &mut Joint, behind: &mut Joint) -> Turn
     requires { KeepsCore (core_of core.old) (told_between before.old behind.old) }
-    ensures { TurnsBetween (core_of core.old) before.old behind.old (core_of core.new) before.new behind.new result }
+    ensures { TurnsIn (core_of core.old).stage (core_of core.old) (core_of core.new) before.old behind.old before.new behind.new result }
 {
-    let turn = match core.phase() {
+    match core.phase() {
         Phase::Fresh => core.event(&mut behind.ask, &mut before.ask),
         Phase::Asking => core.event(&mut behind.ask, &mut before.ask),
         Phase::Answering => core.event(&mut before.answer, &mut behind.answer),
         Phase::Done => Turn::Done,
-    };
+    }
+}
+
+/// The same, and what is true of the links then.
+fn turn_between<'a, G: Gate>(core: &mut Core<'a, G>, before: &mut Joint, behind: &mut Joint) -> Turn
+    requires { KeepsCore (core_of core.old) (told_between before.old behind.old) }
+    ensures { TurnsBetween (core_of core.old) before.old behind.old (core_of core.new) before.new behind.new result }
+{
+    let turn = turn_in_phase(core, before, behind);
     before.form();
     behind.form();
     turn
