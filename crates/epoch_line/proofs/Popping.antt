@@ -4,14 +4,13 @@ use Rattle.std.specs.Prelude.{Option, option_map, is_none, All, min}
 use Rattle.std.specs.List.{flat_map}
 use Rattle.std.proofs.lemmas.List.Elements.{All-head, All-tail}
 use Rattle.std.proofs.lemmas.Grind.{reverse_onto}
-use Rattle.flow_model.specs.declared.Loc.{Loc}
 use Rattle.flow_rule.specs.declared.Message.{Message}
 use Rattle.report_model.specs.Rows.{Row}
 use Rattle.epoch_cut.specs.Numbered.{NumberedEpoch}
 use Rattle.sink_collect.specs.Pairs.{capped}
 use Rattle.epoch_link.specs.Ends.{Producing, Consuming}
 use Rattle.epoch_node.specs.Cores.{Given}
-use Rattle.epoch_node.specs.Keeping.{HasDone}
+use Rattle.epoch_node.specs.Keeping.{HasDone, HasCounted}
 use Rattle.epoch_node.specs.Events.{IsMore}
 use Rattle.epoch_node.specs.Nodes.{NodeView, told_by}
 use Rattle.epoch_line.specs.Layouts.{CutRun, given_at}
@@ -24,13 +23,25 @@ pub record Finished : Type 0 where
   pub view : NodeView
   pub rows : List Row
   pub done : HasDone view.given (told_by view.ends) view.asked rows
+  pub counted : HasCounted view.given (told_by view.ends) view.asked rows view.events
 
 abbrev pub views : List Finished → List NodeView
 views fs = map (λ f. f.view) fs
 
 -- but for its ends
 abbrev pub node_of : Finished → DoneNode
-node_of f = record { given = f.view.given; told = told_by f.view.ends; asked = f.view.asked; rows = f.rows; done = f.done }
+node_of f = record {
+  given = f.view.given;
+  told = told_by f.view.ends;
+  asked = f.view.asked;
+  rows = f.rows;
+  events = f.view.events;
+  done = f.done;
+  counted = f.counted;
+}
+
+abbrev pub nodes : List Finished → List DoneNode
+nodes fs = map node_of fs
 
 -- the ends that the first of these has towards the node before it
 abbrev pub Faces : List Finished → Option (Producing Message) → Option (Consuming Message) → Type 0
@@ -57,13 +68,9 @@ all_done all (x ∷ items) done e z = absurd (omega (arith, z))
 pub one_before : {X : Type 0} (x : X) (xs : List X) → reverse xs ++ x ∷ [] ≡ reverse (x ∷ xs)
 one_before x xs = sym (reverse_onto xs x [])
 
-pub flat_mapped : (fs : List Finished) → flat_map (λ (rows : List Row). rows) (map (λ (f : Finished). f.rows) fs) ≡ flat_map (λ (d : DoneNode). d.rows) (map node_of fs)
+pub flat_mapped : (ds : List DoneNode) → flat_map (λ (rows : List Row). rows) (map (λ (d : DoneNode). d.rows) ds) ≡ flat_map (λ (d : DoneNode). d.rows) ds
 flat_mapped [] = refl
-flat_mapped (f ∷ fs) = ap (λ rows. f.rows ++ rows) (flat_mapped fs)
-
-pub all_asked : (fs : List Finished) → map (λ (f : Finished). f.view.asked) fs ≡ map (λ (d : DoneNode). d.asked) (map node_of fs)
-all_asked [] = refl
-all_asked (f ∷ fs) = ap (λ (ls : List (List Loc)). f.view.asked ∷ ls) (all_asked fs)
+flat_mapped (d ∷ ds) = ap (λ rows. d.rows ++ rows) (flat_mapped ds)
 
 no_outlet_link : (p : Option (Producing Message)) → is_none p ≡ true → IsOneLink p None
 no_outlet_link None h = tt
@@ -130,7 +137,7 @@ placed i f s = record {
   };
 }
 
-pub done_line : (run : CutRun) (first : Bool) (es : List NumberedEpoch) (fs : List Finished) → IsLine run first es (views fs) → AreClosed fs → IsDoneLine run first es (map node_of fs)
+pub done_line : (run : CutRun) (first : Bool) (es : List NumberedEpoch) (fs : List Finished) → IsLine run first es (views fs) → AreClosed fs → IsDoneLine run first es (nodes fs)
 done_line run first [] [] line c = tt
 done_line run first [] (f ∷ fs) line c = absurd line
 done_line run first (e ∷ es) [] line c = absurd line

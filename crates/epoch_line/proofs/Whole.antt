@@ -1,18 +1,20 @@
--- A line of nodes that are done: they are done as the streams say, so they have the rows of the run.
+-- A line of nodes that are done: they are done as the streams say, so they have the rows of the run, and their events are
+-- as many.
 use Rattle.std.proofs.Common.{◌≡◌, ℕ, zero, suc, ◌+◌, ◌-◌, ◌<◌, ◌≤◌, Some, None, List, [], ◌∷◌, ◌++◌, map, length, get_or, refl, sym, ap, ap₂, ◌∙◌, subst, arith, Bool, true, false}
 use Rattle.std.specs.Prelude.{Option, is_none, All, nat_lt}
-use Rattle.std.specs.List.{AllByRecursion, flat_map}
+use Rattle.std.specs.List.{AllByRecursion, flat_map, sum_by}
 use Rattle.std.proofs.lemmas.Bool.{ltb-true, ltb-false}
+use Rattle.std.proofs.lemmas.List.Sums.{sum_by-cons}
 use Rattle.flow_model.specs.declared.Loc.{Loc}
 use Rattle.flow_model.specs.declared.StepSeen.{StepSeen}
 use Rattle.flow_model.specs.Origins.{step_at}
 use Rattle.flow_model.specs.Ranges.{IsInRange}
 use Rattle.flow_rule.specs.declared.Message.{Message}
 use Rattle.flow_rule.specs.declared.Message.TheVariants.{Ask, Byte, Close, End}
-use Rattle.report_model.specs.Query.{AreLocated}
 use Rattle.report_model.specs.Rows.{Row}
 use Rattle.log_model.specs.Logs.{steps}
 use Rattle.replayer.specs.Jobs.{Job, trace_of}
+use Rattle.sink_collect.specs.Pairs.{capped}
 use Rattle.replay_model.specs.Run.{start}
 use Rattle.replay_model.proofs.Offsets.{length-steps_from}
 use Rattle.epoch_model.specs.Cutting.{Epoch, RisesTo, IsCutting, epochs}
@@ -21,10 +23,12 @@ use Rattle.epoch_cut.specs.Numbered.{NumberedEpoch, numbered}
 use Rattle.local_taint.specs.Summaries.{AreInRange}
 use Rattle.pass_parts.specs.Ends.{got_by, sent_by, EndsWhole}
 use Rattle.stream_model.specs.Streams.{is_ended, requests, Node, IsDone, AreDone, AreAllDone, summaries}
-use Rattle.stream_model.specs.StreamLaws.{EndsLast, LinksCarry, Meets}
+use Rattle.stream_model.specs.StreamLaws.{EndsLast, LinksCarry}
+use Rattle.stream_model.specs.Work.{node_work, work_in_all, EndsBehind, EndsOutside}
 use Rattle.stream_model.proofs.Growing.{asks_end_last, answers_end_last}
 use Rattle.stream_model.proofs.Meeting.{done_nodes_meet}
 use Rattle.stream_model.proofs.Running.{all_got}
+use Rattle.stream_model.proofs.NodeWork.{done_nodes_work}
 use Rattle.epoch_node.specs.Cores.{Given}
 use Rattle.epoch_node.specs.Keeping.{node_by, IsFound}
 use Rattle.epoch_node.specs.Events.{IsMore}
@@ -150,15 +154,40 @@ all_in_range (s ∷ ss) cuts h a =
 trace_long : (job : Job) → length (trace_of job) ≡ steps job.log
 trace_long job = length-steps_from (steps job.log) (start job.start job.log)
 
--- ---- what they come to
+-- ---- how many events moved
 
-meets : (run : CutRun) (ds : List DoneNode) → IsCutting (steps run.job.log) run.cuts → AreLocated run.query.points → IsDoneLine run true (epochs_of run) ds
-    → Meets run.query (trace_of run.job) run.cuts (streams ds)
-meets run ds cutting located line =
-    let trace = trace_of run.job in
-    let cut : IsCutting (length trace) run.cuts = subst (λ n. IsCutting n run.cuts) (sym (trace_long run.job)) cutting in
-    let found = are_found run true 0 0 run.cuts ds line in
-    done_nodes_meet run.query trace run.cuts (streams ds) (all_in_range trace run.cuts cut found.in_range) located cut found.summaries (all_done run (epochs_of run) ds line)
+nothing_asked : (sent : Option (List Message)) → is_none sent ≡ true → sent_by true true sent ≡ End true ∷ []
+nothing_asked None h = refl
+nothing_asked (Some sent) h = cc
+
+counted_at : (i : Given) (d : DoneNode) → IsPlaced i d → d.events ≡ capped (node_work i.first i.last (stream_of d))
+counted_at i d s = subst (λ (g : Given). d.events ≡ capped (node_work g.first g.last (stream_of d))) s.given (d.counted d.done.summary)
+
+module _ (run : CutRun) where
+  ends_behind : (first : Bool) (es : List NumberedEpoch) (ds : List DoneNode) → IsDoneLine run first es ds → EndsBehind (streams ds)
+  ends_behind first es [] line = tt
+  ends_behind first [] (d ∷ ds) line = absurd line
+  ends_behind first (e ∷ es) (d ∷ []) line = nothing_asked d.told.answers_sent line.0.links.answers_sent
+  ends_behind first (e ∷ es) (d ∷ b ∷ ds) line = ends_behind false es (b ∷ ds) line.2
+
+  ends_outside : (es : List NumberedEpoch) (ds : List DoneNode) → IsDoneLine run true es ds → EndsOutside (streams ds)
+  ends_outside es [] line = tt
+  ends_outside es (d ∷ ds) line = (nothing_asked d.told.asks_sent (stands_first run true es d ds line).placed.links.asks_sent, ends_behind true es (d ∷ ds) line)
+
+  -- the sum of capped counts, capped, is the capped sum
+  counted_all : (first : Bool) (es : List NumberedEpoch) (ds : List DoneNode) → IsDoneLine run first es ds
+      → capped (sum_by (λ (d : DoneNode). d.events) ds) ≡ capped (work_in_all first (streams ds))
+  counted_all first es [] line = refl
+  counted_all first [] (d ∷ ds) line = absurd line
+  counted_all first (e ∷ es) (d ∷ []) line =
+      let own = counted_at (given_at run e first true) d line.0 in
+      omega (arith, own, sum_by-cons (λ (d : DoneNode). d.events) d [])
+  counted_all first (e ∷ es) (d ∷ b ∷ ds) line =
+      let own = counted_at (given_at run e first false) d line.0 in
+      let rest = counted_all false es (b ∷ ds) line.2 in
+      omega (arith, own, rest, sum_by-cons (λ (d : DoneNode). d.events) d (b ∷ ds))
+
+-- ---- what they come to
 
 crossings_are : (run : CutRun) (first : Bool) (k s : ℕ) (cs : List ℕ) (ds : List DoneNode) → IsDoneLine run first (numbered k (epochs s cs)) ds
     → LinksCarry run.query (trace_of run.job) cs (streams ds) → crossed ds ≡ asked_at run.query (trace_of run.job) cs
@@ -178,5 +207,15 @@ rows_are (d ∷ ds) = ap (λ (rs : List Row). d.rows ++ rs) (rows_are ds)
 
 pub done_lines_come : DoneLinesCome
 done_lines_come run ds cutting located line =
-    let m = meets run ds cutting located line in
-    record { rows = rows_are ds ∙ m.all; crossed_are = crossings_are run true 0 0 run.cuts ds line m.links }
+    let trace = trace_of run.job in
+    let cut : IsCutting (length trace) run.cuts = subst (λ n. IsCutting n run.cuts) (sym (trace_long run.job)) cutting in
+    let found = are_found run true 0 0 run.cuts ds line in
+    let in_range = all_in_range trace run.cuts cut found.in_range in
+    let done = all_done run (epochs_of run) ds line in
+    let meets = done_nodes_meet run.query trace run.cuts (streams ds) in_range located cut found.summaries done in
+    record {
+      rows = rows_are ds ∙ meets.all;
+      crossed_are = crossings_are run true 0 0 run.cuts ds line meets.links;
+      events = counted_all run true (epochs_of run) ds line
+          ∙ ap capped (done_nodes_work run.query trace run.cuts (streams ds) in_range located cut found.summaries done (ends_outside run (epochs_of run) ds line));
+    }

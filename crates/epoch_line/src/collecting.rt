@@ -1,10 +1,11 @@
 //! What nodes that are done come to.
 
 ghost use Rattle.std.specs.Prelude.{◌≡◌, All, IfOk, drop, reverse};
-ghost use Rattle.std.specs.List.{flat_map, sum_by};
+ghost use Rattle.std.specs.List.{flat_map};
 ghost use Rattle.replayer.specs.Jobs.{trace_of};
 ghost use Rattle.report_model.specs.Rows.{rows_as_written};
 ghost use Rattle.sink_collect.specs.Pairs.{capped};
+ghost use Rattle.stream_model.specs.Work.{run_work};
 ghost use Rattle.epoch_line.specs.Layouts.{CutRun, IsRunOf};
 ghost use Rattle.epoch_line.specs.Lines.{IsNodeDone, IsOneLink, HasDelivered};
 ghost use Rattle.epoch_line.specs.Crossings.{asked_at};
@@ -62,14 +63,14 @@ fn back_to_front<T: Drop>(mut items: Vec<T>) -> Vec<T>
     items
 }
 
-/// The rows of a run, and what its nodes asked, of nodes that are done, and led one by one from those of one layout. It
-/// closes their links. It gives up with NoMemory alone, also where a node is broken.
+/// The rows of a run, what its nodes asked, and how many of their events moved, of nodes that are done, and led one by one
+/// from those of one layout. It closes their links. It gives up with NoMemory alone, also where a node is broken.
 pub fn collect<'a, G>(alloc: Global, mut nodes: Vec<Node<'a, G>>) -> Result<Collected, NoMemory>
     requires done { All IsNodeDone nodes.items }
     requires led { (run : CutRun) × IsRunOf run nodes.items }
     ensures rows { (run : CutRun) → IsRunOf run nodes.entry.items → IfOk result (λ all. all.sets ≡ rows_as_written run.query (trace_of run.job)) }
     ensures crossed { (run : CutRun) → IsRunOf run nodes.entry.items → IfOk result (λ all. all.crossed.items ≡ asked_at run.query (trace_of run.job) run.cuts) }
-    ensures events { IfOk result (λ all. all.events ≡ capped (sum_by (λ n. n.events) nodes.entry.items)) }
+    ensures events { (run : CutRun) → IsRunOf run nodes.entry.items → IfOk result (λ all. all.events ≡ capped (run_work run.query (trace_of run.job) run.cuts)) }
 {
     let mut sets = Vec::with_capacity(alloc, nodes.len())?;
     let mut asked = Vec::with_capacity(alloc, nodes.len())?;

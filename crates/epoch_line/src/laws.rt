@@ -2,7 +2,8 @@
 
 ghost use Rattle.epoch_line.specs.DoneLines.{DoneLinesCome};
 
-/// Nodes of a run that are done come to the rows of the run and to what crosses its inner cuts, whatever joins them.
+/// Nodes of a run that are done come to the rows of the run, to what crosses its inner cuts, and to one number of events
+/// that moved, whatever joins them.
 pub fn done_lines_come()
     ensures { DoneLinesCome }
 {}

@@ -6,6 +6,8 @@ ghost use Rattle.report_model.specs.Rows.{rows_as_written};
 ghost use Rattle.epoch_model.specs.Cutting.{IsCutting};
 ghost use Rattle.replayer.specs.Jobs.{trace_of};
 ghost use Rattle.checkpoints.specs.Points.{beginnings};
+ghost use Rattle.sink_collect.specs.Pairs.{capped};
+ghost use Rattle.stream_model.specs.Work.{run_work};
 ghost use Rattle.epoch_line.specs.Crossings.{asked_at};
 
 use crate::collecting::{Collected, collect};
@@ -20,9 +22,9 @@ use std::alloc::Global;
 use std::sync::Wait;
 use std::thread::Threads;
 
-/// The rows of a run that is cut, and what crosses its inner cuts, by a node for each epoch, which `workers` give turns, 1 to
-/// 64 of them. Each link holds at most `capacity` messages, 1 to 65536. Each node enters the gate as it begins. It gives up
-/// with NoMemory alone.
+/// The rows of a run that is cut, what crosses its inner cuts, and how many events moved, by a node for each epoch, which
+/// `workers` give turns, 1 to 64 of them. Each link holds at most `capacity` messages, 1 to 65536. Each node enters the gate
+/// as it begins. It gives up with NoMemory alone.
 pub fn work<G: Gate, R: Threads + Wait + Sync>(
     rt: &R,
     alloc: Global,
@@ -39,6 +41,7 @@ pub fn work<G: Gate, R: Threads + Wait + Sync>(
     requires capacity { (1 ≤ capacity) × (capacity ≤ 65536) }
     ensures rows { IfOk result (λ all. all.sets ≡ rows_as_written query.now (trace_of checkpoints.now.job)) }
     ensures crossed { IfOk result (λ all. all.crossed.items ≡ asked_at query.now (trace_of checkpoints.now.job) cuts) }
+    ensures events { IfOk result (λ all. all.events ≡ capped (run_work query.now (trace_of checkpoints.now.job) cuts)) }
 {
     // The contract of this says that the epochs are few.
     let _count = cuts.count();

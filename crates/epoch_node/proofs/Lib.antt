@@ -1,5 +1,6 @@
 mod Noted
 mod Acting
+mod Counting
 mod Stepping
 mod NodeSteps
 mod Alike

@@ -1,5 +1,5 @@
 -- What an event of a core keeps.
-use Rattle.std.proofs.Common.{refl, ◌≡◌, List, ap, ap₂, sym, subst, subst₂, ◌∙◌, false}
+use Rattle.std.proofs.Common.{refl, ◌≡◌, List, ap, ap₂, sym, subst, subst₂, ◌∙◌, true, false}
 use Rattle.std.specs.Prelude.{Option, is_none}
 use Rattle.flow_rule.specs.declared.Message.{Message}
 use Rattle.pass_parts.specs.declared.pass_turn.PassTurn.{PassTurn}
@@ -10,14 +10,23 @@ use Rattle.pass_parts.specs.Turns.{OnOpen}
 use Rattle.backward_pass.specs.Backward.{state}
 use Rattle.epoch_node.specs.declared.stage.Phase.TheVariants as phase
 use Rattle.epoch_node.specs.declared.stage.Stage.{Stage}
-use Rattle.epoch_node.specs.Cores.{Given, stage_of, StageView, Fresh, Asking, Answering, Done, Between, CoreView, phase_of}
-use Rattle.epoch_node.specs.Keeping.{Told, fresh_told, HasLinks, AtStage, KeepsCore}
-use Rattle.epoch_node.specs.Events.{got_at, sent_at, told_at, IsReady, StillKeeps, IsMore, settled_by, Steps, Acts, Advances}
+use Rattle.epoch_node.specs.Cores.{Given, stage_of, StageView, Fresh, Asking, Answering, Done, Between, CoreView, phase_of, whole_at}
+use Rattle.epoch_node.specs.Keeping.{Told, fresh_told, HasLinks, AtStage, Counts, KeepsCore}
+use Rattle.epoch_node.specs.Events.{got_at, sent_at, told_at, one_more, IsReady, StillKeeps, IsMore, settled_by, Steps, Acts, Advances}
 use Rattle.epoch_node.proofs.Acting.{begins_state, more_still, begun_asking, asks_got_more, asks_sent_more, still_asking, begins_to_answer, answers_got_more, answers_sent_more, still_answering}
+use Rattle.epoch_node.proofs.Counting.{counted_by, counts_open, counts_over}
 
 pub acts_of : {s t : Stage} → s ≡ t → (next : StageView) (got sent got' sent' : Option (List Message)) (turn : PassTurn)
     → Acts (stage_of s) got sent next got' sent' turn → Acts (stage_of t) got sent next got' sent' turn
 acts_of e next got sent got' sent' turn x = subst (λ s. Acts (stage_of s) got sent next got' sent' turn) e x
+
+-- where nothing more went through the links of its phase, a core keeps what it kept
+pub told_same : (s : StageView) (w : Told) (got sent : Option (List Message)) → got_at s w ≡ got → sent_at s w ≡ sent → w ≡ told_at s got sent w
+told_same (Fresh t) w got sent g e = ap₂ (λ x y. record w { asks_got = x; asks_sent = y }) g e
+told_same (Asking v) w got sent g e = ap₂ (λ x y. record w { asks_got = x; asks_sent = y }) g e
+told_same (Answering f) w got sent g e = ap₂ (λ x y. record w { answers_got = x; answers_sent = y }) g e
+told_same (Done f) w got sent g e = ap₂ (λ x y. record w { answers_got = x; answers_sent = y }) g e
+told_same Between w got sent g e = ap₂ (λ x y. record w { answers_got = x; answers_sent = y }) g e
 
 -- the event happened or not, and the pass is not over
 pub record IsOpenTurn (turn : PassTurn) : Type 1 where
@@ -135,20 +144,25 @@ module _ (c : CoreView) (next : StageView) (got sent got' sent' : Option (List M
       (over_steps c.given c.stage next after r.told got' sent' n r.keeps.stage (subst (Acts c.stage (got_at c.stage r.told) (sent_at c.stage r.told) next got' sent') o (acts_at r.told r.got_is r.sent_is)) a)
 
   module _ (no_got : is_none got' ≡ is_none got) (no_sent : is_none sent' ≡ is_none sent) (d : CoreView) (same : d.given ≡ c.given) where
-    keeps_at : (w : Told) → got_at c.stage w ≡ got → sent_at c.stage w ≡ sent → KeepsCore c w → AtStage c.given d.stage (told_at c.stage got' sent' w) → KeepsCore d (told_at c.stage got' sent' w)
-    keeps_at w g s k at =
+    keeps_at : (w : Told) → got_at c.stage w ≡ got → sent_at c.stage w ≡ sent → KeepsCore c w → AtStage c.given d.stage (told_at c.stage got' sent' w)
+        → (whole_at d.stage ≡ true → Counts d (told_at c.stage got' sent' w)) → KeepsCore d (told_at c.stage got' sent' w)
+    keeps_at w g s k at counts =
         let links = links_at c.given c.stage w got' sent' (no_got ∙ ap is_none (sym g)) (no_sent ∙ ap is_none (sym s)) k.links in
         record {
           links = subst (λ i. HasLinks i (told_at c.stage got' sent' w)) (sym same) links;
           stage = subst (λ i. AtStage i d.stage (told_at c.stage got' sent' w)) (sym same) at;
+          counts = counts;
         }
 
-    pub keeps_open : IsOpenTurn came_to → d.stage ≡ next → StillKeeps c got sent d got' sent'
-    keeps_open o is = λ w g s k.
+    pub keeps_open : IsOpenTurn came_to → d.stage ≡ next → d.events ≡ counted_by came_to c.events → StillKeeps c got sent d got' sent'
+    keeps_open o is e = λ w g s k.
         keeps_at w g s k
         (subst (λ n. AtStage c.given n (told_at c.stage got' sent' w)) (sym is) (open_at c.given c.stage next w got' sent' came_to o k.stage (acts_at w g s)))
+        (counts_open c d same w got' sent' k.links (no_got ∙ ap is_none (sym g)) k.stage k.counts next came_to o.not_over (acts_at w g s) is e)
 
-    pub keeps_over : came_to ≡ pass_turn.Over → Advances c.given next d.stage → StillKeeps c got sent d got' sent'
-    keeps_over o a = λ w g s k.
+    pub keeps_over : came_to ≡ pass_turn.Over → Advances c.given next d.stage → d.events ≡ one_more c.events → StillKeeps c got sent d got' sent'
+    keeps_over o a e = λ w g s k.
+        let x = subst (Acts c.stage (got_at c.stage w) (sent_at c.stage w) next got' sent') o (acts_at w g s) in
         keeps_at w g s k
-        (over_at c.given c.stage next d.stage w got' sent' k.stage (subst (Acts c.stage (got_at c.stage w) (sent_at c.stage w) next got' sent') o (acts_at w g s)) a)
+        (over_at c.given c.stage next d.stage w got' sent' k.stage x a)
+        (counts_over c d same w got' sent' k.links (no_got ∙ ap is_none (sym g)) k.stage k.counts next x a e)

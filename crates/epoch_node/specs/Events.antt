@@ -1,7 +1,8 @@
 -- What an event of a core does.
-use Rattle.std.specs.Prelude.{◌≡◌, ℕ, ◌+◌, ◌-◌, ◌^◌, min, Bool, true, false, Option, Some, None, is_none, List}
+use Rattle.std.specs.Prelude.{◌≡◌, ℕ, ◌+◌, Bool, true, false, Option, Some, None, is_none, List}
 use Rattle.flow_model.specs.declared.Loc.{Loc}
 use Rattle.flow_rule.specs.declared.Message.{Message}
+use Rattle.sink_collect.specs.Pairs.{capped}
 use Rattle.stream_model.specs.Streams.{requests}
 use Rattle.stream_model.specs.StreamLaws.{IsPrefix}
 use Rattle.stream_model.specs.Schedules.{Need, begun, asking_need, answering_need}
@@ -144,7 +145,7 @@ WhenNotYet turn.NotYet P = P
 WhenNotYet turn.Done P = Unit {0}
 
 abbrev pub one_more : ℕ → ℕ
-one_more n = min (n + 1) (2 ^ 64 - 1)
+one_more n = capped (n + 1)
 
 -- the last event moves from another phase to the phase Done
 abbrev pub counted_last : Phase → ℕ → ℕ

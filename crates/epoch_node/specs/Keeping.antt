@@ -1,5 +1,5 @@
 -- What a core keeps of what went through its links.
-use Rattle.std.specs.Prelude.{◌≡◌, ◌-◌, Bool, true, false, Option, None, is_none, is_some, List, []}
+use Rattle.std.specs.Prelude.{◌≡◌, ℕ, ◌+◌, ◌-◌, Bool, true, false, Option, None, is_none, is_some, List, [], length}
 use Rattle.flow_model.specs.declared.Loc.{Loc}
 use Rattle.flow_model.specs.declared.StepSeen.{StepSeen}
 use Rattle.flow_rule.specs.declared.Message.{Message}
@@ -10,16 +10,19 @@ use Rattle.local_taint.specs.declared.summary.Summary.{Summary}
 use Rattle.local_taint.specs.Summaries.{AreInRange}
 use Rattle.report_model.specs.Query.{Query}
 use Rattle.report_model.specs.Rows.{Row}
+use Rattle.sink_collect.specs.Pairs.{capped}
 use Rattle.stream_model.specs.Streams.{is_ended, requests, Node, IsDone}
 use Rattle.stream_model.specs.Passes.{Asking as AskingState}
 use Rattle.stream_model.specs.PassLaws.{AsksSent}
+use Rattle.stream_model.specs.Work.{many_got, node_work}
+use Rattle.stream_model.specs.ScheduleLaws.{one_if}
 use Rattle.pass_parts.specs.declared.requests.Request.{Request}
 use Rattle.pass_parts.specs.Ends.{got_by, sent_by, fresh_end, EndsWhole}
 use Rattle.pass_parts.specs.Known.{known}
 use Rattle.pass_parts.specs.Requests.{locations}
-use Rattle.backward_pass.specs.Backward.{BackView, new_back, state, Keeps, Reached, SendsFor}
+use Rattle.backward_pass.specs.Backward.{BackView, new_back, knows, state, Keeps, Reached, SendsFor}
 use Rattle.forward_pass.specs.Forward.{ForeView, new_fore, known_by, fore_state, ForeKeeps, ForeReached, ForeSends}
-use Rattle.epoch_node.specs.Cores.{Given, StageView, Fresh, Asking, Answering, Done, Between, CoreView, CanStart}
+use Rattle.epoch_node.specs.Cores.{Given, StageView, Fresh, Asking, Answering, Done, Between, CoreView, CanStart, whole_at}
 
 -- what went through the four links of a node, where there are any
 pub record Told : Type 0 where
@@ -124,10 +127,41 @@ AtStage i (Answering f) w = IsAnswering i f w × (f.over ≡ false)
 AtStage i (Done f) w = IsAnswering i f w × (f.over ≡ true)
 AtStage i Between w = ⊥
 
+-- ---- how many events moved
+
+-- in a pass backwards that is whole: in one the node began, and the others walked sinks, and sent and got messages
+abbrev pub HasAsked : Given → BackView → Told → ℕ → Type 0
+HasAsked i v w moved =
+    moved + length v.left ≡ 1 + length (knows v).sinks + length (sent_by v.over v.whole w.asks_sent) + many_got i.last (got_by w.asks_got)
+
+-- in a pass forwards that is whole, after a pass backwards that walked all sinks: the others built the answers to the
+-- requests, sent and got messages, and resolved the rows
+abbrev pub HasAnswered : Given → ForeView → Told → ℕ → Type 0
+HasAnswered i f w moved =
+    moved + length f.left
+    ≡ 1 + length (known_by f).sinks + length (sent_by true true w.asks_sent) + many_got i.last (got_by w.asks_got)
+    + length (requests (got_by w.asks_got))
+    + length (sent_by f.over f.whole w.answers_sent) + many_got i.first (got_by w.answers_got)
+    + one_if (is_some f.rows)
+
+abbrev pub MovedAt : Given → StageView → Told → ℕ → Type 0
+MovedAt i (Fresh t) w moved = moved ≡ 0
+MovedAt i (Asking v) w moved = HasAsked i v w moved
+MovedAt i (Answering f) w moved = HasAnswered i f w moved
+MovedAt i (Done f) w moved = HasAnswered i f w moved
+MovedAt i Between w moved = ⊥
+
+-- the count of a core that is whole is that of the events that moved
+pub record Counts (c : CoreView) (w : Told) : Type 0 where
+  pub moved : ℕ
+  pub at_stage : MovedAt c.given c.stage w moved
+  pub is : c.events ≡ capped moved
+
 -- what a core keeps of what went through its links
 pub record KeepsCore (c : CoreView) (w : Told) : Type 0 where
   pub links : HasLinks c.given w
   pub stage : AtStage c.given c.stage w
+  pub counts : whole_at c.stage ≡ true → Counts c w
 
 -- ---- at the end
 
@@ -151,3 +185,7 @@ pub record HasDone (i : Given) (w : Told) (asked : List Loc) (rows : List Row) :
   pub done : IsDone i.first i.last (node_by summary w asked rows)
   pub asks_end : EndsWhole (got_by w.asks_got)
   pub answers_end : EndsWhole (got_by w.answers_got)
+
+-- the count of a core that has done so: the events that moved in a node that is done, whatever it knows of its epoch
+abbrev pub HasCounted : Given → Told → List Loc → List Row → ℕ → Type 0
+HasCounted i w asked rows events = (e : EpochSummary) → events ≡ capped (node_work i.first i.last (node_by e w asked rows))

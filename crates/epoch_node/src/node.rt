@@ -3,7 +3,7 @@
 ghost use Rattle.std.specs.Prelude.{◌≡◌, ◌+◌, ◌≤◌, is_ok, true, IfOk};
 ghost use Rattle.run_board.specs.Turns.{AnswersEnded};
 ghost use Rattle.epoch_node.specs.Cores.{core_of, new_core, CanStart};
-ghost use Rattle.epoch_node.specs.Keeping.{fresh_told, HasDone};
+ghost use Rattle.epoch_node.specs.Keeping.{fresh_told, HasDone, HasCounted};
 ghost use Rattle.epoch_node.specs.Events.{WhenNotYet, counted};
 ghost use Rattle.epoch_node.specs.Nodes.{told_by, new_node, IsLedFrom, HasWaited, SendsDue};
 
@@ -132,11 +132,11 @@ impl<'a, G> Node<'a, G> {
         ensures asked { result.asked ≡ self.entry.asked }
         ensures whole { is_ok result.sets ≡ self.entry.whole }
         ensures done { IfOk result.sets (λ rows. HasDone self.entry.given (told_by self.entry.ends) result.asked rows) }
+        ensures counted { IfOk result.sets (λ rows. HasCounted self.entry.given (told_by self.entry.ends) result.asked rows result.events) }
     {
         let Node { core, ends } = self;
         let number = core.number();
-        let events = core.events();
-        let (sets, asked) = core.into_result();
+        let (sets, asked, events) = core.into_result();
         Finished {
             number,
             sets,

@@ -5,7 +5,7 @@ ghost use Rattle.run_board.specs.Turns.{AnswersEnded};
 ghost use Rattle.pass_parts.specs.Ends.{IsEndFrom, IsRefused};
 ghost use Rattle.pass_parts.specs.Turns.{OnNotYet, Waits};
 ghost use Rattle.epoch_node.specs.Cores.{core_of, new_core, phase_of, whole_at, asked_at, CanStart};
-ghost use Rattle.epoch_node.specs.Keeping.{Told, KeepsCore, HasDone, fresh_told};
+ghost use Rattle.epoch_node.specs.Keeping.{Told, KeepsCore, HasDone, HasCounted, fresh_told};
 ghost use Rattle.epoch_node.specs.Events.{IsReady, StillKeeps, Steps, need_at, WhenNotYet, counted, one_more, IsMore, CanAct, Acts, CanAdvance, Advances};
 
 use crate::beginning::begin;
@@ -182,23 +182,27 @@ impl<'a, G> Core<'a, G> {
         }
     }
 
-    /// The rows of the epoch's sinks, unless the core is broken, and what it asked. It takes no memory.
-    pub fn into_result(self) -> (Result<SinkSets, Broken>, Asked)
+    /// The rows of the epoch's sinks, unless the core is broken, what it asked, and how many events moved. It takes no
+    /// memory.
+    pub fn into_result(self) -> (Result<SinkSets, Broken>, Asked, u64)
         requires { phase_of (core_of self).stage ≡ Phase.Done }
         ensures whole { is_ok result.0 ≡ whole_at (core_of self.entry).stage }
         ensures asked { result.1 ≡ asked_at (core_of self.entry).stage }
+        ensures events { result.2 ≡ (core_of self.entry).events }
         ensures done { (w : Told) → KeepsCore (core_of self.entry) w → IfOk result.0 (λ rows. HasDone (core_of self.entry).given w result.1 rows) }
+        ensures counted { (w : Told) → KeepsCore (core_of self.entry) w → IfOk result.0 (λ rows. HasCounted (core_of self.entry).given w result.1 rows result.2) }
     {
         let alloc = self.alloc;
+        let events = self.events;
         let Stage::Done(fore) = Box::into_inner(self.stage) else {
-            return (Err(Broken), Asked::new(alloc));
+            return (Err(Broken), Asked::new(alloc), events);
         };
         let whole = fore.whole();
         let (sets, asked) = fore.into_sets();
         if !whole {
-            return (Err(Broken), asked);
+            return (Err(Broken), asked, events);
         }
-        (Ok(sets), asked)
+        (Ok(sets), asked, events)
     }
 }
 

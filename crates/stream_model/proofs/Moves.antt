@@ -9,9 +9,10 @@ use Rattle.report_model.specs.Rows.{Row}
 use Rattle.epoch_model.specs.Summary.{Summary, SinkTerms}
 use Rattle.stream_model.specs.Streams.{is_ended, is_resolvable}
 use Rattle.stream_model.specs.Passes.{Links, Asking, push_ask, walk, pop_ask, end_asks, whole_asking, asking_by, asking_event, Answering, push_answer, pop_answer, build, build_or_pop, resolve, end_answers, resolve_or_end, pop_or_end, whole_answering, answering_by, answering_event}
-use Rattle.stream_model.specs.Schedules.{is_met, whole_asking_need, asking_need_by, asking_need, nothing_or_room, last_need, nothing_or_item, whole_answering_need, answering_need_by, answering_need}
+use Rattle.stream_model.specs.Schedules.{Need, Room, Item, Nothing, Over, is_met, item_or_room, whole_asking_need, asking_need_by, asking_need, nothing_or_room, last_need, nothing_or_item, whole_answering_need, answering_need_by, answering_need}
 use Rattle.stream_model.specs.ScheduleLaws.{one_if}
 use Rattle.stream_model.proofs.Passing.{no, stays_broken, answering_stays_broken}
+use Rattle.stream_model.proofs.NeverStill.{still_asking, still_answering}
 
 pub one_longer : {X : Type 0} (xs : List X) (x : X) → length (xs ++ x ∷ []) ≡ length xs + 1
 one_longer xs x = length-append xs (x ∷ [])
@@ -136,3 +137,77 @@ module _ (e : Summary) (asked : List Loc) (links : Links) (f : Answering) where
 
   pub count_answering : (answering_event e asked links f).is_whole ≡ true → AnswerCount f (answering_event e asked links f) (is_met (answering_need e asked f) (freed links))
   count_answering t = count_answers_by f.is_over f.is_whole refl t
+
+-- ---- which events move
+
+-- where a push goes through and something comes, only what is over does not move
+abbrev goes : Need → Bool
+goes Room = true
+goes Item = true
+goes Nothing = true
+goes Over = false
+
+met : (need : Need) (links : Links) → goes need ≡ true → links.has_room ≡ true → is_some links.next ≡ true → is_met need (freed links) ≡ true
+met Room links g room next = room
+met Item links g room next = next
+met Nothing links g room next = refl
+met Over links g room next = no (sym g)
+
+goes_item : (ended : Bool) → goes (item_or_room ended) ≡ true
+goes_item true = refl
+goes_item false = refl
+
+asking_goes : (a : Asking) (over whole : Bool) → over ≡ false → goes (asking_need_by a over whole) ≡ true
+asking_goes a true whole o = no o
+asking_goes a false false o = goes_item (is_ended a.got)
+asking_goes a false true o = by (drop a.pushed a.asked) a.left where
+  by : (waiting : List Loc) (left : List SinkTerms) → goes (whole_asking_need waiting left (is_ended a.got)) ≡ true
+  by (l ∷ waiting) left = refl
+  by [] (k ∷ left) = refl
+  by [] [] = goes_item (is_ended a.got)
+
+answering_goes : (e : Summary) (asked : List Loc) (f : Answering) (over whole : Bool) → over ≡ false → goes (answering_need_by e asked f over whole) ≡ true
+answering_goes e asked f true whole o = no o
+answering_goes e asked f false false o = goes_item (is_ended f.got)
+answering_goes e asked f false true o = by f.sending f.left where
+  either : (b : Bool) → goes (nothing_or_item b) ≡ true
+  either true = refl
+  either false = refl
+
+  rows : (r : Option (List Row)) → goes (nothing_or_room r) ≡ true
+  rows None = refl
+  rows (Some r) = refl
+
+  last : (ended : Bool) → goes (last_need ended f.rows) ≡ true
+  last true = rows f.rows
+  last false = refl
+
+  by : (sending : List Message) (left : List Loc) → goes (whole_answering_need e asked f sending left) ≡ true
+  by (m ∷ sending) left = refl
+  by [] (l ∷ left) = either (is_resolvable asked f.got (e.ends l))
+  by [] [] = last (is_ended f.got)
+
+pub asking_moves_on : (links : Links) (a : Asking) → a.is_over ≡ false → links.has_room ≡ true → is_some links.next ≡ true → is_met (asking_need a) (freed links) ≡ true
+asking_moves_on links a o room next = met (asking_need a) links (asking_goes a a.is_over a.is_whole o) room next
+
+pub answering_moves_on : (e : Summary) (asked : List Loc) (links : Links) (f : Answering) → f.is_over ≡ false → links.has_room ≡ true → is_some links.next ≡ true → is_met (answering_need e asked f) (freed links) ≡ true
+answering_moves_on e asked links f o room next = met (answering_need e asked f) links (answering_goes e asked f f.is_over f.is_whole o) room next
+
+same_met : (need : Need) (links : Links) → is_met need (freed links) ≡ is_met need links
+same_met Room links = refl
+same_met Item links = refl
+same_met Nothing links = refl
+same_met Over links = refl
+
+-- what does not move changes nothing, so what came to its end moved
+pub asking_moves_over : (first : Bool) (e : Summary) (links : Links) (a : Asking) → a.is_over ≡ false → (asking_event first e links a).is_over ≡ true → is_met (asking_need a) (freed links) ≡ true
+asking_moves_over first e links a o t = same_met (asking_need a) links ∙ by _ refl where
+  by : (b : Bool) → is_met (asking_need a) links ≡ b → is_met (asking_need a) links ≡ true
+  by true m = m
+  by false m = no (sym t ∙ ap (λ (b : Asking). b.is_over) (still_asking first e links a m) ∙ o)
+
+pub answering_moves_over : (e : Summary) (asked : List Loc) (links : Links) (f : Answering) → f.is_over ≡ false → (answering_event e asked links f).is_over ≡ true → is_met (answering_need e asked f) (freed links) ≡ true
+answering_moves_over e asked links f o t = same_met (answering_need e asked f) links ∙ by _ refl where
+  by : (b : Bool) → is_met (answering_need e asked f) links ≡ b → is_met (answering_need e asked f) links ≡ true
+  by true m = m
+  by false m = no (sym t ∙ ap (λ (g : Answering). g.is_over) (still_answering e asked links f m) ∙ o)

@@ -10,13 +10,19 @@ use Rattle.flow_rule.specs.declared.Message.TheVariants.{Ask, Byte, Close, End}
 use Rattle.report_model.specs.Query.{Query, policy_of}
 use Rattle.report_model.specs.Rows.{rows_as_written}
 use Rattle.epoch_model.specs.Cutting.{IsCutting}
-use Rattle.epoch_model.specs.Summary.{Summary, AreSummaries}
+use Rattle.epoch_model.specs.Summary.{AreSummaries}
 use Rattle.epoch_model.specs.Crossing.{crossing_at}
 use Rattle.stream_model.specs.Streams.{requests, answer, Node, AreDone, summaries}
 use Rattle.stream_model.specs.StreamLaws.{answers_to, LinksCarry}
-use Rattle.stream_model.specs.Work.{many_got, work_in_all, asked_in_all, listed, listed_in_all, run_work, EndsBehind, DoneNodesWork}
+use Rattle.stream_model.specs.Passes.{got_at_start}
+use Rattle.stream_model.specs.Work.{many_got, work_in_all, asked_in_all, listed, listed_in_all, EndsBehind, DoneNodesWork}
 use Rattle.stream_model.proofs.Meeting.{asks_back, done_nodes_meet}
 use Rattle.stream_model.proofs.Moves.{one_longer, as_long}
+
+-- what was got, with the End that counts as seen
+pub seen : (last : Bool) (got : List Message) → (last ≡ true → got ≡ End true ∷ []) → length got ≡ many_got last got + length (got_at_start last)
+seen true got h = ap length (h refl)
+seen false got h = omega arith
 
 -- ---- lengths of whole streams
 

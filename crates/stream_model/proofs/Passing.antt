@@ -188,7 +188,7 @@ asking_starts first last e = record {
   by true = ap (added_all []) (sym (append-nil (starts e.sinks)))
   by false = ap (added_all []) (sym (append-nil (starts e.sinks)))
 
-asking_after_holds : (first last : Bool) (e : Summary) (schedule : List Links) (a : Asking) → (a.is_whole ≡ true → AskingHolds first last e a)
+pub asking_after_holds : (first last : Bool) (e : Summary) (schedule : List Links) (a : Asking) → (a.is_whole ≡ true → AskingHolds first last e a)
     → (asking_after first e schedule a).is_whole ≡ true → AskingHolds first last e (asking_after first e schedule a)
 asking_after_holds first last e [] a h = h
 asking_after_holds first last e (links ∷ schedule) a h = asking_after_holds first last e schedule (asking_event first e links a) (asking_keeps first last e links a h)
@@ -369,7 +369,7 @@ answering_starts whole first e asked ls = record {
   over = λ t. no (sym t);
 }
 
-answering_after_holds : (first : Bool) (e : Summary) (asked ls : List Loc) (schedule : List Links) (f : Answering) → (f.is_whole ≡ true → AnsweringHolds first e asked ls f)
+pub answering_after_holds : (first : Bool) (e : Summary) (asked ls : List Loc) (schedule : List Links) (f : Answering) → (f.is_whole ≡ true → AnsweringHolds first e asked ls f)
     → (answering_after e asked schedule f).is_whole ≡ true → AnsweringHolds first e asked ls (answering_after e asked schedule f)
 answering_after_holds first e asked ls [] f h = h
 answering_after_holds first e asked ls (links ∷ schedule) f h = answering_after_holds first e asked ls schedule (answering_event e asked links f) (answering_keeps first e asked ls links f h)

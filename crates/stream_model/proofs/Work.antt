@@ -8,14 +8,14 @@ use Rattle.epoch_model.specs.Summary.{Summary, AreSummaries}
 use Rattle.epoch_model.specs.Join.{resolved_row}
 use Rattle.stream_model.specs.Streams.{requests, heard, answers_for, end_if}
 use Rattle.stream_model.specs.Passes.{Asking, got_at_start, asking_event, rows_or_none}
-use Rattle.stream_model.specs.Work.{many_got, node_work, work_in_all, EndsBehind, EndsOutside}
+use Rattle.stream_model.specs.Work.{node_work, work_in_all, EndsBehind, EndsOutside}
 use Rattle.stream_model.specs.Schedules.{Phase, Fresh, Asks, Answers, NodeState, Event, asking_links, answering_links, begun, settled_by, node_event, phase_of_first, event_at, nodes_start, nodes_after, node_moves, moves_at, is_done, is_whole_in, node_in}
 use Rattle.stream_model.specs.ScheduleLaws.{one_if, moves_in, SameWork}
 use Rattle.stream_model.proofs.Passing.{no, begun_whole}
 use Rattle.stream_model.proofs.Moving.{reached, started}
 use Rattle.stream_model.proofs.Running.{PassHolds, RunHolds, AllDone, AllWhole, facts, all_are_done, run_holds, run_starts, kept_summaries, first_summaries, as_many}
 use Rattle.stream_model.proofs.Moves.{as_long, AskCount, count_asking, whole_asking_before, row_count, count_answering}
-use Rattle.stream_model.proofs.NodeWork.{done_nodes_work}
+use Rattle.stream_model.proofs.NodeWork.{seen, done_nodes_work}
 
 -- ---- the count of a node, and of all
 
@@ -112,10 +112,6 @@ nothing_owed before [] = refl
 nothing_owed before (e ∷ es) = let rest = nothing_owed (Some Fresh) es in omega (arith, rest)
 
 -- ---- at the end
-
-seen : (last : Bool) (got : List Message) → (last ≡ true → got ≡ End true ∷ []) → length got ≡ many_got last got + length (got_at_start last)
-seen true got h = ap length (h refl)
-seen false got h = omega arith
 
 -- what a node that is done gained is its work, and what is left to it
 done_work : (first last : Bool) (e : Summary) (p : Phase) → PassHolds first last e p → is_done p ≡ true → is_whole_in p ≡ true

@@ -21,3 +21,8 @@ pub returns-clause-crossed : goal.returns-clause-crossed
 returns-clause-crossed g c =
     let run : CutRun = record { job = c.args.checkpoints.now.job; query = c.args.query.now; cuts = c.args.cuts } in
     c.collect.ensures.crossed run (run_of c.args.capacity run _ _ _ c.in_ok-nodes.ensures c.in_ok-board.ensures c.in_ok-done.ensures.led)
+
+pub returns-clause-events : goal.returns-clause-events
+returns-clause-events g c =
+    let run : CutRun = record { job = c.args.checkpoints.now.job; query = c.args.query.now; cuts = c.args.cuts } in
+    c.collect.ensures.events run (run_of c.args.capacity run _ _ _ c.in_ok-nodes.ensures c.in_ok-board.ensures c.in_ok-done.ensures.led)

@@ -1,0 +1,10 @@
+use Rattle.std.proofs.Common.{subst}
+use Rattle.std.specs.Prelude.{IfOk}
+use Rattle.epoch_node.specs.Keeping.{HasCounted}
+use Rattle.epoch_node.specs.Nodes.{NodeView, told_by}
+use Rattle.epoch_node.proofs.node.Node.finish.Goals as goal
+
+pub returns-clause-counted : goal.returns-clause-counted
+returns-clause-counted g c =
+    let r = c.into_result-sets.result in
+    subst (λ (v : NodeView). IfOk r.0 (λ rows. HasCounted v.given (told_by v.ends) r.1 rows r.2)) c.self.view_is (c.into_result-sets.ensures.counted (told_by c.self.inside.ends) c.self.invariant)
