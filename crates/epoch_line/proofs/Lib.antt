@@ -2,5 +2,5 @@ pub mod Tickets
 pub mod Layouts
 mod Numbers
 mod Lines
-mod Whole
+pub mod Whole
 mod Popping
