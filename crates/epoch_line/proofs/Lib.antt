@@ -3,4 +3,4 @@ pub mod Layouts
 mod Numbers
 mod Lines
 pub mod Whole
-mod Popping
+pub mod Popping

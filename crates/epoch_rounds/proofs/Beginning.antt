@@ -61,7 +61,7 @@ module _ (p : Plan) where
       ∙ ap₂ (λ (a b : Option (List Message)). record { asks_got = fresh_end last; asks_sent = fresh_end first; answers_got = a; answers_sent = b }) b.got d.sent in
       record {
         given = refl;
-        keeps = record { links = subst (HasLinks g) (sym told) (fresh_links g); stage = (refl, s, told) };
+        keeps = record { links = subst (HasLinks g) (sym told) (fresh_links g); stage = (refl, s, told); counts = λ t. record { moved = 0; at_stage = refl; is = refl } };
         settled = tt;
         ask = d.ask;
         answer = d.answer;

@@ -1,6 +1,9 @@
 -- A new line that grows by one core at its end.
 use Rattle.std.proofs.Common.{◌≡◌, ℕ, suc, ◌+◌, List, [], ◌∷◌, ◌++◌, map, length, refl, ap, ap₂, sym, ◌∙◌, Bool, true, false, arith, append_assoc, length-append}
+use Rattle.std.specs.Prelude.{nat_eq}
 use Rattle.std.specs.List.{AllByRecursion}
+use Rattle.std.proofs.lemmas.Grind.{common_steps}
+use Rattle.checkpoints.specs.Points.{CheckpointsAt, beginnings}
 use Rattle.epoch_cut.specs.Numbered.{NumberedEpoch}
 use Rattle.epoch_node.specs.Cores.{CoreView, new_core}
 use Rattle.epoch_line.specs.Layouts.{CutRun, given_at}
@@ -50,14 +53,16 @@ pub new_push : (capacity : ℕ) (inner : List Joint) (i : Joint) → AllByRecurs
 new_push capacity [] i a n = (n, tt)
 new_push capacity (j ∷ inner) i a n = (a.0, new_push capacity inner i a.1 n)
 
--- the first core is made where there is none yet
-pub first_made : (first : Bool) (es : List NumberedEpoch) → length es ≡ 0 → first_behind first es ≡ first
-first_made first [] n = refl
-first_made first (e ∷ es) n = absurd (omega (arith, n))
+-- the core that is made is that of the epoch
+pub made_at : (run : CutRun) (p : CheckpointsAt) (e : NumberedEpoch) (first last made : Bool) → p.job ≡ run.job → p.times ≡ beginnings run.cuts → made ≡ first
+    → new_core (record { points = p; query = run.query; epoch = e; first = made; last = last }) ≡ new_core (given_at run e first last)
+made_at run p e first last made job times f =
+    ap₂ (λ (points : CheckpointsAt) (first : Bool). new_core (record { points = points; query = run.query; epoch = e; first = first; last = last })) (λ i. record { job = job i; times = times i }) f
 
-pub later_made : (first : Bool) (es : List NumberedEpoch) → (length es ≡ 0 → ⊥) → first_behind first es ≡ false
-later_made first [] n = absurd (n refl)
-later_made first (e ∷ es) n = none es where
-  none : (es : List NumberedEpoch) → first_behind false es ≡ false
-  none [] = refl
-  none (e ∷ es) = none es
+-- the first core is made where there is none yet
+pub first_made : (es : List NumberedEpoch) (n : ℕ) → n ≡ length es → nat_eq n 0 ≡ first_behind true es
+first_made [] n e = grind (arith, common_steps, e)
+first_made (d ∷ es) n e = let some : nat_eq n 0 ≡ false = grind (arith, common_steps, e) in some ∙ sym (later es) where
+  later : (es : List NumberedEpoch) → first_behind false es ≡ false
+  later [] = refl
+  later (d ∷ es) = later es

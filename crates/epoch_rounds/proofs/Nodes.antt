@@ -1,5 +1,7 @@
 -- Cores that are done, as nodes that are done.
-use Rattle.std.proofs.Common.{◌≡◌, ℕ, List, [], ◌∷◌, ◌++◌, refl, ap, sym, subst, subst₂, ◌∙◌, Bool, true, false}
+use Rattle.std.proofs.Common.{◌≡◌, ℕ, ◌+◌, List, [], ◌∷◌, ◌++◌, map, refl, ap, sym, subst, subst₂, ◌∙◌, Bool, true, false, append-nil, append_assoc, arith}
+use Rattle.std.specs.List.{flat_map, sum_by}
+use Rattle.std.proofs.lemmas.List.Sums.{sum_by-cons}
 use Rattle.std.specs.Prelude.{Option, Some, None}
 use Rattle.flow_rule.specs.declared.Message.{Message}
 use Rattle.epoch_cut.specs.Numbered.{NumberedEpoch}
@@ -82,3 +84,17 @@ module _ (p : Plan) where
     told_on n m c d j i k (given_at p.run e first false) s.0 a.0 a.1.0,
     done_line false (f ∷ es) (m ∷ ns) (d ∷ cs) (i ∷ k ∷ js) s.1 a.1,
   )
+
+-- ---- one node more
+
+pub rows_push : (ns : List DoneNode) (n : DoneNode) → flat_map (λ (m : DoneNode). m.rows) (ns ++ n ∷ []) ≡ flat_map (λ (m : DoneNode). m.rows) ns ++ n.rows
+rows_push [] n = append-nil n.rows
+rows_push (m ∷ ns) n = ap (λ rs. m.rows ++ rs) (rows_push ns n) ∙ sym (append_assoc m.rows (flat_map (λ (m : DoneNode). m.rows) ns) n.rows)
+
+pub events_push : (ns : List DoneNode) (n : DoneNode) → sum_by (λ (m : DoneNode). m.events) (ns ++ n ∷ []) ≡ n.events + sum_by (λ (m : DoneNode). m.events) ns
+events_push [] n = sum_by-cons (λ (m : DoneNode). m.events) n []
+events_push (m ∷ ns) n =
+    let a = sum_by-cons (λ (m : DoneNode). m.events) m (ns ++ n ∷ []) in
+    let b = sum_by-cons (λ (m : DoneNode). m.events) m ns in
+    let c = events_push ns n in
+    omega (arith, a, b, c)

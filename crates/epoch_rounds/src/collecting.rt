@@ -3,6 +3,8 @@
 ghost use Rattle.std.specs.Prelude.{◌≡◌, IfOk, drop, map};
 ghost use Rattle.replayer.specs.Jobs.{trace_of};
 ghost use Rattle.report_model.specs.Rows.{rows_as_written};
+ghost use Rattle.stream_model.specs.Work.{run_work};
+ghost use Rattle.sink_collect.specs.Pairs.{capped};
 ghost use Rattle.epoch_line.specs.Crossings.{asked_at};
 ghost use Rattle.epoch_node.specs.Cores.{core_of};
 ghost use Rattle.epoch_rounds.specs.Lines.{Plan, IsLineOf, AreDone};
@@ -30,13 +32,13 @@ pub(crate) fn collect<'a, G>(alloc: Global, line: Line<'a, G>) -> Result<Collect
     requires line { (plan : Plan) × IsLineOf plan (map core_of line.cores.items) line.joints.items }
     ensures rows { (plan : Plan) → IsLineOf plan (map core_of line.entry.cores.items) line.entry.joints.items → IfOk result (λ all. all.sets ≡ rows_as_written plan.run.query (trace_of plan.run.job)) }
     ensures crossed { (plan : Plan) → IsLineOf plan (map core_of line.entry.cores.items) line.entry.joints.items → IfOk result (λ all. all.crossed.items ≡ asked_at plan.run.query (trace_of plan.run.job) plan.run.cuts) }
+    ensures events { (plan : Plan) → IsLineOf plan (map core_of line.entry.cores.items) line.entry.joints.items → IfOk result (λ all. all.events ≡ capped (run_work plan.run.query (trace_of plan.run.job) plan.run.cuts)) }
 {
     let mut sets: Vec<SinkSet> = Vec::new(alloc);
     let mut asked = Vec::new(alloc);
     let mut events = 0u64;
     for core in line.cores {
-        let moved = core.events();
-        let (own, requests) = core.into_result();
+        let (own, requests, moved) = core.into_result();
         let Ok(own) = own else {
             return Err(NoMemory);
         };

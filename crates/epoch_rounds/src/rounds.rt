@@ -7,6 +7,8 @@ ghost use Rattle.epoch_model.specs.Cutting.{IsCutting};
 ghost use Rattle.replayer.specs.Jobs.{trace_of};
 ghost use Rattle.checkpoints.specs.Points.{beginnings};
 ghost use Rattle.epoch_node.specs.Cores.{core_of};
+ghost use Rattle.stream_model.specs.Work.{run_work};
+ghost use Rattle.sink_collect.specs.Pairs.{capped};
 ghost use Rattle.epoch_line.specs.Crossings.{asked_at};
 ghost use Rattle.epoch_rounds.specs.Lines.{Plan, IsLineOf, IsLaidOut, AreDone};
 ghost use Rattle.epoch_rounds.specs.Streams.{AreParts};
@@ -66,6 +68,7 @@ pub fn round_robin<G: Gate>(
     requires capacity { (1 ≤ capacity) × (capacity ≤ 65536) }
     ensures rows { IfOk result (λ all. all.sets ≡ rows_as_written query.now (trace_of checkpoints.now.job)) }
     ensures crossed { IfOk result (λ all. all.crossed.items ≡ asked_at query.now (trace_of checkpoints.now.job) cuts) }
+    ensures events { IfOk result (λ all. all.events ≡ capped (run_work query.now (trace_of checkpoints.now.job) cuts)) }
 {
     let mut line = lay_out(alloc, checkpoints, query, gate, cuts, capacity)?;
     begin_all(&mut line);
