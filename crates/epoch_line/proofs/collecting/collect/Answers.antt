@@ -1,4 +1,4 @@
-use Rattle.std.proofs.Common.{ℕ, List, [], ◌∷◌, ◌++◌, map, drop, reverse, ap, ap₂, sym, ◌∙◌, subst, subst₂, arith}
+use Rattle.std.proofs.Common.{ℕ, List, [], ◌∷◌, ◌++◌, map, drop, reverse, ap, ap₂, sym, ◌∙◌, subst, subst₂, arith, true}
 use Rattle.std.specs.Prelude.{All, IfOk}
 use Rattle.std.specs.List.{flat_map, sum_by}
 use Rattle.std.proofs.lemmas.List.{reverse-reverse}
@@ -7,7 +7,7 @@ use Rattle.flow_model.specs.declared.Loc.{Loc}
 use Rattle.report_model.specs.Rows.{Row}
 use Rattle.epoch_node.specs.declared.ends.Ends.{Ends}
 use Rattle.epoch_node.specs.Keeping.{HasDone, HasCounted}
-use Rattle.epoch_node.specs.Nodes.{NodeView, told_by}
+use Rattle.epoch_node.specs.Nodes.{told_by}
 use Rattle.epoch_line.specs.Layouts.{epochs_of}
 use Rattle.epoch_line.specs.Lines.{IsNodeDone, IsOneLink, HasDelivered}
 use Rattle.epoch_line.specs.DoneLines.{DoneNode}
