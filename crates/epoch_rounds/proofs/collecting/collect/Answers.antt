@@ -1,4 +1,4 @@
-use Rattle.std.proofs.Common.{◌≡◌, ℕ, [], ◌∷◌, ◌++◌, List, map, drop, length, refl, ap, ap₂, sym, ◌∙◌, subst, append_assoc, append-nil, arith}
+use Rattle.std.proofs.Common.{◌≡◌, ℕ, [], ◌∷◌, ◌++◌, List, map, drop, length, refl, ap, ap₂, sym, ◌∙◌, subst, append_assoc, append-nil, true, arith}
 use Rattle.std.specs.Prelude.{IfOk}
 use Rattle.std.specs.List.{sum_by}
 use Rattle.std.specs.Vec.Iter.{into_iter_items}
@@ -21,7 +21,7 @@ pub loop-core-init : goal.loop-core-init
 loop-core-init g c = record {
   front = [];
   done = [];
-  split = ap (map (core_of {G = g.row.G.Denot})) c.into_iter-core-iterator.ensures.into_iter_gives;
+  split = ap (map (core_of {G = g.row.G.Denot})) c.into_iter-core-iterator.ensures.into_iter_gives.0;
   are = tt;
   sets = c.new-sets.ensures.items;
   asked = c.new-asked.ensures.items;
@@ -30,7 +30,6 @@ loop-core-init g c = record {
 
 pub into_result-own-requires : goal.into_result-own-requires
 into_result-own-requires g c =
-    let f = core_of {G = g.row.G.Denot} in
     let i = c.loop-core.invariant in
     let rest = into_iter_items c.next.new.self in
     let split = ap (λ cs. i.front ++ map (core_of {G = g.row.G.Denot}) cs) (sym c.in-Some.ensures.steps.0) ∙ i.split in
@@ -44,7 +43,7 @@ loop-core-preserved g c =
     let plan = c.requires.line.0 in
     let result = c.into_result-own.result in
     let split = ap (λ cs. i.front ++ map (core_of {G = g.row.G.Denot}) cs) (sym c.in-Some.ensures.steps.0) ∙ i.split in
-    let next = next_core plan _ (epochs_of plan.run) i.done i.front core rest c.args.line.joints.items (subst (λ cs. Stand plan _ (epochs_of plan.run) cs c.args.line.joints.items) (sym split) c.requires.line.1.stand) i.are in
+    let next = next_core plan true (epochs_of plan.run) i.done i.front core rest c.args.line.joints.items (subst (λ cs. Stand plan true (epochs_of plan.run) cs c.args.line.joints.items) (sym split) c.requires.line.1.stand) i.are in
     let has = subst (λ r. IfOk r (λ rows. HasDone core.given next.told result.1 rows)) c.in-Ok.is (c.into_result-own.ensures.done next.told next.keeps) in
     let counted = subst (λ r. IfOk r (λ rows. HasCounted core.given next.told result.1 rows result.2)) c.in-Ok.is (c.into_result-own.ensures.counted next.told next.keeps) in
     let n : DoneNode = record { given = core.given; told = next.told; asked = result.1; rows = c.in-Ok.own; events = result.2; done = has; counted = counted } in
@@ -63,7 +62,7 @@ returns-clause-rows g c = λ plan l.
     let i = c.loop-core.invariant in
     let none : length (into_iter_items c.loop-core.core-iterator) ≡ 0 = omega (arith, c.in-None.ensures.steps.0, c.loop-core.core-iterator.rest.ok) in
     let all = sym (append-nil i.front) ∙ ap (λ cs. i.front ++ map (core_of {G = g.row.G.Denot}) cs) (sym (no_items (into_iter_items c.loop-core.core-iterator) none)) ∙ i.split in
-    let line = done_line plan _ (epochs_of plan.run) i.done _ c.args.line.joints.items l.stand (subst (λ cs. AreNodesOf i.done cs c.args.line.joints.items) all i.are) in
+    let line = done_line plan true (epochs_of plan.run) i.done _ c.args.line.joints.items l.stand (subst (λ cs. AreNodesOf i.done cs c.args.line.joints.items) all i.are) in
     c.from_vec.ensures ∙ i.sets ∙ (done_lines_come plan.run i.done l.cutting l.located line).rows
 
 pub returns-clause-crossed : goal.returns-clause-crossed
@@ -71,7 +70,7 @@ returns-clause-crossed g c = λ plan l.
     let i = c.loop-core.invariant in
     let none : length (into_iter_items c.loop-core.core-iterator) ≡ 0 = omega (arith, c.in-None.ensures.steps.0, c.loop-core.core-iterator.rest.ok) in
     let all = sym (append-nil i.front) ∙ ap (λ cs. i.front ++ map (core_of {G = g.row.G.Denot}) cs) (sym (no_items (into_iter_items c.loop-core.core-iterator) none)) ∙ i.split in
-    let line = done_line plan _ (epochs_of plan.run) i.done _ c.args.line.joints.items l.stand (subst (λ cs. AreNodesOf i.done cs c.args.line.joints.items) all i.are) in
+    let line = done_line plan true (epochs_of plan.run) i.done _ c.args.line.joints.items l.stand (subst (λ cs. AreNodesOf i.done cs c.args.line.joints.items) all i.are) in
     c.without_first-crossed.ensures ∙ ap (λ (ls : List (List Loc)). drop 1 ls) i.asked ∙ (done_lines_come plan.run i.done l.cutting l.located line).crossed_are
 
 pub returns-clause-events : goal.returns-clause-events
@@ -79,5 +78,5 @@ returns-clause-events g c = λ plan l.
     let i = c.loop-core.invariant in
     let none : length (into_iter_items c.loop-core.core-iterator) ≡ 0 = omega (arith, c.in-None.ensures.steps.0, c.loop-core.core-iterator.rest.ok) in
     let all = sym (append-nil i.front) ∙ ap (λ cs. i.front ++ map (core_of {G = g.row.G.Denot}) cs) (sym (no_items (into_iter_items c.loop-core.core-iterator) none)) ∙ i.split in
-    let line = done_line plan _ (epochs_of plan.run) i.done _ c.args.line.joints.items l.stand (subst (λ cs. AreNodesOf i.done cs c.args.line.joints.items) all i.are) in
+    let line = done_line plan true (epochs_of plan.run) i.done _ c.args.line.joints.items l.stand (subst (λ cs. AreNodesOf i.done cs c.args.line.joints.items) all i.are) in
     i.events ∙ (done_lines_come plan.run i.done l.cutting l.located line).events

@@ -1,4 +1,4 @@
-use Rattle.std.proofs.Common.{◌≡◌, ◌+◌, List, [], ◌∷◌, ◌++◌, map, length, vec_len, length-append, append_assoc, ap, ap₂, sym, refl, subst, ◌∙◌, arith}
+use Rattle.std.proofs.Common.{◌≡◌, ◌+◌, List, [], ◌∷◌, ◌++◌, map, length, vec_len, length-append, append_assoc, ap, ap₂, sym, refl, subst, ◌∙◌, true, arith}
 use Rattle.std.specs.List.{AllByRecursion}
 use Rattle.std.specs.Vec.Iter.{into_iter_items}
 use Rattle.epoch_cut.specs.Numbered.{NumberedEpoch}
@@ -36,7 +36,7 @@ loop-ticket-preserved g c =
     let rest = into_iter_items c.next.new.self in
     let split = ap (λ (es : List NumberedEpoch). i.done ++ (es ++ c.in-Some.last ∷ [])) (sym c.in-Some-ticket.ensures.steps.0) ∙ i.split in
     let count : vec_len c.loop-ticket.cores ≡ length i.done =
-    sym c.loop-ticket.cores.ok ∙ sym (map_length (core_of {G = g.row.G.Denot}) c.loop-ticket.cores.items) ∙ ap length i.cores_are ∙ front_count run true i.done in
+    c.loop-ticket.cores.ok.0 ∙ sym (map_length (core_of {G = g.row.G.Denot}) c.loop-ticket.cores.items) ∙ ap length i.cores_are ∙ front_count run true i.done in
     let made = c.in_ok-new.ensures.made ∙ made_at run c.args.checkpoints.now e _ _ _ refl c.requires.times (c.is_empty-first.ensures ∙ first_made i.done (vec_len c.loop-ticket.cores) count) in
     record {
       done = i.done ++ e ∷ [];
@@ -67,11 +67,11 @@ returns g c =
     let none : length (into_iter_items c.loop-ticket.ticket-iterator) ≡ 0 = omega (arith, c.in-None.ensures.steps.0, c.loop-ticket.ticket-iterator.rest.ok) in
     let split = ap (λ (es : List NumberedEpoch). i.done ++ (es ++ e ∷ [])) (sym (no_items (into_iter_items c.loop-ticket.ticket-iterator) none)) ∙ i.split in
     let count : vec_len c.loop-ticket.cores ≡ length i.done =
-    sym c.loop-ticket.cores.ok ∙ sym (map_length (core_of {G = g.row.G.Denot}) c.loop-ticket.cores.items) ∙ ap length i.cores_are ∙ front_count run true i.done in
+    c.loop-ticket.cores.ok.0 ∙ sym (map_length (core_of {G = g.row.G.Denot}) c.loop-ticket.cores.items) ∙ ap length i.cores_are ∙ front_count run true i.done in
     let made = c.in_ok-new-3.ensures.made ∙ made_at run c.args.checkpoints.now e _ _ _ refl c.requires.times (c.is_empty-first-2.ensures ∙ first_made i.done (vec_len c.loop-ticket.cores) count) in
     let many : length (map (core_of {G = g.row.G.Denot}) c.push-2.new.self.items) ≡ length c.loop-ticket.cores.items + 1 =
     map_length (core_of {G = g.row.G.Denot}) c.push-2.new.self.items ∙ ap length c.in_ok-push-4.ensures.items ∙ length-append c.loop-ticket.cores.items (c.in_ok-new-3.field-0 ∷ []) in
-    let same = c.loop-ticket.cores.ok in
+    let same = c.loop-ticket.cores.ok.0 in
     record {
       cutting = c.requires.cuts;
       located = c.points-points.ensures.located;

@@ -38,7 +38,7 @@ loop-next-preserved g c =
       count = count;
       line = λ p l.
           let b = c.loop-next.invariant.line p l in
-          (line_on p c.loop-next.next _ _ _ _ b.0 c.turn_at.ensures, subst (λ (n : ℕ). IsBeginning n _ _) (sym (add-one c.loop-next.next)) (begins_at c.loop-next.next _ _ _ _ b.1 c.turn_at.ensures));
+          (line_on p c.loop-next.next _ _ _ _ b.0 c.turn_at.ensures, subst (λ (n : ℕ). IsBeginning n (map (core_of {G = g.row.G.Denot}) c.turn_at.new.line.cores.items) c.turn_at.new.line.joints.items) (sym (add-one c.loop-next.next)) (begins_at c.loop-next.next _ _ _ _ b.1 c.turn_at.ensures));
     }
 
 pub returns : goal.returns
@@ -50,5 +50,5 @@ returns g c = record {
       let all = c.args.line.now.cores.ok in
       let end : c.loop-next.next ≡ length (map (core_of {G = g.row.G.Denot}) c.loop-next.line.cores.items) =
       omega (arith, c.loop-next-test.false, c.loop-next.auto.next-end, c.len-next-end.ensures, same, all, cores) in
-      (b.0, all_begun p _ _ b.0 (subst (λ (n : ℕ). IsBeginning n _ _) end b.1));
+      (b.0, all_begun p _ _ b.0 (subst (λ (n : ℕ). IsBeginning n (map (core_of {G = g.row.G.Denot}) c.loop-next.line.cores.items) c.loop-next.line.joints.items) end b.1));
 }

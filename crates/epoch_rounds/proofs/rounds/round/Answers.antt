@@ -34,7 +34,7 @@ loop-place-preserved g c =
       count = count;
       line = λ p l. line_on p c.loop-place.place _ _ _ _ (c.loop-place.invariant.line p l) c.turn_at.ensures;
       so_far = λ p l a.
-          subst (λ (n : ℕ). RoundTo p n _ _ _ _) (sym (add-one c.loop-place.place))
+          subst (λ (n : ℕ). RoundTo p n (map (core_of {G = g.row.G.Denot}) c.args.line.now.cores.items) c.args.line.now.joints.items (map (core_of {G = g.row.G.Denot}) c.turn_at.new.line.cores.items) c.turn_at.new.line.joints.items) (sym (add-one c.loop-place.place))
           (round_on p c.loop-place.place _ _ _ _ _ _ (c.loop-place.invariant.line p l) (c.loop-place.invariant.so_far p l a) c.turn_at.ensures);
     }
 
@@ -45,4 +45,4 @@ returns-clause-less g c = λ p l a not_done.
     let all = c.args.line.now.cores.ok in
     let end : c.loop-place.place ≡ length (map (core_of {G = g.row.G.Denot}) c.args.line.now.cores.items) =
     omega (arith, c.loop-place-test.false, c.loop-place.auto.place-end, c.len-place-end.ensures, same, all, old) in
-    round_less p _ _ _ _ l (subst (λ (n : ℕ). RoundTo p n _ _ _ _) end (c.loop-place.invariant.so_far p l a)) not_done
+    round_less p _ _ _ _ l (subst (λ (n : ℕ). RoundTo p n (map (core_of {G = g.row.G.Denot}) c.args.line.now.cores.items) c.args.line.now.joints.items (map (core_of {G = g.row.G.Denot}) c.loop-place.line.cores.items) c.loop-place.line.joints.items) end (c.loop-place.invariant.so_far p l a)) not_done

@@ -1,4 +1,4 @@
-use Rattle.std.proofs.Common.{◌+◌, add-one, sym}
+use Rattle.std.proofs.Common.{rules, ◌≡◌, ◌+◌, add-one, sym}
 use Rattle.epoch_node.specs.Cores.{core_of}
 use Rattle.epoch_rounds.proofs.Placing.{map_get, at_place, at_next, keeps_placed, turned_at}
 use Rattle.epoch_rounds.proofs.turning.turn_at.Goals as goal
@@ -15,10 +15,5 @@ turn_between-requires-after_bounds g c κs within =
 
 pub returns : goal.returns
 returns g c =
-    let joints = c.args.line.now.joints.items in
-    let p = c.args.place in
-    turned_at (core_of {G = g.row.G.Denot}) c.args.line.now.cores.items joints p (p + 1) c.index_mut-3.result.now c.line-3-1.given c.replace-before.result c.replace-behind.result
-    c.replace-before.new.dest c.replace-behind.new.dest c.turn_between.new.before c.turn_between.new.behind c.turn_between.result (add-one p) c.requires.keeps c.index_mut-3.ensures.value
-    (at_place joints p c.replace-before.result c.index_mut.result.now c.replace-before.ensures.value c.index_mut.ensures.value)
-    (at_next joints p (p + 1) c.replace-before.new.dest c.replace-behind.result c.index_mut-2.result.now (add-one p) c.replace-behind.ensures.value c.index_mut-2.ensures.value)
-    c.turn_between.ensures
+    let e : core_of {G = g.row.G.Denot} c.line-3-1.given ≡ core_of c.turn_between.new.core = search rules in
+    ?
