@@ -1,12 +1,12 @@
 -- A core and the links beside it, at their places of a line.
-use Rattle.std.proofs.Common.{◌≡◌, ◌≢◌, ℕ, zero, suc, ◌+◌, ◌<◌, List, [], ◌∷◌, ◌++◌, map, length, set, get_or, refl, ap, sym, subst, subst₂, ◌∙◌, arith}
-use Rattle.std.proofs.lemmas.List.{set-set}
+use Rattle.std.proofs.Common.{◌≡◌, ◌≢◌, ℕ, zero, suc, ◌+◌, ◌<◌, add-one, get_or-set_other, List, [], ◌∷◌, ◌++◌, map, length, set, get_or, refl, ap, sym, subst, subst₂, ◌∙◌, arith}
+use Rattle.std.proofs.lemmas.List.{set-set, get_or_default}
 use Rattle.run_board.specs.declared.task.Turn.{Turn}
 use Rattle.epoch_node.specs.Cores.{CoreView}
 use Rattle.epoch_node.specs.Keeping.{KeepsCore}
 use Rattle.epoch_rounds.specs.declared.joints.Joint.{Joint}
-use Rattle.epoch_rounds.specs.Joints.{told_between}
-use Rattle.epoch_rounds.specs.Turns.{TurnsBetween, KeepsAt, TurnsAt}
+use Rattle.epoch_rounds.specs.Joints.{no_joint, joint_at, told_between}
+use Rattle.epoch_rounds.specs.Turns.{TurnsBetween, TurnsOne, KeepsAt, TurnsAt}
 
 -- what was taken out at two places is put back
 pub put_back : {X : Type 0} (l : List X) (p : ℕ) (a b c d : X) → set (set (set (set l p a) (suc p) b) p c) (suc p) d ≡ set (set l p c) (suc p) d
@@ -71,25 +71,47 @@ turns_count place (c ∷ cs) (j ∷ []) cs' js' t = absurd t
 turns_count zero (c ∷ cs) (j ∷ i ∷ js) cs' js' t = ap length t.cores_are
 turns_count (suc place) (c ∷ cs) (j ∷ i ∷ js) cs' js' t = ap length t.cores_are ∙ ap suc (turns_count place cs (i ∷ js) t.cores t.joints t.later)
 
-pub put_back_at : {X : Type 0} (l : List X) (p q : ℕ) → q ≡ suc p → (a b c d : X) → set (set (set (set l p a) q b) p c) q d ≡ set (set l p c) (suc p) d
-put_back_at l p q e a b c d = subst (λ (q : ℕ). set (set (set (set l p a) q b) p c) q d ≡ set (set l p c) (suc p) d) (sym e) (put_back l p a b c d)
+pub put_back_at : {X : Type 0} (l : List X) (p : ℕ) (a b c d : X) → set (set (set (set l p a) (p + 1) b) p c) (p + 1) d ≡ set (set l p c) (p + 1) d
+put_back_at l p a b c d = subst (λ (q : ℕ). set (set (set (set l p a) q b) p c) q d ≡ set (set l p c) q d) (sym (add-one p)) (put_back l p a b c d)
 
--- an item that was looked up is at its place
-pub at_place : {X : Type 0} (l : List X) (p : ℕ) (x y : X) → x ≡ y → y ≡ get_or l p y → get_or l p x ≡ x
-at_place l p x y e v = ap (get_or l p) e ∙ sym v ∙ sym e
+-- an item that was looked up is that at its place
+pub looked_up : {X : Type 0} (l : List X) (p : ℕ) (x y d : X) → x ≡ y → y ≡ get_or l p y → p < length l → x ≡ get_or l p d
+looked_up l p x y d e v b = e ∙ v ∙ get_or_default l p y d b
 
--- also after another was changed
-pub at_next : {X : Type 0} (l : List X) (p q : ℕ) (a x y : X) → q ≡ suc p → x ≡ y → y ≡ get_or (set l p a) q y → get_or l (suc p) x ≡ x
-at_next {X = X} l p q a x y n e v = at_place l (suc p) x y e (v ∙ ap (λ (q : ℕ). get_or (set l p a) q y) n ∙ other l p) where
-  other : (l : List X) (p : ℕ) → get_or (set l p a) (suc p) y ≡ get_or l (suc p) y
-  other [] p = refl
-  other (z ∷ l) zero = refl
-  other (z ∷ l) (suc p) = other l p
+-- also after that before it was changed
+pub looked_next : {X : Type 0} (l : List X) (p : ℕ) (a x y d : X) → x ≡ y → y ≡ get_or (set l p a) (p + 1) y → p + 1 < length l → x ≡ get_or l (p + 1) d
+looked_next l p a x y d e v b = e ∙ v ∙ get_or-set_other l p (p + 1) a y (λ h. omega (arith, h)) ∙ get_or_default l (p + 1) y d b
 
--- a core that was looked up, with the links that were taken out, and all put back
-pub turned_at : {C : Type 0} (f : C → CoreView) (cores : List C) (joints : List Joint) (p q : ℕ) (core x : C) (j i a b j' i' : Joint) (answer : Turn) → q ≡ suc p → KeepsAt p (map f cores) joints
-    → core ≡ get_or cores p core → get_or joints p j ≡ j → get_or joints (suc p) i ≡ i → TurnsBetween (f core) j i (f x) j' i' answer
-    → TurnsAt p (map f cores) joints (map f (set cores p x)) (set (set (set (set joints p a) q b) p j') q i')
-turned_at f cores joints p q core x j i a b j' i' answer n k e at_before at_behind t =
-    subst₂ (TurnsAt p (map f cores) joints) (sym (map_set f cores p x)) (sym (put_back_at joints p q n a b j' i'))
-    (turns_placed p (map f cores) joints (f core) j i (f x) j' i' answer k (map_get f cores p core (sym e)) at_before at_behind t)
+at_itself : {X : Type 0} (l : List X) (p : ℕ) (d : X) → get_or l p (get_or l p d) ≡ get_or l p d
+at_itself [] p d = refl
+at_itself (x ∷ l) zero d = refl
+at_itself (x ∷ l) (suc p) d = at_itself l p d
+
+pub keeps_one : (place : ℕ) (cs : List CoreView) (js : List Joint) (c : CoreView) → KeepsAt place cs js → get_or cs place c ≡ c → KeepsCore c (told_between (joint_at js place) (joint_at js (place + 1)))
+keeps_one place cs js c k a =
+    subst (λ (q : ℕ). KeepsCore c (told_between (joint_at js place) (joint_at js q))) (sym (add-one place))
+    (keeps_placed place cs js c (joint_at js place) (joint_at js (suc place)) k a (at_itself js place no_joint) (at_itself js (suc place) no_joint))
+
+pub turns_one : (place : ℕ) (cs : List CoreView) (js : List Joint) (c c' : CoreView) (js' : List Joint) → KeepsAt place cs js → get_or cs place c ≡ c → TurnsOne c js place c' js' → TurnsAt place cs js (set cs place c') js'
+turns_one place cs js c c' js' k a t =
+    subst (λ (ks : List Joint). TurnsAt place cs js (set cs place c') ks) (sym (t.joints_are ∙ ap (λ (q : ℕ). set (set js place t.before) q t.behind) (add-one place)))
+    (turns_placed place cs js c (joint_at js place) (joint_at js (suc place)) c' t.before t.behind t.answer k a (at_itself js place no_joint) (at_itself js (suc place) no_joint)
+    (subst (λ (q : ℕ). TurnsBetween c (joint_at js place) (joint_at js q) c' t.before t.behind t.answer) (add-one place) t.turns))
+
+-- the core behind these
+behind_these : (front rest : List CoreView) (c : CoreView) → get_or (front ++ c ∷ rest) (length front) c ≡ c
+behind_these [] rest c = refl
+behind_these (d ∷ front) rest c = behind_these front rest c
+
+set_behind : (front rest : List CoreView) (c c' : CoreView) → set (front ++ c ∷ rest) (length front) c' ≡ front ++ c' ∷ rest
+set_behind [] rest c c' = refl
+set_behind (d ∷ front) rest c c' = ap (λ cs. d ∷ cs) (set_behind front rest c c')
+
+module _ (front rest : List CoreView) (c : CoreView) (place : ℕ) (e : place ≡ length front) (js : List Joint) (k : KeepsAt (length front) (front ++ c ∷ rest) js) where
+  pub keeps_next : KeepsCore c (told_between (joint_at js place) (joint_at js (place + 1)))
+  keeps_next = subst (λ (n : ℕ). KeepsCore c (told_between (joint_at js n) (joint_at js (n + 1)))) (sym e) (keeps_one (length front) (front ++ c ∷ rest) js c k (behind_these front rest c))
+
+  pub turns_next : (c' : CoreView) (js' : List Joint) → TurnsOne c js place c' js' → TurnsAt (length front) (front ++ c ∷ rest) js (front ++ c' ∷ rest) js'
+  turns_next c' js' t =
+      subst (λ (cs : List CoreView). TurnsAt (length front) (front ++ c ∷ rest) js cs js') (set_behind front rest c c')
+      (turns_one (length front) (front ++ c ∷ rest) js c c' js' k (behind_these front rest c) (subst (λ (n : ℕ). TurnsOne c js n c' js') e t))

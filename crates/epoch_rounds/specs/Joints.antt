@@ -1,5 +1,5 @@
 -- The links between neighbours, and what a core has of those beside it.
-use Rattle.std.specs.Prelude.{◌≡◌, ℕ, Option, Some, None, option_map, List}
+use Rattle.std.specs.Prelude.{◌≡◌, ℕ, Option, Some, None, option_map, List, get_or}
 use Rattle.atomic_table.specs.Seated.{TableId}
 use Rattle.flow_rule.specs.declared.Message.{Message}
 use Rattle.epoch_link.specs.Link.{Delivered}
@@ -18,6 +18,10 @@ pub record IsNewJoint (capacity : ℕ) (j : Joint) : Type 0 where
   pub ask : TableId
   pub answer : TableId
   pub is : j ≡ record { ask = Some (new_link ask capacity); answer = Some (new_link answer capacity) }
+
+-- the links at this place of a line
+abbrev pub joint_at : List Joint → ℕ → Joint
+joint_at js place = get_or js place no_joint
 
 -- what was got is a part of what was sent, and the rest fits, where there is a link
 abbrev pub IsSound : Link → Type 0

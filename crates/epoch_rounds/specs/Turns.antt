@@ -1,5 +1,5 @@
 -- What an event of a core does to the core and to the links beside it.
-use Rattle.std.specs.Prelude.{◌≡◌, ℕ, zero, suc, nat_lt, Option, Some, List, [], ◌∷◌}
+use Rattle.std.specs.Prelude.{◌≡◌, ℕ, zero, suc, nat_lt, ◌+◌, Option, Some, List, [], ◌∷◌, set}
 use Rattle.flow_rule.specs.declared.Message.{Message}
 use Rattle.run_board.specs.declared.task.Turn.{Turn}
 use Rattle.run_board.specs.Turns.{AnswersEnded}
@@ -11,7 +11,7 @@ use Rattle.epoch_node.specs.Cores.{StageView, Fresh, Asking, Answering, Done, Be
 use Rattle.epoch_node.specs.Keeping.{KeepsCore}
 use Rattle.epoch_node.specs.Events.{StillKeeps, Steps, need_at, WhenNotYet, IsMore}
 use Rattle.epoch_rounds.specs.declared.joints.Joint.{Joint}
-use Rattle.epoch_rounds.specs.Joints.{Link, got_on, sent_on, IsSound, told_between}
+use Rattle.epoch_rounds.specs.Joints.{Link, got_on, sent_on, IsSound, joint_at, told_between}
 
 -- the link is the same, and what the core at its other end sees of it
 abbrev pub IsInletFrom : Link → Link → Type 0
@@ -69,6 +69,14 @@ pub record TurnsBetween (old : CoreView) (before behind : Joint) (new : CoreView
   pub before_answer : IsSound before'.answer
   pub behind_ask : IsSound behind'.ask
   pub behind_answer : IsSound behind'.answer
+
+-- a core had its event on the links at this place of a line and at the next
+pub record TurnsOne (old : CoreView) (js : List Joint) (place : ℕ) (new : CoreView) (js' : List Joint) : Type 0 where
+  pub before : Joint
+  pub behind : Joint
+  pub answer : Turn
+  pub joints_are : js' ≡ set (set js place before) (place + 1) behind
+  pub turns : TurnsBetween old (joint_at js place) (joint_at js (place + 1)) new before behind answer
 
 -- ---- in a line, where the links before the first core come first
 

@@ -25,31 +25,28 @@ use outer_io::Gate;
 use query_lang::Query;
 use std::alloc::Global;
 
-/// The first round, in which each core begins.
-fn begin_all<'a, G: Gate>(line: &mut Line<'a, G>)
-    requires { (plan : Plan) × IsLaidOut plan (map core_of line.old.cores.items) line.old.joints.items }
-    ensures line { (plan : Plan) → IsLaidOut plan (map core_of line.old.cores.items) line.old.joints.items
-        → IsLineOf plan (map core_of line.new.cores.items) line.new.joints.items × AreParts (map core_of line.new.cores.items) line.new.joints.items }
+/// A round: each core has an event, from the first to the last. In the first one each begins; after that, while not all are
+/// done, less work is left after it. It gives up with NoMemory alone.
+fn round<'a, G: Gate>(alloc: Global, line: Line<'a, G>) -> Result<Line<'a, G>, NoMemory>
+    requires { (plan : Plan) × IsLineOf plan (map core_of line.cores.items) line.joints.items }
+    ensures line { IfOk result (λ new. (plan : Plan) → IsLineOf plan (map core_of line.entry.cores.items) line.entry.joints.items → IsLineOf plan (map core_of new.cores.items) new.joints.items) }
+    ensures begun { IfOk result (λ new. (plan : Plan) → IsLaidOut plan (map core_of line.entry.cores.items) line.entry.joints.items → AreParts (map core_of new.cores.items) new.joints.items) }
+    ensures parts { IfOk result (λ new. (plan : Plan) → IsLineOf plan (map core_of line.entry.cores.items) line.entry.joints.items → AreParts (map core_of line.entry.cores.items) line.entry.joints.items
+        → AreParts (map core_of new.cores.items) new.joints.items) }
+    ensures less { IfOk result (λ new. (plan : Plan) → IsLineOf plan (map core_of line.entry.cores.items) line.entry.joints.items → AreParts (map core_of line.entry.cores.items) line.entry.joints.items
+        → ¬ AreDone (map core_of line.entry.cores.items)
+        → work_left (map core_of new.cores.items) new.joints.items < work_left (map core_of line.entry.cores.items) line.entry.joints.items) }
 {
-    for next in 0..line.cores.len() {
-        turn_at(line, next);
+    let Line { cores, mut joints } = line;
+    let mut turned = Vec::with_capacity(alloc, cores.len())?;
+    for mut core in cores {
+        turn_at(&mut core, &mut joints, turned.len());
+        turned.push(core)?;
     }
-}
-
-/// A round: each core has an event, from the first to the last. While not all are done, less work is left after it.
-fn round<'a, G: Gate>(line: &mut Line<'a, G>)
-    requires { (plan : Plan) × IsLineOf plan (map core_of line.old.cores.items) line.old.joints.items }
-    ensures line { (plan : Plan) → IsLineOf plan (map core_of line.old.cores.items) line.old.joints.items
-        → IsLineOf plan (map core_of line.new.cores.items) line.new.joints.items }
-    ensures parts { (plan : Plan) → IsLineOf plan (map core_of line.old.cores.items) line.old.joints.items → AreParts (map core_of line.old.cores.items) line.old.joints.items
-        → AreParts (map core_of line.new.cores.items) line.new.joints.items }
-    ensures less { (plan : Plan) → IsLineOf plan (map core_of line.old.cores.items) line.old.joints.items → AreParts (map core_of line.old.cores.items) line.old.joints.items
-        → ¬ AreDone (map core_of line.old.cores.items)
-        → work_left (map core_of line.new.cores.items) line.new.joints.items < work_left (map core_of line.old.cores.items) line.old.joints.items }
-{
-    for place in 0..line.cores.len() {
-        turn_at(line, place);
-    }
+    Ok(Line {
+        cores: turned,
+        joints,
+    })
 }
 
 /// The rows of a run that is cut, what crosses its inner cuts, and how many events moved: by a core for each epoch, which
@@ -70,10 +67,10 @@ pub fn round_robin<G: Gate>(
     ensures crossed { IfOk result (λ all. all.crossed.items ≡ asked_at query.now (trace_of checkpoints.now.job) cuts) }
     ensures events { IfOk result (λ all. all.events ≡ capped (run_work query.now (trace_of checkpoints.now.job) cuts)) }
 {
-    let mut line = lay_out(alloc, checkpoints, query, gate, cuts, capacity)?;
-    begin_all(&mut line);
+    let new = lay_out(alloc, checkpoints, query, gate, cuts, capacity)?;
+    let mut line = round(alloc, new)?;
     while !line.is_done() {
-        round(&mut line);
+        line = round(alloc, line)?;
     }
     collect(alloc, line)
 }

@@ -1,13 +1,12 @@
 //! One event of a core, on the links beside it.
 
-ghost use Rattle.std.specs.Prelude.{◌≡◌, ◌+◌, ◌<◌, map, length};
+ghost use Rattle.std.specs.Prelude.{◌+◌, ◌<◌, length};
 ghost use Rattle.epoch_node.specs.Cores.{core_of};
 ghost use Rattle.epoch_node.specs.Keeping.{KeepsCore};
-ghost use Rattle.epoch_rounds.specs.Joints.{told_between};
-ghost use Rattle.epoch_rounds.specs.Turns.{TurnsIn, TurnsBetween, KeepsAt, TurnsAt};
+ghost use Rattle.epoch_rounds.specs.Joints.{told_between, joint_at};
+ghost use Rattle.epoch_rounds.specs.Turns.{TurnsIn, TurnsBetween, TurnsOne};
 
 use crate::joints::Joint;
-use crate::line::Line;
 use epoch_node::{Core, Phase};
 use outer_io::Gate;
 use run_board::Turn;
@@ -37,15 +36,15 @@ fn turn_between<'a, G: Gate>(core: &mut Core<'a, G>, before: &mut Joint, behind:
     turn
 }
 
-/// One event of the core at this place of a line.
-pub(crate) fn turn_at<'a, G: Gate>(line: &mut Line<'a, G>, place: usize)
-    requires inside { (place < length line.old.cores.items) × (length line.old.joints.items ≡ length line.old.cores.items + 1) }
-    requires keeps { KeepsAt place (map core_of line.old.cores.items) line.old.joints.items }
-    ensures { TurnsAt place (map core_of line.old.cores.items) line.old.joints.items (map core_of line.new.cores.items) line.new.joints.items }
+/// One event of a core, on the links at its place of a line and at the next.
+pub(crate) fn turn_at<'a, G: Gate>(core: &mut Core<'a, G>, joints: &mut Vec<Joint>, place: usize)
+    requires inside { place + 1 < length joints.old.items }
+    requires keeps { KeepsCore (core_of core.old) (told_between (joint_at joints.old.items place) (joint_at joints.old.items (place + 1))) }
+    ensures { TurnsOne (core_of core.old) joints.old.items place (core_of core.new) joints.new.items }
 {
-    let mut before = mem::replace(&mut line.joints[place], Joint::none());
-    let mut behind = mem::replace(&mut line.joints[place + 1], Joint::none());
-    turn_between(&mut line.cores[place], &mut before, &mut behind);
-    line.joints[place] = before;
-    line.joints[place + 1] = behind;
+    let mut before = mem::replace(&mut joints[place], Joint::none());
+    let mut behind = mem::replace(&mut joints[place + 1], Joint::none());
+    turn_between(core, &mut before, &mut behind);
+    joints[place] = before;
+    joints[place + 1] = behind;
 }
