@@ -4,7 +4,6 @@
 mod collecting;
 mod joints;
 mod line;
-pub mod probe;
 mod rounds;
 mod turning;
 

@@ -1,2 +1,0 @@
-abbrev pub IsProbed : Type 0
-IsProbed = Unit {0}

@@ -1,7 +1,0 @@
-//! Temporary.
-ghost use Rattle.epoch_rounds.specs.Probe.{IsProbed};
-
-/// Temporary.
-pub fn probe()
-    ensures { IsProbed }
-{}
