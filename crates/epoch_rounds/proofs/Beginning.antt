@@ -1,5 +1,5 @@
 -- The first round, in which each core begins.
-use Rattle.std.proofs.Common.{◌≡◌, inl, ℕ, zero, suc, ◌+◌, ◌<◌, List, [], ◌∷◌, ◌++◌, length, refl, ap, ap₂, sym, subst, subst₂, ◌∙◌, Bool, true, false, arith}
+use Rattle.std.proofs.Common.{◌≡◌, inl, ℕ, zero, suc, ◌+◌, List, [], ◌∷◌, ◌++◌, length, refl, ap, ap₂, sym, subst, subst₂, ◌∙◌, Bool, true, false, arith}
 use Rattle.std.specs.Prelude.{Option, Some, None, is_none}
 use Rattle.std.specs.List.{AllByRecursion}
 use Rattle.flow_rule.specs.declared.Message.{Message}
@@ -8,16 +8,16 @@ use Rattle.epoch_cut.specs.Numbered.{NumberedEpoch}
 use Rattle.run_board.specs.declared.task.Turn.{Turn}
 use Rattle.pass_parts.specs.Ends.{fresh_end}
 use Rattle.epoch_node.specs.Cores.{Given, StageView, Fresh, Asking, Answering, Done, Between, CoreView, CanStart, new_core}
-use Rattle.epoch_node.specs.Keeping.{Told, fresh_told, HasLinks, KeepsCore}
+use Rattle.epoch_node.specs.Keeping.{fresh_told, HasLinks}
 use Rattle.epoch_node.specs.Events.{Steps}
 use Rattle.epoch_line.specs.Layouts.{CutRun, points_of, epochs_of, given_at}
-use Rattle.epoch_line.proofs.Tickets.{all_can_start, length-numbered}
+use Rattle.epoch_line.proofs.Tickets.{all_can_start}
 use Rattle.epoch_rounds.specs.declared.joints.Joint.{Joint}
-use Rattle.epoch_rounds.specs.Joints.{Link, no_joint, IsNewJoint, got_on, sent_on, told_between}
+use Rattle.epoch_rounds.specs.Joints.{no_joint, IsNewJoint, got_on, sent_on, told_between}
 use Rattle.epoch_rounds.specs.Turns.{TurnsIn, TurnsBetween, TurnsAt}
-use Rattle.epoch_rounds.specs.Lines.{Plan, is_last, new_cores, IsLaidOut, IsLinkOf, StandsBetween, Stand, IsLineOf}
+use Rattle.epoch_rounds.specs.Lines.{Plan, new_cores, IsLaidOut, IsLinkOf, StandsBetween, Stand, IsLineOf}
 use Rattle.epoch_rounds.specs.Streams.{summary_at, summaries_of, all_asks, all_answers, HasSentPart, HasBegun, AllSendPart, AreParts}
-use Rattle.epoch_rounds.proofs.Standing.{turn_stands, inlet_sent}
+use Rattle.epoch_rounds.proofs.Standing.{inlet_sent}
 
 -- ---- a new line stands
 

@@ -1,5 +1,5 @@
 -- Whether cores are done, one after another.
-use Rattle.std.proofs.Common.{◌≡◌, ℕ, zero, suc, ◌+◌, ◌<◌, List, [], ◌∷◌, ◌++◌, map, length, get_or, refl, ap, sym, subst, ◌∙◌, arith}
+use Rattle.std.proofs.Common.{◌≡◌, ℕ, zero, suc, ◌<◌, List, [], ◌∷◌, ◌++◌, length, get_or, sym, subst, arith}
 use Rattle.epoch_node.specs.Cores.{CoreView}
 use Rattle.epoch_rounds.specs.Lines.{IsCoreDone, AreDone}
 

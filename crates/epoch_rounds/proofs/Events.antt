@@ -1,35 +1,32 @@
 -- What an event of a core sends, and how much less is left after it.
-use Rattle.std.proofs.Common.{◌≡◌, ◌⊎◌, inl, inr, ℕ, ◌+◌, ◌-◌, ◌<◌, ◌≤◌, List, [], ◌∷◌, ◌++◌, length, refl, ap, ap₂, sym, subst, ◌∙◌, Bool, true, false, arith}
-use Rattle.std.specs.Prelude.{Option, Some, None, is_none, is_some, IsSome}
-use Rattle.flow_model.specs.declared.Loc.{Loc}
+use Rattle.std.proofs.Common.{◌≡◌, ◌⊎◌, inl, inr, ℕ, ◌+◌, ◌-◌, ◌<◌, ◌≤◌, List, [], ◌∷◌, ◌++◌, length, refl, ap, sym, subst, ◌∙◌, Bool, true, false, arith}
+use Rattle.std.specs.Prelude.{Option, Some, None, is_none, IsSome}
 use Rattle.flow_rule.specs.declared.Message.{Message}
 use Rattle.flow_rule.specs.declared.Message.TheVariants.{Ask, Byte, Close, End}
 use Rattle.epoch_model.specs.Summary.{Summary}
 use Rattle.run_board.specs.declared.task.Turn.{Turn}
 use Rattle.run_board.specs.declared.task.Turn.TheVariants.{NotYet}
 use Rattle.stream_model.specs.Streams.{is_ended, requests}
-use Rattle.stream_model.specs.StreamLaws.{IsPrefix}
-use Rattle.stream_model.specs.Passes.{Asking as AskingState, asking_event, Answering as AnsweringState, answering_event}
+use Rattle.stream_model.specs.Passes.{Asking as AskingState, Answering as AnsweringState}
 use Rattle.stream_model.specs.Schedules.{is_met, asking_need, answering_need}
 use Rattle.stream_model.specs.ScheduleLaws.{one_if}
 use Rattle.stream_model.proofs.Passing.{no}
 use Rattle.stream_model.proofs.Moving.{IsGot, AskMoved, asking_moves, AnswerFits, AnswerMoved, answering_moves}
-use Rattle.stream_model.proofs.NeverStill.{still_asking, still_answering}
 use Rattle.stream_model.proofs.Progress.{AsksForward, asks_forward, AsksNoMore, asks_no_more, unresolved, AnswersForward, answers_forward, AnswersNoMore, answers_no_more, asking_met, answering_met}
 use Rattle.pass_parts.specs.declared.pass_turn.PassTurn.{PassTurn}
 use Rattle.pass_parts.specs.declared.pass_turn.PassTurn.TheVariants as pass_turn
 use Rattle.pass_parts.specs.Ends.{got_by, sent_by}
 use Rattle.pass_parts.specs.Known.{known}
 use Rattle.pass_parts.specs.Requests.{locations}
-use Rattle.pass_parts.specs.Turns.{OnOver, OnOpen, OnMoved}
+use Rattle.pass_parts.specs.Turns.{OnOver, OnMoved}
 use Rattle.backward_pass.specs.Backward.{BackView, knows, state}
 use Rattle.forward_pass.specs.Forward.{ForeView, new_fore, known_by, fore_state}
-use Rattle.epoch_node.specs.Cores.{Given, StageView, Fresh, Asking, Answering, Done, Between}
+use Rattle.epoch_node.specs.Cores.{Given, StageView, Asking, Answering}
 use Rattle.epoch_node.specs.Keeping.{Told, HasLinks, IsAsking, IsAnswering, AtStage, requests_if}
 use Rattle.epoch_node.specs.Events.{settled_by, answered_by, asks_turn, answers_turn, Asks as AsksOn, Answers as AnswersOn}
 use Rattle.epoch_rounds.specs.Lines.{HasSettled}
-use Rattle.epoch_rounds.specs.Streams.{all_asks, all_answers, IsPart, HasSentPart}
-use Rattle.epoch_rounds.specs.Left.{over_asking, phase_in, one_unless, steps_left, messages_left, core_left}
+use Rattle.epoch_rounds.specs.Streams.{all_asks, all_answers, HasSentPart}
+use Rattle.epoch_rounds.specs.Left.{phase_in, one_unless, messages_left, core_left}
 use Rattle.epoch_rounds.proofs.Parts.{prefix_length, broken_part, HasGotPart, got_length, sent_length}
 use Rattle.epoch_rounds.proofs.Sending.{asking_part, asked_part, answering_part}
 
@@ -129,31 +126,31 @@ module _ (i : Given) (v : BackView) (w : Told) (at : IsAsking i v w) (next : Sta
       → core_left asks (all_asks es) answered answers (phase_in next after) < core_left asks (all_asks es) answered answers (phase_in (Asking v) w)
   asks_less asks answered answers p g not_still =
       subst (λ s. core_left asks (all_asks es) answered answers (phase_in s after) < core_left asks (all_asks es) answered answers (phase_in (Asking v) w)) (sym x.is) (by x.back.over refl) where
-    more_sent : length (sent_by v.over v.whole w.asks_sent) ≤ length (sent_by x.back.over x.back.whole sent')
-    more_sent = prefix_length _ _ moved.sent
+        more_sent : length (sent_by v.over v.whole w.asks_sent) ≤ length (sent_by x.back.over x.back.whole sent')
+        more_sent = prefix_length _ _ moved.sent
 
-    more_got : length (got_by w.asks_got) ≤ length (got_by got')
-    more_got = shorter (got_by w.asks_got) (got_by got') x.happens.links.next moved.got
+        more_got : length (got_by w.asks_got) ≤ length (got_by got')
+        more_got = shorter (got_by w.asks_got) (got_by got') x.happens.links.next moved.got
 
-    settled : (whole : Bool) → x.back.whole ≡ whole → length (locations (requests_if whole x.back.requests)) ≤ length (all_asks es) + 1
-    settled false t = omega arith
-    settled true t =
-        let few = few_requests (got_by got') in
-        let some = got_length (all_asks es) got' g in
-        let same : length (locations x.back.requests) ≡ length (requests (got_by got')) = ap length (x.requested t) in
-        omega (arith, few, some, same)
+        settled : (whole : Bool) → x.back.whole ≡ whole → length (locations (requests_if whole x.back.requests)) ≤ length (all_asks es) + 1
+        settled false t = omega arith
+        settled true t =
+            let few = few_requests (got_by got') in
+            let some = got_length (all_asks es) got' g in
+            let same : length (locations x.back.requests) ≡ length (requests (got_by got')) = ap length (x.requested t) in
+            omega (arith, few, some, same)
 
-    by : (over : Bool) → x.back.over ≡ over → core_left asks (all_asks es) answered answers (phase_in (settled_by over i x.back) after) < core_left asks (all_asks es) answered answers (phase_in (Asking v) w)
-    by false o =
-        let on = subst (λ m. AsksForward (state v w.asks_got w.asks_sent) (state x.back got' sent') m) (met x.came_to refl not_still o) forward in
-        asks_to_asks (length asks + 1) (length (all_asks es) + 1) (length answered + 1) (length answers + 1) (length v.left) (length x.back.left) (one_if v.whole) (one_if x.back.whole)
-        (length (sent_by v.over v.whole w.asks_sent)) (length (sent_by x.back.over x.back.whole sent')) (length (got_by w.asks_got)) (length (got_by got'))
-        on (sent_length asks x.back.over x.back.whole sent' p) (got_length (all_asks es) got' g) more_sent more_got
-    by true o =
-        let longer : length (sent_by v.over v.whole w.asks_sent) ≤ length (sent_by true true sent') = subst (λ n. length (sent_by v.over v.whole w.asks_sent) ≤ n) (same_long x.back.over true x.back.whole true sent' o) more_sent in
-        asks_to_answers (length asks + 1) (length (all_asks es) + 1) (length answered + 1) (length answers + 1) (length v.left) (length (locations (requests_if x.back.whole x.back.requests))) (one_if v.whole) (one_if x.back.whole) 1 1
-        (length (sent_by v.over v.whole w.asks_sent)) (length (sent_by true true sent')) (length (got_by w.asks_got)) (length (got_by got')) (length (got_by w.answers_got)) (length (sent_by false x.back.whole w.answers_sent))
-        (settled x.back.whole refl) (at_most_one x.back.whole) (omega arith) (omega arith) longer more_got
+        by : (over : Bool) → x.back.over ≡ over → core_left asks (all_asks es) answered answers (phase_in (settled_by over i x.back) after) < core_left asks (all_asks es) answered answers (phase_in (Asking v) w)
+        by false o =
+            let on = subst (λ m. AsksForward (state v w.asks_got w.asks_sent) (state x.back got' sent') m) (met x.came_to refl not_still o) forward in
+            asks_to_asks (length asks + 1) (length (all_asks es) + 1) (length answered + 1) (length answers + 1) (length v.left) (length x.back.left) (one_if v.whole) (one_if x.back.whole)
+            (length (sent_by v.over v.whole w.asks_sent)) (length (sent_by x.back.over x.back.whole sent')) (length (got_by w.asks_got)) (length (got_by got'))
+            on (sent_length asks x.back.over x.back.whole sent' p) (got_length (all_asks es) got' g) more_sent more_got
+        by true o =
+            let longer : length (sent_by v.over v.whole w.asks_sent) ≤ length (sent_by true true sent') = subst (λ n. length (sent_by v.over v.whole w.asks_sent) ≤ n) (same_long x.back.over true x.back.whole true sent' o) more_sent in
+            asks_to_answers (length asks + 1) (length (all_asks es) + 1) (length answered + 1) (length answers + 1) (length v.left) (length (locations (requests_if x.back.whole x.back.requests))) (one_if v.whole) (one_if x.back.whole) 1 1
+            (length (sent_by v.over v.whole w.asks_sent)) (length (sent_by true true sent')) (length (got_by w.asks_got)) (length (got_by got')) (length (got_by w.answers_got)) (length (sent_by false x.back.whole w.answers_sent))
+            (settled x.back.whole refl) (at_most_one x.back.whole) (omega arith) (omega arith) longer more_got
 
   -- an End was got and sent where it goes on to answer
   pub asks_settled : HasSettled next after
@@ -227,21 +224,21 @@ module _ (i : Given) (f : ForeView) (w : Told) (at : IsAnswering i f w) (running
       → core_left asks requests answered answers (phase_in next answered_after) < core_left asks requests answered answers (phase_in (Answering f) w)
   answers_less asks requests answered answers p g not_still =
       subst (λ s. core_left asks requests answered answers (phase_in s answered_after) < core_left asks requests answered answers (phase_in (Answering f) w)) (sym x.is) (by x.fore.over refl) where
-    less : (m n : ℕ) → length (locations x.fore.left) + one_if x.fore.whole + unresolved x.fore.rows + length (sent_by f.over f.whole w.answers_sent) + length (got_by w.answers_got) + m
-        ≤ length (locations f.left) + one_if f.whole + unresolved f.rows + length (sent_by x.fore.over x.fore.whole sent') + length (got_by got')
-        → one_unless x.fore.over + n ≤ one_unless f.over → 1 ≤ m + n
-        → core_left asks requests answered answers (phase_in (Answering x.fore) answered_after) < core_left asks requests answered answers (phase_in (Answering f) w)
-    less m n h d e =
-        answers_to_answers (messages_left asks (sent_by true true w.asks_sent)) (messages_left requests (got_by w.asks_got)) (length answered + 1) (length answers + 1)
-        (length (locations f.left)) (length (locations x.fore.left)) (one_if f.whole) (one_if x.fore.whole) (unresolved f.rows) (unresolved x.fore.rows) (one_unless f.over) (one_unless x.fore.over)
-        (length (got_by w.answers_got)) (length (got_by got')) (length (sent_by f.over f.whole w.answers_sent)) (length (sent_by x.fore.over x.fore.whole sent')) m n
-        h d e (got_length answered got' g) (sent_length answers x.fore.over x.fore.whole sent' p)
-        (shorter (got_by w.answers_got) (got_by got') x.happens.links.next answer_moved.got) (prefix_length _ _ answer_moved.sent)
+        less : (m n : ℕ) → length (locations x.fore.left) + one_if x.fore.whole + unresolved x.fore.rows + length (sent_by f.over f.whole w.answers_sent) + length (got_by w.answers_got) + m
+            ≤ length (locations f.left) + one_if f.whole + unresolved f.rows + length (sent_by x.fore.over x.fore.whole sent') + length (got_by got')
+            → one_unless x.fore.over + n ≤ one_unless f.over → 1 ≤ m + n
+            → core_left asks requests answered answers (phase_in (Answering x.fore) answered_after) < core_left asks requests answered answers (phase_in (Answering f) w)
+        less m n h d e =
+            answers_to_answers (messages_left asks (sent_by true true w.asks_sent)) (messages_left requests (got_by w.asks_got)) (length answered + 1) (length answers + 1)
+            (length (locations f.left)) (length (locations x.fore.left)) (one_if f.whole) (one_if x.fore.whole) (unresolved f.rows) (unresolved x.fore.rows) (one_unless f.over) (one_unless x.fore.over)
+            (length (got_by w.answers_got)) (length (got_by got')) (length (sent_by f.over f.whole w.answers_sent)) (length (sent_by x.fore.over x.fore.whole sent')) m n
+            h d e (got_length answered got' g) (sent_length answers x.fore.over x.fore.whole sent' p)
+            (shorter (got_by w.answers_got) (got_by got') x.happens.links.next answer_moved.got) (prefix_length _ _ answer_moved.sent)
 
-    by : (over : Bool) → x.fore.over ≡ over → core_left asks requests answered answers (phase_in (answered_by over x.fore) answered_after) < core_left asks requests answered answers (phase_in (Answering f) w)
-    by false o =
-        let on = subst (λ m. AnswersForward (fore_state f w.answers_got w.answers_sent) (fore_state x.fore got' sent') m) (answer_met x.came_to refl not_still o) answer_forward in
-        less 1 0 on (let a = ap one_unless o in let b = ap one_unless running in omega (arith, a, b)) (omega arith)
-    by true o =
-        let on = answer_forward in
-        less 0 1 (omega (arith, on)) (let a = ap one_unless o in let b = ap one_unless running in omega (arith, a, b)) (omega arith)
+        by : (over : Bool) → x.fore.over ≡ over → core_left asks requests answered answers (phase_in (answered_by over x.fore) answered_after) < core_left asks requests answered answers (phase_in (Answering f) w)
+        by false o =
+            let on = subst (λ m. AnswersForward (fore_state f w.answers_got w.answers_sent) (fore_state x.fore got' sent') m) (answer_met x.came_to refl not_still o) answer_forward in
+            less 1 0 on (let a = ap one_unless o in let b = ap one_unless running in omega (arith, a, b)) (omega arith)
+        by true o =
+            let on = answer_forward in
+            less 0 1 (omega (arith, on)) (let a = ap one_unless o in let b = ap one_unless running in omega (arith, a, b)) (omega arith)

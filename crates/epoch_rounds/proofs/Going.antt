@@ -1,11 +1,9 @@
 -- Rounds of a line.
-use Rattle.std.proofs.Common.{◌≡◌, ◌⊎◌, inl, inr, ℕ, zero, suc, ◌+◌, ◌<◌, ◌≤◌, List, [], ◌∷◌, map, length, refl, ap, sym, subst, ◌∙◌, Bool, true, false, arith}
+use Rattle.std.proofs.Common.{◌≡◌, ◌⊎◌, inl, inr, ℕ, zero, suc, ◌<◌, ◌≤◌, List, [], ◌∷◌, length, refl, ap, sym, ◌∙◌, Bool, true, false, arith}
 use Rattle.std.specs.Prelude.{Option, Some, None, is_none}
-use Rattle.std.specs.List.{AllByRecursion}
-use Rattle.flow_rule.specs.declared.Message.{Message}
 use Rattle.flow_rule.specs.declared.Message.TheVariants.{End}
 use Rattle.epoch_cut.specs.Numbered.{NumberedEpoch}
-use Rattle.stream_model.specs.Schedules.{Phase, NodeState, node_moves, moves_at, is_done}
+use Rattle.stream_model.specs.Schedules.{Phase, NodeState, moves_at, is_done}
 use Rattle.stream_model.proofs.Passing.{no}
 use Rattle.stream_model.proofs.NeverStill.{AllDone, Moves, goes_on}
 use Rattle.epoch_node.specs.declared.stage.Phase.TheVariants as phase
@@ -15,7 +13,7 @@ use Rattle.epoch_line.specs.Layouts.{epochs_of}
 use Rattle.epoch_rounds.specs.declared.joints.Joint.{Joint}
 use Rattle.epoch_rounds.specs.Joints.{Link, got_on, sent_on, told_between}
 use Rattle.epoch_rounds.specs.Turns.{TurnsAt}
-use Rattle.epoch_rounds.specs.Lines.{Plan, AreDone, IsCoreDone, Stand, IsLineOf}
+use Rattle.epoch_rounds.specs.Lines.{Plan, AreDone, Stand, IsLineOf}
 use Rattle.epoch_rounds.specs.Streams.{AreParts}
 use Rattle.epoch_rounds.specs.Left.{phase_in, row_left, states, work_left}
 use Rattle.epoch_rounds.proofs.Parts.{IsSource}

@@ -1,31 +1,26 @@
 -- The nodes of the definitions, as their links join them: what the nodes hold between them, and when none can move.
-use Rattle.std.proofs.Common.{◌≡◌, ◌⊎◌, inl, inr, ℕ, zero, suc, ◌+◌, ◌-◌, ◌<◌, ◌≤◌, List, [], ◌∷◌, ◌++◌, length, drop, refl, ap, ap₂, sym, subst, ◌∙◌, Bool, true, false, cond, length-append, arith}
-use Rattle.std.specs.Prelude.{Option, Some, None, is_none, is_some, nat_lt, option_map, IfSome}
+use Rattle.std.proofs.Common.{◌≡◌, ℕ, zero, suc, ◌+◌, ◌≤◌, List, [], ◌∷◌, ◌++◌, length, drop, refl, ap, sym, subst, ◌∙◌, Bool, true, false, cond, length-append, arith}
+use Rattle.std.specs.Prelude.{Option, Some, None, is_none, is_some, nat_lt}
 use Rattle.std.proofs.lemmas.Bool.{ltb-true, ltb-false}
 use Rattle.flow_rule.specs.declared.Message.{Message}
-use Rattle.flow_rule.specs.declared.Message.TheVariants.{End}
-use Rattle.epoch_model.specs.Summary.{Summary}
 use Rattle.epoch_cut.specs.Numbered.{NumberedEpoch}
 use Rattle.epoch_link.specs.Link.{Delivered}
 use Rattle.epoch_link.specs.ListLink.{BothEnds, held_count}
 use Rattle.stream_model.specs.Streams.{is_ended}
 use Rattle.stream_model.specs.StreamLaws.{IsPrefix}
 use Rattle.stream_model.specs.Passes.{Links}
-use Rattle.stream_model.specs.Schedules.{Phase, Fresh as NotBegun, Asks, Answers, NodeState, Need, Room, Item, Nothing, Over, is_met, asks_sent_in, asks_got_in, answers_sent_in, answers_got_in, first_of, next_item, has_room_for, room_to, item_from, asking_links, answering_links, asking_need, answering_need, node_moves, phase_of_first}
+use Rattle.stream_model.specs.Schedules.{Phase, Need, Room, Item, Nothing, Over, is_met, asks_sent_in, asks_got_in, answers_sent_in, answers_got_in, first_of, next_item, has_room_for, room_to, item_from, phase_of_first}
 use Rattle.stream_model.proofs.Passing.{no}
-use Rattle.stream_model.proofs.Moving.{AnswerFits, PhaseHolds, LinkHolds, FirstHolds, LastHolds, BeforeHolds, EndHolds, NodesHold}
+use Rattle.stream_model.proofs.Moving.{PhaseHolds, LinkHolds, FirstHolds, LastHolds, BeforeHolds, NodesHold}
 use Rattle.pass_parts.specs.Ends.{got_by, sent_by, fresh_end}
 use Rattle.pass_parts.specs.Turns.{Waits}
-use Rattle.backward_pass.specs.Backward.{BackView, state}
-use Rattle.forward_pass.specs.Forward.{ForeView, known_by, fore_state}
 use Rattle.epoch_node.specs.Cores.{Given, StageView, Fresh, Asking, Answering, Done, Between, CoreView}
-use Rattle.epoch_node.specs.Keeping.{Told, fresh_told, HasLinks, IsAsking, IsAnswering, AtStage, KeepsCore}
+use Rattle.epoch_node.specs.Keeping.{Told, AtStage}
 use Rattle.epoch_line.specs.Layouts.{given_at}
 use Rattle.epoch_rounds.specs.declared.joints.Joint.{Joint}
-use Rattle.epoch_rounds.specs.Joints.{Link, got_on, sent_on, IsSound, told_between}
+use Rattle.epoch_rounds.specs.Joints.{Link, got_on, sent_on, told_between}
 use Rattle.epoch_rounds.specs.Turns.{IsPopRefused, IsPushRefused}
 use Rattle.epoch_rounds.specs.Lines.{Plan, is_last, IsLinkOf, HasSettled, StandsBetween, Stand}
-use Rattle.epoch_rounds.specs.Streams.{summary_at}
 use Rattle.epoch_rounds.specs.Left.{phase_in, states}
 
 -- ---- what a core's phase says of the links beside it

@@ -1,9 +1,8 @@
 -- Cores that are done, as nodes that are done.
-use Rattle.std.proofs.Common.{◌≡◌, ℕ, ◌+◌, List, [], ◌∷◌, ◌++◌, map, refl, ap, sym, subst, subst₂, ◌∙◌, Bool, true, false, append-nil, append_assoc, arith}
+use Rattle.std.proofs.Common.{◌≡◌, ◌+◌, List, [], ◌∷◌, ◌++◌, refl, ap, sym, subst₂, ◌∙◌, Bool, true, false, append-nil, append_assoc, arith}
 use Rattle.std.specs.List.{flat_map, sum_by}
 use Rattle.std.proofs.lemmas.List.Sums.{sum_by-cons}
-use Rattle.std.specs.Prelude.{Option, Some, None}
-use Rattle.flow_rule.specs.declared.Message.{Message}
+use Rattle.std.specs.Prelude.{Some, None}
 use Rattle.epoch_cut.specs.Numbered.{NumberedEpoch}
 use Rattle.epoch_node.specs.Cores.{Given, CoreView}
 use Rattle.epoch_node.specs.Keeping.{Told, HasLinks, KeepsCore}
@@ -12,7 +11,7 @@ use Rattle.epoch_line.specs.Layouts.{given_at}
 use Rattle.epoch_line.specs.DoneLines.{DoneNode, IsPlaced, AreTold, IsDoneLine}
 use Rattle.epoch_rounds.specs.declared.joints.Joint.{Joint}
 use Rattle.epoch_rounds.specs.Joints.{Link, got_on, sent_on, told_between}
-use Rattle.epoch_rounds.specs.Lines.{Plan, is_last, IsLinkOf, StandsBetween, Stand}
+use Rattle.epoch_rounds.specs.Lines.{Plan, IsLinkOf, StandsBetween, Stand}
 
 -- the node of a core between its links
 pub record IsNodeOf (n : DoneNode) (c : CoreView) (j i : Joint) : Type 0 where

@@ -1,18 +1,17 @@
 -- Parts of what is sent in all.
-use Rattle.std.proofs.Common.{◌≡◌, ◌⊎◌, inl, inr, ℕ, ◌+◌, ◌≤◌, Some, None, List, [], ◌∷◌, ◌++◌, length, refl, ap, sym, subst, ◌∙◌, Bool, true, false, length-append, append-nil, arith}
+use Rattle.std.proofs.Common.{◌≡◌, ◌⊎◌, inl, inr, ◌+◌, ◌≤◌, Some, None, List, [], ◌∷◌, ◌++◌, length, refl, ap, sym, subst, ◌∙◌, Bool, true, false, length-append, append-nil, arith}
 use Rattle.std.specs.Prelude.{Option}
 use Rattle.flow_rule.specs.declared.Message.{Message}
 use Rattle.flow_rule.specs.declared.Message.TheVariants.{End}
 use Rattle.epoch_model.specs.Summary.{Summary}
-use Rattle.epoch_link.specs.ListLink.{BothEnds}
-use Rattle.stream_model.specs.Streams.{is_ended, requests, asked_of}
+use Rattle.stream_model.specs.Streams.{is_ended}
 use Rattle.stream_model.specs.StreamLaws.{IsPrefix, EndsLast}
-use Rattle.stream_model.proofs.Growing.{prefix_trans, nothing_is_left, asks_end_last, answers_end_last}
+use Rattle.stream_model.proofs.Growing.{prefix_trans, nothing_is_left, asks_end_last}
 use Rattle.stream_model.proofs.Passing.{no}
 use Rattle.stream_model.proofs.Moving.{ended_after}
 use Rattle.pass_parts.specs.Ends.{got_by, sent_by, EndsWhole}
 use Rattle.epoch_rounds.specs.Joints.{Link, got_on, sent_on, IsSound}
-use Rattle.epoch_rounds.specs.Streams.{all_asks, all_answers, IsBrokenOff, IsPart, HasSentPart}
+use Rattle.epoch_rounds.specs.Streams.{all_asks, IsPart, HasSentPart}
 
 -- ---- lists
 

@@ -1,5 +1,5 @@
 -- A core and the links beside it, at their places of a line.
-use Rattle.std.proofs.Common.{◌≡◌, ◌≢◌, ℕ, zero, suc, ◌+◌, ◌<◌, add-one, get_or-set_other, List, [], ◌∷◌, ◌++◌, map, length, set, get_or, refl, ap, sym, subst, subst₂, ◌∙◌, arith}
+use Rattle.std.proofs.Common.{◌≡◌, ℕ, zero, suc, ◌+◌, ◌<◌, add-one, get_or-set_other, List, [], ◌∷◌, ◌++◌, map, length, set, get_or, refl, ap, sym, subst, subst₂, ◌∙◌, arith}
 use Rattle.std.proofs.lemmas.List.{set-set, get_or_default}
 use Rattle.run_board.specs.declared.task.Turn.{Turn}
 use Rattle.epoch_node.specs.Cores.{CoreView}

@@ -8,15 +8,14 @@ use Rattle.epoch_model.specs.Summary.{Summary}
 use Rattle.stream_model.specs.Streams.{is_ended, requests, asks_for, answers_for, asked_of}
 use Rattle.stream_model.specs.StreamLaws.{IsPrefix}
 use Rattle.stream_model.specs.Passes.{Answering as AnsweringState, answering_start}
-use Rattle.stream_model.specs.PassLaws.{AsksSent}
 use Rattle.stream_model.proofs.Growing.{prefix_trans, asks_grow, answers_grow}
-use Rattle.stream_model.proofs.Passing.{no, begun_whole}
+use Rattle.stream_model.proofs.Passing.{begun_whole}
 use Rattle.pass_parts.specs.Ends.{got_by, sent_by, EndsWhole}
 use Rattle.backward_pass.specs.Backward.{BackView, knows}
-use Rattle.forward_pass.specs.Forward.{ForeView, known_by, fore_state}
-use Rattle.epoch_node.specs.Cores.{Given, StageView, Fresh, Asking, Answering, Done, Between}
+use Rattle.forward_pass.specs.Forward.{ForeView, known_by}
+use Rattle.epoch_node.specs.Cores.{Given}
 use Rattle.epoch_node.specs.Keeping.{Told, HasLinks, IsAsking, IsAnswering}
-use Rattle.epoch_rounds.specs.Streams.{all_asks, all_answers, IsPart, HasSentPart}
+use Rattle.epoch_rounds.specs.Streams.{all_asks, all_answers, HasSentPart}
 use Rattle.epoch_rounds.proofs.Parts.{HasGotPart, got_whole, all_of_it, asks_last}
 
 sent_part : (all : List Message) (over whole : Bool) (sent : Option (List Message)) → (is_none sent ≡ false → IsPrefix (sent_by over whole sent) all) → HasSentPart all sent

@@ -1,11 +1,9 @@
 -- An event keeps each core between its links.
 use Rattle.std.proofs.Common.{◌≡◌, ℕ, zero, suc, ◌+◌, ◌<◌, List, [], ◌∷◌, length, refl, ap, ap₂, sym, subst, subst₂, ◌∙◌, Bool, true, false, arith}
-use Rattle.std.specs.Prelude.{Option, Some, None, is_none}
+use Rattle.std.specs.Prelude.{Option, Some, None}
 use Rattle.flow_rule.specs.declared.Message.{Message}
 use Rattle.run_board.specs.declared.task.Turn.{Turn}
 use Rattle.epoch_cut.specs.Numbered.{NumberedEpoch}
-use Rattle.stream_model.specs.Streams.{is_ended}
-use Rattle.pass_parts.specs.Ends.{got_by, sent_by}
 use Rattle.forward_pass.specs.Forward.{ForeView}
 use Rattle.epoch_node.specs.Cores.{Given, StageView, Fresh, Asking, Answering, Done, Between, CoreView}
 use Rattle.epoch_node.specs.Keeping.{Told, AtStage, KeepsCore}
@@ -13,8 +11,8 @@ use Rattle.epoch_node.specs.Events.{got_at, sent_at, told_at, answered_by, Steps
 use Rattle.epoch_line.specs.Layouts.{given_at}
 use Rattle.epoch_rounds.specs.declared.joints.Joint.{Joint}
 use Rattle.epoch_rounds.specs.Joints.{Link, got_on, sent_on, IsSound, told_between}
-use Rattle.epoch_rounds.specs.Turns.{IsInletFrom, IsOutletFrom, TurnsOn, TurnsAsking, TurnsAnswering, Stays, TurnsIn, TurnsBetween, KeepsAt, TurnsHere, TurnsLater, TurnsAt}
-use Rattle.epoch_rounds.specs.Lines.{Plan, is_last, IsLinkOf, HasSettled, StandsBetween, Stand, IsLineOf}
+use Rattle.epoch_rounds.specs.Turns.{IsInletFrom, IsOutletFrom, TurnsOn, TurnsAsking, TurnsAnswering, Stays, TurnsIn, TurnsBetween, KeepsAt, TurnsAt}
+use Rattle.epoch_rounds.specs.Lines.{Plan, is_last, IsLinkOf, HasSettled, StandsBetween, Stand}
 use Rattle.epoch_rounds.proofs.Events.{asks_settled}
 
 -- ---- links
@@ -245,16 +243,14 @@ module _ (p : Plan) where
   turn_stands place first es (c ∷ cs) (j ∷ []) cs' js' s t = absurd t
   turn_stands place first [] (c ∷ cs) (j ∷ i ∷ js) cs' js' s t = absurd s
   turn_stands zero first (e ∷ es) (c ∷ cs) (j ∷ i ∷ js) cs' js' s t =
-      let g = given_at p.run e first (is_last es) in
-      (
+      let g = given_at p.run e first (is_last es) in (
         subst₂ (Stand p first (e ∷ es)) (sym t.cores_are) (sym t.joints_are)
-        (stands_on p.capacity g c j i t.core t.before t.behind t.answer t.turns s.0, other_head false es cs i t.behind js (seen_behind c j i t.core t.before t.behind t.answer t.turns) s.1),
+            (stands_on p.capacity g c j i t.core t.before t.behind t.answer t.turns s.0, other_head false es cs i t.behind js (seen_behind c j i t.core t.before t.behind t.answer t.turns) s.1),
         subst (AreSameBefore (j ∷ i ∷ js)) (sym t.joints_are) (seen_before c j i t.core t.before t.behind t.answer t.turns),
       )
   turn_stands (suc place) first (e ∷ es) (c ∷ cs) (j ∷ i ∷ js) cs' js' s t =
       let g = given_at p.run e first (is_last es) in
-      let r = turn_stands place false es cs (i ∷ js) t.cores t.joints s.1 t.later in
-      (
+      let r = turn_stands place false es cs (i ∷ js) t.cores t.joints s.1 t.later in (
         subst₂ (Stand p first (e ∷ es)) (sym t.cores_are) (sym t.joints_are) (by t.joints r.0 r.1),
         subst (AreSameBefore (j ∷ i ∷ js)) (sym t.joints_are) (same_before j),
       )

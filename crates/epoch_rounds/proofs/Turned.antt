@@ -1,5 +1,5 @@
 -- In a line whose cores have begun, an event sends a part of what is to be sent, and leaves less to do, or it cannot move.
-use Rattle.std.proofs.Common.{◌≡◌, ◌⊎◌, inl, inr, ℕ, zero, suc, ◌+◌, ◌<◌, ◌≤◌, List, [], ◌∷◌, map, length, refl, ap, ap₂, sym, subst, subst₂, ◌∙◌, Bool, true, false, arith}
+use Rattle.std.proofs.Common.{◌≡◌, ◌⊎◌, inl, inr, ℕ, zero, suc, ◌+◌, ◌<◌, List, [], ◌∷◌, map, refl, ap, ap₂, sym, subst, subst₂, ◌∙◌, Bool, true, false, arith}
 use Rattle.std.specs.Prelude.{Option, Some, None, is_none}
 use Rattle.flow_rule.specs.declared.Message.{Message}
 use Rattle.flow_rule.specs.declared.Message.TheVariants.{End}
@@ -9,17 +9,16 @@ use Rattle.run_board.specs.declared.task.Turn.{Turn}
 use Rattle.run_board.specs.declared.task.Turn.TheVariants as turn
 use Rattle.stream_model.specs.Schedules.{Phase, NodeState, is_met, asks_sent_in, asks_got_in, answers_sent_in, answers_got_in, asking_links, answering_links, answering_need_by, node_moves, phase_of_first, moves_at}
 use Rattle.stream_model.proofs.Passing.{no}
-use Rattle.pass_parts.specs.Ends.{got_by, sent_by}
 use Rattle.pass_parts.specs.Known.{known}
 use Rattle.backward_pass.specs.Backward.{BackView, knows, state}
 use Rattle.forward_pass.specs.Forward.{ForeView, known_by, fore_state}
 use Rattle.epoch_node.specs.Cores.{Given, StageView, Fresh, Asking, Answering, Done, Between, CoreView}
-use Rattle.epoch_node.specs.Keeping.{Told, HasLinks, AtStage, KeepsCore}
+use Rattle.epoch_node.specs.Keeping.{Told, HasLinks, AtStage}
 use Rattle.epoch_node.specs.Events.{WhenNotYet, need_at, settled_by, answered_by, Steps}
 use Rattle.pass_parts.specs.Turns.{Waits}
 use Rattle.epoch_line.specs.Layouts.{given_at}
 use Rattle.epoch_rounds.specs.declared.joints.Joint.{Joint}
-use Rattle.epoch_rounds.specs.Joints.{Link, got_on, sent_on, IsSound, told_between}
+use Rattle.epoch_rounds.specs.Joints.{Link, got_on, sent_on, told_between}
 use Rattle.epoch_rounds.specs.Turns.{IsPopRefused, IsPushRefused, TurnsOn, TurnsAsking, TurnsAnswering, Stays, TurnsIn, TurnsBetween, TurnsAt}
 use Rattle.epoch_rounds.specs.Lines.{Plan, is_last, StandsBetween, Stand}
 use Rattle.epoch_rounds.specs.Streams.{summary_at, summaries_of, all_asks, all_answers, HasSentPart, HasBegun, SendsPart, AllSendPart}
@@ -44,9 +43,9 @@ pub record HasTurned (capacity : ℕ) (first : Bool) (es : List Summary) (answer
   pub asks : HasSentPart (all_asks (summary_at g ∷ es)) (sent_on j'.ask)
   pub answers : HasSentPart (all_answers first (summary_at g) es answered) (sent_on i'.answer)
   pub progress :
-    (core_left (all_asks (summary_at g ∷ es)) (all_asks es) answered (all_answers first (summary_at g) es answered) (phase_in c'.stage (told_between j' i'))
-    < core_left (all_asks (summary_at g ∷ es)) (all_asks es) answered (all_answers first (summary_at g) es answered) (phase_in g w))
-    ⊎ CannotMove capacity before behind g c c' w (told_between j' i')
+      (core_left (all_asks (summary_at g ∷ es)) (all_asks es) answered (all_answers first (summary_at g) es answered) (phase_in c'.stage (told_between j' i'))
+      < core_left (all_asks (summary_at g ∷ es)) (all_asks es) answered (all_answers first (summary_at g) es answered) (phase_in g w))
+      ⊎ CannotMove capacity before behind g c c' w (told_between j' i')
 
 module _ (p : Plan) (first : Bool) (e : NumberedEpoch) (es : List NumberedEpoch) (c : CoreView) (cs : List CoreView) (j i : Joint) (js : List Joint) (before : Option Phase) (answered : List Message)
     (s : StandsBetween p.capacity (given_at p.run e first (is_last es)) c j i) (h : Stand p false es cs (i ∷ js)) (b : ComesBefore p.capacity first before (j ∷ i ∷ js))
@@ -259,8 +258,8 @@ row_later : (first : Bool) (answered : List Message) (n n' : NodeState) (ns ns' 
 row_later first answered n n' ns ns' es same known known' less =
     subst (λ (m : NodeState). row_left first answered (m ∷ ns') < row_left first answered (n ∷ ns)) (sym same)
     (subst₂ (λ (ds fs : List Summary).
-        core_left (all_asks (n.summary ∷ ds)) (all_asks ds) answered (all_answers first n.summary ds answered) n.phase + row_left false (all_answers first n.summary ds answered) ns'
-        < core_left (all_asks (n.summary ∷ fs)) (all_asks fs) answered (all_answers first n.summary fs answered) n.phase + row_left false (all_answers first n.summary fs answered) ns) (sym known') (sym known) (omega (arith, less)))
+    core_left (all_asks (n.summary ∷ ds)) (all_asks ds) answered (all_answers first n.summary ds answered) n.phase + row_left false (all_answers first n.summary ds answered) ns'
+    < core_left (all_asks (n.summary ∷ fs)) (all_asks fs) answered (all_answers first n.summary fs answered) n.phase + row_left false (all_answers first n.summary fs answered) ns) (sym known') (sym known) (omega (arith, less)))
 
 pub record LineTurned (capacity place : ℕ) (first : Bool) (answered : List Message) (before : Option Phase) (cs : List CoreView) (js : List Joint) (cs' : List CoreView) (js' : List Joint) : Type 0 where
   pub parts : AllSendPart first answered cs' js'

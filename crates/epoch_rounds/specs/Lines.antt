@@ -1,5 +1,5 @@
 -- A line of cores, each between its links.
-use Rattle.std.specs.Prelude.{◌≡◌, ℕ, ◌+◌, ◌<◌, Bool, true, false, Option, Some, None, List, [], ◌∷◌, ◌++◌, length}
+use Rattle.std.specs.Prelude.{◌≡◌, ℕ, ◌+◌, ◌<◌, Bool, true, false, Some, None, List, [], ◌∷◌, ◌++◌, length}
 use Rattle.std.specs.List.{AllByRecursion}
 use Rattle.log_model.specs.Logs.{steps}
 use Rattle.report_model.specs.Query.{AreLocated}
@@ -9,11 +9,11 @@ use Rattle.epoch_link.specs.Link.{Delivered}
 use Rattle.stream_model.specs.Streams.{is_ended}
 use Rattle.pass_parts.specs.Ends.{got_by, sent_by}
 use Rattle.epoch_node.specs.declared.stage.Phase.TheVariants as phase
-use Rattle.epoch_node.specs.Cores.{Given, StageView, Fresh, Asking, Answering, Done, Between, CoreView, phase_of, new_core, CanStart}
+use Rattle.epoch_node.specs.Cores.{Given, StageView, Fresh, Asking, Answering, Done, Between, CoreView, phase_of, new_core}
 use Rattle.epoch_node.specs.Keeping.{Told, KeepsCore}
-use Rattle.epoch_line.specs.Layouts.{CutRun, points_of, epochs_of, given_at}
+use Rattle.epoch_line.specs.Layouts.{CutRun, epochs_of, given_at}
 use Rattle.epoch_rounds.specs.declared.joints.Joint.{Joint}
-use Rattle.epoch_rounds.specs.Joints.{Link, no_joint, IsNewJoint, IsSound, sent_on, told_between}
+use Rattle.epoch_rounds.specs.Joints.{Link, no_joint, IsNewJoint, told_between}
 
 -- what a line works on, and how many messages each of its links holds
 pub record Plan : Type 0 where

@@ -1,13 +1,10 @@
 -- What an event of a core does to the core and to the links beside it.
-use Rattle.std.specs.Prelude.{◌≡◌, ℕ, zero, suc, nat_lt, ◌+◌, Option, Some, List, [], ◌∷◌, set}
-use Rattle.flow_rule.specs.declared.Message.{Message}
+use Rattle.std.specs.Prelude.{◌≡◌, ℕ, zero, suc, nat_lt, ◌+◌, Some, List, [], ◌∷◌, set}
 use Rattle.run_board.specs.declared.task.Turn.{Turn}
-use Rattle.run_board.specs.Turns.{AnswersEnded}
 use Rattle.epoch_link.specs.ListLink.{held_count}
 use Rattle.pass_parts.specs.Ends.{IsEndFrom, IsRefused}
 use Rattle.pass_parts.specs.Turns.{Waits}
-use Rattle.epoch_node.specs.declared.stage.Phase.TheVariants as phase
-use Rattle.epoch_node.specs.Cores.{StageView, Fresh, Asking, Answering, Done, Between, CoreView, phase_of}
+use Rattle.epoch_node.specs.Cores.{StageView, Fresh, Asking, Answering, Done, Between, CoreView}
 use Rattle.epoch_node.specs.Keeping.{KeepsCore}
 use Rattle.epoch_node.specs.Events.{StillKeeps, Steps, need_at, WhenNotYet, IsMore}
 use Rattle.epoch_rounds.specs.declared.joints.Joint.{Joint}

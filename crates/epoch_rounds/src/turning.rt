@@ -13,7 +13,11 @@ use run_board::Turn;
 use std::mem;
 
 /// One event of a core, on the links of its phase among those before it and those behind it. A core that is done has none.
-fn turn_in_phase<'a, G: Gate>(core: &mut Core<'a, G>, before: &mut Joint, behind: &mut Joint) -> Turn
+fn turn_in_phase<'a, G: Gate>(
+    core: &mut Core<'a, G>,
+    before: &mut Joint,
+    behind: &mut Joint,
+) -> Turn
     requires { KeepsCore (core_of core.old) (told_between before.old behind.old) }
     ensures { TurnsIn (core_of core.old).stage (core_of core.old) (core_of core.new) before.old behind.old before.new behind.new result }
 {

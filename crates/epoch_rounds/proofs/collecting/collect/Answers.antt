@@ -1,10 +1,10 @@
-use Rattle.std.proofs.Common.{◌≡◌, ℕ, [], ◌∷◌, ◌++◌, List, map, drop, length, refl, ap, ap₂, sym, ◌∙◌, subst, append_assoc, append-nil, true, arith}
+use Rattle.std.proofs.Common.{◌≡◌, [], ◌∷◌, ◌++◌, List, map, drop, length, refl, ap, ap₂, sym, ◌∙◌, subst, append_assoc, append-nil, true, arith}
 use Rattle.std.specs.Prelude.{IfOk}
 use Rattle.std.specs.List.{sum_by}
 use Rattle.std.specs.Vec.Iter.{into_iter_items}
 use Rattle.flow_model.specs.declared.Loc.{Loc}
 use Rattle.report_model.specs.Rows.{Row}
-use Rattle.epoch_node.specs.Cores.{CoreView, core_of}
+use Rattle.epoch_node.specs.Cores.{core_of}
 use Rattle.epoch_node.specs.Keeping.{HasDone, HasCounted}
 use Rattle.epoch_line.specs.Layouts.{epochs_of}
 use Rattle.epoch_line.specs.DoneLines.{DoneNode}

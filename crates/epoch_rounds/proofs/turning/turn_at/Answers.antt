@@ -1,4 +1,4 @@
-use Rattle.std.proofs.Common.{◌≡◌, ◌+◌, sym, subst₂, arith}
+use Rattle.std.proofs.Common.{sym, subst₂, arith}
 use Rattle.epoch_node.specs.Cores.{core_of}
 use Rattle.epoch_node.specs.Keeping.{KeepsCore}
 use Rattle.epoch_rounds.specs.declared.joints.Joint.{Joint}

@@ -1,4 +1,4 @@
-use Rattle.std.proofs.Common.{rules, ◌≡◌, ℕ, ◌+◌, add-one, map, length, get_or, ap, sym, ◌∙◌, subst, arith}
+use Rattle.std.proofs.Common.{rules, ◌≡◌, ℕ, add-one, map, length, get_or, ap, sym, ◌∙◌, subst, arith}
 use Rattle.epoch_node.specs.declared.stage.Phase.TheVariants.{Done}
 use Rattle.epoch_node.specs.Cores.{core_of, phase_of}
 use Rattle.epoch_rounds.proofs.Placing.{map_get, map_length}
