@@ -8,7 +8,7 @@ use Rattle.report_model.specs.Rows.{Row}
 use Rattle.epoch_model.specs.Summary.{Summary, SinkTerms}
 use Rattle.stream_model.specs.Streams.{is_ended, is_resolvable}
 use Rattle.stream_model.specs.Passes.{Links, Asking, push_ask, walk, pop_ask, drop_ask, end_asks, broken_asking, whole_asking, asking_by, asking_event, Answering, push_answer, pop_answer, build, build_or_pop, resolve, drop_answer, end_answers, resolve_or_end, pop_or_end, broken_answering, whole_answering, answering_by, answering_event}
-use Rattle.stream_model.specs.Schedules.{Need, Room, Item, Nothing, Over, is_met, item_or_room, whole_asking_need, asking_need_by, asking_need, nothing_or_room, last_need, nothing_or_item, whole_answering_need, answering_need_by, answering_need}
+use Rattle.stream_model.specs.Schedules.{is_met, item_or_room, whole_asking_need, asking_need_by, asking_need, nothing_or_room, last_need, nothing_or_item, whole_answering_need, answering_need_by, answering_need}
 use Rattle.stream_model.specs.ScheduleLaws.{one_if}
 use Rattle.stream_model.proofs.Passing.{no}
 use Rattle.stream_model.proofs.Moves.{one_longer}
