@@ -4,6 +4,7 @@ pub mod Meeting
 pub mod Passing
 pub mod Moving
 pub mod NeverStill
+pub mod Progress
 pub mod Running
 pub mod Moves
 pub mod NodeWork

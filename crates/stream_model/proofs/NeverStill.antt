@@ -104,10 +104,10 @@ IsAnswering (Answers a f) = Unit {0}
 abbrev AllAnswering : List NodeState → Type 0
 AllAnswering ns = AllByRecursion (λ n. IsAnswering n.phase) ns
 
-abbrev AllDone : List NodeState → Type 0
+abbrev pub AllDone : List NodeState → Type 0
 AllDone ns = AllByRecursion (λ n. is_done n.phase ≡ true) ns
 
-abbrev Moves : ℕ → Option Phase → List NodeState → Type 0
+abbrev pub Moves : ℕ → Option Phase → List NodeState → Type 0
 Moves capacity before ns = (k : ℕ) × (moves_at capacity k before ns ≡ true)
 
 -- the node asks, and a full link to the one before stops it
@@ -256,7 +256,7 @@ module _ (capacity : ℕ) (c : 0 < capacity) where
   room_at_first (Asks a) s = no s
   room_at_first (Answers a f) s = s
 
-  goes_on : (ns : List NodeState) → NodesHold None ns → AllDone ns ⊎ Moves capacity None ns
+  pub goes_on : (ns : List NodeState) → NodesHold None ns → AllDone ns ⊎ Moves capacity None ns
   goes_on ns h = by ns h (down None ns h) where
     by : (ns : List NodeState) → NodesHold None ns → Moves capacity None ns ⊎ (Stopped capacity None ns ⊎ AllAnswering ns) → AllDone ns ⊎ Moves capacity None ns
     by ns h (inl m) = inr m

@@ -1,0 +1,110 @@
+-- What an event of a core does to the core and to the links beside it.
+use Rattle.std.specs.Prelude.{◌≡◌, ℕ, zero, suc, nat_lt, ◌+◌, Some, List, [], ◌∷◌, set}
+use Rattle.run_board.specs.declared.task.Turn.{Turn}
+use Rattle.epoch_link.specs.ListLink.{held_count}
+use Rattle.pass_parts.specs.Ends.{IsEndFrom, IsRefused}
+use Rattle.pass_parts.specs.Turns.{Waits}
+use Rattle.epoch_node.specs.Cores.{StageView, Fresh, Asking, Answering, Done, Between, CoreView}
+use Rattle.epoch_node.specs.Keeping.{KeepsCore}
+use Rattle.epoch_node.specs.Events.{StillKeeps, Steps, need_at, WhenNotYet, IsMore}
+use Rattle.epoch_rounds.specs.declared.joints.Joint.{Joint}
+use Rattle.epoch_rounds.specs.Joints.{Link, got_on, sent_on, IsSound, joint_at, told_between}
+
+-- the link is the same, and what the core at its other end sees of it
+abbrev pub IsInletFrom : Link → Link → Type 0
+IsInletFrom new old = IsEndFrom (λ l. l.link) (λ l. l.capacity) (λ l. l.sent) new old
+
+abbrev pub IsOutletFrom : Link → Link → Type 0
+IsOutletFrom new old = IsEndFrom (λ l. l.link) (λ l. l.capacity) (λ l. l.got) new old
+
+-- a pop was refused, since the link held nothing; a push, since it was full
+abbrev pub IsPopRefused : Link → Link → Type 0
+IsPopRefused old new = IsRefused (λ l. l.pop_refusals) (λ l. Some (nat_lt 0 (held_count l))) old new
+
+abbrev pub IsPushRefused : Link → Link → Type 0
+IsPushRefused old new = IsRefused (λ l. l.push_refusals) (λ l. Some (nat_lt (held_count l) l.capacity)) old new
+
+-- the core had its event on the two links of its phase
+pub record TurnsOn (old new : CoreView) (inlet outlet inlet' outlet' : Link) (answer : Turn) : Type 0 where
+  pub steps : Steps old.given old.stage (got_on inlet) (sent_on outlet) new.stage (got_on inlet') (sent_on outlet') answer
+  pub keeps : StillKeeps old (got_on inlet) (sent_on outlet) new (got_on inlet') (sent_on outlet')
+  pub given : new.given ≡ old.given
+  pub got : IsMore (got_on inlet) (got_on inlet')
+  pub sent : IsMore (sent_on outlet) (sent_on outlet')
+  pub same_inlet : IsInletFrom inlet' inlet
+  pub same_outlet : IsOutletFrom outlet' outlet
+  pub not_yet : WhenNotYet answer ((new ≡ old) × (got_on inlet' ≡ got_on inlet) × (sent_on outlet' ≡ sent_on outlet))
+  pub waits : WhenNotYet answer (Waits (need_at old.stage (got_on inlet) (sent_on outlet)) (IsPopRefused inlet inlet') (IsPushRefused outlet outlet'))
+
+-- which links these are, and that the others stay
+pub record TurnsAsking (old new : CoreView) (before behind before' behind' : Joint) (answer : Turn) : Type 0 where
+  pub on : TurnsOn old new behind.ask before.ask behind'.ask before'.ask answer
+  pub before_answer : before'.answer ≡ before.answer
+  pub behind_answer : behind'.answer ≡ behind.answer
+
+pub record TurnsAnswering (old new : CoreView) (before behind before' behind' : Joint) (answer : Turn) : Type 0 where
+  pub on : TurnsOn old new before.answer behind.answer before'.answer behind'.answer answer
+  pub before_ask : before'.ask ≡ before.ask
+  pub behind_ask : behind'.ask ≡ behind.ask
+
+pub record Stays (old new : CoreView) (before behind before' behind' : Joint) : Type 0 where
+  pub core : new ≡ old
+  pub before_same : before' ≡ before
+  pub behind_same : behind' ≡ behind
+
+abbrev pub TurnsIn : StageView → CoreView → CoreView → Joint → Joint → Joint → Joint → Turn → Type 0
+TurnsIn (Fresh t) old new before behind before' behind' answer = TurnsAsking old new before behind before' behind' answer
+TurnsIn (Asking v) old new before behind before' behind' answer = TurnsAsking old new before behind before' behind' answer
+TurnsIn (Answering f) old new before behind before' behind' answer = TurnsAnswering old new before behind before' behind' answer
+TurnsIn (Done f) old new before behind before' behind' answer = Stays old new before behind before' behind'
+TurnsIn Between old new before behind before' behind' answer = ⊥
+
+-- a core had its event between these links
+pub record TurnsBetween (old : CoreView) (before behind : Joint) (new : CoreView) (before' behind' : Joint) (answer : Turn) : Type 0 where
+  pub event : TurnsIn old.stage old new before behind before' behind' answer
+  pub before_ask : IsSound before'.ask
+  pub before_answer : IsSound before'.answer
+  pub behind_ask : IsSound behind'.ask
+  pub behind_answer : IsSound behind'.answer
+
+-- a core had its event on the links at this place of a line and at the next
+pub record TurnsOne (old : CoreView) (js : List Joint) (place : ℕ) (new : CoreView) (js' : List Joint) : Type 0 where
+  pub before : Joint
+  pub behind : Joint
+  pub answer : Turn
+  pub joints_are : js' ≡ set (set js place before) (place + 1) behind
+  pub turns : TurnsBetween old (joint_at js place) (joint_at js (place + 1)) new before behind answer
+
+-- ---- in a line, where the links before the first core come first
+
+-- the core at this place keeps what it is to keep of the links beside it
+abbrev pub KeepsAt : ℕ → List CoreView → List Joint → Type 0
+KeepsAt place [] js = ⊥
+KeepsAt place (c ∷ cs) [] = ⊥
+KeepsAt place (c ∷ cs) (j ∷ []) = ⊥
+KeepsAt zero (c ∷ cs) (j ∷ i ∷ js) = KeepsCore c (told_between j i)
+KeepsAt (suc place) (c ∷ cs) (j ∷ i ∷ js) = KeepsAt place cs (i ∷ js)
+
+pub record TurnsHere (c : CoreView) (cs : List CoreView) (j i : Joint) (js : List Joint) (cs' : List CoreView) (js' : List Joint) : Type 0 where
+  pub core : CoreView
+  pub before : Joint
+  pub behind : Joint
+  pub answer : Turn
+  pub cores_are : cs' ≡ core ∷ cs
+  pub joints_are : js' ≡ before ∷ behind ∷ js
+  pub turns : TurnsBetween c j i core before behind answer
+
+pub record TurnsLater (Later : List CoreView → List Joint → Type 0) (c : CoreView) (j : Joint) (cs' : List CoreView) (js' : List Joint) : Type 0 where
+  pub cores : List CoreView
+  pub joints : List Joint
+  pub cores_are : cs' ≡ c ∷ cores
+  pub joints_are : js' ≡ j ∷ joints
+  pub later : Later cores joints
+
+-- the core at this place had its event, and no other core and no link further off changed
+abbrev pub TurnsAt : ℕ → List CoreView → List Joint → List CoreView → List Joint → Type 0
+TurnsAt place [] js cs' js' = ⊥
+TurnsAt place (c ∷ cs) [] cs' js' = ⊥
+TurnsAt place (c ∷ cs) (j ∷ []) cs' js' = ⊥
+TurnsAt zero (c ∷ cs) (j ∷ i ∷ js) cs' js' = TurnsHere c cs j i js cs' js'
+TurnsAt (suc place) (c ∷ cs) (j ∷ i ∷ js) cs' js' = TurnsLater (TurnsAt place cs (i ∷ js)) c j cs' js'

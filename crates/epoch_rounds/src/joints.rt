@@ -1,0 +1,61 @@
+//! The links between neighbours.
+
+ghost use Rattle.std.specs.Prelude.{◌≡◌, ◌≤◌, IfOk};
+ghost use Rattle.epoch_rounds.specs.Joints.{no_joint, IsNewJoint, IsSound};
+
+use epoch_link::ListLink;
+use flow_rule::Message;
+use no_memory::NoMemory;
+use std::alloc::Global;
+
+/// The two links between neighbours. There are none before the first core, and none behind the last.
+#[derive(Drop)]
+pub struct Joint {
+    /// What the core before is asked.
+    pub ask: Option<ListLink<Message>>,
+    /// What the core behind is answered.
+    pub answer: Option<ListLink<Message>>,
+}
+
+/// What is true of each link: it does nothing.
+fn form_of(link: &Option<ListLink<Message>>)
+    ensures { IsSound link.now }
+{
+    if let Some(link) = link {
+        link.form();
+    }
+}
+
+impl Joint {
+    /// No links.
+    pub(crate) fn none() -> Joint
+        ensures { result ≡ no_joint }
+    {
+        Joint {
+            ask: None,
+            answer: None,
+        }
+    }
+
+    /// Two new links, each of which holds at most `capacity` messages, 1 to 65536. It gives up with NoMemory alone.
+    pub(crate) fn new(alloc: Global, capacity: u32) -> Result<Joint, NoMemory>
+        requires { (1 ≤ capacity) × (capacity ≤ 65536) }
+        ensures { IfOk result (IsNewJoint capacity) }
+    {
+        let ask = ListLink::new(alloc, capacity)?;
+        let answer = ListLink::new(alloc, capacity)?;
+        Ok(Joint {
+            ask: Some(ask),
+            answer: Some(answer),
+        })
+    }
+
+    /// What is true of its links, which the code around may need: it does nothing.
+    pub(crate) fn form(&self)
+        ensures ask { IsSound self.now.ask }
+        ensures answer { IsSound self.now.answer }
+    {
+        form_of(&self.ask);
+        form_of(&self.answer);
+    }
+}
