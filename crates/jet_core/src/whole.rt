@@ -29,10 +29,7 @@ use std::thread::Threads;
 
 /// The report of the rows that nodes collected, what crossed at each inner cut, by its number, and how many events moved. It
 /// gives up with NoMemory alone.
-fn answer_with(
-    alloc: Global,
-    collected: Collected,
-) -> Result<(Report, Vec<Crossed>, u64), NoMemory>
+fn answer_with(alloc: Global, collected: Collected) -> Result<(Report, Vec<Crossed>, u64), NoMemory>
     requires distinct { AreDistinct collected.sets }
     requires few { length collected.crossed.items < 2 ^ 32 }
     ensures report { IfOk result (λ r. r.0 ≡ set_of row_cmp collected.sets) }

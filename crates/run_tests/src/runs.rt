@@ -11,7 +11,7 @@ use checkpoints::Checkpoints;
 use epoch_cut::laws::cut_times_are_cutting;
 use epoch_cut::{Cuts, cuts};
 use flow_model::{Loc, SinkByte, SinkPoint, SourceByte};
-use jet_core::{Crossed, joined, query};
+use jet_core::{Crossed, joined, query, round_robin};
 use outer_io::{Gate, OpenGate};
 use query_lang::{Query, parse};
 use replayer::Job;
@@ -76,8 +76,27 @@ fn answer_of<G: Gate, R: Threads + Wait + Abort + Sync>(
     assert_fits(rt, line);
     let cuts = cuts_of(rt, job, length)?;
     let Line { workers, capacity } = line;
-    let (report, crossed, events) =
-        query(rt, alloc, gate, job, wanted, cuts, workers, capacity)?;
+    let (report, crossed, events) = query(rt, alloc, gate, job, wanted, cuts, workers, capacity)?;
+    Ok(Answer {
+        report,
+        crossed,
+        events,
+    })
+}
+
+/// The same by rounds on this thread, over links of a capacity.
+fn answer_by_rounds(
+    rt: &impl Abort,
+    alloc: Global,
+    job: &Job,
+    wanted: &Query,
+    length: u64,
+    capacity: u32,
+) -> Result<Answer, Fail> {
+    assert!(rt; 1 <= capacity);
+    assert!(rt; capacity <= 65536);
+    let cuts = cuts_of(rt, job, length)?;
+    let (report, crossed, events) = round_robin(alloc, &OpenGate, job, wanted, cuts, capacity)?;
     Ok(Answer {
         report,
         crossed,
@@ -149,7 +168,7 @@ fn query_of(rt: &impl Abort, alloc: Global, case: &Case) -> Result<Query, Fail> 
     Ok(parse(alloc, case.query)?)
 }
 
-/// A query over a run has its report and its crossings by either call.
+/// A query over a run has its report and its crossings by each call.
 fn assert_case<R: Threads + Wait + Abort + Sync>(
     rt: &R,
     alloc: Global,
@@ -159,6 +178,8 @@ fn assert_case<R: Threads + Wait + Abort + Sync>(
     let wanted = query_of(rt, alloc, case)?;
     assert_joined(rt, alloc, job, &wanted, case.length, case.report)?;
     let found = answer_of(rt, alloc, &OpenGate, job, &wanted, case.length, ALONE)?;
+    assert_answer(rt, alloc, &found, case)?;
+    let found = answer_by_rounds(rt, alloc, job, &wanted, case.length, 1)?;
     assert_answer(rt, alloc, &found, case)
 }
 
@@ -235,15 +256,7 @@ const COPIED: &str = "1:0 0:0\n1:1 0:1\n1:2 0:2\n1:3 0:3\nend 4\n";
 
 /// The copy of four bytes has its report, its crossings and its events where it is cut by a length: from their read to their write,
 /// the bytes are asked for, and each has one source byte.
-fn assert_copied<R: Threads + Wait + Abort + Sync>(
-    rt: &R,
-    alloc: Global,
-    job: &Job,
-    wanted: &Query,
-    length: u64,
-    line: Line,
-) -> Result<(), Fail> {
-    let found = answer_of(rt, alloc, &OpenGate, job, wanted, length, line)?;
+fn assert_copied(rt: &impl Abort, alloc: Global, found: &Answer, length: u64) -> Result<(), Fail> {
     assert_text(rt, alloc, &found.report, COPIED)?;
     let mut events = 8u64;
     for crossing in &found.crossed {
@@ -307,7 +320,7 @@ const LINES: [Line; 12] = [
     },
 ];
 
-/// By epochs of so many steps, the copy of four bytes has the same answers by either call and by every line.
+/// By epochs of so many steps, the copy of four bytes has the same answers by each call, by every line and by rounds.
 fn assert_copied_by_all<R: Threads + Wait + Abort + Sync>(
     rt: &R,
     alloc: Global,
@@ -317,7 +330,12 @@ fn assert_copied_by_all<R: Threads + Wait + Abort + Sync>(
 ) -> Result<(), Fail> {
     assert_joined(rt, alloc, job, wanted, length, COPIED)?;
     for line in LINES {
-        assert_copied(rt, alloc, job, wanted, length, line)?;
+        let found = answer_of(rt, alloc, &OpenGate, job, wanted, length, line)?;
+        assert_copied(rt, alloc, &found, length)?;
+    }
+    for capacity in [1, 2, 256] {
+        let found = answer_by_rounds(rt, alloc, job, wanted, length, capacity)?;
+        assert_copied(rt, alloc, &found, length)?;
     }
     Ok(())
 }

@@ -140,7 +140,8 @@ fn a_workload_is_refused(rt: HostRuntime) -> Result<(), Fail> {
 const SHORT_EPOCHS: Line = &["jet", "bench", "1", "300", "--epoch", "2"];
 
 /// All lines but the last. What is asked was counted where epochs were joined by lists.
-const LINES: &[u8] = b"steps 300\nepochs 150\nsinks 90\npairs 130\nasked 3751\nreport 767d54ce1e949aff9f0161f92df10167272abb8900f6afc7f8e2673be7e2c2d0\nevents ";
+const LINES: &[u8] =
+    b"steps 300\nepochs 150\nsinks 90\npairs 130\nasked 3751\nreport 767d54ce1e949aff9f0161f92df10167272abb8900f6afc7f8e2673be7e2c2d0\nevents ";
 
 #[test]
 fn short_epochs_give_the_same_report(rt: HostRuntime) -> Result<(), Fail> {
