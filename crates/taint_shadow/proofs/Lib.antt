@@ -1,4 +1,5 @@
 mod Turning
+mod Lanes
 mod Located
 mod Tables
 mod Grown

@@ -1,7 +1,7 @@
 -- Labels that were made stand and mean the same, whatever is made after them.
 use Rattle.std.proofs.Common.{◌≡◌, ◌≢◌, ◌<◌, ◌^◌, ◌==◌, nat_lt, ℕ, zero, suc, ◌+◌, List, [], ◌∷◌, drop, get_or, length, refl, arith, ap, ap₂, sym, ◌∙◌, subst, Bool, true, false, if◌then◌else◌}
 use Rattle.std.proofs.lemmas.List.{drop_all, drop_more, at_drop_more}
-use Rattle.std.specs.Prelude.{Option, Some, None}
+use Rattle.std.specs.Prelude.{Option, Some, None, Result, IfOk}
 use Rattle.flow_model.specs.declared.Loc.{Loc}
 use Rattle.flow_model.specs.declared.Loc.TheVariants.{Reg, Mem}
 use Rattle.flow_model.specs.declared.CallSeen.{CallSeen}
@@ -9,10 +9,11 @@ use Rattle.flow_model.specs.declared.SourceByte.{SourceByte}
 use Rattle.flow_model.specs.Flow.{loc_eq, distance}
 use Rattle.flow_model.specs.Origins.{Policy, byte_at}
 use Rattle.flow_model.specs.Ranges.{IsLocation, AreLocations}
+use Rattle.no_memory.specs.declared.NoMemory.{NoMemory}
 use Rattle.taint_shadow.specs.declared.places.Places.{Places}
 use Rattle.taint_shadow.specs.Labels.{LabelWords, MakesLabel, KeepsLabels}
 use Rattle.taint_shadow.specs.Places.{kept, AreKept}
-use Rattle.taint_shadow.specs.Steps.{meaning_or, meaning_at, AreStanding, Holds, IsPut, united_over, is_among, introduced}
+use Rattle.taint_shadow.specs.Steps.{meaning_or, meaning_at, AreStanding, Holds, IsPut, united_over, united_onto, is_among, introduced}
 
 -- what compares as equal is
 pub same_loc : (l q : Loc) → loc_eq l q ≡ true → l ≡ q
@@ -44,6 +45,16 @@ module _ {A L M : Type 0} (words : LabelWords A L M) where
     by : (o : Option L) → kept p l ≡ o → meaning_or words b o l ≡ meaning_or words a o l
     by None e = refl
     by (Some label) e = (k label (s.at l label here e)).means
+
+  pub onto_kept : (a b : A) (p : Places L) (ls : List Loc) (m n : M) → KeepsLabels words a b → AreStanding words a p → AreLocations ls → m ≡ n
+      → united_onto words (meaning_at words b p) ls m ≡ united_onto words (meaning_at words a p) ls n
+  onto_kept a b p [] m n k s here e = e
+  onto_kept a b p (l ∷ ls) m n k s here e = ap₂ words.united (meaning_kept a b p k s l here.0) (onto_kept a b p ls m n k s here.1 e)
+
+  -- what locations have was united onto a label that stands for n
+  pub made_onto : (a b c : A) (p : Places L) (ls : List Loc) (m n : M) (r : Result L NoMemory) → KeepsLabels words a b → AreStanding words a p → AreLocations ls → m ≡ n
+      → IfOk r (MakesLabel words c (united_onto words (meaning_at words b p) ls m)) → IfOk r (MakesLabel words c (united_onto words (meaning_at words a p) ls n))
+  made_onto a b c p ls m n r k s here e = subst (λ (x : M). IfOk r (MakesLabel words c x)) (onto_kept a b p ls m n k s here e)
 
   pub holds_kept : (a b : A) (p : Places L) (f : Loc → M) → KeepsLabels words a b → AreStanding words a p → Holds words a p f → Holds words b p f
   holds_kept a b p f k s h = record { at = λ l here. meaning_kept a b p k s l here ∙ h.at l here }

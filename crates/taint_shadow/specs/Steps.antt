@@ -45,6 +45,11 @@ module _ {A L M : Type 0} (words : LabelWords A L M) where
   united_over f (l ∷ []) = f l
   united_over f (l ∷ m ∷ ls) = words.united (f l) (united_over f (m ∷ ls))
 
+  -- what some locations have together with something else
+  abbrev pub united_onto : (Loc → M) → List Loc → M → M
+  united_onto f [] m = m
+  united_onto f (l ∷ ls) m = words.united (f l) (united_onto f ls m)
+
   -- what each location has after some targets got what flows into them, and where only some locations did so yet
   abbrev pub turned : List Target → (Loc → M) → Loc → M
   turned ts f l = united_over f (origins_by ts l)

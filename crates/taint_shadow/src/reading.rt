@@ -1,14 +1,15 @@
 //! What is read of the shadow: the labels of locations, and of what some of them have together.
 
 ghost use Rattle.std.specs.Prelude.{◌≡◌, ◌<◌, ◌≤◌, ◌∷◌, [], IfOk};
-ghost use Rattle.flow_model.specs.declared.Loc.TheVariants.{Mem};
+ghost use Rattle.flow_model.specs.declared.Loc.TheVariants.{Reg, Mem};
 ghost use Rattle.flow_model.specs.declared.Rule.TheVariants.{Index};
-ghost use Rattle.flow_model.specs.Flow.{lane as lane_of, with_base, in_first_lane, all_lanes};
+ghost use Rattle.flow_model.specs.Flow.{lane as lane_of, lanes as lanes_of, each_lane, all_lanes, with_base, in_first_lane};
 ghost use Rattle.flow_model.specs.Ranges.{IsLocation, AreLocations};
+ghost use Rattle.flow_rule.specs.Locations.{four_lanes};
 ghost use Rattle.flow_rule.specs.Shapes.{HasRegisters, HasSizes, loaded_lane};
 ghost use Rattle.taint_shadow.specs.Labels.{MakesLabel, KeepsLabels};
 ghost use Rattle.taint_shadow.specs.Origins.{origins_of};
-ghost use Rattle.taint_shadow.specs.Steps.{AreStanding, meaning_at, united_over};
+ghost use Rattle.taint_shadow.specs.Steps.{AreStanding, meaning_at, united_over, united_onto};
 
 use crate::labels::Labels;
 use crate::places::Places;
@@ -96,6 +97,108 @@ fn lane_label<A: Labels>(
         return labels.nothing();
     }
     label_at(labels, places, Loc::Reg { number, lane })
+}
+
+/// The label of what lanes 2, 1 and 0 of a register have, and of another label together.
+#[inline(always)]
+fn unite_lower_lanes<A: Labels>(
+    labels: &mut A,
+    places: &Places<A::Label>,
+    number: u8,
+    others: A::Label,
+) -> Result<A::Label, NoMemory>
+    requires register { number < 32 }
+    requires standing { AreStanding A.words labels.old places.now }
+    requires stands { A.words.stands labels.old others }
+    ensures made { IfOk result (MakesLabel A.words labels.new (united_onto A.words (meaning_at A.words labels.old places.now) (Reg number 0 ∷ Reg number 1 ∷ Reg number 2 ∷ []) (A.words.means labels.old others))) }
+    ensures keeps { KeepsLabels A.words labels.old labels.new }
+{
+    let third = unite_at(labels, places, Loc::Reg { number, lane: 2 }, others)?;
+    let second = unite_at(labels, places, Loc::Reg { number, lane: 1 }, third)?;
+    unite_at(labels, places, Loc::Reg { number, lane: 0 }, second)
+}
+
+/// The label of what the lanes of a register have, and of another label together.
+#[inline(always)]
+fn unite_lanes<A: Labels>(
+    labels: &mut A,
+    places: &Places<A::Label>,
+    number: u8,
+    others: A::Label,
+) -> Result<A::Label, NoMemory>
+    requires register { number < 32 }
+    requires standing { AreStanding A.words labels.old places.now }
+    requires stands { A.words.stands labels.old others }
+    ensures made { IfOk result (MakesLabel A.words labels.new (united_onto A.words (meaning_at A.words labels.old places.now) (four_lanes number) (A.words.means labels.old others))) }
+    ensures keeps { KeepsLabels A.words labels.old labels.new }
+{
+    let highest = unite_at(labels, places, Loc::Reg { number, lane: 3 }, others)?;
+    unite_lower_lanes(labels, places, number, highest)
+}
+
+/// The label of what the lanes of a register have together; x0 has none.
+#[inline(always)]
+fn lanes_label<A: Labels>(
+    labels: &mut A,
+    places: &Places<A::Label>,
+    number: u8,
+) -> Result<A::Label, NoMemory>
+    requires register { number < 32 }
+    requires standing { AreStanding A.words labels.old places.now }
+    ensures made { IfOk result (MakesLabel A.words labels.new (united_over A.words (meaning_at A.words labels.old places.now) (lanes_of number))) }
+    ensures keeps { KeepsLabels A.words labels.old labels.new }
+{
+    if number == 0 {
+        return labels.nothing();
+    }
+    let highest = label_at(labels, places, Loc::Reg { number, lane: 3 })?;
+    unite_lower_lanes(labels, places, number, highest)
+}
+
+/// The label of what all lanes of two registers have together.
+fn all_lanes_label<A: Labels>(
+    labels: &mut A,
+    places: &Places<A::Label>,
+    a: u8,
+    b: u8,
+) -> Result<A::Label, NoMemory>
+    requires registers { (a < 32) × (b < 32) }
+    requires standing { AreStanding A.words labels.old places.now }
+    ensures made { IfOk result (MakesLabel A.words labels.new (united_over A.words (meaning_at A.words labels.old places.now) (all_lanes a b 0))) }
+    ensures keeps { KeepsLabels A.words labels.old labels.new }
+{
+    let (low, high) = if a < b { (a, b) } else { (b, a) };
+    let label = lanes_label(labels, places, high)?;
+    if low == 0 || low == high {
+        return Ok(label);
+    }
+    unite_lanes(labels, places, low, label)
+}
+
+/// The label of what the same lane of two registers has together.
+#[inline(always)]
+fn each_lane_label<A: Labels>(
+    labels: &mut A,
+    places: &Places<A::Label>,
+    a: u8,
+    b: u8,
+    lane: u8,
+) -> Result<A::Label, NoMemory>
+    requires registers { (a < 32) × (b < 32) }
+    requires lane { lane < 4 }
+    requires standing { AreStanding A.words labels.old places.now }
+    ensures made { IfOk result (MakesLabel A.words labels.new (united_over A.words (meaning_at A.words labels.old places.now) (each_lane a b lane))) }
+    ensures keeps { KeepsLabels A.words labels.old labels.new }
+{
+    if a == 0 || a == b {
+        return lane_label(labels, places, b, lane);
+    }
+    if b == 0 {
+        return lane_label(labels, places, a, lane);
+    }
+    let (low, high) = if a < b { (a, b) } else { (b, a) };
+    let label = label_at(labels, places, Loc::Reg { number: high, lane })?;
+    unite_at(labels, places, Loc::Reg { number: low, lane }, label)
 }
 
 /// The label of a byte that is loaded, by its base register.
@@ -193,14 +296,8 @@ pub(crate) fn target_label<A: Labels>(
             ..
         } => loaded_label(labels, places, base, place, size, fills, i),
         Shape::Store { rs, base, .. } => stored_label(labels, places, base, rs, i),
-        Shape::EachLane { rs1, rs2, .. } => {
-            let origins = Locations::each_lane(rs1, rs2, i);
-            gather(labels, places, origins.as_slice())
-        }
-        Shape::AllLanes { rs1, rs2, .. } => {
-            let origins = Locations::all_lanes(rs1, rs2);
-            gather(labels, places, origins.as_slice())
-        }
+        Shape::EachLane { rs1, rs2, .. } => each_lane_label(labels, places, rs1, rs2, i),
+        Shape::AllLanes { rs1, rs2, .. } => all_lanes_label(labels, places, rs1, rs2),
         Shape::ShiftedLanes { rs1, rs2, .. } => {
             let origins = Locations::lanes_and_one(rs1, rs2, 0);
             gather(labels, places, origins.as_slice())
@@ -226,6 +323,5 @@ fn first_lane_label<A: Labels>(
     if lane != 0 {
         return labels.nothing();
     }
-    let origins = Locations::all_lanes(rs1, rs2);
-    gather(labels, places, origins.as_slice())
+    all_lanes_label(labels, places, rs1, rs2)
 }
