@@ -176,7 +176,6 @@ fn all_lanes_label<A: Labels>(
 }
 
 /// The label of what the same lane of two registers has together.
-#[inline(always)]
 fn each_lane_label<A: Labels>(
     labels: &mut A,
     places: &Places<A::Label>,
@@ -217,6 +216,21 @@ fn byte_label<A: Labels>(
     if base == 0 {
         return label_at(labels, places, Loc::Mem { place });
     }
+    based_byte_label(labels, places, base, place)
+}
+
+/// The label of a byte that is loaded, and of its base register. It is a function of its own so that [`byte_label`] stays small.
+fn based_byte_label<A: Labels>(
+    labels: &mut A,
+    places: &Places<A::Label>,
+    base: u8,
+    place: u32,
+) -> Result<A::Label, NoMemory>
+    requires register { base < 32 }
+    requires standing { AreStanding A.words labels.old places.now }
+    ensures made { IfOk result (MakesLabel A.words labels.new (united_over A.words (meaning_at A.words labels.old places.now) (with_base Index base (Mem place ∷ [])))) }
+    ensures keeps { KeepsLabels A.words labels.old labels.new }
+{
     let origins = Locations::lanes_and_byte(base, place);
     gather(labels, places, origins.as_slice())
 }
@@ -266,11 +280,31 @@ pub(crate) fn stored_label<A: Labels>(
     if base == 0 {
         return lane_label(labels, places, number, lane);
     }
+    based_lane_label(labels, places, base, number, lane)
+}
+
+/// The label of a lane, and of all lanes of another register: of the base of a store, or of the register that a shift shifts.
+fn based_lane_label<A: Labels>(
+    labels: &mut A,
+    places: &Places<A::Label>,
+    base: u8,
+    number: u8,
+    lane: u8,
+) -> Result<A::Label, NoMemory>
+    requires base { base < 32 }
+    requires register { number < 32 }
+    requires lane { lane < 4 }
+    requires standing { AreStanding A.words labels.old places.now }
+    ensures made { IfOk result (MakesLabel A.words labels.new (united_over A.words (meaning_at A.words labels.old places.now) (with_base Index base (lane_of number lane)))) }
+    ensures keeps { KeepsLabels A.words labels.old labels.new }
+{
     let origins = Locations::lanes_and_one(base, number, lane);
     gather(labels, places, origins.as_slice())
 }
 
 /// The label of what flows into target `i` of a shape.
+///
+/// What moves is read here, and what is computed in functions of its own: a large one would not be inlined into the turns.
 #[inline(always)]
 pub(crate) fn target_label<A: Labels>(
     labels: &mut A,
@@ -298,16 +332,12 @@ pub(crate) fn target_label<A: Labels>(
         Shape::Store { rs, base, .. } => stored_label(labels, places, base, rs, i),
         Shape::EachLane { rs1, rs2, .. } => each_lane_label(labels, places, rs1, rs2, i),
         Shape::AllLanes { rs1, rs2, .. } => all_lanes_label(labels, places, rs1, rs2),
-        Shape::ShiftedLanes { rs1, rs2, .. } => {
-            let origins = Locations::lanes_and_one(rs1, rs2, 0);
-            gather(labels, places, origins.as_slice())
-        }
+        Shape::ShiftedLanes { rs1, rs2, .. } => based_lane_label(labels, places, rs1, rs2, 0),
         Shape::FirstLane { rs1, rs2, .. } => first_lane_label(labels, places, rs1, rs2, i),
     }
 }
 
 /// The label of a lane of a comparison: lane 0 has all lanes of both registers, and the others have none.
-#[inline(always)]
 fn first_lane_label<A: Labels>(
     labels: &mut A,
     places: &Places<A::Label>,
