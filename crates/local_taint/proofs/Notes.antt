@@ -131,3 +131,12 @@ nth v nodes sinks i x inside is =
     let within : i < length sinks = omega (arith, inside, length-map sinks (named nodes)) in
     slice_get-map v (map (named nodes) sinks) i
     ∙ ap (option_map v) (slice_get-map (named nodes) sinks i ∙ ap (option_map (named nodes)) (slice_get_read sinks (length sinks) i x refl within is))
+
+-- two sinks that have the same node
+pub same_terms : (nodes : Nodes) (sinks : List SinkNode) (i k : ℕ) (x y : SinkNode) → i < length (map (named nodes) sinks) → k < length (map (named nodes) sinks)
+    → x ≡ get_or sinks i x → y ≡ get_or sinks k y → x.node ≡ y.node
+    → slice_get (map (λ t. t.terms) (map (named nodes) sinks)) i ≡ slice_get (map (λ t. t.terms) (map (named nodes) sinks)) k
+same_terms nodes sinks i k x y first second at_first at_second same =
+    nth (λ t. t.terms) nodes sinks i x first at_first
+    ∙ ap (λ (n : ℕ). Some (node_words.means nodes n)) same
+    ∙ sym (nth (λ t. t.terms) nodes sinks k y second at_second)

@@ -1,6 +1,6 @@
 //! What is known of an epoch by itself.
 
-ghost use Rattle.std.specs.Prelude.{◌≡◌, ◌<◌, Some, length, slice_get, OnOk};
+ghost use Rattle.std.specs.Prelude.{◌≡◌, ◌<◌, ◌-◌, Some, length, slice_get, IsTrue, OnOk};
 ghost use Rattle.flow_model.specs.Ranges.{IsLocation};
 ghost use Rattle.merge_log.specs.Log.{AreSets};
 ghost use Rattle.taint_shadow.specs.Steps.{AreStanding};
@@ -62,6 +62,16 @@ impl Summary {
         ensures { slice_get (names_of self.now) number ≡ Some result }
     {
         self.sinks[number].name
+    }
+
+    /// Whether the sink of this number has the node of the one before it, and so its terms. Where it answers no the terms
+    /// may be equal all the same.
+    pub fn shares_terms(&self, number: usize) -> bool
+        requires { number < length (summary_of self.now).sinks }
+        ensures not_first { IsTrue result → 0 < number }
+        ensures shared { IsTrue result → slice_get (terms_of self.now) number ≡ slice_get (terms_of self.now) (number - 1) }
+    {
+        number > 0 && self.sinks[number].node == self.sinks[number - 1].node
     }
 
     /// Reads the terms of the sink of this number. When out of memory, the reader may have read part of them, and can
