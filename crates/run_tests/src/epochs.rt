@@ -14,41 +14,32 @@ use query_lang::parse;
 use replayer::{Cursor, Next};
 use std::alloc::Global;
 use std::process::Abort;
-use std::test::Fail;
 
-/// The number of each epoch's first step, where the run is cut by a length, and how many pages are held.
-fn beginnings(rt: &impl Abort, alloc: Global, length: u64) -> Result<(Vec<u64>, u64), Fail>
+/// The numbers of the epochs' first steps and how many pages are held, where the copy of four bytes is cut by a length.
+fn assert_beginnings(rt: &impl Abort, alloc: Global, length: u64, firsts: &[u64], held: u64)
     requires { 1 ≤ length }
 {
-    let job = copy_four(rt, alloc)?;
-    let cuts = cuts(job.steps(), length)?;
+    let job = copy_four(rt, alloc);
+    let cuts = cuts(job.steps(), length).expect(rt, "few epochs");
     cut_times_are_cutting();
-    let points = Checkpoints::take(alloc, &job, &cuts)?;
-    let mut firsts = Vec::new(alloc);
+    let points = Checkpoints::take(alloc, &job, &cuts).expect(rt, "memory");
+    assert!(rt; points.held() == held);
+    assert!(rt; cuts.count() as usize == firsts.len());
     for k in 0..cuts.count() {
-        let Next::Step(step) = points.start(alloc, k)?.next() else {
+        let Next::Step(step) = points.start(alloc, k).expect(rt, "memory").next() else {
             rt.abort()
         };
-        firsts.push(step.number)?;
+        assert!(rt; firsts.get(k as usize) == Some(&step.number));
     }
-    Ok((firsts, points.held()))
 }
 
 #[test]
-fn epochs_begin_at_their_checkpoints(rt: HostRuntime) -> Result<(), Fail> {
+fn epochs_begin_at_their_checkpoints(rt: HostRuntime) {
     let alloc = rt.alloc();
-    let cases: [(u64, &[u64], u64); 4] = [
-        (12, &[0], 1),
-        (6, &[0, 6], 2),
-        (5, &[0, 5, 10], 2),
-        (4, &[0, 4, 8], 2),
-    ];
-    for (length, firsts, held) in cases {
-        let found = beginnings(&rt, alloc, length)?;
-        assert_eq!(rt; found.0.as_slice(), firsts);
-        assert_eq!(rt; found.1, held);
-    }
-    Ok(())
+    assert_beginnings(&rt, alloc, 12, &[0], 1);
+    assert_beginnings(&rt, alloc, 6, &[0, 6], 2);
+    assert_beginnings(&rt, alloc, 5, &[0, 5, 10], 2);
+    assert_beginnings(&rt, alloc, 4, &[0, 4, 8], 2);
 }
 
 /// The first of the buffer's bytes.
@@ -71,52 +62,51 @@ const ENDS: [(Loc, &[SourceByte], &[Loc]); 2] = [
     ),
 ];
 
-/// Whether the reader has read these.
+/// The reader has read these.
 fn assert_read(rt: &impl Abort, reader: &TermsReader, sources: &[SourceByte], starts: &[Loc]) {
-    assert_eq!(rt; reader.sources(), sources);
-    assert_eq!(rt; reader.starts(), starts);
+    assert!(rt; reader.sources() == sources);
+    assert!(rt; reader.starts() == starts);
 }
 
-/// Whether the summary is that of the whole run.
-fn assert_summary(rt: &impl Abort, alloc: Global, summary: &Summary) -> Result<(), Fail> {
+/// A sink of the whole run's summary is a byte that is written, and comes from the one of its own offset that is read.
+fn assert_sink(rt: &impl Abort, summary: &Summary, reader: &mut TermsReader, offset: u32) {
+    let byte = SinkByte { channel: 1, offset };
+    let source = SourceByte { channel: 0, offset };
+    let at = offset as usize;
+    assert!(rt; at < summary.sink_count());
+    assert!(rt; summary.sink(at) == SinkPoint::Out(byte));
+    summary.sink_terms(reader, at).expect(rt, "memory");
+    assert_read(rt, reader, &[source], &[]);
+}
+
+/// The summary is that of the whole run.
+fn assert_summary(rt: &impl Abort, alloc: Global, summary: &Summary) {
     let mut reader = TermsReader::new(alloc);
-    assert_eq!(rt; summary.number(), 0);
-    assert_eq!(rt; summary.sink_count(), 4);
-    for i in 0..summary.sink_count() {
-        let byte = SinkByte {
-            channel: 1,
-            offset: i as u32,
-        };
-        let source = SourceByte {
-            channel: 0,
-            offset: i as u32,
-        };
-        let SinkPoint::Out(written) = summary.sink(i) else {
-            rt.abort()
-        };
-        assert_eq!(rt; written, byte);
-        summary.sink_terms(&mut reader, i)?;
-        assert_read(rt, &reader, &[source], &[]);
+    assert!(rt; summary.number() == 0);
+    assert!(rt; summary.sink_count() == 4);
+    for offset in 0..4 {
+        assert_sink(rt, summary, &mut reader, offset);
     }
     for (loc, sources, starts) in ENDS {
-        summary.end_terms(&mut reader, loc)?;
+        summary.end_terms(&mut reader, loc).expect(rt, "memory");
         assert_read(rt, &reader, sources, starts);
     }
-    Ok(())
 }
 
 #[test]
-fn an_epoch_is_analysed_by_itself(rt: HostRuntime) -> Result<(), Fail> {
+fn an_epoch_is_analysed_by_itself(rt: HostRuntime) {
     let alloc = rt.alloc();
-    let job = copy_four(&rt, alloc)?;
-    let query = parse(alloc, b"rule copy\nsource all\nsink all\n")?;
-    let mut tickets = cuts(job.steps(), 12)?.tickets(alloc)?;
+    let job = copy_four(&rt, alloc);
+    let query = parse(alloc, b"rule copy\nsource all\nsink all\n").expect(&rt, "a query");
+    let cuts = cuts(job.steps(), 12).expect(&rt, "few epochs");
+    let mut tickets = cuts.tickets(alloc).expect(&rt, "memory");
     let Some(ticket) = tickets.pop() else {
         rt.abort()
     };
     if ticket.first() != 0 || ticket.past_last() > job.steps() {
         rt.abort()
     }
-    let summary = analyse(alloc, ticket, Cursor::start(alloc, &job)?, &query)?;
-    assert_summary(&rt, alloc, &summary)
+    let cursor = Cursor::start(alloc, &job).expect(&rt, "memory");
+    let summary = analyse(alloc, ticket, cursor, &query).expect(&rt, "memory");
+    assert_summary(&rt, alloc, &summary);
 }

@@ -2,27 +2,33 @@
 
 use elf_image::load;
 use guest_assembler::{Instr, code, program};
-use replay_log::read_log;
+use replay_log::{Log, read_log};
 use replayer::Job;
 use sha2::{Digest, Sha256};
 use std::alloc::Global;
 use std::process::Abort;
-use std::test::Fail;
 
 /// The most bytes that a log has.
 const LONGEST_LOG: usize = 67_108_864;
 
-/// A program with a log in version 1, which begins here with the window's pages: all but what names the program.
-fn job_of(rt: &impl Abort, alloc: Global, code: &[Instr], log: &[u8]) -> Result<Job, Fail> {
-    let file = program(alloc, code)?;
-    let image = load(alloc, &file)?;
+/// A log in version 1, which begins here with the window's pages: all but what names the program.
+fn log_of(rt: &impl Abort, alloc: Global, file: &[u8], log: &[u8]) -> Log {
     let mut bytes = Vec::new(alloc);
-    bytes.extend_from_slice(b"JETLOG1\n")?;
-    bytes.extend_from_slice(&Sha256::digest(&file))?;
-    bytes.extend_from_slice(log)?;
+    bytes.extend_from_slice(b"JETLOG1\n").expect(rt, "memory");
+    bytes
+        .extend_from_slice(&Sha256::digest(file))
+        .expect(rt, "memory");
+    bytes.extend_from_slice(log).expect(rt, "memory");
     assert!(rt; bytes.len() <= LONGEST_LOG);
-    let log = read_log(alloc, &bytes)?;
-    Ok(Job::check(alloc, &file, image, log)?)
+    read_log(alloc, &bytes).expect(rt, "a log")
+}
+
+/// A program with such a log.
+fn job_of(rt: &impl Abort, alloc: Global, code: &[Instr], log: &[u8]) -> Job {
+    let file = program(alloc, code).expect(rt, "a program");
+    let image = load(alloc, &file).expect(rt, "an image");
+    let log = log_of(rt, alloc, &file, log);
+    Job::check(alloc, &file, image, log).expect(rt, "a log that fits")
 }
 
 const COPY_FOUR: &[Instr] = &code![
@@ -41,7 +47,7 @@ const COPY_FOUR: &[Instr] = &code![
 ];
 
 /// Reads four bytes to 0x10100 in step 5 and writes them in step 8: twelve steps.
-pub fn copy_four(rt: &impl Abort, alloc: Global) -> Result<Job, Fail> {
+pub fn copy_four(rt: &impl Abort, alloc: Global) -> Job {
     job_of(
         rt,
         alloc,
@@ -51,4 +57,115 @@ pub fn copy_four(rt: &impl Abort, alloc: Global) -> Result<Job, Fail> {
         \x02\x08\0\0\0\x01\0\0\0\0\x01\x01\0\x04\0\0\0\x04\0\0\0ABCD\
         \x05\x0b\0\0\0\0\0\0\0",
     )
+}
+
+const COPY_IN_TWO: &[Instr] = &code![
+    lui(x11, 0x10000),
+    addi(x11, x11, 256),
+    li(x10, 0),
+    li(x12, 3),
+    li(x17, 63),
+    ecall(),
+    addi(x11, x11, 3),
+    li(x10, 0),
+    li(x12, 4),
+    ecall(),
+    addi(x11, x11, -3),
+    li(x10, 1),
+    li(x12, 5),
+    li(x17, 64),
+    ecall(),
+    li(x10, 0),
+    li(x17, 93),
+    ecall(),
+];
+
+/// Reads three bytes to 0x10100, then two more behind them, and writes all five: eighteen steps.
+pub fn copy_in_two(rt: &impl Abort, alloc: Global) -> Job {
+    job_of(
+        rt,
+        alloc,
+        COPY_IN_TWO,
+        b"\x01\0\0\0\x01\0\0\0\
+        \x01\x05\0\0\0\0\0\0\0\0\x01\x01\0\x03\0\0\0\x03\0\0\0ABC\
+        \x01\x09\0\0\0\0\0\0\0\x03\x01\x01\0\x04\0\0\0\x02\0\0\0DE\
+        \x02\x0e\0\0\0\x01\0\0\0\0\x01\x01\0\x05\0\0\0\x05\0\0\0ABCDE\
+        \x05\x11\0\0\0\0\0\0\0",
+    )
+}
+
+/// Traps at once, so it makes no step.
+pub fn trap(rt: &impl Abort, alloc: Global) -> Job {
+    job_of(
+        rt,
+        alloc,
+        &code![ebreak()],
+        b"\x01\0\0\0\0\0\0\0\x06\0\0\0\0\x03\0\0\0\0\0\x01\0",
+    )
+}
+
+const COUNT_DOWN: &[Instr] = &code![
+    li(x5, 2047),
+    addi(x5, x5, -1),
+    bne(x5, x0, -4),
+    li(x17, 93),
+    ecall(),
+];
+
+/// Counts down from 2047 and exits: 4,097 steps.
+pub fn count_down(rt: &impl Abort, alloc: Global) -> Job {
+    job_of(
+        rt,
+        alloc,
+        COUNT_DOWN,
+        b"\x01\0\0\0\0\0\0\0\x05\0\x10\0\0\0\0\0\0",
+    )
+}
+
+const COPY_MANY: &[Instr] = &code![
+    lui(x11, 0x11000),
+    li(x10, 0),
+    lui(x12, 0x1000),
+    addi(x12, x12, 904),
+    li(x17, 63),
+    ecall(),
+    lui(x6, 0x13000),
+    add(x7, x6, x12),
+    lbu(x28, 0(x11)),
+    sb(x28, 0(x6)),
+    addi(x11, x11, 1),
+    addi(x6, x6, 1),
+    bne(x6, x7, -16),
+    lui(x11, 0x13000),
+    li(x10, 1),
+    li(x17, 64),
+    ecall(),
+    li(x10, 0),
+    li(x17, 93),
+    ecall(),
+];
+
+/// Adds the bytes that are copied.
+fn add_many(rt: &impl Abort, log: &mut Vec<u8>) {
+    for i in 0..5000u32 {
+        log.push((i % 256) as u8).expect(rt, "memory");
+    }
+}
+
+/// Reads 5,000 bytes to 0x11000 in step 5, copies them one by one to 0x13000, byte `i` by a load in step `8 + 5 * i` and
+/// the store behind it, and writes them from there: 25,015 steps, in a window of five pages.
+pub fn copy_many(rt: &impl Abort, alloc: Global) -> Job {
+    let mut log = Vec::new(alloc);
+    log.extend_from_slice(
+        b"\x05\0\0\0\x01\0\0\0\
+        \x01\x05\0\0\0\0\0\0\0\0\x10\x01\0\x88\x13\0\0\x88\x13\0\0",
+    )
+    .expect(rt, "memory");
+    add_many(rt, &mut log);
+    log.extend_from_slice(b"\x02\xb3\x61\0\0\x01\0\0\0\0\x30\x01\0\x88\x13\0\0\x88\x13\0\0")
+        .expect(rt, "memory");
+    add_many(rt, &mut log);
+    log.extend_from_slice(b"\x05\xb6\x61\0\0\0\0\0\0")
+        .expect(rt, "memory");
+    job_of(rt, alloc, COPY_MANY, &log)
 }

@@ -1,7 +1,10 @@
-//! Tests of runs that are cut into epochs: where these begin, and each by itself.
+//! Tests of runs that are cut into epochs: where these begin, each by itself, and all of them together, with what crosses the cuts
+//! between them.
 #![tactic(auto)]
 
 #[cfg(test)]
 mod epochs;
 #[cfg(test)]
 mod guests;
+#[cfg(test)]
+mod runs;
