@@ -31,17 +31,18 @@ const THIRD: SourceByte = SourceByte {
 
 const X5: Loc = Loc::Reg { number: 5, lane: 0 };
 
-/// In turn, in one log. The last three give nodes that are there.
-const CASES: [Case; 9] = [
+/// In turn, in one log. The last five give nodes that are there.
+const CASES: [Case; 10] = [
     (Asked::Source(THIRD), 1, &[Leaf::Source(THIRD)]),
     (Asked::Source(FIRST), 2, &[Leaf::Source(FIRST)]),
     (Asked::Start(X5), 3, &[Leaf::Start(X5)]),
     (Asked::Union(1, 2), 4, BOTH),
-    (Asked::Union(4, 1), 5, BOTH),
-    (Asked::Union(5, 3), 6, ALL),
+    (Asked::Union(4, 3), 5, ALL),
     (Asked::Source(THIRD), 1, &[Leaf::Source(THIRD)]),
     (Asked::Union(2, 1), 4, BOTH),
-    (Asked::Union(6, 6), 6, ALL),
+    (Asked::Union(4, 1), 4, BOTH),
+    (Asked::Union(4, 5), 5, ALL),
+    (Asked::Union(5, 5), 5, ALL),
 ];
 
 const BOTH: &[Leaf] = &[Leaf::Source(FIRST), Leaf::Source(THIRD)];
@@ -81,7 +82,7 @@ fn equal_nodes_are_one(rt: HostRuntime) -> Result<(), Fail> {
     for case in &CASES {
         compare(&rt, alloc, &mut log, case)?;
     }
-    assert_eq!(rt; log.size(), 7);
+    assert_eq!(rt; log.size(), 6);
     assert_eq!(rt; log.terms(alloc, 0)?.len(), 0);
     Ok(())
 }

@@ -1,4 +1,5 @@
 mod Terms
+mod Unions
 mod Keys
 mod Leaves
 mod Marks

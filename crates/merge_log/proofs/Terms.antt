@@ -1,5 +1,5 @@
 -- The terms of nodes, and what a growing log keeps.
-use Rattle.std.proofs.Common.{◌≡◌, ℕ, zero, suc, ◌+◌, ◌<◌, ◌≤◌, ◌==◌, List, [], ◌∷◌, ◌++◌, length, refl, ap, ap₂, sym, ◌∙◌, Bool, true, false, ◌||◌, nat_lt, if◌then◌else◌, arith, slice_get, subst}
+use Rattle.std.proofs.Common.{◌≡◌, ℕ, zero, suc, ◌+◌, ◌<◌, ◌≤◌, ◌==◌, List, [], ◌∷◌, ◌++◌, length, refl, ap, ap₂, sym, ◌∙◌, Bool, true, false, ◌||◌, if◌then◌else◌, arith, slice_get, subst}
 use Rattle.std.specs.Prelude.{Some}
 use Rattle.std.proofs.lemmas.Grind.{common_steps}
 use Rattle.std.specs.Cmp.{IsTotalOrder}
@@ -12,7 +12,7 @@ use Rattle.flow_model.specs.declared.Loc.{Loc}
 use Rattle.flow_model.specs.declared.SourceByte.{SourceByte}
 use Rattle.merge_log.specs.declared.nodes.Entry.{Entry}
 use Rattle.merge_log.specs.declared.nodes.Entry.TheVariants.{Source, Start, Union}
-use Rattle.merge_log.specs.Log.{Terms, AreSets, no_terms, joined, entry_terms, with_node, terms_from, terms, IsNode, HasOperandsBefore, AreOrdered, entry_at, KeepsNodes, union_entry}
+use Rattle.merge_log.specs.Log.{Terms, AreSets, no_terms, joined, entry_terms, with_node, terms_from, terms, HasOperandsBefore, AreOrdered, entry_at}
 
 -- ---- one more node
 
@@ -140,6 +140,19 @@ module _ {K : Type 0} {R : K → K → Ordering} (o : IsTotalOrder R) (same : Is
   union_itself : (xs : List K) → Ascends R xs → union R xs xs ≡ xs
   union_itself xs a = same_list o same (union R xs xs) xs (Ascends-union o xs xs a) a (λ q. has-union o xs xs q ∙ or_itself (has R q xs))
 
+  or_again : (b c : Bool) → (b || (b || c)) ≡ (b || c)
+  or_again true c = refl
+  or_again false c = refl
+
+  union_again : (xs ys : List K) → Ascends R ys → union R xs (union R xs ys) ≡ union R xs ys
+  union_again xs ys a = same_list o same _ _ (Ascends-union o xs (union R xs ys) (Ascends-union o xs ys a)) (Ascends-union o xs ys a)
+      (λ q. has-union o xs (union R xs ys) q ∙ ap (λ (b : Bool). has R q xs || b) (has-union o xs ys q) ∙ or_again (has R q xs) (has R q ys) ∙ sym (has-union o xs ys q))
+
+pub joined_again : (a b : Terms) → AreSets b → joined a (joined a b) ≡ joined a b
+joined_again a b h =
+    let make : List SourceByte → List Loc → Terms = λ s l. record { sources = s; starts = l } in
+    ap₂ make (union_again source_total source_same a.sources b.sources h.sources) (union_again loc_total loc_same a.starts b.starts h.starts)
+
 pub joined_itself : (a : Terms) → AreSets a → joined a a ≡ a
 joined_itself a h =
     let make : List SourceByte → List Loc → Terms = λ s l. record { sources = s; starts = l } in
@@ -163,9 +176,3 @@ with_nothing log a b h = sym (ap (joined (terms log a)) (ap (terms log) h ∙ no
 
 pub nothing_with : (log : List Entry) (a b : ℕ) → a ≡ 0 → terms log b ≡ joined (terms log a) (terms log b)
 nothing_with log a b h = sym (ap (λ (t : Terms). joined t (terms log b)) (ap (terms log) h ∙ nothing_under_0 log))
-
-pub united : (old new : List Entry) (a b : ℕ) → KeepsNodes old new → IsNode old a → IsNode old b → entry_terms (terms new) (union_entry a b) ≡ joined (terms old a) (terms old b)
-united old new a b k p q = by (nat_lt a b) where
-  by : (c : Bool) → entry_terms (terms new) (if c then Union a b else Union b a) ≡ joined (terms old a) (terms old b)
-  by true = ap₂ joined (k.terms a p) (k.terms b q)
-  by false = ap₂ joined (k.terms b q) (k.terms a p) ∙ joined_comm (terms old b) (terms old a) (ascend-terms old b) (ascend-terms old a)

@@ -1,7 +1,7 @@
 //! The log, and what its nodes are.
 
-ghost use Rattle.std.specs.Prelude.{◌≡◌, ◌+◌, ◌<◌, [], length, Some, Contains, IsOk, IfOk, OnErr};
-ghost use Rattle.merge_log.specs.Log.{IsLog, IsNode, HasOperandsBefore, IsNoted, KeepsNodes, IsUnited, HasUnion, terms, no_terms, source_term, start_term, entry_at, entry_terms, joined, union_entry};
+ghost use Rattle.std.specs.Prelude.{◌≡◌, ◌+◌, ◌<◌, [], length, Some, ◌≤◌, ◌⊎◌, ◌↔◌, Contains, IsTrue, IsOk, IfOk, OnErr};
+ghost use Rattle.merge_log.specs.Log.{IsLog, IsNode, HasOperandsBefore, IsNoted, KeepsNodes, IsUnited, HasUnion, HasOperand, terms, no_terms, source_term, start_term, entry_at, entry_terms, joined};
 ghost use Rattle.merge_log.specs.Walk.{leaves_of};
 ghost use Rattle.merge_log.specs.declared.nodes.Entry.TheVariants as entry;
 
@@ -104,7 +104,8 @@ impl MergeLog {
         self.insert(Entry::Start(loc))
     }
 
-    /// The node of the leaves of two nodes. Where they are the same, or one is empty, it is one of them.
+    /// The node of the leaves of two nodes. Where they are the same, where one is empty, and where one is a
+    /// union that has the other as an operand, it is one of them.
     #[inline(always)]
     pub fn union(&mut self, a: Node, b: Node) -> Result<Node, NoMemory>
         requires left { IsNode self.old a }
@@ -122,7 +123,11 @@ impl MergeLog {
         if a == 0 {
             return Ok(b);
         }
-        self.insert(union_of(a as u32, b as u32))
+        let (left, right) = in_order(a as u32, b as u32);
+        if self.has_operand(right, left) {
+            return Ok(right as u64);
+        }
+        self.insert(Entry::Union { left, right })
     }
 
     /// The leaves under a node, each once: source bytes ascending, and then start locations ascending. It
@@ -146,6 +151,20 @@ impl MergeLog {
         self.entries.as_slice()[node as usize - 1]
     }
 
+    /// Whether a node is a union that has another node as an operand.
+    #[inline(always)]
+    fn has_operand(&self, node: u32, operand: u32) -> bool
+        requires above_0 { 0 < node }
+        requires stands { IsNode self.now node }
+        ensures { IsTrue result ↔ HasOperand self.now node operand }
+    {
+        match self.entry(node) {
+            Entry::Source(_) => false,
+            Entry::Start(_) => false,
+            Entry::Union { left, right } => left == operand || right == operand,
+        }
+    }
+
     /// The node of an entry, which is made unless it is there.
     fn insert(&mut self, entry: Entry) -> Result<Node, NoMemory>
         requires { HasOperandsBefore (length self.old + 1) entry }
@@ -166,14 +185,11 @@ impl MergeLog {
     }
 }
 
-/// The union of two nodes, the smaller one first.
+/// Two nodes, the smaller one first.
 #[inline(always)]
-fn union_of(a: u32, b: u32) -> Entry
-    ensures { result ≡ union_entry a b }
+fn in_order(a: u32, b: u32) -> (u32, u32)
+    ensures both { (result ≡ (a, b)) ⊎ (result ≡ (b, a)) }
+    ensures ordered { result.0 ≤ result.1 }
 {
-    if a < b {
-        Entry::Union { left: a, right: b }
-    } else {
-        Entry::Union { left: b, right: a }
-    }
+    if a < b { (a, b) } else { (b, a) }
 }
