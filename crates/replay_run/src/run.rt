@@ -202,6 +202,16 @@ impl<'a> Run<'a> {
         }
     }
 
+    /// The same as [`Run::step`], inlined where it is called.
+    #[inline(always)]
+    pub fn step_inlined(&mut self) -> Stepped
+        requires { self.old.waits ≡ false }
+        ensures step { IsStep self.old.moment.state result (hart_of self.new) }
+        ensures rest { self.new ≡ with_hart self.old (hart_of self.new) }
+    {
+        self.machine.step_inlined()
+    }
+
     /// Makes one step of the machine. A call then waits for [`Run::finish`].
     pub fn step(&mut self) -> Stepped
         requires { self.old.waits ≡ false }

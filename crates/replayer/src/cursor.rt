@@ -66,7 +66,7 @@ impl<'a> Cursor<'a> {
         if number == self.job.steps() {
             return Next::End(self.job.log().end());
         }
-        match self.run.step() {
+        match self.run.step_inlined() {
             Stepped::Plain { instr, place } => {
                 self.run.advance();
                 Next::Step(StepSeen {

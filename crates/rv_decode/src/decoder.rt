@@ -124,6 +124,7 @@ fn operation_of(word: u32) -> Option<Instr>
 }
 
 /// "RV32 base opcode map".
+#[inline(always)]
 fn by_opcode(word: u32) -> Option<Instr>
     ensures { result ≡ instruction_of word }
 {
@@ -170,6 +171,7 @@ fn by_opcode(word: u32) -> Option<Instr>
 /// "RV32I Base Integer Instruction Set" and "'M' Extension for Integer Multiplication and Division" of the RISC-V
 /// Unprivileged ISA manual. The instruction fits (`Instr::fits`), and `encode` of it is the word.
 #[tactic(auto, using(crate::proofs::Read::written_back))]
+#[inline(always)]
 pub fn decode(word: u32) -> Option<Instr>
     ensures is { result ≡ instruction_of word }
     ensures encodes_back { IfSome result (λ i. Fits i × (encoding i ≡ word)) }

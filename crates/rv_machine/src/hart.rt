@@ -62,6 +62,16 @@ impl Machine {
         requires { self.old.waits ≡ false }
         ensures { IsStep self.old.state result self.new }
     {
+        self.step_inlined()
+    }
+
+    /// The same as [`Machine::step`], inlined where it is called: for the one loop that looks at each instruction, so that
+    /// it need not be written to memory and read back.
+    #[inline(always)]
+    pub fn step_inlined(&mut self) -> Stepped
+        requires { self.old.waits ≡ false }
+        ensures { IsStep self.old.state result self.new }
+    {
         let pc = self.state.pc();
         if !self.state.in_window(pc, 4) {
             return Stepped::Trapped {

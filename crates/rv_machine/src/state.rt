@@ -122,6 +122,7 @@ impl HartState {
     }
 
     /// Carries out what an instruction does.
+    #[inline(always)]
     pub fn execute(&mut self, effect: Effect) -> Done
         requires { IsSmall effect }
         ensures { Executes self.old effect result self.new }

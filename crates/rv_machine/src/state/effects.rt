@@ -61,6 +61,7 @@ impl HartState {
     }
 
     /// What an instruction does in this state.
+    #[inline(always)]
     pub fn effect_of(&self, instr: &Instr) -> Effect
         requires { Fits instr.now }
         ensures is { result ≡ effect_of self.now instr.now }

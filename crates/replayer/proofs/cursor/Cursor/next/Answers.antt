@@ -16,7 +16,7 @@ advance-requires-clause-later c =
     let within = c.self.invariant.within in
     let below : run.moment.time < steps job.log = omega arith in
     let same : steps run.log ≡ steps job.log = ap steps c.self.invariant.same_log in
-    let can = ready run (Plain c.in-Plain.instr c.in-Plain.place) (hart_of c.step.new.self) c.form.ensures (omega arith) (cursor_agrees job run c.self.invariant below) c.in-Plain.ensures.step in
+    let can = ready run (Plain c.in-Plain.instr c.in-Plain.place) (hart_of c.step_inlined.new.self) c.form.ensures (omega arith) (cursor_agrees job run c.self.invariant below) c.in-Plain.ensures.step in
     subst (λ (r : RunAt). IsLater r.moment.time r.moment.left) (sym c.in-Plain.ensures.rest) can.2
 
 pub invariant_of-self : goal.invariant_of-self
@@ -25,7 +25,7 @@ invariant_of-self c =
     let job = c.self.inside.job.now in
     let within = c.self.invariant.within in
     let below : run.moment.time < steps job.log = omega arith in
-    let hart = hart_of c.step.new.self in
+    let hart = hart_of c.step_inlined.new.self in
     let counted = c.advance.ensures ∙ ap later_by_one c.in-Plain.ensures.rest in
     let s : StepSeen = record { number = c.time-number.result; instr = c.in-Plain.instr; place = c.in-Plain.place; call = None } in
     let finished = plain_finished run c.advance.new.self hart c.in-Plain.instr c.in-Plain.place c.time-number.result c.time-number.ensures counted in
@@ -37,7 +37,7 @@ returns-in-Plain c =
     let job = c.self.inside.job.now in
     let within = c.self.invariant.within in
     let below : run.moment.time < steps job.log = omega arith in
-    let hart = hart_of c.step.new.self in
+    let hart = hart_of c.step_inlined.new.self in
     let counted = c.advance.ensures ∙ ap later_by_one c.in-Plain.ensures.rest in
     let s : StepSeen = record { number = c.time-number.result; instr = c.in-Plain.instr; place = c.in-Plain.place; call = None } in
     let finished = plain_finished run c.advance.new.self hart c.in-Plain.instr c.in-Plain.place c.time-number.result c.time-number.ensures counted in
@@ -58,8 +58,8 @@ finish-requires-clause-ready c =
     let within = c.self.invariant.within in
     let below : run.moment.time < steps job.log = omega arith in
     let same : steps run.log ≡ steps job.log = ap steps c.self.invariant.same_log in
-    let can = ready run c.step.result (hart_of c.step.new.self) c.form.ensures (omega arith) (cursor_agrees job run c.self.invariant below) c.step.ensures.step in
-    subst (λ (r : RunAt). IsReady r c.step.result) (sym c.step.ensures.rest) can
+    let can = ready run c.step_inlined.result (hart_of c.step_inlined.new.self) c.form.ensures (omega arith) (cursor_agrees job run c.self.invariant below) c.step_inlined.ensures.step in
+    subst (λ (r : RunAt). IsReady r c.step_inlined.result) (sym c.step_inlined.ensures.rest) can
 
 pub invariant_of-self-in_default : goal.invariant_of-self-in_default
 invariant_of-self-in_default c =
@@ -67,10 +67,10 @@ invariant_of-self-in_default c =
     let job = c.self.inside.job.now in
     let within = c.self.invariant.within in
     let below : run.moment.time < steps job.log = omega arith in
-    let hart = hart_of c.step.new.self in
-    let finished = subst (λ (r : RunAt). IsFinished r.moment c.step.result c.finish.result c.finish.new.self.moment) c.step.ensures.rest c.finish.ensures.finished in
-    let same_log = c.finish.ensures.rest.0 ∙ ap (λ (r : RunAt). r.log) c.step.ensures.rest in
-    cursor_moves job run c.self.invariant below c.step.result hart c.step.ensures.step c.finish.new.self c.finish.result finished same_log c.finish.ensures.rest.1
+    let hart = hart_of c.step_inlined.new.self in
+    let finished = subst (λ (r : RunAt). IsFinished r.moment c.step_inlined.result c.finish.result c.finish.new.self.moment) c.step_inlined.ensures.rest c.finish.ensures.finished in
+    let same_log = c.finish.ensures.rest.0 ∙ ap (λ (r : RunAt). r.log) c.step_inlined.ensures.rest in
+    cursor_moves job run c.self.invariant below c.step_inlined.result hart c.step_inlined.ensures.step c.finish.new.self c.finish.result finished same_log c.finish.ensures.rest.1
 
 pub returns-in_default : goal.returns-in_default
 returns-in_default c =
@@ -78,12 +78,12 @@ returns-in_default c =
     let job = c.self.inside.job.now in
     let within = c.self.invariant.within in
     let below : run.moment.time < steps job.log = omega arith in
-    let hart = hart_of c.step.new.self in
-    let finished = subst (λ (r : RunAt). IsFinished r.moment c.step.result c.finish.result c.finish.new.self.moment) c.step.ensures.rest c.finish.ensures.finished in
-    let n = numbered (with_hart run hart).moment c.step.result c.finish.result c.finish.new.self.moment finished in
+    let hart = hart_of c.step_inlined.new.self in
+    let finished = subst (λ (r : RunAt). IsFinished r.moment c.step_inlined.result c.finish.result c.finish.new.self.moment) c.step_inlined.ensures.rest c.finish.ensures.finished in
+    let n = numbered (with_hart run hart).moment c.step_inlined.result c.finish.result c.finish.new.self.moment finished in
     rw (← c.self.view_is) (record {
       below = below;
-      step = cursor_step job run c.self.invariant below c.step.result hart c.step.ensures.step c.finish.new.self c.finish.result finished;
+      step = cursor_step job run c.self.invariant below c.step_inlined.result hart c.step_inlined.ensures.step c.finish.new.self c.finish.result finished;
       number = n.number;
       moved = ap (λ (t : ℕ). record { job = job; time = t }) n.time;
       in_range = c.finish.ensures.in_range;
