@@ -34,7 +34,8 @@ pub fn resolved(
     for loc in terms.starts() {
         gathered.add(answers.find(asked, *loc))?;
     }
-    Ok(gathered.into_set())
+    let all = gathered.into_set()?;
+    Ok(all)
 }
 
 /// Source bytes that are gathered from sets. Those that stand twice are left out at the end, and before that whenever
@@ -63,22 +64,36 @@ impl Gathered {
     fn add(&mut self, set: &[SourceByte]) -> Result<(), NoMemory>
         ensures { OnOk result ((b : Source) → has source_cmp b self.new.bytes.items ≡ (has source_cmp b self.old.bytes.items || has source_cmp b set.now)) }
     {
+        if self.bytes.as_slice() == set {
+            return Ok(());
+        }
         self.bytes.extend_from_slice(set)?;
         if self.bytes.len() > self.most {
-            ascend(&mut self.bytes);
+            merge_runs(&mut self.bytes)?;
             self.most = self.bytes.len().saturating_mul(2).max(FEW);
         }
         Ok(())
     }
 
     /// The set of all that was added, in no more room than it needs.
-    fn into_set(self) -> Vec<SourceByte>
-        ensures members { (b : Source) → has source_cmp b result.items ≡ has source_cmp b self.bytes.items }
-        ensures ascending { Ascends source_cmp result.items }
+    fn into_set(self) -> Result<Vec<SourceByte>, NoMemory>
+        ensures members { IfOk result (λ set. (b : Source) → has source_cmp b set.items ≡ has source_cmp b self.bytes.items) }
+        ensures ascending { IfOk result (λ set. Ascends source_cmp set.items) }
     {
         let mut bytes = self.bytes;
-        ascend(&mut bytes);
+        merge_runs(&mut bytes)?;
         bytes.shrink_to_fit();
-        bytes
+        Ok(bytes)
     }
+}
+
+/// Makes a set of source bytes: ascending, each once. Runs that ascend already, as sets do that stand one behind another, are
+/// merged in one pass.
+fn merge_runs(bytes: &mut Vec<SourceByte>) -> Result<(), NoMemory>
+    ensures members { OnOk result ((b : Source) → has source_cmp b bytes.new.items ≡ has source_cmp b bytes.old.items) }
+    ensures ascending { OnOk result (Ascends source_cmp bytes.new.items) }
+{
+    bytes.sort()?;
+    ascend(bytes);
+    Ok(())
 }
