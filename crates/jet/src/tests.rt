@@ -1,5 +1,7 @@
 //! Commands over files in memory, from their words to what they write.
 
+ghost use Rattle.std.specs.Prelude.{◌<◌};
+
 mod bench;
 mod convert;
 mod epochs;
@@ -42,6 +44,9 @@ const QUERY: Line = &["jet", "query", "prog", "log", "query"];
 
 /// The time that the clock tells.
 const TIME: u64 = 0x1_0000_0002;
+
+/// No call has this number.
+const NEVER: u64 = 1 << 40;
 
 /// The address that code is loaded at.
 const BASE: u32 = 0x10000;
@@ -397,6 +402,32 @@ fn assert_outside<R: Threads + Wait + Sync + AllocGlobal + Abort>(
     Ok(())
 }
 
+/// An output that takes at most so many bytes at a time, and fails at this put.
+fn sink(alloc: Global, put: u64, piece: usize) -> Result<MemorySink, AllocError>
+    requires { 0 < piece }
+{
+    MemorySink::new(alloc, [put].as_slice().to_vec(alloc)?, piece, 70000)
+}
+
+/// The command of these words ends so over this store, where the output takes at most so many bytes at a time and fails at
+/// this put, and standard error takes single bytes and fails at that one.
+fn assert_puts<R: Threads + Wait + Sync + AllocGlobal + Abort>(
+    rt: &R,
+    line: Line,
+    store: &mut MemoryStore,
+    put: u64,
+    piece: usize,
+    err_put: u64,
+    ending: Ending<'_>,
+) -> Result<(), Fail>
+    requires { 0 < piece }
+{
+    let alloc = rt.alloc();
+    let mut out = sink(alloc, put, piece)?;
+    let mut err = sink(alloc, err_put, 1)?;
+    assert_outside(rt, line, store, &mut out, &mut err, ending)
+}
+
 /// The command of these words ends so over this store.
 fn assert_ends<R: Threads + Wait + Sync + AllocGlobal + Abort>(
     rt: &R,
@@ -404,10 +435,7 @@ fn assert_ends<R: Threads + Wait + Sync + AllocGlobal + Abort>(
     store: &mut MemoryStore,
     ending: Ending<'_>,
 ) -> Result<(), Fail> {
-    let alloc = rt.alloc();
-    let mut out = MemorySink::new(alloc, Vec::new(alloc), 65536, 70000)?;
-    let mut err = MemorySink::new(alloc, Vec::new(alloc), 65536, 256)?;
-    assert_outside(rt, line, store, &mut out, &mut err, ending)
+    assert_puts(rt, line, store, NEVER, 65536, NEVER, ending)
 }
 
 /// The command of these words ends so over these files.

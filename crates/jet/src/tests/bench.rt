@@ -1,7 +1,7 @@
 //! The workload's run: its numbers, and its limits.
 
-use super::{Ending, Line, assert_ends, status_of};
-use outer_io::{MemorySink, MemoryStore};
+use super::{Ending, Line, assert_ends};
+use outer_io::MemoryStore;
 use std::alloc::{AllocError, Global};
 use std::process::Abort;
 use std::sync::Wait;
@@ -12,29 +12,6 @@ use std::thread::Threads;
 const NUMBERS: &[(Line, &str)] = &[
     (
         &["jet", "bench", "1", "30", "--epoch", "15"],
-        "steps 30
-epochs 2
-sinks 9
-pairs 13
-asked 13
-report b1f4f2e2be8647edfa75968354cde6bf10ae7ca2951ee3c58c4e44a59d626a01
-events 98
-",
-    ),
-    // However many workers there are, and whatever a link holds, as many events move.
-    (
-        &[
-            "jet",
-            "bench",
-            "1",
-            "30",
-            "--epoch",
-            "15",
-            "--workers",
-            "64",
-            "--link",
-            "1",
-        ],
         "steps 30
 epochs 2
 sinks 9
@@ -134,23 +111,5 @@ fn a_workload_is_refused(rt: HostRuntime) -> Result<(), Fail> {
     for &(line, status, said) in REFUSED {
         assert_bench(&rt, line, Ending::refusal(status, said))?;
     }
-    Ok(())
-}
-
-const SHORT_EPOCHS: Line = &["jet", "bench", "1", "300", "--epoch", "2"];
-
-/// All lines but the last. What is asked was counted where epochs were joined by lists.
-const LINES: &[u8] =
-    b"steps 300\nepochs 150\nsinks 90\npairs 130\nasked 3751\nreport 767d54ce1e949aff9f0161f92df10167272abb8900f6afc7f8e2673be7e2c2d0\nevents ";
-
-#[test]
-fn short_epochs_give_the_same_report(rt: HostRuntime) -> Result<(), Fail> {
-    let alloc = rt.alloc();
-    let mut store = closed_store(alloc)?;
-    let mut out = MemorySink::new(alloc, Vec::new(alloc), 65536, 256)?;
-    let mut err = MemorySink::new(alloc, Vec::new(alloc), 65536, 256)?;
-    let status = status_of(&rt, SHORT_EPOCHS, &mut store, &mut out, &mut err)?;
-    assert_eq!(rt; status, 0);
-    assert!(rt; out.bytes().starts_with(LINES));
     Ok(())
 }

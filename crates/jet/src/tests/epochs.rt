@@ -24,39 +24,6 @@ const BY_STEPS: Line = &[
     "1",
 ];
 
-/// A query with two steps in each epoch, on two workers.
-const BY_TWO: Line = &[
-    "jet",
-    "query",
-    "prog",
-    "log",
-    "query",
-    "--epoch",
-    "2",
-    "--workers",
-    "2",
-    "--link",
-    "2",
-];
-
-/// A query with three steps in each epoch, and more workers than epochs.
-const BY_THREE: Line = &[
-    "jet",
-    "query",
-    "prog",
-    "log",
-    "query",
-    "--epoch",
-    "3",
-    "--workers",
-    "64",
-    "--link",
-    "1",
-];
-
-/// A query with six steps in each epoch, on the usual workers and links.
-const BY_SIX: Line = &["jet", "query", "prog", "log", "query", "--epoch", "6"];
-
 /// A query with seven steps in each epoch, on one worker.
 const BY_SEVEN: Line = &[
     "jet",
@@ -102,7 +69,7 @@ const REPORTS: &[(&Guest, &str, &str)] = &[
 
 #[test]
 fn a_report_is_the_same_by_any_epochs(rt: HostRuntime) -> Result<(), Fail> {
-    for line in [BY_STEPS, BY_TWO, BY_THREE, BY_SIX, BY_SEVEN, WHOLE] {
+    for line in [BY_STEPS, BY_SEVEN, WHOLE] {
         for &(guest, query, report) in REPORTS {
             assert_guest(&rt, line, guest, query, Ending::report(report))?;
         }

@@ -5,10 +5,10 @@ ghost use Rattle.std.specs.Prelude.{◌<◌};
 use super::guests::COPY_FOUR;
 use super::runs::{CONVERT, INFLUENCE, NUMBERS, OUTPUT, QUERIES, REPLAY};
 use super::{
-    COPIED, COPY, Ending, Line, QUERY, assert_ends, assert_outside, files, log_with, program_of,
-    status_of,
+    COPIED, COPY, Ending, Line, NEVER, QUERY, assert_ends, assert_puts, files, log_with,
+    program_of, status_of,
 };
-use outer_io::{MemoryFile, MemorySink, MemoryStore, SureSink, SureStore};
+use outer_io::{MemoryFile, MemoryStore, SureSink, SureStore};
 use std::alloc::{AllocError, Global};
 use std::process::Abort;
 use std::sync::Wait;
@@ -35,24 +35,10 @@ fn copied(alloc: Global, written: &[u8]) -> Result<Vec<MemoryFile>, AllocError> 
     files(alloc, &program, &log, COPY.as_bytes())
 }
 
-fn numbers(alloc: Global, list: &[u64]) -> Result<Vec<u64>, AllocError> {
-    list.to_vec(alloc)
-}
-
-/// No call has this number.
-const NEVER: u64 = 1 << 40;
-
 /// A store of the files, of which the call of this number fails.
 fn store(alloc: Global, written: &[u8], failing: u64) -> Result<MemoryStore, AllocError> {
-    let failing = numbers(alloc, &[failing])?;
+    let failing = [failing].as_slice().to_vec(alloc)?;
     MemoryStore::new(alloc, copied(alloc, written)?, failing, 65536, 0)
-}
-
-/// An output that takes at most so many bytes at a time, and fails at this put.
-fn sink(alloc: Global, put: u64, piece: usize) -> Result<MemorySink, AllocError>
-    requires { 0 < piece }
-{
-    MemorySink::new(alloc, numbers(alloc, &[put])?, piece, 256)
 }
 
 /// A command that calls the store so often ends so where this call fails.
@@ -111,12 +97,9 @@ fn assert_put_fails<R: Threads + Wait + Sync + AllocGlobal + Abort>(
 ) -> Result<(), Fail>
     requires { 0 < piece }
 {
-    let alloc = rt.alloc();
-    let mut store = store(alloc, b"ABCD", NEVER)?;
-    let mut out = sink(alloc, put, piece)?;
-    let mut err = sink(alloc, NEVER, 256)?;
+    let mut store = store(rt.alloc(), b"ABCD", NEVER)?;
     let ending = ending_at(text, put, piece);
-    assert_outside(rt, line, &mut store, &mut out, &mut err, ending)
+    assert_puts(rt, line, &mut store, put, piece, NEVER, ending)
 }
 
 #[test]
@@ -135,12 +118,16 @@ fn assert_said<R: Threads + Wait + Sync + AllocGlobal + Abort>(
     put: u64,
     said: &str,
 ) -> Result<(), Fail> {
-    let alloc = rt.alloc();
-    let mut store = store(alloc, b"ABXD", NEVER)?;
-    let mut out = sink(alloc, NEVER, 256)?;
-    let mut err = sink(alloc, put, 1)?;
-    let ending = Ending::refusal(5, said);
-    assert_outside(rt, QUERY, &mut store, &mut out, &mut err, ending)
+    let mut store = store(rt.alloc(), b"ABXD", NEVER)?;
+    assert_puts(
+        rt,
+        QUERY,
+        &mut store,
+        NEVER,
+        256,
+        put,
+        Ending::refusal(5, said),
+    )
 }
 
 /// A standard error that fails, at once or after some bytes, changes no status.

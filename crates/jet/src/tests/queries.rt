@@ -1,6 +1,7 @@
 //! Several queries in one run.
 
 use super::guests::{ADD_WORDS, COPY_FOUR, Guest};
+use super::refusals::copied;
 use super::{COMPUTE, COPY, Ending, Line, assert_ends, log_with, program_of, push_file};
 use outer_io::{MemoryFile, MemoryStore};
 use std::alloc::{AllocError, Global};
@@ -131,8 +132,10 @@ fn files(
     let mut files = Vec::new(alloc);
     push_file(&mut files, "prog", program)?;
     push_file(&mut files, "log", log)?;
-    for (name, query) in NAMES.iter().zip(queries) {
-        push_file(&mut files, name, query.as_bytes())?;
+    for (number, query) in queries.iter().enumerate() {
+        if number < NAMES.len() {
+            push_file(&mut files, NAMES[number], query.as_bytes())?;
+        }
     }
     Ok(files)
 }
@@ -184,22 +187,21 @@ fn several_queries_are_refused(rt: HostRuntime) -> Result<(), Fail> {
 }
 
 /// Rules that differ are told even where the log is of another program, and a log that is none before them.
+fn assert_rules_first<R: Threads + Wait + Sync + AllocGlobal + Abort>(
+    rt: &R,
+    program: &[u8],
+    log: &[u8],
+) -> Result<(), Fail> {
+    let rules = Ending::refusal(11, "jet: rules copy 2 compute\n");
+    assert_queries(rt, TWO, program, log, &[COPY, COMPUTE], rules)?;
+    let short = Ending::refusal(4, "jet: log 3 Short at 98\n");
+    let begun = &log[..log.len().min(106)];
+    assert_queries(rt, TWO, program, begun, &[COPY, COMPUTE], short)
+}
+
 #[test]
 fn rules_are_compared_before_the_log_is_fitted(rt: HostRuntime) -> Result<(), Fail> {
-    let alloc = rt.alloc();
-    let program = program_of(alloc, &ADD_WORDS)?;
-    let copy = program_of(alloc, &COPY_FOUR)?;
-    let log = log_with(alloc, &COPY_FOUR, &copy, b"ABCD")?;
-    let queries = [COPY, COMPUTE];
-    let rules = Ending::refusal(11, "jet: rules copy 2 compute\n");
-    assert_queries(&rt, TWO, &program, &log, queries.as_slice(), rules)?;
-    let short = Ending::refusal(4, "jet: log 3 Short at 98\n");
-    assert_queries(
-        &rt,
-        TWO,
-        &program,
-        &log[..log.len().min(106)],
-        queries.as_slice(),
-        short,
-    )
+    let (_, log) = copied(rt.alloc())?;
+    let program = program_of(rt.alloc(), &ADD_WORDS)?;
+    assert_rules_first(&rt, &program, &log)
 }

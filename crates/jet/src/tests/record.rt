@@ -5,7 +5,7 @@ ghost use Rattle.std.specs.Prelude.{◌<◌};
 use super::guests::COPY_CODE;
 use super::runs::{COPIES, ON_TWO, WRITE_ON_TWO};
 use super::{
-    BASE, COMPUTE, COPIED, COPY, Channels, Ending, Entry, Line, NO_INSTRUCTION, QUERY, TIME,
+    BASE, COMPUTE, COPIED, COPY, Channels, Ending, Entry, Line, NEVER, NO_INSTRUCTION, QUERY, TIME,
     assert_ends, patched, program, push_file, wide_log_of,
 };
 use guest_assembler::{Instr, code};
@@ -75,9 +75,6 @@ const RECORD: Line = &["jet", "record", "prog", "log", "in", "--pages", "1"];
 
 /// In the greatest window.
 const WIDEST: Line = &["jet", "record", "prog", "log", "--pages", "4096"];
-
-/// The log takes the place of the program.
-const OVER_THE_PROGRAM: Line = &["jet", "record", "prog", "prog", "in", "--pages", "1"];
 
 /// A guest, the words that record it, and its log: the pages, what was read of each input, the records, and the length of
 /// all. Then a query of the log, and its report.
@@ -292,13 +289,18 @@ pub const RECORDINGS: &[Recording] = &[
 /// The inputs.
 const INPUTS: &[(&str, &[u8])] = &[("in", b"ABCDEFG"), ("four", b"ABCD"), ("other", b"WXYZ")];
 
-/// A program, what begins it, the same for a wider window, the inputs, and a query.
+/// Adds a program, the same for a wider window, and what begins it.
+fn push_programs(files: &mut Vec<MemoryFile>, program: &[u8]) -> Result<(), AllocError> {
+    let wide = patched(*files.allocator(), program, (72, b"\0\x20\0\0"))?;
+    push_file(files, "wide", &wide)?;
+    push_file(files, "prog", program)?;
+    push_file(files, "short", &program[..program.len().min(51)])
+}
+
+/// The programs, the inputs, and a query.
 fn files(alloc: Global, program: &[u8], query: &str) -> Result<Vec<MemoryFile>, AllocError> {
-    let wide = patched(alloc, program, (72, b"\0\x20\0\0"))?;
     let mut files = Vec::new(alloc);
-    push_file(&mut files, "prog", program)?;
-    push_file(&mut files, "wide", &wide)?;
-    push_file(&mut files, "short", &program[..program.len().min(51)])?;
+    push_programs(&mut files, program)?;
     for &(name, bytes) in INPUTS {
         push_file(&mut files, name, bytes)?;
     }
@@ -322,8 +324,14 @@ fn store(
     MemoryStore::new(alloc, files, failing, piece, 1000)
 }
 
-/// No call has this number.
-pub const NEVER: u64 = 1 << 40;
+/// Whether a file was read that has these bytes, or there is none.
+fn is_file(file: Option<&[u8]>, expected: Option<&[u8]>) -> bool {
+    match (file, expected) {
+        (Some(file), Some(expected)) => file == expected,
+        (None, None) => true,
+        _ => false,
+    }
+}
 
 /// The store's file of this name has these bytes, or there is no such file.
 pub fn assert_file<R: Threads + Wait + Sync + AllocGlobal + Abort>(
@@ -332,12 +340,24 @@ pub fn assert_file<R: Threads + Wait + Sync + AllocGlobal + Abort>(
     name: &str,
     expected: Option<&[u8]>,
 ) -> Result<(), Fail> {
-    let file = read_file(rt.alloc(), store, name).ok();
-    assert_eq!(rt; file.is_some(), expected.is_some(), "{name}");
-    if let (Some(file), Some(expected)) = (file, expected) {
-        assert_eq!(rt; file.as_slice(), expected, "{name}");
-    }
+    let is_so = match read_file(rt.alloc(), store, name) {
+        Ok(file) => is_file(Some(file.as_slice()), expected),
+        Err(_) => is_file(None, expected),
+    };
+    assert!(rt; is_so, "{name}");
     Ok(())
+}
+
+/// The run over this store is recorded in this log, of which the query tells this.
+fn assert_recorded<R: Threads + Wait + Sync + AllocGlobal + Abort>(
+    rt: &R,
+    recording: &Recording,
+    store: &mut MemoryStore,
+    log: &[u8],
+) -> Result<(), Fail> {
+    assert_ends(rt, recording.line, store, Ending::report(""))?;
+    assert_file(rt, store, "log", Some(log))?;
+    assert_ends(rt, QUERY, store, Ending::report(recording.report))
 }
 
 fn assert_recording<R: Threads + Wait + Sync + AllocGlobal + Abort>(
@@ -349,9 +369,7 @@ fn assert_recording<R: Threads + Wait + Sync + AllocGlobal + Abort>(
     let log = recording.log(alloc, &program)?;
     assert_eq!(rt; log.len(), recording.length);
     let mut store = store(alloc, &program, recording.query, NEVER, 65536)?;
-    assert_ends(rt, recording.line, &mut store, Ending::report(""))?;
-    assert_file(rt, &mut store, "log", Some(&log))?;
-    assert_ends(rt, QUERY, &mut store, Ending::report(recording.report))
+    assert_recorded(rt, recording, &mut store, &log)
 }
 
 #[test]
@@ -455,15 +473,14 @@ fn assert_files<R: Threads + Wait + Sync + AllocGlobal + Abort>(
     assert_file(rt, store, "in", Some(b"ABCDEFG"))
 }
 
-/// A recording over a store of which this call fails.
-fn assert_failing_call<R: Threads + Wait + Sync + AllocGlobal + Abort>(
+/// A recording over this store, of which this call fails.
+fn assert_call_fails<R: Threads + Wait + Sync + AllocGlobal + Abort>(
     rt: &R,
+    store: &mut MemoryStore,
     program: &[u8],
     log: &[u8],
     call: u64,
 ) -> Result<(), Fail> {
-    let alloc = rt.alloc();
-    let mut store = store(alloc, program, COPY, call, 10)?;
     let (ending, written) = if call < 19 {
         (Ending::refusal(7, "jet: read fault\n"), None)
     } else if call < 34 {
@@ -471,10 +488,21 @@ fn assert_failing_call<R: Threads + Wait + Sync + AllocGlobal + Abort>(
     } else {
         (Ending::report(""), Some(log))
     };
-    assert_ends(rt, RECORD, &mut store, ending)?;
+    assert_ends(rt, RECORD, store, ending)?;
     // A call that never came fails now.
-    let _ = read_file(alloc, &mut store, "in");
-    assert_files(rt, &mut store, program, written)
+    let _ = read_file(rt.alloc(), store, "in");
+    assert_files(rt, store, program, written)
+}
+
+/// A recording over a store of which this call fails.
+fn assert_failing_call<R: Threads + Wait + Sync + AllocGlobal + Abort>(
+    rt: &R,
+    program: &[u8],
+    log: &[u8],
+    call: u64,
+) -> Result<(), Fail> {
+    let mut store = store(rt.alloc(), program, COPY, call, 10)?;
+    assert_call_fails(rt, &mut store, program, log, call)
 }
 
 /// The program is read in 16 calls of ten bytes and the input in 3; the log is created, put in 13 pieces, and finished.
@@ -488,15 +516,4 @@ fn a_failing_store_leaves_the_files(rt: HostRuntime) -> Result<(), Fail> {
         assert_failing_call(&rt, &program, &log, call)?;
     }
     Ok(())
-}
-
-#[test]
-fn a_log_may_take_the_place_of_its_program(rt: HostRuntime) -> Result<(), Fail> {
-    let alloc = rt.alloc();
-    let program = program(alloc, COPY_CODE)?;
-    let log = wide_log_of(alloc, &program, 1, FOUR, COPIES)?;
-    let mut store = store(alloc, &program, COPY, NEVER, 65536)?;
-    assert_ends(&rt, OVER_THE_PROGRAM, &mut store, Ending::report(""))?;
-    assert_file(&rt, &mut store, "prog", Some(&log))?;
-    assert_file(&rt, &mut store, "log", None)
 }
