@@ -2,7 +2,7 @@
 
 ghost use Rattle.std.specs.Prelude.{◌<◌};
 
-use super::record::{FOUR, RECORDINGS, Recording, assert_file};
+use super::record::{FOUR, Recording, assert_file};
 use super::refusals::copied;
 use super::runs::{CONVERT, COPIES};
 use super::{COPY, Ending, Line, NEVER, assert_ends, files, log_of, program, wide_log_of};
@@ -60,7 +60,7 @@ fn assert_converted<R: Threads + Wait + Sync + AllocGlobal + Abort>(
 }
 
 /// The run's log in version 1 is converted to what its recording writes.
-fn assert_conversion<R: Threads + Wait + Sync + AllocGlobal + Abort>(
+pub fn assert_conversion<R: Threads + Wait + Sync + AllocGlobal + Abort>(
     rt: &R,
     recording: &Recording,
 ) -> Result<(), Fail> {
@@ -70,14 +70,6 @@ fn assert_conversion<R: Threads + Wait + Sync + AllocGlobal + Abort>(
     let log = log_of(alloc, &program, recording.pages, inputs, recording.entries)?;
     let mut store = store(alloc, &program, &log, recording.query, NEVER, 65536)?;
     assert_converted(rt, recording, &mut store, &program)
-}
-
-#[test]
-fn logs_are_converted_to_what_is_recorded(rt: HostRuntime) -> Result<(), Fail> {
-    for recording in RECORDINGS {
-        assert_conversion(&rt, recording)?;
-    }
-    Ok(())
 }
 
 /// The other files are as before, and the new log has these bytes or isn't there.

@@ -1,11 +1,6 @@
-//! Runs that are cut into epochs: the length of these, how many workers there are and how much a link holds change nothing
-//! of what is written.
+//! Runs that are cut into epochs: how many there may be.
 
-use super::guests::{ADD_WORDS, COPY_FOUR, Guest};
-use super::{
-    COMPUTE, COPIED, COPY, Ending, Line, SUM, assert_command, assert_guest, log, program,
-    push_words,
-};
+use super::{COPY, Ending, Line, assert_command, log, program, push_words};
 use guest_assembler::{Instr, code};
 use std::test::Fail;
 
@@ -23,59 +18,6 @@ const BY_STEPS: Line = &[
     "--link",
     "1",
 ];
-
-/// A query with seven steps in each epoch, on one worker.
-const BY_SEVEN: Line = &[
-    "jet",
-    "query",
-    "prog",
-    "log",
-    "query",
-    "--epoch",
-    "7",
-    "--workers",
-    "1",
-];
-
-/// A query with all steps in one epoch.
-const WHOLE: Line = &[
-    "jet",
-    "query",
-    "prog",
-    "log",
-    "query",
-    "--epoch",
-    "1099511627776",
-    "--workers",
-    "64",
-    "--link",
-    "65536",
-];
-
-/// Points before a cut, at one, and after it.
-const POINTS: &str =
-    "rule copy\nsource all\nsink mem 65792 1 at 5\nsink mem 65792 1 at 6\nsink mem 65792 1 at 7\n";
-
-/// Guests, queries and their reports.
-const REPORTS: &[(&Guest, &str, &str)] = &[
-    (&COPY_FOUR, COPY, COPIED),
-    (&ADD_WORDS, COMPUTE, SUM),
-    (
-        &COPY_FOUR,
-        POINTS,
-        "m:65792@5\nm:65792@6 0:0\nm:65792@7 0:0\nend 3\n",
-    ),
-];
-
-#[test]
-fn a_report_is_the_same_by_any_epochs(rt: HostRuntime) -> Result<(), Fail> {
-    for line in [BY_STEPS, BY_SEVEN, WHOLE] {
-        for &(guest, query, report) in REPORTS {
-            assert_guest(&rt, line, guest, query, Ending::report(report))?;
-        }
-    }
-    Ok(())
-}
 
 /// Counts down from 2047 and exits: 4,097 steps.
 const COUNT_DOWN: [Instr; 5] = code![

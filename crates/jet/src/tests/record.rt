@@ -2,6 +2,7 @@
 
 ghost use Rattle.std.specs.Prelude.{◌<◌};
 
+use super::convert::assert_conversion;
 use super::guests::COPY_CODE;
 use super::runs::{COPIES, ON_TWO, WRITE_ON_TWO};
 use super::{
@@ -100,7 +101,7 @@ impl Recording {
 /// What the four-byte copy reads.
 pub const FOUR: Channels = &[b"ABCD"];
 
-pub const RECORDINGS: &[Recording] = &[
+const RECORDINGS: &[Recording] = &[
     Recording {
         code: COPY_CODE,
         line: RECORD,
@@ -324,15 +325,6 @@ fn store(
     MemoryStore::new(alloc, files, failing, piece, 1000)
 }
 
-/// Whether a file was read that has these bytes, or there is none.
-fn is_file(file: Option<&[u8]>, expected: Option<&[u8]>) -> bool {
-    match (file, expected) {
-        (Some(file), Some(expected)) => file == expected,
-        (None, None) => true,
-        _ => false,
-    }
-}
-
 /// The store's file of this name has these bytes, or there is no such file.
 pub fn assert_file<R: Threads + Wait + Sync + AllocGlobal + Abort>(
     rt: &R,
@@ -341,8 +333,8 @@ pub fn assert_file<R: Threads + Wait + Sync + AllocGlobal + Abort>(
     expected: Option<&[u8]>,
 ) -> Result<(), Fail> {
     let is_so = match read_file(rt.alloc(), store, name) {
-        Ok(file) => is_file(Some(file.as_slice()), expected),
-        Err(_) => is_file(None, expected),
+        Ok(file) => expected == Some(file.as_slice()),
+        Err(_) => expected.is_none(),
     };
     assert!(rt; is_so, "{name}");
     Ok(())
@@ -373,9 +365,10 @@ fn assert_recording<R: Threads + Wait + Sync + AllocGlobal + Abort>(
 }
 
 #[test]
-fn runs_are_recorded(rt: HostRuntime) -> Result<(), Fail> {
+fn runs_are_recorded_and_converted(rt: HostRuntime) -> Result<(), Fail> {
     for recording in RECORDINGS {
         assert_recording(&rt, recording)?;
+        assert_conversion(&rt, recording)?;
     }
     Ok(())
 }

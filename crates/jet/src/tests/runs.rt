@@ -1,14 +1,12 @@
 //! Recorded runs: their numbers, what they wrote, and where they diverge.
 
-use super::guests::{ADD_WORDS, COPY_CODE, COPY_FOUR};
+use super::guests::{COPY_CODE, COPY_FOUR};
 use super::refusals::CHANGED_LOGS;
 use super::{
     BASE, COPY, Ending, Entry, Line, NO_INSTRUCTION, Patch, QUERY, TIME, assert_command, log_of,
     log_with, patched, program, program_of,
 };
 use guest_assembler::{Instr, code};
-use sha2::{Digest, Sha256};
-use std::alloc::Global;
 use std::process::Abort;
 use std::sync::Wait;
 use std::test::Fail;
@@ -251,46 +249,6 @@ fn a_changed_log_is_refused(rt: HostRuntime) -> Result<(), Fail> {
         assert_changed(&rt, &program, &log, patch, Ending::refusal(status, said))?;
     }
     Ok(())
-}
-
-/// Words whose log or last query is missing.
-const MISSING: &[Line] = &[
-    &["jet", "query", "prog", "none", "query"],
-    &["jet", "replay", "prog", "none"],
-    &["jet", "output", "prog", "none", "1"],
-    &["jet", "convert", "prog", "none", "log"],
-    &["jet", "influence", "prog", "none", "query"],
-    &["jet", "queries", "prog", "none", "query"],
-    &["jet", "queries", "prog", "log", "query", "none"],
-];
-
-#[test]
-fn a_file_that_is_missing_is_a_read_fault(rt: HostRuntime) -> Result<(), Fail> {
-    let alloc = rt.alloc();
-    let program = program_of(alloc, &COPY_FOUR)?;
-    let log = log_with(alloc, &COPY_FOUR, &program, b"ABCD")?;
-    let missing = Ending::refusal(7, "jet: read fault\n");
-    for &line in MISSING {
-        assert_command(&rt, line, &program, &log, COPY.as_bytes(), missing)?;
-    }
-    Ok(())
-}
-
-/// The line that a log of one program and another program are refused with.
-pub fn program_line(alloc: Global, kept: &[u8], seen: &[u8]) -> Result<String, Fail> {
-    let kept = hex::encode(alloc, Sha256::digest(kept))?;
-    let seen = hex::encode(alloc, Sha256::digest(seen))?;
-    Ok(format!(in alloc; "jet: program kept {kept} seen {seen}\n")?)
-}
-
-#[test]
-fn a_log_of_another_program_is_refused(rt: HostRuntime) -> Result<(), Fail> {
-    let alloc = rt.alloc();
-    let program = program_of(alloc, &COPY_FOUR)?;
-    let log = log_with(alloc, &COPY_FOUR, &program, b"ABCD")?;
-    let other = program_of(alloc, &ADD_WORDS)?;
-    let line = program_line(alloc, &program, &other)?;
-    assert_refused(&rt, &other, &log, Ending::refusal(5, &line))
 }
 
 /// One byte of the log is missing; and one page can't hold the program.
