@@ -17,8 +17,8 @@ use std::alloc::Global;
 /// The source bytes of the terms that were read last, ascending, where this was asked and these are the answers. It
 /// fails only where there is no memory.
 ///
-/// However many start locations have the same answer, it has room for few more than three times the source bytes of the
-/// result at once, and the result takes no more than it needs.
+/// However many start locations have the same answer, it has room for few more than four and a half times the source bytes
+/// of the result at once, and the result takes no more than it needs.
 pub fn resolved(
     alloc: Global,
     terms: &TermsReader,
@@ -60,7 +60,7 @@ impl Gathered {
         }
     }
 
-    /// Adds the source bytes of a set.
+    /// Adds the source bytes of a set. One that is all there is so far adds nothing.
     fn add(&mut self, set: &[SourceByte]) -> Result<(), NoMemory>
         ensures { OnOk result ((b : Source) → has source_cmp b self.new.bytes.items ≡ (has source_cmp b self.old.bytes.items || has source_cmp b set.now)) }
     {
