@@ -2,6 +2,7 @@
 
 ghost use Rattle.std.specs.Prelude.{◌≡◌, ◌+◌, ◌*◌, ◌<◌, None, Some, length, replicate, if◌then◌else◌, IfOk, OnOk};
 ghost use Rattle.std.specs.Option.{option_copied};
+ghost use Rattle.flow_model.specs.declared.Loc.TheVariants.{Reg};
 ghost use Rattle.flow_model.specs.Flow.{loc_eq};
 ghost use Rattle.flow_model.specs.Ranges.{IsLocation};
 
@@ -48,9 +49,27 @@ impl<L: Drop> Places<L> {
         ensures { option_copied result ≡ kept self.now loc }
     {
         match loc {
-            Loc::Reg { number, lane } => self.registers[lane_index(number, lane)].as_ref(),
+            Loc::Reg { number, lane } => self.lane(number, lane),
             Loc::Mem { place } => memory::value_at(self.memory.as_slice(), place),
         }
+    }
+
+    /// The value of a lane of a register, if it has one.
+    #[inline(always)]
+    pub fn lane(&self, number: u8, lane: u8) -> Option<&L>
+        requires { IsLocation (Reg number lane) }
+        ensures { option_copied result ≡ kept self.now (Reg number lane) }
+    {
+        self.registers[lane_index(number, lane)].as_ref()
+    }
+
+    /// Puts a value in place of the one of a lane of a register.
+    #[inline(always)]
+    pub fn set_lane(&mut self, number: u8, lane: u8, value: L)
+        requires { IsLocation (Reg number lane) }
+        ensures { AreKept self.new (λ l. if loc_eq (Reg number lane) l then Some value else kept self.old l) }
+    {
+        self.registers[lane_index(number, lane)] = Some(value);
     }
 
     /// Puts a value in place of the one of a location.
@@ -60,7 +79,7 @@ impl<L: Drop> Places<L> {
         ensures { OnOk result (AreKept self.new (λ l. if loc_eq loc l then Some value else kept self.old l)) }
     {
         match loc {
-            Loc::Reg { number, lane } => self.registers[lane_index(number, lane)] = Some(value),
+            Loc::Reg { number, lane } => self.set_lane(number, lane, value),
             Loc::Mem { place } => memory::put(self.alloc, &mut self.memory, place, value)?,
         }
         Ok(())

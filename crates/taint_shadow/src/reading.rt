@@ -96,7 +96,10 @@ fn lane_label<A: Labels>(
     if number == 0 {
         return labels.nothing();
     }
-    label_at(labels, places, Loc::Reg { number, lane })
+    match places.lane(number, lane) {
+        Some(label) => labels.share(label),
+        None => labels.untouched(Loc::Reg { number, lane }),
+    }
 }
 
 /// The label of what lanes 2, 1 and 0 of a register have, and of another label together.

@@ -2,6 +2,7 @@
 
 ghost use Rattle.std.specs.Prelude.{◌≡◌, ◌≢◌, ◌<◌, ◌≤◌, ℕ, OnOk};
 ghost use Rattle.flow_model.specs.declared.Loc.{Loc as Location};
+ghost use Rattle.flow_model.specs.declared.Loc.TheVariants.{Reg};
 ghost use Rattle.flow_model.specs.Flow.{to_register};
 ghost use Rattle.flow_model.specs.Ranges.{IsLocation};
 ghost use Rattle.flow_rule.specs.Shapes.{targets_of, HasRegisters, HasSizes};
@@ -37,6 +38,27 @@ pub(crate) fn put<A: Labels>(
     places.set(loc, label)
 }
 
+/// The same for a lane of a register, which takes no memory.
+#[inline(always)]
+fn put_lane<A: Labels>(
+    labels: &A,
+    places: &mut Places<A::Label>,
+    number: u8,
+    lane: u8,
+    label: A::Label,
+)
+    requires location { IsLocation (Reg number lane) }
+    requires stands { A.words.stands labels.now label }
+    ensures { IsPut A.words labels.now (Reg number lane) label places.old places.new }
+{
+    let loc = Loc::Reg { number, lane };
+    if labels.is_untouched(&label, loc) {
+        places.remove(loc);
+    } else {
+        places.set_lane(number, lane, label);
+    }
+}
+
 /// Labels the lanes of a register one after another, where none that is an origin is labelled before it is read.
 ///
 /// It is the most frequent turn by far; inlined, it has no test of the shape in each lane.
@@ -62,7 +84,7 @@ fn turn_lanes<A: Labels>(
     }
     for lane in 0..LANES {
         let label = target_label(labels, places, shape, lane)?;
-        put(labels, places, Loc::Reg { number: rd, lane }, label)?;
+        put_lane(labels, places, rd, lane, label);
     }
     Ok(())
 }
@@ -90,7 +112,7 @@ fn turn_alike<A: Labels>(
     let label = target_label(labels, places, shape, 0)?;
     for lane in 0..LANES {
         let shared = labels.share(&label)?;
-        put(labels, places, Loc::Reg { number: rd, lane }, shared)?;
+        put_lane(labels, places, rd, lane, shared);
     }
     Ok(())
 }

@@ -29,8 +29,8 @@ loop-lane-preserved g c =
     let keeps = c.in_ok-shared.ensures.keeps in
     record {
       holds = λ f h. like_lane words _ _ c.loop-lane.places _ (targets_of shape) (origins_of shape) c.args.rd i c.in_ok-shared.shared f c.requires.table (omega (arith, c.if-rd-eq0.false)) (omega (arith, c.loop-lane-test.true))
-          keeps before.standing (before.holds f h) _ c.args.places.now (located shape 0 c.requires.registers (omega arith)) h (c.in_ok-shared.ensures.made.means ∙ before.label.means) (c.requires.alike i) c.in_ok-put.ensures;
-      standing = c.in_ok-put.ensures.standing (standing_kept words _ _ c.loop-lane.places keeps before.standing);
+          keeps before.standing (before.holds f h) _ c.args.places.now (located shape 0 c.requires.registers (omega arith)) h (c.in_ok-shared.ensures.made.means ∙ before.label.means) (c.requires.alike i) c.put_lane.ensures;
+      standing = c.put_lane.ensures.standing (standing_kept words _ _ c.loop-lane.places keeps before.standing);
       keeps = keeps_then words _ _ _ before.keeps keeps;
       label = made_kept words _ _ _ _ keeps before.label;
     }

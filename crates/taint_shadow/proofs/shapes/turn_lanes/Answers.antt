@@ -16,7 +16,7 @@ loop-lane-preserved g c =
     let keeps = c.in_ok-label.ensures.keeps in
     record {
       holds = λ f h. one_lane words _ _ c.loop-lane.places _ (targets_of shape) (origins_of shape) d i c.in_ok-label.label f c.requires.table (omega (arith, c.if-rd-eq0.false)) (omega (arith, c.loop-lane-test.true))
-          (located shape i c.requires.registers (omega (arith, c.loop-lane-test.true))) (c.requires.lanewise i) keeps before.standing (before.holds f h) c.in_ok-label.ensures.made.means c.in_ok-put.ensures;
-      standing = c.in_ok-put.ensures.standing (standing_kept words _ _ c.loop-lane.places keeps before.standing);
+          (located shape i c.requires.registers (omega (arith, c.loop-lane-test.true))) (c.requires.lanewise i) keeps before.standing (before.holds f h) c.in_ok-label.ensures.made.means c.put_lane.ensures;
+      standing = c.put_lane.ensures.standing (standing_kept words _ _ c.loop-lane.places keeps before.standing);
       keeps = keeps_then words _ _ _ before.keeps keeps;
     }
