@@ -255,13 +255,11 @@ fn loaded_label<A: Labels>(
     ensures made { IfOk result (MakesLabel A.words labels.new (united_over A.words (meaning_at A.words labels.old places.now) (loaded_lane fills base place size lane))) }
     ensures keeps { KeepsLabels A.words labels.old labels.new }
 {
-    if lane < size {
-        return byte_label(labels, places, base, place.wrapping_add(lane as u32));
+    if lane >= size && !fills {
+        return labels.nothing();
     }
-    if fills {
-        return byte_label(labels, places, base, place.wrapping_add((size - 1) as u32));
-    }
-    labels.nothing()
+    let byte = lane.min(size - 1);
+    byte_label(labels, places, base, place.wrapping_add(byte as u32))
 }
 
 /// The label of a byte that is stored, by its base register.

@@ -89,6 +89,26 @@ fn turn_lanes<A: Labels>(
     Ok(())
 }
 
+/// The same, as a function of its own: it is for the shapes that compute, so that [`turn_by_shape`] stays small.
+fn mix_lanes<A: Labels>(
+    labels: &mut A,
+    places: &mut Places<A::Label>,
+    rd: u8,
+    shape: Shape,
+) -> Result<(), NoMemory>
+    requires register { rd < 32 }
+    requires table { targets_of shape ≡ to_register rd (origins_of shape) }
+    requires lanewise { IsLanewise rd shape }
+    requires registers { HasRegisters shape }
+    requires sizes { HasSizes shape }
+    requires standing { AreStanding A.words labels.old places.old }
+    ensures holds { OnOk result ((f : Location → A.Meaning) → Holds A.words labels.old places.old f → Holds A.words labels.new places.new (turned A.words (targets_of shape) f)) }
+    ensures standing { OnOk result (AreStanding A.words labels.new places.new) }
+    ensures keeps { KeepsLabels A.words labels.old labels.new }
+{
+    turn_lanes(labels, places, rd, shape)
+}
+
 /// Labels the lanes of a register alike: what flows into each of them is read once.
 fn turn_alike<A: Labels>(
     labels: &mut A,
@@ -245,7 +265,7 @@ pub(crate) fn turn_by_shape<A: Labels>(
         Shape::Nothing => Ok(()),
         Shape::Clear { rd } => turn_lanes(labels, places, rd, Shape::Clear { rd }),
         Shape::Move { rd, rs } => turn_lanes(labels, places, rd, Shape::Move { rd, rs }),
-        Shape::EachLane { rd, .. } => turn_lanes(labels, places, rd, shape),
+        Shape::EachLane { rd, .. } => mix_lanes(labels, places, rd, shape),
         Shape::AllLanes { rd, .. } => turn_alike(labels, places, rd, shape),
         Shape::ShiftedLanes { rd, .. } => turn_alike(labels, places, rd, shape),
         Shape::FirstLane { rd, .. } => turn_read_lanes(labels, places, rd, shape),
