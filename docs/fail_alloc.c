@@ -6,6 +6,8 @@
 #include <errno.h>
 #include <stdio.h>
 #include <stdlib.h>
+#include <sys/syscall.h>
+#include <unistd.h>
 
 static unsigned long calls;
 
@@ -49,10 +51,9 @@ int posix_memalign(void **block, size_t align, size_t size) {
     return is_refused() ? ENOMEM : next(block, align, size);
 }
 
-__attribute__((destructor)) static void tell(void) {
-    if (!getenv("FAIL_ALLOC")) {
-        char line[64];
-        int length = snprintf(line, sizeof line, "allocations: %lu\n", calls);
-        if (length > 0) fwrite(line, 1, (size_t)length, stderr);
-    }
+// The program ends by _exit, at which no destructor is called.
+void _exit(int status) {
+    if (!getenv("FAIL_ALLOC")) dprintf(2, "allocations: %lu\n", calls);
+    syscall(SYS_exit_group, status);
+    __builtin_unreachable();
 }
