@@ -1,5 +1,7 @@
 //! The numbers of a run.
 
+ghost use Rattle.std.specs.Prelude.{◌≡◌};
+
 use std::marker::Model;
 
 /// The numbers that a run keeps beside its machine and its log: how many steps are done, how many records' calls are
@@ -20,4 +22,13 @@ impl Model for Counters {
     ghost view = { λ c. record { time = c.time; done = c.done; read = c.read; written = c.written } };
 
     ghost inverse = { λ v. record { time = v.time; done = v.done; read = v.read; written = v.written } };
+}
+
+impl Counters {
+    /// How many steps are done.
+    pub fn time(&self) -> u64
+        ensures { result ≡ self.now.time }
+    {
+        self.time
+    }
 }

@@ -53,6 +53,13 @@ impl<'a> Cursor<'a> {
         })
     }
 
+    /// How many steps of the run are done.
+    pub fn time(&self) -> u64
+        ensures { result ≡ self.now.time }
+    {
+        self.run.time()
+    }
+
     /// Makes the next step of the run, or tells its end, again and again. It takes no memory.
     ///
     /// Reads and writes have the channels' offsets: bytes read on a channel, and bytes written on it, are

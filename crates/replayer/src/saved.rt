@@ -54,6 +54,17 @@ impl<'a> Cursor<'a> {
         Ok(CursorState { machine, counters })
     }
 
+    /// The bytes of the machine's window, lent, and all else, with which the cursor can be made again. It takes no memory.
+    pub fn parts(&self) -> (&[u8], Rest)
+        ensures of_job { IsOfJob self.now.job (put_together result.0.now result.1) }
+        ensures again { position_of self.now.job (put_together result.0.now result.1) ≡ self.now }
+        ensures size { length result.0.now ≡ result.1.machine.size }
+    {
+        let counters = self.run.counters();
+        let (window, machine) = self.run.machine().parts();
+        (window, Rest { machine, counters })
+    }
+
     /// The cursor of a state that one of this job's cursors had. It takes no memory.
     pub fn from(job: &'a Job, state: CursorState) -> Cursor<'a>
         requires { IsOfJob job.now state }
@@ -65,6 +76,22 @@ impl<'a> Cursor<'a> {
             job,
             run: Run::resume(Machine::import_state(machine), job.log(), counters),
         }
+    }
+}
+
+impl Rest {
+    /// The lowest address of the machine's window.
+    pub fn base(&self) -> u32
+        ensures { result ≡ self.now.machine.base }
+    {
+        self.machine.base()
+    }
+
+    /// How many steps of the run are done.
+    pub fn time(&self) -> u64
+        ensures { result ≡ self.now.counters.time }
+    {
+        self.counters.time()
     }
 }
 

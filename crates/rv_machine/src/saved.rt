@@ -56,6 +56,21 @@ impl Machine {
         Ok(MachineState { state })
     }
 
+    /// The bytes of the window, lent, and all else, where no call waits. It takes no memory.
+    pub fn parts(&self) -> (&[u8], Rest)
+        requires { self.now.waits ≡ false }
+        ensures again { put_together result.0.now result.1 ≡ self.now.state }
+        ensures size { length result.0.now ≡ result.1.size }
+    {
+        let rest = Rest {
+            pc: self.state.pc,
+            registers: self.state.registers,
+            base: self.state.base,
+            size: self.state.memory.len(),
+        };
+        (self.state.memory.as_slice(), rest)
+    }
+
     /// A machine in this state, in which no call waits. It takes no memory.
     pub fn import_state(state: MachineState) -> Machine
         ensures { result ≡ running state }
@@ -64,6 +79,15 @@ impl Machine {
             state: state.state,
             waits: false,
         }
+    }
+}
+
+impl Rest {
+    /// The lowest address of the window.
+    pub fn base(&self) -> u32
+        ensures { result ≡ self.now.base }
+    {
+        self.base
     }
 }
 
