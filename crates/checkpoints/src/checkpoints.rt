@@ -102,6 +102,14 @@ impl<'a> Checkpoints<'a> {
         Ok(points)
     }
 
+    /// How many steps of the run are done where epoch `k` begins.
+    pub fn time(&self, k: u32) -> u64
+        requires { k < length self.now.times }
+        ensures { slice_get self.now.times k ≡ Some result }
+    {
+        self.points[k as usize].rest.time()
+    }
+
     /// A cursor at the beginning of epoch `k`. It gives up with NoMemory alone.
     pub fn start(&self, alloc: Global, k: u32) -> Result<Cursor<'a>, NoMemory>
         requires { k < length self.now.times }

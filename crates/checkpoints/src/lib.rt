@@ -8,5 +8,7 @@ mod checkpoint;
 mod checkpoints;
 mod pages;
 mod paging;
+mod start_point;
 
 pub use checkpoints::Checkpoints;
+pub use start_point::StartPoint;
