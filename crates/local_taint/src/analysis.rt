@@ -38,21 +38,22 @@ pub fn analyse(
     ensures number { IfOk result (λ e. number_of e ≡ ticket.number) }
     ensures in_range { OnOk result (AreInRange (trace_of cursor.entry.job) ticket.first (ticket.past_last - ticket.first)) }
 {
-    summarize(alloc, &ticket, &mut cursor, query)
+    analyse_from(alloc, ticket, &mut cursor, query)
 }
 
-/// The summary of an epoch. The cursor stands at its first step, and is left where the analysis ends.
-fn summarize(
+/// The same as [`analyse`], with a cursor that is left where the analysis ends: where all goes well, at the epoch's end.
+pub fn analyse_from(
     alloc: Global,
-    ticket: &EpochTicket,
+    ticket: EpochTicket,
     cursor: &mut Cursor,
     query: &Query,
 ) -> Result<Summary, NoMemory>
-    requires begins { cursor.old.time ≡ ticket.now.first }
-    requires ends { ticket.now.past_last ≤ steps cursor.old.job.log }
-    ensures summary { IfOk result (λ e. IsSummary query.now (trace_of cursor.old.job) ticket.now.first (ticket.now.past_last - ticket.now.first) (summary_of e)) }
-    ensures number { IfOk result (λ e. number_of e ≡ ticket.now.number) }
-    ensures in_range { OnOk result (AreInRange (trace_of cursor.old.job) ticket.now.first (ticket.now.past_last - ticket.now.first)) }
+    requires begins { cursor.old.time ≡ ticket.first }
+    requires ends { ticket.past_last ≤ steps cursor.old.job.log }
+    ensures summary { IfOk result (λ e. IsSummary query.now (trace_of cursor.old.job) ticket.first (ticket.past_last - ticket.first) (summary_of e)) }
+    ensures number { IfOk result (λ e. number_of e ≡ ticket.number) }
+    ensures in_range { OnOk result (AreInRange (trace_of cursor.old.job) ticket.first (ticket.past_last - ticket.first)) }
+    ensures job { OnOk result (cursor.new.job ≡ cursor.old.job) }
 {
     let mut nodes = Nodes {
         log: MergeLog::new(alloc),
@@ -97,6 +98,7 @@ fn follow(
     ensures ends { OnOk result (Shows nodes.new places.new (terms (policy_of query.now) (trace_of cursor.old.job) first (past_last - first))) }
     ensures sinks { OnOk result (map (named nodes.new) sinks.new.items ≡ map (sink_terms (policy_of query.now) (trace_of cursor.old.job) first) (sinks_of_epoch query.now (trace_of cursor.old.job) first (past_last - first))) }
     ensures in_range { OnOk result (AreInRange (trace_of cursor.old.job) first (past_last - first)) }
+    ensures job { OnOk result (cursor.new.job ≡ cursor.old.job) }
 {
     let mut points = collect_first(nodes, places, query, first, sinks)?;
     for time in first..past_last {

@@ -8,6 +8,6 @@ mod points;
 mod sinks;
 mod summary;
 
-pub use analysis::analyse;
+pub use analysis::{analyse, analyse_from};
 pub use asked::Asked;
 pub use summary::Summary;

@@ -111,4 +111,5 @@ returns c =
       ends = subst (λ n. Shows c.loop-time.nodes c.loop-time.places (terms (policy_of q) trace s n)) all c.loop-time.invariant.shows;
       sinks = c.loop-time.invariant.rows ∙ ap (λ n. map (sink_terms (policy_of q) trace s) (sinks_of_epoch q trace s n)) all;
       in_range = subst (AreInRange trace s) all c.loop-time.invariant.in_range;
+      job = c.loop-time.invariant.job;
     }
