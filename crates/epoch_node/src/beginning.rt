@@ -11,9 +11,9 @@ ghost use Rattle.epoch_node.specs.Cores.{CanStart};
 ghost use Rattle.epoch_node.specs.Keeping.{IsFound, IsBegun};
 
 use backward_pass::Back;
-use checkpoints::Checkpoints;
+use checkpoints::StartPoint;
 use epoch_cut::EpochTicket;
-use local_taint::{Summary, analyse};
+use local_taint::{Summary, analyse_from};
 use no_memory::NoMemory;
 use query_lang::Query;
 use std::alloc::Global;
@@ -22,14 +22,16 @@ use std::alloc::Global;
 fn summarize(
     alloc: Global,
     ticket: EpochTicket,
-    checkpoints: &Checkpoints<'_>,
+    start: &mut StartPoint<'_>,
     query: &Query,
 ) -> Result<Summary, NoMemory>
-    requires { CanStart checkpoints.now ticket }
-    ensures { IfOk result (λ e. IsFound query.now (trace_of checkpoints.now.job) ticket (summary_of e)) }
+    requires { CanStart start.old ticket }
+    ensures found { IfOk result (λ e. IsFound query.now (trace_of start.old.job) ticket (summary_of e)) }
+    ensures same { start.new ≡ start.old }
 {
-    let cursor = checkpoints.start(alloc, ticket.number())?;
-    let summary = analyse(alloc, ticket, cursor, query)?;
+    let mut cursor = start.start(alloc, ticket.number())?;
+    let summary = analyse_from(alloc, ticket, &mut cursor, query)?;
+    start.put_back(cursor);
     Ok(summary)
 }
 
@@ -37,14 +39,15 @@ fn summarize(
 pub(crate) fn begin(
     alloc: Global,
     ticket: EpochTicket,
-    checkpoints: &Checkpoints<'_>,
+    start: &mut StartPoint<'_>,
     query: &Query,
     first: bool,
     last: bool,
 ) -> Back
-    requires { CanStart checkpoints.now ticket }
-    ensures { IsBegun (record { points = checkpoints.now; query = query.now; epoch = ticket; first = first; last = last }) (back_of result) }
+    requires { CanStart start.old ticket }
+    ensures begun { IsBegun (record { points = start.old; query = query.now; epoch = ticket; first = first; last = last }) (back_of result) }
+    ensures same { start.new ≡ start.old }
 {
-    let summary = summarize(alloc, ticket, checkpoints, query).ok();
+    let summary = summarize(alloc, ticket, start, query).ok();
     Back::new(alloc, summary, first, last)
 }

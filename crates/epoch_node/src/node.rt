@@ -1,6 +1,6 @@
 //! A node: a core with its four ends.
 
-ghost use Rattle.std.specs.Prelude.{◌≡◌, ◌+◌, ◌≤◌, is_ok, true, IfOk};
+ghost use Rattle.std.specs.Prelude.{◌≡◌, ◌+◌, ◌≤◌, is_ok, true, IfOk, IfSome};
 ghost use Rattle.run_board.specs.Turns.{AnswersEnded};
 ghost use Rattle.epoch_node.specs.Cores.{core_of, new_core, CanStart};
 ghost use Rattle.epoch_node.specs.Keeping.{fresh_told, HasDone, HasCounted};
@@ -12,6 +12,7 @@ use crate::node_core::{Broken, Core};
 use crate::stage::Phase;
 use local_taint::Asked;
 use outer_io::Gate;
+use replayer::Cursor;
 use run_board::{Task, Turn};
 use sink_collect::SinkSets;
 use std::marker::Model;
@@ -70,6 +71,23 @@ impl<'a, G> Node<'a, G> {
     {
         // what is known of the fields is known from their first use on
         let _ends = &self.ends;
+    }
+
+    /// Takes a cursor of its job, if there is one, from which its analysis begins if it stands where the epoch begins.
+    pub fn hand_cursor(&mut self, cursor: Option<Cursor<'a>>)
+        requires { IfSome cursor (λ c. c.job ≡ self.old.given.points.job) }
+        ensures { self.new ≡ self.old }
+    {
+        self.core.hand_cursor(cursor);
+    }
+
+    /// Gives the cursor that it has: after its analysis, where that went well and it was handed a cursor or none before, one
+    /// that stands at the epoch's end.
+    pub fn take_cursor(&mut self) -> Option<Cursor<'a>>
+        ensures job { IfSome result (λ c. c.job ≡ self.old.given.points.job) }
+        ensures same { self.new ≡ self.old }
+    {
+        self.core.take_cursor()
     }
 
     fn is_fresh(&self) -> bool {

@@ -1,17 +1,17 @@
 //! A node without its ends.
 
-ghost use Rattle.std.specs.Prelude.{◌≡◌, option_map, is_ok, IfOk};
+ghost use Rattle.std.specs.Prelude.{◌≡◌, option_map, is_ok, IfOk, IfSome};
 ghost use Rattle.run_board.specs.Turns.{AnswersEnded};
 ghost use Rattle.pass_parts.specs.Ends.{IsEndFrom, IsRefused};
 ghost use Rattle.pass_parts.specs.Turns.{OnNotYet, Waits};
-ghost use Rattle.epoch_node.specs.Cores.{core_of, new_core, phase_of, whole_at, asked_at, CanStart};
+ghost use Rattle.epoch_node.specs.Cores.{core_of, stage_of, new_core, phase_of, whole_at, asked_at, CanStart};
 ghost use Rattle.epoch_node.specs.Keeping.{Told, KeepsCore, HasDone, HasCounted, fresh_told};
 ghost use Rattle.epoch_node.specs.Events.{IsReady, StillKeeps, Steps, need_at, WhenNotYet, counted, one_more, IsMore, CanAct, Acts, CanAdvance, Advances};
 
 use crate::beginning::begin;
 use crate::settling::settle;
 use crate::stage::{Phase, Stage};
-use checkpoints::Checkpoints;
+use checkpoints::{Checkpoints, StartPoint};
 use epoch_cut::EpochTicket;
 use epoch_link::{Inlet, Outlet};
 use flow_rule::Message;
@@ -20,6 +20,7 @@ use no_memory::NoMemory;
 use outer_io::Gate;
 use pass_parts::PassTurn;
 use query_lang::Query;
+use replayer::Cursor;
 use run_board::Turn;
 use sink_collect::SinkSets;
 use std::alloc::Global;
@@ -33,7 +34,7 @@ pub struct Broken;
 #[derive(Drop)]
 pub struct Core<'a, G> {
     alloc: Global,
-    checkpoints: &'a Checkpoints<'a>,
+    start: StartPoint<'a>,
     query: &'a Query,
     gate: &'a G,
     number: u32,
@@ -69,7 +70,7 @@ impl<'a, G> Core<'a, G> {
         let past_last = ticket.past_last();
         Ok(Core {
             alloc,
-            checkpoints,
+            start: StartPoint::new(checkpoints),
             query,
             gate,
             number,
@@ -103,6 +104,22 @@ impl<'a, G> Core<'a, G> {
         self.events
     }
 
+    /// Takes a cursor of its job, if there is one, from which its analysis begins if it stands where the epoch begins.
+    pub(crate) fn hand_cursor(&mut self, cursor: Option<Cursor<'a>>)
+        requires { IfSome cursor (λ c. c.job ≡ (core_of self.old).given.points.job) }
+        ensures { core_of self.new ≡ core_of self.old }
+    {
+        self.start.hand(cursor);
+    }
+
+    /// Gives the cursor that it has: after its analysis, where that went well, one that stands at the epoch's end.
+    pub(crate) fn take_cursor(&mut self) -> Option<Cursor<'a>>
+        ensures job { IfSome result (λ c. c.job ≡ (core_of self.old).given.points.job) }
+        ensures same { core_of self.new ≡ core_of self.old }
+    {
+        self.start.take()
+    }
+
     /// The gate that it enters as it begins.
     pub(crate) fn gate(&self) -> &'a G {
         self.gate
@@ -115,18 +132,17 @@ impl<'a, G> Core<'a, G> {
         self.events = self.events.saturating_add(1);
     }
 
-    /// Goes on to the next phase.
-    fn advance(&mut self)
-        requires { CanAdvance (core_of self.old).given (core_of self.old).stage }
-        ensures advances { Advances (core_of self.old).given (core_of self.old).stage (core_of self.new).stage }
-        ensures given { (core_of self.new).given ≡ (core_of self.old).given }
-        ensures events { (core_of self.new).events ≡ (core_of self.old).events }
+    /// The stage that comes after this one.
+    fn stage_after(&mut self, stage: Stage) -> Stage
+        requires { CanAdvance (core_of self.old).given (stage_of stage) }
+        ensures advances { Advances (core_of self.old).given (stage_of stage) (stage_of result) }
+        ensures same { core_of self.new ≡ core_of self.old }
     {
-        let next = match mem::replace(&mut *self.stage, Stage::Between) {
+        match stage {
             Stage::Fresh(ticket) => Stage::Asking(begin(
                 self.alloc,
                 ticket,
-                self.checkpoints,
+                &mut self.start,
                 self.query,
                 self.first,
                 self.last,
@@ -137,7 +153,18 @@ impl<'a, G> Core<'a, G> {
             Stage::Answering(fore) => Stage::Done(fore),
             Stage::Done(_) => unreachable!(),
             Stage::Between => unreachable!(),
-        };
+        }
+    }
+
+    /// Goes on to the next phase.
+    fn advance(&mut self)
+        requires { CanAdvance (core_of self.old).given (core_of self.old).stage }
+        ensures advances { Advances (core_of self.old).given (core_of self.old).stage (core_of self.new).stage }
+        ensures given { (core_of self.new).given ≡ (core_of self.old).given }
+        ensures events { (core_of self.new).events ≡ (core_of self.old).events }
+    {
+        let stage = mem::replace(&mut *self.stage, Stage::Between);
+        let next = self.stage_after(stage);
         *self.stage = next;
     }
 

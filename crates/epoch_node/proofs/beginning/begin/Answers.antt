@@ -18,13 +18,13 @@ found_known i (Ok e) f = λ t. record {
 }
 found_known i (Err x) f = λ t. cc
 
-pub returns : goal.returns
-returns c =
-    let i : Given = record { points = c.args.checkpoints.now; query = c.args.query.now; epoch = c.args.ticket; first = c.args.first; last = c.args.last } in
+pub returns-clause-begun : goal.returns-clause-begun
+returns-clause-begun c =
+    let i : Given = record { points = c.args.start.now; query = c.args.query.now; epoch = c.args.ticket; first = c.args.first; last = c.args.last } in
     let summary = ap (λ v. v.summary) c.new.ensures.made in
     record {
       new = c.new.ensures.made ∙ ap (λ s. new_back s c.args.first c.args.last) (sym summary);
-      summary = subst (KnowsEpoch i) (sym (summary ∙ c.ok-summary.ensures.value)) (found_known i c.summarize.result c.summarize.ensures);
+      summary = subst (KnowsEpoch i) (sym (summary ∙ c.ok-summary.ensures.value)) (found_known i c.summarize.result c.summarize.ensures.found);
       keeps = c.new.ensures.keeps;
       reached = c.new.ensures.reached;
     }

@@ -4,8 +4,8 @@ use Rattle.epoch_model.specs.Summary.{IsSummary}
 use Rattle.local_taint.specs.Summaries.{summary_of, AreInRange}
 use Rattle.epoch_node.proofs.beginning.summarize.Goals as goal
 
-pub returns : goal.returns
-returns c =
+pub returns-clause-found : goal.returns-clause-found
+returns-clause-found c =
     let first = c.args.ticket.first in
     let count = c.args.ticket.past_last - first in
     let e = c.in_ok-summary.summary in
