@@ -8,5 +8,6 @@ mod checkpoint;
 mod checkpoints;
 mod pages;
 mod paging;
+mod touched;
 
 pub use checkpoints::Checkpoints;
