@@ -1,20 +1,21 @@
 -- How many pages checkpoints hold, and what one more checkpoint adds.
-use Rattle.std.proofs.Common.{◌≡◌, ℕ, zero, suc, ◌+◌, ◌-◌, ◌<◌, ◌≤◌, ◌⊎◌, inl, inr, List, [], ◌∷◌, ◌++◌, length, map, get_or, refl, arith, ap, sym, ◌∙◌, subst, length-append}
+use Rattle.std.proofs.Common.{◌≡◌, ℕ, zero, suc, ◌+◌, ◌-◌, ◌<◌, ◌≤◌, ◌⊎◌, inl, inr, Bool, List, [], ◌∷◌, ◌++◌, length, map, take, get_or, refl, arith, ap, sym, ◌∙◌, subst, length-append}
 use Rattle.std.specs.List.{All}
 use Rattle.std.proofs.lemmas.Bool.{cases_lt}
 use Rattle.std.proofs.lemmas.List.{get_or_append_left, get_or_push, get_or_default, map_push}
 use Rattle.replayer.specs.Jobs.{Job}
 use Rattle.replayer.specs.Saved.{RestOfCursor}
-use Rattle.checkpoints.specs.Pages.{changed, ArePagesOf, IsExtended}
-use Rattle.checkpoints.specs.Points.{CheckpointAt, time_of, window_at, changed_after, held_at, last_numbers, IsCheckpoint, AreCheckpoints}
+use Rattle.checkpoints.specs.Pages.{changed, IsHeld, ArePagesOf, IsExtended}
+use Rattle.checkpoints.specs.Touched.{AreOthersSame, AreOthersHeld}
+use Rattle.checkpoints.specs.Points.{CheckpointAt, time_of, window_at, last_window, changed_after, held_at, last_numbers, IsCheckpoint, AreCheckpoints}
 use Rattle.checkpoints.proofs.Splitting.{changed_none, pages_later}
 
 -- ---- the last checkpoint
 
--- the last window of these times, after one
-abbrev pub last_window : Job → List ℕ → List ℕ → List ℕ
-last_window job before [] = before
-last_window job before (t ∷ ts) = last_window job (window_at job t) ts
+pub last_window_is : (job : Job) (before ts : List ℕ) (n : ℕ) → n < length ts → last_window job before (take (suc n) ts) ≡ window_at job (get_or ts n 0)
+last_window_is job before [] n h = absurd (omega (arith, h))
+last_window_is job before (t ∷ ts) zero h = refl
+last_window_is job before (t ∷ ts) (suc n) h = last_window_is job (window_at job t) ts n (omega (arith, h))
 
 held_more : (job : Job) (before ts : List ℕ) (t : ℕ) → changed_after job before (ts ++ t ∷ []) ≡ changed_after job before ts + changed (last_window job before ts) (window_at job t)
 held_more job before [] t = omega arith
@@ -47,6 +48,13 @@ pub last_below : (job : Job) (pages : List (List ℕ)) (points : List Checkpoint
 last_below job pages points are k d h =
     let last = last_paged job pages [] [] points are.each (none_paged pages) in
     subst (λ (number : ℕ). number < length pages) (get_or_default (last_numbers [] points) k 0 d h) (last.each k h).below
+
+-- pages that weren't touched since the last checkpoint are held by its numbers
+pub others_held : (job : Job) (pages : List (List ℕ)) (points : List CheckpointAt) (flags : List Bool) (window : List ℕ) → AreCheckpoints job pages points → AreOthersSame flags (last_window job [] (map time_of points)) window
+    → AreOthersHeld flags pages (last_numbers [] points) window
+others_held job pages points flags window are same place untouched below =
+    let last = last_paged job pages [] [] points are.each (none_paged pages) in
+    subst (IsHeld pages (get_or (last_numbers [] points) place 0)) (sym (same place untouched)) (last.each place below)
 
 -- the last checkpoint's numbers, as a slice has it
 pub last_is : (numbers : List ℕ) (points : List CheckpointAt) (d : CheckpointAt) → 0 < length points → last_numbers numbers points ≡ (get_or points (length points - 1) d).numbers

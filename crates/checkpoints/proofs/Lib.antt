@@ -1,3 +1,6 @@
 mod Splitting
 mod Holding
 mod Rising
+mod Writing
+mod Untouched
+mod Standing

@@ -5,6 +5,7 @@ use Rattle.replay_model.specs.Run.{start, moment_after}
 use Rattle.replayer.specs.Jobs.{Job}
 use Rattle.replayer.specs.Saved.{SavedCursor, RestOfCursor, rest_of, IsOfJob}
 use Rattle.checkpoints.specs.Pages.{page_count, changed, ArePagesOf}
+use Rattle.checkpoints.specs.Touched.{TouchedAt}
 
 -- a checkpoint: the numbers of its window's pages, and all else of the saved cursor
 pub record CheckpointAt : Type 0 where
@@ -43,6 +44,16 @@ held_at job (t ∷ ts) = page_count (window_at job t) + changed_after job (windo
 -- how many pages are held
 abbrev pub held : CheckpointsAt → ℕ
 held points = held_at points.job points.times
+
+-- the last window of these times, and this one where there is no time
+abbrev pub last_window : Job → List ℕ → List ℕ → List ℕ
+last_window job before [] = before
+last_window job before (t ∷ ts) = last_window job (window_at job t) ts
+
+-- the flags are those of the pages of the job's window
+pub record AreOfWindow (job : Job) (touched : TouchedAt) : Type 0 where
+  pub base : touched.base ≡ job.start.base
+  pub count : length touched.flags ≡ page_count job.start.memory
 
 -- ---- what is true of checkpoints
 

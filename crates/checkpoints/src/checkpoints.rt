@@ -3,11 +3,14 @@
 ghost use Rattle.std.specs.Prelude.{◌≡◌, ◌+◌, ◌<◌, ◌≤◌, Some, [], ◌∷◌, ◌++◌, length, slice_get, IfOk};
 ghost use Rattle.log_model.specs.Logs.{steps};
 ghost use Rattle.epoch_model.specs.Cutting.{IsCutting};
-ghost use Rattle.checkpoints.specs.Points.{beginnings, held, last_numbers};
+ghost use Rattle.replayer.specs.Jobs.{IsJob};
+ghost use Rattle.checkpoints.specs.Touched.{AreAllTouched, AreOthersSame};
+ghost use Rattle.checkpoints.specs.Points.{beginnings, held, last_numbers, window_at, last_window, AreOfWindow};
 
 use crate::checkpoint::Checkpoint;
 use crate::pages::Pages;
 use crate::paging::{join, split};
+use crate::touched::Touched;
 use epoch_cut::Cuts;
 use no_memory::NoMemory;
 use replayer::{Cursor, CursorState, Job, Next};
@@ -33,14 +36,28 @@ impl<'a> Model for Checkpoints<'a> {
     ghost invariant = { λ c. AreCheckpoints c.job.now c.pages c.points.items };
 }
 
-/// Makes so many of the next steps, which the run has.
-fn advance(cursor: &mut Cursor<'_>, count: u64)
-    requires { cursor.old.time + count ≤ steps cursor.old.job.log }
-    ensures { cursor.new ≡ record { job = cursor.old.job; time = cursor.old.time + count } }
+/// Each page of the window of a cursor that stands at the beginning of its run. It gives up with NoMemory alone.
+fn all_pages(alloc: Global, cursor: &Cursor<'_>) -> Result<Touched, NoMemory>
+    requires { cursor.now.time ≡ 0 }
+    ensures window { IfOk result (λ touched. AreOfWindow cursor.now.job touched) }
+    ensures all { IfOk result (λ touched. AreAllTouched touched.flags) }
+{
+    let (window, rest) = cursor.parts();
+    Touched::all(alloc, rest.base(), window.len())
+}
+
+/// Makes so many of the next steps, which the run has, and notes the pages that they write.
+fn advance(cursor: &mut Cursor<'_>, touched: &mut Touched, count: u64)
+    requires job { IsJob cursor.old.job }
+    requires steps { cursor.old.time + count ≤ steps cursor.old.job.log }
+    requires flags { AreOfWindow cursor.old.job touched.old }
+    ensures moved { cursor.new ≡ record { job = cursor.old.job; time = cursor.old.time + count } }
+    ensures flags { AreOfWindow cursor.old.job touched.new }
+    ensures others { AreOthersSame touched.new.flags (window_at cursor.old.job cursor.old.time) (window_at cursor.old.job (cursor.old.time + count)) }
 {
     for _ in 0..count {
         match cursor.next() {
-            Next::Step(_) => {}
+            Next::Step(step) => touched.note(&step),
             Next::End(_) => unreachable!(),
         }
     }
@@ -68,9 +85,16 @@ impl<'a> Checkpoints<'a> {
         }
     }
 
-    /// These checkpoints, and one more where the cursor stands.
-    fn with(self, alloc: Global, cursor: &Cursor<'_>) -> Result<Checkpoints<'a>, NoMemory>
-        requires { cursor.now.job ≡ self.job }
+    /// These checkpoints, and one more where the cursor stands. Pages that were touched since the last are compared.
+    fn with(
+        self,
+        alloc: Global,
+        cursor: &Cursor<'_>,
+        touched: &Touched,
+    ) -> Result<Checkpoints<'a>, NoMemory>
+        requires job { cursor.now.job ≡ self.job }
+        requires flags { AreOfWindow self.job touched.now }
+        requires others { AreOthersSame touched.now.flags (last_window self.job [] self.times) (window_at self.job cursor.now.time) }
         ensures { IfOk result (λ more. more ≡ record { job = self.entry.job; times = self.entry.times ++ cursor.now.time ∷ [] }) }
     {
         let Checkpoints {
@@ -78,9 +102,10 @@ impl<'a> Checkpoints<'a> {
             mut pages,
             mut points,
         } = self;
-        let (bytes, rest) = cursor.save(alloc)?.apart();
+        job.form();
+        let (window, rest) = cursor.parts();
         let before = last_numbers(points.as_slice());
-        let numbers = split(alloc, &mut pages, before, bytes.as_slice())?;
+        let numbers = split(alloc, &mut pages, before, touched.flags(), window)?;
         points.push(Checkpoint { numbers, rest })?;
         Ok(Checkpoints { job, pages, points })
     }
@@ -91,13 +116,16 @@ impl<'a> Checkpoints<'a> {
         requires { IsCutting (steps job.now.log) cuts.now }
         ensures { IfOk result (λ points. points ≡ record { job = job.now; times = beginnings cuts.now }) }
     {
+        job.form();
         let mut cursor = Cursor::start(alloc, job)?;
-        let mut points = Checkpoints::none(alloc, job).with(alloc, &cursor)?;
+        let mut touched = all_pages(alloc, &cursor)?;
+        let mut points = Checkpoints::none(alloc, job).with(alloc, &cursor, &touched)?;
         for number in 1..cuts.count() {
             let before = cuts.at(number - 1);
             let first = cuts.at(number);
-            advance(&mut cursor, first - before);
-            points = points.with(alloc, &cursor)?;
+            touched.clear();
+            advance(&mut cursor, &mut touched, first - before);
+            points = points.with(alloc, &cursor, &touched)?;
         }
         Ok(points)
     }

@@ -9,6 +9,7 @@ mod checkpoints;
 mod pages;
 mod paging;
 mod start_point;
+mod touched;
 
 pub use checkpoints::Checkpoints;
 pub use start_point::StartPoint;

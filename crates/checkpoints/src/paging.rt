@@ -1,25 +1,29 @@
 //! A window's pages, kept and put together again.
 
-ghost use Rattle.std.specs.Prelude.{◌≡◌, ℕ, ◌+◌, ◌<◌, List, length, IfOk};
+ghost use Rattle.std.specs.Prelude.{◌≡◌, ℕ, ◌+◌, ◌<◌, false, List, length, get_or, IfOk};
 ghost use Rattle.std.specs.List.{All};
-ghost use Rattle.checkpoints.specs.Pages.{changed, differs, IsHeld, ArePagesOf, IsExtended, page_before};
+ghost use Rattle.checkpoints.specs.Pages.{page_count, changed, differs, IsHeld, ArePagesOf, IsExtended, page_before};
+ghost use Rattle.checkpoints.specs.Touched.{AreOthersHeld};
 
 use crate::pages::Pages;
 use no_memory::NoMemory;
 use std::alloc::Global;
 
 /// How many bytes a page has.
-const PAGE_SIZE: usize = 4096;
+pub const PAGE_SIZE: usize = 4096;
 
 /// The number of a page. Where it has the bytes of the page that was at its place before, it is that page's number.
+/// The bytes are looked at only if they may have been written since.
 fn keep(
     alloc: Global,
     pages: &mut Pages,
     before: &[u32],
     place: usize,
+    is_touched: bool,
     page: &[u8],
 ) -> Result<u32, NoMemory>
     requires held { All (λ number. number < length pages.old) before.now }
+    requires same { is_touched ≡ false → place < length before.now → IsHeld pages.old (get_or before.now place 0) page.now }
     requires some { 0 < length page.now }
     ensures held { IfOk result (λ number. IsHeld pages.new number page.now) }
     ensures extended { IfOk result (λ _. IsExtended pages.old pages.new) }
@@ -27,6 +31,9 @@ fn keep(
 {
     if place < before.len() {
         let number = before[place];
+        if !is_touched {
+            return Ok(number);
+        }
         if pages.page(number) == page {
             return Ok(number);
         }
@@ -35,14 +42,18 @@ fn keep(
 }
 
 /// The numbers of a window's pages. A page that is as it was at its place in the window before keeps its number, and
-/// only the others are kept anew. It gives up with NoMemory alone.
+/// only the others are kept anew. Only pages that may have been written since are compared. It gives up with NoMemory
+/// alone.
 pub fn split(
     alloc: Global,
     pages: &mut Pages,
     before: &[u32],
+    flags: &[bool],
     bytes: &[u8],
 ) -> Result<Vec<u32>, NoMemory>
-    requires { All (λ number. number < length pages.old) before.now }
+    requires held { All (λ number. number < length pages.old) before.now }
+    requires flags { length flags.now ≡ page_count bytes.now }
+    requires same { AreOthersHeld flags.now pages.old before.now bytes.now }
     ensures paged { IfOk result (λ numbers. ArePagesOf pages.new numbers.items bytes.now) }
     ensures extended { IfOk result (λ _. IsExtended pages.old pages.new) }
     ensures count { IfOk result (λ _. (window : List ℕ) → ArePagesOf pages.old before.now window → length pages.new ≡ length pages.old + changed window bytes.now) }
@@ -52,7 +63,14 @@ pub fn split(
     for place in 0..count {
         let first = place * PAGE_SIZE;
         let past = bytes.len().min(first + PAGE_SIZE);
-        let number = keep(alloc, pages, before, place, &bytes[first..past])?;
+        let number = keep(
+            alloc,
+            pages,
+            before,
+            place,
+            flags[place],
+            &bytes[first..past],
+        )?;
         numbers.push(number)?;
     }
     Ok(numbers)

@@ -1,7 +1,19 @@
-use Rattle.std.proofs.Common.{rules, ◌≡◌, ℕ, ◌+◌, ◌<◌, suc, List, length, get_or, arith, ap, ap₂, sym, ◌∙◌, subst, add-one}
+use Rattle.std.proofs.Common.{rules, ◌≡◌, ℕ, ◌+◌, ◌<◌, suc, true, false, List, length, get_or, arith, ap, ap₂, sym, ◌∙◌, subst, add-one}
+use Rattle.std.proofs.lemmas.List.{get_or_default}
 use Rattle.checkpoints.specs.Pages.{page, changed_among, differs, IsHeld}
-use Rattle.checkpoints.proofs.Splitting.{page_cut, before_is, next_is_held, extended_twice, pages_later}
+use Rattle.checkpoints.proofs.Splitting.{page_cut, before_is, next_is_held, held_later, extended_twice, pages_later}
 use Rattle.checkpoints.proofs.paging.split.Goals as goal
+
+pub keep-requires-clause-same : goal.keep-requires-clause-same
+keep-requires-clause-same c untouched within =
+    let place = c.loop-place.place in
+    let flags = c.args.flags.now in
+    let pages = c.args.pages.now in
+    let number = get_or c.args.before.now place 0 in
+    let flagged : place < length flags = omega (arith, c.requires.flags, c.loop-place-test.true, c.div_ceil-count.ensures) in
+    let held = c.requires.same place (get_or_default flags place true false flagged ∙ untouched) within in
+    let cut = page_cut c.args.bytes.now place c.min-past.result c.min-past.ensures in
+    subst (IsHeld c.loop-place.pages number) (sym cut) (held_later pages c.loop-place.pages number (page c.args.bytes.now place) c.loop-place.invariant.extended held)
 
 pub loop-place-preserved : goal.loop-place-preserved
 loop-place-preserved c =
