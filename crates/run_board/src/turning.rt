@@ -64,7 +64,7 @@ pub fn turn_until_empty<T: Task, R: Wait>(rt: &R, queue: &TaskQueue<T>, worker: 
 {
     let mut idle = Idle::new();
     for _ in rt.forever() {
-        idle.rest();
+        idle.rest(rt);
         match queue.pop_as::<Take, R>(rt, &mut worker.pass) {
             Some(task) => turn_once(rt, queue, worker, &mut idle, task),
             None => return,
