@@ -1,6 +1,6 @@
 -- Windows of memory, page by page.
 use Rattle.std.proofs.Common.{◌≡◌, ℕ, zero, suc, ◌+◌, ◌-◌, ◌*◌, ◌<◌, ◌≤◌, ◌⊎◌, inl, inr, min, Bool, List, [], ◌∷◌, ◌++◌, length, take, drop, get_or, refl, arith, ap, sym, ◌∙◌, length-take, length-drop, length-append, append_assoc, subst}
-use Rattle.std.specs.Prelude.{if◌then◌else◌, Result, Ok, Err, IfOk}
+use Rattle.std.specs.Prelude.{if◌then◌else◌}
 use Rattle.std.proofs.lemmas.Cmp.{nat_list_eq_equiv}
 use Rattle.std.proofs.lemmas.Option.{slice_get-get_or, slice_get_past}
 use Rattle.std.proofs.lemmas.Grind.{div_ceil_times}
@@ -41,18 +41,9 @@ pub nonempty : (window : List ℕ) (k : ℕ) → k < page_count window → 0 < l
 nonempty window k h = let c = div_ceil_times (length window) 4096 (omega arith) in omega (arith, h, c.1, length-take 4096 (drop (k * 4096) window), length-drop (k * 4096) window)
 
 -- each page of a window differs from none
-pub differs_none : (bytes : List ℕ) → 0 < length bytes → differs [] bytes ≡ 1
+differs_none : (bytes : List ℕ) → 0 < length bytes → differs [] bytes ≡ 1
 differs_none [] h = absurd (omega (arith, h))
 differs_none (x ∷ xs) h = refl
-
--- a page differs from itself nowhere
-pub differs_same : (bytes : List ℕ) → differs bytes bytes ≡ 0
-differs_same bytes = ap (λ (b : Bool). if b then 0 else 1) (nat_list_eq_equiv.refl bytes)
-
--- one more page is kept
-pub one_more : {E : Type 0} (r : Result ℕ E) (before after : List (List ℕ)) (bytes : List ℕ) (n : ℕ) → IfOk r (λ number. after ≡ before ++ bytes ∷ []) → n ≡ 1 → IfOk r (λ number. length after ≡ length before + n)
-one_more (Ok number) before after bytes n kept e = omega (arith, e, ap length kept, length-append before (bytes ∷ []))
-one_more (Err e) before after bytes n kept h = tt
 
 none_among : (window : List ℕ) (n : ℕ) → n ≤ page_count window → changed_among n [] window ≡ n
 none_among window zero h = refl
@@ -63,20 +54,19 @@ none_among window (suc n) h =
 pub changed_none : (window : List ℕ) → changed [] window ≡ page_count window
 changed_none window = none_among window (page_count window) (omega arith)
 
--- what was at a place before is the page of the number there, and nothing past the last
-pub before_within : (pages : List (List ℕ)) (numbers : List ℕ) (k : ℕ) → k < length numbers → page_before pages numbers k ≡ get_or pages (get_or numbers k 0) []
-before_within pages numbers k h = ap (page_of pages) (slice_get-get_or numbers k 0 h)
-
-pub before_past : (pages : List (List ℕ)) (numbers : List ℕ) (k : ℕ) → length numbers ≤ k → page_before pages numbers k ≡ []
-before_past pages numbers k h = ap (page_of pages) (slice_get_past numbers k h)
-
--- it is the page of the window before
+-- what was at a place before is the page of the window before
 before_by : (pages : List (List ℕ)) (numbers window : List ℕ) (k : ℕ) → ArePagesOf pages numbers window → (k < length numbers) ⊎ (length numbers ≤ k) → page_before pages numbers k ≡ page window k
-before_by pages numbers window k are (inl h) = before_within pages numbers k h ∙ (are.each k h).is
-before_by pages numbers window k are (inr h) = before_past pages numbers k h ∙ sym (past_pages window k (omega (arith, h, are.count)))
+before_by pages numbers window k are (inl h) = ap (page_of pages) (slice_get-get_or numbers k 0 h) ∙ (are.each k h).is
+before_by pages numbers window k are (inr h) = ap (page_of pages) (slice_get_past numbers k h) ∙ sym (past_pages window k (omega (arith, h, are.count)))
 
 pub before_is : (pages : List (List ℕ)) (numbers window : List ℕ) (k : ℕ) → ArePagesOf pages numbers window → page_before pages numbers k ≡ page window k
 before_is pages numbers window k are = before_by pages numbers window k are (cases_lt k (length numbers))
+
+-- a page that is held by the number at its place doesn't differ from what was there
+pub same_there : (pages : List (List ℕ)) (numbers bytes : List ℕ) (k : ℕ) → k < length numbers → IsHeld pages (get_or numbers k 0) bytes → differs (page_before pages numbers k) bytes ≡ 0
+same_there pages numbers bytes k h held =
+    let before : page_before pages numbers k ≡ bytes = ap (page_of pages) (slice_get-get_or numbers k 0 h) ∙ held.is in
+    ap (λ (was : List ℕ). differs was bytes) before ∙ ap (λ (b : Bool). if b then 0 else 1) (nat_list_eq_equiv.refl bytes)
 
 -- ---- pages that were held stay held
 

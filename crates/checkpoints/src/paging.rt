@@ -13,8 +13,31 @@ use std::alloc::Global;
 pub const PAGE_SIZE: usize = 4096;
 
 /// The number of a page. Where it has the bytes of the page that was at its place before, it is that page's number.
-/// The bytes are looked at only if they may have been written since.
 fn keep(
+    alloc: Global,
+    pages: &mut Pages,
+    before: &[u32],
+    place: usize,
+    page: &[u8],
+) -> Result<u32, NoMemory>
+    requires held { All (λ number. number < length pages.old) before.now }
+    requires some { 0 < length page.now }
+    ensures held { IfOk result (λ number. IsHeld pages.new number page.now) }
+    ensures extended { IfOk result (λ _. IsExtended pages.old pages.new) }
+    ensures count { IfOk result (λ _. length pages.new ≡ length pages.old + differs (page_before pages.old before.now place) page.now) }
+{
+    if place < before.len() {
+        let number = before[place];
+        if pages.page(number) == page {
+            return Ok(number);
+        }
+    }
+    pages.push(alloc, page)
+}
+
+/// The number of the page at a place. Where it can't have been written since, it is that of the page there before, and
+/// no byte is looked at.
+fn number_at(
     alloc: Global,
     pages: &mut Pages,
     before: &[u32],
@@ -29,16 +52,10 @@ fn keep(
     ensures extended { IfOk result (λ _. IsExtended pages.old pages.new) }
     ensures count { IfOk result (λ _. length pages.new ≡ length pages.old + differs (page_before pages.old before.now place) page.now) }
 {
-    if place < before.len() {
-        let number = before[place];
-        if !is_touched {
-            return Ok(number);
-        }
-        if pages.page(number) == page {
-            return Ok(number);
-        }
+    if !is_touched && place < before.len() {
+        return Ok(before[place]);
     }
-    pages.push(alloc, page)
+    keep(alloc, pages, before, place, page)
 }
 
 /// The numbers of a window's pages. A page that is as it was at its place in the window before keeps its number, and
@@ -63,7 +80,7 @@ pub fn split(
     for place in 0..count {
         let first = place * PAGE_SIZE;
         let past = bytes.len().min(first + PAGE_SIZE);
-        let number = keep(
+        let number = number_at(
             alloc,
             pages,
             before,
