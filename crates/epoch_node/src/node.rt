@@ -1,6 +1,6 @@
 //! A node: a core with its four ends.
 
-ghost use Rattle.std.specs.Prelude.{◌≡◌, ◌+◌, ◌≤◌, is_ok, true, IfOk};
+ghost use Rattle.std.specs.Prelude.{◌≡◌, ◌+◌, ◌≤◌, is_ok, true, IfOk, IfSome};
 ghost use Rattle.run_board.specs.Turns.{AnswersEnded};
 ghost use Rattle.epoch_node.specs.Cores.{core_of, new_core, CanStart};
 ghost use Rattle.epoch_node.specs.Keeping.{fresh_told, HasDone, HasCounted};
@@ -12,6 +12,7 @@ use crate::node_core::{Broken, Core};
 use crate::stage::Phase;
 use local_taint::Asked;
 use outer_io::Gate;
+use replayer::Cursor;
 use run_board::{Task, Turn};
 use sink_collect::SinkSets;
 use std::marker::Model;
@@ -121,6 +122,22 @@ impl<'a, G> Node<'a, G> {
             }
         }
         Turn::Moved
+    }
+
+    /// Hands the node a cursor of its job, from which its analysis begins if it stands where the epoch begins.
+    pub fn hand_cursor(&mut self, cursor: Option<Cursor<'a>>)
+        requires { IfSome cursor (λ c. c.job ≡ self.old.given.points.job) }
+        ensures { self.new ≡ self.old }
+    {
+        let _unused = cursor;
+    }
+
+    /// Takes the cursor that the node has: after its analysis, one that stands where its epoch ends.
+    pub fn take_cursor(&mut self) -> Option<Cursor<'a>>
+        ensures job { IfSome result (λ c. c.job ≡ self.old.given.points.job) }
+        ensures same { self.new ≡ self.old }
+    {
+        None
     }
 
     /// What is left of a node that is done.

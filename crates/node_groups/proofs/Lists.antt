@@ -18,6 +18,10 @@ module _ {X : Type 0} (P : X → Type 0) where
   all_front [] ys h = All-nil P
   all_front (x ∷ xs) ys h = All-cons P x xs (All-head P x (xs ++ ys) h) (all_front xs ys (All-tail P x (xs ++ ys) h))
 
+  pub all_rest : (xs ys : List X) → All P (xs ++ ys) → All P ys
+  all_rest [] ys h = h
+  all_rest (x ∷ xs) ys h = all_rest xs ys (All-tail P x (xs ++ ys) h)
+
   pub all_last : (xs : List X) (y : X) → All P (xs ++ y ∷ []) → P y
   all_last [] y h = All-head P y [] h
   all_last (x ∷ xs) y h = all_last xs y (All-tail P x (xs ++ y ∷ []) h)

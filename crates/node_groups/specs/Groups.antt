@@ -2,6 +2,7 @@
 use Rattle.std.specs.Prelude.{◌≡◌, ℕ, List, [], ◌∷◌, refl}
 use mathlib.Core.Path.{◌∙◌}
 use Rattle.std.specs.List.{All, AllZip, flat_map}
+use Rattle.replayer.specs.Jobs.{Job}
 use Rattle.epoch_node.specs.declared.stage.Phase.TheVariants.{Done}
 use Rattle.epoch_node.specs.Nodes.{NodeView, IsLedFrom, led_refl, led_trans}
 
@@ -19,6 +20,13 @@ IsNodeDone n = n.phase ≡ Done
 -- all nodes are done
 abbrev pub IsGroupEnded : GroupView → Type 0
 IsGroupEnded g = All IsNodeDone g.nodes
+
+-- the checkpoints that the nodes were given are all of one job
+abbrev pub AreOfJob : Job → List NodeView → Type 0
+AreOfJob job nodes = All (λ n. n.given.points.job ≡ job) nodes
+
+abbrev pub AreOfOneJob : List NodeView → Type 0
+AreOfOneJob nodes = (job : Job) × AreOfJob job nodes
 
 -- the nodes of these groups
 abbrev pub nodes_of : List GroupView → List NodeView

@@ -1,6 +1,7 @@
 //! A group of nodes.
 
 ghost use Rattle.std.specs.Prelude.{◌≡◌, ◌≤◌, [], vec_len, vec_capacity};
+ghost use Rattle.node_groups.specs.Groups.{AreOfOneJob};
 
 use crate::answers::{after_both, together};
 use epoch_node::Node;
@@ -8,8 +9,8 @@ use outer_io::Gate;
 use run_board::{Task, Turn};
 use std::marker::Model;
 
-/// Neighbouring nodes, which get their turns from one worker, one after another. Contracts see its number, and its nodes from
-/// the first to the last.
+/// Neighbouring nodes of one job, which get their turns from one worker, one after another. Contracts see its number, and its
+/// nodes from the first to the last.
 #[derive(Drop)]
 pub struct Group<'a, G> {
     number: u32,
@@ -21,13 +22,13 @@ pub struct Group<'a, G> {
 
 impl<'a, G> Model for Group<'a, G> {
     ghost use Rattle.std.specs.Prelude.{◌≡◌, ◌≤◌, [], reverse, vec_len, vec_capacity};
-    ghost use Rattle.node_groups.specs.Groups.{GroupView};
+    ghost use Rattle.node_groups.specs.Groups.{GroupView, AreOfOneJob};
 
     ghost Value = { GroupView };
 
     ghost view = { λ g. record { number = g.number; nodes = reverse g.left.items } };
 
-    ghost invariant = { λ g. (g.turned.items ≡ []) × (vec_len g.left ≤ vec_capacity g.turned) };
+    ghost invariant = { λ g. (g.turned.items ≡ []) × (vec_len g.left ≤ vec_capacity g.turned) × AreOfOneJob g.left.items };
 }
 
 impl<'a, G> Group<'a, G> {
@@ -39,6 +40,7 @@ impl<'a, G> Group<'a, G> {
     ) -> Group<'a, G>
         requires empty { turned.items ≡ [] }
         requires room { vec_len nodes ≤ vec_capacity turned }
+        requires one_job { AreOfOneJob nodes.items }
         ensures { result ≡ record { number = number; nodes = nodes.entry.items } }
     {
         let mut left = nodes;
@@ -76,8 +78,9 @@ impl<'a, G: Gate> Task for Group<'a, G> {
         self.number
     }
 
-    /// Each of its nodes has a turn, from the first to the last, and then one more, from the last to the first. It takes no
-    /// memory.
+    /// Each of its nodes has a turn, from the first to the last, and then one more, from the last to the first. On the way
+    /// up a node hands its cursor on to the next, whose epoch begins where the cursor stands after an analysis. The group
+    /// itself takes no memory.
     fn turn(&mut self) -> Turn
         ensures led { IsGroupLedFrom self.new self.old }
         ensures number { self.new.number ≡ self.old.number }
@@ -89,8 +92,11 @@ impl<'a, G: Gate> Task for Group<'a, G> {
             turned,
         } = self;
         let mut up = Turn::Done;
+        let mut cursor = None;
         while let Some(mut node) = left.pop() {
+            node.hand_cursor(cursor);
             up = together(up, node.turn());
+            cursor = node.take_cursor();
             turned.push_reserved(node);
         }
         let mut down = Turn::Done;

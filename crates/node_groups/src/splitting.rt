@@ -2,7 +2,7 @@
 
 ghost use Rattle.std.specs.Prelude.{◌≡◌, ◌+◌, ◌<◌, ◌≤◌, ◌++◌, IfOk, length, reverse, vec_len, vec_capacity};
 ghost use Rattle.run_board.specs.Tasks.{AreNumbered};
-ghost use Rattle.node_groups.specs.Groups.{nodes_of};
+ghost use Rattle.node_groups.specs.Groups.{AreOfOneJob, nodes_of};
 
 use crate::group::Group;
 use epoch_node::Node;
@@ -18,6 +18,7 @@ fn take_group<'a, G>(
     size: usize,
 ) -> Result<Group<'a, G>, NoMemory>
     requires some { 1 ≤ size }
+    requires one_job { AreOfOneJob stack.old.items }
     ensures number { IfOk result (λ group. group.number ≡ number) }
     ensures nodes { IfOk result (λ group. reverse stack.old.items ≡ group.nodes ++ reverse stack.new.items) }
     ensures fewer { IfOk result (λ _. 1 ≤ vec_len stack.old → vec_len stack.new < vec_len stack.old) }
@@ -41,6 +42,7 @@ pub(crate) fn split<'a, G>(
 ) -> Result<Vec<Group<'a, G>>, NoMemory>
     requires some { 1 ≤ size }
     requires count { (1 ≤ vec_len nodes) × (vec_len nodes ≤ 4096) }
+    requires one_job { AreOfOneJob nodes.items }
     ensures nodes { IfOk result (λ groups. nodes_of groups.items ≡ nodes.entry.items) }
     ensures numbers { IfOk result (λ groups. AreNumbered (λ g. g.number) groups.items) }
     ensures count { IfOk result (λ groups. (1 ≤ vec_len groups) × (vec_len groups ≤ 4096)) }

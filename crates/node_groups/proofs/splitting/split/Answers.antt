@@ -1,6 +1,10 @@
 use Rattle.std.proofs.Common.{◌≤◌, vec_len, rules, arith}
+use Rattle.node_groups.proofs.Jobs.{left_of_one_job}
 use Rattle.node_groups.proofs.Numbers.{numbers_on, split_on}
 use Rattle.node_groups.proofs.splitting.split.Goals as goal
+
+pub take_group-requires-clause-one_job : goal.take_group-requires-clause-one_job
+take_group-requires-clause-one_job g c = left_of_one_job c.args.nodes.items _ c.loop-alloc.stack.items c.requires.one_job c.loop-alloc.invariant.split
 
 pub loop-alloc-preserved : goal.loop-alloc-preserved
 loop-alloc-preserved g c =

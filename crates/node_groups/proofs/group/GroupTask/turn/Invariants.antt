@@ -1,6 +1,7 @@
 use Rattle.std.proofs.Common.{◌+◌, ◌≤◌, reverse, vec_len, vec_capacity}
 use Rattle.std.specs.List.{AllZip}
 use Rattle.epoch_node.specs.Nodes.{IsLedFrom}
+use Rattle.node_groups.proofs.Jobs.{IsOnItsWay}
 use Rattle.node_groups.proofs.Sweeps.{IsSweep}
 use Rattle.node_groups.proofs.group.GroupTask.turn.Given as goal
 
@@ -8,6 +9,7 @@ use Rattle.node_groups.proofs.group.GroupTask.turn.Given as goal
 abbrev pub invariant-loop-node : goal.invariant-loop-node
 invariant-loop-node g l = record {
   sweep : IsSweep l.fn.self.nodes l.left.items l.turned.items l.up;
+  cursor : IsOnItsWay l.left.items l.cursor;
   left_room : vec_len l.left + vec_len l.turned ≤ vec_capacity l.left;
   turned_room : vec_len l.left + vec_len l.turned ≤ vec_capacity l.turned;
 }
