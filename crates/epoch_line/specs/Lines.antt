@@ -1,13 +1,8 @@
--- A node that is done, and the two ends of a link when it is closed.
+-- The two ends of a link when it is closed.
 use Rattle.std.specs.Prelude.{◌≡◌, Option, Some, None}
 use Rattle.flow_rule.specs.declared.Message.{Message}
 use Rattle.epoch_link.specs.Ends.{Producing, Consuming}
 use Rattle.stream_model.specs.StreamLaws.{IsPrefix}
-use Rattle.epoch_node.specs.declared.stage.Phase.TheVariants.{Done}
-use Rattle.epoch_node.specs.Nodes.{NodeView}
-
-abbrev pub IsNodeDone : NodeView → Type 0
-IsNodeDone n = n.phase ≡ Done
 
 -- the two ends of one link, or no link
 abbrev pub IsOneLink : Option (Producing Message) → Option (Consuming Message) → Type 0

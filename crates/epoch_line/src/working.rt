@@ -14,9 +14,9 @@ use crate::layout::lay_out;
 use checkpoints::Checkpoints;
 use epoch_cut::Cuts;
 use no_memory::NoMemory;
+use node_groups::work_in_groups;
 use outer_io::Gate;
 use query_lang::Query;
-use run_board::Board;
 use std::alloc::Global;
 use std::sync::Wait;
 use std::thread::Threads;
@@ -45,7 +45,6 @@ pub fn work<G: Gate, R: Threads + Wait + Sync>(
     // The contract of this says that the epochs are few.
     let _count = cuts.count();
     let nodes = lay_out(alloc, checkpoints, query, gate, cuts, capacity)?;
-    let board = Board::new(alloc, nodes)?;
-    let done = board.work(rt, alloc, workers)?;
+    let done = work_in_groups(rt, alloc, nodes, workers)?;
     collect(alloc, done)
 }

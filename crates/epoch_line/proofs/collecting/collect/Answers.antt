@@ -8,8 +8,9 @@ use Rattle.report_model.specs.Rows.{Row}
 use Rattle.epoch_node.specs.declared.ends.Ends.{Ends}
 use Rattle.epoch_node.specs.Keeping.{HasDone, HasCounted}
 use Rattle.epoch_node.specs.Nodes.{told_by}
+use Rattle.node_groups.specs.Groups.{IsNodeDone}
 use Rattle.epoch_line.specs.Layouts.{epochs_of}
-use Rattle.epoch_line.specs.Lines.{IsNodeDone, IsOneLink, HasDelivered}
+use Rattle.epoch_line.specs.Lines.{IsOneLink, HasDelivered}
 use Rattle.epoch_line.specs.DoneLines.{DoneNode}
 use Rattle.epoch_line.proofs.Lines.{IsLine, run_line, part}
 use Rattle.epoch_line.proofs.Whole.{done_lines_come}

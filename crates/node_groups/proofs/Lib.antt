@@ -1,0 +1,4 @@
+mod Lists
+mod Sweeps
+mod Numbers
+mod Jobs

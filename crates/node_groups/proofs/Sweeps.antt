@@ -1,0 +1,76 @@
+-- What the turns of several nodes come to.
+use Rattle.std.proofs.Common.{◌≡◌, List, [], ◌∷◌, ◌++◌, reverse, subst, subst₂, sym, ap, ◌∙◌, append_assoc, append-nil}
+use Rattle.std.specs.Prelude.{All}
+use Rattle.std.specs.List.{AllZip}
+use Rattle.std.proofs.lemmas.List.{reverse-append, reverse-reverse}
+use Rattle.std.proofs.lemmas.List.Elements.{All-nil, All-push, AllZip-push}
+use Rattle.run_board.specs.declared.task.Turn.{Turn}
+use Rattle.run_board.specs.declared.task.Turn.TheVariants.{Moved, NotYet, Done}
+use Rattle.run_board.specs.Turns.{AnswersEnded}
+use Rattle.epoch_node.specs.Nodes.{NodeView, IsLedFrom}
+use Rattle.node_groups.specs.Answers.{together, after_both}
+use Rattle.node_groups.specs.Groups.{IsNodeDone, all_led_trans}
+use Rattle.node_groups.proofs.Lists.{all_front, all_last, all_reverse, all_back, all_zip_reverse}
+
+-- one turn more
+pub together_ended : (others one : Turn) (ns : List NodeView) (n : NodeView)
+    → AnswersEnded others (All IsNodeDone ns) → AnswersEnded one (IsNodeDone n) → AnswersEnded (together others one) (All IsNodeDone (ns ++ n ∷ []))
+together_ended Moved one ns n h k = λ all. h (all_front IsNodeDone ns (n ∷ []) all)
+together_ended NotYet Moved ns n h k = λ all. h (all_front IsNodeDone ns (n ∷ []) all)
+together_ended NotYet NotYet ns n h k = λ all. h (all_front IsNodeDone ns (n ∷ []) all)
+together_ended NotYet Done ns n h k = λ all. h (all_front IsNodeDone ns (n ∷ []) all)
+together_ended Done Moved ns n h k = λ all. k (all_last IsNodeDone ns n all)
+together_ended Done NotYet ns n h k = λ all. k (all_last IsNodeDone ns n all)
+together_ended Done Done ns n h k = All-push IsNodeDone ns n h k
+
+-- the answer of two sweeps says what the second left
+pub both_ended : (first second : Turn) (ended : Type 0) → AnswersEnded second ended → AnswersEnded (after_both first second) ended
+both_ended Moved Moved ended h = h
+both_ended Moved NotYet ended h = h
+both_ended Moved Done ended h = h
+both_ended NotYet second ended h = h
+both_ended Done second ended h = h
+
+-- whether all are done is the same from the last to the first
+pub ended_reverse : (answer : Turn) (ns : List NodeView) → AnswersEnded answer (All IsNodeDone ns) → AnswersEnded answer (All IsNodeDone (reverse ns))
+ended_reverse Moved ns h = λ all. h (all_back IsNodeDone ns all)
+ended_reverse NotYet ns h = λ all. h (all_back IsNodeDone ns all)
+ended_reverse Done ns h = all_reverse IsNodeDone ns h
+
+-- the nodes after a sweep up, and then one down
+pub led_both : (old between new : List NodeView) → AllZip IsLedFrom between old → AllZip IsLedFrom new (reverse between) → AllZip IsLedFrom (reverse new) old
+led_both old between new up down =
+    all_led_trans old between (reverse new) up
+    (subst (AllZip IsLedFrom (reverse new)) (reverse-reverse between) (all_zip_reverse IsLedFrom new (reverse between) down))
+
+-- ---- a sweep over nodes
+
+-- `onto` are those that had their turn, the last of them on top; the others are on the stack `from`
+pub record IsSweep (nodes from onto : List NodeView) (answer : Turn) : Type 0 where
+  pub starts : List NodeView
+  pub split : starts ++ reverse from ≡ nodes
+  pub led : AllZip IsLedFrom onto starts
+  pub ended : AnswersEnded answer (All IsNodeDone onto)
+
+-- no node had its turn
+pub sweep_begins : (nodes from onto : List NodeView) → reverse from ≡ nodes → onto ≡ [] → IsSweep nodes from onto Done
+sweep_begins nodes from onto e none = record {
+  starts = [];
+  split = e;
+  led = subst (λ ns. AllZip IsLedFrom ns []) (sym none) tt;
+  ended = subst (All IsNodeDone) (sym none) (All-nil IsNodeDone);
+}
+
+-- the node on top has its turn
+pub sweep_on : (nodes from onto : List NodeView) (answer turn : Turn) (rest onto' : List NodeView) (answer' : Turn) (old new : NodeView) → IsSweep nodes from onto answer
+    → from ≡ rest ++ old ∷ [] → IsLedFrom new old → AnswersEnded turn (IsNodeDone new) → onto' ≡ onto ++ new ∷ [] → answer' ≡ together answer turn → IsSweep nodes rest onto' answer'
+sweep_on nodes from onto answer turn rest onto' answer' old new s e led ended onto_is answer_is = record {
+  starts = s.starts ++ old ∷ [];
+  split = append_assoc s.starts (old ∷ []) (reverse rest) ∙ ap (λ ns. s.starts ++ ns) (sym (reverse-append rest (old ∷ [])) ∙ ap reverse (sym e)) ∙ s.split;
+  led = subst (λ ns. AllZip IsLedFrom ns (s.starts ++ old ∷ [])) (sym onto_is) (AllZip-push IsLedFrom onto s.starts new old s.led led);
+  ended = subst₂ (λ (a : Turn) (ns : List NodeView). AnswersEnded a (All IsNodeDone ns)) (sym answer_is) (sym onto_is) (together_ended answer turn onto new s.ended ended);
+}
+
+-- all had their turn
+pub sweep_ends : (nodes from onto : List NodeView) (answer : Turn) → IsSweep nodes from onto answer → from ≡ [] → AllZip IsLedFrom onto nodes
+sweep_ends nodes from onto answer s none = subst (AllZip IsLedFrom onto) (sym (append-nil s.starts) ∙ ap (λ ns. s.starts ++ reverse ns) (sym none) ∙ s.split) s.led
