@@ -141,22 +141,6 @@ impl<'a, G> Node<'a, G> {
         Turn::Moved
     }
 
-    /// Hands the node a cursor of its job, from which its analysis begins if it stands where the epoch begins.
-    pub fn hand_cursor(&mut self, cursor: Option<Cursor<'a>>)
-        requires { IfSome cursor (λ c. c.job ≡ self.old.given.points.job) }
-        ensures { self.new ≡ self.old }
-    {
-        let _unused = cursor;
-    }
-
-    /// Takes the cursor that the node has: after its analysis, one that stands where its epoch ends.
-    pub fn take_cursor(&mut self) -> Option<Cursor<'a>>
-        ensures job { IfSome result (λ c. c.job ≡ self.old.given.points.job) }
-        ensures same { self.new ≡ self.old }
-    {
-        None
-    }
-
     /// What is left of a node that is done.
     pub fn finish(self) -> Finished
         requires { self.phase ≡ Phase.Done }
