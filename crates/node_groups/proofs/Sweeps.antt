@@ -1,5 +1,5 @@
 -- What the turns of several nodes come to.
-use Rattle.std.proofs.Common.{◌≡◌, List, [], ◌∷◌, ◌++◌, reverse, subst, subst₂, sym, ap, ◌∙◌, append_assoc, append-nil}
+use Rattle.std.proofs.Common.{inl, inr, ◌≡◌, List, [], ◌∷◌, ◌++◌, reverse, subst, subst₂, sym, ap, ◌∙◌, append_assoc, append-nil}
 use Rattle.std.specs.Prelude.{All}
 use Rattle.std.specs.List.{AllZip}
 use Rattle.std.proofs.lemmas.List.{reverse-append, reverse-reverse}
@@ -7,9 +7,10 @@ use Rattle.std.proofs.lemmas.List.Elements.{All-nil, All-push, AllZip-push}
 use Rattle.run_board.specs.declared.task.Turn.{Turn}
 use Rattle.run_board.specs.declared.task.Turn.TheVariants.{Moved, NotYet, Done}
 use Rattle.run_board.specs.Turns.{AnswersEnded}
-use Rattle.epoch_node.specs.Nodes.{NodeView, IsLedFrom}
+use Rattle.epoch_node.specs.Events.{WhenNotYet}
+use Rattle.epoch_node.specs.Nodes.{NodeView, IsLedFrom, HasWaited}
 use Rattle.node_groups.specs.Answers.{together, after_both}
-use Rattle.node_groups.specs.Groups.{IsNodeDone, all_led_trans}
+use Rattle.node_groups.specs.Groups.{IsNodeDone, HasRested, all_led_trans}
 use Rattle.node_groups.proofs.Lists.{all_front, all_last, all_reverse, all_back, all_zip_reverse}
 
 -- one turn more
@@ -37,6 +38,60 @@ ended_reverse Moved ns h = λ all. h (all_back IsNodeDone ns all)
 ended_reverse NotYet ns h = λ all. h (all_back IsNodeDone ns all)
 ended_reverse Done ns h = all_reverse IsNodeDone ns h
 
+-- ---- turns in which no node moved
+
+abbrev pub UnlessMoved : Turn → Type 0 → Type 0
+UnlessMoved Moved P = Unit {0}
+UnlessMoved NotYet P = P
+UnlessMoved Done P = P
+
+-- what a node's turn says of it
+pub rested : (turn : Turn) (new old : NodeView) → AnswersEnded turn (IsNodeDone new) → WhenNotYet turn (HasWaited new old) → UnlessMoved turn (HasRested new old)
+rested Moved new old d w = tt
+rested NotYet new old d w = inr (record { same = w.same; told = w.told })
+rested Done new old d w = inl d
+
+together_rested : (others one : Turn) (new old : List NodeView) (n o : NodeView) → UnlessMoved others (AllZip HasRested new old) → UnlessMoved one (HasRested n o)
+    → UnlessMoved (together others one) (AllZip HasRested (new ++ n ∷ []) (old ++ o ∷ []))
+together_rested Moved one new old n o h k = tt
+together_rested NotYet Moved new old n o h k = tt
+together_rested NotYet NotYet new old n o h k = AllZip-push HasRested new old n o h k
+together_rested NotYet Done new old n o h k = AllZip-push HasRested new old n o h k
+together_rested Done Moved new old n o h k = tt
+together_rested Done NotYet new old n o h k = AllZip-push HasRested new old n o h k
+together_rested Done Done new old n o h k = AllZip-push HasRested new old n o h k
+
+rest_trans : (a b c : NodeView) → HasRested b a → HasRested c b → HasRested c a
+rest_trans a b c f (inl d) = inl d
+rest_trans a b c (inl d) (inr s) = inl (ap (λ (n : NodeView). n.phase) s.same ∙ d)
+rest_trans a b c (inr r) (inr s) = inr (record { same = s.same ∙ ap (λ (n : NodeView). record n { ends = c.ends }) r.same; told = s.told ∙ r.told })
+
+all_rest_trans : (xs ys zs : List NodeView) → AllZip HasRested ys xs → AllZip HasRested zs ys → AllZip HasRested zs xs
+all_rest_trans [] [] [] f g = tt
+all_rest_trans [] [] (z ∷ zs) f g = g
+all_rest_trans [] (y ∷ ys) zs f g = absurd f
+all_rest_trans (x ∷ xs) [] zs f g = absurd f
+all_rest_trans (x ∷ xs) (y ∷ ys) [] f g = g
+all_rest_trans (x ∷ xs) (y ∷ ys) (z ∷ zs) f g = (rest_trans x y z f.0 g.0, all_rest_trans xs ys zs f.1 g.1)
+
+rest_both : (old between new : List NodeView) → AllZip HasRested between old → AllZip HasRested new (reverse between) → AllZip HasRested (reverse new) old
+rest_both old between new up down =
+    all_rest_trans old between (reverse new) up
+    (subst (AllZip HasRested (reverse new)) (reverse-reverse between) (all_zip_reverse HasRested new (reverse between) down))
+
+-- no node moved in two sweeps
+pub both_rested : (first second : Turn) (old between new : List NodeView) → UnlessMoved first (AllZip HasRested between old) → UnlessMoved second (AllZip HasRested new (reverse between))
+    → WhenNotYet (after_both first second) (AllZip HasRested (reverse new) old)
+both_rested Moved Moved old between new h k = tt
+both_rested Moved NotYet old between new h k = tt
+both_rested Moved Done old between new h k = tt
+both_rested NotYet Moved old between new h k = tt
+both_rested NotYet NotYet old between new h k = rest_both old between new h k
+both_rested NotYet Done old between new h k = tt
+both_rested Done Moved old between new h k = tt
+both_rested Done NotYet old between new h k = rest_both old between new h k
+both_rested Done Done old between new h k = tt
+
 -- the nodes after a sweep up, and then one down
 pub led_both : (old between new : List NodeView) → AllZip IsLedFrom between old → AllZip IsLedFrom new (reverse between) → AllZip IsLedFrom (reverse new) old
 led_both old between new up down =
@@ -51,6 +106,7 @@ pub record IsSweep (nodes from onto : List NodeView) (answer : Turn) : Type 0 wh
   pub split : starts ++ reverse from ≡ nodes
   pub led : AllZip IsLedFrom onto starts
   pub ended : AnswersEnded answer (All IsNodeDone onto)
+  pub rested : UnlessMoved answer (AllZip HasRested onto starts)
 
 -- no node had its turn
 pub sweep_begins : (nodes from onto : List NodeView) → reverse from ≡ nodes → onto ≡ [] → IsSweep nodes from onto Done
@@ -59,18 +115,26 @@ sweep_begins nodes from onto e none = record {
   split = e;
   led = subst (λ ns. AllZip IsLedFrom ns []) (sym none) tt;
   ended = subst (All IsNodeDone) (sym none) (All-nil IsNodeDone);
+  rested = subst (λ ns. AllZip HasRested ns []) (sym none) tt;
 }
 
 -- the node on top has its turn
 pub sweep_on : (nodes from onto : List NodeView) (answer turn : Turn) (rest onto' : List NodeView) (answer' : Turn) (old new : NodeView) → IsSweep nodes from onto answer
-    → from ≡ rest ++ old ∷ [] → IsLedFrom new old → AnswersEnded turn (IsNodeDone new) → onto' ≡ onto ++ new ∷ [] → answer' ≡ together answer turn → IsSweep nodes rest onto' answer'
-sweep_on nodes from onto answer turn rest onto' answer' old new s e led ended onto_is answer_is = record {
+    → from ≡ rest ++ old ∷ [] → IsLedFrom new old → AnswersEnded turn (IsNodeDone new) → WhenNotYet turn (HasWaited new old) → onto' ≡ onto ++ new ∷ [] → answer' ≡ together answer turn → IsSweep nodes rest onto' answer'
+sweep_on nodes from onto answer turn rest onto' answer' old new s e led ended waited onto_is answer_is = record {
   starts = s.starts ++ old ∷ [];
   split = append_assoc s.starts (old ∷ []) (reverse rest) ∙ ap (λ ns. s.starts ++ ns) (sym (reverse-append rest (old ∷ [])) ∙ ap reverse (sym e)) ∙ s.split;
   led = subst (λ ns. AllZip IsLedFrom ns (s.starts ++ old ∷ [])) (sym onto_is) (AllZip-push IsLedFrom onto s.starts new old s.led led);
   ended = subst₂ (λ (a : Turn) (ns : List NodeView). AnswersEnded a (All IsNodeDone ns)) (sym answer_is) (sym onto_is) (together_ended answer turn onto new s.ended ended);
+  rested =
+      subst₂ (λ (a : Turn) (ns : List NodeView). UnlessMoved a (AllZip HasRested ns (s.starts ++ old ∷ []))) (sym answer_is) (sym onto_is)
+      (together_rested answer turn onto s.starts new old s.rested (rested turn new old ended waited));
 }
 
 -- all had their turn
 pub sweep_ends : (nodes from onto : List NodeView) (answer : Turn) → IsSweep nodes from onto answer → from ≡ [] → AllZip IsLedFrom onto nodes
 sweep_ends nodes from onto answer s none = subst (AllZip IsLedFrom onto) (sym (append-nil s.starts) ∙ ap (λ ns. s.starts ++ reverse ns) (sym none) ∙ s.split) s.led
+
+pub sweep_rests : (nodes from onto : List NodeView) (answer : Turn) → IsSweep nodes from onto answer → from ≡ [] → UnlessMoved answer (AllZip HasRested onto nodes)
+sweep_rests nodes from onto answer s none =
+    subst (λ ns. UnlessMoved answer (AllZip HasRested onto ns)) (sym (append-nil s.starts) ∙ ap (λ ns. s.starts ++ reverse ns) (sym none) ∙ s.split) s.rested

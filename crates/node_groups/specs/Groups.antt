@@ -1,10 +1,10 @@
 -- What contracts see of a group of nodes, and what its turns do.
-use Rattle.std.specs.Prelude.{◌≡◌, ℕ, List, [], ◌∷◌, refl}
+use Rattle.std.specs.Prelude.{◌≡◌, ◌⊎◌, ℕ, List, [], ◌∷◌, refl}
 use mathlib.Core.Path.{◌∙◌}
 use Rattle.std.specs.List.{All, AllZip, flat_map}
 use Rattle.replayer.specs.Jobs.{Job}
 use Rattle.epoch_node.specs.declared.stage.Phase.TheVariants.{Done}
-use Rattle.epoch_node.specs.Nodes.{NodeView, IsLedFrom, led_refl, led_trans}
+use Rattle.epoch_node.specs.Nodes.{NodeView, told_by, IsLedFrom, led_refl, led_trans}
 
 -- the number of a group on the board, and its nodes from the first to the last
 pub record GroupView : Type 0 where
@@ -31,6 +31,17 @@ AreOfOneJob nodes = (job : Job) × AreOfJob job nodes
 -- the nodes of these groups
 abbrev pub nodes_of : List GroupView → List NodeView
 nodes_of groups = flat_map (λ g. g.nodes) groups
+
+-- ---- a turn in which no node moved
+
+-- nothing happened to the node
+pub record IsStill (new old : NodeView) : Type 0 where
+  pub same : new ≡ record old { ends = new.ends }
+  pub told : told_by new.ends ≡ told_by old.ends
+
+-- it is done, or nothing happened to it
+abbrev pub HasRested : NodeView → NodeView → Type 0
+HasRested new old = IsNodeDone new ⊎ IsStill new old
 
 -- ---- the same group, later
 

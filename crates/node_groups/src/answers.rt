@@ -5,8 +5,8 @@ ghost use Rattle.node_groups.specs.Answers.{together, after_both};
 
 use run_board::Turn;
 
-/// What the turns of several nodes came to, and then that of one more: Done where all are done, Moved where one moved, and
-/// else NotYet.
+/// What the turns of several nodes came to, and then that of one more: Done where all are done, Moved where one moved,
+/// and else NotYet.
 pub(crate) fn together(others: Turn, one: Turn) -> Turn
     ensures { result ≡ together others one }
 {

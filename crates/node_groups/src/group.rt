@@ -9,8 +9,8 @@ use outer_io::Gate;
 use run_board::{Task, Turn};
 use std::marker::Model;
 
-/// Neighbouring nodes of one job, which get their turns from one worker, one after another. Contracts see its number, and its
-/// nodes from the first to the last.
+/// Neighbouring nodes of one job, which get their turns from one worker, one after another. Contracts see its number, and
+/// its nodes from the first to the last.
 #[derive(Drop)]
 pub struct Group<'a, G> {
     number: u32,
@@ -66,7 +66,9 @@ impl<'a, G> Group<'a, G> {
 impl<'a, G: Gate> Task for Group<'a, G> {
     ghost use Rattle.std.specs.Prelude.{◌≡◌};
     ghost use Rattle.run_board.specs.Turns.{AnswersEnded};
-    ghost use Rattle.node_groups.specs.Groups.{IsGroupLedFrom, IsGroupEnded, group_led_refl, group_led_trans};
+    ghost use Rattle.std.specs.List.{AllZip};
+    ghost use Rattle.epoch_node.specs.Events.{WhenNotYet};
+    ghost use Rattle.node_groups.specs.Groups.{IsGroupLedFrom, IsGroupEnded, HasRested, group_led_refl, group_led_trans};
 
     ghost words = { record {
       number = λ g. g.number;
@@ -78,13 +80,14 @@ impl<'a, G: Gate> Task for Group<'a, G> {
         self.number
     }
 
-    /// Each of its nodes has a turn, from the first to the last, and then one more, from the last to the first. On the way
-    /// up a node hands its cursor on to the next, whose epoch begins where the cursor stands after an analysis. The group
-    /// itself takes no memory.
+    /// Each of its nodes has a turn, from the first to the last, and then one more, from the last to the first. On the
+    /// way up a node hands its cursor on to the next, whose epoch begins where the cursor stands after an analysis. It
+    /// is NotYet only where nothing happened to any node that isn't done. The group itself takes no memory.
     fn turn(&mut self) -> Turn
         ensures led { IsGroupLedFrom self.new self.old }
         ensures number { self.new.number ≡ self.old.number }
         ensures done { AnswersEnded result (IsGroupEnded self.new) }
+        ensures not_yet { WhenNotYet result (AllZip HasRested self.new.nodes self.old.nodes) }
     {
         let Group {
             number: _,

@@ -10,8 +10,9 @@ const GROUPS_FOR_EACH: usize = 16;
 
 /// How many nodes each group has, of so many nodes for 1 to 64 workers; the last group may have fewer.
 ///
-/// Only one worker at a time turns a group. So several workers have 16 groups each, or one for each node where nodes are
-/// fewer: then work that falls on a few nodes is still spread over the workers. One worker loses nothing by large groups.
+/// Only one worker at a time turns a group. So several workers have 16 groups each, or one for each node where nodes
+/// are fewer: then work that falls on a few nodes is still spread over the workers. One worker loses nothing by large
+/// groups.
 pub fn group_size(nodes: usize, workers: u32) -> usize
     requires { 1 ≤ workers }
     ensures some { 1 ≤ result }

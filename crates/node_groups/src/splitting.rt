@@ -9,8 +9,8 @@ use epoch_node::Node;
 use no_memory::NoMemory;
 use std::alloc::Global;
 
-/// The group of the next nodes, as many as `size` where there are so many, from those on top of the stack. It gives up with
-/// NoMemory alone.
+/// The group of the next nodes, as many as `size` where there are so many, from those on top of the stack. It gives up
+/// with NoMemory alone.
 fn take_group<'a, G>(
     alloc: Global,
     number: u32,
@@ -34,7 +34,8 @@ fn take_group<'a, G>(
     Ok(Group::new(number, nodes, turned))
 }
 
-/// The nodes in groups of `size` neighbours each, but for the last, which may have fewer. It gives up with NoMemory alone.
+/// The nodes in groups of `size` neighbours each, but for the last, which may have fewer. It gives up with NoMemory
+/// alone.
 pub(crate) fn split<'a, G>(
     alloc: Global,
     nodes: Vec<Node<'a, G>>,

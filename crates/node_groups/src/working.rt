@@ -16,12 +16,12 @@ use std::alloc::Global;
 use std::sync::Wait;
 use std::thread::Threads;
 
-/// Gives 1 to 4096 nodes of one job, whose numbers are 0, 1, 2 and so on, turns until each is done, by `workers`, 1 to 64 of
-/// them. It answers them in order of number, each led from the one handed in with that number. It gives up with NoMemory
-/// alone.
+/// Gives 1 to 4096 nodes of one job, whose numbers are 0, 1, 2 and so on, turns until each is done, by `workers`, 1 to 64
+/// of them. It answers them in order of number, each led from the one handed in with that number. It gives up with
+/// NoMemory alone.
 ///
-/// The nodes have their turns in groups of neighbours ([`group_size`]), so that a message may pass many nodes in one round of
-/// the board, and the cursor of one analysis serves the next.
+/// The nodes have their turns in groups of neighbours ([`group_size`]), so that a message may pass many nodes in one
+/// round of the board, and the cursor of one analysis serves the next.
 pub fn work_in_groups<'a, G: Gate, R: Threads + Wait + Sync>(
     rt: &R,
     alloc: Global,
