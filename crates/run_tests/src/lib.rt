@@ -1,7 +1,9 @@
-//! Tests of runs that are cut into epochs: where these begin, each by itself, and all of them together, with what crosses the cuts
-//! between them.
+//! Tests of runs that are cut into epochs: where these begin, each by itself, what its core sends, and all of them
+//! together, with what crosses the cuts between them.
 #![tactic(auto)]
 
+#[cfg(test)]
+mod cores;
 #[cfg(test)]
 mod epochs;
 #[cfg(test)]

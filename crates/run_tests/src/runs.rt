@@ -35,7 +35,7 @@ const ALONE: Line = Line {
 };
 
 /// Where a run is cut by a length.
-fn cuts_of(rt: &impl Abort, job: &Job, length: u64) -> Cuts
+pub fn cuts_of(rt: &impl Abort, job: &Job, length: u64) -> Cuts
     ensures { IsCutting (steps job.now.log) result }
 {
     assert!(rt; 1 <= length);
@@ -44,7 +44,7 @@ fn cuts_of(rt: &impl Abort, job: &Job, length: u64) -> Cuts
 }
 
 /// The query of a text.
-fn query_of(rt: &impl Abort, alloc: Global, text: &[u8]) -> Query {
+pub fn query_of(rt: &impl Abort, alloc: Global, text: &[u8]) -> Query {
     assert!(rt; text.len() <= 4096);
     parse(alloc, text).expect(rt, "a query")
 }
@@ -170,7 +170,7 @@ fn assert_case<R: Threads + Wait + Abort + Sync>(rt: &R, alloc: Global, job: &Jo
 }
 
 /// Copies what it reads.
-const COPY: &[u8] = b"rule copy\nsource all\nsink all\n";
+pub const COPY: &[u8] = b"rule copy\nsource all\nsink all\n";
 
 /// Points of the copy of four bytes at a cut, behind it, and past the run's end.
 const POINTS: &[Case] = &[
