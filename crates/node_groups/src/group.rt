@@ -9,8 +9,8 @@ use outer_io::Gate;
 use run_board::{Task, Turn};
 use std::marker::Model;
 
-/// Neighbouring nodes of one job, which get their turns from one worker, one after another. Contracts see its number, and
-/// its nodes from the first to the last.
+/// Neighbouring nodes of one job, which get their turns from one worker, one after another. Contracts see its number,
+/// and its nodes from the first to the last.
 #[derive(Drop)]
 pub struct Group<'a, G> {
     number: u32,
@@ -28,7 +28,8 @@ impl<'a, G> Model for Group<'a, G> {
 
     ghost view = { λ g. record { number = g.number; nodes = reverse g.left.items } };
 
-    ghost invariant = { λ g. (g.turned.items ≡ []) × (vec_len g.left ≤ vec_capacity g.turned) × AreOfOneJob g.left.items };
+    ghost invariant = { λ g. (g.turned.items ≡ []) × (vec_len g.left ≤ vec_capacity g.turned)
+        × AreOfOneJob g.left.items };
 }
 
 impl<'a, G> Group<'a, G> {
@@ -68,7 +69,8 @@ impl<'a, G: Gate> Task for Group<'a, G> {
     ghost use Rattle.run_board.specs.Turns.{AnswersEnded};
     ghost use Rattle.std.specs.List.{AllZip};
     ghost use Rattle.epoch_node.specs.Events.{WhenNotYet};
-    ghost use Rattle.node_groups.specs.Groups.{IsGroupLedFrom, IsGroupEnded, HasRested, group_led_refl, group_led_trans};
+    ghost use Rattle.node_groups.specs.Groups.{IsGroupLedFrom, IsGroupEnded, HasRested};
+    ghost use Rattle.node_groups.specs.Groups.{group_led_refl, group_led_trans};
 
     ghost words = { record {
       number = λ g. g.number;

@@ -16,8 +16,8 @@ use std::alloc::Global;
 use std::sync::Wait;
 use std::thread::Threads;
 
-/// Gives 1 to 4096 nodes of one job, whose numbers are 0, 1, 2 and so on, turns until each is done, by `workers`, 1 to 64
-/// of them. It answers them in order of number, each led from the one handed in with that number. It gives up with
+/// Gives 1 to 4096 nodes of one job, whose numbers are 0, 1, 2 and so on, turns until each is done, by `workers`, 1 to
+/// 64 of them. It answers them in order of number, each led from the one handed in with that number. It gives up with
 /// NoMemory alone.
 ///
 /// The nodes have their turns in groups of neighbours ([`group_size`]), so that a message may pass many nodes in one
