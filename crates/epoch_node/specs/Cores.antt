@@ -46,7 +46,7 @@ stage_of stage.Between = Between
 abbrev pub core_of : {G : Type 0} → Core G → CoreView
 core_of c = record {
   given = record {
-    points = c.start;
+    points = c.start.value;
     query = c.query.now;
     epoch = record { number = c.number; first = c.first_step; past_last = c.past_last };
     first = c.first;

@@ -34,7 +34,8 @@ pub struct Broken;
 #[derive(Drop)]
 pub struct Core<'a, G> {
     alloc: Global,
-    start: StartPoint<'a>,
+    // It may have a cursor, which is large, and a node is moved often.
+    start: Box<StartPoint<'a>>,
     query: &'a Query,
     gate: &'a G,
     number: u32,
@@ -46,7 +47,7 @@ pub struct Core<'a, G> {
     last: bool,
     // How many events moved.
     events: u64,
-    // The passes are large, and a node is moved often.
+    // The passes are large too.
     stage: Box<Stage>,
 }
 
@@ -70,7 +71,7 @@ impl<'a, G> Core<'a, G> {
         let past_last = ticket.past_last();
         Ok(Core {
             alloc,
-            start: StartPoint::new(checkpoints),
+            start: Box::new(alloc, StartPoint::new(checkpoints))?,
             query,
             gate,
             number,
@@ -142,7 +143,7 @@ impl<'a, G> Core<'a, G> {
             Stage::Fresh(ticket) => Stage::Asking(begin(
                 self.alloc,
                 ticket,
-                &mut self.start,
+                &mut *self.start,
                 self.query,
                 self.first,
                 self.last,
