@@ -1,4 +1,4 @@
--- The place at which a set of locations has one.
+-- Locations and labels that test as equal are the same, and so the place at which a set of locations has one is its place.
 use Rattle.std.proofs.Common.{◌≡◌, ℕ, ◌<◌, List, length, refl, ap, sym, ◌∙◌, Bool, true, false, cond, nat_lt, arith, slice_get, get_or, position}
 use Rattle.std.specs.Prelude.{Option, Some, None, IfSome}
 use Rattle.std.specs.List.{position_or_len}
@@ -8,6 +8,9 @@ use Rattle.std.proofs.lemmas.Option.{slice_get-get_or}
 use Rattle.flow_model.specs.declared.Loc.{Loc}
 use Rattle.flow_model.specs.declared.Loc.TheVariants.{Reg, Mem}
 use Rattle.flow_model.specs.contracts.LocPartialEq.TheImpl as test
+use Rattle.local_taint.specs.declared.labels.Label.{Label}
+use Rattle.local_taint.specs.declared.labels.Label.TheVariants.{Node, Start}
+use Rattle.local_taint.specs.contracts.labels.LabelPartialEq.TheImpl as label_test
 
 -- the derived test
 abbrev pub alike : Loc → Loc → Bool
@@ -32,3 +35,10 @@ first_alike locs l k h = by (nat_lt (position_or_len (alike l) locs) (length loc
 pub at_place : (locs : List Loc) (l : Loc) (o : Option ℕ) → o ≡ position (alike l) locs → IfSome o (λ k. slice_get locs k ≡ Some l)
 at_place locs l None e = tt
 at_place locs l (Some k) e = first_alike locs l k (sym e)
+
+-- the derived test of labels
+pub same_label : (l m : Label) → label_test.eq-value.it l m ≡ true → l ≡ m
+same_label (Node a) (Node b) h = grind (arith, common_steps)
+same_label (Node a) (Start m) h = cc
+same_label (Start l) (Node b) h = cc
+same_label (Start l) (Start m) h = ap Start (alike_same l m h)

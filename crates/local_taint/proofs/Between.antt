@@ -16,9 +16,10 @@ use Rattle.epoch_model.specs.Stretch.{points_at_start, sinks_at_step, sinks_betw
 use Rattle.epoch_model.specs.Summary.{SinkTerms, terms, sink_terms}
 use Rattle.taint_shadow.specs.declared.places.Places.{Places}
 use Rattle.taint_shadow.specs.Labels.{KeepsLabels}
+use Rattle.local_taint.specs.declared.labels.Label.{Label}
 use Rattle.local_taint.specs.declared.labels.Nodes.{Nodes}
-use Rattle.local_taint.specs.declared.sinks.SinkNode.{SinkNode}
-use Rattle.local_taint.specs.Words.{node_words}
+use Rattle.local_taint.specs.declared.sinks.SinkLabel.{SinkLabel}
+use Rattle.local_taint.specs.Words.{label_words}
 use Rattle.local_taint.specs.Sinks.{named, found, chosen, Shows, Notes, at_time, sinks_at}
 use Rattle.local_taint.proofs.Notes.{named_kept}
 
@@ -70,13 +71,13 @@ at_start : (q : Query) (s : ℕ) → AreAt s (points_at_start q s)
 at_start q zero = at_points 0 q.points
 at_start q (suc s) = tt
 
-pub first_sinks : (q : Query) (trace : List StepSeen) (s : ℕ) (places : Places ℕ) (old new : Nodes) (none sinks : List SinkNode)
+pub first_sinks : (q : Query) (trace : List StepSeen) (s : ℕ) (places : Places Label) (old new : Nodes) (none sinks : List SinkLabel)
     → Shows old places (terms (policy_of q) trace s 0) → none ≡ [] → Notes places (points_at_start q s) old none new sinks
     → map (named new) sinks ≡ map (sink_terms (policy_of q) trace s) (sinks_of_epoch q trace s 0)
 first_sinks q trace s places old new none sinks shows empty notes =
     let here : s ≡ s + 0 = omega arith in
     notes.rows (terms (policy_of q) trace s 0) shows
-    ∙ ap (λ (xs : List SinkNode). map (named old) xs ++ map (found (terms (policy_of q) trace s 0)) (points_at_start q s)) empty
+    ∙ ap (λ (xs : List SinkLabel). map (named old) xs ++ map (found (terms (policy_of q) trace s 0)) (points_at_start q s)) empty
     ∙ found_are (policy_of q) trace s 0 s here (points_at_start q s) (at_start q s)
     ∙ ap (map (sink_terms (policy_of q) trace s)) (sym (append-nil (points_at_start q s)))
 
@@ -92,10 +93,10 @@ module _ (q : Query) (trace : List StepSeen) (s n t : ℕ) (now : t ≡ s + n) (
       ∙ ap (λ (k : ℕ). start ++ (so_far ++ sinks_at_step q k (Some step))) (sym now)
       ∙ sym (append_assoc start so_far (sinks_at_step q t (Some step)))
 
-  pub more_sinks : (before after : Places ℕ) (a b c d : Nodes) (x y z : List SinkNode)
+  pub more_sinks : (before after : Places Label) (a b c d : Nodes) (x y z : List SinkLabel)
       → map (named a) x ≡ map (sink_terms (policy_of q) trace s) (sinks_of_epoch q trace s n)
       → Shows a before (terms (policy_of q) trace s n) → Notes before (chosen q (sinks_of_step t step.call)) a x b y
-      → KeepsLabels node_words b c
+      → KeepsLabels label_words b c
       → Shows c after (terms (policy_of q) trace s (n + 1)) → Notes after (sinks_at (t + 1) q.points) c y d z
       → map (named d) z ≡ map (sink_terms (policy_of q) trace s) (sinks_of_epoch q trace s (n + 1))
   more_sinks before after a b c d x y z e shows written keeps shows_later due =

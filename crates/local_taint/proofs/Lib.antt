@@ -1,3 +1,4 @@
+mod Words
 mod Notes
 mod Due
 mod Steps

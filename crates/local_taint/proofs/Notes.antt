@@ -15,45 +15,45 @@ use Rattle.flow_model.specs.declared.SinkPoint.TheVariants.{Out}
 use Rattle.report_model.specs.Query.{Query, has_sink}
 use Rattle.report_model.specs.Rows.{Sink, sink_at}
 use Rattle.epoch_model.specs.Summary.{Terms, SinkTerms}
-use Rattle.merge_log.specs.Log.{IsNode}
 use Rattle.taint_shadow.specs.declared.places.Places.{Places}
 use Rattle.taint_shadow.specs.Labels.{KeepsLabels}
 use Rattle.taint_shadow.specs.Places.{kept}
 use Rattle.taint_shadow.specs.Steps.{AreStanding, meaning_or}
+use Rattle.local_taint.specs.declared.labels.Label.{Label}
 use Rattle.local_taint.specs.declared.labels.Nodes.{Nodes}
-use Rattle.local_taint.specs.declared.sinks.SinkNode.{SinkNode}
-use Rattle.local_taint.specs.Words.{node_words}
+use Rattle.local_taint.specs.declared.sinks.SinkLabel.{SinkLabel}
+use Rattle.local_taint.specs.Words.{label_words, StandsIn}
 use Rattle.local_taint.specs.Sinks.{named, AreNamed, found, chosen, Shows, Notes}
 
--- ---- nodes that go on standing
+-- ---- labels that go on standing
 
-pub keeps_itself : (nodes : Nodes) → KeepsLabels node_words nodes nodes
+pub keeps_itself : (nodes : Nodes) → KeepsLabels label_words nodes nodes
 keeps_itself nodes n h = record { stands = h; means = refl }
 
-pub keeps_chain : (a b c : Nodes) → KeepsLabels node_words a b → KeepsLabels node_words b c → KeepsLabels node_words a c
+pub keeps_chain : (a b c : Nodes) → KeepsLabels label_words a b → KeepsLabels label_words b c → KeepsLabels label_words a c
 keeps_chain a b c p q n h =
     let one = p n h in
     let two = q n one.stands in
     record { stands = two.stands; means = two.means ∙ one.means }
 
-pub stand_kept : (old new : Nodes) (sinks : List SinkNode) → KeepsLabels node_words old new → AreNamed old sinks → AreNamed new sinks
-stand_kept old new sinks k h i d l = (k _ (h i d l)).stands
+pub stand_kept : (old new : Nodes) (sinks : List SinkLabel) → KeepsLabels label_words old new → AreNamed old sinks → AreNamed new sinks
+stand_kept old new sinks k h i d l = (k (get_or sinks i d).label (h i d l)).stands
 
-pub named_kept : (old new : Nodes) (sinks : List SinkNode) → KeepsLabels node_words old new → AreNamed old sinks → map (named new) sinks ≡ map (named old) sinks
-named_kept old new sinks k h = each sinks (recursion_from_All (λ x. IsNode old.log x.node) sinks h) where
-  each : (xs : List SinkNode) → AllByRecursion (λ x. IsNode old.log x.node) xs → map (named new) xs ≡ map (named old) xs
+pub named_kept : (old new : Nodes) (sinks : List SinkLabel) → KeepsLabels label_words old new → AreNamed old sinks → map (named new) sinks ≡ map (named old) sinks
+named_kept old new sinks k h = each sinks (recursion_from_All (λ x. StandsIn old x.label) sinks h) where
+  each : (xs : List SinkLabel) → AllByRecursion (λ x. StandsIn old x.label) xs → map (named new) xs ≡ map (named old) xs
   each [] a = refl
   each (x ∷ xs) a =
       let make : Terms → SinkTerms = λ t. record { name = x.name; terms = t } in
-      ap₂ (λ (r : SinkTerms) (rs : List SinkTerms). r ∷ rs) (ap make (k x.node a.0).means) (each xs a.1)
+      ap₂ (λ (r : SinkTerms) (rs : List SinkTerms). r ∷ rs) (ap make (k x.label a.0).means) (each xs a.1)
 
 -- ---- what is kept for locations goes on standing
 
-module _ (old new : Nodes) (places : Places ℕ) (k : KeepsLabels node_words old new) (standing : AreStanding node_words old places) where
-  pub standing_kept : AreStanding node_words new places
+module _ (old new : Nodes) (places : Places Label) (k : KeepsLabels label_words old new) (standing : AreStanding label_words old places) where
+  pub standing_kept : AreStanding label_words new places
   standing_kept = record { at = λ l n here is. (k n (standing.at l n here is)).stands }
 
-  same_meaning : (o : Option ℕ) (l : Loc) → ((n : ℕ) → o ≡ Some n → IsNode old.log n) → meaning_or node_words new o l ≡ meaning_or node_words old o l
+  same_meaning : (o : Option Label) (l : Loc) → ((n : Label) → o ≡ Some n → StandsIn old n) → meaning_or label_words new o l ≡ meaning_or label_words old o l
   same_meaning None l h = refl
   same_meaning (Some n) l h = (k n (h n refl)).means
 
@@ -65,25 +65,25 @@ module _ (old new : Nodes) (places : Places ℕ) (k : KeepsLabels node_words old
 
 -- ---- notes
 
-pub no_notes : (places : Places ℕ) (nodes : Nodes) (sinks : List SinkNode) → AreNamed nodes sinks → Notes places [] nodes sinks nodes sinks
+pub no_notes : (places : Places Label) (nodes : Nodes) (sinks : List SinkLabel) → AreNamed nodes sinks → Notes places [] nodes sinks nodes sinks
 no_notes places nodes sinks h = record {
   keeps = keeps_itself nodes;
   stand = h;
   rows = λ f s. sym (append-nil (map (named nodes) sinks));
 }
 
--- one sink gets a node that means what is kept for its location
-pub one_note : (places : Places ℕ) (sink : Sink) (old new : Nodes) (before after : List SinkNode) (n : ℕ)
-    → KeepsLabels node_words old new → AreNamed old before → IsNode new.log n
-    → ((f : Loc → Terms) → Shows old places f → node_words.means new n ≡ f sink.loc)
-    → after ≡ before ++ record { name = sink.name; node = n } ∷ []
+-- one sink gets a label that means what is kept for its location
+pub one_note : (places : Places Label) (sink : Sink) (old new : Nodes) (before after : List SinkLabel) (n : Label)
+    → KeepsLabels label_words old new → AreNamed old before → StandsIn new n
+    → ((f : Loc → Terms) → Shows old places f → label_words.means new n ≡ f sink.loc)
+    → after ≡ before ++ record { name = sink.name; label = n } ∷ []
     → Notes places (sink ∷ []) old before new after
 one_note places sink old new before after n k h stands means is =
-    let last : SinkNode = record { name = sink.name; node = n } in
+    let last : SinkLabel = record { name = sink.name; label = n } in
     let make : Terms → List SinkTerms = λ t. record { name = sink.name; terms = t } ∷ [] in
     record {
       keeps = k;
-      stand = subst (AreNamed new) (sym is) (All-push (λ x. IsNode new.log x.node) before last (stand_kept old new before k h) stands);
+      stand = subst (AreNamed new) (sym is) (All-push (λ x. StandsIn new x.label) before last (stand_kept old new before k h) stands);
       rows = λ f s.
           ap (map (named new)) is
           ∙ map-append (named new) before (last ∷ [])
@@ -91,7 +91,7 @@ one_note places sink old new before after n k h stands means is =
     }
 
 -- some sinks, and then some more
-pub more_notes : (places : Places ℕ) (first second : List Sink) (a b c : Nodes) (x y z : List SinkNode) → AreStanding node_words a places
+pub more_notes : (places : Places Label) (first second : List Sink) (a b c : Nodes) (x y z : List SinkLabel) → AreStanding label_words a places
     → Notes places first a x b y → Notes places second b y c z → Notes places (first ++ second) a x c z
 more_notes places first second a b c x y z standing m n = record {
   keeps = keeps_chain a b c m.keeps n.keeps;
@@ -125,18 +125,18 @@ one_more_byte q t call i within =
 
 -- ---- a sink by its number
 
-pub nth : {X : Type 0} (v : SinkTerms → X) (nodes : Nodes) (sinks : List SinkNode) (i : ℕ) (x : SinkNode) → i < length (map (named nodes) sinks) → x ≡ get_or sinks i x
+pub nth : {X : Type 0} (v : SinkTerms → X) (nodes : Nodes) (sinks : List SinkLabel) (i : ℕ) (x : SinkLabel) → i < length (map (named nodes) sinks) → x ≡ get_or sinks i x
     → slice_get (map v (map (named nodes) sinks)) i ≡ Some (v (named nodes x))
 nth v nodes sinks i x inside is =
     let within : i < length sinks = omega (arith, inside, length-map sinks (named nodes)) in
     slice_get-map v (map (named nodes) sinks) i
     ∙ ap (option_map v) (slice_get-map (named nodes) sinks i ∙ ap (option_map (named nodes)) (slice_get_read sinks (length sinks) i x refl within is))
 
--- two sinks that have the same node
-pub same_terms : (nodes : Nodes) (sinks : List SinkNode) (i k : ℕ) (x y : SinkNode) → i < length (map (named nodes) sinks) → k < length (map (named nodes) sinks)
-    → x ≡ get_or sinks i x → y ≡ get_or sinks k y → x.node ≡ y.node
+-- two sinks that have the same label
+pub same_terms : (nodes : Nodes) (sinks : List SinkLabel) (i k : ℕ) (x y : SinkLabel) → i < length (map (named nodes) sinks) → k < length (map (named nodes) sinks)
+    → x ≡ get_or sinks i x → y ≡ get_or sinks k y → x.label ≡ y.label
     → slice_get (map (λ t. t.terms) (map (named nodes) sinks)) i ≡ slice_get (map (λ t. t.terms) (map (named nodes) sinks)) k
 same_terms nodes sinks i k x y first second at_first at_second same =
     nth (λ t. t.terms) nodes sinks i x first at_first
-    ∙ ap (λ (n : ℕ). Some (node_words.means nodes n)) same
+    ∙ ap (λ (n : Label). Some (label_words.means nodes n)) same
     ∙ sym (nth (λ t. t.terms) nodes sinks k y second at_second)

@@ -20,26 +20,27 @@ use Rattle.epoch_model.specs.Summary.{Terms, terms}
 use Rattle.taint_shadow.specs.Places.{AreKept}
 use Rattle.taint_shadow.specs.declared.places.Places.{Places}
 use Rattle.taint_shadow.specs.Steps.{AreStanding, Holds, meaning_or, united_over, introduced as brought_in, after}
+use Rattle.local_taint.specs.declared.labels.Label.{Label}
 use Rattle.local_taint.specs.declared.labels.Nodes.{Nodes}
-use Rattle.local_taint.specs.Words.{node_words, together, of_itself}
+use Rattle.local_taint.specs.Words.{label_words, together, of_itself}
 use Rattle.local_taint.specs.Sinks.{IsNoLane, Shows}
 use Rattle.local_taint.specs.Summaries.{AreInRange}
 
 -- ---- what flows into a location
 
 -- what some locations have together, by sources and by start locations
-both_over : (f : Loc → Terms) (ls : List Loc) → united_over node_words f ls ≡ record { sources = union_over (λ m. (f m).sources) ls; starts = locations_over (λ m. (f m).starts) ls }
+both_over : (f : Loc → Terms) (ls : List Loc) → united_over label_words f ls ≡ record { sources = union_over (λ m. (f m).sources) ls; starts = locations_over (λ m. (f m).starts) ls }
 both_over f [] = refl
 both_over f (l ∷ []) = refl
 both_over f (l ∷ m ∷ ls) = ap (together (f l)) (both_over f (m ∷ ls))
 
-alone : (b : Bool) (s : SourceByte) → (if b then node_words.source s else node_words.nothing) ≡ record { sources = union source_cmp (if b then s ∷ [] else []) []; starts = [] }
+alone : (b : Bool) (s : SourceByte) → (if b then label_words.source s else label_words.nothing) ≡ record { sources = union source_cmp (if b then s ∷ [] else []) []; starts = [] }
 alone true s = refl
 alone false s = refl
 
 -- a byte that was received has what it brings in, and every other location what flows into it
 by_call : (policy : Policy) (f : Loc → Terms) (b : SourceByte) (ls : List Loc) (o : Bool)
-    → (if o then brought_in node_words policy b else united_over node_words f (if o then [] else ls)) ≡ record {
+    → (if o then brought_in label_words policy b else united_over label_words f (if o then [] else ls)) ≡ record {
       sources = union source_cmp (if o then introduced policy b else []) (union_over (λ m. (f m).sources) (if o then [] else ls));
       starts = locations_over (λ m. (f m).starts) (if o then [] else ls);
     }
@@ -47,7 +48,7 @@ by_call policy f b ls true = alone (policy.introduces b) b
 by_call policy f b ls false = both_over f ls
 
 after_is : (policy : Policy) (step : StepSeen) (call : Option CallSeen) (f : Loc → Terms) (l : Loc)
-    → after node_words policy step call f l ≡ record {
+    → after label_words policy step call f l ≡ record {
       sources = union source_cmp (fresh_by policy call l) (union_over (λ m. (f m).sources) (from_instruction_or policy.rule step call l));
       starts = locations_over (λ m. (f m).starts) (from_instruction_or policy.rule step call l);
     }
@@ -56,7 +57,7 @@ after_is policy step (Some call) f l = by_call policy f (byte_at call l) (origin
 
 -- the terms over one step more
 next_terms : (policy : Policy) (trace : List StepSeen) (s n : ℕ) (step : StepSeen) (l : Loc) → step_at trace (s + n) ≡ Some step
-    → after node_words policy step step.call (terms policy trace s n) l ≡ terms policy trace s (n + 1) l
+    → after label_words policy step step.call (terms policy trace s n) l ≡ terms policy trace s (n + 1) l
 next_terms policy trace s n step l at =
     let by : Option StepSeen → Terms = λ o. record {
       sources = union source_cmp (fresh_step policy o l) (union_over (born policy trace s n) (from_step policy.rule o l));
@@ -75,9 +76,9 @@ no_target [] r i a b = refl
 no_target (t ∷ ts) r i a b = ap (λ (c : Bool). if c then t.origins else origins_by ts (Reg r i)) (apart t.loc r i a.0 b) ∙ no_target ts r i a.2 b
 
 beyond_it : (policy : Policy) (step : StepSeen) (f : Loc → Terms) (call : Option CallSeen) (r i : ℕ) → Fits step.instr → IsNoLane (Reg r i)
-    → after node_words policy step call f (Reg r i) ≡ f (Reg r i)
-beyond_it policy step f None r i fits b = ap (united_over node_words f) (no_target (flow policy.rule step.instr step.place) r i (flow_table policy.rule step.instr step.place fits) b)
-beyond_it policy step f (Some call) r i fits b = ap (united_over node_words f) (no_target (cleared call.kind) r i (cleared_table call.kind) b)
+    → after label_words policy step call f (Reg r i) ≡ f (Reg r i)
+beyond_it policy step f None r i fits b = ap (united_over label_words f) (no_target (flow policy.rule step.instr step.place) r i (flow_table policy.rule step.instr step.place fits) b)
+beyond_it policy step f (Some call) r i fits b = ap (united_over label_words f) (no_target (cleared call.kind) r i (cleared_table call.kind) b)
 
 -- ---- one step after another
 
@@ -87,21 +88,21 @@ module _ (policy : Policy) (trace : List StepSeen) (s n : ℕ) (step : StepSeen)
   still_beyond h (Mem p) b = absurd b
 
   -- what shows the terms before a step of the trace shows those after it
-  pub one_more : (old new : Nodes) (before after_it : Places ℕ) → Shows old before (terms policy trace s n)
-      → Holds node_words new after_it (after node_words policy step step.call (terms policy trace s n)) → Shows new after_it (terms policy trace s (n + 1))
+  pub one_more : (old new : Nodes) (before after_it : Places Label) → Shows old before (terms policy trace s n)
+      → Holds label_words new after_it (after label_words policy step step.call (terms policy trace s n)) → Shows new after_it (terms policy trace s (n + 1))
   one_more old new before after_it shows h = record {
     at = λ l here. h.at l here ∙ next_terms policy trace s n step l at;
     beyond = still_beyond shows.beyond;
   }
 
 -- where nothing is kept, each location has the terms over no step
-pub none_kept : (policy : Policy) (trace : List StepSeen) (s : ℕ) (nodes : Nodes) (places : Places ℕ) → AreKept places (λ l. None) → Shows nodes places (terms policy trace s 0)
+pub none_kept : (policy : Policy) (trace : List StepSeen) (s : ℕ) (nodes : Nodes) (places : Places Label) → AreKept places (λ l. None) → Shows nodes places (terms policy trace s 0)
 none_kept policy trace s nodes places n = record {
-  at = λ l here. ap (λ (o : Option ℕ). meaning_or node_words nodes o l) (n.at l here);
+  at = λ l here. ap (λ (o : Option Label). meaning_or label_words nodes o l) (n.at l here);
   beyond = λ l b. refl;
 }
 
-pub none_stand : (nodes : Nodes) (places : Places ℕ) → AreKept places (λ l. None) → AreStanding node_words nodes places
+pub none_stand : (nodes : Nodes) (places : Places Label) → AreKept places (λ l. None) → AreStanding label_words nodes places
 none_stand nodes places n = record { at = λ l label here is. let no : None ≡ Some label = sym (n.at l here) ∙ is in cc }
 
 -- with a step that is in range, one more of the trace's steps are

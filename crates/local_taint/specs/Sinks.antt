@@ -1,4 +1,4 @@
--- The sinks of an epoch, each with a node.
+-- The sinks of an epoch, each with a label.
 use Rattle.std.specs.Prelude.{◌≡◌, ℕ, ◌≤◌, ◌⊎◌, ◌==◌, ◌++◌, nat_le, List, map, All}
 use Rattle.std.specs.List.{filter}
 use Rattle.flow_model.specs.declared.Loc.{Loc}
@@ -8,21 +8,21 @@ use Rattle.flow_model.specs.Ranges.{IsLocation}
 use Rattle.report_model.specs.Query.{Query, has_sink}
 use Rattle.report_model.specs.Rows.{Sink, point_sink}
 use Rattle.epoch_model.specs.Summary.{Terms, SinkTerms}
-use Rattle.merge_log.specs.Log.{IsNode}
 use Rattle.taint_shadow.specs.declared.places.Places.{Places}
 use Rattle.taint_shadow.specs.Labels.{KeepsLabels}
 use Rattle.taint_shadow.specs.Steps.{meaning_at}
+use Rattle.local_taint.specs.declared.labels.Label.{Label}
 use Rattle.local_taint.specs.declared.labels.Nodes.{Nodes}
-use Rattle.local_taint.specs.declared.sinks.SinkNode.{SinkNode}
-use Rattle.local_taint.specs.Words.{node_words, of_itself}
+use Rattle.local_taint.specs.declared.sinks.SinkLabel.{SinkLabel}
+use Rattle.local_taint.specs.Words.{label_words, StandsIn, of_itself}
 
--- a sink with the terms of its node
-abbrev pub named : Nodes → SinkNode → SinkTerms
-named nodes k = record { name = k.name; terms = node_words.means nodes k.node }
+-- a sink with the terms of its label
+abbrev pub named : Nodes → SinkLabel → SinkTerms
+named nodes k = record { name = k.name; terms = label_words.means nodes k.label }
 
--- the node of each of the sinks stands
-abbrev pub AreNamed : Nodes → List SinkNode → Type 0
-AreNamed nodes sinks = All (λ k. IsNode nodes.log k.node) sinks
+-- the label of each of the sinks stands
+abbrev pub AreNamed : Nodes → List SinkLabel → Type 0
+AreNamed nodes sinks = All (λ k. StandsIn nodes k.label) sinks
 
 -- a sink with what f gives for its location
 abbrev pub found : (Loc → Terms) → Sink → SinkTerms
@@ -38,13 +38,13 @@ IsNoLane (Reg r i) = (32 ≤ r) ⊎ (4 ≤ i)
 IsNoLane (Mem p) = ⊥
 
 -- f gives the terms that are kept for each location, and of a lane that no register has itself
-pub record Shows (nodes : Nodes) (places : Places ℕ) (f : Loc → Terms) : Type 0 where
-  pub at : (l : Loc) → IsLocation l → meaning_at node_words nodes places l ≡ f l
+pub record Shows (nodes : Nodes) (places : Places Label) (f : Loc → Terms) : Type 0 where
+  pub at : (l : Loc) → IsLocation l → meaning_at label_words nodes places l ≡ f l
   pub beyond : (l : Loc) → IsNoLane l → f l ≡ of_itself l
 
 -- after these sinks came to those that were noted, each of them has the terms that are kept for its location
-pub record Notes (places : Places ℕ) (sinks : List Sink) (old : Nodes) (before : List SinkNode) (new : Nodes) (after : List SinkNode) : Type 0 where
-  pub keeps : KeepsLabels node_words old new
+pub record Notes (places : Places Label) (sinks : List Sink) (old : Nodes) (before : List SinkLabel) (new : Nodes) (after : List SinkLabel) : Type 0 where
+  pub keeps : KeepsLabels label_words old new
   pub stand : AreNamed new after
   pub rows : (f : Loc → Terms) → Shows old places f → map (named new) after ≡ map (named old) before ++ map (found f) sinks
 

@@ -7,17 +7,17 @@ use Rattle.flow_model.specs.Ranges.{IsInRange}
 use Rattle.epoch_model.specs.Summary.{Terms, Summary as EpochSummary}
 use Rattle.taint_shadow.specs.Steps.{meaning_at}
 use Rattle.local_taint.specs.declared.summary.Summary.{Summary}
-use Rattle.local_taint.specs.Words.{node_words}
+use Rattle.local_taint.specs.Words.{label_words}
 use Rattle.local_taint.specs.Sinks.{named}
 
 -- the number of its epoch
 abbrev pub number_of : Summary → ℕ
 number_of e = e.number
 
--- the terms of each location at the epoch's end, and of each sink: those of the nodes that are kept
+-- the terms of each location at the epoch's end, and of each sink: those of the labels that are kept
 abbrev pub summary_of : Summary → EpochSummary
 summary_of e = record {
-  ends = λ l. meaning_at node_words e.nodes e.places l;
+  ends = λ l. meaning_at label_words e.nodes e.places l;
   sinks = map (named e.nodes) e.sinks.items;
 }
 

@@ -1,4 +1,4 @@
--- Nodes of a merge log as labels, in the words of epochs.
+-- The labels of an epoch's locations, in the words of epochs.
 use Rattle.std.specs.Prelude.{ℕ, [], ◌∷◌}
 use Rattle.flow_model.specs.declared.Loc.{Loc}
 use Rattle.flow_model.specs.Orders.{loc_cmp, source_cmp}
@@ -6,6 +6,8 @@ use Rattle.sorted_set.specs.Sets.{union}
 use Rattle.epoch_model.specs.Summary.{Terms}
 use Rattle.merge_log.specs.Log.{IsNode, terms, Terms as Leaves}
 use Rattle.taint_shadow.specs.Labels.{LabelWords}
+use Rattle.local_taint.specs.declared.labels.Label.{Label}
+use Rattle.local_taint.specs.declared.labels.Label.TheVariants.{Node, Start}
 use Rattle.local_taint.specs.declared.labels.Nodes.{Nodes}
 
 -- the leaves under a node as the terms of a content
@@ -20,11 +22,25 @@ of_itself l = record { sources = []; starts = l ∷ [] }
 abbrev pub together : Terms → Terms → Terms
 together a b = record { sources = union source_cmp a.sources b.sources; starts = union loc_cmp a.starts b.starts }
 
--- a node stands for the leaves under it, and an untouched location for itself
-abbrev pub node_words : LabelWords Nodes ℕ Terms
-node_words = record {
-  stands = λ nodes n. IsNode nodes.log n;
-  means = λ nodes n. as_terms (terms nodes.log n);
+-- the node of a label: the empty one, where it has none
+abbrev pub node_or_nothing : Label → ℕ
+node_or_nothing (Node n) = n
+node_or_nothing (Start l) = 0
+
+-- the node of a label is one of the log's
+abbrev pub StandsIn : Nodes → Label → Type 0
+StandsIn nodes l = IsNode nodes.log (node_or_nothing l)
+
+-- the leaves under a node, or the location alone
+abbrev pub terms_in : Nodes → Label → Terms
+terms_in nodes (Node n) = as_terms (terms nodes.log n)
+terms_in nodes (Start l) = of_itself l
+
+-- a label stands for its terms, and an untouched location for itself
+abbrev pub label_words : LabelWords Nodes Label Terms
+label_words = record {
+  stands = StandsIn;
+  means = terms_in;
   nothing = record { sources = []; starts = [] };
   source = λ b. record { sources = b ∷ []; starts = [] };
   untouched = of_itself;

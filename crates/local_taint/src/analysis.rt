@@ -8,16 +8,16 @@ ghost use Rattle.epoch_model.specs.Summary.{IsSummary, terms, sink_terms};
 ghost use Rattle.replayer.specs.Jobs.{trace_of};
 ghost use Rattle.taint_shadow.specs.Places.{AreKept};
 ghost use Rattle.taint_shadow.specs.Steps.{AreStanding};
-ghost use Rattle.local_taint.specs.Words.{node_words};
+ghost use Rattle.local_taint.specs.Words.{label_words};
 ghost use Rattle.local_taint.specs.Sinks.{AreNamed, Shows, named};
 ghost use Rattle.local_taint.specs.Summaries.{number_of, summary_of, AreInRange};
 
-use crate::labels::Nodes;
+use crate::labels::{Label, Nodes};
 use crate::points::{collect_due, collect_first};
-use crate::sinks::{SinkNode, collect};
+use crate::sinks::{SinkLabel, collect};
 use crate::summary::Summary;
 use epoch_cut::EpochTicket;
-use merge_log::{MergeLog, Node};
+use merge_log::MergeLog;
 use no_memory::NoMemory;
 use query_lang::Query;
 use replayer::{Cursor, Next};
@@ -86,14 +86,14 @@ fn follow(
     past_last: u64,
     query: &Query,
     nodes: &mut Nodes,
-    places: &mut Places<Node>,
-    sinks: &mut Vec<SinkNode>,
+    places: &mut Places<Label>,
+    sinks: &mut Vec<SinkLabel>,
 ) -> Result<(), NoMemory>
     requires begins { cursor.old.time ≡ first }
     requires ends { past_last ≤ steps cursor.old.job.log }
     requires untouched { AreKept places.old (λ l. None) }
     requires none_noted { sinks.old.items ≡ [] }
-    ensures standing { OnOk result (AreStanding node_words nodes.new places.new) }
+    ensures standing { OnOk result (AreStanding label_words nodes.new places.new) }
     ensures named { OnOk result (AreNamed nodes.new sinks.new.items) }
     ensures ends { OnOk result (Shows nodes.new places.new (terms (policy_of query.now) (trace_of cursor.old.job) first (past_last - first))) }
     ensures sinks { OnOk result (map (named nodes.new) sinks.new.items ≡ map (sink_terms (policy_of query.now) (trace_of cursor.old.job) first) (sinks_of_epoch query.now (trace_of cursor.old.job) first (past_last - first))) }

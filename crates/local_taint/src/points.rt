@@ -1,4 +1,4 @@
-//! The nodes of the points inside a run.
+//! The labels of the points inside a run.
 
 ghost use Rattle.std.specs.Prelude.{◌≡◌, ◌+◌, ◌≤◌, ◌∷◌, [], All, IsTrue, false, IfOk, OnOk};
 ghost use Rattle.flow_model.specs.Orders.{inner_cmp};
@@ -6,18 +6,16 @@ ghost use Rattle.flow_model.specs.Ranges.{IsLocation};
 ghost use Rattle.flow_model.specs.declared.Loc.{Loc as Location};
 ghost use Rattle.epoch_model.specs.Stretch.{points_at_start};
 ghost use Rattle.epoch_model.specs.Summary.{Terms};
-ghost use Rattle.merge_log.specs.Log.{IsNode};
 ghost use Rattle.report_model.specs.Rows.{point_sink};
 ghost use Rattle.sorted_set.specs.Sets.{Ascends};
 ghost use Rattle.taint_shadow.specs.Labels.{KeepsLabels};
 ghost use Rattle.taint_shadow.specs.Steps.{AreStanding};
-ghost use Rattle.local_taint.specs.Words.{node_words};
+ghost use Rattle.local_taint.specs.Words.{label_words, StandsIn};
 ghost use Rattle.local_taint.specs.Sinks.{AreNamed, Notes, Shows, IsNoLane, sinks_at, from_time};
 
-use crate::labels::Nodes;
-use crate::sinks::SinkNode;
+use crate::labels::{Label, Nodes};
+use crate::sinks::SinkLabel;
 use flow_model::{InnerSink, Loc, SinkPoint};
-use merge_log::Node;
 use no_memory::NoMemory;
 use query_lang::Query;
 use taint_shadow::{Labels, Places, label_at};
@@ -26,12 +24,12 @@ use taint_shadow::{Labels, Places, label_at};
 /// its beginning.
 pub fn collect_first<'a>(
     nodes: &mut Nodes,
-    places: &Places<Node>,
+    places: &Places<Label>,
     query: &'a Query,
     first: u64,
-    sinks: &mut Vec<SinkNode>,
+    sinks: &mut Vec<SinkLabel>,
 ) -> Result<&'a [InnerSink], NoMemory>
-    requires standing { AreStanding node_words nodes.old places.now }
+    requires standing { AreStanding label_words nodes.old places.now }
     requires named { AreNamed nodes.old sinks.old.items }
     ensures noted { OnOk result (Notes places.now (points_at_start query.now first) nodes.old sinks.old.items nodes.new sinks.new.items) }
     ensures later { IfOk result (λ later. later.now ≡ from_time (first + 1) query.now.points) }
@@ -58,14 +56,14 @@ fn points_after(points: &[InnerSink], time: u64) -> &[InnerSink]
 #[inline(always)]
 pub fn collect_due<'a>(
     nodes: &mut Nodes,
-    places: &Places<Node>,
+    places: &Places<Label>,
     points: &'a [InnerSink],
     time: u64,
-    sinks: &mut Vec<SinkNode>,
+    sinks: &mut Vec<SinkLabel>,
 ) -> Result<&'a [InnerSink], NoMemory>
     requires ascending { Ascends inner_cmp points.now }
     requires none_before { All (λ p. time ≤ p.time) points.now }
-    requires standing { AreStanding node_words nodes.old places.now }
+    requires standing { AreStanding label_words nodes.old places.now }
     requires named { AreNamed nodes.old sinks.old.items }
     ensures noted { OnOk result (Notes places.now (sinks_at time points.now) nodes.old sinks.old.items nodes.new sinks.new.items) }
     ensures later { IfOk result (λ later. later.now ≡ from_time (time + 1) points.now) }
@@ -81,28 +79,32 @@ pub fn collect_due<'a>(
 /// Notes one point.
 fn collect_point(
     nodes: &mut Nodes,
-    places: &Places<Node>,
+    places: &Places<Label>,
     point: InnerSink,
-    sinks: &mut Vec<SinkNode>,
+    sinks: &mut Vec<SinkLabel>,
 ) -> Result<(), NoMemory>
-    requires standing { AreStanding node_words nodes.old places.now }
+    requires standing { AreStanding label_words nodes.old places.now }
     requires named { AreNamed nodes.old sinks.old.items }
     ensures { OnOk result (Notes places.now (point_sink point ∷ []) nodes.old sinks.old.items nodes.new sinks.new.items) }
 {
-    let node = point_node(nodes, places, point.loc)?;
-    sinks.push(SinkNode {
+    let label = point_label(nodes, places, point.loc)?;
+    sinks.push(SinkLabel {
         name: SinkPoint::At(point),
-        node,
+        label,
     })?;
     Ok(())
 }
 
-/// The node of the location of a point. No step touches a lane that no register has.
-fn point_node(nodes: &mut Nodes, places: &Places<Node>, loc: Loc) -> Result<Node, NoMemory>
-    requires standing { AreStanding node_words nodes.old places.now }
-    ensures stands { IfOk result (λ n. IsNode nodes.new.log n) }
-    ensures means { IfOk result (λ n. (f : Location → Terms) → Shows nodes.old places.now f → node_words.means nodes.new n ≡ f loc) }
-    ensures keeps { KeepsLabels node_words nodes.old nodes.new }
+/// The label of the location of a point. No step touches a lane that no register has.
+fn point_label(
+    nodes: &mut Nodes,
+    places: &Places<Label>,
+    loc: Loc,
+) -> Result<Label, NoMemory>
+    requires standing { AreStanding label_words nodes.old places.now }
+    ensures stands { IfOk result (λ n. StandsIn nodes.new n) }
+    ensures means { IfOk result (λ n. (f : Location → Terms) → Shows nodes.old places.now f → label_words.means nodes.new n ≡ f loc) }
+    ensures keeps { KeepsLabels label_words nodes.old nodes.new }
 {
     if is_location(loc) {
         label_at(nodes, places, loc)

@@ -1,4 +1,4 @@
-//! The nodes of the output bytes that a step writes.
+//! The labels of the output bytes that a step writes.
 
 ghost use Rattle.std.specs.Prelude.{◌≡◌, ℕ, ◌∷◌, [], map, Some, OnOk};
 ghost use Rattle.std.specs.List.{range_with_len};
@@ -6,22 +6,21 @@ ghost use Rattle.flow_model.specs.Ranges.{IsLocation, IsInRange, IsCallInRange};
 ghost use Rattle.flow_model.specs.declared.SinkPoint.TheVariants.{Out};
 ghost use Rattle.report_model.specs.Rows.{sinks_of_step, sink_at};
 ghost use Rattle.taint_shadow.specs.Steps.{AreStanding};
-ghost use Rattle.local_taint.specs.Words.{node_words};
+ghost use Rattle.local_taint.specs.Words.{label_words};
 ghost use Rattle.local_taint.specs.Sinks.{AreNamed, Notes, chosen};
 
-use crate::labels::Nodes;
+use crate::labels::{Label, Nodes};
 use flow_model::{CallSeen, Loc, SinkByte, SinkPoint, StepSeen};
 use isa::CallKind;
-use merge_log::Node;
 use no_memory::NoMemory;
 use query_lang::Query;
 use taint_shadow::{Places, label_at};
 
-/// An output byte or a point, with the node of what it came from.
+/// An output byte or a point, with the label of what it came from.
 #[derive(Clone, Copy)]
-pub struct SinkNode {
+pub struct SinkLabel {
     pub name: SinkPoint,
-    pub node: Node,
+    pub label: Label,
 }
 
 /// Notes those bytes that a step writes and the query chooses, in the order of writing. What is kept for locations is
@@ -29,13 +28,13 @@ pub struct SinkNode {
 #[inline(always)]
 pub fn collect(
     nodes: &mut Nodes,
-    places: &Places<Node>,
+    places: &Places<Label>,
     step: &StepSeen,
     query: &Query,
-    sinks: &mut Vec<SinkNode>,
+    sinks: &mut Vec<SinkLabel>,
 ) -> Result<(), NoMemory>
     requires in_range { IsInRange step.now }
-    requires standing { AreStanding node_words nodes.old places.now }
+    requires standing { AreStanding label_words nodes.old places.now }
     requires named { AreNamed nodes.old sinks.old.items }
     ensures { OnOk result ((t : ℕ) → Notes places.now (chosen query.now (sinks_of_step t step.now.call)) nodes.old sinks.old.items nodes.new sinks.new.items) }
 {
@@ -51,13 +50,13 @@ pub fn collect(
 /// Notes the bytes of a write.
 fn collect_written(
     nodes: &mut Nodes,
-    places: &Places<Node>,
+    places: &Places<Label>,
     call: &CallSeen,
     query: &Query,
-    sinks: &mut Vec<SinkNode>,
+    sinks: &mut Vec<SinkLabel>,
 ) -> Result<(), NoMemory>
     requires in_range { IsCallInRange (Some call.now) }
-    requires standing { AreStanding node_words nodes.old places.now }
+    requires standing { AreStanding label_words nodes.old places.now }
     requires named { AreNamed nodes.old sinks.old.items }
     ensures { OnOk result ((t : ℕ) → Notes places.now (chosen query.now (map (sink_at t call.now) (range_with_len 0 call.now.length))) nodes.old sinks.old.items nodes.new sinks.new.items) }
 {
@@ -77,24 +76,24 @@ fn collect_written(
 /// Notes one byte that is written from a location, if the query chooses it.
 fn collect_byte(
     nodes: &mut Nodes,
-    places: &Places<Node>,
+    places: &Places<Label>,
     sink: SinkByte,
     loc: Loc,
     query: &Query,
-    sinks: &mut Vec<SinkNode>,
+    sinks: &mut Vec<SinkLabel>,
 ) -> Result<(), NoMemory>
     requires location { IsLocation loc }
-    requires standing { AreStanding node_words nodes.old places.now }
+    requires standing { AreStanding label_words nodes.old places.now }
     requires named { AreNamed nodes.old sinks.old.items }
     ensures { OnOk result ((t : ℕ) → Notes places.now (chosen query.now (record { name = Out sink; time = t; loc = loc } ∷ [])) nodes.old sinks.old.items nodes.new sinks.new.items) }
 {
     if !query.sink_has(sink) {
         return Ok(());
     }
-    let node = label_at(nodes, places, loc)?;
-    sinks.push(SinkNode {
+    let label = label_at(nodes, places, loc)?;
+    sinks.push(SinkLabel {
         name: SinkPoint::Out(sink),
-        node,
+        label,
     })?;
     Ok(())
 }

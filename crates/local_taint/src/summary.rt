@@ -4,13 +4,13 @@ ghost use Rattle.std.specs.Prelude.{◌≡◌, ◌<◌, ◌-◌, Some, length, s
 ghost use Rattle.flow_model.specs.Ranges.{IsLocation};
 ghost use Rattle.merge_log.specs.Log.{AreSets};
 ghost use Rattle.taint_shadow.specs.Steps.{AreStanding};
-ghost use Rattle.local_taint.specs.Words.{node_words, as_terms};
+ghost use Rattle.local_taint.specs.Words.{label_words, as_terms};
 ghost use Rattle.local_taint.specs.Sinks.{AreNamed};
 
-use crate::labels::Nodes;
-use crate::sinks::SinkNode;
+use crate::labels::{Label, Nodes};
+use crate::sinks::SinkLabel;
 use flow_model::{Loc, SinkPoint};
-use merge_log::{Node, TermsReader};
+use merge_log::TermsReader;
 use no_memory::NoMemory;
 use taint_shadow::Places;
 
@@ -20,9 +20,9 @@ use taint_shadow::Places;
 pub struct Summary {
     pub(crate) number: u32,
     pub(crate) nodes: Nodes,
-    pub(crate) places: Places<Node>,
-    pub(crate) sinks: Vec<SinkNode>,
-    ghost standing: { AreStanding node_words nodes places },
+    pub(crate) places: Places<Label>,
+    pub(crate) sinks: Vec<SinkLabel>,
+    ghost standing: { AreStanding label_words nodes places },
     ghost named: { AreNamed nodes sinks.items },
 }
 
@@ -37,14 +37,14 @@ impl Summary {
     }
 
     /// Reads the terms of a location at the epoch's end: the location itself where the epoch doesn't touch it. When out
-    /// of memory, the reader may have read part of them, and can go on with any node.
+    /// of memory, the reader may have read part of them, and can go on with any label.
     pub fn end_terms(&self, reader: &mut TermsReader, loc: Loc) -> Result<(), NoMemory>
         requires { IsLocation loc }
         ensures read { OnOk result (as_terms reader.new ≡ (summary_of self.now).ends loc) }
         ensures ascending { OnOk result (AreSets reader.new) }
     {
         match self.places.get(loc) {
-            Some(node) => reader.read(&self.nodes.log, *node),
+            Some(label) => self.nodes.read(*label, reader),
             None => reader.read_start(loc),
         }
     }
@@ -64,23 +64,23 @@ impl Summary {
         self.sinks[number].name
     }
 
-    /// Whether the sink of this number has the node of the one before it, and so its terms. Where it answers no the terms
+    /// Whether the sink of this number has the label of the one before it, and so its terms. Where it answers no the terms
     /// may be equal all the same.
     pub fn shares_terms(&self, number: usize) -> bool
         requires { number < length (summary_of self.now).sinks }
         ensures not_first { IsTrue result → 0 < number }
         ensures shared { IsTrue result → slice_get (terms_of self.now) number ≡ slice_get (terms_of self.now) (number - 1) }
     {
-        number > 0 && self.sinks[number].node == self.sinks[number - 1].node
+        number > 0 && self.sinks[number].label == self.sinks[number - 1].label
     }
 
     /// Reads the terms of the sink of this number. When out of memory, the reader may have read part of them, and can
-    /// go on with any node.
+    /// go on with any label.
     pub fn sink_terms(&self, reader: &mut TermsReader, number: usize) -> Result<(), NoMemory>
         requires { number < length (summary_of self.now).sinks }
         ensures read { OnOk result (slice_get (terms_of self.now) number ≡ Some (as_terms reader.new)) }
         ensures ascending { OnOk result (AreSets reader.new) }
     {
-        reader.read(&self.nodes.log, self.sinks[number].node)
+        self.nodes.read(self.sinks[number].label, reader)
     }
 }

@@ -1,7 +1,7 @@
 //! The log, and what its nodes are.
 
-ghost use Rattle.std.specs.Prelude.{◌≡◌, ◌+◌, ◌<◌, [], length, Some, ◌≤◌, ◌⊎◌, ◌↔◌, Contains, IsTrue, IsOk, IfOk, OnErr};
-ghost use Rattle.merge_log.specs.Log.{IsLog, IsNode, HasOperandsBefore, IsNoted, KeepsNodes, IsUnited, HasUnion, HasOperand, terms, no_terms, source_term, start_term, entry_at, entry_terms, joined};
+ghost use Rattle.std.specs.Prelude.{◌≡◌, ℕ, ◌+◌, ◌<◌, [], length, Some, ◌≤◌, ◌⊎◌, ◌↔◌, Contains, IsTrue, IsOk, IfOk, OnErr};
+ghost use Rattle.merge_log.specs.Log.{IsLog, AreSets, IsNode, HasOperandsBefore, IsNoted, KeepsNodes, IsUnited, HasUnion, HasOperand, terms, no_terms, source_term, start_term, entry_at, entry_terms, joined};
 ghost use Rattle.merge_log.specs.Walk.{leaves_of};
 ghost use Rattle.merge_log.specs.declared.nodes.Entry.TheVariants as entry;
 
@@ -65,9 +65,11 @@ impl MergeLog {
         self.entries.len() as u64 + 1
     }
 
-    /// What is true of every log: no two nodes are alike, and the operands of a union stand before it.
+    /// What is true of every log: no two nodes are alike, the operands of a union stand before it, and the leaves under a
+    /// node are sets.
     pub fn form(&self)
-        ensures { IsLog self.now }
+        ensures log { IsLog self.now }
+        ensures sets { (n : ℕ) → AreSets (terms self.now n) }
     {
         // what is known of the field is known from its first use on
         let _entries = self.entries.len();

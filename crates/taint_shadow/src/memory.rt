@@ -7,6 +7,9 @@ ghost use Rattle.taint_shadow.specs.Memory.{items_at, in_line, in_page, in_regio
 use no_memory::NoMemory;
 use std::alloc::Global;
 
+/// The cells of a line.
+const LINE: usize = 64;
+
 /// Makes empty tables, until there are at least so many.
 #[inline(always)]
 fn grow_tables<T: Drop>(
@@ -23,12 +26,16 @@ fn grow_tables<T: Drop>(
     Ok(())
 }
 
-/// Makes cells without a value, until there are at least so many.
+/// Makes cells without a value, until there are at least so many. A line takes the room of all its cells at once: most lines
+/// that get a value get many.
 #[inline(always)]
 fn grow_cells<L: Drop>(cells: &mut Vec<Option<L>>, size: usize) -> Result<(), NoMemory>
     ensures room { OnOk result (size ≤ length cells.new.items) }
     ensures same { OnOk result ((i : ℕ) → in_line cells.new.items i ≡ in_line cells.old.items i) }
 {
+    if cells.is_empty() {
+        cells.reserve(LINE)?;
+    }
     for _ in cells.len()..size {
         cells.push(None)?;
     }

@@ -4,7 +4,7 @@ use Rattle.report_model.specs.Query.{policy_of}
 use Rattle.epoch_model.specs.Stretch.{sinks_of_epoch}
 use Rattle.epoch_model.specs.Summary.{terms, sink_terms}
 use Rattle.taint_shadow.specs.Steps.{AreStanding}
-use Rattle.local_taint.specs.Words.{node_words}
+use Rattle.local_taint.specs.Words.{label_words}
 use Rattle.local_taint.specs.Sinks.{AreNamed, named, Shows, from_time}
 use Rattle.local_taint.specs.Summaries.{AreInRange}
 use Rattle.local_taint.proofs.analysis.follow.Given as goal
@@ -15,7 +15,7 @@ invariant-loop-time l = let first = l.first in let trace = trace_of l.initial.cu
   now : l.cursor.time ≡ l.time;
   begun : first ≤ l.time;
   within : n ≤ l.past_last - first;
-  standing : AreStanding node_words l.nodes l.places;
+  standing : AreStanding label_words l.nodes l.places;
   stand : AreNamed l.nodes l.sinks.items;
   shows : Shows l.nodes l.places (terms (policy_of l.query) trace first n);
   points : l.points ≡ from_time (l.time + 1) l.query.points;

@@ -1,14 +1,14 @@
 use Rattle.std.proofs.Common.{◌≡◌, ◌+◌, ◌-◌, ◌≤◌, ◌++◌, map, length, take, drop}
 use Rattle.report_model.specs.Rows.{point_sink}
 use Rattle.taint_shadow.specs.Steps.{AreStanding}
-use Rattle.local_taint.specs.Words.{node_words}
+use Rattle.local_taint.specs.Words.{label_words}
 use Rattle.local_taint.specs.Sinks.{AreNamed, Notes, at_time, from_time}
 use Rattle.local_taint.proofs.points.collect_due.Given as goal
 
 abbrev pub invariant-loop-due : goal.invariant-loop-due
 invariant-loop-due l = record {
   within : l.due ≤ length l.points;
-  standing : AreStanding node_words l.nodes l.places;
+  standing : AreStanding label_words l.nodes l.places;
   stand : AreNamed l.nodes l.sinks.items;
   noted : Notes l.places (map point_sink (take l.due l.points)) l.initial.nodes l.initial.sinks.items l.nodes l.sinks.items;
   turn : at_time l.time l.points ≡ take l.due l.points ++ at_time l.time (drop l.due l.points);

@@ -4,5 +4,5 @@ use Rattle.local_taint.proofs.points.collect_point.Goals as goal
 
 pub returns : goal.returns
 returns c =
-    one_note c.args.places.now (point_sink c.args.point) c.args.nodes.now c.point_node.new.nodes c.args.sinks.now.items c.push.new.self.items c.in_ok-node.node c.point_node.ensures.keeps c.requires.named
-    c.in_ok-node.ensures.stands c.in_ok-node.ensures.means c.in_ok-push.ensures.items
+    one_note c.args.places.now (point_sink c.args.point) c.args.nodes.now c.point_label.new.nodes c.args.sinks.now.items c.push.new.self.items c.in_ok-label.label c.point_label.ensures.keeps c.requires.named
+    c.in_ok-label.ensures.stands c.in_ok-label.ensures.means c.in_ok-push.ensures.items

@@ -55,4 +55,4 @@ pub returns : goal.returns
 returns c =
     let empty : c.loop-next.stack.items ≡ [] = nothing_left c.loop-next.stack.items (omega (arith, c.in_default.ensures.cases.0, c.loop-next.stack.ok)) in
     let walk = subst (λ (s : List ℕ). IsWalk c.args.log.now c.args.root c.loop-next.marks.round c.loop-next.marks.last.items s (terms_of c.loop-next.found) none_open) empty c.loop-next.invariant.walk in
-    record { found = walk_ends _ _ _ _ _ c.form.ensures walk }
+    record { found = walk_ends _ _ _ _ _ c.form.ensures.log walk }

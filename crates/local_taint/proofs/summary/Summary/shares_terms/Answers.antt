@@ -1,5 +1,5 @@
-use Rattle.std.proofs.Common.{arith}
-use Rattle.std.proofs.lemmas.Bool.{eqb-true}
+use Rattle.std.proofs.Common.{arith, sym, ◌∙◌}
+use Rattle.local_taint.proofs.Alike.{same_label}
 use Rattle.local_taint.proofs.Notes.{same_terms}
 use Rattle.local_taint.proofs.summary.Summary.shares_terms.Goals as goal
 
@@ -9,4 +9,4 @@ returns-then-number-gt0-clause-shared c = λ yes.
     let this = c.index.result.now in
     let before = c.index-then-number-gt0.result.now in
     same_terms e.nodes e.sinks.items c.args.number _ this before c.requires (omega (arith, c.requires)) c.index.ensures c.index-then-number-gt0.ensures
-    (eqb-true this.node before.node yes)
+    (same_label this.label before.label (sym c.eq.ensures ∙ yes))
