@@ -96,11 +96,7 @@ fn collect_point(
 }
 
 /// The label of the location of a point. No step touches a lane that no register has.
-fn point_label(
-    nodes: &mut Nodes,
-    places: &Places<Label>,
-    loc: Loc,
-) -> Result<Label, NoMemory>
+fn point_label(nodes: &mut Nodes, places: &Places<Label>, loc: Loc) -> Result<Label, NoMemory>
     requires standing { AreStanding label_words nodes.old places.now }
     ensures stands { IfOk result (λ n. StandsIn nodes.new n) }
     ensures means { IfOk result (λ n. (f : Location → Terms) → Shows nodes.old places.now f → label_words.means nodes.new n ≡ f loc) }
