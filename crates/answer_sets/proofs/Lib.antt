@@ -1,3 +1,4 @@
 pub mod Members
+mod Gathering
 mod Finding
 mod Each

@@ -1,5 +1,4 @@
 -- The source bytes that are gathered from terms and answers. Crates above cite these lemmas.
-use lib.Pointwise.{pointwise}
 use Rattle.std.proofs.Common.{true, false, ◌&&◌, ap₂, arith, ◌≡◌, ℕ, ◌+◌, ◌<◌, List, [], ◌∷◌, length, take, get_or, refl, ap, sym, subst, ◌∙◌, Bool, ◌||◌, nat_cmp}
 use Rattle.std.specs.List.{list_any}
 use Rattle.std.specs.Ordering.{eq_by_cmp, ordering_then}
@@ -9,8 +8,6 @@ use Rattle.std.proofs.lemmas.List.Folds.{list_any_more}
 use Rattle.flow_model.specs.declared.Loc.{Loc}
 use Rattle.flow_model.specs.declared.SourceByte.{SourceByte}
 use Rattle.flow_model.specs.contracts.SourceByteOrd.TheImpl as derived
-use Rattle.flow_model.specs.contracts.SourceBytePartialEq.TheImpl as test
-use Rattle.std.proofs.lemmas.Grind.{common_steps}
 use Rattle.flow_model.specs.Orders.{source_cmp}
 use Rattle.flow_model.specs.Origins.{union_over}
 use Rattle.flow_model.proofs.Orders.{source_total, source_same}
@@ -42,24 +39,8 @@ members_by xs ys h = subst (λ (R : Order). ((b : SourceByte) → has R b xs ≡
 pub ascends_by : (xs : List SourceByte) → Ascends compared xs → Ascends source_cmp xs
 ascends_by xs a = subst (λ (R : Order). Ascends R xs) order_is a
 
--- ---- the test of two lists of source bytes
-
-alike_same : (a b : SourceByte) → test.eq-value.it a b ≡ true → a ≡ b
-alike_same a b h = grind (arith, common_steps)
-
--- where it answers yes, they are the same
-pub same_bytes : (xs ys : List SourceByte) → pointwise test.eq-value.it xs ys ≡ true → xs ≡ ys
-same_bytes [] [] h = refl
-same_bytes [] (y ∷ ys) h = cc
-same_bytes (x ∷ xs) [] h = cc
-same_bytes (x ∷ xs) (y ∷ ys) h = by (same_bytes xs ys) (test.eq-value.it x y) refl h where
-  by : (pointwise test.eq-value.it xs ys ≡ true → xs ≡ ys) → (b : Bool) → test.eq-value.it x y ≡ b → (b && pointwise test.eq-value.it xs ys) ≡ true → x ∷ xs ≡ y ∷ ys
-  by later true e rest = ap₂ (λ (z : SourceByte) (zs : List SourceByte). z ∷ zs) (alike_same x y e) (later rest)
-  by later false e rest = cc
-
-pub or_alike : (b : Bool) → b ≡ (b || b)
-or_alike true = refl
-or_alike false = refl
+pub ascends_in : (xs : List SourceByte) → Ascends source_cmp xs → Ascends compared xs
+ascends_in xs a = subst (λ (R : Order). Ascends R xs) (sym order_is) a
 
 -- ---- what is gathered
 

@@ -12,13 +12,16 @@ use flow_model::SourceByte;
 use local_taint::Asked;
 use merge_log::{TermsReader, ascend};
 use no_memory::NoMemory;
+use sorted_set::{is_subset, merged};
 use std::alloc::Global;
+use std::marker::Model;
+use std::mem;
 
 /// The source bytes of the terms that were read last, ascending, where this was asked and these are the answers. It
 /// fails only where there is no memory.
 ///
-/// However many start locations have the same answer, it has room for few more than four and a half times the source bytes
-/// of the result at once, and the result takes no more than it needs.
+/// However many start locations have the same answer, it has room for few more than five times the source bytes of the
+/// result at once, and the result takes no more than it needs.
 pub fn resolved(
     alloc: Global,
     terms: &TermsReader,
@@ -32,68 +35,97 @@ pub fn resolved(
     let mut gathered = Gathered::new(alloc);
     gathered.add(terms.sources())?;
     for loc in terms.starts() {
-        gathered.add(answers.find(asked, *loc))?;
+        gathered.add_set(answers.find(asked, *loc))?;
     }
     let all = gathered.into_set()?;
     Ok(all)
 }
 
-/// Source bytes that are gathered from sets. Those that stand twice are left out at the end, and before that whenever
-/// there are twice as many as were left the last time.
+/// Source bytes that are gathered from sets. Some wait until there are as many as the rest, and are merged with them then,
+/// or at the end. Contracts see it as the list of both.
 #[derive(Drop)]
 struct Gathered {
-    bytes: Vec<SourceByte>,
-    /// how many there may be until then
-    most: usize,
+    alloc: Global,
+    merged: Vec<SourceByte>,
+    waiting: Vec<SourceByte>,
 }
 
-/// Up to so many source bytes all are kept until the end.
+impl Model for Gathered {
+    ghost use Rattle.std.specs.Prelude.{List, ◌++◌};
+    ghost use Rattle.sorted_set.specs.Sets.{Ascends};
+    ghost use Rattle.flow_model.specs.Orders.{source_cmp};
+    ghost use Rattle.flow_model.specs.declared.SourceByte.{SourceByte};
+
+    ghost Value = { List SourceByte };
+
+    ghost view = { λ g. g.merged.items ++ g.waiting.items };
+
+    ghost invariant = { λ g. Ascends source_cmp g.merged.items };
+}
+
+/// Fewer source bytes are a small set, and so many may wait in any case.
 const FEW: usize = 64;
 
 impl Gathered {
     fn new(alloc: Global) -> Gathered
-        ensures { result.bytes.items ≡ [] }
+        ensures { result ≡ [] }
     {
         Gathered {
-            bytes: Vec::new(alloc),
-            most: FEW,
+            alloc,
+            merged: Vec::new(alloc),
+            waiting: Vec::new(alloc),
         }
     }
 
-    /// Adds the source bytes of a set. One that is all there is so far adds nothing.
-    fn add(&mut self, set: &[SourceByte]) -> Result<(), NoMemory>
-        ensures { OnOk result ((b : Source) → has source_cmp b self.new.bytes.items ≡ (has source_cmp b self.old.bytes.items || has source_cmp b set.now)) }
+    /// Adds the source bytes of a set. A large one is within the rest more often than not, and then takes no room.
+    fn add_set(&mut self, set: &[SourceByte]) -> Result<(), NoMemory>
+        requires { Ascends source_cmp set.now }
+        ensures { OnOk result ((b : Source) → has source_cmp b self.new ≡ (has source_cmp b self.old || has source_cmp b set.now)) }
     {
-        if self.bytes.as_slice() == set {
+        if set.len() < FEW || set.len() < self.merged.len() / 2 {
+            return self.add(set);
+        }
+        if is_subset(set, &self.merged) {
             return Ok(());
         }
-        self.bytes.extend_from_slice(set)?;
-        if self.bytes.len() > self.most {
-            merge_runs(&mut self.bytes)?;
-            self.most = self.bytes.len().saturating_mul(2).max(FEW);
+        self.merge(set)
+    }
+
+    /// Lets source bytes wait, and merges all that wait where they are many.
+    fn add(&mut self, bytes: &[SourceByte]) -> Result<(), NoMemory>
+        ensures { OnOk result ((b : Source) → has source_cmp b self.new ≡ (has source_cmp b self.old || has source_cmp b bytes.now)) }
+    {
+        self.waiting.extend_from_slice(bytes)?;
+        if self.waiting.len() <= self.merged.len().max(FEW) {
+            return Ok(());
         }
+        let mut waiting = mem::replace(&mut self.waiting, Vec::new(self.alloc));
+        ascend(&mut waiting);
+        self.merge(&waiting)
+    }
+
+    /// Merges the source bytes of a set with the rest.
+    fn merge(&mut self, set: &[SourceByte]) -> Result<(), NoMemory>
+        requires { Ascends source_cmp set.now }
+        ensures { OnOk result ((b : Source) → has source_cmp b self.new ≡ (has source_cmp b self.old || has source_cmp b set.now)) }
+    {
+        self.merged = merged(self.alloc, &self.merged, set)?;
+        self.merged.shrink_to_fit();
         Ok(())
     }
 
     /// The set of all that was added, in no more room than it needs.
     fn into_set(self) -> Result<Vec<SourceByte>, NoMemory>
-        ensures members { IfOk result (λ set. (b : Source) → has source_cmp b set.items ≡ has source_cmp b self.bytes.items) }
+        ensures members { IfOk result (λ set. (b : Source) → has source_cmp b set.items ≡ has source_cmp b self) }
         ensures ascending { IfOk result (λ set. Ascends source_cmp set.items) }
     {
-        let mut bytes = self.bytes;
-        merge_runs(&mut bytes)?;
-        bytes.shrink_to_fit();
-        Ok(bytes)
+        let mut waiting = self.waiting;
+        if waiting.is_empty() {
+            return Ok(self.merged);
+        }
+        ascend(&mut waiting);
+        let mut all = merged(self.alloc, &self.merged, &waiting)?;
+        all.shrink_to_fit();
+        Ok(all)
     }
-}
-
-/// Makes a set of source bytes: ascending, each once. Runs that ascend already, as sets do that stand one behind another, are
-/// merged in one pass.
-fn merge_runs(bytes: &mut Vec<SourceByte>) -> Result<(), NoMemory>
-    ensures members { OnOk result ((b : Source) → has source_cmp b bytes.new.items ≡ has source_cmp b bytes.old.items) }
-    ensures ascending { OnOk result (Ascends source_cmp bytes.new.items) }
-{
-    bytes.sort()?;
-    ascend(bytes);
-    Ok(())
 }

@@ -7,4 +7,4 @@ use Rattle.answer_sets.proofs.Members.{among}
 use Rattle.answer_sets.proofs.resolving.resolved.Given as goal
 
 abbrev pub invariant-loop-loc : goal.invariant-loop-loc
-invariant-loop-loc l = (b : SourceByte) → has source_cmp b l.gathered.bytes.items ≡ among (answer_to l.asked l.answers) l.terms.sources (take l.loc-index l.loc-items) b
+invariant-loop-loc l = (b : SourceByte) → has source_cmp b l.gathered ≡ among (answer_to l.asked l.answers) l.terms.sources (take l.loc-index l.loc-items) b
