@@ -14,7 +14,7 @@ use Rattle.pass_parts.specs.Ends.{EndsWhole, got_by, sent_by}
 use Rattle.pass_parts.specs.Known.{known}
 use Rattle.pass_parts.specs.Requests.{locations, AreCounted}
 use Rattle.pass_parts.specs.Turns.{OnMoved}
-use Rattle.forward_pass.specs.declared.fore.Fore.{Fore}
+use Rattle.forward_pass.specs.declared.state.Fore.{Fore}
 use Rattle.forward_pass.specs.Came.{Came, CameFrom}
 
 pub record ForeView : Type 0 where
@@ -35,7 +35,7 @@ fore_of f = record {
   summary = f.summary;
   asked = f.asked;
   left = drop f.answered f.requests.items;
-  sending = f.sending;
+  sending = f.sending.left;
   came = f.received;
   rows = f.rows;
   whole = f.whole;

@@ -1,6 +1,6 @@
 //! The pass forwards.
 
-ghost use Rattle.std.specs.Prelude.{◌≡◌, ◌∷◌, [], List, Option, option_map, true, false, Some, Bool, IsSome, IfOk};
+ghost use Rattle.std.specs.Prelude.{◌≡◌, ◌∷◌, [], List, Option, option_map, true, false, Some, Bool, IsSome, IsTrue, IfOk};
 ghost use Rattle.flow_model.specs.declared.Loc.{Loc};
 ghost use Rattle.epoch_model.specs.Join.{answer_to, resolved as resolved_terms};
 ghost use Rattle.stream_model.specs.Passes.{is_whole_message, rows_or_none};
@@ -15,35 +15,16 @@ ghost use Rattle.forward_pass.specs.Steps.{CannotAnswer, Builds, Resolves, Takes
 use crate::next::Next;
 use crate::received::Received;
 use crate::sending::Sending;
+use crate::state::Fore;
 use answer_sets::{Answers, resolved, rows};
 use epoch_link::{Inlet, Outlet};
 use flow_rule::{Loc, Message, SourceByte};
 use local_taint::{Asked, Summary};
 use merge_log::TermsReader;
 use no_memory::NoMemory;
-use pass_parts::{PassTurn, Requests, pop_message, push_message, read_end_terms};
+use pass_parts::{PassTurn, Requests, pop_message, push_message, read_end_terms, share_end_terms};
 use sink_collect::SinkSets;
 use std::alloc::Global;
-
-/// Answers what the node behind asked, and resolves the sinks of the epoch.
-///
-/// It is broken from where a growth is refused or an End comes that isn't whole. A broken pass takes no memory, sends
-/// nothing of what waits, and ends, not whole.
-#[derive(Drop)]
-pub struct Fore {
-    summary: Option<Summary>,
-    asked: Asked,
-    requests: Requests,
-    // How many of the requests are answered, the one whose answer is being sent among them.
-    answered: usize,
-    sending: Sending,
-    received: Received,
-    rows: Option<SinkSets>,
-    // It keeps its marks from one set to the next.
-    reader: TermsReader,
-    whole: bool,
-    over: bool,
-}
 
 /// The answer to a location, where this was asked and these answers came. It gives up with NoMemory alone.
 fn answer_for(
@@ -97,6 +78,7 @@ impl Fore {
             requests,
             answered: 0,
             sending: Sending::nothing(alloc),
+            last: None,
             received: Received::new(alloc, first),
             rows: None,
             reader: TermsReader::new(alloc),
@@ -222,9 +204,6 @@ impl Fore {
         ensures none { result ≡ false → (fore_of self.new ≡ fore_of self.old) × CannotAnswer (fore_of self.old).came (fore_of self.old).left }
         ensures built { result ≡ true → Builds (fore_of self.old) (fore_of self.new) }
     {
-        let Some(summary) = &self.summary else {
-            return false;
-        };
         if self.answered >= self.requests.len() {
             return false;
         }
@@ -232,6 +211,14 @@ impl Fore {
         if !self.received.is_enough(request) {
             return false;
         }
+        if self.has_answer(request.loc) {
+            self.sending.again(request.loc);
+            self.answered += 1;
+            return true;
+        }
+        let Some(summary) = &self.summary else {
+            return false;
+        };
         let alloc = *self.requests.allocator();
         let answers = self.received.answers();
         let Ok(set) = answer_for(
@@ -246,8 +233,23 @@ impl Fore {
             return true;
         };
         self.sending = Sending::answer(request.loc, set);
+        self.last = Some(request.loc);
         self.answered += 1;
         true
+    }
+
+    /// Whether the answer that was built last is that to this location too: they have the same terms, and no message came
+    /// since. The lanes of a register, and the bytes of a word, often do.
+    fn has_answer(&self, loc: Loc) -> bool
+        ensures { IsTrue result → self.now.sending.set ≡ resolved_terms (answer_to self.now.asked self.now.received.answers) ((known_by (fore_of self.now)).ends loc) }
+    {
+        let Some(summary) = &self.summary else {
+            return false;
+        };
+        match self.last {
+            Some(last) => share_end_terms(summary, last, loc),
+            None => false,
+        }
     }
 
     /// Resolves the sinks, if no request is left and the End came. Where a growth is refused, the pass is broken.
@@ -279,6 +281,7 @@ impl Fore {
     fn take(&mut self, message: Message)
         ensures { Takes message (fore_of self.old) (fore_of self.new) }
     {
+        self.last = None;
         if !self.whole {
             self.received.let_go(message);
             return;

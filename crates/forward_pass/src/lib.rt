@@ -8,5 +8,6 @@ mod inserting;
 mod next;
 mod received;
 mod sending;
+mod state;
 
-pub use fore::Fore;
+pub use state::Fore;

@@ -8,7 +8,7 @@ use flow_rule::{Loc, Message, SourceByte};
 use std::alloc::Global;
 use std::marker::Model;
 
-/// The rest of an answer: the source bytes that are not sent, and the Close of its location.
+/// The answer that was begun last, and what is left of it to be sent: source bytes, and the Close of its location.
 #[derive(Drop)]
 pub(crate) struct Sending {
     set: Vec<SourceByte>,
@@ -19,19 +19,18 @@ pub(crate) struct Sending {
 }
 
 impl Model for Sending {
-    ghost use Rattle.std.specs.Prelude.{List, drop};
-    ghost use Rattle.flow_rule.specs.declared.Message.{Message};
-    ghost use Rattle.forward_pass.specs.Rest.{rest_of_answer};
+    ghost use Rattle.std.specs.Prelude.{drop};
+    ghost use Rattle.forward_pass.specs.Rest.{BeingSent, rest_of_answer};
 
-    ghost Value = { List Message };
+    ghost Value = { BeingSent };
 
-    ghost view = { λ s. rest_of_answer (drop s.sent s.set.items) s.closing };
+    ghost view = { λ s. record { set = s.set.items; left = rest_of_answer (drop s.sent s.set.items) s.closing } };
 }
 
 impl Sending {
     /// Nothing is being sent. It takes no memory.
     pub(crate) fn nothing(alloc: Global) -> Sending
-        ensures { result ≡ [] }
+        ensures { result ≡ record { set = []; left = [] } }
     {
         Sending {
             set: Vec::new(alloc),
@@ -42,7 +41,7 @@ impl Sending {
 
     /// The answer to a location. It takes no memory.
     pub(crate) fn answer(loc: Loc, set: Vec<SourceByte>) -> Sending
-        ensures { result ≡ answer loc set.items }
+        ensures { result ≡ record { set = set.items; left = answer loc set.items } }
     {
         Sending {
             set,
@@ -51,10 +50,18 @@ impl Sending {
         }
     }
 
+    /// The same source bytes once more, as the answer to a location. It takes no memory.
+    pub(crate) fn again(&mut self, loc: Loc)
+        ensures { self.new ≡ record { set = self.old.set; left = answer loc self.old.set } }
+    {
+        self.sent = 0;
+        self.closing = Some(loc);
+    }
+
     /// The next message, unless all are sent. It takes no memory.
     pub(crate) fn next(&self) -> Option<Message>
-        ensures some { IfSome result (λ m. self.now ≡ m ∷ rest_of self.now) }
-        ensures none { IfNone result (self.now ≡ []) }
+        ensures some { IfSome result (λ m. self.now.left ≡ m ∷ rest_of self.now.left) }
+        ensures none { IfNone result (self.now.left ≡ []) }
     {
         let loc = self.closing?;
         match self.set.get(self.sent) {
@@ -65,7 +72,7 @@ impl Sending {
 
     /// The next message is sent.
     pub(crate) fn advance(&mut self)
-        ensures { self.new ≡ rest_of self.old }
+        ensures { self.new ≡ record self.old { left = rest_of self.old.left } }
     {
         if self.sent < self.set.len() {
             self.sent += 1;

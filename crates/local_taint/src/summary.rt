@@ -49,6 +49,22 @@ impl Summary {
         }
     }
 
+    /// Whether two locations have one label at the epoch's end, and so the same terms. Where it answers no the terms may be
+    /// equal all the same.
+    pub fn share_end_terms(&self, one: Loc, other: Loc) -> bool
+        requires one { IsLocation one }
+        requires other { IsLocation other }
+        ensures { IsTrue result → (summary_of self.now).ends one ≡ (summary_of self.now).ends other }
+    {
+        let Some(label) = self.places.get(one) else {
+            return false;
+        };
+        match self.places.get(other) {
+            Some(same) => label == same,
+            None => false,
+        }
+    }
+
     /// How many sinks the epoch has.
     pub fn sink_count(&self) -> usize
         ensures { result ≡ length (summary_of self.now).sinks }

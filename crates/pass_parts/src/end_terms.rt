@@ -1,6 +1,6 @@
 //! The terms of any location that a neighbour asks for.
 
-ghost use Rattle.std.specs.Prelude.{◌≡◌, Some, OnOk};
+ghost use Rattle.std.specs.Prelude.{◌≡◌, IsTrue, Some, OnOk};
 ghost use Rattle.merge_log.specs.Log.{AreSets};
 ghost use Rattle.local_taint.specs.Words.{as_terms};
 ghost use Rattle.pass_parts.specs.Known.{is_location, known};
@@ -31,4 +31,12 @@ pub fn read_end_terms(summary: &Summary, reader: &mut TermsReader, loc: Loc) -> 
     } else {
         reader.read_start(loc)
     }
+}
+
+/// Whether two locations have the same terms at the epoch's end for a reason that needs no reading: one label. Where it
+/// answers no the terms may be equal all the same.
+pub fn share_end_terms(summary: &Summary, one: Loc, other: Loc) -> bool
+    ensures { IsTrue result → (known (Some summary.now)).ends one ≡ (known (Some summary.now)).ends other }
+{
+    is_location(one) && is_location(other) && summary.share_end_terms(one, other)
 }

@@ -8,7 +8,7 @@ pub mod laws;
 mod pass_turn;
 mod requests;
 
-pub use end_terms::read_end_terms;
+pub use end_terms::{read_end_terms, share_end_terms};
 pub use ends::{pop_message, push_message};
 pub use flow_rule::{Loc, Message, SourceByte};
 pub use pass_turn::PassTurn;

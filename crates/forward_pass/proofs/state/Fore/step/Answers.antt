@@ -1,10 +1,10 @@
-use Rattle.std.proofs.Common.{List, ap, refl}
+use Rattle.std.proofs.Common.{ap, refl}
 use Rattle.std.specs.Prelude.{option_map}
-use Rattle.flow_rule.specs.declared.Message.{Message}
 use Rattle.pass_parts.specs.Ends.{IsRefused}
 use Rattle.forward_pass.specs.Forward.{fore_of}
+use Rattle.forward_pass.specs.Rest.{BeingSent}
 use Rattle.forward_pass.proofs.Events.{happens_moved, keeps_moved, over_next, full_next, push_next, empty_next, needs_item, waits_item, pop_next, pop_keeps, no_room_next, end_next}
-use Rattle.forward_pass.proofs.fore.Fore.step.Goals as goal
+use Rattle.forward_pass.proofs.state.Fore.step.Goals as goal
 
 pub returns-in-Moved-clause-event : goal.returns-in-Moved-clause-event
 returns-in-Moved-clause-event g c = happens_moved (fore_of c.args.self.now) _ _ c.requires.keeps (fore_of c.next.new.self) c.in-Moved.ensures
@@ -19,7 +19,7 @@ returns-then-not-push_message-clause-event g c =
 pub returns-else-not-push_message-clause-event : goal.returns-else-not-push_message-clause-event
 returns-else-not-push_message-clause-event g c =
     push_next (fore_of c.args.self.now) (fore_of c.next.new.self) _ _ c.in-Send.ensures.0 _ _ c.in-Send.message c.in-Send.ensures.1 c.requires.keeps (c.if-not-push_message.ensures.sent refl)
-    (ap (λ (ms : List Message). record (fore_of c.next.new.self) { sending = ms }) c.advance.ensures)
+    (ap (λ (s : BeingSent). record (fore_of c.next.new.self) { sending = s.left }) c.advance.ensures)
 
 pub returns-in_default-clause-event : goal.returns-in_default-clause-event
 returns-in_default-clause-event g c =

@@ -1,6 +1,6 @@
 use Rattle.forward_pass.specs.Forward.{fore_of}
 use Rattle.forward_pass.proofs.Reaching.{reached_next, reached_sends}
-use Rattle.forward_pass.proofs.fore.Fore.event.Goals as goal
+use Rattle.forward_pass.proofs.state.Fore.event.Goals as goal
 
 pub returns-clause-reached : goal.returns-clause-reached
 returns-clause-reached g c = λ first whole requests r.

@@ -1,6 +1,6 @@
 use Rattle.std.proofs.Common.{◌≡◌, ◌∷◌, [], sym, refl, drop, arith, ◌+◌, ◌∙◌}
 use Rattle.forward_pass.proofs.Lists.{next_behind}
-use Rattle.forward_pass.proofs.fore.Fore.resolve.Goals as goal
+use Rattle.forward_pass.proofs.state.Fore.resolve.Goals as goal
 
 pub returns-then-self-len-clause-none : goal.returns-then-self-len-clause-none
 returns-then-self-len-clause-none c = λ _. (
