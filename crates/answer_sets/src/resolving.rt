@@ -20,7 +20,7 @@ use std::mem;
 /// The source bytes of the terms that were read last, ascending, where this was asked and these are the answers. It
 /// fails only where there is no memory.
 ///
-/// However many start locations have the same answer, it has room for few more than five times the source bytes of the
+/// However many start locations have the same answer, it has room for few more than six times the source bytes of the
 /// result at once, and the result takes no more than it needs.
 pub fn resolved(
     alloc: Global,

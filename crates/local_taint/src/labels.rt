@@ -78,6 +78,27 @@ impl Nodes {
         }
     }
 
+    /// The label of two together. Where one is the empty node it is the other, and no node is made for what a location had at
+    /// the start.
+    fn unite_any(&mut self, left: Label, right: Label) -> Result<Label, NoMemory>
+        requires left { label_words.stands self.old left }
+        requires right { label_words.stands self.old right }
+        ensures made { IfOk result (MakesLabel label_words self.new (label_words.united (label_words.means self.old left) (label_words.means self.old right))) }
+        ensures keeps { KeepsLabels label_words self.old self.new }
+    {
+        self.log.form(); // the leaves under a node are sets
+        if self.is_nothing(&right) {
+            return Ok(left);
+        }
+        if self.is_nothing(&left) {
+            return Ok(right);
+        }
+        let one = self.node_of(left)?;
+        let other = self.node_of(right)?;
+        let node = self.log.union(one, other)?;
+        Ok(self.label_of(node))
+    }
+
     /// Reads the terms of a label. When out of memory, the reader may have read part of them, and can go on with any label.
     pub(crate) fn read(&self, label: Label, reader: &mut TermsReader) -> Result<(), NoMemory>
         requires { label_words.stands self.now label }
@@ -121,17 +142,16 @@ impl Labels for Nodes {
         Ok(*label)
     }
 
+    /// Two nodes are united at once: it is by far the most frequent case.
+    #[inline(always)]
     fn unite(&mut self, left: &Label, right: Label) -> Result<Label, NoMemory> {
-        self.log.form(); // the leaves under a node are sets
-        if self.is_nothing(&right) {
-            return Ok(*left);
-        }
-        if self.is_nothing(left) {
-            return Ok(right);
-        }
-        let left = self.node_of(*left)?;
-        let right = self.node_of(right)?;
-        let node = self.log.union(left, right)?;
+        let Label::Node(one) = *left else {
+            return self.unite_any(*left, right);
+        };
+        let Label::Node(other) = right else {
+            return self.unite_any(*left, right);
+        };
+        let node = self.log.union(one as Node, other as Node)?;
         Ok(self.label_of(node))
     }
 }

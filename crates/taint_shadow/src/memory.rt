@@ -8,7 +8,13 @@ use no_memory::NoMemory;
 use std::alloc::Global;
 
 /// The cells of a line.
-const LINE: usize = 64;
+const CELLS: usize = 64;
+
+/// The lines of a page.
+const LINES: usize = 256;
+
+/// The pages of a region.
+const PAGES: usize = 256;
 
 /// Makes empty tables, until there are at least so many.
 #[inline(always)]
@@ -34,7 +40,7 @@ fn grow_cells<L: Drop>(cells: &mut Vec<Option<L>>, size: usize) -> Result<(), No
     ensures same { OnOk result ((i : ℕ) → in_line cells.new.items i ≡ in_line cells.old.items i) }
 {
     if cells.is_empty() {
-        cells.reserve(LINE)?;
+        cells.reserve(CELLS)?;
     }
     for _ in cells.len()..size {
         cells.push(None)?;
@@ -219,17 +225,19 @@ struct Path {
     cell: usize,
 }
 
-/// Where the cell of a byte is: a line has 64 cells, a page 256 lines, and a region 256 pages.
+/// Where the cell of a byte is.
 #[inline(always)]
 fn path_of(place: u32) -> Path
     ensures { result ≡ record { region = place / 4194304; page = place / 16384 % 256; line = place / 64 % 256; cell = place % 64 } }
 {
     let place = place as usize;
+    let line = place / CELLS;
+    let page = line / LINES;
     Path {
-        region: place / 4194304,
-        page: place / 16384 % 256,
-        line: place / 64 % 256,
-        cell: place % 64,
+        region: page / PAGES,
+        page: page % PAGES,
+        line: line % LINES,
+        cell: place % CELLS,
     }
 }
 
