@@ -48,7 +48,7 @@ fn check_plain_step(run: &mut Run<'_>) -> Result<(), Divergence>
 {
     run.form();
     let time = run.time();
-    match run.step() {
+    match run.step_inlined() {
         Stepped::Plain { .. } => {
             run.advance();
             Ok(())

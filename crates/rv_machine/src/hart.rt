@@ -65,8 +65,8 @@ impl Machine {
         self.step_inlined()
     }
 
-    /// The same as [`Machine::step`], inlined where it is called: for the one loop that looks at each instruction, so that
-    /// it need not be written to memory and read back.
+    /// The same as [`Machine::step`], inlined where it is called: for the loops that make many steps, so that no instruction
+    /// need be written to memory and read back.
     #[inline(always)]
     pub fn step_inlined(&mut self) -> Stepped
         requires { self.old.waits ≡ false }

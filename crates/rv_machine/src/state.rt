@@ -172,8 +172,7 @@ impl HartState {
                 if !self.in_window(address, u32::from(size)) {
                     return Done::Trapped(STORE_OUTSIDE);
                 }
-                let bytes = value.to_le_bytes();
-                self.store(address, &bytes[..size as usize]);
+                self.store_low(address, value, size);
                 self.advance();
                 Done::Retired
             }

@@ -1,7 +1,7 @@
 //! The window of memory.
 
 ghost use Rattle.std.specs.Prelude.{◌≡◌, ℕ, ◌+◌, ◌-◌, ◌^◌, ◌<◌, ◌≤◌, ◌⊎◌, length, IsTrue};
-ghost use Rattle.isa.specs.Machine.{in_window, bytes_at, little_endian, overwritten, extended};
+ghost use Rattle.isa.specs.Machine.{in_window, bytes_at, little_endian, overwritten, low_bytes, extended};
 
 use super::HartState;
 
@@ -79,5 +79,19 @@ impl HartState {
     {
         let start = (address - self.base) as usize;
         self.memory[start..start + bytes.len()].copy_from_slice(bytes);
+    }
+
+    /// The `size` lowest bytes of a word go to memory. Each size is copied by itself, since a copy of any length is a call.
+    pub fn store_low(&mut self, address: u32, value: u32, size: u8)
+        requires inside { IsTrue (in_window self.old address size) }
+        requires sizes { (size ≡ 1) ⊎ (size ≡ 2) ⊎ (size ≡ 4) }
+        ensures { self.new ≡ record self.old { memory = overwritten self.old.memory (address - self.old.base) (low_bytes size value) } }
+    {
+        let bytes = value.to_le_bytes();
+        match size {
+            1 => self.store(address, &bytes[..1]),
+            2 => self.store(address, &bytes[..2]),
+            _ => self.store(address, &bytes),
+        }
     }
 }

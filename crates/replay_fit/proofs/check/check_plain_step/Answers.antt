@@ -14,13 +14,13 @@ advance-requires-clause-later c =
 pub advance-requires-clause-time : goal.advance-requires-clause-time
 advance-requires-clause-time c =
     let r = c.args.run.now in
-    let time : c.step.new.self.moment.time ≡ r.moment.time = ap (λ (x : RunAt). x.moment.time) c.in-Plain.ensures.rest in
+    let time : c.step_inlined.new.self.moment.time ≡ r.moment.time = ap (λ (x : RunAt). x.moment.time) c.in-Plain.ensures.rest in
     omega (arith, end_is_later r c.form.ensures c.requires.plain, end_small r.log.end c.form.ensures.form.end)
 
 pub returns-in-Plain : goal.returns-in-Plain
 returns-in-Plain c =
     let moved = c.advance.ensures ∙ ap later_by_one c.in-Plain.ensures.rest in (
-      plain_advances c.args.run.now c.advance.new.self (hart_of c.step.new.self) c.in-Plain.instr c.in-Plain.place c.form.ensures c.requires.plain c.in-Plain.ensures.step moved,
+      plain_advances c.args.run.now c.advance.new.self (hart_of c.step_inlined.new.self) c.in-Plain.instr c.in-Plain.place c.form.ensures c.requires.plain c.in-Plain.ensures.step moved,
       ap (λ (r : RunAt). r.moment.left) moved,
     )
 
@@ -30,6 +30,6 @@ returns-in_default c =
     let d = c.event_in_place_of_a_step.result in
     record {
       first = compared_of d;
-      differs = other_differs r c.step.result (hart_of c.step.new.self) (compared_of d) c.requires.plain c.step.ensures.step c.in_default.not-Plain c.event_in_place_of_a_step.ensures;
+      differs = other_differs r c.step_inlined.result (hart_of c.step_inlined.new.self) (compared_of d) c.requires.plain c.step_inlined.ensures.step c.in_default.not-Plain c.event_in_place_of_a_step.ensures;
       divergence = c.at_step.ensures ∙ ap (λ (t : ℕ). at_step t (compared_of d)) c.time-time.ensures;
     }
