@@ -222,7 +222,7 @@ impl Recorder {
             (K.answers clock.old) (K.answers clock.new)) }
         ensures gained { OnErr result (Gained (K.answers clock.old) (K.answers clock.new)) }
     {
-        match self.machine.step() {
+        match self.machine.step_inlined() {
             Stepped::Plain { .. } => Ok(None),
             Stepped::Called(call) => self.answer(alloc, source, clock, at, &call),
             Stepped::Trapped { kind, pc } => Ok(Some(RunEnd::Trap { at, kind, pc })),
