@@ -42,3 +42,10 @@ pub enum ImageKind {
     #[error("the entry point is wrong")]
     Entry,
 }
+
+/// A window of so many pages of 4096 bytes can't hold an image: it would end past 2^32, or a segment ends past it.
+#[derive(Clone, Copy, Debug, Error)]
+#[error("a window of {pages} pages can't hold the image")]
+pub struct SmallWindow {
+    pub pages: u32,
+}

@@ -7,6 +7,7 @@
 pub mod laws;
 
 use std::marker::Model;
+use thiserror::Error;
 
 /// Bytes, seen as their list.
 #[derive(Drop)]
@@ -136,4 +137,13 @@ pub enum LogKind {
     /// A read takes more bytes than its channel has left, or there is no such channel; or the end record comes
     /// while a channel has bytes left. Version 2 alone has this fault.
     Bytes,
+}
+
+/// Why bytes are no log: their first fault, met by reading from the front, and its offset in bytes: of a record that is at
+/// fault that of its tag, of a channel that isn't whole that of its length.
+#[derive(Clone, Copy, Debug, Error)]
+#[error("no log: {kind:?} at byte {offset}")]
+pub struct FaultInLog {
+    pub kind: LogKind,
+    pub offset: u64,
 }

@@ -6,6 +6,9 @@
 
 pub mod laws;
 
+use elf_model::SmallWindow;
+use thiserror::Error;
+
 /// What is compared at a step, in this order.
 #[derive(Clone, Copy, Debug, PartialEq, Eq)]
 pub enum Field {
@@ -40,4 +43,19 @@ pub struct Divergence {
     pub field: Field,
     pub kept: i64,
     pub seen: i64,
+}
+
+/// Why a log doesn't fit its program: the first of these that holds.
+#[derive(Clone, Copy, Debug, Error)]
+pub enum Misfit {
+    /// The log is of another program: the digest that it keeps, and the SHA-256 digest (FIPS 180-4) of the program that
+    /// was seen, which differ.
+    #[error("the log is of another program")]
+    WrongProgram { kept: [u8; 32], seen: [u8; 32] },
+    /// A window of the log's pages can't hold the image.
+    #[error("{0}")]
+    Window(SmallWindow),
+    /// The run differs from the log, here first. What is kept differs from what is seen.
+    #[error("the run differs from the log")]
+    Diverged(Divergence),
 }

@@ -7,6 +7,7 @@
 
 pub mod laws;
 
+use flow_model::Rule;
 use thiserror::Error;
 
 /// The faults of a query's text. In a line the first that holds, in this order; NoRule comes after all
@@ -40,4 +41,23 @@ pub enum QueryKind {
     /// No `rule` line.
     #[error("no rule")]
     NoRule,
+}
+
+/// Why a text is no query: its first faulty line, counted from 1, and that line's first fault. Line 0 stands for the whole
+/// text.
+#[derive(Clone, Copy, Debug, Error)]
+#[error("line {line}: {kind}")]
+pub struct FaultInQuery {
+    pub line: u32,
+    pub kind: QueryKind,
+}
+
+/// Why several queries don't make one: the first one's rule, the first query whose rule is another, counted from 1 and so 2
+/// at least, and that rule.
+#[derive(Clone, Copy, Debug, Error)]
+#[error("query {index} has another rule than the first")]
+pub struct OtherRule {
+    pub first: Rule,
+    pub index: u32,
+    pub other: Rule,
 }
