@@ -2,7 +2,6 @@
 //! Loading"). `load` gives the image of a file, or the first of its faults.
 #![tactic(auto)]
 
-mod fault;
 mod fields;
 mod file;
 mod loaded;
@@ -10,6 +9,5 @@ mod loader;
 mod program_header;
 
 pub use elf_model::ImageKind;
-pub use fault::ImageFault;
 pub use loaded::{Image, Segment};
-pub use loader::load;
+pub use loader::{ImageFault, load};

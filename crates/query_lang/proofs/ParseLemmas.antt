@@ -13,8 +13,10 @@ use Rattle.report_model.specs.Query.{Choice, Query, AreLocated, chooses, is_chan
 use Rattle.report_model.specs.Grammar.{lines, read_line, read_lines, first_fault, or_later, rule_in, sources_in, sinks_in, points_in, rule_among, query, unless, query_of}
 use Rattle.report_model.proofs.Located.{lines_located}
 use Rattle.query_lang.specs.declared.draft.Draft.{Draft}
-use Rattle.query_lang.specs.declared.fault.QueryFault.{QueryFault}
-use Rattle.query_lang.specs.declared.fault.QueryFault.TheVariants.{At, NoMemory}
+use Rattle.report_model.specs.declared.FaultInQuery.{FaultInQuery}
+use Rattle.no_memory.specs.declared.Fault.{Fault}
+use Rattle.no_memory.specs.declared.Fault.TheVariants.{At, NoMemory}
+use Rattle.no_memory.specs.Faults.{IsCausedBy}
 use Rattle.query_lang.specs.Choices.{SameChoices}
 use Rattle.query_lang.specs.Drafts.{TakesUp, IsFaultIn, IsFinished, IsUnfinished, choices_in, rule_with}
 use Rattle.query_lang.specs.Answers.{StandsFor, IsTold}
@@ -71,18 +73,18 @@ one_more_line text number old new line rest p t = record {
 told_of : (text : List ℕ) (n : ℕ) (kind : QueryKind) → first_fault 1 false (read_lines text) ≡ Some (n, kind) → query text ≡ Err (n, kind)
 told_of text n kind e = ap (λ (f : Option (ℕ × QueryKind)). unless f (query_of (read_lines text))) e
 
-pub faulty_line : (text : List ℕ) (number : ℕ) (draft : Draft) (line : List ℕ) (rest : List (List ℕ)) (fault : QueryFault) → IsPartOf text number draft (line ∷ rest)
-    → IsFaultIn (number + 1) draft (read_line line) fault → IsTold text fault
-faulty_line text number draft line rest (At at kind) p f =
-    told_of text at kind (sym p.fault ∙ ap (λ (g : Option QueryKind). or_later (number + 1) g (first_fault (number + 1 + 1) (is_some draft.rule || is_some (rule_in (read_line line))) (map read_line rest))) f.1 ∙ ap (λ (n : ℕ). Some (n, kind)) (sym f.0))
-faulty_line text number draft line rest NoMemory p f = tt
+pub faulty_line : (text : List ℕ) (number : ℕ) (draft : Draft) (line : List ℕ) (rest : List (List ℕ)) (fault : Fault FaultInQuery) → IsPartOf text number draft (line ∷ rest)
+    → IsCausedBy (IsFaultIn (number + 1) draft (read_line line)) fault → IsCausedBy (IsTold text) fault
+faulty_line text number draft line rest (At at) p f =
+    told_of text at.line at.kind (sym p.fault ∙ ap (λ (g : Option QueryKind). or_later (number + 1) g (first_fault (number + 1 + 1) (is_some draft.rule || is_some (rule_in (read_line line))) (map read_line rest))) f.1 ∙ ap (λ (n : ℕ). Some (n, at.kind)) (sym f.0))
+faulty_line text number draft line rest (NoMemory no_memory) p f = tt
 
-pub no_rule_told : (text : List ℕ) (number : ℕ) (draft : Draft) (fault : QueryFault) → IsPartOf text number draft [] → IsUnfinished draft fault → IsTold text fault
-no_rule_told text number draft (At at kind) p f =
+pub no_rule_told : (text : List ℕ) (number : ℕ) (draft : Draft) (fault : Fault FaultInQuery) → IsPartOf text number draft [] → IsCausedBy (IsUnfinished draft) fault → IsCausedBy (IsTold text) fault
+no_rule_told text number draft (At at) p f =
     let none : is_some draft.rule ≡ false = rw f.0 refl in
     let end : first_fault (number + 1) (is_some draft.rule) [] ≡ Some (0, NoRule) = rw none refl in
-    told_of text at kind (sym p.fault ∙ end ∙ rw (f.1, f.2) refl)
-no_rule_told text number draft NoMemory p f = tt
+    told_of text at.line at.kind (sym p.fault ∙ end ∙ rw (f.1, f.2) refl)
+no_rule_told text number draft (NoMemory no_memory) p f = tt
 
 pub all_read : (text : List ℕ) (number : ℕ) (draft : Draft) (q : Query) → IsPartOf text number draft [] → IsFinished draft q → StandsFor text q
 all_read text number draft q p f =

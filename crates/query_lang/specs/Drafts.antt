@@ -8,8 +8,7 @@ use Rattle.report_model.specs.declared.QueryKind.{QueryKind}
 use Rattle.report_model.specs.declared.QueryKind.TheVariants.{NoRule}
 use Rattle.report_model.specs.Query.{Choice, Query, Alike}
 use Rattle.report_model.specs.Grammar.{Statement, line_fault, rule_in, sources_in, sinks_in, points_in, rule_among}
-use Rattle.query_lang.specs.declared.fault.QueryFault.{QueryFault}
-use Rattle.query_lang.specs.declared.fault.QueryFault.TheVariants.{At, NoMemory}
+use Rattle.report_model.specs.declared.FaultInQuery.{FaultInQuery}
 use Rattle.query_lang.specs.declared.chosen.Selection.{Selection}
 use Rattle.query_lang.specs.declared.draft.Draft.{Draft}
 use Rattle.query_lang.specs.Choices.{choices_of, SameChoices}
@@ -33,9 +32,8 @@ pub record TakesUp (old : Draft) (line : Result (Option Statement) QueryKind) (n
   pub points : new.points.items ≡ old.points.items ++ points_in line
 
 -- the line with this number is at fault
-abbrev pub IsFaultIn : ℕ → Draft → Result (Option Statement) QueryKind → QueryFault → Type 0
-IsFaultIn number draft line (At at kind) = (at ≡ number) × (line_fault (is_some draft.rule) line ≡ Some kind)
-IsFaultIn number draft line NoMemory = Unit {0}
+abbrev pub IsFaultIn : ℕ → Draft → Result (Option Statement) QueryKind → FaultInQuery → Type 0
+IsFaultIn number draft line fault = (fault.line ≡ number) × (line_fault (is_some draft.rule) line ≡ Some fault.kind)
 
 -- the query by this rule of what these choose, of the points each once
 abbrev pub query_by : Rule → Selection → Selection → List InnerSink → Query
@@ -52,6 +50,5 @@ pub record IsFinished (draft : Draft) (q : Query) : Type 0 where
   pub alike : Alike q (query_by q.rule draft.sources draft.sinks draft.points.items)
 
 -- no line named a rule
-abbrev pub IsUnfinished : Draft → QueryFault → Type 0
-IsUnfinished draft (At at kind) = (draft.rule ≡ None) × (at ≡ 0) × (kind ≡ NoRule)
-IsUnfinished draft NoMemory = Unit {0}
+abbrev pub IsUnfinished : Draft → FaultInQuery → Type 0
+IsUnfinished draft fault = (draft.rule ≡ None) × (fault.line ≡ 0) × (fault.kind ≡ NoRule)

@@ -1,16 +1,10 @@
-//! Why a text was not read as a query.
+//! Why no query was read, or made.
 
-use report_model::QueryKind;
-use thiserror::Error;
+use no_memory::Fault;
+use report_model::{FaultInQuery, OtherRule};
 
-/// Why `parse` gave no query.
-#[derive(Debug, Drop, Error)]
-pub enum QueryFault {
-    /// The text stands for no query. Its first faulty line has this number, counted from 1, and this is the
-    /// first fault of that line. Line 0 stands for the whole text.
-    #[error("line {line}: {kind}")]
-    At { line: u32, kind: QueryKind },
-    /// There was no memory for the query.
-    #[error("out of memory")]
-    NoMemory,
-}
+/// Why `parse` gave no query: the first fault of the text's first faulty line, or out of memory.
+pub type QueryFault = Fault<FaultInQuery>;
+
+/// Why `together` gave no query: the first query that has another rule, or out of memory.
+pub type TogetherFault = Fault<OtherRule>;

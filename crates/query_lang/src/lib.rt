@@ -18,8 +18,8 @@ mod several;
 mod statement;
 mod words;
 
-pub use fault::QueryFault;
+pub use fault::{QueryFault, TogetherFault};
 pub use parser::parse;
 pub use query::Query;
-pub use report_model::QueryKind;
-pub use several::{TogetherFault, together};
+pub use report_model::{FaultInQuery, OtherRule, QueryKind};
+pub use several::together;

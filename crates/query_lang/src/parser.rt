@@ -2,6 +2,7 @@
 
 ghost use Rattle.std.specs.Prelude.{◌≡◌, ◌≤◌, ◌^◌, length, IfOk, IfErr};
 ghost use Rattle.report_model.specs.Query.{AreLocated};
+ghost use Rattle.no_memory.specs.Faults.{IsCausedBy};
 ghost use Rattle.query_lang.specs.Answers.{StandsFor, IsTold};
 ghost use Rattle.query_lang.specs.Drafts.{IsFinished, IsUnfinished};
 
@@ -9,14 +10,15 @@ use crate::draft::Draft;
 use crate::fault::QueryFault;
 use crate::lines::split_line;
 use crate::query::Query;
-use report_model::QueryKind;
+use no_memory::Fault;
+use report_model::{FaultInQuery, QueryKind};
 use std::alloc::Global;
 
 /// The query of which all lines were taken up.
 fn finish(alloc: Global, draft: Draft) -> Result<Query, QueryFault>
     requires { AreLocated draft.points.items }
     ensures ok { IfOk result (IsFinished draft) }
-    ensures fault { IfErr result (IsUnfinished draft) }
+    ensures fault { IfErr result (IsCausedBy (IsUnfinished draft)) }
 {
     let Draft {
         rule,
@@ -24,11 +26,11 @@ fn finish(alloc: Global, draft: Draft) -> Result<Query, QueryFault>
         sinks,
         points,
     } = draft;
-    let rule = rule.ok_or(QueryFault::At {
+    let rule = rule.ok_or(Fault::At(FaultInQuery {
         line: 0,
         kind: QueryKind::NoRule,
-    })?;
-    Query::of(alloc, rule, sources, sinks, points).map_err(|_| QueryFault::NoMemory)
+    }))?;
+    Ok(Query::of(alloc, rule, sources, sinks, points)?)
 }
 
 /// The query that a text of at most 2^26 bytes stands for.
@@ -38,7 +40,7 @@ fn finish(alloc: Global, draft: Draft) -> Result<Query, QueryFault>
 pub fn parse(alloc: Global, text: &[u8]) -> Result<Query, QueryFault>
     requires { length text.now ≤ 2 ^ 26 }
     ensures read { IfOk result (StandsFor text.now) }
-    ensures fault { IfErr result (IsTold text.now) }
+    ensures fault { IfErr result (IsCausedBy (IsTold text.now)) }
 {
     let mut draft = Draft::new(alloc);
     let mut number = 0;

@@ -1,5 +1,5 @@
 -- Records read one after another: one more, the end, and faults.
-use Rattle.std.proofs.Common.{◌≡◌, ℕ, zero, suc, ◌+◌, ◌-◌, ◌≤◌, ◌<◌, ◌^◌, List, [], ◌∷◌, ◌++◌, length, drop, Bool, true, false, Result, Ok, Err, refl, sym, ap, ap₂, ◌∙◌, arith}
+use Rattle.std.proofs.Common.{◌≡◌, ℕ, zero, suc, ◌+◌, ◌-◌, ◌≤◌, ◌<◌, ◌^◌, List, [], ◌∷◌, ◌++◌, length, drop, Bool, true, false, Some, Result, Ok, Err, refl, sym, ap, ap₂, ◌∙◌, arith}
 use Rattle.std.specs.Prelude.{nat_lt, ◌==◌, if◌then◌else◌}
 use Rattle.std.proofs.lemmas.List.{append-nil, nil_from_length, length-drop}
 use Rattle.log_model.specs.declared.Version.{Version}
@@ -10,15 +10,16 @@ use Rattle.log_model.specs.declared.LogKind.TheVariants.{Trailing}
 use Rattle.log_model.specs.declared.Item.{Item}
 use Rattle.log_model.specs.declared.Item.TheVariants.{Call, End}
 use Rattle.log_model.specs.Logs.{at_of}
-use Rattle.log_model.specs.Faults.{tag_of, step_of}
+use Rattle.log_model.specs.Faults.{tag_of, step_of, record_fault}
 use Rattle.log_model.specs.Reading.{Body, map_ok, with_end, body_of, item_of, item_length, left_after}
 use Rattle.log_model.proofs.Items.{item_at}
 use Rattle.log_model.proofs.Reading.{with_calls, with_calls-push, body_of-fault, body_of-call, body_of-end}
 use Rattle.log_model.proofs.Faults.{no_fault, item_length-bounds}
-use Rattle.replay_log.specs.declared.records.RecordFault.{RecordFault}
-use Rattle.replay_log.specs.declared.records.RecordFault.TheVariants as kinds
+use Rattle.no_memory.specs.declared.Fault.{Fault}
+use Rattle.no_memory.specs.declared.Fault.TheVariants.{At, NoMemory}
+use Rattle.no_memory.specs.Faults.{IsCausedBy}
 use Rattle.replay_log.specs.Answers.{IsFaultOf}
-use Rattle.replay_log.specs.Records.{IsFirst, IsRecordFault, at_offset}
+use Rattle.replay_log.specs.Records.{IsFirst, at_offset}
 
 -- these records were read, and the rest is left, and that is left of the channels
 pub record IsReadTo (v : Version) (size : ℕ) (all : Result Body (LogKind × ℕ)) (records : List CallRecord) (least : ℕ) (left : List (List ℕ)) (rest : List ℕ) : Type 0 where
@@ -78,10 +79,10 @@ pub is_trailing : (v : Version) (size : ℕ) (all : Result Body (LogKind × ℕ)
     → IsReadTo v size all records least left rest → IsFirst v least left rest (End e) after kept → 0 < length after → all ≡ Err (Trailing, size - length after)
 is_trailing v size all records least left rest e after kept so_far t some = end_read v size all records least left rest e after kept so_far t ∙ bytes_after records e (size - length after) after some
 
-pub is_record_fault : (v : Version) (size : ℕ) (all : Result Body (LogKind × ℕ)) (records : List CallRecord) (least : ℕ) (left : List (List ℕ)) (rest : List ℕ) (r : RecordFault)
-    → IsReadTo v size all records least left rest → IsRecordFault v least left rest r → IsFaultOf all (at_offset r (size - length rest))
-is_record_fault v size all records least left rest (kinds.Of kind) so_far h = so_far.read ∙ ap (map_ok (with_calls records)) (body_of-fault v so_far.most least (size - length rest) left rest kind h)
-is_record_fault v size all records least left rest kinds.NoMemory so_far h = tt
+pub is_record_fault : (v : Version) (size : ℕ) (all : Result Body (LogKind × ℕ)) (records : List CallRecord) (least : ℕ) (left : List (List ℕ)) (rest : List ℕ) (f : Fault LogKind)
+    → IsReadTo v size all records least left rest → IsCausedBy (λ kind. record_fault v least left rest ≡ Some kind) f → IsCausedBy (IsFaultOf all) (at_offset f (size - length rest))
+is_record_fault v size all records least left rest (At kind) so_far h = so_far.read ∙ ap (map_ok (with_calls records)) (body_of-fault v so_far.most least (size - length rest) left rest kind h)
+is_record_fault v size all records least left rest (NoMemory no_memory) so_far h = tt
 
 nothing_read : (r : Result Body (LogKind × ℕ)) → r ≡ map_ok (with_calls []) r
 nothing_read (Ok body) = refl

@@ -11,8 +11,10 @@ use Rattle.log_model.proofs.Reading.{log_of-body}
 use Rattle.log_model.proofs.Soundness.{log_read}
 use Rattle.log_model.proofs.Texts.{wide_length, wide_limit}
 use Rattle.replay_log.specs.declared.header.Header.{Header}
-use Rattle.replay_log.specs.declared.fault.LogFault.{LogFault}
-use Rattle.replay_log.specs.declared.fault.LogFault.TheVariants.{At, NoMemory}
+use Rattle.log_model.specs.declared.FaultInLog.{FaultInLog}
+use Rattle.no_memory.specs.declared.Fault.{Fault}
+use Rattle.no_memory.specs.declared.Fault.TheVariants.{At, NoMemory}
+use Rattle.no_memory.specs.Faults.{IsCausedBy}
 use Rattle.replay_log.specs.Answers.{IsFaultOf}
 use Rattle.replay_log.specs.Logs.{log_of_parts}
 use Rattle.replay_log.specs.Header.{IsHeader, body}
@@ -25,9 +27,9 @@ whole_log bytes h records end is e =
     log_of-body h.version bytes is.none is.version ∙ ap (map_ok (with_header bytes)) e
     ∙ ap Ok (parts_from (word_at bytes 40) (word_at bytes 44) h.pages h.inputs (take 32 (drop 8 bytes)) h.digest records end is.pages is.inputs is.digest)
 
-pub whole_fault : (bytes : List ℕ) (h : Header) (fault : LogFault) → IsHeader bytes h → IsFaultOf (body h.version bytes) fault → IsFaultOf (log_of bytes) fault
-whole_fault bytes h (At kind offset) is e = log_of-body h.version bytes is.none is.version ∙ ap (map_ok (with_header bytes)) e
-whole_fault bytes h NoMemory is e = tt
+pub whole_fault : (bytes : List ℕ) (h : Header) (fault : Fault FaultInLog) → IsHeader bytes h → IsCausedBy (IsFaultOf (body h.version bytes)) fault → IsCausedBy (IsFaultOf (log_of bytes)) fault
+whole_fault bytes h (At at) is e = log_of-body h.version bytes is.none is.version ∙ ap (map_ok (with_header bytes)) e
+whole_fault bytes h (NoMemory no_memory) is e = tt
 
 -- the log of these parts is one, and its text of version 2 is short enough
 pub record IsWholeLog (h : Header) (records : List CallRecord) (end : RunEnd) : Type 0 where

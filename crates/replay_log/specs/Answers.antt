@@ -1,10 +1,8 @@
 -- The faults that reading answers with.
 use Rattle.std.specs.Prelude.{◌≡◌, ℕ, Result, Err}
 use Rattle.log_model.specs.declared.LogKind.{LogKind}
-use Rattle.replay_log.specs.declared.fault.LogFault.{LogFault}
-use Rattle.replay_log.specs.declared.fault.LogFault.TheVariants.{At, NoMemory}
+use Rattle.log_model.specs.declared.FaultInLog.{FaultInLog}
 
--- the fault is what was read, or memory ran out
-abbrev pub IsFaultOf : {A : Type 0} → Result A (LogKind × ℕ) → LogFault → Type 0
-IsFaultOf read (At kind offset) = read ≡ Err (kind, offset)
-IsFaultOf read NoMemory = Unit {0}
+-- the fault is what was read
+abbrev pub IsFaultOf : {A : Type 0} → Result A (LogKind × ℕ) → FaultInLog → Type 0
+IsFaultOf read fault = read ≡ Err (fault.kind, fault.offset)

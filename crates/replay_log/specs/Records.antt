@@ -1,16 +1,16 @@
 -- One record at the front of the bytes that are left, taken apart and put together.
-use Rattle.std.specs.Prelude.{◌≡◌, ℕ, ◌≤◌, if◌then◌else◌, List, length, take, drop, None, Some}
+use Rattle.std.specs.Prelude.{◌≡◌, ℕ, ◌≤◌, if◌then◌else◌, List, length, take, drop, None}
 use Rattle.log_model.specs.declared.Version.{Version}
 use Rattle.log_model.specs.declared.Version.TheVariants.{One, Two}
 use Rattle.log_model.specs.declared.Item.{Item}
 use Rattle.log_model.specs.declared.Item.TheVariants.{Call, End}
 use Rattle.log_model.specs.Faults.{tag_of, step_of, fields_of, fixed_length, moved, has_data, left_on, record_fault}
 use Rattle.log_model.specs.Reading.{data_of, item_of, item_length, left_after}
-use Rattle.replay_log.specs.declared.records.RecordFault.{RecordFault}
-use Rattle.replay_log.specs.declared.records.RecordFault.TheVariants as kinds
+use Rattle.log_model.specs.declared.LogKind.{LogKind}
+use Rattle.log_model.specs.declared.FaultInLog.{FaultInLog}
+use Rattle.no_memory.specs.declared.Fault.{Fault}
+use Rattle.no_memory.specs.declared.Fault.TheVariants.{At, NoMemory}
 use Rattle.replay_log.specs.declared.record_parts.RecordParts.{RecordParts}
-use Rattle.replay_log.specs.declared.fault.LogFault.{LogFault}
-use Rattle.replay_log.specs.declared.fault.LogFault.TheVariants as faults
 use Rattle.replay_log.specs.Tags.{number}
 
 -- how many bytes of data follow these fields
@@ -44,12 +44,7 @@ pub record IsFirst (v : Version) (least : ℕ) (left : List (List ℕ)) (rest : 
   pub leaves : after ≡ drop (item_length v rest) rest
   pub keeps : kept ≡ left_by item left
 
--- the fault that is told is that of the record at the front
-abbrev pub IsRecordFault : Version → ℕ → List (List ℕ) → List ℕ → RecordFault → Type 0
-IsRecordFault v least left rest (kinds.Of kind) = record_fault v least left rest ≡ Some kind
-IsRecordFault v least left rest kinds.NoMemory = Unit {0}
-
--- the fault of the bytes, where the record begins at this offset
-abbrev pub at_offset : RecordFault → ℕ → LogFault
-at_offset (kinds.Of kind) offset = faults.At kind offset
-at_offset kinds.NoMemory offset = faults.NoMemory
+-- the fault of the bytes, where the record at fault begins at this offset
+abbrev pub at_offset : Fault LogKind → ℕ → Fault FaultInLog
+at_offset (At kind) offset = At (record { kind = kind; offset = offset })
+at_offset (NoMemory no_memory) offset = NoMemory no_memory

@@ -3,13 +3,15 @@
 ghost use Rattle.std.specs.Prelude.{◌≡◌, ◌+◌, ◌≤◌, ◌∷◌, [], ◌++◌, true, length, get_or, set, drop, Ok, OnOk, IfOk, IfErr, IfSome, IfNone};
 ghost use Rattle.format_model.specs.Fields.{word_at};
 ghost use Rattle.log_model.specs.Faults.{are_left, is_channel_cut};
+ghost use Rattle.no_memory.specs.Faults.{IsCausedBy};
 ghost use Rattle.replay_log.specs.Answers.{IsFaultOf};
 ghost use Rattle.replay_log.specs.Header.{channels, count_of, IsFrontChannel};
 
 use crate::fault::LogFault;
 use crate::header::HEADER_LENGTH;
 use crate::words::word_at;
-use log_model::{LogKind, Version};
+use log_model::{FaultInLog, LogKind, Version};
+use no_memory::Fault;
 use std::alloc::{AllocFailed, Global};
 use std::marker::Model;
 
@@ -115,7 +117,7 @@ pub fn channels_of(
     requires inputs { inputs ≡ word_at bytes.now 44 }
     ensures ok { IfOk result (λ x. channels version bytes.now ≡ Ok (x.0, x.1.now)) }
     ensures after { IfOk result (λ x. length x.1.now + 48 ≤ length bytes.now) }
-    ensures fault { IfErr result (IsFaultOf (channels version bytes.now)) }
+    ensures fault { IfErr result (IsCausedBy (IsFaultOf (channels version bytes.now))) }
 {
     let mut left = Channels::new(alloc);
     let mut rest = &bytes[HEADER_LENGTH..];
@@ -123,10 +125,10 @@ pub fn channels_of(
     for i in 0..count {
         let _ = i;
         let Some((channel, after)) = front_of(rest) else {
-            return Err(LogFault::At {
+            return Err(Fault::At(FaultInLog {
                 kind: LogKind::Header,
                 offset: (bytes.len() - rest.len()) as u64,
-            });
+            }));
         };
         left.add(channel)?;
         rest = after;

@@ -7,9 +7,8 @@ ghost use Rattle.log_model.specs.Reading.{log_of};
 ghost use Rattle.replay_log.specs.Answers.{IsFaultOf};
 ghost use Rattle.replay_log.specs.Header.{IsHeader};
 
-use crate::fault::LogFault;
 use crate::words::word_at;
-use log_model::{LogKind, Version};
+use log_model::{FaultInLog, LogKind, Version};
 
 /// The first bytes of a log of version 1.
 const MAGIC_1: [u8; 8] = *b"JETLOG1\n";
@@ -53,32 +52,32 @@ fn version_of(bytes: &[u8]) -> Option<Version>
 }
 
 /// Reads the header: eight bytes of magic, the digest, the pages and the inputs.
-pub fn header_of(bytes: &[u8]) -> Result<Header, LogFault>
+pub fn header_of(bytes: &[u8]) -> Result<Header, FaultInLog>
     ensures ok { IfOk result (IsHeader bytes.now) }
     ensures fault { IfErr result (IsFaultOf (log_of bytes.now)) }
 {
     let Some(version) = version_of(bytes) else {
-        return Err(LogFault::At {
+        return Err(FaultInLog {
             kind: LogKind::Magic,
             offset: 0,
         });
     };
     if bytes.len() < HEADER_LENGTH {
-        return Err(LogFault::At {
+        return Err(FaultInLog {
             kind: LogKind::Header,
             offset: 8,
         });
     }
     let pages = word_at(bytes, 40);
     if pages == 0 || pages > 4096 {
-        return Err(LogFault::At {
+        return Err(FaultInLog {
             kind: LogKind::Header,
             offset: 40,
         });
     }
     let inputs = word_at(bytes, 44);
     if inputs > 16 {
-        return Err(LogFault::At {
+        return Err(FaultInLog {
             kind: LogKind::Header,
             offset: 44,
         });

@@ -18,7 +18,7 @@ mod writing;
 pub use fault::LogFault;
 pub use header::HEADER_LENGTH;
 pub use lengths::{end_length, share};
-pub use log_model::{CallRecord, Data, LogKind, RunEnd};
+pub use log_model::{CallRecord, Data, FaultInLog, LogKind, RunEnd};
 pub use logs::Log;
 pub use reading::read_log;
 pub use writing::{can_write, write_log};

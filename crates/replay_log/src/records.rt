@@ -1,53 +1,18 @@
 //! The record at the front of the bytes that are left, put together.
 
-ghost use Rattle.std.specs.Prelude.{◌≡◌, ◌≤◌, false, length, IfOk, IfErr};
-ghost use Rattle.log_model.specs.Faults.{are_bytes_wrong};
+ghost use Rattle.std.specs.Prelude.{◌≡◌, ◌≤◌, false, length, Some, IfOk, IfErr};
+ghost use Rattle.log_model.specs.Faults.{are_bytes_wrong, record_fault};
 ghost use Rattle.log_model.specs.Reading.{arguments_of, item_of};
-ghost use Rattle.replay_log.specs.declared.records.RecordFault.TheVariants.{Of, NoMemory};
-ghost use Rattle.replay_log.specs.Records.{at_offset, bytes_read, left_by, ArePartsOf, IsFirst, IsRecordFault};
+ghost use Rattle.no_memory.specs.Faults.{IsCausedBy};
+ghost use Rattle.replay_log.specs.Records.{bytes_read, left_by, ArePartsOf, IsFirst};
 
 use crate::channels::Channels;
-use crate::fault::LogFault;
 use crate::record_parts::{RecordParts, moved, parts_of};
 use crate::tags::Tag;
 use crate::words::{long_at, word_at};
 use log_model::{CallRecord, Data, Item, LogKind, RunEnd, Version};
+use no_memory::Fault;
 use std::alloc::{AllocError, Global};
-
-/// Why no record was read.
-#[derive(Drop)]
-pub enum RecordFault {
-    Of(LogKind),
-    NoMemory,
-}
-
-impl RecordFault {
-    /// The fault of the bytes, where the record begins at this offset.
-    pub fn at_offset(self, offset: u64) -> LogFault
-        ensures { result ≡ at_offset self offset }
-    {
-        match self {
-            RecordFault::Of(kind) => LogFault::At { kind, offset },
-            RecordFault::NoMemory => LogFault::NoMemory,
-        }
-    }
-}
-
-impl From<LogKind> for RecordFault {
-    ghost from_gives = { λ kind fault. fault ≡ Of kind };
-
-    fn from(kind: LogKind) -> RecordFault {
-        RecordFault::Of(kind)
-    }
-}
-
-impl From<AllocError> for RecordFault {
-    ghost from_gives = { λ _ fault. fault ≡ NoMemory };
-
-    fn from(_error: AllocError) -> RecordFault {
-        RecordFault::NoMemory
-    }
-}
 
 /// The three arguments of a read or a write.
 fn arguments_of(fields: &[u8]) -> [u32; 3]
@@ -142,11 +107,14 @@ pub fn item_of<'a>(
     least: u64,
     left: &mut Channels,
     rest: &'a [u8],
-) -> Result<(Item, &'a [u8]), RecordFault>
+) -> Result<(Item, &'a [u8]), Fault<LogKind>>
     ensures ok { IfOk result (λ x. IsFirst version least left.old rest.now x.0 x.1.now left.new) }
-    ensures fault { IfErr result (IsRecordFault version least left.old rest.now) }
+    ensures fault { IfErr result (IsCausedBy (λ kind. record_fault version least left.old rest.now ≡ Some kind)) }
 {
-    let parts = parts_of(version, least, left, rest)?;
+    let parts = match parts_of(version, least, left, rest) {
+        Ok(parts) => parts,
+        Err(kind) => return Err(Fault::At(kind)),
+    };
     let item = item_from(alloc, version, least, left, rest, &parts)?;
     leave(left, &item);
     Ok((item, parts.after))

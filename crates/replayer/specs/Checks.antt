@@ -9,8 +9,8 @@ use Rattle.replay_model.specs.Comparison.{divergence}
 use Rattle.replay_model.specs.Fits.{Fits}
 use Rattle.sha2.specs.Sha256.{sha256}
 use Rattle.replayer.specs.Jobs.{Job}
-use Rattle.replayer.specs.declared.fault.CheckFault.{CheckFault}
-use Rattle.replayer.specs.declared.fault.CheckFault.TheVariants.{WrongProgram, Window, Diverged, NoMemory}
+use Rattle.replay_model.specs.declared.Misfit.{Misfit}
+use Rattle.replay_model.specs.declared.Misfit.TheVariants.{WrongProgram, Window, Diverged}
 
 -- the log fits the program, and the job is of the two
 pub record IsChecked (program : List ℕ) (im : Image) (log : Log) (job : Job) : Type 0 where
@@ -40,8 +40,8 @@ pub record IsDiverged (program : List ℕ) (im : Image) (log : Log) (d : Diverge
   pub first : divergence start log ≡ Some d
   pub differ : d.kept ≢ d.seen
 
-abbrev pub IsCause : List ℕ → Image → Log → CheckFault → Type 0
-IsCause program im log (WrongProgram kept seen) = IsWrongProgram program log kept seen
-IsCause program im log (Window pages) = IsWindowFault program im log pages
-IsCause program im log (Diverged d) = IsDiverged program im log d
-IsCause program im log NoMemory = Unit {0}
+-- the log doesn't fit the program in this way
+abbrev pub IsMisfit : List ℕ → Image → Log → Misfit → Type 0
+IsMisfit program im log (WrongProgram kept seen) = IsWrongProgram program log kept seen
+IsMisfit program im log (Window window) = IsWindowFault program im log window.pages
+IsMisfit program im log (Diverged d) = IsDiverged program im log d

@@ -6,19 +6,23 @@ ghost use Rattle.log_model.specs.Logs.{IsEnd, steps, steps_by};
 ghost use Rattle.log_model.specs.Moved.{received, received_by};
 ghost use Rattle.replay_model.specs.Summary.{calls, bytes_read, bytes_written};
 ghost use Rattle.rv_machine.specs.Hart.{running};
+ghost use Rattle.no_memory.specs.Faults.{IsCausedBy};
 ghost use Rattle.replayer.specs.Jobs.{IsJob};
-ghost use Rattle.replayer.specs.Checks.{IsChecked, IsCause};
+ghost use Rattle.replayer.specs.Checks.{IsChecked, IsMisfit};
 
-use crate::fault::CheckFault;
 use elf_image::Image;
 use log_model::{CallRecord, RunEnd};
-use no_memory::NoMemory;
+use no_memory::{Fault, NoMemory};
 use replay_fit::first_divergence;
 use replay_log::Log;
-use rv_machine::{Machine, MachineFault};
+use replay_model::Misfit;
+use rv_machine::Machine;
 use sha2::{Digest, Sha256};
 use std::alloc::Global;
 use std::marker::Model;
+
+/// Why [`Job::check`] gave no job: the first misfit that holds, or out of memory.
+pub type CheckFault = Fault<Misfit>;
 
 /// A program's image with a log that fits the program: the log has the program's digest, a window of the
 /// log's pages can hold the image, and the run under the log differs from it nowhere.
@@ -95,23 +99,22 @@ impl Job {
     pub fn check(alloc: Global, program: &[u8], image: Image, log: Log) -> Result<Job, CheckFault>
         requires { image_of_file program.now ≡ Ok image }
         ensures ok { IfOk result (λ job. IsChecked program.now image log job) }
-        ensures fault { IfErr result (λ f. IsCause program.now image log f) }
+        ensures fault { IfErr result (IsCausedBy (IsMisfit program.now image log)) }
     {
         log.form();
         let kept = log.digest();
         let seen = Sha256::digest(program);
         if kept != seen {
-            return Err(CheckFault::WrongProgram { kept, seen });
+            return Err(Fault::At(Misfit::WrongProgram { kept, seen }));
         }
-        let pages = log.pages();
-        let machine = match Machine::new(alloc, &image, pages) {
+        let machine = match Machine::new(alloc, &image, log.pages()) {
             Ok(machine) => machine,
-            Err(MachineFault::Window) => return Err(CheckFault::Window { pages }),
-            Err(MachineFault::NoMemory) => return Err(CheckFault::NoMemory),
+            Err(Fault::At(window)) => return Err(Fault::At(Misfit::Window(window))),
+            Err(Fault::NoMemory(no_memory)) => return Err(Fault::NoMemory(no_memory)),
         };
         let _size = log.size();
         match first_divergence(machine, &log) {
-            Some(divergence) => Err(CheckFault::Diverged(divergence)),
+            Some(divergence) => Err(Fault::At(Misfit::Diverged(divergence))),
             None => Ok(Job { image, log }),
         }
     }
@@ -180,8 +183,8 @@ impl Job {
         self.log.form();
         match Machine::new(alloc, &self.image, self.log.pages()) {
             Ok(machine) => Ok(machine),
-            Err(MachineFault::Window) => unreachable!(),
-            Err(MachineFault::NoMemory) => Err(NoMemory),
+            Err(Fault::At(_)) => unreachable!(),
+            Err(Fault::NoMemory(no_memory)) => Err(no_memory),
         }
     }
 }

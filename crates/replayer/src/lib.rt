@@ -5,13 +5,11 @@
 #![tactic(auto)]
 
 mod cursor;
-mod fault;
 mod job;
 mod saved;
 
 pub use cursor::{Cursor, Next};
-pub use fault::CheckFault;
 pub use flow_model::{CallSeen, StepSeen};
-pub use job::{Job, ReplaySummary};
-pub use replay_model::{Divergence, Field};
+pub use job::{CheckFault, Job, ReplaySummary};
+pub use replay_model::{Divergence, Field, Misfit};
 pub use saved::{CursorState, Rest};

@@ -1,9 +1,11 @@
 //! The machine.
 
-ghost use Rattle.std.specs.Prelude.{◌≡◌, ℕ, ◌+◌, ◌^◌, ◌≤◌, Some, None, Err, IfOk, IfSome, IsSome, ◌↔◌, IsTrue, ◌⊎◌, length, true, false};
+ghost use Rattle.std.specs.Prelude.{◌≡◌, ℕ, ◌+◌, ◌^◌, ◌≤◌, Some, None, Err, IfOk, IfErr, IfSome, IsSome, ◌↔◌, IsTrue, ◌⊎◌, length, true, false};
 ghost use Rattle.elf_model.specs.Window.{start_of};
 ghost use Rattle.isa.specs.Machine.{in_window, bytes_at};
 ghost use Rattle.isa.specs.Calls.{refusal};
+ghost use Rattle.no_memory.specs.declared.Fault.TheVariants.{At};
+ghost use Rattle.no_memory.specs.Faults.{IsCausedBy};
 ghost use Rattle.rv_machine.specs.Hart.{running, IsStep, IsAnswer, answered};
 
 use crate::state::{Done, HartState, address_of};
@@ -40,13 +42,14 @@ impl Machine {
     /// from the image's base on, the pc is the entry, x2 is 16 below the window's end, and all other registers
     /// and all bytes that no segment brings are 0.
     ///
-    /// The fault is `Window` exactly where the window can't hold the image: it would end past 2^32, or a
-    /// segment ends past it. Else `NoMemory` says that there was no memory for the window.
+    /// The fault is a small window exactly where that can't hold the image: it would end past 2^32, or a segment
+    /// ends past it.
     pub fn new(alloc: Global, image: &Image, pages: u32) -> Result<Machine, MachineFault>
         requires some { 1 ≤ pages }
         requires most { pages ≤ 4096 }
         ensures starts { IfOk result (λ m. (start_of image.now pages ≡ Some m.state) × (m.waits ≡ false)) }
-        ensures window { (result ≡ Err MachineFault.Window) ↔ (start_of image.now pages ≡ None) }
+        ensures small { IfErr result (IsCausedBy (λ window. (window.pages ≡ pages) × (start_of image.now pages ≡ None))) }
+        ensures window { start_of image.now pages ≡ None → result ≡ Err (At (record { pages = pages })) }
     {
         match HartState::start(alloc, image, pages) {
             Ok(state) => Ok(Machine {

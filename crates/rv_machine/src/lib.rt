@@ -9,21 +9,14 @@ mod hart;
 mod saved;
 mod state;
 
+use elf_model::SmallWindow;
 pub use hart::Machine;
 pub use isa::{Call, CallKind, Instr};
+use no_memory::Fault;
 pub use saved::{MachineState, Rest};
-use thiserror::Error;
 
-/// Why there is no machine for an image.
-#[derive(Debug, Drop, Error)]
-pub enum MachineFault {
-    /// The window can't hold the image: it would end past 2^32, or a segment ends past it.
-    #[error("the window can't hold the image")]
-    Window,
-    /// There was no memory for the window.
-    #[error("out of memory")]
-    NoMemory,
-}
+/// Why there is no machine for an image: the window can't hold it, or out of memory.
+pub type MachineFault = Fault<SmallWindow>;
 
 /// What a step came to.
 #[derive(Clone, Copy, PartialEq, Eq)]

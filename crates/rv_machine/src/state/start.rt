@@ -1,14 +1,18 @@
 //! The state that a run begins in.
 
-ghost use Rattle.std.specs.Prelude.{◌≡◌, ℕ, ◌+◌, ◌*◌, ◌≤◌, nat_le, Some, None, Err, IfOk, ◌↔◌, IsTrue, length};
+ghost use Rattle.std.specs.Prelude.{◌≡◌, ℕ, ◌+◌, ◌*◌, ◌≤◌, nat_le, Some, None, Err, IfOk, IfErr, IsTrue, length};
 ghost use Rattle.std.specs.List.{All, list_all};
 ghost use Rattle.elf_model.specs.Image.{LoadedSegment};
 ghost use Rattle.elf_model.specs.Window.{can_hold, laid_out, start_of};
+ghost use Rattle.no_memory.specs.declared.Fault.TheVariants.{At};
+ghost use Rattle.no_memory.specs.Faults.{IsCausedBy};
 ghost use Rattle.rv_machine.specs.Start.{HaveRoom};
 
 use super::HartState;
 use crate::MachineFault;
 use elf_image::{Image, Segment};
+use elf_model::SmallWindow;
+use no_memory::Fault;
 use std::alloc::Global;
 
 const PAGE: u32 = 4096;
@@ -53,15 +57,14 @@ impl HartState {
         requires some { 1 ≤ pages }
         requires most { pages ≤ 4096 }
         ensures starts { IfOk result (λ s. start_of image.now pages ≡ Some s) }
-        ensures window { (result ≡ Err MachineFault.Window) ↔ (start_of image.now pages ≡ None) }
+        ensures small { IfErr result (IsCausedBy (λ window. (window.pages ≡ pages) × (start_of image.now pages ≡ None))) }
+        ensures window { start_of image.now pages ≡ None → result ≡ Err (At (record { pages = pages })) }
     {
         if !can_hold(image, pages) {
-            return Err(MachineFault::Window);
+            return Err(Fault::At(SmallWindow { pages }));
         }
         let (base, size) = (image.base(), pages * PAGE);
-        let Ok(mut memory) = vec![in alloc; 0u8; size as usize] else {
-            return Err(MachineFault::NoMemory);
-        };
+        let mut memory = vec![in alloc; 0u8; size as usize]?;
         lay_out(memory.as_mut_slice(), base, image.segments());
         let mut registers = [0; 32];
         registers[2] = (u64::from(base) + u64::from(size) - STACK_GAP) as u32;

@@ -1,21 +1,10 @@
-use Rattle.std.proofs.Common.{ap, length, sym, ◌∙◌}
-use Rattle.std.proofs.lemmas.Result.{err_from_is_err_and}
-use Rattle.format_model.specs.FirstTrue.{first_true}
-use Rattle.elf_image.specs.Faults.{table_faults}
-use Rattle.elf_image.proofs.FaultLemmas.{header_fault, table_fault, no_segment_wrong}
+use Rattle.std.proofs.Common.{length}
+use Rattle.elf_image.proofs.FaultLemmas.{no_segment_wrong}
 use Rattle.elf_image.proofs.Segments.{laid_out}
 use Rattle.elf_image.proofs.loader.load.Goals as goal
 
-pub returns-in_err-file-clause-fault : goal.returns-in_err-file-clause-fault
-returns-in_err-file-clause-fault c =
-    let p = err_from_is_err_and c.from_residual.result c.from_residual.ensures.1 in
-    rw (p.1, p.2) (header_fault c.args.bytes.now _ c.in_err-file.ensures.err)
-
-pub returns-in_err-check_table-clause-fault : goal.returns-in_err-check_table-clause-fault
-returns-in_err-check_table-clause-fault c =
-    let p = err_from_is_err_and c.from_residual-in_err-check_table.result c.from_residual-in_err-check_table.ensures.1 in
-    let same = ap (λ file. first_true (table_faults file)) (sym c.in_ok-file.ensures.ok.0) in
-    rw (p.1, p.2) (table_fault c.args.bytes.now _ c.in_ok-file.ensures.ok.1 (same ∙ c.in_err-check_table.ensures.err))
+pub segments-requires : goal.segments-requires
+segments-requires c = no_segment_wrong c.in-Ok.file c.in-Ok.ensures.table
 
 pub new-requires : goal.new-requires
-new-requires c = rw c.in_ok-segments.ensures (laid_out c.in_ok-file.file (length c.in_ok-file.file) _ _ (no_segment_wrong c.in_ok-file.file c.in_ok-check_table.ensures.ok))
+new-requires c = rw c.in_ok-segments.ensures (laid_out c.in-Ok.file (length c.in-Ok.file) _ _ (no_segment_wrong c.in-Ok.file c.in-Ok.ensures.table))

@@ -12,7 +12,7 @@ returns-in-Some-clause-fault c =
     record {
       start = c.in-Ok.machine.state;
       digest = digest;
-      begins = ap (start_of c.args.image) (sym c.pages-pages.ensures) ∙ c.in-Ok.ensures.starts.0;
+      begins = ap (start_of c.args.image) (sym c.pages.ensures) ∙ c.in-Ok.ensures.starts.0;
       first = first;
       differ = divergence_differs c.in-Ok.machine.state c.args.log c.in-Some.divergence first;
     }
