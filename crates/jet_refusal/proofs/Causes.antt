@@ -19,4 +19,4 @@ IsOwedTo-map a b usage files read write (refusal.LogTooLong size) h = files h
 IsOwedTo-map a b usage files read write (refusal.TooManyEpochs count) h = files h
 IsOwedTo-map a b usage files read write refusal.ReadFault h = read h
 IsOwedTo-map a b usage files read write refusal.WriteFault h = write h
-IsOwedTo-map a b usage files read write refusal.NoMemory h = h
+IsOwedTo-map a b usage files read write (refusal.NoMemory no_memory) h = h

@@ -7,6 +7,7 @@ use Rattle.log_model.specs.declared.LogKind.TheVariants as log
 use Rattle.flow_model.specs.declared.Rule.TheVariants as rule
 use Rattle.report_model.specs.declared.QueryKind.TheVariants as query
 use Rattle.replay_model.specs.declared.Field.TheVariants as field
+use Rattle.no_memory.specs.declared.NoMemory.{NoMemory}
 use Rattle.jet_refusal.specs.declared.refusal.Refusal.TheVariants as refusal
 use Rattle.jet_refusal.specs.Refusals.{line_of}
 
@@ -84,8 +85,8 @@ a_fault_of_reading = refl
 a_fault_of_writing : line_of refusal.WriteFault ≡ codes "jet: write fault\n"
 a_fault_of_writing = refl
 
-no_memory : line_of refusal.NoMemory ≡ codes "jet: memory\n"
-no_memory = refl
+out_of_memory : (no_memory : NoMemory) → line_of (refusal.NoMemory no_memory) ≡ codes "jet: memory\n"
+out_of_memory no_memory = refl
 
 the_greatest_numbers : line_of (refusal.Diverged (record { step = 18446744073709551615; field = field.Byte 4294967295; kept = negsuc 9223372036854775807; seen = pos 9223372036854775807 })) ≡ codes "jet: diverged at 18446744073709551615 byte 4294967295 kept -9223372036854775808 seen 9223372036854775807\n"
 unfolding digits

@@ -26,4 +26,4 @@ IsOwedTo causes (refusal.LogTooLong size) = causes.files
 IsOwedTo causes (refusal.TooManyEpochs count) = causes.files
 IsOwedTo causes refusal.ReadFault = causes.read
 IsOwedTo causes refusal.WriteFault = causes.write
-IsOwedTo causes refusal.NoMemory = Unit {0}
+IsOwedTo causes (refusal.NoMemory no_memory) = Unit {0}

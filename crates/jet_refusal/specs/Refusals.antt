@@ -20,7 +20,7 @@ status_of refusal.WriteFault = 8
 status_of refusal.TooLong = 9
 status_of (refusal.LogTooLong size) = 9
 status_of (refusal.TooManyEpochs count) = 9
-status_of refusal.NoMemory = 10
+status_of (refusal.NoMemory no_memory) = 10
 status_of (refusal.Rules first index other) = 11
 
 -- ---- the line on standard error
@@ -40,7 +40,7 @@ text_of (refusal.LogTooLong size) = log_limit_text size
 text_of (refusal.TooManyEpochs count) = epochs_limit_text count
 text_of refusal.ReadFault = read_fault_text
 text_of refusal.WriteFault = write_fault_text
-text_of refusal.NoMemory = memory_text
+text_of (refusal.NoMemory no_memory) = memory_text
 
 abbrev pub line_of : Refusal → List ℕ
 line_of r = err_line (text_of r)

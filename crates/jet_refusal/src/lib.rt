@@ -2,6 +2,7 @@
 //! Nothing here takes memory or can fail.
 #![tactic(auto)]
 
+mod faults;
 mod line;
 mod names;
 mod refusal;

@@ -10,6 +10,7 @@ use crate::names::{image_text, log_fault_name, push_field, query_kind, rule_name
 use elf_model::ImageKind;
 use flow_model::Rule;
 use log_model::LogKind;
+use no_memory::NoMemory;
 use replay_model::Divergence;
 use report_model::QueryKind;
 
@@ -66,7 +67,7 @@ pub enum Refusal {
     /// The output failed, or the store while a file was written.
     WriteFault,
     /// Out of memory.
-    NoMemory,
+    NoMemory(NoMemory),
 }
 
 impl Refusal {
@@ -88,7 +89,7 @@ impl Refusal {
             Refusal::TooLong => 9,
             Refusal::LogTooLong(_) => 9,
             Refusal::TooManyEpochs(_) => 9,
-            Refusal::NoMemory => 10,
+            Refusal::NoMemory(_) => 10,
             Refusal::Rules { .. } => 11,
         }
     }
@@ -143,7 +144,7 @@ fn push_text(line: &mut Line, refusal: &Refusal)
         }
         Refusal::ReadFault => line.push_str("read fault"),
         Refusal::WriteFault => line.push_str("write fault"),
-        Refusal::NoMemory => line.push_str("memory"),
+        Refusal::NoMemory(_) => line.push_str("memory"),
     }
 }
 
