@@ -1,9 +1,10 @@
 -- Outcomes of calls made one after another. Crates above cite these lemmas.
-use Rattle.std.proofs.Common.{◌≡◌, ◌∙◌, subst, ◌≤◌, Option, Result, Ok, Err}
+use Rattle.std.proofs.Common.{◌≡◌, ◌∙◌, subst, List, Bool, Option, Result, Ok, Err}
 use Rattle.outer_io.specs.Faults.{Rose}
 use Rattle.outer_io.specs.Tells.{Tells}
-use Rattle.outer_io.specs.Files.{Files, KeepsFiles}
+use Rattle.outer_io.specs.Files.{Files, Text, KeepsFiles}
 use Rattle.outer_io.specs.Shown.{StoreShown}
+use Rattle.outer_io.specs.Reads.{Reads}
 use Rattle.outer_io.proofs.TellsLemmas.{tells-then, tells-map, tells-both, rose-earlier}
 use Rattle.jet_refusal.specs.declared.refusal.Refusal.{Refusal}
 use Rattle.jet_refusal.proofs.Causes.{IsOwedTo-map}
@@ -34,22 +35,17 @@ found-kept fact R f g step told keeps =
 
 -- ---- outcomes that follow
 
--- what two calls show, of which the first keeps the files
-pub record Keeps (before after : StoreShown) : Type 0 where
-  pub files : Tells before.files after.files KeepsFiles
-  pub faults : before.faults ≤ after.faults
-
 -- the first calls gave a value, and the outcome of the next is that of all
-pub follows-then : {A B : Type 0} (R : Contents → Result A Refusal → Type 0) (Q T : Contents → Result B Refusal → Type 0) (x : A) (f g h : StoreShown)
+pub follows-then : {A B : Type 0} {names more : List Text} {one two : Bool} (R : Contents → Result A Refusal → Type 0) (Q T : Contents → Result B Refusal → Type 0) (x : A) (f g h : StoreShown)
     → ((file : Contents) (outcome : Result B Refusal) → R file (Ok x) → Q file outcome → T file outcome)
-    → Follows R f g (Ok x) → Keeps f g → g.faults ≤ h.faults → (outcome : Result B Refusal) → Follows Q g h outcome → Follows T f h outcome
-follows-then R Q T x f g h step first keeps up (Ok y) next =
-    found-then (λ file. R file (Ok x)) (λ file. Q file (Ok y)) (λ file. T file (Ok y)) f.files g.files h.files (λ file. step file (Ok y)) first keeps.files next
-follows-then R Q T x f g h step first keeps up (Err r) next =
+    → Follows R f g (Ok x) → Reads names one f g → Reads more two g h → (outcome : Result B Refusal) → Follows Q g h outcome → Follows T f h outcome
+follows-then R Q T x f g h step first reads after (Ok y) next =
+    found-then (λ file. R file (Ok x)) (λ file. Q file (Ok y)) (λ file. T file (Ok y)) f.files g.files h.files (λ file. step file (Ok y)) first reads.keeps next
+follows-then R Q T x f g h step first reads after (Err r) next =
     IsOwedTo-map (by_reading (Tells g.files h.files (Found (λ file. Q file (Err r)))) (Rose g.faults h.faults))
     (by_reading (Tells f.files h.files (Found (λ file. T file (Err r)))) (Rose f.faults h.faults))
-    (λ p. p) (found-then (λ file. R file (Ok x)) (λ file. Q file (Err r)) (λ file. T file (Err r)) f.files g.files h.files (λ file. step file (Err r)) first keeps.files)
-    (λ rose. rose-earlier f.faults g.faults h.faults keeps.faults rose up) (λ p. p) r next
+    (λ p. p) (found-then (λ file. R file (Ok x)) (λ file. Q file (Err r)) (λ file. T file (Err r)) f.files g.files h.files (λ file. step file (Err r)) first reads.keeps)
+    (λ rose. rose-earlier f.faults g.faults h.faults reads.later rose after.later) (λ p. p) r next
 
 -- a refusal of the first calls is one of all
 pub follows-stops : {A B : Type 0} (R : Contents → Result A Refusal → Type 0) (T : Contents → Result B Refusal → Type 0) (f g : StoreShown) (r : Refusal)
@@ -77,8 +73,8 @@ follows-map R T f g step (Err r) h = follows-stops R T f g r (λ file. step file
 -- ---- outcomes that are what the files come to
 
 -- two steps
-pub comes-then : {A B : Type 0} (of : Contents → Result A Refusal) (next : A → Contents → Result B Refusal) (x : A) (f g h : StoreShown)
-    → Comes of f g (Ok x) → Keeps f g → g.faults ≤ h.faults → (outcome : Result B Refusal) → Comes (next x) g h outcome
+pub comes-then : {A B : Type 0} {names more : List Text} {one two : Bool} (of : Contents → Result A Refusal) (next : A → Contents → Result B Refusal) (x : A) (f g h : StoreShown)
+    → Comes of f g (Ok x) → Reads names one f g → Reads more two g h → (outcome : Result B Refusal) → Comes (next x) g h outcome
     → Comes (λ file. and_then (of file) (λ y. next y file)) f h outcome
 comes-then of next x f g h =
     follows-then (λ file answer. of file ≡ answer) (λ file answer. next x file ≡ answer) (λ file answer. and_then (of file) (λ y. next y file) ≡ answer) x f g h

@@ -1,5 +1,4 @@
 pub mod Composing
-pub mod Names
 mod Read
 mod Runs
 mod Several

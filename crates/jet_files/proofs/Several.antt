@@ -1,17 +1,17 @@
 -- Files read one after another.
-use Rattle.std.proofs.Common.{◌≡◌, ◌∙◌, ap, sym, refl, subst, arith, ℕ, ◌<◌, ◌≤◌, ◌+◌, List, length, map, take, drop, get_or, ◌∷◌, ◌++◌, [], append_assoc, take-append-drop, Option, Result, Ok, Err, Bor, Vec}
+use Rattle.std.proofs.Common.{◌≡◌, ◌∙◌, ap, sym, refl, subst, arith, ℕ, ◌<◌, ◌+◌, List, length, map, take, drop, get_or, ◌∷◌, ◌++◌, [], append_assoc, take-append-drop, true, false, Result, Ok, Err, Bor, Vec}
 use Rattle.std.specs.declared.alloc.Global.{Global}
 use Rattle.std.proofs.lemmas.List.{take_more, map-append, length-map, length-take}
-use Rattle.outer_io.specs.Tells.{Tells, Gains, GainsPrefix}
 use Rattle.outer_io.specs.Files.{Text}
 use Rattle.outer_io.specs.Shown.{StoreShown}
-use Rattle.outer_io.proofs.TellsLemmas.{tells-map, tells-gains, gains-prefix}
+use Rattle.outer_io.specs.Reads.{Reads}
+use Rattle.outer_io.proofs.ReadsLemmas.{reads-then, reads-stops}
 use Rattle.jet_refusal.specs.declared.refusal.Refusal.{Refusal}
 use Rattle.report_model.specs.Query.{Query, Alike}
 use Rattle.jet_model.specs.Contents.{Contents, file_at, inputs_at, numbered_query_at, queries_at}
 use Rattle.jet_model.proofs.Files.{each-push, each-stops}
 use Rattle.jet_files.specs.Outcome.{Follows, Comes, AskAlike, IsKeptFor, AreAlike, AreAllAlike}
-use Rattle.jet_files.proofs.Composing.{Keeps, found-then, follows-then, follows-stops}
+use Rattle.jet_files.proofs.Composing.{found-then, follows-then, follows-stops}
 
 -- the names that are lent
 abbrev pub texts : List (Bor (List ℕ)) → List Text
@@ -39,9 +39,9 @@ texts-split names i d inside =
 -- one more file
 pub inputs_more : (names : List (Bor (List ℕ))) (i : ℕ) (d : Bor (List ℕ)) (inputs more : List (Vec ℕ Global)) (input : Vec ℕ Global) (f g h : StoreShown)
     → i < length names → more ≡ inputs ++ input ∷ []
-    → Comes (λ file. inputs_at file (texts (take i names))) f g (Ok (items_of inputs)) → Keeps f g → Comes (λ file. file_at file (get_or names i d).now) g h (Ok input.items)
+    → Comes (λ file. inputs_at file (texts (take i names))) f g (Ok (items_of inputs)) → Reads (texts (take i names)) true f g → Comes (λ file. file_at file (get_or names i d).now) g h (Ok input.items)
     → Comes (λ file. inputs_at file (texts (take (i + 1) names))) f h (Ok (items_of more))
-inputs_more names i d inputs more input f g h inside e found keeps next =
+inputs_more names i d inputs more input f g h inside e found reads next =
     let front = texts (take i names) in
     let x : Text = (get_or names i d).now in
     let contents : List (List ℕ) = items_of inputs in
@@ -49,13 +49,13 @@ inputs_more names i d inputs more input f g h inside e found keeps next =
     subst (λ (w : List Text). Comes (λ file. inputs_at file w) f h (Ok (items_of more))) (texts-more names i d inside)
     (subst (λ (w : List (List ℕ)). Comes (λ file. inputs_at file (front ++ x ∷ [])) f h (Ok w)) (sym here)
     (found-then (λ file. inputs_at file front ≡ Ok contents) (λ file. file_at file x ≡ Ok input.items) (λ file. inputs_at file (front ++ x ∷ []) ≡ Ok (contents ++ input.items ∷ [])) f.files g.files h.files
-    (λ file one two. each-push (λ number. file_at file) 1 front x contents input.items one two) found keeps.files next))
+    (λ file one two. each-push (λ number. file_at file) 1 front x contents input.items one two) found reads.keeps next))
 
 -- the first file that is refused
 pub inputs_stop : (names : List (Bor (List ℕ))) (i : ℕ) (d : Bor (List ℕ)) (contents : List (List ℕ)) (f g h : StoreShown) (r : Refusal)
-    → i < length names → Comes (λ file. inputs_at file (texts (take i names))) f g (Ok contents) → Keeps f g → g.faults ≤ h.faults
+    → i < length names → Comes (λ file. inputs_at file (texts (take i names))) f g (Ok contents) → Reads (texts (take i names)) true f g → Reads ((get_or names i d).now ∷ []) true g h
     → Comes (λ file. file_at file (get_or names i d).now) g h (Err r) → Comes (λ file. inputs_at file (texts names)) f h (Err r)
-inputs_stop names i d contents f g h r inside found keeps up next =
+inputs_stop names i d contents f g h r inside found reads after next =
     let front = texts (take i names) in
     let x : Text = (get_or names i d).now in
     let rest = texts (drop (i + 1) names) in
@@ -64,7 +64,7 @@ inputs_stop names i d contents f g h r inside found keeps up next =
     subst (λ (whole : List Text). Comes (λ file. inputs_at file whole) f h (Err r)) (texts-split names i d inside)
     (follows-then (λ file answer. inputs_at file front ≡ answer) (λ file (answer : Result (List (List ℕ)) Refusal). file_at file x ≡ Err r)
     (λ file (answer : Result (List (List ℕ)) Refusal). inputs_at file (front ++ x ∷ rest) ≡ Err r) contents f g h
-    (λ file answer one two. each-stops (λ number. file_at file) 1 front x rest contents r one two) found keeps up (Err r) refused)
+    (λ file answer one two. each-stops (λ number. file_at file) 1 front x rest contents r one two) found reads after (Err r) refused)
 
 -- ---- queries
 
@@ -99,10 +99,10 @@ numbered-there names i name kept file inside h = subst (λ (n : ℕ). AreAlike k
 -- one more query
 pub queries_more : (names : List (Bor (List ℕ))) (i number : ℕ) (d : Bor (List ℕ)) (kept more : List Query) (q : Query) (f g h : StoreShown)
     → i < length names → number ≡ i + 1 → more ≡ kept ++ q ∷ []
-    → Follows (λ file found. AreAllAlike found (queries_at file (texts (take i names)))) f g (Ok kept) → Keeps f g
+    → Follows (λ file found. AreAllAlike found (queries_at file (texts (take i names)))) f g (Ok kept) → Reads (texts (take i names)) true f g
     → Follows (λ file found. AreAlike found (numbered_query_at file number (get_or names i d).now)) g h (Ok q)
     → Follows (λ file found. AreAllAlike found (queries_at file (texts (take (i + 1) names)))) f h (Ok more)
-queries_more names i number d kept more q f g h inside n e found keeps next =
+queries_more names i number d kept more q f g h inside n e found reads next =
     let front = texts (take i names) in
     let x : Text = (get_or names i d).now in
     subst (λ (w : List Text). Follows (λ file found. AreAllAlike found (queries_at file w)) f h (Ok more)) (texts-more names i d inside)
@@ -113,14 +113,14 @@ queries_more names i number d kept more q f g h inside n e found keeps next =
     let here = numbered-there names i x (Ok q) file inside (subst (λ (k : ℕ). AreAlike (Ok q) (numbered_query_at file k x)) n two) in
     let b = kept-is Alike q (numbered_query_at file (1 + length front) x) here in
     keeps-ok AskAlike (kept ++ q ∷ []) (a.0 ++ b.0 ∷ []) (queries_at file (front ++ x ∷ []))
-    (each-push (numbered_query_at file) 1 front x a.0 b.0 a.1 b.1) (ask-push kept a.0 q b.0 a.2 b.2)) found keeps.files next))
+    (each-push (numbered_query_at file) 1 front x a.0 b.0 a.1 b.1) (ask-push kept a.0 q b.0 a.2 b.2)) found reads.keeps next))
 
 -- the first query that is refused
 pub queries_stop : (names : List (Bor (List ℕ))) (i number : ℕ) (d : Bor (List ℕ)) (kept : List Query) (f g h : StoreShown) (r : Refusal)
-    → i < length names → number ≡ i + 1 → Follows (λ file found. AreAllAlike found (queries_at file (texts (take i names)))) f g (Ok kept) → Keeps f g → g.faults ≤ h.faults
+    → i < length names → number ≡ i + 1 → Follows (λ file found. AreAllAlike found (queries_at file (texts (take i names)))) f g (Ok kept) → Reads (texts (take i names)) true f g → Reads ((get_or names i d).now ∷ []) true g h
     → Follows (λ file found. AreAlike found (numbered_query_at file number (get_or names i d).now)) g h (Err r)
     → Follows (λ file found. AreAllAlike found (queries_at file (texts names))) f h (Err r)
-queries_stop names i number d kept f g h r inside n found keeps up next =
+queries_stop names i number d kept f g h r inside n found reads after next =
     let front = texts (take i names) in
     let x : Text = (get_or names i d).now in
     let rest = texts (drop (i + 1) names) in
@@ -131,31 +131,19 @@ queries_stop names i number d kept f g h r inside n found keeps up next =
     (follows-then (λ file answer. AreAllAlike answer (queries_at file front)) (λ file (answer : Result (List Query) Refusal). numbered_query_at file (1 + length front) x ≡ Err r)
     (λ file (answer : Result (List Query) Refusal). AreAllAlike (Err r) (queries_at file (front ++ x ∷ rest))) kept f g h
     (λ file answer one two. let a = kept-is AskAlike kept (queries_at file front) one in
-    keeps-err AskAlike r (queries_at file (front ++ x ∷ rest)) (each-stops (numbered_query_at file) 1 front x rest a.0 r a.1 two)) found keeps up (Err r) refused)
+    keeps-err AskAlike r (queries_at file (front ++ x ∷ rest)) (each-stops (numbered_query_at file) 1 front x rest a.0 r a.1 two)) found reads after (Err r) refused)
 
--- ---- names
+-- ---- what the store shows
 
--- the names handed to the store, with one more
-pub opened_more : (names : List (Bor (List ℕ))) (i : ℕ) (d : Bor (List ℕ)) (a b c : Option (List Text))
-    → i < length names → Tells a b (Gains (texts (take i names))) → Tells b c (Gains ((get_or names i d).now ∷ [])) → Tells a c (Gains (texts (take (i + 1) names)))
-opened_more names i d a b c inside p q =
+-- one more file was read
+pub reads_more : (names : List (Bor (List ℕ))) (i : ℕ) (d : Bor (List ℕ)) (f g h : StoreShown)
+    → i < length names → Reads (texts (take i names)) true f g → Reads ((get_or names i d).now ∷ []) true g h → Reads (texts (take (i + 1) names)) true f h
+reads_more names i d f g h inside p q = subst (λ (w : List Text). Reads w true f h) (texts-more names i d inside) (reads-then p q)
+
+-- and the others were not
+pub reads_some : (names : List (Bor (List ℕ))) (i : ℕ) (d : Bor (List ℕ)) (f g h : StoreShown)
+    → i < length names → Reads (texts (take i names)) true f g → Reads ((get_or names i d).now ∷ []) true g h → Reads (texts names) false f h
+reads_some names i d f g h inside p q =
     let x : Text = (get_or names i d).now in
-    subst (λ (w : List Text). Tells a c (Gains w)) (texts-more names i d inside) (tells-gains a b c (texts (take i names)) (x ∷ []) p q)
-
--- those so far
-pub opened_some : (names : List (Bor (List ℕ))) (i : ℕ) (d : Bor (List ℕ)) (a b c : Option (List Text))
-    → i < length names → Tells a b (Gains (texts (take i names))) → Tells b c (Gains ((get_or names i d).now ∷ [])) → Tells a c (GainsPrefix (texts names))
-opened_some names i d a b c inside p q =
-    let x : Text = (get_or names i d).now in
-    let front = texts (take i names) in
     let rest = texts (drop (i + 1) names) in
-    tells-map a c (Gains (front ++ x ∷ [])) (GainsPrefix (texts names))
-    (gains-prefix (front ++ x ∷ []) rest (texts names) (append_assoc front (x ∷ []) rest ∙ texts-split names i d inside))
-    (tells-gains a b c front (x ∷ []) p q)
-
--- all of them
-pub opened_all : (names : List (Bor (List ℕ))) (i : ℕ) (a b : Option (List Text)) → Tells a b (Gains (texts (take i names))) → Tells a b (GainsPrefix (texts names))
-opened_all names i a b p =
-    tells-map a b (Gains (texts (take i names))) (GainsPrefix (texts names))
-    (gains-prefix (texts (take i names)) (texts (drop i names)) (texts names)
-    (sym (map-append (λ (name : Bor (List ℕ)). name.now) (take i names) (drop i names)) ∙ ap texts (take-append-drop i names))) p
+    subst (λ (w : List Text). Reads w false f h) (append_assoc (texts (take i names)) (x ∷ []) rest ∙ texts-split names i d inside) (reads-stops rest (reads-then p q))

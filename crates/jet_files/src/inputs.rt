@@ -1,8 +1,7 @@
 //! The files of a run's inputs.
-ghost use Rattle.std.specs.Prelude.{◌≡◌, ◌≤◌, ◌^◌, length, map, IfOk, OnOk};
+ghost use Rattle.std.specs.Prelude.{◌≡◌, ◌≤◌, ◌^◌, length, map, is_ok, IfOk};
 ghost use Rattle.std.specs.List.{All};
-ghost use Rattle.outer_io.specs.Tells.{Tells, Gains, GainsPrefix};
-ghost use Rattle.outer_io.specs.Files.{KeepsFiles};
+ghost use Rattle.outer_io.specs.Reads.{Reads};
 ghost use Rattle.jet_model.specs.Contents.{inputs_at};
 ghost use Rattle.jet_files.specs.Outcome.{Comes, seen_by, inputs_of};
 
@@ -21,10 +20,7 @@ pub fn open_inputs<S: Store>(
     ensures outcome { Comes (λ file. inputs_at file (map (λ name. name.now) names.now)) (S.shown store.old) (S.shown store.new) (seen_by inputs_of result) }
     ensures many { IfOk result (λ inputs. length inputs.items ≡ length names.now) }
     ensures short { IfOk result (λ inputs. All (λ v. length v.items ≤ 2 ^ 26) inputs.items) }
-    ensures keeps { Tells (S.shown store.old).files (S.shown store.new).files KeepsFiles }
-    ensures opened { Tells (S.shown store.old).opened (S.shown store.new).opened (GainsPrefix (map (λ name. name.now) names.now)) }
-    ensures all { OnOk result (Tells (S.shown store.old).opened (S.shown store.new).opened (Gains (map (λ name. name.now) names.now))) }
-    ensures later { (S.shown store.old).faults ≤ (S.shown store.new).faults }
+    ensures reads { Reads (map (λ name. name.now) names.now) (is_ok result) (S.shown store.old) (S.shown store.new) }
 {
     let mut inputs = Vec::new(alloc);
     for name in names {

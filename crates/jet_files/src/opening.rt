@@ -1,8 +1,7 @@
 //! Programs, logs and queries, read from their files.
-ghost use Rattle.std.specs.Prelude.{◌≡◌, ◌≤◌, ◌^◌, ◌∷◌, [], Ok, length, IfOk, OnOk};
+ghost use Rattle.std.specs.Prelude.{◌≡◌, ◌≤◌, ◌^◌, ◌∷◌, [], true, Ok, length, is_ok, IfOk};
 ghost use Rattle.elf_model.specs.Image.{image as image_of_file};
-ghost use Rattle.outer_io.specs.Tells.{Tells, Gains, GainsPrefix};
-ghost use Rattle.outer_io.specs.Files.{KeepsFiles};
+ghost use Rattle.outer_io.specs.Reads.{Reads};
 ghost use Rattle.jet_model.specs.Contents.{log_in, program_at, log_at, query_at, run_at};
 ghost use Rattle.jet_files.specs.Outcome.{Comes, Follows, IsWork, AreAlike, seen_by};
 ghost use Rattle.jet_files.specs.Faults.{image_refusal, log_refusal, query_refusal};
@@ -76,9 +75,7 @@ pub fn open_program<S: Store>(alloc: Global, store: &mut S, name: &str) -> Resul
     ensures outcome { Comes (λ file. program_at file name.now) (S.shown store.old) (S.shown store.new) (seen_by program_of result) }
     ensures loads { IfOk result (λ p. image_of_file p.bytes.items ≡ Ok p.image) }
     ensures short { IfOk result (λ p. length p.bytes.items ≤ 2 ^ 26) }
-    ensures keeps { Tells (S.shown store.old).files (S.shown store.new).files KeepsFiles }
-    ensures opened { Tells (S.shown store.old).opened (S.shown store.new).opened (Gains (name.now ∷ [])) }
-    ensures later { (S.shown store.old).faults ≤ (S.shown store.new).faults }
+    ensures reads { Reads (name.now ∷ []) true (S.shown store.old) (S.shown store.new) }
 {
     let bytes = read_file(alloc, store, name)?;
     match load(alloc, &bytes) {
@@ -90,9 +87,7 @@ pub fn open_program<S: Store>(alloc: Global, store: &mut S, name: &str) -> Resul
 /// Reads a log. It gives up as `read_file` does, or with `Log`, the first fault of bytes that are none.
 pub fn open_log<S: Store>(alloc: Global, store: &mut S, name: &str) -> Result<Log, Refusal>
     ensures outcome { Comes (λ file. log_at file name.now) (S.shown store.old) (S.shown store.new) result }
-    ensures keeps { Tells (S.shown store.old).files (S.shown store.new).files KeepsFiles }
-    ensures opened { Tells (S.shown store.old).opened (S.shown store.new).opened (Gains (name.now ∷ [])) }
-    ensures later { (S.shown store.old).faults ≤ (S.shown store.new).faults }
+    ensures reads { Reads (name.now ∷ []) true (S.shown store.old) (S.shown store.new) }
 {
     let bytes = read_file(alloc, store, name)?;
     log_of(alloc, &bytes)
@@ -108,10 +103,7 @@ pub fn open_run<S: Store>(
     ensures outcome { Comes (λ file. run_at file program.now log.now) (S.shown store.old) (S.shown store.new) (seen_by run_of result) }
     ensures loads { IfOk result (λ run. image_of_file run.program.bytes.items ≡ Ok run.program.image) }
     ensures short { IfOk result (λ run. length run.program.bytes.items ≤ 2 ^ 26) }
-    ensures keeps { Tells (S.shown store.old).files (S.shown store.new).files KeepsFiles }
-    ensures opened { Tells (S.shown store.old).opened (S.shown store.new).opened (GainsPrefix (program.now ∷ log.now ∷ [])) }
-    ensures all { OnOk result (Tells (S.shown store.old).opened (S.shown store.new).opened (Gains (program.now ∷ log.now ∷ []))) }
-    ensures later { (S.shown store.old).faults ≤ (S.shown store.new).faults }
+    ensures reads { Reads (program.now ∷ log.now ∷ []) (is_ok result) (S.shown store.old) (S.shown store.new) }
 {
     let program = open_program(alloc, store, program)?;
     let log = open_log(alloc, store, log)?;
@@ -121,9 +113,7 @@ pub fn open_run<S: Store>(
 /// Reads a query. It gives up as `read_file` does, or with `Query`, the first fault of a text that is none.
 pub fn open_query<S: Store>(alloc: Global, store: &mut S, name: &str) -> Result<Query, Refusal>
     ensures outcome { Follows (λ file kept. AreAlike kept (query_at file name.now)) (S.shown store.old) (S.shown store.new) result }
-    ensures keeps { Tells (S.shown store.old).files (S.shown store.new).files KeepsFiles }
-    ensures opened { Tells (S.shown store.old).opened (S.shown store.new).opened (Gains (name.now ∷ [])) }
-    ensures later { (S.shown store.old).faults ≤ (S.shown store.new).faults }
+    ensures reads { Reads (name.now ∷ []) true (S.shown store.old) (S.shown store.new) }
 {
     let bytes = read_file(alloc, store, name)?;
     match parse(alloc, &bytes) {

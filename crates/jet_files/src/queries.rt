@@ -1,7 +1,6 @@
 //! Several queries, read from their files.
-ghost use Rattle.std.specs.Prelude.{◌≡◌, ◌≤◌, ◌∷◌, [], length, map, IfOk, OnOk};
-ghost use Rattle.outer_io.specs.Tells.{Tells, Gains, GainsPrefix};
-ghost use Rattle.outer_io.specs.Files.{KeepsFiles};
+ghost use Rattle.std.specs.Prelude.{◌≡◌, ◌≤◌, ◌∷◌, [], true, length, map, is_ok, IfOk};
+ghost use Rattle.outer_io.specs.Reads.{Reads};
 ghost use Rattle.jet_model.specs.Contents.{numbered_query_at, queries_at};
 ghost use Rattle.jet_files.specs.Outcome.{Follows, AreAlike, AreAllAlike, seen_by, queries_of};
 ghost use Rattle.jet_files.specs.Faults.{numbered_query_refusal};
@@ -35,9 +34,7 @@ fn open_numbered<S: Store>(
     name: &str,
 ) -> Result<Query, Refusal>
     ensures outcome { Follows (λ file kept. AreAlike kept (numbered_query_at file number name.now)) (S.shown store.old) (S.shown store.new) result }
-    ensures keeps { Tells (S.shown store.old).files (S.shown store.new).files KeepsFiles }
-    ensures opened { Tells (S.shown store.old).opened (S.shown store.new).opened (Gains (name.now ∷ [])) }
-    ensures later { (S.shown store.old).faults ≤ (S.shown store.new).faults }
+    ensures reads { Reads (name.now ∷ []) true (S.shown store.old) (S.shown store.new) }
 {
     let bytes = read_file(alloc, store, name)?;
     match parse(alloc, &bytes) {
@@ -56,10 +53,7 @@ pub fn open_queries<S: Store>(
     requires few { length names.now ≤ 16 }
     ensures outcome { Follows (λ file kept. AreAllAlike kept (queries_at file (map (λ name. name.now) names.now))) (S.shown store.old) (S.shown store.new) (seen_by queries_of result) }
     ensures many { IfOk result (λ queries. length queries.items ≡ length names.now) }
-    ensures keeps { Tells (S.shown store.old).files (S.shown store.new).files KeepsFiles }
-    ensures opened { Tells (S.shown store.old).opened (S.shown store.new).opened (GainsPrefix (map (λ name. name.now) names.now)) }
-    ensures all { OnOk result (Tells (S.shown store.old).opened (S.shown store.new).opened (Gains (map (λ name. name.now) names.now))) }
-    ensures later { (S.shown store.old).faults ≤ (S.shown store.new).faults }
+    ensures reads { Reads (map (λ name. name.now) names.now) (is_ok result) (S.shown store.old) (S.shown store.new) }
 {
     let mut queries = Vec::new(alloc);
     let mut number = 0;

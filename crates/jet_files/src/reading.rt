@@ -1,7 +1,6 @@
 //! Files read whole.
-ghost use Rattle.std.specs.Prelude.{◌≡◌, ◌≤◌, ◌^◌, ◌∷◌, [], length, IfOk};
-ghost use Rattle.outer_io.specs.Tells.{Tells, Gains};
-ghost use Rattle.outer_io.specs.Files.{KeepsFiles};
+ghost use Rattle.std.specs.Prelude.{◌≡◌, ◌≤◌, ◌^◌, ◌∷◌, [], true, length, IfOk};
+ghost use Rattle.outer_io.specs.Reads.{Reads};
 ghost use Rattle.jet_model.specs.Contents.{file_at};
 ghost use Rattle.jet_files.specs.Outcome.{Comes, seen_by, bytes_of};
 
@@ -17,9 +16,7 @@ pub const LONGEST_FILE: usize = 1 << 26;
 pub fn read_file<S: Store>(alloc: Global, store: &mut S, name: &str) -> Result<Vec<u8>, Refusal>
     ensures outcome { Comes (λ file. file_at file name.now) (S.shown store.old) (S.shown store.new) (seen_by bytes_of result) }
     ensures short { IfOk result (λ bytes. length bytes.items ≤ 2 ^ 26) }
-    ensures keeps { Tells (S.shown store.old).files (S.shown store.new).files KeepsFiles }
-    ensures opened { Tells (S.shown store.old).opened (S.shown store.new).opened (Gains (name.now ∷ [])) }
-    ensures later { (S.shown store.old).faults ≤ (S.shown store.new).faults }
+    ensures reads { Reads (name.now ∷ []) true (S.shown store.old) (S.shown store.new) }
 {
     match read_whole(alloc, store, name, LONGEST_FILE) {
         Ok(bytes) => Ok(bytes),

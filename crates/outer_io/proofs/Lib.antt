@@ -1,4 +1,5 @@
 pub mod TellsLemmas
+pub mod ReadsLemmas
 mod Reading
 mod Writing
 mod NamesLemmas

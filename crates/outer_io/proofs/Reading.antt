@@ -1,8 +1,13 @@
 -- The calls of one reading of a file, one after another.
-use Rattle.std.proofs.Common.{◌≡◌, ◌∙◌, ap, sym, ℕ, ◌+◌, ◌≤◌, ◌<◌, List, [], ◌++◌, length, take, drop, Option, Some, None, IsSome, refl, arith, append-nil, length-take, length-append, take-append-drop, take-add, inl, inr}
+use Rattle.std.proofs.Common.{◌≡◌, ◌∙◌, ap, sym, subst, Bool, true, ℕ, ◌+◌, ◌≤◌, ◌<◌, List, [], ◌∷◌, ◌++◌, length, take, drop, Option, Some, None, IsSome, refl, arith, append-nil, length-append, take-append-drop, take-add, inl, inr}
 use Rattle.outer_io.specs.Tells.{IsPrefix}
 use Rattle.outer_io.specs.Files.{Files, Text, KeepsFiles, BeginsRead, Takes, TakesNone, rest_of}
-use Rattle.outer_io.specs.ReadWhole.{HasContent, IsLonger, TakesAtMost}
+use Rattle.outer_io.specs.Tells.{Tells, Gains}
+use Rattle.outer_io.specs.Shown.{StoreShown}
+use Rattle.outer_io.specs.Reads.{Reads}
+use Rattle.outer_io.specs.ReadWhole.{HasContent, IsLonger, TakesAtMost, ComesByReads}
+use Rattle.outer_io.proofs.TellsLemmas.{prefix_is_short, tells-map}
+use Rattle.outer_io.proofs.ReadsLemmas.{kept-then, reads-then}
 
 -- these bytes of the file are taken, and more may follow
 pub record IsReading (name : Text) (bytes : List ℕ) (old new : Files) : Type 0 where
@@ -12,9 +17,6 @@ pub record IsReading (name : Text) (bytes : List ℕ) (old new : Files) : Type 0
   pub content : List ℕ
   pub is_there : new.file name ≡ Some content
   pub front : IsPrefix bytes content
-
-pub keeps-then : (x y z : Files) → KeepsFiles x y → KeepsFiles y z → KeepsFiles x z
-keeps-then x y z p q = record { file = q.file ∙ p.file; writing = q.writing ∙ p.writing; put = q.put ∙ p.put }
 
 some_content : (o : Option (List ℕ)) → IsSome o → (content : List ℕ) × (o ≡ Some content)
 some_content None h = cc
@@ -41,7 +43,7 @@ pub reads_on : (name : Text) (bytes got : List ℕ) (room : ℕ) (x y z : Files)
 reads_on name bytes got room x y z r t =
     let next : IsPrefix got (drop (length bytes) r.content) = rw (← left_after name bytes x y r) t.next in
     record {
-      keeps = keeps-then x y z r.keeps t.keeps;
+      keeps = kept-then x y z r.keeps t.keeps;
       reading = t.reading ∙ r.reading;
       taken = t.taken ∙ ap (λ w. w ++ got) r.taken;
       content = r.content;
@@ -57,19 +59,11 @@ ends name bytes got room x y z r t has_room none =
     sym (take-append-drop (length bytes) r.content) ∙ ap (λ w. take (length bytes) r.content ++ w) rest ∙ append-nil (take (length bytes) r.content) ∙ r.front in
     ap (λ f. f name) t.keeps.file ∙ r.is_there ∙ ap Some whole
 
-prefix_is_short : (front whole : List ℕ) → IsPrefix front whole → length front ≤ length whole
-prefix_is_short front whole p =
-    let same : length (take (length front) whole) ≡ length front = ap length p in
-    omega (arith, same, length-take (length front) whole)
-
 pub is_longer : (name : Text) (bytes : List ℕ) (max : ℕ) (x y : Files)
     → IsReading name bytes x y → length bytes ≡ max + 1 → IsLonger name max x y
 is_longer name bytes max x y r long =
     let short : length bytes ≤ length r.content = prefix_is_short bytes r.content r.front in
     record { content = r.content; is_there = r.is_there; longer = omega arith; reading = r.reading; taken = ap length r.taken ∙ long }
-
-pub keeps_of : (name : Text) (bytes : List ℕ) (x y : Files) → IsReading name bytes x y → KeepsFiles x y
-keeps_of name bytes x y r = r.keeps
 
 -- ---- at most so many bytes are taken
 
@@ -96,3 +90,23 @@ pub most-taken : (name : Text) (bytes got : List ℕ) (room most : ℕ) (x y z :
 most-taken name bytes got room most x y z few r p =
     let taken : length z.taken ≡ length (bytes ++ got) = ap length (p.taken ∙ ap (λ w. w ++ got) r.taken) in
     inr (p.reading ∙ r.reading, omega (arith, taken, few, length-append bytes got))
+
+-- ---- the reads
+
+-- a read of the file that is open keeps all files and opens none
+pub reads-on : {names : List Text} {f g h : StoreShown} (R : Files → Files → Type 0) → ((x y : Files) → R x y → KeepsFiles x y)
+    → Reads names true f g → Tells g.files h.files R → Tells g.opened h.opened (Gains []) → g.faults ≤ h.faults → Reads names true f h
+reads-on {names} {f} {g} {h} R keeps first told opened later =
+    subst (λ (xs : List Text). Reads xs true f h) (append-nil names)
+    (reads-then first (record { keeps = tells-map g.files h.files R KeepsFiles keeps told; opened = opened; later = later }))
+
+-- one read more
+pub comes-on : {S : Type 0} (begins : S → Text → Bool → S → Type 0) (reads : S → ℕ → Option ℕ → S → Type 0) (name : Text) (most room : ℕ) (answer : Option ℕ) (old now new : S)
+    → ComesByReads begins reads name most old now → room ≤ most → reads now room answer new → ComesByReads begins reads name most old new
+comes-on begins reads name most room answer old now new c few gives = record {
+  begun = c.begun;
+  went = c.went;
+  begins_so = c.begins_so;
+  calls = record { room = room; answer = answer; before = now } ∷ c.calls;
+  are_reads = (few, gives, c.are_reads);
+}

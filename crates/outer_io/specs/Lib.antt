@@ -2,6 +2,7 @@ pub mod Faults
 pub mod Tells
 pub mod Files
 pub mod Shown
+pub mod Reads
 pub mod ReadWhole
 pub mod WriteFile
 pub mod Buffered

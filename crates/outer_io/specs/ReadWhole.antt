@@ -1,7 +1,8 @@
 -- What reading a whole file answers.
-use Rattle.std.specs.Prelude.{◌≡◌, ◌<◌, ◌≤◌, ◌⊎◌, ℕ, ◌+◌, List, length, Option, Some}
+use Rattle.std.specs.Prelude.{◌≡◌, ◌<◌, ◌≤◌, ◌⊎◌, ℕ, ◌+◌, Bool, List, [], ◌∷◌, length, Option, Some}
 use Rattle.outer_io.specs.Tells.{Tells}
 use Rattle.outer_io.specs.Files.{Files, Text}
+use Rattle.outer_io.specs.Shown.{StoreShown}
 use Rattle.outer_io.specs.Faults.{Rose}
 use Rattle.outer_io.specs.declared.whole.ReadWhole.{ReadWhole}
 use Rattle.outer_io.specs.declared.whole.ReadWhole.TheVariants.{ReadFault, TooLong, NoMemory}
@@ -22,8 +23,30 @@ pub record IsLonger (name : Text) (max : ℕ) (old new : Files) : Type 0 where
 abbrev pub TakesAtMost : Text → ℕ → Files → Files → Type 0
 TakesAtMost name most old new = ((new.reading ≡ old.reading) × (new.taken ≡ old.taken)) ⊎ ((new.reading ≡ name) × (length new.taken ≤ most))
 
--- when each error comes; `old` and `new` are what the store told before the call and after it, and so are the counts
-abbrev pub ReadCause : Text → ℕ → Option Files → Option Files → ℕ → ℕ → ReadWhole → Type 0
-ReadCause name max old new before now ReadFault = Rose before now
-ReadCause name max old new before now (TooLong taken) = (taken ≡ max + 1) × Tells old new (IsLonger name max)
-ReadCause name max old new before now NoMemory = Unit {0}
+-- when each error comes; `old` and `new` are what the store showed before the call and after it. A store that fails does so before
+-- more than `max` bytes were taken
+abbrev pub ReadCause : Text → ℕ → StoreShown → StoreShown → ReadWhole → Type 0
+ReadCause name max old new ReadFault = Rose old.faults new.faults × Tells old.files new.files (TakesAtMost name max)
+ReadCause name max old new (TooLong taken) = (taken ≡ max + 1) × Tells old.files new.files (IsLonger name max)
+ReadCause name max old new NoMemory = Unit {0}
+
+-- ---- the calls
+
+-- a `read`: the room of the buffer, the answer, and the store before it
+pub record Call (S : Type 0) : Type 0 where
+  pub room : ℕ
+  pub answer : Option ℕ
+  pub before : S
+
+-- these reads, the last first, made `new` of `old`, and each buffer had at most so much room
+abbrev pub AreReads : {S : Type 0} → (S → ℕ → Option ℕ → S → Type 0) → ℕ → List (Call S) → S → S → Type 0
+AreReads reads most [] old new = new ≡ old
+AreReads reads most (last ∷ earlier) old new = (last.room ≤ most) × reads last.before last.room last.answer new × AreReads reads most earlier old last.before
+
+-- one `begin_read` of this name made `new` of `old`, and then reads into buffers of at most so much room
+pub record ComesByReads {S : Type 0} (begins : S → Text → Bool → S → Type 0) (reads : S → ℕ → Option ℕ → S → Type 0) (name : Text) (most : ℕ) (old new : S) : Type 0 where
+  pub begun : S
+  pub went : Bool
+  pub begins_so : begins old name went begun
+  pub calls : List (Call S)
+  pub are_reads : AreReads reads most calls begun new

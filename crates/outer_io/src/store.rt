@@ -7,8 +7,11 @@ ghost use Rattle.outer_io.specs.Tells.{Tells, Gains};
 ghost use Rattle.outer_io.specs.Shown.{StoreShown};
 ghost use Rattle.outer_io.specs.Files.{Text, BeginsRead, Takes, TakesNone, Creates, Puts, PutsNone, FailsToPut, Finishes};
 
+use thiserror::Error;
+
 /// The outside failed. Its count of faults rose in that call, or stands at 2^64 - 1.
-#[derive(Drop)]
+#[derive(Debug, Drop, Error)]
+#[error("the outside failed")]
 pub struct Failed;
 
 /// Files by name, of which one at a time is read and one at a time is written.

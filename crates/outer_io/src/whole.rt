@@ -1,29 +1,35 @@
 //! Whole files and whole texts, over calls that move a piece.
 
-ghost use Rattle.std.specs.Prelude.{◌≡◌, ◌≤◌, ◌+◌, ◌-◌, ◌^◌, ◌∷◌, [], vec_len, IsTrue, IfOk, IfErr, OnOk, OnErr};
+ghost use Rattle.std.specs.Prelude.{◌≡◌, ◌≤◌, ◌+◌, ◌-◌, ◌^◌, ◌∷◌, [], true, vec_len, IsTrue, IfOk, IfErr, OnOk, OnErr};
 ghost use Rattle.outer_io.specs.Faults.{HasCause, Rose};
 ghost use Rattle.outer_io.specs.Tells.{Tells, Gains, GainsPrefix};
-ghost use Rattle.outer_io.specs.Files.{KeepsFiles, Puts};
+ghost use Rattle.outer_io.specs.Files.{Puts};
+ghost use Rattle.outer_io.specs.Reads.{Reads};
 ghost use Rattle.outer_io.specs.WriteFile.{KeepsOtherFiles, IsWritten, PutsPart, PutsFront};
-ghost use Rattle.outer_io.specs.ReadWhole.{HasContent, ReadCause, TakesAtMost};
+ghost use Rattle.outer_io.specs.ReadWhole.{HasContent, ReadCause, TakesAtMost, ComesByReads};
 
 use crate::sink::Sink;
 use crate::store::Store;
 use std::alloc::Global;
+use thiserror::Error;
 
 /// Why a file was not read whole.
-#[derive(Drop)]
+#[derive(Debug, Drop, Error)]
 pub enum ReadWhole {
     /// The store failed.
+    #[error("the store failed")]
     ReadFault,
     /// This many bytes were taken, one more than are allowed.
+    #[error("more than the file may have: {0} bytes were taken")]
     TooLong(usize),
     /// There is no memory for the bytes.
+    #[error("out of memory")]
     NoMemory,
 }
 
 /// The sink or the store failed before all bytes were written.
-#[derive(Drop)]
+#[derive(Debug, Drop, Error)]
+#[error("not all bytes were written")]
 pub struct WriteFault;
 
 // How many bytes one read takes at most.
@@ -34,7 +40,8 @@ const PIECE: usize = 65536;
 /// It asks the store for this name alone, once, and then reads pieces of at most 65,536 bytes, and
 /// at most `max + 1` bytes in all.
 ///
-/// - `ReadFault`: the store failed; its count of faults rose, or stands at 2^64 - 1.
+/// - `ReadFault`: the store failed, before more than `max` bytes were taken; its count of faults rose, or stands at
+///   2^64 - 1.
 /// - `TooLong(taken)`: the file has more than `max` bytes, of which `taken`, `max + 1`, were taken.
 /// - `NoMemory`: there is no memory for the bytes.
 pub fn read_whole<S: Store>(
@@ -46,12 +53,11 @@ pub fn read_whole<S: Store>(
     requires { max ≤ 2 ^ 26 }
     ensures short { IfOk result (λ bytes. vec_len bytes ≤ max) }
     ensures content { IfOk result (λ bytes. Tells (S.shown store.old).files (S.shown store.new).files (HasContent name.now bytes.items)) }
-    ensures cause { IfErr result (ReadCause name.now max (S.shown store.old).files (S.shown store.new).files (S.shown store.old).faults (S.shown store.new).faults) }
+    ensures cause { IfErr result (ReadCause name.now max (S.shown store.old) (S.shown store.new)) }
     ensures most { Tells (S.shown store.old).files (S.shown store.new).files (TakesAtMost name.now (max + 1)) }
-    ensures keeps { Tells (S.shown store.old).files (S.shown store.new).files KeepsFiles }
-    ensures opened { Tells (S.shown store.old).opened (S.shown store.new).opened (Gains (name.now ∷ [])) }
+    ensures pieces { ComesByReads S.begin_read_gives S.read_gives name.now 65536 store.old store.new }
+    ensures reads { Reads (name.now ∷ []) true (S.shown store.old) (S.shown store.new) }
     ensures created { S.is_created store.new ≡ S.is_created store.old }
-    ensures later { (S.shown store.old).faults ≤ (S.shown store.new).faults }
 {
     let Ok(()) = store.begin_read(name) else {
         return Err(ReadWhole::ReadFault);

@@ -1,10 +1,9 @@
-use Rattle.std.proofs.Common.{◌≡◌, ◌≤◌, ◌^◌, ℕ, List, length, map, take, Ok, Vec, Bor}
+use Rattle.std.proofs.Common.{◌≡◌, ◌≤◌, ◌^◌, ℕ, List, length, map, take, true, Ok, Vec, Bor}
 use Rattle.std.specs.declared.alloc.Global.{Global}
 use Rattle.std.specs.List.{All}
-use Rattle.outer_io.specs.Tells.{Tells, Gains}
+use Rattle.outer_io.specs.Reads.{Reads}
 use Rattle.jet_model.specs.Contents.{inputs_at}
 use Rattle.jet_files.specs.Outcome.{Comes}
-use Rattle.jet_files.proofs.Composing.{Keeps}
 use Rattle.jet_files.proofs.inputs.open_inputs.Given as goal
 
 -- the first files are read
@@ -17,6 +16,5 @@ invariant-loop-name g l =
       outcome : Comes (λ file. inputs_at file texts) before now (Ok (map (λ (v : Vec ℕ Global). v.items) l.inputs.items));
       many : length l.inputs.items ≡ l.name-index;
       short : All (λ (v : Vec ℕ Global). length v.items ≤ 2 ^ 26) l.inputs.items;
-      keeps : Keeps before now;
-      opened : Tells before.opened now.opened (Gains texts);
+      reads : Reads texts true before now;
     }

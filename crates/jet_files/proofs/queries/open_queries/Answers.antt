@@ -1,13 +1,13 @@
-use Rattle.std.proofs.Common.{arith, ◌≡◌, ◌+◌, ◌∷◌, ◌++◌, [], ap, sym, refl, subst, ℕ, List, length, Ok, Bor}
+use Rattle.std.proofs.Common.{arith, ◌≡◌, ◌+◌, ◌∷◌, ◌++◌, [], ap, sym, refl, subst, ℕ, List, length, true, Ok, Bor}
 use Rattle.std.proofs.lemmas.List.{length_push, take_all}
 use Rattle.std.proofs.lemmas.Result.{err_from_is_err_and}
 use Rattle.report_model.specs.Query.{Query}
-use Rattle.outer_io.specs.Tells.{Tells, Gains}
-use Rattle.outer_io.proofs.TellsLemmas.{tells-same, tells-nothing}
+use Rattle.outer_io.specs.Reads.{Reads}
+use Rattle.outer_io.proofs.TellsLemmas.{tells-same}
 use Rattle.jet_model.specs.Contents.{queries_at}
 use Rattle.jet_files.specs.Outcome.{Found, Follows, AreAllAlike}
-use Rattle.jet_files.proofs.Names.{keeps-none, keeps-keeps}
-use Rattle.jet_files.proofs.Several.{texts, queries_more, queries_stop, opened_more, opened_some, opened_all}
+use Rattle.outer_io.proofs.ReadsLemmas.{reads-none}
+use Rattle.jet_files.proofs.Several.{texts, queries_more, queries_stop, reads_more, reads_some}
 use Rattle.jet_files.proofs.queries.open_queries.Goals as goal
 
 pub loop-name-init : goal.loop-name-init
@@ -20,8 +20,7 @@ loop-name-init g c =
           (tells-same shown.files (Found (λ file. AreAllAlike (Ok []) (queries_at file []))) (λ x. record { found = tt }));
       many = ap length none;
       number = refl;
-      keeps = record { files = keeps-none shown.files; faults = omega arith };
-      opened = tells-nothing shown.opened;
+      reads = reads-none shown;
     }
 
 pub loop-name-preserved : goal.loop-name-preserved
@@ -38,14 +37,10 @@ loop-name-preserved g c =
     let number : c.loop-name.number + 1 ≡ index + 1 = omega (arith, i.number) in
     let pushed : more ≡ queries ++ query ∷ [] = c.in_default.ensures.items in
     record {
-      outcome = queries_more names index (c.loop-name.number + 1) _ queries more query before between after c.loop-name-test.true number pushed i.outcome i.keeps c.in_ok-query.ensures.outcome;
+      outcome = queries_more names index (c.loop-name.number + 1) _ queries more query before between after c.loop-name-test.true number pushed i.outcome i.reads c.in_ok-query.ensures.outcome;
       many = omega (arith, ap length pushed, length_push queries query, i.many);
       number = number;
-      keeps = record {
-        files = keeps-keeps before.files between.files after.files i.keeps.files c.open_numbered.ensures.keeps;
-        faults = omega (arith, i.keeps.faults, c.open_numbered.ensures.later);
-      };
-      opened = opened_more names index _ before.opened between.opened after.opened c.loop-name-test.true i.opened c.open_numbered.ensures.opened;
+      reads = reads_more names index _ before between after c.loop-name-test.true i.reads c.open_numbered.ensures.reads;
     }
 
 -- ---- a file was refused
@@ -54,32 +49,21 @@ pub returns-in_err-query-clause-outcome : goal.returns-in_err-query-clause-outco
 returns-in_err-query-clause-outcome g c =
     let i = c.loop-name.invariant in
     let p = err_from_is_err_and c.from_residual.result c.from_residual.ensures.1 in
-    rw (p.1, p.2) (queries_stop c.args.names.now c.loop-name.name-index (c.loop-name.number + 1) _ c.loop-name.queries.items (g.S.Store.shown c.args.store.now) (g.S.Store.shown c.loop-name.store) (g.S.Store.shown c.open_numbered.new.store) _ c.loop-name-test.true (omega (arith, i.number)) i.outcome i.keeps c.in_err-query.ensures.later c.in_err-query.ensures.outcome)
+    rw (p.1, p.2) (queries_stop c.args.names.now c.loop-name.name-index (c.loop-name.number + 1) _ c.loop-name.queries.items (g.S.Store.shown c.args.store.now) (g.S.Store.shown c.loop-name.store) (g.S.Store.shown c.open_numbered.new.store) _ c.loop-name-test.true (omega (arith, i.number)) i.outcome i.reads c.in_err-query.ensures.reads c.in_err-query.ensures.outcome)
 
-pub returns-in_err-query-clause-keeps : goal.returns-in_err-query-clause-keeps
-returns-in_err-query-clause-keeps g c = keeps-keeps _ (g.S.Store.shown c.loop-name.store).files _ c.loop-name.invariant.keeps.files c.in_err-query.ensures.keeps
-
-pub returns-in_err-query-clause-later : goal.returns-in_err-query-clause-later
-returns-in_err-query-clause-later g c = omega (arith, c.loop-name.invariant.keeps.faults, c.in_err-query.ensures.later)
-
-pub returns-in_err-query-clause-opened : goal.returns-in_err-query-clause-opened
-returns-in_err-query-clause-opened g c =
-    opened_some c.args.names.now c.loop-name.name-index _ _ (g.S.Store.shown c.loop-name.store).opened _ c.loop-name-test.true c.loop-name.invariant.opened c.in_err-query.ensures.opened
+pub returns-in_err-query-clause-reads : goal.returns-in_err-query-clause-reads
+returns-in_err-query-clause-reads g c =
+    let p = err_from_is_err_and c.from_residual.result c.from_residual.ensures.1 in
+    rw p.1 (reads_some c.args.names.now c.loop-name.name-index _ _ (g.S.Store.shown c.loop-name.store) _ c.loop-name-test.true c.loop-name.invariant.reads c.in_err-query.ensures.reads)
 
 -- ---- out of memory
 
 pub returns-in-Err-clause-outcome : goal.returns-in-Err-clause-outcome
 returns-in-Err-clause-outcome g c = tt
 
-pub returns-in-Err-clause-keeps : goal.returns-in-Err-clause-keeps
-returns-in-Err-clause-keeps g c = keeps-keeps _ (g.S.Store.shown c.loop-name.store).files _ c.loop-name.invariant.keeps.files c.in_ok-query.ensures.keeps
-
-pub returns-in-Err-clause-later : goal.returns-in-Err-clause-later
-returns-in-Err-clause-later g c = omega (arith, c.loop-name.invariant.keeps.faults, c.in_ok-query.ensures.later)
-
-pub returns-in-Err-clause-opened : goal.returns-in-Err-clause-opened
-returns-in-Err-clause-opened g c =
-    opened_some c.args.names.now c.loop-name.name-index _ _ (g.S.Store.shown c.loop-name.store).opened _ c.loop-name-test.true c.loop-name.invariant.opened c.in_ok-query.ensures.opened
+pub returns-in-Err-clause-reads : goal.returns-in-Err-clause-reads
+returns-in-Err-clause-reads g c =
+    reads_some c.args.names.now c.loop-name.name-index _ _ (g.S.Store.shown c.loop-name.store) _ c.loop-name-test.true c.loop-name.invariant.reads c.in_ok-query.ensures.reads
 
 -- ---- all were read
 
@@ -91,16 +75,7 @@ returns-clause-outcome g c =
 pub returns-clause-many : goal.returns-clause-many
 returns-clause-many g c = omega (arith, c.loop-name.invariant.many, c.loop-name-test.false, c.loop-name.auto.name-index-end)
 
-pub returns-clause-keeps : goal.returns-clause-keeps
-returns-clause-keeps g c = c.loop-name.invariant.keeps.files
-
-pub returns-clause-later : goal.returns-clause-later
-returns-clause-later g c = c.loop-name.invariant.keeps.faults
-
-pub returns-clause-opened : goal.returns-clause-opened
-returns-clause-opened g c = opened_all c.args.names.now c.loop-name.name-index _ _ c.loop-name.invariant.opened
-
-pub returns-clause-all : goal.returns-clause-all
-returns-clause-all g c =
-    subst (λ (w : List (Bor (List ℕ))). Tells (g.S.Store.shown c.args.store.now).opened (g.S.Store.shown c.loop-name.store).opened (Gains (texts w)))
-    (take_all c.loop-name.name-index c.args.names.now c.loop-name-test.false) c.loop-name.invariant.opened
+pub returns-clause-reads : goal.returns-clause-reads
+returns-clause-reads g c =
+    subst (λ (w : List (Bor (List ℕ))). Reads (texts w) true (g.S.Store.shown c.args.store.now) (g.S.Store.shown c.loop-name.store))
+    (take_all c.loop-name.name-index c.args.names.now c.loop-name-test.false) c.loop-name.invariant.reads

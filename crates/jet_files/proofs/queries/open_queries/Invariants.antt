@@ -1,8 +1,7 @@
-use Rattle.std.proofs.Common.{◌≡◌, ℕ, List, length, map, take, Ok, Bor}
-use Rattle.outer_io.specs.Tells.{Tells, Gains}
+use Rattle.std.proofs.Common.{◌≡◌, ℕ, List, length, map, take, true, Ok, Bor}
+use Rattle.outer_io.specs.Reads.{Reads}
 use Rattle.jet_model.specs.Contents.{queries_at}
 use Rattle.jet_files.specs.Outcome.{Follows, AreAllAlike}
-use Rattle.jet_files.proofs.Composing.{Keeps}
 use Rattle.jet_files.proofs.queries.open_queries.Given as goal
 
 -- the first files are read
@@ -15,6 +14,5 @@ invariant-loop-name g l =
       outcome : Follows (λ file kept. AreAllAlike kept (queries_at file texts)) before now (Ok l.queries.items);
       many : length l.queries.items ≡ l.name-index;
       number : l.number ≡ l.name-index;
-      keeps : Keeps before now;
-      opened : Tells before.opened now.opened (Gains texts);
+      reads : Reads texts true before now;
     }

@@ -14,36 +14,23 @@ returns-in-Ok-clause-outcome g c =
     let name = c.args.name.now in
     let bytes = c.in-Ok.bytes.items in
     found-kept (λ file. file_at file name ≡ Ok bytes) (HasContent name bytes) (g.S.Store.shown c.args.store.now).files (g.S.Store.shown c.read_whole.new.store).files
-    (λ x y there. file_at-there y.file name bytes there (omega (arith, c.in-Ok.ensures.short, c.in-Ok.bytes.ok))) c.in-Ok.ensures.content c.read_whole.ensures.keeps
+    (λ x y there. file_at-there y.file name bytes there (omega (arith, c.in-Ok.ensures.short, c.in-Ok.bytes.ok))) c.in-Ok.ensures.content c.read_whole.ensures.reads.keeps
 
 pub returns-in-Ok-clause-short : goal.returns-in-Ok-clause-short
 returns-in-Ok-clause-short g c = omega (arith, c.in-Ok.ensures.short, c.in-Ok.bytes.ok)
 
-pub returns-in-Ok-clause-keeps : goal.returns-in-Ok-clause-keeps
-returns-in-Ok-clause-keeps g c = c.read_whole.ensures.keeps
-
-pub returns-in-Ok-clause-opened : goal.returns-in-Ok-clause-opened
-returns-in-Ok-clause-opened g c = c.read_whole.ensures.opened
-
-pub returns-in-Ok-clause-later : goal.returns-in-Ok-clause-later
-returns-in-Ok-clause-later g c = c.read_whole.ensures.later
+pub returns-in-Ok-clause-reads : goal.returns-in-Ok-clause-reads
+returns-in-Ok-clause-reads g c = c.read_whole.ensures.reads
 
 -- ---- the store failed
 
 pub returns-in-Err-ReadFault-clause-outcome : goal.returns-in-Err-ReadFault-clause-outcome
 returns-in-Err-ReadFault-clause-outcome g c =
-    let before = g.S.Store.shown c.args.store.now in
-    let after = g.S.Store.shown c.read_whole.new.store in
-    subst (λ (why : ReadWhole). ReadCause c.args.name.now (2 ^ 26) before.files after.files before.faults after.faults why) c.in-Err-ReadFault.field-0-is c.in-Err-ReadFault.ensures.cause
+    let cause = subst (λ (why : ReadWhole). ReadCause c.args.name.now (2 ^ 26) (g.S.Store.shown c.args.store.now) (g.S.Store.shown c.read_whole.new.store) why) c.in-Err-ReadFault.field-0-is c.in-Err-ReadFault.ensures.cause in
+    cause.0
 
-pub returns-in-Err-ReadFault-clause-keeps : goal.returns-in-Err-ReadFault-clause-keeps
-returns-in-Err-ReadFault-clause-keeps g c = c.read_whole.ensures.keeps
-
-pub returns-in-Err-ReadFault-clause-opened : goal.returns-in-Err-ReadFault-clause-opened
-returns-in-Err-ReadFault-clause-opened g c = c.read_whole.ensures.opened
-
-pub returns-in-Err-ReadFault-clause-later : goal.returns-in-Err-ReadFault-clause-later
-returns-in-Err-ReadFault-clause-later g c = c.read_whole.ensures.later
+pub returns-in-Err-ReadFault-clause-reads : goal.returns-in-Err-ReadFault-clause-reads
+returns-in-Err-ReadFault-clause-reads g c = c.read_whole.ensures.reads
 
 -- ---- the file is too long
 
@@ -52,29 +39,17 @@ returns-in-Err-TooLong-clause-outcome g c =
     let name = c.args.name.now in
     let before = g.S.Store.shown c.args.store.now in
     let after = g.S.Store.shown c.read_whole.new.store in
-    let cause = subst (λ (why : ReadWhole). ReadCause name (2 ^ 26) before.files after.files before.faults after.faults why) c.in-Err-TooLong.field-0-is c.in-Err-TooLong.ensures.cause in
+    let cause = subst (λ (why : ReadWhole). ReadCause name (2 ^ 26) before after why) c.in-Err-TooLong.field-0-is c.in-Err-TooLong.ensures.cause in
     found-kept (λ file. file_at file name ≡ Err refusal.TooLong) (IsLonger name (2 ^ 26)) before.files after.files
-    (λ x y long. file_at-long y.file name long.content long.is_there long.longer) cause.1 c.read_whole.ensures.keeps
+    (λ x y long. file_at-long y.file name long.content long.is_there long.longer) cause.1 c.read_whole.ensures.reads.keeps
 
-pub returns-in-Err-TooLong-clause-keeps : goal.returns-in-Err-TooLong-clause-keeps
-returns-in-Err-TooLong-clause-keeps g c = c.read_whole.ensures.keeps
-
-pub returns-in-Err-TooLong-clause-opened : goal.returns-in-Err-TooLong-clause-opened
-returns-in-Err-TooLong-clause-opened g c = c.read_whole.ensures.opened
-
-pub returns-in-Err-TooLong-clause-later : goal.returns-in-Err-TooLong-clause-later
-returns-in-Err-TooLong-clause-later g c = c.read_whole.ensures.later
+pub returns-in-Err-TooLong-clause-reads : goal.returns-in-Err-TooLong-clause-reads
+returns-in-Err-TooLong-clause-reads g c = c.read_whole.ensures.reads
 
 -- ---- out of memory
 
 pub returns-in-Err-NoMemory-clause-outcome : goal.returns-in-Err-NoMemory-clause-outcome
 returns-in-Err-NoMemory-clause-outcome g c = tt
 
-pub returns-in-Err-NoMemory-clause-keeps : goal.returns-in-Err-NoMemory-clause-keeps
-returns-in-Err-NoMemory-clause-keeps g c = c.read_whole.ensures.keeps
-
-pub returns-in-Err-NoMemory-clause-opened : goal.returns-in-Err-NoMemory-clause-opened
-returns-in-Err-NoMemory-clause-opened g c = c.read_whole.ensures.opened
-
-pub returns-in-Err-NoMemory-clause-later : goal.returns-in-Err-NoMemory-clause-later
-returns-in-Err-NoMemory-clause-later g c = c.read_whole.ensures.later
+pub returns-in-Err-NoMemory-clause-reads : goal.returns-in-Err-NoMemory-clause-reads
+returns-in-Err-NoMemory-clause-reads g c = c.read_whole.ensures.reads

@@ -1,19 +1,23 @@
-use Rattle.std.proofs.Common.{rules, arith, ◌≡◌, ◌≤◌, ◌∷◌, [], ◌++◌, ◌∙◌, ap, ℕ, Bool, ◌+◌, List, length, take, drop, length-append, length-take, length-drop}
+use Rattle.std.proofs.Common.{rules, arith, ◌≡◌, ◌≤◌, [], ◌++◌, ◌∙◌, ap, refl, ℕ, Bool, ◌+◌, List, length, take, drop, length-append, length-take, length-drop}
 use Rattle.std.proofs.lemmas.List.{take-append-le}
-use Rattle.outer_io.specs.Files.{TakesNone, Takes, BeginsRead}
+use Rattle.outer_io.specs.Files.{KeepsFiles, TakesNone, Takes, BeginsRead}
 use Rattle.outer_io.specs.ReadWhole.{IsLonger, HasContent, TakesAtMost}
-use Rattle.outer_io.proofs.TellsLemmas.{tells-then, tells-map, tells-gains-none}
-use Rattle.outer_io.proofs.Reading.{IsReading, begins, reads_on, ends, is_longer, most-none, most-begun, most-read, most-failed, most-taken}
+use Rattle.outer_io.proofs.TellsLemmas.{tells-then, tells-map, rose-earlier}
+use Rattle.outer_io.proofs.Reading.{IsReading, begins, reads_on, ends, is_longer, most-none, most-begun, most-read, most-failed, most-taken, reads-on, comes-on}
 use Rattle.outer_io.proofs.whole.read_whole.Goals as goal
 
 pub loop-piece-init : goal.loop-piece-init
 loop-piece-init g c = record {
   small = omega (arith, c.new-bytes.ensures.len);
   buffer = search rules;
-  later = c.begin_read.ensures.cause.later;
   open_now = c.in-Ok.ensures.open;
   created = c.begin_read.ensures.created;
-  opened = c.begin_read.ensures.opened;
+  pieces = record { begun = _; went = _; begins_so = c.begin_read.ensures.gives; calls = []; are_reads = refl };
+  reads = record {
+    keeps = tells-map _ _ (BeginsRead c.args.name.now) KeepsFiles (λ x y p. p.keeps) c.in-Ok.ensures.ok;
+    opened = c.begin_read.ensures.opened;
+    later = c.begin_read.ensures.cause.later;
+  };
   told = rw c.new-bytes.ensures.items (tells-map _ _ (BeginsRead c.args.name.now) (IsReading c.args.name.now []) (begins c.args.name.now) c.in-Ok.ensures.ok);
 }
 
@@ -40,10 +44,10 @@ loop-piece-preserved g c =
     record {
       small = omega (arith, ap length items, length-append bytes (take n into), length-take n into, c.in-Ok-read.ensures.count, taken, c.in-Ok-extend_from_slice.ensures.len);
       buffer = omega (arith, length-append into (drop room c.loop-piece.piece), length-drop room c.loop-piece.piece, taken, c.read.auto.into);
-      later = omega (arith, c.in-Ok-read.ensures.cause.later);
       open_now = ◌∙◌ {A = Bool} c.in-Ok-read.ensures.open c.loop-piece.invariant.open_now;
       created = ◌∙◌ {A = Bool} c.in-Ok-read.ensures.created c.loop-piece.invariant.created;
-      opened = tells-gains-none _ _ _ (name ∷ []) c.loop-piece.invariant.opened c.in-Ok-read.ensures.opened;
+      pieces = comes-on _ _ name _ _ _ _ _ _ c.loop-piece.invariant.pieces (omega (arith, taken)) c.read.ensures.gives;
+      reads = reads-on (Takes _ (take n into)) (λ x y p. p.keeps) c.loop-piece.invariant.reads c.in-Ok-read.ensures.ok c.read.ensures.opened c.read.ensures.cause.later;
       told = rw items (tells-then _ _ _ (IsReading name bytes) _ (IsReading name (bytes ++ take n into))
           (λ x y z r t. reads_on name bytes (take n into) _ x y z r t) c.loop-piece.invariant.told c.in-Ok-read.ensures.ok);
     }
@@ -54,6 +58,69 @@ returns-clause-cause g c = (
   tells-map _ _ (IsReading c.args.name.now c.loop-piece.bytes.items) (IsLonger c.args.name.now c.args.max)
       (λ x y r. is_longer c.args.name.now c.loop-piece.bytes.items c.args.max x y r (omega arith)) c.loop-piece.invariant.told,
 )
+
+-- ---- the store failed
+
+pub returns-in_default-clause-cause : goal.returns-in_default-clause-cause
+returns-in_default-clause-cause g c = (
+  c.in_default.ensures.cause.failed refl,
+  tells-map _ _ TakesNone (TakesAtMost c.args.name.now c.args.max) (most-none c.args.name.now c.args.max) c.in_default.ensures.err,
+)
+
+pub returns-in_default-read-clause-cause : goal.returns-in_default-read-clause-cause
+returns-in_default-read-clause-cause g c =
+    let name = c.args.name.now in
+    let w = c.loop-piece.invariant in (
+      rose-earlier _ _ _ w.reads.later (c.in_default-read.ensures.cause.failed refl) c.in_default-read.ensures.cause.later,
+      tells-then _ _ _ (IsReading name c.loop-piece.bytes.items) TakesNone (TakesAtMost name c.args.max)
+          (λ x y z. most-failed name c.loop-piece.bytes.items c.args.max x y z (omega arith)) w.told c.in_default-read.ensures.err,
+    )
+
+-- ---- the calls that were made
+
+pub returns-in_default-clause-reads : goal.returns-in_default-clause-reads
+returns-in_default-clause-reads g c = record {
+  keeps = tells-map _ _ TakesNone KeepsFiles (λ x y p. p.keeps) c.in_default.ensures.err;
+  opened = c.begin_read.ensures.opened;
+  later = c.begin_read.ensures.cause.later;
+}
+
+pub returns-in_err-buffer-clause-reads : goal.returns-in_err-buffer-clause-reads
+returns-in_err-buffer-clause-reads g c = record {
+  keeps = tells-map _ _ (BeginsRead c.args.name.now) KeepsFiles (λ x y p. p.keeps) c.in-Ok.ensures.ok;
+  opened = c.begin_read.ensures.opened;
+  later = c.begin_read.ensures.cause.later;
+}
+
+pub returns-in_default-clause-pieces : goal.returns-in_default-clause-pieces
+returns-in_default-clause-pieces g c = record { begun = _; went = _; begins_so = c.begin_read.ensures.gives; calls = []; are_reads = refl }
+
+pub returns-in_err-buffer-clause-pieces : goal.returns-in_err-buffer-clause-pieces
+returns-in_err-buffer-clause-pieces g c = record { begun = _; went = _; begins_so = c.begin_read.ensures.gives; calls = []; are_reads = refl }
+
+pub returns-in_default-read-clause-reads : goal.returns-in_default-read-clause-reads
+returns-in_default-read-clause-reads g c =
+    reads-on TakesNone (λ x y p. p.keeps) c.loop-piece.invariant.reads c.in_default-read.ensures.err c.read.ensures.opened c.read.ensures.cause.later
+
+pub returns-in_default-read-clause-pieces : goal.returns-in_default-read-clause-pieces
+returns-in_default-read-clause-pieces g c =
+    comes-on _ _ c.args.name.now _ _ _ _ _ _ c.loop-piece.invariant.pieces (omega (arith, length-take c.min-room.result c.loop-piece.piece)) c.read.ensures.gives
+
+pub returns-then-count-eq0-clause-reads : goal.returns-then-count-eq0-clause-reads
+returns-then-count-eq0-clause-reads g c =
+    reads-on (Takes _ _) (λ x y p. p.keeps) c.loop-piece.invariant.reads c.in-Ok-read.ensures.ok c.read.ensures.opened c.read.ensures.cause.later
+
+pub returns-then-count-eq0-clause-pieces : goal.returns-then-count-eq0-clause-pieces
+returns-then-count-eq0-clause-pieces g c =
+    comes-on _ _ c.args.name.now _ _ _ _ _ _ c.loop-piece.invariant.pieces (omega (arith, length-take c.min-room.result c.loop-piece.piece)) c.read.ensures.gives
+
+pub returns-in_default-extend_from_slice-clause-reads : goal.returns-in_default-extend_from_slice-clause-reads
+returns-in_default-extend_from_slice-clause-reads g c =
+    reads-on (Takes _ _) (λ x y p. p.keeps) c.loop-piece.invariant.reads c.in-Ok-read.ensures.ok c.read.ensures.opened c.read.ensures.cause.later
+
+pub returns-in_default-extend_from_slice-clause-pieces : goal.returns-in_default-extend_from_slice-clause-pieces
+returns-in_default-extend_from_slice-clause-pieces g c =
+    comes-on _ _ c.args.name.now _ _ _ _ _ _ c.loop-piece.invariant.pieces (omega (arith, length-take c.min-room.result c.loop-piece.piece)) c.read.ensures.gives
 
 -- ---- at most one byte more than allowed is taken
 
