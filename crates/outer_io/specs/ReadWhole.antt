@@ -4,8 +4,8 @@ use Rattle.outer_io.specs.Tells.{Tells}
 use Rattle.outer_io.specs.Files.{Files, Text}
 use Rattle.outer_io.specs.Shown.{StoreShown}
 use Rattle.outer_io.specs.Faults.{Rose}
-use Rattle.outer_io.specs.declared.whole.ReadWhole.{ReadWhole}
-use Rattle.outer_io.specs.declared.whole.ReadWhole.TheVariants.{ReadFault, TooLong, NoMemory}
+use Rattle.outer_io.specs.declared.whole.Unread.{Unread}
+use Rattle.outer_io.specs.declared.whole.Unread.TheVariants.{ReadFault, TooLong}
 
 -- the file has this content
 abbrev pub HasContent : Text → List ℕ → Files → Files → Type 0
@@ -25,10 +25,9 @@ TakesAtMost name most old new = ((new.reading ≡ old.reading) × (new.taken ≡
 
 -- when each error comes; `old` and `new` are what the store showed before the call and after it. A store that fails does so before
 -- more than `max` bytes were taken
-abbrev pub ReadCause : Text → ℕ → StoreShown → StoreShown → ReadWhole → Type 0
+abbrev pub ReadCause : Text → ℕ → StoreShown → StoreShown → Unread → Type 0
 ReadCause name max old new ReadFault = Rose old.faults new.faults × Tells old.files new.files (TakesAtMost name max)
 ReadCause name max old new (TooLong taken) = (taken ≡ max + 1) × Tells old.files new.files (IsLonger name max)
-ReadCause name max old new NoMemory = Unit {0}
 
 -- ---- the calls
 

@@ -32,4 +32,4 @@ pub use machine::{FileStore, MachineClock, OutSink};
 pub use memory::{ListClock, MemoryFile, MemorySink, MemoryStore, SureSink, SureStore};
 pub use sink::Sink;
 pub use store::{Failed, Store};
-pub use whole::{ReadWhole, WriteFault, read_whole, write_file, write_whole};
+pub use whole::{ReadWhole, Unread, WriteFault, read_whole, write_file, write_whole};

@@ -1,6 +1,7 @@
 //! Whole files and whole texts, over calls that move a piece.
 
 ghost use Rattle.std.specs.Prelude.{◌≡◌, ◌≤◌, ◌+◌, ◌-◌, ◌^◌, ◌∷◌, [], true, vec_len, IsTrue, IfOk, IfErr, OnOk, OnErr};
+ghost use Rattle.no_memory.specs.Faults.{IsCausedBy};
 ghost use Rattle.outer_io.specs.Faults.{HasCause, Rose};
 ghost use Rattle.outer_io.specs.Tells.{Tells, Gains, GainsPrefix};
 ghost use Rattle.outer_io.specs.Files.{Puts};
@@ -10,22 +11,23 @@ ghost use Rattle.outer_io.specs.ReadWhole.{HasContent, ReadCause, TakesAtMost, C
 
 use crate::sink::Sink;
 use crate::store::Store;
+use no_memory::Fault;
 use std::alloc::Global;
 use thiserror::Error;
 
-/// Why a file was not read whole.
-#[derive(Debug, Drop, Error)]
-pub enum ReadWhole {
+/// What kept a file from being read whole.
+#[derive(Clone, Copy, Debug, Error)]
+pub enum Unread {
     /// The store failed.
     #[error("the store failed")]
     ReadFault,
     /// This many bytes were taken, one more than are allowed.
     #[error("more than the file may have: {0} bytes were taken")]
     TooLong(usize),
-    /// There is no memory for the bytes.
-    #[error("out of memory")]
-    NoMemory,
 }
+
+/// Why a file was not read whole: what kept it from that, or out of memory.
+pub type ReadWhole = Fault<Unread>;
 
 /// The sink or the store failed before all bytes were written.
 #[derive(Debug, Drop, Error)]
@@ -43,7 +45,6 @@ const PIECE: usize = 65536;
 /// - `ReadFault`: the store failed, before more than `max` bytes were taken; its count of faults rose, or stands at
 ///   2^64 - 1.
 /// - `TooLong(taken)`: the file has more than `max` bytes, of which `taken`, `max + 1`, were taken.
-/// - `NoMemory`: there is no memory for the bytes.
 pub fn read_whole<S: Store>(
     alloc: Global,
     store: &mut S,
@@ -53,31 +54,29 @@ pub fn read_whole<S: Store>(
     requires { max ≤ 2 ^ 26 }
     ensures short { IfOk result (λ bytes. vec_len bytes ≤ max) }
     ensures content { IfOk result (λ bytes. Tells (S.shown store.old).files (S.shown store.new).files (HasContent name.now bytes.items)) }
-    ensures cause { IfErr result (ReadCause name.now max (S.shown store.old) (S.shown store.new)) }
+    ensures cause { IfErr result (IsCausedBy (ReadCause name.now max (S.shown store.old) (S.shown store.new))) }
     ensures most { Tells (S.shown store.old).files (S.shown store.new).files (TakesAtMost name.now (max + 1)) }
     ensures pieces { ComesByReads S.begin_read_gives S.read_gives name.now 65536 store.old store.new }
     ensures reads { Reads (name.now ∷ []) true (S.shown store.old) (S.shown store.new) }
     ensures created { S.is_created store.new ≡ S.is_created store.old }
 {
     let Ok(()) = store.begin_read(name) else {
-        return Err(ReadWhole::ReadFault);
+        return Err(Fault::At(Unread::ReadFault));
     };
-    let mut buffer = vec![in alloc; 0u8; PIECE].map_err(|_| ReadWhole::NoMemory)?;
+    let mut buffer = vec![in alloc; 0u8; PIECE]?;
     let piece = buffer.as_mut_slice();
     let mut bytes = Vec::new(alloc);
     while bytes.len() <= max {
         let room = PIECE.min(max + 1 - bytes.len());
         let Ok(count) = store.read(&mut piece[..room]) else {
-            return Err(ReadWhole::ReadFault);
+            return Err(Fault::At(Unread::ReadFault));
         };
         if count == 0 {
             return Ok(bytes);
         }
-        let Ok(()) = bytes.extend_from_slice(&piece[..count]) else {
-            return Err(ReadWhole::NoMemory);
-        };
+        bytes.extend_from_slice(&piece[..count])?;
     }
-    Err(ReadWhole::TooLong(bytes.len()))
+    Err(Fault::At(Unread::TooLong(bytes.len())))
 }
 
 /// Writes all the bytes.

@@ -1,9 +1,10 @@
 use Rattle.std.proofs.Common.{rules, arith, ◌≡◌, ◌≤◌, [], ◌++◌, ◌∙◌, ap, refl, ℕ, Bool, ◌+◌, List, length, take, drop, length-append, length-take, length-drop}
 use Rattle.std.proofs.lemmas.List.{take-append-le}
+use Rattle.std.proofs.lemmas.Result.{err_from_is_err_and}
 use Rattle.outer_io.specs.Files.{KeepsFiles, TakesNone, Takes, BeginsRead}
 use Rattle.outer_io.specs.ReadWhole.{IsLonger, HasContent, TakesAtMost}
 use Rattle.outer_io.proofs.TellsLemmas.{tells-then, tells-map, rose-earlier}
-use Rattle.outer_io.proofs.Reading.{IsReading, begins, reads_on, ends, is_longer, most-none, most-begun, most-read, most-failed, most-taken, reads-on, comes-on}
+use Rattle.outer_io.proofs.Reading.{IsReading, begins, reads_on, ends, is_longer, most-none, most-begun, most-read, most-failed, most-taken, reads-on, comes-on, no-cause}
 use Rattle.outer_io.proofs.whole.read_whole.Goals as goal
 
 pub loop-piece-init : goal.loop-piece-init
@@ -40,9 +41,9 @@ loop-piece-preserved g c =
     let fits : n ≤ length into = omega (arith, c.in-Ok-read.ensures.count, c.read.auto.into) in
     let taken = length-take room c.loop-piece.piece in
     let items : c.extend_from_slice.new.self.items ≡ bytes ++ take n into =
-    ◌∙◌ {A = List ℕ} c.in-Ok-extend_from_slice.ensures.items (ap (λ w. bytes ++ w) (take-append-le n into _ fits)) in
+    ◌∙◌ {A = List ℕ} c.in_ok-extend_from_slice.ensures.items (ap (λ w. bytes ++ w) (take-append-le n into _ fits)) in
     record {
-      small = omega (arith, ap length items, length-append bytes (take n into), length-take n into, c.in-Ok-read.ensures.count, taken, c.in-Ok-extend_from_slice.ensures.len);
+      small = omega (arith, ap length items, length-append bytes (take n into), length-take n into, c.in-Ok-read.ensures.count, taken, c.in_ok-extend_from_slice.ensures.len);
       buffer = omega (arith, length-append into (drop room c.loop-piece.piece), length-drop room c.loop-piece.piece, taken, c.read.auto.into);
       open_now = ◌∙◌ {A = Bool} c.in-Ok-read.ensures.open c.loop-piece.invariant.open_now;
       created = ◌∙◌ {A = Bool} c.in-Ok-read.ensures.created c.loop-piece.invariant.created;
@@ -75,6 +76,18 @@ returns-in_default-read-clause-cause g c =
       tells-then _ _ _ (IsReading name c.loop-piece.bytes.items) TakesNone (TakesAtMost name c.args.max)
           (λ x y z. most-failed name c.loop-piece.bytes.items c.args.max x y z (omega arith)) w.told c.in_default-read.ensures.err,
     )
+
+-- ---- out of memory
+
+pub returns-in_err-buffer-clause-cause : goal.returns-in_err-buffer-clause-cause
+returns-in_err-buffer-clause-cause g c =
+    let p = err_from_is_err_and c.from_residual.result c.from_residual.ensures.1 in
+    rw p.1 (no-cause _ p.0 p.2)
+
+pub returns-in_err-extend_from_slice-clause-cause : goal.returns-in_err-extend_from_slice-clause-cause
+returns-in_err-extend_from_slice-clause-cause g c =
+    let p = err_from_is_err_and c.from_residual-in_err-extend_from_slice.result c.from_residual-in_err-extend_from_slice.ensures.1 in
+    rw p.1 (no-cause _ p.0 p.2)
 
 -- ---- the calls that were made
 
@@ -114,12 +127,12 @@ pub returns-then-count-eq0-clause-pieces : goal.returns-then-count-eq0-clause-pi
 returns-then-count-eq0-clause-pieces g c =
     comes-on _ _ c.args.name.now _ _ _ _ _ _ c.loop-piece.invariant.pieces (omega (arith, length-take c.min-room.result c.loop-piece.piece)) c.read.ensures.gives
 
-pub returns-in_default-extend_from_slice-clause-reads : goal.returns-in_default-extend_from_slice-clause-reads
-returns-in_default-extend_from_slice-clause-reads g c =
+pub returns-in_err-extend_from_slice-clause-reads : goal.returns-in_err-extend_from_slice-clause-reads
+returns-in_err-extend_from_slice-clause-reads g c =
     reads-on (Takes _ _) (λ x y p. p.keeps) c.loop-piece.invariant.reads c.in-Ok-read.ensures.ok c.read.ensures.opened c.read.ensures.cause.later
 
-pub returns-in_default-extend_from_slice-clause-pieces : goal.returns-in_default-extend_from_slice-clause-pieces
-returns-in_default-extend_from_slice-clause-pieces g c =
+pub returns-in_err-extend_from_slice-clause-pieces : goal.returns-in_err-extend_from_slice-clause-pieces
+returns-in_err-extend_from_slice-clause-pieces g c =
     comes-on _ _ c.args.name.now _ _ _ _ _ _ c.loop-piece.invariant.pieces (omega (arith, length-take c.min-room.result c.loop-piece.piece)) c.read.ensures.gives
 
 -- ---- at most one byte more than allowed is taken
@@ -155,8 +168,8 @@ returns-then-count-eq0-clause-most g c =
     (IsReading name c.loop-piece.bytes.items) (Takes _ got) (TakesAtMost name (c.args.max + 1))
     (λ x y z. most-taken name c.loop-piece.bytes.items got _ (c.args.max + 1) x y z few) w.told c.in-Ok-read.ensures.ok
 
-pub returns-in_default-extend_from_slice-clause-most : goal.returns-in_default-extend_from_slice-clause-most
-returns-in_default-extend_from_slice-clause-most g c =
+pub returns-in_err-extend_from_slice-clause-most : goal.returns-in_err-extend_from_slice-clause-most
+returns-in_err-extend_from_slice-clause-most g c =
     let name = c.args.name.now in
     let w = c.loop-piece.invariant in
     let got : List ℕ = take c.in-Ok-read.count c.read.new.into in
