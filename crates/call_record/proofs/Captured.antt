@@ -1,6 +1,6 @@
 -- The log of a run that was recorded to its end.
 use Rattle.std.proofs.Common.{◌≡◌, ℕ, zero, suc, ◌+◌, ◌*◌, ◌^◌, ◌≤◌, List, [], ◌∷◌, length, get_or, Option, Some, Result, Ok, Err, refl, arith, ap, sym, ◌∙◌, subst}
-use Rattle.std.specs.Prelude.{IfOk, IfErr}
+use Rattle.std.specs.Prelude.{IfOk, IfErr, OnErr}
 use Rattle.std.specs.Global.{Vec}
 use Rattle.std.specs.List.{All, AllByRecursion, sum_by}
 use Rattle.std.proofs.lemmas.List.{length-map}
@@ -22,11 +22,15 @@ use Rattle.sha2.proofs.Facts256.{length-sha256}
 use Rattle.call_record.specs.Sources.{contents, IsSource}
 use Rattle.call_record.specs.Tapes.{Holds, log_with, log_of, IsComplete, IsTooLongWith}
 use Rattle.call_record.specs.Runs.{IsRunOf, IsWhole}
+use Rattle.call_record.specs.Steps.{Gained}
 use Rattle.call_record.specs.Captures.{setting_of, IsCaptured, IsCause}
 use Rattle.call_record.specs.declared.source.Source.{Source}
 use Rattle.call_record.specs.declared.tape.Tape.{Tape}
-use Rattle.call_record.specs.declared.fault.CaptureFault.{CaptureFault}
-use Rattle.call_record.specs.declared.fault.CaptureFault.TheVariants.{Window, LogTooLong, NoMemory}
+use Rattle.record_model.specs.declared.Unrecorded.{Unrecorded}
+use Rattle.record_model.specs.declared.Unrecorded.TheVariants.{Window, LogTooLong}
+use Rattle.no_memory.specs.declared.Fault.{Fault}
+use Rattle.no_memory.specs.declared.Fault.TheVariants.{At, NoMemory}
+use Rattle.no_memory.specs.Faults.{IsCausedBy}
 use Rattle.call_record.proofs.Counts.{capped_is, capped_add}
 use Rattle.call_record.proofs.Digests.{digest_fits}
 use Rattle.replay_model.proofs.Received.{fitting_is_held}
@@ -156,7 +160,7 @@ IsMade tape pages digest end log = (log ≡ log_of tape pages digest end) ×
     (tape.size + length (end_text Two end) ≤ 2 ^ 26)
 
 pub ok_captured : (program : List ℕ) (im : Image) (pages : ℕ) (source : Source) (s : State) (steps : ℕ)
-    (digest : List ℕ) (end : RunEnd) (tape : Tape) (told told_after : Option (List ℕ)) (o : Result Log CaptureFault)
+    (digest : List ℕ) (end : RunEnd) (tape : Tape) (told told_after : Option (List ℕ)) (o : Result Log (Fault Unrecorded))
     → Begins program im pages source s → digest ≡ sha256 program → IsWhole s source steps end tape told told_after
     → IfOk o (IsMade tape pages digest end)
     → IfOk o (IsCaptured (setting_of program pages source.inputs.now source.piece steps) told told_after)
@@ -186,7 +190,7 @@ made_small program im pages source s steps end tape told told_after begins whole
     )
 
 pub ok_small : (program : List ℕ) (im : Image) (pages : ℕ) (source : Source) (s : State) (steps : ℕ) (digest : List ℕ)
-    (end : RunEnd) (tape : Tape) (told told_after : Option (List ℕ)) (o : Result Log CaptureFault)
+    (end : RunEnd) (tape : Tape) (told told_after : Option (List ℕ)) (o : Result Log (Fault Unrecorded))
     → Begins program im pages source s → digest ≡ sha256 program → IsWhole s source steps end tape told told_after
     → IfOk o (IsMade tape pages digest end) → IfOk o (λ log. length (log_text Two log) ≤ 2 ^ 26)
 ok_small program im pages source s steps digest end tape told told_after (Ok log) begins e whole made =
@@ -199,7 +203,7 @@ ok_small program im pages source s steps digest end tape told told_after (Err f)
 
 -- version 2 can hold it
 pub ok_held : (program : List ℕ) (im : Image) (pages : ℕ) (source : Source) (s : State) (steps : ℕ) (digest : List ℕ)
-    (end : RunEnd) (tape : Tape) (told told_after : Option (List ℕ)) (o : Result Log CaptureFault)
+    (end : RunEnd) (tape : Tape) (told told_after : Option (List ℕ)) (o : Result Log (Fault Unrecorded))
     → Begins program im pages source s → digest ≡ sha256 program → IsWhole s source steps end tape told told_after
     → IfOk o (IsMade tape pages digest end) → IfOk o (CanHold Two)
 ok_held program im pages source s steps digest end tape told told_after (Ok log) begins e whole made =
@@ -214,10 +218,10 @@ ok_held program im pages source s steps digest end tape told told_after (Ok log)
 ok_held program im pages source s steps digest end tape told told_after (Err f) begins e whole made = made
 
 too_long : (program : List ℕ) (im : Image) (pages : ℕ) (source : Source) (s : State) (steps : ℕ) (end : RunEnd)
-    (tape : Tape) (told told_after : Option (List ℕ)) (f : CaptureFault) → Begins program im pages source s
+    (tape : Tape) (told told_after : Option (List ℕ)) (f : Unrecorded) → Begins program im pages source s
     → IsWhole s source steps end tape told told_after → IsTooLongWith (tape.size + length (end_text Two end)) f
     → IsCause (setting_of program pages source.inputs.now source.piece steps) im told told_after f
-too_long program im pages source s steps end tape told told_after Window begins whole long = absurd long
+too_long program im pages source s steps end tape told told_after (Window window) begins whole long = absurd long
 too_long program im pages source s steps end tape told told_after (LogTooLong size) begins whole long =
     let last = length (end_text Two end) in
     let before = size_before (length source.inputs.now) whole.records in
@@ -230,12 +234,19 @@ too_long program im pages source s steps end tape told told_after (LogTooLong si
       size_is = all ∙ ap capped (whole_size program im pages source s steps end whole.records begins whole.run);
       over = omega (arith, long.0, long.1);
     }
-too_long program im pages source s steps end tape told told_after NoMemory begins whole long = absurd long
 
 pub err_cause : (program : List ℕ) (im : Image) (pages : ℕ) (source : Source) (s : State) (steps : ℕ) (end : RunEnd)
-    (tape : Tape) (told told_after : Option (List ℕ)) (o : Result Log CaptureFault) → Begins program im pages source s
-    → IsWhole s source steps end tape told told_after → IfErr o (IsTooLongWith (tape.size + length (end_text Two end)))
-    → IfErr o (IsCause (setting_of program pages source.inputs.now source.piece steps) im told told_after)
+    (tape : Tape) (told told_after : Option (List ℕ)) (o : Result Log (Fault Unrecorded)) → Begins program im pages source s
+    → IsWhole s source steps end tape told told_after → IfErr o (IsCausedBy (IsTooLongWith (tape.size + length (end_text Two end))))
+    → IfErr o (IsCausedBy (IsCause (setting_of program pages source.inputs.now source.piece steps) im told told_after))
 err_cause program im pages source s steps end tape told told_after (Ok log) begins whole long = long
-err_cause program im pages source s steps end tape told told_after (Err f) begins whole long = too_long program im pages
-    source s steps end tape told told_after f begins whole long
+err_cause program im pages source s steps end tape told told_after (Err (At f)) begins whole long = too_long program
+    im pages source s steps end tape told told_after f begins whole long
+err_cause program im pages source s steps end tape told told_after (Err (NoMemory no_memory)) begins whole long = tt
+
+-- whatever is made of it, the clock gave these answers
+pub err_gained : (source : Source) (s : State) (steps : ℕ) (end : RunEnd) (tape : Tape) (told told_after : Option (List ℕ))
+    (o : Result Log (Fault Unrecorded)) → IsWhole s source steps end tape told told_after → OnErr o (Gained told told_after)
+err_gained source s steps end tape told told_after (Ok log) whole = tt
+err_gained source s steps end tape told told_after (Err f) whole =
+    record { values = clock_values whole.records; gained = whole.gained }

@@ -9,9 +9,8 @@ use Rattle.record_model.specs.Counts.{capped}
 use Rattle.record_model.specs.Recorded.{Setting, IsRecorded}
 use Rattle.outer_io.specs.Tells.{Tells, Gains}
 use Rattle.call_record.specs.Sources.{contents}
-use Rattle.call_record.specs.Steps.{Gained}
-use Rattle.call_record.specs.declared.fault.CaptureFault.{CaptureFault}
-use Rattle.call_record.specs.declared.fault.CaptureFault.TheVariants.{Window, LogTooLong, NoMemory}
+use Rattle.record_model.specs.declared.Unrecorded.{Unrecorded}
+use Rattle.record_model.specs.declared.Unrecorded.TheVariants.{Window, LogTooLong}
 
 -- the setting that the arguments of a capture say
 abbrev pub setting_of : List ℕ → ℕ → List (Vec ℕ) → ℕ → ℕ → Setting
@@ -31,8 +30,7 @@ pub record IsTooLong (s : Setting) (told told_after : Option (List ℕ)) (size :
   pub size_is : size ≡ capped (length (log_text Two log))
   pub over : 2 ^ 26 < size
 
--- a window that can't hold the image, where the clock isn't read; a log that is too long; or out of memory
-abbrev pub IsCause : Setting → Image → Option (List ℕ) → Option (List ℕ) → CaptureFault → Type 0
-IsCause s im told told_after Window = (start_of im s.pages ≡ None) × Tells told told_after (Gains [])
+-- a window that can't hold the image, where the clock isn't read; or a log that is too long
+abbrev pub IsCause : Setting → Image → Option (List ℕ) → Option (List ℕ) → Unrecorded → Type 0
+IsCause s im told told_after (Window window) = (window.pages ≡ s.pages) × (start_of im s.pages ≡ None) × Tells told told_after (Gains [])
 IsCause s im told told_after (LogTooLong size) = IsTooLong s told told_after size
-IsCause s im told told_after NoMemory = Gained told told_after

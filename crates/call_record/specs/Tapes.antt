@@ -7,8 +7,8 @@ use Rattle.log_model.specs.declared.RunEnd.{RunEnd}
 use Rattle.log_model.specs.Logs.{Log, IsLog, log_text, end_text, share}
 use Rattle.record_model.specs.Counts.{capped}
 use Rattle.call_record.specs.declared.tape.Tape.{Tape}
-use Rattle.call_record.specs.declared.fault.CaptureFault.{CaptureFault}
-use Rattle.call_record.specs.declared.fault.CaptureFault.TheVariants.{Window, LogTooLong, NoMemory}
+use Rattle.record_model.specs.declared.Unrecorded.{Unrecorded}
+use Rattle.record_model.specs.declared.Unrecorded.TheVariants.{Window, LogTooLong}
 
 -- the record counts, and it is kept where the text is within the limit with it; else nothing more is kept
 pub record Adds (before : Tape) (r : CallRecord) (after : Tape) : Type 0 where
@@ -36,7 +36,6 @@ pub record IsComplete (log : Log) (size : ℕ) : Type 0 where
   pub counted : size + length (end_text Two log.end) ≡ length (log_text Two log)
 
 -- a length that no recorded log has, as far as it is counted
-abbrev pub IsTooLongWith : ℕ → CaptureFault → Type 0
-IsTooLongWith size Window = ⊥
+abbrev pub IsTooLongWith : ℕ → Unrecorded → Type 0
+IsTooLongWith size (Window window) = ⊥
 IsTooLongWith size (LogTooLong told) = (told ≡ capped size) × (2 ^ 26 < size)
-IsTooLongWith size NoMemory = ⊥

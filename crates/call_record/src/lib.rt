@@ -12,4 +12,5 @@ mod tape;
 mod transfer;
 
 pub use fault::CaptureFault;
+pub use record_model::Unrecorded;
 pub use recording::capture;

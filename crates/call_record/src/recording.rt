@@ -1,20 +1,26 @@
 //! Capturing a run.
 
-ghost use Rattle.std.specs.Prelude.{◌≡◌, ◌≤◌, ◌^◌, ◌↔◌, None, Ok, Err, length, IfOk, IfErr};
+ghost use Rattle.std.specs.Prelude.{◌≡◌, ◌≤◌, ◌^◌, None, Ok, Err, length, IfOk, IfErr, OnErr};
 ghost use Rattle.std.specs.List.{All};
 ghost use Rattle.elf_model.specs.Image.{image as image_of_file};
 ghost use Rattle.elf_model.specs.Window.{start_of};
 ghost use Rattle.log_model.specs.declared.Version.TheVariants.{Two};
 ghost use Rattle.log_model.specs.Logs.{CanHold, log_text};
 ghost use Rattle.call_record.specs.Captures.{setting_of, IsCaptured, IsCause};
+ghost use Rattle.call_record.specs.Steps.{Gained};
+ghost use Rattle.no_memory.specs.declared.Fault.TheVariants.{At};
+ghost use Rattle.no_memory.specs.Faults.{IsCausedBy};
+ghost use Rattle.record_model.specs.declared.Unrecorded.TheVariants.{Window};
 
 use crate::fault::CaptureFault;
 use crate::recorder::Recorder;
 use crate::source::Source;
 use elf_image::Image;
+use no_memory::Fault;
 use outer_io::Clock;
+use record_model::Unrecorded;
 use replay_log::Log;
-use rv_machine::{Machine, MachineFault};
+use rv_machine::Machine;
 use sha2::{Digest, Sha256};
 use std::alloc::Global;
 
@@ -30,7 +36,7 @@ use std::alloc::Global;
 /// The log fits the program, version 2 can hold it, and its text there has at most 2^26 bytes. The faults are:
 /// `Window`, exactly where the window can't hold the image; and `LogTooLong`, where the text of the whole run's log has
 /// more bytes than that, with their number, or 2^64 - 1 where they are more: the run goes on to its end, but no more
-/// records are kept. Else out of memory is `NoMemory`.
+/// records are kept.
 pub fn capture<K: Clock>(
     alloc: Global,
     program: &[u8],
@@ -51,23 +57,21 @@ pub fn capture<K: Clock>(
         (K.answers clock.old) (K.answers clock.new)) }
     ensures small { IfOk result (λ log. length (log_text Two log) ≤ 2 ^ 26) }
     ensures held { IfOk result (CanHold Two) }
-    ensures window { (result ≡ Err CaptureFault.Window) ↔ (start_of image.now pages ≡ None) }
-    ensures cause { IfErr result (IsCause (setting_of program.now pages inputs.now piece steps) image.now
-        (K.answers clock.old) (K.answers clock.new)) }
+    ensures window { start_of image.now pages ≡ None → result ≡ Err (At (Window (record { pages = pages }))) }
+    ensures cause { IfErr result (IsCausedBy (IsCause (setting_of program.now pages inputs.now piece steps) image.now
+        (K.answers clock.old) (K.answers clock.new))) }
+    ensures gained { OnErr result (Gained (K.answers clock.old) (K.answers clock.new)) }
 {
     // The contract of `segments` says how they lie.
     let _segments = image.segments();
     let machine = match Machine::new(alloc, image, pages) {
         Ok(machine) => machine,
-        Err(MachineFault::Window) => return Err(CaptureFault::Window),
-        Err(MachineFault::NoMemory) => return Err(CaptureFault::NoMemory),
+        Err(Fault::At(window)) => return Err(Fault::At(Unrecorded::Window(window))),
+        Err(Fault::NoMemory(no_memory)) => return Err(Fault::NoMemory(no_memory)),
     };
     let source = Source { inputs, piece };
     let mut recorder = Recorder::new(alloc, machine, source.channels());
-    let end = match recorder.run(alloc, &source, clock, steps) {
-        Ok(end) => end,
-        Err(_) => return Err(CaptureFault::NoMemory),
-    };
+    let end = recorder.run(alloc, &source, clock, steps)?;
     let Recorder {
         machine: _,
         counts: _,

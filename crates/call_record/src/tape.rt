@@ -3,13 +3,15 @@
 ghost use Rattle.std.specs.Prelude.{◌≡◌, ◌+◌, ◌*◌, ◌^◌, ◌≤◌, [], length, IfOk, IfErr, OnOk};
 ghost use Rattle.log_model.specs.declared.Version.TheVariants.{Two};
 ghost use Rattle.log_model.specs.Logs.{end_text, IsRecord};
+ghost use Rattle.no_memory.specs.Faults.{IsCausedBy};
 ghost use Rattle.call_record.specs.Entries.{record_of};
 ghost use Rattle.call_record.specs.Tapes.{Adds, IsTooLongWith, log_of, IsComplete};
 
 use crate::entry::Entry;
 use crate::fault::CaptureFault;
 use log_model::{CallRecord, RunEnd};
-use no_memory::NoMemory;
+use no_memory::{Fault, NoMemory};
+use record_model::Unrecorded;
 use replay_log::{HEADER_LENGTH, Log, end_length};
 use std::alloc::Global;
 
@@ -63,11 +65,11 @@ impl Tape {
         requires { self.size ≤ 2 ^ 26 → IsComplete (log_of self pages digest end) self.size }
         ensures ok { IfOk result (λ log. (log ≡ log_of self pages digest end)
             × (self.size + length (end_text Two end) ≤ 2 ^ 26)) }
-        ensures fault { IfErr result (IsTooLongWith (self.size + length (end_text Two end))) }
+        ensures fault { IfErr result (IsCausedBy (IsTooLongWith (self.size + length (end_text Two end)))) }
     {
         let size = self.size.saturating_add(end_length(end));
         if size > LIMIT {
-            return Err(CaptureFault::LogTooLong(size));
+            return Err(Fault::At(Unrecorded::LogTooLong(size)));
         }
         Ok(Log::from_parts(pages, self.inputs, digest, self.records, end, size))
     }

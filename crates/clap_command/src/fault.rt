@@ -1,14 +1,12 @@
 //! Why words are refused.
 
+use no_memory::Fault;
 use thiserror::Error;
 
-/// Why words were not read.
-#[derive(Clone, Copy, Debug, PartialEq, Eq, Error)]
-pub enum WordsFault {
-    /// The command line doesn't take the words.
-    #[error("usage")]
-    Usage,
-    /// There was no memory to read them.
-    #[error("out of memory")]
-    NoMemory,
-}
+/// The command line doesn't take the words.
+#[derive(Clone, Copy, Debug, Error)]
+#[error("usage")]
+pub struct Usage;
+
+/// Why words were not read: they are not taken, or out of memory.
+pub type WordsFault = Fault<Usage>;

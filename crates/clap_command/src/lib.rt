@@ -14,6 +14,6 @@ mod values;
 pub use arguments::{
     list, number, number_option, positional, required_list, with_argument, with_command,
 };
-pub use fault::WordsFault;
+pub use fault::{Usage, WordsFault};
 pub use parsing::parse;
 pub use values::{read_long_number, read_number, read_value, read_values};

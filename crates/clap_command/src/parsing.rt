@@ -1,11 +1,14 @@
 //! Words as a command takes them.
-ghost use Rattle.std.specs.Prelude.{◌≡◌, map, string_bytes, true, false, OnOk, IfOk, IfErr, IsErrOf};
+ghost use Rattle.std.specs.Prelude.{◌≡◌, map, string_bytes, true, false, OnOk, IfOk, IfErr};
 ghost use Rattle.clap.specs.Words.{app_of, takes, subcommand_of, subcommand_rows_of, kind_of};
+ghost use Rattle.no_memory.specs.Faults.{IsCausedBy};
 ghost use Rattle.clap_command.specs.Plain.{is_plain_command};
 
-use crate::fault::WordsFault;
+use crate::fault::{Usage, WordsFault};
 use clap::error::ErrorKind;
 use clap::{ArgMatches, Command, Error};
+use no_memory::Fault;
+use std::alloc::AllocError;
 
 // The words as `clap` takes them.
 fn try_parse<'a>(command: Command<'a>, words: &'a [String]) -> Result<ArgMatches<'a>, Error>
@@ -22,14 +25,15 @@ fn try_parse<'a>(command: Command<'a>, words: &'a [String]) -> Result<ArgMatches
 pub fn parse<'a>(command: Command<'a>, words: &'a [String]) -> Result<ArgMatches<'a>, WordsFault>
     requires { is_plain_command (app_of command) ≡ true }
     ensures taken { OnOk result (takes (app_of command.entry) (map string_bytes words.entry.now) ≡ true) }
-    ensures usage { IsErrOf result WordsFault.Usage → takes (app_of command.entry) (map string_bytes words.entry.now) ≡ false }
+    ensures usage { IfErr result (IsCausedBy (λ _. takes (app_of command.entry) (map string_bytes words.entry.now) ≡ false)) }
     ensures subcommand { IfOk result (λ m. subcommand_rows_of m ≡ subcommand_of (app_of command.entry) (map string_bytes words.entry.now)) }
 {
     match try_parse(command, words) {
         Ok(matches) => Ok(matches),
         Err(error) => match error.kind() {
-            ErrorKind::OutOfMemory => Err(WordsFault::NoMemory),
-            _ => Err(WordsFault::Usage),
+            // `clap` tells of a refused allocation by a kind of its own.
+            ErrorKind::OutOfMemory => Err(Fault::from(AllocError)),
+            _ => Err(Fault::At(Usage)),
         },
     }
 }

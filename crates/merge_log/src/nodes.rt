@@ -182,7 +182,7 @@ impl MergeLog {
         }
         match self.entries.get_index_of(&entry) {
             Some(index) => Ok(index as u64 + 1),
-            None => Err(NoMemory),
+            None => Err(NoMemory::past_count()),
         }
     }
 }

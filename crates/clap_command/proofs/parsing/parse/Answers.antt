@@ -3,4 +3,4 @@ use Rattle.std.proofs.lemmas.Bool.{false_from_ne_true}
 use Rattle.clap_command.proofs.parsing.parse.Goals as goal
 
 pub returns-clause-usage : goal.returns-clause-usage
-returns-clause-usage c = λ _. false_from_ne_true _ (λ t. c.in_default.not-OutOfMemory (c.kind.ensures ∙ c.in-Err.ensures.memory t))
+returns-clause-usage c = false_from_ne_true _ (λ t. c.in_default.not-OutOfMemory (c.kind.ensures ∙ c.in-Err.ensures.memory t))
