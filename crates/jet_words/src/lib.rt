@@ -12,6 +12,6 @@ mod command_line;
 pub mod laws;
 mod read;
 
-pub use clap_command::WordsFault;
+pub use clap_command::{Usage, WordsFault};
 pub use command::{Command, Pipeline};
 pub use read::read_words;

@@ -1,7 +1,8 @@
 //! The words and the command that they stand for.
 ghost use Rattle.std.specs.Prelude.{◌≡◌, map, codes, string_bytes, true, false, Some, None, option_map, option_and_then};
-ghost use Rattle.std.specs.Prelude.{OnOk, IfOk, IfSome, IsErrOf};
+ghost use Rattle.std.specs.Prelude.{OnOk, IfOk, IfSome, IfErr};
 ghost use Rattle.clap.specs.Words.{takes, subcommand_of, subcommand_rows_of, rows_of, found_of};
+ghost use Rattle.no_memory.specs.Faults.{IsCausedBy};
 ghost use Rattle.clap_command.specs.Numbers.{IsNumber, IsLongNumber};
 ghost use Rattle.jet_words.specs.CommandLine.{jet_app};
 ghost use Rattle.jet_words.specs.Commands.{command_of, command_by, plain_command, IsInRange};
@@ -18,12 +19,10 @@ use std::alloc::{AllocError, Global};
 // The words as the command line takes them.
 fn parse_words<'a>(alloc: Global, words: &'a [String]) -> Result<ArgMatches<'a>, WordsFault>
     ensures taken { OnOk result (takes jet_app (map string_bytes words.entry.now) ≡ true) }
-    ensures usage { IsErrOf result WordsFault.Usage → takes jet_app (map string_bytes words.entry.now) ≡ false }
+    ensures usage { IfErr result (IsCausedBy (λ _. takes jet_app (map string_bytes words.entry.now) ≡ false)) }
     ensures subcommand { IfOk result (λ m. subcommand_rows_of m ≡ subcommand_of jet_app (map string_bytes words.entry.now)) }
 {
-    let Ok(line) = command_line(alloc) else {
-        return Err(WordsFault::NoMemory);
-    };
+    let line = command_line(alloc)?;
     parse(line, words)
 }
 
@@ -190,13 +189,11 @@ pub fn read_words<'a>(alloc: Global, words: &'a [String]) -> Result<Command<'a>,
     ensures ranges { IfOk result (λ c. IsInRange (plain_command c)) }
 
     // The words are not taken, and stand for nothing.
-    ensures usage { IsErrOf result WordsFault.Usage → takes jet_app (map string_bytes words.entry.now) ≡ false }
-    ensures nothing { IsErrOf result WordsFault.Usage → command_of (map string_bytes words.entry.now) ≡ None }
+    ensures usage { IfErr result (IsCausedBy (λ _. takes jet_app (map string_bytes words.entry.now) ≡ false)) }
+    ensures nothing { IfErr result (IsCausedBy (λ _. command_of (map string_bytes words.entry.now) ≡ None)) }
 {
     let matches = parse_words(alloc, words)?;
-    let Ok(command) = command_by_subcommand(alloc, &matches) else {
-        return Err(WordsFault::NoMemory);
-    };
+    let command = command_by_subcommand(alloc, &matches)?;
     match command {
         Some(command) => Ok(command),
         None => unreachable!(),

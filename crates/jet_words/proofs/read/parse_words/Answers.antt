@@ -1,17 +1,17 @@
-use Rattle.std.proofs.Common.{◌≡◌, ap, subst, map, string_bytes, true, false, List, IfOk, OnOk, IsErrOf}
+use Rattle.std.proofs.Common.{◌≡◌, ap, subst, map, string_bytes, true, false, List, IfOk, IfErr, OnOk}
 use Rattle.clap.specs.Words.{App, Text, takes, subcommand_of, subcommand_rows_of}
 use Rattle.clap_command.specs.Plain.{is_plain_command}
-use Rattle.clap_command.specs.declared.fault.WordsFault.TheVariants.{Usage}
+use Rattle.no_memory.specs.Faults.{IsCausedBy}
 use Rattle.jet_words.proofs.read.parse_words.Goals as goal
 
 pub parse-requires : goal.parse-requires
-parse-requires c = ap is_plain_command c.in-Ok.ensures.app
+parse-requires c = ap is_plain_command c.in_ok-line.ensures.app
 
 pub returns : goal.returns
 returns c =
     let words : List Text = map string_bytes c.args.words.now in
     record {
-      taken = subst (λ (a : App). OnOk c.parse.result (takes a words ≡ true)) c.in-Ok.ensures.app c.parse.ensures.taken;
-      usage = subst (λ (a : App). IsErrOf c.parse.result Usage → takes a words ≡ false) c.in-Ok.ensures.app c.parse.ensures.usage;
-      subcommand = subst (λ (a : App). IfOk c.parse.result (λ m. subcommand_rows_of m ≡ subcommand_of a words)) c.in-Ok.ensures.app c.parse.ensures.subcommand;
+      taken = subst (λ (a : App). OnOk c.parse.result (takes a words ≡ true)) c.in_ok-line.ensures.app c.parse.ensures.taken;
+      usage = subst (λ (a : App). IfErr c.parse.result (IsCausedBy (λ _. takes a words ≡ false))) c.in_ok-line.ensures.app c.parse.ensures.usage;
+      subcommand = subst (λ (a : App). IfOk c.parse.result (λ m. subcommand_rows_of m ≡ subcommand_of a words)) c.in_ok-line.ensures.app c.parse.ensures.subcommand;
     }
