@@ -4,6 +4,7 @@ use Rattle.replay_model.specs.declared.Misfit.{Misfit}
 use Rattle.replay_model.specs.declared.Misfit.TheVariants as misfit
 use Rattle.record_model.specs.declared.Unrecorded.{Unrecorded}
 use Rattle.record_model.specs.declared.Unrecorded.TheVariants as unrecorded
+use Rattle.no_memory.specs.declared.NoMemory.{NoMemory as OutOfMemory}
 use Rattle.no_memory.specs.declared.Fault.{Fault}
 use Rattle.no_memory.specs.declared.Fault.TheVariants.{At, NoMemory}
 use Rattle.jet_refusal.specs.declared.refusal.Refusal.{Refusal}
@@ -19,6 +20,11 @@ misfit_refusal (misfit.Diverged d) = refusal.Diverged d
 abbrev pub unrecorded_refusal : Unrecorded → Refusal
 unrecorded_refusal (unrecorded.Window window) = refusal.Window window.pages
 unrecorded_refusal (unrecorded.LogTooLong size) = refusal.LogTooLong size
+
+-- memory ran out
+pub record IsOutOfMemory (r : Refusal) : Type 0 where
+  pub told : OutOfMemory
+  pub is : r ≡ refusal.NoMemory told
 
 -- the refusal of a fault is that of its cause; else out of memory is handed on
 abbrev pub IsRefusalOf : {K : Type 0} → (K → Refusal → Type 0) → Fault K → Refusal → Type 0

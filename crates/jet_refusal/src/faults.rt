@@ -2,7 +2,7 @@
 
 ghost use Rattle.std.specs.Prelude.{◌≡◌};
 ghost use Rattle.jet_refusal.specs.declared.refusal.Refusal.TheVariants as refusal;
-ghost use Rattle.jet_refusal.specs.Faults.{misfit_refusal, unrecorded_refusal, IsRefusalOf};
+ghost use Rattle.jet_refusal.specs.Faults.{misfit_refusal, unrecorded_refusal, IsOutOfMemory, IsRefusalOf};
 
 use crate::refusal::Refusal;
 use elf_model::ImageKind;
@@ -11,6 +11,7 @@ use no_memory::{Fault, NoMemory};
 use record_model::Unrecorded;
 use replay_model::Misfit;
 use report_model::{FaultInQuery, OtherRule};
+use std::alloc::{AllocError, AllocFailed};
 
 impl<K> From<Fault<K>> for Refusal
 where
@@ -31,6 +32,22 @@ impl From<NoMemory> for Refusal {
 
     fn from(no_memory: NoMemory) -> Refusal {
         Refusal::NoMemory(no_memory)
+    }
+}
+
+impl From<AllocError> for Refusal {
+    ghost from_gives = { λ _ given. IsOutOfMemory given };
+
+    fn from(refused: AllocError) -> Refusal {
+        Refusal::NoMemory(NoMemory::from(refused))
+    }
+}
+
+impl<T: Drop> From<AllocFailed<T>> for Refusal {
+    ghost from_gives = { λ _ given. IsOutOfMemory given };
+
+    fn from(refused: AllocFailed<T>) -> Refusal {
+        Refusal::NoMemory(NoMemory::from(refused))
     }
 }
 
