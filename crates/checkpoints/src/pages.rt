@@ -52,7 +52,7 @@ impl Pages {
         ensures kept { IfOk result (λ _. self.new ≡ self.old ++ page.now ∷ []) }
     {
         let Ok(number) = u32::try_from(self.pages.len()) else {
-            return Err(NoMemory);
+            return Err(NoMemory::past_count());
         };
         let mut kept = Vec::with_capacity(alloc, page.len())?;
         kept.extend_from_slice(page)?;

@@ -4,8 +4,8 @@ use Rattle.log_model.specs.declared.Version.TheVariants.{Two}
 use Rattle.log_model.specs.Logs.{Log, log_text}
 use Rattle.record_model.specs.Counts.{capped}
 use Rattle.workload_model.specs.Answer.{IsWorkloadLog}
-use Rattle.order_gateway.specs.declared.fault.RecordFault.{RecordFault}
-use Rattle.order_gateway.specs.declared.fault.RecordFault.TheVariants.{LogTooLong, NoMemory}
+use Rattle.record_model.specs.declared.Unrecorded.{Unrecorded}
+use Rattle.record_model.specs.declared.Unrecorded.TheVariants.{Window, LogTooLong}
 
 -- the log of the run has this many bytes as far as they are counted, more than a log may have
 pub record IsTooLong (seed steps size : ℕ) : Type 0 where
@@ -14,7 +14,7 @@ pub record IsTooLong (seed steps size : ℕ) : Type 0 where
   pub size_is : size ≡ capped (length (log_text Two log))
   pub over : 2 ^ 26 < size
 
--- a log that is too long; or out of memory
-abbrev pub IsCause : ℕ → ℕ → RecordFault → Type 0
+-- a log that is too long: the window holds the guest
+abbrev pub IsCause : ℕ → ℕ → Unrecorded → Type 0
+IsCause seed steps (Window window) = ⊥
 IsCause seed steps (LogTooLong size) = IsTooLong seed steps size
-IsCause seed steps NoMemory = Unit {0}

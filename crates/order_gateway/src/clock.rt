@@ -29,7 +29,7 @@ impl StoppedClock {
         ensures { OnOk result (self.now.is_lost ≡ false) }
     {
         if self.is_lost {
-            return Err(NoMemory);
+            return Err(NoMemory::past_count());
         }
         Ok(())
     }

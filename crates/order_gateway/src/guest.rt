@@ -3,9 +3,9 @@
 ghost use Rattle.std.specs.Prelude.{◌≡◌, IfOk};
 ghost use Rattle.workload_model.specs.Guest.{guest_file, guest_image};
 
-use elf_image::{Image, ImageFault, load};
+use elf_image::{Image, load};
 use guest_assembler::{Instr, code, program};
-use no_memory::NoMemory;
+use no_memory::{Fault, NoMemory};
 use std::alloc::Global;
 
 /// Messages are read to x8, and orders are written from x9. The positions of the accounts stand from x18 on.
@@ -67,7 +67,7 @@ pub fn guest_image(alloc: Global, file: &[u8]) -> Result<Image, NoMemory>
 {
     match load(alloc, file) {
         Ok(image) => Ok(image),
-        Err(ImageFault::NoMemory) => Err(NoMemory),
-        Err(ImageFault::At(_)) => unreachable!(),
+        Err(Fault::NoMemory(no_memory)) => Err(no_memory),
+        Err(Fault::At(_)) => unreachable!(),
     }
 }

@@ -5,14 +5,12 @@
 #![tactic(auto)]
 
 mod clock;
-mod fault;
 mod generator;
 mod guest;
 mod lines;
 mod queries;
 mod recording;
 
-pub use fault::RecordFault;
 pub use generator::input;
 pub use guest::{guest_file, guest_image};
 pub use lines::text_of;

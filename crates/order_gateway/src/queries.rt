@@ -4,8 +4,8 @@ ghost use Rattle.std.specs.Prelude.{IfOk};
 ghost use Rattle.report_model.specs.Query.{Alike};
 ghost use Rattle.workload_model.specs.Workload.{workload_query};
 
-use no_memory::NoMemory;
-use query_lang::{Query, QueryFault, parse};
+use no_memory::{Fault, NoMemory};
+use query_lang::{Query, parse};
 use std::alloc::Global;
 
 const QUERY: &[u8] = b"rule compute\nsource all\nsink all\n";
@@ -17,7 +17,7 @@ pub fn query(alloc: Global) -> Result<Query, NoMemory>
 {
     match parse(alloc, QUERY) {
         Ok(query) => Ok(query),
-        Err(QueryFault::NoMemory) => Err(NoMemory),
-        Err(QueryFault::At { .. }) => unreachable!(),
+        Err(Fault::NoMemory(no_memory)) => Err(no_memory),
+        Err(Fault::At(_)) => unreachable!(),
     }
 }

@@ -5,14 +5,15 @@ ghost use Rattle.log_model.specs.declared.Version.TheVariants.{Two};
 ghost use Rattle.log_model.specs.Logs.{CanHold, log_text};
 ghost use Rattle.workload_model.specs.Guest.{guest_file, guest_image};
 ghost use Rattle.workload_model.specs.Answer.{IsWorkloadLog};
+ghost use Rattle.no_memory.specs.Faults.{IsCausedBy};
 ghost use Rattle.order_gateway.specs.Recordings.{IsCause};
 
 use crate::clock::StoppedClock;
-use crate::fault::RecordFault;
 use crate::generator::input;
 use crate::guest::{guest_file, guest_image};
-use call_record::{CaptureFault, capture};
+use call_record::{CaptureFault, Unrecorded, capture};
 use elf_image::Image;
+use no_memory::Fault;
 use replay_log::Log;
 use std::alloc::Global;
 
@@ -36,15 +37,15 @@ pub struct Recording {
 /// Records the run with this seed, of so many steps, with a clock that answers 0.
 ///
 /// The fault is `LogTooLong` where the text of the run's log has more than 2^26 bytes, with their number, or 2^64 - 1
-/// where they are more. Else out of memory is `NoMemory`.
-pub fn recorded(alloc: Global, seed: u64, steps: u64) -> Result<Recording, RecordFault>
+/// where they are more.
+pub fn recorded(alloc: Global, seed: u64, steps: u64) -> Result<Recording, CaptureFault>
     requires { steps ≤ MOST_STEPS }
     ensures program { IfOk result (λ run. run.program.items ≡ guest_file) }
     ensures image { IfOk result (λ run. run.image ≡ guest_image) }
     ensures log { IfOk result (λ run. IsWorkloadLog seed steps run.log) }
     ensures short { IfOk result (λ run. length (log_text Two run.log) ≤ 2 ^ 26) }
     ensures held { IfOk result (λ run. CanHold Two run.log) }
-    ensures cause { IfErr result (IsCause seed steps) }
+    ensures cause { IfErr result (IsCausedBy (IsCause seed steps)) }
 {
     let program = guest_file(alloc)?;
     let image = guest_image(alloc, &program)?;
@@ -61,11 +62,11 @@ pub fn recorded(alloc: Global, seed: u64, steps: u64) -> Result<Recording, Recor
                 log,
             })
         }
-        Err(CaptureFault::LogTooLong(size)) => {
+        Err(Fault::At(Unrecorded::LogTooLong(size))) => {
             clock.counted()?;
-            Err(RecordFault::LogTooLong(size))
+            Err(Fault::At(Unrecorded::LogTooLong(size)))
         }
-        Err(CaptureFault::NoMemory) => Err(RecordFault::NoMemory),
-        Err(CaptureFault::Window) => unreachable!(),
+        Err(Fault::At(Unrecorded::Window(_))) => unreachable!(),
+        Err(Fault::NoMemory(no_memory)) => Err(Fault::NoMemory(no_memory)),
     }
 }

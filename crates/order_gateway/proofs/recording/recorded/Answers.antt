@@ -18,7 +18,8 @@ capture-requires-clause-short c = λ k d inside.
 
 pub unreachable-requires : goal.unreachable-requires
 unreachable-requires c =
-    let none : start_of c.in_ok-image.image 4 ≡ None = c.in-Err-Window.ensures.window.0 (ap Err c.in-Err-Window.field-0-is) in
+    let cause = rw (c.in-Err-At-Window.field-0-is, c.in-Err-At-Window.field-0-0-is) at c.in-Err-At-Window.ensures.cause in
+    let none : start_of c.in_ok-image.image 4 ≡ None = cause.1 in
     let some : is_some (start_of c.in_ok-image.image 4) ≡ true = subst (λ im. is_some (start_of im 4) ≡ true) (sym c.in_ok-image.ensures) window-holds_guest in
     let false_is_true : false ≡ true = sym (ap is_some none) ∙ some in
     cc
