@@ -2,17 +2,17 @@
 use Rattle.std.proofs.Common.{◌≡◌, ◌∙◌, subst, sym, refl, ℕ, List, Result, Ok, Err}
 use Rattle.std.specs.List.{AllByRecursion}
 use Rattle.std.specs.Prelude.{◌<◌}
-use Rattle.elf_image.specs.Answers.{IsFaultOf as IsImageFaultOf}
-use Rattle.elf_image.specs.declared.fault.ImageFault.{ImageFault}
-use Rattle.elf_image.specs.declared.fault.ImageFault.TheVariants as image
+use Rattle.elf_model.specs.declared.ImageKind.{ImageKind}
+use Rattle.elf_model.specs.Image.{image}
+use Rattle.log_model.specs.declared.FaultInLog.{FaultInLog}
+use Rattle.no_memory.specs.declared.Fault.{Fault}
+use Rattle.no_memory.specs.declared.Fault.TheVariants.{At, NoMemory}
+use Rattle.no_memory.specs.Faults.{IsCausedBy}
 use Rattle.log_model.specs.Reading.{log_of}
 use Rattle.report_model.specs.Query.{Query, Alike}
-use Rattle.replay_log.specs.Answers.{IsFaultOf as IsLogFaultOf}
-use Rattle.replay_log.specs.declared.fault.LogFault.{LogFault}
-use Rattle.replay_log.specs.declared.fault.LogFault.TheVariants as log
+use Rattle.report_model.specs.declared.FaultInQuery.{FaultInQuery}
+use Rattle.replay_log.specs.Answers.{IsFaultOf}
 use Rattle.query_lang.specs.Answers.{StandsFor, IsTold}
-use Rattle.query_lang.specs.declared.fault.QueryFault.{QueryFault}
-use Rattle.query_lang.specs.declared.fault.QueryFault.TheVariants as query
 use Rattle.jet_refusal.specs.declared.refusal.Refusal.{Refusal}
 use Rattle.jet_refusal.specs.declared.refusal.Refusal.TheVariants as refusal
 use Rattle.jet_model.specs.Contents.{program_in, log_in, query_in, numbered_query_in, file_at, query_at, numbered_query_at}
@@ -20,16 +20,19 @@ use Rattle.jet_model.proofs.AndThen.{and_then-ok, and_then-err}
 use Rattle.jet_model.proofs.Files.{program_in-fault, log_in-fault, query_in-query, query_in-fault, numbered_query_in-query, numbered_query_in-fault}
 use Rattle.outer_io.specs.Shown.{StoreShown}
 use Rattle.jet_files.specs.Outcome.{Comes, Follows, IsWork, AreAlike}
-use Rattle.jet_files.specs.Faults.{image_refusal, log_refusal, query_refusal, numbered_query_refusal}
+use Rattle.jet_refusal.specs.Faults.{IsRefusalOf}
+use Rattle.jet_files.specs.Faults.{numbered_query_refusal}
 use Rattle.jet_files.proofs.Composing.{found-map, follows-stops}
 
-pub no_program : (bytes : List ℕ) (fault : ImageFault) → IsImageFaultOf bytes fault → IsWork (program_in bytes) (Err (image_refusal fault))
-no_program bytes (image.At fault) e = program_in-fault bytes fault e
-no_program bytes image.NoMemory e = tt
+pub no_program : (bytes : List ℕ) (fault : Fault ImageKind) (r : Refusal) → IsCausedBy (λ kind. image bytes ≡ Err kind) fault
+    → IsRefusalOf (λ kind given. given ≡ refusal.Image kind) fault r → IsWork (program_in bytes) (Err r)
+no_program bytes (At kind) r e gives = rw gives (program_in-fault bytes kind e)
+no_program bytes (NoMemory no_memory) r e gives = rw gives tt
 
-pub no_log : (bytes : List ℕ) (fault : LogFault) → AllByRecursion (λ b. b < 256) bytes → IsLogFaultOf (log_of bytes) fault → IsWork (log_in bytes) (Err (log_refusal fault))
-no_log bytes (log.At kind offset) fits e = log_in-fault bytes kind offset fits e
-no_log bytes log.NoMemory fits e = tt
+pub no_log : (bytes : List ℕ) (fault : Fault FaultInLog) (r : Refusal) → AllByRecursion (λ b. b < 256) bytes → IsCausedBy (IsFaultOf (log_of bytes)) fault
+    → IsRefusalOf (λ at given. given ≡ refusal.Log at.kind at.offset) fault r → IsWork (log_in bytes) (Err r)
+no_log bytes (At at) r fits e gives = rw gives (log_in-fault bytes at.kind at.offset fits e)
+no_log bytes (NoMemory no_memory) r fits e gives = rw gives tt
 
 -- ---- a query that was merged
 
@@ -50,11 +53,12 @@ module _ (name : List ℕ) (f g : StoreShown) where
       found-map (λ file. file_at file name ≡ Ok bytes) (λ file. AreAlike (Ok kept) (query_at file name)) f.files g.files
       (λ file e. alike-query kept s.written (query_at file name) (and_then-ok (file_at file name) query_in bytes e ∙ query_in-query bytes s.written s.stands) s.alike) first
 
-  pub no_query : (bytes : List ℕ) (fault : QueryFault) → IsTold bytes fault → Comes (λ file. file_at file name) f g (Ok bytes) → Follows (λ file kept. AreAlike kept (query_at file name)) f g (Err (query_refusal fault))
-  no_query bytes (query.At line kind) e first =
-      found-map (λ file. file_at file name ≡ Ok bytes) (λ file. AreAlike (Err (refusal.Query line kind)) (query_at file name)) f.files g.files
-      (λ file is. alike-refusal (refusal.Query line kind) (query_at file name) (and_then-ok (file_at file name) query_in bytes is ∙ query_in-fault bytes line kind e)) first
-  no_query bytes query.NoMemory e first = tt
+  pub no_query : (bytes : List ℕ) (fault : Fault FaultInQuery) (r : Refusal) → IsCausedBy (IsTold bytes) fault → IsRefusalOf (λ at given. given ≡ refusal.Query at.line at.kind) fault r
+      → Comes (λ file. file_at file name) f g (Ok bytes) → Follows (λ file kept. AreAlike kept (query_at file name)) f g (Err r)
+  no_query bytes (At at) r e gives first = rw gives
+      (found-map (λ file. file_at file name ≡ Ok bytes) (λ file. AreAlike (Err (refusal.Query at.line at.kind)) (query_at file name)) f.files g.files
+      (λ file is. alike-refusal (refusal.Query at.line at.kind) (query_at file name) (and_then-ok (file_at file name) query_in bytes is ∙ query_in-fault bytes at.line at.kind e)) first)
+  no_query bytes (NoMemory no_memory) r e gives first = rw gives tt
 
 -- ---- one of several queries
 
@@ -69,9 +73,9 @@ module _ (number : ℕ) (name : List ℕ) (f g : StoreShown) where
       found-map (λ file. file_at file name ≡ Ok bytes) (λ file. AreAlike (Ok kept) (numbered_query_at file number name)) f.files g.files
       (λ file e. alike-query kept s.written (numbered_query_at file number name) (and_then-ok (file_at file name) (numbered_query_in number) bytes e ∙ numbered_query_in-query number bytes s.written s.stands) s.alike) first
 
-  pub no_numbered : (bytes : List ℕ) (fault : QueryFault) → IsTold bytes fault → Comes (λ file. file_at file name) f g (Ok bytes)
+  pub no_numbered : (bytes : List ℕ) (fault : Fault FaultInQuery) → IsCausedBy (IsTold bytes) fault → Comes (λ file. file_at file name) f g (Ok bytes)
       → Follows (λ file kept. AreAlike kept (numbered_query_at file number name)) f g (Err (numbered_query_refusal number fault))
-  no_numbered bytes (query.At line kind) e first =
-      found-map (λ file. file_at file name ≡ Ok bytes) (λ file. AreAlike (Err (refusal.QueryOf number line kind)) (numbered_query_at file number name)) f.files g.files
-      (λ file is. alike-refusal (refusal.QueryOf number line kind) (numbered_query_at file number name) (and_then-ok (file_at file name) (numbered_query_in number) bytes is ∙ numbered_query_in-fault number bytes line kind e)) first
-  no_numbered bytes query.NoMemory e first = tt
+  no_numbered bytes (At at) e first =
+      found-map (λ file. file_at file name ≡ Ok bytes) (λ file. AreAlike (Err (refusal.QueryOf number at.line at.kind)) (numbered_query_at file number name)) f.files g.files
+      (λ file is. alike-refusal (refusal.QueryOf number at.line at.kind) (numbered_query_at file number name) (and_then-ok (file_at file name) (numbered_query_in number) bytes is ∙ numbered_query_in-fault number bytes at.line at.kind e)) first
+  no_numbered bytes (NoMemory no_memory) e first = tt

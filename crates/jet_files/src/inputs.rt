@@ -25,9 +25,7 @@ pub fn open_inputs<S: Store>(
     let mut inputs = Vec::new(alloc);
     for name in names {
         let input = read_file(alloc, store, name)?;
-        if let Err(_) = inputs.push(input) {
-            return Err(Refusal::NoMemory);
-        }
+        inputs.push(input)?;
     }
     Ok(inputs)
 }

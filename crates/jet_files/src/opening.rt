@@ -4,15 +4,14 @@ ghost use Rattle.elf_model.specs.Image.{image as image_of_file};
 ghost use Rattle.outer_io.specs.Reads.{Reads};
 ghost use Rattle.jet_model.specs.Contents.{log_in, program_at, log_at, query_at, run_at};
 ghost use Rattle.jet_files.specs.Outcome.{Comes, Follows, IsWork, AreAlike, seen_by};
-ghost use Rattle.jet_files.specs.Faults.{image_refusal, log_refusal, query_refusal};
 ghost use Rattle.jet_files.specs.Views.{program_of, run_of};
 
 use crate::reading::read_file;
-use elf_image::{Image, ImageFault, load};
+use elf_image::{Image, load};
 use jet_refusal::Refusal;
 use outer_io::Store;
-use query_lang::{Query, QueryFault, parse};
-use replay_log::{Log, LogFault, read_log};
+use query_lang::{Query, parse};
+use replay_log::{Log, read_log};
 use std::alloc::Global;
 
 /// A program's file and its image.
@@ -29,45 +28,12 @@ pub struct Run {
     pub log: Log,
 }
 
-/// Why bytes are no program.
-fn of_image(fault: ImageFault) -> Refusal
-    ensures { result ≡ image_refusal fault }
-{
-    match fault {
-        ImageFault::At(kind) => Refusal::Image(kind),
-        ImageFault::NoMemory => Refusal::NoMemory,
-    }
-}
-
-/// Why bytes are no log.
-fn of_log(fault: LogFault) -> Refusal
-    ensures { result ≡ log_refusal fault }
-{
-    match fault {
-        LogFault::At { kind, offset } => Refusal::Log { kind, offset },
-        LogFault::NoMemory => Refusal::NoMemory,
-    }
-}
-
 /// The log of these bytes.
 fn log_of(alloc: Global, bytes: &[u8]) -> Result<Log, Refusal>
     requires { length bytes.now ≤ 2 ^ 26 }
     ensures { IsWork (log_in bytes.now) result }
 {
-    match read_log(alloc, bytes) {
-        Ok(log) => Ok(log),
-        Err(fault) => Err(of_log(fault)),
-    }
-}
-
-/// Why a text is no query.
-fn of_query(fault: QueryFault) -> Refusal
-    ensures { result ≡ query_refusal fault }
-{
-    match fault {
-        QueryFault::At { line, kind } => Refusal::Query { line, kind },
-        QueryFault::NoMemory => Refusal::NoMemory,
-    }
+    Ok(read_log(alloc, bytes)?)
 }
 
 /// Reads a program. It gives up as `read_file` does, or with `Image`, the first fault of a file that is none.
@@ -78,10 +44,8 @@ pub fn open_program<S: Store>(alloc: Global, store: &mut S, name: &str) -> Resul
     ensures reads { Reads (name.now ∷ []) true (S.shown store.old) (S.shown store.new) }
 {
     let bytes = read_file(alloc, store, name)?;
-    match load(alloc, &bytes) {
-        Ok(image) => Ok(Program { bytes, image }),
-        Err(fault) => Err(of_image(fault)),
-    }
+    let image = load(alloc, &bytes)?;
+    Ok(Program { bytes, image })
 }
 
 /// Reads a log. It gives up as `read_file` does, or with `Log`, the first fault of bytes that are none.
@@ -116,8 +80,6 @@ pub fn open_query<S: Store>(alloc: Global, store: &mut S, name: &str) -> Result<
     ensures reads { Reads (name.now ∷ []) true (S.shown store.old) (S.shown store.new) }
 {
     let bytes = read_file(alloc, store, name)?;
-    match parse(alloc, &bytes) {
-        Ok(query) => Ok(query),
-        Err(fault) => Err(of_query(fault)),
-    }
+    let query = parse(alloc, &bytes)?;
+    Ok(query)
 }

@@ -7,8 +7,9 @@ ghost use Rattle.jet_files.specs.Faults.{numbered_query_refusal};
 
 use crate::reading::read_file;
 use jet_refusal::Refusal;
+use no_memory::Fault;
 use outer_io::Store;
-use query_lang::{Query, QueryFault, parse};
+use query_lang::{FaultInQuery, Query, QueryFault, parse};
 use std::alloc::Global;
 
 /// Why the text of this number is no query.
@@ -16,12 +17,12 @@ fn of_query(number: u32, fault: QueryFault) -> Refusal
     ensures { result ≡ numbered_query_refusal number fault }
 {
     match fault {
-        QueryFault::At { line, kind } => Refusal::QueryOf {
+        Fault::At(FaultInQuery { line, kind }) => Refusal::QueryOf {
             file: number,
             line,
             kind,
         },
-        QueryFault::NoMemory => Refusal::NoMemory,
+        Fault::NoMemory(no_memory) => Refusal::NoMemory(no_memory),
     }
 }
 
@@ -60,9 +61,7 @@ pub fn open_queries<S: Store>(
     for name in names {
         number += 1;
         let query = open_numbered(alloc, store, number, name)?;
-        if let Err(_) = queries.push(query) {
-            return Err(Refusal::NoMemory);
-        }
+        queries.push(query)?;
     }
     Ok(queries)
 }

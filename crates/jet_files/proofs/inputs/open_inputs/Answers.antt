@@ -35,7 +35,7 @@ loop-name-preserved g c =
     let more = c.push.new.self.items in
     let input = c.in_ok-input.input in
     let i = c.loop-name.invariant in
-    let pushed : more ≡ inputs ++ input ∷ [] = c.in_default.ensures.items in
+    let pushed : more ≡ inputs ++ input ∷ [] = c.in_ok-push.ensures.items in
     record {
       outcome = inputs_more names index _ inputs more input before between after c.loop-name-test.true pushed i.outcome i.reads c.in_ok-input.ensures.outcome;
       many = omega (arith, ap length pushed, length_push inputs input, i.many);
@@ -59,12 +59,15 @@ returns-in_err-input-clause-reads g c =
 
 -- ---- out of memory
 
-pub returns-in-Err-clause-outcome : goal.returns-in-Err-clause-outcome
-returns-in-Err-clause-outcome g c = tt
+pub returns-in_err-push-clause-outcome : goal.returns-in_err-push-clause-outcome
+returns-in_err-push-clause-outcome g c =
+    let p = err_from_is_err_and c.from_residual-in_err-push.result c.from_residual-in_err-push.ensures.1 in
+    rw (p.1, p.2.is) tt
 
-pub returns-in-Err-clause-reads : goal.returns-in-Err-clause-reads
-returns-in-Err-clause-reads g c =
-    reads_some c.args.names.now c.loop-name.name-index _ _ (g.S.Store.shown c.loop-name.store) _ c.loop-name-test.true c.loop-name.invariant.reads c.in_ok-input.ensures.reads
+pub returns-in_err-push-clause-reads : goal.returns-in_err-push-clause-reads
+returns-in_err-push-clause-reads g c =
+    let p = err_from_is_err_and c.from_residual-in_err-push.result c.from_residual-in_err-push.ensures.1 in
+    rw p.1 (reads_some c.args.names.now c.loop-name.name-index _ _ (g.S.Store.shown c.loop-name.store) _ c.loop-name-test.true c.loop-name.invariant.reads c.in_ok-input.ensures.reads)
 
 -- ---- all were read
 

@@ -1,5 +1,6 @@
 use Rattle.std.proofs.Common.{subst, ℕ, List}
 use Rattle.std.proofs.lemmas.Result.{err_from_is_err_and}
+use Rattle.no_memory.specs.Faults.{IsCausedBy}
 use Rattle.query_lang.specs.Answers.{StandsFor, IsTold}
 use Rattle.jet_files.proofs.Read.{numbered_stops, numbered_read, no_numbered}
 use Rattle.jet_files.proofs.queries.open_numbered.Goals as goal
@@ -18,4 +19,4 @@ pub returns-clause-outcome : goal.returns-clause-outcome
 returns-clause-outcome g c =
     rw c.of_query.ensures
     (no_numbered c.args.number c.args.name.now (g.S.Store.shown c.args.store.now) (g.S.Store.shown c.read_file.new.store) c.in_ok-bytes.bytes.items c.in-Err.fault
-    (subst (λ (t : List ℕ). IsTold t c.in-Err.fault) c.deref.ensures.value c.in-Err.ensures.fault) c.in_ok-bytes.ensures.outcome)
+    (subst (λ (t : List ℕ). IsCausedBy (IsTold t) c.in-Err.fault) c.deref.ensures.value c.in-Err.ensures.fault) c.in_ok-bytes.ensures.outcome)

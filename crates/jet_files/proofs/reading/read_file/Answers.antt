@@ -1,6 +1,8 @@
 use Rattle.std.proofs.Common.{◌≡◌, ◌^◌, subst, arith, Ok, Err}
 use Rattle.outer_io.specs.ReadWhole.{HasContent, IsLonger, ReadCause}
-use Rattle.outer_io.specs.declared.whole.ReadWhole.{ReadWhole}
+use Rattle.no_memory.specs.declared.Fault.{Fault}
+use Rattle.no_memory.specs.Faults.{IsCausedBy}
+use Rattle.outer_io.specs.declared.whole.Unread.{Unread}
 use Rattle.jet_refusal.specs.declared.refusal.Refusal.TheVariants as refusal
 use Rattle.jet_model.specs.Contents.{file_at}
 use Rattle.jet_model.proofs.Files.{file_at-there, file_at-long}
@@ -24,27 +26,27 @@ returns-in-Ok-clause-reads g c = c.read_whole.ensures.reads
 
 -- ---- the store failed
 
-pub returns-in-Err-ReadFault-clause-outcome : goal.returns-in-Err-ReadFault-clause-outcome
-returns-in-Err-ReadFault-clause-outcome g c =
-    let cause = subst (λ (why : ReadWhole). ReadCause c.args.name.now (2 ^ 26) (g.S.Store.shown c.args.store.now) (g.S.Store.shown c.read_whole.new.store) why) c.in-Err-ReadFault.field-0-is c.in-Err-ReadFault.ensures.cause in
-    cause.0
+pub returns-in-Err-At-ReadFault-clause-outcome : goal.returns-in-Err-At-ReadFault-clause-outcome
+returns-in-Err-At-ReadFault-clause-outcome g c =
+    let cause = subst (λ (why : Fault Unread). IsCausedBy (ReadCause c.args.name.now (2 ^ 26) (g.S.Store.shown c.args.store.now) (g.S.Store.shown c.read_whole.new.store)) why) c.in-Err-At-ReadFault.field-0-is c.in-Err-At-ReadFault.ensures.cause in
+    (rw c.in-Err-At-ReadFault.field-0-0-is at cause).0
 
-pub returns-in-Err-ReadFault-clause-reads : goal.returns-in-Err-ReadFault-clause-reads
-returns-in-Err-ReadFault-clause-reads g c = c.read_whole.ensures.reads
+pub returns-in-Err-At-ReadFault-clause-reads : goal.returns-in-Err-At-ReadFault-clause-reads
+returns-in-Err-At-ReadFault-clause-reads g c = c.read_whole.ensures.reads
 
 -- ---- the file is too long
 
-pub returns-in-Err-TooLong-clause-outcome : goal.returns-in-Err-TooLong-clause-outcome
-returns-in-Err-TooLong-clause-outcome g c =
+pub returns-in-Err-At-TooLong-clause-outcome : goal.returns-in-Err-At-TooLong-clause-outcome
+returns-in-Err-At-TooLong-clause-outcome g c =
     let name = c.args.name.now in
     let before = g.S.Store.shown c.args.store.now in
     let after = g.S.Store.shown c.read_whole.new.store in
-    let cause = subst (λ (why : ReadWhole). ReadCause name (2 ^ 26) before after why) c.in-Err-TooLong.field-0-is c.in-Err-TooLong.ensures.cause in
+    let cause = subst (λ (why : Fault Unread). IsCausedBy (ReadCause name (2 ^ 26) before after) why) c.in-Err-At-TooLong.field-0-is c.in-Err-At-TooLong.ensures.cause in
     found-kept (λ file. file_at file name ≡ Err refusal.TooLong) (IsLonger name (2 ^ 26)) before.files after.files
-    (λ x y long. file_at-long y.file name long.content long.is_there long.longer) cause.1 c.read_whole.ensures.reads.keeps
+    (λ x y long. file_at-long y.file name long.content long.is_there long.longer) (rw c.in-Err-At-TooLong.field-0-0-is at cause).1 c.read_whole.ensures.reads.keeps
 
-pub returns-in-Err-TooLong-clause-reads : goal.returns-in-Err-TooLong-clause-reads
-returns-in-Err-TooLong-clause-reads g c = c.read_whole.ensures.reads
+pub returns-in-Err-At-TooLong-clause-reads : goal.returns-in-Err-At-TooLong-clause-reads
+returns-in-Err-At-TooLong-clause-reads g c = c.read_whole.ensures.reads
 
 -- ---- out of memory
 
