@@ -86,7 +86,7 @@ pub fn collect<'a, G>(alloc: Global, mut nodes: Vec<Node<'a, G>>) -> Result<Coll
             ends,
         } = node.finish();
         let Ok(own) = own else {
-            return Err(NoMemory);
+            return Err(NoMemory::past_count());
         };
         sets.push(own)?;
         asked.push(requests)?;

@@ -39,7 +39,7 @@ pub(crate) fn collect<'a, G>(alloc: Global, line: Line<'a, G>) -> Result<Collect
     for core in line.cores {
         let (own, requests, moved) = core.into_result();
         let Ok(own) = own else {
-            return Err(NoMemory);
+            return Err(NoMemory::past_count());
         };
         let mut own = own.into_vec();
         sets.append(&mut own)?;
