@@ -23,7 +23,7 @@ use Rattle.jet_cli.specs.Targets.{Target, ToOutput, ToFile, target_of}
 use Rattle.jet_cli.specs.Answers.{IsAnswer, named, limits_of}
 use Rattle.jet_cli.specs.Outside.{Change, Told, IsUndisturbed}
 use Rattle.jet_cli.specs.Writing.{FailsToWrite}
-use Rattle.jet_cli.specs.Ending.{IsText, WritesWhole, WritesPart, Ends, causes_of, status_after}
+use Rattle.jet_cli.specs.Ending.{IsText, WritesWhole, WritesPart, Ends, IsUnasked, causes_of, status_after}
 use Rattle.jet.specs.Statuses.{IsWanted, IsDone, IsDoneInPart, IsRefused, IsHeard, IsDecided, AreWithinLimits, IsComplete}
 use Rattle.jet.proofs.Refusals.{status_of-range, of_any_cause, of_write_fault}
 
@@ -100,9 +100,9 @@ part command change (Err r) h e = of_write_fault (IsDoneInPart command change) (
   by (Some asked) w = in_part asked change w.1
 
 pub refused : (command : Option CommandOf) (change : Change) (says : List ℕ → Type 0) (r : Result (Unit {0}) Refusal) (status : ℕ) → status ≡ status_after r
-    → Ends command change r → IfErr r (λ e. says (line_of e)) → 2 ≤ status → IsRefused status command says change
-refused command change says (Ok x) status e h said most = let f : ⊥ = omega (arith, e, most) in absurd f
-refused command change says (Err r) status e h said most = record { refusal = r; status_is = e; line_is = said; has_cause = h }
+    → Ends command change r → IfErr r (λ e. says (line_of e)) → IfErr r (IsUnasked change.before.heard change.after.heard) → 2 ≤ status → IsRefused status command says change
+refused command change says (Ok x) status e h said unasked most = let f : ⊥ = omega (arith, e, most) in absurd f
+refused command change says (Err r) status e h said unasked most = record { refusal = r; status_is = e; line_is = said; has_cause = h; unasked = unasked }
 
 -- ---- where the outside doesn't fail
 

@@ -1,6 +1,6 @@
 -- What each status of the program says. `command` is what the words stand for, and `change` is what the store, the output and the
 -- clock show before the call and after it.
-use Rattle.std.specs.Prelude.{◌≡◌, ◌⊎◌, ◌≤◌, ◌^◌, ℕ, List, length, Option, Some, None, IsSome, Result, Ok}
+use Rattle.std.specs.Prelude.{◌≡◌, ◌⊎◌, ◌≤◌, ◌^◌, ℕ, List, length, not, Option, Some, None, IsSome, Result, Ok}
 use Rattle.outer_io.specs.Files.{Files}
 use Rattle.jet_words.specs.Commands.{CommandOf, QueryOf, RecordOf, ReplayOf, OutputOf, ConvertOf, InfluenceOf, QueriesOf, BenchOf}
 use Rattle.log_model.specs.declared.Version.TheVariants.{Two}
@@ -14,8 +14,9 @@ use Rattle.workload_model.specs.Answer.{IsBenchOf}
 use Rattle.run_output.specs.Summary.{summary_text}
 use Rattle.run_output.specs.Output.{output}
 use Rattle.jet_cli.specs.Answers.{IsAnswer, Hears, named, limits_of}
+use Rattle.jet_cli.specs.Targets.{Unless, plan_of}
 use Rattle.jet_cli.specs.Outside.{Change, Told, IsUndisturbed}
-use Rattle.jet_cli.specs.Ending.{WritesWhole, WritesPart, causes_of, status_after}
+use Rattle.jet_cli.specs.Ending.{WritesWhole, WritesPart, IsUnasked, causes_of, status_after}
 
 -- the program ends with 0, or with one of 2 to 11
 abbrev pub IsStatus : ℕ → Type 0
@@ -47,25 +48,20 @@ IsDoneInPart (Some command) change = Told change (WritesPart command change (IsW
 
 -- ---- 2 to 11: the command is refused
 
--- the status is that of a refusal, which has its cause; `says` holds of the line that is said, and it is the refusal's
+-- the status is that of a refusal, which has its cause; `says` holds of the line that is said, and it is the refusal's; and before
+-- most refusals the clock gave no answer
 pub record IsRefused (status : ℕ) (command : Option CommandOf) (says : List ℕ → Type 0) (change : Change) : Type 0 where
   pub refusal : Refusal
   pub status_is : status ≡ status_of refusal
   pub line_is : says (line_of refusal)
   pub has_cause : IsOwedTo (causes_of command change refusal) refusal
+  pub unasked : IsUnasked change.before.heard change.after.heard refusal
 
 -- ---- where the outside doesn't fail, the files decide; or memory is out
 
 -- where the clock is read, it tells its answers
 abbrev pub IsHeard : CommandOf → Change → Type 0
-IsHeard (QueryOf program log query pipeline) change = Unit {0}
-IsHeard (RecordOf program log inputs pages piece steps) change = IsSome change.after.heard
-IsHeard (ReplayOf program log) change = Unit {0}
-IsHeard (OutputOf program log channel) change = Unit {0}
-IsHeard (ConvertOf program log new) change = Unit {0}
-IsHeard (InfluenceOf program log query pipeline) change = Unit {0}
-IsHeard (QueriesOf program log queries pipeline) change = Unit {0}
-IsHeard (BenchOf seed steps pipeline) change = Unit {0}
+IsHeard command change = Unless (not (plan_of command).is_timed) (IsSome change.after.heard)
 
 -- the status is that of what the files come to
 abbrev pub IsDecided : ℕ → Option CommandOf → Change → Type 0

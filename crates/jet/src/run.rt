@@ -1,7 +1,6 @@
 //! The public call: words, and the outside that `main` makes.
-ghost use Rattle.std.specs.Prelude.{◌≡◌, ◌⊎◌, ◌≤◌, [], false, map, string_bytes};
+ghost use Rattle.std.specs.Prelude.{◌≡◌, ◌⊎◌, ◌≤◌, false, map, string_bytes};
 ghost use Rattle.clap.specs.Words.{takes};
-ghost use Rattle.outer_io.specs.Tells.{Tells, Gains};
 ghost use Rattle.jet_words.specs.CommandLine.{jet_app};
 ghost use Rattle.jet_cli.specs.Targets.{command_in, target_in, files_of, IfFile, IfUntimedIn};
 ghost use Rattle.jet_cli.specs.Outside.{change};
@@ -35,7 +34,8 @@ pub fn jet<R: Threads + Wait + Sync + AllocGlobal, S: Store, O: Sink, E: Sink, K
         (change S.shown O.shown K.answers store.old out.old clock.old store.new out.new clock.new) }
     ensures all { result ≡ 0 → OpensAll (files_of (command_in words.now)) (S.shown store.old) (S.shown store.new) }
     ensures quiet { result ≡ 0 → err.new ≡ err.old }
-    // 2 to 11: a refusal with its cause, whose line is said. At 8 a part may have been written.
+    // 2 to 11: a refusal with its cause, whose line is said. At 8 a part may have been written. But for a log that is too
+    // long, a fault in writing and out of memory, the clock gave no answer.
     ensures refused { 2 ≤ result → IsRefused result (command_in words.now) (Says (E.shown err.old) (E.shown err.new))
         (change S.shown O.shown K.answers store.old out.old clock.old store.new out.new clock.new) }
     ensures part { result ≡ 8 → IsDoneInPart (command_in words.now)
@@ -52,7 +52,6 @@ pub fn jet<R: Threads + Wait + Sync + AllocGlobal, S: Store, O: Sink, E: Sink, K
     ensures silent { IsUnwritten result → out.new ≡ out.old }
     ensures aside { IfFile (target_in (command_in words.now)) (out.new ≡ out.old) }
     ensures clock { IfUntimedIn (command_in words.now) (clock.new ≡ clock.old) }
-    ensures unasked { 2 ≤ result → result ≤ 7 → Tells (K.answers clock.old) (K.answers clock.new) (Gains []) }
 {
     let outcome = obey(rt, rt.alloc(), words, store, out, clock, gate);
     conclude(err, outcome)

@@ -1,5 +1,5 @@
 -- From a program and inputs that were read, and the capture of a run, to what a recording comes to.
-use Rattle.std.proofs.Common.{◌≡◌, ◌∙◌, ap, sym, refl, subst, arith, ℕ, ◌≤◌, ◌<◌, ◌^◌, List, [], Bool, length, Option, Some, None, Result, Ok, Err, if◌then◌else◌}
+use Rattle.std.proofs.Common.{◌≡◌, ◌∙◌, ap, sym, refl, subst, arith, ℕ, ◌≤◌, ◌<◌, ◌^◌, inl, inr, List, [], ◌∷◌, Bool, true, length, Option, Some, None, Result, Ok, Err, if◌then◌else◌}
 use Rattle.std.specs.Option.{ok_or}
 use Rattle.std.proofs.lemmas.Bool.{lt-ltb, le-ltb}
 use Rattle.isa.specs.Machine.{State}
@@ -15,17 +15,18 @@ use Rattle.call_record.specs.Captures.{IsCaptured, IsTooLong, IsCause}
 use Rattle.call_record.specs.declared.fault.CaptureFault.{CaptureFault}
 use Rattle.call_record.specs.declared.fault.CaptureFault.TheVariants as capture
 use Rattle.outer_io.specs.Shown.{StoreShown}
+use Rattle.outer_io.specs.Reads.{Reads}
 use Rattle.outer_io.specs.Tells.{Tells, Gains}
 use Rattle.jet_refusal.specs.declared.refusal.Refusal.{Refusal}
 use Rattle.jet_refusal.specs.declared.refusal.Refusal.TheVariants as refusal
-use Rattle.jet_refusal.specs.Refusals.{status_of}
 use Rattle.jet_model.specs.Outcomes.{and_then, AndThen}
 use Rattle.jet_model.specs.Contents.{Contents, Program, program_at, inputs_at}
 use Rattle.jet_model.specs.Answer.{Limits, Source, source_at, setting_of, start_in, limited_text, IsCaptured as IsCapturedAs, IsCaptureAnswer}
 use Rattle.jet_model.proofs.AndThen.{AndThen-ok}
 use Rattle.jet_files.specs.Outcome.{Follows, Comes}
-use Rattle.jet_files.proofs.Composing.{Keeps, follows-stops, comes-stops, comes-then, comes-work}
+use Rattle.jet_files.proofs.Composing.{follows-stops, comes-stops, comes-then, comes-work}
 use Rattle.jet_cli.specs.Answers.{IsCapture, IsRecording, IsWorkOf, capture_refusal}
+use Rattle.jet_cli.specs.Ending.{IsUnasked}
 use Rattle.jet_cli.proofs.Working.{follows-answer}
 
 -- ---- a run that was captured
@@ -83,12 +84,12 @@ module _ (source : Source) (limits : Limits) (heard heard_after : Option (List �
   not_captured (capture.LogTooLong size) c = captured-too_long size c
   not_captured capture.NoMemory c = tt
 
-  -- before the run the clock isn't read
+  -- only where the log was made, or memory is out, was the clock asked
   pub not_read : (fault : CaptureFault) → IsCause (setting_of source limits) source.program.image heard heard_after fault
-      → 2 ≤ status_of (capture_refusal limits.pages fault) → status_of (capture_refusal limits.pages fault) ≤ 7 → Tells heard heard_after (Gains [])
-  not_read capture.Window c least most = c.1
-  not_read (capture.LogTooLong size) c least most = let f : ⊥ = omega (arith, most) in absurd f
-  not_read capture.NoMemory c least most = let f : ⊥ = omega (arith, most) in absurd f
+      → IsUnasked heard heard_after (capture_refusal limits.pages fault)
+  not_read capture.Window c = inr c.1
+  not_read (capture.LogTooLong size) c = inl (inl (size, refl))
+  not_read capture.NoMemory c = inl (inr (inr refl))
 
 -- ---- a program and its inputs that were read
 
@@ -107,10 +108,10 @@ module _ (program : List ℕ) (inputs : List (List ℕ)) (limits : Limits) (hear
   pub refused-program : (f g : StoreShown) (r : Refusal) → Tells heard heard_after (Gains []) → Comes (λ file. program_at file program) f g (Err r) → Follows Records f g (Err r)
   refused-program f g r none first = refused-source f g r none (comes-stops (λ file. program_at file program) source_with f g r first)
 
-  module _ (p : Program) (f g h : StoreShown) (first : Comes (λ file. program_at file program) f g (Ok p)) (keeps : Keeps f g) (up : g.faults ≤ h.faults) where
+  module _ (p : Program) (f g h : StoreShown) (first : Comes (λ file. program_at file program) f g (Ok p)) (reads : Reads (program ∷ []) true f g) (all : Bool) (after : Reads inputs all g h) where
     pub refused-inputs : (r : Refusal) → Tells heard heard_after (Gains []) → Comes (λ file. inputs_at file inputs) g h (Err r) → Follows Records f h (Err r)
     refused-inputs r none second =
-        refused-source f h r none (comes-then (λ file. program_at file program) source_with p f g h first keeps up (Err r)
+        refused-source f h r none (comes-then (λ file. program_at file program) source_with p f g h first reads after (Err r)
         (comes-stops (λ file. inputs_at file inputs) (λ contents file. Ok (record { program = p; inputs = contents })) g h r second))
 
     pub recorded : (contents : List (List ℕ)) → Comes (λ file. inputs_at file inputs) g h (Ok contents) → (outcome : Result (List ℕ) Refusal)
@@ -119,5 +120,5 @@ module _ (program : List ℕ) (inputs : List (List ℕ)) (limits : Limits) (hear
         let source : Source = record { program = p; inputs = contents } in
         follows-answer (λ file answer. source_at file program inputs ≡ answer) (IsCapture source limits heard heard_after) Records source f h
         (λ file outcome e w. record { answers = w.answers; gained = w.gained; holds = AndThen-ok (source_at file program inputs) (λ s. IsCaptureAnswer s limits w.answers) source outcome e w.holds })
-        (comes-then (λ file. program_at file program) source_with p f g h first keeps up (Ok source)
+        (comes-then (λ file. program_at file program) source_with p f g h first reads after (Ok source)
         (comes-work (λ file. inputs_at file inputs) (λ contents. Ok (record { program = p; inputs = contents })) contents g h second (Ok source) refl))

@@ -1,5 +1,5 @@
 -- From what was found in files, and the work on it, to what the files come to.
-use Rattle.std.proofs.Common.{◌≡◌, ◌∙◌, ap, ap₂, sym, refl, subst, IfOk, OnErr, Vec, ℕ, ◌+◌, ◌≤◌, List, [], ◌∷◌, ◌++◌, Option, Some, None, Result, Ok, Err}
+use Rattle.std.proofs.Common.{◌≡◌, ◌∙◌, ap, ap₂, sym, refl, subst, IfOk, OnErr, Vec, ℕ, ◌+◌, List, Bool, [], ◌∷◌, ◌++◌, Option, Some, None, Result, Ok, Err}
 use Rattle.std.specs.Prelude.{codes, if◌then◌else◌}
 use Rattle.std.specs.List.{filter}
 use Rattle.std.specs.Fmt.{decimal}
@@ -7,7 +7,9 @@ use Rattle.isa.specs.Machine.{State}
 use Rattle.log_model.specs.Logs.{Log}
 use Rattle.outer_io.specs.Faults.{Rose}
 use Rattle.outer_io.specs.Tells.{Tells}
+use Rattle.outer_io.specs.Files.{Text}
 use Rattle.outer_io.specs.Shown.{StoreShown}
+use Rattle.outer_io.specs.Reads.{Reads}
 use Rattle.outer_io.proofs.TellsLemmas.{tells-map}
 use Rattle.sorted_set.specs.Sets.{set_of}
 use Rattle.flow_model.specs.declared.Rule.{Rule}
@@ -34,7 +36,7 @@ use Rattle.std.specs.declared.alloc.Global.{Global}
 use Rattle.no_memory.specs.declared.NoMemory.{NoMemory}
 use Rattle.jet_refusal.specs.declared.refusal.Refusal.TheVariants as refusal
 use Rattle.jet_files.specs.Outcome.{AskAlike, IsKeptFor, Comes, Found, Follows, IsWork, by_reading, seen_by, bytes_of}
-use Rattle.jet_files.proofs.Composing.{Keeps, comes-then, follows-stops}
+use Rattle.jet_files.proofs.Composing.{comes-then, follows-stops}
 use Rattle.jet_cli.specs.declared.work.Listing.{Listing}
 use Rattle.jet_cli.specs.declared.work.Listing.TheVariants.{BySink, BySource}
 use Rattle.jet_cli.specs.Answers.{IsWorkOf, given_by, IsGivenAlike, AreGivenAlike}
@@ -90,8 +92,8 @@ module _ {A : Type 0} (alike : A → A → Type 0) (read : Contents → Result A
       (λ file outcome h same. kept_alike alike kept next outcome (read file) h same)
 
 -- the run that was opened, and then what is read after it
-pub after_run : {A : Type 0} (program log : List ℕ) (read : Contents → Result A Refusal) (next : Run → A → Result (List ℕ) Refusal) (run : Run) (f g h : StoreShown)
-    → Comes (λ file. run_at file program log) f g (Ok run) → Keeps f g → g.faults ≤ h.faults
+pub after_run : {A : Type 0} {names more : List Text} {one two : Bool} (program log : List ℕ) (read : Contents → Result A Refusal) (next : Run → A → Result (List ℕ) Refusal) (run : Run) (f g h : StoreShown)
+    → Comes (λ file. run_at file program log) f g (Ok run) → Reads names one f g → Reads more two g h
     → (outcome : Result (List ℕ) Refusal) → Follows (λ file answer. and_then (read file) (next run) ≡ answer) g h outcome
     → Comes (λ file. and_then (run_at file program log) (λ r. and_then (read file) (next r))) f h outcome
 after_run program log read next run = comes-then (λ file. run_at file program log) (λ r file. and_then (read file) (next r)) run

@@ -16,11 +16,13 @@ use Rattle.report_model.specs.Together.{only, together, first_other_rule}
 use Rattle.jet_model.specs.Outcomes.{and_then}
 use Rattle.jet_model.specs.Contents.{Contents, Names, Run}
 use Rattle.jet_model.specs.Report.{report_of, influence_of, reports_of}
-use Rattle.jet_model.specs.Answer.{Limits, Source, IsCaptureAnswer, IsRecordAnswer, traced_answer, query_answer, rules_check, queries_answer, log_answer, convert_answer}
+use Rattle.jet_model.specs.Answer.{Limits, Source, IsCaptureAnswer, IsRecordAnswer, traced_answer, query_answer, rules_check, queries_answer, fitting_start, limited_text, text_answer, log_answer, convert_answer}
 use Rattle.workload_model.specs.Answer.{IsBenchAnswer}
 use Rattle.jet_refusal.specs.Causes.{IsOwedTo}
 use Rattle.jet_cli.specs.declared.work.Listing.{Listing}
 use Rattle.jet_cli.specs.declared.work.Listing.TheVariants.{BySink, BySource}
+use Rattle.jet_cli.specs.declared.work.Product.{Product}
+use Rattle.jet_cli.specs.declared.work.Product.TheVariants.{Numbers, Output, Conversion}
 use Rattle.jet_files.specs.Outcome.{by_reading, AskAlike}
 use Rattle.run_output.specs.Summary.{summary_text}
 use Rattle.run_output.specs.Output.{output}
@@ -78,6 +80,12 @@ capture_refusal pages capture.NoMemory = refusal.NoMemory
 abbrev pub given_by : Listing → Query → List StepSeen → List ℕ
 given_by BySink = report_of
 given_by BySource = influence_of
+
+-- what is made of a run without a query, if its log fits its program: its numbers, what it wrote on a channel, or its log in version 2
+abbrev pub product_of : Product → Run → Result (List ℕ) Refusal
+product_of Numbers run = text_answer run summary_text
+product_of (Output channel) run = text_answer run (output channel)
+product_of Conversion run = and_then (fitting_start run.program run.log) (λ start. limited_text run.log)
 
 -- the answer is what every query gives that asks alike
 abbrev pub IsGivenAlike : Listing → ℕ → Run → Query → Result (List ℕ) Refusal → Type 0

@@ -1,11 +1,12 @@
 -- How a command ends.
-use Rattle.std.specs.Prelude.{◌≡◌, ℕ, List, Option, Some, None, Result, Ok, Err}
+use Rattle.std.specs.Prelude.{◌≡◌, ◌⊎◌, ℕ, List, [], Option, Some, None, Result, Ok, Err}
 use Rattle.outer_io.specs.Faults.{Rose}
 use Rattle.outer_io.specs.Shown.{SinkShown}
 use Rattle.outer_io.specs.Tells.{Tells, Gains}
 use Rattle.outer_io.specs.Files.{Files}
 use Rattle.jet_words.specs.Commands.{CommandOf}
 use Rattle.jet_refusal.specs.declared.refusal.Refusal.{Refusal}
+use Rattle.jet_refusal.specs.declared.refusal.Refusal.TheVariants as refusal
 use Rattle.jet_refusal.specs.Refusals.{status_of}
 use Rattle.jet_refusal.specs.Causes.{Causes, IsOwedTo}
 use Rattle.jet_model.specs.Contents.{Contents}
@@ -64,6 +65,16 @@ status_after (Err refusal) = status_of refusal
 -- where the error output tells what was written, and didn't fail, it gained this line
 abbrev pub Says : SinkShown → SinkShown → List ℕ → Type 0
 Says old new line = (Rose old.faults new.faults → ⊥) → Tells old.written new.written (Gains line)
+
+-- ---- what was not done
+
+-- these refusals can come after the clock was asked
+abbrev pub IsLate : Refusal → Type 0
+IsLate r = ((size : ℕ) × (r ≡ refusal.LogTooLong size)) ⊎ (r ≡ refusal.WriteFault) ⊎ (r ≡ refusal.NoMemory)
+
+-- before every other refusal the clock gave no answer; `heard` and `heard_after` are what it told before and after
+abbrev pub IsUnasked : Option (List ℕ) → Option (List ℕ) → Refusal → Type 0
+IsUnasked heard heard_after r = IsLate r ⊎ Tells heard heard_after (Gains [])
 
 -- nothing was written
 pub record IsUnwritten (status : ℕ) : Type 0 where

@@ -1,5 +1,5 @@
 -- The files that words name, and where their command writes.
-use Rattle.std.specs.Prelude.{List, [], ◌∷◌, ◌++◌, map, Option, Some, None, String, string_bytes}
+use Rattle.std.specs.Prelude.{Bool, true, false, List, [], ◌∷◌, ◌++◌, map, Option, Some, None, String, string_bytes}
 use Rattle.std.specs.declared.alloc.Global.{Global}
 use Rattle.outer_io.specs.Files.{Text}
 use Rattle.jet_words.specs.Commands.{CommandOf, QueryOf, RecordOf, ReplayOf, OutputOf, ConvertOf, InfluenceOf, QueriesOf, BenchOf, command_of}
@@ -8,31 +8,38 @@ use Rattle.jet_words.specs.Commands.{CommandOf, QueryOf, RecordOf, ReplayOf, Out
 abbrev pub command_in : List (String Global) → Option CommandOf
 command_in words = command_of (map string_bytes words)
 
--- the files that are read, in their order
-abbrev pub sources_of : CommandOf → List Text
-sources_of (QueryOf program log query pipeline) = program ∷ log ∷ query ∷ []
-sources_of (RecordOf program log inputs pages piece steps) = program ∷ inputs
-sources_of (ReplayOf program log) = program ∷ log ∷ []
-sources_of (OutputOf program log channel) = program ∷ log ∷ []
-sources_of (ConvertOf program log new) = program ∷ log ∷ []
-sources_of (InfluenceOf program log query pipeline) = program ∷ log ∷ query ∷ []
-sources_of (QueriesOf program log queries pipeline) = program ∷ log ∷ queries
-sources_of (BenchOf seed steps pipeline) = []
-
 -- where a command writes
 pub data Target : Type 0 where
   ToOutput : Target
   ToFile : Text → Target
 
+-- what a command has to do with the outside
+pub record Plan : Type 0 where
+  -- the files that are read, in their order
+  pub sources : List Text
+  pub target : Target
+  -- whether the clock is read
+  pub is_timed : Bool
+
+-- these files are read, and the text is written there
+abbrev pub from_to : List Text → Target → Plan
+from_to sources target = record { sources = sources; target = target; is_timed = false }
+
+abbrev pub plan_of : CommandOf → Plan
+plan_of (QueryOf program log query pipeline) = from_to (program ∷ log ∷ query ∷ []) ToOutput
+plan_of (RecordOf program log inputs pages piece steps) = record { sources = program ∷ inputs; target = ToFile log; is_timed = true }
+plan_of (ReplayOf program log) = from_to (program ∷ log ∷ []) ToOutput
+plan_of (OutputOf program log channel) = from_to (program ∷ log ∷ []) ToOutput
+plan_of (ConvertOf program log new) = from_to (program ∷ log ∷ []) (ToFile new)
+plan_of (InfluenceOf program log query pipeline) = from_to (program ∷ log ∷ query ∷ []) ToOutput
+plan_of (QueriesOf program log queries pipeline) = from_to (program ∷ log ∷ queries) ToOutput
+plan_of (BenchOf seed steps pipeline) = from_to [] ToOutput
+
+abbrev pub sources_of : CommandOf → List Text
+sources_of command = (plan_of command).sources
+
 abbrev pub target_of : CommandOf → Target
-target_of (QueryOf program log query pipeline) = ToOutput
-target_of (RecordOf program log inputs pages piece steps) = ToFile log
-target_of (ReplayOf program log) = ToOutput
-target_of (OutputOf program log channel) = ToOutput
-target_of (ConvertOf program log new) = ToFile new
-target_of (InfluenceOf program log query pipeline) = ToOutput
-target_of (QueriesOf program log queries pipeline) = ToOutput
-target_of (BenchOf seed steps pipeline) = ToOutput
+target_of command = (plan_of command).target
 
 abbrev pub target_in : Option CommandOf → Target
 target_in None = ToOutput
@@ -53,16 +60,13 @@ abbrev pub IfFile : Target → Type 0 → Type 0
 IfFile ToOutput P = Unit {0}
 IfFile (ToFile name) P = P
 
+abbrev pub Unless : Bool → Type 0 → Type 0
+Unless true P = Unit {0}
+Unless false P = P
+
 -- what holds where a command never reads the clock: all but a recording
 abbrev pub IfUntimed : CommandOf → Type 0 → Type 0
-IfUntimed (QueryOf program log query pipeline) P = P
-IfUntimed (RecordOf program log inputs pages piece steps) P = Unit {0}
-IfUntimed (ReplayOf program log) P = P
-IfUntimed (OutputOf program log channel) P = P
-IfUntimed (ConvertOf program log new) P = P
-IfUntimed (InfluenceOf program log query pipeline) P = P
-IfUntimed (QueriesOf program log queries pipeline) P = P
-IfUntimed (BenchOf seed steps pipeline) P = P
+IfUntimed command P = Unless (plan_of command).is_timed P
 
 -- the same of the command that words stand for, if they stand for one
 abbrev pub IfUntimedIn : Option CommandOf → Type 0 → Type 0

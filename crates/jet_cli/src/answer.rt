@@ -1,20 +1,19 @@
 //! What a command gives: its files are read one after another, and a text is made of them.
-ghost use Rattle.std.specs.Prelude.{◌≡◌, ◌≤◌, ◌∷◌, [], length, map, OnOk};
-ghost use Rattle.outer_io.specs.Tells.{Tells, Gains};
-ghost use Rattle.jet_model.specs.Answer.{query_answer, queries_answer, log_answer, convert_answer};
-ghost use Rattle.run_output.specs.Summary.{summary_text};
-ghost use Rattle.run_output.specs.Output.{output as output_of};
+ghost use Rattle.std.specs.Prelude.{◌≡◌, ◌≤◌, ◌∷◌, [], length, map, is_ok, IfErr};
+ghost use Rattle.outer_io.specs.Reads.{Reads};
+ghost use Rattle.jet_model.specs.Outcomes.{and_then};
+ghost use Rattle.jet_model.specs.Contents.{run_at};
+ghost use Rattle.jet_model.specs.Answer.{query_answer, queries_answer};
 ghost use Rattle.jet_words.specs.Commands.{plain_command, IsPipeline, IsInRange};
 ghost use Rattle.jet_files.specs.Outcome.{Comes, Follows, seen_by, bytes_of};
 ghost use Rattle.jet_cli.specs.Targets.{sources_of, IfUntimed};
-ghost use Rattle.jet_cli.specs.Answers.{IsAnswer, given_by, named};
-ghost use Rattle.jet_cli.specs.Ending.{status_after};
-ghost use Rattle.jet_cli.specs.Keeping.{OpensAll, OpensFirst, KeepsAll};
+ghost use Rattle.jet_cli.specs.Answers.{IsAnswer, given_by, product_of, named};
+ghost use Rattle.jet_cli.specs.Ending.{IsUnasked};
 
 use crate::bench::bench;
 use crate::engine::Engine;
 use crate::record::{Limits, record};
-use crate::work::{Listing, conversion, list, output, reports, summary};
+use crate::work::{Listing, Product, list, make, reports};
 use jet_files::{open_queries, open_query, open_run};
 use jet_refusal::Refusal;
 use jet_words::{Command, Pipeline};
@@ -37,10 +36,7 @@ fn query<R: Threads + Wait + Sync, S: Store, G: Gate>(
     ensures answer { Comes
         (λ file. query_answer (given_by listing) pipeline.epoch file (named program.now log.now query.now))
         (S.shown store.old) (S.shown store.new) (seen_by bytes_of result) }
-    ensures keeps { KeepsAll (S.shown store.old) (S.shown store.new) }
-    ensures opened { OpensFirst (program.now ∷ log.now ∷ query.now ∷ []) (S.shown store.old) (S.shown store.new) }
-    ensures all { OnOk result (OpensAll (program.now ∷ log.now ∷ query.now ∷ []) (S.shown store.old) (S.shown store.new)) }
-    ensures later { (S.shown store.old).faults ≤ (S.shown store.new).faults }
+    ensures reads { Reads (program.now ∷ log.now ∷ query.now ∷ []) (is_ok result) (S.shown store.old) (S.shown store.new) }
 {
     let run = open_run(engine.alloc, store, program, log)?;
     let query = open_query(engine.alloc, store, query)?;
@@ -62,73 +58,31 @@ fn queries<R: Threads + Wait + Sync, S: Store, G: Gate>(
     ensures answer { Comes
         (λ file. queries_answer pipeline.epoch file program.now log.now (map (λ name. name.now) names.now))
         (S.shown store.old) (S.shown store.new) (seen_by bytes_of result) }
-    ensures keeps { KeepsAll (S.shown store.old) (S.shown store.new) }
-    ensures opened { OpensFirst (program.now ∷ log.now ∷ map (λ name. name.now) names.now) (S.shown store.old) (S.shown store.new) }
-    ensures all { OnOk result (OpensAll (program.now ∷ log.now ∷ map (λ name. name.now) names.now)
-        (S.shown store.old) (S.shown store.new)) }
-    ensures later { (S.shown store.old).faults ≤ (S.shown store.new).faults }
+    ensures reads { Reads (program.now ∷ log.now ∷ map (λ name. name.now) names.now) (is_ok result) (S.shown store.old) (S.shown store.new) }
 {
     let run = open_run(engine.alloc, store, program, log)?;
     let queries = open_queries(engine.alloc, store, names)?;
     reports(engine, run, &queries, pipeline)
 }
 
-/// The numbers of a run.
-fn replay<S: Store>(
+/// What is made of a run without a query.
+fn run_product<S: Store>(
     alloc: Global,
     store: &mut S,
     program: &str,
     log: &str,
+    product: Product,
 ) -> Result<Vec<u8>, Refusal>
-    ensures answer { Comes (λ file. log_answer file program.now log.now summary_text)
+    ensures answer { Comes (λ file. and_then (run_at file program.now log.now) (product_of product))
         (S.shown store.old) (S.shown store.new) (seen_by bytes_of result) }
-    ensures keeps { KeepsAll (S.shown store.old) (S.shown store.new) }
-    ensures opened { OpensFirst (program.now ∷ log.now ∷ []) (S.shown store.old) (S.shown store.new) }
-    ensures all { OnOk result (OpensAll (program.now ∷ log.now ∷ []) (S.shown store.old) (S.shown store.new)) }
-    ensures later { (S.shown store.old).faults ≤ (S.shown store.new).faults }
+    ensures reads { Reads (program.now ∷ log.now ∷ []) (is_ok result) (S.shown store.old) (S.shown store.new) }
 {
     let run = open_run(alloc, store, program, log)?;
-    summary(alloc, run)
-}
-
-/// What a run wrote on a channel.
-fn written<S: Store>(
-    alloc: Global,
-    store: &mut S,
-    program: &str,
-    log: &str,
-    channel: u32,
-) -> Result<Vec<u8>, Refusal>
-    ensures answer { Comes (λ file. log_answer file program.now log.now (output_of channel))
-        (S.shown store.old) (S.shown store.new) (seen_by bytes_of result) }
-    ensures keeps { KeepsAll (S.shown store.old) (S.shown store.new) }
-    ensures opened { OpensFirst (program.now ∷ log.now ∷ []) (S.shown store.old) (S.shown store.new) }
-    ensures all { OnOk result (OpensAll (program.now ∷ log.now ∷ []) (S.shown store.old) (S.shown store.new)) }
-    ensures later { (S.shown store.old).faults ≤ (S.shown store.new).faults }
-{
-    let run = open_run(alloc, store, program, log)?;
-    output(alloc, run, channel)
-}
-
-/// The log of a run in version 2.
-fn convert<S: Store>(
-    alloc: Global,
-    store: &mut S,
-    program: &str,
-    log: &str,
-) -> Result<Vec<u8>, Refusal>
-    ensures answer { Comes (λ file. convert_answer file program.now log.now)
-        (S.shown store.old) (S.shown store.new) (seen_by bytes_of result) }
-    ensures keeps { KeepsAll (S.shown store.old) (S.shown store.new) }
-    ensures opened { OpensFirst (program.now ∷ log.now ∷ []) (S.shown store.old) (S.shown store.new) }
-    ensures all { OnOk result (OpensAll (program.now ∷ log.now ∷ []) (S.shown store.old) (S.shown store.new)) }
-    ensures later { (S.shown store.old).faults ≤ (S.shown store.new).faults }
-{
-    let run = open_run(alloc, store, program, log)?;
-    conversion(alloc, run)
+    make(alloc, run, product)
 }
 
 /// The text of a command, which `deliver` writes.
+#[tactic(auto, using(crate::proofs::KeepingLemmas::unasked))]
 pub fn answer<R: Threads + Wait + Sync, S: Store, K: Clock, G: Gate>(
     engine: &Engine<R, G>,
     store: &mut S,
@@ -138,13 +92,9 @@ pub fn answer<R: Threads + Wait + Sync, S: Store, K: Clock, G: Gate>(
     requires ranges { IsInRange (plain_command command.now) }
     ensures answer { Follows (IsAnswer (plain_command command.now) (K.answers clock.old) (K.answers clock.new))
         (S.shown store.old) (S.shown store.new) (seen_by bytes_of result) }
-    ensures keeps { KeepsAll (S.shown store.old) (S.shown store.new) }
-    ensures opened { OpensFirst (sources_of (plain_command command.now)) (S.shown store.old) (S.shown store.new) }
-    ensures all { OnOk result (OpensAll (sources_of (plain_command command.now)) (S.shown store.old) (S.shown store.new)) }
-    ensures later { (S.shown store.old).faults ≤ (S.shown store.new).faults }
+    ensures reads { Reads (sources_of (plain_command command.now)) (is_ok result) (S.shown store.old) (S.shown store.new) }
     ensures clock { IfUntimed (plain_command command.now) (clock.new ≡ clock.old) }
-    ensures unasked { 2 ≤ status_after result → status_after result ≤ 7
-        → Tells (K.answers clock.old) (K.answers clock.new) (Gains []) }
+    ensures unasked { IfErr result (IsUnasked (K.answers clock.old) (K.answers clock.new)) }
 {
     let alloc = engine.alloc;
     match command {
@@ -177,13 +127,25 @@ pub fn answer<R: Threads + Wait + Sync, S: Store, K: Clock, G: Gate>(
             };
             record(alloc, store, clock, program, inputs, limits)
         }
-        Command::Replay { program, log } => replay(alloc, store, program, log),
+        Command::Replay { program, log } => run_product(
+            alloc,
+            store,
+            program,
+            log,
+            Product::Numbers,
+        ),
         Command::Output {
             program,
             log,
             channel,
-        } => written(alloc, store, program, log, *channel),
-        Command::Convert { program, log, .. } => convert(alloc, store, program, log),
+        } => run_product(alloc, store, program, log, Product::Output(*channel)),
+        Command::Convert { program, log, .. } => run_product(
+            alloc,
+            store,
+            program,
+            log,
+            Product::Conversion,
+        ),
         Command::Influence {
             program,
             log,

@@ -1,13 +1,12 @@
 //! A command, from its words to its end.
 ghost use Rattle.std.specs.Prelude.{◌≡◌, ◌⊎◌, ◌≤◌, [], false, map, string_bytes, Some, Err, IfErr, OnOk};
 ghost use Rattle.clap.specs.Words.{takes};
-ghost use Rattle.outer_io.specs.Tells.{Tells, Gains};
 ghost use Rattle.jet_words.specs.CommandLine.{jet_app};
 ghost use Rattle.jet_words.specs.Commands.{plain_command, IsInRange};
 ghost use Rattle.jet_cli.specs.Targets.{command_in, target_of, target_in, files_of, IfFile, IfUntimed, IfUntimedIn};
 ghost use Rattle.jet_cli.specs.Outside.{change};
 ghost use Rattle.jet_cli.specs.Keeping.{OpensAll, OpensFirst, KeepsAll, KeepsBut};
-ghost use Rattle.jet_cli.specs.Ending.{Ends, IsUnwritten, status_after};
+ghost use Rattle.jet_cli.specs.Ending.{Ends, IsUnasked, IsUnwritten, status_after};
 
 use crate::answer::answer;
 use crate::delivery::deliver;
@@ -38,8 +37,7 @@ fn carry_out<R: Threads + Wait + Sync, S: Store, O: Sink, K: Clock, G: Gate>(
     ensures silent { IsUnwritten (status_after result) → out.new ≡ out.old }
     ensures aside { IfFile (target_of (plain_command command.now)) (out.new ≡ out.old) }
     ensures clock { IfUntimed (plain_command command.now) (clock.new ≡ clock.old) }
-    ensures unasked { 2 ≤ status_after result → status_after result ≤ 7
-        → Tells (K.answers clock.old) (K.answers clock.new) (Gains []) }
+    ensures unasked { IfErr result (IsUnasked (K.answers clock.old) (K.answers clock.new)) }
 {
     let text = answer(engine, store, clock, command)?;
     match deliver(store, out, command, &text) {
@@ -51,6 +49,7 @@ fn carry_out<R: Threads + Wait + Sync, S: Store, O: Sink, K: Clock, G: Gate>(
 /// Does what the words stand for, of which the first is the program's name. It gives up with `Usage`, where they stand
 /// for no command; with what the files are refused for, `ReadFault` or `WriteFault`, where the store or the output fails,
 /// or `NoMemory`. Epochs are analysed in threads; the gate is told of each.
+#[tactic(auto, using(crate::proofs::KeepingLemmas::keeps, crate::proofs::KeepingLemmas::unasked))]
 pub fn obey<R: Threads + Wait + Sync, S: Store, O: Sink, K: Clock, G: Gate>(
     rt: &R,
     alloc: Global,
@@ -77,8 +76,7 @@ pub fn obey<R: Threads + Wait + Sync, S: Store, O: Sink, K: Clock, G: Gate>(
     ensures silent { IsUnwritten (status_after result) → out.new ≡ out.old }
     ensures aside { IfFile (target_in (command_in words.now)) (out.new ≡ out.old) }
     ensures clock { IfUntimedIn (command_in words.now) (clock.new ≡ clock.old) }
-    ensures unasked { 2 ≤ status_after result → status_after result ≤ 7
-        → Tells (K.answers clock.old) (K.answers clock.new) (Gains []) }
+    ensures unasked { IfErr result (IsUnasked (K.answers clock.old) (K.answers clock.new)) }
 {
     let engine = Engine { rt, alloc, gate };
     match read_words(alloc, words) {

@@ -11,6 +11,7 @@ use jet_words::Command;
 use outer_io::{Sink, Store, WriteFault, write_file, write_whole};
 
 /// Writes the text of a command: a log into its file, and every other text to the output.
+#[tactic(auto, using(crate::proofs::KeepingLemmas::keeps))]
 pub fn deliver<S: Store, O: Sink>(
     store: &mut S,
     out: &mut O,

@@ -1,14 +1,13 @@
 //! The command `record`: a program is run over its inputs, and the log of the run is made.
-ghost use Rattle.std.specs.Prelude.{◌≡◌, ◌≤◌, ◌^◌, ◌∷◌, [], Ok, length, map, OnOk};
+ghost use Rattle.std.specs.Prelude.{◌≡◌, ◌≤◌, ◌^◌, ◌∷◌, [], Ok, length, map, is_ok, IfErr};
 ghost use Rattle.std.specs.List.{All};
 ghost use Rattle.elf_model.specs.Image.{image as image_of_file};
-ghost use Rattle.outer_io.specs.Tells.{Tells, Gains};
+ghost use Rattle.outer_io.specs.Reads.{Reads};
 ghost use Rattle.call_record.specs.Sources.{contents};
 ghost use Rattle.jet_files.specs.Outcome.{Follows, seen_by, bytes_of};
 ghost use Rattle.jet_files.specs.Views.{program_of};
 ghost use Rattle.jet_cli.specs.Answers.{capture_refusal, limits_of, IsCapture, IsRecording, IsWorkOf};
-ghost use Rattle.jet_cli.specs.Ending.{status_after};
-ghost use Rattle.jet_cli.specs.Keeping.{OpensAll, OpensFirst, KeepsAll};
+ghost use Rattle.jet_cli.specs.Ending.{IsUnasked};
 
 use call_record::{CaptureFault, capture};
 use jet_files::{Program, open_inputs, open_program};
@@ -56,8 +55,7 @@ fn log_text<K: Clock>(
     requires short { All (λ v. length v.items ≤ 2 ^ 26) inputs.now }
     ensures answer { IsWorkOf (IsCapture (record { program = program_of program.now; inputs = contents inputs.now })
         (limits_of limits.pages limits.piece limits.steps) (K.answers clock.old) (K.answers clock.new)) (seen_by bytes_of result) }
-    ensures unasked { 2 ≤ status_after result → status_after result ≤ 7
-        → Tells (K.answers clock.old) (K.answers clock.new) (Gains []) }
+    ensures unasked { IfErr result (IsUnasked (K.answers clock.old) (K.answers clock.new)) }
 {
     let Limits {
         pages,
@@ -84,6 +82,7 @@ fn log_text<K: Clock>(
 
 /// Reads the program and its inputs, one after another, and records the run. It gives up as reading them does, with
 /// `Window`, with `LogTooLong`, or with `NoMemory`.
+#[tactic(auto, using(crate::proofs::KeepingLemmas::unasked))]
 pub fn record<S: Store, K: Clock>(
     alloc: Global,
     store: &mut S,
@@ -98,13 +97,8 @@ pub fn record<S: Store, K: Clock>(
     requires few { length inputs.now ≤ 16 }
     ensures answer { Follows (IsRecording program.now (map (λ name. name.now) inputs.now) (limits_of limits.pages limits.piece limits.steps)
         (K.answers clock.old) (K.answers clock.new)) (S.shown store.old) (S.shown store.new) (seen_by bytes_of result) }
-    ensures keeps { KeepsAll (S.shown store.old) (S.shown store.new) }
-    ensures opened { OpensFirst (program.now ∷ map (λ name. name.now) inputs.now) (S.shown store.old) (S.shown store.new) }
-    ensures all { OnOk result (OpensAll (program.now ∷ map (λ name. name.now) inputs.now)
-        (S.shown store.old) (S.shown store.new)) }
-    ensures later { (S.shown store.old).faults ≤ (S.shown store.new).faults }
-    ensures unasked { 2 ≤ status_after result → status_after result ≤ 7
-        → Tells (K.answers clock.old) (K.answers clock.new) (Gains []) }
+    ensures reads { Reads (program.now ∷ map (λ name. name.now) inputs.now) (is_ok result) (S.shown store.old) (S.shown store.new) }
+    ensures unasked { IfErr result (IsUnasked (K.answers clock.old) (K.answers clock.new)) }
 {
     let program = open_program(alloc, store, program)?;
     let inputs = open_inputs(alloc, store, inputs)?;

@@ -3,14 +3,11 @@
 ghost use Rattle.std.specs.Prelude.{◌≡◌, ◌≤◌, Ok, Err, length, IfOk, IfErr, OnErr};
 ghost use Rattle.elf_model.specs.Image.{image as image_of_file};
 ghost use Rattle.replayer.specs.Checks.{IsChecked};
-ghost use Rattle.run_output.specs.Summary.{summary_text as summary_text_of};
-ghost use Rattle.run_output.specs.Output.{output as output_of};
-ghost use Rattle.jet_model.specs.Outcomes.{and_then};
 ghost use Rattle.jet_words.specs.Commands.{IsPipeline};
-ghost use Rattle.jet_model.specs.Answer.{fitting_start, cut_answer, text_answer, limited_text};
+ghost use Rattle.jet_model.specs.Answer.{fitting_start, cut_answer};
 ghost use Rattle.jet_files.specs.Outcome.{IsWork, seen_by, bytes_of};
 ghost use Rattle.jet_files.specs.Views.{run_of};
-ghost use Rattle.jet_cli.specs.Answers.{IsWorkOf, IsGivenAlike, AreGivenAlike, given_by};
+ghost use Rattle.jet_cli.specs.Answers.{IsWorkOf, IsGivenAlike, AreGivenAlike, given_by, product_of};
 
 use crate::engine::Engine;
 use crate::influence::influence_of;
@@ -118,27 +115,27 @@ pub fn reports<R: Threads + Wait + Sync, G: Gate>(
 }
 
 /// The numbers of the run, as text.
-pub fn summary(alloc: Global, run: Run) -> Result<Vec<u8>, Refusal>
+fn summary(alloc: Global, run: Run) -> Result<Vec<u8>, Refusal>
     requires image { image_of_file run.program.bytes.items ≡ Ok run.program.image }
-    ensures { IsWork (text_answer (run_of run) summary_text_of) (seen_by bytes_of result) }
+    ensures { IsWork (product_of Product.Numbers (run_of run)) (seen_by bytes_of result) }
 {
     let job = fitted_run(alloc, run)?;
     or_memory(summary_text(alloc, &job.summary()))
 }
 
 /// What the run wrote on a channel.
-pub fn output(alloc: Global, run: Run, channel: u32) -> Result<Vec<u8>, Refusal>
+fn output(alloc: Global, run: Run, channel: u32) -> Result<Vec<u8>, Refusal>
     requires image { image_of_file run.program.bytes.items ≡ Ok run.program.image }
-    ensures { IsWork (text_answer (run_of run) (output_of channel)) (seen_by bytes_of result) }
+    ensures { IsWork (product_of (Product.Output channel) (run_of run)) (seen_by bytes_of result) }
 {
     let job = fitted_run(alloc, run)?;
     or_memory(output_on(alloc, job.log().records(), channel))
 }
 
 /// The log of the run in version 2. It gives up with `LogTooLong`, where that has more than 2^26 bytes.
-pub fn conversion(alloc: Global, run: Run) -> Result<Vec<u8>, Refusal>
+fn conversion(alloc: Global, run: Run) -> Result<Vec<u8>, Refusal>
     requires image { image_of_file run.program.bytes.items ≡ Ok run.program.image }
-    ensures { IsWork (and_then (fitting_start (run_of run).program (run_of run).log) (λ start. limited_text (run_of run).log)) (seen_by bytes_of result) }
+    ensures { IsWork (product_of Product.Conversion (run_of run)) (seen_by bytes_of result) }
 {
     let job = fitted_run(alloc, run)?;
     job.form();
@@ -148,4 +145,27 @@ pub fn conversion(alloc: Global, run: Run) -> Result<Vec<u8>, Refusal>
         return Err(Refusal::LogTooLong(size));
     }
     or_memory(write_log(alloc, log))
+}
+
+/// What is made of a run without a query.
+#[derive(Clone, Copy)]
+pub enum Product {
+    /// Its numbers, as text.
+    Numbers,
+    /// What it wrote on this channel.
+    Output(u32),
+    /// Its log in version 2.
+    Conversion,
+}
+
+/// What is asked for of the run.
+pub fn make(alloc: Global, run: Run, product: Product) -> Result<Vec<u8>, Refusal>
+    requires image { image_of_file run.program.bytes.items ≡ Ok run.program.image }
+    ensures { IsWork (product_of product (run_of run)) (seen_by bytes_of result) }
+{
+    match product {
+        Product::Numbers => summary(alloc, run),
+        Product::Output(channel) => output(alloc, run, channel),
+        Product::Conversion => conversion(alloc, run),
+    }
 }

@@ -19,7 +19,7 @@ returns-clause-done g c = λ e. ending.done (command_in c.args.words.now)
     c.obey-outcome.result c.obey-outcome.ensures.ends (sym c.conclude.ensures.status ∙ e)
 
 pub returns-clause-refused : goal.returns-clause-refused
-returns-clause-refused g c = ending.refused _ _ (Says (g.E.Sink.shown c.args.err.now) (g.E.Sink.shown c.conclude.new.err)) c.obey-outcome.result _ c.conclude.ensures.status c.obey-outcome.ensures.ends c.conclude.ensures.says
+returns-clause-refused g c = ending.refused _ _ (Says (g.E.Sink.shown c.args.err.now) (g.E.Sink.shown c.conclude.new.err)) c.obey-outcome.result _ c.conclude.ensures.status c.obey-outcome.ensures.ends c.conclude.ensures.says c.obey-outcome.ensures.unasked
 
 pub returns-clause-part : goal.returns-clause-part
 returns-clause-part g c = λ e. ending.part (command_in c.args.words.now)

@@ -1,11 +1,10 @@
-use Rattle.std.proofs.Common.{rules, subst, map, List, [], ℕ, Bor, OnOk}
-use Rattle.jet_words.specs.Commands.{RecordOf, OutputOf, BenchOf}
+use Rattle.std.proofs.Common.{rules, subst, map, is_ok, List, [], ℕ, Bor}
+use Rattle.jet_words.specs.Commands.{RecordOf, ReplayOf, OutputOf, BenchOf}
 use Rattle.jet_files.specs.Outcome.{Follows, seen_by, bytes_of}
 use Rattle.jet_cli.specs.Answers.{IsRecording, IsAnswer, limits_of}
 use Rattle.workload_model.specs.Answer.{IsBenchAnswer}
-use Rattle.jet_files.proofs.Names.{keeps-none}
-use Rattle.jet_cli.specs.Keeping.{OpensAll, OpensFirst}
-use Rattle.jet_cli.proofs.KeepingLemmas.{on_ok, gains-none, opens-none}
+use Rattle.outer_io.specs.Reads.{Reads}
+use Rattle.outer_io.proofs.ReadsLemmas.{reads-none, reads-less}
 use Rattle.jet_cli.proofs.Benching.{follows-always}
 use Rattle.jet_cli.proofs.answer.answer.Goals as goal
 
@@ -18,9 +17,15 @@ returns-in-Record-clause-answer g c =
     subst (λ (names : List (Bor (List ℕ))). Follows (IsRecording r.program.now (map (λ (s : Bor (List ℕ)). s.now) names) (limits_of r.pages r.piece r.steps) heard after) (g.S.Store.shown c.args.store.now) (g.S.Store.shown c.record.new.store) (seen_by bytes_of c.record.result)) c.deref.ensures.value c.record.ensures.answer in
     search rules
 
+pub returns-in-Replay-clause-answer : goal.returns-in-Replay-clause-answer
+returns-in-Replay-clause-answer g c =
+    let heard = g.K.Clock.answers c.args.clock.now in
+    let answer : Follows (IsAnswer (ReplayOf c.in-Replay.program.now c.in-Replay.log.now) heard heard) (g.S.Store.shown c.args.store.now) (g.S.Store.shown c.run_product.new.store) (seen_by bytes_of c.run_product.result) = c.run_product.ensures.answer in
+    search rules
+
 pub returns-in-Output-clause-answer : goal.returns-in-Output-clause-answer
 returns-in-Output-clause-answer g c =
-    let answer : Follows (IsAnswer (OutputOf c.in-Output.program.now c.in-Output.log.now c.in-Output.channel) (g.K.Clock.answers c.args.clock.now) (g.K.Clock.answers c.args.clock.now)) (g.S.Store.shown c.args.store.now) (g.S.Store.shown c.written.new.store) (seen_by bytes_of c.written.result) = c.written.ensures.answer in
+    let answer : Follows (IsAnswer (OutputOf c.in-Output.program.now c.in-Output.log.now c.in-Output.channel) (g.K.Clock.answers c.args.clock.now) (g.K.Clock.answers c.args.clock.now)) (g.S.Store.shown c.args.store.now) (g.S.Store.shown c.run_product-in-Output.new.store) (seen_by bytes_of c.run_product-in-Output.result) = c.run_product-in-Output.ensures.answer in
     search rules
 
 pub returns-in-Bench-clause-answer : goal.returns-in-Bench-clause-answer
@@ -32,20 +37,8 @@ returns-in-Bench-clause-answer g c =
     follows-always (IsBenchAnswer b.seed b.steps b.pipeline.epoch) shown (seen_by bytes_of c.bench.result) c.bench.ensures in
     search rules
 
-pub returns-in-Bench-clause-keeps : goal.returns-in-Bench-clause-keeps
-returns-in-Bench-clause-keeps g c = keeps-none (g.S.Store.shown c.args.store.now).files
-
-pub returns-in-Bench-clause-opened : goal.returns-in-Bench-clause-opened
-returns-in-Bench-clause-opened g c =
+pub returns-in-Bench-clause-reads : goal.returns-in-Bench-clause-reads
+returns-in-Bench-clause-reads g c =
     let shown = g.S.Store.shown c.args.store.now in
-    let opened : OpensFirst [] shown shown = opens-none shown in
+    let reads : Reads [] (is_ok c.bench.result) shown shown = reads-less _ (reads-none shown) in
     search rules
-
-pub returns-in-Bench-clause-all : goal.returns-in-Bench-clause-all
-returns-in-Bench-clause-all g c =
-    let shown = g.S.Store.shown c.args.store.now in
-    let all : OnOk c.bench.result (OpensAll [] shown shown) = on_ok c.bench.result (gains-none shown.opened) in
-    search rules
-
-pub returns-in-Bench-clause-unasked : goal.returns-in-Bench-clause-unasked
-returns-in-Bench-clause-unasked g c = λ refused read. gains-none (g.K.Clock.answers c.args.clock.now)

@@ -1,6 +1,6 @@
-use Rattle.std.proofs.Common.{rules, subst, map, List, ℕ, Bor, [], ◌∷◌, Err}
+use Rattle.std.proofs.Common.{rules, subst, map, List, ℕ, Bor, Err}
 use Rattle.std.proofs.lemmas.Result.{err_from_is_err_and}
-use Rattle.outer_io.proofs.TellsLemmas.{tells-gains}
+use Rattle.outer_io.proofs.ReadsLemmas.{reads-then, reads-stops, reads-less}
 use Rattle.report_model.specs.Query.{Query}
 use Rattle.jet_model.specs.Outcomes.{and_then}
 use Rattle.jet_model.specs.Contents.{Contents, run_at, queries_at}
@@ -8,9 +8,7 @@ use Rattle.jet_model.specs.Answer.{queries_answer}
 use Rattle.jet_files.specs.Outcome.{AskAlike, Comes, seen_by, bytes_of}
 use Rattle.jet_files.specs.Views.{run_of}
 use Rattle.jet_files.proofs.Composing.{comes-stops}
-use Rattle.jet_files.proofs.Names.{keeps-keeps, opened-part, opened-whole}
 use Rattle.jet_cli.specs.Answers.{several_answer, IsWorkOf, AreGivenAlike}
-use Rattle.jet_cli.proofs.KeepingLemmas.{on_ok}
 use Rattle.jet_cli.proofs.Working.{after_run, kept-refused, kept-given}
 use Rattle.jet_cli.proofs.answer.queries.Goals as goal
 
@@ -29,14 +27,18 @@ returns-in_err-queries-clause-answer g c =
     let p = err_from_is_err_and c.from_residual-in_err-queries.result c.from_residual-in_err-queries.ensures.1 in
     rw (p.1, p.2)
     (after_run a.program.now a.log.now (λ file. queries_at file names) (several_answer a.pipeline.epoch) (run_of c.in_ok-run.run') (g.S.Store.shown a.store.now) (g.S.Store.shown c.open_run.new.store) (g.S.Store.shown c.open_queries.new.store)
-    c.in_ok-run.ensures.outcome (record { files = c.open_run.ensures.keeps; faults = c.open_run.ensures.later }) c.open_queries.ensures.later
+    c.in_ok-run.ensures.outcome c.in_ok-run.ensures.reads c.in_err-queries.ensures.reads
     (Err c.in_err-queries.field-0.0) (kept-refused AskAlike (λ file. queries_at file names) (several_answer a.pipeline.epoch (run_of c.in_ok-run.run')) (g.S.Store.shown c.open_run.new.store) (g.S.Store.shown c.open_queries.new.store) c.in_err-queries.field-0.0 c.in_err-queries.ensures.outcome))
 
-pub returns-in_err-queries-clause-keeps : goal.returns-in_err-queries-clause-keeps
-returns-in_err-queries-clause-keeps g c = keeps-keeps _ _ _ c.open_run.ensures.keeps c.open_queries.ensures.keeps
+pub returns-in_err-run-clause-reads : goal.returns-in_err-run-clause-reads
+returns-in_err-run-clause-reads g c =
+    let p = err_from_is_err_and c.from_residual.result c.from_residual.ensures.1 in
+    rw p.1 (reads-stops (map (λ (name : Bor (List ℕ)). name.now) c.args.names.now) c.in_err-run.ensures.reads)
 
-pub returns-in_err-queries-clause-opened : goal.returns-in_err-queries-clause-opened
-returns-in_err-queries-clause-opened g c = opened-part _ _ _ (c.args.program.now ∷ c.args.log.now ∷ []) (map (λ (name : Bor (List ℕ)). name.now) c.args.names.now) c.in_ok-run.ensures.all c.open_queries.ensures.opened
+pub returns-in_err-queries-clause-reads : goal.returns-in_err-queries-clause-reads
+returns-in_err-queries-clause-reads g c =
+    let p = err_from_is_err_and c.from_residual-in_err-queries.result c.from_residual-in_err-queries.ensures.1 in
+    rw p.1 (reads-then c.in_ok-run.ensures.reads c.in_err-queries.ensures.reads)
 
 pub returns-clause-answer : goal.returns-clause-answer
 returns-clause-answer g c =
@@ -44,15 +46,9 @@ returns-clause-answer g c =
     let names : List (List ℕ) = map (λ (name : Bor (List ℕ)). name.now) a.names.now in
     let kept : List Query = c.in_ok-queries.queries.items in
     after_run a.program.now a.log.now (λ file. queries_at file names) (several_answer a.pipeline.epoch) (run_of c.in_ok-run.run') (g.S.Store.shown a.store.now) (g.S.Store.shown c.open_run.new.store) (g.S.Store.shown c.open_queries.new.store)
-    c.in_ok-run.ensures.outcome (record { files = c.open_run.ensures.keeps; faults = c.open_run.ensures.later }) c.open_queries.ensures.later
+    c.in_ok-run.ensures.outcome c.in_ok-run.ensures.reads c.in_ok-queries.ensures.reads
     (seen_by bytes_of c.reports.result) (kept-given AskAlike (λ file. queries_at file names) (several_answer a.pipeline.epoch (run_of c.in_ok-run.run')) (g.S.Store.shown c.open_run.new.store) (g.S.Store.shown c.open_queries.new.store) kept c.in_ok-queries.ensures.outcome (seen_by bytes_of c.reports.result)
     (subst (λ (qs : List Query). IsWorkOf (AreGivenAlike a.pipeline.epoch (run_of c.in_ok-run.run') qs) (seen_by bytes_of c.reports.result)) c.deref.ensures.value c.reports.ensures))
 
-pub returns-clause-keeps : goal.returns-clause-keeps
-returns-clause-keeps g c = keeps-keeps _ _ _ c.open_run.ensures.keeps c.open_queries.ensures.keeps
-
-pub returns-clause-opened : goal.returns-clause-opened
-returns-clause-opened g c = opened-whole _ _ _ (c.args.program.now ∷ c.args.log.now ∷ []) (map (λ (name : Bor (List ℕ)). name.now) c.args.names.now) c.in_ok-run.ensures.all c.in_ok-queries.ensures.all
-
-pub returns-clause-all : goal.returns-clause-all
-returns-clause-all g c = on_ok c.reports.result (tells-gains _ _ _ (c.args.program.now ∷ c.args.log.now ∷ []) (map (λ (name : Bor (List ℕ)). name.now) c.args.names.now) c.in_ok-run.ensures.all c.in_ok-queries.ensures.all)
+pub returns-clause-reads : goal.returns-clause-reads
+returns-clause-reads g c = reads-less _ (reads-then c.in_ok-run.ensures.reads c.in_ok-queries.ensures.reads)

@@ -1,6 +1,6 @@
 use Rattle.std.proofs.Common.{rules, [], ◌∷◌, Err}
 use Rattle.std.proofs.lemmas.Result.{err_from_is_err_and}
-use Rattle.outer_io.proofs.TellsLemmas.{tells-gains}
+use Rattle.outer_io.proofs.ReadsLemmas.{reads-then, reads-stops, reads-less}
 use Rattle.report_model.specs.Query.{Alike}
 use Rattle.jet_model.specs.Outcomes.{and_then}
 use Rattle.jet_model.specs.Contents.{Contents, run_at, query_at}
@@ -8,9 +8,7 @@ use Rattle.jet_model.specs.Answer.{traced_answer, query_answer}
 use Rattle.jet_files.specs.Outcome.{Comes, seen_by, bytes_of}
 use Rattle.jet_files.specs.Views.{run_of}
 use Rattle.jet_files.proofs.Composing.{comes-stops}
-use Rattle.jet_files.proofs.Names.{keeps-keeps, opened-whole}
 use Rattle.jet_cli.specs.Answers.{given_by, named}
-use Rattle.jet_cli.proofs.KeepingLemmas.{on_ok}
 use Rattle.jet_cli.proofs.Working.{after_run, kept-refused, kept-given}
 use Rattle.jet_cli.proofs.answer.query.Goals as goal
 
@@ -27,27 +25,23 @@ returns-in_err-query-clause-answer g c =
     let p = err_from_is_err_and c.from_residual-in_err-query.result c.from_residual-in_err-query.ensures.1 in
     rw (p.1, p.2)
     (after_run a.program.now a.log.now (λ file. query_at file a.query.now) (λ run q. traced_answer a.pipeline.epoch run (given_by a.listing q)) (run_of c.in_ok-run.run') (g.S.Store.shown a.store.now) (g.S.Store.shown c.open_run.new.store) (g.S.Store.shown c.open_query.new.store)
-    c.in_ok-run.ensures.outcome (record { files = c.open_run.ensures.keeps; faults = c.open_run.ensures.later }) c.open_query.ensures.later
+    c.in_ok-run.ensures.outcome c.in_ok-run.ensures.reads c.open_query.ensures.reads
     (Err c.in_err-query.field-0.0) (kept-refused Alike (λ file. query_at file a.query.now) (λ q. traced_answer a.pipeline.epoch (run_of c.in_ok-run.run') (given_by a.listing q)) (g.S.Store.shown c.open_run.new.store) (g.S.Store.shown c.open_query.new.store) c.in_err-query.field-0.0 c.in_err-query.ensures.outcome))
 
-pub returns-in_err-query-clause-keeps : goal.returns-in_err-query-clause-keeps
-returns-in_err-query-clause-keeps g c = keeps-keeps _ _ _ c.open_run.ensures.keeps c.open_query.ensures.keeps
+pub returns-in_err-run-clause-reads : goal.returns-in_err-run-clause-reads
+returns-in_err-run-clause-reads g c =
+    let p = err_from_is_err_and c.from_residual.result c.from_residual.ensures.1 in
+    rw p.1 (reads-stops (c.args.query.now ∷ []) c.in_err-run.ensures.reads)
 
-pub returns-in_err-query-clause-opened : goal.returns-in_err-query-clause-opened
-returns-in_err-query-clause-opened g c = opened-whole _ _ _ (c.args.program.now ∷ c.args.log.now ∷ []) (c.args.query.now ∷ []) c.in_ok-run.ensures.all c.open_query.ensures.opened
+pub returns-in_err-query-clause-reads : goal.returns-in_err-query-clause-reads
+returns-in_err-query-clause-reads g c = reads-less _ (reads-then c.in_ok-run.ensures.reads c.open_query.ensures.reads)
 
 pub returns-clause-answer : goal.returns-clause-answer
 returns-clause-answer g c =
     let a = c.args in
     after_run a.program.now a.log.now (λ file. query_at file a.query.now) (λ run q. traced_answer a.pipeline.epoch run (given_by a.listing q)) (run_of c.in_ok-run.run') (g.S.Store.shown a.store.now) (g.S.Store.shown c.open_run.new.store) (g.S.Store.shown c.open_query.new.store)
-    c.in_ok-run.ensures.outcome (record { files = c.open_run.ensures.keeps; faults = c.open_run.ensures.later }) c.open_query.ensures.later
+    c.in_ok-run.ensures.outcome c.in_ok-run.ensures.reads c.open_query.ensures.reads
     (seen_by bytes_of c.list.result) (kept-given Alike (λ file. query_at file a.query.now) (λ q. traced_answer a.pipeline.epoch (run_of c.in_ok-run.run') (given_by a.listing q)) (g.S.Store.shown c.open_run.new.store) (g.S.Store.shown c.open_query.new.store) c.in_ok-query.query c.in_ok-query.ensures.outcome (seen_by bytes_of c.list.result) c.list.ensures)
 
-pub returns-clause-keeps : goal.returns-clause-keeps
-returns-clause-keeps g c = keeps-keeps _ _ _ c.open_run.ensures.keeps c.open_query.ensures.keeps
-
-pub returns-clause-opened : goal.returns-clause-opened
-returns-clause-opened g c = opened-whole _ _ _ (c.args.program.now ∷ c.args.log.now ∷ []) (c.args.query.now ∷ []) c.in_ok-run.ensures.all c.open_query.ensures.opened
-
-pub returns-clause-all : goal.returns-clause-all
-returns-clause-all g c = on_ok c.list.result (tells-gains _ _ _ (c.args.program.now ∷ c.args.log.now ∷ []) (c.args.query.now ∷ []) c.in_ok-run.ensures.all c.open_query.ensures.opened)
+pub returns-clause-reads : goal.returns-clause-reads
+returns-clause-reads g c = reads-less _ (reads-then c.in_ok-run.ensures.reads c.open_query.ensures.reads)

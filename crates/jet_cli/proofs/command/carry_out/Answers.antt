@@ -31,10 +31,10 @@ returns-in-Ok-clause-ends g c =
     let heard_after = g.K.Clock.answers c.answer.new.clock in
     let answer : Follows (IsAnswer command heard heard_after) f read (Ok c.deref.result.now) =
     subst (λ (text : List ℕ). Follows (IsAnswer command heard heard_after) f read (Ok text)) (sym c.deref.ensures.value) c.in_ok-text.ensures.answer in
-    delivered command f read h (g.O.Sink.shown c.args.out.now) (g.O.Sink.shown c.deliver.new.out) heard heard_after c.deref.result.now answer c.answer.ensures.keeps c.in-Ok.ensures.whole
+    delivered command f read h (g.O.Sink.shown c.args.out.now) (g.O.Sink.shown c.deliver.new.out) heard heard_after c.deref.result.now answer c.answer.ensures.reads.keeps c.in-Ok.ensures.whole
 
 pub returns-in-Ok-clause-keeps : goal.returns-in-Ok-clause-keeps
-returns-in-Ok-clause-keeps g c = keeps-then (target_of (plain_command c.args.command.now)) _ _ _ c.answer.ensures.keeps c.deliver.ensures.keeps
+returns-in-Ok-clause-keeps g c = keeps-then (target_of (plain_command c.args.command.now)) _ _ _ c.answer.ensures.reads.keeps c.deliver.ensures.keeps
 
 pub returns-clause-ends : goal.returns-clause-ends
 returns-clause-ends g c =
@@ -46,8 +46,8 @@ returns-clause-ends g c =
     let heard_after = g.K.Clock.answers c.answer.new.clock in
     let answer : Follows (IsAnswer command heard heard_after) f read (Ok c.deref.result.now) =
     subst (λ (text : List ℕ). Follows (IsAnswer command heard heard_after) f read (Ok text)) (sym c.deref.ensures.value) c.in_ok-text.ensures.answer in
-    not_delivered command f read h (g.O.Sink.shown c.args.out.now) (g.O.Sink.shown c.deliver.new.out) heard heard_after c.deref.result.now answer c.answer.ensures.keeps
-    c.in-Err.ensures.part c.in-Err.ensures.fault c.answer.ensures.later c.deliver.ensures.later
+    not_delivered command f read h (g.O.Sink.shown c.args.out.now) (g.O.Sink.shown c.deliver.new.out) heard heard_after c.deref.result.now answer c.answer.ensures.reads.keeps
+    c.in-Err.ensures.part c.in-Err.ensures.fault c.answer.ensures.reads.later c.deliver.ensures.later
 
 pub returns-clause-keeps : goal.returns-clause-keeps
-returns-clause-keeps g c = keeps-then (target_of (plain_command c.args.command.now)) _ _ _ c.answer.ensures.keeps c.deliver.ensures.keeps
+returns-clause-keeps g c = keeps-then (target_of (plain_command c.args.command.now)) _ _ _ c.answer.ensures.reads.keeps c.deliver.ensures.keeps

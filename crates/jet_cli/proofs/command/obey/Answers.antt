@@ -1,15 +1,7 @@
 use Rattle.std.proofs.Common.{ap, Err}
-use Rattle.jet_cli.specs.Targets.{command_in, target_in}
-use Rattle.jet_files.proofs.Names.{keeps-none}
-use Rattle.jet_cli.proofs.KeepingLemmas.{keeps-more}
+use Rattle.jet_cli.specs.Targets.{command_in}
 use Rattle.jet_cli.proofs.Delivered.{no_command}
 use Rattle.jet_cli.proofs.command.obey.Goals as goal
 
 pub returns-in-Err-Usage-clause-ends : goal.returns-in-Err-Usage-clause-ends
 returns-in-Err-Usage-clause-ends g c = no_command (command_in c.args.words.now) _ (c.in-Err-Usage.ensures.nothing (ap Err c.in-Err-Usage.field-0-is))
-
-pub returns-in-Err-Usage-clause-keeps : goal.returns-in-Err-Usage-clause-keeps
-returns-in-Err-Usage-clause-keeps g c = keeps-more (target_in (command_in c.args.words.now)) _ _ (keeps-none (g.S.Store.shown c.args.store.now).files)
-
-pub returns-in-Err-NoMemory-clause-keeps : goal.returns-in-Err-NoMemory-clause-keeps
-returns-in-Err-NoMemory-clause-keeps g c = keeps-more (target_in (command_in c.args.words.now)) _ _ (keeps-none (g.S.Store.shown c.args.store.now).files)

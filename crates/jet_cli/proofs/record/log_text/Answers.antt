@@ -1,12 +1,11 @@
-use Rattle.std.proofs.Common.{sym, subst, ◌≤◌, List, [], ℕ, Err}
+use Rattle.std.proofs.Common.{sym, subst, List, ℕ, Err}
 use Rattle.call_record.specs.Captures.{IsCaptured, IsCause, setting_of as captured_setting}
 use Rattle.call_record.specs.Sources.{contents}
-use Rattle.outer_io.specs.Tells.{Tells, Gains}
 use Rattle.jet_refusal.specs.declared.refusal.Refusal.{Refusal}
-use Rattle.jet_refusal.specs.Refusals.{status_of}
 use Rattle.jet_model.specs.Answer.{Source, Limits}
 use Rattle.jet_files.specs.Views.{program_of}
 use Rattle.jet_cli.specs.Answers.{IsCapture, IsWorkOf, limits_of}
+use Rattle.jet_cli.specs.Ending.{IsUnasked}
 use Rattle.jet_cli.proofs.Recording.{captured-text, not_captured, not_read}
 use Rattle.jet_cli.proofs.record.log_text.Goals as goal
 
@@ -36,4 +35,4 @@ returns-clause-unasked g c =
     let heard = g.K.Clock.answers a.clock.now in
     let after = g.K.Clock.answers c.capture.new.clock in
     let cause = subst (λ (bytes : List ℕ). IsCause (captured_setting bytes a.limits.pages a.inputs.now a.limits.piece a.limits.steps) a.program.now.image heard after c.in-Err.fault) c.deref.ensures.value c.in-Err.ensures.cause in
-    subst (λ (r : Refusal). 2 ≤ status_of r → status_of r ≤ 7 → Tells heard after (Gains [])) (sym c.of_capture.ensures) (not_read source limits heard after c.requires.image c.in-Err.fault cause)
+    subst (λ (r : Refusal). IsUnasked heard after r) (sym c.of_capture.ensures) (not_read source limits heard after c.requires.image c.in-Err.fault cause)

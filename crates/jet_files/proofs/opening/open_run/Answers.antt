@@ -1,6 +1,6 @@
 use Rattle.std.proofs.Common.{[], ◌∷◌, Err, refl}
 use Rattle.std.proofs.lemmas.Result.{err_from_is_err_and}
-use Rattle.outer_io.proofs.ReadsLemmas.{reads-then, reads-stops}
+use Rattle.outer_io.proofs.ReadsLemmas.{reads-then, reads-stops, reads-less}
 use Rattle.jet_model.specs.Contents.{program_at, log_at}
 use Rattle.jet_files.specs.Views.{program_of}
 use Rattle.jet_files.proofs.Composing.{comes-stops, comes-then, comes-work}
@@ -30,9 +30,7 @@ returns-in_err-log-clause-outcome g c =
     (comes-stops (λ file. log_at file log) (λ l file. log_with program l) between after _ c.in_err-log.ensures.outcome))
 
 pub returns-in_err-log-clause-reads : goal.returns-in_err-log-clause-reads
-returns-in_err-log-clause-reads g c =
-    let p = err_from_is_err_and c.from_residual-in_err-log.result c.from_residual-in_err-log.ensures.1 in
-    rw p.1 (reads-stops [] (reads-then c.in_ok-program.ensures.reads c.in_err-log.ensures.reads))
+returns-in_err-log-clause-reads g c = reads-less _ (reads-then c.in_ok-program.ensures.reads c.in_err-log.ensures.reads)
 
 pub returns-clause-outcome : goal.returns-clause-outcome
 returns-clause-outcome g c =
