@@ -1,5 +1,5 @@
 -- The events of the pass backwards are those of the definitions.
-use Rattle.std.proofs.Common.{◌≡◌, ℕ, zero, suc, ◌+◌, ◌^◌, ◌<◌, List, [], ◌∷◌, ◌++◌, drop, refl, ap, ap₂, sym, ◌∙◌, Bool, true, false, append-nil, subst}
+use Rattle.std.proofs.Common.{◌≡◌, inl, inr, ℕ, zero, suc, ◌+◌, ◌^◌, ◌<◌, List, [], ◌∷◌, ◌++◌, drop, refl, ap, ap₂, sym, ◌∙◌, Bool, true, false, append-nil, subst}
 use Rattle.std.specs.Prelude.{Option, Some, None, IfNone}
 use Rattle.std.proofs.lemmas.List.{map-append}
 use Rattle.flow_model.specs.declared.Loc.{Loc}
@@ -19,9 +19,8 @@ use Rattle.pass_parts.specs.declared.requests.Request.{Request}
 use Rattle.pass_parts.specs.Ends.{with, got_by, unsent, sent_by}
 use Rattle.pass_parts.specs.Events.{IsEvent, IsAtRest}
 use Rattle.pass_parts.proofs.Events.{links_of, free, stuck, sent_same, still_none, refused, was_over}
-use Rattle.pass_parts.specs.Known.{known}
 use Rattle.pass_parts.specs.Requests.{locations, AreCounted}
-use Rattle.backward_pass.specs.Backward.{BackView, knows, asking_of, state, IsFit, Keeps, IsSameBack, Walks, with_sink, IsRequested, Takes, taken, backwards, Moves, Sends, IsQuiet}
+use Rattle.backward_pass.specs.Backward.{BackView, knows, asking_of, state, IsFit, Keeps, IsSameBack, Walks, with_sink, IsRequested, with_request, Takes, backwards, Moves, Sends, IsQuiet}
 use Rattle.backward_pass.proofs.Counts.{counted_more, counted_one_more}
 
 -- ---- what was got
@@ -45,102 +44,8 @@ kept_asked : (first : Bool) (asked ls more : List Loc) → first ≡ false → m
 kept_asked true asked ls more t e = no t
 kept_asked false asked ls more t e = let kept = added_all_keeps asked ls in (kept.0, kept.1 ∙ sym e)
 
--- ---- taking a message
-
-pub takes_message : {m n : Message} {old new : BackView} → n ≡ m → Takes m old new → Takes n old new
-takes_message {old = old} {new = new} e t = subst (λ k. Takes k old new) (sym e) t
-
 broken_fits : (v : BackView) → v.whole ≡ false → v.asked ≡ [] → IsFit v
 broken_fits v w a = record { known = λ t. no (sym t ∙ w); silent = λ _. a; forgets = λ _. a }
-
-module _ (v : BackView) (f : IsFit v) where
-  pub takes_ask : (l : Loc) (asked : List Loc) (rs : List Request) → v.whole ≡ true → v.heard ≡ false → asked ≡ asked_more v.first v.asked ((knows v).ends l).starts
-      → IsRequested v.first asked (knows v) l v.requests rs
-      → Takes (Ask l) v (record v { asked = asked; requests = rs })
-  takes_ask l asked rs w h a r = record {
-    refused = false;
-    took = λ got sent.
-        let make : List Loc → Bool → Asking = λ ls b. record { left = v.left; asked = ls; pushed = v.pushed; got = got ++ Ask l ∷ []; sent = sent; is_whole = b; is_over = v.over } in
-        ap₂ make a w ∙ sym (ap (λ (b : Bool). taken b false v.first (knows v) (asking_of v got sent) (Ask l)) w);
-    same = record { summary = refl; first = refl; last = refl };
-    fits = record { known = f.known; silent = still_silent v.first v.asked _ asked f.silent a; forgets = λ t. no (sym w ∙ t) };
-    heard = λ got e. h ∙ sym (ended_after got (Ask l ∷ []) e);
-    requested = λ got e t before.
-        ap locations r.added ∙ map-append (λ (k : Request). k.loc) v.requests (r.request ∷ [])
-        ∙ ap₂ (λ (ls : List Loc) (k : Loc). ls ++ k ∷ []) (before w) r.is ∙ sym (requests_more got (Ask l ∷ []) e);
-    counted = λ t other before.
-        subst (AreCounted asked (knows v)) (sym r.added)
-        (counted_one_more asked (knows v) v.requests r.request
-        (counted_more v.asked asked (knows v) v.requests (kept_asked v.first v.asked _ asked other a) (before w other)) (r.counted other));
-  }
-
-  pub takes_refused : (l : Loc) (rs : List Request) → v.whole ≡ true → v.heard ≡ false → Takes (Ask l) v (record v { asked = []; requests = rs; whole = false })
-  takes_refused l rs w h = record {
-    refused = true;
-    took = λ got sent. sym (ap (λ (b : Bool). taken b true v.first (knows v) (asking_of v got sent) (Ask l)) w);
-    same = record { summary = refl; first = refl; last = refl };
-    fits = broken_fits _ refl refl;
-    heard = λ got e. h ∙ sym (ended_after got (Ask l ∷ []) e);
-    requested = λ got e t before. no (sym t);
-    counted = λ t other before. no (sym t);
-  }
-
-  pub takes_broken : (l : Loc) → v.whole ≡ false → v.heard ≡ false → Takes (Ask l) v v
-  takes_broken l w h = record {
-    refused = false;
-    took = λ got sent. sym (ap (λ (b : Bool). taken b false v.first (knows v) (asking_of v got sent) (Ask l)) w);
-    same = record { summary = refl; first = refl; last = refl };
-    fits = f;
-    heard = λ got e. h ∙ sym (ended_after got (Ask l ∷ []) e);
-    requested = λ got e t before. no (sym t ∙ w);
-    counted = λ t other before. no (sym t ∙ w);
-  }
-
-  -- a message for which nothing is asked, and that breaks nothing
-  pub takes_other : (m : Message) (heard : Bool) → wanted_for (knows v) m ≡ [] → requests (m ∷ []) ≡ [] → is_whole_message m ≡ true → heard ≡ is_ended (m ∷ [])
-      → Takes m v (record v { heard = heard })
-  takes_other m heard none silent stays ends = record {
-    refused = false;
-    took = λ got sent. took got sent v.whole refl;
-    same = record { summary = refl; first = refl; last = refl };
-    fits = record { known = f.known; silent = f.silent; forgets = f.forgets };
-    heard = λ got e. ends ∙ sym (ended_after got (m ∷ []) e);
-    requested = λ got e t before. same_requests m silent (locations v.requests) got e (before t);
-    counted = λ t other before. before t other;
-  } where
-    took : (got sent : List Message) (b : Bool) → v.whole ≡ b → asking_of (record v { heard = heard }) (got ++ m ∷ []) sent ≡ taken b false v.first (knows v) (asking_of v got sent) m
-    took got sent false w = refl
-    took got sent true w =
-        let make : List Loc → Bool → Asking = λ ls b. record { left = v.left; asked = ls; pushed = v.pushed; got = got ++ m ∷ []; sent = sent; is_whole = b; is_over = v.over } in
-        ap₂ make
-        (sym (ap (λ (b : Bool). asked_if b (asked_more v.first v.asked (wanted_for (knows v) m))) stays ∙ ap (asked_more v.first v.asked) none ∙ nothing_asked v.first v.asked))
-        (w ∙ sym stays)
-
-  -- an End that is not whole
-  pub takes_bad_end : Takes (End false) v (record v { heard = true; asked = []; whole = false })
-  takes_bad_end = record {
-    refused = false;
-    took = λ got sent. took got sent v.whole refl;
-    same = record { summary = refl; first = refl; last = refl };
-    fits = broken_fits _ refl refl;
-    heard = λ got e. sym (ended_after got (End false ∷ []) e);
-    requested = λ got e t before. no (sym t);
-    counted = λ t other before. no (sym t);
-  } where
-    took : (got sent : List Message) (b : Bool) → v.whole ≡ b
-        → asking_of (record v { heard = true; asked = []; whole = false }) (got ++ End false ∷ []) sent ≡ taken b false v.first (knows v) (asking_of v got sent) (End false)
-    took got sent true w = refl
-    took got sent false w =
-        let make : List Loc → Bool → Asking = λ ls b. record { left = v.left; asked = ls; pushed = v.pushed; got = got ++ End false ∷ []; sent = sent; is_whole = b; is_over = v.over } in
-        ap₂ make (sym (f.forgets w)) (sym w)
-
-taken_open : (whole refused first : Bool) (e : EpochSummary) (a : Asking) (m : Message) → (taken whole refused first e a m).is_over ≡ a.is_over
-taken_open true true first e a m = refl
-taken_open true false first e a m = refl
-taken_open false refused first e a m = refl
-
-pub takes_open : (m : Message) (v new : BackView) → Takes m v new → new.over ≡ v.over
-takes_open m v new t = ap (λ (a : Asking). a.is_over) (t.took [] []) ∙ taken_open v.whole t.refused v.first (knows v) (asking_of v [] []) m
 
 -- ---- the model's event, by cases
 
@@ -180,37 +85,6 @@ module _ (v : BackView) (links : Links) (got sent : List Message) (o : v.over �
       ∙ ap (λ (b : Bool). whole_asking v.first (knows v) links (asking_of v got sent) [] [] b) h
   at_end false w h = broken_event v.first (knows v) links (asking_of v got sent) o w ∙ ap (broken_asking links (asking_of v got sent)) h
 
--- a message keeps what the pass keeps
-pub taken_whole : (b refused first : Bool) (e : EpochSummary) (a : Asking) (m : Message) → a.is_whole ≡ b → (taken b refused first e a m).is_whole ≡ true → is_ended (m ∷ []) ≡ true → m ≡ End true
-taken_whole b refused first e a (Ask l) w t h = no (sym h)
-taken_whole b refused first e a (Byte x) w t h = no (sym h)
-taken_whole b refused first e a (Close l) w t h = no (sym h)
-taken_whole true true first e a (End x) w t h = no (sym t)
-taken_whole true false first e a (End x) w t h = ap (λ (b : Bool). End b) t
-taken_whole false refused first e a (End x) w t h = no (sym t ∙ w)
-
-pub keeps_pop : (v new : BackView) (got sent later : Option (List Message)) (m : Message) → v.heard ≡ false → Keeps v got sent → later ≡ with m got → Takes m v new → Keeps new later sent
-keeps_pop v new None sent later m running k e t = no (sym k.heard ∙ running)
-keeps_pop v new (Some got) sent later m running k e t =
-    let running_so = sym k.heard ∙ running in
-    subst (λ g. Keeps new g sent) (sym e)
-    (record {
-      fits = t.fits;
-      heard = t.heard got running_so;
-      alone = alone sent k.alone;
-      requested = λ w. t.requested got running_so w k.requested;
-      counted = λ w other. t.counted w other k.counted;
-      ends = λ w h. (
-        got,
-        ap (λ (x : Message). got ++ x ∷ [])
-            (taken_whole v.whole t.refused v.first (knows v) (asking_of v got []) m refl (sym (ap (λ (a : Asking). a.is_whole) (t.took got [])) ∙ w) (sym (ended_after got (m ∷ []) running_so) ∙ sym (t.heard got running_so) ∙ h)),
-      );
-    })
-  where
-    alone : (s : Option (List Message)) → IfNone s (v.first ≡ true) → IfNone s (new.first ≡ true)
-    alone None h = t.same.first ∙ h
-    alone (Some s) h = tt
-
 -- ---- the events
 
 itself : (v : BackView) → IsSameBack v v
@@ -238,6 +112,124 @@ sends v f l waiting o next fits = record { loc = l; waiting = waiting; is = refl
   by : (b : Bool) → v.whole ≡ b → v.whole ≡ true
   by true w = w
   by false w = (let nothing : [] ≡ l ∷ waiting = sym (ap (drop v.pushed) (f.forgets w) ∙ none_left v.pushed) ∙ next in cc)
+
+-- a message is taken
+module _ (v : BackView) (got sent : Option (List Message)) (k : Keeps v got sent) where
+  -- it is that of the definitions if it is so for whatever went through the ends
+  taken_next : (refused : Bool) (new : BackView) (later : Option (List Message)) (m : Message) → IsAtRest backwards IsQuiet false v → later ≡ with m got
+      → new.over ≡ v.over → IsSameBack new v
+      → ((got sent : List Message) → asking_of new (got ++ m ∷ []) sent ≡ pop_by v.whole refused v.first (knows v) (asking_of v got sent) (Some m))
+      → ((got : List Message) → is_ended got ≡ false → Keeps v (Some got) sent → Keeps new (Some (got ++ m ∷ [])) sent)
+      → IsEvent backwards v got sent new later sent Moved
+  taken_next refused new later m r e o same took keeps = record {
+    happens = record { links = links_of true (Some m) refused; went = (refl, refl); is = by got (sym k.heard ∙ r.ended) e };
+    keeps = kept got k (sym k.heard ∙ r.ended) e;
+    same = same;
+    over = tt;
+    running = o ∙ r.running;
+    not_yet = tt;
+  } where
+    by : (got : Option (List Message)) → is_ended (got_by got) ≡ false → later ≡ with m got
+        → state new later sent ≡ asking_event v.first (knows v) (links_of true (Some m) refused) (state v got sent)
+    by None h e = no h
+    by (Some got) h e =
+        ap (λ (g : Option (List Message)). state new g sent) e ∙ took got (sent_by new.over new.whole sent)
+        ∙ ap (λ (ms : List Message). pop_by v.whole refused v.first (knows v) (asking_of v got ms) (Some m)) (sent_same new.over v.over new.whole v.whole (o ∙ r.running) r.running sent)
+        ∙ sym (at_pop v (links_of true (Some m) refused) got (sent_by v.over v.whole sent) r.running r.idle v.whole refl h)
+
+    kept : (got : Option (List Message)) → Keeps v got sent → is_ended (got_by got) ≡ false → later ≡ with m got → Keeps new later sent
+    kept None k h e = no h
+    kept (Some got) k h e = subst (λ g. Keeps new g sent) (sym e) (keeps got h k)
+
+  -- one for which nothing is asked, and that breaks nothing
+  other_next : (heard : Bool) (later : Option (List Message)) (m : Message) → IsAtRest backwards IsQuiet false v → later ≡ with m got
+      → (v.whole ≡ true → (wanted_for (knows v) m ≡ []) × (requests (m ∷ []) ≡ []) × (is_whole_message m ≡ true)) → heard ≡ is_ended (m ∷ [])
+      → (heard ≡ true → m ≡ End true)
+      → IsEvent backwards v got sent (record v { heard = heard }) later sent Moved
+  other_next heard later m r e quiet ends end =
+      taken_next false (record v { heard = heard }) later m r e refl (record { summary = refl; first = refl; last = refl }) (λ got sent. took got sent v.whole refl) (λ got h k.
+      record {
+        fits = record { known = k.fits.known; silent = k.fits.silent; forgets = k.fits.forgets };
+        heard = ends ∙ sym (ended_after got (m ∷ []) h);
+        alone = k.alone;
+        requested = λ t. same_requests m (quiet t).1 (locations v.requests) got h (k.requested t);
+        counted = k.counted;
+        ends = λ t h. (got, ap (λ (m : Message). got ++ m ∷ []) (end h));
+      })
+    where
+      took : (got sent : List Message) (b : Bool) → v.whole ≡ b → asking_of (record v { heard = heard }) (got ++ m ∷ []) sent ≡ pop_by b false v.first (knows v) (asking_of v got sent) (Some m)
+      took got sent false w = refl
+      took got sent true w =
+          let q = quiet w in
+          ap₂ (λ (ls : List Loc) (b : Bool). record (asking_of v (got ++ m ∷ []) sent) { asked = ls; is_whole = b })
+          (sym (ap (λ (b : Bool). asked_if b (asked_more v.first v.asked (wanted_for (knows v) m))) q.2 ∙ ap (asked_more v.first v.asked) q.0 ∙ nothing_asked v.first v.asked))
+          (w ∙ sym q.2)
+
+  -- one that breaks the pass, or a growth is refused in it
+  breaking_next : (refused heard : Bool) (rs : List Request) (later : Option (List Message)) (m : Message) → IsAtRest backwards IsQuiet false v → later ≡ with m got
+      → ((got sent : List Message) → pop_by v.whole refused v.first (knows v) (asking_of v got sent) (Some m) ≡ record (asking_of v (got ++ m ∷ []) sent) { asked = []; is_whole = false })
+      → heard ≡ is_ended (m ∷ [])
+      → IsEvent backwards v got sent (record v { heard = heard; asked = []; requests = rs; whole = false }) later sent Moved
+  breaking_next refused heard rs later m r e took ends =
+      taken_next refused (record v { heard = heard; asked = []; requests = rs; whole = false }) later m r e refl (record { summary = refl; first = refl; last = refl })
+      (λ got sent. sym (took got sent)) (λ got h k.
+      record {
+        fits = broken_fits _ refl refl;
+        heard = ends ∙ sym (ended_after got (m ∷ []) h);
+        alone = k.alone;
+        requested = λ t. no (sym t);
+        counted = λ t _. no (sym t);
+        ends = λ t _. no (sym t);
+      })
+
+  noted_next : (later : Option (List Message)) (l : Loc) (rs : List Request) → IsAtRest backwards IsQuiet false v → later ≡ with (Ask l) got → v.whole ≡ true
+      → IsRequested v.first (asked_more v.first v.asked ((knows v).ends l).starts) (knows v) l v.requests rs
+      → IsEvent backwards v got sent (with_request false v l rs) later sent Moved
+  noted_next later l rs r e w n =
+      let asked = asked_more v.first v.asked ((knows v).ends l).starts in
+      taken_next false (with_request false v l rs) later (Ask l) r e refl (record { summary = refl; first = refl; last = refl })
+      (λ got sent.
+      ap (λ (b : Bool). record (asking_of v (got ++ Ask l ∷ []) sent) { asked = asked; is_whole = b }) w
+      ∙ sym (ap (λ (b : Bool). pop_by b false v.first (knows v) (asking_of v got sent) (Some (Ask l))) w)) (λ got h k.
+      record {
+        fits = record { known = k.fits.known; silent = still_silent v.first v.asked _ asked k.fits.silent refl; forgets = λ t. no (sym w ∙ t) };
+        heard = r.ended ∙ sym (ended_after got (Ask l ∷ []) h);
+        alone = k.alone;
+        requested = λ t.
+            ap locations n.added ∙ map-append (λ (q : Request). q.loc) v.requests (n.request ∷ [])
+            ∙ ap₂ (λ (ls : List Loc) (q : Loc). ls ++ q ∷ []) (k.requested w) n.is ∙ sym (requests_more got (Ask l ∷ []) h);
+        counted = λ t other.
+            subst (AreCounted asked (knows v)) (sym n.added)
+            (counted_one_more asked (knows v) v.requests n.request
+            (counted_more v.asked asked (knows v) v.requests (kept_asked v.first v.asked _ asked other refl) (k.counted w other)) (n.counted other));
+        ends = λ t h. no (sym h ∙ r.ended);
+      })
+
+  same_next : (new : BackView) (later : Option (List Message)) (m : Message) → IsAtRest backwards IsQuiet false v → later ≡ with m got → new ≡ v
+      → (v.whole ≡ true → (wanted_for (knows v) m ≡ []) × (requests (m ∷ []) ≡ []) × (is_whole_message m ≡ true)) → is_ended (m ∷ []) ≡ false
+      → IsEvent backwards v got sent new later sent Moved
+  same_next new later m r e t quiet unended =
+      subst (λ n. IsEvent backwards v got sent n later sent Moved) (sym t)
+      (other_next v.heard later m r e quiet (r.ended ∙ sym unended) (λ h. no (sym h ∙ r.ended)))
+
+  took_next : (new : BackView) (later : Option (List Message)) (m : Message) → IsAtRest backwards IsQuiet false v → later ≡ with m got → Takes m v new
+      → IsEvent backwards v got sent new later sent Moved
+  took_next new later (Ask l) r e (inl t) = subst (λ n. IsEvent backwards v got sent n later sent Moved) (sym t.1.is) (by t.1.refused refl) where
+    by : (refused : Bool) → t.1.refused ≡ refused → IsEvent backwards v got sent (with_request refused v l t.1.requests) later sent Moved
+    by true f = subst (λ h. IsEvent backwards v got sent (record v { heard = h; asked = []; requests = t.1.requests; whole = false }) later sent Moved) (sym r.ended)
+        (breaking_next true false t.1.requests later (Ask l) r e (λ got sent. ap (λ (b : Bool). pop_by b true v.first (knows v) (asking_of v got sent) (Some (Ask l))) t.0) refl)
+    by false f = noted_next later l t.1.requests r e t.0
+        (subst (λ ls. IsRequested v.first ls (knows v) l v.requests t.1.requests) (ap (λ (n : BackView). n.asked) (t.1.is ∙ ap (λ (b : Bool). with_request b v l t.1.requests) f)) (t.1.noted f))
+  took_next new later (Ask l) r e (inr t) = same_next new later (Ask l) r e t.1 (λ w. no (sym w ∙ t.0)) refl
+  took_next new later (Byte b) r e t = same_next new later (Byte b) r e t (λ w. (refl, refl, refl)) refl
+  took_next new later (Close l) r e t = same_next new later (Close l) r e t (λ w. (refl, refl, refl)) refl
+  took_next new later (End true) r e t = subst (λ n. IsEvent backwards v got sent n later sent Moved) (sym t) (other_next true later (End true) r e (λ w. (refl, refl, refl)) refl (λ _. refl))
+  took_next new later (End false) r e t = subst (λ n. IsEvent backwards v got sent n later sent Moved) (sym t)
+      (breaking_next false true v.requests later (End false) r e (λ got sent. bad got sent v.whole refl) refl) where
+        bad : (got sent : List Message) (b : Bool) → v.whole ≡ b
+            → pop_by b false v.first (knows v) (asking_of v got sent) (Some (End false)) ≡ record (asking_of v (got ++ End false ∷ []) sent) { asked = []; is_whole = false }
+        bad got sent true w = refl
+        bad got sent false w = ap₂ (λ (ls : List Loc) (b : Bool). record (asking_of v (got ++ End false ∷ []) sent) { asked = ls; is_whole = b }) (k.fits.forgets w) w
 
 module _ (v : BackView) (got sent : Option (List Message)) (k : Keeps v got sent) where
   pub moved_next : (new : BackView) → Moves v new → IsEvent backwards v got sent new got sent Moved
@@ -326,31 +318,7 @@ module _ (v : BackView) (got sent : Option (List Message)) (k : Keeps v got sent
 
     pub pop_next : (new : BackView) (later : Option (List Message)) (m : Message) → IsAtRest backwards IsQuiet false v → later ≡ with m got → Takes m seen new
         → IsEvent backwards v got sent new later sent Moved
-    pop_next new later m r e from_seen = record {
-      happens = record { links = links_of true (Some m) t.refused; went = (refl, refl); is = by got (sym k.heard ∙ r.ended) e };
-      keeps = keeps_pop v new got sent later m r.ended k e t;
-      same = t.same;
-      over = tt;
-      running = o;
-      not_yet = tt;
-    } where
-      t : Takes m v new
-      t = subst (λ v. Takes m v new) is from_seen
-
-      o : new.over ≡ false
-      o = takes_open m v new t ∙ r.running
-
-      taken_by : (b : Bool) (a : Asking) → pop_by b t.refused v.first (knows v) a (Some m) ≡ taken b t.refused v.first (knows v) a m
-      taken_by true a = refl
-      taken_by false a = refl
-
-      by : (got : Option (List Message)) → is_ended (got_by got) ≡ false → later ≡ with m got
-          → state new later sent ≡ asking_event v.first (knows v) (links_of true (Some m) t.refused) (state v got sent)
-      by None h e = no h
-      by (Some got) h e =
-          ap (λ (g : Option (List Message)). state new g sent) e ∙ t.took got (sent_by new.over new.whole sent)
-          ∙ ap (λ (ms : List Message). taken v.whole t.refused v.first (knows v) (asking_of v got ms) m) (sent_same new.over v.over new.whole v.whole o r.running sent)
-          ∙ sym (at_pop v (links_of true (Some m) t.refused) got (sent_by v.over v.whole sent) r.running r.idle v.whole refl h ∙ taken_by v.whole (state v (Some got) sent))
+    pop_next new later m r e t = took_next v got sent k new later m r e (subst (λ v. Takes m v new) is t)
 
     pub no_room_next : (later : Option (List Message)) → IsAtRest backwards IsQuiet true v → later ≡ sent → IsEvent backwards v got sent seen got later NotYet
     no_room_next later r e =

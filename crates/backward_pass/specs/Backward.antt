@@ -1,12 +1,12 @@
 -- What contracts see of the pass backwards.
-use Rattle.std.specs.Prelude.{◌≡◌, ℕ, ◌+◌, ◌^◌, ◌<◌, drop, Bool, true, false, Option, Some, option_map, is_none, is_some, IfNone, List, [], ◌∷◌, ◌++◌}
+use Rattle.std.specs.Prelude.{◌≡◌, ◌⊎◌, ℕ, ◌+◌, ◌^◌, ◌<◌, drop, ◌&&◌, Bool, true, false, Option, option_map, is_none, is_some, IfNone, List, [], ◌∷◌, ◌++◌}
 use Rattle.flow_model.specs.declared.Loc.{Loc}
 use Rattle.flow_rule.specs.declared.Message.{Message}
-use Rattle.flow_rule.specs.declared.Message.TheVariants.{Ask}
+use Rattle.flow_rule.specs.declared.Message.TheVariants.{Ask, Byte, Close, End}
 use Rattle.epoch_model.specs.Summary.{Summary as EpochSummary, SinkTerms}
 use Rattle.local_taint.specs.declared.summary.Summary.{Summary}
 use Rattle.stream_model.specs.Streams.{is_ended, requests}
-use Rattle.stream_model.specs.Passes.{Links, Asking, asking_event, asking_after, asked_more, take_ask, drop_ask}
+use Rattle.stream_model.specs.Passes.{Links, Asking, asking_event, asking_after, asked_more, asked_if}
 use Rattle.stream_model.specs.PassLaws.{AsksSent}
 use Rattle.stream_model.specs.Schedules.{Need, begun, asking_need}
 use Rattle.pass_parts.specs.declared.pass_turn.PassTurn.{PassTurn}
@@ -198,19 +198,20 @@ pub record IsRequested (first : Bool) (asked : List Loc) (e : EpochSummary) (loc
   pub counted : first ≡ false → IsCounted asked e request
   pub added : after ≡ before ++ request ∷ []
 
--- what taking a message does
-abbrev pub taken : Bool → Bool → Bool → EpochSummary → Asking → Message → Asking
-taken true refused first e a m = take_ask refused first e a m
-taken false refused first e a m = drop_ask a (Some m)
+-- the request is noted, or a growth is refused
+abbrev pub with_request : Bool → BackView → Loc → List Request → BackView
+with_request true v l rs = record v { asked = []; requests = rs; whole = false }
+with_request false v l rs = record v { asked = asked_more v.first v.asked ((knows v).ends l).starts; requests = rs }
 
--- the message is taken, or a growth is refused
-pub record Takes (m : Message) (old new : BackView) : Type 0 where
+pub record Notes (l : Loc) (old new : BackView) : Type 0 where
   pub refused : Bool
-  pub took : (got sent : List Message) → asking_of new (got ++ m ∷ []) sent ≡ taken old.whole refused old.first (knows old) (asking_of old got sent) m
-  pub same : IsSameBack new old
-  pub fits : IsFit new
-  pub heard : (got : List Message) → is_ended got ≡ false → new.heard ≡ is_ended (got ++ m ∷ [])
-  pub requested : (got : List Message) → is_ended got ≡ false → new.whole ≡ true → (old.whole ≡ true → locations old.requests ≡ requests got)
-      → locations new.requests ≡ requests (got ++ m ∷ [])
-  pub counted : new.whole ≡ true → new.first ≡ false → (old.whole ≡ true → old.first ≡ false → AreCounted old.asked (knows old) old.requests)
-      → AreCounted new.asked (knows new) new.requests
+  pub requests : List Request
+  pub is : new ≡ with_request refused old l requests
+  pub noted : refused ≡ false → IsRequested old.first new.asked (knows old) l old.requests requests
+
+-- a message is taken. A broken pass only notes an End
+abbrev pub Takes : Message → BackView → BackView → Type 0
+Takes (Ask l) old new = ((old.whole ≡ true) × Notes l old new) ⊎ ((old.whole ≡ false) × (new ≡ old))
+Takes (Byte b) old new = new ≡ old
+Takes (Close l) old new = new ≡ old
+Takes (End whole) old new = new ≡ record old { heard = true; asked = asked_if whole old.asked; whole = whole && old.whole }

@@ -113,8 +113,6 @@ impl Back {
 
     /// Takes a message.
     fn take(&mut self, message: Message)
-        requires open { (back_of self.old).heard ≡ false }
-        requires fits { IsFit (back_of self.old) }
         ensures { Takes message (back_of self.old) (back_of self.new) }
     {
         match message {
