@@ -1,42 +1,29 @@
 -- The events of the pass backwards are those of the definitions.
-use Rattle.std.proofs.Common.{◌≡◌, ℕ, zero, suc, ◌+◌, List, [], ◌∷◌, ◌++◌, drop, refl, ap, ap₂, sym, ◌∙◌, Bool, true, false, append-nil, subst}
-use Rattle.std.specs.Prelude.{Option, Some, None, is_none, IfNone}
+use Rattle.std.proofs.Common.{◌≡◌, inl, inr, ℕ, zero, suc, ◌+◌, ◌^◌, ◌<◌, List, [], ◌∷◌, ◌++◌, drop, refl, ap, ap₂, sym, ◌∙◌, Bool, true, false, append-nil, subst}
+use Rattle.std.specs.Prelude.{Option, Some, None, IfNone}
 use Rattle.std.proofs.lemmas.List.{map-append}
-use Rattle.std.proofs.lemmas.List.Elements.{All-from_recursion}
 use Rattle.flow_model.specs.declared.Loc.{Loc}
 use Rattle.flow_rule.specs.declared.Message.{Message}
 use Rattle.flow_rule.specs.declared.Message.TheVariants.{Ask, Byte, Close, End}
 use Rattle.epoch_model.specs.Summary.{Summary as EpochSummary, SinkTerms}
-use Rattle.local_taint.specs.declared.summary.Summary.{Summary}
 use Rattle.stream_model.specs.Streams.{is_ended, requests}
 use Rattle.stream_model.specs.StreamLaws.{IsPrefix}
-use Rattle.stream_model.specs.Passes.{Asking, Links, asking_event, asking_after, asking_by, whole_asking, broken_asking, asked_more, asked_if, wanted_for, is_whole_message, drop_ask, pop_ask, end_asks, walk, push_ask}
-use Rattle.stream_model.specs.PassLaws.{AsksSent}
+use Rattle.stream_model.specs.Passes.{Asking, Links, asking_event, asking_by, whole_asking, broken_asking, asked_more, asked_if, wanted_for, is_whole_message, drop_ask, pop_ask, end_asks, walk, push_ask}
 use Rattle.stream_model.specs.Schedules.{begun, whole_asking_need, asking_need_by, asking_need}
 use Rattle.stream_model.specs.Schedules as need
 use Rattle.stream_model.proofs.Growing.{requests_more, added_all_keeps}
-use Rattle.stream_model.proofs.Passing.{asking_sends}
-use Rattle.pass_parts.specs.declared.pass_turn.PassTurn.{PassTurn}
+use Rattle.stream_model.proofs.Moving.{ended_after}
+use Rattle.stream_model.proofs.Passing.{no}
 use Rattle.pass_parts.specs.declared.pass_turn.PassTurn.TheVariants.{Moved, NotYet, Over}
 use Rattle.pass_parts.specs.declared.requests.Request.{Request}
-use Rattle.pass_parts.specs.Ends.{with, got_by, unsent, sent_by, fresh_end, EndsWhole}
-use Rattle.pass_parts.specs.Known.{known}
-use Rattle.pass_parts.specs.Requests.{locations, IsCounted, AreCounted}
-use Rattle.pass_parts.specs.Turns.{Waits}
-use Rattle.backward_pass.specs.Backward.{BackView, knows, new_back, asking_of, state, begins, IsFit, Keeps, IsSameBack, Walks, IsRequested, Takes, taken, Happens, Reached, SendsFor}
+use Rattle.pass_parts.specs.Ends.{with, got_by, unsent, sent_by}
+use Rattle.pass_parts.specs.Events.{IsEvent, IsAtRest}
+use Rattle.pass_parts.proofs.Events.{links_of, free, stuck, sent_same, still_none, refused, was_over}
+use Rattle.pass_parts.specs.Requests.{locations, AreCounted}
+use Rattle.backward_pass.specs.Backward.{BackView, knows, asking_of, state, IsFit, Keeps, IsSameBack, Walks, with_sink, IsRequested, with_request, Takes, backwards, Moves, Sends, IsQuiet}
 use Rattle.backward_pass.proofs.Counts.{counted_more, counted_one_more}
 
-pub no : {A : Type 0} → true ≡ false → A
-no e = cc
-
 -- ---- what was got
-
-pub ended_by : (got ms : List Message) → is_ended got ≡ false → is_ended (got ++ ms) ≡ is_ended ms
-ended_by [] ms h = refl
-ended_by (Ask l ∷ got) ms h = ended_by got ms h
-ended_by (Byte b ∷ got) ms h = ended_by got ms h
-ended_by (Close l ∷ got) ms h = ended_by got ms h
-ended_by (End w ∷ got) ms h = no h
 
 same_requests : (m : Message) → requests (m ∷ []) ≡ [] → (ls : List Loc) (got : List Message) → is_ended got ≡ false → ls ≡ requests got → ls ≡ requests (got ++ m ∷ [])
 same_requests m none ls got h e = e ∙ sym (append-nil (requests got)) ∙ ap (λ (rs : List Loc). requests got ++ rs) (sym none) ∙ sym (requests_more got (m ∷ []) h)
@@ -57,142 +44,8 @@ kept_asked : (first : Bool) (asked ls more : List Loc) → first ≡ false → m
 kept_asked true asked ls more t e = no t
 kept_asked false asked ls more t e = let kept = added_all_keeps asked ls in (kept.0, kept.1 ∙ sym e)
 
--- ---- taking a message
-
-module _ (v : BackView) (f : IsFit v) where
-  pub takes_ask : (l : Loc) (asked : List Loc) (rs : List Request) → v.whole ≡ true → v.heard ≡ false → asked ≡ asked_more v.first v.asked ((knows v).ends l).starts
-      → IsRequested v.first asked (knows v) l v.requests rs
-      → Takes (Ask l) v (record v { asked = asked; requests = rs })
-  takes_ask l asked rs w h a r = record {
-    refused = false;
-    took = λ got sent.
-        let make : List Loc → Bool → Asking = λ ls b. record { left = v.left; asked = ls; pushed = v.pushed; got = got ++ Ask l ∷ []; sent = sent; is_whole = b; is_over = v.over } in
-        ap₂ make a w ∙ sym (ap (λ (b : Bool). taken b false v.first (knows v) (asking_of v got sent) (Ask l)) w);
-    same = record { summary = refl; first = refl; last = refl };
-    fits = record { known = f.known; silent = still_silent v.first v.asked _ asked f.silent a; forgets = λ t. no (sym w ∙ t) };
-    heard = λ got e. h ∙ sym (ended_by got (Ask l ∷ []) e);
-    requested = λ got e t before.
-        ap locations r.added ∙ map-append (λ (k : Request). k.loc) v.requests (r.request ∷ [])
-        ∙ ap₂ (λ (ls : List Loc) (k : Loc). ls ++ k ∷ []) (before w) r.is ∙ sym (requests_more got (Ask l ∷ []) e);
-    counted = λ t other before.
-        subst (AreCounted asked (knows v)) (sym r.added)
-        (counted_one_more asked (knows v) v.requests r.request
-        (counted_more v.asked asked (knows v) v.requests (kept_asked v.first v.asked _ asked other a) (before w other)) (r.counted other));
-  }
-
-  pub takes_refused : (l : Loc) (asked : List Loc) (rs : List Request) → v.whole ≡ true → v.heard ≡ false → asked ≡ []
-      → Takes (Ask l) v (record v { asked = asked; requests = rs; whole = false })
-  takes_refused l asked rs w h a = record {
-    refused = true;
-    took = λ got sent.
-        let make : List Loc → Asking = λ ls. record { left = v.left; asked = ls; pushed = v.pushed; got = got ++ Ask l ∷ []; sent = sent; is_whole = false; is_over = v.over } in
-        ap make a ∙ sym (ap (λ (b : Bool). taken b true v.first (knows v) (asking_of v got sent) (Ask l)) w);
-    same = record { summary = refl; first = refl; last = refl };
-    fits = record { known = λ t. no (sym t); silent = λ _. a; forgets = λ _. a };
-    heard = λ got e. h ∙ sym (ended_by got (Ask l ∷ []) e);
-    requested = λ got e t before. no (sym t);
-    counted = λ t other before. no (sym t);
-  }
-
-  pub takes_broken : (l : Loc) → v.whole ≡ false → v.heard ≡ false → Takes (Ask l) v v
-  takes_broken l w h = record {
-    refused = false;
-    took = λ got sent. sym (ap (λ (b : Bool). taken b false v.first (knows v) (asking_of v got sent) (Ask l)) w);
-    same = record { summary = refl; first = refl; last = refl };
-    fits = f;
-    heard = λ got e. h ∙ sym (ended_by got (Ask l ∷ []) e);
-    requested = λ got e t before. no (sym t ∙ w);
-    counted = λ t other before. no (sym t ∙ w);
-  }
-
-  -- a message for which nothing is asked, and that breaks nothing
-  pub takes_other : (m : Message) (heard : Bool) → wanted_for (knows v) m ≡ [] → requests (m ∷ []) ≡ [] → is_whole_message m ≡ true → heard ≡ is_ended (m ∷ [])
-      → Takes m v (record v { heard = heard })
-  takes_other m heard none silent stays ends = record {
-    refused = false;
-    took = λ got sent. took got sent v.whole refl;
-    same = record { summary = refl; first = refl; last = refl };
-    fits = record { known = f.known; silent = f.silent; forgets = f.forgets };
-    heard = λ got e. ends ∙ sym (ended_by got (m ∷ []) e);
-    requested = λ got e t before. same_requests m silent (locations v.requests) got e (before t);
-    counted = λ t other before. before t other;
-  } where
-    took : (got sent : List Message) (b : Bool) → v.whole ≡ b → asking_of (record v { heard = heard }) (got ++ m ∷ []) sent ≡ taken b false v.first (knows v) (asking_of v got sent) m
-    took got sent false w = refl
-    took got sent true w =
-        let make : List Loc → Bool → Asking = λ ls b. record { left = v.left; asked = ls; pushed = v.pushed; got = got ++ m ∷ []; sent = sent; is_whole = b; is_over = v.over } in
-        ap₂ make
-        (sym (ap (λ (b : Bool). asked_if b (asked_more v.first v.asked (wanted_for (knows v) m))) stays ∙ ap (asked_more v.first v.asked) none ∙ nothing_asked v.first v.asked))
-        (w ∙ sym stays)
-
-  -- an End that is not whole
-  pub takes_bad_end : (asked : List Loc) → asked ≡ [] → Takes (End false) v (record v { heard = true; asked = asked; whole = false })
-  takes_bad_end asked a = record {
-    refused = false;
-    took = λ got sent. took got sent v.whole refl;
-    same = record { summary = refl; first = refl; last = refl };
-    fits = record { known = λ t. no (sym t); silent = λ _. a; forgets = λ _. a };
-    heard = λ got e. sym (ended_by got (End false ∷ []) e);
-    requested = λ got e t before. no (sym t);
-    counted = λ t other before. no (sym t);
-  } where
-    took : (got sent : List Message) (b : Bool) → v.whole ≡ b
-        → asking_of (record v { heard = true; asked = asked; whole = false }) (got ++ End false ∷ []) sent ≡ taken b false v.first (knows v) (asking_of v got sent) (End false)
-    took got sent true w =
-        let make : List Loc → Asking = λ ls. record { left = v.left; asked = ls; pushed = v.pushed; got = got ++ End false ∷ []; sent = sent; is_whole = false; is_over = v.over } in
-        ap make a
-    took got sent false w =
-        let make : List Loc → Bool → Asking = λ ls b. record { left = v.left; asked = ls; pushed = v.pushed; got = got ++ End false ∷ []; sent = sent; is_whole = b; is_over = v.over } in
-        ap₂ make (a ∙ sym (f.forgets w)) (sym w)
-
-  -- ---- walking a sink
-
-  pub walks : (k : SinkTerms) (left : List SinkTerms) (asked : List Loc) → v.whole ≡ true → v.left ≡ k ∷ left → asked ≡ asked_more v.first v.asked k.terms.starts
-      → Walks v (record v { left = left; asked = asked })
-  walks k left asked w l a = record {
-    refused = false;
-    sink = k;
-    left = left;
-    is = l;
-    walked = λ got sent.
-        let make : List Loc → Asking = λ ls. record { left = left; asked = ls; pushed = v.pushed; got = got; sent = sent; is_whole = v.whole; is_over = v.over } in
-        ap make a;
-    same = record { summary = refl; first = refl; last = refl };
-    fits = record { known = f.known; silent = still_silent v.first v.asked _ asked f.silent a; forgets = λ t. no (sym w ∙ t) };
-    heard = refl;
-    requests = refl;
-  }
-
-  pub walks_refused : (k : SinkTerms) (left : List SinkTerms) (asked : List Loc) → v.left ≡ k ∷ left → asked ≡ []
-      → Walks v (record v { asked = asked; whole = false })
-  walks_refused k left asked l a = record {
-    refused = true;
-    sink = k;
-    left = left;
-    is = l;
-    walked = λ got sent.
-        let make : List Loc → Asking = λ ls. record { left = v.left; asked = ls; pushed = v.pushed; got = got; sent = sent; is_whole = false; is_over = v.over } in
-        ap make a;
-    same = record { summary = refl; first = refl; last = refl };
-    fits = record { known = λ t. no (sym t); silent = λ _. a; forgets = λ _. a };
-    heard = refl;
-    requests = refl;
-  }
-
-walk_open : (refused first : Bool) (a : Asking) (k : SinkTerms) (left : List SinkTerms) → (walk refused first a k left).is_over ≡ a.is_over
-walk_open true first a k left = refl
-walk_open false first a k left = refl
-
-taken_open : (whole refused first : Bool) (e : EpochSummary) (a : Asking) (m : Message) → (taken whole refused first e a m).is_over ≡ a.is_over
-taken_open true true first e a m = refl
-taken_open true false first e a m = refl
-taken_open false refused first e a m = refl
-
-pub walks_open : (v new : BackView) → Walks v new → new.over ≡ v.over
-walks_open v new w = ap (λ (a : Asking). a.is_over) (w.walked [] []) ∙ walk_open w.refused v.first (asking_of v [] []) w.sink w.left
-
-pub takes_open : (m : Message) (v new : BackView) → Takes m v new → new.over ≡ v.over
-takes_open m v new t = ap (λ (a : Asking). a.is_over) (t.took [] []) ∙ taken_open v.whole t.refused v.first (knows v) (asking_of v [] []) m
+broken_fits : (v : BackView) → v.whole ≡ false → v.asked ≡ [] → IsFit v
+broken_fits v w a = record { known = λ t. no (sym t ∙ w); silent = λ _. a; forgets = λ _. a }
 
 -- ---- the model's event, by cases
 
@@ -215,10 +68,6 @@ module _ (first : Bool) (e : EpochSummary) (links : Links) (a : Asking) where
   quiet_event : a.is_over ≡ false → a.is_whole ≡ true → drop a.pushed a.asked ≡ [] → a.left ≡ [] → asking_event first e links a ≡ whole_asking first e links a [] [] (is_ended a.got)
   quiet_event o w d l = whole_event o w ∙ ap₂ (λ (ls : List Loc) (ks : List SinkTerms). whole_asking first e links a ls ks (is_ended a.got)) d l
 
--- nothing waits to be sent, and no sink is left
-abbrev pub IsQuiet : BackView → Type 0
-IsQuiet v = v.whole ≡ true → (drop v.pushed v.asked ≡ []) × (v.left ≡ [])
-
 abbrev pop_by : Bool → Bool → Bool → EpochSummary → Asking → Option Message → Asking
 pop_by true refused first e a next = pop_ask refused first e a next
 pop_by false refused first e a next = drop_ask a next
@@ -238,253 +87,273 @@ module _ (v : BackView) (links : Links) (got sent : List Message) (o : v.over �
 
 -- ---- the events
 
-pub sent_same : (o p w x : Bool) → o ≡ false → p ≡ false → (sent : Option (List Message)) → sent_by o w sent ≡ sent_by p x sent
-sent_same o p w x no_o no_p None = ap (λ (b : Bool). unsent b w) no_o ∙ sym (ap (λ (b : Bool). unsent b x) no_p)
-sent_same o p w x no_o no_p (Some sent) = refl
+itself : (v : BackView) → IsSameBack v v
+itself v = record { summary = refl; first = refl; last = refl }
 
-abbrev pub links_of : Bool → Option Message → Bool → Links
-links_of room next refused = record { has_room = room; next = next; is_refused = refused }
+-- a message that is sent changes nothing of what the pass keeps
+keeps_push : (v : BackView) (pushed : ℕ) (over : Bool) (got sent later : Option (List Message)) (m : Message) → later ≡ with m sent → Keeps v got sent
+    → Keeps (record v { pushed = pushed; over = over }) got later
+keeps_push v pushed over got sent later m e k = record {
+  fits = record { known = k.fits.known; silent = k.fits.silent; forgets = k.fits.forgets };
+  heard = k.heard;
+  alone = still_none (v.first ≡ true) m sent later e k.alone;
+  requested = k.requested;
+  counted = k.counted;
+  ends = k.ends;
+}
 
-module _ (v : BackView) (got sent : Option (List Message)) where
-  pub happens_over : v.over ≡ true → Happens v got sent v got sent Over
-  happens_over o = record {
-    links = links_of true None false;
-    went = tt;
-    is = sym (over_event v.first (knows v) (links_of true None false) (state v got sent) o);
-  }
+none_left : (n : ℕ) → drop {A = Loc} n [] ≡ []
+none_left zero = refl
+none_left (suc n) = refl
 
-  pub happens_full : (later : Option (List Message)) (l : Loc) (waiting : List Loc) → v.over ≡ false → v.whole ≡ true → drop v.pushed v.asked ≡ l ∷ waiting → later ≡ sent
-      → Happens v got sent v got later NotYet
-  happens_full later l waiting o w d e =
-      let links = links_of false None false in
+-- a broken pass asks nothing
+pub sends : (v : BackView) → IsFit v → (l : Loc) (waiting : List Loc) → v.over ≡ false → drop v.pushed v.asked ≡ l ∷ waiting → v.pushed + 1 < 2 ^ 64 → Sends (Ask l) v
+sends v f l waiting o next fits = record { loc = l; waiting = waiting; is = refl; running = o; whole = by v.whole refl; next = next; fits = fits } where
+  by : (b : Bool) → v.whole ≡ b → v.whole ≡ true
+  by true w = w
+  by false w = (let nothing : [] ≡ l ∷ waiting = sym (ap (drop v.pushed) (f.forgets w) ∙ none_left v.pushed) ∙ next in cc)
+
+-- a message is taken
+module _ (v : BackView) (got sent : Option (List Message)) (k : Keeps v got sent) where
+  -- it is that of the definitions if it is so for whatever went through the ends
+  taken_next : (refused : Bool) (new : BackView) (later : Option (List Message)) (m : Message) → IsAtRest backwards IsQuiet false v → later ≡ with m got
+      → new.over ≡ v.over → IsSameBack new v
+      → ((got sent : List Message) → asking_of new (got ++ m ∷ []) sent ≡ pop_by v.whole refused v.first (knows v) (asking_of v got sent) (Some m))
+      → ((got : List Message) → is_ended got ≡ false → Keeps v (Some got) sent → Keeps new (Some (got ++ m ∷ [])) sent)
+      → IsEvent backwards v got sent new later sent Moved
+  taken_next refused new later m r e o same took keeps = record {
+    happens = record { links = links_of true (Some m) refused; went = (refl, refl); is = by got (sym k.heard ∙ r.ended) e };
+    keeps = kept got k (sym k.heard ∙ r.ended) e;
+    same = same;
+    over = tt;
+    running = o ∙ r.running;
+    not_yet = tt;
+  } where
+    by : (got : Option (List Message)) → is_ended (got_by got) ≡ false → later ≡ with m got
+        → state new later sent ≡ asking_event v.first (knows v) (links_of true (Some m) refused) (state v got sent)
+    by None h e = no h
+    by (Some got) h e =
+        ap (λ (g : Option (List Message)). state new g sent) e ∙ took got (sent_by new.over new.whole sent)
+        ∙ ap (λ (ms : List Message). pop_by v.whole refused v.first (knows v) (asking_of v got ms) (Some m)) (sent_same new.over v.over new.whole v.whole (o ∙ r.running) r.running sent)
+        ∙ sym (at_pop v (links_of true (Some m) refused) got (sent_by v.over v.whole sent) r.running r.idle v.whole refl h)
+
+    kept : (got : Option (List Message)) → Keeps v got sent → is_ended (got_by got) ≡ false → later ≡ with m got → Keeps new later sent
+    kept None k h e = no h
+    kept (Some got) k h e = subst (λ g. Keeps new g sent) (sym e) (keeps got h k)
+
+  -- one for which nothing is asked, and that breaks nothing
+  other_next : (heard : Bool) (later : Option (List Message)) (m : Message) → IsAtRest backwards IsQuiet false v → later ≡ with m got
+      → (v.whole ≡ true → (wanted_for (knows v) m ≡ []) × (requests (m ∷ []) ≡ []) × (is_whole_message m ≡ true)) → heard ≡ is_ended (m ∷ [])
+      → (heard ≡ true → m ≡ End true)
+      → IsEvent backwards v got sent (record v { heard = heard }) later sent Moved
+  other_next heard later m r e quiet ends end =
+      taken_next false (record v { heard = heard }) later m r e refl (record { summary = refl; first = refl; last = refl }) (λ got sent. took got sent v.whole refl) (λ got h k.
       record {
-        links = links;
-        went = tt;
-        is = ap (state v got) e ∙ sym (at_push v.first (knows v) links (state v got sent) l waiting o w d);
-      }
-
-  pub happens_walk : (new : BackView) → v.over ≡ false → v.whole ≡ true → drop v.pushed v.asked ≡ [] → Walks v new → Happens v got sent new got sent Moved
-  happens_walk new o w d h =
-      let links = links_of true (Some (End true)) h.refused in
-      record {
-        links = links;
-        went = (refl, refl);
-        is = h.walked (got_by got) (sent_by new.over new.whole sent)
-            ∙ ap (λ (ms : List Message). walk h.refused v.first (asking_of v (got_by got) ms) h.sink h.left) (sent_same new.over v.over new.whole v.whole (walks_open v new h ∙ o) o sent)
-            ∙ sym (at_walk v.first (knows v) links (state v got sent) h.sink h.left o w d h.is);
-      }
-
-  pub happens_empty : (later : Option (List Message)) → v.over ≡ false → IsQuiet v → is_ended (got_by got) ≡ false → later ≡ got → Happens v got sent v later sent NotYet
-  happens_empty later o q h e =
-      let links = links_of false None false in
-      record {
-        links = links;
-        went = tt;
-        is = ap (λ (g : Option (List Message)). state v g sent) e ∙ sym (at_pop v links (got_by got) (sent_by v.over v.whole sent) o q v.whole refl h ∙ by v.whole);
-      }
+        fits = record { known = k.fits.known; silent = k.fits.silent; forgets = k.fits.forgets };
+        heard = ends ∙ sym (ended_after got (m ∷ []) h);
+        alone = k.alone;
+        requested = λ t. same_requests m (quiet t).1 (locations v.requests) got h (k.requested t);
+        counted = k.counted;
+        ends = λ t h. (got, ap (λ (m : Message). got ++ m ∷ []) (end h));
+      })
     where
-      by : (b : Bool) → pop_by b false v.first (knows v) (state v got sent) None ≡ state v got sent
-      by true = refl
-      by false = refl
+      took : (got sent : List Message) (b : Bool) → v.whole ≡ b → asking_of (record v { heard = heard }) (got ++ m ∷ []) sent ≡ pop_by b false v.first (knows v) (asking_of v got sent) (Some m)
+      took got sent false w = refl
+      took got sent true w =
+          let q = quiet w in
+          ap₂ (λ (ls : List Loc) (b : Bool). record (asking_of v (got ++ m ∷ []) sent) { asked = ls; is_whole = b })
+          (sym (ap (λ (b : Bool). asked_if b (asked_more v.first v.asked (wanted_for (knows v) m))) q.2 ∙ ap (asked_more v.first v.asked) q.0 ∙ nothing_asked v.first v.asked))
+          (w ∙ sym q.2)
 
-  pub happens_no_room : (later : Option (List Message)) → v.over ≡ false → IsQuiet v → is_ended (got_by got) ≡ true → later ≡ sent → Happens v got sent v got later NotYet
-  happens_no_room later o q h e =
-      let links = links_of false None false in
+  -- one that breaks the pass, or a growth is refused in it
+  breaking_next : (refused heard : Bool) (rs : List Request) (later : Option (List Message)) (m : Message) → IsAtRest backwards IsQuiet false v → later ≡ with m got
+      → ((got sent : List Message) → pop_by v.whole refused v.first (knows v) (asking_of v got sent) (Some m) ≡ record (asking_of v (got ++ m ∷ []) sent) { asked = []; is_whole = false })
+      → heard ≡ is_ended (m ∷ [])
+      → IsEvent backwards v got sent (record v { heard = heard; asked = []; requests = rs; whole = false }) later sent Moved
+  breaking_next refused heard rs later m r e took ends =
+      taken_next refused (record v { heard = heard; asked = []; requests = rs; whole = false }) later m r e refl (record { summary = refl; first = refl; last = refl })
+      (λ got sent. sym (took got sent)) (λ got h k.
       record {
-        links = links;
-        went = tt;
-        is = ap (state v got) e ∙ sym (at_end v links (got_by got) (sent_by v.over v.whole sent) o q v.whole refl h);
-      }
+        fits = broken_fits _ refl refl;
+        heard = ends ∙ sym (ended_after got (m ∷ []) h);
+        alone = k.alone;
+        requested = λ t. no (sym t);
+        counted = λ t _. no (sym t);
+        ends = λ t _. no (sym t);
+      })
 
-pub happens_push : (v : BackView) (got sent later : Option (List Message)) (l : Loc) (waiting : List Loc) → v.over ≡ false → v.whole ≡ true → drop v.pushed v.asked ≡ l ∷ waiting
-    → IfNone sent (v.first ≡ true) → (v.first ≡ true → v.asked ≡ []) → later ≡ with (Ask l) sent → Happens v got sent (record v { pushed = v.pushed + 1 }) got later Moved
-happens_push v got None later l waiting o w d alone none e =
-    let nothing : [] ≡ l ∷ waiting = sym (ap (drop v.pushed) (none alone) ∙ empty v.pushed) ∙ d in cc
-  where
-    empty : (n : ℕ) → drop {A = Loc} n [] ≡ []
-    empty zero = refl
-    empty (suc n) = refl
-happens_push v got (Some sent) later l waiting o w d alone none e =
-    let links = links_of true (Some (End true)) false in
-    record {
-      links = links;
-      went = (refl, refl);
-      is = ap (state (record v { pushed = v.pushed + 1 }) got) e ∙ sym (at_push v.first (knows v) links (state v got (Some sent)) l waiting o w d);
+  noted_next : (later : Option (List Message)) (l : Loc) (rs : List Request) → IsAtRest backwards IsQuiet false v → later ≡ with (Ask l) got → v.whole ≡ true
+      → IsRequested v.first (asked_more v.first v.asked ((knows v).ends l).starts) (knows v) l v.requests rs
+      → IsEvent backwards v got sent (with_request false v l rs) later sent Moved
+  noted_next later l rs r e w n =
+      let asked = asked_more v.first v.asked ((knows v).ends l).starts in
+      taken_next false (with_request false v l rs) later (Ask l) r e refl (record { summary = refl; first = refl; last = refl })
+      (λ got sent.
+      ap (λ (b : Bool). record (asking_of v (got ++ Ask l ∷ []) sent) { asked = asked; is_whole = b }) w
+      ∙ sym (ap (λ (b : Bool). pop_by b false v.first (knows v) (asking_of v got sent) (Some (Ask l))) w)) (λ got h k.
+      record {
+        fits = record { known = k.fits.known; silent = still_silent v.first v.asked _ asked k.fits.silent refl; forgets = λ t. no (sym w ∙ t) };
+        heard = r.ended ∙ sym (ended_after got (Ask l ∷ []) h);
+        alone = k.alone;
+        requested = λ t.
+            ap locations n.added ∙ map-append (λ (q : Request). q.loc) v.requests (n.request ∷ [])
+            ∙ ap₂ (λ (ls : List Loc) (q : Loc). ls ++ q ∷ []) (k.requested w) n.is ∙ sym (requests_more got (Ask l ∷ []) h);
+        counted = λ t other.
+            subst (AreCounted asked (knows v)) (sym n.added)
+            (counted_one_more asked (knows v) v.requests n.request
+            (counted_more v.asked asked (knows v) v.requests (kept_asked v.first v.asked _ asked other refl) (k.counted w other)) (n.counted other));
+        ends = λ t h. no (sym h ∙ r.ended);
+      })
+
+  same_next : (new : BackView) (later : Option (List Message)) (m : Message) → IsAtRest backwards IsQuiet false v → later ≡ with m got → new ≡ v
+      → (v.whole ≡ true → (wanted_for (knows v) m ≡ []) × (requests (m ∷ []) ≡ []) × (is_whole_message m ≡ true)) → is_ended (m ∷ []) ≡ false
+      → IsEvent backwards v got sent new later sent Moved
+  same_next new later m r e t quiet unended =
+      subst (λ n. IsEvent backwards v got sent n later sent Moved) (sym t)
+      (other_next v.heard later m r e quiet (r.ended ∙ sym unended) (λ h. no (sym h ∙ r.ended)))
+
+  took_next : (new : BackView) (later : Option (List Message)) (m : Message) → IsAtRest backwards IsQuiet false v → later ≡ with m got → Takes m v new
+      → IsEvent backwards v got sent new later sent Moved
+  took_next new later (Ask l) r e (inl t) = subst (λ n. IsEvent backwards v got sent n later sent Moved) (sym t.1.is) (by t.1.refused refl) where
+    by : (refused : Bool) → t.1.refused ≡ refused → IsEvent backwards v got sent (with_request refused v l t.1.requests) later sent Moved
+    by true f = subst (λ h. IsEvent backwards v got sent (record v { heard = h; asked = []; requests = t.1.requests; whole = false }) later sent Moved) (sym r.ended)
+        (breaking_next true false t.1.requests later (Ask l) r e (λ got sent. ap (λ (b : Bool). pop_by b true v.first (knows v) (asking_of v got sent) (Some (Ask l))) t.0) refl)
+    by false f = noted_next later l t.1.requests r e t.0
+        (subst (λ ls. IsRequested v.first ls (knows v) l v.requests t.1.requests) (ap (λ (n : BackView). n.asked) (t.1.is ∙ ap (λ (b : Bool). with_request b v l t.1.requests) f)) (t.1.noted f))
+  took_next new later (Ask l) r e (inr t) = same_next new later (Ask l) r e t.1 (λ w. no (sym w ∙ t.0)) refl
+  took_next new later (Byte b) r e t = same_next new later (Byte b) r e t (λ w. (refl, refl, refl)) refl
+  took_next new later (Close l) r e t = same_next new later (Close l) r e t (λ w. (refl, refl, refl)) refl
+  took_next new later (End true) r e t = subst (λ n. IsEvent backwards v got sent n later sent Moved) (sym t) (other_next true later (End true) r e (λ w. (refl, refl, refl)) refl (λ _. refl))
+  took_next new later (End false) r e t = subst (λ n. IsEvent backwards v got sent n later sent Moved) (sym t)
+      (breaking_next false true v.requests later (End false) r e (λ got sent. bad got sent v.whole refl) refl) where
+        bad : (got sent : List Message) (b : Bool) → v.whole ≡ b
+            → pop_by b false v.first (knows v) (asking_of v got sent) (Some (End false)) ≡ record (asking_of v (got ++ End false ∷ []) sent) { asked = []; is_whole = false }
+        bad got sent true w = refl
+        bad got sent false w = ap₂ (λ (ls : List Loc) (b : Bool). record (asking_of v (got ++ End false ∷ []) sent) { asked = ls; is_whole = b }) (k.fits.forgets w) w
+
+module _ (v : BackView) (got sent : Option (List Message)) (k : Keeps v got sent) where
+  pub moved_next : (new : BackView) → Moves v new → IsEvent backwards v got sent new got sent Moved
+  moved_next new m = subst (λ n. IsEvent backwards v got sent n got sent Moved) (sym w.is) (by w.refused) where
+    w : Walks v new
+    w = m.walked
+
+    at : (links : Links) → asking_event v.first (knows v) links (state v got sent) ≡ walk links.is_refused v.first (state v got sent) w.sink w.left
+    at links = at_walk v.first (knows v) links (state v got sent) w.sink w.left m.running m.whole m.sent w.next
+
+    by : (refused : Bool) → IsEvent backwards v got sent (with_sink refused v w.sink w.left) got sent Moved
+    by true = record {
+      happens = record {
+        links = free true;
+        went = (refl, refl);
+        is = ap (λ (ms : List Message). record (state v got sent) { asked = []; sent = ms; is_whole = false }) (sent_same v.over v.over false v.whole m.running m.running sent)
+            ∙ sym (at (free true));
+      };
+      keeps = record {
+        fits = broken_fits _ refl refl;
+        heard = k.heard;
+        alone = k.alone;
+        requested = λ t. no (sym t);
+        counted = λ t _. no (sym t);
+        ends = λ t _. no (sym t);
+      };
+      same = record { summary = refl; first = refl; last = refl };
+      over = tt;
+      running = m.running;
+      not_yet = tt;
+    }
+    by false = record {
+      happens = record { links = free false; went = (refl, refl); is = sym (at (free false)) };
+      keeps = record {
+        fits = record { known = k.fits.known; silent = still_silent v.first v.asked _ _ k.fits.silent refl; forgets = λ t. no (sym m.whole ∙ t) };
+        heard = k.heard;
+        alone = k.alone;
+        requested = k.requested;
+        counted = λ t other. counted_more v.asked _ (knows v) v.requests (kept_asked v.first v.asked _ _ other refl) (k.counted m.whole other);
+        ends = k.ends;
+      };
+      same = record { summary = refl; first = refl; last = refl };
+      over = tt;
+      running = m.running;
+      not_yet = tt;
     }
 
-pub happens_pop : (v new : BackView) (got sent later : Option (List Message)) (m : Message) → v.over ≡ false → IsQuiet v → is_ended (got_by got) ≡ false → later ≡ with m got → Takes m v new
-    → Happens v got sent new later sent Moved
-happens_pop v new None sent later m o q h e t = no h
-happens_pop v new (Some got) sent later m o q h e t =
-    let links = links_of true (Some m) t.refused in
-    record {
-      links = links;
-      went = (refl, refl);
-      is = ap (λ (g : Option (List Message)). state new g sent) e ∙ t.took got (sent_by new.over new.whole sent)
-          ∙ ap (λ (ms : List Message). taken v.whole t.refused v.first (knows v) (asking_of v got ms) m) (sent_same new.over v.over new.whole v.whole (takes_open m v new t ∙ o) o sent)
-          ∙ sym (at_pop v links got (sent_by v.over v.whole sent) o q v.whole refl h ∙ by v.whole);
-    }
-  where
-    by : (b : Bool) → pop_by b t.refused v.first (knows v) (state v (Some got) sent) (Some m) ≡ taken b t.refused v.first (knows v) (state v (Some got) sent) m
-    by true = refl
-    by false = refl
+  pub push_next : (new : BackView) (later : Option (List Message)) (m : Message) → Sends m v → later ≡ with m sent → new ≡ record v { pushed = v.pushed + 1 }
+      → IsEvent backwards v got sent new got later Moved
+  push_next new later m s e n =
+      subst (λ new. IsEvent backwards v got sent new got later Moved) (sym n)
+      (record {
+        happens = record { links = free false; went = (refl, refl); is = by sent k.alone (e ∙ ap (λ m. with m sent) s.is) };
+        keeps = keeps_push v (v.pushed + 1) v.over got sent later m e k;
+        same = record { summary = refl; first = refl; last = refl };
+        over = tt;
+        running = s.running;
+        not_yet = tt;
+      })
+    where
+      by : (sent : Option (List Message)) → IfNone sent (v.first ≡ true) → later ≡ with (Ask s.loc) sent
+          → state (record v { pushed = v.pushed + 1 }) got later ≡ asking_event v.first (knows v) (free false) (state v got sent)
+      by None alone e = (let nothing : [] ≡ s.loc ∷ s.waiting = sym (ap (drop v.pushed) (k.fits.silent alone) ∙ none_left v.pushed) ∙ s.next in cc)
+      by (Some sent) alone e =
+          ap (state (record v { pushed = v.pushed + 1 }) got) e
+          ∙ sym (at_push v.first (knows v) (free false) (state v got (Some sent)) s.loc s.waiting s.running s.whole s.next)
 
-pub happens_end : (v : BackView) (got sent later : Option (List Message)) → v.over ≡ false → IsQuiet v → is_ended (got_by got) ≡ true → later ≡ with (End v.whole) sent
-    → Happens v got sent (record v { over = true }) got later Over
-happens_end v got None later o q h e =
-    let links = links_of true (Some (End true)) false in
-    record {
-      links = links;
-      went = tt;
-      is = ap (state (record v { over = true }) got) e
-          ∙ ap (λ (ms : List Message). end_asks true (asking_of v (got_by got) ms)) (sym (ap (λ (b : Bool). unsent b v.whole) o))
-          ∙ sym (at_end v links (got_by got) (sent_by v.over v.whole None) o q v.whole refl h);
-    }
-happens_end v got (Some sent) later o q h e =
-    let links = links_of true (Some (End true)) false in
-    record {
-      links = links;
-      went = tt;
-      is = ap (state (record v { over = true }) got) e ∙ sym (at_end v links (got_by got) sent o q v.whole refl h);
-    }
+  -- what is next is done by the pass as it is after the look
+  module _ (seen : BackView) (is : seen ≡ v) where
+    pub over_next : v.over ≡ true → IsEvent backwards v got sent seen got sent Over
+    over_next o = was_over backwards v seen got sent is k (itself v) o (over_event v.first (knows v) stuck (state v got sent) o)
 
--- ---- the same of a value that is equal
+    pub full_next : (later : Option (List Message)) (m : Message) → Sends m v → later ≡ sent → IsEvent backwards v got sent seen got later NotYet
+    full_next later m s e =
+        refused backwards v seen got sent is k (itself v) got later s.running refl e
+        (at_push v.first (knows v) stuck (state v got sent) s.loc s.waiting s.running s.whole s.next)
 
-pub takes_message : {m n : Message} {old new : BackView} → n ≡ m → Takes m old new → Takes n old new
-takes_message {old = old} {new = new} e t = subst (λ k. Takes k old new) (sym e) t
+    pub empty_next : (later : Option (List Message)) → IsAtRest backwards IsQuiet false v → later ≡ got → IsEvent backwards v got sent seen later sent NotYet
+    empty_next later r e =
+        refused backwards v seen got sent is k (itself v) later sent r.running e refl
+        (at_pop v stuck (got_by got) (sent_by v.over v.whole sent) r.running r.idle v.whole refl (sym k.heard ∙ r.ended) ∙ by v.whole)
+      where
+        by : (b : Bool) → pop_by b false v.first (knows v) (state v got sent) None ≡ state v got sent
+        by true = refl
+        by false = refl
 
-pub takes_from : {m : Message} {p old new : BackView} → p ≡ old → Takes m p new → Takes m old new
-takes_from {m = m} {new = new} is t = subst (λ v. Takes m v new) is t
+    pub pop_next : (new : BackView) (later : Option (List Message)) (m : Message) → IsAtRest backwards IsQuiet false v → later ≡ with m got → Takes m seen new
+        → IsEvent backwards v got sent new later sent Moved
+    pop_next new later m r e t = took_next v got sent k new later m r e (subst (λ v. Takes m v new) is t)
 
-pub happens_at : {p old new : BackView} {got sent got' sent' : Option (List Message)} {turn : PassTurn} → p ≡ old → Happens p got sent new got' sent' turn → Happens old got sent new got' sent' turn
-happens_at {new = new} {got = got} {sent = sent} {got' = got'} {sent' = sent'} {turn = turn} is h = subst (λ v. Happens v got sent new got' sent' turn) is h
+    pub no_room_next : (later : Option (List Message)) → IsAtRest backwards IsQuiet true v → later ≡ sent → IsEvent backwards v got sent seen got later NotYet
+    no_room_next later r e =
+        refused backwards v seen got sent is k (itself v) got later r.running refl e
+        (at_end v stuck (got_by got) (sent_by v.over v.whole sent) r.running r.idle v.whole refl (sym k.heard ∙ r.ended))
 
-pub happens_to : {old v new : BackView} {got sent got' sent' : Option (List Message)} {turn : PassTurn} → v ≡ new → Happens old got sent v got' sent' turn → Happens old got sent new got' sent' turn
-happens_to {old = old} {got = got} {sent = sent} {got' = got'} {sent' = sent'} {turn = turn} is h = subst (λ v. Happens old got sent v got' sent' turn) is h
+    pub end_next : (later : Option (List Message)) → IsAtRest backwards IsQuiet true v → later ≡ with (End seen.whole) sent
+        → IsEvent backwards v got sent (record seen { over = true }) got later Over
+    end_next later r =
+        subst (λ u. later ≡ with (End u.whole) sent → IsEvent backwards v got sent (record u { over = true }) got later Over) (sym is)
+        (λ e.
+        record {
+          happens = record { links = free false; went = tt; is = by sent e };
+          keeps = keeps_push v v.pushed true got sent later (End v.whole) e k;
+          same = record { summary = refl; first = refl; last = refl };
+          over = refl;
+          running = tt;
+          not_yet = tt;
+        })
+      where
+        at : (sent : List Message) → asking_event v.first (knows v) (free false) (asking_of v (got_by got) sent) ≡ end_asks true (asking_of v (got_by got) sent)
+        at sent = at_end v (free false) (got_by got) sent r.running r.idle v.whole refl (sym k.heard ∙ r.ended)
 
-pub quiet_broken : (p : BackView) → p.whole ≡ false → IsQuiet p
-quiet_broken p w = λ t. no (sym t ∙ w)
-
--- ---- from the beginning on
-
-event_whole : (first : Bool) (e : EpochSummary) (links : Links) (a : Asking) → a.is_whole ≡ false → (asking_event first e links a).is_whole ≡ false
-event_whole first e links a w = by a.is_over where
-  ended : (b : Bool) → (broken_asking links a b).is_whole ≡ false
-  ended false = by links.next where
-    by : (next : Option Message) → (drop_ask a next).is_whole ≡ false
-    by None = w
-    by (Some m) = w
-  ended true = by links.has_room where
-    by : (room : Bool) → (end_asks room a).is_whole ≡ false
-    by true = w
-    by false = w
-
-  by : (over : Bool) → (asking_by first e links a over a.is_whole).is_whole ≡ false
-  by true = w
-  by false = ap (λ (b : Bool). (asking_by first e links a false b).is_whole) w ∙ ended (is_ended a.got)
-
-after_broken : (first : Bool) (e : EpochSummary) (schedule : List Links) (a : Asking) → a.is_whole ≡ false → (asking_after first e schedule a).is_whole ≡ false
-after_broken first e [] a w = w
-after_broken first e (links ∷ schedule) a w = after_broken first e schedule (asking_event first e links a) (event_whole first e links a w)
-
-after_one_more : (first : Bool) (e : EpochSummary) (schedule : List Links) (links : Links) (a : Asking) → asking_after first e (schedule ++ links ∷ []) a ≡ asking_event first e links (asking_after first e schedule a)
-after_one_more first e [] links a = refl
-after_one_more first e (l ∷ schedule) links a = after_one_more first e schedule links (asking_event first e l a)
-
-pub reached_next : (old new : BackView) (got sent got' sent' : Option (List Message)) (turn : PassTurn) → Happens old got sent new got' sent' turn → IsSameBack new old → Reached old got sent → Reached new got' sent'
-reached_next old new got sent got' sent' turn h same r =
-    let later = r.schedule ++ h.links ∷ [] in
-    let after : Option Summary → Bool → Bool → Asking = λ s first last. asking_after first (known s) later (begun (is_none s) last (known s)) in
-    record {
-      schedule = later;
-      is = h.is ∙ ap (asking_event old.first (knows old) h.links) r.is ∙ sym (after_one_more old.first (knows old) r.schedule h.links (begins old))
-          ∙ ap (λ s. after s old.first old.last) (sym same.summary) ∙ ap₂ (after new.summary) (sym same.first) (sym same.last);
-    }
-
-pub sends_for : (v : BackView) (got sent : Option (List Message)) → Reached v got sent → SendsFor v got sent
-sends_for v got sent r = λ w. by w v.summary refl where
-  by : v.whole ≡ true → (s : Option Summary) → v.summary ≡ s → AsksSent v.first (knows v) (state v got sent)
-  by w None is = no (sym w ∙ ap (λ (a : Asking). a.is_whole) r.is ∙ after_broken v.first (knows v) r.schedule (begins v) (ap (λ s. (begun (is_none s) v.last (knows v)).is_whole) is))
-  by w (Some s) is =
-      let same = r.is ∙ ap (λ s. asking_after v.first (knows v) r.schedule (begun (is_none s) v.last (knows v))) is in
-      subst (AsksSent v.first (knows v)) (sym same) (asking_sends v.first v.last (knows v) r.schedule (sym (ap (λ (a : Asking). a.is_whole) same) ∙ w))
-
-pub reached_new : (s : Option Summary) (first last : Bool) → Reached (new_back s first last) (fresh_end last) (fresh_end first)
-reached_new None true true = record { schedule = []; is = refl }
-reached_new None true false = record { schedule = []; is = refl }
-reached_new None false true = record { schedule = []; is = refl }
-reached_new None false false = record { schedule = []; is = refl }
-reached_new (Some s) true true = record { schedule = []; is = refl }
-reached_new (Some s) true false = record { schedule = []; is = refl }
-reached_new (Some s) false true = record { schedule = []; is = refl }
-reached_new (Some s) false false = record { schedule = []; is = refl }
-
-pub reached_made : (s : Option Summary) (first last : Bool) (v : BackView) → v ≡ new_back s first last → Reached v (fresh_end last) (fresh_end first)
-reached_made s first last v e = subst (λ v. Reached v (fresh_end last) (fresh_end first)) (sym e) (reached_new s first last)
-
--- a message keeps what the pass keeps
-pub taken_whole : (b refused first : Bool) (e : EpochSummary) (a : Asking) (m : Message) → a.is_whole ≡ b → (taken b refused first e a m).is_whole ≡ true → is_ended (m ∷ []) ≡ true → m ≡ End true
-taken_whole b refused first e a (Ask l) w t h = no (sym h)
-taken_whole b refused first e a (Byte x) w t h = no (sym h)
-taken_whole b refused first e a (Close l) w t h = no (sym h)
-taken_whole true true first e a (End x) w t h = no (sym t)
-taken_whole true false first e a (End x) w t h = ap (λ (b : Bool). End b) t
-taken_whole false refused first e a (End x) w t h = no (sym t ∙ w)
-
-pub keeps_pop : (v new : BackView) (got sent later : Option (List Message)) (m : Message) → v.heard ≡ false → Keeps v got sent → later ≡ with m got → Takes m v new → Keeps new later sent
-keeps_pop v new None sent later m running k e t = no (sym k.heard ∙ running)
-keeps_pop v new (Some got) sent later m running k e t =
-    let running_so = sym k.heard ∙ running in
-    subst (λ g. Keeps new g sent) (sym e)
-    (record {
-      fits = t.fits;
-      heard = t.heard got running_so;
-      alone = alone sent k.alone;
-      requested = λ w. t.requested got running_so w k.requested;
-      counted = λ w other. t.counted w other k.counted;
-      ends = λ w h. (
-        got,
-        ap (λ (x : Message). got ++ x ∷ [])
-            (taken_whole v.whole t.refused v.first (knows v) (asking_of v got []) m refl (sym (ap (λ (a : Asking). a.is_whole) (t.took got [])) ∙ w) (sym (ended_by got (m ∷ []) running_so) ∙ sym (t.heard got running_so) ∙ h)),
-      );
-    })
-  where
-    alone : (s : Option (List Message)) → IfNone s (v.first ≡ true) → IfNone s (new.first ≡ true)
-    alone None h = t.same.first ∙ h
-    alone (Some s) h = tt
-
--- a pass that walked a sink keeps it too
-pub keeps_walk : (v new : BackView) (got sent : Option (List Message)) → v.whole ≡ true → Keeps v got sent → Walks v new → Keeps new got sent
-keeps_walk v new got sent whole k w = record {
-  fits = w.fits;
-  heard = w.heard ∙ k.heard;
-  alone = alone sent k.alone;
-  requested = λ _. ap locations w.requests ∙ k.requested whole;
-  counted = λ t other. counted t other w.refused refl;
-  ends = λ _ h. k.ends whole (sym w.heard ∙ h);
-} where
-  alone : (s : Option (List Message)) → IfNone s (v.first ≡ true) → IfNone s (new.first ≡ true)
-  alone None h = w.same.first ∙ h
-  alone (Some s) h = tt
-
-  moved : (refused : Bool) → w.refused ≡ refused → asking_of new [] [] ≡ walk refused v.first (asking_of v [] []) w.sink w.left
-  moved refused r = w.walked [] [] ∙ ap (λ (b : Bool). walk b v.first (asking_of v [] []) w.sink w.left) r
-
-  counted : new.whole ≡ true → new.first ≡ false → (refused : Bool) → w.refused ≡ refused → AreCounted new.asked (knows new) new.requests
-  counted t other true r = no (sym t ∙ ap (λ (a : Asking). a.is_whole) (moved true r))
-  counted t other false r =
-      let was : v.first ≡ false = sym w.same.first ∙ other in
-      let grown = kept_asked v.first v.asked w.sink.terms.starts new.asked was (ap (λ (a : Asking). a.asked) (moved false r)) in
-      let now = counted_more v.asked new.asked (knows v) v.requests grown (k.counted whole was) in
-      subst (AreCounted new.asked (knows new)) (sym w.requests)
-      (subst (λ s. AreCounted new.asked (known s) v.requests) (sym w.same.summary) now)
+        by : (sent : Option (List Message)) → later ≡ with (End v.whole) sent
+            → state (record v { over = true }) got later ≡ asking_event v.first (knows v) (free false) (state v got sent)
+        by None e =
+            ap (state (record v { over = true }) got) e
+            ∙ ap (λ (ms : List Message). end_asks true (asking_of v (got_by got) ms)) (sym (ap (λ (b : Bool). unsent b v.whole) r.running))
+            ∙ sym (at (unsent v.over v.whole))
+        by (Some sent) e = ap (state (record v { over = true }) got) e ∙ sym (at sent)
 
 -- ---- what the event needs
 
 -- a link with room, where a location waits to be asked
-pub waits_to_ask : (v : BackView) (got sent : Option (List Message)) (l : Loc) (waiting : List Loc) (P Q : Type 0) → v.over ≡ false → v.whole ≡ true → drop v.pushed v.asked ≡ l ∷ waiting → Q
-    → Waits (asking_need (state v got sent)) P Q
-waits_to_ask v got sent l waiting P Q o w d q =
+pub needs_room : (v : BackView) (got sent : Option (List Message)) (m : Message) → Sends m v → asking_need (state v got sent) ≡ need.Room
+needs_room v got sent m s =
     let a = state v got sent in
-    let is : asking_need a ≡ need.Room = ap₂ (asking_need_by a) o w ∙ ap (λ (ls : List Loc). whole_asking_need ls v.left (is_ended a.got)) d in
-    subst (λ n. Waits n P Q) (sym is) q
+    ap₂ (asking_need_by a) s.running s.whole ∙ ap (λ (ls : List Loc). whole_asking_need ls v.left (is_ended a.got)) s.next

@@ -2,3 +2,4 @@ mod Lists
 mod Starts
 mod Counts
 mod Backing
+pub mod Reaching

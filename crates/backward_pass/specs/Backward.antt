@@ -1,19 +1,22 @@
 -- What contracts see of the pass backwards.
-use Rattle.std.specs.Prelude.{◌≡◌, ℕ, ◌+◌, drop, Bool, true, false, Option, Some, is_none, is_some, IfNone, IsSome, List, [], ◌∷◌, ◌++◌}
+use Rattle.std.specs.Prelude.{◌≡◌, ◌⊎◌, ℕ, ◌+◌, ◌^◌, ◌<◌, drop, ◌&&◌, Bool, true, false, Option, option_map, is_none, is_some, IfNone, List, [], ◌∷◌, ◌++◌}
 use Rattle.flow_model.specs.declared.Loc.{Loc}
 use Rattle.flow_rule.specs.declared.Message.{Message}
+use Rattle.flow_rule.specs.declared.Message.TheVariants.{Ask, Byte, Close, End}
 use Rattle.epoch_model.specs.Summary.{Summary as EpochSummary, SinkTerms}
 use Rattle.local_taint.specs.declared.summary.Summary.{Summary}
 use Rattle.stream_model.specs.Streams.{is_ended, requests}
-use Rattle.stream_model.specs.Passes.{Links, Asking, asking_event, asking_after, asked_more, take_ask, drop_ask, walk}
+use Rattle.stream_model.specs.Passes.{Links, Asking, asking_event, asking_after, asked_more, asked_if}
 use Rattle.stream_model.specs.PassLaws.{AsksSent}
-use Rattle.stream_model.specs.Schedules.{begun}
+use Rattle.stream_model.specs.Schedules.{Need, begun, asking_need}
 use Rattle.pass_parts.specs.declared.pass_turn.PassTurn.{PassTurn}
 use Rattle.pass_parts.specs.declared.requests.Request.{Request}
 use Rattle.pass_parts.specs.Ends.{got_by, sent_by, EndsWhole}
 use Rattle.pass_parts.specs.Known.{known}
 use Rattle.pass_parts.specs.Requests.{locations, IsCounted, AreCounted}
-use Rattle.pass_parts.specs.Turns.{OnMoved}
+use Rattle.pass_parts.specs.Knowing.{is_whole, summary_in}
+use Rattle.pass_parts.specs.Events.{Events, Happened, IsEventOver, IsNext}
+use Rattle.pass_parts.specs.declared.next.Next.{Next}
 use Rattle.backward_pass.specs.declared.back.Back.{Back}
 
 -- the pass, where the ends don't stand in it
@@ -39,15 +42,15 @@ knows v = known v.summary
 -- what contracts see of it
 abbrev pub back_of : Back → BackView
 back_of b = record {
-  summary = b.summary;
+  summary = summary_in b.epoch;
   first = b.first;
   last = b.last;
-  left = drop b.walked (known b.summary).sinks;
+  left = drop b.walked (known (summary_in b.epoch)).sinks;
   asked = b.asked;
   pushed = b.pushed;
   requests = b.requests.items;
   heard = b.heard;
-  whole = b.whole;
+  whole = is_whole b.epoch;
   over = b.over;
 }
 
@@ -111,12 +114,28 @@ pub record IsSameBack (new old : BackView) : Type 0 where
 
 -- ---- events
 
--- the event is that of the definitions, for what the links did in it: a push that went through or was refused, and what
--- a pop gave
-pub record Happens (old : BackView) (got sent : Option (List Message)) (new : BackView) (got' sent' : Option (List Message)) (turn : PassTurn) : Type 0 where
-  pub links : Links
-  pub went : OnMoved turn ((links.has_room ≡ true) × IsSome links.next)
-  pub is : state new got' sent' ≡ asking_event old.first (knows old) links (state old got sent)
+abbrev pub backwards : Events BackView Asking
+backwards = record {
+  state = state;
+  event = λ v links a. asking_event v.first (knows v) links a;
+  Keeps = Keeps;
+  IsSame = IsSameBack;
+  is_over = λ v. v.over;
+  is_ended = λ v. v.heard;
+}
+
+-- the event is that of the definitions
+abbrev pub Happens : BackView → Option (List Message) → Option (List Message) → BackView → Option (List Message) → Option (List Message) → PassTurn → Type 0
+Happens old got sent new got' sent' turn = Happened backwards old got sent new got' sent' turn
+
+module _ {I O : Type 0} (got : I → List Message) (sent : O → List Message) where
+  -- an event of the pass over its two ends
+  abbrev pub HasEvent : Back → Option I → Option O → Back → Option I → Option O → PassTurn → Type 0
+  HasEvent old inlet outlet new inlet' outlet' turn = IsEventOver backwards got sent (back_of old) inlet outlet (back_of new) inlet' outlet' turn
+
+  -- what the next event needs
+  abbrev pub need_of : Back → Option I → Option O → Need
+  need_of b inlet outlet = asking_need (state (back_of b) (option_map got inlet) (option_map sent outlet))
 
 -- the pass came there by events of the definitions
 pub record Reached (v : BackView) (got sent : Option (List Message)) : Type 0 where
@@ -136,16 +155,41 @@ pub record IsWalked (first : Bool) (sinks : List SinkTerms) (number : ℕ) (aske
   pub added : asked' ≡ asked_more first asked sink.terms.starts
 
 -- the next sink is walked, or a growth is refused
+abbrev pub with_sink : Bool → BackView → SinkTerms → List SinkTerms → BackView
+with_sink true v k left = record v { asked = []; whole = false }
+with_sink false v k left = record v { left = left; asked = asked_more v.first v.asked k.terms.starts }
+
 pub record Walks (old new : BackView) : Type 0 where
   pub refused : Bool
   pub sink : SinkTerms
   pub left : List SinkTerms
-  pub is : old.left ≡ sink ∷ left
-  pub walked : (got sent : List Message) → asking_of new got sent ≡ walk refused old.first (asking_of old got sent) sink left
-  pub same : IsSameBack new old
-  pub fits : IsFit new
-  pub heard : new.heard ≡ old.heard
-  pub requests : new.requests ≡ old.requests
+  pub next : old.left ≡ sink ∷ left
+  pub is : new ≡ with_sink refused old sink left
+
+-- the event needed no link
+pub record Moves (old new : BackView) : Type 0 where
+  pub running : old.over ≡ false
+  pub whole : old.whole ≡ true
+  pub sent : drop old.pushed old.asked ≡ []
+  pub walked : Walks old new
+
+-- a location that waits is to be asked
+pub record Sends (m : Message) (v : BackView) : Type 0 where
+  pub loc : Loc
+  pub waiting : List Loc
+  pub is : m ≡ Ask loc
+  pub running : v.over ≡ false
+  pub whole : v.whole ≡ true
+  pub next : drop v.pushed v.asked ≡ loc ∷ waiting
+  pub fits : v.pushed + 1 < 2 ^ 64
+
+-- nothing waits to be asked, and no sink is left
+abbrev pub IsQuiet : BackView → Type 0
+IsQuiet v = v.whole ≡ true → (drop v.pushed v.asked ≡ []) × (v.left ≡ [])
+
+-- what is next
+abbrev pub IsNextBack : Next → BackView → BackView → Type 0
+IsNextBack next new old = IsNext backwards Moves Sends IsQuiet next new old
 
 -- a request for the location is noted, with its count where it is not the first node
 pub record IsRequested (first : Bool) (asked : List Loc) (e : EpochSummary) (loc : Loc) (before after : List Request) : Type 0 where
@@ -154,19 +198,20 @@ pub record IsRequested (first : Bool) (asked : List Loc) (e : EpochSummary) (loc
   pub counted : first ≡ false → IsCounted asked e request
   pub added : after ≡ before ++ request ∷ []
 
--- what taking a message does
-abbrev pub taken : Bool → Bool → Bool → EpochSummary → Asking → Message → Asking
-taken true refused first e a m = take_ask refused first e a m
-taken false refused first e a m = drop_ask a (Some m)
+-- the request is noted, or a growth is refused
+abbrev pub with_request : Bool → BackView → Loc → List Request → BackView
+with_request true v l rs = record v { asked = []; requests = rs; whole = false }
+with_request false v l rs = record v { asked = asked_more v.first v.asked ((knows v).ends l).starts; requests = rs }
 
--- the message is taken, or a growth is refused
-pub record Takes (m : Message) (old new : BackView) : Type 0 where
+pub record Notes (l : Loc) (old new : BackView) : Type 0 where
   pub refused : Bool
-  pub took : (got sent : List Message) → asking_of new (got ++ m ∷ []) sent ≡ taken old.whole refused old.first (knows old) (asking_of old got sent) m
-  pub same : IsSameBack new old
-  pub fits : IsFit new
-  pub heard : (got : List Message) → is_ended got ≡ false → new.heard ≡ is_ended (got ++ m ∷ [])
-  pub requested : (got : List Message) → is_ended got ≡ false → new.whole ≡ true → (old.whole ≡ true → locations old.requests ≡ requests got)
-      → locations new.requests ≡ requests (got ++ m ∷ [])
-  pub counted : new.whole ≡ true → new.first ≡ false → (old.whole ≡ true → old.first ≡ false → AreCounted old.asked (knows old) old.requests)
-      → AreCounted new.asked (knows new) new.requests
+  pub requests : List Request
+  pub is : new ≡ with_request refused old l requests
+  pub noted : refused ≡ false → IsRequested old.first new.asked (knows old) l old.requests requests
+
+-- a message is taken. A broken pass only notes an End
+abbrev pub Takes : Message → BackView → BackView → Type 0
+Takes (Ask l) old new = ((old.whole ≡ true) × Notes l old new) ⊎ ((old.whole ≡ false) × (new ≡ old))
+Takes (Byte b) old new = new ≡ old
+Takes (Close l) old new = new ≡ old
+Takes (End whole) old new = new ≡ record old { heard = true; asked = asked_if whole old.asked; whole = whole && old.whole }

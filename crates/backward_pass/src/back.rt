@@ -1,17 +1,18 @@
 //! The pass backwards, event by event.
 
-ghost use Rattle.std.specs.Prelude.{◌≡◌, [], option_map, true, false};
-ghost use Rattle.stream_model.specs.Schedules.{asking_need};
-ghost use Rattle.pass_parts.specs.Ends.{IsEndFrom, IsRefused, fresh_end};
-ghost use Rattle.pass_parts.specs.Turns.{OnOver, OnOpen, OnNotYet, Waits};
-ghost use Rattle.backward_pass.specs.Backward.{back_of, state, IsFit, Keeps, IsSameBack, Walks, Takes, Happens, Reached, SendsFor, new_back};
+ghost use Rattle.std.specs.Prelude.{◌≡◌, [], true, false};
+ghost use Rattle.pass_parts.specs.declared.knowledge.Knowledge.TheVariants.{Broken};
+ghost use Rattle.pass_parts.specs.Ends.{IsEndFrom, IsRefused, Seen, fresh_end};
+ghost use Rattle.pass_parts.specs.Knowing.{summary_in};
+ghost use Rattle.pass_parts.specs.Turns.{OnNotYet, Waits};
+ghost use Rattle.backward_pass.specs.Backward.{back_of, IsFit, Keeps, Walks, Takes, IsNextBack, HasEvent, need_of, Reached, new_back};
 
 use crate::asking::{add_request, add_sink};
 use epoch_link::{Inlet, Outlet};
 use flow_rule::Message;
 use local_taint::{Asked, Summary};
 use merge_log::TermsReader;
-use pass_parts::{PassTurn, Requests, pop_message, push_message};
+use pass_parts::{Knowledge, Next, PassTurn, Requests, pop_message, push_message};
 use std::alloc::Global;
 
 /// Asks the node before for what the epoch's sinks and the requests of the node behind need.
@@ -22,7 +23,7 @@ use std::alloc::Global;
 #[derive(Drop)]
 pub struct Back {
     alloc: Global,
-    summary: Option<Summary>,
+    epoch: Knowledge,
     // The first node asks nothing: nothing flows from the run's start.
     first: bool,
     last: bool,
@@ -36,7 +37,6 @@ pub struct Back {
     requests: Requests,
     // An End came, or there is no inlet.
     heard: bool,
-    whole: bool,
     // The End was sent.
     over: bool,
 }
@@ -48,10 +48,9 @@ impl Back {
         ensures keeps { Keeps (back_of result) (fresh_end last) (fresh_end first) }
         ensures reached { Reached (back_of result) (fresh_end last) (fresh_end first) }
     {
-        let whole = summary.is_some();
         Back {
             alloc,
-            summary,
+            epoch: Knowledge::new(summary, true),
             first,
             last,
             reader: TermsReader::new(alloc),
@@ -60,7 +59,6 @@ impl Back {
             pushed: 0,
             requests: Vec::new(alloc),
             heard: last,
-            whole,
             over: false,
         }
     }
@@ -69,38 +67,31 @@ impl Back {
     pub fn whole(&self) -> bool
         ensures { result ≡ (back_of self.now).whole }
     {
-        self.whole
+        self.epoch.is_whole()
     }
 
     /// The summary, what was asked, and what was requested.
     pub fn into_parts(self) -> (Option<Summary>, Asked, Requests)
         ensures { (result.0 ≡ (back_of self).summary) × (result.1 ≡ (back_of self).asked) × (result.2.items ≡ (back_of self).requests) }
     {
-        let Back {
-            alloc: _,
-            summary,
-            first: _,
-            last: _,
-            reader: _,
-            walked: _,
-            asked,
-            pushed: _,
-            requests,
-            heard: _,
-            whole: _,
-            over: _,
-        } = self;
-        (summary, asked, requests)
+        (self.epoch.into_summary(), self.asked, self.requests)
     }
 
-    /// Walks the next sink. False where none is left.
-    fn walk(&mut self) -> bool
-        requires open { ((back_of self.old).whole ≡ true) × ((back_of self.old).over ≡ false) }
-        requires fits { IsFit (back_of self.old) }
-        ensures none { result ≡ false → (self.new ≡ self.old) × ((back_of self.old).left ≡ []) }
-        ensures walked { result ≡ true → Walks (back_of self.old) (back_of self.new) }
+    /// The pass breaks, and forgets what it asked.
+    fn give_up(&mut self)
+        ensures { self.new ≡ record self.old { epoch = Broken (summary_in self.old.epoch); asked = [] } }
     {
-        let Some(summary) = &self.summary else {
+        self.epoch.give_up();
+        self.asked = Asked::new(self.alloc);
+    }
+
+    /// Walks the next sink. False where none is left, or the pass is broken.
+    fn walk(&mut self) -> bool
+        requires { IsFit (back_of self.old) }
+        ensures none { result ≡ false → (self.new ≡ self.old) × ((back_of self.old).whole ≡ true → (back_of self.old).left ≡ []) }
+        ensures walked { result ≡ true → ((back_of self.old).whole ≡ true) × Walks (back_of self.old) (back_of self.new) }
+    {
+        let Knowledge::Whole(summary) = &self.epoch else {
             return false;
         };
         if self.walked >= summary.sink_count() {
@@ -113,8 +104,7 @@ impl Back {
             self.first,
             &mut self.asked,
         ) else {
-            self.asked = Asked::new(self.alloc);
-            self.whole = false;
+            self.give_up();
             return true;
         };
         self.walked += 1;
@@ -123,16 +113,11 @@ impl Back {
 
     /// Takes a message.
     fn take(&mut self, message: Message)
-        requires open { ((back_of self.old).heard ≡ false) × ((back_of self.old).over ≡ false) }
-        requires fits { IsFit (back_of self.old) }
         ensures { Takes message (back_of self.old) (back_of self.new) }
     {
         match message {
             Message::Ask(loc) => {
-                if self.whole {
-                    let Some(summary) = &self.summary else {
-                        return;
-                    };
+                if let Knowledge::Whole(summary) = &self.epoch {
                     let Ok(()) = add_request(
                         summary,
                         &mut self.reader,
@@ -141,8 +126,7 @@ impl Back {
                         &mut self.asked,
                         &mut self.requests,
                     ) else {
-                        self.asked = Asked::new(self.alloc);
-                        self.whole = false;
+                        self.give_up();
                         return;
                     };
                 }
@@ -152,59 +136,27 @@ impl Back {
             Message::End { whole } => {
                 self.heard = true;
                 if !whole {
-                    self.asked = Asked::new(self.alloc);
-                    self.whole = false;
+                    self.give_up();
                 }
             }
         }
     }
 
-    // The same as `event`, without what follows by the laws.
-    fn step<I: Inlet<Message>, O: Outlet<Message>>(
-        &mut self,
-        inlet: &mut Option<I>,
-        outlet: &mut Option<O>,
-    ) -> PassTurn
-        requires keeps { Keeps (back_of self.old) (option_map I.got inlet.old) (option_map O.sent outlet.old) }
-        ensures event { Happens (back_of self.old) (option_map I.got inlet.old) (option_map O.sent outlet.old) (back_of self.new) (option_map I.got inlet.new) (option_map O.sent outlet.new) result }
-        ensures keeps { Keeps (back_of self.new) (option_map I.got inlet.new) (option_map O.sent outlet.new) }
-        ensures same { IsSameBack (back_of self.new) (back_of self.old) }
-        ensures inlet { IsEndFrom I.link I.capacity I.other inlet.new inlet.old }
-        ensures outlet { IsEndFrom O.link O.capacity O.other outlet.new outlet.old }
-        ensures over { OnOver result ((back_of self.new).over ≡ true) }
-        ensures open { OnOpen result ((back_of self.new).over ≡ false) }
-        ensures not_yet { OnNotYet result ((self.new ≡ self.old) × (option_map I.got inlet.new ≡ option_map I.got inlet.old) × (option_map O.sent outlet.new ≡ option_map O.sent outlet.old)) }
-        ensures waits { OnNotYet result (Waits (asking_need (state (back_of self.old) (option_map I.got inlet.old) (option_map O.sent outlet.old))) (IsRefused I.refusals I.ready inlet.old inlet.new) (IsRefused O.refusals O.ready outlet.old outlet.new)) }
+    /// What the pass does next. What needs no link is done.
+    fn next(&mut self) -> Next
+        requires { IsFit (back_of self.old) }
+        ensures { IsNextBack result (back_of self.new) (back_of self.old) }
     {
         if self.over {
-            return PassTurn::Over;
+            return Next::Over;
         }
-        if self.whole {
-            if self.pushed < self.asked.count() {
-                let loc = self.asked.get(self.pushed);
-                if !push_message(outlet, Message::Ask(loc)) {
-                    return PassTurn::NotYet;
-                }
-                self.pushed += 1;
-                return PassTurn::Moved;
-            }
-            if self.walk() {
-                return PassTurn::Moved;
-            }
+        if self.pushed < self.asked.count() {
+            return Next::Send(Message::Ask(self.asked.get(self.pushed)));
         }
-        if !self.heard {
-            let Some(message) = pop_message(inlet) else {
-                return PassTurn::NotYet;
-            };
-            self.take(message);
-            return PassTurn::Moved;
+        if self.walk() {
+            return Next::Moved;
         }
-        let end = Message::End { whole: self.whole };
-        if !push_message(outlet, end) {
-            return PassTurn::NotYet;
-        }
-        self.over = true;
-        PassTurn::Over
+        if self.heard { Next::End } else { Next::Receive }
     }
 
     /// The next event. It is NotYet only where the one link that it needs refused in this call, and then nothing
@@ -215,20 +167,39 @@ impl Back {
         inlet: &mut Option<I>,
         outlet: &mut Option<O>,
     ) -> PassTurn
-        requires keeps { Keeps (back_of self.old) (option_map I.got inlet.old) (option_map O.sent outlet.old) }
-        requires reached { Reached (back_of self.old) (option_map I.got inlet.old) (option_map O.sent outlet.old) }
-        ensures event { Happens (back_of self.old) (option_map I.got inlet.old) (option_map O.sent outlet.old) (back_of self.new) (option_map I.got inlet.new) (option_map O.sent outlet.new) result }
-        ensures keeps { Keeps (back_of self.new) (option_map I.got inlet.new) (option_map O.sent outlet.new) }
-        ensures reached { Reached (back_of self.new) (option_map I.got inlet.new) (option_map O.sent outlet.new) }
-        ensures sends { SendsFor (back_of self.new) (option_map I.got inlet.new) (option_map O.sent outlet.new) }
-        ensures same { IsSameBack (back_of self.new) (back_of self.old) }
+        requires { Seen I.got O.sent Keeps (back_of self.old) inlet.old outlet.old }
+        ensures event { HasEvent I.got O.sent self.old inlet.old outlet.old self.new inlet.new outlet.new result }
         ensures inlet { IsEndFrom I.link I.capacity I.other inlet.new inlet.old }
         ensures outlet { IsEndFrom O.link O.capacity O.other outlet.new outlet.old }
-        ensures over { OnOver result ((back_of self.new).over ≡ true) }
-        ensures open { OnOpen result ((back_of self.new).over ≡ false) }
-        ensures not_yet { OnNotYet result ((self.new ≡ self.old) × (option_map I.got inlet.new ≡ option_map I.got inlet.old) × (option_map O.sent outlet.new ≡ option_map O.sent outlet.old)) }
-        ensures waits { OnNotYet result (Waits (asking_need (state (back_of self.old) (option_map I.got inlet.old) (option_map O.sent outlet.old))) (IsRefused I.refusals I.ready inlet.old inlet.new) (IsRefused O.refusals O.ready outlet.old outlet.new)) }
+        ensures waits { OnNotYet result (Waits (need_of I.got O.sent self.old inlet.old outlet.old)
+            (IsRefused I.refusals I.ready inlet.old inlet.new) (IsRefused O.refusals O.ready outlet.old outlet.new)) }
     {
-        self.step(inlet, outlet)
+        match self.next() {
+            Next::Moved => PassTurn::Moved,
+            Next::Send(message) => {
+                if !push_message(outlet, message) {
+                    return PassTurn::NotYet;
+                }
+                self.pushed += 1;
+                PassTurn::Moved
+            }
+            Next::Receive => {
+                let Some(message) = pop_message(inlet) else {
+                    return PassTurn::NotYet;
+                };
+                self.take(message);
+                PassTurn::Moved
+            }
+            Next::End => {
+                let whole = self.whole();
+                let end = Message::End { whole };
+                if !push_message(outlet, end) {
+                    return PassTurn::NotYet;
+                }
+                self.over = true;
+                PassTurn::Over
+            }
+            Next::Over => PassTurn::Over,
+        }
     }
 }

@@ -2,4 +2,4 @@ mod OneMore
 mod Lists
 mod Messages
 mod Events
-mod Reaching
+pub mod Reaching

@@ -15,13 +15,6 @@ use Rattle.pass_parts.specs.Requests.{IsCounted, AreCounted}
 use Rattle.pass_parts.proofs.Counted.{answerable_by_count}
 use Rattle.forward_pass.specs.Came.{Came, came_with, CameFrom, is_answerable}
 
-pub ended_by : (got ms : List Message) → is_ended got ≡ false → is_ended (got ++ ms) ≡ is_ended ms
-ended_by [] ms h = refl
-ended_by (Ask l ∷ got) ms h = ended_by got ms h
-ended_by (Byte b ∷ got) ms h = ended_by got ms h
-ended_by (Close l ∷ got) ms h = ended_by got ms h
-ended_by (End whole ∷ got) ms h = no h
-
 -- one message more
 pub from_more : (m : Message) (got : List Message) (asked : List Loc) (old new : Came) → old.is_ended ≡ false → new ≡ came_with old m
     → CameFrom got asked old → CameFrom (got ++ m ∷ []) asked new

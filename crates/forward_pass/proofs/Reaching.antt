@@ -1,4 +1,4 @@
--- From the beginning of the pass on.
+-- From the beginning of the pass on. Crates above cite these lemmas.
 use Rattle.std.proofs.Common.{◌≡◌, List, [], ◌∷◌, ◌++◌, refl, ap, ap₂, sym, subst, ◌∙◌, Bool, true, false, cond}
 use Rattle.std.specs.Prelude.{IsSome, Option, IfNone}
 use Rattle.std.specs.Ordering.{eq_by_cmp}
@@ -15,7 +15,7 @@ use Rattle.pass_parts.specs.declared.pass_turn.PassTurn.{PassTurn}
 use Rattle.pass_parts.specs.declared.requests.Request.{Request}
 use Rattle.pass_parts.specs.Ends.{EndsWhole, got_by, fresh_end}
 use Rattle.pass_parts.specs.Known.{known}
-use Rattle.pass_parts.specs.Requests.{AreCounted}
+use Rattle.pass_parts.specs.Requests.{locations, AreCounted}
 use Rattle.epoch_model.specs.Join.{answer_to}
 use Rattle.forward_pass.specs.Came.{CameFrom}
 use Rattle.forward_pass.specs.Forward.{ForeView, new_fore, known_by, ForeKeeps, IsSameFore, ForeHappens, ForeReached, ForeSends}
@@ -78,3 +78,11 @@ module _ (s : Option Summary) (asked : List Loc) (requests : List Request) (whol
         received : (b : Bool) → CameFrom (got_by (fresh_end b)) asked (record { answers = []; so_far = []; is_ended = b })
         received true = record { running = λ t. no t; ended = λ _. nothing asked }
         received false = record { running = λ _ more. refl; ended = λ t. no (sym t) }
+
+  pub new_reached : (v : ForeView) → v ≡ new_fore s asked requests whole first → ForeReached first (locations requests) whole v (fresh_end first) (fresh_end last)
+  new_reached v e = subst (λ v. ForeReached first (locations requests) whole v (fresh_end first) (fresh_end last)) (sym e) (by first last) where
+    by : (f l : Bool) → ForeReached f (locations requests) whole (new_fore s asked requests whole f) (fresh_end f) (fresh_end l)
+    by true true = record { schedule = []; is = refl }
+    by true false = record { schedule = []; is = refl }
+    by false true = record { schedule = []; is = refl }
+    by false false = record { schedule = []; is = refl }

@@ -1,5 +1,5 @@
 -- What contracts see of the pass forwards.
-use Rattle.std.specs.Prelude.{◌≡◌, Bool, true, false, Option, None, IfNone, IsSome, List, [], drop}
+use Rattle.std.specs.Prelude.{◌≡◌, Bool, true, false, Option, None, option_map, IfNone, IsSome, List, [], drop}
 use Rattle.flow_model.specs.declared.Loc.{Loc}
 use Rattle.flow_rule.specs.declared.Message.{Message}
 use Rattle.report_model.specs.Rows.{Row}
@@ -8,12 +8,14 @@ use Rattle.local_taint.specs.declared.summary.Summary.{Summary}
 use Rattle.stream_model.specs.Streams.{is_ended}
 use Rattle.stream_model.specs.Passes.{Answering, Links, answering_event, answering_start, answering_after}
 use Rattle.stream_model.specs.PassLaws.{AnswersSent}
+use Rattle.stream_model.specs.Schedules.{Need, answering_need}
 use Rattle.pass_parts.specs.declared.pass_turn.PassTurn.{PassTurn}
 use Rattle.pass_parts.specs.declared.requests.Request.{Request}
 use Rattle.pass_parts.specs.Ends.{EndsWhole, got_by, sent_by}
 use Rattle.pass_parts.specs.Known.{known}
 use Rattle.pass_parts.specs.Requests.{locations, AreCounted}
-use Rattle.pass_parts.specs.Turns.{OnMoved}
+use Rattle.pass_parts.specs.Knowing.{is_whole, summary_in}
+use Rattle.pass_parts.specs.Events.{Events, Happened, IsEventOver}
 use Rattle.forward_pass.specs.declared.state.Fore.{Fore}
 use Rattle.forward_pass.specs.Came.{Came, CameFrom}
 
@@ -32,13 +34,13 @@ pub record ForeView : Type 0 where
 -- what a pass stands for
 abbrev pub fore_of : Fore → ForeView
 fore_of f = record {
-  summary = f.summary;
+  summary = summary_in f.epoch;
   asked = f.asked;
   left = drop f.answered f.requests.items;
   sending = f.sending.left;
   came = f.received;
   rows = f.rows;
-  whole = f.whole;
+  whole = is_whole f.epoch;
   over = f.over;
 }
 
@@ -88,12 +90,29 @@ pub record IsSameFore (new old : ForeView) : Type 0 where
   pub summary : new.summary ≡ old.summary
   pub asked : new.asked ≡ old.asked
 
--- the event is that of the definition, for what the links did in it
-pub record ForeHappens (old : ForeView) (got sent : Option (List Message))
-    (new : ForeView) (got' sent' : Option (List Message)) (turn : PassTurn) : Type 0 where
-  pub links : Links
-  pub went : OnMoved turn ((links.has_room ≡ true) × IsSome links.next)
-  pub is : fore_state new got' sent' ≡ answering_event (known_by old) old.asked links (fore_state old got sent)
+abbrev pub forwards : Events ForeView Answering
+forwards = record {
+  state = fore_state;
+  event = λ v links f. answering_event (known_by v) v.asked links f;
+  Keeps = ForeKeeps;
+  IsSame = IsSameFore;
+  is_over = λ v. v.over;
+  is_ended = λ v. v.came.is_ended;
+}
+
+-- the event is that of the definitions
+abbrev pub ForeHappens : ForeView → Option (List Message) → Option (List Message) → ForeView → Option (List Message) → Option (List Message) → PassTurn → Type 0
+ForeHappens old got sent new got' sent' turn = Happened forwards old got sent new got' sent' turn
+
+module _ {I O : Type 0} (got : I → List Message) (sent : O → List Message) where
+  -- an event of the pass over its two ends
+  abbrev pub HasEvent : Fore → Option I → Option O → Fore → Option I → Option O → PassTurn → Type 0
+  HasEvent old inlet outlet new inlet' outlet' turn = IsEventOver forwards got sent (fore_of old) inlet outlet (fore_of new) inlet' outlet' turn
+
+  -- what the next event needs
+  abbrev pub need_of : Fore → Option I → Option O → Need
+  need_of f inlet outlet =
+      answering_need (known_by (fore_of f)) f.asked (fore_state (fore_of f) (option_map got inlet) (option_map sent outlet))
 
 -- the pass came there from its start by the events of the definition
 pub record ForeReached (first : Bool) (requests : List Loc) (whole : Bool)

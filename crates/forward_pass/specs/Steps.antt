@@ -7,11 +7,11 @@ use Rattle.epoch_model.specs.Join.{answer_to, resolved, rows_of}
 use Rattle.stream_model.specs.Streams.{is_ended, answer}
 use Rattle.stream_model.specs.Passes.{is_whole_message}
 use Rattle.pass_parts.specs.declared.requests.Request.{Request}
-use Rattle.forward_pass.specs.declared.next.Next.{Next}
-use Rattle.forward_pass.specs.declared.next.Next.TheVariants as next
+use Rattle.pass_parts.specs.declared.next.Next.{Next}
+use Rattle.pass_parts.specs.Events.{IsNext}
 use Rattle.forward_pass.specs.Came.{Came, came_with, is_answerable}
 use Rattle.forward_pass.specs.Rest.{rest_of}
-use Rattle.forward_pass.specs.Forward.{ForeView, known_by}
+use Rattle.forward_pass.specs.Forward.{ForeView, known_by, forwards}
 
 -- the source bytes of each location at the epoch's start, by the answers that came
 abbrev pub before : ForeView → Loc → List SourceByte
@@ -81,16 +81,10 @@ pub record Sends (m : Message) (v : ForeView) : Type 0 where
   pub whole : v.whole ≡ true
   pub sending : v.sending ≡ m ∷ rest_of v.sending
 
--- nothing is left to do without a link but to take a message, or to send the End once the End came
-pub record IsAtRest (is_ended : Bool) (v : ForeView) : Type 0 where
-  pub running : v.over ≡ false
-  pub idle : v.whole ≡ true → IsIdle v
-  pub ended : v.came.is_ended ≡ is_ended
+-- a broken pass has nothing to do without a link
+abbrev pub IsQuiet : ForeView → Type 0
+IsQuiet v = v.whole ≡ true → IsIdle v
 
 -- what is next
-abbrev pub IsNext : Next → ForeView → ForeView → Type 0
-IsNext next.Moved new old = Moves old new
-IsNext (next.Send m) new old = (new ≡ old) × Sends m old
-IsNext next.Receive new old = (new ≡ old) × IsAtRest false old
-IsNext next.End new old = (new ≡ old) × IsAtRest true old
-IsNext next.Over new old = (new ≡ old) × (old.over ≡ true)
+abbrev pub IsNextFore : Next → ForeView → ForeView → Type 0
+IsNextFore next new old = IsNext forwards Moves Sends IsQuiet next new old

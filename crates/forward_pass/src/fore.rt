@@ -1,18 +1,17 @@
 //! The pass forwards.
 
-ghost use Rattle.std.specs.Prelude.{◌≡◌, ◌∷◌, [], List, Option, option_map, true, false, Some, Bool, IsSome, IsTrue, IfOk};
+ghost use Rattle.std.specs.Prelude.{◌≡◌, [], Option, List, true, false, Some, Bool, IfNone, IfOk, IfSome, IsSome, IsTrue};
 ghost use Rattle.flow_model.specs.declared.Loc.{Loc};
+ghost use Rattle.flow_rule.specs.declared.Message.{Message};
 ghost use Rattle.epoch_model.specs.Join.{answer_to, resolved as resolved_terms};
 ghost use Rattle.stream_model.specs.Passes.{is_whole_message, rows_or_none};
-ghost use Rattle.stream_model.specs.Schedules.{answering_need};
-ghost use Rattle.pass_parts.specs.Ends.{IsEndFrom, IsRefused, fresh_end};
+ghost use Rattle.pass_parts.specs.Ends.{IsEndFrom, IsRefused, Seen, fresh_end};
 ghost use Rattle.pass_parts.specs.Known.{known};
 ghost use Rattle.pass_parts.specs.Requests.{locations, AreCounted};
-ghost use Rattle.pass_parts.specs.Turns.{OnOver, OnOpen, OnNotYet, Waits};
-ghost use Rattle.forward_pass.specs.Forward.{fore_of, new_fore, known_by, fore_state, ForeKeeps, IsSameFore, ForeHappens, ForeReached, ForeSends};
-ghost use Rattle.forward_pass.specs.Steps.{CannotAnswer, Builds, Resolves, Takes, IsNext};
+ghost use Rattle.pass_parts.specs.Turns.{OnNotYet, Waits};
+ghost use Rattle.forward_pass.specs.Forward.{fore_of, new_fore, known_by, ForeKeeps, ForeReached, HasEvent, need_of};
+ghost use Rattle.forward_pass.specs.Steps.{CannotAnswer, Builds, Resolves, Sends, Takes, IsNextFore};
 
-use crate::next::Next;
 use crate::received::Received;
 use crate::sending::Sending;
 use crate::state::Fore;
@@ -22,7 +21,9 @@ use flow_rule::{Loc, Message, SourceByte};
 use local_taint::{Asked, Summary};
 use merge_log::TermsReader;
 use no_memory::NoMemory;
-use pass_parts::{PassTurn, Requests, pop_message, push_message, read_end_terms, share_end_terms};
+use pass_parts::{
+    Knowledge, Next, PassTurn, Requests, pop_message, push_message, read_end_terms, share_end_terms,
+};
 use sink_collect::SinkSets;
 use std::alloc::Global;
 
@@ -39,6 +40,17 @@ fn answer_for(
 {
     read_end_terms(summary, reader, loc)?;
     resolved(alloc, reader, asked, answers)
+}
+
+/// Whether a location has the terms of the one whose answer was built last. The lanes of a register, and the bytes of a
+/// word, often do.
+fn shares_last(summary: &Summary, last: Option<Loc>, loc: Loc) -> bool
+    ensures { IsTrue result → (l : Loc) × (last ≡ Some l) × ((known (Some summary.now)).ends l ≡ (known (Some summary.now)).ends loc) }
+{
+    match last {
+        Some(last) => share_end_terms(summary, last, loc),
+        None => false,
+    }
 }
 
 /// Whether a pass that takes the message stays whole.
@@ -73,7 +85,7 @@ impl Fore {
         ensures reached { ForeReached first (locations requests.items) whole (fore_of result) (fresh_end first) (fresh_end last) }
     {
         Fore {
-            summary,
+            epoch: Knowledge::new(summary, whole),
             asked,
             requests,
             answered: 0,
@@ -82,7 +94,6 @@ impl Fore {
             received: Received::new(alloc, first),
             rows: None,
             reader: TermsReader::new(alloc),
-            whole,
             over: false,
         }
     }
@@ -91,7 +102,7 @@ impl Fore {
     pub fn whole(&self) -> bool
         ensures { result ≡ (fore_of self.now).whole }
     {
-        self.whole
+        self.epoch.is_whole()
     }
 
     /// The rows of the epoch's sinks, none if they were not resolved, and what was asked. It takes no memory.
@@ -111,38 +122,12 @@ impl Fore {
         inlet: &mut Option<I>,
         outlet: &mut Option<O>,
     ) -> PassTurn
-        requires keeps { ForeKeeps (fore_of self.old) (option_map I.got inlet.old) (option_map O.sent outlet.old) }
-        ensures event { ForeHappens (fore_of self.old) (option_map I.got inlet.old) (option_map O.sent outlet.old) (fore_of self.new) (option_map I.got inlet.new) (option_map O.sent outlet.new) result }
-        ensures keeps { ForeKeeps (fore_of self.new) (option_map I.got inlet.new) (option_map O.sent outlet.new) }
-        ensures reached { (first whole : Bool) (requests : List Loc) → ForeReached first requests whole (fore_of self.old) (option_map I.got inlet.old) (option_map O.sent outlet.old) → ForeReached first requests whole (fore_of self.new) (option_map I.got inlet.new) (option_map O.sent outlet.new) }
-        ensures sends { (first whole : Bool) (requests : List Loc) → ForeReached first requests whole (fore_of self.old) (option_map I.got inlet.old) (option_map O.sent outlet.old) → ForeSends requests (fore_of self.new) (option_map I.got inlet.new) (option_map O.sent outlet.new) }
-        ensures same { IsSameFore (fore_of self.new) (fore_of self.old) }
+        requires { Seen I.got O.sent ForeKeeps (fore_of self.old) inlet.old outlet.old }
+        ensures event { HasEvent I.got O.sent self.old inlet.old outlet.old self.new inlet.new outlet.new result }
         ensures inlet { IsEndFrom I.link I.capacity I.other inlet.new inlet.old }
         ensures outlet { IsEndFrom O.link O.capacity O.other outlet.new outlet.old }
-        ensures over { OnOver result ((fore_of self.new).over ≡ true) }
-        ensures open { OnOpen result ((fore_of self.new).over ≡ false) }
-        ensures not_yet { OnNotYet result ((fore_of self.new ≡ fore_of self.old) × (option_map I.got inlet.new ≡ option_map I.got inlet.old) × (option_map O.sent outlet.new ≡ option_map O.sent outlet.old)) }
-        ensures waits { OnNotYet result (Waits (answering_need (known_by (fore_of self.old)) (fore_of self.old).asked (fore_state (fore_of self.old) (option_map I.got inlet.old) (option_map O.sent outlet.old))) (IsRefused I.refusals I.ready inlet.old inlet.new) (IsRefused O.refusals O.ready outlet.old outlet.new)) }
-    {
-        self.step(inlet, outlet)
-    }
-
-    // The event, without what follows of it by the laws.
-    fn step<I: Inlet<Message>, O: Outlet<Message>>(
-        &mut self,
-        inlet: &mut Option<I>,
-        outlet: &mut Option<O>,
-    ) -> PassTurn
-        requires keeps { ForeKeeps (fore_of self.old) (option_map I.got inlet.old) (option_map O.sent outlet.old) }
-        ensures event { ForeHappens (fore_of self.old) (option_map I.got inlet.old) (option_map O.sent outlet.old) (fore_of self.new) (option_map I.got inlet.new) (option_map O.sent outlet.new) result }
-        ensures keeps { ForeKeeps (fore_of self.new) (option_map I.got inlet.new) (option_map O.sent outlet.new) }
-        ensures same { IsSameFore (fore_of self.new) (fore_of self.old) }
-        ensures inlet { IsEndFrom I.link I.capacity I.other inlet.new inlet.old }
-        ensures outlet { IsEndFrom O.link O.capacity O.other outlet.new outlet.old }
-        ensures over { OnOver result ((fore_of self.new).over ≡ true) }
-        ensures open { OnOpen result ((fore_of self.new).over ≡ false) }
-        ensures not_yet { OnNotYet result ((fore_of self.new ≡ fore_of self.old) × (option_map I.got inlet.new ≡ option_map I.got inlet.old) × (option_map O.sent outlet.new ≡ option_map O.sent outlet.old)) }
-        ensures waits { OnNotYet result (Waits (answering_need (known_by (fore_of self.old)) (fore_of self.old).asked (fore_state (fore_of self.old) (option_map I.got inlet.old) (option_map O.sent outlet.old))) (IsRefused I.refusals I.ready inlet.old inlet.new) (IsRefused O.refusals O.ready outlet.old outlet.new)) }
+        ensures waits { OnNotYet result (Waits (need_of I.got O.sent self.old inlet.old outlet.old)
+            (IsRefused I.refusals I.ready inlet.old inlet.new) (IsRefused O.refusals O.ready outlet.old outlet.new)) }
     {
         match self.next() {
             Next::Moved => PassTurn::Moved,
@@ -161,7 +146,8 @@ impl Fore {
                 PassTurn::Moved
             }
             Next::End => {
-                let end = Message::End { whole: self.whole };
+                let whole = self.whole();
+                let end = Message::End { whole };
                 if !push_message(outlet, end) {
                     return PassTurn::NotYet;
                 }
@@ -174,22 +160,19 @@ impl Fore {
 
     /// What the pass does next. What needs no link is done.
     fn next(&mut self) -> Next
-        requires { self.old.whole ≡ true → IsSome self.old.summary }
-        ensures { IsNext result (fore_of self.new) (fore_of self.old) }
+        ensures { IsNextFore result (fore_of self.new) (fore_of self.old) }
     {
         if self.over {
             return Next::Over;
         }
-        if self.whole {
-            if let Some(message) = self.sending.next() {
-                return Next::Send(message);
-            }
-            if self.build() {
-                return Next::Moved;
-            }
-            if self.resolve() {
-                return Next::Moved;
-            }
+        if let Some(message) = self.waiting() {
+            return Next::Send(message);
+        }
+        if self.build() {
+            return Next::Moved;
+        }
+        if self.resolve() {
+            return Next::Moved;
         }
         if self.received.ended() {
             Next::End
@@ -198,12 +181,27 @@ impl Fore {
         }
     }
 
+    /// The next message of the answer that is being sent. A broken pass sends none.
+    fn waiting(&self) -> Option<Message>
+        requires { (fore_of self.now).over ≡ false }
+        ensures some { IfSome result (λ m. Sends m (fore_of self.now)) }
+        ensures none { IfNone result ((fore_of self.now).whole ≡ true → (fore_of self.now).sending ≡ []) }
+    {
+        if self.epoch.is_whole() {
+            self.sending.next()
+        } else {
+            None
+        }
+    }
+
     /// Builds the answer to the next request, if enough answers came. Where a growth is refused, the pass is broken.
     fn build(&mut self) -> bool
-        requires { IsSome self.old.summary }
-        ensures none { result ≡ false → (fore_of self.new ≡ fore_of self.old) × CannotAnswer (fore_of self.old).came (fore_of self.old).left }
-        ensures built { result ≡ true → Builds (fore_of self.old) (fore_of self.new) }
+        ensures none { result ≡ false → (fore_of self.new ≡ fore_of self.old) × ((fore_of self.old).whole ≡ true → CannotAnswer (fore_of self.old).came (fore_of self.old).left) }
+        ensures built { result ≡ true → ((fore_of self.old).whole ≡ true) × Builds (fore_of self.old) (fore_of self.new) }
     {
+        let Knowledge::Whole(summary) = &self.epoch else {
+            return false;
+        };
         if self.answered >= self.requests.len() {
             return false;
         }
@@ -211,14 +209,11 @@ impl Fore {
         if !self.received.is_enough(request) {
             return false;
         }
-        if self.has_answer(request.loc) {
+        if shares_last(summary, self.last, request.loc) {
             self.sending.again(request.loc);
             self.answered += 1;
             return true;
         }
-        let Some(summary) = &self.summary else {
-            return false;
-        };
         let alloc = *self.requests.allocator();
         let answers = self.received.answers();
         let Ok(set) = answer_for(
@@ -229,7 +224,7 @@ impl Fore {
             &self.asked,
             answers,
         ) else {
-            self.whole = false;
+            self.epoch.give_up();
             return true;
         };
         self.sending = Sending::answer(request.loc, set);
@@ -238,27 +233,12 @@ impl Fore {
         true
     }
 
-    /// Whether the answer that was built last is that to this location too: they have the same terms, and no message came
-    /// since. The lanes of a register, and the bytes of a word, often do.
-    fn has_answer(&self, loc: Loc) -> bool
-        ensures { IsTrue result → self.now.sending.set ≡ resolved_terms (answer_to self.now.asked self.now.received.answers) ((known_by (fore_of self.now)).ends loc) }
-    {
-        let Some(summary) = &self.summary else {
-            return false;
-        };
-        match self.last {
-            Some(last) => share_end_terms(summary, last, loc),
-            None => false,
-        }
-    }
-
     /// Resolves the sinks, if no request is left and the End came. Where a growth is refused, the pass is broken.
     fn resolve(&mut self) -> bool
-        requires { IsSome self.old.summary }
-        ensures none { result ≡ false → (fore_of self.new ≡ fore_of self.old) × ((fore_of self.old).left ≡ [] → (fore_of self.old).came.is_ended ≡ true → IsSome (fore_of self.old).rows) }
-        ensures resolved { result ≡ true → Resolves (fore_of self.old) (fore_of self.new) }
+        ensures none { result ≡ false → (fore_of self.new ≡ fore_of self.old) × ((fore_of self.old).whole ≡ true → (fore_of self.old).left ≡ [] → (fore_of self.old).came.is_ended ≡ true → IsSome (fore_of self.old).rows) }
+        ensures resolved { result ≡ true → ((fore_of self.old).whole ≡ true) × Resolves (fore_of self.old) (fore_of self.new) }
     {
-        let Some(summary) = &self.summary else {
+        let Knowledge::Whole(summary) = &self.epoch else {
             return false;
         };
         if self.answered < self.requests.len() {
@@ -270,7 +250,7 @@ impl Fore {
         let alloc = *self.requests.allocator();
         let answers = self.received.answers();
         let Ok(rows) = rows(alloc, &mut self.reader, summary, &self.asked, answers) else {
-            self.whole = false;
+            self.epoch.give_up();
             return true;
         };
         self.rows = Some(SinkSets::from_vec(rows));
@@ -282,14 +262,16 @@ impl Fore {
         ensures { Takes message (fore_of self.old) (fore_of self.new) }
     {
         self.last = None;
-        if !self.whole {
+        if !self.epoch.is_whole() {
             self.received.let_go(message);
             return;
         }
         let Ok(()) = self.received.take(message) else {
-            self.whole = false;
+            self.epoch.give_up();
             return;
         };
-        self.whole = is_whole(message);
+        if !is_whole(message) {
+            self.epoch.give_up();
+        }
     }
 }

@@ -5,7 +5,6 @@
 
 mod fore;
 mod inserting;
-mod next;
 mod received;
 mod sending;
 mod state;

@@ -4,13 +4,14 @@ ghost use Rattle.std.specs.Prelude.{◌≡◌};
 ghost use Rattle.std.specs.Option.{ForSome};
 ghost use Rattle.epoch_model.specs.Join.{answer_to, resolved};
 ghost use Rattle.pass_parts.specs.Known.{known};
+ghost use Rattle.pass_parts.specs.Knowing.{summary_in};
 
 use crate::received::Received;
 use crate::sending::Sending;
 use flow_rule::Loc;
-use local_taint::{Asked, Summary};
+use local_taint::Asked;
 use merge_log::TermsReader;
-use pass_parts::Requests;
+use pass_parts::{Knowledge, Requests};
 use sink_collect::SinkSets;
 
 /// Answers what the node behind asked, and resolves the sinks of the epoch.
@@ -19,7 +20,7 @@ use sink_collect::SinkSets;
 /// nothing of what waits, and ends, not whole.
 #[derive(Drop)]
 pub struct Fore {
-    pub(crate) summary: Option<Summary>,
+    pub(crate) epoch: Knowledge,
     pub(crate) asked: Asked,
     pub(crate) requests: Requests,
     // How many of the requests are answered, the one whose answer is being sent among them.
@@ -31,7 +32,6 @@ pub struct Fore {
     pub(crate) rows: Option<SinkSets>,
     // It keeps its marks from one set to the next.
     pub(crate) reader: TermsReader,
-    pub(crate) whole: bool,
     pub(crate) over: bool,
-    ghost last_answer: { ForSome last (λ l. sending.set ≡ resolved (answer_to asked received.answers) ((known summary).ends l)) },
+    ghost last_answer: { ForSome last (λ l. sending.set ≡ resolved (answer_to asked received.answers) ((known (summary_in epoch)).ends l)) },
 }

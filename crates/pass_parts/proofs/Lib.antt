@@ -1,2 +1,3 @@
 pub mod Known
 pub mod Counted
+pub mod Events

@@ -25,6 +25,11 @@ module _ {E : Type 0} (refusals : E → ℕ) (ready : E → Option Bool) where
   IsRefused None (Some new) = ⊥
   IsRefused (Some old) None = ⊥
 
+module _ {V I O : Type 0} (got : I → List Message) (sent : O → List Message) where
+  -- a fact of a pass, and of what went through its ends
+  abbrev pub Seen : (V → Option (List Message) → Option (List Message) → Type 0) → V → Option I → Option O → Type 0
+  Seen P v inlet outlet = P v (option_map got inlet) (option_map sent outlet)
+
 -- ---- in the words of the streams
 
 -- what was got: where there is no link, the End counts as seen

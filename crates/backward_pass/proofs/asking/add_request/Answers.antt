@@ -1,9 +1,9 @@
 use Rattle.std.proofs.Common.{rules, refl, sym, ◌∙◌}
 use Rattle.local_taint.specs.Summaries.{summary_of}
 use Rattle.local_taint.specs.Words.{as_terms}
+use Rattle.stream_model.proofs.Passing.{no}
 use Rattle.pass_parts.specs.declared.requests.Request.{Request}
 use Rattle.pass_parts.specs.Known.{located}
-use Rattle.backward_pass.proofs.Backing.{no}
 use Rattle.backward_pass.proofs.Counts.{counted_now}
 use Rattle.backward_pass.proofs.asking.add_request.Goals as goal
 use Rattle.backward_pass.proofs.asking.add_request.Goals.{then-not-first+in_ok-read_end_terms+in_ok-needed_first, else-not-first}

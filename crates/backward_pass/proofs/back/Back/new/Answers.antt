@@ -1,5 +1,5 @@
 use Rattle.std.proofs.Common.{rules}
-use Rattle.backward_pass.proofs.Backing.{reached_made}
+use Rattle.backward_pass.proofs.Reaching.{reached_made}
 use Rattle.backward_pass.proofs.back.Back.new.Goals as goal
 
 pub returns-clause-reached : goal.returns-clause-reached

@@ -1,12 +1,48 @@
-use Rattle.forward_pass.specs.Forward.{fore_of}
-use Rattle.forward_pass.proofs.Reaching.{reached_next, reached_sends}
+use Rattle.std.proofs.Common.{ap, refl, ◌∙◌}
+use Rattle.std.specs.Prelude.{option_map}
+use Rattle.flow_rule.specs.declared.Message.TheVariants.{End}
+use Rattle.pass_parts.proofs.Events.{waits_at}
+use Rattle.pass_parts.specs.Ends.{IsRefused, with}
+use Rattle.forward_pass.specs.Forward.{ForeView, fore_of}
+use Rattle.forward_pass.specs.Rest.{BeingSent, rest_of}
+use Rattle.forward_pass.proofs.Events.{moved_next, over_next, full_next, push_next, empty_next, needs_item, pop_next, no_room_next, end_next}
 use Rattle.forward_pass.proofs.state.Fore.event.Goals as goal
 
-pub returns-clause-reached : goal.returns-clause-reached
-returns-clause-reached g c = λ first whole requests r.
-    reached_next (fore_of c.args.self.now) (fore_of c.step.new.self) _ _ _ _ c.step.result first whole requests c.step.ensures.event c.step.ensures.same r
+pub returns-in-Moved-clause-event : goal.returns-in-Moved-clause-event
+returns-in-Moved-clause-event g c = moved_next (fore_of c.args.self.now) _ _ c.requires (fore_of c.next.new.self) c.in-Moved.ensures
 
-pub returns-clause-sends : goal.returns-clause-sends
-returns-clause-sends g c = λ first whole requests r.
-    reached_sends (fore_of c.step.new.self) _ _ first whole requests
-    (reached_next (fore_of c.args.self.now) (fore_of c.step.new.self) _ _ _ _ c.step.result first whole requests c.step.ensures.event c.step.ensures.same r)
+pub returns-then-not-push_message-clause-event : goal.returns-then-not-push_message-clause-event
+returns-then-not-push_message-clause-event g c =
+    full_next (fore_of c.args.self.now) _ _ c.requires (fore_of c.next.new.self) c.in-Send.ensures.0 _ c.in-Send.message c.in-Send.ensures.1 (c.if-not-push_message.ensures.full refl)
+
+pub returns-else-not-push_message-clause-event : goal.returns-else-not-push_message-clause-event
+returns-else-not-push_message-clause-event g c =
+    push_next (fore_of c.args.self.now) _ _ c.requires _ _ c.in-Send.message c.in-Send.ensures.1 (c.if-not-push_message.ensures.sent refl)
+    (ap (λ (s : BeingSent). record (fore_of c.next.new.self) { sending = s.left }) c.advance.ensures ∙ ap {A = ForeView} (λ v. record v { sending = rest_of v.sending }) c.in-Send.ensures.0)
+
+pub returns-in_default-clause-event : goal.returns-in_default-clause-event
+returns-in_default-clause-event g c =
+    empty_next (fore_of c.args.self.now) _ _ c.requires (fore_of c.next.new.self) c.in-Receive.ensures.0 _ c.in-Receive.ensures.1 c.in_default.ensures.none
+
+pub returns-in-Some-clause-event : goal.returns-in-Some-clause-event
+returns-in-Some-clause-event g c =
+    pop_next (fore_of c.args.self.now) _ _ c.requires (fore_of c.next.new.self) c.in-Receive.ensures.0 (fore_of c.take.new.self) _ c.in-Some.message c.in-Receive.ensures.1
+    c.in-Some.ensures.some c.take.ensures
+
+pub returns-then-not-push_message-2-clause-event : goal.returns-then-not-push_message-2-clause-event
+returns-then-not-push_message-2-clause-event g c =
+    no_room_next (fore_of c.args.self.now) _ _ c.requires (fore_of c.next.new.self) c.in-End.ensures.0 _ c.in-End.ensures.1 (c.if-not-push_message-2.ensures.full refl)
+
+pub returns-else-not-push_message-2-clause-event : goal.returns-else-not-push_message-2-clause-event
+returns-else-not-push_message-2-clause-event g c =
+    end_next (fore_of c.args.self.now) _ _ c.requires (fore_of c.next.new.self) c.in-End.ensures.0 _ c.in-End.ensures.1
+    (c.if-not-push_message-2.ensures.sent refl ∙ ap (λ w. with (End w) (option_map g.O.Outlet.sent c.args.outlet.now)) c.whole-whole.ensures)
+
+pub returns-in-Over-clause-event : goal.returns-in-Over-clause-event
+returns-in-Over-clause-event g c = over_next (fore_of c.args.self.now) _ _ c.requires (fore_of c.next.new.self) c.in-Over.ensures.0 c.in-Over.ensures.1
+
+pub returns-in_default-clause-waits : goal.returns-in_default-clause-waits
+returns-in_default-clause-waits g c =
+    waits_at _ (IsRefused g.O.Outlet.refusals g.O.Outlet.ready c.args.outlet.now c.args.outlet.now)
+    (needs_item (fore_of c.args.self.now) (option_map g.I.Inlet.got c.args.inlet.now) (option_map g.O.Outlet.sent c.args.outlet.now) c.requires c.in-Receive.ensures.1)
+    c.in_default.ensures.refused

@@ -1,13 +1,13 @@
-//! What the pass does next.
+//! What a pass does next.
 
 use flow_rule::Message;
 
-/// What the pass does in an event.
+/// What a pass does in an event.
 #[derive(Clone, Copy)]
-pub(crate) enum Next {
+pub enum Next {
     /// It did it: that needed no link.
     Moved,
-    /// It sends a message of an answer.
+    /// It sends a message.
     Send(Message),
     /// It takes a message.
     Receive,

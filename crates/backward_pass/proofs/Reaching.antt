@@ -1,0 +1,70 @@
+-- From the beginning of the pass on. Crates above cite these lemmas.
+use Rattle.std.proofs.Common.{◌≡◌, List, [], ◌∷◌, ◌++◌, refl, ap, ap₂, sym, ◌∙◌, Bool, true, false, subst}
+use Rattle.std.specs.Prelude.{Option, Some, None, is_none}
+use Rattle.flow_rule.specs.declared.Message.{Message}
+use Rattle.epoch_model.specs.Summary.{Summary as EpochSummary}
+use Rattle.local_taint.specs.declared.summary.Summary.{Summary}
+use Rattle.stream_model.specs.Streams.{is_ended}
+use Rattle.stream_model.specs.Passes.{Asking, Links, asking_event, asking_after, asking_by, broken_asking, drop_ask, end_asks}
+use Rattle.stream_model.specs.PassLaws.{AsksSent}
+use Rattle.stream_model.specs.Schedules.{begun}
+use Rattle.stream_model.proofs.Passing.{no, asking_sends}
+use Rattle.pass_parts.specs.declared.pass_turn.PassTurn.{PassTurn}
+use Rattle.pass_parts.specs.Ends.{fresh_end}
+use Rattle.pass_parts.specs.Known.{known}
+use Rattle.backward_pass.specs.Backward.{BackView, knows, new_back, state, begins, IsSameBack, Happens, Reached, SendsFor}
+
+event_whole : (first : Bool) (e : EpochSummary) (links : Links) (a : Asking) → a.is_whole ≡ false → (asking_event first e links a).is_whole ≡ false
+event_whole first e links a w = by a.is_over where
+  ended : (b : Bool) → (broken_asking links a b).is_whole ≡ false
+  ended false = by links.next where
+    by : (next : Option Message) → (drop_ask a next).is_whole ≡ false
+    by None = w
+    by (Some m) = w
+  ended true = by links.has_room where
+    by : (room : Bool) → (end_asks room a).is_whole ≡ false
+    by true = w
+    by false = w
+
+  by : (over : Bool) → (asking_by first e links a over a.is_whole).is_whole ≡ false
+  by true = w
+  by false = ap (λ (b : Bool). (asking_by first e links a false b).is_whole) w ∙ ended (is_ended a.got)
+
+after_broken : (first : Bool) (e : EpochSummary) (schedule : List Links) (a : Asking) → a.is_whole ≡ false → (asking_after first e schedule a).is_whole ≡ false
+after_broken first e [] a w = w
+after_broken first e (links ∷ schedule) a w = after_broken first e schedule (asking_event first e links a) (event_whole first e links a w)
+
+after_one_more : (first : Bool) (e : EpochSummary) (schedule : List Links) (links : Links) (a : Asking) → asking_after first e (schedule ++ links ∷ []) a ≡ asking_event first e links (asking_after first e schedule a)
+after_one_more first e [] links a = refl
+after_one_more first e (l ∷ schedule) links a = after_one_more first e schedule links (asking_event first e l a)
+
+pub reached_next : (old new : BackView) (got sent got' sent' : Option (List Message)) (turn : PassTurn) → Happens old got sent new got' sent' turn → IsSameBack new old → Reached old got sent → Reached new got' sent'
+reached_next old new got sent got' sent' turn h same r =
+    let later = r.schedule ++ h.links ∷ [] in
+    let after : Option Summary → Bool → Bool → Asking = λ s first last. asking_after first (known s) later (begun (is_none s) last (known s)) in
+    record {
+      schedule = later;
+      is = h.is ∙ ap (asking_event old.first (knows old) h.links) r.is ∙ sym (after_one_more old.first (knows old) r.schedule h.links (begins old))
+          ∙ ap (λ s. after s old.first old.last) (sym same.summary) ∙ ap₂ (after new.summary) (sym same.first) (sym same.last);
+    }
+
+pub sends_for : (v : BackView) (got sent : Option (List Message)) → Reached v got sent → SendsFor v got sent
+sends_for v got sent r = λ w. by w v.summary refl where
+  by : v.whole ≡ true → (s : Option Summary) → v.summary ≡ s → AsksSent v.first (knows v) (state v got sent)
+  by w None is = no (sym w ∙ ap (λ (a : Asking). a.is_whole) r.is ∙ after_broken v.first (knows v) r.schedule (begins v) (ap (λ s. (begun (is_none s) v.last (knows v)).is_whole) is))
+  by w (Some s) is =
+      let same = r.is ∙ ap (λ s. asking_after v.first (knows v) r.schedule (begun (is_none s) v.last (knows v))) is in
+      subst (AsksSent v.first (knows v)) (sym same) (asking_sends v.first v.last (knows v) r.schedule (sym (ap (λ (a : Asking). a.is_whole) same) ∙ w))
+
+pub reached_new : (s : Option Summary) (first last : Bool) → Reached (new_back s first last) (fresh_end last) (fresh_end first)
+reached_new None true true = record { schedule = []; is = refl }
+reached_new None true false = record { schedule = []; is = refl }
+reached_new None false true = record { schedule = []; is = refl }
+reached_new None false false = record { schedule = []; is = refl }
+reached_new (Some s) true true = record { schedule = []; is = refl }
+reached_new (Some s) true false = record { schedule = []; is = refl }
+reached_new (Some s) false true = record { schedule = []; is = refl }
+reached_new (Some s) false false = record { schedule = []; is = refl }
+
+pub reached_made : (s : Option Summary) (first last : Bool) (v : BackView) → v ≡ new_back s first last → Reached v (fresh_end last) (fresh_end first)
+reached_made s first last v e = subst (λ v. Reached v (fresh_end last) (fresh_end first)) (sym e) (reached_new s first last)

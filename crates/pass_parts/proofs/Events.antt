@@ -1,0 +1,57 @@
+-- Events of passes. Crates above cite these lemmas.
+use Rattle.std.proofs.Common.{◌≡◌, List, refl, ap, ap₂, sym, subst, ◌∙◌, Bool, true, false}
+use Rattle.std.specs.Prelude.{Option, Some, None, IfNone}
+use Rattle.flow_rule.specs.declared.Message.{Message}
+use Rattle.flow_rule.specs.declared.Message.TheVariants.{End}
+use Rattle.stream_model.specs.Passes.{Links}
+use Rattle.stream_model.specs.Schedules.{Need}
+use Rattle.pass_parts.specs.declared.pass_turn.PassTurn.TheVariants.{NotYet, Over}
+use Rattle.pass_parts.specs.Ends.{with, unsent, sent_by}
+use Rattle.pass_parts.specs.Events.{Events, IsEvent}
+use Rattle.pass_parts.specs.Turns.{Waits}
+
+abbrev pub links_of : Bool → Option Message → Bool → Links
+links_of room next refused = record { has_room = room; next = next; is_refused = refused }
+
+-- what an event meets that needs no link, and one whose link refuses
+abbrev pub free : Bool → Links
+free refused = links_of true (Some (End true)) refused
+
+abbrev pub stuck : Links
+stuck = links_of false None false
+
+-- until it is over a pass has not sent its End
+pub sent_same : (o p w x : Bool) → o ≡ false → p ≡ false → (sent : Option (List Message)) → sent_by o w sent ≡ sent_by p x sent
+sent_same o p w x no_o no_p None = ap (λ (b : Bool). unsent b w) no_o ∙ sym (ap (λ (b : Bool). unsent b x) no_p)
+sent_same o p w x no_o no_p (Some sent) = refl
+
+-- a push makes no link
+pub still_none : (A : Type 0) (m : Message) (sent later : Option (List Message)) → later ≡ with m sent → IfNone sent A → IfNone later A
+still_none A m None later e h = subst (λ s. IfNone s A) (sym e) h
+still_none A m (Some sent) later e h = subst (λ s. IfNone s A) (sym e) tt
+
+-- nothing happens
+module _ {V S : Type 0} (p : Events V S) (old new : V) (got sent : Option (List Message)) (is : new ≡ old) (k : p.Keeps old got sent) (same : p.IsSame old old) where
+  -- the link that the event needs refused
+  pub refused : (got' sent' : Option (List Message)) → p.is_over old ≡ false → got' ≡ got → sent' ≡ sent
+      → p.event old stuck (p.state old got sent) ≡ p.state old got sent → IsEvent p old got sent new got' sent' NotYet
+  refused got' sent' o g s h =
+      subst (λ v. IsEvent p old got sent v got' sent' NotYet) (sym is)
+      (record {
+        happens = record { links = stuck; went = tt; is = ap₂ (p.state old) g s ∙ sym h };
+        keeps = subst (λ g. p.Keeps old g sent') (sym g) (subst (p.Keeps old got) (sym s) k);
+        same = same;
+        over = tt;
+        running = o;
+        not_yet = (refl, g, s);
+      })
+
+  -- the End was sent before
+  pub was_over : p.is_over old ≡ true → p.event old stuck (p.state old got sent) ≡ p.state old got sent → IsEvent p old got sent new got sent Over
+  was_over o h =
+      subst (λ v. IsEvent p old got sent v got sent Over) (sym is)
+      (record { happens = record { links = stuck; went = tt; is = sym h }; keeps = k; same = same; over = o; running = tt; not_yet = tt })
+
+-- what the link says that the event needs
+pub waits_at : {n m : Need} (P Q : Type 0) → n ≡ m → Waits m P Q → Waits n P Q
+waits_at P Q e w = subst (λ n. Waits n P Q) (sym e) w

@@ -1,0 +1,57 @@
+//! What a pass knows of its epoch, which tells whether it is whole.
+
+ghost use Rattle.std.specs.Prelude.{◌≡◌, ◌&&◌, is_some};
+ghost use Rattle.pass_parts.specs.declared.knowledge.Knowledge.TheVariants.{Broken};
+ghost use Rattle.pass_parts.specs.Knowing.{is_whole, summary_in};
+
+use local_taint::Summary;
+
+/// What a pass knows of its epoch.
+#[derive(Drop)]
+pub enum Knowledge {
+    /// The pass is whole, and has the summary.
+    Whole(Summary),
+    /// The pass is broken. A summary that it had is used no more.
+    Broken(Option<Summary>),
+}
+
+impl Knowledge {
+    /// That of a pass with this summary. Without one it is broken.
+    pub fn new(summary: Option<Summary>, whole: bool) -> Knowledge
+        ensures whole { is_whole result ≡ (whole && is_some summary) }
+        ensures summary { summary_in result ≡ summary }
+    {
+        match summary {
+            Some(summary) if whole => Knowledge::Whole(summary),
+            summary => Knowledge::Broken(summary),
+        }
+    }
+
+    /// Whether the pass is whole.
+    pub fn is_whole(&self) -> bool
+        ensures { result ≡ is_whole self.now }
+    {
+        match self {
+            Knowledge::Whole(_) => true,
+            Knowledge::Broken(_) => false,
+        }
+    }
+
+    /// The pass breaks.
+    pub fn give_up(&mut self)
+        ensures { self.new ≡ Broken (summary_in self.old) }
+    {
+        let known = std::mem::replace(self, Knowledge::Broken(None));
+        *self = Knowledge::Broken(known.into_summary());
+    }
+
+    /// The summary, if there was one.
+    pub fn into_summary(self) -> Option<Summary>
+        ensures { result ≡ summary_in self }
+    {
+        match self {
+            Knowledge::Whole(summary) => Some(summary),
+            Knowledge::Broken(summary) => summary,
+        }
+    }
+}
