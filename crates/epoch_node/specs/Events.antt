@@ -18,7 +18,7 @@ use Rattle.backward_pass.specs.Backward.{BackView, knows, state, Keeps, Reached,
 use Rattle.forward_pass.specs.Forward.{ForeView, new_fore, known_by, fore_state, ForeKeeps, ForeReached, ForeSends, IsSameFore, ForeHappens}
 use Rattle.epoch_node.specs.declared.stage.Phase.{Phase}
 use Rattle.epoch_node.specs.declared.stage.Phase.TheVariants as phase
-use Rattle.epoch_node.specs.Cores.{Given, StageView, Fresh, Asking, Answering, Done, Between, CoreView, CanStart}
+use Rattle.epoch_node.specs.Cores.{Given, StageView, Fresh, Asking, Answering, Done, Between, CoreView, phase_of, CanStart}
 use Rattle.epoch_node.specs.Keeping.{Told, KeepsCore, IsBegun, CanSettle, IsSettled, requests_if}
 
 -- ---- the links of a phase
@@ -144,6 +144,11 @@ WhenNotYet turn.Moved P = Unit {0}
 WhenNotYet turn.NotYet P = P
 WhenNotYet turn.Done P = Unit {0}
 
+abbrev pub WhenMoved : Turn → Type 0 → Type 0
+WhenMoved turn.Moved P = P
+WhenMoved turn.NotYet P = Unit {0}
+WhenMoved turn.Done P = Unit {0}
+
 abbrev pub one_more : ℕ → ℕ
 one_more n = capped (n + 1)
 
@@ -166,6 +171,15 @@ IsMore None None = Unit {0}
 IsMore (Some old) (Some new) = IsPrefix old new
 IsMore None (Some new) = ⊥
 IsMore (Some old) None = ⊥
+
+-- an event of a core, on two links through which so much went before it and after it
+pub record IsEvent (old : CoreView) (got sent : Option (List Message)) (new : CoreView) (got' sent' : Option (List Message)) (answer : Turn) : Type 0 where
+  pub steps : Steps old.given old.stage got sent new.stage got' sent' answer
+  pub given : new.given ≡ old.given
+  pub more_got : IsMore got got'
+  pub more_sent : IsMore sent sent'
+  pub not_yet : WhenNotYet answer ((new ≡ old) × (got' ≡ got) × (sent' ≡ sent))
+  pub count : new.events ≡ counted answer (phase_of old.stage) old.events
 
 -- ---- parts of an event
 
