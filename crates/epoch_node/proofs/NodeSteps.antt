@@ -18,7 +18,7 @@ use Rattle.epoch_node.specs.declared.stage.Phase.TheVariants as phase
 use Rattle.epoch_node.specs.declared.ends.Ends.{Ends}
 use Rattle.epoch_node.specs.Cores.{Given, StageView, Fresh, Asking, Answering, Done, Between, CoreView, phase_of, whole_at, asked_at}
 use Rattle.epoch_node.specs.Keeping.{Told, HasLinks, IsOfEpoch, IsAsking, IsAnswering, AtStage, KeepsCore}
-use Rattle.epoch_node.specs.Events.{got_at, sent_at, told_at, IsMore, IsEvent}
+use Rattle.epoch_node.specs.Events.{got_at, sent_at, told_at, went, IsMore, IsEvent}
 use Rattle.epoch_node.specs.Nodes.{told_by, Progress, HasEvent, IsEndLater, later_refl, IsInletLater, IsOutletLater, IsLedFrom, SendsDue}
 use Rattle.epoch_node.proofs.Acting.{began_whole}
 
@@ -71,17 +71,16 @@ are_answers Between w e = cc
 module _ (c d : CoreView) (e : Ends) (inlet : Option (Consuming Message)) (outlet : Option (Producing Message)) (answer : Turn) where
   -- after an event on the links of the asks
   pub asks_lead : (phase_of c.stage ≡ phase.Fresh) ⊎ (phase_of c.stage ≡ phase.Asking)
-      → IsEvent c (told_by e).asks_got (told_by e).asks_sent d (option_map (λ c. c.got) inlet) (option_map (λ p. p.sent) outlet) answer
+      → IsEvent c (went (λ c. c.got) (λ p. p.sent) e.ask_in e.ask_out) d (went (λ c. c.got) (λ p. p.sent) inlet outlet) answer
       → IsEndFrom (λ c. c.link) (λ c. c.capacity) (λ c. []) inlet e.ask_in → IsEndFrom (λ p. p.link) (λ p. p.capacity) (λ p. []) outlet e.ask_out
       → IsLedFrom (record { core = d; ends = record e { ask_in = inlet; ask_out = outlet } }) (record { core = c; ends = e })
   asks_lead h x i o =
       let are = are_asks c.stage (told_by e) h in
       let after : Progress = record { core = d; told = record (told_by e) { asks_got = option_map (λ c. c.got) inlet; asks_sent = option_map (λ p. p.sent) outlet } } in
       let event : HasEvent (record { core = c; told = told_by e }) after = record {
-        got = option_map (λ c. c.got) inlet;
-        sent = option_map (λ p. p.sent) outlet;
+        on = went (λ c. c.got) (λ p. p.sent) inlet outlet;
         answer = answer;
-        event = subst₂ (λ g s. IsEvent c g s d (option_map (λ c. c.got) inlet) (option_map (λ p. p.sent) outlet) answer) (sym are.got) (sym are.sent) x;
+        event = subst₂ (λ g s. IsEvent c (record { got = g; sent = s }) d (went (λ c. c.got) (λ p. p.sent) inlet outlet) answer) (sym are.got) (sym are.sent) x;
         told = sym (are.told (option_map (λ c. c.got) inlet) (option_map (λ p. p.sent) outlet));
       } in
       record {
@@ -97,17 +96,16 @@ module _ (c d : CoreView) (e : Ends) (inlet : Option (Consuming Message)) (outle
 
   -- after one on those of the answers
   pub answers_lead : phase_of c.stage ≡ phase.Answering
-      → IsEvent c (told_by e).answers_got (told_by e).answers_sent d (option_map (λ c. c.got) inlet) (option_map (λ p. p.sent) outlet) answer
+      → IsEvent c (went (λ c. c.got) (λ p. p.sent) e.answer_in e.answer_out) d (went (λ c. c.got) (λ p. p.sent) inlet outlet) answer
       → IsEndFrom (λ c. c.link) (λ c. c.capacity) (λ c. []) inlet e.answer_in → IsEndFrom (λ p. p.link) (λ p. p.capacity) (λ p. []) outlet e.answer_out
       → IsLedFrom (record { core = d; ends = record e { answer_in = inlet; answer_out = outlet } }) (record { core = c; ends = e })
   answers_lead h x i o =
       let are = are_answers c.stage (told_by e) h in
       let after : Progress = record { core = d; told = record (told_by e) { answers_got = option_map (λ c. c.got) inlet; answers_sent = option_map (λ p. p.sent) outlet } } in
       let event : HasEvent (record { core = c; told = told_by e }) after = record {
-        got = option_map (λ c. c.got) inlet;
-        sent = option_map (λ p. p.sent) outlet;
+        on = went (λ c. c.got) (λ p. p.sent) inlet outlet;
         answer = answer;
-        event = subst₂ (λ g s. IsEvent c g s d (option_map (λ c. c.got) inlet) (option_map (λ p. p.sent) outlet) answer) (sym are.got) (sym are.sent) x;
+        event = subst₂ (λ g s. IsEvent c (record { got = g; sent = s }) d (went (λ c. c.got) (λ p. p.sent) inlet outlet) answer) (sym are.got) (sym are.sent) x;
         told = sym (are.told (option_map (λ c. c.got) inlet) (option_map (λ p. p.sent) outlet));
       } in
       record {

@@ -18,7 +18,7 @@ use Rattle.epoch_node.specs.declared.stage.Phase.TheVariants.{Fresh, Asking, Ans
 use Rattle.epoch_node.specs.declared.ends.Ends.{Ends}
 use Rattle.epoch_node.specs.Cores.{Given, CoreView, new_core, phase_of, whole_at, asked_at}
 use Rattle.epoch_node.specs.Keeping.{Told, IsOfEpoch}
-use Rattle.epoch_node.specs.Events.{got_at, sent_at, told_at, need_at, IsEvent}
+use Rattle.epoch_node.specs.Events.{got_at, sent_at, told_at, Went, went_at, need_at, IsEvent}
 
 -- its core, and its ends of the links
 pub record NodeView : Type 0 where
@@ -57,11 +57,10 @@ progress_of n = record { core = n.core; told = told_by n.ends }
 
 -- the core had an event on the two links of its phase, and nothing went through the others
 pub record HasEvent (old new : Progress) : Type 0 where
-  pub got : Option (List Message)
-  pub sent : Option (List Message)
+  pub on : Went
   pub answer : Turn
-  pub event : IsEvent old.core (got_at old.core.stage old.told) (sent_at old.core.stage old.told) new.core got sent answer
-  pub told : new.told ≡ told_at old.core.stage got sent old.told
+  pub event : IsEvent old.core (went_at old.core.stage old.told) new.core on answer
+  pub told : new.told ≡ told_at old.core.stage on.got on.sent old.told
 
 -- the core had one event after another, and came to each of these in turn
 abbrev pub HasEvents : Progress → List Progress → Progress → Type 0

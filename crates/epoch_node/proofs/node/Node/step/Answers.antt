@@ -15,17 +15,14 @@ returns-clause-led g c =
       | in-Fresh w ↦
           let e = w.step.ensures in
           subst (λ n. IsLedFrom (record { core = core_of n.core; ends = n.ends }) old) (sym w.self-inside-is)
-          (asks_lead core (core_of w.step.new.self) s.ends w.step.new.inlet w.step.new.outlet w.step.result (inl (sym c.phase.ensures ∙ w.in-Fresh.is))
-          (record { steps = e.event; given = e.given; more_got = e.got; more_sent = e.sent; not_yet = e.not_yet; count = e.counted }) e.inlet e.outlet)
+          (asks_lead core (core_of w.step.new.self) s.ends w.step.new.inlet w.step.new.outlet w.step.result (inl (sym c.phase.ensures ∙ w.in-Fresh.is)) e.event e.inlet e.outlet)
       | in-Asking w ↦
           let e = w.step-in-Asking.ensures in
           subst (λ n. IsLedFrom (record { core = core_of n.core; ends = n.ends }) old) (sym w.self-inside-is)
-          (asks_lead core (core_of w.step-in-Asking.new.self) s.ends w.step-in-Asking.new.inlet w.step-in-Asking.new.outlet w.step-in-Asking.result (inr (sym c.phase.ensures ∙ w.in-Asking.is))
-          (record { steps = e.event; given = e.given; more_got = e.got; more_sent = e.sent; not_yet = e.not_yet; count = e.counted }) e.inlet e.outlet)
+          (asks_lead core (core_of w.step-in-Asking.new.self) s.ends w.step-in-Asking.new.inlet w.step-in-Asking.new.outlet w.step-in-Asking.result (inr (sym c.phase.ensures ∙ w.in-Asking.is)) e.event e.inlet e.outlet)
       | in-Answering w ↦
           let e = w.step-in-Answering.ensures in
           subst (λ n. IsLedFrom (record { core = core_of n.core; ends = n.ends }) old) (sym w.self-inside-is)
-          (answers_lead core (core_of w.step-in-Answering.new.self) s.ends w.step-in-Answering.new.inlet w.step-in-Answering.new.outlet w.step-in-Answering.result (sym c.phase.ensures ∙ w.in-Answering.is)
-          (record { steps = e.event; given = e.given; more_got = e.got; more_sent = e.sent; not_yet = e.not_yet; count = e.counted }) e.inlet e.outlet)
+          (answers_lead core (core_of w.step-in-Answering.new.self) s.ends w.step-in-Answering.new.inlet w.step-in-Answering.new.outlet w.step-in-Answering.result (sym c.phase.ensures ∙ w.in-Answering.is) e.event e.inlet e.outlet)
       | in-Done w ↦ subst (λ n. IsLedFrom (record { core = core_of n.core; ends = n.ends }) old) (sym w.self-inside-is) (led_refl old)
     ])
