@@ -39,7 +39,7 @@ mates capacity l (Some p) (Some c) a b = a.0 ∙ sym b.0
 
 -- the node is that of the epoch, and has links where it has neighbours
 pub record StandsAt (i : Given) (n : NodeView) : Type 0 where
-  pub given : n.given ≡ i
+  pub given : n.core.given ≡ i
   pub ask_in : is_none n.ends.ask_in ≡ i.last
   pub ask_out : is_none n.ends.ask_out ≡ i.first
   pub answer_in : is_none n.ends.answer_in ≡ i.first

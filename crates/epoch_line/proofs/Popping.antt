@@ -9,7 +9,7 @@ use Rattle.report_model.specs.Rows.{Row}
 use Rattle.epoch_cut.specs.Numbered.{NumberedEpoch}
 use Rattle.sink_collect.specs.Pairs.{capped}
 use Rattle.epoch_link.specs.Ends.{Producing, Consuming}
-use Rattle.epoch_node.specs.Cores.{Given}
+use Rattle.epoch_node.specs.Cores.{Given, asked_at}
 use Rattle.epoch_node.specs.Keeping.{HasDone, HasCounted}
 use Rattle.epoch_node.specs.Events.{IsMore}
 use Rattle.epoch_node.specs.Nodes.{NodeView, told_by}
@@ -22,8 +22,8 @@ use Rattle.epoch_line.proofs.Lines.{StandsAt, AreJoined, IsLine, IsPart}
 pub record Finished : Type 0 where
   pub view : NodeView
   pub rows : List Row
-  pub done : HasDone view.given (told_by view.ends) view.asked rows
-  pub counted : HasCounted view.given (told_by view.ends) view.asked rows view.events
+  pub done : HasDone view.core.given (told_by view.ends) (asked_at view.core.stage) rows
+  pub counted : HasCounted view.core.given (told_by view.ends) (asked_at view.core.stage) rows view.core.events
 
 abbrev pub views : List Finished → List NodeView
 views fs = map (λ f. f.view) fs
@@ -31,11 +31,11 @@ views fs = map (λ f. f.view) fs
 -- but for its ends
 abbrev pub node_of : Finished → DoneNode
 node_of f = record {
-  given = f.view.given;
+  given = f.view.core.given;
   told = told_by f.view.ends;
-  asked = f.view.asked;
+  asked = asked_at f.view.core.stage;
   rows = f.rows;
-  events = f.view.events;
+  events = f.view.core.events;
   done = f.done;
   counted = f.counted;
 }

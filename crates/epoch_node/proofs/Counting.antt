@@ -24,7 +24,7 @@ use Rattle.backward_pass.specs.Backward.{BackView, knows, state, begins, Reached
 use Rattle.forward_pass.specs.Forward.{ForeView, known_by, fore_state, ForeReached}
 use Rattle.epoch_node.specs.Cores.{Given, StageView, Fresh, Asking, Answering, Done, Between, CoreView, whole_at}
 use Rattle.epoch_node.specs.Keeping.{Told, fresh_told, HasLinks, IsBegun, IsAsking, requests_if, IsSettled, IsAnswering, AtStage, HasAsked, HasAnswered, MovedAt, Counts, node_by, HasCounted}
-use Rattle.epoch_node.specs.Events.{got_at, sent_at, told_at, one_more, BackActs, ForeActs, Acts, Advances}
+use Rattle.epoch_node.specs.Events.{got_at, sent_at, told_at, Went, went_at, one_more, BackActs, ForeActs, Acts, Advances}
 use Rattle.epoch_node.proofs.Acting.{unsent_yet}
 
 -- a count stands still at its type's end, and so does one more
@@ -137,61 +137,61 @@ pub record MovesOn (i : Given) (s : StageView) (w : Told) (after : StageView) (w
   pub whole : whole_at s ≡ true
   pub more : (moved : ℕ) → MovedAt i s w moved → MovedAt i after w' (moved + 1)
 
-moved_at : (i : Given) (s next : StageView) (w : Told) (got' sent' : Option (List Message)) → HasLinks i w → is_none got' ≡ is_none (got_at s w)
-    → AtStage i s w → Acts s (got_at s w) (sent_at s w) next got' sent' pass_turn.Moved → whole_at next ≡ true → MovesOn i s w next (told_at s got' sent' w)
-moved_at i (Fresh t) next w got' sent' l n at x h = absurd (not_over x.3) where
+moved_at : (i : Given) (s next : StageView) (w : Told) (on' : Went) → HasLinks i w → is_none on'.got ≡ is_none (got_at s w)
+    → AtStage i s w → Acts s (went_at s w) next on' pass_turn.Moved → whole_at next ≡ true → MovesOn i s w next (told_at s on'.got on'.sent w)
+moved_at i (Fresh t) next w on' l n at x h = absurd (not_over x.2) where
   not_over : pass_turn.Moved ≡ pass_turn.Over → ⊥
   not_over e = cc
-moved_at i (Asking v) next w got' sent' l n at x h =
+moved_at i (Asking v) next w on' l n at x h =
     let t = ap whole_at (sym x.is) ∙ h in
     let met = asking_moves_on x.happens.links (state v w.asks_got w.asks_sent) at.running x.happens.went.0 x.happens.went.1 in
     record {
-      whole = whole_back i v w at l next got' sent' pass_turn.Moved x n t;
-      more = λ moved m. subst (λ n. MovedAt i n (told_at (Asking v) got' sent' w) (moved + 1)) (sym x.is) (asks_counted i v w at l next got' sent' pass_turn.Moved x n t met moved m);
+      whole = whole_back i v w at l next on'.got on'.sent pass_turn.Moved x n t;
+      more = λ moved m. subst (λ n. MovedAt i n (told_at (Asking v) on'.got on'.sent w) (moved + 1)) (sym x.is) (asks_counted i v w at l next on'.got on'.sent pass_turn.Moved x n t met moved m);
     }
-moved_at i (Answering f) next w got' sent' l n at x h =
+moved_at i (Answering f) next w on' l n at x h =
     let t = ap whole_at (sym x.is) ∙ h in
     let met = answering_moves_on (known_by f) f.asked x.happens.links (fore_state f w.answers_got w.answers_sent) at.1 x.happens.went.0 x.happens.went.1 in
     record {
-      whole = whole_fore i f w at.0 l next got' sent' pass_turn.Moved x n t;
-      more = λ moved m. subst (λ n. MovedAt i n (told_at (Answering f) got' sent' w) (moved + 1)) (sym x.is) (answers_counted i f w at.0 l next got' sent' pass_turn.Moved x n t met moved m);
+      whole = whole_fore i f w at.0 l next on'.got on'.sent pass_turn.Moved x n t;
+      more = λ moved m. subst (λ n. MovedAt i n (told_at (Answering f) on'.got on'.sent w) (moved + 1)) (sym x.is) (answers_counted i f w at.0 l next on'.got on'.sent pass_turn.Moved x n t met moved m);
     }
-moved_at i (Done f) next w got' sent' l n at x h = absurd x
-moved_at i Between next w got' sent' l n at x h = absurd x
+moved_at i (Done f) next w on' l n at x h = absurd x
+moved_at i Between next w on' l n at x h = absurd x
 
-over_moved_at : (i : Given) (s next after : StageView) (w : Told) (got' sent' : Option (List Message)) → HasLinks i w → is_none got' ≡ is_none (got_at s w)
-    → AtStage i s w → Acts s (got_at s w) (sent_at s w) next got' sent' pass_turn.Over → Advances i next after → whole_at after ≡ true → MovesOn i s w after (told_at s got' sent' w)
-over_moved_at i (Fresh t) next after w got' sent' l n at x v h =
+over_moved_at : (i : Given) (s next after : StageView) (w : Told) (on' : Went) → HasLinks i w → is_none on'.got ≡ is_none (got_at s w)
+    → AtStage i s w → Acts s (went_at s w) next on' pass_turn.Over → Advances i next after → whole_at after ≡ true → MovesOn i s w after (told_at s on'.got on'.sent w)
+over_moved_at i (Fresh t) next after w on' l n at x v h =
     let y = subst (λ n. Advances i n after) x.0 v in
-    let told : told_at (Fresh t) got' sent' w ≡ fresh_told i.first i.last = ap₂ (λ g s. record w { asks_got = g; asks_sent = s }) x.1 x.2 ∙ at.2 in
+    let told : told_at (Fresh t) on'.got on'.sent w ≡ fresh_told i.first i.last = ap (λ (o : Went). record w { asks_got = o.got; asks_sent = o.sent }) x.1 ∙ at.2 in
     record {
       whole = refl;
-      more = λ moved m. subst (λ n. MovedAt i n (told_at (Fresh t) got' sent' w) (moved + 1)) (sym y.is)
+      more = λ moved m. subst (λ n. MovedAt i n (told_at (Fresh t) on'.got on'.sent w) (moved + 1)) (sym y.is)
           (subst (λ w. HasAsked i y.back w (moved + 1)) (sym told) (subst (λ (k : ℕ). HasAsked i y.back (fresh_told i.first i.last) (k + 1)) (sym m) (begun_counted i y.back y.begun)));
     }
-over_moved_at i (Asking v) next after w got' sent' l n at x a h =
+over_moved_at i (Asking v) next after w on' l n at x a h =
     let y = subst (λ n. Advances i n after) x.is a in
     let t : x.back.whole ≡ true = sym (ap (λ (f : ForeView). f.whole) y.settled.new) ∙ ap whole_at (sym y.is) ∙ h in
     let met =
     asking_moves_over v.first (knows v) x.happens.links (state v w.asks_got w.asks_sent) at.running (ap (λ (s : AskingState). s.is_over) (sym x.happens.is) ∙ x.over) in
-    let told : Told = record w { asks_got = got'; asks_sent = sent' } in
+    let told : Told = record w { asks_got = on'.got; asks_sent = on'.sent } in
     record {
-      whole = whole_back i v w at l next got' sent' pass_turn.Over x n t;
+      whole = whole_back i v w at l next on'.got on'.sent pass_turn.Over x n t;
       more = λ moved m. subst (λ n. MovedAt i n told (moved + 1)) (sym y.is)
-          (settled_counted i x.back y.fore told y.settled x.over t (walked_all x.back got' sent' x.reached x.over t) (x.keeps.requested t) at.answers_got at.answers_sent (moved + 1)
-          (asks_counted i v w at l next got' sent' pass_turn.Over x n t met moved m));
+          (settled_counted i x.back y.fore told y.settled x.over t (walked_all x.back on'.got on'.sent x.reached x.over t) (x.keeps.requested t) at.answers_got at.answers_sent (moved + 1)
+          (asks_counted i v w at l next on'.got on'.sent pass_turn.Over x n t met moved m));
     }
-over_moved_at i (Answering f) next after w got' sent' l n at x a h =
+over_moved_at i (Answering f) next after w on' l n at x a h =
     let y = subst (λ n. Advances i n after) x.is a in
     let t : x.fore.whole ≡ true = ap whole_at (sym y) ∙ h in
     let met =
     answering_moves_over (known_by f) f.asked x.happens.links (fore_state f w.answers_got w.answers_sent) at.1 (ap (λ (s : AnsweringState). s.is_over) (sym x.happens.is) ∙ x.over) in
     record {
-      whole = whole_fore i f w at.0 l next got' sent' pass_turn.Over x n t;
-      more = λ moved m. subst (λ n. MovedAt i n (told_at (Answering f) got' sent' w) (moved + 1)) (sym y) (answers_counted i f w at.0 l next got' sent' pass_turn.Over x n t met moved m);
+      whole = whole_fore i f w at.0 l next on'.got on'.sent pass_turn.Over x n t;
+      more = λ moved m. subst (λ n. MovedAt i n (told_at (Answering f) on'.got on'.sent w) (moved + 1)) (sym y) (answers_counted i f w at.0 l next on'.got on'.sent pass_turn.Over x n t met moved m);
     }
-over_moved_at i (Done f) next after w got' sent' l n at x a h = absurd x
-over_moved_at i Between next after w got' sent' l n at x a h = absurd x
+over_moved_at i (Done f) next after w on' l n at x a h = absurd x
+over_moved_at i Between next after w on' l n at x a h = absurd x
 
 -- ---- the count
 
@@ -207,14 +207,23 @@ module _ (c d : CoreView) (same : d.given ≡ c.given) (w w' : Told) (after : St
         is = e ∙ capped_more c.events old.moved old.is;
       }
 
-still_at : (i : Given) (s next : StageView) (w : Told) (got' sent' : Option (List Message)) → Acts s (got_at s w) (sent_at s w) next got' sent' pass_turn.NotYet → (next ≡ s) × (told_at s got' sent' w ≡ w)
-still_at i (Fresh t) next w got' sent' x = absurd (not_over x.3) where
+-- where the event did not happen nothing did
+pub still_at : (s next : StageView) (on on' : Went) → Acts s on next on' pass_turn.NotYet → (next ≡ s) × (on' ≡ on)
+still_at (Fresh t) next on on' x = absurd (not_over x.2) where
   not_over : pass_turn.NotYet ≡ pass_turn.Over → ⊥
   not_over e = cc
-still_at i (Asking v) next w got' sent' x = (x.is ∙ ap Asking x.not_yet.0, ap₂ (λ g s. record w { asks_got = g; asks_sent = s }) x.not_yet.1 x.not_yet.2)
-still_at i (Answering f) next w got' sent' x = (x.is ∙ ap Answering x.not_yet.0, ap₂ (λ g s. record w { answers_got = g; answers_sent = s }) x.not_yet.1 x.not_yet.2)
-still_at i (Done f) next w got' sent' x = absurd x
-still_at i Between next w got' sent' x = absurd x
+still_at (Asking v) next on on' x = (x.is ∙ ap Asking x.not_yet.0, ap₂ (λ g s. record { got = g; sent = s }) x.not_yet.1 x.not_yet.2)
+still_at (Answering f) next on on' x = (x.is ∙ ap Answering x.not_yet.0, ap₂ (λ g s. record { got = g; sent = s }) x.not_yet.1 x.not_yet.2)
+still_at (Done f) next on on' x = absurd x
+still_at Between next on on' x = absurd x
+
+-- what goes through the links of a phase where nothing more does
+pub told_still : (s : StageView) (w : Told) → told_at s (got_at s w) (sent_at s w) w ≡ w
+told_still (Fresh t) w = refl
+told_still (Asking v) w = refl
+told_still (Answering f) w = refl
+told_still (Done f) w = refl
+told_still Between w = refl
 
 -- the count after an event in which a pass came to this
 abbrev pub counted_by : PassTurn → ℕ → ℕ
@@ -222,25 +231,26 @@ counted_by pass_turn.Moved events = one_more events
 counted_by pass_turn.NotYet events = events
 counted_by pass_turn.Over events = one_more events
 
-module _ (c d : CoreView) (same : d.given ≡ c.given) (w : Told) (got' sent' : Option (List Message)) (l : HasLinks c.given w) (n : is_none got' ≡ is_none (got_at c.stage w))
+module _ (c d : CoreView) (same : d.given ≡ c.given) (w : Told) (on' : Went) (l : HasLinks c.given w) (n : is_none on'.got ≡ is_none (got_at c.stage w))
     (at : AtStage c.given c.stage w) (k : whole_at c.stage ≡ true → Counts c w) (next : StageView) where
-  pub counts_open : (turn : PassTurn) → (turn ≡ pass_turn.Over → ⊥) → Acts c.stage (got_at c.stage w) (sent_at c.stage w) next got' sent' turn → d.stage ≡ next → d.events ≡ counted_by turn c.events
-      → whole_at d.stage ≡ true → Counts d (told_at c.stage got' sent' w)
-  counts_open pass_turn.Moved o x is e = counts_one c d same w (told_at c.stage got' sent' w) next is e k (moved_at c.given c.stage next w got' sent' l n at x)
+  pub counts_open : (turn : PassTurn) → (turn ≡ pass_turn.Over → ⊥) → Acts c.stage (went_at c.stage w) next on' turn → d.stage ≡ next → d.events ≡ counted_by turn c.events
+      → whole_at d.stage ≡ true → Counts d (told_at c.stage on'.got on'.sent w)
+  counts_open pass_turn.Moved o x is e = counts_one c d same w (told_at c.stage on'.got on'.sent w) next is e k (moved_at c.given c.stage next w on' l n at x)
   counts_open pass_turn.NotYet o x is e = λ h.
-      let still = still_at c.given c.stage next w got' sent' x in
+      let still = still_at c.stage next (went_at c.stage w) on' x in
+      let told : told_at c.stage on'.got on'.sent w ≡ w = ap (λ (o : Went). told_at c.stage o.got o.sent w) still.1 ∙ told_still c.stage w in
       let stage = is ∙ still.0 in
       let old = k (ap whole_at (sym stage) ∙ h) in
       record {
         moved = old.moved;
-        at_stage = subst₂ (λ i s. MovedAt i s (told_at c.stage got' sent' w) old.moved) (sym same) (sym stage) (subst (λ w. MovedAt c.given c.stage w old.moved) (sym still.1) old.at_stage);
+        at_stage = subst₂ (λ i s. MovedAt i s (told_at c.stage on'.got on'.sent w) old.moved) (sym same) (sym stage) (subst (λ w. MovedAt c.given c.stage w old.moved) (sym told) old.at_stage);
         is = e ∙ old.is;
       }
   counts_open pass_turn.Over o x is e = absurd (o refl)
 
-  pub counts_over : Acts c.stage (got_at c.stage w) (sent_at c.stage w) next got' sent' pass_turn.Over → Advances c.given next d.stage → d.events ≡ one_more c.events
-      → whole_at d.stage ≡ true → Counts d (told_at c.stage got' sent' w)
-  counts_over x a e = counts_one c d same w (told_at c.stage got' sent' w) d.stage refl e k (over_moved_at c.given c.stage next d.stage w got' sent' l n at x a)
+  pub counts_over : Acts c.stage (went_at c.stage w) next on' pass_turn.Over → Advances c.given next d.stage → d.events ≡ one_more c.events
+      → whole_at d.stage ≡ true → Counts d (told_at c.stage on'.got on'.sent w)
+  counts_over x a e = counts_one c d same w (told_at c.stage on'.got on'.sent w) d.stage refl e k (over_moved_at c.given c.stage next d.stage w on' l n at x a)
 
 -- ---- at the end
 

@@ -4,3 +4,4 @@ mod Counting
 mod Stepping
 mod NodeSteps
 mod Alike
+pub mod Led

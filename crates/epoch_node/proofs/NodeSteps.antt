@@ -1,5 +1,5 @@
 -- What an event of the core makes of its node, and what a node has sent.
-use Rattle.std.proofs.Common.{◌≡◌, ℕ, ◌-◌, List, [], refl, ap, sym, subst, subst₂, ◌∙◌, Bool, true, false}
+use Rattle.std.proofs.Common.{◌≡◌, ◌⊎◌, inl, inr, ℕ, ◌-◌, List, [], ◌∷◌, refl, ap, sym, subst, subst₂, ◌∙◌, Bool, true, false}
 use Rattle.std.specs.Prelude.{Option, Some, None, is_none, option_map, IfSome}
 use Rattle.atomic_table.specs.Seated.{TableId}
 use Rattle.flow_model.specs.declared.Loc.{Loc}
@@ -10,14 +10,16 @@ use Rattle.epoch_model.specs.Summary.{Summary as EpochSummary}
 use Rattle.epoch_model.specs.Crossing.{summary_of}
 use Rattle.stream_model.specs.Streams.{requests, asks_for, answers_for}
 use Rattle.stream_model.specs.StreamLaws.{IsPrefix}
+use Rattle.run_board.specs.declared.task.Turn.{Turn}
 use Rattle.pass_parts.specs.Ends.{IsEndFrom, got_by, sent_by, fresh_end}
 use Rattle.backward_pass.specs.Backward.{BackView, knows}
 use Rattle.forward_pass.specs.Forward.{ForeView, known_by}
+use Rattle.epoch_node.specs.declared.stage.Phase.TheVariants as phase
 use Rattle.epoch_node.specs.declared.ends.Ends.{Ends}
-use Rattle.epoch_node.specs.Cores.{Given, StageView, Fresh, Asking, Answering, Done, Between, CoreView, whole_at, asked_at}
+use Rattle.epoch_node.specs.Cores.{Given, StageView, Fresh, Asking, Answering, Done, Between, CoreView, phase_of, whole_at, asked_at}
 use Rattle.epoch_node.specs.Keeping.{Told, HasLinks, IsOfEpoch, IsAsking, IsAnswering, AtStage, KeepsCore}
-use Rattle.epoch_node.specs.Events.{IsMore}
-use Rattle.epoch_node.specs.Nodes.{told_by, node_of, IsEndLater, later_refl, IsInletLater, IsOutletLater, IsLedFrom, SendsDue}
+use Rattle.epoch_node.specs.Events.{got_at, sent_at, told_at, went, IsMore, IsEvent}
+use Rattle.epoch_node.specs.Nodes.{told_by, Progress, HasEvent, IsEndLater, later_refl, IsInletLater, IsOutletLater, IsLedFrom, SendsDue}
 use Rattle.epoch_node.proofs.Acting.{began_whole}
 
 -- ---- later
@@ -35,34 +37,87 @@ inlet_same c = later_refl (λ (c : Consuming Message). c.link) (λ c. c.got) c
 outlet_same : (p : Option (Producing Message)) → IsOutletLater p p
 outlet_same p = later_refl (λ (p : Producing Message). p.link) (λ p. p.sent) p
 
-module _ (c d : CoreView) (e : Ends) (given : d.given ≡ c.given) (inlet : Option (Consuming Message)) (outlet : Option (Producing Message)) where
+-- ---- an event on the links of its phase
+
+-- these are the links of the asks
+record AreAsks (s : StageView) (w : Told) : Type 0 where
+  got : got_at s w ≡ w.asks_got
+  sent : sent_at s w ≡ w.asks_sent
+  told : (got sent : Option (List Message)) → told_at s got sent w ≡ record w { asks_got = got; asks_sent = sent }
+
+are_asks : (s : StageView) (w : Told) → (phase_of s ≡ phase.Fresh) ⊎ (phase_of s ≡ phase.Asking) → AreAsks s w
+are_asks (Fresh t) w h = record { got = refl; sent = refl; told = λ g s. refl }
+are_asks (Asking v) w h = record { got = refl; sent = refl; told = λ g s. refl }
+are_asks (Answering f) w (inl e) = cc
+are_asks (Answering f) w (inr e) = cc
+are_asks (Done f) w (inl e) = cc
+are_asks (Done f) w (inr e) = cc
+are_asks Between w (inl e) = cc
+are_asks Between w (inr e) = cc
+
+-- these are the links of the answers
+record AreAnswers (s : StageView) (w : Told) : Type 0 where
+  got : got_at s w ≡ w.answers_got
+  sent : sent_at s w ≡ w.answers_sent
+  told : (got sent : Option (List Message)) → told_at s got sent w ≡ record w { answers_got = got; answers_sent = sent }
+
+are_answers : (s : StageView) (w : Told) → phase_of s ≡ phase.Answering → AreAnswers s w
+are_answers (Fresh t) w e = cc
+are_answers (Asking v) w e = cc
+are_answers (Answering f) w e = record { got = refl; sent = refl; told = λ g s. refl }
+are_answers (Done f) w e = cc
+are_answers Between w e = cc
+
+module _ (c d : CoreView) (e : Ends) (inlet : Option (Consuming Message)) (outlet : Option (Producing Message)) (answer : Turn) where
   -- after an event on the links of the asks
-  pub asks_lead : IsEndFrom (λ c. c.link) (λ c. c.capacity) (λ c. []) inlet e.ask_in → IsEndFrom (λ p. p.link) (λ p. p.capacity) (λ p. []) outlet e.ask_out
-      → IsMore (option_map (λ c. c.got) e.ask_in) (option_map (λ c. c.got) inlet) → IsMore (option_map (λ p. p.sent) e.ask_out) (option_map (λ p. p.sent) outlet)
-      → IsLedFrom (node_of d (record e { ask_in = inlet; ask_out = outlet })) (node_of c e)
-  asks_lead i o got sent = record {
-    given = given;
-    ends = record {
-      ask_in = later_end (λ (c : Consuming Message). c.link) (λ c. c.capacity) (λ c. []) (λ c. c.got) inlet e.ask_in i got;
-      ask_out = later_end (λ (p : Producing Message). p.link) (λ p. p.capacity) (λ p. []) (λ p. p.sent) outlet e.ask_out o sent;
-      answer_in = inlet_same e.answer_in;
-      answer_out = outlet_same e.answer_out;
-    };
-  }
+  pub asks_lead : (phase_of c.stage ≡ phase.Fresh) ⊎ (phase_of c.stage ≡ phase.Asking)
+      → IsEvent c (went (λ c. c.got) (λ p. p.sent) e.ask_in e.ask_out) d (went (λ c. c.got) (λ p. p.sent) inlet outlet) answer
+      → IsEndFrom (λ c. c.link) (λ c. c.capacity) (λ c. []) inlet e.ask_in → IsEndFrom (λ p. p.link) (λ p. p.capacity) (λ p. []) outlet e.ask_out
+      → IsLedFrom (record { core = d; ends = record e { ask_in = inlet; ask_out = outlet } }) (record { core = c; ends = e })
+  asks_lead h x i o =
+      let are = are_asks c.stage (told_by e) h in
+      let after : Progress = record { core = d; told = record (told_by e) { asks_got = option_map (λ c. c.got) inlet; asks_sent = option_map (λ p. p.sent) outlet } } in
+      let event : HasEvent (record { core = c; told = told_by e }) after = record {
+        on = went (λ c. c.got) (λ p. p.sent) inlet outlet;
+        answer = answer;
+        event = subst₂ (λ g s. IsEvent c (record { got = g; sent = s }) d (went (λ c. c.got) (λ p. p.sent) inlet outlet) answer) (sym are.got) (sym are.sent) x;
+        told = sym (are.told (option_map (λ c. c.got) inlet) (option_map (λ p. p.sent) outlet));
+      } in
+      record {
+        given = x.given;
+        ends = record {
+          ask_in = later_end (λ (c : Consuming Message). c.link) (λ c. c.capacity) (λ c. []) (λ c. c.got) inlet e.ask_in i x.more_got;
+          ask_out = later_end (λ (p : Producing Message). p.link) (λ p. p.capacity) (λ p. []) (λ p. p.sent) outlet e.ask_out o x.more_sent;
+          answer_in = inlet_same e.answer_in;
+          answer_out = outlet_same e.answer_out;
+        };
+        came = (after ∷ [], (event, refl));
+      }
 
   -- after one on those of the answers
-  pub answers_lead : IsEndFrom (λ c. c.link) (λ c. c.capacity) (λ c. []) inlet e.answer_in → IsEndFrom (λ p. p.link) (λ p. p.capacity) (λ p. []) outlet e.answer_out
-      → IsMore (option_map (λ c. c.got) e.answer_in) (option_map (λ c. c.got) inlet) → IsMore (option_map (λ p. p.sent) e.answer_out) (option_map (λ p. p.sent) outlet)
-      → IsLedFrom (node_of d (record e { answer_in = inlet; answer_out = outlet })) (node_of c e)
-  answers_lead i o got sent = record {
-    given = given;
-    ends = record {
-      ask_in = inlet_same e.ask_in;
-      ask_out = outlet_same e.ask_out;
-      answer_in = later_end (λ (c : Consuming Message). c.link) (λ c. c.capacity) (λ c. []) (λ c. c.got) inlet e.answer_in i got;
-      answer_out = later_end (λ (p : Producing Message). p.link) (λ p. p.capacity) (λ p. []) (λ p. p.sent) outlet e.answer_out o sent;
-    };
-  }
+  pub answers_lead : phase_of c.stage ≡ phase.Answering
+      → IsEvent c (went (λ c. c.got) (λ p. p.sent) e.answer_in e.answer_out) d (went (λ c. c.got) (λ p. p.sent) inlet outlet) answer
+      → IsEndFrom (λ c. c.link) (λ c. c.capacity) (λ c. []) inlet e.answer_in → IsEndFrom (λ p. p.link) (λ p. p.capacity) (λ p. []) outlet e.answer_out
+      → IsLedFrom (record { core = d; ends = record e { answer_in = inlet; answer_out = outlet } }) (record { core = c; ends = e })
+  answers_lead h x i o =
+      let are = are_answers c.stage (told_by e) h in
+      let after : Progress = record { core = d; told = record (told_by e) { answers_got = option_map (λ c. c.got) inlet; answers_sent = option_map (λ p. p.sent) outlet } } in
+      let event : HasEvent (record { core = c; told = told_by e }) after = record {
+        on = went (λ c. c.got) (λ p. p.sent) inlet outlet;
+        answer = answer;
+        event = subst₂ (λ g s. IsEvent c (record { got = g; sent = s }) d (went (λ c. c.got) (λ p. p.sent) inlet outlet) answer) (sym are.got) (sym are.sent) x;
+        told = sym (are.told (option_map (λ c. c.got) inlet) (option_map (λ p. p.sent) outlet));
+      } in
+      record {
+        given = x.given;
+        ends = record {
+          ask_in = inlet_same e.ask_in;
+          ask_out = outlet_same e.ask_out;
+          answer_in = later_end (λ (c : Consuming Message). c.link) (λ c. c.capacity) (λ c. []) (λ c. c.got) inlet e.answer_in i x.more_got;
+          answer_out = later_end (λ (p : Producing Message). p.link) (λ p. p.capacity) (λ p. []) (λ p. p.sent) outlet e.answer_out o x.more_sent;
+        };
+        came = (after ∷ [], (event, refl));
+      }
 
 -- ---- what is sent
 
@@ -120,7 +175,7 @@ at_end : {E : Type 0} (list : E → List Message) (all : List Message) (o : Opti
 at_end list all None h = tt
 at_end list all (Some x) h = h
 
-pub sends_due : (c : CoreView) (e : Ends) → KeepsCore c (told_by e) → whole_at c.stage ≡ true → SendsDue (node_of c e)
+pub sends_due : (c : CoreView) (e : Ends) → KeepsCore c (told_by e) → whole_at c.stage ≡ true → SendsDue (record { core = c; ends = e })
 sends_due c e k h =
     let s = sends_at c.given c.stage (told_by e) k.links k.stage h in
     record {

@@ -1,32 +1,26 @@
 -- What an event of a core keeps.
-use Rattle.std.proofs.Common.{refl, ◌≡◌, List, ap, ap₂, sym, subst, subst₂, ◌∙◌, true, false}
+use Rattle.std.proofs.Common.{refl, ◌≡◌, ℕ, List, ap, ap₂, sym, subst, subst₂, ◌∙◌, true, false}
 use Rattle.std.specs.Prelude.{Option, is_none}
 use Rattle.flow_rule.specs.declared.Message.{Message}
 use Rattle.pass_parts.specs.declared.pass_turn.PassTurn.{PassTurn}
 use Rattle.pass_parts.specs.declared.pass_turn.PassTurn.TheVariants as pass_turn
+use Rattle.run_board.specs.declared.task.Turn.{Turn}
 use Rattle.run_board.specs.declared.task.Turn.TheVariants as turn
+use Rattle.run_board.specs.Turns.{AnswersEnded}
 use Rattle.pass_parts.specs.Ends.{fresh_end}
 use Rattle.pass_parts.specs.Turns.{OnOpen}
 use Rattle.backward_pass.specs.Backward.{state}
+use Rattle.epoch_node.specs.declared.stage.Phase.{Phase}
 use Rattle.epoch_node.specs.declared.stage.Phase.TheVariants as phase
 use Rattle.epoch_node.specs.declared.stage.Stage.{Stage}
 use Rattle.epoch_node.specs.Cores.{Given, stage_of, StageView, Fresh, Asking, Answering, Done, Between, CoreView, phase_of, whole_at}
 use Rattle.epoch_node.specs.Keeping.{Told, fresh_told, HasLinks, AtStage, Counts, KeepsCore}
-use Rattle.epoch_node.specs.Events.{got_at, sent_at, told_at, one_more, IsReady, StillKeeps, IsMore, settled_by, Steps, Acts, Advances}
+use Rattle.epoch_node.specs.Events.{got_at, sent_at, told_at, Went, went_at, one_more, IsReady, IsMore, settled_by, answered_by, asks_turn, answers_turn, Steps, WhenNotYet, counted, IsEvent, Acts, Advances}
 use Rattle.epoch_node.proofs.Acting.{begins_state, more_still, begun_asking, asks_got_more, asks_sent_more, still_asking, begins_to_answer, answers_got_more, answers_sent_more, still_answering}
-use Rattle.epoch_node.proofs.Counting.{counted_by, counts_open, counts_over}
+use Rattle.epoch_node.proofs.Counting.{still_at, told_still, counted_by, counts_open, counts_over}
 
-pub acts_of : {s t : Stage} → s ≡ t → (next : StageView) (got sent got' sent' : Option (List Message)) (turn : PassTurn)
-    → Acts (stage_of s) got sent next got' sent' turn → Acts (stage_of t) got sent next got' sent' turn
-acts_of e next got sent got' sent' turn x = subst (λ s. Acts (stage_of s) got sent next got' sent' turn) e x
-
--- where nothing more went through the links of its phase, a core keeps what it kept
-pub told_same : (s : StageView) (w : Told) (got sent : Option (List Message)) → got_at s w ≡ got → sent_at s w ≡ sent → w ≡ told_at s got sent w
-told_same (Fresh t) w got sent g e = ap₂ (λ x y. record w { asks_got = x; asks_sent = y }) g e
-told_same (Asking v) w got sent g e = ap₂ (λ x y. record w { asks_got = x; asks_sent = y }) g e
-told_same (Answering f) w got sent g e = ap₂ (λ x y. record w { answers_got = x; answers_sent = y }) g e
-told_same (Done f) w got sent g e = ap₂ (λ x y. record w { answers_got = x; answers_sent = y }) g e
-told_same Between w got sent g e = ap₂ (λ x y. record w { answers_got = x; answers_sent = y }) g e
+pub acts_of : {s t : Stage} → s ≡ t → (next : StageView) (on on' : Went) (turn : PassTurn) → Acts (stage_of s) on next on' turn → Acts (stage_of t) on next on' turn
+acts_of e next on on' turn x = subst (λ s. Acts (stage_of s) on next on' turn) e x
 
 -- the event happened or not, and the pass is not over
 pub record IsOpenTurn (turn : PassTurn) : Type 1 where
@@ -50,62 +44,138 @@ links_at i (Answering f) w got' sent' g s h = record { asks_got = h.asks_got; as
 links_at i (Done f) w got' sent' g s h = record { asks_got = h.asks_got; asks_sent = h.asks_sent; answers_got = g ∙ h.answers_got; answers_sent = s ∙ h.answers_sent }
 links_at i Between w got' sent' g s h = record { asks_got = h.asks_got; asks_sent = h.asks_sent; answers_got = g ∙ h.answers_got; answers_sent = s ∙ h.answers_sent }
 
-open_at : (i : Given) (s next : StageView) (w : Told) (got' sent' : Option (List Message)) (turn : PassTurn) → IsOpenTurn turn
-    → AtStage i s w → Acts s (got_at s w) (sent_at s w) next got' sent' turn → AtStage i next (told_at s got' sent' w)
-open_at i (Fresh t) next w got' sent' turn o at x = absurd (o.not_over x.3)
-open_at i (Asking v) next w got' sent' turn o at x =
-    subst (λ n. AtStage i n (told_at (Asking v) got' sent' w)) (sym x.is) (still_asking i v w at next got' sent' turn x (o.running (x.back.over ≡ false) x.running))
-open_at i (Answering f) next w got' sent' turn o at x =
-    subst (λ n. AtStage i n (told_at (Answering f) got' sent' w)) (sym x.is) (still_answering i f w at.0 next got' sent' turn x, o.running (x.fore.over ≡ false) x.running)
-open_at i (Done f) next w got' sent' turn o at x = absurd x
-open_at i Between next w got' sent' turn o at x = absurd x
+open_at : (i : Given) (s next : StageView) (w : Told) (on' : Went) (turn : PassTurn) → IsOpenTurn turn
+    → AtStage i s w → Acts s (went_at s w) next on' turn → AtStage i next (told_at s on'.got on'.sent w)
+open_at i (Fresh t) next w on' turn o at x = absurd (o.not_over x.2)
+open_at i (Asking v) next w on' turn o at x =
+    subst (λ n. AtStage i n (told_at (Asking v) on'.got on'.sent w)) (sym x.is) (still_asking i v w at next on'.got on'.sent turn x (o.running (x.back.over ≡ false) x.running))
+open_at i (Answering f) next w on' turn o at x =
+    subst (λ n. AtStage i n (told_at (Answering f) on'.got on'.sent w)) (sym x.is) (still_answering i f w at.0 next on'.got on'.sent turn x, o.running (x.fore.over ≡ false) x.running)
+open_at i (Done f) next w on' turn o at x = absurd x
+open_at i Between next w on' turn o at x = absurd x
 
-over_at : (i : Given) (s next after : StageView) (w : Told) (got' sent' : Option (List Message))
-    → AtStage i s w → Acts s (got_at s w) (sent_at s w) next got' sent' pass_turn.Over → Advances i next after → AtStage i after (told_at s got' sent' w)
-over_at i (Fresh t) next after w got' sent' at x v =
+over_at : (i : Given) (s next after : StageView) (w : Told) (on' : Went)
+    → AtStage i s w → Acts s (went_at s w) next on' pass_turn.Over → Advances i next after → AtStage i after (told_at s on'.got on'.sent w)
+over_at i (Fresh t) next after w on' at x v =
     let y = subst (λ n. Advances i n after) x.0 v in
-    let told : told_at (Fresh t) got' sent' w ≡ fresh_told i.first i.last = ap₂ (λ g s. record w { asks_got = g; asks_sent = s }) x.1 x.2 ∙ at.2 in
+    let told : told_at (Fresh t) on'.got on'.sent w ≡ fresh_told i.first i.last = ap (λ (o : Went). record w { asks_got = o.got; asks_sent = o.sent }) x.1 ∙ at.2 in
     subst (AtStage i after) (sym told) (subst (λ n. AtStage i n (fresh_told i.first i.last)) (sym y.is) (begun_asking i y.back y.begun))
-over_at i (Asking v) next after w got' sent' at x a =
+over_at i (Asking v) next after w on' at x a =
     let y = subst (λ n. Advances i n after) x.is a in
-    subst (λ n. AtStage i n (told_at (Asking v) got' sent' w)) (sym y.is)
-    (begins_to_answer i v w at next got' sent' pass_turn.Over x x.over y.fore y.settled, ap (λ f. f.over) y.settled.new)
-over_at i (Answering f) next after w got' sent' at x a =
+    subst (λ n. AtStage i n (told_at (Asking v) on'.got on'.sent w)) (sym y.is)
+    (begins_to_answer i v w at next on'.got on'.sent pass_turn.Over x x.over y.fore y.settled, ap (λ f. f.over) y.settled.new)
+over_at i (Answering f) next after w on' at x a =
     let y = subst (λ n. Advances i n after) x.is a in
-    subst (λ n. AtStage i n (told_at (Answering f) got' sent' w)) (sym y) (still_answering i f w at.0 next got' sent' pass_turn.Over x, x.over)
-over_at i (Done f) next after w got' sent' at x a = absurd x
-over_at i Between next after w got' sent' at x a = absurd x
+    subst (λ n. AtStage i n (told_at (Answering f) on'.got on'.sent w)) (sym y) (still_answering i f w at.0 next on'.got on'.sent pass_turn.Over x, x.over)
+over_at i (Done f) next after w on' at x a = absurd x
+over_at i Between next after w on' at x a = absurd x
 
-more_got_at : (i : Given) (s next : StageView) (w : Told) (got' sent' : Option (List Message)) (turn : PassTurn) → is_none got' ≡ is_none (got_at s w)
-    → AtStage i s w → Acts s (got_at s w) (sent_at s w) next got' sent' turn → IsMore (got_at s w) got'
-more_got_at i (Fresh t) next w got' sent' turn n at x = more_still w.asks_got got' x.1
-more_got_at i (Asking v) next w got' sent' turn n at x = asks_got_more i v w at next got' sent' turn x n
-more_got_at i (Answering f) next w got' sent' turn n at x = answers_got_more i f w at.0 next got' sent' turn x n
-more_got_at i (Done f) next w got' sent' turn n at x = absurd x
-more_got_at i Between next w got' sent' turn n at x = absurd x
+more_got_at : (i : Given) (s next : StageView) (w : Told) (on' : Went) (turn : PassTurn) → is_none on'.got ≡ is_none (got_at s w)
+    → AtStage i s w → Acts s (went_at s w) next on' turn → IsMore (got_at s w) on'.got
+more_got_at i (Fresh t) next w on' turn n at x = more_still w.asks_got on'.got (ap (λ (o : Went). o.got) x.1)
+more_got_at i (Asking v) next w on' turn n at x = asks_got_more i v w at next on'.got on'.sent turn x n
+more_got_at i (Answering f) next w on' turn n at x = answers_got_more i f w at.0 next on'.got on'.sent turn x n
+more_got_at i (Done f) next w on' turn n at x = absurd x
+more_got_at i Between next w on' turn n at x = absurd x
 
-more_sent_at : (i : Given) (s next : StageView) (w : Told) (got' sent' : Option (List Message)) (turn : PassTurn) → is_none sent' ≡ is_none (sent_at s w)
-    → AtStage i s w → Acts s (got_at s w) (sent_at s w) next got' sent' turn → IsMore (sent_at s w) sent'
-more_sent_at i (Fresh t) next w got' sent' turn n at x = more_still w.asks_sent sent' x.2
-more_sent_at i (Asking v) next w got' sent' turn n at x = asks_sent_more i v w at next got' sent' turn x n
-more_sent_at i (Answering f) next w got' sent' turn n at x = answers_sent_more i f w at.0 next got' sent' turn x n
-more_sent_at i (Done f) next w got' sent' turn n at x = absurd x
-more_sent_at i Between next w got' sent' turn n at x = absurd x
+more_sent_at : (i : Given) (s next : StageView) (w : Told) (on' : Went) (turn : PassTurn) → is_none on'.sent ≡ is_none (sent_at s w)
+    → AtStage i s w → Acts s (went_at s w) next on' turn → IsMore (sent_at s w) on'.sent
+more_sent_at i (Fresh t) next w on' turn n at x = more_still w.asks_sent on'.sent (ap (λ (o : Went). o.sent) x.1)
+more_sent_at i (Asking v) next w on' turn n at x = asks_sent_more i v w at next on'.got on'.sent turn x n
+more_sent_at i (Answering f) next w on' turn n at x = answers_sent_more i f w at.0 next on'.got on'.sent turn x n
+more_sent_at i (Done f) next w on' turn n at x = absurd x
+more_sent_at i Between next w on' turn n at x = absurd x
 
--- the event in which a node begins, or its pass backwards is over
-over_steps : (i : Given) (s next after : StageView) (w : Told) (got' sent' : Option (List Message)) → (phase_of after ≡ phase.Done → ⊥)
-    → AtStage i s w → Acts s (got_at s w) (sent_at s w) next got' sent' pass_turn.Over → Advances i next after → Steps i s (got_at s w) (sent_at s w) after got' sent' turn.Moved
-over_steps i (Fresh t) next after w got' sent' n at x a =
+-- an event after which the pass goes on
+same_turn : (turn : PassTurn) → (turn ≡ pass_turn.Over → ⊥) → asks_turn turn ≡ answers_turn turn
+same_turn pass_turn.Moved o = refl
+same_turn pass_turn.NotYet o = refl
+same_turn pass_turn.Over o = absurd (o refl)
+
+open_steps : (i : Given) (s next : StageView) (on on' : Went) (turn : PassTurn) → IsOpenTurn turn → Acts s on next on' turn → Steps i s on.got on.sent next on'.got on'.sent (asks_turn turn)
+open_steps i (Fresh t) next on on' turn o x = absurd (o.not_over x.2)
+open_steps i (Asking v) next on on' turn o x = record {
+  back = x.back;
+  came_to = turn;
+  happens = x.happens;
+  same = x.same;
+  requested = x.keeps.requested;
+  over = x.over;
+  running = x.running;
+  is = x.is ∙ sym (ap (λ o. settled_by o i x.back) (o.running (x.back.over ≡ false) x.running));
+  answered = refl;
+}
+open_steps i (Answering f) next on on' turn o x = record {
+  fore = x.fore;
+  came_to = turn;
+  happens = x.happens;
+  same = x.same;
+  over = x.over;
+  running = x.running;
+  is = x.is ∙ sym (ap (λ o. answered_by o x.fore) (o.running (x.fore.over ≡ false) x.running));
+  answered = same_turn turn o.not_over;
+}
+open_steps i (Done f) next on on' turn o x = absurd x
+open_steps i Between next on on' turn o x = absurd x
+
+open_phase : (s next : StageView) (on on' : Went) (turn : PassTurn) → IsOpenTurn turn → Acts s on next on' turn → phase_of next ≡ phase.Done → ⊥
+open_phase (Fresh t) next on on' turn o x e = absurd (o.not_over x.2)
+open_phase (Asking v) next on on' turn o x e = let asking : phase.Asking ≡ phase.Done = sym (ap phase_of x.is) ∙ e in cc
+open_phase (Answering f) next on on' turn o x e = let answering : phase.Answering ≡ phase.Done = sym (ap phase_of x.is) ∙ e in cc
+open_phase (Done f) next on on' turn o x e = absurd x
+open_phase Between next on on' turn o x e = absurd x
+
+-- what the event in which a phase ends is answered, by the phase after it
+abbrev pub ended_turn : Phase → Turn
+ended_turn phase.Fresh = turn.Moved
+ended_turn phase.Asking = turn.Moved
+ended_turn phase.Answering = turn.Moved
+ended_turn phase.Done = turn.Done
+
+pub ended_last : (p : Phase) → p ≡ phase.Done → ended_turn p ≡ turn.Done
+ended_last p e = ap ended_turn e
+
+pub ended_before : (p : Phase) → (p ≡ phase.Done → ⊥) → ended_turn p ≡ turn.Moved
+ended_before phase.Fresh n = refl
+ended_before phase.Asking n = refl
+ended_before phase.Answering n = refl
+ended_before phase.Done n = absurd (n refl)
+
+ended_answers : (p : Phase) → AnswersEnded (ended_turn p) (p ≡ phase.Done)
+ended_answers phase.Fresh = λ e. cc
+ended_answers phase.Asking = λ e. cc
+ended_answers phase.Answering = λ e. cc
+ended_answers phase.Done = refl
+
+ended_moved : (p : Phase) (P : Type 0) → WhenNotYet (ended_turn p) P
+ended_moved phase.Fresh P = tt
+ended_moved phase.Asking P = tt
+ended_moved phase.Answering P = tt
+ended_moved phase.Done P = tt
+
+ended_counted : (p before : Phase) (events : ℕ) → (before ≡ phase.Done → ⊥) → counted (ended_turn p) before events ≡ one_more events
+ended_counted phase.Fresh before events n = refl
+ended_counted phase.Asking before events n = refl
+ended_counted phase.Answering before events n = refl
+ended_counted phase.Done phase.Fresh events n = refl
+ended_counted phase.Done phase.Asking events n = refl
+ended_counted phase.Done phase.Answering events n = refl
+ended_counted phase.Done phase.Done events n = absurd (n refl)
+
+-- the event in which a phase ends
+over_steps : (i : Given) (s next after : StageView) (w : Told) (on' : Went)
+    → AtStage i s w → Acts s (went_at s w) next on' pass_turn.Over → Advances i next after → Steps i s (got_at s w) (sent_at s w) after on'.got on'.sent (ended_turn (phase_of after))
+over_steps i (Fresh t) next after w on' at x a =
     let y = subst (λ n. Advances i n after) x.0 a in
     record {
       back = y.back;
       is = y.is;
-      begins = ap₂ (state y.back) (x.1 ∙ ap (λ w. w.asks_got) at.2) (x.2 ∙ ap (λ w. w.asks_sent) at.2) ∙ ap (λ v. state v (fresh_end i.last) (fresh_end i.first)) y.begun.new ∙ begins_state y.back.summary i.first i.last;
-      got_same = x.1;
-      sent_same = x.2;
-      answered = refl;
+      begins = ap (λ (o : Went). state y.back o.got o.sent) x.1 ∙ ap (λ (w : Told). state y.back w.asks_got w.asks_sent) at.2 ∙ ap (λ v. state v (fresh_end i.last) (fresh_end i.first)) y.begun.new ∙ begins_state y.back.summary i.first i.last;
+      got_same = ap (λ (o : Went). o.got) x.1;
+      sent_same = ap (λ (o : Went). o.sent) x.1;
+      answered = ap (λ n. ended_turn (phase_of n)) y.is;
     }
-over_steps i (Asking v) next after w got' sent' n at x a =
+over_steps i (Asking v) next after w on' at x a =
     let y = subst (λ n. Advances i n after) x.is a in
     record {
       back = x.back;
@@ -116,53 +186,125 @@ over_steps i (Asking v) next after w got' sent' n at x a =
       over = x.over;
       running = tt;
       is = y.is ∙ ap Answering y.settled.new ∙ sym (ap (λ o. settled_by o i x.back) x.over);
-      answered = refl;
+      answered = ap (λ n. ended_turn (phase_of n)) y.is;
     }
-over_steps i (Answering f) next after w got' sent' n at x a = absurd (n (ap phase_of (subst (λ n. Advances i n after) x.is a)))
-over_steps i (Done f) next after w got' sent' n at x a = absurd x
-over_steps i Between next after w got' sent' n at x a = absurd x
+over_steps i (Answering f) next after w on' at x a =
+    let y = subst (λ n. Advances i n after) x.is a in
+    record {
+      fore = x.fore;
+      came_to = pass_turn.Over;
+      happens = x.happens;
+      same = x.same;
+      over = x.over;
+      running = tt;
+      is = y ∙ sym (ap (λ o. answered_by o x.fore) x.over);
+      answered = ap (λ n. ended_turn (phase_of n)) y;
+    }
+over_steps i (Done f) next after w on' at x a = absurd x
+over_steps i Between next after w on' at x a = absurd x
+
+-- where nothing more went through the links of its phase, a core keeps what it kept
+told_same : (s : StageView) (w : Told) (got sent : Option (List Message)) → got_at s w ≡ got → sent_at s w ≡ sent → w ≡ told_at s got sent w
+told_same s w got sent g e = sym (told_still s w) ∙ ap₂ (λ got sent. told_at s got sent w) g e
 
 -- ---- the same of a core whose links of its phase are these
 
-module _ (c : CoreView) (next : StageView) (got sent got' sent' : Option (List Message)) (came_to : PassTurn) (x : Acts c.stage got sent next got' sent' came_to) where
-  acts_at : (w : Told) → got_at c.stage w ≡ got → sent_at c.stage w ≡ sent → Acts c.stage (got_at c.stage w) (sent_at c.stage w) next got' sent' came_to
-  acts_at w g s = subst₂ (λ a b. Acts c.stage a b next got' sent' came_to) (sym g) (sym s) x
+module _ (c : CoreView) (next : StageView) (on on' : Went) (came_to : PassTurn) (x : Acts c.stage on next on' came_to) (ready : IsReady c on)
+    (no_got : is_none on'.got ≡ is_none on.got) (no_sent : is_none on'.sent ≡ is_none on.sent) (d : CoreView) (same : d.given ≡ c.given) where
+  acts_at : (w : Told) → got_at c.stage w ≡ on.got → sent_at c.stage w ≡ on.sent → Acts c.stage (went_at c.stage w) next on' came_to
+  acts_at w g s = subst₂ (λ got sent. Acts c.stage (record { got = got; sent = sent }) next on' came_to) (sym g) (sym s) x
 
-  pub core_got_more : is_none got' ≡ is_none got → IsReady c got sent → IsMore got got'
-  core_got_more n r =
-      subst (λ g. IsMore g got') r.got_is
-      (more_got_at c.given c.stage next r.told got' sent' came_to (n ∙ ap is_none (sym r.got_is)) r.keeps.stage (acts_at r.told r.got_is r.sent_is))
+  acts_ready : Acts c.stage (went_at c.stage ready.told) next on' came_to
+  acts_ready = acts_at ready.told ready.got_is ready.sent_is
 
-  pub core_sent_more : is_none sent' ≡ is_none sent → IsReady c got sent → IsMore sent sent'
-  core_sent_more n r =
-      subst (λ s. IsMore s sent') r.sent_is
-      (more_sent_at c.given c.stage next r.told got' sent' came_to (n ∙ ap is_none (sym r.sent_is)) r.keeps.stage (acts_at r.told r.got_is r.sent_is))
+  got_more : IsMore on.got on'.got
+  got_more =
+      subst (λ g. IsMore g on'.got) ready.got_is
+      (more_got_at c.given c.stage next ready.told on' came_to (no_got ∙ ap is_none (sym ready.got_is)) ready.keeps.stage acts_ready)
 
-  pub core_steps_over : (after : StageView) → came_to ≡ pass_turn.Over → (phase_of after ≡ phase.Done → ⊥) → Advances c.given next after → IsReady c got sent → Steps c.given c.stage got sent after got' sent' turn.Moved
-  core_steps_over after o n a r =
-      subst₂ (λ g s. Steps c.given c.stage g s after got' sent' turn.Moved) r.got_is r.sent_is
-      (over_steps c.given c.stage next after r.told got' sent' n r.keeps.stage (subst (Acts c.stage (got_at c.stage r.told) (sent_at c.stage r.told) next got' sent') o (acts_at r.told r.got_is r.sent_is)) a)
+  sent_more : IsMore on.sent on'.sent
+  sent_more =
+      subst (λ s. IsMore s on'.sent) ready.sent_is
+      (more_sent_at c.given c.stage next ready.told on' came_to (no_sent ∙ ap is_none (sym ready.sent_is)) ready.keeps.stage acts_ready)
 
-  module _ (no_got : is_none got' ≡ is_none got) (no_sent : is_none sent' ≡ is_none sent) (d : CoreView) (same : d.given ≡ c.given) where
-    keeps_at : (w : Told) → got_at c.stage w ≡ got → sent_at c.stage w ≡ sent → KeepsCore c w → AtStage c.given d.stage (told_at c.stage got' sent' w)
-        → (whole_at d.stage ≡ true → Counts d (told_at c.stage got' sent' w)) → KeepsCore d (told_at c.stage got' sent' w)
-    keeps_at w g s k at counts =
-        let links = links_at c.given c.stage w got' sent' (no_got ∙ ap is_none (sym g)) (no_sent ∙ ap is_none (sym s)) k.links in
-        record {
-          links = subst (λ i. HasLinks i (told_at c.stage got' sent' w)) (sym same) links;
-          stage = subst (λ i. AtStage i d.stage (told_at c.stage got' sent' w)) (sym same) at;
-          counts = counts;
-        }
+  keeps_at : (w : Told) → got_at c.stage w ≡ on.got → sent_at c.stage w ≡ on.sent → KeepsCore c w → AtStage c.given d.stage (told_at c.stage on'.got on'.sent w)
+      → (whole_at d.stage ≡ true → Counts d (told_at c.stage on'.got on'.sent w)) → KeepsCore d (told_at c.stage on'.got on'.sent w)
+  keeps_at w g s k at counts =
+      let links = links_at c.given c.stage w on'.got on'.sent (no_got ∙ ap is_none (sym g)) (no_sent ∙ ap is_none (sym s)) k.links in
+      record {
+        links = subst (λ i. HasLinks i (told_at c.stage on'.got on'.sent w)) (sym same) links;
+        stage = subst (λ i. AtStage i d.stage (told_at c.stage on'.got on'.sent w)) (sym same) at;
+        counts = counts;
+      }
 
-    pub keeps_open : IsOpenTurn came_to → d.stage ≡ next → d.events ≡ counted_by came_to c.events → StillKeeps c got sent d got' sent'
-    keeps_open o is e = λ w g s k.
+  not_yet_at : IsOpenTurn came_to → d.stage ≡ next → d.events ≡ counted_by came_to c.events → WhenNotYet (asks_turn came_to) ((d ≡ c) × (on' ≡ on))
+  not_yet_at o is e = by came_to x e where
+    by : (came_to : PassTurn) → Acts c.stage on next on' came_to → d.events ≡ counted_by came_to c.events → WhenNotYet (asks_turn came_to) ((d ≡ c) × (on' ≡ on))
+    by pass_turn.Moved x e = tt
+    by pass_turn.NotYet x e =
+        let still = still_at c.stage next on on' x in
+        let with_events : (events : ℕ) → d.events ≡ events → d ≡ record { given = c.given; stage = c.stage; events = events } =
+        λ events e. ap₂ (λ (i : Given) (s : StageView). record { given = i; stage = s; events = d.events }) same (is ∙ still.0) ∙ ap (λ (n : ℕ). record { given = c.given; stage = c.stage; events = n }) e in
+        (with_events c.events e, still.1)
+    by pass_turn.Over x e = tt
+
+  open_counted : (came_to : PassTurn) → (came_to ≡ pass_turn.Over → ⊥) → counted (asks_turn came_to) (phase_of c.stage) c.events ≡ counted_by came_to c.events
+  open_counted pass_turn.Moved n = refl
+  open_counted pass_turn.NotYet n = refl
+  open_counted pass_turn.Over n = absurd (n refl)
+
+  open_done : (came_to : PassTurn) → (phase_of d.stage ≡ phase.Done → ⊥) → AnswersEnded (asks_turn came_to) (phase_of d.stage ≡ phase.Done)
+  open_done pass_turn.Moved n = n
+  open_done pass_turn.NotYet n = n
+  open_done pass_turn.Over n = n
+
+  pub open_event : IsOpenTurn came_to → d.stage ≡ next → d.events ≡ counted_by came_to c.events → IsEvent c on d on' (asks_turn came_to)
+  open_event o is e = record {
+    steps = subst (λ n. Steps c.given c.stage on.got on.sent n on'.got on'.sent (asks_turn came_to)) (sym is) (open_steps c.given c.stage next on on' came_to o x);
+    keeps = λ w g s k.
         keeps_at w g s k
-        (subst (λ n. AtStage c.given n (told_at c.stage got' sent' w)) (sym is) (open_at c.given c.stage next w got' sent' came_to o k.stage (acts_at w g s)))
-        (counts_open c d same w got' sent' k.links (no_got ∙ ap is_none (sym g)) k.stage k.counts next came_to o.not_over (acts_at w g s) is e)
+        (subst (λ n. AtStage c.given n (told_at c.stage on'.got on'.sent w)) (sym is) (open_at c.given c.stage next w on' came_to o k.stage (acts_at w g s)))
+        (counts_open c d same w on' k.links (no_got ∙ ap is_none (sym g)) k.stage k.counts next came_to o.not_over (acts_at w g s) is e);
+    given = same;
+    more_got = got_more;
+    more_sent = sent_more;
+    done = open_done came_to (λ p. open_phase c.stage next on on' came_to o x (sym (ap phase_of is) ∙ p));
+    not_yet = not_yet_at o is e;
+    count = e ∙ sym (open_counted came_to o.not_over);
+  }
 
-    pub keeps_over : came_to ≡ pass_turn.Over → Advances c.given next d.stage → d.events ≡ one_more c.events → StillKeeps c got sent d got' sent'
-    keeps_over o a e = λ w g s k.
-        let x = subst (Acts c.stage (got_at c.stage w) (sent_at c.stage w) next got' sent') o (acts_at w g s) in
+  pub over_event : came_to ≡ pass_turn.Over → (phase_of c.stage ≡ phase.Done → ⊥) → Advances c.given next d.stage → d.events ≡ one_more c.events → IsEvent c on d on' (ended_turn (phase_of d.stage))
+  over_event o n a e = record {
+    steps = subst₂ (λ got sent. Steps c.given c.stage got sent d.stage on'.got on'.sent (ended_turn (phase_of d.stage))) ready.got_is ready.sent_is
+        (over_steps c.given c.stage next d.stage ready.told on' ready.keeps.stage (subst (Acts c.stage (went_at c.stage ready.told) next on') o acts_ready) a);
+    keeps = λ w g s k.
+        let y = subst (Acts c.stage (went_at c.stage w) next on') o (acts_at w g s) in
         keeps_at w g s k
-        (over_at c.given c.stage next d.stage w got' sent' k.stage x a)
-        (counts_over c d same w got' sent' k.links (no_got ∙ ap is_none (sym g)) k.stage k.counts next x a e)
+        (over_at c.given c.stage next d.stage w on' k.stage y a)
+        (counts_over c d same w on' k.links (no_got ∙ ap is_none (sym g)) k.stage k.counts next y a e);
+    given = same;
+    more_got = got_more;
+    more_sent = sent_more;
+    done = ended_answers (phase_of d.stage);
+    not_yet = ended_moved (phase_of d.stage) ((d ≡ c) × (on' ≡ on));
+    count = e ∙ sym (ended_counted (phase_of d.stage) (phase_of c.stage) c.events n);
+  }
+
+-- nothing happens to a core that is done
+pub rest_event : (c : CoreView) (on : Went) → IsReady c on → phase_of c.stage ≡ phase.Done → IsEvent c on c on turn.Done
+rest_event c on ready e = record {
+  steps = rests c.stage e ready.keeps.stage;
+  keeps = λ w g s k. subst (KeepsCore c) (told_same c.stage w on.got on.sent g s) k;
+  given = refl;
+  more_got = more_still on.got on.got refl;
+  more_sent = more_still on.sent on.sent refl;
+  done = e;
+  not_yet = tt;
+  count = sym (ap (λ p. counted turn.Done p c.events) e);
+} where
+  rests : (s : StageView) → phase_of s ≡ phase.Done → AtStage c.given s ready.told → Steps c.given s on.got on.sent s on.got on.sent turn.Done
+  rests (Fresh t) e at = cc
+  rests (Asking v) e at = cc
+  rests (Answering f) e at = cc
+  rests (Done f) e at = record { is = refl; got_same = refl; sent_same = refl; answered = refl }
+  rests Between e at = absurd at

@@ -1,5 +1,5 @@
 -- What an event of a core does.
-use Rattle.std.specs.Prelude.{◌≡◌, ℕ, ◌+◌, Bool, true, false, Option, Some, None, is_none, List}
+use Rattle.std.specs.Prelude.{◌≡◌, ℕ, ◌+◌, Bool, true, false, Option, Some, None, is_none, option_map, List}
 use Rattle.flow_model.specs.declared.Loc.{Loc}
 use Rattle.flow_rule.specs.declared.Message.{Message}
 use Rattle.sink_collect.specs.Pairs.{capped}
@@ -9,16 +9,17 @@ use Rattle.stream_model.specs.Schedules.{Need, begun, asking_need, answering_nee
 use Rattle.stream_model.specs.Schedules as need
 use Rattle.run_board.specs.declared.task.Turn.{Turn}
 use Rattle.run_board.specs.declared.task.Turn.TheVariants as turn
+use Rattle.run_board.specs.Turns.{AnswersEnded}
 use Rattle.pass_parts.specs.declared.pass_turn.PassTurn.{PassTurn}
 use Rattle.pass_parts.specs.declared.pass_turn.PassTurn.TheVariants as pass_turn
 use Rattle.pass_parts.specs.Ends.{got_by}
 use Rattle.pass_parts.specs.Requests.{locations}
-use Rattle.pass_parts.specs.Turns.{OnOver, OnOpen, OnNotYet}
+use Rattle.pass_parts.specs.Turns.{OnOver, OnOpen, OnNotYet, Waits}
 use Rattle.backward_pass.specs.Backward.{BackView, knows, state, Keeps, Reached, SendsFor, IsSameBack, Happens}
 use Rattle.forward_pass.specs.Forward.{ForeView, new_fore, known_by, fore_state, ForeKeeps, ForeReached, ForeSends, IsSameFore, ForeHappens}
 use Rattle.epoch_node.specs.declared.stage.Phase.{Phase}
 use Rattle.epoch_node.specs.declared.stage.Phase.TheVariants as phase
-use Rattle.epoch_node.specs.Cores.{Given, StageView, Fresh, Asking, Answering, Done, Between, CoreView, CanStart}
+use Rattle.epoch_node.specs.Cores.{Given, StageView, Fresh, Asking, Answering, Done, Between, CoreView, phase_of, CanStart}
 use Rattle.epoch_node.specs.Keeping.{Told, KeepsCore, IsBegun, CanSettle, IsSettled, requests_if}
 
 -- ---- the links of a phase
@@ -46,17 +47,29 @@ told_at (Answering f) got sent w = record w { answers_got = got; answers_sent = 
 told_at (Done f) got sent w = record w { answers_got = got; answers_sent = sent }
 told_at Between got sent w = record w { answers_got = got; answers_sent = sent }
 
+-- what went through two links, an inlet and an outlet, where there are any
+pub record Went : Type 0 where
+  pub got : Option (List Message)
+  pub sent : Option (List Message)
+
+abbrev pub went : {I O : Type 0} → (I → List Message) → (O → List Message) → Option I → Option O → Went
+went got sent inlet outlet = record { got = option_map got inlet; sent = option_map sent outlet }
+
+-- what went through the two links of the phase
+abbrev pub went_at : StageView → Told → Went
+went_at s w = record { got = got_at s w; sent = sent_at s w }
+
 -- the links of the core's phase are those, of four through which went what the core keeps
-pub record IsReady (c : CoreView) (got sent : Option (List Message)) : Type 0 where
+pub record IsReady (c : CoreView) (on : Went) : Type 0 where
   pub told : Told
-  pub got_is : got_at c.stage told ≡ got
-  pub sent_is : sent_at c.stage told ≡ sent
+  pub got_is : got_at c.stage told ≡ on.got
+  pub sent_is : sent_at c.stage told ≡ on.sent
   pub keeps : KeepsCore c told
 
 -- what the core keeps of its four links is kept, whatever went through the two that are not of its phase
-abbrev pub StillKeeps : CoreView → Option (List Message) → Option (List Message) → CoreView → Option (List Message) → Option (List Message) → Type 0
-StillKeeps old got sent new got' sent' =
-    (w : Told) → got_at old.stage w ≡ got → sent_at old.stage w ≡ sent → KeepsCore old w → KeepsCore new (told_at old.stage got' sent' w)
+abbrev pub StillKeeps : CoreView → Went → CoreView → Went → Type 0
+StillKeeps old on new on' =
+    (w : Told) → got_at old.stage w ≡ on.got → sent_at old.stage w ≡ on.sent → KeepsCore old w → KeepsCore new (told_at old.stage on'.got on'.sent w)
 
 -- ---- events
 
@@ -137,12 +150,21 @@ need_at (Answering f) got sent = answering_need (known_by f) f.asked (fore_state
 need_at (Done f) got sent = need.Over
 need_at Between got sent = need.Over
 
+-- of what the links say when they refuse, this is what the one link says that the next event needs
+abbrev pub WaitsAt : StageView → Went → Type 0 → Type 0 → Type 0
+WaitsAt s on pops pushes = Waits (need_at s on.got on.sent) pops pushes
+
 -- ---- what the answer of an event says
 
 abbrev pub WhenNotYet : Turn → Type 0 → Type 0
 WhenNotYet turn.Moved P = Unit {0}
 WhenNotYet turn.NotYet P = P
 WhenNotYet turn.Done P = Unit {0}
+
+abbrev pub WhenMoved : Turn → Type 0 → Type 0
+WhenMoved turn.Moved P = P
+WhenMoved turn.NotYet P = Unit {0}
+WhenMoved turn.Done P = Unit {0}
 
 abbrev pub one_more : ℕ → ℕ
 one_more n = capped (n + 1)
@@ -167,15 +189,28 @@ IsMore (Some old) (Some new) = IsPrefix old new
 IsMore None (Some new) = ⊥
 IsMore (Some old) None = ⊥
 
+-- an event of a core, on the links of its phase, through which so much went before it and after it
+pub record IsEvent (old : CoreView) (on : Went) (new : CoreView) (on' : Went) (answer : Turn) : Type 0 where
+  -- it is that of the definitions
+  pub steps : Steps old.given old.stage on.got on.sent new.stage on'.got on'.sent answer
+  pub keeps : StillKeeps old on new on'
+  pub given : new.given ≡ old.given
+  pub more_got : IsMore on.got on'.got
+  pub more_sent : IsMore on.sent on'.sent
+  pub done : AnswersEnded answer (phase_of new.stage ≡ phase.Done)
+  -- where it did not happen nothing did
+  pub not_yet : WhenNotYet answer ((new ≡ old) × (on' ≡ on))
+  pub count : new.events ≡ counted answer (phase_of old.stage) old.events
+
 -- ---- parts of an event
 
 -- what the pass of a stage needs
-abbrev pub CanAct : StageView → Option (List Message) → Option (List Message) → Type 0
-CanAct (Fresh t) got sent = Unit {0}
-CanAct (Asking v) got sent = Keeps v got sent × Reached v got sent
-CanAct (Answering f) got sent = ForeKeeps f got sent
-CanAct (Done f) got sent = ⊥
-CanAct Between got sent = ⊥
+abbrev pub CanAct : StageView → Went → Type 0
+CanAct (Fresh t) on = Unit {0}
+CanAct (Asking v) on = Keeps v on.got on.sent × Reached v on.got on.sent
+CanAct (Answering f) on = ForeKeeps f on.got on.sent
+CanAct (Done f) on = ⊥
+CanAct Between on = ⊥
 
 -- the pass backwards has its event
 pub record BackActs (v : BackView) (got sent : Option (List Message)) (next : StageView) (got' sent' : Option (List Message)) (turn : PassTurn) : Type 0 where
@@ -203,12 +238,12 @@ pub record ForeActs (f : ForeView) (got sent : Option (List Message)) (next : St
   pub running : OnOpen turn (fore.over ≡ false)
   pub not_yet : OnNotYet turn ((fore ≡ f) × (got' ≡ got) × (sent' ≡ sent))
 
-abbrev pub Acts : StageView → Option (List Message) → Option (List Message) → StageView → Option (List Message) → Option (List Message) → PassTurn → Type 0
-Acts (Fresh t) got sent next got' sent' turn = (next ≡ Fresh t) × (got' ≡ got) × (sent' ≡ sent) × (turn ≡ pass_turn.Over)
-Acts (Asking v) got sent next got' sent' turn = BackActs v got sent next got' sent' turn
-Acts (Answering f) got sent next got' sent' turn = ForeActs f got sent next got' sent' turn
-Acts (Done f) got sent next got' sent' turn = ⊥
-Acts Between got sent next got' sent' turn = ⊥
+abbrev pub Acts : StageView → Went → StageView → Went → PassTurn → Type 0
+Acts (Fresh t) on next on' turn = (next ≡ Fresh t) × (on' ≡ on) × (turn ≡ pass_turn.Over)
+Acts (Asking v) on next on' turn = BackActs v on.got on.sent next on'.got on'.sent turn
+Acts (Answering f) on next on' turn = ForeActs f on.got on.sent next on'.got on'.sent turn
+Acts (Done f) on next on' turn = ⊥
+Acts Between on next on' turn = ⊥
 
 -- what the stage needs to go on to the next
 abbrev pub CanAdvance : Given → StageView → Type 0

@@ -1,35 +1,28 @@
 -- What contracts see of a node, and what its turns do.
-use Rattle.std.specs.Prelude.{◌≡◌, ℕ, Bool, true, Option, Some, None, option_map, IfSome, List, [], refl}
-use mathlib.Core.Path.{◌∙◌}
+use Rattle.std.specs.Prelude.{◌≡◌, false, Option, Some, None, option_map, IfSome, List, [], ◌∷◌, ◌++◌, refl}
+use mathlib.Core.Path.{◌∙◌, subst}
 use Rattle.atomic_table.specs.Seated.{TableId}
-use Rattle.flow_model.specs.declared.Loc.{Loc}
 use Rattle.flow_rule.specs.declared.Message.{Message}
+use Rattle.epoch_link.specs.Link.{Rose}
 use Rattle.epoch_link.specs.Ends.{Producing, Consuming}
 use Rattle.epoch_model.specs.Summary.{Summary as EpochSummary}
 use Rattle.stream_model.specs.Streams.{requests, asks_for, answers_for}
 use Rattle.stream_model.specs.StreamLaws.{IsPrefix}
 use Rattle.stream_model.specs.Schedules.{Need}
-use Rattle.stream_model.specs.Schedules as need
 use Rattle.stream_model.proofs.Growing.{prefix_same, prefix_trans}
+use Rattle.run_board.specs.declared.task.Turn.{Turn}
 use Rattle.pass_parts.specs.Ends.{IsRefused, got_by}
 use Rattle.pass_parts.specs.Turns.{Waits}
 use Rattle.epoch_node.specs.declared.stage.Phase.{Phase}
 use Rattle.epoch_node.specs.declared.stage.Phase.TheVariants.{Fresh, Asking, Answering, Done}
 use Rattle.epoch_node.specs.declared.ends.Ends.{Ends}
-use Rattle.epoch_node.specs.Cores.{Given, CoreView, phase_of, whole_at, asked_at}
+use Rattle.epoch_node.specs.Cores.{Given, CoreView, new_core, phase_of, whole_at, asked_at}
 use Rattle.epoch_node.specs.Keeping.{Told, IsOfEpoch}
-use Rattle.epoch_node.specs.Events.{got_at, sent_at, need_at}
+use Rattle.epoch_node.specs.Events.{got_at, sent_at, told_at, Went, went_at, need_at, IsEvent}
 
+-- its core, and its ends of the links
 pub record NodeView : Type 0 where
-  pub given : Given
-  pub phase : Phase
-  -- no growth was refused, and no End came that is not whole
-  pub whole : Bool
-  -- what its next event needs
-  pub need : Need
-  pub asked : List Loc
-  -- how many events moved. The count stands still at 2 ^ 64 - 1
-  pub events : ℕ
+  pub core : CoreView
   pub ends : Ends
 
 -- what went through the ends
@@ -41,19 +34,50 @@ told_by e = record {
   answers_sent = option_map (λ p. p.sent) e.answer_out;
 }
 
-abbrev pub node_of : CoreView → Ends → NodeView
-node_of c e = record {
-  given = c.given;
-  phase = phase_of c.stage;
-  whole = whole_at c.stage;
-  need = need_at c.stage (got_at c.stage (told_by e)) (sent_at c.stage (told_by e));
-  asked = asked_at c.stage;
-  events = c.events;
-  ends = e;
-}
-
 abbrev pub new_node : Given → Ends → NodeView
-new_node i e = record { given = i; phase = Fresh; whole = true; need = need.Nothing; asked = []; events = 0; ends = e }
+new_node i e = record { core = new_core i; ends = e }
+
+-- what its next event needs
+abbrev pub need_of : NodeView → Need
+need_of n = need_at n.core.stage (got_at n.core.stage (told_by n.ends)) (sent_at n.core.stage (told_by n.ends))
+
+-- a growth was refused, or an End came that is not whole
+abbrev pub IsBroken : NodeView → Type 0
+IsBroken n = whole_at n.core.stage ≡ false
+
+-- ---- events
+
+-- how far a node has come: its core, and what went through its links
+pub record Progress : Type 0 where
+  pub core : CoreView
+  pub told : Told
+
+abbrev pub progress_of : NodeView → Progress
+progress_of n = record { core = n.core; told = told_by n.ends }
+
+-- the core had an event on the two links of its phase, and nothing went through the others
+pub record HasEvent (old new : Progress) : Type 0 where
+  pub on : Went
+  pub answer : Turn
+  pub event : IsEvent old.core (went_at old.core.stage old.told) new.core on answer
+  pub told : new.told ≡ told_at old.core.stage on.got on.sent old.told
+
+-- the core had one event after another, and came to each of these in turn
+abbrev pub HasEvents : Progress → List Progress → Progress → Type 0
+HasEvents old [] new = new ≡ old
+HasEvents old (next ∷ later) new = HasEvent old next × HasEvents next later new
+
+-- events led from the old to the new, and nothing else did
+abbrev pub CameByEvents : Progress → Progress → Type 0
+CameByEvents new old = (between : List Progress) × HasEvents old between new
+
+-- one event moved, or more
+abbrev pub HasMoved : NodeView → NodeView → Type 0
+HasMoved new old = Rose old.core.events new.core.events
+
+events_trans : (a b c : Progress) (ps qs : List Progress) → HasEvents a ps b → HasEvents b qs c → HasEvents a (ps ++ qs) c
+events_trans a b c [] qs f g = subst (λ p. HasEvents p qs c) f g
+events_trans a b c (p ∷ ps) qs f g = (f.0, events_trans p b c ps qs f.1 g)
 
 -- ---- the same node, later
 
@@ -89,11 +113,12 @@ pub record AreEndsLater (new old : Ends) : Type 0 where
   pub answer_in : IsInletLater new.answer_in old.answer_in
   pub answer_out : IsOutletLater new.answer_out old.answer_out
 
--- turns lead from the old node to the new: what it was given is the same, and so are its links; and what was sent and
--- got then is a part of what was sent and got now
+-- turns lead from the old node to the new: what it was given is the same, and so are its links; what was sent and got
+-- then is a part of what was sent and got now; and it came there by events of its core alone
 pub record IsLedFrom (new old : NodeView) : Type 0 where
-  pub given : new.given ≡ old.given
+  pub given : new.core.given ≡ old.core.given
   pub ends : AreEndsLater new.ends old.ends
+  pub came : CameByEvents (progress_of new) (progress_of old)
 
 pub led_refl : (n : NodeView) → IsLedFrom n n
 led_refl n = record {
@@ -104,6 +129,7 @@ led_refl n = record {
     answer_in = later_refl (λ (c : Consuming Message). c.link) (λ c. c.got) n.ends.answer_in;
     answer_out = later_refl (λ (p : Producing Message). p.link) (λ p. p.sent) n.ends.answer_out;
   };
+  came = ([], refl);
 }
 
 pub led_trans : (a b c : NodeView) → IsLedFrom b a → IsLedFrom c b → IsLedFrom c a
@@ -115,7 +141,12 @@ led_trans a b c f g = record {
     answer_in = later_trans (λ (c : Consuming Message). c.link) (λ c. c.got) a.ends.answer_in b.ends.answer_in c.ends.answer_in f.ends.answer_in g.ends.answer_in;
     answer_out = later_trans (λ (p : Producing Message). p.link) (λ p. p.sent) a.ends.answer_out b.ends.answer_out c.ends.answer_out f.ends.answer_out g.ends.answer_out;
   };
+  came = (f.came.0 ++ g.came.0, events_trans (progress_of a) (progress_of b) (progress_of c) f.came.0 g.came.0 f.came.1 g.came.1);
 }
+
+-- what is led from a broken node is broken
+abbrev pub BrokenStays : Type 0
+BrokenStays = (new old : NodeView) → IsLedFrom new old → IsBroken old → IsBroken new
 
 -- ---- a turn in which no event moved
 
@@ -132,17 +163,20 @@ WaitsIn Asking n old new = Waits n (HasPopRefused old.ask_in new.ask_in) (HasPus
 WaitsIn Answering n old new = Waits n (HasPopRefused old.answer_in new.answer_in) (HasPushRefused old.answer_out new.answer_out)
 WaitsIn Done n old new = ⊥
 
--- nothing happened, and the one link that the next event needs refused
+-- nothing happened
+abbrev pub IsStill : NodeView → NodeView → Type 0
+IsStill new old = progress_of new ≡ progress_of old
+
+-- and the one link that the next event needs refused
 pub record HasWaited (new old : NodeView) : Type 0 where
-  pub same : new ≡ record old { ends = new.ends }
-  pub told : told_by new.ends ≡ told_by old.ends
-  pub waits : WaitsIn old.phase old.need old.ends new.ends
+  pub still : IsStill new old
+  pub waits : WaitsIn (phase_of old.core.stage) (need_of old) old.ends new.ends
 
 -- ---- what a node has sent
 
 -- on each outlet it has sent a part of what is to be sent for what it got
 pub record SendsDue (n : NodeView) : Type 0 where
   pub summary : EpochSummary
-  pub of_epoch : IsOfEpoch n.given summary
+  pub of_epoch : IsOfEpoch n.core.given summary
   pub asks : IfSome n.ends.ask_out (λ p. IsPrefix p.sent (asks_for summary (got_by (told_by n.ends).asks_got)))
-  pub answers : IfSome n.ends.answer_out (λ p. IsPrefix p.sent (answers_for summary n.asked (requests (got_by (told_by n.ends).asks_got)) (got_by (told_by n.ends).answers_got)))
+  pub answers : IfSome n.ends.answer_out (λ p. IsPrefix p.sent (answers_for summary (asked_at n.core.stage) (requests (got_by (told_by n.ends).asks_got)) (got_by (told_by n.ends).answers_got)))

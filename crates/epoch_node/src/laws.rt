@@ -1,9 +1,15 @@
 //! Laws of the definitions: the functions do nothing, and each contract is a law.
 
+ghost use Rattle.epoch_node.specs.Nodes.{BrokenStays};
 ghost use Rattle.epoch_node.specs.Phases.{NodeEventIsByLinks, EventsAreOfNodes};
 
 /// The events of a core are those of the nodes of the definitions, for what its links do.
 pub fn events_are_of_nodes()
     ensures node { NodeEventIsByLinks }
     ensures core { EventsAreOfNodes }
+{}
+
+/// A node that is broken stays broken, whatever turns it has.
+pub fn broken_nodes_stay_broken()
+    ensures { BrokenStays }
 {}

@@ -2,10 +2,10 @@
 
 ghost use Rattle.std.specs.Prelude.{◌≡◌, ◌+◌, ◌≤◌, is_ok, true, IfOk, IfSome};
 ghost use Rattle.run_board.specs.Turns.{AnswersEnded};
-ghost use Rattle.epoch_node.specs.Cores.{core_of, new_core, CanStart};
+ghost use Rattle.epoch_node.specs.Cores.{core_of, new_core, phase_of, whole_at, asked_at, CanStart};
 ghost use Rattle.epoch_node.specs.Keeping.{fresh_told, HasDone, HasCounted};
-ghost use Rattle.epoch_node.specs.Events.{WhenNotYet, counted};
-ghost use Rattle.epoch_node.specs.Nodes.{told_by, new_node, IsLedFrom, HasWaited, SendsDue};
+ghost use Rattle.epoch_node.specs.Events.{WhenMoved, WhenNotYet, counted};
+ghost use Rattle.epoch_node.specs.Nodes.{told_by, new_node, IsLedFrom, HasMoved, HasWaited, SendsDue};
 
 use crate::ends::Ends;
 use crate::node_core::{Broken, Core};
@@ -34,7 +34,7 @@ pub struct Finished {
     pub ends: Ends,
 }
 
-/// An epoch's node. Contracts see what it was given, how far it has come, and its ends.
+/// An epoch's node. Contracts see its core and its ends.
 #[derive(Drop)]
 pub struct Node<'a, G> {
     core: Core<'a, G>,
@@ -44,11 +44,11 @@ pub struct Node<'a, G> {
 impl<'a, G> Model for Node<'a, G> {
     ghost use Rattle.epoch_node.specs.Cores.{core_of};
     ghost use Rattle.epoch_node.specs.Keeping.{KeepsCore};
-    ghost use Rattle.epoch_node.specs.Nodes.{NodeView, node_of, told_by};
+    ghost use Rattle.epoch_node.specs.Nodes.{NodeView, told_by};
 
     ghost Value = { NodeView };
 
-    ghost view = { λ n. node_of (core_of n.core) n.ends };
+    ghost view = { λ n. record { core = core_of n.core; ends = n.ends } };
 
     ghost invariant = { λ n. KeepsCore (core_of n.core) (told_by n.ends) };
 }
@@ -67,7 +67,7 @@ impl<'a, G> Node<'a, G> {
 
     /// What is true of each node that is not broken: it has sent a part of what is to be sent for what it got.
     pub fn form(&self)
-        ensures { self.now.whole ≡ true → SendsDue self.now }
+        ensures { whole_at self.now.core.stage ≡ true → SendsDue self.now }
     {
         // what is known of the fields is known from their first use on
         let _ends = &self.ends;
@@ -75,7 +75,7 @@ impl<'a, G> Node<'a, G> {
 
     /// Takes a cursor of its job, if there is one, from which its analysis begins if it stands where the epoch begins.
     pub fn hand_cursor(&mut self, cursor: Option<Cursor<'a>>)
-        requires { IfSome cursor (λ c. c.job ≡ self.old.given.points.job) }
+        requires { IfSome cursor (λ c. c.job ≡ self.old.core.given.points.job) }
         ensures { self.new ≡ self.old }
     {
         self.core.hand_cursor(cursor);
@@ -84,7 +84,7 @@ impl<'a, G> Node<'a, G> {
     /// Gives the cursor that it has: after its analysis, where that went well and it was handed a cursor or none before, one
     /// that stands at the epoch's end.
     pub fn take_cursor(&mut self) -> Option<Cursor<'a>>
-        ensures job { IfSome result (λ c. c.job ≡ self.old.given.points.job) }
+        ensures job { IfSome result (λ c. c.job ≡ self.old.core.given.points.job) }
         ensures same { self.new ≡ self.old }
     {
         self.core.take_cursor()
@@ -101,9 +101,9 @@ impl<'a, G> Node<'a, G> {
     /// One event. A node that begins has entered the gate.
     fn step(&mut self) -> Turn
         ensures led { IsLedFrom self.new self.old }
-        ensures done { AnswersEnded result (self.new.phase ≡ Phase.Done) }
+        ensures done { AnswersEnded result (phase_of self.new.core.stage ≡ Phase.Done) }
         ensures not_yet { WhenNotYet result (HasWaited self.new self.old) }
-        ensures counted { self.new.events ≡ counted result self.old.phase self.old.events }
+        ensures counted { self.new.core.events ≡ counted result (phase_of self.old.core.stage) self.old.core.events }
     {
         let Node { core, ends } = self;
         let Ends {
@@ -123,18 +123,22 @@ impl<'a, G> Node<'a, G> {
     /// At most [`MOST_EVENTS`] events. A node that begins has entered the gate.
     fn steps(&mut self) -> Turn
         ensures led { IsLedFrom self.new self.old }
-        ensures few { self.new.events ≤ self.old.events + MOST_EVENTS }
-        ensures done { AnswersEnded result (self.new.phase ≡ Phase.Done) }
+        ensures few { self.new.core.events ≤ self.old.core.events + MOST_EVENTS }
+        ensures done { AnswersEnded result (phase_of self.new.core.stage ≡ Phase.Done) }
+        ensures moved { WhenMoved result (HasMoved self.new self.old) }
         ensures not_yet { WhenNotYet result (HasWaited self.new self.old) }
     {
         if self.core.phase() == Phase::Done {
             return Turn::Done;
         }
-        let mut moved = false;
         for event in 0..MOST_EVENTS {
             match self.step() {
-                Turn::Moved => moved = true,
-                Turn::NotYet => return if moved { Turn::Moved } else { Turn::NotYet },
+                Turn::Moved => {}
+                Turn::NotYet => return if event == 0 {
+                    Turn::NotYet
+                } else {
+                    Turn::Moved
+                },
                 Turn::Done => return Turn::Done,
             }
         }
@@ -143,14 +147,15 @@ impl<'a, G> Node<'a, G> {
 
     /// What is left of a node that is done.
     pub fn finish(self) -> Finished
-        requires { self.phase ≡ Phase.Done }
-        ensures number { result.number ≡ self.entry.given.epoch.number }
-        ensures events { result.events ≡ self.entry.events }
+        requires { phase_of self.core.stage ≡ Phase.Done }
+        ensures number { result.number ≡ self.entry.core.given.epoch.number }
+        ensures events { result.events ≡ self.entry.core.events }
         ensures ends { result.ends ≡ self.entry.ends }
-        ensures asked { result.asked ≡ self.entry.asked }
-        ensures whole { is_ok result.sets ≡ self.entry.whole }
-        ensures done { IfOk result.sets (λ rows. HasDone self.entry.given (told_by self.entry.ends) result.asked rows) }
-        ensures counted { IfOk result.sets (λ rows. HasCounted self.entry.given (told_by self.entry.ends) result.asked rows result.events) }
+        ensures asked { result.asked ≡ asked_at self.entry.core.stage }
+        ensures whole { is_ok result.sets ≡ whole_at self.entry.core.stage }
+        ensures done { IfOk result.sets (λ rows. HasDone self.entry.core.given (told_by self.entry.ends) result.asked rows) }
+        ensures counted { IfOk result.sets (λ rows. HasCounted self.entry.core.given (told_by self.entry.ends) result.asked rows
+            result.events) }
     {
         let Node { core, ends } = self;
         let number = core.number();
@@ -169,26 +174,28 @@ impl<'a, G: Gate> Task for Node<'a, G> {
     ghost use Rattle.std.specs.Prelude.{◌≡◌, ◌+◌, ◌≤◌};
     ghost use Rattle.epoch_node.specs.declared.stage.Phase.TheVariants.{Done};
     ghost use Rattle.run_board.specs.Turns.{AnswersEnded};
-    ghost use Rattle.epoch_node.specs.Events.{WhenNotYet};
-    ghost use Rattle.epoch_node.specs.Nodes.{IsLedFrom, HasWaited, led_refl, led_trans};
+    ghost use Rattle.epoch_node.specs.Cores.{phase_of};
+    ghost use Rattle.epoch_node.specs.Events.{WhenMoved, WhenNotYet};
+    ghost use Rattle.epoch_node.specs.Nodes.{IsLedFrom, HasMoved, HasWaited, led_refl, led_trans};
 
     ghost words = { record {
-      number = λ n. n.given.epoch.number;
+      number = λ n. n.core.given.epoch.number;
       led_from = IsLedFrom;
-      ended = λ n. n.phase ≡ Done;
+      ended = λ n. phase_of n.core.stage ≡ Done;
     } };
 
     fn number(&self) -> u32 {
         self.core.number()
     }
 
-    /// At most [`MOST_EVENTS`] events. It is NotYet only where no event moved, and the one link that the next event
-    /// needs refused in this call.
+    /// At most [`MOST_EVENTS`] events. It is Moved only where an event moved, and NotYet only where none did and the one
+    /// link that the next event needs refused in this call.
     fn turn(&mut self) -> Turn
         ensures led { IsLedFrom self.new self.old }
-        ensures number { self.new.given.epoch.number ≡ self.old.given.epoch.number }
-        ensures few { self.new.events ≤ self.old.events + MOST_EVENTS }
-        ensures done { AnswersEnded result (self.new.phase ≡ Done) }
+        ensures number { self.new.core.given.epoch.number ≡ self.old.core.given.epoch.number }
+        ensures few { self.new.core.events ≤ self.old.core.events + MOST_EVENTS }
+        ensures done { AnswersEnded result (phase_of self.new.core.stage ≡ Done) }
+        ensures moved { WhenMoved result (HasMoved self.new self.old) }
         ensures not_yet { WhenNotYet result (HasWaited self.new self.old) }
     {
         if self.is_fresh() {

@@ -1,12 +1,10 @@
 //! A node without its ends.
 
-ghost use Rattle.std.specs.Prelude.{◌≡◌, option_map, is_ok, IfOk, IfSome};
-ghost use Rattle.run_board.specs.Turns.{AnswersEnded};
+ghost use Rattle.std.specs.Prelude.{◌≡◌, is_ok, IfOk, IfSome};
 ghost use Rattle.pass_parts.specs.Ends.{IsEndFrom, IsRefused};
-ghost use Rattle.pass_parts.specs.Turns.{OnNotYet, Waits};
 ghost use Rattle.epoch_node.specs.Cores.{core_of, stage_of, new_core, phase_of, whole_at, asked_at, CanStart};
 ghost use Rattle.epoch_node.specs.Keeping.{Told, KeepsCore, HasDone, HasCounted, fresh_told};
-ghost use Rattle.epoch_node.specs.Events.{IsReady, StillKeeps, Steps, need_at, WhenNotYet, counted, one_more, IsMore, CanAct, Acts, CanAdvance, Advances};
+ghost use Rattle.epoch_node.specs.Events.{went, IsReady, IsEvent, WaitsAt, WhenNotYet, one_more, CanAdvance, Advances};
 
 use crate::beginning::begin;
 use crate::settling::settle;
@@ -25,9 +23,11 @@ use run_board::Turn;
 use sink_collect::SinkSets;
 use std::alloc::Global;
 use std::mem;
+use thiserror::Error;
 
 /// A growth was refused in the node, or in another one that told of it.
-#[derive(Clone, Copy, Debug, PartialEq, Eq)]
+#[derive(Clone, Copy, Debug, PartialEq, Eq, Error)]
+#[error("a growth was refused in this node or in another one")]
 pub struct Broken;
 
 /// What a node is without its ends: its epoch, and how far it has come.
@@ -63,7 +63,13 @@ impl<'a, G> Core<'a, G> {
         last: bool,
     ) -> Result<Core<'a, G>, NoMemory>
         requires { CanStart checkpoints.now ticket }
-        ensures made { IfOk result (λ core. core_of core ≡ new_core (record { points = checkpoints.now; query = query.now; epoch = ticket; first = first; last = last })) }
+        ensures made { IfOk result (λ core. core_of core ≡ new_core (record {
+          points = checkpoints.now;
+          query = query.now;
+          epoch = ticket;
+          first = first;
+          last = last;
+        })) }
         ensures keeps { IfOk result (λ core. KeepsCore (core_of core) (fresh_told first last)) }
     {
         let number = ticket.number();
@@ -176,18 +182,13 @@ impl<'a, G> Core<'a, G> {
         inlet: &mut Option<I>,
         outlet: &mut Option<O>,
     ) -> Turn
-        requires ready { IsReady (core_of self.old) (option_map I.got inlet.old) (option_map O.sent outlet.old) }
-        ensures event { Steps (core_of self.old).given (core_of self.old).stage (option_map I.got inlet.old) (option_map O.sent outlet.old) (core_of self.new).stage (option_map I.got inlet.new) (option_map O.sent outlet.new) result }
-        ensures keeps { StillKeeps (core_of self.old) (option_map I.got inlet.old) (option_map O.sent outlet.old) (core_of self.new) (option_map I.got inlet.new) (option_map O.sent outlet.new) }
-        ensures given { (core_of self.new).given ≡ (core_of self.old).given }
-        ensures got { IsMore (option_map I.got inlet.old) (option_map I.got inlet.new) }
-        ensures sent { IsMore (option_map O.sent outlet.old) (option_map O.sent outlet.new) }
+        requires ready { IsReady (core_of self.old) (went I.got O.sent inlet.old outlet.old) }
+        ensures event { IsEvent (core_of self.old) (went I.got O.sent inlet.old outlet.old)
+            (core_of self.new) (went I.got O.sent inlet.new outlet.new) result }
         ensures inlet { IsEndFrom I.link I.capacity I.other inlet.new inlet.old }
         ensures outlet { IsEndFrom O.link O.capacity O.other outlet.new outlet.old }
-        ensures done { AnswersEnded result (phase_of (core_of self.new).stage ≡ Phase.Done) }
-        ensures not_yet { WhenNotYet result ((core_of self.new ≡ core_of self.old) × (option_map I.got inlet.new ≡ option_map I.got inlet.old) × (option_map O.sent outlet.new ≡ option_map O.sent outlet.old)) }
-        ensures waits { WhenNotYet result (Waits (need_at (core_of self.old).stage (option_map I.got inlet.old) (option_map O.sent outlet.old)) (IsRefused I.refusals I.ready inlet.old inlet.new) (IsRefused O.refusals O.ready outlet.old outlet.new)) }
-        ensures counted { (core_of self.new).events ≡ counted result (phase_of (core_of self.old).stage) (core_of self.old).events }
+        ensures waits { WhenNotYet result (WaitsAt (core_of self.old).stage (went I.got O.sent inlet.old outlet.old)
+            (IsRefused I.refusals I.ready inlet.old inlet.new) (IsRefused O.refusals O.ready outlet.old outlet.new)) }
     {
         if self.phase() == Phase::Done {
             return Turn::Done;
@@ -217,8 +218,10 @@ impl<'a, G> Core<'a, G> {
         ensures whole { is_ok result.0 ≡ whole_at (core_of self.entry).stage }
         ensures asked { result.1 ≡ asked_at (core_of self.entry).stage }
         ensures events { result.2 ≡ (core_of self.entry).events }
-        ensures done { (w : Told) → KeepsCore (core_of self.entry) w → IfOk result.0 (λ rows. HasDone (core_of self.entry).given w result.1 rows) }
-        ensures counted { (w : Told) → KeepsCore (core_of self.entry) w → IfOk result.0 (λ rows. HasCounted (core_of self.entry).given w result.1 rows result.2) }
+        ensures done { (w : Told) → KeepsCore (core_of self.entry) w
+            → IfOk result.0 (λ rows. HasDone (core_of self.entry).given w result.1 rows) }
+        ensures counted { (w : Told) → KeepsCore (core_of self.entry) w
+            → IfOk result.0 (λ rows. HasCounted (core_of self.entry).given w result.1 rows result.2) }
     {
         let alloc = self.alloc;
         let events = self.events;
@@ -242,18 +245,13 @@ impl<'a, G: Gate> Core<'a, G> {
         inlet: &mut Option<I>,
         outlet: &mut Option<O>,
     ) -> Turn
-        requires ready { IsReady (core_of self.old) (option_map I.got inlet.old) (option_map O.sent outlet.old) }
-        ensures event { Steps (core_of self.old).given (core_of self.old).stage (option_map I.got inlet.old) (option_map O.sent outlet.old) (core_of self.new).stage (option_map I.got inlet.new) (option_map O.sent outlet.new) result }
-        ensures keeps { StillKeeps (core_of self.old) (option_map I.got inlet.old) (option_map O.sent outlet.old) (core_of self.new) (option_map I.got inlet.new) (option_map O.sent outlet.new) }
-        ensures given { (core_of self.new).given ≡ (core_of self.old).given }
-        ensures got { IsMore (option_map I.got inlet.old) (option_map I.got inlet.new) }
-        ensures sent { IsMore (option_map O.sent outlet.old) (option_map O.sent outlet.new) }
+        requires ready { IsReady (core_of self.old) (went I.got O.sent inlet.old outlet.old) }
+        ensures event { IsEvent (core_of self.old) (went I.got O.sent inlet.old outlet.old)
+            (core_of self.new) (went I.got O.sent inlet.new outlet.new) result }
         ensures inlet { IsEndFrom I.link I.capacity I.other inlet.new inlet.old }
         ensures outlet { IsEndFrom O.link O.capacity O.other outlet.new outlet.old }
-        ensures done { AnswersEnded result (phase_of (core_of self.new).stage ≡ Phase.Done) }
-        ensures not_yet { WhenNotYet result ((core_of self.new ≡ core_of self.old) × (option_map I.got inlet.new ≡ option_map I.got inlet.old) × (option_map O.sent outlet.new ≡ option_map O.sent outlet.old)) }
-        ensures waits { WhenNotYet result (Waits (need_at (core_of self.old).stage (option_map I.got inlet.old) (option_map O.sent outlet.old)) (IsRefused I.refusals I.ready inlet.old inlet.new) (IsRefused O.refusals O.ready outlet.old outlet.new)) }
-        ensures counted { (core_of self.new).events ≡ counted result (phase_of (core_of self.old).stage) (core_of self.old).events }
+        ensures waits { WhenNotYet result (WaitsAt (core_of self.old).stage (went I.got O.sent inlet.old outlet.old)
+            (IsRefused I.refusals I.ready inlet.old inlet.new) (IsRefused O.refusals O.ready outlet.old outlet.new)) }
     {
         if self.phase() == Phase::Fresh {
             self.gate.enter(self.number);

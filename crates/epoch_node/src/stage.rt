@@ -1,10 +1,10 @@
 //! How far a node has come.
 
-ghost use Rattle.std.specs.Prelude.{◌≡◌, option_map};
+ghost use Rattle.std.specs.Prelude.{◌≡◌};
 ghost use Rattle.pass_parts.specs.Ends.{IsEndFrom, IsRefused};
-ghost use Rattle.pass_parts.specs.Turns.{OnNotYet, Waits};
+ghost use Rattle.pass_parts.specs.Turns.{OnNotYet};
 ghost use Rattle.epoch_node.specs.Cores.{stage_of, phase_of};
-ghost use Rattle.epoch_node.specs.Events.{CanAct, Acts, need_at};
+ghost use Rattle.epoch_node.specs.Events.{went, CanAct, Acts, WaitsAt};
 
 use backward_pass::Back;
 use epoch_cut::EpochTicket;
@@ -57,11 +57,13 @@ impl Stage {
         inlet: &mut Option<I>,
         outlet: &mut Option<O>,
     ) -> PassTurn
-        requires { CanAct (stage_of self.old) (option_map I.got inlet.old) (option_map O.sent outlet.old) }
-        ensures acts { Acts (stage_of self.old) (option_map I.got inlet.old) (option_map O.sent outlet.old) (stage_of self.new) (option_map I.got inlet.new) (option_map O.sent outlet.new) result }
+        requires { CanAct (stage_of self.old) (went I.got O.sent inlet.old outlet.old) }
+        ensures acts { Acts (stage_of self.old) (went I.got O.sent inlet.old outlet.old)
+            (stage_of self.new) (went I.got O.sent inlet.new outlet.new) result }
         ensures inlet { IsEndFrom I.link I.capacity I.other inlet.new inlet.old }
         ensures outlet { IsEndFrom O.link O.capacity O.other outlet.new outlet.old }
-        ensures waits { OnNotYet result (Waits (need_at (stage_of self.old) (option_map I.got inlet.old) (option_map O.sent outlet.old)) (IsRefused I.refusals I.ready inlet.old inlet.new) (IsRefused O.refusals O.ready outlet.old outlet.new)) }
+        ensures waits { OnNotYet result (WaitsAt (stage_of self.old) (went I.got O.sent inlet.old outlet.old)
+            (IsRefused I.refusals I.ready inlet.old inlet.new) (IsRefused O.refusals O.ready outlet.old outlet.new)) }
     {
         match self {
             Stage::Fresh(_) => PassTurn::Over,

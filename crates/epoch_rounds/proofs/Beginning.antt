@@ -140,7 +140,7 @@ module _ (c : CoreView) (j i : Joint) (c' : CoreView) (j' i' : Joint) (answer : 
   begins = by c.stage refl t.event fresh where
     by : (s : StageView) → c.stage ≡ s → TurnsIn s c c' j i j' i' answer → IsFresh s → HasBegun c'.stage × IsSilent j' × IsSilent i'
     by (Fresh n) e x f =
-        let steps = subst (λ s. Steps c.given s (got_on i.ask) (sent_on j.ask) c'.stage (got_on i'.ask) (sent_on j'.ask) answer) e x.on.steps in (
+        let steps = subst (λ s. Steps c.given s (got_on i.ask) (sent_on j.ask) c'.stage (got_on i'.ask) (sent_on j'.ask) answer) e x.on.event.steps in (
           subst HasBegun (sym steps.is) tt,
           (subst IsNothing (sym steps.sent_same) a.0, subst IsNothing (sym (ap sent_on x.before_answer)) a.1),
           (subst IsNothing (sym (inlet_sent i'.ask i.ask x.on.same_inlet)) b.0, subst IsNothing (sym (ap sent_on x.behind_answer)) b.1),

@@ -124,13 +124,13 @@ module _ (c : CoreView) (j i : Joint) (c' : CoreView) (j' i' : Joint) (answer : 
       → TurnsAsking c c' j i j' i' answer → KeepsCore c (told_between j i) → KeepsCore c' (told_between j' i')
   keeps_asking s e got sent told x k =
       let w = told_between j i in
-      let kept = x.on.keeps w (ap (λ s. got_at s w) e ∙ got w) (ap (λ s. sent_at s w) e ∙ sent w) k in
+      let kept = x.on.event.keeps w (ap (λ s. got_at s w) e ∙ got w) (ap (λ s. sent_at s w) e ∙ sent w) k in
       subst (KeepsCore c') (ap (λ s. told_at s (got_on i'.ask) (sent_on j'.ask) w) e ∙ told (got_on i'.ask) (sent_on j'.ask) w ∙ sym (told_asking x)) kept
 
   keeps_answering : (f : ForeView) → c.stage ≡ Answering f → TurnsAnswering c c' j i j' i' answer → KeepsCore c (told_between j i) → KeepsCore c' (told_between j' i')
   keeps_answering f e x k =
       let w = told_between j i in
-      let kept = x.on.keeps w (ap (λ s. got_at s w) e) (ap (λ s. sent_at s w) e) k in
+      let kept = x.on.event.keeps w (ap (λ s. got_at s w) e) (ap (λ s. sent_at s w) e) k in
       subst (KeepsCore c') (ap (λ s. told_at s (got_on j'.answer) (sent_on i'.answer) w) e ∙ sym (told_answering x)) kept
 
   pub stays_told : Stays c c' j i j' i' → told_between j' i' ≡ told_between j i
@@ -149,7 +149,7 @@ module _ (c : CoreView) (j i : Joint) (c' : CoreView) (j' i' : Joint) (answer : 
     w = told_between j i
 
     steps_of : (s : StageView) (inlet outlet inlet' outlet' : Link) → c.stage ≡ s → TurnsOn c c' inlet outlet inlet' outlet' answer → Steps c.given s (got_on inlet) (sent_on outlet) c'.stage (got_on inlet') (sent_on outlet') answer
-    steps_of s inlet outlet inlet' outlet' e x = subst (λ s. Steps c.given s (got_on inlet) (sent_on outlet) c'.stage (got_on inlet') (sent_on outlet') answer) e x.steps
+    steps_of s inlet outlet inlet' outlet' e x = subst (λ s. Steps c.given s (got_on inlet) (sent_on outlet) c'.stage (got_on inlet') (sent_on outlet') answer) e x.event.steps
 
     still : (f fore : ForeView) → HasSettled (Answering f) (told_between j i) → TurnsAnswering c c' j i j' i' answer → (over : Bool) → HasSettled (answered_by over fore) (told_between j' i')
     still f fore h x over = subst (HasSettled (answered_by over fore)) (sym (told_answering x)) (one over) where
@@ -161,7 +161,7 @@ module _ (c : CoreView) (j i : Joint) (c' : CoreView) (j' i' : Joint) (answer : 
     by (Fresh n) e x h =
         let steps = steps_of (Fresh n) i.ask j.ask i'.ask j'.ask e x.on in
         record {
-          given = x.on.given;
+          given = x.on.event.given;
           keeps = keeps_asking (Fresh n) e (λ w. refl) (λ w. refl) (λ got sent w. refl) x k;
           settled = subst (λ s. HasSettled s (told_between j' i')) (sym steps.is) tt;
         }
@@ -169,14 +169,14 @@ module _ (c : CoreView) (j i : Joint) (c' : CoreView) (j' i' : Joint) (answer : 
         let steps = steps_of (Asking v) i.ask j.ask i'.ask j'.ask e x.on in
         let at = subst (λ s. AtStage c.given s (told_between j i)) e k.stage in
         record {
-          given = x.on.given;
+          given = x.on.event.given;
           keeps = keeps_asking (Asking v) e (λ w. refl) (λ w. refl) (λ got sent w. refl) x k;
           settled = subst (HasSettled c'.stage) (sym (told_asking x)) (asks_settled c.given v (told_between j i) at c'.stage (got_on i'.ask) (sent_on j'.ask) answer steps []);
         }
     by (Answering f) e x h =
         let steps = steps_of (Answering f) j.answer i.answer j'.answer i'.answer e x.on in
         record {
-          given = x.on.given;
+          given = x.on.event.given;
           keeps = keeps_answering f e x k;
           settled = subst (λ s. HasSettled s (told_between j' i')) (sym steps.is) (still f steps.fore h x steps.fore.over);
         }

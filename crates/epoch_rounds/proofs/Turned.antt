@@ -14,12 +14,11 @@ use Rattle.backward_pass.specs.Backward.{BackView, knows, state}
 use Rattle.forward_pass.specs.Forward.{ForeView, known_by, fore_state}
 use Rattle.epoch_node.specs.Cores.{Given, StageView, Fresh, Asking, Answering, Done, Between, CoreView}
 use Rattle.epoch_node.specs.Keeping.{Told, HasLinks, AtStage}
-use Rattle.epoch_node.specs.Events.{WhenNotYet, need_at, settled_by, answered_by, Steps}
-use Rattle.pass_parts.specs.Turns.{Waits}
+use Rattle.epoch_node.specs.Events.{Went, WhenNotYet, WaitsAt, settled_by, answered_by, Steps}
 use Rattle.epoch_line.specs.Layouts.{given_at}
 use Rattle.epoch_rounds.specs.declared.joints.Joint.{Joint}
 use Rattle.epoch_rounds.specs.Joints.{Link, got_on, sent_on, told_between}
-use Rattle.epoch_rounds.specs.Turns.{IsPopRefused, IsPushRefused, TurnsOn, TurnsAsking, TurnsAnswering, Stays, TurnsIn, TurnsBetween, TurnsAt}
+use Rattle.epoch_rounds.specs.Turns.{went_on, IsPopRefused, IsPushRefused, TurnsOn, TurnsAsking, TurnsAnswering, Stays, TurnsIn, TurnsBetween, TurnsAt}
 use Rattle.epoch_rounds.specs.Lines.{Plan, is_last, StandsBetween, Stand}
 use Rattle.epoch_rounds.specs.Streams.{summary_at, summaries_of, all_asks, all_answers, HasSentPart, HasBegun, SendsPart, AllSendPart}
 use Rattle.epoch_rounds.specs.Left.{phase_in, core_left, row_left, states}
@@ -64,7 +63,7 @@ module _ (p : Plan) (first : Bool) (e : NumberedEpoch) (es : List NumberedEpoch)
   first_is = ap (λ (g : Given). g.first) s.given
 
   steps_of : (g : StageView) (inlet outlet inlet' outlet' : Link) → c.stage ≡ g → TurnsOn c c' inlet outlet inlet' outlet' answer → Steps c.given g (got_on inlet) (sent_on outlet) c'.stage (got_on inlet') (sent_on outlet') answer
-  steps_of g inlet outlet inlet' outlet' q x = subst (λ s. Steps c.given s (got_on inlet) (sent_on outlet) c'.stage (got_on inlet') (sent_on outlet') answer) q x.steps
+  steps_of g inlet outlet inlet' outlet' q x = subst (λ s. Steps c.given s (got_on inlet) (sent_on outlet) c'.stage (got_on inlet') (sent_on outlet') answer) q x.event.steps
 
   when_not : (P : Type 0) → answer ≡ turn.NotYet → WhenNotYet answer P → P
   when_not P n x = subst (λ a. WhenNotYet a P) n x
@@ -117,11 +116,11 @@ module _ (p : Plan) (first : Bool) (e : NumberedEpoch) (es : List NumberedEpoch)
             inl (subst (λ w. core_left asks (all_asks (summaries_of cs)) answered answers (phase_in c'.stage w) < core_left asks (all_asks (summaries_of cs)) answered answers (phase_in (Asking v) (told_between j i))) (sym told)
             (asks_less c.given v (told_between j i) at c'.stage (got_on i'.ask) (sent_on j'.ask) answer steps (summaries_of cs) asks answered answers part asked n))
         by (inl n) part steps told =
-            let same = when_not _ n x.on.not_yet in
-            let waits = subst (λ g. Waits (need_at g (got_on i.ask) (sent_on j.ask)) (IsPopRefused i.ask i'.ask) (IsPushRefused j.ask j'.ask)) q (when_not _ n x.on.waits) in
+            let same = when_not _ n x.on.event.not_yet in
+            let waits = subst (λ g. WaitsAt g (went_on i.ask j.ask) (IsPopRefused i.ask i'.ask) (IsPushRefused j.ask j'.ask)) q (when_not _ n x.on.waits) in
             inr (record {
               core = same.0;
-              told = told ∙ ap₂ (λ (g s : Option (List Message)). record (told_between j i) { asks_got = g; asks_sent = s }) same.1 same.2;
+              told = told ∙ ap (λ (on : Went). record (told_between j i) { asks_got = on.got; asks_sent = on.sent }) same.1;
               still = not_met _ (asking_links p.capacity false before (phase_of_first (states cs (i ∷ js))) (state v (got_on i.ask) (sent_on j.ask))) (IsPopRefused i.ask i'.ask) (IsPushRefused j.ask j'.ask) waits
                   (λ r. item_lacks p.capacity i.ask i'.ask asks_sent_in (phase_of_first (states cs (i ∷ js))) r (behind_ask p first e es c j i s cs js h))
                   (λ r. room_lacks p.capacity j.ask j'.ask v.over v.whole asks_got_in before r (before_ask p first e es c j i s before (i ∷ js) b));
@@ -172,11 +171,11 @@ module _ (p : Plan) (first : Bool) (e : NumberedEpoch) (es : List NumberedEpoch)
             inl (subst (λ w. core_left asks (all_asks (summaries_of cs)) answered answers (phase_in c'.stage w) < core_left asks (all_asks (summaries_of cs)) answered answers (phase_in (Answering f) (told_between j i))) (sym told)
             (answers_less c.given f (told_between j i) at.0 at.1 c'.stage (got_on j'.answer) (sent_on i'.answer) answer steps (summaries_of cs) asks (all_asks (summaries_of cs)) answered answers part heard n))
         by (inl n) part steps told =
-            let same = when_not _ n x.on.not_yet in
-            let waits = subst (λ g. Waits (need_at g (got_on j.answer) (sent_on i.answer)) (IsPopRefused j.answer j'.answer) (IsPushRefused i.answer i'.answer)) q (when_not _ n x.on.waits) in
+            let same = when_not _ n x.on.event.not_yet in
+            let waits = subst (λ g. WaitsAt g (went_on j.answer i.answer) (IsPopRefused j.answer j'.answer) (IsPushRefused i.answer i'.answer)) q (when_not _ n x.on.waits) in
             inr (record {
               core = same.0;
-              told = told ∙ ap₂ (λ (g s : Option (List Message)). record (told_between j i) { answers_got = g; answers_sent = s }) same.1 same.2;
+              told = told ∙ ap (λ (on : Went). record (told_between j i) { answers_got = on.got; answers_sent = on.sent }) same.1;
               still = not_met _ (answering_links p.capacity false before (phase_of_first (states cs (i ∷ js))) (fore_state f (got_on j.answer) (sent_on i.answer))) (IsPopRefused j.answer j'.answer) (IsPushRefused i.answer i'.answer) waits
                   (λ r. item_lacks p.capacity j.answer j'.answer answers_sent_in before r (before_answer p first e es c j i s before (i ∷ js) b))
                   (λ r. room_lacks p.capacity i.answer i'.answer f.over f.whole answers_got_in (phase_of_first (states cs (i ∷ js))) r (behind_answer p first e es c j i s cs js h));

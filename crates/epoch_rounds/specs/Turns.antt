@@ -3,10 +3,9 @@ use Rattle.std.specs.Prelude.{◌≡◌, ℕ, zero, suc, nat_lt, ◌+◌, Some, 
 use Rattle.run_board.specs.declared.task.Turn.{Turn}
 use Rattle.epoch_link.specs.ListLink.{held_count}
 use Rattle.pass_parts.specs.Ends.{IsEndFrom, IsRefused}
-use Rattle.pass_parts.specs.Turns.{Waits}
 use Rattle.epoch_node.specs.Cores.{StageView, Fresh, Asking, Answering, Done, Between, CoreView}
 use Rattle.epoch_node.specs.Keeping.{KeepsCore}
-use Rattle.epoch_node.specs.Events.{StillKeeps, Steps, need_at, WhenNotYet, IsMore}
+use Rattle.epoch_node.specs.Events.{Went, IsEvent, WaitsAt, WhenNotYet}
 use Rattle.epoch_rounds.specs.declared.joints.Joint.{Joint}
 use Rattle.epoch_rounds.specs.Joints.{Link, got_on, sent_on, IsSound, joint_at, told_between}
 
@@ -24,17 +23,16 @@ IsPopRefused old new = IsRefused (λ l. l.pop_refusals) (λ l. Some (nat_lt 0 (h
 abbrev pub IsPushRefused : Link → Link → Type 0
 IsPushRefused old new = IsRefused (λ l. l.push_refusals) (λ l. Some (nat_lt (held_count l) l.capacity)) old new
 
+-- what went through the two links of a phase
+abbrev pub went_on : Link → Link → Went
+went_on inlet outlet = record { got = got_on inlet; sent = sent_on outlet }
+
 -- the core had its event on the two links of its phase
 pub record TurnsOn (old new : CoreView) (inlet outlet inlet' outlet' : Link) (answer : Turn) : Type 0 where
-  pub steps : Steps old.given old.stage (got_on inlet) (sent_on outlet) new.stage (got_on inlet') (sent_on outlet') answer
-  pub keeps : StillKeeps old (got_on inlet) (sent_on outlet) new (got_on inlet') (sent_on outlet')
-  pub given : new.given ≡ old.given
-  pub got : IsMore (got_on inlet) (got_on inlet')
-  pub sent : IsMore (sent_on outlet) (sent_on outlet')
+  pub event : IsEvent old (went_on inlet outlet) new (went_on inlet' outlet') answer
   pub same_inlet : IsInletFrom inlet' inlet
   pub same_outlet : IsOutletFrom outlet' outlet
-  pub not_yet : WhenNotYet answer ((new ≡ old) × (got_on inlet' ≡ got_on inlet) × (sent_on outlet' ≡ sent_on outlet))
-  pub waits : WhenNotYet answer (Waits (need_at old.stage (got_on inlet) (sent_on outlet)) (IsPopRefused inlet inlet') (IsPushRefused outlet outlet'))
+  pub waits : WhenNotYet answer (WaitsAt old.stage (went_on inlet outlet) (IsPopRefused inlet inlet') (IsPushRefused outlet outlet'))
 
 -- which links these are, and that the others stay
 pub record TurnsAsking (old new : CoreView) (before behind before' behind' : Joint) (answer : Turn) : Type 0 where

@@ -1,8 +1,8 @@
 -- What holds of the items of lists, of lists that are appended, and of lists from the last to the first.
-use Rattle.std.proofs.Common.{◌≡◌, List, [], ◌∷◌, ◌++◌, reverse, length, refl, subst, subst₂, sym, arith}
-use Rattle.std.specs.Prelude.{All}
+use Rattle.std.proofs.Common.{inl, inr, ◌≡◌, ◌⊎◌, suc, List, [], ◌∷◌, ◌++◌, reverse, length, refl, subst, subst₂, sym, ◌∙◌, arith}
+use Rattle.std.specs.Prelude.{All, Any, zip}
 use Rattle.std.specs.List.{AllZip}
-use Rattle.std.proofs.lemmas.List.{reverse-reverse}
+use Rattle.std.proofs.lemmas.List.{reverse-reverse, length-reverse}
 use Rattle.std.proofs.lemmas.List.Elements.{All-nil, All-cons, All-head, All-tail, All-push, AllZip-push}
 use Rattle.std.proofs.lemmas.Grind.{reverse_onto}
 
@@ -47,3 +47,35 @@ module _ {X : Type 0} (R : X → X → Type 0) where
   all_zip_reverse (x ∷ xs) [] h = absurd h
   all_zip_reverse (x ∷ xs) (y ∷ ys) h =
       subst₂ (AllZip R) (one_before x xs) (one_before y ys) (AllZip-push R (reverse xs) (reverse ys) x y (all_zip_reverse xs ys h.1) h.0)
+
+  -- it holds somewhere
+  abbrev pub AnyZip : List X → List X → Type 0
+  AnyZip [] ys = ⊥
+  AnyZip (x ∷ xs) [] = ⊥
+  AnyZip (x ∷ xs) (y ∷ ys) = R x y ⊎ AnyZip xs ys
+
+  pub any_before : (xs ys : List X) (x y : X) → AnyZip xs ys → AnyZip (xs ++ x ∷ []) (ys ++ y ∷ [])
+  any_before [] ys x y h = absurd h
+  any_before (a ∷ xs) [] x y h = absurd h
+  any_before (a ∷ xs) (b ∷ ys) x y (inl h) = inl h
+  any_before (a ∷ xs) (b ∷ ys) x y (inr h) = inr (any_before xs ys x y h)
+
+  pub any_last : (xs ys : List X) (x y : X) → length xs ≡ length ys → R x y → AnyZip (xs ++ x ∷ []) (ys ++ y ∷ [])
+  any_last [] [] x y n h = inl h
+  any_last [] (b ∷ ys) x y n h = absurd (omega (arith, n))
+  any_last (a ∷ xs) [] x y n h = absurd (omega (arith, n))
+  any_last (a ∷ xs) (b ∷ ys) x y n h = inr (any_last xs ys x y (omega (arith, n)) h)
+
+  pub any_reverse : (xs ys : List X) → length xs ≡ length ys → AnyZip xs ys → AnyZip (reverse xs) (reverse ys)
+  any_reverse [] ys n h = absurd h
+  any_reverse (x ∷ xs) [] n h = absurd h
+  any_reverse (x ∷ xs) (y ∷ ys) n h = subst₂ AnyZip (one_before x xs) (one_before y ys) (by (any_reverse xs ys (omega (arith, n))) h) where
+    by : (AnyZip xs ys → AnyZip (reverse xs) (reverse ys)) → R x y ⊎ AnyZip xs ys → AnyZip (reverse xs ++ x ∷ []) (reverse ys ++ y ∷ [])
+    by back (inl h) = let same : length xs ≡ length ys = omega (arith, n) in any_last (reverse xs) (reverse ys) x y (length-reverse xs ∙ same ∙ sym (length-reverse ys)) h
+    by back (inr h) = any_before (reverse xs) (reverse ys) x y (back h)
+
+  pub any_in_zip : (xs ys : List X) → AnyZip xs ys → Any (λ (p : X × X). R p.0 p.1) (zip xs ys)
+  any_in_zip [] ys h = absurd h
+  any_in_zip (x ∷ xs) [] h = absurd h
+  any_in_zip (x ∷ xs) (y ∷ ys) (inl h) = (0, (x, y), omega arith, refl, h)
+  any_in_zip (x ∷ xs) (y ∷ ys) (inr h) = let r = any_in_zip xs ys h in (suc r.0, r.1, omega (arith, r.2), r.3, r.4)

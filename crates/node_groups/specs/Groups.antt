@@ -1,10 +1,11 @@
 -- What contracts see of a group of nodes, and what its turns do.
-use Rattle.std.specs.Prelude.{◌≡◌, ◌⊎◌, ℕ, List, [], ◌∷◌, refl}
+use Rattle.std.specs.Prelude.{◌≡◌, ◌⊎◌, ℕ, List, [], ◌∷◌, Any, zip, refl}
 use mathlib.Core.Path.{◌∙◌}
 use Rattle.std.specs.List.{All, AllZip, flat_map}
 use Rattle.replayer.specs.Jobs.{Job}
 use Rattle.epoch_node.specs.declared.stage.Phase.TheVariants.{Done}
-use Rattle.epoch_node.specs.Nodes.{NodeView, told_by, IsLedFrom, led_refl, led_trans}
+use Rattle.epoch_node.specs.Cores.{phase_of}
+use Rattle.epoch_node.specs.Nodes.{NodeView, HasMoved, IsStill, IsBroken, IsLedFrom, led_refl, led_trans}
 
 -- the number of a group on the board, and its nodes from the first to the last
 pub record GroupView : Type 0 where
@@ -12,10 +13,10 @@ pub record GroupView : Type 0 where
   pub nodes : List NodeView
 
 abbrev pub number_of : NodeView → ℕ
-number_of n = n.given.epoch.number
+number_of n = n.core.given.epoch.number
 
 abbrev pub IsNodeDone : NodeView → Type 0
-IsNodeDone n = n.phase ≡ Done
+IsNodeDone n = phase_of n.core.stage ≡ Done
 
 -- all nodes are done
 abbrev pub IsGroupEnded : GroupView → Type 0
@@ -23,7 +24,7 @@ IsGroupEnded g = All IsNodeDone g.nodes
 
 -- the checkpoints that the nodes were given are all of one job
 abbrev pub AreOfJob : Job → List NodeView → Type 0
-AreOfJob job nodes = All (λ n. n.given.points.job ≡ job) nodes
+AreOfJob job nodes = All (λ n. n.core.given.points.job ≡ job) nodes
 
 abbrev pub AreOfOneJob : List NodeView → Type 0
 AreOfOneJob nodes = (job : Job) × AreOfJob job nodes
@@ -32,16 +33,15 @@ AreOfOneJob nodes = (job : Job) × AreOfJob job nodes
 abbrev pub nodes_of : List GroupView → List NodeView
 nodes_of groups = flat_map (λ g. g.nodes) groups
 
--- ---- a turn in which no node moved
-
--- nothing happened to the node
-pub record IsStill (new old : NodeView) : Type 0 where
-  pub same : new ≡ record old { ends = new.ends }
-  pub told : told_by new.ends ≡ told_by old.ends
+-- ---- what happened in a turn
 
 -- it is done, or nothing happened to it
 abbrev pub HasRested : NodeView → NodeView → Type 0
 HasRested new old = IsNodeDone new ⊎ IsStill new old
+
+-- some node moved
+abbrev pub SomeMoved : List NodeView → List NodeView → Type 0
+SomeMoved new old = Any (λ pair. HasMoved pair.0 pair.1) (zip new old)
 
 -- ---- the same group, later
 
@@ -67,3 +67,10 @@ group_led_refl g = record { number = refl; nodes = all_led_refl g.nodes }
 
 pub group_led_trans : (a b c : GroupView) → IsGroupLedFrom b a → IsGroupLedFrom c b → IsGroupLedFrom c a
 group_led_trans a b c f g = record { number = g.number ∙ f.number; nodes = all_led_trans a.nodes b.nodes c.nodes f.nodes g.nodes }
+
+-- what is led from a broken node is broken
+abbrev pub StaysBroken : NodeView → NodeView → Type 0
+StaysBroken new old = IsBroken old → IsBroken new
+
+abbrev pub BrokenNodesStay : Type 0
+BrokenNodesStay = (new old : GroupView) → IsGroupLedFrom new old → AllZip StaysBroken new.nodes old.nodes

@@ -68,8 +68,8 @@ impl<'a, G: Gate> Task for Group<'a, G> {
     ghost use Rattle.std.specs.Prelude.{◌≡◌};
     ghost use Rattle.run_board.specs.Turns.{AnswersEnded};
     ghost use Rattle.std.specs.List.{AllZip};
-    ghost use Rattle.epoch_node.specs.Events.{WhenNotYet};
-    ghost use Rattle.node_groups.specs.Groups.{IsGroupLedFrom, IsGroupEnded, HasRested};
+    ghost use Rattle.epoch_node.specs.Events.{WhenMoved, WhenNotYet};
+    ghost use Rattle.node_groups.specs.Groups.{IsGroupLedFrom, IsGroupEnded, SomeMoved, HasRested};
     ghost use Rattle.node_groups.specs.Groups.{group_led_refl, group_led_trans};
 
     ghost words = { record {
@@ -84,11 +84,13 @@ impl<'a, G: Gate> Task for Group<'a, G> {
 
     /// Each of its nodes has a turn, from the first to the last, and then one more, from the last to the first. On the
     /// way up a node hands its cursor on to the next, whose epoch begins where the cursor stands after an analysis. It
-    /// is NotYet only where nothing happened to any node that isn't done. The group itself takes no memory.
+    /// is Moved only where some node moved, and NotYet only where nothing happened to any node that isn't done. The
+    /// group itself takes no memory.
     fn turn(&mut self) -> Turn
         ensures led { IsGroupLedFrom self.new self.old }
         ensures number { self.new.number ≡ self.old.number }
         ensures done { AnswersEnded result (IsGroupEnded self.new) }
+        ensures moved { WhenMoved result (SomeMoved self.new.nodes self.old.nodes) }
         ensures not_yet { WhenNotYet result (AllZip HasRested self.new.nodes self.old.nodes) }
     {
         let Group {

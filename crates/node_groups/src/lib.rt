@@ -7,6 +7,7 @@
 
 mod answers;
 mod group;
+pub mod laws;
 mod size;
 mod splitting;
 mod working;

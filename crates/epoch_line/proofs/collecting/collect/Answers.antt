@@ -6,6 +6,7 @@ use Rattle.std.proofs.lemmas.List.Sums.{sum_by-cons}
 use Rattle.flow_model.specs.declared.Loc.{Loc}
 use Rattle.report_model.specs.Rows.{Row}
 use Rattle.epoch_node.specs.declared.ends.Ends.{Ends}
+use Rattle.epoch_node.specs.Cores.{asked_at}
 use Rattle.epoch_node.specs.Keeping.{HasDone, HasCounted}
 use Rattle.epoch_node.specs.Nodes.{told_by}
 use Rattle.node_groups.specs.Groups.{IsNodeDone}
@@ -52,13 +53,13 @@ loop-node-preserved g c =
     let rest = c.pop.new.self.items in
     let finished = c.finish-own.ensures in
     let e = popped c.args.nodes.items c.loop-node.nodes.items rest (views i.done) n i.split c.in-Some.ensures.items in
-    let has = subst (λ r. IfOk r (λ rows. HasDone n.given (told_by n.ends) c.finish-own.result.asked rows)) c.in-Ok.is finished.done in
-    let counted = subst (λ r. IfOk r (λ rows. HasCounted n.given (told_by n.ends) c.finish-own.result.asked rows c.finish-own.result.events)) c.in-Ok.is finished.counted in
+    let has = subst (λ r. IfOk r (λ rows. HasDone n.core.given (told_by n.ends) c.finish-own.result.asked rows)) c.in-Ok.is finished.done in
+    let counted = subst (λ r. IfOk r (λ rows. HasCounted n.core.given (told_by n.ends) c.finish-own.result.asked rows c.finish-own.result.events)) c.in-Ok.is finished.counted in
     let f : Finished = record {
       view = n;
       rows = c.in-Ok.own;
-      done = subst (λ (asked : List Loc). HasDone n.given (told_by n.ends) asked c.in-Ok.own) finished.asked has;
-      counted = subst₂ (λ (asked : List Loc) (events : ℕ). HasCounted n.given (told_by n.ends) asked c.in-Ok.own events) finished.asked finished.events counted;
+      done = subst (λ (asked : List Loc). HasDone n.core.given (told_by n.ends) asked c.in-Ok.own) finished.asked has;
+      counted = subst₂ (λ (asked : List Loc) (events : ℕ). HasCounted n.core.given (told_by n.ends) asked c.in-Ok.own events) finished.asked finished.events counted;
     } in
     record {
       done = f ∷ i.done;
@@ -68,8 +69,8 @@ loop-node-preserved g c =
           (subst (λ (x : Ends). HasDelivered c.loop-node.ask_out x.ask_in) finished.ends c.close_link.ensures)
           (subst (λ (x : Ends). HasDelivered x.answer_out c.loop-node.answer_in) finished.ends c.close_link-in-Some.ensures);
       sets = c.in_ok-push.ensures.items ∙ ap (λ (rs : List (List Row)). rs ++ c.in-Ok.own ∷ []) i.sets ∙ one_before c.in-Ok.own (map (λ (d : DoneNode). d.rows) (nodes i.done));
-      asked = c.in_ok-push-2.ensures.items ∙ ap₂ (λ (ls : List (List Loc)) (l : List Loc). ls ++ l ∷ []) i.asked finished.asked ∙ one_before n.asked (map (λ (d : DoneNode). d.asked) (nodes i.done));
-      events = capped_more c.loop-node.events n.events (sum_by (λ (d : DoneNode). d.events) (nodes i.done)) _ _ _ i.events finished.events c.saturating_add-events.ensures (sum_by-cons (λ (d : DoneNode). d.events) (node_of f) (nodes i.done));
+      asked = c.in_ok-push-2.ensures.items ∙ ap₂ (λ (ls : List (List Loc)) (l : List Loc). ls ++ l ∷ []) i.asked finished.asked ∙ one_before (asked_at n.core.stage) (map (λ (d : DoneNode). d.asked) (nodes i.done));
+      events = capped_more c.loop-node.events n.core.events (sum_by (λ (d : DoneNode). d.events) (nodes i.done)) _ _ _ i.events finished.events c.saturating_add-events.ensures (sum_by-cons (λ (d : DoneNode). d.events) (node_of f) (nodes i.done));
     }
 
 pub returns-clause-rows : goal.returns-clause-rows

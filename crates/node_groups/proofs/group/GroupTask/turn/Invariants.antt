@@ -1,7 +1,9 @@
 use Rattle.std.proofs.Common.{◌+◌, ◌≤◌, reverse, vec_len, vec_capacity}
 use Rattle.std.specs.List.{AllZip}
-use Rattle.epoch_node.specs.Nodes.{IsLedFrom}
+use Rattle.epoch_node.specs.Events.{WhenMoved}
+use Rattle.epoch_node.specs.Nodes.{HasMoved, IsLedFrom}
 use Rattle.node_groups.specs.Groups.{HasRested}
+use Rattle.node_groups.proofs.Lists.{AnyZip}
 use Rattle.node_groups.proofs.Jobs.{IsOnItsWay}
 use Rattle.node_groups.proofs.Sweeps.{IsSweep, UnlessMoved}
 use Rattle.node_groups.proofs.group.GroupTask.turn.Given as goal
@@ -22,6 +24,7 @@ decreases-loop-node g l = vec_len l.left
 abbrev pub invariant-loop-node-2 : goal.invariant-loop-node-2
 invariant-loop-node-2 g l = record {
   up : AllZip IsLedFrom l.initial.turned.items l.fn.self.nodes;
+  up_moved : WhenMoved l.up (AnyZip HasMoved l.initial.turned.items l.fn.self.nodes);
   up_rested : UnlessMoved l.up (AllZip HasRested l.initial.turned.items l.fn.self.nodes);
   sweep : IsSweep (reverse l.initial.turned.items) l.turned.items l.left.items l.down;
   left_room : vec_len l.left + vec_len l.turned ≤ vec_capacity l.left;
