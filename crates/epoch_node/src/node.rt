@@ -13,7 +13,7 @@ use crate::stage::Phase;
 use local_taint::Asked;
 use outer_io::Gate;
 use replayer::Cursor;
-use run_board::{Task, Turn};
+use run_board::{Numbered, Task, Turn};
 use sink_collect::SinkSets;
 use std::marker::Model;
 
@@ -165,12 +165,10 @@ impl<'a, G> Node<'a, G> {
     }
 }
 
-impl<'a, G: Gate> Task for Node<'a, G> {
-    ghost use Rattle.std.specs.Prelude.{◌≡◌, ◌+◌, ◌≤◌};
+impl<'a, G: Gate> Numbered for Node<'a, G> {
+    ghost use Rattle.std.specs.Prelude.{◌≡◌};
     ghost use Rattle.epoch_node.specs.declared.stage.Phase.TheVariants.{Done};
-    ghost use Rattle.run_board.specs.Turns.{AnswersEnded};
-    ghost use Rattle.epoch_node.specs.Events.{WhenNotYet};
-    ghost use Rattle.epoch_node.specs.Nodes.{IsLedFrom, HasWaited, led_refl, led_trans};
+    ghost use Rattle.epoch_node.specs.Nodes.{IsLedFrom};
 
     ghost words = { record {
       number = λ n. n.given.epoch.number;
@@ -181,6 +179,14 @@ impl<'a, G: Gate> Task for Node<'a, G> {
     fn number(&self) -> u32 {
         self.core.number()
     }
+}
+
+impl<'a, G: Gate> Task for Node<'a, G> {
+    ghost use Rattle.std.specs.Prelude.{◌≡◌, ◌+◌, ◌≤◌};
+    ghost use Rattle.epoch_node.specs.declared.stage.Phase.TheVariants.{Done};
+    ghost use Rattle.run_board.specs.Turns.{AnswersEnded};
+    ghost use Rattle.epoch_node.specs.Events.{WhenNotYet};
+    ghost use Rattle.epoch_node.specs.Nodes.{IsLedFrom, HasWaited, led_refl, led_trans};
 
     /// At most [`MOST_EVENTS`] events. It is NotYet only where no event moved, and the one link that the next event
     /// needs refused in this call.
