@@ -9,8 +9,7 @@ use Rattle.elf_model.specs.declared.ImageKind.{ImageKind}
 use Rattle.format_model.specs.FirstTrue.{first_true}
 use Rattle.elf_model.specs.Image.{Image, LoadedSegment, ProgramHeader, e_entry, image, image_of, unless_faulty, faults, segment, lowest, loaded_headers, is_segment_wrong, is_any_segment_wrong}
 use Rattle.elf_model.specs.Window.{start_of, start_with, start_in, can_hold, laid_out}
-use Rattle.log_model.specs.Logs.{Log}
-use Rattle.replay_model.specs.Fits.{beginning, start_in_image}
+use Rattle.replay_model.specs.Fits.{start_in_image}
 use Rattle.flow_meaning.specs.Content.{IsSound}
 use Rattle.flow_meaning.specs.RunLaws.{FitsMakesRun}
 use Rattle.flow_meaning.proofs.Never.{no, none_is}

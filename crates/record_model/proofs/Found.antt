@@ -1,6 +1,6 @@
--- Every run that can be recorded has a recording. Crates above cite a_recording.
-use Rattle.std.proofs.Common.{◌≡◌, ℕ, zero, suc, ◌+◌, ◌-◌, ◌^◌, ◌<◌, ◌≤◌, List, [], ◌∷◌, ◌++◌, length, map, get_or, take, drop, ℤ, pos, negsuc, Option, Some, None, refl, arith, ap, sym, ◌∙◌, subst, append-nil, length-take, length-drop, length-append}
-use Rattle.std.specs.Prelude.{min, IsSome, slice_index_or}
+-- Every run that can be recorded has a recording. Crates above cite these lemmas.
+use Rattle.std.proofs.Common.{◌≡◌, ℕ, zero, suc, ◌+◌, ◌-◌, ◌^◌, ◌<◌, ◌≤◌, List, [], ◌∷◌, ◌++◌, length, map, drop, ℤ, pos, negsuc, Option, Some, None, refl, arith, ap, sym, ◌∙◌, subst, append-nil, length-take, length-drop}
+use Rattle.std.specs.Prelude.{min, IsSome}
 use Rattle.std.specs.Int.{w32, to_be_bytes}
 use Rattle.std.specs.List.{AllByRecursion, range_with_len}
 use Rattle.std.proofs.lemmas.List.FromFn.{map-range_with_len_more}
@@ -8,7 +8,7 @@ use Rattle.isa.specs.Machine.{State, Outcome, Retired, Called, Trapped, next, re
 use Rattle.isa.specs.declared.Call.{Call}
 use Rattle.isa.specs.declared.CallKind.{CallKind}
 use Rattle.isa.specs.declared.CallKind.TheVariants as kind
-use Rattle.isa.specs.Calls.{refusal_of, channel_of, length_of}
+use Rattle.isa.specs.Calls.{channel_of, length_of}
 use Rattle.log_model.specs.declared.CallRecord.{CallRecord}
 use Rattle.log_model.specs.declared.RunEnd.{RunEnd}
 use Rattle.log_model.specs.declared.RunEnd.TheVariants.{Exit, Trap, Limit}
@@ -19,15 +19,14 @@ use Rattle.elf_model.specs.Image.{image, e_entry}
 use Rattle.replay_model.specs.Run.{state_after}
 use Rattle.replay_model.specs.Comparison.{arguments_of, CallOf, kept_event, call_event, divergence}
 use Rattle.replay_model.specs.Fits.{start_in_image}
-use Rattle.sha2.specs.Sha256.{sha256, digest_bytes, final_hash}
+use Rattle.sha2.specs.Sha256.{sha256, digest_bytes}
 use Rattle.sha2.proofs.Facts256.{length-sha256}
-use Rattle.flow_meaning.specs.Content.{IsSound}
 use Rattle.flow_meaning.proofs.Bytes.{AreBytes}
 use Rattle.flow_meaning.proofs.Window.{window_bytes}
 use Rattle.flow_meaning.proofs.Beginning.{begins}
-use Rattle.record_model.specs.Recorded.{Setting, CanRecord, Recording, AllReadNext, EndsWithin, IsRecorded, clock_values, clock_values_of, part_of, input_of}
+use Rattle.record_model.specs.Recorded.{Setting, CanRecord, Recording, AllReadNext, EndsWithin, clock_values, clock_values_of, part_of, input_of}
 use Rattle.record_model.specs.Calls.{bytes_of}
-use Rattle.record_model.proofs.Calls.{Moves, next_record, IsHere, next_here, part_few, read_form, write_form}
+use Rattle.record_model.proofs.Calls.{Moves, next_record, next_here, part_few, read_form, write_form}
 use Rattle.record_model.proofs.Pushes.{values_push}
 use Rattle.record_model.proofs.Runs.{RunsTo, runs_none, runs_plain, runs_call, runs_end, runs_cut}
 use Rattle.record_model.proofs.States.{IsReached, is_fine, reached_next, reached_call}
@@ -47,9 +46,11 @@ part_bytes : (inputs : List (List ℕ)) (piece offset : ℕ) (args : List ℕ) �
 part_bytes inputs piece offset args h =
     IsBytes-take (min (length_of args) piece) (drop offset (input_of inputs (channel_of args))) (IsBytes-drop offset (input_of inputs (channel_of args)) (bytes_at_channel inputs (channel_of args) h))
 
-part_small : (inputs : List (List ℕ)) (piece offset : ℕ) (args : List ℕ) → length (part_of inputs piece offset args) ≤ piece
+part_small : (inputs : List (List ℕ)) (piece offset : ℕ) (args : List ℕ) → length (part_of inputs piece offset args) ≤ min piece (length (input_of inputs (channel_of args)))
 part_small inputs piece offset args =
-    let short = length-take (min (length_of args) piece) (drop offset (input_of inputs (channel_of args))) in omega arith
+    let short = length-take (min (length_of args) piece) (drop offset (input_of inputs (channel_of args))) in
+    let rest = length-drop offset (input_of inputs (channel_of args)) in
+    omega arith
 
 moved_bytes : (refused : ℤ) (whole : List ℕ) → IsBytes whole → IsBytes (bytes_of refused whole)
 moved_bytes (pos n) whole h = h
@@ -91,7 +92,7 @@ module _ (st : Setting) (clock : ℕ → ℕ) (can : CanRecord st) (small : (k :
       let offset = length (received (reg s 10) done) in
       let part = part_of st.inputs st.piece offset (arguments_of s) in
       let few = part_small st.inputs st.piece offset (arguments_of s) in
-      let piece = can.piece in
+      let piece = can.pieces (reg s 10) in
       read_form t s (length st.inputs) part early (part_few st.inputs st.piece offset (arguments_of s))
       (moves s _ part h (part_bytes st.inputs st.piece offset (arguments_of s) can.inputs) (omega arith))
   next_form done n t s kind.Write early h =

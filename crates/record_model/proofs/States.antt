@@ -1,12 +1,12 @@
 -- The states that a run reaches: they stay in range, and each step retires, calls as its registers say, or traps by a code of the
 -- standard's.
-use Rattle.std.proofs.Common.{◌≡◌, ℕ, ◌+◌, ◌-◌, ◌*◌, ◌/◌, ◌^◌, ◌%◌, ◌<◌, ◌≤◌, ◌⊎◌, inl, inr, Bool, true, false, List, [], ◌∷◌, length, take, refl, arith, ap, sym, ◌∙◌, subst, length-take}
+use Rattle.std.proofs.Common.{◌≡◌, ℕ, ◌+◌, ◌-◌, ◌*◌, ◌/◌, ◌^◌, ◌<◌, ◌≤◌, inl, inr, Bool, true, false, List, [], ◌∷◌, length, refl, arith, ap, ◌∙◌, subst, length-take}
 use Rattle.std.specs.Int.{w32, to_le_bytes}
 use Rattle.isa.specs.declared.Instr.{Instr}
-use Rattle.isa.specs.declared.Instr.TheVariants.{Lui, Auipc, Jal, Jalr, Beq, Bne, Blt, Bge, Bltu, Bgeu, Lb, Lh, Lw, Lbu, Lhu, Sb, Sh, Sw, Addi, Slti, Sltiu, Xori, Ori, Andi, Slli, Srli, Srai, Add, Sub, Sll, Slt, Sltu, Xor, Srl, Sra, Or, And, Mul, Mulh, Mulhsu, Mulhu, Div, Divu, Rem, Remu, Fence, Ecall, Ebreak}
+use Rattle.isa.specs.declared.Instr.TheVariants.{Jal, Jalr, Beq, Bne, Blt, Bge, Bltu, Bgeu}
 use Rattle.isa.specs.declared.Effect.{Effect}
 use Rattle.isa.specs.declared.Effect.TheVariants.{SetRegister, Jump, Branch, Load, Store, MoveOn, EnvironmentCall, Breakpoint}
-use Rattle.isa.specs.Machine.{State, Outcome, Retired, Called, Trapped, wrap, reg, relative, effective_address, effect_of, execute, landed, is_aligned, jumped, branched, loaded, stored, low_bytes, in_window, overwritten, call_of, Fetch, Fetched, OutsideWindow, Illegal, fetch, outcome_of, next}
+use Rattle.isa.specs.Machine.{State, Outcome, Retired, Called, Trapped, wrap, effect_of, execute, landed, is_aligned, jumped, branched, loaded, stored, low_bytes, in_window, overwritten, call_of, Fetch, Fetched, OutsideWindow, Illegal, fetch, outcome_of, next}
 use Rattle.isa.specs.Calls.{buffer_of}
 use Rattle.log_model.specs.declared.CallRecord.{CallRecord}
 use Rattle.log_model.specs.declared.CallRecord.TheVariants.{Read, Write, Clock, Other}
@@ -14,7 +14,7 @@ use Rattle.log_model.specs.Logs.{IsRecord, IsTrapKind}
 use Rattle.replay_model.specs.Run.{state_after}
 use Rattle.replay_model.specs.Comparison.{IsLawful}
 use Rattle.flow_meaning.specs.Content.{IsSound}
-use Rattle.flow_meaning.proofs.Window.{Holds, holds_by, over_length, over_nothing}
+use Rattle.flow_meaning.proofs.Window.{holds_by, over_length, over_nothing}
 use Rattle.flow_meaning.proofs.Leaves.{leaves_is}
 use Rattle.flow_meaning.proofs.Decoded.{fetched_in_range}
 use Rattle.flow_meaning.proofs.Sound.{stays_sound}

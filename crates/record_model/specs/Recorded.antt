@@ -72,14 +72,14 @@ pub record IsRecorded (s : Setting) (answers : List ℕ) (log : Log) : Type 0 wh
   pub ends_within : EndsWithin s.steps log.end
 
 -- a run can be recorded so: the program is a file of bytes, whose image the window can hold; there are at most 16 channels, of
--- bytes; and the window, a piece and the number of steps are in range
+-- bytes, of which no read gets 2 ^ 31; and the window and the number of steps are in range
 pub record CanRecord (s : Setting) : Type 0 where
   pub program : IsBytes s.program
   pub pages : (1 ≤ s.pages) × (s.pages ≤ 4096)
   pub begins : IsSome (start_in_image (image s.program) s.pages)
   pub channels : length s.inputs ≤ 16
   pub inputs : AllByRecursion IsBytes s.inputs
-  pub piece : s.piece < 2 ^ 31
+  pub pieces : (channel : ℕ) → min s.piece (length (input_of s.inputs channel)) < 2 ^ 31
   pub steps : s.steps ≤ 2 ^ 40
 
 -- a recording: the log of a run in which the clock gave the first of its answers, in turn
