@@ -1,8 +1,8 @@
--- The state that a program begins in is sound.
+-- The state that a program begins in is sound. Crates above cite these lemmas.
 use Rattle.std.proofs.Common.{◌≡◌, ℕ, zero, suc, ◌+◌, ◌-◌, ◌*◌, ◌/◌, ◌^◌, ◌<◌, ◌≤◌, ◌⊎◌, inl, inr, Bool, true, false, ◌||◌, List, [], ◌∷◌, map, length, get_or, take, drop, replicate, Option, Some, None, Result, Ok, Err, refl, arith, ap, sym, ◌∙◌, subst, leb-true, ltb-false, length-take, get_or-take, get_or-drop}
 use Rattle.std.specs.Prelude.{nat_le, nat_lt, if◌then◌else◌}
 use Rattle.std.specs.List.{AllByRecursion, list_all}
-use Rattle.std.proofs.lemmas.Bool.{and_parts, cases_lt}
+use Rattle.std.proofs.lemmas.Bool.{and_parts, cases_lt, or_parts}
 use Rattle.std.proofs.lemmas.List.{get_or_past, length-replicate}
 use Rattle.isa.specs.Machine.{State, overwritten}
 use Rattle.elf_model.specs.declared.ImageKind.{ImageKind}
@@ -23,10 +23,6 @@ pub record IsGood (base : ℕ) (s : LoadedSegment) : Type 0 where
   pub above : base ≤ s.place
   pub short : length s.bytes ≤ s.size
   pub bytes : AreBytes s.bytes
-
-or_parts : (a b : Bool) → (a || b) ≡ false → (a ≡ false) × (b ≡ false)
-or_parts true b e = no e
-or_parts false b e = (refl, e)
 
 file_bytes : (file : List ℕ) → AllByRecursion (λ b. b < 256) file → AreBytes file
 file_bytes [] h k = omega arith
