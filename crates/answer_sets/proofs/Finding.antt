@@ -1,8 +1,7 @@
 -- The answer that stands at the place of what was asked.
 use Rattle.std.proofs.Common.{◌≡◌, ℕ, zero, suc, List, [], ◌∷◌, get_or, slice_get, Some, length, map, ◌<◌, ◌≤◌, arith, refl, ap, sym, subst, ◌∙◌, Bool, true, false, ◌||◌, cond}
 use Rattle.std.specs.List.{AllByRecursion, IsDistinct, All}
-use Rattle.std.specs.Cmp.{tied_itself}
-use Rattle.std.specs.Ordering.{eq_by_cmp, is_eq}
+use Rattle.std.specs.Ordering.{eq_by_cmp}
 use Rattle.std.proofs.lemmas.Map.Keys.{IsDistinct-head, IsDistinct-tail}
 use Rattle.std.proofs.lemmas.List.Elements.{recursion_from_All}
 use Rattle.std.proofs.lemmas.List.{get_or-map, get_or_past, length-map}
@@ -13,9 +12,7 @@ use Rattle.flow_model.proofs.Orders.{loc_total, loc_same}
 use Rattle.sorted_set.specs.Sets.{Ascends, has}
 use Rattle.sorted_set.proofs.Algebra.{tied_by}
 use Rattle.epoch_model.specs.Join.{answer_to}
-
-loc_itself : (l : Loc) → eq_by_cmp loc_cmp l l ≡ true
-loc_itself l = ap is_eq (tied_itself loc_total l)
+use Rattle.epoch_model.proofs.Adding.{loc_itself}
 
 pub all_at : (P : Loc → Type 0) (ls : List Loc) (i : ℕ) (l : Loc) → AllByRecursion P ls → slice_get ls i ≡ Some l → P l
 all_at P [] i l a e = cc

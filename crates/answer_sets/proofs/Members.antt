@@ -1,16 +1,16 @@
 -- The source bytes that are gathered from terms and answers. Crates above cite these lemmas.
 use Rattle.std.proofs.Common.{true, false, ◌&&◌, ap₂, arith, ◌≡◌, ℕ, ◌+◌, ◌<◌, List, [], ◌∷◌, length, take, get_or, refl, ap, sym, subst, ◌∙◌, Bool, ◌||◌, nat_cmp}
 use Rattle.std.specs.List.{list_any}
-use Rattle.std.specs.Ordering.{eq_by_cmp, ordering_then}
+use Rattle.std.specs.Ordering.{eq_by_cmp}
 use Rattle.std.specs.declared.cmp.Ordering.{Ordering}
-use Rattle.std.specs.declared.cmp.Ordering.TheVariants.{Less, Equal, Greater}
 use Rattle.std.proofs.lemmas.List.Folds.{list_any_more}
 use Rattle.flow_model.specs.declared.Loc.{Loc}
 use Rattle.flow_model.specs.declared.SourceByte.{SourceByte}
-use Rattle.flow_model.specs.contracts.SourceByteOrd.TheImpl as derived
 use Rattle.flow_model.specs.Orders.{source_cmp}
 use Rattle.flow_model.specs.Origins.{union_over}
 use Rattle.flow_model.proofs.Orders.{source_total, source_same}
+use Rattle.flow_model.proofs.Derived.{source_compared, source_order_is}
+use Rattle.flow_model.proofs.Origins.{Ascends-union_over}
 use Rattle.sorted_set.specs.Sets.{Ascends, has}
 use Rattle.sorted_set.proofs.Algebra.{Ascends-union, has-union, same_list}
 use Rattle.epoch_model.specs.Summary.{Terms}
@@ -22,16 +22,11 @@ use Rattle.epoch_model.proofs.AnyOf.{any_union_over, or_grouped}
 abbrev Order : Type 0
 Order = SourceByte → SourceByte → Ordering
 
-then_equal : (o : Ordering) → ordering_then o Equal ≡ o
-then_equal Less = refl
-then_equal Equal = refl
-then_equal Greater = refl
-
 abbrev pub compared : Order
-compared = derived.cmp-value.it
+compared = source_compared
 
 pub order_is : compared ≡ source_cmp
-order_is = λ i a b. sym (ap (ordering_then (nat_cmp a.channel b.channel)) (then_equal (nat_cmp a.offset b.offset))) i
+order_is = sym source_order_is
 
 pub members_by : (xs ys : List SourceByte) → ((b : SourceByte) → has compared b xs ≡ has compared b ys) → (b : SourceByte) → has source_cmp b xs ≡ has source_cmp b ys
 members_by xs ys h = subst (λ (R : Order). ((b : SourceByte) → has R b xs ≡ has R b ys)) order_is h
@@ -59,11 +54,6 @@ has-resolved : (before : Loc → List SourceByte) (t : Terms) (b : SourceByte) �
 has-resolved before t b =
     has-union source_total t.sources (union_over before t.starts) b
     ∙ ap (λ (c : Bool). has source_cmp b t.sources || c) (any_union_over (eq_by_cmp source_cmp b) before t.starts)
-
-Ascends-union_over : (before : Loc → List SourceByte) → ((l : Loc) → Ascends source_cmp (before l)) → (ls : List Loc) → Ascends source_cmp (union_over before ls)
-Ascends-union_over before h [] = tt
-Ascends-union_over before h (l ∷ []) = h l
-Ascends-union_over before h (l ∷ m ∷ ls) = Ascends-union source_total (before l) _ (Ascends-union_over before h (m ∷ ls))
 
 -- the set of what is gathered are the resolved terms
 pub resolved_is : (before : Loc → List SourceByte) → ((l : Loc) → Ascends source_cmp (before l)) → (t : Terms) (all : List SourceByte)

@@ -2,7 +2,7 @@
 
 ghost use Rattle.std.specs.Prelude.{◌≡◌};
 
-use run_board::{Task, Turn};
+use run_board::{Numbered, Task, Turn};
 
 /// A task that is ended after so many turns.
 #[derive(Drop)]
@@ -30,9 +30,8 @@ impl Countdown {
     }
 }
 
-impl Task for Countdown {
+impl Numbered for Countdown {
     ghost use Rattle.std.specs.Prelude.{◌≡◌, ◌≤◌};
-    ghost use Rattle.std.proofs.Common.{rules};
 
     ghost words = { record {
       number = λ task. task.number;
@@ -43,6 +42,10 @@ impl Task for Countdown {
     fn number(&self) -> u32 {
         self.number
     }
+}
+
+impl Task for Countdown {
+    ghost use Rattle.std.proofs.Common.{rules};
 
     fn turn(&mut self) -> Turn {
         self.left = self.left.saturating_sub(1);

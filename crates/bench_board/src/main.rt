@@ -7,7 +7,7 @@
 mod countdown;
 mod runs;
 
-use run_board::{MOST_TASKS, MOST_WORKERS, Task};
+use run_board::{MOST_TASKS, MOST_WORKERS, Numbered};
 use std::alloc::Global;
 use std::sync::Wait;
 use std::thread::Threads;

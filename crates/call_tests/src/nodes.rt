@@ -14,6 +14,7 @@ enum Asked {
     Source(SourceByte),
     Start(Loc),
     Union(Node, Node),
+    Absorbing(Node, Node),
 }
 
 /// How a node is asked for, the node that is given, and the leaves under it.
@@ -31,18 +32,32 @@ const THIRD: SourceByte = SourceByte {
 
 const X5: Loc = Loc::Reg { number: 5, lane: 0 };
 
-/// In turn, in one log. The last five give nodes that are there.
-const CASES: [Case; 10] = [
+/// In turn, in one log: the leaves, and the union of two.
+const FIRST_CASES: [Case; 4] = [
     (Asked::Source(THIRD), 1, &[Leaf::Source(THIRD)]),
     (Asked::Source(FIRST), 2, &[Leaf::Source(FIRST)]),
     (Asked::Start(X5), 3, &[Leaf::Start(X5)]),
     (Asked::Union(1, 2), 4, BOTH),
-    (Asked::Union(4, 3), 5, ALL),
+];
+
+/// Then in that log, where a union with an operand has a node of its own. The last five give nodes that are there.
+const UNION_CASES: [Case; 7] = [
+    (Asked::Union(4, 1), 5, BOTH),
+    (Asked::Union(5, 3), 6, ALL),
     (Asked::Source(THIRD), 1, &[Leaf::Source(THIRD)]),
     (Asked::Union(2, 1), 4, BOTH),
-    (Asked::Union(4, 1), 4, BOTH),
-    (Asked::Union(4, 5), 5, ALL),
-    (Asked::Union(5, 5), 5, ALL),
+    (Asked::Union(1, 4), 5, BOTH),
+    (Asked::Union(6, 6), 6, ALL),
+    (Asked::Absorbing(6, 5), 6, ALL),
+];
+
+/// Or then in that log, where a union absorbs its operands. The last three give nodes that are there.
+const ABSORBING_CASES: [Case; 5] = [
+    (Asked::Absorbing(4, 1), 4, BOTH),
+    (Asked::Absorbing(4, 3), 5, ALL),
+    (Asked::Absorbing(2, 4), 4, BOTH),
+    (Asked::Absorbing(4, 5), 5, ALL),
+    (Asked::Absorbing(2, 1), 4, BOTH),
 ];
 
 const BOTH: &[Leaf] = &[Leaf::Source(FIRST), Leaf::Source(THIRD)];
@@ -53,15 +68,13 @@ const ALL: &[Leaf] = &[Leaf::Source(FIRST), Leaf::Source(THIRD), Leaf::Start(X5)
 fn node_of(log: &mut MergeLog, asked: &Asked) -> Result<Node, Fail>
     ensures { IfOk result (IsNode log.new) }
 {
+    let size = log.size();
     match *asked {
         Asked::Source(byte) => Ok(log.leaf_source(byte)?),
         Asked::Start(loc) => Ok(log.leaf_symbol(loc)?),
-        Asked::Union(a, b) => {
-            if a >= log.size() || b >= log.size() {
-                return Ok(0);
-            }
-            Ok(log.union(a, b)?)
-        }
+        Asked::Union(a, b) if a < size && b < size => Ok(log.union(a, b)?),
+        Asked::Absorbing(a, b) if a < size && b < size => Ok(log.absorbing_union(a, b)?),
+        Asked::Union(..) | Asked::Absorbing(..) => Ok(0),
     }
 }
 
@@ -75,14 +88,26 @@ fn compare(rt: &impl Abort, alloc: Global, log: &mut MergeLog, case: &Case) -> R
     Ok(())
 }
 
+/// The log of the first cases and then of these, in turn.
+fn log_of(rt: &impl Abort, alloc: Global, cases: &[Case]) -> Result<MergeLog, Fail> {
+    let mut log = MergeLog::new(alloc);
+    for case in FIRST_CASES.iter().chain(cases) {
+        compare(rt, alloc, &mut log, case)?;
+    }
+    assert_eq!(rt; log.terms(alloc, 0)?.len(), 0);
+    Ok(log)
+}
+
 #[test]
 fn equal_nodes_are_one(rt: HostRuntime) -> Result<(), Fail> {
-    let alloc = rt.alloc();
-    let mut log = MergeLog::new(alloc);
-    for case in &CASES {
-        compare(&rt, alloc, &mut log, case)?;
-    }
+    let log = log_of(&rt, rt.alloc(), &UNION_CASES)?;
+    assert_eq!(rt; log.size(), 7);
+    Ok(())
+}
+
+#[test]
+fn a_union_absorbs_its_operands(rt: HostRuntime) -> Result<(), Fail> {
+    let log = log_of(&rt, rt.alloc(), &ABSORBING_CASES)?;
     assert_eq!(rt; log.size(), 6);
-    assert_eq!(rt; log.terms(alloc, 0)?.len(), 0);
     Ok(())
 }

@@ -12,6 +12,7 @@ use Rattle.sorted_set.specs.Sets.{union, has}
 use Rattle.flow_model.specs.Orders.{loc_cmp, source_cmp}
 use Rattle.flow_model.specs.Origins.{union_over}
 use Rattle.std.proofs.lemmas.Grind.{common_steps}
+use Rattle.std.proofs.lemmas.Bool.{or_parts, or_right}
 use Rattle.flow_model.specs.declared.Loc.TheVariants.{Reg, Mem}
 use Rattle.flow_model.specs.Flow.{loc_eq}
 use Rattle.flow_model.proofs.Orders.{loc_total, loc_same}
@@ -26,7 +27,7 @@ use Rattle.epoch_model.proofs.Lists.{all-append}
 loc_is : (l m : Loc) → eq_by_cmp loc_cmp l m ≡ true → l ≡ m
 loc_is l m e = loc_same l m (tied_by (loc_cmp l m) e)
 
-loc_itself : (l : Loc) → eq_by_cmp loc_cmp l l ≡ true
+pub loc_itself : (l : Loc) → eq_by_cmp loc_cmp l l ≡ true
 loc_itself l = ap is_eq (tied_itself loc_total l)
 
 is_eq_turned : (r : Ordering) → is_eq (ordering_reverse r) ≡ is_eq r
@@ -75,10 +76,6 @@ module _ (P : Loc → Type 0) where
 
 -- ---- each once
 
-both_false : (a b : Bool) → (a || b) ≡ false → (a ≡ false) × (b ≡ false)
-both_false true b e = cc
-both_false false b e = (refl, e)
-
 pub none_distinct : IsDistinct (eq_by_cmp loc_cmp) []
 unfolding IsDistinct
 none_distinct = tt
@@ -87,7 +84,7 @@ once_more : (asked : List Loc) (l : Loc) → has loc_cmp l asked ≡ false → I
 unfolding IsDistinct
 once_more [] l e a = (tt, tt)
 once_more (m ∷ ms) l e a =
-    let parts = both_false (eq_by_cmp loc_cmp l m) (has loc_cmp l ms) e in
+    let parts = or_parts (eq_by_cmp loc_cmp l m) (has loc_cmp l ms) e in
     (all-append (λ k. eq_by_cmp loc_cmp m k ≡ false) ms (l ∷ []) a.0 (loc_eq_turned l m ∙ parts.0, tt), once_more ms l parts.1 a.1)
 
 once_added : (asked : List Loc) (l : Loc) → IsDistinct (eq_by_cmp loc_cmp) asked → IsDistinct (eq_by_cmp loc_cmp) (added asked l)
@@ -113,10 +110,7 @@ answer_is f (m ∷ ms) l e = by (answer_is f ms l) (eq_by_cmp loc_cmp l m) refl 
 -- what holds of each location that the list has holds of all in it
 pub all_had : (P : Loc → Type 0) (ls : List Loc) → ((l : Loc) → has loc_cmp l ls ≡ true → P l) → AllByRecursion P ls
 all_had P [] h = tt
-all_had P (l ∷ ls) h = (h l (ap (λ (b : Bool). b || has loc_cmp l ls) (loc_itself l)), all_had P ls (λ k e. h k (later (eq_by_cmp loc_cmp k l) (has loc_cmp k ls) e))) where
-  later : (a b : Bool) → b ≡ true → (a || b) ≡ true
-  later true b e = refl
-  later false b e = e
+all_had P (l ∷ ls) h = (h l (ap (λ (b : Bool). b || has loc_cmp l ls) (loc_itself l)), all_had P ls (λ k e. h k (or_right (eq_by_cmp loc_cmp k l) (has loc_cmp k ls) e)))
 
 -- the union is the same where both give the same at each location
 pub union_over_same : (f g : Loc → List SourceByte) (ls : List Loc) → AllByRecursion (λ l. f l ≡ g l) ls → union_over f ls ≡ union_over g ls

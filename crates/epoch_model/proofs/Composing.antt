@@ -13,6 +13,7 @@ use Rattle.flow_model.specs.Flow.{from}
 use Rattle.flow_model.specs.Origins.{Policy, origins, fresh, union_over, after_step, step_at}
 use Rattle.sorted_set.proofs.Algebra.{Ascends-union, same_list}
 use Rattle.flow_model.proofs.Orders.{loc_total, loc_same, source_total, source_same}
+use Rattle.flow_model.proofs.Origins.{Ascends-union_over, Ascends-origins}
 use Rattle.epoch_model.specs.Stretch.{locations_over, from_step, fresh_step, past, born}
 use Rattle.epoch_model.specs.StretchLaws.{OriginsCompose, PastComposes}
 use Rattle.epoch_model.proofs.AnyOf.{or_false, or_grouped, any_either, any_same, any_union, any_union_over, any_locations_over}
@@ -52,18 +53,6 @@ past_composes rule trace r m n l =
     (λ q. any_past (eq_by_cmp loc_cmp q) rule trace r m n l ∙ sym (any_locations_over (eq_by_cmp loc_cmp q) (past rule trace r m) (past rule trace (r + m) n l)))
 
 -- ---- origins
-
-Ascends-union_over : (before : Loc → List SourceByte) → ((l : Loc) → Ascends source_cmp (before l)) → (ls : List Loc) → Ascends source_cmp (union_over before ls)
-Ascends-union_over before h [] = tt
-Ascends-union_over before h (l ∷ []) = h l
-Ascends-union_over before h (l ∷ m ∷ ls) = Ascends-union source_total (before l) _ (Ascends-union_over before h (m ∷ ls))
-
-Ascends-origins : (policy : Policy) (trace : List StepSeen) (t : ℕ) (l : Loc) → Ascends source_cmp (origins policy trace t l)
-Ascends-origins policy trace zero l = tt
-Ascends-origins policy trace (suc t) l = by (step_at trace t) (Ascends-origins policy trace t) where
-  by : (step : Option StepSeen) → ((m : Loc) → Ascends source_cmp (origins policy trace t m)) → Ascends source_cmp (after_step policy step (origins policy trace t) l)
-  by None h = h l
-  by (Some step) h = Ascends-union source_total (fresh policy step l) _ (Ascends-union_over _ h (from policy.rule step l))
 
 any_origins : (f : SourceByte → Bool) (policy : Policy) (trace : List StepSeen) (s n : ℕ) (l : Loc)
     → list_any f (origins policy trace (s + n) l) ≡ (list_any f (born policy trace s n l) || list_any (λ k. list_any f (origins policy trace s k)) (past policy.rule trace s n l))

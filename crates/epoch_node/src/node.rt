@@ -13,7 +13,7 @@ use crate::stage::Phase;
 use local_taint::Asked;
 use outer_io::Gate;
 use replayer::Cursor;
-use run_board::{Task, Turn};
+use run_board::{Numbered, Task, Turn};
 use sink_collect::SinkSets;
 use std::marker::Model;
 
@@ -170,13 +170,11 @@ impl<'a, G> Node<'a, G> {
     }
 }
 
-impl<'a, G: Gate> Task for Node<'a, G> {
-    ghost use Rattle.std.specs.Prelude.{◌≡◌, ◌+◌, ◌≤◌};
+impl<'a, G: Gate> Numbered for Node<'a, G> {
+    ghost use Rattle.std.specs.Prelude.{◌≡◌};
     ghost use Rattle.epoch_node.specs.declared.stage.Phase.TheVariants.{Done};
-    ghost use Rattle.run_board.specs.Turns.{AnswersEnded};
     ghost use Rattle.epoch_node.specs.Cores.{phase_of};
-    ghost use Rattle.epoch_node.specs.Events.{WhenMoved, WhenNotYet};
-    ghost use Rattle.epoch_node.specs.Nodes.{IsLedFrom, HasMoved, HasWaited, led_refl, led_trans};
+    ghost use Rattle.epoch_node.specs.Nodes.{IsLedFrom};
 
     ghost words = { record {
       number = λ n. n.core.given.epoch.number;
@@ -187,6 +185,15 @@ impl<'a, G: Gate> Task for Node<'a, G> {
     fn number(&self) -> u32 {
         self.core.number()
     }
+}
+
+impl<'a, G: Gate> Task for Node<'a, G> {
+    ghost use Rattle.std.specs.Prelude.{◌≡◌, ◌+◌, ◌≤◌};
+    ghost use Rattle.epoch_node.specs.declared.stage.Phase.TheVariants.{Done};
+    ghost use Rattle.run_board.specs.Turns.{AnswersEnded};
+    ghost use Rattle.epoch_node.specs.Cores.{phase_of};
+    ghost use Rattle.epoch_node.specs.Events.{WhenMoved, WhenNotYet};
+    ghost use Rattle.epoch_node.specs.Nodes.{IsLedFrom, HasMoved, HasWaited, led_refl, led_trans};
 
     /// At most [`MOST_EVENTS`] events. It is Moved only where an event moved, and NotYet only where none did and the one
     /// link that the next event needs refused in this call.

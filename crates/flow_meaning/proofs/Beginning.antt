@@ -1,16 +1,15 @@
--- The state that a program begins in is sound.
-use Rattle.std.proofs.Common.{◌≡◌, ℕ, zero, suc, ◌+◌, ◌-◌, ◌*◌, ◌/◌, ◌^◌, ◌<◌, ◌≤◌, ◌⊎◌, inl, inr, Bool, true, false, ◌||◌, List, [], ◌∷◌, map, length, get_or, take, drop, replicate, Option, Some, None, Result, Ok, Err, refl, arith, sym, ◌∙◌, subst, leb-true, ltb-false, length-take, get_or-take, get_or-drop}
+-- The state that a program begins in is sound. Crates above cite these lemmas.
+use Rattle.std.proofs.Common.{◌≡◌, ℕ, zero, suc, ◌+◌, ◌-◌, ◌*◌, ◌/◌, ◌^◌, ◌<◌, ◌≤◌, ◌⊎◌, inl, inr, Bool, true, false, ◌||◌, List, [], ◌∷◌, map, length, get_or, take, drop, replicate, Option, Some, None, Result, Ok, Err, refl, arith, ap, sym, ◌∙◌, subst, leb-true, ltb-false, length-take, get_or-take, get_or-drop}
 use Rattle.std.specs.Prelude.{nat_le, nat_lt, if◌then◌else◌}
 use Rattle.std.specs.List.{AllByRecursion, list_all}
-use Rattle.std.proofs.lemmas.Bool.{and_parts, cases_lt}
+use Rattle.std.proofs.lemmas.Bool.{and_parts, cases_lt, or_parts}
 use Rattle.std.proofs.lemmas.List.{get_or_past, length-replicate}
 use Rattle.isa.specs.Machine.{State, overwritten}
 use Rattle.elf_model.specs.declared.ImageKind.{ImageKind}
 use Rattle.format_model.specs.FirstTrue.{first_true}
-use Rattle.elf_model.specs.Image.{Image, LoadedSegment, ProgramHeader, image, image_of, unless_faulty, faults, segment, lowest, loaded_headers, is_segment_wrong, is_any_segment_wrong}
+use Rattle.elf_model.specs.Image.{Image, LoadedSegment, ProgramHeader, e_entry, image, image_of, unless_faulty, faults, segment, lowest, loaded_headers, is_segment_wrong, is_any_segment_wrong}
 use Rattle.elf_model.specs.Window.{start_of, start_with, start_in, can_hold, laid_out}
-use Rattle.log_model.specs.Logs.{Log}
-use Rattle.replay_model.specs.Fits.{beginning, start_in_image}
+use Rattle.replay_model.specs.Fits.{start_in_image}
 use Rattle.flow_meaning.specs.Content.{IsSound}
 use Rattle.flow_meaning.specs.RunLaws.{FitsMakesRun}
 use Rattle.flow_meaning.proofs.Never.{no, none_is}
@@ -24,10 +23,6 @@ pub record IsGood (base : ℕ) (s : LoadedSegment) : Type 0 where
   pub above : base ≤ s.place
   pub short : length s.bytes ≤ s.size
   pub bytes : AreBytes s.bytes
-
-or_parts : (a b : Bool) → (a || b) ≡ false → (a ≡ false) × (b ≡ false)
-or_parts true b e = no e
-or_parts false b e = (refl, e)
 
 file_bytes : (file : List ℕ) → AllByRecursion (λ b. b < 256) file → AreBytes file
 file_bytes [] h k = omega arith
@@ -132,10 +127,16 @@ start_words top (suc zero) h = omega arith
 start_words top (suc (suc zero)) h = h
 start_words top (suc (suc (suc r))) h = let x = zero_bytes 29 r in omega arith
 
-sound_start : (im : Image) (pages : ℕ) (s : State) → IsGoodImage im → start_of im pages ≡ Some s → IsSound s
-sound_start im pages s g e = by (can_hold im pages) refl e
+-- a state that a run begins in: it is sound, and its window has so many pages
+pub record IsBegun (entry pages : ℕ) (s : State) : Type 0 where
+  pub sound : IsSound s
+  pub pc : s.pc ≡ entry
+  pub size : length s.memory ≡ pages * 4096
+
+good_start : (im : Image) (pages : ℕ) (s : State) → IsGoodImage im → start_of im pages ≡ Some s → IsBegun im.entry pages s
+good_start im pages s g e = by (can_hold im pages) refl e
   where
-    by : (b : Bool) → can_hold im pages ≡ b → start_with im pages (if b then Some (laid_out im.base (replicate (pages * 4096) 0) im.segments) else None) ≡ Some s → IsSound s
+    by : (b : Bool) → can_hold im pages ≡ b → start_with im pages (if b then Some (laid_out im.base (replicate (pages * 4096) 0) im.segments) else None) ≡ Some s → IsBegun im.entry pages s
     by true f e =
         let both = and_parts (nat_le (im.base + pages * 4096) (2 ^ 32)) (list_all (λ s. nat_le (s.place + s.size) (im.base + pages * 4096)) im.segments) f in
         let ends = leb-true (im.base + pages * 4096) (2 ^ 32) both.0 in
@@ -149,15 +150,25 @@ sound_start im pages s g e = by (can_hold im pages) refl e
           bytes = w.bytes;
           ends = omega arith;
         } in
-        subst IsSound same sound
+        subst (IsBegun im.entry pages) same (record { sound = sound; pc = refl; size = w.long })
     by false f e = none_is e
 
-begins_sound : (program : List ℕ) (log : Log) (s : State) → AllByRecursion (λ b. b < 256) program → beginning program log ≡ Some s → IsSound s
-begins_sound program log s b e = by (image program) refl e
+image_entry : (file : List ℕ) (im : Image) → image file ≡ Ok im → im.entry ≡ e_entry file
+image_entry file im e = by (first_true (faults file)) e
   where
-    by : (r : Result Image ImageKind) → image program ≡ r → start_in_image r log.pages ≡ Some s → IsSound s
-    by (Ok im) f e = sound_start im log.pages s (good_image program im (file_bytes program b) f) e
+    by : (o : Option ImageKind) → unless_faulty file o ≡ Ok im → im.entry ≡ e_entry file
+    by None e = let same : im ≡ image_of file = cc in ap (λ (x : Image). x.entry) same
+    by (Some fault) e = absurd (wrong e)
+      where
+        wrong : Err fault ≡ Ok im → ⊥
+        wrong e = cc
+
+pub begins : (program : List ℕ) (pages : ℕ) (s : State) → AllByRecursion (λ b. b < 256) program → start_in_image (image program) pages ≡ Some s → IsBegun (e_entry program) pages s
+begins program pages s b e = by (image program) refl e
+  where
+    by : (r : Result Image ImageKind) → image program ≡ r → start_in_image r pages ≡ Some s → IsBegun (e_entry program) pages s
+    by (Ok im) f e = subst (λ (n : ℕ). IsBegun n pages s) (image_entry program im f) (good_start im pages s (good_image program im (file_bytes program b) f) e)
     by (Err fault) f e = none_is e
 
 pub fits_makes_run : FitsMakesRun
-fits_makes_run program log b form f = record { form = form; sound = begins_sound program log f.start b f.begins; agrees = f.agrees }
+fits_makes_run program log b form f = record { form = form; sound = (begins program log.pages f.start b f.begins).sound; agrees = f.agrees }

@@ -1,4 +1,4 @@
--- What the calls carry, and that they keep a state sound.
+-- What the calls carry, and that they keep a state sound. Crates above cite these lemmas.
 use Rattle.std.proofs.Common.{◌≡◌, ℕ, zero, suc, ◌+◌, ◌-◌, ◌/◌, ◌^◌, ◌%◌, ◌<◌, ◌≤◌, ◌⊎◌, inl, inr, Bool, true, false, cond, List, [], ◌∷◌, refl, arith, ap, sym, ◌∙◌, subst, length, get_or, ℤ, pos, negsuc, eqb-true, ltb-false, get_or-set_same, get_or-set_other}
 use Rattle.std.specs.Prelude.{◌==◌, nat_lt, slice_set, ◌&&◌, ◌<ℤ◌}
 use Rattle.std.specs.List.{AllByRecursion}

@@ -1,4 +1,5 @@
 -- What is true of the instructions that words stand for: the register that is set is one of 32, and an immediate is a word.
+-- Crates above cite these lemmas.
 use Rattle.std.proofs.Common.{◌≡◌, ℕ, ◌-◌, ◌*◌, ◌^◌, ◌%◌, ◌<◌, Bool, true, false, List, [], ◌∷◌, refl, arith, subst, pos, negsuc, Option, Some, None}
 use Rattle.std.specs.Prelude.{◌==◌, nat_lt, if◌then◌else◌}
 use Rattle.std.specs.List.{AllByRecursion}

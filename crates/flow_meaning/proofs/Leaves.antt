@@ -1,4 +1,4 @@
--- The states that instructions leave.
+-- The states that instructions leave. Crates above cite these lemmas.
 use Rattle.std.proofs.Common.{◌≡◌, ℕ, Bool, true, false, refl, subst, ◌+◌, ◌-◌}
 use Rattle.isa.specs.Machine.{State, Outcome, Retired, Called, Trapped, landed, loaded, stored, branched, is_aligned, moved_on_with, extended, little_endian, bytes_at, overwritten, low_bytes, wrap}
 

@@ -1,17 +1,17 @@
 mod Never
 mod Lanes
-mod Bytes
-mod Window
+pub mod Bytes
+pub mod Window
 mod Sets
 mod Targets
 mod Operands
-mod Leaves
+pub mod Leaves
 mod Table
 mod Products
-mod Decoded
-mod Sound
-mod Calls
-mod Steps
+pub mod Decoded
+pub mod Sound
+pub mod Calls
+pub mod Steps
 mod Single
 mod Nested
 mod Done
@@ -19,7 +19,7 @@ mod Transferred
 mod After
 mod Runs
 mod Rows
-mod Beginning
+pub mod Beginning
 mod Matters
 mod Worked
 mod Fewer

@@ -1,4 +1,4 @@
--- Each step keeps a state sound.
+-- Each step keeps a state sound. Crates above cite these lemmas.
 use Rattle.std.proofs.Common.{◌≡◌, ℕ, suc, ◌+◌, ◌-◌, ◌*◌, ◌/◌, ◌^◌, ◌%◌, ◌<◌, ◌≤◌, ◌⊎◌, inl, inr, Bool, true, false, cond, not, List, [], ◌∷◌, refl, arith, sym, ◌∙◌, subst, length, get_or, pos, negsuc, ◌*ℤ◌, bit_and, bit_or, bit_xor, int_lt, get_or-set_same, get_or-set_other, length-take}
 use Rattle.std.specs.Prelude.{◌==◌, nat_lt, nat_le, if◌then◌else◌, slice_set}
 use Rattle.std.specs.Int.{w32, to_le_bytes, int_shr}

@@ -1,4 +1,4 @@
--- One step of a run.
+-- One step of a run. Crates above cite these lemmas.
 use Rattle.std.proofs.Common.{◌≡◌, ℕ, ◌^◌, ◌<◌, Bool, true, false, List, [], ◌∷◌, Option, Some, None, refl, ap, sym, ◌∙◌, subst, length, get_or, ltb-true}
 use Rattle.std.specs.Prelude.{if◌then◌else◌}
 use Rattle.isa.specs.declared.Instr.{Instr}

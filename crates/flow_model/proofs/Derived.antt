@@ -5,13 +5,15 @@ use Rattle.std.specs.declared.cmp.Ordering.{Ordering}
 use Rattle.std.specs.declared.cmp.Ordering.TheVariants.{Less, Equal, Greater}
 use Rattle.flow_model.specs.declared.Loc.{Loc}
 use Rattle.flow_model.specs.declared.Loc.TheVariants.{Reg, Mem}
+use Rattle.flow_model.specs.declared.SourceByte.{SourceByte}
 use Rattle.flow_model.specs.declared.InnerSink.{InnerSink}
 use Rattle.flow_model.specs.declared.SinkPoint.{SinkPoint}
 use Rattle.flow_model.specs.declared.SinkPoint.TheVariants.{Out, At}
 use Rattle.flow_model.specs.contracts.LocOrd.TheImpl as of_loc
+use Rattle.flow_model.specs.contracts.SourceByteOrd.TheImpl as of_source
 use Rattle.flow_model.specs.contracts.InnerSinkOrd.TheImpl as of_inner
 use Rattle.flow_model.specs.contracts.SinkPointOrd.TheImpl as of_point
-use Rattle.flow_model.specs.Orders.{loc_cmp, inner_cmp, point_cmp}
+use Rattle.flow_model.specs.Orders.{loc_cmp, source_cmp, inner_cmp, point_cmp}
 
 then_equal : (o : Ordering) → ordering_then o Equal ≡ o
 then_equal Less = refl
@@ -20,6 +22,9 @@ then_equal Greater = refl
 
 abbrev pub loc_compared : Loc → Loc → Ordering
 loc_compared = of_loc.cmp-value.it
+
+abbrev pub source_compared : SourceByte → SourceByte → Ordering
+source_compared = of_source.cmp-value.it
 
 abbrev pub inner_compared : InnerSink → InnerSink → Ordering
 inner_compared = of_inner.cmp-value.it
@@ -43,6 +48,12 @@ point_alike (At p) (Out b) = refl
 point_alike (At p) (At q) = inner_alike p q
 
 -- by the derived order too
+pub loc_order_is : loc_cmp ≡ loc_compared
+loc_order_is = λ i a b. loc_alike a b i
+
+pub source_order_is : source_cmp ≡ source_compared
+source_order_is = λ i a b. ap (ordering_then (nat_cmp a.channel b.channel)) (then_equal (nat_cmp a.offset b.offset)) i
+
 pub inner_order_is : inner_cmp ≡ inner_compared
 inner_order_is = λ i a b. inner_alike a b i
 

@@ -1,6 +1,6 @@
 pub mod Orders
 pub mod Derived
-mod Origins
+pub mod Origins
 mod FlowOrder
 pub mod OriginsRead
 mod Members

@@ -1,4 +1,4 @@
--- Laws of origins.
+-- Laws of origins. Crates above cite these lemmas.
 use Rattle.std.proofs.Common.{◌≡◌, ℕ, zero, suc, List, [], ◌∷◌, refl}
 use Rattle.std.specs.Prelude.{Option, Some, None}
 use Rattle.flow_model.specs.declared.Loc.{Loc}

@@ -2,6 +2,7 @@ pub mod AndThen
 pub mod Files
 mod Bytes
 pub mod Headline
+mod Recordings
 mod Guests
 mod Reports
 mod Divergences

@@ -1,12 +1,13 @@
 -- What the files of a command come to: the text that it writes, or the first refusal.
-use Rattle.std.specs.Prelude.{◌≡◌, ℕ, ◌^◌, nat_lt, if◌then◌else◌, List, length, Option, Some, None, Result, Ok, Err}
+use Rattle.std.specs.Prelude.{◌≡◌, ℕ, ◌≤◌, ◌^◌, nat_lt, if◌then◌else◌, List, length, map, Option, Some, None, Result, Ok, Err}
+use Rattle.std.specs.List.{range_with_len}
 use Rattle.std.specs.Option.{ok_or}
 use Rattle.std.specs.Str.{bytes_eq}
 use Rattle.isa.specs.Machine.{State}
 use Rattle.elf_model.specs.Image.{Image}
 use Rattle.elf_model.specs.Window.{start_of}
 use Rattle.log_model.specs.declared.Version.TheVariants.{Two}
-use Rattle.log_model.specs.Logs.{Log, steps, log_text}
+use Rattle.log_model.specs.Logs.{Log, IsBytes, steps, log_text}
 use Rattle.flow_model.specs.declared.Rule.{Rule}
 use Rattle.flow_model.specs.declared.StepSeen.{StepSeen}
 use Rattle.report_model.specs.Query.{Query}
@@ -155,3 +156,20 @@ IsCaptureAnswer source limits answers answer =
 abbrev pub IsRecordAnswer : Contents → List ℕ → List (List ℕ) → Limits → List ℕ → Result (List ℕ) Refusal → Type 0
 IsRecordAnswer file program inputs limits answers answer =
     AndThen (source_at file program inputs) (λ source. IsCaptureAnswer source limits answers) answer
+
+-- ---- what can be recorded
+
+-- the contents of files are bytes
+abbrev pub HoldsBytes : Contents → Type 0
+HoldsBytes file = (name bytes : List ℕ) → file name ≡ Some bytes → IsBytes bytes
+
+-- the window and the number of steps are in range
+pub record AreInRange (limits : Limits) : Type 0 where
+  pub pages : (1 ≤ limits.pages) × (limits.pages ≤ 4096)
+  pub steps : limits.steps ≤ 2 ^ 40
+
+-- what a recording comes to in which the clock gave the first of its answers, in turn
+pub record RecordAnswer (file : Contents) (program : List ℕ) (inputs : List (List ℕ)) (limits : Limits) (clock : ℕ → ℕ) : Type 0 where
+  pub asked : ℕ
+  pub answer : Result (List ℕ) Refusal
+  pub is_answer : IsRecordAnswer file program inputs limits (map clock (range_with_len 0 asked)) answer

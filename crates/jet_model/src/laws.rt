@@ -1,6 +1,6 @@
 //! Laws of what files come to. Each is a function that does nothing: its contract is the law.
 
-ghost use Rattle.std.specs.Prelude.{◌≡◌, ◌≤◌, ◌^◌, ℕ, List, None, Result, Ok, length};
+ghost use Rattle.std.specs.Prelude.{◌≡◌, ◌<◌, ◌≤◌, ◌^◌, ℕ, List, None, Result, Ok, length};
 ghost use Rattle.std.specs.List.{filter};
 ghost use Rattle.isa.specs.Machine.{State};
 ghost use Rattle.flow_model.specs.declared.StepSeen.{StepSeen as Step};
@@ -14,7 +14,7 @@ ghost use Rattle.replay_model.specs.Comparison.{divergence};
 ghost use Rattle.jet_refusal.specs.declared.refusal.Refusal.{Refusal};
 ghost use Rattle.jet_model.specs.Contents.{Contents, Names};
 ghost use Rattle.jet_model.specs.Sources.{received_sources};
-ghost use Rattle.jet_model.specs.Answer.{Limits, query_answer, queries_answer, log_answer, convert_answer, IsRecordAnswer};
+ghost use Rattle.jet_model.specs.Answer.{Limits, query_answer, queries_answer, log_answer, convert_answer, IsRecordAnswer, HoldsBytes, AreInRange, RecordAnswer};
 ghost use Rattle.jet_model.specs.Headline.{IsGivenByQuery, AreReportsOf, IsGivenBy, IsConversionOf, IsRecordingOf};
 ghost use Rattle.jet_model.specs.Headline.{IsShort, AreShort, AreAllShort, HasFewEpochs};
 
@@ -107,7 +107,13 @@ pub fn sources_are_received()
         → chosen_sources q (trace start log) ≡ filter (has_source q) (received_sources log) }
 {}
 
-/// A program, inputs and the clock's answers come to one answer. (Other answers are values of functions.)
+/// A program, at most 16 inputs and limits in range come to an answer, whatever the clock answers.
+pub fn a_record_answer()
+    ensures { (file : Contents) (program : List ℕ) (inputs : List (List ℕ)) (limits : Limits) (clock : ℕ → ℕ)
+        → HoldsBytes file → length inputs ≤ 16 → AreInRange limits → ((k : ℕ) → clock k < 2 ^ 64) → RecordAnswer file program inputs limits clock }
+{}
+
+/// A program, inputs and the clock's answers come to at most one answer. (Other answers are values of functions.)
 pub fn one_record_answer()
     ensures { (file : Contents) (program : List ℕ) (inputs : List (List ℕ)) (limits : Limits) (answers : List ℕ) (a b : Result (List ℕ) Refusal)
         → IsRecordAnswer file program inputs limits answers a → IsRecordAnswer file program inputs limits answers b → a ≡ b }

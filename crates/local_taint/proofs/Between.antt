@@ -11,7 +11,7 @@ use Rattle.flow_model.specs.declared.StepSeen.{StepSeen}
 use Rattle.flow_model.specs.declared.CallSeen.{CallSeen}
 use Rattle.flow_model.specs.Origins.{Policy, step_at}
 use Rattle.report_model.specs.Query.{Query, has_sink, policy_of}
-use Rattle.report_model.specs.Rows.{Sink, sink_at, point_sink, sinks_of_call, sinks_of_step}
+use Rattle.report_model.specs.Rows.{Sink, sink_at, point_sink, sinks_of_call, sinks_of_step, at_time}
 use Rattle.epoch_model.specs.Stretch.{points_at_start, sinks_at_step, sinks_between, sinks_of_epoch}
 use Rattle.epoch_model.specs.Summary.{SinkTerms, terms, sink_terms}
 use Rattle.taint_shadow.specs.declared.places.Places.{Places}
@@ -20,7 +20,7 @@ use Rattle.local_taint.specs.declared.labels.Label.{Label}
 use Rattle.local_taint.specs.declared.labels.Nodes.{Nodes}
 use Rattle.local_taint.specs.declared.sinks.SinkLabel.{SinkLabel}
 use Rattle.local_taint.specs.Words.{label_words}
-use Rattle.local_taint.specs.Sinks.{named, found, chosen, Shows, Notes, at_time, sinks_at}
+use Rattle.local_taint.specs.Sinks.{named, found, chosen, Shows, Notes, sinks_at}
 use Rattle.local_taint.proofs.Notes.{named_kept}
 
 -- ---- the times of sinks

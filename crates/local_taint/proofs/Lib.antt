@@ -1,6 +1,5 @@
 mod Words
 mod Notes
-mod Due
 mod Steps
 mod Between
 mod Alike

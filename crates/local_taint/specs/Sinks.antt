@@ -1,12 +1,12 @@
 -- The sinks of an epoch, each with a label.
-use Rattle.std.specs.Prelude.{◌≡◌, ℕ, ◌≤◌, ◌⊎◌, ◌==◌, ◌++◌, nat_le, List, map, All}
+use Rattle.std.specs.Prelude.{◌≡◌, ℕ, ◌≤◌, ◌⊎◌, ◌++◌, List, map, All}
 use Rattle.std.specs.List.{filter}
 use Rattle.flow_model.specs.declared.Loc.{Loc}
 use Rattle.flow_model.specs.declared.Loc.TheVariants.{Reg, Mem}
 use Rattle.flow_model.specs.declared.InnerSink.{InnerSink}
 use Rattle.flow_model.specs.Ranges.{IsLocation}
 use Rattle.report_model.specs.Query.{Query, has_sink}
-use Rattle.report_model.specs.Rows.{Sink, point_sink}
+use Rattle.report_model.specs.Rows.{Sink, point_sink, at_time}
 use Rattle.epoch_model.specs.Summary.{Terms, SinkTerms}
 use Rattle.taint_shadow.specs.declared.places.Places.{Places}
 use Rattle.taint_shadow.specs.Labels.{KeepsLabels}
@@ -49,14 +49,6 @@ pub record Notes (places : Places Label) (sinks : List Sink) (old : Nodes) (befo
   pub rows : (f : Loc → Terms) → Shows old places f → map (named new) after ≡ map (named old) before ++ map (found f) sinks
 
 -- ---- points
-
--- the points at a time
-abbrev pub at_time : ℕ → List InnerSink → List InnerSink
-at_time t points = filter (λ p. p.time == t) points
-
--- the points at a time or later
-abbrev pub from_time : ℕ → List InnerSink → List InnerSink
-from_time t points = filter (λ p. nat_le t p.time) points
 
 -- the points at a time, as sinks
 abbrev pub sinks_at : ℕ → List InnerSink → List Sink

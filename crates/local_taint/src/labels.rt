@@ -95,7 +95,7 @@ impl Nodes {
         }
         let one = self.node_of(left)?;
         let other = self.node_of(right)?;
-        let node = self.log.union(one, other)?;
+        let node = self.log.absorbing_union(one, other)?;
         Ok(self.label_of(node))
     }
 
@@ -151,7 +151,7 @@ impl Labels for Nodes {
         let Label::Node(other) = right else {
             return self.unite_any(*left, right);
         };
-        let node = self.log.union(one as Node, other as Node)?;
+        let node = self.log.absorbing_union(one as Node, other as Node)?;
         Ok(self.label_of(node))
     }
 }

@@ -6,12 +6,12 @@ ghost use Rattle.flow_model.specs.Ranges.{IsLocation};
 ghost use Rattle.flow_model.specs.declared.Loc.{Loc as Location};
 ghost use Rattle.epoch_model.specs.Stretch.{points_at_start};
 ghost use Rattle.epoch_model.specs.Summary.{Terms};
-ghost use Rattle.report_model.specs.Rows.{point_sink};
+ghost use Rattle.report_model.specs.Rows.{point_sink, from_time};
 ghost use Rattle.sorted_set.specs.Sets.{Ascends};
 ghost use Rattle.taint_shadow.specs.Labels.{KeepsLabels};
 ghost use Rattle.taint_shadow.specs.Steps.{AreStanding};
 ghost use Rattle.local_taint.specs.Words.{label_words, StandsIn};
-ghost use Rattle.local_taint.specs.Sinks.{AreNamed, Notes, Shows, IsNoLane, sinks_at, from_time};
+ghost use Rattle.local_taint.specs.Sinks.{AreNamed, Notes, Shows, IsNoLane, sinks_at};
 
 use crate::labels::{Label, Nodes};
 use crate::sinks::SinkLabel;

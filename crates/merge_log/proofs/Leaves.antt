@@ -22,18 +22,6 @@ pub or_false : (a : Bool) → (a || false) ≡ a
 or_false true = refl
 or_false false = refl
 
-pub or_left : (a b : Bool) → a ≡ true → (a || b) ≡ true
-or_left true b h = refl
-or_left false b h = no (sym h)
-
-pub or_right : (a b : Bool) → b ≡ true → (a || b) ≡ true
-or_right true b h = refl
-or_right false b h = h
-
-pub or_cases : (a b : Bool) → (a || b) ≡ true → (a ≡ true) ⊎ (b ≡ true)
-or_cases true b h = inl refl
-or_cases false b h = inr h
-
 pub same_bool : (a b : Bool) → (a ≡ true → b ≡ true) → (b ≡ true → a ≡ true) → a ≡ b
 same_bool true b h k = sym (h refl)
 same_bool false true h k = no (sym (k refl))

@@ -6,8 +6,8 @@ use Rattle.std.proofs.lemmas.Grind.{common_steps, get_or-set_at}
 use Rattle.std.proofs.lemmas.List.{get_or-set_other, length-set}
 use Rattle.std.proofs.lemmas.List.Folds.{list_any-append}
 use Rattle.std.proofs.lemmas.List.Sums.{sum_by-set}
+use Rattle.std.proofs.lemmas.Bool.{or_left, or_right, or_cases}
 use Rattle.merge_log.specs.Walk.{visited}
-use Rattle.merge_log.proofs.Leaves.{or_left, or_right, or_cases}
 
 -- the node bears the mark of the round
 abbrev pub IsMarked : List ℕ → ℕ → ℕ → Type 0

@@ -5,17 +5,15 @@ use Rattle.std.specs.List.Sorted.{IsSorted, IsStrictlySortedBy, IsPermutation}
 use Rattle.std.specs.Ordering.{eq_by_cmp, is_eq, ordering_then}
 use Rattle.std.specs.Cmp.{IsTotalOrder, alike_right}
 use Rattle.std.specs.declared.cmp.Ordering.{Ordering}
-use Rattle.std.specs.declared.cmp.Ordering.TheVariants.{Less, Equal, Greater}
+use Rattle.std.specs.declared.cmp.Ordering.TheVariants.{Less}
 use Rattle.std.proofs.lemmas.List.Kept.{IsStrictlySortedBy-dedup}
 use Rattle.std.proofs.lemmas.List.Sorted.{list_any-IsPermutation}
 use Rattle.sorted_set.specs.Sets.{Ascends, IsBelow, has}
 use Rattle.sorted_set.proofs.Algebra.{same_list, tied_by}
 use Rattle.flow_model.specs.Orders.{loc_cmp, source_cmp}
 use Rattle.flow_model.specs.declared.Loc.{Loc}
-use Rattle.flow_model.specs.declared.Loc.TheVariants.{Reg, Mem}
 use Rattle.flow_model.specs.declared.SourceByte.{SourceByte}
-use Rattle.flow_model.specs.contracts.LocOrd.TheImpl as of_loc
-use Rattle.flow_model.specs.contracts.SourceByteOrd.TheImpl as of_source
+use Rattle.flow_model.proofs.Derived.{source_compared, loc_compared, source_order_is, loc_order_is}
 use Rattle.flow_model.proofs.Orders.{loc_total, loc_same, source_total, source_same}
 use Rattle.merge_log.specs.declared.nodes.Entry.{Entry}
 use Rattle.merge_log.specs.declared.reader.Leaf.{Leaf}
@@ -61,31 +59,6 @@ module _ {K : Type 0} {R : K → K → Ordering} (o : IsTotalOrder R) (E : K →
   pub has-sorted : (q : K) (xs ys zs : List K) → IsPermutation xs ys → zs ≡ dedup E ys → has R q zs ≡ has R q xs
   has-sorted q xs ys zs p is = ap (has R q) is ∙ has-dedup q ys ∙ sym (list_any-IsPermutation (eq_by_cmp R q) xs ys p)
 
--- ---- the derived orders are those of the definitions
-
-then_equal : (o : Ordering) → ordering_then o Equal ≡ o
-then_equal Less = refl
-then_equal Equal = refl
-then_equal Greater = refl
-
-abbrev pub source_compared : SourceByte → SourceByte → Ordering
-source_compared = of_source.cmp-value.it
-
-abbrev pub loc_compared : Loc → Loc → Ordering
-loc_compared = of_loc.cmp-value.it
-
-source_order_is : source_compared ≡ source_cmp
-source_order_is = λ i a b. sym (ap (ordering_then (nat_cmp a.channel b.channel)) (then_equal (nat_cmp a.offset b.offset))) i
-
-loc_alike : (a b : Loc) → loc_compared a b ≡ loc_cmp a b
-loc_alike (Reg r i) (Reg s j) = sym (ap (ordering_then (nat_cmp r s)) (then_equal (nat_cmp i j)))
-loc_alike (Reg r i) (Mem q) = refl
-loc_alike (Mem p) (Reg s j) = refl
-loc_alike (Mem p) (Mem q) = sym (then_equal (nat_cmp p q))
-
-loc_order_is : loc_compared ≡ loc_cmp
-loc_order_is = λ i a b. loc_alike a b i
-
 -- ---- what a reader has at the end
 
 -- the set of a list
@@ -94,10 +67,10 @@ pub record IsSetOf {K : Type 0} (R : K → K → Ordering) (set items : List K) 
   pub ascending : Ascends R set
 
 of_sources : (sources sources1 : List SourceByte) → IsSetOf source_compared sources1 sources → IsSetOf source_cmp sources1 sources
-of_sources sources sources1 s = subst (λ (R : SourceByte → SourceByte → Ordering). IsSetOf R sources1 sources) source_order_is s
+of_sources sources sources1 s = subst (λ (R : SourceByte → SourceByte → Ordering). IsSetOf R sources1 sources) (sym source_order_is) s
 
 of_starts : (starts starts1 : List Loc) → IsSetOf loc_compared starts1 starts → IsSetOf loc_cmp starts1 starts
-of_starts starts starts1 l = subst (λ (R : Loc → Loc → Ordering). IsSetOf R starts1 starts) loc_order_is l
+of_starts starts starts1 l = subst (λ (R : Loc → Loc → Ordering). IsSetOf R starts1 starts) (sym loc_order_is) l
 
 pub read_sets : (sources sources1 : List SourceByte) (starts starts1 : List Loc) → IsSetOf source_compared sources1 sources → IsSetOf loc_compared starts1 starts → AreSets (record { sources = sources1; starts = starts1 })
 read_sets sources sources1 starts starts1 s l = record { sources = (of_sources sources sources1 s).ascending; starts = (of_starts starts starts1 l).ascending }

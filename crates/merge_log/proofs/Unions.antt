@@ -1,9 +1,9 @@
--- The union of two nodes l and r in order: one of them absorbs the other, or its entry is put into the log.
+-- The union of two nodes l and r in order: its entry is put into the log, or one of them absorbs the other.
 use Rattle.std.proofs.Common.{◌≡◌, ℕ, ◌<◌, ◌≤◌, List, refl, ap, ap₂, sym, ◌∙◌, subst, Bool, true, false, nat_lt, if◌then◌else◌, arith, Contains, ◌⊎◌, inl, inr}
 use Rattle.std.proofs.lemmas.Grind.{common_steps}
 use Rattle.merge_log.specs.declared.nodes.Entry.{Entry}
 use Rattle.merge_log.specs.declared.nodes.Entry.TheVariants.{Union}
-use Rattle.merge_log.specs.Log.{Terms, AreSets, joined, entry_terms, terms, IsNode, AreOrdered, IsNoted, KeepsNodes, union_entry, HasOperand, HasUnion, IsUnited}
+use Rattle.merge_log.specs.Log.{Terms, AreSets, joined, entry_terms, terms, IsNode, AreOrdered, IsNoted, KeepsNodes, union_entry, HasOperand, HasUnion, IsUnited, AreApart, IsAbsorbed}
 use Rattle.merge_log.proofs.Terms.{joined_again, joined_comm, ascend-terms, terms_step, entry_before}
 
 -- ---- a node and its operand
@@ -67,18 +67,22 @@ module _ (log : List Entry) (a b l r : ℕ) (order : AreOrdered 1 log) where
   one_has (inl p) h = inr (subst (λ (q : ℕ × ℕ). HasOperand log q.1 q.0) p h)
   one_has (inr p) h = inl (subst (λ (q : ℕ × ℕ). HasOperand log q.1 q.0) p h)
 
-  pub absorbed : AreBoth a b l r → IsNode log a → IsNode log b → (a ≡ b → ⊥) → (a ≡ 0 → ⊥) → (b ≡ 0 → ⊥) → HasOperand log r l → IsUnited log a b log r
-  absorbed both a_stands b_stands differ a_made b_made h =
+  -- the greater one absorbs the smaller one
+  pub absorbed : AreBoth a b l r → IsNode log a → IsNode log b → HasOperand log r l → IsAbsorbed log a b log r
+  absorbed both a_stands b_stands h =
       let less = (operand_below log r l order h).1 in
       record {
         stands = greater_stands both a_stands b_stands;
-        same = λ e. absurd (differ e);
-        left_empty = λ e. absurd (a_made e);
-        right_empty = λ e. absurd (b_made e);
         left_has = λ k. (greater_left both less (operand_below log a b order k).1, refl);
         right_has = λ k. (greater_right both less (operand_below log b a order k).1, refl);
-        other = λ e p q no_left no_right. absurd (elim (one_has both h) [ inl k ↦ no_left k | inr k ↦ no_right k ]);
+        other = λ apart. absurd (elim (one_has both h) [ inl k ↦ apart.0 k | inr k ↦ apart.1 k ]);
       }
+
+  -- neither absorbs the other
+  pub apart : AreBoth a b l r → l ≤ r → (0 < l → l < r → HasOperand log r l → ⊥) → AreApart log a b
+  apart both o lacks =
+      let none : HasOperand log r l → ⊥ = λ h. let less = operand_below log r l order h in lacks less.0 less.1 h in
+      (λ h. none (in_order both o (inl h)), λ h. none (in_order both o (inr h)))
 
   entry_is : AreBoth a b l r → l ≤ r → (a ≡ b → ⊥) → Union l r ≡ union_entry a b
   entry_is both o differ = by (nat_lt a b) refl both where
@@ -88,17 +92,15 @@ module _ (log : List Entry) (a b l r : ℕ) (order : AreOrdered 1 log) where
     by false e (inl p) = absurd (differ (grind (arith, common_steps, o, ap (λ (q : ℕ × ℕ). q.0) p, ap (λ (q : ℕ × ℕ). q.1) p)))
     by false e (inr p) = ap (λ (q : ℕ × ℕ). Union q.0 q.1) p
 
-  -- the union is a new entry, or its entry stands there, where neither has the other as an operand
-  pub made : (new : List Entry) (n : ℕ) → AreBoth a b l r → l ≤ r → (a ≡ b → ⊥) → (a ≡ 0 → ⊥) → (b ≡ 0 → ⊥) → (HasOperand log r l → ⊥) → IsNoted log (Union l r) new n → IsUnited log a b new n
-  made new n both o differ a_made b_made lacks k =
+  -- the union is a new entry, or its entry stands there
+  pub made : (new : List Entry) (n : ℕ) → AreBoth a b l r → l ≤ r → (a ≡ b → ⊥) → (a ≡ 0 → ⊥) → (b ≡ 0 → ⊥) → IsNoted log (Union l r) new n → IsUnited log a b new n
+  made new n both o differ a_made b_made k =
       record {
         stands = k.stands;
         same = λ e. absurd (differ e);
         left_empty = λ e. absurd (a_made e);
         right_empty = λ e. absurd (b_made e);
-        left_has = λ h. absurd (lacks (in_order both o (inl h)));
-        right_has = λ h. absurd (lacks (in_order both o (inr h)));
-        other = λ e p q no_left no_right. subst (λ (u : Entry). IsNoted log u new n) (entry_is both o differ) k;
+        other = λ e p q. subst (λ (u : Entry). IsNoted log u new n) (entry_is both o differ) k;
       }
 
   pub made_terms : (new : List Entry) → KeepsNodes log new → AreBoth a b l r → IsNode log a → IsNode log b → entry_terms (terms new) (Union l r) ≡ joined (terms log a) (terms log b)
@@ -107,10 +109,8 @@ module _ (log : List Entry) (a b l r : ℕ) (order : AreOrdered 1 log) where
       (ap₂ joined (k.terms b b_stands) (k.terms a a_stands) ∙ joined_comm _ _ (ascend-terms log b) (ascend-terms log a))
 
   -- a union that stands in the log, and is neither of both, is there by its entry
-  pub made_there : AreBoth a b l r → l ≤ r → (a ≡ b → ⊥) → (a ≡ 0 → ⊥) → (b ≡ 0 → ⊥) → (HasOperand log r l → ⊥) → HasUnion log a b → Contains log (Union l r)
-  made_there both o differ a_made b_made lacks (inl e) = absurd (differ e)
-  made_there both o differ a_made b_made lacks (inr (inl e)) = absurd (a_made e)
-  made_there both o differ a_made b_made lacks (inr (inr (inl e))) = absurd (b_made e)
-  made_there both o differ a_made b_made lacks (inr (inr (inr (inl h)))) = absurd (lacks (in_order both o (inl h)))
-  made_there both o differ a_made b_made lacks (inr (inr (inr (inr (inl h))))) = absurd (lacks (in_order both o (inr h)))
-  made_there both o differ a_made b_made lacks (inr (inr (inr (inr (inr c))))) = subst (Contains log) (sym (entry_is both o differ)) c
+  pub made_there : AreBoth a b l r → l ≤ r → (a ≡ b → ⊥) → (a ≡ 0 → ⊥) → (b ≡ 0 → ⊥) → HasUnion log a b → Contains log (Union l r)
+  made_there both o differ a_made b_made (inl e) = absurd (differ e)
+  made_there both o differ a_made b_made (inr (inl e)) = absurd (a_made e)
+  made_there both o differ a_made b_made (inr (inr (inl e))) = absurd (b_made e)
+  made_there both o differ a_made b_made (inr (inr (inr c))) = subst (Contains log) (sym (entry_is both o differ)) c

@@ -4,6 +4,7 @@ use Rattle.std.specs.Prelude.{Some}
 use Rattle.std.proofs.Math.ListN.{set}
 use Rattle.std.proofs.lemmas.Grind.{common_steps}
 use Rattle.std.proofs.lemmas.Option.{slice_get-get_or}
+use Rattle.std.proofs.lemmas.Bool.{or_left, or_right, or_cases}
 use Rattle.flow_model.specs.declared.Loc.{Loc}
 use Rattle.flow_model.specs.declared.SourceByte.{SourceByte}
 use Rattle.merge_log.specs.declared.nodes.Entry.{Entry}
@@ -11,7 +12,7 @@ use Rattle.merge_log.specs.declared.nodes.Entry.TheVariants.{Source, Start, Unio
 use Rattle.merge_log.specs.declared.reader.Leaf.{Leaf}
 use Rattle.merge_log.specs.Log.{Terms, source_term, start_term, terms, IsNode, HasOperandsBefore, AreOrdered, IsLog, entry_at}
 use Rattle.merge_log.specs.Walk.{has_leaf, visited}
-use Rattle.merge_log.proofs.Leaves.{no, or_left, or_right, or_cases, same_bool, has-joined, has-source, has-start}
+use Rattle.merge_log.proofs.Leaves.{no, same_bool, has-joined, has-source, has-start}
 use Rattle.merge_log.proofs.Marks.{IsMarked, IsOn, IsVisit, cost, marked_more, marked_back, on_pushed, on_top, on_back, on_visited, visit_length, visit_marks, visit_marked, visit_cost}
 use Rattle.merge_log.proofs.Terms.{terms_step, entry_before}
 
@@ -243,6 +244,3 @@ union_cost round round1 round2 marks marks1 marks2 stack rest stack1 stack2 next
     let top : length stack ≡ length rest + 1 = ap length is ∙ length-append rest (next ∷ []) in
     omega (arith, visit_cost one a_in, visit_cost two b_in, top)
 
-pub nothing_left : (stack : List ℕ) → length stack ≡ 0 → stack ≡ []
-nothing_left [] h = refl
-nothing_left (x ∷ stack) h = absurd (omega (arith, h))

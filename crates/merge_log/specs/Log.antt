@@ -114,19 +114,30 @@ pub record HasOperand (log : List Entry) (n o : ℕ) : Type 0 where
   pub entry : entry_at log n ≡ Some (Union left right)
   pub operand : (o ≡ left) ⊎ (o ≡ right)
 
--- the union of two nodes stands in the log: they are the same, one of them is empty, one has the other as an operand, or
--- the entry stands there
+-- the union of two nodes stands in the log: they are the same, one of them is empty, or the entry stands there
 abbrev pub HasUnion : List Entry → ℕ → ℕ → Type 0
-HasUnion log a b = (a ≡ b) ⊎ (a ≡ 0) ⊎ (b ≡ 0) ⊎ HasOperand log a b ⊎ HasOperand log b a ⊎ Contains log (union_entry a b)
+HasUnion log a b = (a ≡ b) ⊎ (a ≡ 0) ⊎ (b ≡ 0) ⊎ Contains log (union_entry a b)
 
--- the union of the nodes a and b stands in the log, as its node n. That of a node with itself, with the empty node, or
--- with one of its own operands, is that node, and the log is as it was
+-- the union of the nodes a and b stands in the log, as its node n. That of a node with itself, or with the empty node, is
+-- that node, and the log is as it was; any other has its own entry
 pub record IsUnited (old : List Entry) (a b : ℕ) (new : List Entry) (n : ℕ) : Type 0 where
   pub stands : IsNode new n
   pub same : a ≡ b → (n ≡ a) × (new ≡ old)
   pub left_empty : a ≡ 0 → (n ≡ b) × (new ≡ old)
   pub right_empty : b ≡ 0 → (n ≡ a) × (new ≡ old)
+  pub other : (a ≡ b → ⊥) → 0 < a → 0 < b → IsNoted old (union_entry a b) new n
+
+-- neither of two nodes has the other as an operand
+abbrev pub AreApart : List Entry → ℕ → ℕ → Type 0
+AreApart log a b = (HasOperand log a b → ⊥) × (HasOperand log b a → ⊥)
+
+-- one of both has the other as an operand, or their union stands in the log
+abbrev pub HasAbsorbingUnion : List Entry → ℕ → ℕ → Type 0
+HasAbsorbingUnion log a b = HasOperand log a b ⊎ HasOperand log b a ⊎ HasUnion log a b
+
+-- the node n is the one of a and b that has the other as an operand, and the log is as it was; or else it is their union
+pub record IsAbsorbed (old : List Entry) (a b : ℕ) (new : List Entry) (n : ℕ) : Type 0 where
+  pub stands : IsNode new n
   pub left_has : HasOperand old a b → (n ≡ a) × (new ≡ old)
   pub right_has : HasOperand old b a → (n ≡ b) × (new ≡ old)
-  pub other : (a ≡ b → ⊥) → 0 < a → 0 < b → (HasOperand old a b → ⊥) → (HasOperand old b a → ⊥)
-      → IsNoted old (union_entry a b) new n
+  pub other : AreApart old a b → IsUnited old a b new n

@@ -1,7 +1,7 @@
 //! The log, and what its nodes are.
 
-ghost use Rattle.std.specs.Prelude.{◌≡◌, ℕ, ◌+◌, ◌<◌, [], length, Some, ◌≤◌, ◌⊎◌, ◌↔◌, Contains, IsTrue, IsOk, IfOk, OnErr};
-ghost use Rattle.merge_log.specs.Log.{IsLog, AreSets, IsNode, HasOperandsBefore, IsNoted, KeepsNodes, IsUnited, HasUnion, HasOperand, terms, no_terms, source_term, start_term, entry_at, entry_terms, joined};
+ghost use Rattle.std.specs.Prelude.{◌≡◌, ℕ, ◌+◌, ◌<◌, [], length, Some, None, ◌≤◌, ◌⊎◌, ◌↔◌, Contains, IsTrue, IfSome, IsOk, IfOk, OnErr};
+ghost use Rattle.merge_log.specs.Log.{IsLog, AreSets, IsNode, HasOperandsBefore, IsNoted, KeepsNodes, IsUnited, HasUnion, IsAbsorbed, HasAbsorbingUnion, AreApart, HasOperand, terms, no_terms, source_term, start_term, entry_at, entry_terms, joined};
 ghost use Rattle.merge_log.specs.Walk.{leaves_of};
 ghost use Rattle.merge_log.specs.declared.nodes.Entry.TheVariants as entry;
 
@@ -106,8 +106,8 @@ impl MergeLog {
         self.insert(Entry::Start(loc))
     }
 
-    /// The node of the leaves of two nodes. Where they are the same, where one is empty, and where one is a
-    /// union that has the other as an operand, it is one of them.
+    /// The node of the leaves of two nodes. Where they are the same, and where one is empty, it is one of them, and else a
+    /// union of its own, which is made unless it is there.
     #[inline(always)]
     pub fn union(&mut self, a: Node, b: Node) -> Result<Node, NoMemory>
         requires left { IsNode self.old a }
@@ -126,10 +126,25 @@ impl MergeLog {
             return Ok(b);
         }
         let (left, right) = in_order(a as u32, b as u32);
-        if self.has_operand(right, left) {
-            return Ok(right as u64);
-        }
         self.insert(Entry::Union { left, right })
+    }
+
+    /// The node of the leaves of two nodes, with fewer nodes: where one is a union that has the other as an operand, it is that
+    /// union, and else [`MergeLog::union`].
+    #[inline(always)]
+    pub fn absorbing_union(&mut self, a: Node, b: Node) -> Result<Node, NoMemory>
+        requires left { IsNode self.old a }
+        requires right { IsNode self.old b }
+        ensures terms { IfOk result (λ n. terms self.new n ≡ joined (terms self.old a) (terms self.old b)) }
+        ensures absorbed { IfOk result (λ n. IsAbsorbed self.old a b self.new n) }
+        ensures kept { KeepsNodes self.old self.new }
+        ensures there { HasAbsorbingUnion self.old a b → IsOk result }
+        ensures err { OnErr result (self.new ≡ self.old) }
+    {
+        match self.absorber(a, b) {
+            Some(node) => Ok(node),
+            None => self.union(a, b),
+        }
     }
 
     /// The leaves under a node, each once: source bytes ascending, and then start locations ascending. It
@@ -151,6 +166,23 @@ impl MergeLog {
         ensures before { HasOperandsBefore node result }
     {
         self.entries.as_slice()[node as usize - 1]
+    }
+
+    /// Which of two nodes is a union that has the other as an operand.
+    #[inline(always)]
+    fn absorber(&self, a: Node, b: Node) -> Option<Node>
+        requires left { IsNode self.now a }
+        requires right { IsNode self.now b }
+        ensures terms { IfSome result (λ n. terms self.now n ≡ joined (terms self.now a) (terms self.now b)) }
+        ensures absorbed { IfSome result (λ n. IsAbsorbed self.now a b self.now n) }
+        ensures apart { result ≡ None → AreApart self.now a b }
+    {
+        self.form(); // so that nodes fit into 32 bits
+        let (left, right) = in_order(a as u32, b as u32);
+        if 0 < left && left < right && self.has_operand(right, left) {
+            return Some(right as u64);
+        }
+        None
     }
 
     /// Whether a node is a union that has another node as an operand.

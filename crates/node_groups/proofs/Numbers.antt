@@ -5,7 +5,7 @@ use Rattle.std.specs.List.{AllZip, range_with_len}
 use Rattle.std.proofs.lemmas.List.Elements.{All-nil, All-append, All-head, All-tail}
 use Rattle.std.proofs.lemmas.Grind.{flat_map-append}
 use Rattle.run_board.specs.Tasks.{AreNumbered}
-use Rattle.run_board.proofs.Numbered.{numbered_push}
+use Rattle.run_board.proofs.FillOrder.{numbered_push}
 use Rattle.epoch_node.specs.Nodes.{NodeView, IsLedFrom}
 use Rattle.node_groups.specs.Groups.{GroupView, number_of, IsNodeDone, IsGroupEnded, IsGroupLedFrom, nodes_of}
 use Rattle.node_groups.proofs.Lists.{all_zip_append}

@@ -6,7 +6,7 @@ ghost use Rattle.node_groups.specs.Groups.{AreOfOneJob};
 use crate::answers::{after_both, together};
 use epoch_node::Node;
 use outer_io::Gate;
-use run_board::{Task, Turn};
+use run_board::{Numbered, Task, Turn};
 use std::marker::Model;
 
 /// Neighbouring nodes of one job, which get their turns from one worker, one after another. Contracts see its number,
@@ -64,13 +64,8 @@ impl<'a, G> Group<'a, G> {
     }
 }
 
-impl<'a, G: Gate> Task for Group<'a, G> {
-    ghost use Rattle.std.specs.Prelude.{◌≡◌};
-    ghost use Rattle.run_board.specs.Turns.{AnswersEnded};
-    ghost use Rattle.std.specs.List.{AllZip};
-    ghost use Rattle.epoch_node.specs.Events.{WhenMoved, WhenNotYet};
-    ghost use Rattle.node_groups.specs.Groups.{IsGroupLedFrom, IsGroupEnded, SomeMoved, HasRested};
-    ghost use Rattle.node_groups.specs.Groups.{group_led_refl, group_led_trans};
+impl<'a, G: Gate> Numbered for Group<'a, G> {
+    ghost use Rattle.node_groups.specs.Groups.{IsGroupLedFrom, IsGroupEnded};
 
     ghost words = { record {
       number = λ g. g.number;
@@ -81,6 +76,15 @@ impl<'a, G: Gate> Task for Group<'a, G> {
     fn number(&self) -> u32 {
         self.number
     }
+}
+
+impl<'a, G: Gate> Task for Group<'a, G> {
+    ghost use Rattle.std.specs.Prelude.{◌≡◌};
+    ghost use Rattle.run_board.specs.Turns.{AnswersEnded};
+    ghost use Rattle.std.specs.List.{AllZip};
+    ghost use Rattle.epoch_node.specs.Events.{WhenMoved, WhenNotYet};
+    ghost use Rattle.node_groups.specs.Groups.{IsGroupLedFrom, IsGroupEnded, SomeMoved, HasRested};
+    ghost use Rattle.node_groups.specs.Groups.{group_led_refl, group_led_trans};
 
     /// Each of its nodes has a turn, from the first to the last, and then one more, from the last to the first. On the
     /// way up a node hands its cursor on to the next, whose epoch begins where the cursor stands after an analysis. It

@@ -6,6 +6,7 @@ use Rattle.std.specs.List.{AllByRecursion}
 use Rattle.std.proofs.lemmas.Int.{ints}
 use Rattle.std.proofs.lemmas.Bool.{cases_lt, eqb-true}
 use Rattle.std.proofs.lemmas.Bool.Decides.{Decides-int_eq}
+use Rattle.std.proofs.lemmas.List.{nil_from_length}
 use Rattle.isa.specs.declared.CallKind.{CallKind}
 use Rattle.isa.specs.declared.CallKind.TheVariants as kind
 use Rattle.isa.specs.Machine.{State, reg, in_window, bytes_at}
@@ -251,15 +252,11 @@ arguments_are s args rest three d =
     three_are args three ∙ three_by (channel_of args) (buffer_of args) (length_of args) (reg s 10) (reg s 11) (reg s 12)
     same.first same.second same.third
 
-no_bytes : (bytes : List ℕ) → length bytes ≡ 0 → bytes ≡ []
-no_bytes [] e = refl
-no_bytes (b ∷ bs) e = absurd (omega arith)
-
 -- what a transfer got, where the call allows its result and bytes that aren't refused are these
 got_is : (refused kept : ℤ) (bytes whole : List ℕ) (n : ℕ) → length bytes ≡ moved_length kept
     → kept ≡ allowed refused kept n → ((k : ℕ) → kept ≡ pos k → bytes ≡ whole)
     → (kept ≡ result_of refused whole) × (bytes ≡ bytes_of refused whole)
-got_is (negsuc j) kept bytes whole n size e h = (e, no_bytes bytes (size ∙ ap moved_length e))
+got_is (negsuc j) kept bytes whole n size e h = (e, nil_from_length bytes (size ∙ ap moved_length e))
 got_is (pos j) (pos k) bytes whole n size e h = let same = h k refl in (ap pos (sym size ∙ ap length same), same)
 got_is (pos j) (negsuc k) bytes whole n size e h = (cc, cc)
 

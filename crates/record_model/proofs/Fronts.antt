@@ -4,7 +4,7 @@ use Rattle.std.specs.Prelude.{◌==◌, if◌then◌else◌, min}
 use Rattle.std.specs.List.{AllByRecursion}
 use Rattle.std.proofs.Math.Seq.{take-add, take-append_seam}
 use Rattle.std.proofs.lemmas.Bool.{eqb-true}
-use Rattle.std.proofs.lemmas.List.{take-append-drop}
+use Rattle.std.proofs.lemmas.List.{take-append-drop, nil_from_length}
 use Rattle.isa.specs.Calls.{length_of}
 use Rattle.log_model.specs.declared.CallRecord.{CallRecord}
 use Rattle.log_model.specs.declared.CallRecord.TheVariants.{Read, Write, Clock, Other}
@@ -28,10 +28,6 @@ no_more : (front whole more : List ℕ) → more ≡ [] → IsFrontOf front whol
 no_more front whole more e is = subst (λ (w : List ℕ). IsFrontOf w whole)
     (sym (ap (λ (w : List ℕ). front ++ w) e ∙ append-nil front)) is
 
-no_bytes : (bytes : List ℕ) → length bytes ≡ 0 → bytes ≡ []
-no_bytes [] e = refl
-no_bytes (b ∷ bs) e = absurd (omega arith)
-
 either : (b : Bool) (xs ys : List ℕ) → xs ≡ [] → ys ≡ [] → (if b then xs else ys) ≡ []
 either true xs ys p q = p
 either false xs ys p q = q
@@ -50,7 +46,7 @@ one_more inputs piece before (Read at args (pos n) bytes) c form next front = by
     by false e = no_more (received c before) (input_of inputs c) [] refl (front c)
 one_more inputs piece before (Read at args (negsuc n) bytes) c form next front =
     no_more (received c before) (input_of inputs c) _
-    (either (get_or args 0 0 == c) bytes [] (no_bytes bytes form.1.whole) refl) (front c)
+    (either (get_or args 0 0 == c) bytes [] (nil_from_length bytes form.1.whole) refl) (front c)
 one_more inputs piece before (Write at args result bytes) c form next front =
     no_more (received c before) (input_of inputs c) _ (either (get_or args 0 0 == c) [] [] refl refl) (front c)
 one_more inputs piece before (Clock at value) c form next front = no_more (received c before) (input_of inputs c) []

@@ -3,4 +3,6 @@ pub mod Pushes
 pub mod Fronts
 pub mod Runs
 pub mod Unique
+mod States
+pub mod Found
 mod Examples

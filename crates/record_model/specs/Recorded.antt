@@ -1,14 +1,15 @@
 -- Which log recording a run gives.
-use Rattle.std.specs.Prelude.{◌≡◌, ℕ, ◌<◌, min, List, [], ◌∷◌, ◌++◌, length, take, drop, pos, negsuc, slice_index_or}
-use Rattle.std.specs.List.{flat_map}
+use Rattle.std.specs.Prelude.{◌≡◌, ℕ, ◌<◌, ◌≤◌, ◌^◌, min, List, [], ◌∷◌, ◌++◌, length, map, take, drop, pos, negsuc, slice_index_or, IsSome}
+use Rattle.std.specs.List.{flat_map, range_with_len, AllByRecursion}
 use Rattle.isa.specs.Calls.{channel_of, length_of}
+use Rattle.elf_model.specs.Image.{image}
 use Rattle.log_model.specs.declared.CallRecord.{CallRecord}
 use Rattle.log_model.specs.declared.CallRecord.TheVariants.{Read, Write, Clock, Other}
 use Rattle.log_model.specs.declared.RunEnd.{RunEnd}
 use Rattle.log_model.specs.declared.RunEnd.TheVariants.{Exit, Trap, Limit}
-use Rattle.log_model.specs.Logs.{Log, IsLog}
+use Rattle.log_model.specs.Logs.{Log, IsLog, IsBytes}
 use Rattle.log_model.specs.Moved.{received}
-use Rattle.replay_model.specs.Fits.{Fits}
+use Rattle.replay_model.specs.Fits.{Fits, start_in_image}
 
 -- what a run is recorded with: the program file, the pages of its window, the bytes of each input channel, how many
 -- bytes a read gets at most, and after how many steps the run is cut off
@@ -69,6 +70,23 @@ pub record IsRecorded (s : Setting) (answers : List ℕ) (log : Log) : Type 0 wh
   pub reads_inputs : AllReadNext s.inputs s.piece [] log.records
   pub has_answers : clock_values log.records ≡ answers
   pub ends_within : EndsWithin s.steps log.end
+
+-- a run can be recorded so: the program is a file of bytes, whose image the window can hold; there are at most 16 channels, of
+-- bytes, of which no read gets 2 ^ 31; and the window and the number of steps are in range
+pub record CanRecord (s : Setting) : Type 0 where
+  pub program : IsBytes s.program
+  pub pages : (1 ≤ s.pages) × (s.pages ≤ 4096)
+  pub begins : IsSome (start_in_image (image s.program) s.pages)
+  pub channels : length s.inputs ≤ 16
+  pub inputs : AllByRecursion IsBytes s.inputs
+  pub pieces : (channel : ℕ) → min s.piece (length (input_of s.inputs channel)) < 2 ^ 31
+  pub steps : s.steps ≤ 2 ^ 40
+
+-- a recording: the log of a run in which the clock gave the first of its answers, in turn
+pub record Recording (s : Setting) (clock : ℕ → ℕ) : Type 0 where
+  pub asked : ℕ
+  pub log : Log
+  pub is_recorded : IsRecorded s (map clock (range_with_len 0 asked)) log
 
 -- these bytes are the first of an input
 abbrev pub IsFrontOf : List ℕ → List ℕ → Type 0

@@ -1,4 +1,4 @@
-//! Recordings as definitions: the one log that recording a run gives.
+//! Recordings as definitions: the one log that recording a run gives. That there is one, and no other, are laws.
 //!
 //! What there is to read stands in specs/. proofs/ has worked examples, which the checker computes.
 #![tactic(auto)]

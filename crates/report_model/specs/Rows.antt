@@ -1,6 +1,6 @@
 -- The rows of a query over a trace: each chosen output byte of a trace and each chosen point inside it, with the source
 -- bytes that it came from.
-use Rattle.std.specs.Prelude.{ℕ, ◌+◌, ◌==◌, List, [], ◌∷◌, ◌++◌, map, Option, Some, None}
+use Rattle.std.specs.Prelude.{ℕ, ◌+◌, ◌==◌, nat_le, List, [], ◌∷◌, ◌++◌, map, Option, Some, None}
 use Rattle.std.specs.List.{filter, range_with_len}
 use Rattle.std.specs.declared.cmp.Ordering.{Ordering}
 use Rattle.isa.specs.declared.CallKind.{CallKind}
@@ -50,9 +50,17 @@ sinks_of_step t (Some call) = sinks_of_call t call call.kind
 abbrev pub point_sink : InnerSink → Sink
 point_sink p = record { name = At p; time = p.time; loc = p.loc }
 
+-- the points at a time
+abbrev pub at_time : ℕ → List InnerSink → List InnerSink
+at_time t points = filter (λ p. p.time == t) points
+
+-- the points at a time or later
+abbrev pub from_time : ℕ → List InnerSink → List InnerSink
+from_time t points = filter (λ p. nat_le t p.time) points
+
 -- the query's points at time t
 abbrev pub points_at : Query → ℕ → List Sink
-points_at q t = map point_sink (filter (λ p. p.time == t) q.points)
+points_at q t = map point_sink (at_time t q.points)
 
 -- the chosen sinks from time t on: at each time the points, and then the chosen output bytes of the step that follows
 abbrev pub sinks_from : Query → ℕ → List StepSeen → List Sink

@@ -10,7 +10,7 @@ use Rattle.run_board.specs.Tasks.{TaskWords, IsLed, IsWaiting}
 use Rattle.run_board.specs.Views.{whole_share, list_of, taken, opening, after_fill, after_pop, after_put_back, after_split, newcomer, joined, spent}
 use Rattle.run_board.specs.Rule.{view_weight, whole_weight, Knows, Holds, HasRoom, HasRest}
 use Rattle.run_board.proofs.Lists.{get_longer, get_last, All-at, All-changed}
-use Rattle.run_board.proofs.Numbered.{range_push}
+use Rattle.run_board.proofs.FillOrder.{range_push}
 use Rattle.run_board.proofs.Sums.{total_set, part, two_parts, alone, ones}
 
 -- the weight of a view, by its parts

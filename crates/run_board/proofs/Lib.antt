@@ -5,4 +5,3 @@ pub mod Keeping
 pub mod FillOrder
 pub mod Joining
 pub mod Order
-pub mod Numbered

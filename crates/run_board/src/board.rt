@@ -9,7 +9,7 @@ ghost use Rattle.run_board.specs.Workers.{HasRoomFor};
 use crate::filling::fill;
 use crate::pool::{make_pool, run_pool};
 use crate::steps::{TaskQueue, WorkerPass};
-use crate::task::Task;
+use crate::task::{Numbered, Task};
 use crate::turning::turn_until_empty;
 use crate::worker::Worker;
 use no_memory::NoMemory;
@@ -26,12 +26,12 @@ pub const MOST_WORKERS: u32 = 64;
 
 /// Tasks that wait for their turns. Contracts see it as the list of the tasks handed in.
 #[derive(Drop)]
-pub struct Board<T: Task> {
+pub struct Board<T: Numbered> {
     tasks: Vec<T>,
     finished: Vec<T>,
 }
 
-impl<T: Task> Model for Board<T> {
+impl<T: Numbered> Model for Board<T> {
     ghost use Rattle.std.specs.Prelude.{◌≡◌, ◌≤◌, [], List, length, vec_capacity};
     ghost use Rattle.run_board.specs.Tasks.{AreNumbered};
 
@@ -44,7 +44,7 @@ impl<T: Task> Model for Board<T> {
 
 /// A board with all the memory that its work takes. Contracts see it as the list of the tasks handed in.
 #[derive(Drop)]
-pub struct Ready<T: Task> {
+pub struct Ready<T: Numbered> {
     tasks: Vec<T>,
     queue: TaskQueue<T>,
     pass: WorkerPass<T>,
@@ -52,7 +52,7 @@ pub struct Ready<T: Task> {
     pool: Vec<Worker<T>>,
 }
 
-impl<T: Task> Model for Ready<T> {
+impl<T: Numbered> Model for Ready<T> {
     ghost use Rattle.std.specs.Prelude.{◌≡◌, ◌≤◌, [], List, All, vec_len, vec_capacity};
     ghost use Rattle.crossbeam_queue.specs.Passes.{view as known_by, IsPassOf, ruled_capacity};
     ghost use Rattle.run_board.specs.Tasks.{AreNumbered};
@@ -69,7 +69,7 @@ impl<T: Task> Model for Ready<T> {
         × (ready.pool.items ≡ []) × (vec_len ready.lists ≤ vec_capacity ready.pool) };
 }
 
-impl<T: Task> Board<T> {
+impl<T: Numbered> Board<T> {
     /// A board of 1 to [`MOST_TASKS`] tasks, whose numbers are 0, 1, 2 and so on. It gives up with
     /// NoMemory alone.
     pub fn new(alloc: Global, tasks: Vec<T>) -> Result<Board<T>, NoMemory>
@@ -100,7 +100,9 @@ impl<T: Task> Board<T> {
             pool,
         })
     }
+}
 
+impl<T: Task> Board<T> {
     /// [`Board::ready`], and then [`Ready::work`].
     pub fn work<R: Threads + Wait + Sync>(
         self,
@@ -119,7 +121,7 @@ impl<T: Task> Board<T> {
 }
 
 /// So many empty lists, each with room for so many tasks: this one is among them.
-fn make_lists<T: Task>(
+fn make_lists<T: Numbered>(
     alloc: Global,
     first: Vec<T>,
     room: usize,
@@ -166,7 +168,7 @@ impl<T: Task> Ready<T> {
 }
 
 /// The tasks in order of number.
-fn in_order<T: Task>(tasks: Vec<T>) -> Vec<T>
+fn in_order<T: Numbered>(tasks: Vec<T>) -> Vec<T>
     ensures permutation { IsPermutation tasks.items result.items }
     ensures sorted { IsNonDecreasingBy T.words.number result.items }
 {

@@ -1,5 +1,8 @@
 //! Turns in a row that moved nothing.
 
+ghost use Rattle.std.specs.Prelude.{◌≤◌};
+ghost use Rattle.std.specs.Duration.{as_nanos};
+
 use crate::task::Turn;
 use std::sync::Wait;
 use std::sync::atomic::AtomicU64;
@@ -14,8 +17,12 @@ const MOST_IDLE_TURNS: u32 = 64;
 /// thousand tasks.
 const MOST_IDLE_RESTS: u32 = 16;
 
-/// How long a worker then sleeps, in microseconds. What it waits for may come at once after it fell asleep.
-const NAP_MICROSECONDS: u64 = 100;
+/// How long a worker then sleeps. What it waits for may come at once after it fell asleep.
+fn nap() -> Duration
+    ensures { as_nanos result ≤ 1_000_000 }
+{
+    Duration::from_micros(100)
+}
 
 /// Counts a worker's turns in a row that moved nothing, and how often it rested since one moved something.
 #[derive(Drop)]
@@ -56,8 +63,7 @@ impl Idle {
             self.rests += 1;
             thread::yield_now();
         } else {
-            let nap = Duration::from_micros(NAP_MICROSECONDS);
-            self.bed.park_timeout(rt, 0, nap);
+            self.bed.park_timeout(rt, 0, nap());
         }
     }
 }

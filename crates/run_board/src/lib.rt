@@ -16,4 +16,4 @@ mod view;
 mod worker;
 
 pub use board::{Board, MOST_TASKS, MOST_WORKERS, Ready};
-pub use task::{Task, Turn};
+pub use task::{Numbered, Task, Turn};

@@ -5,7 +5,7 @@ ghost use Rattle.run_board.specs.Tasks.{IsLed};
 ghost use Rattle.run_board.specs.Views.{taken, after_fill, after_pop, after_put_back, after_split, newcomer, joined, spent};
 ghost use Rattle.run_board.specs.Rule.{HasRoom, HasRest};
 
-use crate::task::Task;
+use crate::task::Numbered;
 use crate::view::WorkerView;
 use crossbeam_queue::protocol::{Join, Lesson, Outcome, Protocol, Split};
 use crossbeam_queue::{Pass, RuledArrayQueue};
@@ -13,7 +13,7 @@ use crossbeam_queue::{Pass, RuledArrayQueue};
 /// The rule of a board.
 pub struct BoardRule;
 
-impl<T: Task> Protocol<T, WorkerView<T>> for BoardRule {
+impl<T: Numbered> Protocol<T, WorkerView<T>> for BoardRule {
     ghost use Rattle.run_board.specs.Views.{opening};
     ghost use Rattle.run_board.specs.Rule.{Holds};
 
@@ -31,22 +31,22 @@ pub type WorkerPass<T> = Pass<T, WorkerView<T>>;
 /// The push of a task that was handed in.
 pub struct Fill;
 
-impl<T: Task> Outcome<T, WorkerView<T>> for Fill {
+impl<T: Numbered> Outcome<T, WorkerView<T>> for Fill {
     ghost then = { λ v x w. w ≡ after_fill v x };
 }
 
-impl<T: Task> Lesson<T, WorkerView<T>> for Fill {
+impl<T: Numbered> Lesson<T, WorkerView<T>> for Fill {
     ghost fact = { HasRoom };
 }
 
 /// A pop. Where it finds the queue empty, it teaches which numbers the workers have.
 pub struct Take;
 
-impl<T: Task> Outcome<T, WorkerView<T>> for Take {
+impl<T: Numbered> Outcome<T, WorkerView<T>> for Take {
     ghost then = { λ v x w. (w ≡ after_pop v (T.words.number x)) × IsLed T.words v.starts x × (length (taken w) ≤ length v.starts) };
 }
 
-impl<T: Task> Lesson<T, WorkerView<T>> for Take {
+impl<T: Numbered> Lesson<T, WorkerView<T>> for Take {
     ghost fact = { HasRest T.words.number };
 }
 
@@ -54,11 +54,11 @@ impl<T: Task> Lesson<T, WorkerView<T>> for Take {
 /// teaches that there is room for the worker's tasks.
 pub struct PutBack;
 
-impl<T: Task> Outcome<T, WorkerView<T>> for PutBack {
+impl<T: Numbered> Outcome<T, WorkerView<T>> for PutBack {
     ghost then = { λ v x w. w ≡ after_put_back v };
 }
 
-impl<T: Task> Lesson<T, WorkerView<T>> for PutBack {
+impl<T: Numbered> Lesson<T, WorkerView<T>> for PutBack {
     ghost fact = { HasRoom };
 }
 

@@ -15,26 +15,28 @@ pub enum Turn {
     Done,
 }
 
-/// Work that is done in turns. Contracts see of it its words: its number, which no turn changes, from which
-/// earlier states it is led, and whether it is ended.
-pub trait Task: Send + Drop {
-    /// The number of a task; `led_from new old`, that some turns lead from the task `old` to the task `new`; and
-    /// whether a task is ended.
+/// What has a number, and words by which contracts see it. Nothing here gives a task a turn.
+pub trait Numbered: Send + Drop {
+    /// The number of a task, which no turn changes; `led_from new old`, that some turns lead from the task `old` to the
+    /// task `new`; and whether a task is ended.
     ghost words: { TaskWords Self };
 
     /// Its number.
     fn number(&self) -> u32
         ensures { result ≡ words.number self.now };
+}
 
+/// Work that is done in turns. Contracts see of it from which earlier states it is led, and whether it is ended.
+pub trait Task: Numbered {
     /// Gives it one turn. The answer is Done exactly where the task is then ended.
     fn turn(&mut self) -> Turn
-        ensures led { words.led_from self.new self.old }
-        ensures number { words.number self.new ≡ words.number self.old }
-        ensures done { AnswersEnded result (words.ended self.new) };
+        ensures led { Self.words.led_from self.new self.old }
+        ensures number { Self.words.number self.new ≡ Self.words.number self.old }
+        ensures done { AnswersEnded result (Self.words.ended self.new) };
 
     /// A task is led from itself.
-    ghost reflexive: { (t : Self) → words.led_from t t };
+    ghost reflexive: { (t : Self) → Self.words.led_from t t };
 
     /// What is led from a task that is led from a third is led from the third.
-    ghost transitive: { (a b c : Self) → words.led_from b a → words.led_from c b → words.led_from c a };
+    ghost transitive: { (a b c : Self) → Self.words.led_from b a → Self.words.led_from c b → Self.words.led_from c a };
 }

@@ -18,9 +18,8 @@ use Rattle.sorted_set.specs.Sets.{IsBelow, Ascends}
 use Rattle.sorted_set.proofs.Filters.{Ascends-filter}
 use Rattle.replay_model.specs.Offsets.{call_at, AreWritesApart}
 use Rattle.report_model.specs.Query.{Query, has_sink}
-use Rattle.report_model.specs.Rows.{Sink, row, sink_at, point_sink, points_at, sinks_of_call, sinks_of_step, sinks_from, rows_as_written}
+use Rattle.report_model.specs.Rows.{Sink, row, sink_at, point_sink, points_at, sinks_of_call, sinks_of_step, sinks_from, rows_as_written, at_time}
 use Rattle.sink_collect.specs.Distinct.{IsApartFrom, AreDistinct}
-use Rattle.seq_taint.specs.Sinks.{at_time}
 
 -- the names of output bytes and points, each unlike those after it
 abbrev IsNewFor : Sink → List Sink → Type 0

@@ -1,6 +1,4 @@
-mod Order
 mod Steps
-mod Due
 mod Beyond
 mod Written
 pub mod Distinct

@@ -16,10 +16,10 @@ use Rattle.flow_model.specs.declared.Loc.TheVariants.{Mem}
 use Rattle.isa.specs.Machine.{wrap}
 use Rattle.flow_model.specs.Origins.{step_at, origins}
 use Rattle.report_model.specs.Query.{Query, has_sink, policy_of}
-use Rattle.report_model.specs.Rows.{Sink, Row, row, sink_at, point_sink, points_at, sinks_of_call, sinks_of_step, sinks_from, rows_as_written}
+use Rattle.report_model.specs.Rows.{Sink, Row, row, sink_at, point_sink, points_at, sinks_of_call, sinks_of_step, sinks_from, rows_as_written, at_time}
 use Rattle.replay_model.specs.Run.{Moment, steps_from}
 use Rattle.replay_model.proofs.Offsets.{length-steps_from}
-use Rattle.seq_taint.specs.Sinks.{row_by, rows_by, at_time, point_rows}
+use Rattle.seq_taint.specs.Sinks.{row_by, rows_by, point_rows}
 use Rattle.flow_model.specs.declared.Loc.{Loc}
 use Rattle.flow_model.specs.Ranges.{IsLocation}
 

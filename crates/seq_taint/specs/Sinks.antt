@@ -1,5 +1,5 @@
 -- The rows of output bytes and points by what locations have.
-use Rattle.std.specs.Prelude.{◌≡◌, ℕ, ◌≤◌, ◌⊎◌, ◌==◌, nat_le, List, [], map}
+use Rattle.std.specs.Prelude.{◌≡◌, ℕ, ◌≤◌, ◌⊎◌, List, [], map}
 use Rattle.std.specs.List.{filter}
 use Rattle.flow_model.specs.declared.Loc.{Loc}
 use Rattle.flow_model.specs.declared.Loc.TheVariants.{Reg, Mem}
@@ -25,14 +25,6 @@ abbrev pub rows_by : Query → (Loc → List SourceByte) → List Sink → List 
 rows_by q sources sinks = map (row_by sources) (filter (λ s. has_sink q s.name) sinks)
 
 -- ---- points
-
--- the points at a time
-abbrev pub at_time : ℕ → List InnerSink → List InnerSink
-at_time t points = filter (λ p. p.time == t) points
-
--- the points at a time or later
-abbrev pub from_time : ℕ → List InnerSink → List InnerSink
-from_time t points = filter (λ p. nat_le t p.time) points
 
 -- the rows of points
 abbrev pub point_rows : (Loc → List SourceByte) → List InnerSink → List Row

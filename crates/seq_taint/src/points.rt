@@ -5,9 +5,9 @@ ghost use Rattle.flow_model.specs.Orders.{inner_cmp};
 ghost use Rattle.flow_model.specs.Ranges.{IsLocation};
 ghost use Rattle.flow_model.specs.declared.Loc.{Loc as Location};
 ghost use Rattle.flow_model.specs.declared.SourceByte.{SourceByte};
-ghost use Rattle.report_model.specs.Rows.{point_sink};
+ghost use Rattle.report_model.specs.Rows.{point_sink, at_time, from_time};
 ghost use Rattle.sorted_set.specs.Sets.{Ascends};
-ghost use Rattle.seq_taint.specs.Sinks.{row_by, at_time, from_time, point_rows, IsNoLane, Shows};
+ghost use Rattle.seq_taint.specs.Sinks.{row_by, point_rows, IsNoLane, Shows};
 
 use crate::sinks::sink_set;
 use crate::source_set::SourceSet;

@@ -1,7 +1,7 @@
 -- A binary search among source bytes, by the order that is derived for them.
 use Rattle.std.proofs.Common.{◌≡◌, ℕ, ◌≤◌, List, get_or, Bool, true, false, refl, ap, sym, ◌∙◌, subst, arith, ⊎_elim}
 use Rattle.std.specs.Cmp.{alike_right, tied_back}
-use Rattle.std.specs.Ordering.{eq_by_cmp, ordering_index, ordering_then, nat_cmp}
+use Rattle.std.specs.Ordering.{eq_by_cmp, ordering_index}
 use Rattle.std.specs.List.{HoldsAt}
 use Rattle.std.specs.List.Sorted.{IsNonDecreasingBy, IsPartitionPoint}
 use Rattle.std.specs.declared.cmp.Ordering.{Ordering}
@@ -10,45 +10,14 @@ use Rattle.std.proofs.lemmas.Bool.{cases_lt}
 use Rattle.std.proofs.lemmas.List.Folds.{Any-from_list_any}
 use Rattle.flow_model.specs.declared.SourceByte.{SourceByte}
 use Rattle.flow_model.specs.Orders.{source_cmp}
-use Rattle.flow_model.specs.contracts.SourceByteOrd.TheImpl as derived
 use Rattle.flow_model.proofs.Orders.{source_total, source_same}
+use Rattle.flow_model.proofs.Derived.{source_compared as compared, source_order_is as order_is}
 use Rattle.sorted_set.specs.Sets.{has, Ascends}
-use Rattle.sorted_set.proofs.Algebra.{Ascends-at, tied_by}
+use Rattle.sorted_set.proofs.Algebra.{tied_by}
+use Rattle.sorted_set.proofs.Places.{rising}
 
 abbrev Order : Type 0
 Order = SourceByte → SourceByte → Ordering
-
-at_most_two : (r : Ordering) → ordering_index r ≤ 2
-at_most_two Less = omega arith
-at_most_two Equal = omega arith
-at_most_two Greater = omega arith
-
--- the greater of two source bytes compares no less with a third
-rises : (x y q : SourceByte) → source_cmp x y ≡ Less → ordering_index (source_cmp x q) ≤ ordering_index (source_cmp y q)
-rises x y q e = by (source_cmp y q) refl where
-  none : source_cmp x q ≡ Less → (n : ℕ) → ordering_index (source_cmp x q) ≤ n
-  none f n = let zero_is : ordering_index (source_cmp x q) ≡ 0 = ap ordering_index f in omega arith
-
-  by : (r : Ordering) → source_cmp y q ≡ r → ordering_index (source_cmp x q) ≤ ordering_index (source_cmp y q)
-  by Less f = none (source_total.trans x y q e f) _
-  by Equal f = none (sym (alike_right source_total y q x f) ∙ e) _
-  by Greater f = let two_is : ordering_index (source_cmp y q) ≡ 2 = ap ordering_index f in omega (arith, at_most_two (source_cmp x q))
-
-rising : (xs : List SourceByte) (q : SourceByte) → Ascends source_cmp xs → IsNonDecreasingBy (λ y. ordering_index (source_cmp y q)) xs
-rising xs q a i j d le l = ⊎_elim (λ less. rises _ _ q (Ascends-at source_total xs i j d a less l)) (λ equal.
-    let same : j ≡ i = omega arith in
-    subst (λ (k : ℕ). ordering_index (source_cmp (get_or xs i d) q) ≤ ordering_index (source_cmp (get_or xs k d) q)) (sym same) (omega arith)) (cases_lt i j)
-
-then_equal : (o : Ordering) → ordering_then o Equal ≡ o
-then_equal Less = refl
-then_equal Equal = refl
-then_equal Greater = refl
-
-abbrev compared : SourceByte → SourceByte → Ordering
-compared = derived.cmp-value.it
-
-order_is : source_cmp ≡ compared
-order_is = λ i a b. ap (ordering_then (nat_cmp a.channel b.channel)) (then_equal (nat_cmp a.offset b.offset)) i
 
 -- the one that was found
 pub found_there : (xs : List SourceByte) (q : SourceByte) (i : ℕ) → HoldsAt (λ y. compared y q ≡ Equal) xs i → get_or xs i q ≡ q
@@ -63,7 +32,7 @@ none_there xs q i a h = by (has source_cmp q xs) refl where
   by true e =
       let found = Any-from_list_any (eq_by_cmp source_cmp q) xs e in
       let y = found.1 in
-      let parted = h (rising xs q a) in
+      let parted = h (rising source_total xs q a) in
       let ties : source_cmp (get_or xs found.0 y) q ≡ Equal = ap (λ (z : SourceByte). source_cmp z q) found.3 ∙ tied_back source_total q y (tied_by (source_cmp q y) found.4) in
       ⊎_elim (λ less. let before = parted.0 found.0 y (omega arith) less in cc) (λ more. let after = parted.1 found.0 y more found.2 in cc) (cases_lt found.0 i)
 

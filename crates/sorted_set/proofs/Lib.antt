@@ -1,4 +1,4 @@
 pub mod Algebra
-mod Places
+pub mod Places
 pub mod Sorting
 pub mod Filters

@@ -1,4 +1,5 @@
 -- What is left of two sets from a place on: the first member of their union, and whether one is within the other.
+-- Crates above cite these lemmas.
 use Rattle.std.proofs.Common.{◌≡◌, ℕ, ◌+◌, ◌<◌, ◌≤◌, List, [], ◌∷◌, ◌++◌, length, get_or, drop, refl, ap, ap₂, sym, ◌∙◌, subst, arith, append_assoc, append-nil, ⊎_elim, nat_eq, Bool, true, false}
 use Rattle.std.specs.Prelude.{◌||◌, ◌&&◌, Result, Ok, Err, is_ok}
 use Rattle.std.specs.List.Sorted.{IsBinarySearchResult, IsNonDecreasingBy, IsSearchInRange}
@@ -121,17 +122,21 @@ module _ {K : Type 0} {R : K → K → Ordering} (o : IsTotalOrder R) where
     by Equal f = none (sym (alike_right o y q x f) ∙ e) _
     by Greater f = let two_is : ordering_index (R y q) ≡ 2 = ap ordering_index f in omega (arith, at_most_two (R x q))
 
+  -- against a member or any other key, a set's members rise
+  pub rising : (xs : List K) (q : K) → Ascends R xs → IsNonDecreasingBy (λ y. ordering_index (R y q)) xs
+  rising xs q a m n d le w =
+      ⊎_elim (λ less. rises _ _ q (Ascends-at o xs m n d a less w))
+      (λ equal. let same : n ≡ m = omega arith in subst (λ (p : ℕ). ordering_index (R (get_or xs m d) q) ≤ ordering_index (R (get_or xs p d) q)) (sym same) (omega arith))
+      (cases_lt m n)
+
   pub searched : (xs : List K) (q : K) → Ascends R xs → (r : Result ℕ ℕ) → IsSearchInRange r (length xs) → IsBinarySearchResult (λ y. R y q) xs r → is_ok r ≡ has R q xs
   searched xs q a (Ok i) l h = sym (list_any_at (eq_by_cmp R q) xs i q l (ap is_eq (tied_back o _ q (h q))))
   searched xs q a (Err i) l h = by (has R q xs) refl where
-    sorted : IsNonDecreasingBy (λ y. ordering_index (R y q)) xs
-    sorted m n d le w = ⊎_elim (λ less. rises _ _ q (Ascends-at o xs m n d a less w)) (λ equal. let same : n ≡ m = omega arith in subst (λ (p : ℕ). ordering_index (R (get_or xs m d) q) ≤ ordering_index (R (get_or xs p d) q)) (sym same) (omega arith)) (cases_lt m n)
-
     by : (b : Bool) → has R q xs ≡ b → false ≡ b
     by false e = refl
     by true e =
         let found = Any-from_list_any (eq_by_cmp R q) xs e in
         let y = found.1 in
-        let parted = h sorted in
+        let parted = h (rising xs q a) in
         let ties : R (get_or xs found.0 y) q ≡ Equal = ap (λ (z : K). R z q) found.3 ∙ tied_back o q y (tied_by (R q y) found.4) in
         ⊎_elim (λ less. let before = parted.0 found.0 y (omega arith) less in cc) (λ more. let after = parted.1 found.0 y more found.2 in cc) (cases_lt found.0 i)

@@ -3,7 +3,7 @@ use Rattle.std.proofs.Common.{◌≡◌, List, [], ◌∷◌, ◌++◌, map, ref
 use Rattle.std.specs.List.{list_all, flat_map, AllByRecursion}
 use Rattle.std.proofs.lemmas.List.{map-append}
 use Rattle.std.proofs.lemmas.List.Concat.{flat_map-append}
-use Rattle.std.proofs.lemmas.Bool.{and_parts, and_from}
+use Rattle.std.proofs.lemmas.Bool.{and_parts, and_from, or_right}
 use Rattle.flow_model.specs.declared.Loc.{Loc}
 use Rattle.flow_model.specs.declared.SourceByte.{SourceByte}
 use Rattle.std.specs.Ordering.{eq_by_cmp}
@@ -136,14 +136,10 @@ resolvable_stays asked got more t running h =
     let all : list_all (is_answered asked (answers_in [] got)) t.starts ≡ true = sym (ap (λ (b : Bool). b || list_all (is_answered asked (answers_in [] got)) t.starts) running) ∙ h in
     let grown = answers_more [] got more in
     let stay = all_stay asked (answers_in [] got) grown.0 t.starts all in (
-      either (is_ended (got ++ more)) _ (rw grown.1 at stay.0),
+      or_right (is_ended (got ++ more)) _ (rw grown.1 at stay.0),
       ap (union source_cmp t.sources) (union_over_same (heard asked got) (answer_to asked (answers_in [] got ++ grown.0)) t.starts stay.1
           ∙ ap (λ (xs : List (List SourceByte)). union_over (answer_to asked xs) t.starts) grown.1),
     )
-  where
-    either : (a b : Bool) → b ≡ true → (a || b) ≡ true
-    either true b e = refl
-    either false b e = e
 
 open_grows : (e : Summary) (asked ls : List Loc) (got more : List Message) → is_ended got ≡ false → IsPrefix (answers_for e asked ls got) (answers_for e asked ls (got ++ more))
 open_grows e asked [] got more running = (end_if (is_ended (got ++ more)), ap (λ (b : Bool). end_if b ++ end_if (is_ended (got ++ more))) running)

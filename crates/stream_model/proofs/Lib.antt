@@ -3,6 +3,7 @@ pub mod Counting
 pub mod Meeting
 pub mod Passing
 pub mod Moving
+mod Holding
 pub mod NeverStill
 pub mod Progress
 pub mod Running

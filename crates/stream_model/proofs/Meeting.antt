@@ -1,6 +1,6 @@
 -- Nodes in a row that are done have the rows of the whole trace. Crates above cite these lemmas.
 use Rattle.std.proofs.Common.{◌≡◌, ℕ, zero, suc, ◌+◌, ◌-◌, ◌<◌, ◌≤◌, List, [], ◌∷◌, ◌++◌, map, length, refl, ap, ap₂, sym, subst, ◌∙◌, Bool, true, false, ◌||◌, cond, append-nil, append_assoc, arith}
-use Rattle.std.specs.Prelude.{Option, Some, None, All}
+use Rattle.std.specs.Prelude.{All}
 use Rattle.std.specs.List.{flat_map, list_all, AllByRecursion}
 use Rattle.std.specs.Cmp.{IsTotalOrder}
 use Rattle.std.specs.Ordering.{eq_by_cmp}
@@ -14,15 +14,15 @@ use Rattle.flow_model.specs.declared.SourceByte.{SourceByte}
 use Rattle.flow_model.specs.declared.StepSeen.{StepSeen}
 use Rattle.sorted_set.specs.Sets.{inserted, placed, has, IsBelow, Ascends}
 use Rattle.flow_model.specs.Orders.{loc_cmp, source_cmp}
-use Rattle.flow_model.specs.Flow.{from}
-use Rattle.flow_model.specs.Origins.{Policy, fresh, union_over, step_at, after_step, origins}
+use Rattle.flow_model.specs.Origins.{origins}
 use Rattle.flow_model.specs.Ranges.{IsLocation, IsInRange}
 use Rattle.flow_rule.specs.declared.Message.{Message}
 use Rattle.flow_rule.specs.declared.Message.TheVariants.{Ask, Byte, Close, End}
 use Rattle.report_model.specs.Query.{Query, AreLocated, policy_of}
 use Rattle.report_model.specs.Rows.{Sink, Row, row}
-use Rattle.sorted_set.proofs.Algebra.{tied_by, less_turned, Ascends-union}
+use Rattle.sorted_set.proofs.Algebra.{tied_by, less_turned}
 use Rattle.flow_model.proofs.Orders.{loc_same, source_total}
+use Rattle.flow_model.proofs.Origins.{Ascends-origins}
 use Rattle.epoch_model.specs.Stretch.{points_at_start, sinks_between, sinks_of_epoch}
 use Rattle.epoch_model.specs.Cutting.{RisesTo, IsCutting}
 use Rattle.epoch_model.specs.Summary.{Summary, IsSummary, AreSummaries}
@@ -55,18 +55,6 @@ module _ {X : Type 0} {R : X → X → Ordering} (o : IsTotalOrder R) where
   inserted_last x (y ∷ xs) a =
       ap (λ (r : Ordering). placed r x y xs (inserted R x xs)) (less_turned o y x (below_last y x xs a.0))
       ∙ ap (λ (zs : List X). y ∷ zs) (inserted_last x xs a.1)
-
-Ascends-union_over : (before : Loc → List SourceByte) → ((l : Loc) → Ascends source_cmp (before l)) → (ls : List Loc) → Ascends source_cmp (union_over before ls)
-Ascends-union_over before h [] = tt
-Ascends-union_over before h (l ∷ []) = h l
-Ascends-union_over before h (l ∷ m ∷ ls) = Ascends-union source_total (before l) _ (Ascends-union_over before h (m ∷ ls))
-
-pub Ascends-origins : (policy : Policy) (trace : List StepSeen) (t : ℕ) (l : Loc) → Ascends source_cmp (origins policy trace t l)
-Ascends-origins policy trace zero l = tt
-Ascends-origins policy trace (suc t) l = by (step_at trace t) (Ascends-origins policy trace t) where
-  by : (step : Option StepSeen) → ((m : Loc) → Ascends source_cmp (origins policy trace t m)) → Ascends source_cmp (after_step policy step (origins policy trace t) l)
-  by None h = h l
-  by (Some step) h = Ascends-union source_total (fresh policy step l) _ (Ascends-union_over _ h (from policy.rule step l))
 
 -- ---- whole streams
 

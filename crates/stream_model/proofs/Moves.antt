@@ -1,6 +1,6 @@
 -- What an event that moves adds to what was sent, got, walked, built and resolved, in a pass that is whole. Crates above cite
 -- these lemmas.
-use Rattle.std.proofs.Common.{◌≡◌, ℕ, suc, ◌+◌, List, [], ◌∷◌, ◌++◌, map, length, drop, refl, ap, sym, ◌∙◌, Bool, true, false, length-append, arith}
+use Rattle.std.proofs.Common.{◌≡◌, ℕ, ◌+◌, List, [], ◌∷◌, ◌++◌, length, drop, refl, ap, sym, ◌∙◌, Bool, true, false, length-append, arith}
 use Rattle.std.specs.Prelude.{Option, Some, None, is_some}
 use Rattle.flow_model.specs.declared.Loc.{Loc}
 use Rattle.flow_rule.specs.declared.Message.{Message}
@@ -16,10 +16,6 @@ use Rattle.stream_model.proofs.NeverStill.{still_asking, still_answering}
 
 pub one_longer : {X : Type 0} (xs : List X) (x : X) → length (xs ++ x ∷ []) ≡ length xs + 1
 one_longer xs x = length-append xs (x ∷ [])
-
-pub as_long : {X Y : Type 0} (f : X → Y) (xs : List X) → length (map f xs) ≡ length xs
-as_long f [] = refl
-as_long f (x ∷ xs) = ap suc (as_long f xs)
 
 -- what the links do but for refusals
 abbrev pub freed : Links → Links

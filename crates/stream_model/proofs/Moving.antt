@@ -1,5 +1,5 @@
 -- What events change, and what they keep between neighbours.
-use Rattle.std.proofs.Common.{◌≡◌, ◌⊎◌, inl, inr, ℕ, zero, suc, List, [], ◌∷◌, ◌++◌, length, drop, refl, ap, sym, subst, ◌∙◌, Bool, true, false, append-nil, append_assoc}
+use Rattle.std.proofs.Common.{◌≡◌, ◌⊎◌, inl, inr, ℕ, zero, suc, List, [], ◌∷◌, ◌++◌, length, drop, refl, ap, sym, subst, ◌∙◌, Bool, true, false, append_assoc}
 use Rattle.std.specs.Prelude.{Option, Some, None, is_none}
 use Rattle.flow_model.specs.declared.Loc.{Loc}
 use Rattle.flow_model.specs.declared.SourceByte.{SourceByte}
@@ -34,7 +34,15 @@ apart (Byte b) ms n = (refl, n)
 apart (Close l) ms n = (refl, n)
 apart (End whole) ms n = no n
 
--- ---- what an event gets
+-- ---- what an event sends and gets
+
+-- a message was sent where there was room for it, or nothing
+abbrev pub IsSent : Bool → List Message → List Message → Type 0
+IsSent room sent new = (new ≡ sent) ⊎ ((m : Message) × (room ≡ true) × (new ≡ sent ++ m ∷ []))
+
+sent_longer : (room : Bool) (got sent new : List Message) → IsSent room sent new → IsPrefix got sent → IsPrefix got new
+sent_longer room got sent new (inl e) p = subst (IsPrefix got) (sym e) p
+sent_longer room got sent new (inr s) p = prefix_trans got sent new p (s.0 ∷ [], sym s.2)
 
 -- the next item was got, or nothing
 abbrev pub IsGot : Option Message → List Message → List Message → Type 0
@@ -58,82 +66,79 @@ pub ended_got : (next : Option Message) (got new : List Message) → IsGot next 
 ended_got next got new (inl e) h = ap is_ended e ∙ h
 ended_got next got new (inr g) h = ap is_ended g.2 ∙ ended_stays got (g.0 ∷ []) h
 
-same_prefix : (xs : List Message) → IsPrefix xs xs
-same_prefix xs = ([], append-nil xs)
-
 -- ---- asking
 
-pub record AskMoved (next : Option Message) (a b : Asking) : Type 0 where
-  pub sent : IsPrefix a.sent b.sent
-  pub got : IsGot next a.got b.got
+pub record AskMoved (links : Links) (a b : Asking) : Type 0 where
+  pub sent : IsSent links.has_room a.sent b.sent
+  pub got : IsGot links.next a.got b.got
   pub running : b.is_over ≡ false → is_ended b.sent ≡ false
   pub over : b.is_over ≡ true → (is_ended b.sent ≡ true) × (is_ended b.got ≡ true)
 
 module _ (first : Bool) (e : Summary) (links : Links) (a : Asking) (o : a.is_over ≡ false) (r : is_ended a.sent ≡ false) where
   -- nothing sent or got
-  ask_within : (b : Asking) → b.sent ≡ a.sent → b.got ≡ a.got → b.is_over ≡ a.is_over → AskMoved links.next a b
+  ask_within : (b : Asking) → b.sent ≡ a.sent → b.got ≡ a.got → b.is_over ≡ a.is_over → AskMoved links a b
   ask_within b s g v = record {
-    sent = ([], append-nil a.sent ∙ sym s);
+    sent = inl s;
     got = inl g;
     running = λ _. ap is_ended s ∙ r;
     over = λ t. no (sym t ∙ v ∙ o);
   }
 
-  ask_got : (m : Message) (b : Asking) → links.next ≡ Some m → b.sent ≡ a.sent → b.got ≡ a.got ++ m ∷ [] → b.is_over ≡ a.is_over → AskMoved links.next a b
+  ask_got : (m : Message) (b : Asking) → links.next ≡ Some m → b.sent ≡ a.sent → b.got ≡ a.got ++ m ∷ [] → b.is_over ≡ a.is_over → AskMoved links a b
   ask_got m b n s g v = record {
-    sent = ([], append-nil a.sent ∙ sym s);
+    sent = inl s;
     got = inr (m, n, g);
     running = λ _. ap is_ended s ∙ r;
     over = λ t. no (sym t ∙ v ∙ o);
   }
 
-  ask_pushed : (room : Bool) (l : Loc) → AskMoved links.next a (push_ask room a l)
-  ask_pushed false l = ask_within a refl refl refl
-  ask_pushed true l = record {
-    sent = (Ask l ∷ [], refl);
+  ask_pushed : (room : Bool) → links.has_room ≡ room → (l : Loc) → AskMoved links a (push_ask room a l)
+  ask_pushed false n l = ask_within a refl refl refl
+  ask_pushed true n l = record {
+    sent = inr (Ask l, n, refl);
     got = inl refl;
     running = λ _. ended_after a.sent (Ask l ∷ []) r;
     over = λ t. no (sym t ∙ o);
   }
 
-  ask_walked : (refused : Bool) (k : SinkTerms) (left : List SinkTerms) → AskMoved links.next a (walk refused first a k left)
+  ask_walked : (refused : Bool) (k : SinkTerms) (left : List SinkTerms) → AskMoved links a (walk refused first a k left)
   ask_walked true k left = ask_within _ refl refl refl
   ask_walked false k left = ask_within _ refl refl refl
 
-  ask_popped : (refused : Bool) (next : Option Message) → links.next ≡ next → AskMoved links.next a (pop_ask refused first e a next)
+  ask_popped : (refused : Bool) (next : Option Message) → links.next ≡ next → AskMoved links a (pop_ask refused first e a next)
   ask_popped refused None n = ask_within a refl refl refl
   ask_popped true (Some m) n = ask_got m _ n refl refl refl
   ask_popped false (Some m) n = ask_got m _ n refl refl refl
 
-  ask_dropped : (next : Option Message) → links.next ≡ next → AskMoved links.next a (drop_ask a next)
+  ask_dropped : (next : Option Message) → links.next ≡ next → AskMoved links a (drop_ask a next)
   ask_dropped None n = ask_within a refl refl refl
   ask_dropped (Some m) n = ask_got m _ n refl refl refl
 
-  ask_ended : (room : Bool) → is_ended a.got ≡ true → AskMoved links.next a (end_asks room a)
-  ask_ended false d = ask_within a refl refl refl
-  ask_ended true d = record {
-    sent = (End a.is_whole ∷ [], refl);
+  ask_ended : (room : Bool) → links.has_room ≡ room → is_ended a.got ≡ true → AskMoved links a (end_asks room a)
+  ask_ended false n d = ask_within a refl refl refl
+  ask_ended true n d = record {
+    sent = inr (End a.is_whole, n, refl);
     got = inl refl;
     running = λ f. no f;
     over = λ _. (ended_after a.sent (End a.is_whole ∷ []) r, d);
   }
 
-  ask_whole : (waiting : List Loc) (left : List SinkTerms) (ended : Bool) → is_ended a.got ≡ ended → AskMoved links.next a (whole_asking first e links a waiting left ended)
-  ask_whole (l ∷ waiting) left ended d = ask_pushed links.has_room l
+  ask_whole : (waiting : List Loc) (left : List SinkTerms) (ended : Bool) → is_ended a.got ≡ ended → AskMoved links a (whole_asking first e links a waiting left ended)
+  ask_whole (l ∷ waiting) left ended d = ask_pushed links.has_room refl l
   ask_whole [] (k ∷ left) ended d = ask_walked links.is_refused k left
   ask_whole [] [] false d = ask_popped links.is_refused links.next refl
-  ask_whole [] [] true d = ask_ended links.has_room d
+  ask_whole [] [] true d = ask_ended links.has_room refl d
 
-  ask_broken : (ended : Bool) → is_ended a.got ≡ ended → AskMoved links.next a (broken_asking links a ended)
+  ask_broken : (ended : Bool) → is_ended a.got ≡ ended → AskMoved links a (broken_asking links a ended)
   ask_broken false d = ask_dropped links.next refl
-  ask_broken true d = ask_ended links.has_room d
+  ask_broken true d = ask_ended links.has_room refl d
 
-  ask_by : (over whole : Bool) → AskMoved links.next a (asking_by first e links a over whole)
+  ask_by : (over whole : Bool) → AskMoved links a (asking_by first e links a over whole)
   ask_by true whole = ask_within a refl refl refl
   ask_by false true = ask_whole (drop a.pushed a.asked) a.left (is_ended a.got) refl
   ask_by false false = ask_broken (is_ended a.got) refl
 
-  pub asking_moves : AskMoved links.next a (asking_event first e links a)
+  pub asking_moves : AskMoved links a (asking_event first e links a)
   asking_moves = ask_by a.is_over a.is_whole
 
 -- ---- answering
@@ -142,94 +147,94 @@ pub record AnswerFits (f : Answering) : Type 0 where
   pub running : f.is_over ≡ false → (is_ended f.sent ≡ false) × (is_ended f.sending ≡ false)
   pub over : f.is_over ≡ true → (is_ended f.sent ≡ true) × (is_ended f.got ≡ true)
 
-pub record AnswerMoved (next : Option Message) (f g : Answering) : Type 0 where
-  pub sent : IsPrefix f.sent g.sent
-  pub got : IsGot next f.got g.got
+pub record AnswerMoved (links : Links) (f g : Answering) : Type 0 where
+  pub sent : IsSent links.has_room f.sent g.sent
+  pub got : IsGot links.next f.got g.got
   pub fits : AnswerFits g
 
 module _ (e : Summary) (asked : List Loc) (links : Links) (f : Answering) (h : AnswerFits f) where
-  answer_within : AnswerMoved links.next f f
-  answer_within = record { sent = same_prefix f.sent; got = inl refl; fits = h }
+  answer_within : AnswerMoved links f f
+  answer_within = record { sent = inl refl; got = inl refl; fits = h }
 
   module _ (o : f.is_over ≡ false) where
     -- nothing sent or got
-    answer_kept : (g : Answering) → g.sent ≡ f.sent → g.got ≡ f.got → is_ended g.sending ≡ false → g.is_over ≡ f.is_over → AnswerMoved links.next f g
+    answer_kept : (g : Answering) → g.sent ≡ f.sent → g.got ≡ f.got → is_ended g.sending ≡ false → g.is_over ≡ f.is_over → AnswerMoved links f g
     answer_kept g s t n v = record {
-      sent = ([], append-nil f.sent ∙ sym s);
+      sent = inl s;
       got = inl t;
       fits = record { running = λ _. (ap is_ended s ∙ (h.running o).0, n); over = λ u. no (sym u ∙ v ∙ o) };
     }
 
-    answer_got : (m : Message) (g : Answering) → links.next ≡ Some m → g.sent ≡ f.sent → g.got ≡ f.got ++ m ∷ [] → g.sending ≡ f.sending → g.is_over ≡ f.is_over → AnswerMoved links.next f g
+    answer_got : (m : Message) (g : Answering) → links.next ≡ Some m → g.sent ≡ f.sent → g.got ≡ f.got ++ m ∷ [] → g.sending ≡ f.sending → g.is_over ≡ f.is_over → AnswerMoved links f g
     answer_got m g n s t k v = record {
-      sent = ([], append-nil f.sent ∙ sym s);
+      sent = inl s;
       got = inr (m, n, t);
       fits = record { running = λ _. (ap is_ended s ∙ (h.running o).0, ap is_ended k ∙ (h.running o).1); over = λ u. no (sym u ∙ v ∙ o) };
     }
 
-    answer_pushed : (room : Bool) (m : Message) (sending : List Message) → f.sending ≡ m ∷ sending → AnswerMoved links.next f (push_answer room f m sending)
-    answer_pushed false m sending k = answer_within
-    answer_pushed true m sending k =
+    answer_pushed : (room : Bool) → links.has_room ≡ room → (m : Message) (sending : List Message) → f.sending ≡ m ∷ sending → AnswerMoved links f (push_answer room f m sending)
+    answer_pushed false n m sending k = answer_within
+    answer_pushed true n m sending k =
         let none : is_ended (m ∷ sending) ≡ false = ap is_ended (sym k) ∙ (h.running o).1 in
         let parts = apart m sending none in
         record {
-          sent = (m ∷ [], refl);
+          sent = inr (m, n, refl);
           got = inl refl;
           fits = record { running = λ _. (ended_after f.sent (m ∷ []) (h.running o).0 ∙ parts.0, parts.1); over = λ u. no (sym u ∙ o) };
         }
 
-    answer_popped : (refused : Bool) (next : Option Message) → links.next ≡ next → AnswerMoved links.next f (pop_answer refused f next)
+    answer_popped : (refused : Bool) (next : Option Message) → links.next ≡ next → AnswerMoved links f (pop_answer refused f next)
     answer_popped refused None n = answer_within
     answer_popped true (Some m) n = answer_got m _ n refl refl refl refl
     answer_popped false (Some m) n = answer_got m _ n refl refl refl refl
 
-    answer_dropped : (next : Option Message) → links.next ≡ next → AnswerMoved links.next f (drop_answer f next)
+    answer_dropped : (next : Option Message) → links.next ≡ next → AnswerMoved links f (drop_answer f next)
     answer_dropped None n = answer_within
     answer_dropped (Some m) n = answer_got m _ n refl refl refl refl
 
-    answer_built : (refused : Bool) (l : Loc) (left : List Loc) → AnswerMoved links.next f (build refused e asked f l left)
+    answer_built : (refused : Bool) (l : Loc) (left : List Loc) → AnswerMoved links f (build refused e asked f l left)
     answer_built true l left = answer_kept _ refl refl (h.running o).1 refl
     answer_built false l left = answer_kept _ refl refl (no_end l (resolved (heard asked f.got) (e.ends l))) refl
 
-    answer_request : (b : Bool) (l : Loc) (left : List Loc) → AnswerMoved links.next f (build_or_pop b e asked links f l left)
+    answer_request : (b : Bool) (l : Loc) (left : List Loc) → AnswerMoved links f (build_or_pop b e asked links f l left)
     answer_request true l left = answer_built links.is_refused l left
     answer_request false l left = answer_popped links.is_refused links.next refl
 
-    answer_resolved : (refused : Bool) → AnswerMoved links.next f (resolve refused e asked f)
+    answer_resolved : (refused : Bool) → AnswerMoved links f (resolve refused e asked f)
     answer_resolved true = answer_kept _ refl refl (h.running o).1 refl
     answer_resolved false = answer_kept _ refl refl (h.running o).1 refl
 
-    answer_ended : (room : Bool) → is_ended f.got ≡ true → AnswerMoved links.next f (end_answers room f)
-    answer_ended false d = answer_within
-    answer_ended true d = record {
-      sent = (End f.is_whole ∷ [], refl);
+    answer_ended : (room : Bool) → links.has_room ≡ room → is_ended f.got ≡ true → AnswerMoved links f (end_answers room f)
+    answer_ended false n d = answer_within
+    answer_ended true n d = record {
+      sent = inr (End f.is_whole, n, refl);
       got = inl refl;
       fits = record { running = λ t. no t; over = λ _. (ended_after f.sent (End f.is_whole ∷ []) (h.running o).0, d) };
     }
 
-    answer_rows : (rows : Option (List Row)) → is_ended f.got ≡ true → AnswerMoved links.next f (resolve_or_end e asked links f rows)
+    answer_rows : (rows : Option (List Row)) → is_ended f.got ≡ true → AnswerMoved links f (resolve_or_end e asked links f rows)
     answer_rows None d = answer_resolved links.is_refused
-    answer_rows (Some rows) d = answer_ended links.has_room d
+    answer_rows (Some rows) d = answer_ended links.has_room refl d
 
-    answer_last : (ended : Bool) → is_ended f.got ≡ ended → AnswerMoved links.next f (pop_or_end e asked links f ended)
+    answer_last : (ended : Bool) → is_ended f.got ≡ ended → AnswerMoved links f (pop_or_end e asked links f ended)
     answer_last false d = answer_popped links.is_refused links.next refl
     answer_last true d = answer_rows f.rows d
 
-    answer_whole : (sending : List Message) → f.sending ≡ sending → (left : List Loc) → AnswerMoved links.next f (whole_answering e asked links f sending left)
-    answer_whole (m ∷ sending) k left = answer_pushed links.has_room m sending k
+    answer_whole : (sending : List Message) → f.sending ≡ sending → (left : List Loc) → AnswerMoved links f (whole_answering e asked links f sending left)
+    answer_whole (m ∷ sending) k left = answer_pushed links.has_room refl m sending k
     answer_whole [] k (l ∷ left) = answer_request (is_resolvable asked f.got (e.ends l)) l left
     answer_whole [] k [] = answer_last (is_ended f.got) refl
 
-    answer_broken : (ended : Bool) → is_ended f.got ≡ ended → AnswerMoved links.next f (broken_answering links f ended)
+    answer_broken : (ended : Bool) → is_ended f.got ≡ ended → AnswerMoved links f (broken_answering links f ended)
     answer_broken false d = answer_dropped links.next refl
-    answer_broken true d = answer_ended links.has_room d
+    answer_broken true d = answer_ended links.has_room refl d
 
-  answer_by : (over : Bool) → f.is_over ≡ over → (whole : Bool) → AnswerMoved links.next f (answering_by e asked links f over whole)
+  answer_by : (over : Bool) → f.is_over ≡ over → (whole : Bool) → AnswerMoved links f (answering_by e asked links f over whole)
   answer_by true o whole = answer_within
   answer_by false o true = answer_whole o f.sending refl f.left
   answer_by false o false = answer_broken o (is_ended f.got) refl
 
-  pub answering_moves : AnswerMoved links.next f (answering_event e asked links f)
+  pub answering_moves : AnswerMoved links f (answering_event e asked links f)
   answering_moves = answer_by f.is_over refl f.is_whole
 
 -- ---- what holds of a node and between neighbours
@@ -294,7 +299,7 @@ begun_keeps refused before behind e b l = record { phase = phase refused; early 
   late false (Some q) l = record { asks = l.asks; answers = l.answers }
 
 module _ (capacity : ℕ) (refused : Bool) where
-  asks_keep : (before behind : Option Phase) (a b : Asking) → AskMoved (asking_links capacity refused before behind a).next a b → BeforeHolds before (Asks a) → BehindHolds (Asks a) behind
+  asks_keep : (before behind : Option Phase) (a b : Asking) → AskMoved (asking_links capacity refused before behind a) a b → BeforeHolds before (Asks a) → BehindHolds (Asks a) behind
       → (over : Bool) → b.is_over ≡ over → Kept before behind (settled_by over (is_none before) b)
   asks_keep before behind a b s x y over o = record { phase = phase over o; early = early before x over; late = late behind s.got y over } where
     phase : (over : Bool) → b.is_over ≡ over → PhaseHolds (settled_by over (is_none before) b)
@@ -304,8 +309,8 @@ module _ (capacity : ℕ) (refused : Bool) where
     early : (before : Option Phase) → BeforeHolds before (Asks a) → (over : Bool) → BeforeHolds before (settled_by over (is_none before) b)
     early None x true = refl
     early None x false = tt
-    early (Some p) x true = record { asks = prefix_trans (asks_got_in p) a.sent b.sent x.asks s.sent; answers = (answers_sent_in p, refl) }
-    early (Some p) x false = record { asks = prefix_trans (asks_got_in p) a.sent b.sent x.asks s.sent; answers = (answers_sent_in p, refl) }
+    early (Some p) x true = record { asks = sent_longer _ (asks_got_in p) a.sent b.sent s.sent x.asks; answers = (answers_sent_in p, refl) }
+    early (Some p) x false = record { asks = sent_longer _ (asks_got_in p) a.sent b.sent s.sent x.asks; answers = (answers_sent_in p, refl) }
 
     late : (behind : Option Phase) → IsGot (asking_links capacity refused before behind a).next a.got b.got → BehindHolds (Asks a) behind → (over : Bool) → BehindHolds (settled_by over (is_none before) b) behind
     late None g y true = tt
@@ -313,7 +318,7 @@ module _ (capacity : ℕ) (refused : Bool) where
     late (Some q) g y true = record { asks = got_fits a.got b.got (asks_sent_in q) y.asks g; answers = y.answers }
     late (Some q) g y false = record { asks = got_fits a.got b.got (asks_sent_in q) y.asks g; answers = y.answers }
 
-  answers_keep : (before behind : Option Phase) (a : Asking) (f g : Answering) → AnswerMoved (answering_links capacity refused before behind f).next f g
+  answers_keep : (before behind : Option Phase) (a : Asking) (f g : Answering) → AnswerMoved (answering_links capacity refused before behind f) f g
       → PhaseHolds (Answers a f) → BeforeHolds before (Answers a f) → BehindHolds (Answers a f) behind → Kept before behind (Answers a g)
   answers_keep before behind a f g s h x y = record { phase = (h.0, h.1, s.fits); early = early before s.got x; late = late behind y } where
     early : (before : Option Phase) → IsGot (answering_links capacity refused before behind f).next f.got g.got → BeforeHolds before (Answers a f) → BeforeHolds before (Answers a g)
@@ -322,7 +327,7 @@ module _ (capacity : ℕ) (refused : Bool) where
 
     late : (behind : Option Phase) → BehindHolds (Answers a f) behind → BehindHolds (Answers a g) behind
     late None y = tt
-    late (Some q) y = record { asks = y.asks; answers = prefix_trans (answers_got_in q) f.sent g.sent y.answers s.sent }
+    late (Some q) y = record { asks = y.asks; answers = sent_longer _ (answers_got_in q) f.sent g.sent s.sent y.answers }
 
   node_keeps : (before behind : Option Phase) (e : Summary) (p : Phase) → PhaseHolds p → BeforeHolds before p → BehindHolds p behind → Kept before behind (node_event capacity refused before behind e p)
   node_keeps before behind e Fresh h x y = begun_keeps refused before behind e x y
@@ -333,7 +338,7 @@ module _ (capacity : ℕ) (refused : Bool) where
       let links = answering_links capacity refused before behind f in
       answers_keep before behind a f (answering_event e a.asked links f) (answering_moves e a.asked links f h.2) h x y
 
-  behind_of : (p : Phase) (ns : List NodeState) → NodesHold (Some p) ns → BehindHolds p (phase_of_first ns)
+  pub behind_of : (p : Phase) (ns : List NodeState) → NodesHold (Some p) ns → BehindHolds p (phase_of_first ns)
   behind_of p [] h = h
   behind_of p (n ∷ ns) h = h.1
 
@@ -341,7 +346,7 @@ module _ (capacity : ℕ) (refused : Bool) where
   with_new p q [] h l = l
   with_new p q (n ∷ ns) h l = (h.0, l, h.2)
 
-  nodes_keep : (k : ℕ) (before : Option Phase) (ns : List NodeState) → NodesHold before ns → NodesHold before (event_at capacity refused k before ns)
+  pub nodes_keep : (k : ℕ) (before : Option Phase) (ns : List NodeState) → NodesHold before ns → NodesHold before (event_at capacity refused k before ns)
   nodes_keep k before [] h = h
   nodes_keep zero before (n ∷ ns) h =
       let kept = node_keeps before (phase_of_first ns) n.summary n.phase h.0 h.1 (behind_of n.phase ns h.2) in

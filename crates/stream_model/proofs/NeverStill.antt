@@ -3,6 +3,7 @@ use Rattle.std.proofs.Common.{◌≡◌, ◌⊎◌, inl, inr, ℕ, zero, suc, �
 use Rattle.std.specs.Prelude.{Option, Some, None, is_some, nat_lt}
 use Rattle.std.specs.List.{AllByRecursion}
 use Rattle.std.proofs.lemmas.Grind.{common_steps}
+use Rattle.std.proofs.lemmas.Bool.{or_parts}
 use Rattle.flow_model.specs.declared.Loc.{Loc}
 use Rattle.flow_rule.specs.declared.Message.{Message}
 use Rattle.report_model.specs.Rows.{Row}
@@ -13,7 +14,7 @@ use Rattle.stream_model.specs.Passes.{Links, Asking, push_ask, pop_ask, drop_ask
 use Rattle.stream_model.specs.Schedules.{Phase, Fresh, Asks, Answers, NodeState, asks_sent_in, asks_got_in, answers_sent_in, answers_got_in, first_of, next_item, has_room_for, room_to, item_from, asking_links, answering_links, nodes_start, Need, is_met, item_or_room, whole_asking_need, asking_need_by, asking_need, nothing_or_room, last_need, nothing_or_item, whole_answering_need, answering_need_by, answering_need, node_moves, moves_at, is_done}
 use Rattle.stream_model.specs.ScheduleLaws.{NeverStill, StillAsking, StillAnswering}
 use Rattle.stream_model.proofs.Growing.{ended_stays}
-use Rattle.stream_model.proofs.Passing.{no, neither}
+use Rattle.stream_model.proofs.Passing.{no}
 use Rattle.stream_model.proofs.Moving.{PhaseHolds, LinkHolds, BeforeHolds, BehindHolds, NodesHold, drop_front, reached, started}
 
 -- ---- what a link gives
@@ -82,7 +83,7 @@ module _ (links : Links) where
 
     request : (l : Loc) (b : Bool) → is_resolvable asked f.got (e.ends l) ≡ b → Goes (nothing_or_item b) links
     request l true r = inl refl
-    request l false r = inl (n (neither (is_ended f.got) _ r))
+    request l false r = inl (n (or_parts (is_ended f.got) _ r).0)
 
     whole_goes : (sending : List Message) (left : List Loc) → Goes (whole_answering_need e asked f sending left) links
     whole_goes (m ∷ sending) left = either_way links.has_room

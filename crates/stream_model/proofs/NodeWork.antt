@@ -1,6 +1,7 @@
 -- How many events moved in nodes that are done.
 use Rattle.std.proofs.Common.{◌≡◌, ℕ, zero, suc, ◌+◌, ◌*◌, List, [], ◌∷◌, ◌++◌, map, length, refl, ap, sym, ◌∙◌, Bool, true, false, length-append, append_assoc, arith}
 use Rattle.std.specs.List.{flat_map}
+use Rattle.std.proofs.lemmas.List.{length-map}
 use Rattle.flow_model.specs.declared.Loc.{Loc}
 use Rattle.flow_model.specs.declared.SourceByte.{SourceByte}
 use Rattle.flow_model.specs.declared.StepSeen.{StepSeen}
@@ -17,7 +18,7 @@ use Rattle.stream_model.specs.StreamLaws.{answers_to, LinksCarry}
 use Rattle.stream_model.specs.Passes.{got_at_start}
 use Rattle.stream_model.specs.Work.{many_got, work_in_all, asked_in_all, listed, listed_in_all, EndsBehind, DoneNodesWork}
 use Rattle.stream_model.proofs.Meeting.{asks_back, done_nodes_meet}
-use Rattle.stream_model.proofs.Moves.{one_longer, as_long}
+use Rattle.stream_model.proofs.Moves.{one_longer}
 
 -- what was got, with the End that counts as seen
 pub seen : (last : Bool) (got : List Message) → (last ≡ true → got ≡ End true ∷ []) → length got ≡ many_got last got + length (got_at_start last)
@@ -27,10 +28,10 @@ seen false got h = omega arith
 -- ---- lengths of whole streams
 
 asks_length : (ls : List Loc) → length (map Ask ls ++ End true ∷ []) ≡ length ls + 1
-asks_length ls = one_longer (map Ask ls) (End true) ∙ ap (λ (i : ℕ). i + 1) (as_long Ask ls)
+asks_length ls = one_longer (map Ask ls) (End true) ∙ ap (λ (i : ℕ). i + 1) (length-map ls Ask)
 
 answer_length : (l : Loc) (set : List SourceByte) → length (answer l set) ≡ length set + 1
-answer_length l set = one_longer (map Byte set) (Close l) ∙ ap (λ (i : ℕ). i + 1) (as_long Byte set)
+answer_length l set = one_longer (map Byte set) (Close l) ∙ ap (λ (i : ℕ). i + 1) (length-map set Byte)
 
 answers_length : (policy : Policy) (trace : List StepSeen) (c : ℕ) (ls : List Loc) → length (answers_to (origins policy trace c) ls) ≡ listed policy trace c ls + length ls + 1
 answers_length policy trace c [] = refl

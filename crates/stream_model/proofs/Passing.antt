@@ -1,9 +1,10 @@
 -- The invariants of the two passes.
-use Rattle.std.proofs.Common.{◌≡◌, ℕ, zero, suc, ◌+◌, ◌≤◌, List, [], ◌∷◌, ◌++◌, map, length, take, drop, refl, ap, ap₂, sym, ◌∙◌, Bool, true, false, ◌||◌, append-nil, append_assoc, length-append, arith}
+use Rattle.std.proofs.Common.{◌≡◌, ℕ, zero, suc, ◌+◌, ◌≤◌, List, [], ◌∷◌, ◌++◌, map, length, take, drop, refl, ap, ap₂, sym, ◌∙◌, Bool, true, false, append-nil, append_assoc, length-append, arith}
 use Rattle.std.specs.Prelude.{Option, Some, None}
 use Rattle.std.specs.List.{flat_map}
 use Rattle.std.proofs.lemmas.List.{map-append, take-append-le}
 use Rattle.std.proofs.lemmas.List.Concat.{flat_map-append}
+use Rattle.std.proofs.lemmas.Bool.{or_left, or_parts}
 use Rattle.flow_model.specs.declared.Loc.{Loc}
 use Rattle.flow_model.specs.declared.SourceByte.{SourceByte}
 use Rattle.flow_rule.specs.declared.Message.{Message}
@@ -236,14 +237,6 @@ pub record AnsweringHolds (first : Bool) (e : Summary) (asked ls : List Loc) (f 
   pub resolved : (r : List Row) → f.rows ≡ Some r → (is_ended f.got ≡ true) × (r ≡ rows_of e (heard asked f.got))
   pub over : f.is_over ≡ true → (is_ended f.got ≡ true) × (f.sent ≡ answers_for e asked ls f.got) × (f.rows ≡ Some (rows_of e (heard asked f.got))) × (f.left ≡ [])
 
-pub either : (a b : Bool) → a ≡ true → (a || b) ≡ true
-either true b e = refl
-either false b e = no (sym e)
-
-pub neither : (a b : Bool) → (a || b) ≡ false → a ≡ false
-neither true b e = no e
-neither false b e = refl
-
 -- the answer to a request that is resolvable, whatever comes yet
 first_answer : (e : Summary) (asked : List Loc) (l : Loc) (left : List Loc) (got more : List Message) → is_resolvable asked got (e.ends l) ≡ true
     → answer l (resolved (heard asked got) (e.ends l)) ++ answers_for e asked left (got ++ more) ≡ answers_for e asked (l ∷ left) (got ++ more)
@@ -256,7 +249,7 @@ first_answer e asked l left got more h = by (is_ended got) refl where
 
   by : (b : Bool) → is_ended got ≡ b → answer l (resolved (heard asked got) (e.ends l)) ++ answers_for e asked left (got ++ more) ≡ answers_for e asked (l ∷ left) (got ++ more)
   by true ended = both (
-    either (is_ended (got ++ more)) _ (ended_stays got more ended),
+    or_left (is_ended (got ++ more)) _ (ended_stays got more ended),
     ap (λ (xs : List (List SourceByte)). resolved (answer_to asked xs) (e.ends l)) (answers_stay [] got more ended),
   )
   by false running = both (resolvable_stays asked got more (e.ends l) running h)
@@ -299,7 +292,7 @@ module _ (first : Bool) (e : Summary) (asked ls : List Loc) (links : Links) (f :
 
   on_request : (b : Bool) (l : Loc) (left : List Loc) → f.is_over ≡ false → f.sending ≡ [] → f.left ≡ l ∷ left → is_resolvable asked f.got (e.ends l) ≡ b
       → (build_or_pop b e asked links f l left).is_whole ≡ true → AnsweringHolds first e asked ls (build_or_pop b e asked links f l left)
-  on_request false l left o s w r t = on_receive links.is_refused links.next o (neither (is_ended f.got) _ r) t
+  on_request false l left o s w r t = on_receive links.is_refused links.next o (or_parts (is_ended f.got) _ r).0 t
   on_request true l left o s w r t = on_build links.is_refused l left o s w r t
 
   on_resolve : (refused : Bool) → f.is_over ≡ false → is_ended f.got ≡ true → (resolve refused e asked f).is_whole ≡ true → AnsweringHolds first e asked ls (resolve refused e asked f)

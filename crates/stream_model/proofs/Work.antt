@@ -1,6 +1,7 @@
 -- Every schedule that ends with all nodes done, and none broken, has the same number of events that move.
 use Rattle.std.proofs.Common.{◌≡◌, ℕ, zero, suc, ◌+◌, List, [], ◌∷◌, ◌++◌, map, length, refl, ap, sym, subst, ◌∙◌, Bool, true, false, arith}
 use Rattle.std.specs.Prelude.{Option, Some, None, is_none}
+use Rattle.std.proofs.lemmas.List.{length-map}
 use Rattle.flow_model.specs.declared.Loc.{Loc}
 use Rattle.flow_rule.specs.declared.Message.{Message}
 use Rattle.flow_rule.specs.declared.Message.TheVariants.{Ask, End}
@@ -14,7 +15,7 @@ use Rattle.stream_model.specs.ScheduleLaws.{one_if, moves_in, SameWork}
 use Rattle.stream_model.proofs.Passing.{no, begun_whole}
 use Rattle.stream_model.proofs.Moving.{reached, started}
 use Rattle.stream_model.proofs.Running.{PassHolds, RunHolds, AllDone, AllWhole, facts, all_are_done, run_holds, run_starts, kept_summaries, first_summaries, as_many}
-use Rattle.stream_model.proofs.Moves.{as_long, AskCount, count_asking, whole_asking_before, row_count, count_answering}
+use Rattle.stream_model.proofs.Moves.{AskCount, count_asking, whole_asking_before, row_count, count_answering}
 use Rattle.stream_model.proofs.NodeWork.{seen, done_nodes_work}
 
 -- ---- the count of a node, and of all
@@ -123,7 +124,7 @@ done_work first last e (Answers a f) h d w =
     let asks : length a.left ≡ 0 = ap length ((h.2 (h.1 w)).over h.0).0 in
     let answers : length f.left ≡ 0 = ap length ((h.3 w).over d).3 in
     let row : row_count f.rows ≡ 1 = ap row_count ((h.3 w).over d).2 in
-    let rows : length (rows_or_none f.rows) ≡ length e.sinks = ap length x.done.rows ∙ as_long (resolved_row (heard a.asked f.got)) e.sinks in
+    let rows : length (rows_or_none f.rows) ≡ length e.sinks = ap length x.done.rows ∙ length-map e.sinks (resolved_row (heard a.asked f.got)) in
     omega (arith, asks, answers, row, rows, seen last a.got x.at_last, seen first f.got x.at_first)
 
 all_work : (before : Option Phase) (ns : List NodeState) → RunHolds before ns → AllDone ns → AllWhole ns → gain_all ns ≡ work_in_all (is_none before) (map node_in ns) + debt_all before ns

@@ -3,7 +3,7 @@
 ghost use Rattle.stream_model.specs.StreamLaws.{AsksGrow, AnswersGrow, AsksEndLast, AnswersEndLast, NothingIsLeft, HeardAscends, ResolvableByCount, PlacesStay, DoneNodesMeet};
 ghost use Rattle.stream_model.specs.Work.{DoneNodesWork};
 ghost use Rattle.stream_model.specs.PassLaws.{AskingSends, AnsweringSends, PassesEndDone};
-ghost use Rattle.stream_model.specs.ScheduleLaws.{NeverStill, StillAsking, StillAnswering, EveryScheduleMeets, SameWork};
+ghost use Rattle.stream_model.specs.ScheduleLaws.{NeverOverfull, NeverStill, StillAsking, StillAnswering, EveryScheduleMeets, SameWork};
 
 /// Whoever gets more sends what it sent, and maybe more.
 pub fn sent_grows_with_got()
@@ -42,6 +42,12 @@ pub fn passes_send()
     ensures asking { AskingSends }
     ensures answering { AnsweringSends }
     ensures done { PassesEndDone }
+{}
+
+/// In every state that a schedule reaches, each link holds what was sent there and not got yet: at most as many messages as
+/// its capacity.
+pub fn never_overfull()
+    ensures { NeverOverfull }
 {}
 
 /// In every state that a schedule reaches, all nodes are done or some node's event moves; an event that

@@ -3,3 +3,4 @@ mod WorkedBench
 pub mod Guests
 pub mod SameNumbers
 pub mod Outcomes
+mod Answered

@@ -1,4 +1,4 @@
--- What logs come to, and that there is one answer. Crates above cite these lemmas.
+-- What logs come to, and that there is at most one answer. Crates above cite these lemmas.
 use Rattle.std.proofs.Common.{◌≡◌, ◌∙◌, sym, ap, ℕ, ◌≤◌, ◌<◌, ◌^◌, Bool, List, length, if◌then◌else◌, Option, Some, Result, Ok, Err}
 use Rattle.std.proofs.lemmas.Bool.{lt-ltb, le-ltb}
 use Rattle.isa.specs.Machine.{State}

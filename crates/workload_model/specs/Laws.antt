@@ -58,6 +58,11 @@ LinesAreGiven = (log : Log) (epoch_length : ℕ)
     → (start : State) → beginning guest_file log ≡ Some start → (q : Query) → Alike q workload_query
     → bench_outcome log epoch_length ≡ Ok (numbers_text (numbers_of q (cut_times (steps log) epoch_length) (trace start log)))
 
+-- there is an answer, whatever the seed and the length of epochs
+abbrev pub HasAnswer : Type 0
+HasAnswer = (seed steps epoch_length : ℕ) → steps ≤ 2 ^ 40
+    → (answer : Result (List ℕ) Refusal) × IsBenchAnswer seed steps epoch_length answer
+
 -- two answers are the same
 abbrev pub HasOneAnswer : Type 0
 HasOneAnswer = (seed steps epoch_length : ℕ) (a b : Result (List ℕ) Refusal)

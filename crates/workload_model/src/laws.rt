@@ -2,7 +2,7 @@
 
 ghost use Rattle.workload_model.specs.Laws.{GuestHasWords, GuestIsImage, WindowHoldsGuest, TextIsQuery, AlikeHaveSameNumbers};
 ghost use Rattle.workload_model.specs.Laws.{LongLogIsRefused, ManyEpochsAreRefused, LinesAreGiven};
-ghost use Rattle.workload_model.specs.Laws.{HasOneAnswer, AnswerIsLines, LinesAreAnswer};
+ghost use Rattle.workload_model.specs.Laws.{HasAnswer, HasOneAnswer, AnswerIsLines, LinesAreAnswer};
 
 /// A word stands for each instruction of the guest, its file is a program file, and a window of the workload's pages can
 /// hold its image.
@@ -30,9 +30,10 @@ pub fn logs_come_to_lines()
     ensures lines { LinesAreGiven }
 {}
 
-/// A seed, a number of steps and a length of epochs have one answer.
+/// A seed, a number of steps up to 2^40 and a length of epochs have one answer: there is one, and at most one.
 pub fn one_bench_answer()
-    ensures { HasOneAnswer }
+    ensures some { HasAnswer }
+    ensures one { HasOneAnswer }
 {}
 
 /// A text is the answer where it is the lines of the workload's run, and the run is within the limits; else there is none.

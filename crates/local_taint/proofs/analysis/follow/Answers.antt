@@ -8,7 +8,7 @@ use Rattle.epoch_model.specs.Stretch.{sinks_of_epoch}
 use Rattle.epoch_model.specs.Summary.{terms, sink_terms}
 use Rattle.local_taint.specs.Sinks.{Notes, Shows, named}
 use Rattle.local_taint.proofs.Notes.{stand_kept, standing_kept, shows_kept}
-use Rattle.local_taint.proofs.Due.{due_now, later_now, left_in_time, left_ascend}
+use Rattle.report_model.proofs.Due.{due_now, later_now, left_in_time, left_ascend}
 use Rattle.local_taint.specs.Summaries.{AreInRange}
 use Rattle.local_taint.proofs.Steps.{one_more, one_in_range, none_kept, none_stand}
 use Rattle.local_taint.proofs.Between.{first_sinks, more_sinks}

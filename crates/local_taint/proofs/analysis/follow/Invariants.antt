@@ -5,7 +5,8 @@ use Rattle.epoch_model.specs.Stretch.{sinks_of_epoch}
 use Rattle.epoch_model.specs.Summary.{terms, sink_terms}
 use Rattle.taint_shadow.specs.Steps.{AreStanding}
 use Rattle.local_taint.specs.Words.{label_words}
-use Rattle.local_taint.specs.Sinks.{AreNamed, named, Shows, from_time}
+use Rattle.report_model.specs.Rows.{from_time}
+use Rattle.local_taint.specs.Sinks.{AreNamed, named, Shows}
 use Rattle.local_taint.specs.Summaries.{AreInRange}
 use Rattle.local_taint.proofs.analysis.follow.Given as goal
 

@@ -4,7 +4,7 @@ use Rattle.flow_model.specs.declared.InnerSink.{InnerSink}
 use Rattle.flow_model.specs.declared.Loc.TheVariants.{Reg}
 use Rattle.report_model.specs.Rows.{point_sink}
 use Rattle.local_taint.specs.Sinks.{Notes}
-use Rattle.local_taint.proofs.Due.{AreAfter, after_due, after_all, due_are, later_are, turn_more, later_more, sinks_more}
+use Rattle.report_model.proofs.Due.{AreAfter, after_due, after_all, due_are, later_are, turn_more, later_more, sinks_more}
 use Rattle.local_taint.proofs.Notes.{standing_kept, more_notes}
 use Rattle.local_taint.proofs.points.collect_due.Goals as goal
 use Rattle.local_taint.proofs.points.collect_due.Goals.{then-loop-due-test+else-points-due, else-loop-due-test}

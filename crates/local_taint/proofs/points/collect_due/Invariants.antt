@@ -1,8 +1,8 @@
 use Rattle.std.proofs.Common.{◌≡◌, ◌+◌, ◌-◌, ◌≤◌, ◌++◌, map, length, take, drop}
-use Rattle.report_model.specs.Rows.{point_sink}
+use Rattle.report_model.specs.Rows.{point_sink, at_time, from_time}
 use Rattle.taint_shadow.specs.Steps.{AreStanding}
 use Rattle.local_taint.specs.Words.{label_words}
-use Rattle.local_taint.specs.Sinks.{AreNamed, Notes, at_time, from_time}
+use Rattle.local_taint.specs.Sinks.{AreNamed, Notes}
 use Rattle.local_taint.proofs.points.collect_due.Given as goal
 
 abbrev pub invariant-loop-due : goal.invariant-loop-due

@@ -1,7 +1,7 @@
 use Rattle.std.proofs.Common.{rules, ◌≤◌, ◌-◌, drop, length, arith, ◌∙◌}
 use Rattle.std.proofs.lemmas.List.{take_all, length-drop}
 use Rattle.std.proofs.lemmas.List.Sorted.{IsPartitionPoint-from_clause}
-use Rattle.local_taint.proofs.Due.{passed_by, partitioned, after_passed}
+use Rattle.report_model.proofs.Due.{passed_by, partitioned, after_passed}
 use Rattle.local_taint.proofs.points.points_after.Goals as goal
 
 pub returns : goal.returns

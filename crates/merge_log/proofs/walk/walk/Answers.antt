@@ -1,7 +1,8 @@
 use Rattle.std.proofs.Common.{◌≡◌, ◌<◌, [], ℕ, List, length, subst, arith}
+use Rattle.std.proofs.lemmas.List.{nil_from_length}
 use Rattle.merge_log.specs.Walk.{terms_of}
 use Rattle.merge_log.proofs.Marks.{IsVisit, visit_length}
-use Rattle.merge_log.proofs.Walking.{IsWalk, none_open, popped, source_step, start_step, union_step, union_cost, nothing_left, walk_ends}
+use Rattle.merge_log.proofs.Walking.{IsWalk, none_open, popped, source_step, start_step, union_step, union_cost, walk_ends}
 use Rattle.merge_log.proofs.walk.walk.Goals as goal
 
 pub entry-requires-clause-above_0 : goal.entry-requires-clause-above_0
@@ -53,6 +54,6 @@ loop-next-preserved c =
 
 pub returns : goal.returns
 returns c =
-    let empty : c.loop-next.stack.items ≡ [] = nothing_left c.loop-next.stack.items (omega (arith, c.in_default.ensures.cases.0, c.loop-next.stack.ok)) in
+    let empty : c.loop-next.stack.items ≡ [] = nil_from_length c.loop-next.stack.items (omega (arith, c.in_default.ensures.cases.0, c.loop-next.stack.ok)) in
     let walk = subst (λ (s : List ℕ). IsWalk c.args.log.now c.args.root c.loop-next.marks.round c.loop-next.marks.last.items s (terms_of c.loop-next.found) none_open) empty c.loop-next.invariant.walk in
     record { found = walk_ends _ _ _ _ _ c.form.ensures.log walk }

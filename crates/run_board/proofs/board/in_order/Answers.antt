@@ -3,4 +3,4 @@ use Rattle.std.proofs.lemmas.List.Sorted.{IsNonDecreasingBy-from_sort_by_key}
 use Rattle.run_board.proofs.board.in_order.Goals as goal
 
 pub returns-clause-sorted : goal.returns-clause-sorted
-returns-clause-sorted g c = IsNonDecreasingBy-from_sort_by_key g.T.Task.words.number _ c.sort_unstable_by_key.ensures.sorted (λ a r q k. search rules)
+returns-clause-sorted g c = IsNonDecreasingBy-from_sort_by_key g.T.Numbered.words.number _ c.sort_unstable_by_key.ensures.sorted (λ a r q k. search rules)

@@ -7,16 +7,16 @@ use Rattle.run_board.proofs.Keeping.{keeps_both}
 use Rattle.run_board.proofs.pool.join.Goals as goal
 
 pub absorb-requires-clause-rule : goal.absorb-requires-clause-rule
-absorb-requires-clause-rule g c = joins g.T.Task.words _ _ _ _ c.requires.ready.keeps.working
+absorb-requires-clause-rule g c = joins g.T.Numbered.words _ _ _ _ c.requires.ready.keeps.working
 
 pub learn_as-requires-clause-rule : goal.learn_as-requires-clause-rule
 learn_as-requires-clause-rule g c =
-    has_room g.T.Task.words _ _ (omega (arith, ap (λ (v : WorkerView g.row.T.Denot). v.shares) c.absorb.ensures.rule, c.requires.ready.keeps.working))
+    has_room g.T.Numbered.words _ _ (omega (arith, ap (λ (v : WorkerView g.row.T.Denot). v.shares) c.absorb.ensures.rule, c.requires.ready.keeps.working))
 
 pub returns-clause-ready : goal.returns-clause-ready
 returns-clause-ready g c =
     let V : Type 0 = WorkerView g.row.T.Denot in
-    let words = g.T.Task.words in
+    let words = g.T.Numbered.words in
     let mine = c.requires.ready in
     let is = c.learn_as.ensures.queue.1 ∙ c.absorb.ensures.rule in
     let items = c.args.worker.now.finished.items ++ c.args.other.finished.items in

@@ -10,7 +10,7 @@ use Rattle.run_board.proofs.pool.join_all.Goals as goal
 pub loop-other-preserved : goal.loop-other-preserved
 loop-other-preserved g c =
     let W : Type 0 = Worker g.row.T.Denot in
-    let Ready : W → Type 0 = λ w. IsReady g.T.Task.words (ruled_capacity c.args.queue.now) (IsPassOf c.args.queue.now) w in
+    let Ready : W → Type 0 = λ w. IsReady g.T.Numbered.words (ruled_capacity c.args.queue.now) (IsPassOf c.args.queue.now) w in
     let known = (view_of c.args.worker.now).starts in
     let i = c.loop-other.invariant in
     let e = c.in-Some.ensures.steps.0 in

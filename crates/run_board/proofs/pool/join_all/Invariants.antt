@@ -6,9 +6,9 @@ use Rattle.run_board.proofs.pool.join_all.Given as goal
 
 abbrev pub invariant-loop-other : goal.invariant-loop-other
 invariant-loop-other g l = record {
-  ready : IsReady g.T.Task.words (ruled_capacity l.queue) (IsPassOf l.queue) l.worker;
+  ready : IsReady g.T.Numbered.words (ruled_capacity l.queue) (IsPassOf l.queue) l.worker;
   starts : KnowsStarts (view_of l.initial.worker).starts l.worker;
-  others_ready : All (IsReady g.T.Task.words (ruled_capacity l.queue) (IsPassOf l.queue)) (into_iter_items l.other-iterator);
+  others_ready : All (IsReady g.T.Numbered.words (ruled_capacity l.queue) (IsPassOf l.queue)) (into_iter_items l.other-iterator);
   others_start : All (KnowsStarts (view_of l.initial.worker).starts) (into_iter_items l.other-iterator);
   shares : (view_of l.worker).shares + shares_of (into_iter_items l.other-iterator) ≡ (view_of l.initial.worker).shares + shares_of l.fn.others.items;
 }

@@ -13,14 +13,14 @@ use Rattle.run_board.proofs.Joining.{shares_of-push}
 use Rattle.run_board.proofs.pool.make_pool.Goals as goal
 
 pub another-share-requires-clause-rule : goal.another-share-requires-clause-rule
-another-share-requires-clause-rule g c = splits g.T.Task.words _ _ (omega (arith, c.loop-finished.invariant.left, ap length c.in-Some-finished.ensures.steps.0))
+another-share-requires-clause-rule g c = splits g.T.Numbered.words _ _ (omega (arith, c.loop-finished.invariant.left, ap length c.in-Some-finished.ensures.steps.0))
 
 pub loop-finished-preserved : goal.loop-finished-preserved
 loop-finished-preserved g c =
     let V : Type 0 = WorkerView g.row.T.Denot in
     let W : Type 0 = Worker g.row.T.Denot in
     let capacity = ruled_capacity c.args.queue.now in
-    let ready : W → Type 0 = λ w. IsReady g.T.Task.words capacity (IsPassOf c.args.queue.now) w in
+    let ready : W → Type 0 = λ w. IsReady g.T.Numbered.words capacity (IsPassOf c.args.queue.now) w in
     let i = c.loop-finished.invariant in
     let a = c.another-share.ensures in
     let known = (view c.args.pass).starts in
@@ -30,7 +30,7 @@ loop-finished-preserved g c =
     let steps = c.in-Some-finished.ensures.steps.0 in
     let rest = into_iter_items c.next.new.self in
     let has_room = All-head (HasRoomFor capacity) list rest (subst (All (HasRoomFor capacity)) steps i.lists) in
-    let keeps = keeps_none g.T.Task.words (view c.another-share.result) list.items 1 known new_is (lit< tt) has_room.0 in
+    let keeps = keeps_none g.T.Numbered.words (view c.another-share.result) list.items 1 known new_is (lit< tt) has_room.0 in
     let items = c.push_reserved.ensures.items in
     let shares = ap (λ (v : V). v.shares) a.rule.0 in
     let one = ap length steps in
@@ -50,12 +50,12 @@ pub returns-clause-ready : goal.returns-clause-ready
 returns-clause-ready g c =
     let W : Type 0 = Worker g.row.T.Denot in
     let capacity = ruled_capacity c.args.queue.now in
-    let ready : W → Type 0 = λ w. IsReady g.T.Task.words capacity (IsPassOf c.args.queue.now) w in
+    let ready : W → Type 0 = λ w. IsReady g.T.Numbered.words capacity (IsPassOf c.args.queue.now) w in
     let i = c.loop-finished.invariant in
     let own : W = record { pass = c.loop-finished.pass; finished = c.in-Some.last } in
     let works : 0 < (view c.loop-finished.pass).shares = omega (arith, i.left) in
     let has_room : HasRoomFor capacity c.in-Some.last = (All-last (HasRoomFor capacity) c.pop.new.self.items c.in-Some.last (subst (All (HasRoomFor capacity)) c.in-Some.ensures.items c.requires.lists)).1 in
-    let keeps = keeps_none g.T.Task.words (view c.loop-finished.pass) c.in-Some.last.items (view c.loop-finished.pass).shares (view c.args.pass).starts i.view_is works has_room.0 in
+    let keeps = keeps_none g.T.Numbered.words (view c.loop-finished.pass) c.in-Some.last.items (view c.loop-finished.pass).shares (view c.args.pass).starts i.view_is works has_room.0 in
     subst (All ready) (sym c.push_reserved-2.ensures.items) (All-push ready c.loop-finished.pool.items own i.ready (record { has_pass = i.pass; keeps = keeps; few = omega (arith, ap (λ (v : WorkerView g.row.T.Denot). length v.starts) i.view_is, c.requires.few); room = has_room.1 }))
 
 pub returns-clause-starts : goal.returns-clause-starts

@@ -12,7 +12,7 @@ invariant-loop-finished g l = record {
   left : length (into_iter_items l.finished-iterator) < (view l.pass).shares;
   lists : All (HasRoomFor (ruled_capacity l.queue)) (into_iter_items l.finished-iterator);
   room : vec_len l.pool + length (into_iter_items l.finished-iterator) < vec_capacity l.pool;
-  ready : All (IsReady g.T.Task.words (ruled_capacity l.queue) (IsPassOf l.queue)) l.pool.items;
+  ready : All (IsReady g.T.Numbered.words (ruled_capacity l.queue) (IsPassOf l.queue)) l.pool.items;
   starts : All (KnowsStarts (view l.fn.pass).starts) l.pool.items;
   shares : shares_of l.pool.items + (view l.pass).shares ≡ whole_share;
 }

@@ -21,11 +21,11 @@ shares_split before after rest last same is = sym (shares_of-push rest last) ∙
 
 pub join_all-requires-clause-ready : goal.join_all-requires-clause-ready
 join_all-requires-clause-ready g c κs within =
-    (last_of (IsReady g.T.Task.words (ruled_capacity c.args.queue.now) (IsPassOf c.args.queue.now)) _ c.pop.new.self.items c.in-Some.worker c.in-Some.ensures.items c.turn_pool.ensures.ready).1
+    (last_of (IsReady g.T.Numbered.words (ruled_capacity c.args.queue.now) (IsPassOf c.args.queue.now)) _ c.pop.new.self.items c.in-Some.worker c.in-Some.ensures.items c.turn_pool.ensures.ready).1
 
 pub join_all-requires-clause-others_ready : goal.join_all-requires-clause-others_ready
 join_all-requires-clause-others_ready g c κs within =
-    (last_of (IsReady g.T.Task.words (ruled_capacity c.args.queue.now) (IsPassOf c.args.queue.now)) _ c.pop.new.self.items c.in-Some.worker c.in-Some.ensures.items c.turn_pool.ensures.ready).0
+    (last_of (IsReady g.T.Numbered.words (ruled_capacity c.args.queue.now) (IsPassOf c.args.queue.now)) _ c.pop.new.self.items c.in-Some.worker c.in-Some.ensures.items c.turn_pool.ensures.ready).0
 
 pub join_all-requires-clause-others_starts : goal.join_all-requires-clause-others_starts
 join_all-requires-clause-others_starts g c κs within =

@@ -7,12 +7,12 @@ use Rattle.run_board.proofs.pool.turn_at_once.Goals as goal
 
 pub for_each_mut-requires-clause-accepts : goal.for_each_mut-requires-clause-accepts
 for_each_mut-requires-clause-accepts g c κs within =
-    λ i p lt is. (subst (λ (w : Worker g.row.T.Denot). IsReady g.T.Task.words (ruled_capacity c.args.queue.now) (IsPassOf c.args.queue.now) w) (sym is) (c.requires.ready i p.now lt), search rules)
+    λ i p lt is. (subst (λ (w : Worker g.row.T.Denot). IsReady g.T.Numbered.words (ruled_capacity c.args.queue.now) (IsPassOf c.args.queue.now) w) (sym is) (c.requires.ready i p.now lt), search rules)
 
 pub returns-clause-ready : goal.returns-clause-ready
 returns-clause-ready g c = λ k d lt.
     let e = (c.for_each_mut.ensures k d (omega (arith, c.for_each_mut.auto.s))).1 in
-    subst (λ (w : Worker g.row.T.Denot). IsReady g.T.Task.words (ruled_capacity c.args.queue.now) (IsPassOf c.args.queue.now) w) e.left e.call.0
+    subst (λ (w : Worker g.row.T.Denot). IsReady g.T.Numbered.words (ruled_capacity c.args.queue.now) (IsPassOf c.args.queue.now) w) e.left e.call.0
 
 pub returns-clause-starts : goal.returns-clause-starts
 returns-clause-starts g c = all_know c.args.pool.now c.for_each_mut.new.s (omega (arith, c.for_each_mut.auto.s)) (λ k d lt.

@@ -4,6 +4,6 @@ use Rattle.run_board.proofs.turning.turn_until_empty.Given as goal
 
 abbrev pub invariant-loop : goal.invariant-loop
 invariant-loop g l = record {
-  ready : IsReady g.T.Task.words (ruled_capacity l.queue) (IsPassOf l.queue) l.worker;
+  ready : IsReady g.T.Numbered.words (ruled_capacity l.queue) (IsPassOf l.queue) l.worker;
   follows : Follows l.initial.worker l.worker;
 }

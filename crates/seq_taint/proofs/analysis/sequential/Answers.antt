@@ -6,14 +6,14 @@ use Rattle.flow_model.specs.Origins.{step_at, origins}
 use Rattle.replay_model.specs.Run.{start}
 use Rattle.replayer.specs.Jobs.{Job, trace_of}
 use Rattle.report_model.specs.Query.{policy_of}
-use Rattle.report_model.specs.Rows.{sinks_of_step, rows_as_written}
+use Rattle.report_model.specs.Rows.{sinks_of_step, rows_as_written, at_time, from_time}
 use Rattle.replay_model.proofs.Offsets.{writes_apart}
 use Rattle.sink_collect.specs.Distinct.{AreDistinct}
 use Rattle.taint_shadow.specs.Steps.{Holds}
 use Rattle.seq_taint.specs.Words.{set_words}
-use Rattle.seq_taint.specs.Sinks.{sources_at, rows_by, point_rows, at_time, from_time, Shows}
+use Rattle.seq_taint.specs.Sinks.{sources_at, rows_by, point_rows, Shows}
 use Rattle.seq_taint.proofs.Beyond.{NoneBeyond, still_none}
-use Rattle.seq_taint.proofs.Due.{all_from, due_now, later_now, left_in_time, left_ascend}
+use Rattle.report_model.proofs.Due.{all_from, due_now, later_now, left_in_time, left_ascend}
 use Rattle.seq_taint.proofs.Steps.{one_more, none_kept}
 use Rattle.seq_taint.proofs.Written.{rows_of, sinks_before, more_rows, all_rows}
 use Rattle.seq_taint.proofs.Distinct.{distinct_rows}

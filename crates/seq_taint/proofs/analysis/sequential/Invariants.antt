@@ -4,7 +4,7 @@ use Rattle.flow_model.specs.Origins.{origins}
 use Rattle.replayer.specs.Jobs.{trace_of}
 use Rattle.report_model.specs.Query.{policy_of}
 use Rattle.taint_shadow.specs.Steps.{AreStanding, Holds}
-use Rattle.seq_taint.specs.Sinks.{from_time}
+use Rattle.report_model.specs.Rows.{from_time}
 use Rattle.seq_taint.specs.Words.{set_words}
 use Rattle.seq_taint.proofs.Beyond.{NoneBeyond}
 use Rattle.seq_taint.proofs.Written.{rows_of, sinks_before}

@@ -3,7 +3,7 @@ use Rattle.std.proofs.lemmas.List.{take_all, length-drop, get_or_default}
 use Rattle.flow_model.specs.declared.InnerSink.{InnerSink}
 use Rattle.flow_model.specs.declared.Loc.TheVariants.{Reg}
 use Rattle.seq_taint.specs.Sinks.{point_rows}
-use Rattle.seq_taint.proofs.Due.{AreAfter, after_due, after_all, due_are, later_are}
+use Rattle.report_model.proofs.Due.{AreAfter, after_due, after_all, due_are, later_are}
 use Rattle.seq_taint.proofs.points.collect_due.Goals as goal
 use Rattle.seq_taint.proofs.points.collect_due.Goals.{then-loop-due-test+else-points-due, else-loop-due-test}
 

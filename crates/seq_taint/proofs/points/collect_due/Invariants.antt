@@ -1,7 +1,8 @@
 use Rattle.std.proofs.Common.{◌≡◌, ◌+◌, ◌-◌, ◌≤◌, ◌++◌, List, length, take, drop}
 use Rattle.flow_model.specs.declared.Loc.{Loc}
 use Rattle.flow_model.specs.declared.SourceByte.{SourceByte}
-use Rattle.seq_taint.specs.Sinks.{at_time, from_time, point_rows, Shows}
+use Rattle.report_model.specs.Rows.{at_time, from_time}
+use Rattle.seq_taint.specs.Sinks.{point_rows, Shows}
 use Rattle.seq_taint.proofs.points.collect_due.Given as goal
 
 abbrev pub invariant-loop-due : goal.invariant-loop-due

@@ -15,13 +15,13 @@ returns-then-is_nothing-2-clause-made c = record {
   means = nothing_with c.args.self.now c.args.left c.args.right (c.is_nothing-2.ensures c.if-is_nothing-2.true);
 }
 
-pub union-requires-clause-left : goal.union-requires-clause-left
-union-requires-clause-left c = (c.node_of-2.ensures.keeps (Node c.in_ok-one.one) c.in_ok-one.ensures.stands).stands
+pub absorbing_union-requires-clause-left : goal.absorbing_union-requires-clause-left
+absorbing_union-requires-clause-left c = (c.node_of-2.ensures.keeps (Node c.in_ok-one.one) c.in_ok-one.ensures.stands).stands
 
 pub returns-clause-made : goal.returns-clause-made
 returns-clause-made c = record {
   stands = c.label_of.ensures.stands;
   means = c.label_of.ensures.means
-      ∙ of_both c.args.self.now c.node_of.new.self c.node_of-2.new.self (record { log = c.union.new.self }) c.args.left c.args.right c.in_ok-one.one c.in_ok-other.other c.in_ok-node.node
+      ∙ of_both c.args.self.now c.node_of.new.self c.node_of-2.new.self (record { log = c.absorbing_union.new.self }) c.args.left c.args.right c.in_ok-one.one c.in_ok-other.other c.in_ok-node.node
       c.requires.right c.in_ok-one.ensures.stands c.in_ok-one.ensures.means c.node_of.ensures.keeps c.in_ok-other.ensures.means c.node_of-2.ensures.keeps c.in_ok-node.ensures.terms;
 }

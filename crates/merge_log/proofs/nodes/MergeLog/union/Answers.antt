@@ -1,7 +1,7 @@
 use Rattle.std.proofs.Common.{◌∙◌}
 use Rattle.std.proofs.lemmas.Result.{IfOk-weaker}
 use Rattle.merge_log.proofs.Terms.{with_itself, with_nothing, nothing_with}
-use Rattle.merge_log.proofs.Unions.{absorbed, absorbed_terms, made, made_terms, made_there}
+use Rattle.merge_log.proofs.Unions.{made, made_terms, made_there}
 use Rattle.merge_log.proofs.nodes.MergeLog.union.Goals as goal
 use Rattle.merge_log.proofs.nodes.MergeLog.union.Goals.{then-a-b-via-then-a-b, then-a-b-via-else-a-b+then-b-eq0}
 
@@ -15,21 +15,13 @@ returns-then-a-b-clause-terms c =
 pub returns-then-a-eq0-clause-terms : goal.returns-then-a-eq0-clause-terms
 returns-then-a-eq0-clause-terms c = nothing_with c.args.self.now c.args.a c.args.b c.if-a-eq0.true
 
-pub returns-then-has_operand-clause-terms : goal.returns-then-has_operand-clause-terms
-returns-then-has_operand-clause-terms c =
-    absorbed_terms c.args.self.now c.args.a c.args.b c.in_order-left.result.0 c.in_order-left.result.1 c.form.ensures.log.ordered c.in_order-left.ensures.both (c.has_operand.ensures.0 c.if-has_operand.true)
-
-pub returns-then-has_operand-clause-united : goal.returns-then-has_operand-clause-united
-returns-then-has_operand-clause-united c =
-    absorbed c.args.self.now c.args.a c.args.b c.in_order-left.result.0 c.in_order-left.result.1 c.form.ensures.log.ordered c.in_order-left.ensures.both c.requires.left c.requires.right c.if-a-b.false c.if-a-eq0.false c.if-b-eq0.false (c.has_operand.ensures.0 c.if-has_operand.true)
-
 pub returns-clause-terms : goal.returns-clause-terms
 returns-clause-terms c =
     IfOk-weaker c.insert.result _ _ (λ n h. h ∙ made_terms c.args.self.now c.args.a c.args.b c.in_order-left.result.0 c.in_order-left.result.1 c.form.ensures.log.ordered c.insert.new.self c.insert.ensures.kept c.in_order-left.ensures.both c.requires.left c.requires.right) c.insert.ensures.terms
 
 pub returns-clause-united : goal.returns-clause-united
 returns-clause-united c =
-    IfOk-weaker c.insert.result _ _ (λ n h. made c.args.self.now c.args.a c.args.b c.in_order-left.result.0 c.in_order-left.result.1 c.form.ensures.log.ordered c.insert.new.self n c.in_order-left.ensures.both c.in_order-left.ensures.ordered c.if-a-b.false c.if-a-eq0.false c.if-b-eq0.false (λ k. let found = c.has_operand.ensures.1 k in let lacks = c.if-has_operand.false in cc) h) c.insert.ensures.noted
+    IfOk-weaker c.insert.result _ _ (λ n h. made c.args.self.now c.args.a c.args.b c.in_order-left.result.0 c.in_order-left.result.1 c.form.ensures.log.ordered c.insert.new.self n c.in_order-left.ensures.both c.in_order-left.ensures.ordered c.if-a-b.false c.if-a-eq0.false c.if-b-eq0.false h) c.insert.ensures.noted
 
 pub returns-clause-there : goal.returns-clause-there
-returns-clause-there c h = c.insert.ensures.there (made_there c.args.self.now c.args.a c.args.b c.in_order-left.result.0 c.in_order-left.result.1 c.form.ensures.log.ordered c.in_order-left.ensures.both c.in_order-left.ensures.ordered c.if-a-b.false c.if-a-eq0.false c.if-b-eq0.false (λ k. let found = c.has_operand.ensures.1 k in let lacks = c.if-has_operand.false in cc) h)
+returns-clause-there c h = c.insert.ensures.there (made_there c.args.self.now c.args.a c.args.b c.in_order-left.result.0 c.in_order-left.result.1 c.form.ensures.log.ordered c.in_order-left.ensures.both c.in_order-left.ensures.ordered c.if-a-b.false c.if-a-eq0.false c.if-b-eq0.false h)

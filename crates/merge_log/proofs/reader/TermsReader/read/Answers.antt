@@ -1,4 +1,5 @@
-use Rattle.merge_log.proofs.Sorting.{IsSetOf, source_compared, loc_compared, read_terms, read_sets, read_nothing}
+use Rattle.flow_model.proofs.Derived.{source_compared, loc_compared}
+use Rattle.merge_log.proofs.Sorting.{IsSetOf, read_terms, read_sets, read_nothing}
 use Rattle.merge_log.proofs.reader.TermsReader.read.Goals as goal
 
 pub returns-then-node-eq0-clause-read : goal.returns-then-node-eq0-clause-read

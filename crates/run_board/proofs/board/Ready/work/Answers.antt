@@ -5,7 +5,7 @@ use Rattle.run_board.proofs.Order.{IsAnswer, is_answer}
 use Rattle.run_board.proofs.board.Ready.work.Goals as goal
 
 -- the last worker has all tasks, ended and led from those handed in
-answer : (g : _) (c : goal.After-drop-queue g) → IsAnswer g.T.Task.words c.args.self c.in_order.result.items
+answer : (g : _) (c : goal.After-drop-queue g) → IsAnswer g.T.Numbered.words c.args.self c.in_order.result.items
 answer g c =
     let t = c.turn_until_empty.ensures in
     let w = c.run_pool-worker.ensures in
@@ -15,7 +15,7 @@ answer g c =
     let shares = t.follows.shares ∙ w.shares ∙ pool.ensures.shares in
     let starts = t.follows.starts ∙ w.starts handed_in known in
     let whole : (h : ℕ → ℕ) → view_weight h (view_of c.turn_until_empty.new.worker) ≡ whole_weight (length handed_in) h = λ h. t.has_all shares h ∙ ap (λ (s : List g.row.T.Denot). whole_weight (length s) h) starts in
-    rw (← c.self.view_is) (is_answer g.T.Task.words (view_of c.turn_until_empty.new.worker) c.turn_until_empty.new.worker.finished.items c.in_order.result.items handed_in t.ready.keeps whole starts c.self.invariant.0 c.in_order.ensures.permutation c.in_order.ensures.sorted)
+    rw (← c.self.view_is) (is_answer g.T.Numbered.words (view_of c.turn_until_empty.new.worker) c.turn_until_empty.new.worker.finished.items c.in_order.result.items handed_in t.ready.keeps whole starts c.self.invariant.0 c.in_order.ensures.permutation c.in_order.ensures.sorted)
 
 pub returns-clause-order : goal.returns-clause-order
 returns-clause-order g c = (answer g c).order

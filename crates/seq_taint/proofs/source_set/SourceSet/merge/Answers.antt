@@ -5,7 +5,7 @@ use Rattle.sorted_set.specs.Sets.{union, is_within, Ascends}
 use Rattle.flow_model.specs.Orders.{source_cmp}
 use Rattle.sorted_set.proofs.Algebra.{Ascends-union, union-within, union_comm}
 use Rattle.flow_model.proofs.Orders.{source_total, source_same}
-use Rattle.seq_taint.proofs.Order.{order_is, compared}
+use Rattle.flow_model.proofs.Derived.{source_order_is as order_is, source_compared as compared}
 use Rattle.seq_taint.proofs.source_set.SourceSet.merge.Goals as goal
 
 abbrev Order : Type 0

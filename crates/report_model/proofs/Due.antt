@@ -1,5 +1,5 @@
--- The points of a query by their times.
-use Rattle.std.proofs.Common.{◌≡◌, ℕ, nat_eq, ◌+◌, ◌<◌, ◌≤◌, List, [], ◌∷◌, ◌++◌, map, take, drop, length, get_or, Bool, true, false, cond, refl, ap, ap₂, sym, ◌∙◌, subst, arith, append_assoc, append-nil, ⊎_elim}
+-- The points of a query by their times. Crates above cite these lemmas.
+use Rattle.std.proofs.Common.{◌≡◌, ℕ, zero, suc, nat_eq, ◌+◌, ◌<◌, ◌≤◌, List, [], ◌∷◌, ◌++◌, map, take, drop, length, get_or, Bool, true, false, cond, refl, ap, ap₂, sym, ◌∙◌, subst, arith, append_assoc, append-nil, ⊎_elim}
 use Rattle.std.specs.Prelude.{nat_le, All}
 use Rattle.std.specs.List.{AllByRecursion}
 use Rattle.std.specs.Cmp.{nat_cmp_is}
@@ -10,16 +10,15 @@ use Rattle.std.proofs.lemmas.Bool.{cases_lt}
 use Rattle.std.proofs.lemmas.Bool.Decides.{nat_tests}
 use Rattle.std.proofs.lemmas.List.{take_more, drop_more, drop_all, map-append}
 use Rattle.std.proofs.lemmas.List.Elements.{All-from_recursion}
-use Rattle.flow_model.specs.declared.Loc.{Loc}
-use Rattle.flow_model.specs.declared.SourceByte.{SourceByte}
+use Rattle.std.specs.List.Sorted.{IsNonDecreasingBy, IsPartitionedBy, IsPartitionPoint}
+use Rattle.std.proofs.lemmas.List.Sorted.{IsPartitionedBy-leb}
 use Rattle.flow_model.specs.declared.InnerSink.{InnerSink}
 use Rattle.flow_model.specs.Orders.{inner_cmp, loc_cmp}
 use Rattle.flow_model.proofs.Orders.{inner_total}
 use Rattle.sorted_set.specs.Sets.{IsBelow, Ascends}
 use Rattle.sorted_set.proofs.Algebra.{Ascends-drop}
 use Rattle.sorted_set.proofs.Filters.{Ascends-filter}
-use Rattle.report_model.specs.Rows.{Row, point_sink}
-use Rattle.seq_taint.specs.Sinks.{row_by, at_time, from_time, point_rows}
+use Rattle.report_model.specs.Rows.{point_sink, at_time, from_time}
 
 same_time : (a b : ℕ) → a ≡ b → nat_eq a b ≡ true
 same_time a b e = grind (arith, nat_tests)
@@ -54,9 +53,6 @@ all_later : (t : ℕ) (ps : List InnerSink) → AreAfter t ps → from_time (t +
 all_later t [] a = refl
 all_later t (p ∷ ps) a = ap (λ (b : Bool). cond b (p ∷ from_time (t + 1) ps) (from_time (t + 1) ps)) (in_time (t + 1) p.time (omega (arith, a.0))) ∙ ap (λ (qs : List InnerSink). p ∷ qs) (all_later t ps a.1)
 
-rows-append : (sources : Loc → List SourceByte) (ps qs : List InnerSink) → point_rows sources (ps ++ qs) ≡ point_rows sources ps ++ point_rows sources qs
-rows-append sources ps qs = ap (map (row_by sources)) (map-append point_sink ps qs) ∙ map-append (row_by sources) (map point_sink ps) (map point_sink qs)
-
 -- ---- the points due, one after another
 
 module _ (t : ℕ) (points : List InnerSink) (n : ℕ) (p : InnerSink) (l : n < length points) (here : p ≡ get_or points n p) where
@@ -79,12 +75,8 @@ module _ (t : ℕ) (points : List InnerSink) (n : ℕ) (p : InnerSink) (l : n < 
       let rest = from_time (t + 1) (drop (n + 1) points) in
       e ∙ ap (from_time (t + 1)) back ∙ ap (λ (b : Bool). cond b (p ∷ rest) rest) (too_soon (t + 1) p.time (omega (arith, h)))
 
-  pub rows_more : (sources : Loc → List SourceByte) (old sets new : List Row) (row : Row) → sets ≡ old ++ point_rows sources (take n points) → new ≡ sets ++ row ∷ []
-      → row ≡ row_by sources (point_sink p) → new ≡ old ++ point_rows sources (take (n + 1) points)
-  rows_more sources old sets new row e is r =
-      is ∙ ap₂ (λ (xs : List Row) (x : Row). xs ++ x ∷ []) e r
-      ∙ append_assoc old (point_rows sources (take n points)) (row_by sources (point_sink p) ∷ [])
-      ∙ ap (λ (xs : List Row). old ++ xs) (sym (ap (point_rows sources) front ∙ rows-append sources (take n points) (p ∷ [])))
+  pub sinks_more : map point_sink (take (n + 1) points) ≡ map point_sink (take n points) ++ point_sink p ∷ []
+  sinks_more = ap (map point_sink) front ∙ map-append point_sink (take n points) (p ∷ [])
 
   -- the first that isn't due is later, and so are those after it
   pub after_due : Ascends inner_cmp points → t < p.time → AreAfter t (drop n points)
@@ -150,3 +142,38 @@ module _ (t n : ℕ) (left points : List InnerSink) (now : n ≡ t) (is : left �
 
   pub left_ascend : Ascends inner_cmp points → Ascends inner_cmp left
   left_ascend a = subst (Ascends inner_cmp) (sym is) (Ascends-filter inner_cmp (λ p. nat_le t p.time) points a)
+
+-- ---- the first that have not passed
+
+below_at : (p : InnerSink) (ps : List InnerSink) (j : ℕ) (d : InnerSink) → IsBelow inner_cmp p ps → j < length ps → p.time ≤ (get_or ps j d).time
+below_at p [] j d b l = absurd (omega arith)
+below_at p (q ∷ qs) zero d b l = not_sooner p q b.0
+below_at p (q ∷ qs) (suc j) d b l = below_at p qs j d b.1 (omega arith)
+
+times_ascend : (ps : List InnerSink) → Ascends inner_cmp ps → IsNonDecreasingBy (λ p. p.time) ps
+times_ascend [] a i j d le l = absurd (omega arith)
+times_ascend (p ∷ ps) a zero zero d le l = omega arith
+times_ascend (p ∷ ps) a zero (suc j) d le l = below_at p ps j d a.0 (omega arith)
+times_ascend (p ∷ ps) a (suc i) zero d le l = absurd (omega arith)
+times_ascend (p ∷ ps) a (suc i) (suc j) d le l = times_ascend ps a.1 i j d (omega arith) (omega arith)
+
+abbrev pub passed_by : ℕ → InnerSink → Bool
+passed_by t p = nat_le p.time t
+
+pub partitioned : (t : ℕ) (ps : List InnerSink) → Ascends inner_cmp ps → IsPartitionedBy (passed_by t) ps
+partitioned t ps a = IsPartitionedBy-leb (λ p. p.time) ps t (times_ascend ps a)
+
+-- the points that have not passed are those after the time
+pub after_passed : (t : ℕ) (ps : List InnerSink) (i : ℕ) → IsPartitionPoint (λ p. passed_by t p ≡ true) (λ p. passed_by t p ≡ false) ps i → drop i ps ≡ from_time (t + 1) ps
+after_passed t [] zero h = refl
+after_passed t [] (suc i) h = refl
+after_passed t (p ∷ ps) zero h =
+    let first = h.1 0 p (omega arith) (omega arith) in
+    let later : nat_le (t + 1) p.time ≡ true = grind (arith, nat_tests) in
+    let rest = after_passed t ps 0 ((λ k d a b. absurd (omega arith)), λ k d a b. h.1 (suc k) d (omega arith) (omega arith)) in
+    ap (λ (qs : List InnerSink). p ∷ qs) rest ∙ ap (λ (b : Bool). cond b (p ∷ from_time (t + 1) ps) (from_time (t + 1) ps)) (sym later)
+after_passed t (p ∷ ps) (suc i) h =
+    let first = h.0 0 p (omega arith) (omega arith) in
+    let sooner : nat_le (t + 1) p.time ≡ false = grind (arith, nat_tests) in
+    let rest = after_passed t ps i ((λ k d a b. h.0 (suc k) d (omega arith) (omega arith)), λ k d a b. h.1 (suc k) d (omega arith) (omega arith)) in
+    rest ∙ ap (λ (b : Bool). cond b (p ∷ from_time (t + 1) ps) (from_time (t + 1) ps)) (sym sooner)

@@ -1,0 +1,5 @@
+use Rattle.record_model.proofs.Found.{a_recording}
+use Rattle.record_model.proofs.laws.a_recording.Goals as goal
+
+pub returns : goal.returns
+returns c = a_recording
