@@ -3,4 +3,3 @@ mod Steps
 mod Due
 mod Beyond
 mod Written
-pub mod Distinct

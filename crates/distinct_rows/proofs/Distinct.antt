@@ -20,7 +20,10 @@ use Rattle.replay_model.specs.Offsets.{call_at, AreWritesApart}
 use Rattle.report_model.specs.Query.{Query, has_sink}
 use Rattle.report_model.specs.Rows.{Sink, row, sink_at, point_sink, points_at, sinks_of_call, sinks_of_step, sinks_from, rows_as_written}
 use Rattle.sink_collect.specs.Distinct.{IsApartFrom, AreDistinct}
-use Rattle.seq_taint.specs.Sinks.{at_time}
+
+-- the points at a time
+abbrev at_time : ℕ → List InnerSink → List InnerSink
+at_time t points = filter (λ p. p.time == t) points
 
 -- the names of output bytes and points, each unlike those after it
 abbrev IsNewFor : Sink → List Sink → Type 0
