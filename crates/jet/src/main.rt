@@ -1,17 +1,15 @@
 //! `jet` answers, of a recorded run, from which input bytes each output byte came.
 //!
-//! What each status says is told by the definitions of specs/Statuses.antt, which the contract of `jet` cites.
+//! What each status says is told by the contract of `jet_call::jet`.
 #![tactic(auto)]
 
-mod laws;
-mod run;
 #[cfg(test)]
 mod tests;
 
+use jet_call::jet;
 use jet_cli::conclude;
 use jet_refusal::Refusal;
 use outer_io::{FileStore, MachineClock, OpenGate, OutSink};
-use run::jet;
 use std::env;
 use std::io::ErrorKind;
 use std::process::ExitCode;

@@ -14,12 +14,12 @@ mod record;
 mod refusals;
 mod runs;
 
-use crate::run::jet;
 use guest_assembler::{Instr, code, program};
 use guests::{
     ADD_WORDS, COPY_FOUR, Guest, LESS_THAN, LOAD_SIGNED, LOAD_UNSIGNED, LOOK_UP, MULTIPLY_WORDS,
     OVERWRITE, UNALIGNED, XOR_WORDS,
 };
+use jet_call::jet;
 use outer_io::{ListClock, MemoryFile, MemorySink, MemoryStore, OpenGate, Sink, Store};
 use sha2::{Digest, Sha256};
 use std::alloc::{AllocError, Global};
