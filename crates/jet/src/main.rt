@@ -14,6 +14,9 @@ use std::env;
 use std::io::ErrorKind;
 use std::process::ExitCode;
 
+/// What each log begins with: a file that doesn't is not replaced by one.
+const LOG_MARK: &[u8] = b"JETLOG";
+
 /// The words of the command line, of which the first is the program's name. A word that isn't UTF-8 is no word of a
 /// command.
 fn words_of(rt: HostRuntime) -> Result<Vec<String>, Refusal> {
@@ -36,7 +39,7 @@ fn main(rt: HostRuntime) -> ExitCode {
         Ok(words) => words,
         Err(refusal) => return ExitCode::from(conclude(&mut err, Err(refusal))),
     };
-    let mut store = FileStore::new(rt);
+    let mut store = FileStore::new(rt, LOG_MARK);
     let mut out = OutSink::new(rt.stdout());
     let mut clock = MachineClock::new(rt);
     let status = jet(
