@@ -86,3 +86,16 @@ fn equal_nodes_are_one(rt: HostRuntime) -> Result<(), Fail> {
     assert_eq!(rt; log.terms(alloc, 0)?.len(), 0);
     Ok(())
 }
+
+/// A log of 70,000 source bytes has a node for each, in their order.
+#[test]
+fn a_long_log_has_its_nodes(rt: HostRuntime) -> Result<(), Fail> {
+    let alloc = rt.alloc();
+    let mut log = MergeLog::new(alloc);
+    for offset in 0..70_000 {
+        let byte = SourceByte { channel: 0, offset };
+        assert_eq!(rt; log.leaf_source(byte)?, u64::from(offset) + 1);
+    }
+    assert_eq!(rt; log.size(), 70_001);
+    Ok(())
+}

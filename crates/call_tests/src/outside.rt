@@ -208,6 +208,25 @@ fn a_file_without_the_mark_is_not_replaced(rt: HostRuntime) {
     }
 }
 
+/// Whether a text goes out whole to a writer with this room.
+fn goes_out(room: &mut [u8], text: &[u8]) -> bool {
+    let mut sink = OutSink::new(room);
+    write_whole(&mut sink, text).is_ok()
+}
+
+/// A text that is longer than most pieces goes out, each byte to its place.
+#[test]
+fn a_long_text_goes_out(rt: HostRuntime) -> Result<(), Fail> {
+    let mut text = Vec::new(rt.alloc());
+    for i in 0..70_000u32 {
+        text.push((i % 251) as u8)?;
+    }
+    let mut room = vec![in rt.alloc(); 0u8; 70_000]?;
+    assert!(rt; goes_out(&mut room, &text));
+    assert!(rt; room.as_slice() == text.as_slice());
+    Ok(())
+}
+
 /// A clock that stands still, or can't be read.
 #[derive(Drop)]
 struct Stopped(Option<u64>);
