@@ -1,8 +1,10 @@
 //! What a turn at a board costs, beside a plain loop over the same tasks.
 //!
-//! Standard output counts the turns taken, first at a board of three tasks and at one with the most tasks and workers,
+//! Standard output counts the turns taken, first at boards of three tasks and at one with the most tasks and workers,
 //! which are not timed. The times go to standard error.
 #![tactic(auto)]
+
+ghost use Rattle.std.specs.Prelude.{◌≤◌};
 
 mod countdown;
 mod runs;
@@ -22,11 +24,25 @@ const TURNS: u32 = 200;
 /// How many workers each run of the board has.
 const WORKERS: [u32; 3] = [1, 4, 64];
 
-/// Three tasks, which tell their turns one by one, and then the most tasks with the most workers.
-fn untimed(rt: &(impl Print + Threads + Wait + Sync), alloc: Global) -> anyhow::Result<()> {
-    for task in &runs::three_tasks(rt, alloc, 2)? {
-        println!(rt; "turns of task {}: {}", task.number(), task.taken())?;
+/// Three tasks, which tell their turns one by one, with these workers.
+fn tell_three(
+    rt: &(impl Print + Threads + Wait + Sync),
+    alloc: Global,
+    workers: u32,
+) -> anyhow::Result<()>
+    requires { (1 ≤ workers) × (workers ≤ 64) }
+{
+    for task in &runs::three_tasks(rt, alloc, workers)? {
+        let (number, taken) = (task.number(), task.taken());
+        println!(rt; "{workers} workers, turns of task {number}: {taken}")?;
     }
+    Ok(())
+}
+
+/// Three tasks with one worker and with four, and then the most tasks with the most workers.
+fn untimed(rt: &(impl Print + Threads + Wait + Sync), alloc: Global) -> anyhow::Result<()> {
+    tell_three(rt, alloc, 1)?;
+    tell_three(rt, alloc, 4)?;
     let turns = runs::board(rt, alloc, MOST_TASKS as u32, 20, MOST_WORKERS)?;
     println!(rt; "{MOST_TASKS} tasks, {MOST_WORKERS} workers: {turns} turns")?;
     Ok(())

@@ -155,3 +155,20 @@ fn a_second_entry_counts_as_the_first(rt: HostRuntime) -> Result<(), Fail> {
     }
     Ok(())
 }
+
+/// A file of a segment of 70,000 bytes, each of which is loaded.
+#[test]
+fn a_long_file_is_loaded(rt: HostRuntime) -> Result<(), Fail> {
+    let alloc = rt.alloc();
+    let mut file = changed(alloc, &[(P_FILESZ, 70_000), (P_MEMSZ, 70_000)], &[])?;
+    for i in file.len()..84 + 70_000 {
+        file.push((i % 251) as u8)?;
+    }
+    assert_eq!(rt; file.len(), 70_084);
+    let image = load(alloc, &file)?;
+    let segments = image.segments();
+    assert_eq!(rt; segments.len(), 1);
+    assert_eq!(rt; segments[0].size(), 70_000);
+    assert!(rt; segments[0].bytes() == &file[84..]);
+    Ok(())
+}

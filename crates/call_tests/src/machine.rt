@@ -4,7 +4,7 @@ ghost use Rattle.std.specs.Prelude.{◌≡◌, false, IfOk};
 
 use elf_image::load;
 use guest_assembler::{code, program};
-use rv_machine::{Call, CallKind, Instr, Machine, Stepped};
+use rv_machine::{Call, CallKind, Instr, Machine, MachineState, Stepped};
 use std::alloc::Global;
 use std::process::Abort;
 use std::test::Fail;
@@ -115,6 +115,42 @@ fn programs_trap(rt: HostRuntime) -> Result<(), Fail> {
     for (code, plain, kind, pc) in cases {
         let trap = Stepped::Trapped { kind, pc };
         assert!(rt; step_after(&rt, rt.alloc(), code, plain)? == trap);
+    }
+    Ok(())
+}
+
+/// A machine made of another one's state, which was taken apart and put together.
+fn again(rt: &impl Abort, alloc: Global, machine: &Machine) -> Machine
+    requires { machine.now.waits ≡ false }
+    ensures { result.waits ≡ false }
+{
+    let saved = machine.export_state(alloc).expect(rt, "memory");
+    let (window, rest) = saved.apart();
+    Machine::import_state(MachineState::whole(window, rest))
+}
+
+/// A machine whose state is taken out and put back goes on alike: what it has in memory and in registers is there.
+#[test]
+fn a_saved_machine_goes_on_alike(rt: HostRuntime) -> Result<(), Fail> {
+    let code = code![
+        auipc(x5, 0),
+        li(x6, 42),
+        sw(x6, 100(x5)),
+        lw(x10, 100(x5)),
+        addi(x11, x10, 1),
+        ecall()
+    ];
+    let call = Stepped::Called(Call {
+        kind: CallKind::Other,
+        number: 0,
+        args: [42, 43, 0],
+    });
+    for steps in 0..6 {
+        let mut machine = machine_of(rt.alloc(), &code)?;
+        run(&rt, &mut machine, steps);
+        let mut machine = again(&rt, rt.alloc(), &machine);
+        run(&rt, &mut machine, 5 - steps);
+        assert!(rt; machine.step() == call);
     }
     Ok(())
 }

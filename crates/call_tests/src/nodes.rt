@@ -111,3 +111,16 @@ fn a_union_absorbs_its_operands(rt: HostRuntime) -> Result<(), Fail> {
     assert_eq!(rt; log.size(), 6);
     Ok(())
 }
+
+/// A log of 70,000 source bytes has a node for each, in their order.
+#[test]
+fn a_long_log_has_its_nodes(rt: HostRuntime) -> Result<(), Fail> {
+    let alloc = rt.alloc();
+    let mut log = MergeLog::new(alloc);
+    for offset in 0..70_000 {
+        let byte = SourceByte { channel: 0, offset };
+        assert_eq!(rt; log.leaf_source(byte)?, u64::from(offset) + 1);
+    }
+    assert_eq!(rt; log.size(), 70_001);
+    Ok(())
+}

@@ -1,8 +1,8 @@
 //! The forms in memory where they go through and where they fail in mid-stream, and the machine's.
 
-mod broken_disk;
+mod disk;
 
-use broken_disk::BrokenDisk;
+use disk::{Disk, Told};
 use outer_io::*;
 use std::alloc::{AllocError, Global};
 use std::test::Fail;
@@ -11,6 +11,9 @@ use std::{fs, io};
 
 /// No call has this number.
 const NEVER: u64 = 99;
+
+/// What a machine's file begins with that may be replaced.
+const MARK: &[u8] = b"MARK";
 
 /// One file of five bytes.
 fn files(alloc: Global) -> Result<Vec<MemoryFile>, AllocError> {
@@ -111,7 +114,7 @@ fn texts_in_memory(rt: HostRuntime) -> Result<(), Fail> {
 /// folder opens, and can't be read.
 fn are_files(rt: HostRuntime) -> bool {
     let alloc = rt.alloc();
-    let mut store = FileStore::new(rt);
+    let mut store = FileStore::new(rt, MARK);
     write_file(&mut store, "made", b"xyz").is_ok()
         && is_read(alloc, &mut store, "made", 3, "xyz")
         && is_read(alloc, &mut store, "made", 2, "too long")
@@ -159,10 +162,69 @@ fn only_the_end_fails<S: Store>(store: &mut S) -> bool {
     store.finish().is_err()
 }
 
+/// A disk that has no file until one is made, of which nothing can be read.
+const BROKEN: Disk = Disk {
+    told: Told::Missing,
+    bytes: None,
+    wanted: b"xyz!",
+};
+
 #[test]
 fn a_failing_disk_is_a_fault(rt: HostRuntime) {
-    assert!(rt; only_reading_fails(&mut FileStore::new(BrokenDisk), "a"));
-    assert!(rt; only_the_end_fails(&mut FileStore::new(BrokenDisk)));
+    assert!(rt; only_reading_fails(&mut FileStore::new(BROKEN, MARK), "a"));
+    assert!(rt; only_the_end_fails(&mut FileStore::new(BROKEN, MARK)));
+}
+
+/// What is told of a name, what is read there, and whether it may be replaced.
+const REPLACED: [(Told, Option<&[u8]>, bool); 10] = [
+    (Told::Missing, None, true),
+    (Told::Device, None, true),
+    (Told::Unknown, Some(b"MARK"), false),
+    (Told::Regular, None, false),
+    (Told::Regular, Some(b""), true),
+    (Told::Regular, Some(b"MARK"), true),
+    (Told::Regular, Some(b"MARKED"), true),
+    (Told::Regular, Some(b"MAR"), false),
+    (Told::Regular, Some(b"MARX"), false),
+    (Told::Regular, Some(b" MARK"), false),
+];
+
+/// Whether the file of a disk is made just these bytes.
+fn is_made(told: Told, bytes: Option<&'static [u8]>) -> bool {
+    let wanted = b"vwxyz";
+    let disk = Disk {
+        told,
+        bytes,
+        wanted,
+    };
+    write_file(&mut FileStore::new(disk, MARK), "a", wanted).is_ok()
+}
+
+/// A file that takes a byte at a time has all bytes, where it may be replaced.
+#[test]
+fn a_file_without_the_mark_is_not_replaced(rt: HostRuntime) {
+    for (told, bytes, may) in REPLACED {
+        assert!(rt; is_made(told, bytes) == may);
+    }
+}
+
+/// Whether a text goes out whole to a writer with this room.
+fn goes_out(room: &mut [u8], text: &[u8]) -> bool {
+    let mut sink = OutSink::new(room);
+    write_whole(&mut sink, text).is_ok()
+}
+
+/// A text that is longer than most pieces goes out, each byte to its place.
+#[test]
+fn a_long_text_goes_out(rt: HostRuntime) -> Result<(), Fail> {
+    let mut text = Vec::new(rt.alloc());
+    for i in 0..70_000u32 {
+        text.push((i % 251) as u8)?;
+    }
+    let mut room = vec![in rt.alloc(); 0u8; 70_000]?;
+    assert!(rt; goes_out(&mut room, &text));
+    assert!(rt; room.as_slice() == text.as_slice());
+    Ok(())
 }
 
 /// A clock that stands still, or can't be read.

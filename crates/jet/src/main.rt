@@ -1,20 +1,21 @@
 //! `jet` answers, of a recorded run, from which input bytes each output byte came.
 //!
-//! What each status says is told by the definitions of specs/Statuses.antt, which the contract of `jet` cites.
+//! What each status says is told by the contract of `jet_call::jet`.
 #![tactic(auto)]
 
-mod laws;
-mod run;
 #[cfg(test)]
 mod tests;
 
+use jet_call::jet;
 use jet_cli::conclude;
 use jet_refusal::Refusal;
 use outer_io::{FileStore, MachineClock, OpenGate, OutSink};
-use run::jet;
 use std::env;
 use std::io::ErrorKind;
 use std::process::ExitCode;
+
+/// What each log begins with: a file that doesn't is not replaced by one.
+const LOG_MARK: &[u8] = b"JETLOG";
 
 /// The words of the command line, of which the first is the program's name. A word that isn't UTF-8 is no word of a
 /// command.
@@ -38,7 +39,7 @@ fn main(rt: HostRuntime) -> ExitCode {
         Ok(words) => words,
         Err(refusal) => return ExitCode::from(conclude(&mut err, Err(refusal))),
     };
-    let mut store = FileStore::new(rt);
+    let mut store = FileStore::new(rt, LOG_MARK);
     let mut out = OutSink::new(rt.stdout());
     let mut clock = MachineClock::new(rt);
     let status = jet(

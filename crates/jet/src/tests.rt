@@ -5,6 +5,7 @@ ghost use Rattle.std.specs.Prelude.{◌<◌};
 mod bench;
 mod convert;
 mod epochs;
+mod gates;
 mod guests;
 mod influence;
 mod outside;
@@ -14,13 +15,13 @@ mod record;
 mod refusals;
 mod runs;
 
-use crate::run::jet;
 use guest_assembler::{Instr, code, program};
 use guests::{
     ADD_WORDS, COPY_FOUR, Guest, LESS_THAN, LOAD_SIGNED, LOAD_UNSIGNED, LOOK_UP, MULTIPLY_WORDS,
     OVERWRITE, UNALIGNED, XOR_WORDS,
 };
-use outer_io::{ListClock, MemoryFile, MemorySink, MemoryStore, OpenGate, Sink, Store};
+use jet_call::jet;
+use outer_io::{Gate, ListClock, MemoryFile, MemorySink, MemoryStore, OpenGate, Sink, Store};
 use sha2::{Digest, Sha256};
 use std::alloc::{AllocError, Global};
 use std::process::Abort;
@@ -41,6 +42,21 @@ const COPIED: &str = "1:0 0:0\n1:1 0:1\n1:2 0:2\n1:3 0:3\nend 4\n";
 type Line = &'static [&'static str];
 
 const QUERY: Line = &["jet", "query", "prog", "log", "query"];
+
+/// The same with one step in each epoch, many workers and the smallest links.
+const BY_STEPS: Line = &[
+    "jet",
+    "query",
+    "prog",
+    "log",
+    "query",
+    "--epoch",
+    "1",
+    "--workers",
+    "8",
+    "--link",
+    "1",
+];
 
 /// The time that the clock tells.
 const TIME: u64 = 0x1_0000_0002;
@@ -371,6 +387,21 @@ impl Ending<'_> {
     }
 }
 
+/// The status of the command of these words, where this gate is told of its epochs.
+fn status_by<R: Threads + Wait + Sync + AllocGlobal, S: Store, O: Sink, E: Sink, G: Gate>(
+    rt: &R,
+    line: Line,
+    store: &mut S,
+    out: &mut O,
+    err: &mut E,
+    gate: &G,
+) -> Result<u8, AllocError> {
+    let alloc = rt.alloc();
+    let words = words(alloc, line)?;
+    let mut clock = ListClock::new(alloc, [TIME].as_slice())?;
+    Ok(jet(rt, &words, store, out, err, &mut clock, gate))
+}
+
 /// The status of the command of these words.
 fn status_of<R: Threads + Wait + Sync + AllocGlobal, S: Store, O: Sink, E: Sink>(
     rt: &R,
@@ -379,10 +410,7 @@ fn status_of<R: Threads + Wait + Sync + AllocGlobal, S: Store, O: Sink, E: Sink>
     out: &mut O,
     err: &mut E,
 ) -> Result<u8, AllocError> {
-    let alloc = rt.alloc();
-    let words = words(alloc, line)?;
-    let mut clock = ListClock::new(alloc, [TIME].as_slice())?;
-    Ok(jet(rt, &words, store, out, err, &mut clock, &OpenGate))
+    status_by(rt, line, store, out, err, &OpenGate)
 }
 
 /// The command of these words ends so over this store and these outputs.
@@ -536,7 +564,9 @@ const REPORTS: &[(&Guest, &str, &str)] = &[
 #[test]
 fn bytes_are_followed(rt: HostRuntime) -> Result<(), Fail> {
     for &(guest, query, report) in REPORTS {
-        assert_guest(&rt, QUERY, guest, query, Ending::report(report))?;
+        for line in [QUERY, BY_STEPS] {
+            assert_guest(&rt, line, guest, query, Ending::report(report))?;
+        }
     }
     Ok(())
 }

@@ -5,7 +5,7 @@ use Rattle.log_model.specs.Logs.{log_text}
 use Rattle.replay_model.specs.Fits.{beginning}
 use Rattle.record_model.specs.Counts.{capped}
 use Rattle.replayer.specs.Jobs.{Job}
-use Rattle.jet_core.specs.Crossings.{CrossedAt}
+use Rattle.run_query.specs.Crossings.{CrossedAt}
 use Rattle.jet_refusal.specs.declared.refusal.Refusal.{Refusal}
 use Rattle.jet_refusal.specs.declared.refusal.Refusal.TheVariants as refusal
 use Rattle.order_gateway.specs.declared.fault.RecordFault.{RecordFault}

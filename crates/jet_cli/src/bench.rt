@@ -15,7 +15,6 @@ use crate::memory::or_memory;
 use crate::rows::cuts_of;
 use crate::work::fitted;
 use epoch_cut::Cuts;
-use jet_core::Crossed;
 use jet_refusal::Refusal;
 use jet_words::Pipeline;
 use no_memory::NoMemory;
@@ -23,6 +22,7 @@ use order_gateway::{MOST_STEPS, Numbers, RecordFault, Recording, query, recorded
 use outer_io::Gate;
 use query_lang::Query;
 use replayer::Job;
+use run_query::Crossed;
 use sha2::{Digest, Sha256};
 use sink_collect::text;
 use std::alloc::Global;
@@ -81,7 +81,7 @@ fn numbers<R: Threads + Wait + Sync, G: Gate>(
     ensures { IfOk result (λ numbers. numbers ≡ numbers_of query.now cuts (trace_of job.now)) }
 {
     let epochs = u64::from(cuts.count());
-    let (report, crossed, events) = jet_core::query(
+    let (report, crossed, events) = run_query::query(
         engine.rt,
         engine.alloc,
         engine.gate,

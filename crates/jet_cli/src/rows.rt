@@ -49,7 +49,7 @@ fn analysed<R: Threads + Wait + Sync, G: Gate>(
     requires pipeline { IsPipeline pipeline }
     ensures { IfOk result (λ report. report ≡ rows query.now (trace_of job.now)) }
 {
-    let (report, _, _) = jet_core::query(
+    let (report, _, _) = run_query::query(
         engine.rt,
         engine.alloc,
         engine.gate,

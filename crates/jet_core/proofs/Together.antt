@@ -1,7 +1,6 @@
--- The epochs of a run together: their summaries join to its rows, and what crosses its cuts is counted.
-use Rattle.std.proofs.Common.{◌≡◌, ℕ, ◌≤◌, List, [], ◌∷◌, map, length, ap, sym, subst, arith}
+-- The epochs of a run together: their summaries join to its rows.
+use Rattle.std.proofs.Common.{◌≡◌, ℕ, List, [], map, length, ap, sym, subst}
 use Rattle.std.specs.Prelude.{All}
-use Rattle.flow_model.specs.declared.StepSeen.{StepSeen}
 use Rattle.flow_model.specs.Ranges.{IsInRange}
 use Rattle.report_model.specs.Query.{Query, AreLocated}
 use Rattle.report_model.specs.Rows.{rows_as_written}
@@ -14,16 +13,9 @@ use Rattle.log_model.specs.Logs.{steps}
 use Rattle.replayer.specs.Jobs.{Job, trace_of}
 use Rattle.local_taint.specs.declared.summary.Summary.{Summary as Found}
 use Rattle.local_taint.specs.Summaries.{summary_of}
-use Rattle.stream_model.specs.Work.{asked_at}
 use Rattle.jet_core.specs.Asking.{AreOfOneTrace}
 use Rattle.jet_core.specs.Tickets.{AreFound}
 use Rattle.jet_core.proofs.Tickets.{found_summaries, found_in_range, trace_long}
-
--- there are fewer inner cuts than cuts
-pub few_crossings : (q : Query) (trace : List StepSeen) (cuts : List ℕ) → length (asked_at q trace cuts) ≤ length cuts
-few_crossings q trace [] = omega arith
-few_crossings q trace (c ∷ []) = omega arith
-few_crossings q trace (c ∷ d ∷ cuts) = let rest = few_crossings q trace (d ∷ cuts) in omega (arith, rest)
 
 -- with the checkpoints and tickets of a cutting
 pub found_at : (job : Job) (q : Query) (cuts : List ℕ) (es : List Found) (points : CheckpointsAt) (tickets : List NumberedEpoch)

@@ -208,10 +208,33 @@ fn tell_parts(rt: &impl Print, alloc: Global) -> anyhow::Result<()> {
     Ok(())
 }
 
+/// How many calls the longest log has.
+const MANY: u64 = 1_000_001;
+
+/// A log in version 2 with a call of the clock at each step.
+fn many(alloc: Global) -> Result<Vec<u8>, NoMemory> {
+    let mut bytes = headed(alloc, &LOG_2, &[&[0, 0, 0, 0]])?;
+    for step in 0..MANY {
+        bytes.push(3)?;
+        bytes.extend_from_slice(&step.to_le_bytes())?;
+        bytes.extend_from_slice(&step.to_le_bytes())?;
+    }
+    bytes.push(7)?;
+    bytes.extend_from_slice(&MANY.to_le_bytes())?;
+    Ok(bytes)
+}
+
+/// A log of more than a million calls.
+fn tell_many(rt: &impl Print, alloc: Global) -> anyhow::Result<()> {
+    println!(rt; "many calls")?;
+    tell(rt, alloc, &many(alloc)?)
+}
+
 fn main(rt: HostRuntime) -> anyhow::Result<()> {
     let alloc = rt.alloc();
     tell_version_1(&rt, alloc)?;
     tell_version_2(&rt, alloc)?;
     tell_converted(&rt, alloc)?;
-    tell_parts(&rt, alloc)
+    tell_parts(&rt, alloc)?;
+    tell_many(&rt, alloc)
 }

@@ -169,3 +169,23 @@ pub fn copy_many(rt: &impl Abort, alloc: Global) -> Job {
         .expect(rt, "memory");
     job_of(rt, alloc, COPY_MANY, &log)
 }
+
+const FILL: &[Instr] = &code![
+    lui(x7, 0x1000),
+    lui(x9, 0x1010000),
+    addi(x5, x5, 1),
+    lui(x8, 0x11000),
+    sw(x5, 0(x8)),
+    add(x8, x8, x7),
+    bne(x8, x9, -8),
+    beq(x0, x0, -20),
+];
+
+/// How many steps a round of [`fill`] has.
+pub const ROUND: u64 = 12_288;
+
+/// Writes the number of the round to each page of its window but the program's, one round after another, and is cut off
+/// after sixteen rounds and a step. Two steps come before the first round. The window has 4,096 pages.
+pub fn fill(rt: &impl Abort, alloc: Global) -> Job {
+    job_of(rt, alloc, FILL, b"\0\x10\0\0\0\0\0\0\x07\x01\0\x03\0")
+}

@@ -6,7 +6,7 @@ ghost use Rattle.epoch_model.specs.Cutting.{IsCutting};
 
 mod gates;
 
-use crate::guests::{copy_four, copy_in_two, copy_many, count_down, trap};
+use crate::guests::{ROUND, copy_four, copy_in_two, copy_many, count_down, fill, trap};
 use checkpoints::Checkpoints;
 use epoch_cut::laws::cut_times_are_cutting;
 use epoch_cut::{Cuts, cuts};
@@ -15,7 +15,8 @@ use jet_core::{Crossed, joined, query, round_robin};
 use outer_io::{Gate, OpenGate};
 use query_lang::{Query, parse};
 use replayer::Job;
-use sink_collect::{Report, text};
+use seq_taint::sequential;
+use sink_collect::{Report, gather, text};
 use std::alloc::Global;
 use std::process::Abort;
 use std::sync::Wait;
@@ -83,9 +84,10 @@ fn answer_of<G: Gate, R: Threads + Wait + Abort + Sync>(
 }
 
 /// The same by rounds on this thread, over links of a capacity.
-fn answer_by_rounds(
+fn answer_by_rounds<G: Gate>(
     rt: &impl Abort,
     alloc: Global,
+    gate: &G,
     job: &Job,
     wanted: &Query,
     length: u64,
@@ -94,7 +96,7 @@ fn answer_by_rounds(
     assert!(rt; 1 <= capacity);
     assert!(rt; capacity <= 65536);
     let cuts = cuts_of(rt, job, length);
-    let found = round_robin(alloc, &OpenGate, job, wanted, cuts, capacity);
+    let found = round_robin(alloc, gate, job, wanted, cuts, capacity);
     let (report, crossed, events) = found.expect(rt, "memory");
     Answer {
         report,
@@ -112,6 +114,12 @@ fn joined_report<R: Threads + Abort + Sync>(
     length: u64,
 ) -> Report {
     joined(rt, alloc, job, wanted, cuts_of(rt, job, length)).expect(rt, "memory")
+}
+
+/// The report where the run is analysed as a whole, one step after another.
+fn sequential_report(rt: &impl Abort, alloc: Global, job: &Job, wanted: &Query) -> Report {
+    let sets = sequential(alloc, job, wanted).expect(rt, "memory");
+    gather(alloc, sets).expect(rt, "memory")
 }
 
 /// The report has this text.
@@ -161,11 +169,13 @@ fn assert_answer(rt: &impl Abort, alloc: Global, answer: &Answer, case: &Case) {
 /// A query over a run has its report and its crossings by each call.
 fn assert_case<R: Threads + Wait + Abort + Sync>(rt: &R, alloc: Global, job: &Job, case: &Case) {
     let wanted = query_of(rt, alloc, case.query);
+    let report = sequential_report(rt, alloc, job, &wanted);
+    assert_text(rt, alloc, &report, case.report);
     let report = joined_report(rt, alloc, job, &wanted, case.length);
     assert_text(rt, alloc, &report, case.report);
     let found = answer_of(rt, alloc, &OpenGate, job, &wanted, case.length, ALONE);
     assert_answer(rt, alloc, &found, case);
-    let found = answer_by_rounds(rt, alloc, job, &wanted, case.length, 1);
+    let found = answer_by_rounds(rt, alloc, &OpenGate, job, &wanted, case.length, 1);
     assert_answer(rt, alloc, &found, case);
 }
 
@@ -274,7 +284,7 @@ fn assert_copied_by_workers<R: Threads + Wait + Abort + Sync>(
 /// The same by rounds.
 fn assert_copied_by_rounds(rt: &impl Abort, alloc: Global, job: &Job, wanted: &Query, length: u64) {
     for capacity in [1, 2, 256] {
-        let found = answer_by_rounds(rt, alloc, job, wanted, length, capacity);
+        let found = answer_by_rounds(rt, alloc, &OpenGate, job, wanted, length, capacity);
         assert_copied(rt, alloc, &found, length);
     }
 }
@@ -363,6 +373,14 @@ fn assert_many_crossed(rt: &impl Abort, crossed: &[Crossed]) {
 // Each of these takes some seconds.
 
 #[test]
+fn a_long_run_is_analysed_as_a_whole(rt: HostRuntime) {
+    let alloc = rt.alloc();
+    let job = copy_many(&rt, alloc);
+    let wanted = query_of(&rt, alloc, COPY);
+    assert_many_copied(&rt, &sequential_report(&rt, alloc, &job, &wanted));
+}
+
+#[test]
 fn a_long_run_is_joined(rt: HostRuntime) {
     let alloc = rt.alloc();
     let job = copy_many(&rt, alloc);
@@ -410,4 +428,13 @@ fn pages_are_held_once(rt: HostRuntime) {
     assert!(rt; job.steps() == 25015);
     let points = Checkpoints::take(alloc, &job, &cuts_of(&rt, &job, 1000)).expect(&rt, "memory");
     assert!(rt; points.held() == 33);
+}
+
+/// Of a window of 4,096 pages all but the program's change in each of sixteen epochs.
+#[test]
+fn more_than_65_536_pages_are_held(rt: HostRuntime) {
+    let alloc = rt.alloc();
+    let job = fill(&rt, alloc);
+    let points = Checkpoints::take(alloc, &job, &cuts_of(&rt, &job, ROUND)).expect(&rt, "memory");
+    assert!(rt; points.held() == 4096 + 16 * 4095);
 }

@@ -1,4 +1,3 @@
 mod Steps
 mod Beyond
 mod Written
-pub mod Distinct

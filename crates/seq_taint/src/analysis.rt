@@ -8,6 +8,7 @@ ghost use Rattle.sink_collect.specs.Distinct.{AreDistinct};
 use crate::labels::Sets;
 use crate::points::collect_due;
 use crate::sinks::collect;
+use distinct_rows::rows_are_distinct;
 use no_memory::NoMemory;
 use query_lang::Query;
 use replayer::{Cursor, Job, Next};
@@ -24,6 +25,7 @@ pub fn sequential(alloc: Global, job: &Job, query: &Query) -> Result<Vec<SinkSet
     ensures distinct { IfOk result (λ sets. AreDistinct sets.items) }
 {
     job.form();
+    rows_are_distinct(job, query);
     let mut cursor = Cursor::start(alloc, job)?;
     let mut labels = Sets { alloc };
     let mut places = Places::new(alloc)?;

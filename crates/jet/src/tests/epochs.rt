@@ -1,23 +1,8 @@
 //! Runs that are cut into epochs: how many there may be.
 
-use super::{COPY, Ending, Line, assert_command, log, program, push_words};
+use super::{BY_STEPS, COPY, Ending, Line, assert_command, log, program, push_words};
 use guest_assembler::{Instr, code};
 use std::test::Fail;
-
-/// A query with one step in each epoch, many workers and the smallest links.
-const BY_STEPS: Line = &[
-    "jet",
-    "query",
-    "prog",
-    "log",
-    "query",
-    "--epoch",
-    "1",
-    "--workers",
-    "8",
-    "--link",
-    "1",
-];
 
 /// Counts down from 2047 and exits: 4,097 steps.
 const COUNT_DOWN: [Instr; 5] = code![

@@ -2,12 +2,9 @@ use Rattle.std.proofs.Common.{◌∙◌, ap, sym, subst, List, [], map}
 use Rattle.std.specs.Prelude.{◌≡◌, All, IfOk}
 use Rattle.report_model.specs.Rows.{Row, row_cmp}
 use Rattle.sorted_set.specs.Sets.{set_of}
-use Rattle.replay_model.proofs.Offsets.{writes_apart}
-use Rattle.replayer.specs.Jobs.{trace_of}
 use Rattle.epoch_cut.specs.Numbered.{NumberedEpoch}
 use Rattle.checkpoints.specs.Points.{CheckpointsAt, beginnings}
 use Rattle.sink_collect.specs.Distinct.{AreDistinct}
-use Rattle.seq_taint.proofs.Distinct.{distinct_rows}
 use Rattle.local_taint.specs.declared.summary.Summary.{Summary}
 use Rattle.local_taint.specs.Summaries.{summary_of}
 use Rattle.epoch_model.specs.Join.{joined}
@@ -44,7 +41,7 @@ gather-requires g c =
     let es = c.in_ok-summaries.summaries.items in
     let a = found_at job q c.args.cuts es c.in_ok-checkpoints.checkpoints c.in_ok-tickets.tickets.items c.in_ok-checkpoints.ensures c.in_ok-tickets.ensures c.in_ok-summaries.ensures in
     let rows = c.into_vec.ensures ∙ c.in_ok-sets.ensures ∙ ap (λ (xs : List Summary). joined [] [] (map summary_of xs)) c.deref-2.ensures.value ∙ found_join job q c.args.cuts es c.points-points.ensures.located c.requires a in
-    subst AreDistinct (sym rows) (distinct_rows q (trace_of job) c.points-points.ensures.ascending (writes_apart job.start job.log))
+    subst AreDistinct (sym rows) c.rows_are_distinct.ensures
 
 pub returns : goal.returns
 returns g c =

@@ -7,7 +7,6 @@ use Rattle.replay_model.specs.Run.{start}
 use Rattle.replayer.specs.Jobs.{Job, trace_of}
 use Rattle.report_model.specs.Query.{policy_of}
 use Rattle.report_model.specs.Rows.{sinks_of_step, rows_as_written, at_time, from_time}
-use Rattle.replay_model.proofs.Offsets.{writes_apart}
 use Rattle.sink_collect.specs.Distinct.{AreDistinct}
 use Rattle.taint_shadow.specs.Steps.{Holds}
 use Rattle.seq_taint.specs.Words.{set_words}
@@ -16,7 +15,6 @@ use Rattle.seq_taint.proofs.Beyond.{NoneBeyond, still_none}
 use Rattle.report_model.proofs.Due.{all_from, due_now, later_now, left_in_time, left_ascend}
 use Rattle.seq_taint.proofs.Steps.{one_more, none_kept}
 use Rattle.seq_taint.proofs.Written.{rows_of, sinks_before, more_rows, all_rows}
-use Rattle.seq_taint.proofs.Distinct.{distinct_rows}
 use Rattle.seq_taint.proofs.analysis.sequential.Goals as goal
 
 -- ---- the points due before a step
@@ -104,4 +102,4 @@ returns c =
     ∙ ap (λ (ps : List InnerSink). c.loop-step.sets.items ++ point_rows by_now ps) (due_now t c.steps.result c.loop-step.points.now q.points (c.steps.ensures ∙ sym done) c.loop-step.invariant.points) in
     let rows : c.collect_due-2.new.sets.items ≡ rows_as_written q (trace_of job) =
     all_rows q (steps job.log) (start job.start job.log) t done c.loop-step.sets.items c.collect_due-2.new.sets.items c.loop-step.invariant.rows due in
-    record { rows = rows; distinct = subst AreDistinct (sym rows) (distinct_rows q (trace_of job) c.points-points.ensures.ascending (writes_apart job.start job.log)) }
+    record { rows = rows; distinct = subst AreDistinct (sym rows) c.rows_are_distinct.ensures }

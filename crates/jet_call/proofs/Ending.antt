@@ -24,8 +24,8 @@ use Rattle.jet_cli.specs.Answers.{IsAnswer, named, limits_of}
 use Rattle.jet_cli.specs.Outside.{Change, Told, IsUndisturbed}
 use Rattle.jet_cli.specs.Writing.{FailsToWrite}
 use Rattle.jet_cli.specs.Ending.{IsText, WritesWhole, WritesPart, Ends, IsUnasked, causes_of, status_after}
-use Rattle.jet.specs.Statuses.{IsWanted, IsDone, IsDoneInPart, IsRefused, IsHeard, IsDecided, AreWithinLimits, IsComplete}
-use Rattle.jet.proofs.Refusals.{status_of-range, of_any_cause, of_write_fault}
+use Rattle.jet_call.specs.Statuses.{IsWanted, IsDone, IsDoneInPart, IsRefused, IsHeard, IsDecided, AreWithinLimits, IsComplete}
+use Rattle.jet_call.proofs.Refusals.{status_of-range, of_any_cause, of_write_fault}
 
 -- ---- what the files come to, and what the words want
 

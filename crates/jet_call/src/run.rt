@@ -1,4 +1,4 @@
-//! The public call: words, and the outside that `main` makes.
+//! The call: words, and an outside.
 ghost use Rattle.std.specs.Prelude.{◌≡◌, ◌⊎◌, ◌≤◌, false, map, string_bytes};
 ghost use Rattle.clap.specs.Words.{takes};
 ghost use Rattle.jet_words.specs.CommandLine.{jet_app};
@@ -6,7 +6,7 @@ ghost use Rattle.jet_cli.specs.Targets.{command_in, target_in, files_of, IfFile,
 ghost use Rattle.jet_cli.specs.Outside.{change};
 ghost use Rattle.jet_cli.specs.Keeping.{OpensAll, OpensFirst, KeepsAll, KeepsBut};
 ghost use Rattle.jet_cli.specs.Ending.{IsUnwritten, Says};
-ghost use Rattle.jet.specs.Statuses.{IsStatus, IsDone, IsDoneInPart, IsRefused, IsDecided, IsComplete};
+ghost use Rattle.jet_call.specs.Statuses.{IsStatus, IsDone, IsDoneInPart, IsRefused, IsDecided, IsComplete};
 
 use jet_cli::{conclude, obey};
 use outer_io::{Clock, Gate, Sink, Store};
