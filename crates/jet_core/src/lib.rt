@@ -1,4 +1,9 @@
-//! The epochs of a run together: what each asks of the one before it, what each answers, and the rows of them all.
+//! The epochs of a run together: what each asks of the previous one, what each answers, and the rows of them all.
+//!
+//! Crates above rest on this: `query` gives the rows of the run, what is asked at each inner cut, which is what
+//! `crossing_at` says, and the number of events that moved, for every cutting, number of workers, capacity of links and
+//! schedule; `round_robin` gives the same on one thread, and returns; `joined` gives the rows for every cutting,
+//! whatever `rayon` does at once. `crossings`, `asked_by`, `answer_requests` and `join` are the same by lists.
 #![tactic(auto)]
 
 mod analysing;
