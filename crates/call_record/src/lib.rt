@@ -1,6 +1,7 @@
 //! Recording runs: `capture` runs a program over inputs and a clock, and gives the log of the run.
 //!
-//! What log that is stands in `record_model`'s definitions.
+//! Crates above rest on this: `capture` gives the one log that the run with this setting and the clock's answers has,
+//! by `record_model`'s definitions; or Window, or LogTooLong with the size of the whole log.
 #![tactic(auto)]
 
 mod entry;

@@ -1,5 +1,6 @@
-//! Tests of single calls of the crates below: a module for each crate, with outside vectors, printed texts, and each public
-//! allocating call once on its happy path. They stand here, and not beside the code, so that no crate is proved twice.
+//! Tests of single calls of the crates below: a module for each crate, with outside vectors, printed texts, and calls
+//! on their happy path, with memory that suffices. They stand here, and not beside the code, so that no crate is proved
+//! twice.
 #![tactic(auto)]
 
 #[cfg(test)]

@@ -2,8 +2,10 @@
 //! numbers in a range.
 //!
 //! The arguments are definitions, of specs/Arguments.antt, and so are their values, of specs/Values.antt. A crate above
-//! names its command line by them, shows by `is_plain_command` of specs/Plain.antt that it is one of these, and learns
-//! by proofs/Subcommands.antt and proofs/Rows.antt what holds of the words that it takes.
+//! names its command line by them, and shows by `is_plain_command` of specs/Plain.antt that it is one of these.
+//!
+//! Crates above rest on this: by proofs/Subcommands.antt and proofs/Rows.antt, words that such a command takes have a
+//! row for each argument, the required values, and numbers in their ranges.
 #![tactic(auto)]
 
 mod arguments;

@@ -1,5 +1,7 @@
-//! Program files: ELF32, little-endian, for RISC-V (System V gABI, "Object Files" and "Program
-//! Loading"). `load` gives the image of a file, or the first of its faults.
+//! Program files: ELF32, little-endian, for RISC-V (System V gABI, "Object Files" and "Program Loading").
+//!
+//! Crates above rest on this: `load` is the image of a file (`image` of `elf_model`), or the first of its faults; an
+//! `Image` has the base, entry and segments of the definition.
 #![tactic(auto)]
 
 mod fields;

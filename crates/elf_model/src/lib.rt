@@ -1,7 +1,7 @@
-//! Program files as definitions: ELF32, little-endian, for RISC-V (System V gABI, "Object Files" and
-//! "Program Loading"), the window of memory that holds an image, and the state that a run begins in.
+//! Program files as definitions: ELF32, little-endian, for RISC-V (System V gABI, "Object Files" and "Program
+//! Loading"), the window of memory that holds an image, and the state that a run begins in.
 //!
-//! What there is to read stands in specs/.
+//! What there is to read stands in specs/. Proved (`laws`): register x0 begins as 0.
 #![tactic(auto)]
 
 pub mod laws;

@@ -1,4 +1,8 @@
 //! Where a run is cut into epochs, and one ticket for each epoch.
+//!
+//! Crates above rest on this: `cuts` gives a cutting of the run into epochs of one length, or TooMany exactly where
+//! there would be more than 4,096; `tickets` are the epochs of a cutting, in order, each once, and a ticket can't be
+//! copied.
 #![tactic(auto)]
 
 mod by_length;

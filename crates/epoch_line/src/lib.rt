@@ -1,4 +1,10 @@
 //! The line of a run's nodes: one for each epoch, joined by links, worked by a board, and collected.
+//!
+//! Crates above rest on this: `lay_out` gives a fresh node for each epoch of a run, in order, and two new links between
+//! neighbours; `collect`, from done nodes alone that are led from those of one layout, gives the rows of the run, what
+//! was asked at each inner cut, and the number of events that moved; `work` is both with the board between them, for
+//! every number of workers, capacity and schedule. `laws` say what a line of done nodes comes to, whatever its links
+//! are.
 #![tactic(auto)]
 
 mod collecting;

@@ -1,5 +1,10 @@
 //! The node of an epoch: a core, which goes through the passes of its epoch event by event, and its ends of the links
-//! to the nodes before and behind it.
+//! to the previous node and the next one.
+//!
+//! Crates above rest on this: `Core::event` is the definition's event of a node (`node_event` of `stream_model`), and
+//! counts those that move; `Node` is a task of `run_board`, led from its start by its four links; `Node::finish`: one
+//! that is whole and done has asked what its epoch needs, sent all that is due, has the rows of its sinks, and as many
+//! events moved as that takes.
 #![tactic(auto)]
 
 mod beginning;

@@ -1,8 +1,13 @@
-//! Information flow as definitions: locations, source and sink bytes, the steps of a trace, which
-//! locations' content flows where in one step, and the origins of each location at each time.
+//! Information flow as definitions: locations, source and sink bytes, the steps of a trace, which locations' content
+//! flows where in one step, and the origins of each location at each time.
 //!
-//! What there is to read stands in specs/. These definitions know no log and no program: a trace is a
-//! plain list of steps.
+//! What there is to read stands in specs/. These definitions know no log and no program: a trace is a plain list of
+//! steps.
+//!
+//! Proved (`laws`): after a step a source byte is among a location's origins exactly where it is fresh there or was
+//! among those of a location that flows into it, and at the start there is none; origins ascend without repeats; a
+//! location that no step targets keeps its origins; a received byte has its own source byte; every origin was read; the
+//! table's origins ascend.
 #![tactic(auto)]
 
 pub mod laws;

@@ -1,5 +1,8 @@
-//! Which locations' content flows where in one step of a run: the flow table of RV32IM and of the guest
-//! calls, and the messages that carry locations and source bytes between the parts of an analysis.
+//! Which locations' content flows where in one step of a run: the flow table of RV32IM and of the guest calls, and the
+//! messages that carry locations and source bytes between the parts of an analysis.
+//!
+//! Crates above rest on this: `shape_of`, `flow` and `cleared` are the flow table of `flow_model`; so are the short
+//! lists of locations of a `Flow`.
 #![tactic(auto)]
 
 mod flows;

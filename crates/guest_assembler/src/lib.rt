@@ -5,6 +5,8 @@
 //! ```text
 //! program(alloc, &code![lui(x11, 0x10000), lw(x10, 4(x11)), ecall()])?
 //! ```
+//!
+//! Crates above rest on this: `program` is the file of the instructions. The guest of `bench` is made by it too.
 #![tactic(auto)]
 
 mod names;

@@ -1,8 +1,11 @@
-//! RV32IM as definitions: the instructions, the words that stand for them, one step of a hart over
-//! one window of memory, and the calls that a guest makes to its execution environment.
+//! RV32IM as definitions: the instructions, the words that stand for them, one step of a hart over one window of
+//! memory, and the calls that a guest makes to its execution environment.
 //!
-//! What there is to read stands in specs/, in the order of specs/Lib.antt. The sections named there
-//! are those of the RISC-V Unprivileged ISA manual.
+//! What there is to read stands in specs/, in the order of specs/Lib.antt. The sections named there are those of the
+//! RISC-V Unprivileged ISA manual.
+//!
+//! Proved: `Instr::fits` is the definition; `laws`: x0 stays 0; proofs/Worked.antt and its neighbours have worked
+//! values of all 48 instructions, which the checker computes.
 #![tactic(auto)]
 
 mod fitting;

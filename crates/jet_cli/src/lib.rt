@@ -1,10 +1,12 @@
 //! The commands of the program `jet`: what each gives, where it is written, and how a command ends.
 //!
-//! `obey` does what words stand for, over any store, output and clock; `conclude` gives the status of what came of it, and
-//! says its line. What there is to read stands in specs/: Answers.antt has what the files of each command come to.
+//! What there is to read stands in specs/: Answers.antt has what the files of each command come to. A new command has
+//! its answer in specs/Answers.antt and src/answer.rt, its files in specs/Targets.antt, and its delivery in
+//! src/delivery.rt.
 //!
-//! A new command has its answer in specs/Answers.antt and src/answer.rt, its files in specs/Targets.antt, and its
-//! delivery in src/delivery.rt.
+//! Crates above rest on this: `obey` does what words stand for, over any store, output and clock, and ends with its
+//! text delivered whole, or with a refusal that has its cause; `conclude` gives the status of what came of it, and says
+//! its line.
 #![tactic(auto)]
 
 mod answer;

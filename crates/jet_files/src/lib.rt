@@ -1,6 +1,8 @@
 //! The files that a command reads, whole: programs, logs, queries and inputs.
 //!
-//! Each call answers what the file holds, or why the command gives up.
+//! Crates above rest on this: each call (`read_file`, `open_program`, `open_log`, `open_run`, `open_query`,
+//! `open_inputs`) answers what the files come to by `jet_model`'s definitions, or the store failed, or memory is out;
+//! no file differs, and just these names were opened, in order.
 #![tactic(auto)]
 
 mod inputs;

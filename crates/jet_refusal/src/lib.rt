@@ -1,5 +1,8 @@
-//! Why a command gives up: the status that it ends with, and the line that it prints on standard error.
-//! Nothing here takes memory or can fail.
+//! Why a command gives up: the status that it ends with, and the line that it prints on standard error. Nothing here
+//! takes memory or can fail.
+//!
+//! Crates above rest on this: `Refusal::status` and `Refusal::line` are the one table of statuses and lines
+//! (specs/Refusals.antt), which every definition above names.
 #![tactic(auto)]
 
 mod faults;

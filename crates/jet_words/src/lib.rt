@@ -5,6 +5,9 @@
 //!
 //! A new subcommand has its arguments in specs/CommandLine.antt and src/command_line.rt, what it stands for in
 //! specs/Commands.antt, its reading in src/read.rt, and its line in proofs/Ranges.antt.
+//!
+//! Crates above rest on this: `read_words` is what the words stand for, in its ranges, or Usage where `clap` doesn't
+//! take them for `jet_app`.
 #![tactic(auto)]
 
 mod command;

@@ -1,7 +1,10 @@
-//! Logs of runs as definitions: what a log holds, its text in bytes in each of two versions, and the first fault
-//! of bytes that are no log. The format is this project's own (docs/FORMATS.md).
+//! Logs of runs as definitions: what a log holds, its text in bytes in each of two versions, and the first fault of
+//! bytes that are no log. The format is this project's own (docs/FORMATS.md).
 //!
-//! What there is to read stands in specs/.
+//! What there is to read stands in specs/. Proved (`laws`), over both versions: bytes are read as a log exactly where
+//! they are a text of it, and as a fault exactly where they have it; bytes are a text of one log; what version 2 can
+//! hold is read from its text as it was; faulty bytes are no log; bytes are a log's text or have a fault, and have one
+//! fault; a text's length is that of its parts; no proper prefix of a log's text is a log's text.
 #![tactic(auto)]
 
 pub mod laws;

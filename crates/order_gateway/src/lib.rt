@@ -1,7 +1,8 @@
-//! The workload of `bench`: the guest's file and its input, the log of its run, its query, and the lines that are printed
-//! of it.
+//! The workload of `bench`: the guest's file and its input, the log of its run, its query, and the lines that are
+//! printed of it.
 //!
-//! What each of them is stands in `workload_model`'s definitions.
+//! Crates above rest on this: the guest's file, its input and its query are those of `workload_model`'s definitions;
+//! `recorded` is the log of its run, or LogTooLong with its size; `text_of` is the lines.
 #![tactic(auto)]
 
 mod clock;

@@ -1,7 +1,7 @@
 //! The outside of a program: files by name, a place to write to, a clock and a gate.
 //!
-//! A program that reaches the outside through the four traits [`Store`], [`Sink`], [`Clock`] and
-//! [`Gate`] can be proved over what these tell, run over memory, and run on the machine.
+//! A program that reaches the outside through the four traits [`Store`], [`Sink`], [`Clock`] and [`Gate`] can be proved
+//! over what these tell, run over memory, and run on the machine.
 //!
 //! - **Told or not.** What an object of the outside holds is a ghost member that it may not tell. A
 //!   clause over it says: where it is still told after the call, it was told before, and the two are
@@ -11,9 +11,13 @@
 //! - **What a form gives.** Each call of a store and a sink has a relation of its arguments, its answer and
 //!   the object before and after it, by which a form in memory says all. The machine's say nothing by it.
 //!
-//! [`MemoryStore`], [`SureStore`], [`MemorySink`], [`SureSink`], [`ListClock`] and [`OpenGate`] are
-//! in memory. They reserve their room when they are made, so their calls take no memory.
-//! [`FileStore`], [`OutSink`] and [`MachineClock`] are the machine's. They are trusted, and tell nothing.
+//! [`MemoryStore`], [`SureStore`], [`MemorySink`], [`SureSink`], [`ListClock`] and [`OpenGate`] are in memory. They
+//! reserve their room when they are made, so their calls take no memory. [`FileStore`], [`OutSink`] and
+//! [`MachineClock`] are the machine's. They are trusted, and tell nothing.
+//!
+//! Crates above rest on this: the traits' clauses, which hold of every form; `read_whole`, `write_whole` and
+//! `write_file` take and put all bytes, or say why not, with their causes; what each call of a form in memory answers,
+//! and the room left; `laws`: a sure store and output stay told while no call wants more than the room.
 #![tactic(auto)]
 
 mod clock;

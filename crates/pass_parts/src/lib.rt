@@ -1,5 +1,8 @@
-//! What both passes of a node share: the answer of an event, messages through links that may be missing, the
-//! requests that one pass hands to the other, and what both know of the epoch.
+//! What both passes of a node share: the answer of an event, messages through links that may be missing, the requests
+//! that one pass hands to the other, and what both know of the epoch.
+//!
+//! Crates above rest on this: `push_message` and `pop_message` are one message through a link, or nothing where there
+//! is none; `read_end_terms` are the terms of the epoch's summary at any location.
 #![tactic(auto)]
 
 mod end_terms;

@@ -1,8 +1,9 @@
-//! The query language: which source bytes taint, which sink bytes and points inside the run are reported,
-//! and the rule by which taint propagates.
+//! The query language: which source bytes taint, which sink bytes and points inside the run are reported, and the rule
+//! by which taint propagates.
 //!
-//! `parse` gives the query that a text stands for, or the number of the first faulty line and the first
-//! of its faults. What a text stands for is defined in report_model. `together` makes several queries one.
+//! Crates above rest on this: `parse` gives a query that the text stands for, by `report_model`'s definitions, or the
+//! number of the first faulty line and the first of its faults; `source_has`, `sink_has` and `points` are what the
+//! query chooses; `together` makes several queries one, or tells where their rules differ.
 #![tactic(auto)]
 
 mod choice;

@@ -1,6 +1,7 @@
 //! Whether a log fits a machine's run under it, and if not, where the two first differ.
 //!
-//! What a divergence is stands in `replay_model`'s definitions.
+//! Crates above rest on this: `first_divergence` is the divergence of `replay_model`'s definitions, or none where there
+//! is none.
 #![tactic(auto)]
 
 mod check;

@@ -1,5 +1,8 @@
-//! Logs of runs (docs/FORMATS.md): `read_log` gives the log that bytes are, in either version, or their first fault,
-//! and `write_log` the bytes that a log is in version 2.
+//! Logs of runs (docs/FORMATS.md).
+//!
+//! Crates above rest on this: `read_log` gives the log as which the bytes are read, in either version, or their first
+//! fault with its offset (`log_of` of `log_model`); `write_log` is the log's text in version 2; a `Log` has the parts
+//! of the log.
 #![tactic(auto)]
 
 mod channels;

@@ -1,7 +1,10 @@
-//! Replays as definitions: the trace of a program under a log, where the two first differ, and which
-//! logs fit a program.
+//! Replays as definitions: the trace of a program under a log, where the two first differ, and which logs fit a
+//! program.
 //!
-//! What there is to read stands in specs/.
+//! What there is to read stands in specs/. Proved (`laws`): there is no divergence exactly where nothing differs at any
+//! moment up to the end's time, and a divergence is the first difference; its values differ; offsets count the bytes
+//! moved before; two writes never share an output byte; what the reads of a trace received is what its log received;
+//! version 2 can hold a log that fits.
 #![tactic(auto)]
 
 pub mod laws;

@@ -1,7 +1,8 @@
-//! The run of a machine under a log: its plain steps are the machine's own, and each of its calls is answered
-//! from the log's next record.
+//! The run of a machine under a log: its plain steps are the machine's own, and each of its calls is answered from the
+//! log's next record.
 //!
-//! What a run's moments and steps are stands in `replay_model`'s definitions.
+//! Crates above rest on this: of a `Run`, `expected` is what the log has next, `step` one step of the machine, `finish`
+//! the step of `replay_model`'s definitions; a run that is resumed with its counters is as it was.
 #![tactic(auto)]
 
 mod counters;

@@ -1,7 +1,9 @@
 //! Replays of recorded runs: whether a log fits a program, and the steps of the run that it records.
 //!
-//! What there is to know of a run stands in `replay_model`'s definitions: its trace, where a log first
-//! differs from its program, and which logs fit.
+//! Crates above rest on this, in `replay_model`'s words: `Job::check` is Ok exactly where the log fits, else the first
+//! of digest, window and divergence, but for out of memory; `Cursor::next` is the trace, step by step, then the end; a
+//! cursor that is saved, or whose parts are lent, and made again is as it was; `summary` are the run's numbers,
+//! `received` the bytes that it read.
 #![tactic(auto)]
 
 mod cursor;

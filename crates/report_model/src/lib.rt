@@ -1,8 +1,11 @@
-//! Queries and reports as definitions: the query language, the rows of a query over a trace, and the
-//! text of a report.
+//! Queries and reports as definitions: the query language, the rows of a query over a trace, and the text of a report.
+//! These definitions know no log and no program: rows are those of a plain list of steps.
 //!
-//! What there is to read stands in specs/. These definitions know no log and no program: rows are
-//! those of a plain list of steps.
+//! What there is to read stands in specs/. Proved (`laws`): the points of queries that texts stand for are at
+//! locations; rows ascend, each once, and none is missing; a point has a row, with its location's origins, exactly
+//! where the query has it and the run reaches its time; queries that are alike have the same rows; a source byte and a
+//! sink stand together in the influence exactly where they do in the rows; the rows of a query are its own of those of
+//! any query that covers it, and several queries together cover each.
 #![tactic(auto)]
 
 pub mod laws;

@@ -1,8 +1,9 @@
-//! Tasks on a board, which workers give turns until each is ended.
+//! Tasks on a board, which workers give turns until each is ended. A board is a queue of tasks that several workers
+//! share.
 //!
-//! A board is a queue of tasks that several workers share. [`Board::ready`] takes all the memory, and
-//! [`Ready::work`] answers every task that was handed in, each once, in order of number, each ended and
-//! led from its own start, whatever the number of workers and however their steps fall.
+//! Crates above rest on this: [`Board::ready`] takes all the memory, or gives up; [`Ready::work`] then answers every
+//! task that was handed in, each once, in order of number, each ended and led from its own start, whatever the number
+//! of workers and however their steps fall, and takes no memory.
 #![tactic(auto)]
 
 mod board;

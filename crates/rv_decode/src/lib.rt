@@ -1,9 +1,9 @@
-//! RV32IM's instruction words: [`decode`] reads the instruction of a word, [`encode`] writes the word of an
-//! instruction.
+//! RV32IM's instruction words. The formats are those of "Base Instruction Formats" and "Immediate Encoding Variants" of
+//! the RISC-V Unprivileged ISA manual.
 //!
-//! Each is the other's inverse: `decode` of what `encode` wrote is the instruction, and `encode` of what
-//! `decode` read is the word. The formats are those of "Base Instruction Formats" and "Immediate Encoding
-//! Variants" of the RISC-V Unprivileged ISA manual.
+//! Crates above rest on this: [`decode`] is the instruction table of `isa`, [`encode`] writes the word of an
+//! instruction, and each is the other's inverse: `decode` of what `encode` wrote is the instruction, and `encode` of
+//! what `decode` read is the word.
 #![tactic(auto)]
 
 mod decoder;

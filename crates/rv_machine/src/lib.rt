@@ -1,8 +1,12 @@
 //! One RV32IM hart over one window of memory, changed in place.
 //!
-//! A step is that of "RV32I Base Integer Instruction Set" and "'M' Extension for Integer Multiplication and
-//! Division" of the RISC-V Unprivileged ISA manual. A call to the execution environment (ECALL) makes the
-//! machine wait until it is answered.
+//! A step is that of "RV32I Base Integer Instruction Set" and "'M' Extension for Integer Multiplication and Division"
+//! of the RISC-V Unprivileged ISA manual. A call to the execution environment (ECALL) makes the machine wait until it
+//! is answered.
+//!
+//! Crates above rest on this: `Machine::new` is the start, or Window exactly where there is none; `step` and `answer`
+//! are one step of the definitions; `bytes` and `refusal` are theirs; a state that is taken out, or whose parts are
+//! lent, and put back is as it was.
 #![tactic(auto)]
 
 mod hart;

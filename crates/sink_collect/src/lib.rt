@@ -1,5 +1,9 @@
 //! What a taint replay collects: the source bytes of each output byte and of each point inside the run; the report of
 //! them, and the same turned round.
+//!
+//! Crates above rest on this: `gather` is the rows by output byte and point, `text` their text; `only` those that a
+//! query chooses; `turn_round` the rows turned round, `influence_text` their text; `lines` and `pairs` are counts of
+//! them.
 #![tactic(auto)]
 
 mod choosing;

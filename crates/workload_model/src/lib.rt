@@ -2,6 +2,9 @@
 //! that are printed of it.
 //!
 //! What there is to read stands in specs/. proofs/ has worked examples, which the checker computes.
+//!
+//! Proved (`laws`): the guest has a word for each instruction and is an image; a seed, a number of steps and a length
+//! of epochs have one answer, which is the lines of the run within the limits.
 #![tactic(auto)]
 
 pub mod laws;
