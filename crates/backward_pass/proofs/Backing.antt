@@ -238,7 +238,7 @@ module _ (v : BackView) (got sent : Option (List Message)) (k : Keeps v got sent
     w = m.walked
 
     at : (links : Links) → asking_event v.first (knows v) links (state v got sent) ≡ walk links.is_refused v.first (state v got sent) w.sink w.left
-    at links = at_walk v.first (knows v) links (state v got sent) w.sink w.left m.running m.whole m.sent w.next
+    at links = at_walk v.first (knows v) links (state v got sent) w.sink w.left m.running w.whole m.sent w.next
 
     by : (refused : Bool) → IsEvent backwards v got sent (with_sink refused v w.sink w.left) got sent Moved
     by true = record {
@@ -264,11 +264,11 @@ module _ (v : BackView) (got sent : Option (List Message)) (k : Keeps v got sent
     by false = record {
       happens = record { links = free false; went = (refl, refl); is = sym (at (free false)) };
       keeps = record {
-        fits = record { known = k.fits.known; silent = still_silent v.first v.asked _ _ k.fits.silent refl; forgets = λ t. no (sym m.whole ∙ t) };
+        fits = record { known = k.fits.known; silent = still_silent v.first v.asked _ _ k.fits.silent refl; forgets = λ t. no (sym w.whole ∙ t) };
         heard = k.heard;
         alone = k.alone;
         requested = k.requested;
-        counted = λ t other. counted_more v.asked _ (knows v) v.requests (kept_asked v.first v.asked _ _ other refl) (k.counted m.whole other);
+        counted = λ t other. counted_more v.asked _ (knows v) v.requests (kept_asked v.first v.asked _ _ other refl) (k.counted w.whole other);
         ends = k.ends;
       };
       same = record { summary = refl; first = refl; last = refl };

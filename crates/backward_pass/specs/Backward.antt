@@ -160,16 +160,20 @@ with_sink true v k left = record v { asked = []; whole = false }
 with_sink false v k left = record v { left = left; asked = asked_more v.first v.asked k.terms.starts }
 
 pub record Walks (old new : BackView) : Type 0 where
+  pub whole : old.whole ≡ true
   pub refused : Bool
   pub sink : SinkTerms
   pub left : List SinkTerms
   pub next : old.left ≡ sink ∷ left
   pub is : new ≡ with_sink refused old sink left
 
+-- there is none, or the pass is broken
+abbrev pub HasWalked : BackView → Type 0
+HasWalked v = v.whole ≡ true → v.left ≡ []
+
 -- the event needed no link
 pub record Moves (old new : BackView) : Type 0 where
   pub running : old.over ≡ false
-  pub whole : old.whole ≡ true
   pub sent : drop old.pushed old.asked ≡ []
   pub walked : Walks old new
 

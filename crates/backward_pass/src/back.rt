@@ -5,7 +5,7 @@ ghost use Rattle.pass_parts.specs.declared.knowledge.Knowledge.TheVariants.{Brok
 ghost use Rattle.pass_parts.specs.Ends.{IsEndFrom, IsRefused, Seen, fresh_end};
 ghost use Rattle.pass_parts.specs.Knowing.{summary_in};
 ghost use Rattle.pass_parts.specs.Turns.{OnNotYet, Waits};
-ghost use Rattle.backward_pass.specs.Backward.{back_of, IsFit, Keeps, Walks, Takes, IsNextBack, HasEvent, need_of, Reached, new_back};
+ghost use Rattle.backward_pass.specs.Backward.{back_of, new_back, need_of, IsFit, Keeps, Reached, HasEvent, HasWalked, Walks, Takes, IsNextBack};
 
 use crate::asking::{add_request, add_sink};
 use epoch_link::{Inlet, Outlet};
@@ -72,7 +72,8 @@ impl Back {
 
     /// The summary, what was asked, and what was requested.
     pub fn into_parts(self) -> (Option<Summary>, Asked, Requests)
-        ensures { (result.0 ≡ (back_of self).summary) × (result.1 ≡ (back_of self).asked) × (result.2.items ≡ (back_of self).requests) }
+        ensures { (result.0 ≡ (back_of self).summary) × (result.1 ≡ (back_of self).asked)
+            × (result.2.items ≡ (back_of self).requests) }
     {
         (self.epoch.into_summary(), self.asked, self.requests)
     }
@@ -88,8 +89,8 @@ impl Back {
     /// Walks the next sink. False where none is left, or the pass is broken.
     fn walk(&mut self) -> bool
         requires { IsFit (back_of self.old) }
-        ensures none { result ≡ false → (self.new ≡ self.old) × ((back_of self.old).whole ≡ true → (back_of self.old).left ≡ []) }
-        ensures walked { result ≡ true → ((back_of self.old).whole ≡ true) × Walks (back_of self.old) (back_of self.new) }
+        ensures none { result ≡ false → (self.new ≡ self.old) × HasWalked (back_of self.old) }
+        ensures walked { result ≡ true → Walks (back_of self.old) (back_of self.new) }
     {
         let Knowledge::Whole(summary) = &self.epoch else {
             return false;

@@ -29,6 +29,7 @@ with_rows false v = record v { rows = Some (rows_of (known_by v) (before v)) }
 
 -- the answer to the next request is built
 pub record Builds (old new : ForeView) : Type 0 where
+  pub whole : old.whole ≡ true
   pub is_refused : Bool
   pub request : Request
   pub left : List Request
@@ -38,6 +39,7 @@ pub record Builds (old new : ForeView) : Type 0 where
 
 -- the sinks are resolved
 pub record Resolves (old new : ForeView) : Type 0 where
+  pub whole : old.whole ≡ true
   pub is_refused : Bool
   pub none_left : old.left ≡ []
   pub ended : old.came.is_ended ≡ true
@@ -48,6 +50,13 @@ pub record Resolves (old new : ForeView) : Type 0 where
 abbrev pub CannotAnswer : Came → List Request → Type 0
 CannotAnswer c [] = Unit {0}
 CannotAnswer c (r ∷ left) = is_answerable c r ≡ false
+
+-- nothing is left to build or to resolve, or the pass is broken
+abbrev pub HasBuilt : ForeView → Type 0
+HasBuilt v = v.whole ≡ true → CannotAnswer v.came v.left
+
+abbrev pub HasResolved : ForeView → Type 0
+HasResolved v = v.whole ≡ true → v.left ≡ [] → v.came.is_ended ≡ true → IsSome v.rows
 
 -- nothing is being sent, no request can be answered, and the sinks are resolved if they can be
 pub record IsIdle (v : ForeView) : Type 0 where

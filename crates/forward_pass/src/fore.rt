@@ -10,7 +10,7 @@ ghost use Rattle.pass_parts.specs.Known.{known};
 ghost use Rattle.pass_parts.specs.Requests.{locations, AreCounted};
 ghost use Rattle.pass_parts.specs.Turns.{OnNotYet, Waits};
 ghost use Rattle.forward_pass.specs.Forward.{fore_of, new_fore, known_by, ForeKeeps, ForeReached, HasEvent, need_of};
-ghost use Rattle.forward_pass.specs.Steps.{CannotAnswer, Builds, Resolves, Sends, Takes, IsNextFore};
+ghost use Rattle.forward_pass.specs.Steps.{HasBuilt, HasResolved, Builds, Resolves, Sends, Takes, IsNextFore};
 
 use crate::received::Received;
 use crate::sending::Sending;
@@ -196,8 +196,8 @@ impl Fore {
 
     /// Builds the answer to the next request, if enough answers came. Where a growth is refused, the pass is broken.
     fn build(&mut self) -> bool
-        ensures none { result ≡ false → (fore_of self.new ≡ fore_of self.old) × ((fore_of self.old).whole ≡ true → CannotAnswer (fore_of self.old).came (fore_of self.old).left) }
-        ensures built { result ≡ true → ((fore_of self.old).whole ≡ true) × Builds (fore_of self.old) (fore_of self.new) }
+        ensures none { result ≡ false → (fore_of self.new ≡ fore_of self.old) × HasBuilt (fore_of self.old) }
+        ensures built { result ≡ true → Builds (fore_of self.old) (fore_of self.new) }
     {
         let Knowledge::Whole(summary) = &self.epoch else {
             return false;
@@ -235,8 +235,8 @@ impl Fore {
 
     /// Resolves the sinks, if no request is left and the End came. Where a growth is refused, the pass is broken.
     fn resolve(&mut self) -> bool
-        ensures none { result ≡ false → (fore_of self.new ≡ fore_of self.old) × ((fore_of self.old).whole ≡ true → (fore_of self.old).left ≡ [] → (fore_of self.old).came.is_ended ≡ true → IsSome (fore_of self.old).rows) }
-        ensures resolved { result ≡ true → ((fore_of self.old).whole ≡ true) × Resolves (fore_of self.old) (fore_of self.new) }
+        ensures none { result ≡ false → (fore_of self.new ≡ fore_of self.old) × HasResolved (fore_of self.old) }
+        ensures resolved { result ≡ true → Resolves (fore_of self.old) (fore_of self.new) }
     {
         let Knowledge::Whole(summary) = &self.epoch else {
             return false;

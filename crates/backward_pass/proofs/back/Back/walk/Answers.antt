@@ -9,13 +9,12 @@ use Rattle.backward_pass.proofs.back.Back.walk.Goals as goal
 pub returns-in_default-add_sink-clause-walked : goal.returns-in_default-add_sink-clause-walked
 returns-in_default-add_sink-clause-walked c = λ _.
     let s = c.args.self.now in
-    let next = next_behind (summary_of c.in-Whole.summary).sinks s.walked (omega (arith, c.if-self-sink_count.false, c.sink_count.ensures)) in (
-      ap is_whole c.in-Whole.is,
-      record {
-        refused = true;
-        sink = next.0;
-        left = drop (s.walked + 1) (summary_of c.in-Whole.summary).sinks;
-        next = ap (λ k. drop s.walked (known (summary_in k)).sinks) c.in-Whole.is ∙ next.1;
-        is = ap back_of c.give_up.ensures;
-      },
-    )
+    let next = next_behind (summary_of c.in-Whole.summary).sinks s.walked (omega (arith, c.if-self-sink_count.false, c.sink_count.ensures)) in
+    record {
+      whole = ap is_whole c.in-Whole.is;
+      refused = true;
+      sink = next.0;
+      left = drop (s.walked + 1) (summary_of c.in-Whole.summary).sinks;
+      next = ap (λ k. drop s.walked (known (summary_in k)).sinks) c.in-Whole.is ∙ next.1;
+      is = ap back_of c.give_up.ensures;
+    }

@@ -23,15 +23,14 @@ returns-then-shares_last-clause-built c =
     let left = drop (s.answered + 1) s.requests.items in
     let next : drop s.answered s.requests.items ≡ request ∷ left = grind (arith, common_steps) in
     let enough : is_answerable s.received request ≡ true = search rules in
-    λ _. (
-      ap is_whole c.in-Whole.is,
-      record {
-        is_refused = false;
-        request = request;
-        left = left;
-        next = next;
-        answerable = enough;
-        is = ap (λ (b : BeingSent). record (fore_of s) { left = left; sending = b.left }) c.again.ensures
-            ∙ ap (λ set. record (fore_of s) { left = left; sending = answer request.loc set }) same;
-      },
-    )
+    λ _.
+    record {
+      whole = ap is_whole c.in-Whole.is;
+      is_refused = false;
+      request = request;
+      left = left;
+      next = next;
+      answerable = enough;
+      is = ap (λ (b : BeingSent). record (fore_of s) { left = left; sending = b.left }) c.again.ensures
+          ∙ ap (λ set. record (fore_of s) { left = left; sending = answer request.loc set }) same;
+    }
