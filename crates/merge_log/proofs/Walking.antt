@@ -243,4 +243,3 @@ pub union_cost : (round round1 round2 : ℕ) (marks marks1 marks2 stack rest sta
 union_cost round round1 round2 marks marks1 marks2 stack rest stack1 stack2 next a b is a_in b_in one two =
     let top : length stack ≡ length rest + 1 = ap length is ∙ length-append rest (next ∷ []) in
     omega (arith, visit_cost one a_in, visit_cost two b_in, top)
-
