@@ -8,7 +8,7 @@ use Rattle.std.proofs.lemmas.List.{get_or-map, get_or_past, length-map}
 use Rattle.flow_model.specs.declared.Loc.{Loc}
 use Rattle.flow_model.specs.declared.SourceByte.{SourceByte}
 use Rattle.flow_model.specs.Orders.{loc_cmp, source_cmp}
-use Rattle.flow_model.proofs.Orders.{loc_total, loc_same}
+use Rattle.flow_model.proofs.Orders.{loc_same}
 use Rattle.sorted_set.specs.Sets.{Ascends, has}
 use Rattle.sorted_set.proofs.Algebra.{tied_by}
 use Rattle.epoch_model.specs.Join.{answer_to}

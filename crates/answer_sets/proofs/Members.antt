@@ -1,5 +1,5 @@
 -- The source bytes that are gathered from terms and answers. Crates above cite these lemmas.
-use Rattle.std.proofs.Common.{true, false, ◌&&◌, ap₂, arith, ◌≡◌, ℕ, ◌+◌, ◌<◌, List, [], ◌∷◌, length, take, get_or, refl, ap, sym, subst, ◌∙◌, Bool, ◌||◌, nat_cmp}
+use Rattle.std.proofs.Common.{◌≡◌, ℕ, ◌+◌, ◌<◌, List, length, take, get_or, ap, sym, subst, ◌∙◌, Bool, ◌||◌}
 use Rattle.std.specs.List.{list_any}
 use Rattle.std.specs.Ordering.{eq_by_cmp}
 use Rattle.std.specs.declared.cmp.Ordering.{Ordering}

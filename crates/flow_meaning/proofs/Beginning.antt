@@ -1,5 +1,5 @@
 -- The state that a program begins in is sound. Crates above cite these lemmas.
-use Rattle.std.proofs.Common.{◌≡◌, ℕ, zero, suc, ◌+◌, ◌-◌, ◌*◌, ◌/◌, ◌^◌, ◌<◌, ◌≤◌, ◌⊎◌, inl, inr, Bool, true, false, ◌||◌, List, [], ◌∷◌, map, length, get_or, take, drop, replicate, Option, Some, None, Result, Ok, Err, refl, arith, ap, sym, ◌∙◌, subst, leb-true, ltb-false, length-take, get_or-take, get_or-drop}
+use Rattle.std.proofs.Common.{◌≡◌, ℕ, zero, suc, ◌+◌, ◌-◌, ◌*◌, ◌/◌, ◌^◌, ◌<◌, ◌≤◌, ◌⊎◌, inl, inr, Bool, true, false, List, [], ◌∷◌, map, length, get_or, take, drop, replicate, Option, Some, None, Result, Ok, Err, refl, arith, ap, sym, ◌∙◌, subst, leb-true, ltb-false, length-take, get_or-take, get_or-drop}
 use Rattle.std.specs.Prelude.{nat_le, nat_lt, if◌then◌else◌}
 use Rattle.std.specs.List.{AllByRecursion, list_all}
 use Rattle.std.proofs.lemmas.Bool.{and_parts, cases_lt, or_parts}
@@ -12,7 +12,7 @@ use Rattle.elf_model.specs.Window.{start_of, start_with, start_in, can_hold, lai
 use Rattle.replay_model.specs.Fits.{start_in_image}
 use Rattle.flow_meaning.specs.Content.{IsSound}
 use Rattle.flow_meaning.specs.RunLaws.{FitsMakesRun}
-use Rattle.flow_meaning.proofs.Never.{no, none_is}
+use Rattle.flow_meaning.proofs.Never.{none_is}
 use Rattle.flow_meaning.proofs.Bytes.{AreBytes}
 use Rattle.flow_meaning.proofs.Window.{over_length}
 use Rattle.flow_meaning.proofs.Sound.{put_bytes}

@@ -1,6 +1,6 @@
 -- A binary search among source bytes, by the order that is derived for them.
-use Rattle.std.proofs.Common.{◌≡◌, ℕ, ◌≤◌, List, get_or, Bool, true, false, refl, ap, sym, ◌∙◌, subst, arith, ⊎_elim}
-use Rattle.std.specs.Cmp.{alike_right, tied_back}
+use Rattle.std.proofs.Common.{◌≡◌, ℕ, List, get_or, Bool, true, false, refl, ap, sym, ◌∙◌, subst, arith, ⊎_elim}
+use Rattle.std.specs.Cmp.{tied_back}
 use Rattle.std.specs.Ordering.{eq_by_cmp, ordering_index}
 use Rattle.std.specs.List.{HoldsAt}
 use Rattle.std.specs.List.Sorted.{IsNonDecreasingBy, IsPartitionPoint}

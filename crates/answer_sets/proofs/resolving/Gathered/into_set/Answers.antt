@@ -1,4 +1,4 @@
-use Rattle.std.proofs.Common.{List, ◌++◌, ap, sym, ◌∙◌, ◌||◌}
+use Rattle.std.proofs.Common.{List, ap, sym, ◌∙◌, ◌||◌}
 use Rattle.flow_model.specs.declared.SourceByte.{SourceByte}
 use Rattle.flow_model.specs.Orders.{source_cmp}
 use Rattle.sorted_set.specs.Sets.{has, union}
