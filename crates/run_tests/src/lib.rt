@@ -5,6 +5,8 @@
 #[cfg(test)]
 mod cores;
 #[cfg(test)]
+mod cursors;
+#[cfg(test)]
 mod epochs;
 #[cfg(test)]
 mod guests;

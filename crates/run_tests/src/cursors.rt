@@ -1,0 +1,53 @@
+//! A cursor that is saved, and made again of what was saved.
+
+ghost use Rattle.std.specs.Prelude.{◌≡◌};
+
+use crate::guests::copy_in_two;
+use crate::runs::cuts_of;
+use checkpoints::Checkpoints;
+use replayer::{Cursor, CursorState, Job, Next};
+use std::alloc::Global;
+use std::process::Abort;
+
+/// Both go on alike to the run's end, which comes after so many steps.
+fn assert_alike(rt: &impl Abort, first: &mut Cursor<'_>, second: &mut Cursor<'_>, steps: u64) {
+    for _ in 0..steps {
+        let step = first.next();
+        assert!(rt; matches!(step, Next::Step(_)));
+        assert!(rt; step == second.next());
+    }
+    let end = first.next();
+    assert!(rt; matches!(end, Next::End(_)));
+    assert!(rt; end == second.next());
+}
+
+/// The cursor of a job's state that was taken apart and put together.
+fn again<'a>(rt: &impl Abort, alloc: Global, cursor: &Cursor<'a>, job: &'a Job) -> Cursor<'a>
+    requires { cursor.now.job ≡ job.now }
+    ensures { result ≡ cursor.now }
+{
+    let saved = cursor.save(alloc).expect(rt, "memory");
+    let (window, rest) = saved.apart();
+    Cursor::from(job, CursorState::whole(window, rest))
+}
+
+/// The cursor at the beginning of an epoch goes on as the one that is made of what it saves.
+fn assert_goes_on(rt: &impl Abort, alloc: Global, job: &Job, number: u32) {
+    let cuts = cuts_of(rt, job, 1);
+    let points = Checkpoints::take(alloc, job, &cuts).expect(rt, "memory");
+    assert!(rt; number < cuts.count());
+    let mut cursor = points.start(alloc, number).expect(rt, "memory");
+    let mut other = again(rt, alloc, &cursor, job);
+    let left = job.steps().saturating_sub(cursor.time());
+    assert_alike(rt, &mut cursor, &mut other, left);
+}
+
+/// At each time a cursor is the one that is made of what it saves.
+#[test]
+fn a_saved_cursor_goes_on_alike(rt: HostRuntime) {
+    let alloc = rt.alloc();
+    let job = copy_in_two(&rt, alloc);
+    for number in 0..18 {
+        assert_goes_on(&rt, alloc, &job, number);
+    }
+}
