@@ -1,4 +1,4 @@
-use Rattle.std.proofs.Common.{rules, ◌≡◌, ◌∙◌, ap, sym, subst, map, string_bytes, List, IfSome, IsSomeAnd, option_map, Option, Some, None}
+use Rattle.std.proofs.Common.{rules, ◌∙◌, ap, sym, subst, map, string_bytes, List, IfSome, IsSomeAnd, option_map, Option, Some, None}
 use Rattle.clap.specs.Words.{Row, Text}
 use Rattle.jet_words.specs.Commands.{CommandOf, IsInRange, plain_command}
 use Rattle.jet_words.specs.Numbers.{HasNumbers}

@@ -1,4 +1,4 @@
-use Rattle.std.proofs.Common.{◌≡◌, ◌≤◌, ◌^◌, ◌∙◌, sym, ap, subst, length, Ok, Err, [], ◌∷◌, slice_index_or, true, false, arith}
+use Rattle.std.proofs.Common.{◌≡◌, ◌≤◌, ◌^◌, ◌∙◌, sym, ap, subst, length, Ok, [], ◌∷◌, slice_index_or, true, false, arith}
 use Rattle.std.specs.Prelude.{None, is_some}
 use Rattle.elf_model.specs.Image.{image}
 use Rattle.elf_model.specs.Window.{start_of}
