@@ -14,7 +14,6 @@ mod delivery;
 mod ending;
 mod engine;
 mod influence;
-mod memory;
 mod record;
 mod reports;
 mod rows;
