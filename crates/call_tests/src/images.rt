@@ -1,6 +1,7 @@
 //! Files that are loaded or refused, with what the gABI says of each.
 
-use elf_image::{ImageFault, ImageKind, load};
+use elf_image::{ImageKind, load};
+use no_memory::Fault;
 use std::alloc::{AllocError, Global};
 use std::process::Abort;
 use std::test::Fail;
@@ -57,6 +58,15 @@ fn changed(
     Ok(file)
 }
 
+/// The first fault of a file, if it isn't loaded.
+fn fault_of(rt: &impl Abort, alloc: Global, file: &[u8]) -> Option<ImageKind> {
+    match load(alloc, file) {
+        Ok(_) => None,
+        Err(Fault::At(kind)) => Some(kind),
+        Err(Fault::NoMemory(no_memory)) => panic!(rt; "{no_memory}"),
+    }
+}
+
 /// The changed file has this fault, or is loaded.
 fn assert_fault(
     rt: &impl Abort,
@@ -66,7 +76,7 @@ fn assert_fault(
     want: Option<ImageKind>,
 ) -> Result<(), AllocError> {
     let file = changed(alloc, changes, entries)?;
-    assert_eq!(rt; load(alloc, &file).err(), want.map(ImageFault::At));
+    assert_eq!(rt; fault_of(rt, alloc, &file), want);
     Ok(())
 }
 
@@ -97,8 +107,8 @@ fn each_prefix_has_its_fault(rt: HostRuntime) -> Result<(), Fail> {
             _ => None,
         };
         assert_eq!(rt;
-            load(rt.alloc(), &file[..length]).err(),
-            want.map(ImageFault::At),
+            fault_of(&rt, rt.alloc(), &file[..length]),
+            want,
             "at {length}"
         );
     }

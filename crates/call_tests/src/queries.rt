@@ -1,8 +1,12 @@
 //! Texts against what they stand for.
 
 use flow_model::{InnerSink, Loc, Rule, SinkByte, SourceByte};
-use query_lang::{Query, QueryFault, QueryKind, TogetherFault, parse, together};
+use no_memory::Fault;
+use query_lang::{
+    FaultInQuery, OtherRule, Query, QueryFault, QueryKind, TogetherFault, parse, together,
+};
 use std::alloc::Global;
+use std::process::Abort;
 use std::test::Fail;
 
 /// Texts, and the line and the kind of their first fault.
@@ -68,18 +72,15 @@ const QUERIES: [(&[u8], Rule, &[(u8, u32)], &[(u8, u32)]); 4] = [
     (b"rule index", Rule::Index, &[], &[]),
 ];
 
-/// What `parse` answers for a text of at most 4096 bytes.
+/// What `parse` answers for the first 4096 bytes of a text.
 fn read(alloc: Global, text: &[u8]) -> Result<Query, QueryFault> {
-    if text.len() > 4096 {
-        return Err(QueryFault::NoMemory);
-    }
-    parse(alloc, text)
+    parse(alloc, &text[..text.len().min(4096)])
 }
 
 /// The line and the kind of the first fault of a text.
 fn fault_of(alloc: Global, text: &[u8]) -> Option<(u32, QueryKind)> {
     match read(alloc, text) {
-        Err(QueryFault::At { line, kind }) => Some((line, kind)),
+        Err(Fault::At(FaultInQuery { line, kind })) => Some((line, kind)),
         _ => None,
     }
 }
@@ -119,11 +120,16 @@ fn good_texts_choose_their_bytes(rt: HostRuntime) {
 }
 
 /// One query of the two that these texts stand for.
-fn of_two(alloc: Global, first: &[u8], second: &[u8]) -> Result<Query, TogetherFault> {
-    let (Ok(first), Ok(second)) = (read(alloc, first), read(alloc, second)) else {
-        return Err(TogetherFault::NoMemory);
-    };
-    let queries = [first, second];
+fn of_two(
+    rt: &impl Abort,
+    alloc: Global,
+    first: &[u8],
+    second: &[u8],
+) -> Result<Query, TogetherFault> {
+    let queries = [
+        read(alloc, first).expect(rt, "the first query"),
+        read(alloc, second).expect(rt, "the second query"),
+    ];
     together(alloc, queries.as_slice())
 }
 
@@ -159,6 +165,7 @@ fn has_its_points(query: &Query) -> bool {
 #[test]
 fn two_queries_together_choose_what_either_does(rt: HostRuntime) -> Result<(), Fail> {
     let query = of_two(
+        &rt,
         rt.alloc(),
         b"rule copy\nsource 0 1 2\nsink 1\nsink mem 65792 2 at 6",
         b"rule copy\nsource 0 4 6\nsink 15 0 1\nsink mem 65793 1 at 6\nsink reg 1 at 5",
@@ -177,13 +184,15 @@ fn two_queries_together_choose_what_either_does(rt: HostRuntime) -> Result<(), F
 
 #[test]
 fn two_rules_are_not_made_one(rt: HostRuntime) {
-    let is_told = match of_two(rt.alloc(), b"rule copy", b"rule index") {
+    let is_told = match of_two(&rt, rt.alloc(), b"rule copy", b"rule index") {
         Err(
-            TogetherFault::Rules {
-                first: Rule::Copy,
-                index: 2,
-                other: Rule::Index,
-            },
+            Fault::At(
+                OtherRule {
+                    first: Rule::Copy,
+                    index: 2,
+                    other: Rule::Index,
+                },
+            ),
         ) => true,
         _ => false,
     };

@@ -10,6 +10,7 @@ use jet_call::jet;
 use jet_cli::conclude;
 use jet_refusal::Refusal;
 use outer_io::{FileStore, MachineClock, OpenGate, OutSink};
+use std::alloc::AllocError;
 use std::env;
 use std::io::ErrorKind;
 use std::process::ExitCode;
@@ -22,14 +23,14 @@ const LOG_MARK: &[u8] = b"JETLOG";
 fn words_of(rt: HostRuntime) -> Result<Vec<String>, Refusal> {
     let args = match env::args(&rt) {
         Ok(args) => args,
-        Err(error) if error.kind() == ErrorKind::OutOfMemory => return Err(Refusal::NoMemory),
+        // `io` tells of a refused allocation by a kind of its own.
+        Err(error) if error.kind() == ErrorKind::OutOfMemory => return Err(Refusal::from(
+            AllocError,
+        )),
         Err(_) => return Err(Refusal::Usage),
     };
-    let words: Result<Vec<String>, _> = args.collect(rt.alloc());
-    match words {
-        Ok(words) => Ok(words),
-        Err(_) => Err(Refusal::NoMemory),
-    }
+    let words: Vec<String> = args.collect(rt.alloc())?;
+    Ok(words)
 }
 
 /// Makes the real outside, calls `jet` and ends with its status.

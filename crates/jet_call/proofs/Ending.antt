@@ -132,7 +132,7 @@ module _ (command : CommandOf) (change : Change) (u : IsUndisturbed change) (tol
   decided-some (Ok x) h = inl (by_text h)
   decided-some (Err r) h =
       let Goal : Type 0 = (status_of r ≡ status_after answer) ⊎ (status_of r ≡ 10) in
-      of_any_cause Goal r (λ e. inr (ap status_of e))
+      of_any_cause Goal r (λ e. inr e)
       (IsOwedTo-map (causes_of (Some command) change r) (record { usage = Goal; files = Goal; read = Goal; write = Goal }) (λ p. absurd p)
       (λ found. inl (by_files (Err r) found))
       (λ rose. let f : ⊥ = omega (arith, rose u.store_room, u.store_faults) in absurd f)

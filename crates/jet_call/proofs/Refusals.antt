@@ -22,7 +22,7 @@ status_of-range (refusal.LogTooLong size) = (omega arith, omega arith)
 status_of-range (refusal.TooManyEpochs count) = (omega arith, omega arith)
 status_of-range refusal.ReadFault = (omega arith, omega arith)
 status_of-range refusal.WriteFault = (omega arith, omega arith)
-status_of-range refusal.NoMemory = (omega arith, omega arith)
+status_of-range (refusal.NoMemory no_memory) = (omega arith, omega arith)
 
 pub status_after-is_status : (r : Result (Unit {0}) Refusal) → IsStatus (status_after r)
 status_after-is_status (Ok done) = inl refl
@@ -43,10 +43,10 @@ is_usage (refusal.LogTooLong size) e = let f : ⊥ = omega (arith, e) in absurd 
 is_usage (refusal.TooManyEpochs count) e = let f : ⊥ = omega (arith, e) in absurd f
 is_usage refusal.ReadFault e = let f : ⊥ = omega (arith, e) in absurd f
 is_usage refusal.WriteFault e = let f : ⊥ = omega (arith, e) in absurd f
-is_usage refusal.NoMemory e = let f : ⊥ = omega (arith, e) in absurd f
+is_usage (refusal.NoMemory no_memory) e = let f : ⊥ = omega (arith, e) in absurd f
 
 -- what holds of each cause but out of memory
-pub of_any_cause : (P : Type 0) (r : Refusal) → (r ≡ refusal.NoMemory → P) → IsOwedTo (record { usage = P; files = P; read = P; write = P }) r → P
+pub of_any_cause : (P : Type 0) (r : Refusal) → (status_of r ≡ 10 → P) → IsOwedTo (record { usage = P; files = P; read = P; write = P }) r → P
 of_any_cause P refusal.Usage memory p = p
 of_any_cause P (refusal.Image fault) memory p = p
 of_any_cause P (refusal.Window pages) memory p = p
@@ -61,7 +61,7 @@ of_any_cause P (refusal.LogTooLong size) memory p = p
 of_any_cause P (refusal.TooManyEpochs count) memory p = p
 of_any_cause P refusal.ReadFault memory p = p
 of_any_cause P refusal.WriteFault memory p = p
-of_any_cause P refusal.NoMemory memory p = memory refl
+of_any_cause P (refusal.NoMemory no_memory) memory p = memory refl
 
 -- of the status of a failing write
 pub of_write_fault : (P : Type 0) (causes : Causes) (r : Refusal) → status_of r ≡ 8 → (causes.write → P) → IsOwedTo causes r → P
@@ -79,7 +79,7 @@ of_write_fault P causes (refusal.LogTooLong size) e step p = let f : ⊥ = omega
 of_write_fault P causes (refusal.TooManyEpochs count) e step p = let f : ⊥ = omega (arith, e) in absurd f
 of_write_fault P causes refusal.ReadFault e step p = let f : ⊥ = omega (arith, e) in absurd f
 of_write_fault P causes refusal.WriteFault e step p = step p
-of_write_fault P causes refusal.NoMemory e step p = let f : ⊥ = omega (arith, e) in absurd f
+of_write_fault P causes (refusal.NoMemory no_memory) e step p = let f : ⊥ = omega (arith, e) in absurd f
 
 pub usage : (r : Result (Unit {0}) Refusal) → status_after r ≡ 2 → r ≡ Err refusal.Usage
 usage (Ok done) e = let f : ⊥ = omega (arith, e) in absurd f

@@ -1,6 +1,5 @@
 -- From the recorded run of the workload to what `bench` comes to.
-use Rattle.std.proofs.Common.{◌≡◌, ◌∙◌, ap, sym, refl, subst, IfOk, OnErr, Vec, ℕ, ◌+◌, ◌≤◌, ◌<◌, ◌^◌, arith, List, [], ◌∷◌, length, sum_by, Option, Some, None, Result, Ok, Err}
-use Rattle.std.specs.declared.alloc.Global.{Global}
+use Rattle.std.proofs.Common.{◌≡◌, ◌∙◌, ap, sym, refl, subst, ℕ, ◌+◌, ◌≤◌, ◌<◌, ◌^◌, arith, List, [], ◌∷◌, length, sum_by, Option, Some, None, Result, Ok, Err}
 use Rattle.std.proofs.lemmas.List.Sums.{sum_by-cons}
 use Rattle.sha2.specs.Sha256.{sha256}
 use Rattle.isa.specs.Machine.{State}
@@ -26,7 +25,6 @@ use Rattle.replayer.specs.Jobs.{Job, trace_of}
 use Rattle.replayer.specs.Checks.{IsChecked}
 use Rattle.sink_collect.specs.Pairs.{pairs}
 use Rattle.run_query.specs.Crossings.{CrossedAt, numbered, crossed}
-use Rattle.no_memory.specs.declared.NoMemory.{NoMemory}
 use Rattle.jet_refusal.specs.declared.refusal.Refusal.{Refusal}
 use Rattle.jet_refusal.specs.declared.refusal.Refusal.TheVariants as refusal
 use Rattle.jet_refusal.specs.Causes.{IsOwedTo}
@@ -41,12 +39,16 @@ use Rattle.workload_model.specs.Lines.{numbers_of, bench_text}
 use Rattle.workload_model.specs.Answer.{lines_of, IsWorkloadLog, IsBenchAnswer}
 use Rattle.workload_model.proofs.Guests.{guest-image}
 use Rattle.workload_model.proofs.Outcomes.{short_log-outcome, long_log-outcome}
-use Rattle.order_gateway.specs.declared.fault.RecordFault.{RecordFault}
-use Rattle.order_gateway.specs.declared.fault.RecordFault.TheVariants as fault
+use Rattle.record_model.specs.declared.Unrecorded.{Unrecorded}
+use Rattle.record_model.specs.declared.Unrecorded.TheVariants.{Window, LogTooLong}
+use Rattle.no_memory.specs.declared.Fault.{Fault}
+use Rattle.no_memory.specs.declared.Fault.TheVariants as fault
+use Rattle.no_memory.specs.Faults.{IsCausedBy}
+use Rattle.jet_refusal.specs.Faults.{unrecorded_refusal, IsRefusalOf}
 use Rattle.order_gateway.specs.Recordings.{IsTooLong, IsCause}
-use Rattle.jet_files.specs.Outcome.{Found, Follows, IsWork, by_reading, seen_by, bytes_of}
+use Rattle.jet_files.specs.Outcome.{Found, Follows, IsWork, by_reading}
 use Rattle.jet_cli.specs.Answers.{IsWorkOf}
-use Rattle.jet_cli.specs.Bench.{recording_refusal, IsWorkloadJob, asked_in_all}
+use Rattle.jet_cli.specs.Bench.{IsWorkloadJob, asked_in_all}
 use Rattle.jet_cli.proofs.Fitting.{fitting_start-ok}
 
 -- ---- the guest's run begins
@@ -87,9 +89,11 @@ long-stops seed n epoch size is =
       outcome = ap (λ (k : ℕ). Err (refusal.LogTooLong k)) is.size_is ∙ sym (long_log-outcome is.log epoch long);
     }
 
-pub recording-stops : (seed n epoch : ℕ) (why : RecordFault) → IsCause seed n why → IsWorkOf (IsBenchAnswer seed n epoch) (Err (recording_refusal why))
-recording-stops seed n epoch (fault.LogTooLong size) is = long-stops seed n epoch size is
-recording-stops seed n epoch fault.NoMemory is = tt
+pub recording-stops : (seed n epoch : ℕ) (why : Fault Unrecorded) (r : Refusal) → IsCausedBy (IsCause seed n) why
+    → IsRefusalOf (λ cause given. given ≡ unrecorded_refusal cause) why r → IsWorkOf (IsBenchAnswer seed n epoch) (Err r)
+recording-stops seed n epoch (fault.At (Window window)) r is gives = absurd is
+recording-stops seed n epoch (fault.At (LogTooLong size)) r is gives = rw gives (long-stops seed n epoch size is)
+recording-stops seed n epoch (fault.NoMemory no_memory) r is gives = rw gives tt
 
 -- ---- its numbers
 
@@ -127,23 +131,14 @@ module _ (seed n epoch : ℕ) (job : Job) (is : IsWorkloadJob seed n job) where
       ap (λ (at : List ℕ). bench_text at (trace_of job)) e
       ∙ sym (ap (λ (from : Option State). text_from from job.log (bench_text (cut_times (steps job.log) epoch))) is.begins)
 
-  gives : (few : epochs_check epoch job.log ≡ Ok tt) (cuts text : List ℕ) → cuts ≡ cut_times (steps job.log) epoch → text ≡ bench_text cuts (trace_of job)
+  pub lines-give : (few : epochs_check epoch job.log ≡ Ok tt) (cuts text : List ℕ) → cuts ≡ cut_times (steps job.log) epoch → text ≡ bench_text cuts (trace_of job)
       → IsBenchAnswer seed n epoch (Ok text)
-  gives few cuts text e same = record {
+  lines-give few cuts text e same = record {
     log = job.log;
     is_log = is.is_log;
     outcome = ap Ok (same ∙ lines-are cuts e)
         ∙ sym (short_log-outcome job.log epoch is.short ∙ and_then-ok (epochs_check epoch job.log) (λ few. Ok (lines_of job.log epoch)) tt few);
   }
-
-  -- the lines were made, or memory is out
-  pub lines-give : (made : Result (Vec ℕ Global) NoMemory) (result : Result (Vec ℕ Global) Refusal) (cuts : List ℕ) → epochs_check epoch job.log ≡ Ok tt
-      → cuts ≡ cut_times (steps job.log) epoch → IfOk made (λ text. result ≡ Ok text) → OnErr made (result ≡ Err refusal.NoMemory)
-      → IfOk made (λ text. text.items ≡ bench_text cuts (trace_of job)) → IsWorkOf (IsBenchAnswer seed n epoch) (seen_by bytes_of result)
-  lines-give (Ok text) result cuts few e ok err same =
-      subst (λ (r : Result (Vec ℕ Global) Refusal). IsWorkOf (IsBenchAnswer seed n epoch) (seen_by bytes_of r)) (sym ok) (gives few cuts text.items e same)
-  lines-give (Err x) result cuts few e ok err same =
-      subst (λ (r : Result (Vec ℕ Global) Refusal). IsWorkOf (IsBenchAnswer seed n epoch) (seen_by bytes_of r)) (sym err) tt
 
 -- ---- no file is read
 

@@ -1,9 +1,7 @@
 -- What is made of a run that has few epochs.
-use Rattle.std.proofs.Common.{◌≡◌, ◌∙◌, sym, ap, subst, List, Result, Ok, Err, IfOk, OnErr}
-use Rattle.no_memory.specs.declared.NoMemory.{NoMemory}
+use Rattle.std.proofs.Common.{◌≡◌, ◌∙◌, sym, ap, List, Result, Ok, Err}
 use Rattle.report_model.specs.Rows.{Row}
 use Rattle.jet_refusal.specs.declared.refusal.Refusal.{Refusal}
-use Rattle.jet_refusal.specs.declared.refusal.Refusal.TheVariants as refusal
 use Rattle.jet_refusal.proofs.Causes.{IsOwedTo-map}
 use Rattle.jet_model.specs.Outcomes.{and_then}
 use Rattle.jet_model.proofs.AndThen.{and_then-ok}
@@ -24,9 +22,6 @@ pub made-stops : {A B : Type 0} (check : Result (Unit {0}) Refusal) (a : A) (b :
 made-stops check a b r =
     IsOwedTo-map (by_reading (and_then check (λ few. Ok a) ≡ Err r) ⊥) (by_reading (and_then check (λ few. Ok b) ≡ Err r) ⊥) (λ p. p) (stops check a b r) (λ p. p) (λ p. p) r
 
--- the rows are made, or memory is out
-pub made-rows : (check : Result (Unit {0}) Refusal) (made : Result (List Row) NoMemory) (result : Result (List Row) Refusal) (rows : List Row) → check ≡ Ok tt
-    → IfOk made (λ rs. result ≡ Ok rs) → OnErr made (result ≡ Err refusal.NoMemory) → IfOk made (λ rs. rs ≡ rows) → IsWork (and_then check (λ few. Ok rows)) result
-made-rows check (Ok rs) result rows few ok err is =
-    subst (λ (r : Result (List Row) Refusal). IsWork (and_then check (λ few. Ok rows)) r) (sym ok) (and_then-ok check (λ few. Ok rows) tt few ∙ ap Ok (sym is))
-made-rows check (Err e) result rows few ok err is = subst (λ (r : Result (List Row) Refusal). IsWork (and_then check (λ few. Ok rows)) r) (sym err) tt
+-- the rows that are made
+pub made-rows : (check : Result (Unit {0}) Refusal) (made rows : List Row) → check ≡ Ok tt → made ≡ rows → and_then check (λ few. Ok rows) ≡ Ok made
+made-rows check made rows few is = and_then-ok check (λ few. Ok rows) tt few ∙ ap Ok (sym is)

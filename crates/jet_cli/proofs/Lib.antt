@@ -4,5 +4,6 @@ mod Fitting
 mod Working
 mod Cutting
 mod Recording
+mod Refused
 mod Reporting
 mod Benching

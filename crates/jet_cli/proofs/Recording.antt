@@ -12,8 +12,12 @@ use Rattle.record_model.specs.Counts.{capped}
 use Rattle.replay_model.specs.Fits.{start_in_image}
 use Rattle.record_model.specs.Recorded.{IsRecorded}
 use Rattle.call_record.specs.Captures.{IsCaptured, IsTooLong, IsCause}
-use Rattle.call_record.specs.declared.fault.CaptureFault.{CaptureFault}
-use Rattle.call_record.specs.declared.fault.CaptureFault.TheVariants as capture
+use Rattle.record_model.specs.declared.Unrecorded.{Unrecorded}
+use Rattle.record_model.specs.declared.Unrecorded.TheVariants.{Window, LogTooLong}
+use Rattle.no_memory.specs.declared.Fault.{Fault}
+use Rattle.no_memory.specs.declared.Fault.TheVariants.{At, NoMemory}
+use Rattle.no_memory.specs.Faults.{IsCausedBy}
+use Rattle.jet_refusal.specs.Faults.{unrecorded_refusal, IsRefusalOf}
 use Rattle.outer_io.specs.Shown.{StoreShown}
 use Rattle.outer_io.specs.Reads.{Reads}
 use Rattle.outer_io.specs.Tells.{Tells, Gains}
@@ -25,7 +29,7 @@ use Rattle.jet_model.specs.Answer.{Limits, Source, source_at, setting_of, start_
 use Rattle.jet_model.proofs.AndThen.{AndThen-ok}
 use Rattle.jet_files.specs.Outcome.{Follows, Comes}
 use Rattle.jet_files.proofs.Composing.{follows-stops, comes-stops, comes-then, comes-work}
-use Rattle.jet_cli.specs.Answers.{IsCapture, IsRecording, IsWorkOf, capture_refusal}
+use Rattle.jet_cli.specs.Answers.{IsCapture, IsRecording, IsWorkOf}
 use Rattle.jet_cli.specs.Ending.{IsUnasked}
 use Rattle.jet_cli.proofs.Working.{follows-answer}
 
@@ -78,18 +82,18 @@ module _ (source : Source) (limits : Limits) (heard heard_after : Option (List �
   }
 
   -- it was not captured
-  pub not_captured : (fault : CaptureFault) → IsCause (setting_of source limits) source.program.image heard heard_after fault
-      → IsWorkOf (IsCapture source limits heard heard_after) (Err (capture_refusal limits.pages fault))
-  not_captured capture.Window c = captured-window c.0 c.1
-  not_captured (capture.LogTooLong size) c = captured-too_long size c
-  not_captured capture.NoMemory c = tt
+  pub not_captured : (fault : Fault Unrecorded) (r : Refusal) → IsCausedBy (IsCause (setting_of source limits) source.program.image heard heard_after) fault
+      → IsRefusalOf (λ cause given. given ≡ unrecorded_refusal cause) fault r → IsWorkOf (IsCapture source limits heard heard_after) (Err r)
+  not_captured (At (Window window)) r c gives = rw (gives, c.0) (captured-window c.1 c.2)
+  not_captured (At (LogTooLong size)) r c gives = rw gives (captured-too_long size c)
+  not_captured (NoMemory no_memory) r c gives = rw gives tt
 
   -- only where the log was made, or memory is out, was the clock asked
-  pub not_read : (fault : CaptureFault) → IsCause (setting_of source limits) source.program.image heard heard_after fault
-      → IsUnasked heard heard_after (capture_refusal limits.pages fault)
-  not_read capture.Window c = inr c.1
-  not_read (capture.LogTooLong size) c = inl (inl (size, refl))
-  not_read capture.NoMemory c = inl (inr (inr refl))
+  pub not_read : (fault : Fault Unrecorded) (r : Refusal) → IsCausedBy (IsCause (setting_of source limits) source.program.image heard heard_after) fault
+      → IsRefusalOf (λ cause given. given ≡ unrecorded_refusal cause) fault r → IsUnasked heard heard_after r
+  not_read (At (Window window)) r c gives = inr c.2
+  not_read (At (LogTooLong size)) r c gives = inl (inl (size, gives))
+  not_read (NoMemory no_memory) r c gives = inl (inr (inr (record { told = no_memory; is = gives })))
 
 -- ---- a program and its inputs that were read
 

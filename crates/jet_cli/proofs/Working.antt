@@ -1,5 +1,5 @@
 -- From what was found in files, and the work on it, to what the files come to.
-use Rattle.std.proofs.Common.{◌≡◌, ◌∙◌, ap, ap₂, sym, refl, subst, IfOk, OnErr, Vec, ℕ, ◌+◌, List, Bool, [], ◌∷◌, ◌++◌, Option, Some, None, Result, Ok, Err}
+use Rattle.std.proofs.Common.{◌≡◌, ◌∙◌, ap, ap₂, sym, refl, ℕ, ◌+◌, List, Bool, [], ◌∷◌, ◌++◌, Option, Some, None, Result, Ok, Err}
 use Rattle.std.specs.Prelude.{codes, if◌then◌else◌}
 use Rattle.std.specs.List.{filter}
 use Rattle.std.specs.Fmt.{decimal}
@@ -32,10 +32,7 @@ use Rattle.jet_model.specs.Contents.{Contents, Run, run_at}
 use Rattle.jet_model.specs.Report.{reports_from, reports_of}
 use Rattle.jet_model.specs.Answer.{fitting_start, epochs_check, cut_answer, traced_answer, unless_other_rule, rules_check, text_answer, limited_text}
 use Rattle.jet_model.proofs.AndThen.{and_then-ok, and_then-err}
-use Rattle.std.specs.declared.alloc.Global.{Global}
-use Rattle.no_memory.specs.declared.NoMemory.{NoMemory}
-use Rattle.jet_refusal.specs.declared.refusal.Refusal.TheVariants as refusal
-use Rattle.jet_files.specs.Outcome.{AskAlike, IsKeptFor, Comes, Found, Follows, IsWork, by_reading, seen_by, bytes_of}
+use Rattle.jet_files.specs.Outcome.{AskAlike, IsKeptFor, Comes, Found, Follows, IsWork, by_reading}
 use Rattle.jet_files.proofs.Composing.{comes-then, follows-stops}
 use Rattle.jet_cli.specs.declared.work.Listing.{Listing}
 use Rattle.jet_cli.specs.declared.work.Listing.TheVariants.{BySink, BySource}
@@ -53,12 +50,7 @@ follows-answer R Q T x f g step first (Err r) work =
     (λ p. p) (λ q. tells-map f.files g.files (Found (λ file. R file (Ok x))) (Found (λ file. T file (Err r))) (λ o n d. record { found = step o.file (Err r) d.found q }) first)
     (λ p. absurd p) (λ p. p) r work
 
--- ---- a text, or out of memory
-
-pub work-text : (text : Result (Vec ℕ Global) NoMemory) (result : Result (Vec ℕ Global) Refusal) (answer : Result (List ℕ) Refusal)
-    → IfOk text (λ bytes. result ≡ Ok bytes) → OnErr text (result ≡ Err refusal.NoMemory) → IfOk text (λ bytes. answer ≡ Ok bytes.items) → IsWork answer (seen_by bytes_of result)
-work-text (Ok bytes) result answer ok err h = subst (λ (r : Result (Vec ℕ Global) Refusal). IsWork answer (seen_by bytes_of r)) (sym ok) h
-work-text (Err e) result answer ok err h = subst (λ (r : Result (Vec ℕ Global) Refusal). IsWork answer (seen_by bytes_of r)) (sym err) tt
+-- ---- the answer of some work
 
 -- what holds of the answer of some work
 work-holds : (answer : Result (List ℕ) Refusal) (is : Result (List ℕ) Refusal → Type 0) → ((outcome : Result (List ℕ) Refusal) → answer ≡ outcome → is outcome)

@@ -3,11 +3,8 @@ use Rattle.std.specs.Prelude.{◌≡◌, ℕ, List, [], ◌∷◌, ◌++◌, cod
 use Rattle.std.specs.Fmt.{decimal}
 use Rattle.outer_io.specs.Files.{Text}
 use Rattle.outer_io.specs.Tells.{Tells, Gains}
-use Rattle.call_record.specs.declared.fault.CaptureFault.{CaptureFault}
-use Rattle.call_record.specs.declared.fault.CaptureFault.TheVariants as capture
 use Rattle.jet_words.specs.Commands.{CommandOf, QueryOf, RecordOf, ReplayOf, OutputOf, ConvertOf, InfluenceOf, QueriesOf, BenchOf}
 use Rattle.jet_refusal.specs.declared.refusal.Refusal.{Refusal}
-use Rattle.jet_refusal.specs.declared.refusal.Refusal.TheVariants as refusal
 use Rattle.flow_model.specs.declared.StepSeen.{StepSeen}
 use Rattle.report_model.specs.Query.{Query, Alike}
 use Rattle.report_model.specs.Rows.{Row}
@@ -67,12 +64,6 @@ IsAnswer (BenchOf seed steps pipeline) heard heard_after file answer = IsBenchAn
 abbrev pub IsWorkOf : {A : Type 0} → (Result A Refusal → Type 0) → Result A Refusal → Type 0
 IsWorkOf is_answer (Ok x) = is_answer (Ok x)
 IsWorkOf is_answer (Err r) = IsOwedTo (by_reading (is_answer (Err r)) ⊥) r
-
--- why a run in a window of so many pages was not recorded
-abbrev pub capture_refusal : ℕ → CaptureFault → Refusal
-capture_refusal pages capture.Window = refusal.Window pages
-capture_refusal pages (capture.LogTooLong size) = refusal.LogTooLong size
-capture_refusal pages capture.NoMemory = refusal.NoMemory
 
 -- ---- work for a query that is kept
 

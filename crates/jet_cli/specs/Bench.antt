@@ -6,17 +6,8 @@ use Rattle.replay_model.specs.Fits.{beginning}
 use Rattle.record_model.specs.Counts.{capped}
 use Rattle.replayer.specs.Jobs.{Job}
 use Rattle.run_query.specs.Crossings.{CrossedAt}
-use Rattle.jet_refusal.specs.declared.refusal.Refusal.{Refusal}
-use Rattle.jet_refusal.specs.declared.refusal.Refusal.TheVariants as refusal
-use Rattle.order_gateway.specs.declared.fault.RecordFault.{RecordFault}
-use Rattle.order_gateway.specs.declared.fault.RecordFault.TheVariants as fault
 use Rattle.workload_model.specs.Guest.{guest_file}
 use Rattle.workload_model.specs.Answer.{IsWorkloadLog}
-
--- why the run was not recorded
-abbrev pub recording_refusal : RecordFault → Refusal
-recording_refusal (fault.LogTooLong size) = refusal.LogTooLong size
-recording_refusal fault.NoMemory = refusal.NoMemory
 
 -- the job is of the guest and the log of its run, whose text is no longer than a log may be
 pub record IsWorkloadJob (seed steps : ℕ) (job : Job) : Type 0 where

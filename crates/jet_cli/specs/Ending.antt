@@ -9,6 +9,7 @@ use Rattle.jet_refusal.specs.declared.refusal.Refusal.{Refusal}
 use Rattle.jet_refusal.specs.declared.refusal.Refusal.TheVariants as refusal
 use Rattle.jet_refusal.specs.Refusals.{status_of}
 use Rattle.jet_refusal.specs.Causes.{Causes, IsOwedTo}
+use Rattle.jet_refusal.specs.Faults.{IsOutOfMemory}
 use Rattle.jet_model.specs.Contents.{Contents}
 use Rattle.jet_files.specs.Outcome.{Found}
 use Rattle.jet_cli.specs.Targets.{target_of}
@@ -70,7 +71,7 @@ Says old new line = (Rose old.faults new.faults → ⊥) → Tells old.written n
 
 -- these refusals can come after the clock was asked
 abbrev pub IsLate : Refusal → Type 0
-IsLate r = ((size : ℕ) × (r ≡ refusal.LogTooLong size)) ⊎ (r ≡ refusal.WriteFault) ⊎ (r ≡ refusal.NoMemory)
+IsLate r = ((size : ℕ) × (r ≡ refusal.LogTooLong size)) ⊎ (r ≡ refusal.WriteFault) ⊎ IsOutOfMemory r
 
 -- before every other refusal the clock gave no answer; `heard` and `heard_after` are what it told before and after
 abbrev pub IsUnasked : Option (List ℕ) → Option (List ℕ) → Refusal → Type 0

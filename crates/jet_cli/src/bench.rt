@@ -8,17 +8,16 @@ ghost use Rattle.workload_model.specs.Answer.{IsBenchAnswer};
 ghost use Rattle.jet_words.specs.Commands.{IsPipeline};
 ghost use Rattle.jet_files.specs.Outcome.{seen_by, bytes_of};
 ghost use Rattle.jet_cli.specs.Answers.{IsWorkOf};
-ghost use Rattle.jet_cli.specs.Bench.{recording_refusal, IsWorkloadJob, asked_in_all};
+ghost use Rattle.jet_cli.specs.Bench.{IsWorkloadJob, asked_in_all};
 
 use crate::engine::Engine;
-use crate::memory::or_memory;
 use crate::rows::cuts_of;
 use crate::work::fitted;
 use epoch_cut::Cuts;
 use jet_refusal::Refusal;
 use jet_words::Pipeline;
 use no_memory::NoMemory;
-use order_gateway::{MOST_STEPS, Numbers, RecordFault, Recording, query, recorded, text_of};
+use order_gateway::{MOST_STEPS, Numbers, Recording, query, recorded, text_of};
 use outer_io::Gate;
 use query_lang::Query;
 use replayer::Job;
@@ -29,32 +28,19 @@ use std::alloc::Global;
 use std::sync::Wait;
 use std::thread::Threads;
 
-/// Why the workload's run was not recorded.
-fn of_recording(fault: RecordFault) -> Refusal
-    ensures { result ≡ recording_refusal fault }
-{
-    match fault {
-        RecordFault::LogTooLong(size) => Refusal::LogTooLong(size),
-        RecordFault::NoMemory => Refusal::NoMemory,
-    }
-}
-
-/// The recorded run of the workload. It gives up with `LogTooLong`, or with `NoMemory`.
+/// The recorded run of the workload. It gives up with `LogTooLong`, or is out of memory.
 fn workload_job(alloc: Global, seed: u64, steps: u64) -> Result<Job, Refusal>
     requires { steps ≤ MOST_STEPS }
     ensures ok { IfOk result (IsWorkloadJob seed steps) }
     ensures err { IfErr result (λ r. (epoch : ℕ) → IsWorkOf (IsBenchAnswer seed steps epoch) (Err r)) }
 {
-    match recorded(alloc, seed, steps) {
-        Ok(
-            Recording {
-                program,
-                image,
-                log,
-            },
-        ) => fitted(alloc, &program, image, log),
-        Err(fault) => Err(of_recording(fault)),
-    }
+    let recording = recorded(alloc, seed, steps)?;
+    let Recording {
+        program,
+        image,
+        log,
+    } = recording;
+    fitted(alloc, &program, image, log)
 }
 
 /// How many locations were asked at the cuts in all, or 2^64 - 1 where they are more.
@@ -120,7 +106,7 @@ fn lines<R: Threads + Wait + Sync, G: Gate>(
 }
 
 /// The lines of the workload's run by this seed, of so many steps. It gives up with `LogTooLong`, then with
-/// `TooManyEpochs`, or with `NoMemory`.
+/// `TooManyEpochs`, or is out of memory.
 pub fn bench<R: Threads + Wait + Sync, G: Gate>(
     engine: &Engine<R, G>,
     seed: u64,
@@ -133,5 +119,6 @@ pub fn bench<R: Threads + Wait + Sync, G: Gate>(
 {
     let job = workload_job(engine.alloc, seed, steps)?;
     let cuts = cuts_of(&job, pipeline.epoch)?;
-    or_memory(lines(engine, &job, cuts, pipeline))
+    let text = lines(engine, &job, cuts, pipeline)?;
+    Ok(text)
 }

@@ -1,6 +1,7 @@
 //! A command, from its words to its end.
-ghost use Rattle.std.specs.Prelude.{◌≡◌, ◌⊎◌, ◌≤◌, [], false, map, string_bytes, Some, Err, IfErr, OnOk};
+ghost use Rattle.std.specs.Prelude.{◌≡◌, ◌⊎◌, ◌≤◌, [], false, map, string_bytes, Some, Err, IfErr, IsErrAnd, OnOk};
 ghost use Rattle.clap.specs.Words.{takes};
+ghost use Rattle.jet_refusal.specs.Faults.{IsOutOfMemory};
 ghost use Rattle.jet_words.specs.CommandLine.{jet_app};
 ghost use Rattle.jet_words.specs.Commands.{plain_command, IsInRange};
 ghost use Rattle.jet_cli.specs.Targets.{command_in, target_of, target_in, files_of, IfFile, IfUntimed, IfUntimedIn};
@@ -12,7 +13,8 @@ use crate::answer::answer;
 use crate::delivery::deliver;
 use crate::engine::Engine;
 use jet_refusal::Refusal;
-use jet_words::{Command, WordsFault, read_words};
+use jet_words::{Command, read_words};
+use no_memory::Fault;
 use outer_io::{Clock, Gate, Sink, Store, WriteFault};
 use std::alloc::Global;
 use std::sync::Wait;
@@ -48,7 +50,7 @@ fn carry_out<R: Threads + Wait + Sync, S: Store, O: Sink, K: Clock, G: Gate>(
 
 /// Does what the words stand for, of which the first is the program's name. It gives up with `Usage`, where they stand
 /// for no command; with what the files are refused for, `ReadFault` or `WriteFault`, where the store or the output fails,
-/// or `NoMemory`. Epochs are analysed in threads; the gate is told of each.
+/// or it is out of memory. Epochs are analysed in threads; the gate is told of each.
 #[tactic(auto, using(crate::proofs::KeepingLemmas::keeps, crate::proofs::KeepingLemmas::unasked))]
 pub fn obey<R: Threads + Wait + Sync, S: Store, O: Sink, K: Clock, G: Gate>(
     rt: &R,
@@ -62,7 +64,7 @@ pub fn obey<R: Threads + Wait + Sync, S: Store, O: Sink, K: Clock, G: Gate>(
     // It is `Usage` exactly where the command line doesn't take the words, out of memory aside.
     ensures usage { result ≡ Err Refusal.Usage → takes jet_app (map string_bytes words.now) ≡ false }
     ensures unread { takes jet_app (map string_bytes words.now) ≡ false
-        → (result ≡ Err Refusal.Usage) ⊎ (result ≡ Err Refusal.NoMemory) }
+        → IsErrAnd result (λ r. (r ≡ Refusal.Usage) ⊎ IsOutOfMemory r) }
 
     // The text was written whole, or a refusal has its cause.
     ensures ends { Ends (command_in words.now)
@@ -81,7 +83,7 @@ pub fn obey<R: Threads + Wait + Sync, S: Store, O: Sink, K: Clock, G: Gate>(
     let engine = Engine { rt, alloc, gate };
     match read_words(alloc, words) {
         Ok(command) => carry_out(&engine, &command, store, out, clock),
-        Err(WordsFault::Usage) => Err(Refusal::Usage),
-        Err(WordsFault::NoMemory) => Err(Refusal::NoMemory),
+        Err(Fault::At(_)) => Err(Refusal::Usage),
+        Err(Fault::NoMemory(no_memory)) => Err(Refusal::NoMemory(no_memory)),
     }
 }

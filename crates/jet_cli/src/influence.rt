@@ -11,7 +11,6 @@ ghost use Rattle.jet_words.specs.Commands.{IsPipeline};
 ghost use Rattle.jet_files.specs.Outcome.{IsWork, seen_by, bytes_of};
 
 use crate::engine::Engine;
-use crate::memory::or_memory;
 use crate::rows::rows_of;
 use flow_model::SourceByte;
 use jet_refusal::Refusal;
@@ -90,5 +89,6 @@ pub fn influence_of<R: Threads + Wait + Sync, G: Gate>(
         (seen_by bytes_of result) }
 {
     let report = rows_of(engine, job, query, pipeline)?;
-    or_memory(turned_text(engine.alloc, job, query, &report))
+    let text = turned_text(engine.alloc, job, query, &report)?;
+    Ok(text)
 }

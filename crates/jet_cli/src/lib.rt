@@ -16,7 +16,6 @@ mod delivery;
 mod ending;
 mod engine;
 mod influence;
-mod memory;
 mod record;
 mod reports;
 mod rows;

@@ -6,13 +6,12 @@ ghost use Rattle.outer_io.specs.Reads.{Reads};
 ghost use Rattle.call_record.specs.Sources.{contents};
 ghost use Rattle.jet_files.specs.Outcome.{Follows, seen_by, bytes_of};
 ghost use Rattle.jet_files.specs.Views.{program_of};
-ghost use Rattle.jet_cli.specs.Answers.{capture_refusal, limits_of, IsCapture, IsRecording, IsWorkOf};
+ghost use Rattle.jet_cli.specs.Answers.{limits_of, IsCapture, IsRecording, IsWorkOf};
 ghost use Rattle.jet_cli.specs.Ending.{IsUnasked};
 
-use call_record::{CaptureFault, capture};
+use call_record::capture;
 use jet_files::{Program, open_inputs, open_program};
 use jet_refusal::Refusal;
-use no_memory::NoMemory;
 use outer_io::{Clock, Store};
 use replay_log::write_log;
 use std::alloc::Global;
@@ -26,17 +25,6 @@ pub struct Limits {
     pub piece: u32,
     /// The number of steps after which the run is cut off, at most 2^40.
     pub steps: u64,
-}
-
-/// Why a run was not recorded.
-fn of_capture(fault: CaptureFault, pages: u32) -> Refusal
-    ensures { result ≡ capture_refusal pages fault }
-{
-    match fault {
-        CaptureFault::Window => Refusal::Window { pages },
-        CaptureFault::LogTooLong(size) => Refusal::LogTooLong(size),
-        CaptureFault::NoMemory => Refusal::NoMemory,
-    }
 }
 
 /// The log of the program's run over these inputs, as text.
@@ -62,7 +50,7 @@ fn log_text<K: Clock>(
         piece,
         steps,
     } = limits;
-    match capture(
+    let log = capture(
         alloc,
         &program.bytes,
         &program.image,
@@ -71,17 +59,13 @@ fn log_text<K: Clock>(
         clock,
         piece,
         steps,
-    ) {
-        Ok(log) => match write_log(alloc, &log) {
-            Ok(text) => Ok(text),
-            Err(NoMemory) => Err(Refusal::NoMemory),
-        },
-        Err(fault) => Err(of_capture(fault, pages)),
-    }
+    )?;
+    let text = write_log(alloc, &log)?;
+    Ok(text)
 }
 
 /// Reads the program and its inputs, one after another, and records the run. It gives up as reading them does, with
-/// `Window`, with `LogTooLong`, or with `NoMemory`.
+/// `Window`, with `LogTooLong`, or out of memory.
 #[tactic(auto, using(crate::proofs::KeepingLemmas::unasked))]
 pub fn record<S: Store, K: Clock>(
     alloc: Global,

@@ -12,14 +12,13 @@ ghost use Rattle.jet_files.specs.Outcome.{IsWork, seen_by, bytes_of};
 ghost use Rattle.jet_cli.specs.Answers.{IsUnion, numbered_text};
 
 use crate::engine::Engine;
-use crate::memory::or_memory;
 use crate::rows::rows_of;
 use itoa::Buffer;
 use jet_refusal::Refusal;
 use jet_words::Pipeline;
 use no_memory::NoMemory;
 use outer_io::Gate;
-use query_lang::{Query, TogetherFault, together};
+use query_lang::{Query, together};
 use replayer::Job;
 use sink_collect::{Report, text};
 use std::alloc::Global;
@@ -38,31 +37,19 @@ pub fn report_text<R: Threads + Wait + Sync, G: Gate>(
         (seen_by bytes_of result) }
 {
     let report = rows_of(engine, job, query, pipeline)?;
-    or_memory(text(engine.alloc, &report))
+    let text = text(engine.alloc, &report)?;
+    Ok(text)
 }
 
-/// One query that chooses what any of several does. It gives up with `Rules`, where their rules differ, or with `NoMemory`.
+/// One query that chooses what any of several does. It gives up with `Rules`, where their rules differ, or is out of memory.
 pub fn union_of(alloc: Global, queries: &[Query]) -> Result<Query, Refusal>
     requires some { 1 ≤ length queries.now }
     requires few { length queries.now ≤ 16 }
     ensures ok { IfOk result (IsUnion queries.now) }
     ensures err { IfErr result (λ r. IsWork (rules_check queries.now) (Err r)) }
 {
-    match together(alloc, queries) {
-        Ok(union) => Ok(union),
-        Err(
-            TogetherFault::Rules {
-                first,
-                index,
-                other,
-            },
-        ) => Err(Refusal::Rules {
-            first,
-            index,
-            other,
-        }),
-        Err(TogetherFault::NoMemory) => Err(Refusal::NoMemory),
-    }
+    let union = together(alloc, queries)?;
+    Ok(union)
 }
 
 /// Appends `query I` and the report of one of the queries, by the rows of all.
@@ -117,5 +104,6 @@ pub fn reports_of<R: Threads + Wait + Sync, G: Gate>(
         (seen_by bytes_of result) }
 {
     let all = rows_of(engine, job, union, pipeline)?;
-    or_memory(own_reports(engine.alloc, &all, queries))
+    let text = own_reports(engine.alloc, &all, queries)?;
+    Ok(text)
 }

@@ -10,7 +10,6 @@ ghost use Rattle.jet_model.specs.Answer.{epochs_check, cut_answer};
 ghost use Rattle.jet_files.specs.Outcome.{IsWork, seen_by};
 
 use crate::engine::Engine;
-use crate::memory::or_memory;
 use epoch_cut::laws::cut_times_are_cutting;
 use epoch_cut::{CutFault, Cuts, cuts};
 use jet_refusal::Refusal;
@@ -63,7 +62,7 @@ fn analysed<R: Threads + Wait + Sync, G: Gate>(
 }
 
 /// The rows of a query over the run. It gives up with `TooManyEpochs`, where the run has too many epochs of the
-/// pipeline's length, or with `NoMemory`.
+/// pipeline's length, or is out of memory.
 pub fn rows_of<R: Threads + Wait + Sync, G: Gate>(
     engine: &Engine<R, G>,
     job: &Job,
@@ -74,5 +73,6 @@ pub fn rows_of<R: Threads + Wait + Sync, G: Gate>(
     ensures { IsWork (cut_answer pipeline.epoch job.now.start job.now.log (rows query.now)) result }
 {
     let cuts = cuts_of(job, pipeline.epoch)?;
-    or_memory(analysed(engine, job, query, cuts, pipeline))
+    let report = analysed(engine, job, query, cuts, pipeline)?;
+    Ok(report)
 }

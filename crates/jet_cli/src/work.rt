@@ -1,6 +1,6 @@
 //! The work over a program and a log that were read: the log is fitted to its program, the run is replayed, and a text is
 //! made of it.
-ghost use Rattle.std.specs.Prelude.{◌≡◌, ◌≤◌, Ok, Err, length, IfOk, IfErr, OnErr};
+ghost use Rattle.std.specs.Prelude.{◌≡◌, ◌≤◌, Ok, Err, length, IfOk, IfErr};
 ghost use Rattle.elf_model.specs.Image.{image as image_of_file};
 ghost use Rattle.replayer.specs.Checks.{IsChecked};
 ghost use Rattle.jet_words.specs.Commands.{IsPipeline};
@@ -11,7 +11,6 @@ ghost use Rattle.jet_cli.specs.Answers.{IsWorkOf, IsGivenAlike, AreGivenAlike, g
 
 use crate::engine::Engine;
 use crate::influence::influence_of;
-use crate::memory::or_memory;
 use crate::reports::{report_text, reports_of, union_of};
 use elf_image::Image;
 use jet_files::{LONGEST_FILE, Program, Run};
@@ -20,7 +19,7 @@ use jet_words::Pipeline;
 use outer_io::Gate;
 use query_lang::Query;
 use replay_log::{Log, write_log};
-use replayer::{CheckFault, Job};
+use replayer::Job;
 use run_output::{output_on, summary_text};
 use std::alloc::Global;
 use std::sync::Wait;
@@ -32,13 +31,8 @@ pub fn fitted(alloc: Global, program: &[u8], image: Image, log: Log) -> Result<J
     ensures ok { IfOk result (λ job. IsChecked program.now image log job) }
     ensures err { IfErr result (λ r. IsWork (fitting_start (record { bytes = program.now; image = image }) log) (Err r)) }
 {
-    match Job::check(alloc, program, image, log) {
-        Ok(job) => Ok(job),
-        Err(CheckFault::WrongProgram { kept, seen }) => Err(Refusal::Program { kept, seen }),
-        Err(CheckFault::Window { pages }) => Err(Refusal::Window { pages }),
-        Err(CheckFault::Diverged(divergence)) => Err(Refusal::Diverged(divergence)),
-        Err(CheckFault::NoMemory) => Err(Refusal::NoMemory),
-    }
+    let job = Job::check(alloc, program, image, log)?;
+    Ok(job)
 }
 
 /// A run whose log fits its program.
@@ -120,7 +114,8 @@ fn summary(alloc: Global, run: Run) -> Result<Vec<u8>, Refusal>
     ensures { IsWork (product_of Product.Numbers (run_of run)) (seen_by bytes_of result) }
 {
     let job = fitted_run(alloc, run)?;
-    or_memory(summary_text(alloc, &job.summary()))
+    let text = summary_text(alloc, &job.summary())?;
+    Ok(text)
 }
 
 /// What the run wrote on a channel.
@@ -129,7 +124,8 @@ fn output(alloc: Global, run: Run, channel: u32) -> Result<Vec<u8>, Refusal>
     ensures { IsWork (product_of (Product.Output channel) (run_of run)) (seen_by bytes_of result) }
 {
     let job = fitted_run(alloc, run)?;
-    or_memory(output_on(alloc, job.log().records(), channel))
+    let text = output_on(alloc, job.log().records(), channel)?;
+    Ok(text)
 }
 
 /// The log of the run in version 2. It gives up with `LogTooLong`, where that has more than 2^26 bytes.
@@ -144,7 +140,8 @@ fn conversion(alloc: Global, run: Run) -> Result<Vec<u8>, Refusal>
     if size > LONGEST_FILE as u64 {
         return Err(Refusal::LogTooLong(size));
     }
-    or_memory(write_log(alloc, log))
+    let text = write_log(alloc, log)?;
+    Ok(text)
 }
 
 /// What is made of a run without a query.

@@ -1,4 +1,5 @@
 use Rattle.std.proofs.Common.{rules, Err}
+use Rattle.std.proofs.lemmas.Result.{err_from_is_err_and}
 use Rattle.workload_model.specs.Answer.{IsBenchAnswer}
 use Rattle.jet_cli.specs.Answers.{IsWorkOf}
 use Rattle.jet_cli.proofs.Benching.{cuts-stop, lines-give}
@@ -16,7 +17,12 @@ returns-in_err-cuts g c =
     cuts-stop c.args.seed c.args.steps c.args.pipeline.epoch c.in_ok-job.job c.in_ok-job.ensures.ok c.in_err-cuts.field-0.0 c.in_err-cuts.ensures.check in
     search rules
 
+pub returns-in_err-text : goal.returns-in_err-text
+returns-in_err-text g c =
+    let p = err_from_is_err_and c.from_residual-in_err-text.result c.from_residual-in_err-text.ensures.1 in
+    rw (p.1, p.2) tt
+
 pub returns : goal.returns
 returns g c =
-    lines-give c.args.seed c.args.steps c.args.pipeline.epoch c.in_ok-job.job c.in_ok-job.ensures.ok c.lines.result c.or_memory.result c.in_ok-cuts.cuts c.in_ok-cuts.ensures.check
-    c.in_ok-cuts.ensures.times c.or_memory.ensures.ok c.or_memory.ensures.err c.lines.ensures
+    lines-give c.args.seed c.args.steps c.args.pipeline.epoch c.in_ok-job.job c.in_ok-job.ensures.ok c.in_ok-cuts.ensures.check c.in_ok-cuts.cuts c.in_ok-text.text.items
+    c.in_ok-cuts.ensures.times c.in_ok-text.ensures

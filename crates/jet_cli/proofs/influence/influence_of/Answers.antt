@@ -1,5 +1,4 @@
 use Rattle.std.proofs.Common.{◌∙◌, ap, rules, List, Err}
-use Rattle.std.proofs.lemmas.Result.{IfOk-weaker}
 use Rattle.report_model.specs.Rows.{Row, rows}
 use Rattle.report_model.specs.Influence.{chosen_sources, turned, influence_text}
 use Rattle.replayer.specs.Jobs.{trace_of}
@@ -7,7 +6,6 @@ use Rattle.jet_model.specs.Report.{influence_of}
 use Rattle.jet_model.specs.Answer.{epochs_check, cut_answer}
 use Rattle.jet_files.specs.Outcome.{IsWork}
 use Rattle.jet_cli.proofs.Cutting.{made-more, made-stops}
-use Rattle.jet_cli.proofs.Working.{work-text}
 use Rattle.jet_cli.proofs.influence.influence_of.Goals as goal
 
 pub returns-in_err-report : goal.returns-in_err-report
@@ -22,6 +20,5 @@ pub returns : goal.returns
 returns g c =
     let job = c.args.job.now in
     let q = c.args.query.now in
-    work-text c.turned_text.result c.or_memory.result (cut_answer c.args.pipeline.epoch job.start job.log (influence_of q)) c.or_memory.ensures.ok c.or_memory.ensures.err
-    (IfOk-weaker c.turned_text.result _ _ (λ text e. made-more (epochs_check c.args.pipeline.epoch job.log) (rows q (trace_of job)) c.in_ok-report.report (influence_of q (trace_of job)) text.items c.in_ok-report.ensures
-    (λ same. e ∙ ap (λ (rs : List Row). influence_text (turned rs (chosen_sources q (trace_of job)))) same)) c.turned_text.ensures)
+    made-more (epochs_check c.args.pipeline.epoch job.log) (rows q (trace_of job)) c.in_ok-report.report (influence_of q (trace_of job)) c.in_ok-text.text.items c.in_ok-report.ensures
+    (λ same. c.in_ok-text.ensures ∙ ap (λ (rs : List Row). influence_text (turned rs (chosen_sources q (trace_of job)))) same)

@@ -1,12 +1,10 @@
 use Rattle.std.proofs.Common.{rules, Err}
-use Rattle.std.proofs.lemmas.Result.{IfOk-weaker}
 use Rattle.report_model.specs.Rows.{rows}
 use Rattle.replayer.specs.Jobs.{trace_of}
 use Rattle.jet_model.specs.Report.{reports_of}
 use Rattle.jet_model.specs.Answer.{epochs_check, cut_answer}
 use Rattle.jet_files.specs.Outcome.{IsWork}
 use Rattle.jet_cli.proofs.Cutting.{made-more, made-stops}
-use Rattle.jet_cli.proofs.Working.{work-text}
 use Rattle.jet_cli.proofs.reports.reports_of.Goals as goal
 
 pub returns-in_err-all : goal.returns-in_err-all
@@ -22,6 +20,5 @@ returns g c =
     let job = c.args.job.now in
     let qs = c.args.queries.now in
     let union = c.args.union.now in
-    work-text c.own_reports.result c.or_memory.result (cut_answer c.args.pipeline.epoch job.start job.log (reports_of qs)) c.or_memory.ensures.ok c.or_memory.ensures.err
-    (IfOk-weaker c.own_reports.result _ _ (λ text e. made-more (epochs_check c.args.pipeline.epoch job.log) (rows union (trace_of job)) c.in_ok-all.all (reports_of qs (trace_of job)) text.items c.in_ok-all.ensures
-    (e union (trace_of job) c.requires.union)) c.own_reports.ensures)
+    made-more (epochs_check c.args.pipeline.epoch job.log) (rows union (trace_of job)) c.in_ok-all.all (reports_of qs (trace_of job)) c.in_ok-text.text.items c.in_ok-all.ensures
+    (c.in_ok-text.ensures union (trace_of job) c.requires.union)

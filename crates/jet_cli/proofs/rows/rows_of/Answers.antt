@@ -17,4 +17,4 @@ returns-in_err-cuts g c =
 pub returns : goal.returns
 returns g c =
     let job = c.args.job.now in
-    made-rows (epochs_check c.args.pipeline.epoch job.log) c.analysed.result c.or_memory.result (rows c.args.query.now (trace_of job)) c.in_ok-cuts.ensures.check c.or_memory.ensures.ok c.or_memory.ensures.err c.analysed.ensures
+    made-rows (epochs_check c.args.pipeline.epoch job.log) c.in_ok-report.report (rows c.args.query.now (trace_of job)) c.in_ok-cuts.ensures.check c.in_ok-report.ensures

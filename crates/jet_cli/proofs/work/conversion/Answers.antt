@@ -1,15 +1,12 @@
 use Rattle.std.proofs.Common.{◌≡◌, ◌∙◌, ap, sym, subst, arith, ◌≤◌, ◌<◌, ◌^◌, ℕ, length, Ok, Err}
-use Rattle.std.proofs.lemmas.Result.{IfOk-weaker}
 use Rattle.log_model.specs.declared.Version.TheVariants.{Two}
 use Rattle.log_model.specs.Logs.{Log, CanHold, log_text}
 use Rattle.replay_model.proofs.Received.{fitting_is_held}
 use Rattle.record_model.specs.Counts.{capped}
 use Rattle.jet_refusal.specs.declared.refusal.Refusal.TheVariants as refusal
-use Rattle.jet_model.specs.Outcomes.{and_then}
-use Rattle.jet_model.specs.Answer.{fitting_start, limited_text}
 use Rattle.jet_files.specs.Views.{run_of}
 use Rattle.jet_cli.proofs.Recording.{short_text, long_text}
-use Rattle.jet_cli.proofs.Working.{work-text, conversion-gives}
+use Rattle.jet_cli.proofs.Working.{conversion-gives}
 use Rattle.jet_cli.proofs.work.conversion.Goals as goal
 
 -- a size that a log can have is no count that stands still
@@ -34,6 +31,5 @@ returns c =
     let log = c.in_ok-job.job.log in
     let size : c.size-size.result ≡ length (log_text Two log) = c.size-size.ensures.length ∙ ap (λ (l : Log). length (log_text Two l)) c.log-log.ensures in
     let short : length (log_text Two log) ≤ 2 ^ 26 = omega (arith, c.if-size.false, size) in
-    work-text c.write_log.result c.or_memory.result (and_then (fitting_start (run_of c.args.run).program (run_of c.args.run).log) (λ start. limited_text (run_of c.args.run).log)) c.or_memory.ensures.ok c.or_memory.ensures.err
-    (IfOk-weaker c.write_log.result _ _ (λ bytes e. conversion-gives (run_of c.args.run) c.in_ok-job.job (Ok bytes.items) c.in_ok-job.ensures.ok
-    (short_text log short ∙ ap Ok (sym (e ∙ ap (λ (l : Log). log_text Two l) c.log-log.ensures)))) c.write_log.ensures)
+    conversion-gives (run_of c.args.run) c.in_ok-job.job (Ok c.in_ok-text.text.items) c.in_ok-job.ensures.ok
+    (short_text log short ∙ ap Ok (sym (c.in_ok-text.ensures ∙ ap (λ (l : Log). log_text Two l) c.log-log.ensures)))

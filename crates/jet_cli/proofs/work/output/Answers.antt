@@ -1,5 +1,4 @@
 use Rattle.std.proofs.Common.{◌∙◌, ap, List, rules, Err}
-use Rattle.std.proofs.lemmas.Result.{IfOk-weaker}
 use Rattle.log_model.specs.declared.CallRecord.{CallRecord}
 use Rattle.log_model.specs.Logs.{Log}
 use Rattle.log_model.specs.Moved.{written}
@@ -8,7 +7,7 @@ use Rattle.jet_model.specs.Answer.{fitting_start, text_answer}
 use Rattle.jet_files.specs.Outcome.{IsWork}
 use Rattle.jet_files.specs.Views.{run_of}
 use Rattle.jet_files.proofs.Composing.{work-stops}
-use Rattle.jet_cli.proofs.Working.{work-text, text-gives}
+use Rattle.jet_cli.proofs.Working.{text-gives}
 use Rattle.jet_cli.proofs.work.output.Goals as goal
 
 pub returns-in_err-job : goal.returns-in_err-job
@@ -19,6 +18,5 @@ returns-in_err-job c =
 
 pub returns : goal.returns
 returns c =
-    let run = run_of c.args.run in
-    work-text c.output_on.result c.or_memory.result (text_answer run (output c.args.channel)) c.or_memory.ensures.ok c.or_memory.ensures.err
-    (IfOk-weaker c.output_on.result _ _ (λ text e. text-gives run (output c.args.channel) c.in_ok-job.job text.items c.in_ok-job.ensures.ok (e ∙ ap (λ (calls : List CallRecord). written c.args.channel calls) (c.records.ensures ∙ ap (λ (l : Log). l.records) c.log.ensures))) c.output_on.ensures)
+    text-gives (run_of c.args.run) (output c.args.channel) c.in_ok-job.job c.in_ok-text.text.items c.in_ok-job.ensures.ok
+    (c.in_ok-text.ensures ∙ ap (λ (calls : List CallRecord). written c.args.channel calls) (c.records.ensures ∙ ap (λ (l : Log). l.records) c.log.ensures))
