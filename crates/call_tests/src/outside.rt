@@ -3,6 +3,7 @@
 mod disk;
 
 use disk::{Disk, Told};
+use no_memory::Fault;
 use outer_io::*;
 use std::alloc::{AllocError, Global};
 use std::test::Fail;
@@ -35,9 +36,9 @@ fn memory(alloc: Global, failing: u64) -> Result<MemoryStore, AllocError> {
 fn is_read<S: Store>(alloc: Global, store: &mut S, name: &str, max: u16, want: &str) -> bool {
     match read_whole(alloc, store, name, usize::from(max)) {
         Ok(bytes) => bytes.as_slice() == want.as_bytes(),
-        Err(ReadWhole::ReadFault) => want == "read fault",
-        Err(ReadWhole::TooLong(_)) => want == "too long",
-        Err(ReadWhole::NoMemory) => false,
+        Err(Fault::At(Unread::ReadFault)) => want == "read fault",
+        Err(Fault::At(Unread::TooLong(_))) => want == "too long",
+        Err(Fault::NoMemory(_)) => false,
     }
 }
 

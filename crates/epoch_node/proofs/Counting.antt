@@ -1,6 +1,7 @@
 -- How many events of a core moved, from one event to the next.
 use Rattle.std.proofs.Common.{◌≡◌, ℕ, ◌+◌, List, [], ◌∷◌, length, refl, ap, ap₂, sym, subst, subst₂, ◌∙◌, Bool, true, false, arith}
 use Rattle.std.specs.Prelude.{Option, Some, None, is_none, is_some}
+use Rattle.std.proofs.lemmas.List.{length-map}
 use Rattle.flow_model.specs.declared.Loc.{Loc}
 use Rattle.flow_rule.specs.declared.Message.{Message}
 use Rattle.report_model.specs.Rows.{Row}
@@ -13,7 +14,7 @@ use Rattle.stream_model.specs.Work.{many_got, node_work}
 use Rattle.stream_model.specs.Schedules.{is_met, begun, asking_need, answering_need}
 use Rattle.stream_model.specs.ScheduleLaws.{one_if}
 use Rattle.stream_model.proofs.Passing.{no, AskingHolds, asking_starts, asking_after_holds, answering_starts, answering_after_holds, begun_whole}
-use Rattle.stream_model.proofs.Moves.{as_long, freed, AskCount, count_asking, whole_asking_before, AnswerCount, count_answering, asking_moves_on, answering_moves_on, asking_moves_over, answering_moves_over}
+use Rattle.stream_model.proofs.Moves.{freed, AskCount, count_asking, whole_asking_before, AnswerCount, count_answering, asking_moves_on, answering_moves_on, asking_moves_over, answering_moves_over}
 use Rattle.pass_parts.specs.declared.pass_turn.PassTurn.{PassTurn}
 use Rattle.pass_parts.specs.declared.pass_turn.PassTurn.TheVariants as pass_turn
 use Rattle.pass_parts.specs.declared.requests.Request.{Request}
@@ -86,7 +87,7 @@ settled_counted : (i : Given) (v : BackView) (f : ForeView) (w : Told) → IsSet
     → w.answers_got ≡ fresh_end i.first → w.answers_sent ≡ fresh_end i.last → (moved : ℕ) → HasAsked i v w moved → HasAnswered i f w moved
 settled_counted i v f w s over whole walked requested fresh_got fresh_sent moved h =
     let left : length f.left ≡ length (requests (got_by w.asks_got)) =
-    ap (λ (f : ForeView). length f.left) s.new ∙ ap (λ b. length (requests_if b v.requests)) whole ∙ sym (as_long (λ (r : Request). r.loc) v.requests) ∙ ap length requested in
+    ap (λ (f : ForeView). length f.left) s.new ∙ ap (λ b. length (requests_if b v.requests)) whole ∙ sym (length-map v.requests (λ (r : Request). r.loc)) ∙ ap length requested in
     let sinks : length (known_by f).sinks ≡ length (knows v).sinks = ap (λ (f : ForeView). length (known f.summary).sinks) s.new in
     let asks : length (sent_by v.over v.whole w.asks_sent) ≡ length (sent_by true true w.asks_sent) = ap₂ (λ o b. length (sent_by o b w.asks_sent)) over whole in
     let sent : length (sent_by f.over f.whole w.answers_sent) ≡ 0 =
@@ -103,7 +104,7 @@ answered_all first whole ls f got sent r o t =
     let holds =
     answering_after_holds first (known_by f) f.asked ls r.schedule (answering_start whole first ls) (λ _. answering_starts whole first (known_by f) f.asked ls)
     (ap (λ (s : AnsweringState). s.is_whole) (sym r.is) ∙ t) in
-    sym (as_long (λ (r : Request). r.loc) f.left) ∙ ap (λ (s : AnsweringState). length s.left) r.is
+    sym (length-map f.left (λ (r : Request). r.loc)) ∙ ap (λ (s : AnsweringState). length s.left) r.is
     ∙ ap length (holds.over (ap (λ (s : AnsweringState). s.is_over) (sym r.is) ∙ o)).3
 
 module _ (i : Given) (f : ForeView) (w : Told) (a : IsAnswering i f w) (l : HasLinks i w) (next : StageView) (got' sent' : Option (List Message)) (turn : PassTurn)
@@ -126,8 +127,8 @@ module _ (i : Given) (f : ForeView) (w : Told) (a : IsAnswering i f w) (l : HasL
       let sinks : length (known_by x.fore).sinks ≡ length (known_by f).sinks = ap (λ s. length (known s).sinks) x.same.summary in
       let before = got_seen i.first w.answers_got l.answers_got in
       let after = got_seen i.first got' (n ∙ l.answers_got) in
-      let left_before : length (locations f.left) ≡ length f.left = as_long (λ (r : Request). r.loc) f.left in
-      let left_after : length (locations x.fore.left) ≡ length x.fore.left = as_long (λ (r : Request). r.loc) x.fore.left in
+      let left_before : length (locations f.left) ≡ length f.left = length-map f.left (λ (r : Request). r.loc) in
+      let left_after : length (locations x.fore.left) ≡ length x.fore.left = length-map x.fore.left (λ (r : Request). r.loc) in
       omega (arith, h, count, sinks, before, after, left_before, left_after)
 
 -- ---- an event of a core
@@ -264,6 +265,6 @@ has_counted i f w a o t moved h asked rows events rows_is e = λ epoch. e ∙ ap
   work epoch =
       let left = answered_all i.first a.asking.is_whole a.noted f w.answers_got w.answers_sent a.reached o t in
       let made : one_if (is_some f.rows) ≡ 1 = ap (λ rows. one_if (is_some rows)) resolved in
-      let many : length rows ≡ length (known_by f).sinks = ap length (rows_is ∙ ap rows_or_none resolved) ∙ as_long (resolved_row (heard f.asked (got_by w.answers_got))) (known_by f).sinks in
+      let many : length rows ≡ length (known_by f).sinks = ap length (rows_is ∙ ap rows_or_none resolved) ∙ length-map (known_by f).sinks (resolved_row (heard f.asked (got_by w.answers_got))) in
       let sent : length (sent_by f.over f.whole w.answers_sent) ≡ length (sent_by true true w.answers_sent) = ap₂ (λ o b. length (sent_by o b w.answers_sent)) o t in
       omega (arith, h, left, made, many, sent)

@@ -1,5 +1,5 @@
 use Rattle.std.proofs.Common.{List, refl, sym, subst}
-use Rattle.std.specs.Prelude.{Option, option_map}
+use Rattle.std.specs.Prelude.{Option}
 use Rattle.flow_rule.specs.declared.Message.{Message}
 use Rattle.pass_parts.specs.declared.pass_turn.PassTurn.{PassTurn}
 use Rattle.pass_parts.specs.Events.{IsEvent}
@@ -8,7 +8,7 @@ use Rattle.backward_pass.proofs.Reaching.{reached_next, sends_for}
 use Rattle.forward_pass.specs.Forward.{ForeView, fore_of, forwards}
 use Rattle.forward_pass.proofs.Reaching.{reached_next as fore_reached, reached_sends}
 use Rattle.epoch_node.specs.Cores.{Asking, Answering, stage_of}
-use Rattle.epoch_node.specs.Events.{CanAct, BackActs, ForeActs}
+use Rattle.epoch_node.specs.Events.{went, CanAct, BackActs, ForeActs}
 use Rattle.epoch_node.proofs.Stepping.{acts_of}
 use Rattle.epoch_node.proofs.stage.Stage.act.Goals as goal
 
@@ -45,9 +45,9 @@ module _ (got sent got' sent' : Option (List Message)) (turn : PassTurn) where
 
 pub returns-in-Asking-clause-acts : goal.returns-in-Asking-clause-acts
 returns-in-Asking-clause-acts g c =
-    let can = subst (λ s. CanAct (stage_of s) (option_map g.I.Inlet.got c.args.inlet.now) (option_map g.O.Outlet.sent c.args.outlet.now)) c.in-Asking.is c.requires in
-    acts_of (sym c.in-Asking.is) _ _ _ _ _ _ (back_acts _ _ _ _ _ (back_of c.in-Asking.back) (back_of c.event.new.self) can.1 c.event.ensures.event)
+    let can = subst (λ s. CanAct (stage_of s) (went g.I.Inlet.got g.O.Outlet.sent c.args.inlet.now c.args.outlet.now)) c.in-Asking.is c.requires in
+    acts_of (sym c.in-Asking.is) _ _ _ _ (back_acts _ _ _ _ _ (back_of c.in-Asking.back) (back_of c.event.new.self) can.1 c.event.ensures.event)
 
 pub returns-in-Answering-clause-acts : goal.returns-in-Answering-clause-acts
 returns-in-Answering-clause-acts g c =
-    acts_of (sym c.in-Answering.is) _ _ _ _ _ _ (fore_acts _ _ _ _ _ (fore_of c.in-Answering.fore) (fore_of c.event-in-Answering.new.self) c.event-in-Answering.ensures.event)
+    acts_of (sym c.in-Answering.is) _ _ _ _ (fore_acts _ _ _ _ _ (fore_of c.in-Answering.fore) (fore_of c.event-in-Answering.new.self) c.event-in-Answering.ensures.event)
