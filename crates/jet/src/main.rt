@@ -9,6 +9,7 @@ mod tests;
 use jet_call::jet;
 use jet_cli::conclude;
 use jet_refusal::Refusal;
+use no_memory::NoMemory;
 use outer_io::{FileStore, MachineClock, OpenGate, OutSink};
 use std::alloc::AllocError;
 use std::env;
@@ -24,9 +25,9 @@ fn words_of(rt: HostRuntime) -> Result<Vec<String>, Refusal> {
     let args = match env::args(&rt) {
         Ok(args) => args,
         // `io` tells of a refused allocation by a kind of its own.
-        Err(error) if error.kind() == ErrorKind::OutOfMemory => return Err(Refusal::from(
-            AllocError,
-        )),
+        Err(error) if error.kind() == ErrorKind::OutOfMemory => {
+            return Err(Refusal::NoMemory(NoMemory::from(AllocError)));
+        }
         Err(_) => return Err(Refusal::Usage),
     };
     let words: Vec<String> = args.collect(rt.alloc())?;
