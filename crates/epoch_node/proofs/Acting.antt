@@ -12,7 +12,7 @@ use Rattle.stream_model.specs.StreamLaws.{IsPrefix}
 use Rattle.stream_model.specs.Passes.{Answering as AnsweringState, answering_start, rows_or_none}
 use Rattle.stream_model.specs.PassLaws.{AsksSent, AnswersSent}
 use Rattle.stream_model.specs.Schedules.{begun}
-use Rattle.stream_model.proofs.Moving.{IsSent, IsGot, AskMoved, asking_moves, AnswerMoved, answering_moves}
+use Rattle.stream_model.proofs.Moving.{sent_part, IsGot, AskMoved, asking_moves, AnswerMoved, answering_moves}
 use Rattle.stream_model.proofs.Passing.{no, begun_whole}
 use Rattle.pass_parts.specs.declared.pass_turn.PassTurn.{PassTurn}
 use Rattle.pass_parts.specs.Ends.{IsEndFrom, got_by, sent_by, fresh_end}
@@ -47,10 +47,6 @@ more_got None (Some new) n g = no (sym n)
 more_got (Some old) None n g = no n
 more_got (Some old) (Some new) n (inl e) = more_still (Some old) (Some new) (ap Some e)
 more_got (Some old) (Some new) n (inr g) = (g.0 ∷ [], sym g.2)
-
-longer : (room : Bool) (sent new : List Message) → IsSent room sent new → IsPrefix sent new
-longer room sent new (inl e) = ([], append-nil sent ∙ sym e)
-longer room sent new (inr s) = (s.0 ∷ [], sym s.2)
 
 more_sent : (o w p x : Bool) (old new : Option (List Message)) → is_none new ≡ is_none old → IsPrefix (sent_by o w old) (sent_by p x new) → IsMore old new
 more_sent o w p x None None n g = tt
@@ -112,7 +108,7 @@ module _ (i : Given) (v : BackView) (w : Told) (a : IsAsking i v w) (next : Stag
   asks_got_more n = more_got w.asks_got got' n asks_moved.got
 
   pub asks_sent_more : is_none sent' ≡ is_none w.asks_sent → IsMore w.asks_sent sent'
-  asks_sent_more n = more_sent v.over v.whole x.back.over x.back.whole w.asks_sent sent' n (longer x.happens.links.has_room _ _ asks_moved.sent)
+  asks_sent_more n = more_sent v.over v.whole x.back.over x.back.whole w.asks_sent sent' n (sent_part x.happens.links.has_room _ _ asks_moved.sent)
 
   still_known : KnowsEpoch i x.back.summary
   still_known = subst (KnowsEpoch i) (sym x.same.summary) a.summary
@@ -198,7 +194,7 @@ module _ (i : Given) (f : ForeView) (w : Told) (a : IsAnswering i f w) (next : S
   answers_got_more n = more_got w.answers_got got' n answers_moved.got
 
   pub answers_sent_more : is_none sent' ≡ is_none w.answers_sent → IsMore w.answers_sent sent'
-  answers_sent_more n = more_sent f.over f.whole x.fore.over x.fore.whole w.answers_sent sent' n (longer x.happens.links.has_room _ _ answers_moved.sent)
+  answers_sent_more n = more_sent f.over f.whole x.fore.over x.fore.whole w.answers_sent sent' n (sent_part x.happens.links.has_room _ _ answers_moved.sent)
 
   pub still_answering : IsAnswering i x.fore (record w { answers_got = got'; answers_sent = sent' })
   still_answering = record {

@@ -11,7 +11,7 @@ use Rattle.stream_model.specs.Passes.{Asking as AskingState, Answering as Answer
 use Rattle.stream_model.specs.Schedules.{is_met, asking_need, answering_need}
 use Rattle.stream_model.specs.ScheduleLaws.{one_if}
 use Rattle.stream_model.proofs.Passing.{no}
-use Rattle.stream_model.proofs.Moving.{IsGot, AskMoved, asking_moves, AnswerFits, AnswerMoved, answering_moves}
+use Rattle.stream_model.proofs.Moving.{sent_part, IsGot, AskMoved, asking_moves, AnswerFits, AnswerMoved, answering_moves}
 use Rattle.stream_model.proofs.Progress.{AsksForward, asks_forward, AsksNoMore, asks_no_more, unresolved, AnswersForward, answers_forward, AnswersNoMore, answers_no_more, asking_met, answering_met}
 use Rattle.pass_parts.specs.declared.pass_turn.PassTurn.{PassTurn}
 use Rattle.pass_parts.specs.declared.pass_turn.PassTurn.TheVariants as pass_turn
@@ -89,9 +89,9 @@ module _ (i : Given) (v : BackView) (w : Told) (at : IsAsking i v w) (next : Sta
   no_more : AsksNoMore (state v w.asks_got w.asks_sent) (state x.back got' sent')
   no_more = subst (AsksNoMore (state v w.asks_got w.asks_sent)) (sym x.happens.is) (asks_no_more v.first (knows v) x.happens.links (state v w.asks_got w.asks_sent))
 
-  moved : AskMoved x.happens.links.next (state v w.asks_got w.asks_sent) (state x.back got' sent')
+  moved : AskMoved x.happens.links (state v w.asks_got w.asks_sent) (state x.back got' sent')
   moved =
-      subst (AskMoved x.happens.links.next (state v w.asks_got w.asks_sent)) (sym x.happens.is)
+      subst (AskMoved x.happens.links (state v w.asks_got w.asks_sent)) (sym x.happens.is)
       (asking_moves v.first (knows v) x.happens.links (state v w.asks_got w.asks_sent) at.running at.unended)
 
   -- what it has sent
@@ -127,7 +127,7 @@ module _ (i : Given) (v : BackView) (w : Told) (at : IsAsking i v w) (next : Sta
   asks_less asks answered answers p g not_still =
       subst (λ s. core_left asks (all_asks es) answered answers (phase_in s after) < core_left asks (all_asks es) answered answers (phase_in (Asking v) w)) (sym x.is) (by x.back.over refl) where
         more_sent : length (sent_by v.over v.whole w.asks_sent) ≤ length (sent_by x.back.over x.back.whole sent')
-        more_sent = prefix_length _ _ moved.sent
+        more_sent = prefix_length _ _ (sent_part x.happens.links.has_room _ _ moved.sent)
 
         more_got : length (got_by w.asks_got) ≤ length (got_by got')
         more_got = shorter (got_by w.asks_got) (got_by got') x.happens.links.next moved.got
@@ -185,9 +185,9 @@ module _ (i : Given) (f : ForeView) (w : Told) (at : IsAnswering i f w) (running
   fits : AnswerFits (fore_state f w.answers_got w.answers_sent)
   fits = record { running = at.unended; over = at.ended }
 
-  answer_moved : AnswerMoved x.happens.links.next (fore_state f w.answers_got w.answers_sent) (fore_state x.fore got' sent')
+  answer_moved : AnswerMoved x.happens.links (fore_state f w.answers_got w.answers_sent) (fore_state x.fore got' sent')
   answer_moved =
-      subst (AnswerMoved x.happens.links.next (fore_state f w.answers_got w.answers_sent)) (sym x.happens.is)
+      subst (AnswerMoved x.happens.links (fore_state f w.answers_got w.answers_sent)) (sym x.happens.is)
       (answering_moves (known_by f) f.asked x.happens.links (fore_state f w.answers_got w.answers_sent) fits)
 
   known_still : known_by x.fore ≡ known_by f
@@ -233,7 +233,7 @@ module _ (i : Given) (f : ForeView) (w : Told) (at : IsAnswering i f w) (running
             (length (locations f.left)) (length (locations x.fore.left)) (one_if f.whole) (one_if x.fore.whole) (unresolved f.rows) (unresolved x.fore.rows) (one_unless f.over) (one_unless x.fore.over)
             (length (got_by w.answers_got)) (length (got_by got')) (length (sent_by f.over f.whole w.answers_sent)) (length (sent_by x.fore.over x.fore.whole sent')) m n
             h d e (got_length answered got' g) (sent_length answers x.fore.over x.fore.whole sent' p)
-            (shorter (got_by w.answers_got) (got_by got') x.happens.links.next answer_moved.got) (prefix_length _ _ answer_moved.sent)
+            (shorter (got_by w.answers_got) (got_by got') x.happens.links.next answer_moved.got) (prefix_length _ _ (sent_part x.happens.links.has_room _ _ answer_moved.sent))
 
         by : (over : Bool) → x.fore.over ≡ over → core_left asks requests answered answers (phase_in (answered_by over x.fore) answered_after) < core_left asks requests answered answers (phase_in (Answering f) w)
         by false o =

@@ -12,7 +12,7 @@ use Rattle.stream_model.specs.Streams.{is_ended, heard, is_resolvable, answer}
 use Rattle.stream_model.specs.StreamLaws.{IsPrefix}
 use Rattle.stream_model.specs.Passes.{Links, Asking, Answering, push_ask, walk, pop_ask, drop_ask, end_asks, broken_asking, whole_asking, asking_by, asking_event, push_answer, pop_answer, build, build_or_pop, resolve, drop_answer, end_answers, resolve_or_end, pop_or_end, broken_answering, whole_answering, answering_by, answering_event}
 use Rattle.stream_model.specs.Schedules.{Phase, Fresh, Asks, Answers, NodeState, Event, asks_sent_in, asks_got_in, answers_sent_in, answers_got_in, first_of, next_item, asking_links, answering_links, begun, settled_by, node_event, phase_of_first, event_at, nodes_start, nodes_after}
-use Rattle.stream_model.proofs.Growing.{prefix_trans, ended_stays}
+use Rattle.stream_model.proofs.Growing.{prefix_same, prefix_trans, ended_stays}
 use Rattle.stream_model.proofs.Passing.{no}
 
 -- ---- Ends in lists
@@ -43,6 +43,9 @@ IsSent room sent new = (new ≡ sent) ⊎ ((m : Message) × (room ≡ true) × (
 sent_longer : (room : Bool) (got sent new : List Message) → IsSent room sent new → IsPrefix got sent → IsPrefix got new
 sent_longer room got sent new (inl e) p = subst (IsPrefix got) (sym e) p
 sent_longer room got sent new (inr s) p = prefix_trans got sent new p (s.0 ∷ [], sym s.2)
+
+pub sent_part : (room : Bool) (sent new : List Message) → IsSent room sent new → IsPrefix sent new
+sent_part room sent new s = sent_longer room sent sent new s (prefix_same sent sent refl)
 
 -- the next item was got, or nothing
 abbrev pub IsGot : Option Message → List Message → List Message → Type 0
