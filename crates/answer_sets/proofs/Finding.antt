@@ -47,21 +47,6 @@ answer_at (m ∷ ms) (a ∷ rest) (suc i) l d e =
           cc
       by apart false other ih = ih
 
--- as the answers are kept
-module _ {X : Type 0} (f : X → List SourceByte) (xs : List X) (answers : List (List SourceByte)) (v : answers ≡ map f xs) (i : ℕ) where
-  kept_at : (x : X) → i < length xs → x ≡ get_or xs i x → f x ≡ get_or answers i []
-  kept_at x h e = ap f e ∙ sym (ap (λ (ys : List (List SourceByte)). get_or ys i []) v ∙ get_or-map f xs i x [] h)
-
-  none_at : length xs ≤ i → [] ≡ get_or answers i []
-  none_at h = sym (ap (λ (ys : List (List SourceByte)). get_or ys i []) v ∙ get_or_past (map f xs) i [] (omega (arith, length-map xs f, h)))
-
-  module _ (asked : List Loc) (l : Loc) (d : IsDistinct (eq_by_cmp loc_cmp) asked) (e : slice_get asked i ≡ Some l) where
-    pub answer_kept : (x : X) → i < length xs → x ≡ get_or xs i x → f x ≡ answer_to asked answers l
-    answer_kept x h g = kept_at x h g ∙ sym (answer_at asked answers i l d e)
-
-    pub answer_past : length xs ≤ i → [] ≡ answer_to asked answers l
-    answer_past h = none_at h ∙ sym (answer_at asked answers i l d e)
-
 Ascends-answer : (asked : List Loc) (answers : List (List SourceByte)) (l : Loc) → AllByRecursion (Ascends source_cmp) answers → Ascends source_cmp (answer_to asked answers l)
 Ascends-answer [] answers l h = tt
 Ascends-answer (m ∷ ms) [] l h = tt

@@ -1,4 +1,6 @@
 pub mod Members
 mod Gathering
 mod Finding
+mod Kept
+mod Once
 mod Each

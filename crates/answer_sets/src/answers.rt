@@ -1,34 +1,40 @@
 //! What came back for the locations that were asked.
 
-ghost use Rattle.std.specs.Prelude.{◌≡◌, [], ◌∷◌, ◌++◌, length, All, OnOk};
+ghost use Rattle.std.specs.Prelude.{◌≡◌, ◌<◌, [], ◌∷◌, ◌++◌, length, map, get_or, All, IfSome, IsTrue, OnOk};
 ghost use Rattle.sorted_set.specs.Sets.{Ascends};
 ghost use Rattle.flow_model.specs.Orders.{source_cmp};
-ghost use Rattle.epoch_model.specs.Join.{answer_to};
 
-use flow_model::{Loc, SourceByte};
-use local_taint::Asked;
+use flow_model::SourceByte;
 use no_memory::NoMemory;
 use std::alloc::Global;
 use std::marker::Model;
 
-/// Answers in the order of what was asked: of each location the source bytes that its content came from, ascending.
+/// Answers in the order of what was asked: of each location the source bytes that its content came from, ascending. Of
+/// large ones that are equal, where one came soon after the other, one set is kept.
 #[derive(Drop)]
 pub struct Answers {
     sets: Vec<Vec<SourceByte>>,
+    // Of each answer the number of its set.
+    numbers: Vec<usize>,
 }
 
 impl Model for Answers {
-    ghost use Rattle.std.specs.Prelude.{List, map, All};
-    ghost use Rattle.sorted_set.specs.Sets.{Ascends};
-    ghost use Rattle.flow_model.specs.Orders.{source_cmp};
+    ghost use Rattle.std.specs.Prelude.{List, map};
     ghost use Rattle.flow_model.specs.declared.SourceByte.{SourceByte};
+    ghost use Rattle.answer_sets.specs.Kept.{AreKept, answers_in};
 
     ghost Value = { List (List SourceByte) };
 
-    ghost view = { λ a. map (λ set. set.items) a.sets.items };
+    ghost view = { λ a. answers_in (map (λ set. set.items) a.sets.items) a.numbers.items };
 
-    ghost invariant = { λ a. All (Ascends source_cmp) (map (λ set. set.items) a.sets.items) };
+    ghost invariant = { λ a. AreKept (map (λ set. set.items) a.sets.items) a.numbers.items };
 }
+
+/// So many source bytes are a large set.
+pub(crate) const LARGE: usize = 64;
+
+/// A large set is compared with so many of those that came last.
+const LATEST: usize = 8;
 
 impl Answers {
     /// No answers. It takes no memory.
@@ -37,6 +43,7 @@ impl Answers {
     {
         Answers {
             sets: Vec::new(alloc),
+            numbers: Vec::new(alloc),
         }
     }
 
@@ -44,7 +51,7 @@ impl Answers {
     pub fn count(&self) -> usize
         ensures { result ≡ length self.now }
     {
-        self.sets.len()
+        self.numbers.len()
     }
 
     /// What is true of all answers: each ascends.
@@ -52,7 +59,7 @@ impl Answers {
         ensures { All (Ascends source_cmp) self.now }
     {
         // what is known of the field is known from its first use on
-        let _answers = self.sets.len();
+        let _answers = self.numbers.len();
     }
 
     /// Adds the answer to the next location.
@@ -60,21 +67,54 @@ impl Answers {
         requires { Ascends source_cmp set.items }
         ensures { OnOk result (self.new ≡ self.old ++ set.items ∷ []) }
     {
+        if let Some(number) = number_of_equal(&self.sets, &set) {
+            self.numbers.push(number)?;
+            return Ok(());
+        }
+        let number = self.sets.len();
         self.sets.push(set)?;
+        self.numbers.push(number)?;
         Ok(())
     }
 
-    /// The answer to a location, where this is what was asked; no source byte where there is none.
-    pub fn find(&self, asked: &Asked, loc: Loc) -> &[SourceByte]
-        ensures { result.now ≡ answer_to asked.now self.now loc }
+    /// The answer at a place, counted from 0; no source byte where there is none.
+    pub fn get(&self, place: usize) -> &[SourceByte]
+        ensures { result.now ≡ get_or self.now place [] }
     {
-        asked.form();
-        let Some(place) = asked.place_of(loc) else {
-            return &[];
-        };
-        match self.sets.get(place) {
-            Some(set) => set,
+        match self.numbers.get(place) {
+            Some(number) => &self.sets[*number],
             None => &[],
         }
     }
+
+    /// Whether the answers at two places are kept as one set, and so are equal. Where it answers no they may be equal all
+    /// the same.
+    pub fn share_set(&self, one: usize, other: usize) -> bool
+        ensures { IsTrue result → get_or self.now one [] ≡ get_or self.now other [] }
+    {
+        let Some(number) = self.numbers.get(one) else {
+            return false;
+        };
+        match self.numbers.get(other) {
+            Some(same) => number == same,
+            None => false,
+        }
+    }
+}
+
+/// The number of one of the latest sets which is equal to a large one.
+fn number_of_equal(sets: &[Vec<SourceByte>], set: &[SourceByte]) -> Option<usize>
+    ensures inside { IfSome result (λ number. number < length sets.now) }
+    ensures equal { IfSome result (λ number. get_or (map (λ set. set.items) sets.now) number [] ≡ set.now) }
+{
+    if set.len() < LARGE {
+        return None;
+    }
+    let first = sets.len().saturating_sub(LATEST);
+    for number in first..sets.len() {
+        if sets[number].as_slice() == set {
+            return Some(number);
+        }
+    }
+    None
 }

@@ -1,8 +1,8 @@
 //! The answers to what an epoch asked, and what they make of the epoch's terms: sets of source bytes, and rows.
 //!
-//! Crates above rest on this: `Answers` are the answers so far, in the order of asking; `resolved` is the set of terms
-//! whose start locations are all answered, their source bytes together with those answers; `rows` are the rows of an
-//! epoch.
+//! Crates above rest on this: `Answers` are the answers so far, in the order of asking, of which equal large ones are
+//! kept once; `resolved` is the set of terms whose start locations are all answered, their source bytes together with
+//! those answers; `rows` are the rows of an epoch.
 #![tactic(auto)]
 
 mod answers;

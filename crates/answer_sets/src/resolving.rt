@@ -1,14 +1,15 @@
 //! Terms, resolved by the answers to what their epoch asked.
 
-ghost use Rattle.std.specs.Prelude.{◌≡◌, ◌||◌, [], IfOk, OnOk};
+ghost use Rattle.std.specs.Prelude.{◌≡◌, ◌||◌, [], true, get_or, All, IfOk, IsTrue, OnOk};
 ghost use Rattle.sorted_set.specs.Sets.{Ascends, has};
 ghost use Rattle.flow_model.specs.Orders.{source_cmp};
 ghost use Rattle.flow_model.specs.declared.SourceByte.{SourceByte as Source};
 ghost use Rattle.epoch_model.specs.Join.{answer_to, resolved as resolved_terms};
 ghost use Rattle.local_taint.specs.Words.{as_terms};
+ghost use Rattle.answer_sets.specs.Gathered.{is_at_one_of, AreGathered};
 
-use crate::answers::Answers;
-use flow_model::SourceByte;
+use crate::answers::{Answers, LARGE};
+use flow_model::{Loc, SourceByte};
 use local_taint::Asked;
 use merge_log::{TermsReader, ascend};
 use no_memory::NoMemory;
@@ -34,11 +35,59 @@ pub fn resolved(
     answers.form();
     let mut gathered = Gathered::new(alloc);
     gathered.add(terms.sources())?;
+    let mut large = Vec::new(alloc);
     for loc in terms.starts() {
-        gathered.add_set(answers.find(asked, *loc))?;
+        add_answer(&mut gathered, asked, answers, *loc, &mut large)?;
     }
     let all = gathered.into_set()?;
     Ok(all)
+}
+
+/// Of so many large answers it is remembered that they were added.
+const REMEMBERED: usize = 64;
+
+/// Adds the answer to a location, where this was asked. The large answers at these places were added: one that is kept
+/// as one set with one of them adds nothing.
+fn add_answer(
+    gathered: &mut Gathered,
+    asked: &Asked,
+    answers: &Answers,
+    loc: Loc,
+    large: &mut Vec<usize>,
+) -> Result<(), NoMemory>
+    requires ascending { All (Ascends source_cmp) answers.now }
+    requires large { AreGathered answers.now large.old.items gathered.old }
+    ensures added { OnOk result ((b : Source) → has source_cmp b gathered.new ≡ (has source_cmp b gathered.old || has source_cmp b (answer_to asked.now answers.now loc))) }
+    ensures large { OnOk result (AreGathered answers.now large.new.items gathered.new) }
+{
+    asked.form();
+    let Some(place) = asked.place_of(loc) else {
+        return Ok(());
+    };
+    let set = answers.get(place);
+    if set.len() < LARGE {
+        return gathered.add_set(set);
+    }
+    if share_one(answers, large, place) {
+        return Ok(());
+    }
+    if large.len() == REMEMBERED {
+        return gathered.add_set(set);
+    }
+    large.push(place)?;
+    gathered.add_set(set)
+}
+
+/// Whether the answer at a place is kept as one set with one of those at some places.
+fn share_one(answers: &Answers, places: &[usize], place: usize) -> bool
+    ensures { IsTrue result → (b : Source) → has source_cmp b (get_or answers.now place []) ≡ true → is_at_one_of answers.now places.now b ≡ true }
+{
+    for other in places {
+        if answers.share_set(*other, place) {
+            return true;
+        }
+    }
+    false
 }
 
 /// Source bytes that are gathered from sets. Some wait until there are as many as the rest, and are merged with them then,
@@ -63,9 +112,6 @@ impl Model for Gathered {
     ghost invariant = { λ g. Ascends source_cmp g.merged.items };
 }
 
-/// Fewer source bytes are a small set, and so many may wait in any case.
-const FEW: usize = 64;
-
 impl Gathered {
     fn new(alloc: Global) -> Gathered
         ensures { result ≡ [] }
@@ -82,7 +128,7 @@ impl Gathered {
         requires { Ascends source_cmp set.now }
         ensures { OnOk result ((b : Source) → has source_cmp b self.new ≡ (has source_cmp b self.old || has source_cmp b set.now)) }
     {
-        if set.len() < FEW || set.len() < self.merged.len() / 2 {
+        if set.len() < LARGE || set.len() < self.merged.len() / 2 {
             return self.add(set);
         }
         if is_subset(set, &self.merged) {
@@ -96,7 +142,7 @@ impl Gathered {
         ensures { OnOk result ((b : Source) → has source_cmp b self.new ≡ (has source_cmp b self.old || has source_cmp b bytes.now)) }
     {
         self.waiting.extend_from_slice(bytes)?;
-        if self.waiting.len() <= self.merged.len().max(FEW) {
+        if self.waiting.len() <= self.merged.len().max(LARGE) {
             return Ok(());
         }
         let mut waiting = mem::replace(&mut self.waiting, Vec::new(self.alloc));

@@ -2,16 +2,16 @@
 use Rattle.std.proofs.Common.{◌≡◌, inl, inr, ℕ, zero, suc, ◌+◌, ◌^◌, ◌<◌, List, [], ◌∷◌, ◌++◌, drop, refl, ap, ap₂, sym, ◌∙◌, Bool, true, false, append-nil, subst}
 use Rattle.std.specs.Prelude.{Option, Some, None, IfNone}
 use Rattle.std.proofs.lemmas.List.{map-append}
+use Rattle.std.proofs.lemmas.List.Elements.{All-push}
 use Rattle.flow_model.specs.declared.Loc.{Loc}
 use Rattle.flow_rule.specs.declared.Message.{Message}
 use Rattle.flow_rule.specs.declared.Message.TheVariants.{Ask, Byte, Close, End}
 use Rattle.epoch_model.specs.Summary.{Summary as EpochSummary, SinkTerms}
 use Rattle.stream_model.specs.Streams.{is_ended, requests}
-use Rattle.stream_model.specs.StreamLaws.{IsPrefix}
 use Rattle.stream_model.specs.Passes.{Asking, Links, asking_event, asking_by, whole_asking, broken_asking, asked_more, asked_if, wanted_for, is_whole_message, drop_ask, pop_ask, end_asks, walk, push_ask}
 use Rattle.stream_model.specs.Schedules.{begun, whole_asking_need, asking_need_by, asking_need}
 use Rattle.stream_model.specs.Schedules as need
-use Rattle.stream_model.proofs.Growing.{requests_more, added_all_keeps}
+use Rattle.stream_model.proofs.Growing.{requests_more}
 use Rattle.stream_model.proofs.Moving.{ended_after}
 use Rattle.stream_model.proofs.Passing.{no}
 use Rattle.pass_parts.specs.declared.pass_turn.PassTurn.TheVariants.{Moved, NotYet, Over}
@@ -19,9 +19,9 @@ use Rattle.pass_parts.specs.declared.requests.Request.{Request}
 use Rattle.pass_parts.specs.Ends.{with, got_by, unsent, sent_by}
 use Rattle.pass_parts.specs.Events.{IsEvent, IsAtRest}
 use Rattle.pass_parts.proofs.Events.{links_of, free, stuck, sent_same, still_none, refused, was_over}
-use Rattle.pass_parts.specs.Requests.{locations, AreCounted}
+use Rattle.pass_parts.specs.Requests.{locations, IsCounted, AreCounted}
 use Rattle.backward_pass.specs.Backward.{BackView, knows, asking_of, state, IsFit, Keeps, IsSameBack, Walks, with_sink, IsRequested, with_request, Takes, backwards, Moves, Sends, IsQuiet}
-use Rattle.backward_pass.proofs.Counts.{counted_more, counted_one_more}
+use Rattle.backward_pass.proofs.Counts.{kept_asked, asked_then, walked_then, counted_more}
 
 -- ---- what was got
 
@@ -39,13 +39,8 @@ still_silent : (first : Bool) (asked ls more : List Loc) → (first ≡ true →
 still_silent true asked ls more h e t = e ∙ h t
 still_silent false asked ls more h e t = no (sym t)
 
--- the others keep what they asked
-kept_asked : (first : Bool) (asked ls more : List Loc) → first ≡ false → more ≡ asked_more first asked ls → IsPrefix asked more
-kept_asked true asked ls more t e = no t
-kept_asked false asked ls more t e = let kept = added_all_keeps asked ls in (kept.0, kept.1 ∙ sym e)
-
 broken_fits : (v : BackView) → v.whole ≡ false → v.asked ≡ [] → IsFit v
-broken_fits v w a = record { known = λ t. no (sym t ∙ w); silent = λ _. a; forgets = λ _. a }
+broken_fits v w a = record { known = λ t. no (sym t ∙ w); silent = λ _. a; forgets = λ _. a; walked = λ t _. no (sym t ∙ w); counted = λ t _. no (sym t ∙ w) }
 
 -- ---- the model's event, by cases
 
@@ -94,11 +89,10 @@ itself v = record { summary = refl; first = refl; last = refl }
 keeps_push : (v : BackView) (pushed : ℕ) (over : Bool) (got sent later : Option (List Message)) (m : Message) → later ≡ with m sent → Keeps v got sent
     → Keeps (record v { pushed = pushed; over = over }) got later
 keeps_push v pushed over got sent later m e k = record {
-  fits = record { known = k.fits.known; silent = k.fits.silent; forgets = k.fits.forgets };
+  fits = record { known = k.fits.known; silent = k.fits.silent; forgets = k.fits.forgets; walked = k.fits.walked; counted = k.fits.counted };
   heard = k.heard;
   alone = still_none (v.first ≡ true) m sent later e k.alone;
   requested = k.requested;
-  counted = k.counted;
   ends = k.ends;
 }
 
@@ -149,11 +143,10 @@ module _ (v : BackView) (got sent : Option (List Message)) (k : Keeps v got sent
   other_next heard later m r e quiet ends end =
       taken_next false (record v { heard = heard }) later m r e refl (record { summary = refl; first = refl; last = refl }) (λ got sent. took got sent v.whole refl) (λ got h k.
       record {
-        fits = record { known = k.fits.known; silent = k.fits.silent; forgets = k.fits.forgets };
+        fits = record { known = k.fits.known; silent = k.fits.silent; forgets = k.fits.forgets; walked = k.fits.walked; counted = k.fits.counted };
         heard = ends ∙ sym (ended_after got (m ∷ []) h);
         alone = k.alone;
         requested = λ t. same_requests m (quiet t).1 (locations v.requests) got h (k.requested t);
-        counted = k.counted;
         ends = λ t h. (got, ap (λ (m : Message). got ++ m ∷ []) (end h));
       })
     where
@@ -178,7 +171,6 @@ module _ (v : BackView) (got sent : Option (List Message)) (k : Keeps v got sent
         heard = ends ∙ sym (ended_after got (m ∷ []) h);
         alone = k.alone;
         requested = λ t. no (sym t);
-        counted = λ t _. no (sym t);
         ends = λ t _. no (sym t);
       })
 
@@ -192,16 +184,21 @@ module _ (v : BackView) (got sent : Option (List Message)) (k : Keeps v got sent
       ap (λ (b : Bool). record (asking_of v (got ++ Ask l ∷ []) sent) { asked = asked; is_whole = b }) w
       ∙ sym (ap (λ (b : Bool). pop_by b false v.first (knows v) (asking_of v got sent) (Some (Ask l))) w)) (λ got h k.
       record {
-        fits = record { known = k.fits.known; silent = still_silent v.first v.asked _ asked k.fits.silent refl; forgets = λ t. no (sym w ∙ t) };
+        fits = record {
+          known = k.fits.known;
+          silent = still_silent v.first v.asked _ asked k.fits.silent refl;
+          forgets = λ t. no (sym w ∙ t);
+          walked = λ t other. asked_then v.asked asked (knows v).sinks v.left (kept_asked v.first v.asked _ asked other refl) (k.fits.walked w other);
+          counted = λ t other.
+              subst (AreCounted asked (knows v)) (sym n.added)
+              (All-push (IsCounted asked (knows v)) v.requests n.request
+              (counted_more v.asked asked (knows v) v.requests (kept_asked v.first v.asked _ asked other refl) (k.fits.counted w other)) (n.counted other));
+        };
         heard = r.ended ∙ sym (ended_after got (Ask l ∷ []) h);
         alone = k.alone;
         requested = λ t.
             ap locations n.added ∙ map-append (λ (q : Request). q.loc) v.requests (n.request ∷ [])
             ∙ ap₂ (λ (ls : List Loc) (q : Loc). ls ++ q ∷ []) (k.requested w) n.is ∙ sym (requests_more got (Ask l ∷ []) h);
-        counted = λ t other.
-            subst (AreCounted asked (knows v)) (sym n.added)
-            (counted_one_more asked (knows v) v.requests n.request
-            (counted_more v.asked asked (knows v) v.requests (kept_asked v.first v.asked _ asked other refl) (k.counted w other)) (n.counted other));
         ends = λ t h. no (sym h ∙ r.ended);
       })
 
@@ -253,7 +250,6 @@ module _ (v : BackView) (got sent : Option (List Message)) (k : Keeps v got sent
         heard = k.heard;
         alone = k.alone;
         requested = λ t. no (sym t);
-        counted = λ t _. no (sym t);
         ends = λ t _. no (sym t);
       };
       same = record { summary = refl; first = refl; last = refl };
@@ -264,11 +260,16 @@ module _ (v : BackView) (got sent : Option (List Message)) (k : Keeps v got sent
     by false = record {
       happens = record { links = free false; went = (refl, refl); is = sym (at (free false)) };
       keeps = record {
-        fits = record { known = k.fits.known; silent = still_silent v.first v.asked _ _ k.fits.silent refl; forgets = λ t. no (sym w.whole ∙ t) };
+        fits = record {
+          known = k.fits.known;
+          silent = still_silent v.first v.asked _ _ k.fits.silent refl;
+          forgets = λ t. no (sym w.whole ∙ t);
+          walked = λ t other. walked_then v.first v.asked (knows v).sinks v.left w.left w.sink other w.next (k.fits.walked w.whole other);
+          counted = λ t other. counted_more v.asked _ (knows v) v.requests (kept_asked v.first v.asked _ _ other refl) (k.fits.counted w.whole other);
+        };
         heard = k.heard;
         alone = k.alone;
         requested = k.requested;
-        counted = λ t other. counted_more v.asked _ (knows v) v.requests (kept_asked v.first v.asked _ _ other refl) (k.counted w.whole other);
         ends = k.ends;
       };
       same = record { summary = refl; first = refl; last = refl };

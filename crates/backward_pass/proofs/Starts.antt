@@ -3,7 +3,7 @@ use Rattle.std.proofs.Common.{◌≡◌, ℕ, zero, suc, ◌+◌, ◌<◌, max, 
 use Rattle.std.specs.List.{AllByRecursion, IsDistinct}
 use Rattle.std.specs.Ordering.{eq_by_cmp, is_eq, ordering_reverse}
 use Rattle.std.proofs.Math.Seq.{take-suc}
-use Rattle.std.proofs.lemmas.Bool.{and_from}
+use Rattle.std.proofs.lemmas.Bool.{and_parts, and_from}
 use Rattle.std.proofs.lemmas.List.Folds.{list_any-append}
 use Rattle.flow_model.specs.declared.Loc.{Loc}
 use Rattle.sorted_set.specs.Sets.{has, is_within}
@@ -83,6 +83,13 @@ within_added asked (l ∷ ls) =
 
     own : has loc_cmp l (added asked l) ≡ true
     own = any_added_all (eq_by_cmp loc_cmp l) asked (l ∷ []) ∙ either (has loc_cmp l asked) _ (ap (λ (b : Bool). b || false) (loc_itself l))
+
+-- those that are all asked change nothing
+pub all_asked : (asked ls : List Loc) → is_within loc_cmp ls asked ≡ true → added_all asked ls ≡ asked
+all_asked asked [] e = refl
+all_asked asked (l ∷ ls) e =
+    let parts = and_parts (has loc_cmp l asked) (is_within loc_cmp ls asked) e in
+    ap (λ (b : Bool). added_all (cond b asked (asked ++ l ∷ [])) ls) parts.0 ∙ all_asked asked ls parts.1
 
 -- one more is added
 pub added_next : (asked ls : List Loc) (i : ℕ) (d : Loc) → i < length ls → added_all asked (take (i + 1) ls) ≡ added (added_all asked (take i ls)) (get_or ls i d)

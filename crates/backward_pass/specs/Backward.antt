@@ -1,6 +1,8 @@
 -- What contracts see of the pass backwards.
-use Rattle.std.specs.Prelude.{◌≡◌, ◌⊎◌, ℕ, ◌+◌, ◌^◌, ◌<◌, drop, ◌&&◌, Bool, true, false, Option, option_map, is_none, is_some, IfNone, List, [], ◌∷◌, ◌++◌}
+use Rattle.std.specs.Prelude.{◌≡◌, ◌⊎◌, ℕ, ◌+◌, ◌^◌, ◌<◌, drop, ◌&&◌, Bool, true, false, Option, is_none, is_some, IfNone, List, [], ◌∷◌, ◌++◌, All}
 use Rattle.flow_model.specs.declared.Loc.{Loc}
+use Rattle.flow_model.specs.Orders.{loc_cmp}
+use Rattle.sorted_set.specs.Sets.{is_within}
 use Rattle.flow_rule.specs.declared.Message.{Message}
 use Rattle.flow_rule.specs.declared.Message.TheVariants.{Ask, Byte, Close, End}
 use Rattle.epoch_model.specs.Summary.{Summary as EpochSummary, SinkTerms}
@@ -8,14 +10,14 @@ use Rattle.local_taint.specs.declared.summary.Summary.{Summary}
 use Rattle.stream_model.specs.Streams.{is_ended, requests}
 use Rattle.stream_model.specs.Passes.{Links, Asking, asking_event, asking_after, asked_more, asked_if}
 use Rattle.stream_model.specs.PassLaws.{AsksSent}
-use Rattle.stream_model.specs.Schedules.{Need, begun, asking_need}
+use Rattle.stream_model.specs.Schedules.{begun, asking_need}
 use Rattle.pass_parts.specs.declared.pass_turn.PassTurn.{PassTurn}
 use Rattle.pass_parts.specs.declared.requests.Request.{Request}
 use Rattle.pass_parts.specs.Ends.{got_by, sent_by, EndsWhole}
 use Rattle.pass_parts.specs.Known.{known}
 use Rattle.pass_parts.specs.Requests.{locations, IsCounted, AreCounted}
 use Rattle.pass_parts.specs.Knowing.{is_whole, summary_in}
-use Rattle.pass_parts.specs.Events.{Events, Happened, IsEventOver, IsNext}
+use Rattle.pass_parts.specs.Events.{Events, Happened, IsNext}
 use Rattle.pass_parts.specs.declared.next.Next.{Next}
 use Rattle.backward_pass.specs.declared.back.Back.{Back}
 
@@ -90,11 +92,24 @@ state v got sent = asking_of v (got_by got) (sent_by v.over v.whole sent)
 abbrev pub begins : BackView → Asking
 begins v = begun (is_none v.summary) v.last (knows v)
 
--- what is true of the pass by itself: the first node asks nothing, and neither does a broken pass
+-- the start locations of the terms of these sinks are all asked
+abbrev pub AreAsked : List Loc → List SinkTerms → Type 0
+AreAsked asked sinks = All (λ k. is_within loc_cmp k.terms.starts asked ≡ true) sinks
+
+-- so they are of the sinks that are walked, where these are left
+pub record HasAsked (asked : List Loc) (sinks left : List SinkTerms) : Type 0 where
+  pub walked : List SinkTerms
+  pub are : sinks ≡ walked ++ left
+  pub all : AreAsked asked walked
+
+-- what is true of the pass by itself: the first node asks nothing, and neither does a broken pass; any other has asked
+-- for what the sinks that are walked need, and for what the requests need, which it counted
 pub record IsFit (v : BackView) : Type 0 where
   pub known : v.whole ≡ true → is_some v.summary ≡ true
   pub silent : v.first ≡ true → v.asked ≡ []
   pub forgets : v.whole ≡ false → v.asked ≡ []
+  pub walked : v.whole ≡ true → v.first ≡ false → HasAsked v.asked (knows v).sinks v.left
+  pub counted : v.whole ≡ true → v.first ≡ false → AreCounted v.asked (knows v) v.requests
 
 -- what the pass keeps of what went through its ends
 pub record Keeps (v : BackView) (got sent : Option (List Message)) : Type 0 where
@@ -103,7 +118,6 @@ pub record Keeps (v : BackView) (got sent : Option (List Message)) : Type 0 wher
   -- only the first node has no one to ask
   pub alone : IfNone sent (v.first ≡ true)
   pub requested : v.whole ≡ true → locations v.requests ≡ requests (got_by got)
-  pub counted : v.whole ≡ true → v.first ≡ false → AreCounted v.asked (knows v) v.requests
   pub ends : v.whole ≡ true → v.heard ≡ true → EndsWhole (got_by got)
 
 -- what no event changes
@@ -118,6 +132,7 @@ abbrev pub backwards : Events BackView Asking
 backwards = record {
   state = state;
   event = λ v links a. asking_event v.first (knows v) links a;
+  need = λ v a. asking_need a;
   Keeps = Keeps;
   IsSame = IsSameBack;
   is_over = λ v. v.over;
@@ -127,15 +142,6 @@ backwards = record {
 -- the event is that of the definitions
 abbrev pub Happens : BackView → Option (List Message) → Option (List Message) → BackView → Option (List Message) → Option (List Message) → PassTurn → Type 0
 Happens old got sent new got' sent' turn = Happened backwards old got sent new got' sent' turn
-
-module _ {I O : Type 0} (got : I → List Message) (sent : O → List Message) where
-  -- an event of the pass over its two ends
-  abbrev pub HasEvent : Back → Option I → Option O → Back → Option I → Option O → PassTurn → Type 0
-  HasEvent old inlet outlet new inlet' outlet' turn = IsEventOver backwards got sent (back_of old) inlet outlet (back_of new) inlet' outlet' turn
-
-  -- what the next event needs
-  abbrev pub need_of : Back → Option I → Option O → Need
-  need_of b inlet outlet = asking_need (state (back_of b) (option_map got inlet) (option_map sent outlet))
 
 -- the pass came there by events of the definitions
 pub record Reached (v : BackView) (got sent : Option (List Message)) : Type 0 where

@@ -1,18 +1,19 @@
 //! What is asked for a sink, and for a request of the next epoch.
 
-ghost use Rattle.std.specs.Prelude.{◌≡◌, ◌<◌, length, Some, IfOk, OnOk};
+ghost use Rattle.std.specs.Prelude.{◌≡◌, ◌<◌, length, take, Some, false, IfOk, OnOk};
 ghost use Rattle.epoch_model.specs.Crossing.{added_all};
 ghost use Rattle.stream_model.specs.Streams.{places_up_to, places_needed};
 ghost use Rattle.stream_model.specs.Passes.{asked_more};
 ghost use Rattle.local_taint.specs.Summaries.{summary_of};
 ghost use Rattle.pass_parts.specs.Known.{known};
-ghost use Rattle.backward_pass.specs.Backward.{IsWalked, IsRequested};
+ghost use Rattle.pass_parts.specs.Requests.{IsCounted, AreCounted};
+ghost use Rattle.backward_pass.specs.Backward.{AreAsked, IsWalked, IsRequested};
 
 use flow_rule::Loc;
 use local_taint::{Asked, Summary};
 use merge_log::TermsReader;
 use no_memory::NoMemory;
-use pass_parts::{Request, Requests, read_end_terms};
+use pass_parts::{Request, Requests, read_end_terms, share_end_terms};
 
 /// How many of the asked locations there are up to this one: all of them where it is not asked.
 fn places_up_to(asked: &Asked, loc: Loc) -> usize
@@ -40,8 +41,8 @@ fn add_starts(reader: &TermsReader, asked: &mut Asked) -> Result<usize, NoMemory
     Ok(needed)
 }
 
-/// Asks for where the content of a sink was at the epoch's start. The first epoch asks nothing. When out of
-/// memory, part of it may be asked.
+/// Asks for where the content of a sink was at the epoch's start. The first epoch asks nothing, and a sink with the
+/// label of the one before it nothing more. When out of memory, part of it may be asked.
 pub(crate) fn add_sink(
     summary: &Summary,
     reader: &mut TermsReader,
@@ -49,15 +50,40 @@ pub(crate) fn add_sink(
     first: bool,
     asked: &mut Asked,
 ) -> Result<(), NoMemory>
-    requires { number < length (summary_of summary.now).sinks }
+    requires inside { number < length (summary_of summary.now).sinks }
+    requires walked { first ≡ false → AreAsked asked.old (take number (summary_of summary.now).sinks) }
     ensures { OnOk result (IsWalked first (summary_of summary.now).sinks number asked.old asked.new) }
 {
-    if first {
+    if first || summary.shares_terms(number) {
         return Ok(());
     }
     summary.sink_terms(reader, number)?;
     add_starts(reader, asked)?;
     Ok(())
+}
+
+/// Asks for where the content of a location was at the epoch's start, and counts what must be answered before it. One
+/// with the label of the location that was requested last needs the same, and nothing more is asked. When out of memory,
+/// part of it may be asked.
+fn add_location(
+    summary: &Summary,
+    reader: &mut TermsReader,
+    loc: Loc,
+    asked: &mut Asked,
+    requests: &Requests,
+) -> Result<usize, NoMemory>
+    requires { AreCounted asked.old (known (Some summary.now)) requests.now.items }
+    ensures asked { OnOk result (asked.new ≡ added_all asked.old ((known (Some summary.now)).ends loc).starts) }
+    ensures counted { IfOk result (λ n.
+        IsCounted asked.new (known (Some summary.now)) (record { loc = loc; needed_first = n })) }
+{
+    if let Some(last) = requests.last() {
+        if share_end_terms(summary, last.loc, loc) {
+            return Ok(last.needed_first);
+        }
+    }
+    read_end_terms(summary, reader, loc)?;
+    add_starts(reader, asked)
 }
 
 /// Asks for where the content of a requested location was at the epoch's start, and notes the request. The first epoch
@@ -70,13 +96,13 @@ pub(crate) fn add_request(
     asked: &mut Asked,
     requests: &mut Requests,
 ) -> Result<(), NoMemory>
+    requires { first ≡ false → AreCounted asked.old (known (Some summary.now)) requests.old.items }
     ensures asked { OnOk result (asked.new ≡ asked_more first asked.old ((known (Some summary.now)).ends loc).starts) }
     ensures noted { OnOk result (IsRequested first asked.new (known (Some summary.now)) loc requests.old.items requests.new.items) }
 {
     let mut needed_first = 0;
     if !first {
-        read_end_terms(summary, reader, loc)?;
-        needed_first = add_starts(reader, asked)?;
+        needed_first = add_location(summary, reader, loc, asked, requests)?;
     }
     requests.push(Request { loc, needed_first })?;
     Ok(())

@@ -2,10 +2,10 @@
 
 ghost use Rattle.std.specs.Prelude.{◌≡◌, [], true, false};
 ghost use Rattle.pass_parts.specs.declared.knowledge.Knowledge.TheVariants.{Broken};
-ghost use Rattle.pass_parts.specs.Ends.{IsEndFrom, IsRefused, Seen, fresh_end};
+ghost use Rattle.pass_parts.specs.Ends.{IsEndFrom, Seen, fresh_end};
+ghost use Rattle.pass_parts.specs.Events.{IsEventOver, HasWaited};
 ghost use Rattle.pass_parts.specs.Knowing.{summary_in};
-ghost use Rattle.pass_parts.specs.Turns.{OnNotYet, Waits};
-ghost use Rattle.backward_pass.specs.Backward.{back_of, new_back, need_of, IsFit, Keeps, Reached, HasEvent, HasWalked, Walks, Takes, IsNextBack};
+ghost use Rattle.backward_pass.specs.Backward.{back_of, new_back, IsFit, Keeps, Reached, backwards, HasWalked, Walks, Takes, IsNextBack};
 
 use crate::asking::{add_request, add_sink};
 use epoch_link::{Inlet, Outlet};
@@ -114,6 +114,7 @@ impl Back {
 
     /// Takes a message.
     fn take(&mut self, message: Message)
+        requires { IsFit (back_of self.old) }
         ensures { Takes message (back_of self.old) (back_of self.new) }
     {
         match message {
@@ -168,12 +169,13 @@ impl Back {
         inlet: &mut Option<I>,
         outlet: &mut Option<O>,
     ) -> PassTurn
-        requires { Seen I.got O.sent Keeps (back_of self.old) inlet.old outlet.old }
-        ensures event { HasEvent I.got O.sent self.old inlet.old outlet.old self.new inlet.new outlet.new result }
-        ensures inlet { IsEndFrom I.link I.capacity I.other inlet.new inlet.old }
-        ensures outlet { IsEndFrom O.link O.capacity O.other outlet.new outlet.old }
-        ensures waits { OnNotYet result (Waits (need_of I.got O.sent self.old inlet.old outlet.old)
-            (IsRefused I.refusals I.ready inlet.old inlet.new) (IsRefused O.refusals O.ready outlet.old outlet.new)) }
+        requires { Seen I.end O.end Keeps (back_of self.old) inlet.old outlet.old }
+        ensures event { IsEventOver backwards I.end O.end (back_of self.old) inlet.old outlet.old
+            (back_of self.new) inlet.new outlet.new result }
+        ensures inlet { IsEndFrom I.end inlet.new inlet.old }
+        ensures outlet { IsEndFrom O.end outlet.new outlet.old }
+        ensures waits { HasWaited backwards I.end O.end (back_of self.old) inlet.old outlet.old
+            inlet.new outlet.new result }
     {
         match self.next() {
             Next::Moved => PassTurn::Moved,

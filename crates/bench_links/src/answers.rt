@@ -23,14 +23,14 @@ static CALLS: [Call; 7] = [
 ];
 
 fn push<O: Outlet<u32>>(rt: &impl Print, outlet: &mut O, item: u32) -> io::Result<()>
-    ensures { O.link outlet.new ≡ O.link outlet.old }
+    ensures { (O.end outlet.new).link ≡ (O.end outlet.old).link }
 {
     let answer = outlet.push(item);
     println!(rt; "push {item}: {answer:?}")
 }
 
 fn pop<I: Inlet<u32>>(rt: &impl Print, inlet: &mut I) -> io::Result<()>
-    ensures { I.link inlet.new ≡ I.link inlet.old }
+    ensures { (I.end inlet.new).link ≡ (I.end inlet.old).link }
 {
     let answer = inlet.pop();
     println!(rt; "pop: {answer:?}")

@@ -129,7 +129,8 @@ fn again(rt: &impl Abort, alloc: Global, machine: &Machine) -> Machine
     Machine::import_state(MachineState::whole(window, rest))
 }
 
-/// A machine whose state is taken out and put back goes on alike: what it has in memory and in registers is there.
+/// A machine whose state is taken out and put back goes on alike: what it has in memory and in registers is there. So does
+/// one that keeps what it decoded.
 #[test]
 fn a_saved_machine_goes_on_alike(rt: HostRuntime) -> Result<(), Fail> {
     let code = code![
@@ -149,6 +150,9 @@ fn a_saved_machine_goes_on_alike(rt: HostRuntime) -> Result<(), Fail> {
         let mut machine = machine_of(rt.alloc(), &code)?;
         run(&rt, &mut machine, steps);
         let mut machine = again(&rt, rt.alloc(), &machine);
+        if steps % 2 == 1 {
+            machine.keep_decoded(rt.alloc())?;
+        }
         run(&rt, &mut machine, 5 - steps);
         assert!(rt; machine.step() == call);
     }

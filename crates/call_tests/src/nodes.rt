@@ -4,7 +4,7 @@ ghost use Rattle.std.specs.Prelude.{◌≡◌, IfOk};
 ghost use Rattle.merge_log.specs.Log.{IsNode};
 
 use flow_model::{Loc, SourceByte};
-use merge_log::{Leaf, MergeLog, Node};
+use merge_log::{Leaf, ManyTerms, MergeLog, Node, TermsReader};
 use std::alloc::Global;
 use std::process::Abort;
 use std::test::Fail;
@@ -122,5 +122,34 @@ fn a_long_log_has_its_nodes(rt: HostRuntime) -> Result<(), Fail> {
         assert_eq!(rt; log.leaf_source(byte)?, u64::from(offset) + 1);
     }
     assert_eq!(rt; log.size(), 70_001);
+    Ok(())
+}
+
+/// The leaves of a node, which one walk reads with two other nodes.
+fn leaves_between(
+    alloc: Global,
+    log: &MergeLog,
+    before: Node,
+    node: Node,
+    after: Node,
+) -> Result<Vec<Leaf>, Fail> {
+    let size = log.size();
+    let mut reader = TermsReader::new(alloc);
+    if before < size && node < size && after < size {
+        let mut many = ManyTerms::new(alloc);
+        many.read(log, &[before, node, after])?;
+        many.swap(1, &mut reader);
+    }
+    Ok(reader.leaves(alloc)?)
+}
+
+#[test]
+fn one_walk_reads_several_nodes(rt: HostRuntime) -> Result<(), Fail> {
+    let log = log_of(&rt, rt.alloc(), &UNION_CASES)?;
+    for case in FIRST_CASES.iter().chain(&UNION_CASES) {
+        let (_, node, leaves) = case;
+        let found = leaves_between(rt.alloc(), &log, 6, *node, 4)?;
+        assert_eq!(rt; found.as_slice(), *leaves);
+    }
     Ok(())
 }

@@ -66,7 +66,7 @@ module _ (job : Job) (is : IsJob job) (t : ℕ) (step : StepSeen) (below : t < s
       }
 
   -- pages that weren't touched before the step, and aren't by it, are as they were
-  pub others_after : (before : List ℕ) (old new : TouchedAt) → AreOfWindow job old → AreMarked old.flags ((written step).place - old.base) (written step).size new.flags
+  others_after : (before : List ℕ) (old new : TouchedAt) → AreOfWindow job old → AreMarked old.flags ((written step).place - old.base) (written step).size new.flags
       → AreOthersSame old.flags before (window_at job t) → AreOthersSame new.flags before (window_at job (suc t))
   others_after before old new are marked same place untouched =
       let bytes = written step in
@@ -75,3 +75,11 @@ module _ (job : Job) (is : IsJob job) (t : ℕ) (step : StepSeen) (below : t < s
       let base : old.base ≡ (state_at job t).base = are.base ∙ sym (same_window job t is (omega arith)).base in
       let none : has_byte (bytes.place - (state_at job t).base) bytes.size place ≡ false = subst (λ (b : ℕ). has_byte (bytes.place - b) bytes.size place ≡ false) base neither.1 in
       page_kept (state_at job t) (state_at job (suc t)) bytes changes place none ∙ same place neither.0
+
+  -- the same where the bytes that it writes are noted
+  pub others_noted : (before : List ℕ) (old new : TouchedAt) (bytes : Span) → bytes ≡ written step → AreOfWindow job old → AreMarked old.flags (bytes.place - old.base) bytes.size new.flags
+      → AreOthersSame old.flags before (window_at job t) → AreOthersSame new.flags before (window_at job (t + 1))
+  others_noted before old new bytes own are marked same =
+      let next : suc t ≡ t + 1 = omega arith in
+      subst (λ (k : ℕ). AreOthersSame new.flags before (window_at job k)) next
+      (others_after before old new are (subst (λ (b : Span). AreMarked old.flags (b.place - old.base) b.size new.flags) own marked) same)

@@ -1,19 +1,20 @@
 //! The checkpoints of a job's run.
 
-ghost use Rattle.std.specs.Prelude.{◌≡◌, ◌+◌, ◌<◌, ◌≤◌, Some, [], ◌∷◌, ◌++◌, length, slice_get, IfOk};
+ghost use Rattle.std.specs.Prelude.{◌≡◌, ℕ, ◌+◌, ◌<◌, ◌≤◌, Some, List, [], ◌∷◌, ◌++◌, length, slice_get, IfOk};
 ghost use Rattle.log_model.specs.Logs.{steps};
 ghost use Rattle.epoch_model.specs.Cutting.{IsCutting};
 ghost use Rattle.replayer.specs.Jobs.{IsJob};
+ghost use Rattle.replayer.specs.Nexts.{ArePlain};
 ghost use Rattle.checkpoints.specs.Touched.{AreAllTouched, AreOthersSame};
 ghost use Rattle.checkpoints.specs.Points.{beginnings, held, last_numbers, window_at, last_window, AreOfWindow};
 
 use crate::checkpoint::Checkpoint;
 use crate::pages::Pages;
 use crate::paging::{join, split};
-use crate::touched::Touched;
+use crate::touched::{Touched, stored, written};
 use epoch_cut::Cuts;
 use no_memory::NoMemory;
-use replayer::{Cursor, CursorState, Job, Next};
+use replayer::{Cursor, CursorState, Job, Next, PlainStep};
 use std::alloc::Global;
 use std::marker::Model;
 
@@ -55,11 +56,30 @@ fn advance(cursor: &mut Cursor<'_>, touched: &mut Touched, count: u64)
     ensures flags { AreOfWindow cursor.old.job touched.new }
     ensures others { AreOthersSame touched.new.flags (window_at cursor.old.job cursor.old.time) (window_at cursor.old.job (cursor.old.time + count)) }
 {
-    for _ in 0..count {
+    let past_last = cursor.time() + count;
+    while cursor.time() < past_last {
+        let until = cursor.plain_until().min(past_last - 1);
+        advance_plain(cursor, touched, until);
         match cursor.next() {
-            Next::Step(step) => touched.note(&step),
+            Next::Step(step) => touched.note(written(&step)),
             Next::End(_) => unreachable!(),
         }
+    }
+}
+
+/// Makes the steps up to a time, each of which is a plain one, and notes the pages that they write.
+fn advance_plain(cursor: &mut Cursor<'_>, touched: &mut Touched, until: u64)
+    requires job { IsJob cursor.old.job }
+    requires later { cursor.old.time ≤ until }
+    requires plain { ArePlain cursor.old.job cursor.old.time until }
+    requires flags { AreOfWindow cursor.old.job touched.old }
+    ensures moved { cursor.new ≡ record { job = cursor.old.job; time = until } }
+    ensures flags { AreOfWindow cursor.old.job touched.new }
+    ensures others { (before : List ℕ) → AreOthersSame touched.old.flags before (window_at cursor.old.job cursor.old.time) → AreOthersSame touched.new.flags before (window_at cursor.old.job until) }
+{
+    for time in cursor.time()..until {
+        let PlainStep { instr, place } = cursor.next_plain();
+        touched.note(stored(instr, place));
     }
 }
 
@@ -147,7 +167,9 @@ impl<'a> Checkpoints<'a> {
         let point = &self.points[k as usize];
         let bytes = join(alloc, &self.pages, point.numbers.as_slice())?;
         let rest = point.rest;
-        Ok(Cursor::from(self.job, CursorState::whole(bytes, rest)))
+        let mut cursor = Cursor::from(self.job, CursorState::whole(bytes, rest));
+        cursor.keep_decoded(alloc)?;
+        Ok(cursor)
     }
 
     /// How many pages of 4096 bytes are held: those of the window, and those that changed from one checkpoint to the

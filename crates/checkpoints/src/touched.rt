@@ -2,7 +2,7 @@
 
 ghost use Rattle.std.specs.Prelude.{◌≡◌, ◌+◌, ◌-◌, ◌*◌, ◌<◌, ◌≤◌, true, false, length, replicate, IfOk};
 ghost use Rattle.std.specs.Int.{div_ceil};
-ghost use Rattle.checkpoints.specs.Touched.{stored_size, written, AreMarked, IsWithin};
+ghost use Rattle.checkpoints.specs.Touched.{span, stored_size, written, AreMarked, IsWithin};
 
 use crate::paging::PAGE_SIZE;
 use flow_model::StepSeen;
@@ -45,8 +45,18 @@ fn stored_size(instr: Instr) -> u32
     }
 }
 
+/// The bytes that an instruction stores at its effective address.
+pub(crate) fn stored(instr: Instr, place: u32) -> Span
+    ensures { result ≡ span place (stored_size instr) }
+{
+    Span {
+        place,
+        size: stored_size(instr),
+    }
+}
+
 /// The bytes that a step writes: a store's at its effective address, and those that a read moves into its buffer.
-fn written(step: &StepSeen) -> Span
+pub(crate) fn written(step: &StepSeen) -> Span
     ensures { result ≡ written step.now }
 {
     match step.call {
@@ -57,10 +67,7 @@ fn written(step: &StepSeen) -> Span
                 _ => 0,
             },
         },
-        None => Span {
-            place: step.place,
-            size: stored_size(step.instr),
-        },
+        None => stored(step.instr, step.place),
     }
 }
 
@@ -93,13 +100,13 @@ impl Touched {
         self.flags.as_slice()
     }
 
-    /// Notes the pages that a step writes.
-    pub fn note(&mut self, step: &StepSeen)
-        requires { IsWithin self.old (written step.now) }
+    /// Notes the pages that have some of these bytes, which a step writes.
+    pub fn note(&mut self, bytes: Span)
+        requires { IsWithin self.old bytes }
         ensures base { self.new.base ≡ self.old.base }
-        ensures flags { AreMarked self.old.flags ((written step.now).place - self.old.base) (written step.now).size self.new.flags }
+        ensures flags { AreMarked self.old.flags (bytes.place - self.old.base) bytes.size self.new.flags }
     {
-        let Span { place, size } = written(step);
+        let Span { place, size } = bytes;
         if size > 0 {
             mark(&mut self.flags, place - self.base, size);
         }

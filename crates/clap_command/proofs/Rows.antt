@@ -1,13 +1,13 @@
 -- What the rows of a subcommand hold, where it takes the words: its numbers can be read and lie in their ranges, and its
 -- lists are no longer than they may be.
 -- Crates above cite these lemmas.
-use Rattle.std.proofs.Common.{◌≡◌, ◌∙◌, ◌≤◌, ap, sym, subst, refl, true, false, Bool, not, ◌&&◌, ◌||◌, ℕ, length, List, [], ◌∷◌, ◌++◌, Option, Some, None, filter, option_map, option_and_then, unwrap_or, if◌then◌else◌, nat_le, slice_get, arith}
+use Rattle.std.proofs.Common.{◌≡◌, ◌∙◌, ◌≤◌, ap, sym, subst, refl, true, false, Bool, not, ◌&&◌, ◌||◌, ℕ, length, List, [], ◌∷◌, ◌++◌, Option, Some, None, filter, option_map, option_and_then, unwrap_or, IfSome, if◌then◌else◌, nat_le, slice_get, arith}
 use Rattle.std.specs.List.{list_all, list_any, find, fold}
 use Rattle.std.specs.Option.{option_map_or}
 use Rattle.std.specs.Str.{bytes_eq}
 use Rattle.std.proofs.lemmas.Bool.Decides.{nat_tests}
 use Rattle.std.proofs.lemmas.Slice.Eq.{bytes_eq-Decides}
-use Rattle.clap.specs.Words.{IsUnsignedIn, Row, Text, read_as}
+use Rattle.clap.specs.Words.{IsUnsignedIn, Row, Text, one_of, read_as}
 use Rattle.clap.specs.Facts.{explicit_source, parser_of_value, unwrap_or_range}
 use Rattle.clap.specs.Values.{reading_of}
 use Rattle.clap.specs.ValueTests.{accepts}
@@ -19,7 +19,7 @@ use Rattle.clap.specs.declared.builder.value_parser.Reading.TheVariants.{AsWritt
 use Rattle.clap.specs.declared.builder.value_parser.ValueParser.TheVariants.{Unsigned}
 use Rattle.clap.specs.declared.parser.matches.ValueSource.TheVariants.{DefaultValue}
 use Rattle.clap.proofs.ValueTestLemmas.{accepts-Accepts}
-use Rattle.clap_command.specs.Values.{numeral_of, number_of, values_of}
+use Rattle.clap_command.specs.Values.{numeral_of, number_in, number_of, optional_number_of, values_of}
 use Rattle.clap_command.specs.Plain.{is_plain_subcommand, no_values}
 use Rattle.clap_command.proofs.Bools.{each_true, is_false, left_true, or_false, right_true}
 use Rattle.clap_command.proofs.Fit.{at_new_row, fits, reads_as_written, row_fits, rows_fit, text_is_itself}
@@ -112,8 +112,12 @@ of_found c id Q R of some (r ∷ rows) none all =
 
 -- ---- numbers and lists
 
+-- the first value, if there is one
+abbrev first_text : List Text → Reading → Option Text
+first_text values how = option_map (read_as how) (slice_get values 0)
+
 abbrev read_text : List Text → Reading → Text
-read_text values how = unwrap_or (option_map (read_as how) (slice_get values 0)) []
+read_text values how = unwrap_or (first_text values how) []
 
 as_written : (how : Reading) (v : Text) (Q : Text → Type 0) → (reads_as_written how || false) ≡ true → Q v → Q (read_as how v)
 as_written AsWritten v Q e q = q
@@ -137,11 +141,22 @@ numeral a least most (v ∷ vs) how one parser e =
     (ap (λ r. reads_as_written how || not (reads_as_written (reading_of (parser_of_value r)))) (sym parser) ∙ plain)
     (accepts-Accepts a.ignore_case (Unsigned least most) v taken)
 
+optional_numeral : (a : Rule) (least most : ℕ) (values : List Text) (how : Reading) → (unwrap_or_range a.range).start_inclusive ≡ 1
+    → a.parser ≡ Some (Unsigned least most) → fits a values how ≡ true → IfSome (first_text values how) (IsUnsignedIn least most)
+optional_numeral a least most [] how one parser e = tt
+optional_numeral a least most (v ∷ vs) how one parser e = numeral a least most (v ∷ vs) how one parser e
+
 number_there : (c : List Rule) (id : Text) (least most : ℕ) (rows : List Row) → IsOf c id (λ values how. IsUnsignedIn least most (read_text values how))
     → has_row id rows ≡ true → list_all (row_fits c) rows ≡ true → IsUnsignedIn least most (numeral_of id rows)
 number_there c id least most rows of has all =
     of_found c id (λ values how. IsUnsignedIn least most (read_text values how)) (λ o. IsUnsignedIn least most (unwrap_or (option_and_then row_text o) []))
     of (λ r q. q) rows (λ none. let bad : false ≡ true = sym none ∙ has in cc) all
+
+number_if_there : (c : List Rule) (id : Text) (least most : ℕ) (rows : List Row) → IsOf c id (λ values how. IfSome (first_text values how) (IsUnsignedIn least most))
+    → list_all (row_fits c) rows ≡ true → IfSome (one_of id rows) (IsUnsignedIn least most)
+number_if_there c id least most rows of all =
+    of_found c id (λ values how. IfSome (first_text values how) (IsUnsignedIn least most)) (λ o. IfSome (option_and_then row_text o) (IsUnsignedIn least most))
+    of (λ r q. q) rows (λ none. tt) all
 
 few_values : (c : List Rule) (id : Text) (most : ℕ) (rows : List Row) → IsOf c id (λ values how. length values ≤ most)
     → list_all (row_fits c) rows ≡ true → length (values_of id rows) ≤ most
@@ -228,10 +243,20 @@ pub record IsNumberIn (top least most : ℕ) (id : Text) (rows : List Row) : Typ
   pub at_least : least ≤ number_of id rows
   pub at_most : number_of id rows ≤ most
 
-number_in : (top least most : ℕ) (id : Text) (rows : List Row) → nat_le most top ≡ true → IsUnsignedIn least most (numeral_of id rows) → IsNumberIn top least most id rows
-number_in top least most id rows small is =
+number_is_in : (top least most : ℕ) (id : Text) (rows : List Row) → nat_le most top ≡ true → IsUnsignedIn least most (numeral_of id rows) → IsNumberIn top least most id rows
+number_is_in top least most id rows small is =
     let few : most ≤ top = below most top small in
     record { can_be_read = (is.0, is.1, omega arith, omega (arith, few, is.3)); at_least = is.2; at_most = is.3 }
+
+-- the same of an option, where it is given
+pub record IsOptionIn (top least most : ℕ) (id : Text) (rows : List Row) : Type 0 where
+  pub can_be_read : IfSome (one_of id rows) (IsUnsignedIn 0 top)
+  pub in_range : IfSome (optional_number_of id rows) (λ n. (least ≤ n) × (n ≤ most))
+
+option_read : (top least most : ℕ) (numeral : Option Text) → most ≤ top → IfSome numeral (IsUnsignedIn least most)
+    → IfSome numeral (IsUnsignedIn 0 top) × IfSome (option_map number_in numeral) (λ n. (least ≤ n) × (n ≤ most))
+option_read top least most None few is = (tt, tt)
+option_read top least most (Some t) few is = ((is.0, is.1, omega arith, omega (arith, few, is.3)), (is.2, is.3))
 
 -- of a subcommand that takes the words
 module _ (s : Shape) (words : List Text) (plain : is_plain_subcommand s ≡ true) (passes : level_passes s [] nothing_held words false ≡ true) where
@@ -251,15 +276,24 @@ module _ (s : Shape) (words : List Text) (plain : is_plain_subcommand s ≡ true
   pub number-in_range : (id : Text) (a : Rule) (top least most : ℕ) → Only s.rules id a → a.required ≡ true → (unwrap_or_range a.range).start_inclusive ≡ 1
       → a.parser ≡ Some (Unsigned least most) → nat_le most top ≡ true → IsNumberIn top least most id rows
   number-in_range id a top least most only required one parser small =
-      number_in top least most id rows small
+      number_is_in top least most id rows small
       (number_there s.rules id least most rows (λ values how fit. numeral a least most values how one parser (has_only (λ x. fits x values how) s.rules id a only fit))
       (has_required id a only required) all_fit)
+
+  -- an option with no default
+  pub optional-in_range : (id : Text) (a : Rule) (top least most : ℕ) → Only s.rules id a → (unwrap_or_range a.range).start_inclusive ≡ 1
+      → a.parser ≡ Some (Unsigned least most) → nat_le most top ≡ true → IsOptionIn top least most id rows
+  optional-in_range id a top least most only one parser small =
+      let read = option_read top least most (one_of id rows) (below most top small)
+      (number_if_there s.rules id least most rows (λ values how fit. optional_numeral a least most values how one parser (has_only (λ x. fits x values how) s.rules id a only fit))
+      all_fit) in
+      record { can_be_read = read.0; in_range = read.1 }
 
   -- an option with a default
   pub option-in_range : (id : Text) (a : Rule) (top least most : ℕ) → Only s.rules id a → no_values a.defaults ≡ false → (unwrap_or_range a.range).start_inclusive ≡ 1
       → a.parser ≡ Some (Unsigned least most) → nat_le most top ≡ true → IsNumberIn top least most id rows
   option-in_range id a top least most only given one parser small =
-      number_in top least most id rows small
+      number_is_in top least most id rows small
       (number_there s.rules id least most rows (λ values how fit. numeral a least most values how one parser (has_only (λ x. fits x values how) s.rules id a only fit))
       (defaulted id s.rules (settled s.rules (walk s.rules [] nothing_held words).held).rows (only_has (λ x. not (no_values x.defaults)) s.rules id a only (ap not given))) all_fit)
 

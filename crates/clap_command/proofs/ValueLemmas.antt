@@ -1,10 +1,10 @@
 -- The values of an argument, as `clap` gives them.
-use Rattle.std.proofs.Common.{◌≡◌, ◌<◌, ◌^◌, ap, sym, refl, arith, ℕ, [], Option, Some, None, Result, Ok, Err, unwrap_or}
+use Rattle.std.proofs.Common.{◌≡◌, ◌<◌, ◌^◌, ap, sym, refl, arith, ℕ, [], Option, Some, None, Result, Ok, Err, unwrap_or, option_map, IfSome}
 use Rattle.std.specs.Str.Parse.{ParsesUnsigned, digits_value, without_leading_plus}
 use Rattle.clap.specs.Words.{IsUnsignedIn, ReadsOne, Text, first_value, rows_of}
 use Rattle.clap.specs.declared.parser.matches.Found.{Found}
 use Rattle.clap.proofs.WalkLemmas.{first_value-rows}
-use Rattle.clap_command.specs.Values.{value_of}
+use Rattle.clap_command.specs.Values.{value_of, number_in}
 
 pub first_value-is_value : (id : Text) (f : Found) → value_of id (rows_of f) ≡ unwrap_or (first_value f id) []
 first_value-is_value id f = ap (λ o. unwrap_or o []) (sym (first_value-rows f id))
@@ -18,4 +18,16 @@ pub number_read : (bits most : ℕ) → most < 2 ^ bits → (E : Type 0) (G : Te
 number_read bits most small E G None read is reads parses = absurd (omega (arith, is.0.0))
 number_read bits most small E G (Some t) (Some n) is reads parses = (parses t (Ok n) (reads t refl)).1
 number_read bits most small E G (Some t) None is reads parses =
+    let failed = reads t refl in absurd (parses t (Err failed.0) failed.1 (is.0, omega (arith, small, is.3)))
+
+-- the same of an option, which may not be given
+pub optional_number_read : (bits most : ℕ) → most < 2 ^ bits → (E : Type 0) (G : Text → Result ℕ E → Type 0) (numeral : Option Text) (read : Option ℕ)
+    → IfSome numeral (IsUnsignedIn 0 most)
+    → (numeral ≡ None → read ≡ None)
+    → ((t : Text) → numeral ≡ Some t → ReadsOne G t read)
+    → ((t : Text) (x : Result ℕ E) → G t x → ParsesUnsigned bits 10 t x)
+    → read ≡ option_map number_in numeral
+optional_number_read bits most small E G None read is none reads parses = none refl
+optional_number_read bits most small E G (Some t) (Some n) is none reads parses = ap Some (parses t (Ok n) (reads t refl)).1
+optional_number_read bits most small E G (Some t) None is none reads parses =
     let failed = reads t refl in absurd (parses t (Err failed.0) failed.1 (is.0, omega (arith, small, is.3)))

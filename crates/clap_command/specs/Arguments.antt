@@ -24,14 +24,17 @@ required_list id most = record (new_rule id) {
   range = Some (record { start_inclusive = 1; end_inclusive = most });
 }
 
--- a number in a range, by the option's long name, or the default
-abbrev pub number_option : Text → ℕ → ℕ → Text → Rule
-number_option name least most default = record (new_rule name) {
+-- a number in a range, by the option's long name, where it is given
+abbrev pub optional_number : Text → ℕ → ℕ → Rule
+optional_number name least most = record (new_rule name) {
   long = Some name;
   action = Some Set;
   parser = Some (Unsigned least most);
-  defaults = default ∷ [];
 }
+
+-- the same, or the default
+abbrev pub number_option : Text → ℕ → ℕ → Text → Rule
+number_option name least most default = record (optional_number name least most) { defaults = default ∷ [] }
 
 -- a subcommand has to be there
 abbrev pub requires_subcommand : Shape → Shape

@@ -1,5 +1,5 @@
 -- The values of a subcommand's arguments, by the rows that `clap` gives of words.
-use Rattle.std.specs.Prelude.{ℕ, List, [], unwrap_or}
+use Rattle.std.specs.Prelude.{ℕ, List, [], Option, option_map, unwrap_or}
 use Rattle.std.specs.Str.Parse.{digits_value, without_leading_plus}
 use Rattle.clap.specs.Words.{Row, Text, all_of, first_of, one_of}
 
@@ -16,5 +16,12 @@ abbrev pub numeral_of : Text → List Row → Text
 numeral_of id rows = unwrap_or (one_of id rows) []
 
 -- the number that `clap`'s range of unsigned numbers reads
+abbrev pub number_in : Text → ℕ
+number_in numeral = digits_value 10 (without_leading_plus numeral)
+
 abbrev pub number_of : Text → List Row → ℕ
-number_of id rows = digits_value 10 (without_leading_plus (numeral_of id rows))
+number_of id rows = number_in (numeral_of id rows)
+
+-- the number of an option, where it was given
+abbrev pub optional_number_of : Text → List Row → Option ℕ
+optional_number_of id rows = option_map number_in (one_of id rows)

@@ -4,6 +4,7 @@ ghost use Rattle.clap.specs.Words.{app_of, rule_of, with_rule, with_subcommand};
 ghost use Rattle.clap.specs.declared.builder.Command.TheViews.{out-Command as fields_of};
 ghost use Rattle.clap_command.specs.Arguments.{positional as positional_rule, number as number_rule};
 ghost use Rattle.clap_command.specs.Arguments.{list as list_rule, required_list as required_list_rule};
+ghost use Rattle.clap_command.specs.Arguments.{optional_number as optional_number_rule};
 ghost use Rattle.clap_command.specs.Arguments.{number_option as number_option_rule};
 
 use clap::builder::ValueParser;
@@ -47,6 +48,17 @@ pub fn required_list<'a>(alloc: Global, id: &'a str, most: usize) -> Arg<'a>
 }
 
 /// An option, by its long name, for a number from `least` to `most`.
+pub fn optional_number<'a>(alloc: Global, name: &'a str, least: u64, most: u64) -> Arg<'a>
+    ensures rule { rule_of result ≡ optional_number_rule name.entry.now least most }
+    ensures local { result.global ≡ false }
+{
+    Arg::new(alloc, name)
+        .long(name)
+        .action(ArgAction::Set)
+        .value_parser(ValueParser::unsigned(least, most))
+}
+
+/// The same, with a number that stands where none is given.
 pub fn number_option<'a>(
     alloc: Global,
     name: &'a str,
@@ -57,11 +69,7 @@ pub fn number_option<'a>(
     ensures rule { rule_of result ≡ number_option_rule name.entry.now least most default.entry.now }
     ensures local { result.global ≡ false }
 {
-    Arg::new(alloc, name)
-        .long(name)
-        .action(ArgAction::Set)
-        .value_parser(ValueParser::unsigned(least, most))
-        .default_value(default)
+    optional_number(alloc, name, least, most).default_value(default)
 }
 
 /// The command with one more argument. The error is out of memory.

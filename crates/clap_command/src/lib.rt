@@ -14,8 +14,9 @@ mod parsing;
 mod values;
 
 pub use arguments::{
-    list, number, number_option, positional, required_list, with_argument, with_command,
+    list, number, number_option, optional_number, positional, required_list, with_argument,
+    with_command,
 };
 pub use fault::{Usage, WordsFault};
 pub use parsing::parse;
-pub use values::{read_long_number, read_number, read_value, read_values};
+pub use values::{read_long_number, read_number, read_optional_number, read_value, read_values};

@@ -1,8 +1,8 @@
 //! The values of the arguments of words that were taken.
 ghost use Rattle.std.specs.Prelude.{◌≡◌, map, IfOk};
 ghost use Rattle.clap.specs.Words.{rows_of, found_of};
-ghost use Rattle.clap_command.specs.Values.{value_of, values_of, number_of};
-ghost use Rattle.clap_command.specs.Numbers.{IsNumber, IsLongNumber};
+ghost use Rattle.clap_command.specs.Values.{value_of, values_of, number_of, optional_number_of};
+ghost use Rattle.clap_command.specs.Numbers.{IsNumber, IsLongNumber, IsOptionalNumber};
 
 use clap::ArgMatches;
 use std::alloc::{AllocError, Global};
@@ -42,4 +42,12 @@ pub fn read_long_number<'a>(matches: &ArgMatches<'a>, id: &str) -> u64
     ensures { result ≡ number_of id.now (rows_of (found_of matches.now)) }
 {
     matches.get_one::<u64>(id).unwrap_or(0)
+}
+
+/// The number of an option, where it was given, which may need more than 32 bits.
+pub fn read_optional_number<'a>(matches: &ArgMatches<'a>, id: &str) -> Option<u64>
+    requires { IsOptionalNumber id.now (rows_of (found_of matches.now)) }
+    ensures { result ≡ optional_number_of id.now (rows_of (found_of matches.now)) }
+{
+    matches.get_one::<u64>(id)
 }

@@ -5,7 +5,8 @@ use Rattle.std.specs.List.{AllZip}
 use Rattle.atomic_table.specs.Seated.{TableId}
 use Rattle.flow_rule.specs.declared.Message.{Message}
 use Rattle.epoch_cut.specs.Numbered.{NumberedEpoch}
-use Rattle.epoch_link.specs.Ends.{Producing, Consuming, new_producer, new_consumer}
+use Rattle.epoch_link.specs.Link.{EndView}
+use Rattle.epoch_link.specs.Ends.{Producing, Consuming, producer_end, consumer_end, new_producer, new_consumer}
 use Rattle.epoch_node.specs.Cores.{Given}
 use Rattle.epoch_node.specs.Nodes.{NodeView, IsLedFrom, IsEndLater, IsInletLater, IsOutletLater}
 use Rattle.epoch_line.specs.Layouts.{CutRun, epochs_of, given_at, Links, before_end, after_end, node_between, laid_out, IsRunOf}
@@ -13,18 +14,18 @@ use Rattle.epoch_line.specs.Lines.{IsOneLink}
 
 -- ---- the same ends, later
 
-module _ {E : Type 0} (link : E → TableId) (list : E → List Message) where
-  stays : (new old : Option E) → IsEndLater link list new old → is_none new ≡ is_none old
+module _ {E : Type 0} (end : E → EndView Message) where
+  stays : (new old : Option E) → IsEndLater end new old → is_none new ≡ is_none old
   stays None None h = refl
   stays (Some new) (Some old) h = refl
   stays None (Some old) h = absurd h
   stays (Some new) None h = absurd h
 
 stays_inlet : (new old : Option (Consuming Message)) → IsInletLater new old → is_none new ≡ is_none old
-stays_inlet new old h = stays (λ (c : Consuming Message). c.link) (λ c. c.got) new old h
+stays_inlet new old h = stays consumer_end new old h
 
 stays_outlet : (new old : Option (Producing Message)) → IsOutletLater new old → is_none new ≡ is_none old
-stays_outlet new old h = stays (λ (p : Producing Message). p.link) (λ p. p.sent) new old h
+stays_outlet new old h = stays producer_end new old h
 
 none_mapped : {A B C : Type 0} (f : B → C) (g : A → B) (o : Option A) → is_none (option_map f (option_map g o)) ≡ is_none o
 none_mapped f g None = refl

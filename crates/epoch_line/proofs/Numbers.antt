@@ -7,7 +7,7 @@ use Rattle.epoch_model.specs.Cutting.{epochs}
 use Rattle.epoch_cut.specs.Numbered.{NumberedEpoch, numbered}
 use Rattle.run_board.specs.Tasks.{AreNumbered}
 use Rattle.epoch_node.specs.Nodes.{NodeView, IsLedFrom}
-use Rattle.node_groups.specs.Groups.{AreOfJob, AreOfOneJob}
+use Rattle.epoch_line.specs.Groups.{AreOfJob, AreOfOneJob}
 use Rattle.epoch_line.specs.Layouts.{CutRun, epochs_of, Links, node_between, laid_out, IsLayout, IsRunOf}
 use Rattle.epoch_line.proofs.Tickets.{length-numbered}
 

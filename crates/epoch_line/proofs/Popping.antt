@@ -1,9 +1,8 @@
 -- One step of `collect`, which takes the nodes from the last to the first.
-use Rattle.std.proofs.Common.{◌≡◌, ℕ, ◌+◌, ◌^◌, ◌-◌, Some, None, List, [], ◌∷◌, ◌++◌, map, length, reverse, refl, sym, ap, ◌∙◌, append_assoc, subst, arith, Bool, true, false}
+use Rattle.std.proofs.Common.{◌≡◌, ℕ, ◌+◌, ◌^◌, ◌-◌, Some, None, List, [], ◌∷◌, ◌++◌, map, length, refl, sym, ap, ◌∙◌, append_assoc, subst, arith, Bool, true, false}
 use Rattle.std.specs.Prelude.{Option, option_map, is_none, All, min}
 use Rattle.std.specs.List.{flat_map}
 use Rattle.std.proofs.lemmas.List.Elements.{All-head, All-tail}
-use Rattle.std.proofs.lemmas.Grind.{reverse_onto}
 use Rattle.flow_rule.specs.declared.Message.{Message}
 use Rattle.report_model.specs.Rows.{Row}
 use Rattle.epoch_cut.specs.Numbered.{NumberedEpoch}
@@ -64,9 +63,6 @@ all_at P (f ∷ front) n ns h = all_at P front n ns (All-tail P f (front ++ n �
 pub all_done : (all items done : List NodeView) → all ≡ items ++ done → length items ≡ 0 → all ≡ done
 all_done all [] done e z = e
 all_done all (x ∷ items) done e z = absurd (omega (arith, z))
-
-pub one_before : {X : Type 0} (x : X) (xs : List X) → reverse xs ++ x ∷ [] ≡ reverse (x ∷ xs)
-one_before x xs = sym (reverse_onto xs x [])
 
 pub flat_mapped : (ds : List DoneNode) → flat_map (λ (rows : List Row). rows) (map (λ (d : DoneNode). d.rows) ds) ≡ flat_map (λ (d : DoneNode). d.rows) ds
 flat_mapped [] = refl

@@ -1,3 +1,5 @@
 pub mod Layouts
 pub mod Lines
 pub mod DoneLines
+pub mod Answers
+pub mod Groups

@@ -5,7 +5,7 @@ ghost use Rattle.std.specs.List.{flat_map};
 ghost use Rattle.replayer.specs.Jobs.{trace_of};
 ghost use Rattle.report_model.specs.Rows.{rows_as_written};
 ghost use Rattle.sink_collect.specs.Pairs.{capped};
-ghost use Rattle.node_groups.specs.Groups.{IsNodeDone};
+ghost use Rattle.epoch_line.specs.Groups.{IsNodeDone};
 ghost use Rattle.epoch_line.specs.Layouts.{CutRun, IsRunOf};
 ghost use Rattle.epoch_line.specs.Lines.{IsOneLink, HasDelivered};
 ghost use Rattle.stream_model.specs.Work.{asked_at, run_work};

@@ -5,12 +5,21 @@
 //! was asked at each inner cut, and the number of events that moved; `work` is both with the board between them, for
 //! every number of workers, capacity and schedule. `laws` say what a line of done nodes comes to, whatever its links
 //! are.
+//!
+//! First all workers analyse the epochs, each of which is a task of a board. Then one worker gives the nodes their turns,
+//! with groups of neighbours for tasks. A message passes only from a node to its neighbour. In a turn of a group it
+//! passes the whole group, in both directions, so that runs of many epochs need few rounds of the board.
 #![tactic(auto)]
 
+mod analysis;
+mod answers;
 mod collecting;
 mod ends;
+mod group;
 pub mod laws;
 mod layout;
+mod splitting;
+mod turning;
 mod working;
 
 pub use collecting::{Collected, collect};

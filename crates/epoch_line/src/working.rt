@@ -11,10 +11,10 @@ ghost use Rattle.stream_model.specs.Work.{asked_at, run_work};
 
 use crate::collecting::{Collected, collect};
 use crate::layout::lay_out;
+use crate::turning::work_in_groups;
 use checkpoints::Checkpoints;
 use epoch_cut::Cuts;
 use no_memory::NoMemory;
-use node_groups::work_in_groups;
 use outer_io::Gate;
 use query_lang::Query;
 use std::alloc::Global;
@@ -22,7 +22,7 @@ use std::sync::Wait;
 use std::thread::Threads;
 
 /// The rows of a run that is cut, what crosses its inner cuts, and how many events moved, by a node for each epoch, which
-/// `workers` give turns, 1 to 64 of them. Each link holds at most `capacity` messages, 1 to 65536. Each node enters the gate
+/// `workers` work, 1 to 64 of them. Each link holds at most `capacity` messages, 1 to 65536. Each node enters the gate
 /// as it begins. It gives up with NoMemory alone.
 pub fn work<G: Gate, R: Threads + Wait + Sync>(
     rt: &R,

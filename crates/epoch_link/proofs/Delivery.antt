@@ -1,10 +1,7 @@
 -- The rule of the ring delivers.
-use Rattle.std.proofs.Common.{◌≡◌, ℕ, List, Option, true, sym, ap, ◌∙◌, subst}
-use Rattle.atomic_table.specs.Table.{State}
-use Rattle.epoch_link.specs.declared.ring_link.view.View.{View}
+use Rattle.std.proofs.Common.{List, sym, subst}
 use Rattle.epoch_link.specs.Link.{Delivered}
-use Rattle.epoch_link.specs.Ring.{Ring}
-use Rattle.epoch_link.specs.RingLaws.{DeliversInOrder, RuleDelivers}
+use Rattle.epoch_link.specs.RingLaws.{RuleDelivers}
 
 module _ {T : Type 0} where
   pub rule_delivers : RuleDelivers T

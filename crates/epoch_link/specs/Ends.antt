@@ -1,6 +1,7 @@
 -- What contracts see of the two ends of a ring, and what the ends keep.
 use Rattle.std.specs.Prelude.{◌≡◌, ℕ, ◌%◌, List, [], ◌∷◌, ◌++◌, length, drop, Option, Some, None, Bool, true, false, is_some}
 use Rattle.atomic_table.specs.Seated.{TableId}
+use Rattle.epoch_link.specs.Link.{EndView}
 use Rattle.epoch_link.specs.Words.{word_of}
 use Rattle.epoch_link.specs.Ring.{Seated, item_at}
 use Rattle.epoch_link.specs.declared.ring_link.view.View.{View}
@@ -29,6 +30,13 @@ module _ {T : Type 0} where
 
   abbrev pub new_consumer : TableId → ℕ → Consuming T
   new_consumer link capacity = record { link = link; capacity = capacity; got = []; refusals = 0; tail = 0; looks = 0 }
+
+  -- neither end sees what went through the other, or whether a call goes through
+  abbrev pub producer_end : Producing T → EndView T
+  producer_end p = record { link = p.link; capacity = p.capacity; passed = p.sent; other = []; refusals = p.refusals; ready = None }
+
+  abbrev pub consumer_end : Consuming T → EndView T
+  consumer_end c = record { link = c.link; capacity = c.capacity; passed = c.got; other = []; refusals = c.refusals; ready = None }
 
   -- the slot that the producer has out
   abbrev pub empty_slot : ℕ → Bool → List (ℕ × Option T)

@@ -1,7 +1,8 @@
 -- A link on one thread: what contracts see of it, and what its one seat knows.
-use Rattle.std.specs.Prelude.{◌≡◌, ℕ, ◌-◌, ◌≤◌, List, [], ◌++◌, length}
+use Rattle.std.specs.Prelude.{◌≡◌, ℕ, ◌-◌, ◌≤◌, nat_lt, Some, List, [], ◌++◌, length}
 use Rattle.atomic_table.specs.Seated.{TableId}
 use Rattle.atomic_table.specs.Table.{Me, Step}
+use Rattle.epoch_link.specs.Link.{EndView}
 use Rattle.epoch_link.specs.declared.list_link.Told.{Told}
 
 pub record BothEnds (T : Type 0) : Type 0 where
@@ -20,6 +21,27 @@ module _ {T : Type 0} where
   -- how many items the link holds
   abbrev pub held_count : BothEnds T → ℕ
   held_count l = length l.sent - length l.got
+
+  -- its two ends
+  abbrev pub outlet_end : BothEnds T → EndView T
+  outlet_end l = record {
+    link = l.link;
+    capacity = l.capacity;
+    passed = l.sent;
+    other = l.got;
+    refusals = l.push_refusals;
+    ready = Some (nat_lt (held_count l) l.capacity);
+  }
+
+  abbrev pub inlet_end : BothEnds T → EndView T
+  inlet_end l = record {
+    link = l.link;
+    capacity = l.capacity;
+    passed = l.got;
+    other = l.sent;
+    refusals = l.pop_refusals;
+    ready = Some (nat_lt 0 (held_count l));
+  }
 
   abbrev pub told : List T → List T → Told T
   told s g = record { sent = s; got = g }

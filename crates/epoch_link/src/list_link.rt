@@ -176,20 +176,9 @@ impl<T> ListLink<T> {
 }
 
 impl<T> Outlet<T> for ListLink<T> {
-    ghost use Rattle.std.specs.Prelude.{nat_lt, Some};
-    ghost use Rattle.epoch_link.specs.ListLink.{held_count};
+    ghost use Rattle.epoch_link.specs.ListLink.{outlet_end};
 
-    ghost sent = { λ l. l.sent };
-
-    ghost link = { λ l. l.link };
-
-    ghost capacity = { λ l. l.capacity };
-
-    ghost other = { λ l. l.got };
-
-    ghost refusals = { λ l. l.push_refusals };
-
-    ghost ready = { λ l. Some (nat_lt (held_count l) l.capacity) };
+    ghost end = { outlet_end };
 
     fn push(&mut self, item: T) -> Pushed<T> {
         ListLink::push(self, item)
@@ -197,20 +186,9 @@ impl<T> Outlet<T> for ListLink<T> {
 }
 
 impl<T> Inlet<T> for ListLink<T> {
-    ghost use Rattle.std.specs.Prelude.{nat_lt, Some};
-    ghost use Rattle.epoch_link.specs.ListLink.{held_count};
+    ghost use Rattle.epoch_link.specs.ListLink.{inlet_end};
 
-    ghost got = { λ l. l.got };
-
-    ghost link = { λ l. l.link };
-
-    ghost capacity = { λ l. l.capacity };
-
-    ghost other = { λ l. l.sent };
-
-    ghost refusals = { λ l. l.pop_refusals };
-
-    ghost ready = { λ l. Some (nat_lt 0 (held_count l)) };
+    ghost end = { inlet_end };
 
     fn pop(&mut self) -> Popped<T> {
         ListLink::pop(self)

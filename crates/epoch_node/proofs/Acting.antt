@@ -1,7 +1,7 @@
 -- What the parts of an event keep.
-use Rattle.std.proofs.Common.{◌≡◌, inl, inr, ℕ, List, [], ◌∷◌, ◌++◌, append-nil, refl, ap, ap₂, sym, subst, ◌∙◌, Bool, true, false}
-use Rattle.std.specs.Prelude.{Option, Some, None, is_none, option_map}
-use Rattle.atomic_table.specs.Seated.{TableId}
+use Rattle.std.proofs.Common.{◌≡◌, inl, inr, List, [], ◌∷◌, ◌++◌, append-nil, refl, ap, ap₂, sym, subst, ◌∙◌, Bool, true, false}
+use Rattle.std.specs.Prelude.{Option, Some, None, is_none}
+use Rattle.epoch_link.specs.Link.{EndView}
 use Rattle.flow_model.specs.declared.Loc.{Loc}
 use Rattle.flow_rule.specs.declared.Message.{Message}
 use Rattle.report_model.specs.Rows.{Row}
@@ -15,7 +15,7 @@ use Rattle.stream_model.specs.Schedules.{begun}
 use Rattle.stream_model.proofs.Moving.{sent_part, IsGot, AskMoved, asking_moves, AnswerMoved, answering_moves}
 use Rattle.stream_model.proofs.Passing.{no, begun_whole}
 use Rattle.pass_parts.specs.declared.pass_turn.PassTurn.{PassTurn}
-use Rattle.pass_parts.specs.Ends.{IsEndFrom, got_by, sent_by, fresh_end}
+use Rattle.pass_parts.specs.Ends.{through, IsEndFrom, got_by, sent_by, fresh_end}
 use Rattle.pass_parts.specs.Known.{known}
 use Rattle.pass_parts.specs.Requests.{locations}
 use Rattle.backward_pass.specs.Backward.{BackView, new_back, knows, state}
@@ -26,9 +26,9 @@ use Rattle.epoch_node.specs.Events.{IsMore, BackActs, ForeActs}
 
 -- ---- what went through the ends
 
-module _ {E : Type 0} (link : E → TableId) (capacity : E → ℕ) (other list : E → List Message) where
+module _ {E : Type 0} (end : E → EndView Message) where
   -- an event makes no end and takes none away
-  pub same_none : (new old : Option E) → IsEndFrom link capacity other new old → is_none (option_map list new) ≡ is_none (option_map list old)
+  pub same_none : (new old : Option E) → IsEndFrom end new old → is_none (through end new) ≡ is_none (through end old)
   same_none None None h = refl
   same_none (Some n) (Some o) h = refl
   same_none None (Some o) h = absurd h

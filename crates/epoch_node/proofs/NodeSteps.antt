@@ -1,17 +1,17 @@
 -- What an event of the core makes of its node, and what a node has sent.
-use Rattle.std.proofs.Common.{◌≡◌, ◌⊎◌, inl, inr, ℕ, ◌-◌, List, [], ◌∷◌, refl, ap, sym, subst, subst₂, ◌∙◌, Bool, true, false}
+use Rattle.std.proofs.Common.{◌≡◌, ◌⊎◌, inl, inr, ◌-◌, List, [], ◌∷◌, refl, ap, sym, subst, subst₂, ◌∙◌, Bool, true, false}
 use Rattle.std.specs.Prelude.{Option, Some, None, is_none, option_map, IfSome}
-use Rattle.atomic_table.specs.Seated.{TableId}
 use Rattle.flow_model.specs.declared.Loc.{Loc}
 use Rattle.flow_rule.specs.declared.Message.{Message}
-use Rattle.epoch_link.specs.Ends.{Producing, Consuming}
+use Rattle.epoch_link.specs.Link.{EndView}
+use Rattle.epoch_link.specs.Ends.{Producing, Consuming, producer_end, consumer_end}
 use Rattle.replayer.specs.Jobs.{trace_of}
 use Rattle.epoch_model.specs.Summary.{Summary as EpochSummary}
 use Rattle.epoch_model.specs.Crossing.{summary_of}
 use Rattle.stream_model.specs.Streams.{requests, asks_for, answers_for}
 use Rattle.stream_model.specs.StreamLaws.{IsPrefix}
 use Rattle.run_board.specs.declared.task.Turn.{Turn}
-use Rattle.pass_parts.specs.Ends.{IsEndFrom, got_by, sent_by, fresh_end}
+use Rattle.pass_parts.specs.Ends.{through, IsEndFrom, got_by, sent_by, fresh_end}
 use Rattle.backward_pass.specs.Backward.{BackView, knows}
 use Rattle.forward_pass.specs.Forward.{ForeView, known_by}
 use Rattle.epoch_node.specs.declared.stage.Phase.TheVariants as phase
@@ -24,18 +24,18 @@ use Rattle.epoch_node.proofs.Acting.{began_whole}
 
 -- ---- later
 
-module _ {E : Type 0} (link : E → TableId) (capacity : E → ℕ) (other list : E → List Message) where
-  pub later_end : (new old : Option E) → IsEndFrom link capacity other new old → IsMore (option_map list old) (option_map list new) → IsEndLater link list new old
+module _ {E : Type 0} (end : E → EndView Message) where
+  pub later_end : (new old : Option E) → IsEndFrom end new old → IsMore (through end old) (through end new) → IsEndLater end new old
   later_end None None h m = tt
-  later_end (Some n) (Some o) h m = (h.0, m)
+  later_end (Some n) (Some o) h m = (h.link, m)
   later_end None (Some o) h m = absurd h
   later_end (Some n) None h m = absurd h
 
 inlet_same : (c : Option (Consuming Message)) → IsInletLater c c
-inlet_same c = later_refl (λ (c : Consuming Message). c.link) (λ c. c.got) c
+inlet_same c = later_refl consumer_end c
 
 outlet_same : (p : Option (Producing Message)) → IsOutletLater p p
-outlet_same p = later_refl (λ (p : Producing Message). p.link) (λ p. p.sent) p
+outlet_same p = later_refl producer_end p
 
 -- ---- an event on the links of its phase
 
@@ -71,23 +71,23 @@ are_answers Between w e = cc
 module _ (c d : CoreView) (e : Ends) (inlet : Option (Consuming Message)) (outlet : Option (Producing Message)) (answer : Turn) where
   -- after an event on the links of the asks
   pub asks_lead : (phase_of c.stage ≡ phase.Fresh) ⊎ (phase_of c.stage ≡ phase.Asking)
-      → IsEvent c (went (λ c. c.got) (λ p. p.sent) e.ask_in e.ask_out) d (went (λ c. c.got) (λ p. p.sent) inlet outlet) answer
-      → IsEndFrom (λ c. c.link) (λ c. c.capacity) (λ c. []) inlet e.ask_in → IsEndFrom (λ p. p.link) (λ p. p.capacity) (λ p. []) outlet e.ask_out
+      → IsEvent c (went consumer_end producer_end e.ask_in e.ask_out) d (went consumer_end producer_end inlet outlet) answer
+      → IsEndFrom consumer_end inlet e.ask_in → IsEndFrom producer_end outlet e.ask_out
       → IsLedFrom (record { core = d; ends = record e { ask_in = inlet; ask_out = outlet } }) (record { core = c; ends = e })
   asks_lead h x i o =
       let are = are_asks c.stage (told_by e) h in
-      let after : Progress = record { core = d; told = record (told_by e) { asks_got = option_map (λ c. c.got) inlet; asks_sent = option_map (λ p. p.sent) outlet } } in
+      let after : Progress = record { core = d; told = record (told_by e) { asks_got = through consumer_end inlet; asks_sent = through producer_end outlet } } in
       let event : HasEvent (record { core = c; told = told_by e }) after = record {
-        on = went (λ c. c.got) (λ p. p.sent) inlet outlet;
+        on = went consumer_end producer_end inlet outlet;
         answer = answer;
-        event = subst₂ (λ g s. IsEvent c (record { got = g; sent = s }) d (went (λ c. c.got) (λ p. p.sent) inlet outlet) answer) (sym are.got) (sym are.sent) x;
-        told = sym (are.told (option_map (λ c. c.got) inlet) (option_map (λ p. p.sent) outlet));
+        event = subst₂ (λ g s. IsEvent c (record { got = g; sent = s }) d (went consumer_end producer_end inlet outlet) answer) (sym are.got) (sym are.sent) x;
+        told = sym (are.told (through consumer_end inlet) (through producer_end outlet));
       } in
       record {
         given = x.given;
         ends = record {
-          ask_in = later_end (λ (c : Consuming Message). c.link) (λ c. c.capacity) (λ c. []) (λ c. c.got) inlet e.ask_in i x.more_got;
-          ask_out = later_end (λ (p : Producing Message). p.link) (λ p. p.capacity) (λ p. []) (λ p. p.sent) outlet e.ask_out o x.more_sent;
+          ask_in = later_end consumer_end inlet e.ask_in i x.more_got;
+          ask_out = later_end producer_end outlet e.ask_out o x.more_sent;
           answer_in = inlet_same e.answer_in;
           answer_out = outlet_same e.answer_out;
         };
@@ -96,25 +96,25 @@ module _ (c d : CoreView) (e : Ends) (inlet : Option (Consuming Message)) (outle
 
   -- after one on those of the answers
   pub answers_lead : phase_of c.stage ≡ phase.Answering
-      → IsEvent c (went (λ c. c.got) (λ p. p.sent) e.answer_in e.answer_out) d (went (λ c. c.got) (λ p. p.sent) inlet outlet) answer
-      → IsEndFrom (λ c. c.link) (λ c. c.capacity) (λ c. []) inlet e.answer_in → IsEndFrom (λ p. p.link) (λ p. p.capacity) (λ p. []) outlet e.answer_out
+      → IsEvent c (went consumer_end producer_end e.answer_in e.answer_out) d (went consumer_end producer_end inlet outlet) answer
+      → IsEndFrom consumer_end inlet e.answer_in → IsEndFrom producer_end outlet e.answer_out
       → IsLedFrom (record { core = d; ends = record e { answer_in = inlet; answer_out = outlet } }) (record { core = c; ends = e })
   answers_lead h x i o =
       let are = are_answers c.stage (told_by e) h in
-      let after : Progress = record { core = d; told = record (told_by e) { answers_got = option_map (λ c. c.got) inlet; answers_sent = option_map (λ p. p.sent) outlet } } in
+      let after : Progress = record { core = d; told = record (told_by e) { answers_got = through consumer_end inlet; answers_sent = through producer_end outlet } } in
       let event : HasEvent (record { core = c; told = told_by e }) after = record {
-        on = went (λ c. c.got) (λ p. p.sent) inlet outlet;
+        on = went consumer_end producer_end inlet outlet;
         answer = answer;
-        event = subst₂ (λ g s. IsEvent c (record { got = g; sent = s }) d (went (λ c. c.got) (λ p. p.sent) inlet outlet) answer) (sym are.got) (sym are.sent) x;
-        told = sym (are.told (option_map (λ c. c.got) inlet) (option_map (λ p. p.sent) outlet));
+        event = subst₂ (λ g s. IsEvent c (record { got = g; sent = s }) d (went consumer_end producer_end inlet outlet) answer) (sym are.got) (sym are.sent) x;
+        told = sym (are.told (through consumer_end inlet) (through producer_end outlet));
       } in
       record {
         given = x.given;
         ends = record {
           ask_in = inlet_same e.ask_in;
           ask_out = outlet_same e.ask_out;
-          answer_in = later_end (λ (c : Consuming Message). c.link) (λ c. c.capacity) (λ c. []) (λ c. c.got) inlet e.answer_in i x.more_got;
-          answer_out = later_end (λ (p : Producing Message). p.link) (λ p. p.capacity) (λ p. []) (λ p. p.sent) outlet e.answer_out o x.more_sent;
+          answer_in = later_end consumer_end inlet e.answer_in i x.more_got;
+          answer_out = later_end producer_end outlet e.answer_out o x.more_sent;
         };
         came = (after ∷ [], (event, refl));
       }

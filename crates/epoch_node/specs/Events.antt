@@ -1,6 +1,7 @@
 -- What an event of a core does.
-use Rattle.std.specs.Prelude.{◌≡◌, ℕ, ◌+◌, Bool, true, false, Option, Some, None, is_none, option_map, List}
+use Rattle.std.specs.Prelude.{◌≡◌, ℕ, ◌+◌, Bool, true, false, Option, Some, None, is_none, List}
 use Rattle.flow_model.specs.declared.Loc.{Loc}
+use Rattle.epoch_link.specs.Link.{EndView}
 use Rattle.flow_rule.specs.declared.Message.{Message}
 use Rattle.sink_collect.specs.Pairs.{capped}
 use Rattle.stream_model.specs.Streams.{requests}
@@ -12,7 +13,7 @@ use Rattle.run_board.specs.declared.task.Turn.TheVariants as turn
 use Rattle.run_board.specs.Turns.{AnswersEnded}
 use Rattle.pass_parts.specs.declared.pass_turn.PassTurn.{PassTurn}
 use Rattle.pass_parts.specs.declared.pass_turn.PassTurn.TheVariants as pass_turn
-use Rattle.pass_parts.specs.Ends.{got_by}
+use Rattle.pass_parts.specs.Ends.{through, got_by}
 use Rattle.pass_parts.specs.Requests.{locations}
 use Rattle.pass_parts.specs.Turns.{OnOver, OnOpen, OnNotYet, Waits}
 use Rattle.backward_pass.specs.Backward.{BackView, knows, state, Keeps, Reached, SendsFor, IsSameBack, Happens}
@@ -52,8 +53,8 @@ pub record Went : Type 0 where
   pub got : Option (List Message)
   pub sent : Option (List Message)
 
-abbrev pub went : {I O : Type 0} → (I → List Message) → (O → List Message) → Option I → Option O → Went
-went got sent inlet outlet = record { got = option_map got inlet; sent = option_map sent outlet }
+abbrev pub went : {I O : Type 0} → (I → EndView Message) → (O → EndView Message) → Option I → Option O → Went
+went inlet_end outlet_end inlet outlet = record { got = through inlet_end inlet; sent = through outlet_end outlet }
 
 -- what went through the two links of the phase
 abbrev pub went_at : StageView → Told → Went

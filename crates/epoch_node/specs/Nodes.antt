@@ -1,17 +1,16 @@
 -- What contracts see of a node, and what its turns do.
-use Rattle.std.specs.Prelude.{◌≡◌, false, Option, Some, None, option_map, IfSome, List, [], ◌∷◌, ◌++◌, refl}
+use Rattle.std.specs.Prelude.{◌≡◌, false, Option, Some, None, IfSome, List, [], ◌∷◌, ◌++◌, refl}
 use mathlib.Core.Path.{◌∙◌, subst}
-use Rattle.atomic_table.specs.Seated.{TableId}
 use Rattle.flow_rule.specs.declared.Message.{Message}
-use Rattle.epoch_link.specs.Link.{Rose}
-use Rattle.epoch_link.specs.Ends.{Producing, Consuming}
+use Rattle.epoch_link.specs.Link.{EndView, Rose}
+use Rattle.epoch_link.specs.Ends.{Producing, Consuming, producer_end, consumer_end}
 use Rattle.epoch_model.specs.Summary.{Summary as EpochSummary}
 use Rattle.stream_model.specs.Streams.{requests, asks_for, answers_for}
 use Rattle.stream_model.specs.StreamLaws.{IsPrefix}
 use Rattle.stream_model.specs.Schedules.{Need}
 use Rattle.stream_model.proofs.Growing.{prefix_same, prefix_trans}
 use Rattle.run_board.specs.declared.task.Turn.{Turn}
-use Rattle.pass_parts.specs.Ends.{IsRefused, got_by}
+use Rattle.pass_parts.specs.Ends.{through, IsRefused, got_by}
 use Rattle.pass_parts.specs.Turns.{Waits}
 use Rattle.epoch_node.specs.declared.stage.Phase.{Phase}
 use Rattle.epoch_node.specs.declared.stage.Phase.TheVariants.{Fresh, Asking, Answering, Done}
@@ -28,10 +27,10 @@ pub record NodeView : Type 0 where
 -- what went through the ends
 abbrev pub told_by : Ends → Told
 told_by e = record {
-  asks_got = option_map (λ c. c.got) e.ask_in;
-  asks_sent = option_map (λ p. p.sent) e.ask_out;
-  answers_got = option_map (λ c. c.got) e.answer_in;
-  answers_sent = option_map (λ p. p.sent) e.answer_out;
+  asks_got = through consumer_end e.ask_in;
+  asks_sent = through producer_end e.ask_out;
+  answers_got = through consumer_end e.answer_in;
+  answers_sent = through producer_end e.answer_out;
 }
 
 abbrev pub new_node : Given → Ends → NodeView
@@ -40,6 +39,10 @@ new_node i e = record { core = new_core i; ends = e }
 -- what its next event needs
 abbrev pub need_of : NodeView → Need
 need_of n = need_at n.core.stage (got_at n.core.stage (told_by n.ends)) (sent_at n.core.stage (told_by n.ends))
+
+-- its epoch was analysed
+abbrev pub HasBegun : NodeView → Type 0
+HasBegun n = ¬ (phase_of n.core.stage ≡ Fresh)
 
 -- a growth was refused, or an End came that is not whole
 abbrev pub IsBroken : NodeView → Type 0
@@ -81,17 +84,17 @@ events_trans a b c (p ∷ ps) qs f g = (f.0, events_trans p b c ps qs f.1 g)
 
 -- ---- the same node, later
 
-module _ {E : Type 0} (link : E → TableId) (list : E → List Message) where
+module _ {E : Type 0} (end : E → EndView Message) where
   -- the end of the same link, through which more went
   abbrev pub IsEndLater : Option E → Option E → Type 0
   IsEndLater None None = Unit {0}
-  IsEndLater (Some new) (Some old) = (link new ≡ link old) × IsPrefix (list old) (list new)
+  IsEndLater (Some new) (Some old) = ((end new).link ≡ (end old).link) × IsPrefix (end old).passed (end new).passed
   IsEndLater None (Some old) = ⊥
   IsEndLater (Some new) None = ⊥
 
   pub later_refl : (e : Option E) → IsEndLater e e
   later_refl None = tt
-  later_refl (Some e) = (refl, prefix_same (list e) (list e) refl)
+  later_refl (Some e) = (refl, prefix_same (end e).passed (end e).passed refl)
 
   pub later_trans : (a b c : Option E) → IsEndLater b a → IsEndLater c b → IsEndLater c a
   later_trans None None None f g = tt
@@ -99,13 +102,13 @@ module _ {E : Type 0} (link : E → TableId) (list : E → List Message) where
   later_trans None (Some b) c f g = absurd f
   later_trans (Some a) None c f g = absurd f
   later_trans (Some a) (Some b) None f g = g
-  later_trans (Some a) (Some b) (Some c) f g = (g.0 ∙ f.0, prefix_trans (list a) (list b) (list c) f.1 g.1)
+  later_trans (Some a) (Some b) (Some c) f g = (g.0 ∙ f.0, prefix_trans (end a).passed (end b).passed (end c).passed f.1 g.1)
 
 abbrev pub IsInletLater : Option (Consuming Message) → Option (Consuming Message) → Type 0
-IsInletLater new old = IsEndLater (λ c. c.link) (λ c. c.got) new old
+IsInletLater new old = IsEndLater consumer_end new old
 
 abbrev pub IsOutletLater : Option (Producing Message) → Option (Producing Message) → Type 0
-IsOutletLater new old = IsEndLater (λ p. p.link) (λ p. p.sent) new old
+IsOutletLater new old = IsEndLater producer_end new old
 
 pub record AreEndsLater (new old : Ends) : Type 0 where
   pub ask_in : IsInletLater new.ask_in old.ask_in
@@ -124,10 +127,10 @@ pub led_refl : (n : NodeView) → IsLedFrom n n
 led_refl n = record {
   given = refl;
   ends = record {
-    ask_in = later_refl (λ (c : Consuming Message). c.link) (λ c. c.got) n.ends.ask_in;
-    ask_out = later_refl (λ (p : Producing Message). p.link) (λ p. p.sent) n.ends.ask_out;
-    answer_in = later_refl (λ (c : Consuming Message). c.link) (λ c. c.got) n.ends.answer_in;
-    answer_out = later_refl (λ (p : Producing Message). p.link) (λ p. p.sent) n.ends.answer_out;
+    ask_in = later_refl consumer_end n.ends.ask_in;
+    ask_out = later_refl producer_end n.ends.ask_out;
+    answer_in = later_refl consumer_end n.ends.answer_in;
+    answer_out = later_refl producer_end n.ends.answer_out;
   };
   came = ([], refl);
 }
@@ -136,10 +139,10 @@ pub led_trans : (a b c : NodeView) → IsLedFrom b a → IsLedFrom c b → IsLed
 led_trans a b c f g = record {
   given = g.given ∙ f.given;
   ends = record {
-    ask_in = later_trans (λ (c : Consuming Message). c.link) (λ c. c.got) a.ends.ask_in b.ends.ask_in c.ends.ask_in f.ends.ask_in g.ends.ask_in;
-    ask_out = later_trans (λ (p : Producing Message). p.link) (λ p. p.sent) a.ends.ask_out b.ends.ask_out c.ends.ask_out f.ends.ask_out g.ends.ask_out;
-    answer_in = later_trans (λ (c : Consuming Message). c.link) (λ c. c.got) a.ends.answer_in b.ends.answer_in c.ends.answer_in f.ends.answer_in g.ends.answer_in;
-    answer_out = later_trans (λ (p : Producing Message). p.link) (λ p. p.sent) a.ends.answer_out b.ends.answer_out c.ends.answer_out f.ends.answer_out g.ends.answer_out;
+    ask_in = later_trans consumer_end a.ends.ask_in b.ends.ask_in c.ends.ask_in f.ends.ask_in g.ends.ask_in;
+    ask_out = later_trans producer_end a.ends.ask_out b.ends.ask_out c.ends.ask_out f.ends.ask_out g.ends.ask_out;
+    answer_in = later_trans consumer_end a.ends.answer_in b.ends.answer_in c.ends.answer_in f.ends.answer_in g.ends.answer_in;
+    answer_out = later_trans producer_end a.ends.answer_out b.ends.answer_out c.ends.answer_out f.ends.answer_out g.ends.answer_out;
   };
   came = (f.came.0 ++ g.came.0, events_trans (progress_of a) (progress_of b) (progress_of c) f.came.0 g.came.0 f.came.1 g.came.1);
 }
@@ -150,17 +153,11 @@ BrokenStays = (new old : NodeView) → IsLedFrom new old → IsBroken old → Is
 
 -- ---- a turn in which no event moved
 
-abbrev pub HasPopRefused : Option (Consuming Message) → Option (Consuming Message) → Type 0
-HasPopRefused old new = IsRefused (λ c. c.refusals) (λ c. None) old new
-
-abbrev pub HasPushRefused : Option (Producing Message) → Option (Producing Message) → Type 0
-HasPushRefused old new = IsRefused (λ p. p.refusals) (λ p. None) old new
-
 -- the one link that the event needs refused
 abbrev pub WaitsIn : Phase → Need → Ends → Ends → Type 0
 WaitsIn Fresh n old new = ⊥
-WaitsIn Asking n old new = Waits n (HasPopRefused old.ask_in new.ask_in) (HasPushRefused old.ask_out new.ask_out)
-WaitsIn Answering n old new = Waits n (HasPopRefused old.answer_in new.answer_in) (HasPushRefused old.answer_out new.answer_out)
+WaitsIn Asking n old new = Waits n (IsRefused consumer_end old.ask_in new.ask_in) (IsRefused producer_end old.ask_out new.ask_out)
+WaitsIn Answering n old new = Waits n (IsRefused consumer_end old.answer_in new.answer_in) (IsRefused producer_end old.answer_out new.answer_out)
 WaitsIn Done n old new = ⊥
 
 -- nothing happened

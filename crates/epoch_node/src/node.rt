@@ -5,7 +5,7 @@ ghost use Rattle.run_board.specs.Turns.{AnswersEnded};
 ghost use Rattle.epoch_node.specs.Cores.{core_of, new_core, phase_of, whole_at, asked_at, CanStart};
 ghost use Rattle.epoch_node.specs.Keeping.{fresh_told, HasDone, HasCounted};
 ghost use Rattle.epoch_node.specs.Events.{WhenMoved, WhenNotYet, counted};
-ghost use Rattle.epoch_node.specs.Nodes.{told_by, new_node, IsLedFrom, HasMoved, HasWaited, SendsDue};
+ghost use Rattle.epoch_node.specs.Nodes.{told_by, new_node, HasBegun, IsLedFrom, HasMoved, HasWaited, SendsDue};
 
 use crate::ends::Ends;
 use crate::node_core::{Broken, Core};
@@ -90,17 +90,22 @@ impl<'a, G> Node<'a, G> {
         self.core.take_cursor()
     }
 
-    fn is_fresh(&self) -> bool {
-        self.core.phase() == Phase::Fresh
+    /// How far it has come.
+    pub fn phase(&self) -> Phase
+        ensures { result ≡ phase_of self.now.core.stage }
+    {
+        self.core.phase()
     }
 
-    fn gate(&self) -> &'a G {
+    /// The gate that it enters as it begins.
+    pub fn gate(&self) -> &'a G {
         self.core.gate()
     }
 
     /// One event. A node that begins has entered the gate.
     fn step(&mut self) -> Turn
         ensures led { IsLedFrom self.new self.old }
+        ensures begun { HasBegun self.new }
         ensures done { AnswersEnded result (phase_of self.new.core.stage ≡ Phase.Done) }
         ensures not_yet { WhenNotYet result (HasWaited self.new self.old) }
         ensures counted { self.new.core.events ≡ counted result (phase_of self.old.core.stage) self.old.core.events }
@@ -143,6 +148,17 @@ impl<'a, G> Node<'a, G> {
             }
         }
         Turn::Moved
+    }
+
+    /// Its first event, in which its epoch is analysed, unless it has begun. A node that begins has entered the gate.
+    pub fn begin(&mut self)
+        ensures led { IsLedFrom self.new self.old }
+        ensures begun { HasBegun self.new }
+        ensures few { self.new.core.events ≤ self.old.core.events + 1 }
+    {
+        if self.phase() == Phase::Fresh {
+            let _turn = self.step();
+        }
     }
 
     /// What is left of a node that is done.
@@ -205,7 +221,7 @@ impl<'a, G: Gate> Task for Node<'a, G> {
         ensures moved { WhenMoved result (HasMoved self.new self.old) }
         ensures not_yet { WhenNotYet result (HasWaited self.new self.old) }
     {
-        if self.is_fresh() {
+        if self.phase() == Phase::Fresh {
             self.gate().enter(self.number());
         }
         self.steps()

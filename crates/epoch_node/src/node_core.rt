@@ -182,13 +182,13 @@ impl<'a, G> Core<'a, G> {
         inlet: &mut Option<I>,
         outlet: &mut Option<O>,
     ) -> Turn
-        requires ready { IsReady (core_of self.old) (went I.got O.sent inlet.old outlet.old) }
-        ensures event { IsEvent (core_of self.old) (went I.got O.sent inlet.old outlet.old)
-            (core_of self.new) (went I.got O.sent inlet.new outlet.new) result }
-        ensures inlet { IsEndFrom I.link I.capacity I.other inlet.new inlet.old }
-        ensures outlet { IsEndFrom O.link O.capacity O.other outlet.new outlet.old }
-        ensures waits { WhenNotYet result (WaitsAt (core_of self.old).stage (went I.got O.sent inlet.old outlet.old)
-            (IsRefused I.refusals I.ready inlet.old inlet.new) (IsRefused O.refusals O.ready outlet.old outlet.new)) }
+        requires ready { IsReady (core_of self.old) (went I.end O.end inlet.old outlet.old) }
+        ensures event { IsEvent (core_of self.old) (went I.end O.end inlet.old outlet.old)
+            (core_of self.new) (went I.end O.end inlet.new outlet.new) result }
+        ensures inlet { IsEndFrom I.end inlet.new inlet.old }
+        ensures outlet { IsEndFrom O.end outlet.new outlet.old }
+        ensures waits { WhenNotYet result (WaitsAt (core_of self.old).stage (went I.end O.end inlet.old outlet.old)
+            (IsRefused I.end inlet.old inlet.new) (IsRefused O.end outlet.old outlet.new)) }
     {
         if self.phase() == Phase::Done {
             return Turn::Done;
@@ -245,13 +245,13 @@ impl<'a, G: Gate> Core<'a, G> {
         inlet: &mut Option<I>,
         outlet: &mut Option<O>,
     ) -> Turn
-        requires ready { IsReady (core_of self.old) (went I.got O.sent inlet.old outlet.old) }
-        ensures event { IsEvent (core_of self.old) (went I.got O.sent inlet.old outlet.old)
-            (core_of self.new) (went I.got O.sent inlet.new outlet.new) result }
-        ensures inlet { IsEndFrom I.link I.capacity I.other inlet.new inlet.old }
-        ensures outlet { IsEndFrom O.link O.capacity O.other outlet.new outlet.old }
-        ensures waits { WhenNotYet result (WaitsAt (core_of self.old).stage (went I.got O.sent inlet.old outlet.old)
-            (IsRefused I.refusals I.ready inlet.old inlet.new) (IsRefused O.refusals O.ready outlet.old outlet.new)) }
+        requires ready { IsReady (core_of self.old) (went I.end O.end inlet.old outlet.old) }
+        ensures event { IsEvent (core_of self.old) (went I.end O.end inlet.old outlet.old)
+            (core_of self.new) (went I.end O.end inlet.new outlet.new) result }
+        ensures inlet { IsEndFrom I.end inlet.new inlet.old }
+        ensures outlet { IsEndFrom O.end outlet.new outlet.old }
+        ensures waits { WhenNotYet result (WaitsAt (core_of self.old).stage (went I.end O.end inlet.old outlet.old)
+            (IsRefused I.end inlet.old inlet.new) (IsRefused O.end outlet.old outlet.new)) }
     {
         if self.phase() == Phase::Fresh {
             self.gate.enter(self.number);

@@ -57,13 +57,13 @@ impl Stage {
         inlet: &mut Option<I>,
         outlet: &mut Option<O>,
     ) -> PassTurn
-        requires { CanAct (stage_of self.old) (went I.got O.sent inlet.old outlet.old) }
-        ensures acts { Acts (stage_of self.old) (went I.got O.sent inlet.old outlet.old)
-            (stage_of self.new) (went I.got O.sent inlet.new outlet.new) result }
-        ensures inlet { IsEndFrom I.link I.capacity I.other inlet.new inlet.old }
-        ensures outlet { IsEndFrom O.link O.capacity O.other outlet.new outlet.old }
-        ensures waits { OnNotYet result (WaitsAt (stage_of self.old) (went I.got O.sent inlet.old outlet.old)
-            (IsRefused I.refusals I.ready inlet.old inlet.new) (IsRefused O.refusals O.ready outlet.old outlet.new)) }
+        requires { CanAct (stage_of self.old) (went I.end O.end inlet.old outlet.old) }
+        ensures acts { Acts (stage_of self.old) (went I.end O.end inlet.old outlet.old)
+            (stage_of self.new) (went I.end O.end inlet.new outlet.new) result }
+        ensures inlet { IsEndFrom I.end inlet.new inlet.old }
+        ensures outlet { IsEndFrom O.end outlet.new outlet.old }
+        ensures waits { OnNotYet result (WaitsAt (stage_of self.old) (went I.end O.end inlet.old outlet.old)
+            (IsRefused I.end inlet.old inlet.new) (IsRefused O.end outlet.old outlet.new)) }
     {
         match self {
             Stage::Fresh(_) => PassTurn::Over,

@@ -19,25 +19,25 @@ use Rattle.epoch_rounds.proofs.Events.{asks_settled}
 
 pub inlet_of : (capacity : ℕ) (new old : Link) → IsInletFrom new old → IsSound new → IsLinkOf capacity old → IsLinkOf capacity new
 inlet_of capacity None None f s l = tt
-inlet_of capacity (Some new) (Some old) f s l = (f.1 ∙ l.0, s)
+inlet_of capacity (Some new) (Some old) f s l = (f.capacity ∙ l.0, s)
 inlet_of capacity None (Some old) f s l = absurd f
 inlet_of capacity (Some new) None f s l = absurd f
 
 pub outlet_of : (capacity : ℕ) (new old : Link) → IsOutletFrom new old → IsSound new → IsLinkOf capacity old → IsLinkOf capacity new
 outlet_of capacity None None f s l = tt
-outlet_of capacity (Some new) (Some old) f s l = (f.1 ∙ l.0, s)
+outlet_of capacity (Some new) (Some old) f s l = (f.capacity ∙ l.0, s)
 outlet_of capacity None (Some old) f s l = absurd f
 outlet_of capacity (Some new) None f s l = absurd f
 
 pub inlet_sent : (new old : Link) → IsInletFrom new old → sent_on new ≡ sent_on old
 inlet_sent None None f = refl
-inlet_sent (Some new) (Some old) f = ap Some f.2
+inlet_sent (Some new) (Some old) f = ap Some f.other
 inlet_sent None (Some old) f = absurd f
 inlet_sent (Some new) None f = absurd f
 
 pub outlet_got : (new old : Link) → IsOutletFrom new old → got_on new ≡ got_on old
 outlet_got None None f = refl
-outlet_got (Some new) (Some old) f = ap Some f.2
+outlet_got (Some new) (Some old) f = ap Some f.other
 outlet_got None (Some old) f = absurd f
 outlet_got (Some new) None f = absurd f
 

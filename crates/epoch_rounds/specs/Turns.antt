@@ -1,7 +1,7 @@
 -- What an event of a core does to the core and to the links beside it.
-use Rattle.std.specs.Prelude.{◌≡◌, ℕ, zero, suc, nat_lt, ◌+◌, Some, List, [], ◌∷◌, set}
+use Rattle.std.specs.Prelude.{◌≡◌, ℕ, zero, suc, ◌+◌, List, [], ◌∷◌, set}
 use Rattle.run_board.specs.declared.task.Turn.{Turn}
-use Rattle.epoch_link.specs.ListLink.{held_count}
+use Rattle.epoch_link.specs.ListLink.{inlet_end, outlet_end}
 use Rattle.pass_parts.specs.Ends.{IsEndFrom, IsRefused}
 use Rattle.epoch_node.specs.Cores.{StageView, Fresh, Asking, Answering, Done, Between, CoreView}
 use Rattle.epoch_node.specs.Keeping.{KeepsCore}
@@ -11,17 +11,17 @@ use Rattle.epoch_rounds.specs.Joints.{Link, got_on, sent_on, IsSound, joint_at, 
 
 -- the link is the same, and what the core at its other end sees of it
 abbrev pub IsInletFrom : Link → Link → Type 0
-IsInletFrom new old = IsEndFrom (λ l. l.link) (λ l. l.capacity) (λ l. l.sent) new old
+IsInletFrom new old = IsEndFrom inlet_end new old
 
 abbrev pub IsOutletFrom : Link → Link → Type 0
-IsOutletFrom new old = IsEndFrom (λ l. l.link) (λ l. l.capacity) (λ l. l.got) new old
+IsOutletFrom new old = IsEndFrom outlet_end new old
 
 -- a pop was refused, since the link held nothing; a push, since it was full
 abbrev pub IsPopRefused : Link → Link → Type 0
-IsPopRefused old new = IsRefused (λ l. l.pop_refusals) (λ l. Some (nat_lt 0 (held_count l))) old new
+IsPopRefused old new = IsRefused inlet_end old new
 
 abbrev pub IsPushRefused : Link → Link → Type 0
-IsPushRefused old new = IsRefused (λ l. l.push_refusals) (λ l. Some (nat_lt (held_count l) l.capacity)) old new
+IsPushRefused old new = IsRefused outlet_end old new
 
 -- what went through the two links of a phase
 abbrev pub went_on : Link → Link → Went

@@ -1,5 +1,5 @@
 -- What contracts see of the pass forwards.
-use Rattle.std.specs.Prelude.{◌≡◌, Bool, true, false, Option, None, option_map, IfNone, IsSome, List, [], drop}
+use Rattle.std.specs.Prelude.{◌≡◌, Bool, true, false, Option, None, IfNone, IsSome, List, [], drop}
 use Rattle.flow_model.specs.declared.Loc.{Loc}
 use Rattle.flow_rule.specs.declared.Message.{Message}
 use Rattle.report_model.specs.Rows.{Row}
@@ -8,14 +8,14 @@ use Rattle.local_taint.specs.declared.summary.Summary.{Summary}
 use Rattle.stream_model.specs.Streams.{is_ended}
 use Rattle.stream_model.specs.Passes.{Answering, Links, answering_event, answering_start, answering_after}
 use Rattle.stream_model.specs.PassLaws.{AnswersSent}
-use Rattle.stream_model.specs.Schedules.{Need, answering_need}
+use Rattle.stream_model.specs.Schedules.{answering_need}
 use Rattle.pass_parts.specs.declared.pass_turn.PassTurn.{PassTurn}
 use Rattle.pass_parts.specs.declared.requests.Request.{Request}
 use Rattle.pass_parts.specs.Ends.{EndsWhole, got_by, sent_by}
 use Rattle.pass_parts.specs.Known.{known}
 use Rattle.pass_parts.specs.Requests.{locations, AreCounted}
 use Rattle.pass_parts.specs.Knowing.{is_whole, summary_in}
-use Rattle.pass_parts.specs.Events.{Events, Happened, IsEventOver}
+use Rattle.pass_parts.specs.Events.{Events, Happened}
 use Rattle.forward_pass.specs.declared.state.Fore.{Fore}
 use Rattle.forward_pass.specs.Came.{Came, CameFrom}
 
@@ -94,6 +94,7 @@ abbrev pub forwards : Events ForeView Answering
 forwards = record {
   state = fore_state;
   event = λ v links f. answering_event (known_by v) v.asked links f;
+  need = λ v f. answering_need (known_by v) v.asked f;
   Keeps = ForeKeeps;
   IsSame = IsSameFore;
   is_over = λ v. v.over;
@@ -103,16 +104,6 @@ forwards = record {
 -- the event is that of the definitions
 abbrev pub ForeHappens : ForeView → Option (List Message) → Option (List Message) → ForeView → Option (List Message) → Option (List Message) → PassTurn → Type 0
 ForeHappens old got sent new got' sent' turn = Happened forwards old got sent new got' sent' turn
-
-module _ {I O : Type 0} (got : I → List Message) (sent : O → List Message) where
-  -- an event of the pass over its two ends
-  abbrev pub HasEvent : Fore → Option I → Option O → Fore → Option I → Option O → PassTurn → Type 0
-  HasEvent old inlet outlet new inlet' outlet' turn = IsEventOver forwards got sent (fore_of old) inlet outlet (fore_of new) inlet' outlet' turn
-
-  -- what the next event needs
-  abbrev pub need_of : Fore → Option I → Option O → Need
-  need_of f inlet outlet =
-      answering_need (known_by (fore_of f)) f.asked (fore_state (fore_of f) (option_map got inlet) (option_map sent outlet))
 
 -- the pass came there from its start by the events of the definition
 pub record ForeReached (first : Bool) (requests : List Loc) (whole : Bool)

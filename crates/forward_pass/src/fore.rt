@@ -5,11 +5,11 @@ ghost use Rattle.flow_model.specs.declared.Loc.{Loc};
 ghost use Rattle.flow_rule.specs.declared.Message.{Message};
 ghost use Rattle.epoch_model.specs.Join.{answer_to, resolved as resolved_terms};
 ghost use Rattle.stream_model.specs.Passes.{is_whole_message, rows_or_none};
-ghost use Rattle.pass_parts.specs.Ends.{IsEndFrom, IsRefused, Seen, fresh_end};
+ghost use Rattle.pass_parts.specs.Ends.{IsEndFrom, Seen, fresh_end};
+ghost use Rattle.pass_parts.specs.Events.{IsEventOver, HasWaited};
 ghost use Rattle.pass_parts.specs.Known.{known};
 ghost use Rattle.pass_parts.specs.Requests.{locations, AreCounted};
-ghost use Rattle.pass_parts.specs.Turns.{OnNotYet, Waits};
-ghost use Rattle.forward_pass.specs.Forward.{fore_of, new_fore, known_by, ForeKeeps, ForeReached, HasEvent, need_of};
+ghost use Rattle.forward_pass.specs.Forward.{fore_of, new_fore, known_by, ForeKeeps, ForeReached, forwards};
 ghost use Rattle.forward_pass.specs.Steps.{HasBuilt, HasResolved, Builds, Resolves, Sends, Takes, IsNextFore};
 
 use crate::received::Received;
@@ -122,12 +122,13 @@ impl Fore {
         inlet: &mut Option<I>,
         outlet: &mut Option<O>,
     ) -> PassTurn
-        requires { Seen I.got O.sent ForeKeeps (fore_of self.old) inlet.old outlet.old }
-        ensures event { HasEvent I.got O.sent self.old inlet.old outlet.old self.new inlet.new outlet.new result }
-        ensures inlet { IsEndFrom I.link I.capacity I.other inlet.new inlet.old }
-        ensures outlet { IsEndFrom O.link O.capacity O.other outlet.new outlet.old }
-        ensures waits { OnNotYet result (Waits (need_of I.got O.sent self.old inlet.old outlet.old)
-            (IsRefused I.refusals I.ready inlet.old inlet.new) (IsRefused O.refusals O.ready outlet.old outlet.new)) }
+        requires { Seen I.end O.end ForeKeeps (fore_of self.old) inlet.old outlet.old }
+        ensures event { IsEventOver forwards I.end O.end (fore_of self.old) inlet.old outlet.old
+            (fore_of self.new) inlet.new outlet.new result }
+        ensures inlet { IsEndFrom I.end inlet.new inlet.old }
+        ensures outlet { IsEndFrom O.end outlet.new outlet.old }
+        ensures waits { HasWaited forwards I.end O.end (fore_of self.old) inlet.old outlet.old
+            inlet.new outlet.new result }
     {
         match self.next() {
             Next::Moved => PassTurn::Moved,

@@ -20,7 +20,7 @@ use Rattle.run_output.specs.Summary.{summary_text}
 use Rattle.run_output.specs.Output.{output}
 use Rattle.jet_files.specs.Outcome.{Found}
 use Rattle.jet_cli.specs.Targets.{Target, ToOutput, ToFile, target_of}
-use Rattle.jet_cli.specs.Answers.{IsAnswer, named, limits_of}
+use Rattle.jet_cli.specs.Answers.{IsAnswer, named, limits_of, workload_length}
 use Rattle.jet_cli.specs.Outside.{Change, Told, IsUndisturbed}
 use Rattle.jet_cli.specs.Writing.{FailsToWrite}
 use Rattle.jet_cli.specs.Ending.{IsText, WritesWhole, WritesPart, Ends, IsUnasked, causes_of, status_after}
@@ -50,7 +50,7 @@ module _ (change : Change) (file : Contents) where
   one_answer (ConvertOf program log new) a b told p q = sym p ∙ q
   one_answer (InfluenceOf program log query pipeline) a b told p q = sym p ∙ q
   one_answer (QueriesOf program log queries pipeline) a b told p q = sym p ∙ q
-  one_answer (BenchOf seed steps pipeline) a b told p q = one_bench_answer seed steps pipeline.epoch a b p q
+  one_answer (BenchOf seed steps pipeline) a b told p q = one_bench_answer seed steps (workload_length pipeline) a b p q
 
   wanted : (command : CommandOf) (text : List ℕ) → Answers command (Ok text) → IsWanted command change file text
   wanted (QueryOf program log query pipeline) text h = answer-is_given report_of pipeline.epoch file (named program log query) text h
@@ -61,7 +61,7 @@ module _ (change : Change) (file : Contents) where
   wanted (ConvertOf program log new) text h = convert-is_given file program log text h
   wanted (InfluenceOf program log query pipeline) text h = answer-is_given influence_of pipeline.epoch file (named program log query) text h
   wanted (QueriesOf program log queries pipeline) text h = reports-are_given pipeline.epoch file program log queries text h
-  wanted (BenchOf seed steps pipeline) text h = answer-is_lines seed steps pipeline.epoch text h
+  wanted (BenchOf seed steps pipeline) text h = answer-is_lines seed steps (workload_length pipeline) text h
 
   answered : (command : CommandOf) (text : List ℕ) (is : IsWanted command change file text) → AreWithinLimits command change file text is → Answers command (Ok text)
   answered (QueryOf program log query pipeline) text h within = given-is_answer report_of pipeline.epoch file (named program log query) text within.0 h within.1
@@ -72,7 +72,7 @@ module _ (change : Change) (file : Contents) where
   answered (ConvertOf program log new) text h within = given-is_convert file program log text within.0 within.1 within.2 h.given
   answered (InfluenceOf program log query pipeline) text h within = given-is_answer influence_of pipeline.epoch file (named program log query) text within.0 h within.1
   answered (QueriesOf program log queries pipeline) text h within = given-are_reports pipeline.epoch file program log queries text within.0 within.1 within.2 h within.3
-  answered (BenchOf seed steps pipeline) text h within = lines-are_answer seed steps pipeline.epoch text h within.0 within.1
+  answered (BenchOf seed steps pipeline) text h within = lines-are_answer seed steps (workload_length pipeline) text h within.0 within.1
 
 -- ---- 0, and 8
 

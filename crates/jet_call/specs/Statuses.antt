@@ -9,11 +9,11 @@ use Rattle.jet_refusal.specs.declared.refusal.Refusal.{Refusal}
 use Rattle.jet_refusal.specs.Refusals.{status_of, line_of}
 use Rattle.jet_refusal.specs.Causes.{IsOwedTo}
 use Rattle.jet_model.specs.Contents.{Contents}
-use Rattle.jet_model.specs.Headline.{IsReportOf, IsInfluenceOf, AreReportsOf, IsGivenBy, IsConversionOf, IsRecordingOf, IsShort, AreShort, AreAllShort, HasFewEpochs}
+use Rattle.jet_model.specs.Headline.{IsReportOf, IsInfluenceOf, AreReportsOf, IsGivenBy, IsConversionOf, IsRecordingOf, IsShort, AreShort, AreAllShort, HasFewEpochs, HasFewIfTold}
 use Rattle.workload_model.specs.Answer.{IsBenchOf}
 use Rattle.run_output.specs.Summary.{summary_text}
 use Rattle.run_output.specs.Output.{output}
-use Rattle.jet_cli.specs.Answers.{IsAnswer, Hears, named, limits_of}
+use Rattle.jet_cli.specs.Answers.{IsAnswer, Hears, named, limits_of, workload_length}
 use Rattle.jet_cli.specs.Targets.{Unless, plan_of}
 use Rattle.jet_cli.specs.Outside.{Change, Told, IsUndisturbed}
 use Rattle.jet_cli.specs.Ending.{WritesWhole, WritesPart, IsUnasked, causes_of, status_after}
@@ -35,7 +35,7 @@ IsWanted (OutputOf program log channel) change file text = IsGivenBy file progra
 IsWanted (ConvertOf program log new) change file text = IsConversionOf file program log text
 IsWanted (InfluenceOf program log query pipeline) change file text = IsInfluenceOf file (named program log query) text
 IsWanted (QueriesOf program log queries pipeline) change file text = AreReportsOf file program log queries text
-IsWanted (BenchOf seed steps pipeline) change file text = IsBenchOf seed steps pipeline.epoch text
+IsWanted (BenchOf seed steps pipeline) change file text = IsBenchOf seed steps (workload_length pipeline) text
 
 abbrev pub IsDone : Option CommandOf → Change → Type 0
 IsDone None change = ⊥
@@ -70,11 +70,11 @@ IsDecided status (Some command) change = (u : IsUndisturbed change) → IsHeard 
     → IsAnswer command change.before.heard change.after.heard u.told.file answer → (status ≡ status_after answer) ⊎ (status ≡ 10)
 
 -- the files that are read have at most 2 ^ 26 bytes each, and so has a log that is recorded or written; and a run that is analysed
--- has at most 4096 epochs of the length that the words say
+-- has at most 4096 epochs of the length that the words tell, if they tell one
 abbrev pub AreWithinLimits : (command : CommandOf) (change : Change) (file : Contents) (text : List ℕ)
     → IsWanted command change file text → Type 0
 AreWithinLimits (QueryOf program log query pipeline) change file text is =
-    AreShort file (named program log query) × HasFewEpochs pipeline.epoch is.log
+    AreShort file (named program log query) × HasFewIfTold pipeline.epoch is.log
 AreWithinLimits (RecordOf program log inputs pages piece steps) change file text is =
     IsShort (file program) × AreAllShort file inputs × (length text ≤ 2 ^ 26)
 AreWithinLimits (ReplayOf program log) change file text is = IsShort (file program) × IsShort (file log)
@@ -82,11 +82,11 @@ AreWithinLimits (OutputOf program log channel) change file text is = IsShort (fi
 AreWithinLimits (ConvertOf program log new) change file text is =
     IsShort (file program) × IsShort (file log) × (length text ≤ 2 ^ 26)
 AreWithinLimits (InfluenceOf program log query pipeline) change file text is =
-    AreShort file (named program log query) × HasFewEpochs pipeline.epoch is.log
+    AreShort file (named program log query) × HasFewIfTold pipeline.epoch is.log
 AreWithinLimits (QueriesOf program log queries pipeline) change file text is =
-    IsShort (file program) × IsShort (file log) × AreAllShort file queries × HasFewEpochs pipeline.epoch is.log
+    IsShort (file program) × IsShort (file log) × AreAllShort file queries × HasFewIfTold pipeline.epoch is.log
 AreWithinLimits (BenchOf seed steps pipeline) change file text is =
-    (length (log_text Two is.log) ≤ 2 ^ 26) × HasFewEpochs pipeline.epoch is.log
+    (length (log_text Two is.log) ≤ 2 ^ 26) × HasFewEpochs (workload_length pipeline) is.log
 
 -- files that have what the words want, and are within the limits, are answered with 0
 abbrev pub IsComplete : ℕ → Option CommandOf → Change → Type 0

@@ -30,7 +30,7 @@ use Rattle.jet_refusal.proofs.Causes.{IsOwedTo-map}
 use Rattle.jet_model.specs.Outcomes.{and_then}
 use Rattle.jet_model.specs.Contents.{Contents, Run, run_at}
 use Rattle.jet_model.specs.Report.{reports_from, reports_of}
-use Rattle.jet_model.specs.Answer.{fitting_start, epochs_check, cut_answer, traced_answer, unless_other_rule, rules_check, text_answer, limited_text}
+use Rattle.jet_model.specs.Answer.{fitting_start, told_check, cut_answer, traced_answer, unless_other_rule, rules_check, text_answer, limited_text}
 use Rattle.jet_model.proofs.AndThen.{and_then-ok, and_then-err}
 use Rattle.jet_files.specs.Outcome.{AskAlike, IsKeptFor, Comes, Found, Follows, IsWork, by_reading}
 use Rattle.jet_files.proofs.Composing.{comes-then, follows-stops}
@@ -96,18 +96,18 @@ fitting : (run : Run) (job : Job) → IsChecked run.program.bytes run.program.im
 fitting run job checked = fitting_start-ok run.program run.log job.start checked.digest checked.start checked.agrees
 
 -- a text over the trace
-traced-cut : (epoch : ℕ) (run : Run) (given : List StepSeen → List ℕ) (job : Job) → IsChecked run.program.bytes run.program.image run.log job
-    → traced_answer epoch run given ≡ cut_answer epoch job.start job.log given
-traced-cut epoch run given job checked =
-    and_then-ok (fitting_start run.program run.log) (λ start. cut_answer epoch start run.log given) job.start (fitting run job checked)
-    ∙ ap (λ (l : Log). cut_answer epoch job.start l given) (sym checked.same_log)
+traced-cut : (told : Option ℕ) (run : Run) (given : List StepSeen → List ℕ) (job : Job) → IsChecked run.program.bytes run.program.image run.log job
+    → traced_answer told run given ≡ cut_answer told job.start job.log given
+traced-cut told run given job checked =
+    and_then-ok (fitting_start run.program run.log) (λ start. cut_answer told start run.log given) job.start (fitting run job checked)
+    ∙ ap (λ (l : Log). cut_answer told job.start l given) (sym checked.same_log)
 
-traced-stops : (epoch : ℕ) (run : Run) (given : List StepSeen → List ℕ) (r : Refusal) → fitting_start run.program run.log ≡ Err r → traced_answer epoch run given ≡ Err r
-traced-stops epoch run given r e = and_then-err (fitting_start run.program run.log) (λ start. cut_answer epoch start run.log given) r e
+traced-stops : (told : Option ℕ) (run : Run) (given : List StepSeen → List ℕ) (r : Refusal) → fitting_start run.program run.log ≡ Err r → traced_answer told run given ≡ Err r
+traced-stops told run given r e = and_then-err (fitting_start run.program run.log) (λ start. cut_answer told start run.log given) r e
 
-same_cut : (epoch : ℕ) (start : State) (log : Log) (given other : List StepSeen → List ℕ) → given (trace start log) ≡ other (trace start log)
-    → cut_answer epoch start log given ≡ cut_answer epoch start log other
-same_cut epoch start log given other e = ap (λ (text : List ℕ). and_then (epochs_check epoch log) (λ few. Ok text)) e
+same_cut : (told : Option ℕ) (start : State) (log : Log) (given other : List StepSeen → List ℕ) → given (trace start log) ≡ other (trace start log)
+    → cut_answer told start log given ≡ cut_answer told start log other
+same_cut told start log given other e = ap (λ (text : List ℕ). and_then (told_check told log) (λ few. Ok text)) e
 
 -- ---- the listing of a query
 
@@ -119,19 +119,19 @@ same_listing BySink q p steps a = ap report_text (same_rows q p steps a)
 same_listing BySource q p steps a = ap₂ (λ (rs : List Row) (bs : List SourceByte). influence_text (turned rs bs)) (same_rows q p steps a) (same_sources q p steps a)
 
 -- a log that doesn't fit
-pub listing-stops : (listing : Listing) (epoch : ℕ) (run : Run) (kept : Query) (r : Refusal) → IsWork (fitting_start run.program run.log) (Err r)
-    → IsWorkOf (IsGivenAlike listing epoch run kept) (Err r)
-listing-stops listing epoch run kept r =
-    IsOwedTo-map (by_reading (fitting_start run.program run.log ≡ Err r) ⊥) (by_reading (IsGivenAlike listing epoch run kept (Err r)) ⊥) (λ p. p)
-    (λ e q alike. traced-stops epoch run (given_by listing q) r e) (λ p. p) (λ p. p) r
+pub listing-stops : (listing : Listing) (told : Option ℕ) (run : Run) (kept : Query) (r : Refusal) → IsWork (fitting_start run.program run.log) (Err r)
+    → IsWorkOf (IsGivenAlike listing told run kept) (Err r)
+listing-stops listing told run kept r =
+    IsOwedTo-map (by_reading (fitting_start run.program run.log ≡ Err r) ⊥) (by_reading (IsGivenAlike listing told run kept (Err r)) ⊥) (λ p. p)
+    (λ e q alike. traced-stops told run (given_by listing q) r e) (λ p. p) (λ p. p) r
 
 -- what one query gives is what every query gives that asks alike
-pub listing-gives : (listing : Listing) (epoch : ℕ) (run : Run) (kept : Query) (job : Job) → IsChecked run.program.bytes run.program.image run.log job
-    → (outcome : Result (List ℕ) Refusal) → IsWork (cut_answer epoch job.start job.log (given_by listing kept)) outcome → IsWorkOf (IsGivenAlike listing epoch run kept) outcome
-listing-gives listing epoch run kept job checked =
-    work-holds (cut_answer epoch job.start job.log (given_by listing kept)) (IsGivenAlike listing epoch run kept)
-    (λ outcome e q alike. traced-cut epoch run (given_by listing q) job checked
-    ∙ same_cut epoch job.start job.log (given_by listing q) (given_by listing kept) (sym (same_listing listing kept q (trace_of job) alike)) ∙ e)
+pub listing-gives : (listing : Listing) (told : Option ℕ) (run : Run) (kept : Query) (job : Job) → IsChecked run.program.bytes run.program.image run.log job
+    → (outcome : Result (List ℕ) Refusal) → IsWork (cut_answer told job.start job.log (given_by listing kept)) outcome → IsWorkOf (IsGivenAlike listing told run kept) outcome
+listing-gives listing told run kept job checked =
+    work-holds (cut_answer told job.start job.log (given_by listing kept)) (IsGivenAlike listing told run kept)
+    (λ outcome e q alike. traced-cut told run (given_by listing q) job checked
+    ∙ same_cut told job.start job.log (given_by listing q) (given_by listing kept) (sym (same_listing listing kept q (trace_of job) alike)) ∙ e)
 
 -- ---- several queries
 
@@ -159,28 +159,28 @@ same_reports n (k ∷ ks) (q ∷ qs) steps h =
     ap₂ (λ (rs : List Row) (rest : List ℕ). codes "query " ++ decimal n ++ 0x0a ∷ [] ++ report_text rs ++ rest) (same_rows k q steps h.0) (same_reports (n + 1) ks qs steps h.1)
 
 -- the rules differ
-pub rules-stop : (epoch : ℕ) (run : Run) (kept : List Query) (r : Refusal) → IsWork (rules_check kept) (Err r) → IsWorkOf (AreGivenAlike epoch run kept) (Err r)
-rules-stop epoch run kept r =
-    IsOwedTo-map (by_reading (rules_check kept ≡ Err r) ⊥) (by_reading (AreGivenAlike epoch run kept (Err r)) ⊥) (λ p. p)
-    (λ e qs alike. and_then-err (rules_check qs) (λ same. traced_answer epoch run (reports_of qs)) r (sym (same_check kept qs alike) ∙ e)) (λ p. p) (λ p. p) r
+pub rules-stop : (told : Option ℕ) (run : Run) (kept : List Query) (r : Refusal) → IsWork (rules_check kept) (Err r) → IsWorkOf (AreGivenAlike told run kept) (Err r)
+rules-stop told run kept r =
+    IsOwedTo-map (by_reading (rules_check kept ≡ Err r) ⊥) (by_reading (AreGivenAlike told run kept (Err r)) ⊥) (λ p. p)
+    (λ e qs alike. and_then-err (rules_check qs) (λ same. traced_answer told run (reports_of qs)) r (sym (same_check kept qs alike) ∙ e)) (λ p. p) (λ p. p) r
 
 one_rule-check : (kept qs : List Query) → AskAlike kept qs → first_other_rule kept ≡ None → rules_check qs ≡ Ok tt
 one_rule-check kept qs alike e = sym (same_check kept qs alike) ∙ ap unless_other_rule e
 
 -- a log that doesn't fit
-pub reports-stop : (epoch : ℕ) (run : Run) (kept : List Query) (r : Refusal) → first_other_rule kept ≡ None → IsWork (fitting_start run.program run.log) (Err r)
-    → IsWorkOf (AreGivenAlike epoch run kept) (Err r)
-reports-stop epoch run kept r one =
-    IsOwedTo-map (by_reading (fitting_start run.program run.log ≡ Err r) ⊥) (by_reading (AreGivenAlike epoch run kept (Err r)) ⊥) (λ p. p)
-    (λ e qs alike. and_then-ok (rules_check qs) (λ same. traced_answer epoch run (reports_of qs)) tt (one_rule-check kept qs alike one) ∙ traced-stops epoch run (reports_of qs) r e) (λ p. p) (λ p. p) r
+pub reports-stop : (told : Option ℕ) (run : Run) (kept : List Query) (r : Refusal) → first_other_rule kept ≡ None → IsWork (fitting_start run.program run.log) (Err r)
+    → IsWorkOf (AreGivenAlike told run kept) (Err r)
+reports-stop told run kept r one =
+    IsOwedTo-map (by_reading (fitting_start run.program run.log ≡ Err r) ⊥) (by_reading (AreGivenAlike told run kept (Err r)) ⊥) (λ p. p)
+    (λ e qs alike. and_then-ok (rules_check qs) (λ same. traced_answer told run (reports_of qs)) tt (one_rule-check kept qs alike one) ∙ traced-stops told run (reports_of qs) r e) (λ p. p) (λ p. p) r
 
-pub reports-give : (epoch : ℕ) (run : Run) (kept : List Query) (job : Job) → first_other_rule kept ≡ None → IsChecked run.program.bytes run.program.image run.log job
-    → (outcome : Result (List ℕ) Refusal) → IsWork (cut_answer epoch job.start job.log (reports_of kept)) outcome → IsWorkOf (AreGivenAlike epoch run kept) outcome
-reports-give epoch run kept job one checked =
-    work-holds (cut_answer epoch job.start job.log (reports_of kept)) (AreGivenAlike epoch run kept)
-    (λ outcome e qs alike. and_then-ok (rules_check qs) (λ same. traced_answer epoch run (reports_of qs)) tt (one_rule-check kept qs alike one)
-    ∙ traced-cut epoch run (reports_of qs) job checked
-    ∙ same_cut epoch job.start job.log (reports_of qs) (reports_of kept) (sym (same_reports 1 kept qs (trace_of job) alike)) ∙ e)
+pub reports-give : (told : Option ℕ) (run : Run) (kept : List Query) (job : Job) → first_other_rule kept ≡ None → IsChecked run.program.bytes run.program.image run.log job
+    → (outcome : Result (List ℕ) Refusal) → IsWork (cut_answer told job.start job.log (reports_of kept)) outcome → IsWorkOf (AreGivenAlike told run kept) outcome
+reports-give told run kept job one checked =
+    work-holds (cut_answer told job.start job.log (reports_of kept)) (AreGivenAlike told run kept)
+    (λ outcome e qs alike. and_then-ok (rules_check qs) (λ same. traced_answer told run (reports_of qs)) tt (one_rule-check kept qs alike one)
+    ∙ traced-cut told run (reports_of qs) job checked
+    ∙ same_cut told job.start job.log (reports_of qs) (reports_of kept) (sym (same_reports 1 kept qs (trace_of job) alike)) ∙ e)
 
 -- ---- a text that the log gives
 

@@ -1,9 +1,10 @@
 -- What the files of a command come to: the text that it writes, or the refusal.
-use Rattle.std.specs.Prelude.{◌≡◌, ℕ, List, [], ◌∷◌, ◌++◌, codes, Option, None, Result, Ok, Err}
+use Rattle.std.specs.Prelude.{◌≡◌, ℕ, List, [], ◌∷◌, ◌++◌, codes, Option, None, unwrap_or, Result, Ok, Err}
 use Rattle.std.specs.Fmt.{decimal}
 use Rattle.outer_io.specs.Files.{Text}
 use Rattle.outer_io.specs.Tells.{Tells, Gains}
 use Rattle.jet_words.specs.Commands.{CommandOf, QueryOf, RecordOf, ReplayOf, OutputOf, ConvertOf, InfluenceOf, QueriesOf, BenchOf}
+use Rattle.jet_words.specs.declared.command.Pipeline.{Pipeline}
 use Rattle.jet_refusal.specs.declared.refusal.Refusal.{Refusal}
 use Rattle.flow_model.specs.declared.StepSeen.{StepSeen}
 use Rattle.report_model.specs.Query.{Query, Alike}
@@ -45,6 +46,10 @@ abbrev pub IsRecording : Text → List Text → Limits → Option (List ℕ) →
 IsRecording program inputs limits heard heard_after file answer =
     Hears heard heard_after (λ answers. IsRecordAnswer file program inputs limits answers answer)
 
+-- the length of the epochs of the workload's run
+abbrev pub workload_length : Pipeline → ℕ
+workload_length pipeline = unwrap_or pipeline.epoch 4096
+
 -- the content of the files comes to this answer
 abbrev pub IsAnswer : CommandOf → Option (List ℕ) → Option (List ℕ) → Contents → Result (List ℕ) Refusal → Type 0
 IsAnswer (QueryOf program log query pipeline) heard heard_after file answer =
@@ -58,7 +63,7 @@ IsAnswer (InfluenceOf program log query pipeline) heard heard_after file answer 
     query_answer influence_of pipeline.epoch file (named program log query) ≡ answer
 IsAnswer (QueriesOf program log queries pipeline) heard heard_after file answer =
     queries_answer pipeline.epoch file program log queries ≡ answer
-IsAnswer (BenchOf seed steps pipeline) heard heard_after file answer = IsBenchAnswer seed steps pipeline.epoch answer
+IsAnswer (BenchOf seed steps pipeline) heard heard_after file answer = IsBenchAnswer seed steps (workload_length pipeline) answer
 
 -- the outcome of work that reads no file is so, or memory is out
 abbrev pub IsWorkOf : {A : Type 0} → (Result A Refusal → Type 0) → Result A Refusal → Type 0
@@ -79,17 +84,17 @@ product_of (Output channel) run = text_answer run (output channel)
 product_of Conversion run = and_then (fitting_start run.program run.log) (λ start. limited_text run.log)
 
 -- the answer is what every query gives that asks alike
-abbrev pub IsGivenAlike : Listing → ℕ → Run → Query → Result (List ℕ) Refusal → Type 0
-IsGivenAlike listing epoch run kept answer =
-    (q : Query) → Alike kept q → traced_answer epoch run (given_by listing q) ≡ answer
+abbrev pub IsGivenAlike : Listing → Option ℕ → Run → Query → Result (List ℕ) Refusal → Type 0
+IsGivenAlike listing told run kept answer =
+    (q : Query) → Alike kept q → traced_answer told run (given_by listing q) ≡ answer
 
 -- the reports of several queries, whose rules are compared first
-abbrev pub several_answer : ℕ → Run → List Query → Result (List ℕ) Refusal
-several_answer epoch run qs = and_then (rules_check qs) (λ same. traced_answer epoch run (reports_of qs))
+abbrev pub several_answer : Option ℕ → Run → List Query → Result (List ℕ) Refusal
+several_answer told run qs = and_then (rules_check qs) (λ same. traced_answer told run (reports_of qs))
 
 -- the answer is what all queries give that ask alike
-abbrev pub AreGivenAlike : ℕ → Run → List Query → Result (List ℕ) Refusal → Type 0
-AreGivenAlike epoch run kept answer = (qs : List Query) → AskAlike kept qs → several_answer epoch run qs ≡ answer
+abbrev pub AreGivenAlike : Option ℕ → Run → List Query → Result (List ℕ) Refusal → Type 0
+AreGivenAlike told run kept answer = (qs : List Query) → AskAlike kept qs → several_answer told run qs ≡ answer
 
 -- several queries have one rule, and this one asks for what any of them does
 pub record IsUnion (queries : List Query) (union : Query) : Type 0 where

@@ -7,7 +7,7 @@ ghost use Rattle.workload_model.specs.Lines.{numbers_of, bench_text};
 ghost use Rattle.workload_model.specs.Answer.{IsBenchAnswer};
 ghost use Rattle.jet_words.specs.Commands.{IsPipeline};
 ghost use Rattle.jet_files.specs.Outcome.{seen_by, bytes_of};
-ghost use Rattle.jet_cli.specs.Answers.{IsWorkOf};
+ghost use Rattle.jet_cli.specs.Answers.{IsWorkOf, workload_length};
 ghost use Rattle.jet_cli.specs.Bench.{IsWorkloadJob, asked_in_all};
 
 use crate::engine::Engine;
@@ -27,6 +27,9 @@ use sink_collect::text;
 use std::alloc::Global;
 use std::sync::Wait;
 use std::thread::Threads;
+
+/// The length of the epochs of the workload's run, where the words don't tell it.
+const WORKLOAD_LENGTH: u64 = 4096;
 
 /// The recorded run of the workload. It gives up with `LogTooLong`, or is out of memory.
 fn workload_job(alloc: Global, seed: u64, steps: u64) -> Result<Job, Refusal>
@@ -115,10 +118,11 @@ pub fn bench<R: Threads + Wait + Sync, G: Gate>(
 ) -> Result<Vec<u8>, Refusal>
     requires steps { steps ≤ MOST_STEPS }
     requires pipeline { IsPipeline pipeline }
-    ensures { IsWorkOf (IsBenchAnswer seed steps pipeline.epoch) (seen_by bytes_of result) }
+    ensures { IsWorkOf (IsBenchAnswer seed steps (workload_length pipeline)) (seen_by bytes_of result) }
 {
     let job = workload_job(engine.alloc, seed, steps)?;
-    let cuts = cuts_of(&job, pipeline.epoch)?;
+    let length = pipeline.epoch.unwrap_or(WORKLOAD_LENGTH);
+    let cuts = cuts_of(&job, length)?;
     let text = lines(engine, &job, cuts, pipeline)?;
     Ok(text)
 }

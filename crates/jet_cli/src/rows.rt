@@ -6,7 +6,8 @@ ghost use Rattle.replayer.specs.Jobs.{trace_of};
 ghost use Rattle.epoch_model.specs.ByLength.{cut_times};
 ghost use Rattle.epoch_model.specs.Cutting.{IsCutting};
 ghost use Rattle.jet_words.specs.Commands.{IsPipeline};
-ghost use Rattle.jet_model.specs.Answer.{epochs_check, cut_answer};
+ghost use Rattle.jet_model.specs.Lengths.{epoch_length, cuts_by};
+ghost use Rattle.jet_model.specs.Answer.{epochs_check, told_check, cut_answer};
 ghost use Rattle.jet_files.specs.Outcome.{IsWork, seen_by};
 
 use crate::engine::Engine;
@@ -22,6 +23,21 @@ use sink_collect::Report;
 use std::sync::Wait;
 use std::thread::Threads;
 
+/// An epoch has at least so many steps, but for the last one, unless the words tell its length.
+const LEAST_LENGTH: u64 = 262144;
+
+/// The length of the epochs of a run of so many steps: as the words tell it, or such that there is an epoch for each
+/// worker.
+fn epoch_length(told: Option<u64>, workers: u32, steps: u64) -> u64
+    requires { 1 ≤ workers }
+    ensures { result ≡ epoch_length told workers steps }
+{
+    match told {
+        Some(length) => length,
+        None => steps.div_ceil(u64::from(workers)).max(LEAST_LENGTH),
+    }
+}
+
 /// The cuts of the run into epochs of this length. It gives up with `TooManyEpochs`.
 pub fn cuts_of(job: &Job, epoch: u64) -> Result<Cuts, Refusal>
     requires { 1 ≤ epoch }
@@ -34,6 +50,20 @@ pub fn cuts_of(job: &Job, epoch: u64) -> Result<Cuts, Refusal>
         Ok(cuts) => Ok(cuts),
         Err(CutFault::TooMany(count)) => Err(Refusal::TooManyEpochs(count)),
     }
+}
+
+/// The cuts of the run into epochs, as the words tell their length, or as there are workers. It gives up with
+/// `TooManyEpochs`, where a length is told.
+fn cuts_by(job: &Job, pipeline: Pipeline) -> Result<Cuts, Refusal>
+    requires { IsPipeline pipeline }
+    ensures times { IfOk result (λ cuts. cuts ≡ cuts_by pipeline.epoch pipeline.workers (steps job.now.log)) }
+    ensures check { IsWork (told_check pipeline.epoch job.now.log) (seen_by (λ cuts. tt) result) }
+    ensures cutting { IfOk result (λ cuts. IsCutting (steps job.now.log) cuts) }
+{
+    cuts_of(
+        job,
+        epoch_length(pipeline.epoch, pipeline.workers, job.steps()),
+    )
 }
 
 /// The rows of a query over the run, of which the epochs are analysed.
@@ -61,8 +91,8 @@ fn analysed<R: Threads + Wait + Sync, G: Gate>(
     Ok(report)
 }
 
-/// The rows of a query over the run. It gives up with `TooManyEpochs`, where the run has too many epochs of the
-/// pipeline's length, or is out of memory.
+/// The rows of a query over the run. It gives up with `TooManyEpochs`, where the run has too many epochs of the length
+/// that is told, or is out of memory.
 pub fn rows_of<R: Threads + Wait + Sync, G: Gate>(
     engine: &Engine<R, G>,
     job: &Job,
@@ -72,7 +102,7 @@ pub fn rows_of<R: Threads + Wait + Sync, G: Gate>(
     requires { IsPipeline pipeline }
     ensures { IsWork (cut_answer pipeline.epoch job.now.start job.now.log (rows query.now)) result }
 {
-    let cuts = cuts_of(job, pipeline.epoch)?;
+    let cuts = cuts_by(job, pipeline)?;
     let report = analysed(engine, job, query, cuts, pipeline)?;
     Ok(report)
 }

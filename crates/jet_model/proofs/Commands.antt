@@ -16,7 +16,9 @@ use Rattle.sha2.specs.Sha256.{sha256, digest_bytes, hash_after, compress, rounds
 use Rattle.jet_refusal.specs.declared.refusal.Refusal.TheVariants as refusal
 use Rattle.jet_model.specs.Outcomes.{and_then}
 use Rattle.jet_model.specs.Contents.{Contents, Names, program_in}
-use Rattle.jet_model.specs.Answer.{start_in, epochs_check, query_answer, queries_answer, convert_answer}
+use Rattle.epoch_model.specs.ByLength.{epoch_count, cut_times}
+use Rattle.jet_model.specs.Lengths.{epoch_length}
+use Rattle.jet_model.specs.Answer.{start_in, epochs_check, told_check, query_answer, queries_answer, convert_answer}
 use Rattle.jet_model.specs.Report.{report_of}
 use Rattle.jet_model.proofs.Guests.{copy_four, copy_four_log, add_words, add_words_log, a_read, a_write}
 use Rattle.jet_model.proofs.Guests.{log_of as log_with}
@@ -36,31 +38,31 @@ three_files program log query name =
 abbrev all_bytes : List ℕ
 all_bytes = of_lines ("rule copy" ∷ "source all" ∷ "sink all" ∷ [])
 
-a_report : query_answer report_of 1048576 (three_files copy_four (log_text One copy_four_log) all_bytes) names ≡ Ok (of_lines ("1:0 0:0" ∷ "1:1 0:1" ∷ "1:2 0:2" ∷ "1:3 0:3" ∷ "end 4" ∷ []))
+a_report : query_answer report_of None (three_files copy_four (log_text One copy_four_log) all_bytes) names ≡ Ok (of_lines ("1:0 0:0" ∷ "1:1 0:1" ∷ "1:2 0:2" ∷ "1:3 0:3" ∷ "end 4" ∷ []))
 unfolding digits log_of channels_of body_of sha256 digest_bytes hash_after compress rounds first_words schedule
 a_report = refl
 
-no_file : query_answer report_of 1048576 (λ name. None) names ≡ Err refusal.ReadFault
+no_file : query_answer report_of None (λ name. None) names ≡ Err refusal.ReadFault
 no_file = refl
 
 -- the program is refused before the log
-no_image : query_answer report_of 1048576 (three_files (codes "ELF") [] []) names ≡ Err (refusal.Image image.Short)
+no_image : query_answer report_of None (three_files (codes "ELF") [] []) names ≡ Err (refusal.Image image.Short)
 no_image = refl
 
-no_log : query_answer report_of 1048576 (three_files copy_four all_bytes []) names ≡ Err (refusal.Log log.Magic 0)
+no_log : query_answer report_of None (three_files copy_four all_bytes []) names ≡ Err (refusal.Log log.Magic 0)
 unfolding log_of
 no_log = refl
 
 -- the query is refused before the log is compared with the program
-no_query : query_answer report_of 1048576 (three_files copy_four (log_text One add_words_log) (codes "rule copy x")) names ≡ Err (refusal.Query 1 query.Count)
+no_query : query_answer report_of None (three_files copy_four (log_text One add_words_log) (codes "rule copy x")) names ≡ Err (refusal.Query 1 query.Count)
 unfolding log_of channels_of body_of sha256 digest_bytes hash_after compress rounds first_words schedule
 no_query = refl
 
-another_program : query_answer report_of 1048576 (three_files copy_four (log_text One add_words_log) all_bytes) names ≡ Err (refusal.Program (sha256 add_words) (sha256 copy_four))
+another_program : query_answer report_of None (three_files copy_four (log_text One add_words_log) all_bytes) names ≡ Err (refusal.Program (sha256 add_words) (sha256 copy_four))
 unfolding log_of channels_of body_of sha256 digest_bytes hash_after compress rounds first_words schedule
 another_program = refl
 
-another_byte : query_answer report_of 1048576 (three_files copy_four (log_text One (log_with copy_four 1 1 (a_read 5 4 abcd ∷ a_write 8 (0x41 ∷ 0x42 ∷ 0x58 ∷ 0x44 ∷ []) ∷ []) (Exit 11 0))) all_bytes) names
+another_byte : query_answer report_of None (three_files copy_four (log_text One (log_with copy_four 1 1 (a_read 5 4 abcd ∷ a_write 8 (0x41 ∷ 0x42 ∷ 0x58 ∷ 0x44 ∷ []) ∷ []) (Exit 11 0))) all_bytes) names
     ≡ Err (refusal.Diverged (record { step = 8; field = field.Byte 2; kept = pos 88; seen = pos 67 }))
 unfolding log_of channels_of body_of sha256 digest_bytes hash_after compress rounds first_words schedule
 another_byte = refl
@@ -92,6 +94,28 @@ many_long_epochs = refl
 no_step : epochs_check 1 (of_steps 0) ≡ Ok tt
 no_step = refl
 
+-- ---- the length of epochs
+
+told_length : epoch_length (Some 7) 4 2000000 ≡ 7
+told_length = refl
+
+-- one worker has one epoch
+alone : (epoch_length None 1 2000000 ≡ 2000000) × (epoch_count 2000000 (epoch_length None 1 2000000) ≡ 1)
+alone = (refl, refl)
+
+-- four workers have one each of a long run, and fewer of a shorter one
+of_four : (epoch_length None 4 2000000 ≡ 500000) × (epoch_length None 4 1000000 ≡ 262144) × (epoch_count 600000 (epoch_length None 4 600000) ≡ 3)
+of_four = (refl, refl, refl)
+
+-- the last is shorter where the steps are no multiple
+rounded_up : (epoch_length None 4 2000001 ≡ 500001) × (cut_times 2000001 500001 ≡ 500001 ∷ 1000002 ∷ 1500003 ∷ 2000001 ∷ [])
+unfolding cut_times
+rounded_up = (refl, refl)
+
+-- however long the run is, a told length alone makes too many
+longest : (told_check None (of_steps 18446744073709551615) ≡ Ok tt) × (told_check (Some 1) (of_steps 4097) ≡ Err (refusal.TooManyEpochs 4097))
+longest = (refl, refl)
+
 -- ---- a log in version 2
 
 -- the same log, whichever version it was kept in: the bytes are typed out
@@ -112,7 +136,7 @@ unfolding digits log_of channels_of body_of sha256 digest_bytes hash_after compr
 converted_again = refl
 
 -- the report is the same, and so it is with epochs of another length
-a_wide_report : query_answer report_of 5 (three_files copy_four wide_copy_four all_bytes) names ≡ Ok (of_lines ("1:0 0:0" ∷ "1:1 0:1" ∷ "1:2 0:2" ∷ "1:3 0:3" ∷ "end 4" ∷ []))
+a_wide_report : query_answer report_of (Some 5) (three_files copy_four wide_copy_four all_bytes) names ≡ Ok (of_lines ("1:0 0:0" ∷ "1:1 0:1" ∷ "1:2 0:2" ∷ "1:3 0:3" ∷ "end 4" ∷ []))
 unfolding digits log_of channels_of body_of sha256 digest_bytes hash_after compress rounds first_words schedule
 a_wide_report = refl
 
@@ -127,11 +151,11 @@ two_queries one two name =
 abbrev both_names : List (List ℕ)
 both_names = codes "one" ∷ codes "two" ∷ []
 
-other_rules : queries_answer 1048576 (two_queries all_bytes (codes "rule compute")) (codes "program") (codes "log") both_names ≡ Err (refusal.Rules Copy 2 Compute)
+other_rules : queries_answer None (two_queries all_bytes (codes "rule compute")) (codes "program") (codes "log") both_names ≡ Err (refusal.Rules Copy 2 Compute)
 unfolding digits log_of channels_of body_of sha256 digest_bytes hash_after compress rounds first_words schedule
 other_rules = refl
 
 -- all are read before their rules are compared
-second_faulty : queries_answer 1048576 (two_queries (codes "rule compute") (codes "sink 16")) (codes "program") (codes "log") both_names ≡ Err (refusal.QueryOf 2 1 query.Channel)
+second_faulty : queries_answer None (two_queries (codes "rule compute") (codes "sink 16")) (codes "program") (codes "log") both_names ≡ Err (refusal.QueryOf 2 1 query.Channel)
 unfolding digits log_of channels_of body_of sha256 digest_bytes hash_after compress rounds first_words schedule
 second_faulty = refl

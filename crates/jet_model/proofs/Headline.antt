@@ -27,8 +27,8 @@ use Rattle.jet_refusal.specs.declared.refusal.Refusal.TheVariants as refusal
 use Rattle.jet_model.specs.Outcomes.{and_then}
 use Rattle.jet_model.specs.Contents.{Contents, Names, Program, Run, program_at, query_at, queries_at, run_at, inputs_at}
 use Rattle.jet_model.specs.Report.{reports_of, text_from, text_over}
-use Rattle.jet_model.specs.Answer.{digest_check, start_in, unless_diverged, fitting_start, epochs_check, cut_answer, traced_answer, query_answer, unless_other_rule, rules_check, queries_answer, text_answer, log_answer, limited_text, convert_answer, Limits, Source, source_at, setting_of, IsCaptured, IsCaptureAnswer, IsRecordAnswer}
-use Rattle.jet_model.specs.Headline.{IsRunOf, IsGivenByQuery, AreReportsOf, IsGivenBy, IsConversionOf, IsRecordingOf, IsShort, AreShort, AreAllShort, HasFewEpochs}
+use Rattle.jet_model.specs.Answer.{digest_check, start_in, unless_diverged, fitting_start, epochs_check, told_check, cut_answer, traced_answer, query_answer, unless_other_rule, rules_check, queries_answer, text_answer, log_answer, limited_text, convert_answer, Limits, Source, source_at, setting_of, IsCaptured, IsCaptureAnswer, IsRecordAnswer}
+use Rattle.jet_model.specs.Headline.{IsRunOf, IsGivenByQuery, AreReportsOf, IsGivenBy, IsConversionOf, IsRecordingOf, IsShort, AreShort, AreAllShort, HasFewEpochs, HasFewIfTold}
 use Rattle.jet_model.proofs.AndThen.{ok-one, and_then-ok, and_then-is_ok, AndThen-ok, AndThen-is_ok, AndThen-one, ok_or-is_ok}
 use Rattle.replay_model.proofs.Received.{fitting_is_held}
 use Rattle.epoch_model.specs.ByLength.{epoch_count}
@@ -149,12 +149,16 @@ epochs-few : (epoch : ℕ) (log : Log) → HasFewEpochs epoch log → epochs_che
 epochs-few epoch log few =
     ap (λ (b : Bool). if b then Err (refusal.TooManyEpochs (epoch_count (steps log) epoch)) else Ok tt) (le-ltb 4096 (epoch_count (steps log) epoch) few)
 
+told-few : (told : Option ℕ) (log : Log) → HasFewIfTold told log → told_check told log ≡ Ok tt
+told-few None log few = refl
+told-few (Some epoch) log few = epochs-few epoch log few
+
 -- the text is made where the log fits and its run has few epochs
-traced : (epoch : ℕ) (run : Run) (start : State) (given : Text) → fitting_start run.program run.log ≡ Ok start → HasFewEpochs epoch run.log
-    → traced_answer epoch run given ≡ Ok (given (trace start run.log))
-traced epoch run start given e few =
-    and_then-ok (fitting_start run.program run.log) (λ s. cut_answer epoch s run.log given) start e
-    ∙ and_then-ok (epochs_check epoch run.log) (λ few. Ok (given (trace start run.log))) tt (epochs-few epoch run.log few)
+traced : (told : Option ℕ) (run : Run) (start : State) (given : Text) → fitting_start run.program run.log ≡ Ok start → HasFewIfTold told run.log
+    → traced_answer told run given ≡ Ok (given (trace start run.log))
+traced told run start given e few =
+    and_then-ok (fitting_start run.program run.log) (λ s. cut_answer told s run.log given) start e
+    ∙ and_then-ok (told_check told run.log) (λ few. Ok (given (trace start run.log))) tt (told-few told run.log few)
 
 -- where it was made, the log fits
 record IsTraced (run : Run) (given : Text) (text : List ℕ) : Type 0 where
@@ -162,20 +166,20 @@ record IsTraced (run : Run) (given : Text) (text : List ℕ) : Type 0 where
   begins : fitting_start run.program run.log ≡ Ok start
   gives : text ≡ given (trace start run.log)
 
-traced-is_ok : (epoch : ℕ) (run : Run) (given : Text) (text : List ℕ) → traced_answer epoch run given ≡ Ok text → IsTraced run given text
-traced-is_ok epoch run given text h =
-    let s = and_then-is_ok (fitting_start run.program run.log) (λ start. cut_answer epoch start run.log given) text h in
-    let few = and_then-is_ok (epochs_check epoch run.log) (λ few. Ok (given (trace s.0 run.log))) text s.2 in
+traced-is_ok : (told : Option ℕ) (run : Run) (given : Text) (text : List ℕ) → traced_answer told run given ≡ Ok text → IsTraced run given text
+traced-is_ok told run given text h =
+    let s = and_then-is_ok (fitting_start run.program run.log) (λ start. cut_answer told start run.log given) text h in
+    let few = and_then-is_ok (told_check told run.log) (λ few. Ok (given (trace s.0 run.log))) text s.2 in
     record { start = s.0; begins = s.1; gives = sym (ok_same _ _ few.2) }
 
 -- ---- a query
 
-pub answer-is_given : (given : Query → Text) (epoch : ℕ) (file : Contents) (names : Names) (text : List ℕ) → query_answer given epoch file names ≡ Ok text → IsGivenByQuery given file names text
-answer-is_given given epoch file names text h =
-    let r = and_then-is_ok (run_at file names.program names.log) (λ run. and_then (query_at file names.query) (λ q. traced_answer epoch run (given q))) text h in
+pub answer-is_given : (given : Query → Text) (told : Option ℕ) (file : Contents) (names : Names) (text : List ℕ) → query_answer given told file names ≡ Ok text → IsGivenByQuery given file names text
+answer-is_given given told file names text h =
+    let r = and_then-is_ok (run_at file names.program names.log) (λ run. and_then (query_at file names.query) (λ q. traced_answer told run (given q))) text h in
     let run = r.0 in
-    let q = and_then-is_ok (query_at file names.query) (λ q. traced_answer epoch run (given q)) text r.2 in
-    let s = traced-is_ok epoch run (given q.0) text q.2 in
+    let q = and_then-is_ok (query_at file names.query) (λ q. traced_answer told run (given q)) text r.2 in
+    let s = traced-is_ok told run (given q.0) text q.2 in
     let found = fitting_run file names.program names.log run s.start r.1 s.begins in
     let found_query = query_at-is_ok file names.query q.0 q.1 in
     record {
@@ -189,14 +193,14 @@ answer-is_given given epoch file names text h =
       gives = is_over run.program.bytes run.log (given q.0) found.the_run.fits s.start text found.start_is s.gives;
     }
 
-pub given-is_answer : (given : Query → Text) (epoch : ℕ) (file : Contents) (names : Names) (text : List ℕ) → AreShort file names → (g : IsGivenByQuery given file names text) → HasFewEpochs epoch g.log
-    → query_answer given epoch file names ≡ Ok text
-given-is_answer given epoch file names text short g few =
+pub given-is_answer : (given : Query → Text) (told : Option ℕ) (file : Contents) (names : Names) (text : List ℕ) → AreShort file names → (g : IsGivenByQuery given file names text) → HasFewIfTold told g.log
+    → query_answer given told file names ≡ Ok text
+given-is_answer given told file names text short g few =
     let r = read_run file names.program names.log g.program g.log short.program short.log g.run in
     let start = g.run.fits.start in
-    and_then-ok (run_at file names.program names.log) (λ x. and_then (query_at file names.query) (λ q. traced_answer epoch x (given q))) r.run r.is_read
-    ∙ and_then-ok (query_at file names.query) (λ q. traced_answer epoch r.run (given q)) g.the_query (query_at-there file names.query g.query_text g.the_query g.query_file short.query g.is_query)
-    ∙ traced epoch r.run start (given g.the_query) r.begins (subst (HasFewEpochs epoch) (sym r.same_log) few)
+    and_then-ok (run_at file names.program names.log) (λ x. and_then (query_at file names.query) (λ q. traced_answer told x (given q))) r.run r.is_read
+    ∙ and_then-ok (query_at file names.query) (λ q. traced_answer told r.run (given q)) g.the_query (query_at-there file names.query g.query_text g.the_query g.query_file short.query g.is_query)
+    ∙ traced told r.run start (given g.the_query) r.begins (subst (HasFewIfTold told) (sym r.same_log) few)
     ∙ ap (λ (l : Log). ok_text (given g.the_query (trace start l))) r.same_log
     ∙ ap ok_text (over_run g.program g.log g.run.fits (given g.the_query) ∙ sym g.gives)
 
@@ -209,13 +213,13 @@ rules-is_ok (Some x) same h = cc
 rules-one : (qs : List Query) → first_other_rule qs ≡ None → rules_check qs ≡ Ok tt
 rules-one qs e = ap unless_other_rule e
 
-pub reports-are_given : (epoch : ℕ) (file : Contents) (program log : List ℕ) (names : List (List ℕ)) (text : List ℕ) → queries_answer epoch file program log names ≡ Ok text → AreReportsOf file program log names text
-reports-are_given epoch file program log names text h =
-    let r = and_then-is_ok (run_at file program log) (λ run. and_then (queries_at file names) (λ qs. and_then (rules_check qs) (λ same. traced_answer epoch run (reports_of qs)))) text h in
+pub reports-are_given : (told : Option ℕ) (file : Contents) (program log : List ℕ) (names : List (List ℕ)) (text : List ℕ) → queries_answer told file program log names ≡ Ok text → AreReportsOf file program log names text
+reports-are_given told file program log names text h =
+    let r = and_then-is_ok (run_at file program log) (λ run. and_then (queries_at file names) (λ qs. and_then (rules_check qs) (λ same. traced_answer told run (reports_of qs)))) text h in
     let run = r.0 in
-    let q = and_then-is_ok (queries_at file names) (λ qs. and_then (rules_check qs) (λ same. traced_answer epoch run (reports_of qs))) text r.2 in
-    let one = and_then-is_ok (rules_check q.0) (λ same. traced_answer epoch run (reports_of q.0)) text q.2 in
-    let s = traced-is_ok epoch run (reports_of q.0) text one.2 in
+    let q = and_then-is_ok (queries_at file names) (λ qs. and_then (rules_check qs) (λ same. traced_answer told run (reports_of qs))) text r.2 in
+    let one = and_then-is_ok (rules_check q.0) (λ same. traced_answer told run (reports_of q.0)) text q.2 in
+    let s = traced-is_ok told run (reports_of q.0) text one.2 in
     let found = fitting_run file program log run s.start r.1 s.begins in
     let found_queries = queries_at-is_ok file names q.0 q.1 in
     record {
@@ -230,17 +234,17 @@ reports-are_given epoch file program log names text h =
       gives = is_over run.program.bytes run.log (reports_of q.0) found.the_run.fits s.start text found.start_is s.gives;
     }
 
-pub given-are_reports : (epoch : ℕ) (file : Contents) (program log : List ℕ) (names : List (List ℕ)) (text : List ℕ) → IsShort (file program) → IsShort (file log) → AreAllShort file names
-    → (g : AreReportsOf file program log names text) → HasFewEpochs epoch g.log → queries_answer epoch file program log names ≡ Ok text
-given-are_reports epoch file program log names text short short_log all g few =
+pub given-are_reports : (told : Option ℕ) (file : Contents) (program log : List ℕ) (names : List (List ℕ)) (text : List ℕ) → IsShort (file program) → IsShort (file log) → AreAllShort file names
+    → (g : AreReportsOf file program log names text) → HasFewIfTold told g.log → queries_answer told file program log names ≡ Ok text
+given-are_reports told file program log names text short short_log all g few =
     let r = read_run file program log g.program g.log short short_log g.run in
     let start = g.run.fits.start in
     let qs = g.the_queries in
-    and_then-ok (run_at file program log) (λ x. and_then (queries_at file names) (λ qs. and_then (rules_check qs) (λ same. traced_answer epoch x (reports_of qs)))) r.run r.is_read
-    ∙ and_then-ok (queries_at file names) (λ qs. and_then (rules_check qs) (λ same. traced_answer epoch r.run (reports_of qs))) qs
+    and_then-ok (run_at file program log) (λ x. and_then (queries_at file names) (λ qs. and_then (rules_check qs) (λ same. traced_answer told x (reports_of qs)))) r.run r.is_read
+    ∙ and_then-ok (queries_at file names) (λ qs. and_then (rules_check qs) (λ same. traced_answer told r.run (reports_of qs))) qs
     (queries_at-there file names g.query_texts qs (record { there = g.query_files; are_queries = g.are_queries }) all)
-    ∙ and_then-ok (rules_check qs) (λ same. traced_answer epoch r.run (reports_of qs)) tt (rules-one qs g.one_rule)
-    ∙ traced epoch r.run start (reports_of qs) r.begins (subst (HasFewEpochs epoch) (sym r.same_log) few)
+    ∙ and_then-ok (rules_check qs) (λ same. traced_answer told r.run (reports_of qs)) tt (rules-one qs g.one_rule)
+    ∙ traced told r.run start (reports_of qs) r.begins (subst (HasFewIfTold told) (sym r.same_log) few)
     ∙ ap (λ (l : Log). ok_text (reports_of qs (trace start l))) r.same_log
     ∙ ap ok_text (over_run g.program g.log g.run.fits (reports_of qs) ∙ sym g.gives)
 

@@ -1,4 +1,5 @@
 pub mod AndThen
+pub mod Lengths
 pub mod Files
 mod Bytes
 pub mod Headline

@@ -55,24 +55,29 @@ abbrev pub epochs_check : ℕ → Log → Result (Unit {0}) Refusal
 epochs_check epoch log = let count = epoch_count (steps log) epoch in
     if nat_lt 4096 count then Err (refusal.TooManyEpochs count) else Ok tt
 
--- what is made of the trace of a run from this state, where it has few epochs of this length
-abbrev pub cut_answer : {A : Type 0} → ℕ → State → Log → (List StepSeen → A) → Result A Refusal
-cut_answer epoch start log given =
-    and_then (epochs_check epoch log) (λ few.
+-- the same of the length that the words tell. Where they tell none there are few: no more than workers
+abbrev pub told_check : Option ℕ → Log → Result (Unit {0}) Refusal
+told_check None log = Ok tt
+told_check (Some epoch) log = epochs_check epoch log
+
+-- what is made of the trace of a run from this state, where it has few epochs of the length that is told
+abbrev pub cut_answer : {A : Type 0} → Option ℕ → State → Log → (List StepSeen → A) → Result A Refusal
+cut_answer told start log given =
+    and_then (told_check told log) (λ few.
     Ok (given (trace start log)))
 
 -- a text that is made of a run's trace
-abbrev pub traced_answer : ℕ → Run → (List StepSeen → List ℕ) → Result (List ℕ) Refusal
-traced_answer epoch run text =
+abbrev pub traced_answer : Option ℕ → Run → (List StepSeen → List ℕ) → Result (List ℕ) Refusal
+traced_answer told run text =
     and_then (fitting_start run.program run.log) (λ start.
-    cut_answer epoch start run.log text)
+    cut_answer told start run.log text)
 
 -- the text that a query gives of a trace, as `report_of` or `influence_of`
-abbrev pub query_answer : (Query → List StepSeen → List ℕ) → ℕ → Contents → Names → Result (List ℕ) Refusal
-query_answer given epoch file names =
+abbrev pub query_answer : (Query → List StepSeen → List ℕ) → Option ℕ → Contents → Names → Result (List ℕ) Refusal
+query_answer given told file names =
     and_then (run_at file names.program names.log) (λ run.
     and_then (query_at file names.query) (λ q.
-    traced_answer epoch run (given q)))
+    traced_answer told run (given q)))
 
 abbrev pub unless_other_rule : Option (Rule × ℕ × Rule) → Result (Unit {0}) Refusal
 unless_other_rule None = Ok tt
@@ -83,12 +88,12 @@ abbrev pub rules_check : List Query → Result (Unit {0}) Refusal
 rules_check qs = unless_other_rule (first_other_rule qs)
 
 -- the reports of several queries. All of them are read before their rules are compared
-abbrev pub queries_answer : ℕ → Contents → List ℕ → List ℕ → List (List ℕ) → Result (List ℕ) Refusal
-queries_answer epoch file program log names =
+abbrev pub queries_answer : Option ℕ → Contents → List ℕ → List ℕ → List (List ℕ) → Result (List ℕ) Refusal
+queries_answer told file program log names =
     and_then (run_at file program log) (λ run.
     and_then (queries_at file names) (λ qs.
     and_then (rules_check qs) (λ same.
-    traced_answer epoch run (reports_of qs))))
+    traced_answer told run (reports_of qs))))
 
 -- ---- what a program and a log come to
 

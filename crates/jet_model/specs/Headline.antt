@@ -1,5 +1,5 @@
 -- What it means that a text is what files come to, each in one piece.
-use Rattle.std.specs.Prelude.{◌≡◌, ◌≤◌, ◌^◌, ℕ, List, length, map, Option, Some, None, Ok}
+use Rattle.std.specs.Prelude.{◌≡◌, ◌≤◌, ◌^◌, ℕ, List, length, map, Option, Some, None, IfSome, Ok}
 use Rattle.std.specs.List.{AllByRecursion}
 use Rattle.flow_model.specs.declared.StepSeen.{StepSeen}
 use Rattle.log_model.specs.declared.Version.TheVariants.{Two}
@@ -98,3 +98,7 @@ AreAllShort file names = AllByRecursion (λ name. IsShort (file name)) names
 -- the log's run has at most 4096 epochs of this length
 abbrev pub HasFewEpochs : ℕ → Log → Type 0
 HasFewEpochs epoch log = epoch_count (steps log) epoch ≤ 4096
+
+-- the same of the length that the words tell, if they tell one
+abbrev pub HasFewIfTold : Option ℕ → Log → Type 0
+HasFewIfTold told log = IfSome told (λ epoch. HasFewEpochs epoch log)

@@ -1,6 +1,7 @@
 pub mod Outcomes
 pub mod Contents
 pub mod Sources
+pub mod Lengths
 pub mod Report
 pub mod Answer
 pub mod Headline

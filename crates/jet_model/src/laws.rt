@@ -1,51 +1,63 @@
 //! Laws of what files come to. Each is a function that does nothing: its contract is the law.
 
-ghost use Rattle.std.specs.Prelude.{◌≡◌, ◌<◌, ◌≤◌, ◌^◌, ℕ, List, None, Result, Ok, length};
+ghost use Rattle.std.specs.Prelude.{◌≡◌, ◌<◌, ◌≤◌, ◌^◌, ℕ, List, Option, None, Result, Ok, length};
 ghost use Rattle.std.specs.List.{filter};
 ghost use Rattle.isa.specs.Machine.{State};
 ghost use Rattle.flow_model.specs.declared.StepSeen.{StepSeen as Step};
 ghost use Rattle.log_model.specs.declared.Version.TheVariants.{Two};
-ghost use Rattle.log_model.specs.Logs.{Log, IsLog, log_text};
+ghost use Rattle.log_model.specs.Logs.{Log, IsLog, log_text, steps};
 ghost use Rattle.log_model.specs.Reading.{log_of};
 ghost use Rattle.report_model.specs.Query.{Query, has_source};
 ghost use Rattle.report_model.specs.Influence.{chosen_sources};
 ghost use Rattle.replay_model.specs.Run.{trace};
 ghost use Rattle.replay_model.specs.Comparison.{divergence};
+ghost use Rattle.epoch_model.specs.ByLength.{epoch_count};
 ghost use Rattle.jet_refusal.specs.declared.refusal.Refusal.{Refusal};
 ghost use Rattle.jet_model.specs.Contents.{Contents, Names};
 ghost use Rattle.jet_model.specs.Sources.{received_sources};
+ghost use Rattle.jet_model.specs.Lengths.{epoch_length};
+ghost use Rattle.jet_model.specs.Answer.{epochs_check, told_check};
 ghost use Rattle.jet_model.specs.Answer.{Limits, query_answer, queries_answer, log_answer, convert_answer, IsRecordAnswer, HoldsBytes, AreInRange, RecordAnswer};
 ghost use Rattle.jet_model.specs.Headline.{IsGivenByQuery, AreReportsOf, IsGivenBy, IsConversionOf, IsRecordingOf};
-ghost use Rattle.jet_model.specs.Headline.{IsShort, AreShort, AreAllShort, HasFewEpochs};
+ghost use Rattle.jet_model.specs.Headline.{IsShort, AreShort, AreAllShort, HasFewIfTold};
+
+/// Where the words tell no length, a run has no more epochs than workers. So a run is refused for its epochs only where
+/// it has too many of the length that is told.
+pub fn untold_epochs_are_few()
+    ensures few { (workers steps : ℕ) → 1 ≤ workers → epoch_count steps (epoch_length None workers steps) ≤ workers }
+    ensures check { (told : Option ℕ) (workers : ℕ) (log : Log) → 1 ≤ workers → workers ≤ 4096
+        → epochs_check (epoch_length told workers (steps log)) log ≡ told_check told log }
+{}
 
 /// Where three files come to a text, it is what the query gives over the run, as a report or an influence, whatever the
 /// length of an epoch: the log fits the program, and the query can be read.
 pub fn answer_is_given()
-    ensures { (given : Query → List Step → List ℕ) (epoch : ℕ) (file : Contents) (names : Names) (text : List ℕ)
-        → query_answer given epoch file names ≡ Ok text → IsGivenByQuery given file names text }
+    ensures { (given : Query → List Step → List ℕ) (told : Option ℕ) (file : Contents) (names : Names) (text : List ℕ)
+        → query_answer given told file names ≡ Ok text → IsGivenByQuery given file names text }
 {}
 
-/// Three files come to what the query gives, where none has more than 2^26 bytes, and the run no more than 4096 epochs.
+/// Three files come to what the query gives, where none has more than 2^26 bytes, and the run no more than 4096 epochs
+/// of a length that is told.
 pub fn given_is_answer()
-    ensures { (given : Query → List Step → List ℕ) (epoch : ℕ) (file : Contents) (names : Names) (text : List ℕ)
-        → AreShort file names → (g : IsGivenByQuery given file names text) → HasFewEpochs epoch g.log
-        → query_answer given epoch file names ≡ Ok text }
+    ensures { (given : Query → List Step → List ℕ) (told : Option ℕ) (file : Contents) (names : Names) (text : List ℕ)
+        → AreShort file names → (g : IsGivenByQuery given file names text) → HasFewIfTold told g.log
+        → query_answer given told file names ≡ Ok text }
 {}
 
 /// Where a program, a log and several queries come to a text, it is their reports, one after another, whatever the
 /// length of an epoch.
 pub fn reports_are_given()
-    ensures { (epoch : ℕ) (file : Contents) (program log : List ℕ) (names : List (List ℕ)) (text : List ℕ)
-        → queries_answer epoch file program log names ≡ Ok text → AreReportsOf file program log names text }
+    ensures { (told : Option ℕ) (file : Contents) (program log : List ℕ) (names : List (List ℕ)) (text : List ℕ)
+        → queries_answer told file program log names ≡ Ok text → AreReportsOf file program log names text }
 {}
 
 /// A program, a log and several queries come to their reports, where no file has more than 2^26 bytes, and the run no
-/// more than 4096 epochs.
+/// more than 4096 epochs of a length that is told.
 pub fn given_are_reports()
-    ensures { (epoch : ℕ) (file : Contents) (program log : List ℕ) (names : List (List ℕ)) (text : List ℕ)
+    ensures { (told : Option ℕ) (file : Contents) (program log : List ℕ) (names : List (List ℕ)) (text : List ℕ)
         → IsShort (file program) → IsShort (file log) → AreAllShort file names
-        → (g : AreReportsOf file program log names text) → HasFewEpochs epoch g.log
-        → queries_answer epoch file program log names ≡ Ok text }
+        → (g : AreReportsOf file program log names text) → HasFewIfTold told g.log
+        → queries_answer told file program log names ≡ Ok text }
 {}
 
 /// Where a program and a log come to a text, it is that of the log, which fits the program.

@@ -49,7 +49,7 @@ short_flags = refl
 
 -- the options that aren't given
 abbrev usual : Pipeline
-usual = record { epoch = 1048576; workers = 4; link = 256 }
+usual = record { epoch = None; workers = 4; link = 256 }
 
 abbrev query : Text → Text → Text → Text → Line
 query line program log name = (line, QueryOf program log name usual)
@@ -81,13 +81,13 @@ abbrev piped : Text → Pipeline → Line
 piped line pipeline = (line, QueryOf (codes "p") (codes "l") (codes "q") pipeline)
 
 pipelines : Stands (
-    piped (codes "jet query p l q --epoch 1") (record usual { epoch = 1 })
-    ∷ piped (codes "jet query p l q --epoch 1099511627776") (record usual { epoch = 1099511627776 })
+    piped (codes "jet query p l q --epoch 1") (record usual { epoch = Some 1 })
+    ∷ piped (codes "jet query p l q --epoch 1099511627776") (record usual { epoch = Some 1099511627776 })
     ∷ piped (codes "jet query p l q --workers 1") (record usual { workers = 1 })
     ∷ piped (codes "jet query p l q --workers 64") (record usual { workers = 64 })
     ∷ piped (codes "jet query p l q --link 1") (record usual { link = 1 })
     ∷ piped (codes "jet query p l q --link 65536") (record usual { link = 65536 })
-    ∷ piped (codes "jet query --link=3 p l --workers 2 q --epoch 5") (record { epoch = 5; workers = 2; link = 3 }) ∷ [])
+    ∷ piped (codes "jet query --link=3 p l --workers 2 q --epoch 5") (record { epoch = Some 5; workers = 2; link = 3 }) ∷ [])
 unfolding command_of walked walk_passes
 pipelines = refl
 
@@ -191,7 +191,7 @@ turned line pipeline = (line, InfluenceOf (codes "p") (codes "l") (codes "q") pi
 
 influences : Stands (
     turned (codes "jet influence p l q") usual
-    ∷ turned (codes "jet influence p l q --epoch 5 --workers 2 --link 3") (record { epoch = 5; workers = 2; link = 3 }) ∷ [])
+    ∷ turned (codes "jet influence p l q --epoch 5 --workers 2 --link 3") (record { epoch = Some 5; workers = 2; link = 3 }) ∷ [])
 unfolding command_of walked walk_passes
 influences = refl
 
@@ -212,7 +212,7 @@ several_queries : Stands (
     ∷ several (codes "jet queries p l q -- --r") (codes "q" ∷ codes "--r" ∷ [])
     ∷ (
       codes "jet queries p l --epoch 5 q r --workers 2 --link 3",
-      QueriesOf (codes "p") (codes "l") (codes "q" ∷ codes "r" ∷ []) (record { epoch = 5; workers = 2; link = 3 }),
+      QueriesOf (codes "p") (codes "l") (codes "q" ∷ codes "r" ∷ []) (record { epoch = Some 5; workers = 2; link = 3 }),
     ) ∷ [])
 unfolding command_of walked walk_passes
 several_queries = refl
@@ -231,17 +231,13 @@ no_several_queries = refl
 abbrev made : Text → ℕ → ℕ → Pipeline → Line
 made line seed steps pipeline = (line, BenchOf seed steps pipeline)
 
--- the options of `bench` that aren't given
-abbrev shorter : Pipeline
-shorter = record usual { epoch = 4096 }
-
 benches : Stands (
-    made (codes "jet bench 1 30") 1 30 shorter
-    ∷ made (codes "jet bench 0 1") 0 1 shorter
-    ∷ made (codes "jet bench 18446744073709551615 2000000") 18446744073709551615 2000000 shorter
-    ∷ made (codes "jet bench 1 30 --epoch 15") 1 30 (record shorter { epoch = 15 })
+    made (codes "jet bench 1 30") 1 30 usual
+    ∷ made (codes "jet bench 0 1") 0 1 usual
+    ∷ made (codes "jet bench 18446744073709551615 2000000") 18446744073709551615 2000000 usual
+    ∷ made (codes "jet bench 1 30 --epoch 15") 1 30 (record usual { epoch = Some 15 })
     ∷ made (codes "jet bench --link 3 1 --workers 2 30 --epoch 1048576") 1 30
-    (record { epoch = 1048576; workers = 2; link = 3 }) ∷ [])
+    (record { epoch = Some 1048576; workers = 2; link = 3 }) ∷ [])
 unfolding command_of walked walk_passes
 benches = refl
 

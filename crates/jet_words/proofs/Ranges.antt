@@ -6,9 +6,9 @@ use Rattle.clap.specs.Takes.{level_passes}
 use Rattle.clap.specs.Words.{Row, Text, takes, subcommand_of}
 use Rattle.clap.specs.Simple.{App, Shape, built_leaf, filled, inherited, marked_built, on_top, with_leaf_noted}
 use Rattle.clap_command.specs.Plain.{is_plain_subcommand}
-use Rattle.clap_command.proofs.Rows.{Only, list-filled, list-length, number-in_range, option-in_range}
+use Rattle.clap_command.proofs.Rows.{Only, list-filled, list-length, number-in_range, option-in_range, optional-in_range}
 use Rattle.clap_command.proofs.Subcommands.{AtTaken, at_subcommand, help-not_named}
-use Rattle.jet_words.specs.CommandLine.{epoch_option, workers_option, link_option, usual_epoch, workload_epoch, bench_app, convert_app, influence_app, jet_app, output_app, queries_app, query_app, record_app, replay_app}
+use Rattle.jet_words.specs.CommandLine.{epoch_option, workers_option, link_option, bench_app, convert_app, influence_app, jet_app, output_app, queries_app, query_app, record_app, replay_app}
 use Rattle.jet_words.specs.Commands.{IsPipeline, IsInRange, pipeline_of, command_by}
 use Rattle.jet_words.specs.Numbers.{HasPipelineNumbers, HasNumbers}
 
@@ -27,27 +27,27 @@ record IsPipelineSound (rows : List Row) : Type 0 where
   ranges : IsPipeline (pipeline_of rows)
 
 -- a subcommand has the options, as they are built
-abbrev HasOptions : Text → Shape → Type 0
-HasOptions usual s =
-    Only s.rules (codes "epoch") (filled (epoch_option usual)) × Only s.rules (codes "workers") (filled workers_option)
+abbrev HasOptions : Shape → Type 0
+HasOptions s =
+    Only s.rules (codes "epoch") (filled epoch_option) × Only s.rules (codes "workers") (filled workers_option)
     × Only s.rules (codes "link") (filled link_option)
 
-pipeline_sound : (usual : Text) (s : Shape) (words : List Text) → is_plain_subcommand s ≡ true → HasOptions usual s → level_passes s [] nothing_held words false ≡ true
+pipeline_sound : (s : Shape) (words : List Text) → is_plain_subcommand s ≡ true → HasOptions s → level_passes s [] nothing_held words false ≡ true
     → IsPipelineSound (rows_after s.rules [] words)
-pipeline_sound usual s words plain has e =
-    let epoch = option-in_range s words plain e (codes "epoch") _ 18446744073709551615 1 1099511627776 has.0 refl refl refl refl in
+pipeline_sound s words plain has e =
+    let epoch = optional-in_range s words plain e (codes "epoch") _ 18446744073709551615 1 1099511627776 has.0 refl refl refl in
     let workers = option-in_range s words plain e (codes "workers") _ 4294967295 1 64 has.1 refl refl refl refl in
     let link = option-in_range s words plain e (codes "link") _ 4294967295 1 65536 has.2 refl refl refl refl in
     record {
       numbers = (epoch.can_be_read, workers.can_be_read, link.can_be_read);
-      ranges = (epoch.at_least, epoch.at_most, workers.at_least, workers.at_most, link.at_least, link.at_most);
+      ranges = (epoch.in_range, workers.at_least, workers.at_most, link.at_least, link.at_most);
     }
 
 -- ---- each subcommand
 
 query_sound : AtTaken IsSound (leaf query_app)
 query_sound words e =
-    let p = pipeline_sound usual_epoch (leaf query_app) words refl (refl, refl, refl) e in
+    let p = pipeline_sound (leaf query_app) words refl (refl, refl, refl) e in
     record { numbers = (λ bad. cc, λ bad. cc, λ here. p.numbers, λ bad. cc, λ bad. cc, λ bad. cc); ranges = p.ranges }
 
 record_sound : AtTaken IsSound (leaf record_app)
@@ -81,12 +81,12 @@ convert_sound words e = record { numbers = (λ bad. cc, λ bad. cc, λ bad. cc, 
 
 influence_sound : AtTaken IsSound (leaf influence_app)
 influence_sound words e =
-    let p = pipeline_sound usual_epoch (leaf influence_app) words refl (refl, refl, refl) e in
+    let p = pipeline_sound (leaf influence_app) words refl (refl, refl, refl) e in
     record { numbers = (λ bad. cc, λ bad. cc, λ bad. cc, λ here. p.numbers, λ bad. cc, λ bad. cc); ranges = p.ranges }
 
 queries_sound : AtTaken IsSound (leaf queries_app)
 queries_sound words e =
-    let p = pipeline_sound usual_epoch (leaf queries_app) words refl (refl, refl, refl) e in
+    let p = pipeline_sound (leaf queries_app) words refl (refl, refl, refl) e in
     record {
       numbers = (λ bad. cc, λ bad. cc, λ bad. cc, λ bad. cc, λ here. p.numbers, λ bad. cc);
       ranges = (
@@ -100,7 +100,7 @@ bench_sound : AtTaken IsSound (leaf bench_app)
 bench_sound words e =
     let seed = number-in_range (leaf bench_app) words refl e (codes "SEED") _ 18446744073709551615 0 18446744073709551615 refl refl refl refl refl in
     let steps = number-in_range (leaf bench_app) words refl e (codes "STEPS") _ 18446744073709551615 1 2000000 refl refl refl refl refl in
-    let p = pipeline_sound workload_epoch (leaf bench_app) words refl (refl, refl, refl) e in
+    let p = pipeline_sound (leaf bench_app) words refl (refl, refl, refl) e in
     record {
       numbers = (
         λ bad. cc,

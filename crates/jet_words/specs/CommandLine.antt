@@ -2,15 +2,15 @@
 use Rattle.std.specs.Prelude.{codes}
 use Rattle.clap.specs.Words.{App, Rule, Text, new_app, with_rule, with_subcommand}
 use Rattle.clap.specs.Simple.{on_top}
-use Rattle.clap_command.specs.Arguments.{positional, number, list, required_list, number_option, requires_subcommand}
+use Rattle.clap_command.specs.Arguments.{positional, number, list, required_list, number_option, optional_number, requires_subcommand}
 
 -- NAME PROG LOG
 abbrev pub program_and_log : Text → App
 program_and_log name = with_rule (with_rule (new_app name) (positional (codes "PROG"))) (positional (codes "LOG"))
 
--- [--epoch N], with the length that stands where none is given
-abbrev pub epoch_option : Text → Rule
-epoch_option usual = number_option (codes "epoch") 1 1099511627776 usual
+-- [--epoch N]
+abbrev pub epoch_option : Rule
+epoch_option = optional_number (codes "epoch") 1 1099511627776
 
 -- [--workers W]
 abbrev pub workers_option : Rule
@@ -21,20 +21,12 @@ abbrev pub link_option : Rule
 link_option = number_option (codes "link") 1 65536 (codes "256")
 
 -- COMMAND .. [--epoch N] [--workers W] [--link C]
-abbrev pub with_pipeline : Text → App → App
-with_pipeline usual command = with_rule (with_rule (with_rule command (epoch_option usual)) workers_option) link_option
-
--- the steps of an epoch of a recorded run
-abbrev pub usual_epoch : Text
-usual_epoch = codes "1048576"
-
--- the steps of an epoch of the workload's run
-abbrev pub workload_epoch : Text
-workload_epoch = codes "4096"
+abbrev pub with_pipeline : App → App
+with_pipeline command = with_rule (with_rule (with_rule command epoch_option) workers_option) link_option
 
 -- query PROG LOG QUERY [--epoch N] [--workers W] [--link C]
 abbrev pub query_app : App
-query_app = with_pipeline usual_epoch (with_rule (program_and_log (codes "query")) (positional (codes "QUERY")))
+query_app = with_pipeline (with_rule (program_and_log (codes "query")) (positional (codes "QUERY")))
 
 -- record PROG LOG [IN].. [--pages N] [--piece N] [--steps N]
 abbrev pub record_app : App
@@ -58,16 +50,16 @@ convert_app = with_rule (program_and_log (codes "convert")) (positional (codes "
 
 -- influence PROG LOG QUERY [--epoch N] [--workers W] [--link C]
 abbrev pub influence_app : App
-influence_app = with_pipeline usual_epoch (with_rule (program_and_log (codes "influence")) (positional (codes "QUERY")))
+influence_app = with_pipeline (with_rule (program_and_log (codes "influence")) (positional (codes "QUERY")))
 
 -- queries PROG LOG QUERY.. [--epoch N] [--workers W] [--link C], 1 to 16 of QUERY
 abbrev pub queries_app : App
-queries_app = with_pipeline usual_epoch (with_rule (program_and_log (codes "queries")) (required_list (codes "QUERY") 16))
+queries_app = with_pipeline (with_rule (program_and_log (codes "queries")) (required_list (codes "QUERY") 16))
 
 -- bench SEED STEPS [--epoch N] [--workers W] [--link C]
 abbrev pub bench_app : App
 bench_app =
-    with_pipeline workload_epoch (with_rule (with_rule (new_app (codes "bench"))
+    with_pipeline (with_rule (with_rule (new_app (codes "bench"))
     (number (codes "SEED") 0 18446744073709551615))
     (number (codes "STEPS") 1 2000000))
 

@@ -1,8 +1,8 @@
 -- What the words of a command line stand for.
-use Rattle.std.specs.Prelude.{◌≤◌, ⊤, ℕ, List, map, length, Option, Some, None, codes, option_and_then, if◌then◌else◌}
+use Rattle.std.specs.Prelude.{◌≤◌, ⊤, ℕ, List, map, length, Option, Some, None, IfSome, codes, option_and_then, if◌then◌else◌}
 use Rattle.std.specs.Str.{bytes_eq}
 use Rattle.clap.specs.Words.{Row, Text, takes, subcommand_of}
-use Rattle.clap_command.specs.Values.{value_of, values_of, number_of}
+use Rattle.clap_command.specs.Values.{value_of, values_of, number_of, optional_number_of}
 use Rattle.jet_words.specs.CommandLine.{jet_app}
 use Rattle.jet_words.specs.declared.command.Pipeline.{Pipeline}
 use Rattle.jet_words.specs.declared.command.Command.{Command}
@@ -32,7 +32,7 @@ pub data CommandOf : Type 0 where
 
 abbrev pub pipeline_of : List Row → Pipeline
 pipeline_of rows = record {
-  epoch = number_of (codes "epoch") rows;
+  epoch = optional_number_of (codes "epoch") rows;
   workers = number_of (codes "workers") rows;
   link = number_of (codes "link") rows;
 }
@@ -97,7 +97,7 @@ plain_command (Bench seed steps pipeline) = BenchOf seed steps pipeline
 -- the numbers of the options lie in the ranges of the command line
 abbrev pub IsPipeline : Pipeline → Type 0
 IsPipeline p =
-    (1 ≤ p.epoch) × (p.epoch ≤ 1099511627776) × (1 ≤ p.workers) × (p.workers ≤ 64) × (1 ≤ p.link) × (p.link ≤ 65536)
+    IfSome p.epoch (λ n. (1 ≤ n) × (n ≤ 1099511627776)) × (1 ≤ p.workers) × (p.workers ≤ 64) × (1 ≤ p.link) × (p.link ≤ 65536)
 
 -- the numbers of the command do
 abbrev pub IsInRange : CommandOf → Type 0

@@ -2,12 +2,12 @@
 use Rattle.std.specs.Prelude.{◌≡◌, true, List, codes}
 use Rattle.std.specs.Str.{bytes_eq}
 use Rattle.clap.specs.Words.{Row, Text}
-use Rattle.clap_command.specs.Numbers.{IsNumber, IsLongNumber}
+use Rattle.clap_command.specs.Numbers.{IsNumber, IsLongNumber, IsOptionalNumber}
 
 -- the numbers of the pipeline can be read
 abbrev pub HasPipelineNumbers : List Row → Type 0
 HasPipelineNumbers rows =
-    IsLongNumber (codes "epoch") rows × IsNumber (codes "workers") rows × IsNumber (codes "link") rows
+    IsOptionalNumber (codes "epoch") rows × IsNumber (codes "workers") rows × IsNumber (codes "link") rows
 
 -- each number of the subcommand can be read
 abbrev pub HasNumbers : Text × List Row → Type 0

@@ -3,8 +3,8 @@
 /// How a run is cut into epochs, and how these are analysed.
 #[derive(Clone, Copy)]
 pub struct Pipeline {
-    /// The steps in an epoch, 1 to 1099511627776 (2^40).
-    pub epoch: u64,
+    /// The steps in an epoch, 1 to 1099511627776 (2^40), where the words tell it.
+    pub epoch: Option<u64>,
     /// How many workers analyse the epochs, 1 to 64.
     pub workers: u32,
     /// How many messages the link between two epochs holds, 1 to 65536.

@@ -9,15 +9,10 @@ ghost use Rattle.jet_words.specs.CommandLine.{queries_app, bench_app, bare_app, 
 
 use clap::Command;
 use clap_command::{
-    list, number, number_option, positional, required_list, with_argument, with_command,
+    list, number, number_option, optional_number, positional, required_list, with_argument,
+    with_command,
 };
 use std::alloc::{AllocError, Global};
-
-/// The steps of an epoch of a recorded run, where the words don't say it.
-const USUAL_EPOCH: &str = "1048576";
-
-/// The same of the workload's run.
-const WORKLOAD_EPOCH: &str = "4096";
 
 // A command for a program and a log.
 fn program_and_log<'a>(alloc: Global, name: &'a str) -> Result<Command<'a>, AllocError>
@@ -29,18 +24,13 @@ fn program_and_log<'a>(alloc: Global, name: &'a str) -> Result<Command<'a>, Allo
     with_argument(command, positional(alloc, "LOG"))
 }
 
-// A command with the options of the pipeline, and the length of epochs where the words don't say it.
-fn with_pipeline<'a>(
-    alloc: Global,
-    command: Command<'a>,
-    usual: &'a str,
-) -> Result<Command<'a>, AllocError>
+// A command with the options of the pipeline.
+fn with_pipeline<'a>(alloc: Global, command: Command<'a>) -> Result<Command<'a>, AllocError>
     requires { (fields_of command).has_globals ≡ false }
-    ensures app { IfOk result (λ c. app_of c ≡ with_pipeline_app usual.entry.now (app_of command.entry)) }
+    ensures app { IfOk result (λ c. app_of c ≡ with_pipeline_app (app_of command.entry)) }
     ensures globals { IfOk result (λ c. (fields_of c).has_globals ≡ false) }
 {
-    let epoch = number_option(alloc, "epoch", 1, 1099511627776, usual);
-    let command = with_argument(command, epoch)?;
+    let command = with_argument(command, optional_number(alloc, "epoch", 1, 1099511627776))?;
     let command = with_argument(command, number_option(alloc, "workers", 1, 64, "4"))?;
     with_argument(command, number_option(alloc, "link", 1, 65536, "256"))
 }
@@ -51,7 +41,7 @@ fn query_command<'a>(alloc: Global) -> Result<Command<'a>, AllocError>
 {
     let command = program_and_log(alloc, "query")?;
     let command = with_argument(command, positional(alloc, "QUERY"))?;
-    with_pipeline(alloc, command, USUAL_EPOCH)
+    with_pipeline(alloc, command)
 }
 
 fn record_command<'a>(alloc: Global) -> Result<Command<'a>, AllocError>
@@ -100,7 +90,7 @@ fn influence_command<'a>(alloc: Global) -> Result<Command<'a>, AllocError>
 {
     let command = program_and_log(alloc, "influence")?;
     let command = with_argument(command, positional(alloc, "QUERY"))?;
-    with_pipeline(alloc, command, USUAL_EPOCH)
+    with_pipeline(alloc, command)
 }
 
 fn queries_command<'a>(alloc: Global) -> Result<Command<'a>, AllocError>
@@ -109,7 +99,7 @@ fn queries_command<'a>(alloc: Global) -> Result<Command<'a>, AllocError>
 {
     let command = program_and_log(alloc, "queries")?;
     let command = with_argument(command, required_list(alloc, "QUERY", 16))?;
-    with_pipeline(alloc, command, USUAL_EPOCH)
+    with_pipeline(alloc, command)
 }
 
 fn bench_command<'a>(alloc: Global) -> Result<Command<'a>, AllocError>
@@ -119,7 +109,7 @@ fn bench_command<'a>(alloc: Global) -> Result<Command<'a>, AllocError>
     let command = Command::new(alloc, "bench");
     let command = with_argument(command, number(alloc, "SEED", 0, u64::MAX))?;
     let command = with_argument(command, number(alloc, "STEPS", 1, 2000000))?;
-    with_pipeline(alloc, command, WORKLOAD_EPOCH)
+    with_pipeline(alloc, command)
 }
 
 // The command itself, with no subcommand yet.

@@ -13,7 +13,9 @@ ghost use Rattle.jet_words.specs.Numbers.{HasPipelineNumbers, HasNumbers};
 use crate::command::{Command, Pipeline};
 use crate::command_line::command_line;
 use clap::ArgMatches;
-use clap_command::{WordsFault, parse, read_long_number, read_number, read_value, read_values};
+use clap_command::{
+    WordsFault, parse, read_long_number, read_number, read_optional_number, read_value, read_values,
+};
 use std::alloc::{AllocError, Global};
 
 // The words as the command line takes them.
@@ -31,7 +33,7 @@ fn read_pipeline(matches: &ArgMatches) -> Pipeline
     ensures { result ≡ pipeline_of (rows_of (found_of matches.now)) }
 {
     Pipeline {
-        epoch: read_long_number(matches, "epoch"),
+        epoch: read_optional_number(matches, "epoch"),
         workers: read_number(matches, "workers"),
         link: read_number(matches, "link"),
     }

@@ -8,9 +8,8 @@ use Rattle.std.proofs.lemmas.Option.{slice_get-get_or}
 use Rattle.flow_model.specs.declared.Loc.{Loc}
 use Rattle.flow_model.specs.declared.Loc.TheVariants.{Reg, Mem}
 use Rattle.flow_model.specs.contracts.LocPartialEq.TheImpl as test
-use Rattle.local_taint.specs.declared.labels.Label.{Label}
-use Rattle.local_taint.specs.declared.labels.Label.TheVariants.{Node, Start}
-use Rattle.local_taint.specs.contracts.labels.LabelPartialEq.TheImpl as label_test
+use Rattle.taint_shadow.specs.declared.labels.Label.{Label}
+use Rattle.taint_shadow.specs.contracts.labels.LabelPartialEq.TheImpl as label_test
 
 -- the derived test
 abbrev pub alike : Loc → Loc → Bool
@@ -38,7 +37,4 @@ at_place locs l (Some k) e = first_alike locs l k (sym e)
 
 -- the derived test of labels
 pub same_label : (l m : Label) → label_test.eq-value.it l m ≡ true → l ≡ m
-same_label (Node a) (Node b) h = grind (arith, common_steps)
-same_label (Node a) (Start m) h = cc
-same_label (Start l) (Node b) h = cc
-same_label (Start l) (Start m) h = ap Start (alike_same l m h)
+same_label l m h = let same : l.number ≡ m.number = grind (arith, common_steps) in ap (λ (n : ℕ). record { number = n }) same

@@ -16,7 +16,6 @@ use Rattle.epoch_model.specs.Stretch.{points_at_start, sinks_at_step, sinks_betw
 use Rattle.epoch_model.specs.Summary.{SinkTerms, terms, sink_terms}
 use Rattle.taint_shadow.specs.declared.places.Places.{Places}
 use Rattle.taint_shadow.specs.Labels.{KeepsLabels}
-use Rattle.local_taint.specs.declared.labels.Label.{Label}
 use Rattle.local_taint.specs.declared.labels.Nodes.{Nodes}
 use Rattle.local_taint.specs.declared.sinks.SinkLabel.{SinkLabel}
 use Rattle.local_taint.specs.Words.{label_words}
@@ -71,7 +70,7 @@ at_start : (q : Query) (s : ℕ) → AreAt s (points_at_start q s)
 at_start q zero = at_points 0 q.points
 at_start q (suc s) = tt
 
-pub first_sinks : (q : Query) (trace : List StepSeen) (s : ℕ) (places : Places Label) (old new : Nodes) (none sinks : List SinkLabel)
+pub first_sinks : (q : Query) (trace : List StepSeen) (s : ℕ) (places : Places) (old new : Nodes) (none sinks : List SinkLabel)
     → Shows old places (terms (policy_of q) trace s 0) → none ≡ [] → Notes places (points_at_start q s) old none new sinks
     → map (named new) sinks ≡ map (sink_terms (policy_of q) trace s) (sinks_of_epoch q trace s 0)
 first_sinks q trace s places old new none sinks shows empty notes =
@@ -93,7 +92,7 @@ module _ (q : Query) (trace : List StepSeen) (s n t : ℕ) (now : t ≡ s + n) (
       ∙ ap (λ (k : ℕ). start ++ (so_far ++ sinks_at_step q k (Some step))) (sym now)
       ∙ sym (append_assoc start so_far (sinks_at_step q t (Some step)))
 
-  pub more_sinks : (before after : Places Label) (a b c d : Nodes) (x y z : List SinkLabel)
+  pub more_sinks : (before after : Places) (a b c d : Nodes) (x y z : List SinkLabel)
       → map (named a) x ≡ map (sink_terms (policy_of q) trace s) (sinks_of_epoch q trace s n)
       → Shows a before (terms (policy_of q) trace s n) → Notes before (chosen q (sinks_of_step t step.call)) a x b y
       → KeepsLabels label_words b c

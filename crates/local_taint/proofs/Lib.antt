@@ -2,4 +2,6 @@ mod Words
 mod Notes
 mod Steps
 mod Between
+mod Quiet
+mod Following
 mod Alike

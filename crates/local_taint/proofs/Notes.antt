@@ -1,6 +1,6 @@
 -- Sinks that are noted one after another.
 use Rattle.std.proofs.Common.{◌≡◌, ℕ, ◌+◌, ◌<◌, ◌^◌, length, get_or, slice_get, List, [], ◌∷◌, ◌++◌, map, refl, ap, ap₂, sym, ◌∙◌, subst, Bool, true, false, cond, arith, append-nil, append_assoc}
-use Rattle.std.specs.Prelude.{Option, Some, None}
+use Rattle.std.specs.Prelude.{Some}
 use Rattle.std.specs.Option.{option_map}
 use Rattle.std.proofs.lemmas.Option.{slice_get-map, slice_get_read}
 use Rattle.std.specs.List.{range_with_len, AllByRecursion}
@@ -18,8 +18,8 @@ use Rattle.epoch_model.specs.Summary.{Terms, SinkTerms}
 use Rattle.taint_shadow.specs.declared.places.Places.{Places}
 use Rattle.taint_shadow.specs.Labels.{KeepsLabels}
 use Rattle.taint_shadow.specs.Places.{kept}
-use Rattle.taint_shadow.specs.Steps.{AreStanding, meaning_or}
-use Rattle.local_taint.specs.declared.labels.Label.{Label}
+use Rattle.taint_shadow.specs.Steps.{AreStanding}
+use Rattle.taint_shadow.specs.declared.labels.Label.{Label}
 use Rattle.local_taint.specs.declared.labels.Nodes.{Nodes}
 use Rattle.local_taint.specs.declared.sinks.SinkLabel.{SinkLabel}
 use Rattle.local_taint.specs.Words.{label_words, StandsIn}
@@ -49,23 +49,16 @@ named_kept old new sinks k h = each sinks (recursion_from_All (λ x. StandsIn ol
 
 -- ---- what is kept for locations goes on standing
 
-module _ (old new : Nodes) (places : Places Label) (k : KeepsLabels label_words old new) (standing : AreStanding label_words old places) where
+module _ (old new : Nodes) (places : Places) (k : KeepsLabels label_words old new) (standing : AreStanding label_words old places) where
   pub standing_kept : AreStanding label_words new places
-  standing_kept = record { at = λ l n here is. (k n (standing.at l n here is)).stands }
-
-  same_meaning : (o : Option Label) (l : Loc) → ((n : Label) → o ≡ Some n → StandsIn old n) → meaning_or label_words new o l ≡ meaning_or label_words old o l
-  same_meaning None l h = refl
-  same_meaning (Some n) l h = (k n (h n refl)).means
+  standing_kept = record { at = λ l here. (k (kept places l) (standing.at l here)).stands }
 
   pub shows_kept : (f : Loc → Terms) → Shows old places f → Shows new places f
-  shows_kept f s = record {
-    at = λ l here. same_meaning (kept places l) l (λ n is. standing.at l n here is) ∙ s.at l here;
-    beyond = s.beyond;
-  }
+  shows_kept f s = record { at = λ l here. (k (kept places l) (standing.at l here)).means ∙ s.at l here; beyond = s.beyond }
 
 -- ---- notes
 
-pub no_notes : (places : Places Label) (nodes : Nodes) (sinks : List SinkLabel) → AreNamed nodes sinks → Notes places [] nodes sinks nodes sinks
+pub no_notes : (places : Places) (nodes : Nodes) (sinks : List SinkLabel) → AreNamed nodes sinks → Notes places [] nodes sinks nodes sinks
 no_notes places nodes sinks h = record {
   keeps = keeps_itself nodes;
   stand = h;
@@ -73,7 +66,7 @@ no_notes places nodes sinks h = record {
 }
 
 -- one sink gets a label that means what is kept for its location
-pub one_note : (places : Places Label) (sink : Sink) (old new : Nodes) (before after : List SinkLabel) (n : Label)
+pub one_note : (places : Places) (sink : Sink) (old new : Nodes) (before after : List SinkLabel) (n : Label)
     → KeepsLabels label_words old new → AreNamed old before → StandsIn new n
     → ((f : Loc → Terms) → Shows old places f → label_words.means new n ≡ f sink.loc)
     → after ≡ before ++ record { name = sink.name; label = n } ∷ []
@@ -91,7 +84,7 @@ one_note places sink old new before after n k h stands means is =
     }
 
 -- some sinks, and then some more
-pub more_notes : (places : Places Label) (first second : List Sink) (a b c : Nodes) (x y z : List SinkLabel) → AreStanding label_words a places
+pub more_notes : (places : Places) (first second : List Sink) (a b c : Nodes) (x y z : List SinkLabel) → AreStanding label_words a places
     → Notes places first a x b y → Notes places second b y c z → Notes places (first ++ second) a x c z
 more_notes places first second a b c x y z standing m n = record {
   keeps = keeps_chain a b c m.keeps n.keeps;

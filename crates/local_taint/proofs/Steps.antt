@@ -1,5 +1,5 @@
 -- What one step makes of the terms of each location.
-use Rattle.std.proofs.Common.{◌≡◌, ℕ, ◌+◌, List, [], ◌∷◌, refl, ap, sym, subst, ◌<◌, ◌∙◌, Bool, true, false, if◌then◌else◌, arith, add-one}
+use Rattle.std.proofs.Common.{◌≡◌, ℕ, ◌+◌, ◌-◌, List, [], ◌∷◌, refl, ap, sym, subst, ◌<◌, ◌∙◌, Bool, true, false, if◌then◌else◌, arith, add-one}
 use Rattle.std.specs.Prelude.{◌==◌, Option, Some, None}
 use Rattle.std.proofs.lemmas.Bool.{eqb-true, eqb-false}
 use Rattle.std.proofs.lemmas.Bool.Decides.{nat_tests}
@@ -15,16 +15,18 @@ use Rattle.flow_model.specs.Flow.{Target, flow, cleared, loc_eq, origins_by, is_
 use Rattle.flow_model.specs.Ranges.{IsLocation, IsTable, IsInRange}
 use Rattle.flow_model.specs.Origins.{Policy, union_over, introduced, byte_at, fresh_by, step_at}
 use Rattle.flow_model.proofs.Located.{flow_table, cleared_table}
+use Rattle.report_model.specs.Query.{Query, policy_of}
 use Rattle.epoch_model.specs.Stretch.{locations_over, from_step, fresh_step, past, born}
 use Rattle.epoch_model.specs.Summary.{Terms, terms}
 use Rattle.taint_shadow.specs.Places.{AreKept}
 use Rattle.taint_shadow.specs.declared.places.Places.{Places}
-use Rattle.taint_shadow.specs.Steps.{AreStanding, Holds, meaning_or, united_over, introduced as brought_in, after}
-use Rattle.local_taint.specs.declared.labels.Label.{Label}
+use Rattle.taint_shadow.specs.Labels.{start_label}
+use Rattle.taint_shadow.specs.Steps.{AreStanding, Holds, united_over, introduced as brought_in, after}
 use Rattle.local_taint.specs.declared.labels.Nodes.{Nodes}
-use Rattle.local_taint.specs.Words.{label_words, together, of_itself}
+use Rattle.local_taint.specs.Words.{label_words, terms_in, together, of_itself, StandsIn}
+use Rattle.local_taint.specs.Laws.{label_laws}
 use Rattle.local_taint.specs.Sinks.{IsNoLane, Shows}
-use Rattle.local_taint.specs.Summaries.{AreInRange}
+use Rattle.local_taint.specs.Summaries.{AreInRange, IsFollowed}
 
 -- ---- what flows into a location
 
@@ -88,22 +90,22 @@ module _ (policy : Policy) (trace : List StepSeen) (s n : ℕ) (step : StepSeen)
   still_beyond h (Mem p) b = absurd b
 
   -- what shows the terms before a step of the trace shows those after it
-  pub one_more : (old new : Nodes) (before after_it : Places Label) → Shows old before (terms policy trace s n)
+  pub one_more : (old new : Nodes) (before after_it : Places) → Shows old before (terms policy trace s n)
       → Holds label_words new after_it (after label_words policy step step.call (terms policy trace s n)) → Shows new after_it (terms policy trace s (n + 1))
   one_more old new before after_it shows h = record {
     at = λ l here. h.at l here ∙ next_terms policy trace s n step l at;
     beyond = still_beyond shows.beyond;
   }
 
--- where nothing is kept, each location has the terms over no step
-pub none_kept : (policy : Policy) (trace : List StepSeen) (s : ℕ) (nodes : Nodes) (places : Places Label) → AreKept places (λ l. None) → Shows nodes places (terms policy trace s 0)
+-- where each location has the label of the start, it has the terms over no step
+pub none_kept : (policy : Policy) (trace : List StepSeen) (s : ℕ) (nodes : Nodes) (places : Places) → AreKept places start_label → Shows nodes places (terms policy trace s 0)
 none_kept policy trace s nodes places n = record {
-  at = λ l here. ap (λ (o : Option Label). meaning_or label_words nodes o l) (n.at l here);
+  at = λ l here. ap (terms_in nodes) (n.at l here) ∙ (label_laws.of_start nodes l here).means;
   beyond = λ l b. refl;
 }
 
-pub none_stand : (nodes : Nodes) (places : Places Label) → AreKept places (λ l. None) → AreStanding label_words nodes places
-none_stand nodes places n = record { at = λ l label here is. let no : None ≡ Some label = sym (n.at l here) ∙ is in cc }
+pub none_stand : (nodes : Nodes) (places : Places) → AreKept places start_label → AreStanding label_words nodes places
+none_stand nodes places n = record { at = λ l here. subst (StandsIn nodes) (sym (n.at l here)) (label_laws.of_start nodes l here).stands }
 
 -- with a step that is in range, one more of the trace's steps are
 pub one_in_range : (trace : List StepSeen) (s n : ℕ) (step : StepSeen) → step_at trace (s + n) ≡ Some step → IsInRange step → AreInRange trace s n → AreInRange trace s (n + 1)
@@ -114,3 +116,19 @@ one_in_range trace s n step at this before i other below is = by (i == n) refl w
       let one : other ≡ step = cc in
       subst IsInRange (sym one) this
   by false e = let less : i < n = omega (arith, below, eqb-false i n e) in before i other less is
+
+-- one step more is followed
+pub followed_more : (q : Query) (trace : List StepSeen) (first time : ℕ) (step : StepSeen) (old new : Nodes) (before places : Places) → step_at trace time ≡ Some step → IsInRange step
+    → IsFollowed q trace first time old before → Holds label_words new places (after label_words (policy_of q) step step.call (terms (policy_of q) trace first (time - first)))
+    → IsFollowed q trace first (time + 1) new places
+followed_more q trace first time step old new before places at range so_far holds =
+    let n = time - first in
+    let begun = so_far.begun in
+    let here : time ≡ first + n = omega arith in
+    let next : n + 1 ≡ time + 1 - first = omega arith in
+    let made : step_at trace (first + n) ≡ Some step = subst (λ (t : ℕ). step_at trace t ≡ Some step) here at in
+    record {
+      begun = omega arith;
+      shows = subst (λ (k : ℕ). Shows new places (terms (policy_of q) trace first k)) next (one_more (policy_of q) trace first n step made range.fits old new before places so_far.shows holds);
+      in_range = subst (AreInRange trace first) next (one_in_range trace first n step made range so_far.in_range);
+    }

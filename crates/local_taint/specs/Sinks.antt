@@ -11,7 +11,6 @@ use Rattle.epoch_model.specs.Summary.{Terms, SinkTerms}
 use Rattle.taint_shadow.specs.declared.places.Places.{Places}
 use Rattle.taint_shadow.specs.Labels.{KeepsLabels}
 use Rattle.taint_shadow.specs.Steps.{meaning_at}
-use Rattle.local_taint.specs.declared.labels.Label.{Label}
 use Rattle.local_taint.specs.declared.labels.Nodes.{Nodes}
 use Rattle.local_taint.specs.declared.sinks.SinkLabel.{SinkLabel}
 use Rattle.local_taint.specs.Words.{label_words, StandsIn, of_itself}
@@ -38,12 +37,12 @@ IsNoLane (Reg r i) = (32 ≤ r) ⊎ (4 ≤ i)
 IsNoLane (Mem p) = ⊥
 
 -- f gives the terms that are kept for each location, and of a lane that no register has itself
-pub record Shows (nodes : Nodes) (places : Places Label) (f : Loc → Terms) : Type 0 where
+pub record Shows (nodes : Nodes) (places : Places) (f : Loc → Terms) : Type 0 where
   pub at : (l : Loc) → IsLocation l → meaning_at label_words nodes places l ≡ f l
   pub beyond : (l : Loc) → IsNoLane l → f l ≡ of_itself l
 
 -- after these sinks came to those that were noted, each of them has the terms that are kept for its location
-pub record Notes (places : Places Label) (sinks : List Sink) (old : Nodes) (before : List SinkLabel) (new : Nodes) (after : List SinkLabel) : Type 0 where
+pub record Notes (places : Places) (sinks : List Sink) (old : Nodes) (before : List SinkLabel) (new : Nodes) (after : List SinkLabel) : Type 0 where
   pub keeps : KeepsLabels label_words old new
   pub stand : AreNamed new after
   pub rows : (f : Loc → Terms) → Shows old places f → map (named new) after ≡ map (named old) before ++ map (found f) sinks

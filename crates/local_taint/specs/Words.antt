@@ -4,10 +4,11 @@ use Rattle.flow_model.specs.declared.Loc.{Loc}
 use Rattle.flow_model.specs.Orders.{loc_cmp, source_cmp}
 use Rattle.sorted_set.specs.Sets.{union}
 use Rattle.epoch_model.specs.Summary.{Terms}
-use Rattle.merge_log.specs.Log.{IsNode, terms, Terms as Leaves}
-use Rattle.taint_shadow.specs.Labels.{LabelWords}
-use Rattle.local_taint.specs.declared.labels.Label.{Label}
-use Rattle.local_taint.specs.declared.labels.Label.TheVariants.{Node, Start}
+use Rattle.merge_log.specs.Log.{IsNode, AreSets, terms, Terms as Leaves}
+use Rattle.taint_shadow.specs.declared.labels.Label.{Label}
+use Rattle.taint_shadow.specs.declared.labels.LabelKind.{LabelKind}
+use Rattle.taint_shadow.specs.declared.labels.LabelKind.TheVariants.{Node, Start}
+use Rattle.taint_shadow.specs.Labels.{LabelWords, kind_of}
 use Rattle.local_taint.specs.declared.labels.Nodes.{Nodes}
 
 -- the leaves under a node as the terms of a content
@@ -23,24 +24,35 @@ abbrev pub together : Terms → Terms → Terms
 together a b = record { sources = union source_cmp a.sources b.sources; starts = union loc_cmp a.starts b.starts }
 
 -- the node of a label: the empty one, where it has none
-abbrev pub node_or_nothing : Label → ℕ
+abbrev pub node_or_nothing : LabelKind → ℕ
 node_or_nothing (Node n) = n
 node_or_nothing (Start l) = 0
 
 -- the node of a label is one of the log's
 abbrev pub StandsIn : Nodes → Label → Type 0
-StandsIn nodes l = IsNode nodes.log (node_or_nothing l)
+StandsIn nodes label = IsNode nodes.log (node_or_nothing (kind_of label))
 
 -- the leaves under a node, or the location alone
+abbrev pub terms_by : Nodes → LabelKind → Terms
+terms_by nodes (Node n) = as_terms (terms nodes.log n)
+terms_by nodes (Start l) = of_itself l
+
 abbrev pub terms_in : Nodes → Label → Terms
-terms_in nodes (Node n) = as_terms (terms nodes.log n)
-terms_in nodes (Start l) = of_itself l
+terms_in nodes label = terms_by nodes (kind_of label)
+
+-- the terms as leaves of a log: the source bytes and the start locations ascend there
+abbrev pub as_leaves : Terms → Leaves
+as_leaves t = record { sources = t.sources; starts = t.starts }
+
+abbrev pub AreTerms : Terms → Type 0
+AreTerms t = AreSets (as_leaves t)
 
 -- a label stands for its terms, and an untouched location for itself
-abbrev pub label_words : LabelWords Nodes Label Terms
+abbrev pub label_words : LabelWords Nodes Terms
 label_words = record {
   stands = StandsIn;
   means = terms_in;
+  IsMeaning = AreTerms;
   nothing = record { sources = []; starts = [] };
   source = λ b. record { sources = b ∷ []; starts = [] };
   untouched = of_itself;

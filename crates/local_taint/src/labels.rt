@@ -1,8 +1,8 @@
-//! What the locations of an epoch are labelled with.
+//! What labels mean in an epoch: nodes of its log, and what locations had at its start.
 
-ghost use Rattle.std.specs.Prelude.{◌≡◌, IsTrue, IfOk, OnOk};
-ghost use Rattle.merge_log.specs.Log.{AreSets, IsNode, terms};
-ghost use Rattle.taint_shadow.specs.Labels.{KeepsLabels, MakesLabel};
+ghost use Rattle.std.specs.Prelude.{◌≡◌, IfOk, OnOk};
+ghost use Rattle.merge_log.specs.Log.{AreSets, IsNode, KeepsNodes, terms};
+ghost use Rattle.taint_shadow.specs.Labels.{MakesLabel, Makes, mean_together};
 ghost use Rattle.local_taint.specs.Words.{label_words, as_terms};
 
 use flow_model::{Loc, SourceByte};
@@ -10,16 +10,7 @@ use merge_log::{MergeLog, Node, TermsReader};
 use no_memory::NoMemory;
 use std::collections::LinkedList;
 use std::marker::Model;
-use taint_shadow::Labels;
-
-/// What a location came from: the leaves under a node of the log, or what one location had at the start.
-///
-/// The latter has no node until it is united with another label. Most of what an epoch touches it only moves.
-#[derive(Clone, Copy, PartialEq, Eq)]
-pub enum Label {
-    Node(u32),
-    Start(Loc),
-}
+use taint_shadow::{Label, LabelKind, Labels};
 
 /// What a label means: the source bytes and the start locations that it stands for. Contracts speak of it; none is made.
 #[derive(Drop)]
@@ -36,24 +27,14 @@ impl Model for LabelTerms {
     ghost view = { λ t. record { sources = t.sources; starts = t.starts } };
 }
 
-/// Makes nodes, and unites them, in a log. A location that no step touched has none.
+/// Makes nodes, and unites them, in a log. What a location had at the start has no node until it is united with another
+/// label: most of what an epoch touches it only moves.
 #[derive(Drop)]
 pub struct Nodes {
     pub(crate) log: MergeLog,
 }
 
 impl Nodes {
-    /// Whether it is the label of the empty node.
-    #[inline(always)]
-    fn is_nothing(&self, label: &Label) -> bool
-        ensures { IsTrue result → label_words.means self.now label.now ≡ label_words.nothing }
-    {
-        match label {
-            Label::Node(node) => *node as Node == self.log.nothing(),
-            Label::Start(_) => false,
-        }
-    }
-
     /// The label of a node.
     #[inline(always)]
     fn label_of(&self, node: Node) -> Label
@@ -61,7 +42,7 @@ impl Nodes {
         ensures { MakesLabel label_words self.now (as_terms (terms self.now.log node)) result }
     {
         self.log.form(); // so that nodes fit into 32 bits
-        Label::Node(node as u32)
+        Label::node(node as u32)
     }
 
     /// The node of a label, which is made unless it is there.
@@ -70,33 +51,44 @@ impl Nodes {
         requires { label_words.stands self.old label }
         ensures stands { IfOk result (λ n. IsNode self.new.log n) }
         ensures means { IfOk result (λ n. as_terms (terms self.new.log n) ≡ label_words.means self.old label) }
-        ensures keeps { KeepsLabels label_words self.old self.new }
+        ensures keeps { KeepsNodes self.old.log self.new.log }
     {
-        match label {
-            Label::Node(node) => Ok(node as Node),
-            Label::Start(loc) => self.log.leaf_symbol(loc),
+        match label.kind() {
+            LabelKind::Node(node) => Ok(node as Node),
+            LabelKind::Start(loc) => self.log.leaf_symbol(loc),
         }
     }
 
-    /// The label of two together. Where one is the empty node it is the other, and no node is made for what a location had at
-    /// the start.
-    fn unite_any(&mut self, left: Label, right: Label) -> Result<Label, NoMemory>
+    /// The label of the union of two labels' nodes.
+    #[inline(always)]
+    fn unite_nodes(&mut self, left: Label, right: Label) -> Result<Label, NoMemory>
         requires left { label_words.stands self.old left }
         requires right { label_words.stands self.old right }
-        ensures made { IfOk result (MakesLabel label_words self.new (label_words.united (label_words.means self.old left) (label_words.means self.old right))) }
-        ensures keeps { KeepsLabels label_words self.old self.new }
+        ensures { IfOk result (Makes label_words self.old (mean_together label_words self.old left right) self.new) }
     {
-        self.log.form(); // the leaves under a node are sets
-        if self.is_nothing(&right) {
-            return Ok(left);
-        }
-        if self.is_nothing(&left) {
-            return Ok(right);
-        }
         let one = self.node_of(left)?;
         let other = self.node_of(right)?;
         let node = self.log.absorbing_union(one, other)?;
         Ok(self.label_of(node))
+    }
+
+    /// The label of two together. No node is made where the labels are equal, or one of them came from nowhere.
+    #[inline(always)]
+    fn unite_labels(&mut self, left: Label, right: Label) -> Result<Label, NoMemory>
+        requires left { label_words.stands self.old left }
+        requires right { label_words.stands self.old right }
+        ensures { IfOk result (Makes label_words self.old (mean_together label_words self.old left right) self.new) }
+    {
+        if left == right {
+            return Ok(left);
+        }
+        if right.is_nothing() {
+            return Ok(left);
+        }
+        if left.is_nothing() {
+            return Ok(right);
+        }
+        self.unite_nodes(left, right)
     }
 
     /// Reads the terms of a label. When out of memory, the reader may have read part of them, and can go on with any label.
@@ -105,53 +97,30 @@ impl Nodes {
         ensures read { OnOk result (as_terms reader.new ≡ label_words.means self.now label) }
         ensures ascending { OnOk result (AreSets reader.new) }
     {
-        match label {
-            Label::Node(node) => reader.read(&self.log, node as Node),
-            Label::Start(loc) => reader.read_start(loc),
+        match label.kind() {
+            LabelKind::Node(node) => reader.read(&self.log, node as Node),
+            LabelKind::Start(loc) => reader.read_start(loc),
         }
     }
 }
 
 impl Labels for Nodes {
     ghost use Rattle.local_taint.specs.Words.{label_words};
-
-    type Label = Label;
+    ghost use Rattle.local_taint.specs.Laws.{label_laws};
 
     type Meaning = LabelTerms;
 
     ghost words = { label_words };
 
-    fn nothing(&mut self) -> Result<Label, NoMemory> {
-        Ok(self.label_of(self.log.nothing()))
-    }
+    ghost laws = { label_laws };
 
     fn source(&mut self, byte: SourceByte) -> Result<Label, NoMemory> {
         let node = self.log.leaf_source(byte)?;
         Ok(self.label_of(node))
     }
 
-    fn untouched(&mut self, loc: Loc) -> Result<Label, NoMemory> {
-        Ok(Label::Start(loc))
-    }
-
-    fn is_untouched(&self, _label: &Label, _loc: Loc) -> bool {
-        false
-    }
-
-    fn share(&mut self, label: &Label) -> Result<Label, NoMemory> {
-        Ok(*label)
-    }
-
-    /// Two nodes are united at once: it is by far the most frequent case.
     #[inline(always)]
-    fn unite(&mut self, left: &Label, right: Label) -> Result<Label, NoMemory> {
-        let Label::Node(one) = *left else {
-            return self.unite_any(*left, right);
-        };
-        let Label::Node(other) = right else {
-            return self.unite_any(*left, right);
-        };
-        let node = self.log.absorbing_union(one as Node, other as Node)?;
-        Ok(self.label_of(node))
+    fn unite(&mut self, left: Label, right: Label) -> Result<Label, NoMemory> {
+        self.unite_labels(left, right)
     }
 }

@@ -8,30 +8,29 @@ ghost use Rattle.epoch_model.specs.Stretch.{points_at_start};
 ghost use Rattle.epoch_model.specs.Summary.{Terms};
 ghost use Rattle.report_model.specs.Rows.{point_sink, from_time};
 ghost use Rattle.sorted_set.specs.Sets.{Ascends};
-ghost use Rattle.taint_shadow.specs.Labels.{KeepsLabels};
 ghost use Rattle.taint_shadow.specs.Steps.{AreStanding};
 ghost use Rattle.local_taint.specs.Words.{label_words, StandsIn};
 ghost use Rattle.local_taint.specs.Sinks.{AreNamed, Notes, Shows, IsNoLane, sinks_at};
 
-use crate::labels::{Label, Nodes};
+use crate::labels::Nodes;
 use crate::sinks::SinkLabel;
 use flow_model::{InnerSink, Loc, SinkPoint};
 use no_memory::NoMemory;
 use query_lang::Query;
-use taint_shadow::{Labels, Places, label_at};
+use taint_shadow::{Label, Places};
 
 /// Notes the points at the beginning of an epoch that belong to it, which are those at time 0, and gives those after
 /// its beginning.
 pub fn collect_first<'a>(
-    nodes: &mut Nodes,
-    places: &Places<Label>,
+    nodes: &Nodes,
+    places: &Places,
     query: &'a Query,
     first: u64,
     sinks: &mut Vec<SinkLabel>,
 ) -> Result<&'a [InnerSink], NoMemory>
-    requires standing { AreStanding label_words nodes.old places.now }
-    requires named { AreNamed nodes.old sinks.old.items }
-    ensures noted { OnOk result (Notes places.now (points_at_start query.now first) nodes.old sinks.old.items nodes.new sinks.new.items) }
+    requires standing { AreStanding label_words nodes.now places.now }
+    requires named { AreNamed nodes.now sinks.old.items }
+    ensures noted { OnOk result (Notes places.now (points_at_start query.now first) nodes.now sinks.old.items nodes.now sinks.new.items) }
     ensures later { IfOk result (λ later. later.now ≡ from_time (first + 1) query.now.points) }
     ensures ascending { Ascends inner_cmp query.now.points }
 {
@@ -55,17 +54,17 @@ fn points_after(points: &[InnerSink], time: u64) -> &[InnerSink]
 /// that at the time.
 #[inline(always)]
 pub fn collect_due<'a>(
-    nodes: &mut Nodes,
-    places: &Places<Label>,
+    nodes: &Nodes,
+    places: &Places,
     points: &'a [InnerSink],
     time: u64,
     sinks: &mut Vec<SinkLabel>,
 ) -> Result<&'a [InnerSink], NoMemory>
     requires ascending { Ascends inner_cmp points.now }
     requires none_before { All (λ p. time ≤ p.time) points.now }
-    requires standing { AreStanding label_words nodes.old places.now }
-    requires named { AreNamed nodes.old sinks.old.items }
-    ensures noted { OnOk result (Notes places.now (sinks_at time points.now) nodes.old sinks.old.items nodes.new sinks.new.items) }
+    requires standing { AreStanding label_words nodes.now places.now }
+    requires named { AreNamed nodes.now sinks.old.items }
+    ensures noted { OnOk result (Notes places.now (sinks_at time points.now) nodes.now sinks.old.items nodes.now sinks.new.items) }
     ensures later { IfOk result (λ later. later.now ≡ from_time (time + 1) points.now) }
 {
     let mut due = 0;
@@ -78,34 +77,32 @@ pub fn collect_due<'a>(
 
 /// Notes one point.
 fn collect_point(
-    nodes: &mut Nodes,
-    places: &Places<Label>,
+    nodes: &Nodes,
+    places: &Places,
     point: InnerSink,
     sinks: &mut Vec<SinkLabel>,
 ) -> Result<(), NoMemory>
-    requires standing { AreStanding label_words nodes.old places.now }
-    requires named { AreNamed nodes.old sinks.old.items }
-    ensures { OnOk result (Notes places.now (point_sink point ∷ []) nodes.old sinks.old.items nodes.new sinks.new.items) }
+    requires standing { AreStanding label_words nodes.now places.now }
+    requires named { AreNamed nodes.now sinks.old.items }
+    ensures { OnOk result (Notes places.now (point_sink point ∷ []) nodes.now sinks.old.items nodes.now sinks.new.items) }
 {
-    let label = point_label(nodes, places, point.loc)?;
     sinks.push(SinkLabel {
         name: SinkPoint::At(point),
-        label,
+        label: point_label(nodes, places, point.loc),
     })?;
     Ok(())
 }
 
 /// The label of the location of a point. No step touches a lane that no register has.
-fn point_label(nodes: &mut Nodes, places: &Places<Label>, loc: Loc) -> Result<Label, NoMemory>
-    requires standing { AreStanding label_words nodes.old places.now }
-    ensures stands { IfOk result (λ n. StandsIn nodes.new n) }
-    ensures means { IfOk result (λ n. (f : Location → Terms) → Shows nodes.old places.now f → label_words.means nodes.new n ≡ f loc) }
-    ensures keeps { KeepsLabels label_words nodes.old nodes.new }
+fn point_label(nodes: &Nodes, places: &Places, loc: Loc) -> Label
+    requires standing { AreStanding label_words nodes.now places.now }
+    ensures stands { StandsIn nodes.now result }
+    ensures means { (f : Location → Terms) → Shows nodes.now places.now f → label_words.means nodes.now result ≡ f loc }
 {
     if is_location(loc) {
-        label_at(nodes, places, loc)
+        places.get(loc)
     } else {
-        nodes.untouched(loc)
+        Label::start(loc)
     }
 }
 

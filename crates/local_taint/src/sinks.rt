@@ -9,12 +9,12 @@ ghost use Rattle.taint_shadow.specs.Steps.{AreStanding};
 ghost use Rattle.local_taint.specs.Words.{label_words};
 ghost use Rattle.local_taint.specs.Sinks.{AreNamed, Notes, chosen};
 
-use crate::labels::{Label, Nodes};
+use crate::labels::Nodes;
 use flow_model::{CallSeen, Loc, SinkByte, SinkPoint, StepSeen};
 use isa::CallKind;
 use no_memory::NoMemory;
 use query_lang::Query;
-use taint_shadow::{Places, label_at};
+use taint_shadow::{Label, Places};
 
 /// An output byte or a point, with the label of what it came from.
 #[derive(Clone, Copy)]
@@ -27,16 +27,16 @@ pub struct SinkLabel {
 /// that before the step.
 #[inline(always)]
 pub fn collect(
-    nodes: &mut Nodes,
-    places: &Places<Label>,
+    nodes: &Nodes,
+    places: &Places,
     step: &StepSeen,
     query: &Query,
     sinks: &mut Vec<SinkLabel>,
 ) -> Result<(), NoMemory>
     requires in_range { IsInRange step.now }
-    requires standing { AreStanding label_words nodes.old places.now }
-    requires named { AreNamed nodes.old sinks.old.items }
-    ensures { OnOk result ((t : ℕ) → Notes places.now (chosen query.now (sinks_of_step t step.now.call)) nodes.old sinks.old.items nodes.new sinks.new.items) }
+    requires standing { AreStanding label_words nodes.now places.now }
+    requires named { AreNamed nodes.now sinks.old.items }
+    ensures { OnOk result ((t : ℕ) → Notes places.now (chosen query.now (sinks_of_step t step.now.call)) nodes.now sinks.old.items nodes.now sinks.new.items) }
 {
     let Some(call) = &step.call else {
         return Ok(());
@@ -49,16 +49,16 @@ pub fn collect(
 
 /// Notes the bytes of a write.
 fn collect_written(
-    nodes: &mut Nodes,
-    places: &Places<Label>,
+    nodes: &Nodes,
+    places: &Places,
     call: &CallSeen,
     query: &Query,
     sinks: &mut Vec<SinkLabel>,
 ) -> Result<(), NoMemory>
     requires in_range { IsCallInRange (Some call.now) }
-    requires standing { AreStanding label_words nodes.old places.now }
-    requires named { AreNamed nodes.old sinks.old.items }
-    ensures { OnOk result ((t : ℕ) → Notes places.now (chosen query.now (map (sink_at t call.now) (range_with_len 0 call.now.length))) nodes.old sinks.old.items nodes.new sinks.new.items) }
+    requires standing { AreStanding label_words nodes.now places.now }
+    requires named { AreNamed nodes.now sinks.old.items }
+    ensures { OnOk result ((t : ℕ) → Notes places.now (chosen query.now (map (sink_at t call.now) (range_with_len 0 call.now.length))) nodes.now sinks.old.items nodes.now sinks.new.items) }
 {
     for i in 0..call.length {
         let sink = SinkByte {
@@ -75,25 +75,24 @@ fn collect_written(
 
 /// Notes one byte that is written from a location, if the query chooses it.
 fn collect_byte(
-    nodes: &mut Nodes,
-    places: &Places<Label>,
+    nodes: &Nodes,
+    places: &Places,
     sink: SinkByte,
     loc: Loc,
     query: &Query,
     sinks: &mut Vec<SinkLabel>,
 ) -> Result<(), NoMemory>
     requires location { IsLocation loc }
-    requires standing { AreStanding label_words nodes.old places.now }
-    requires named { AreNamed nodes.old sinks.old.items }
-    ensures { OnOk result ((t : ℕ) → Notes places.now (chosen query.now (record { name = Out sink; time = t; loc = loc } ∷ [])) nodes.old sinks.old.items nodes.new sinks.new.items) }
+    requires standing { AreStanding label_words nodes.now places.now }
+    requires named { AreNamed nodes.now sinks.old.items }
+    ensures { OnOk result ((t : ℕ) → Notes places.now (chosen query.now (record { name = Out sink; time = t; loc = loc } ∷ [])) nodes.now sinks.old.items nodes.now sinks.new.items) }
 {
     if !query.sink_has(sink) {
         return Ok(());
     }
-    let label = label_at(nodes, places, loc)?;
     sinks.push(SinkLabel {
         name: SinkPoint::Out(sink),
-        label,
+        label: places.get(loc),
     })?;
     Ok(())
 }

@@ -7,7 +7,7 @@ ghost use Rattle.taint_shadow.specs.Steps.{AreStanding};
 ghost use Rattle.local_taint.specs.Words.{label_words, as_terms};
 ghost use Rattle.local_taint.specs.Sinks.{AreNamed};
 
-use crate::labels::{Label, Nodes};
+use crate::labels::Nodes;
 use crate::sinks::SinkLabel;
 use flow_model::{Loc, SinkPoint};
 use merge_log::TermsReader;
@@ -20,7 +20,7 @@ use taint_shadow::Places;
 pub struct Summary {
     pub(crate) number: u32,
     pub(crate) nodes: Nodes,
-    pub(crate) places: Places<Label>,
+    pub(crate) places: Places,
     pub(crate) sinks: Vec<SinkLabel>,
     ghost standing: { AreStanding label_words nodes places },
     ghost named: { AreNamed nodes sinks.items },
@@ -43,10 +43,7 @@ impl Summary {
         ensures read { OnOk result (as_terms reader.new ≡ (summary_of self.now).ends loc) }
         ensures ascending { OnOk result (AreSets reader.new) }
     {
-        match self.places.get(loc) {
-            Some(label) => self.nodes.read(*label, reader),
-            None => reader.read_start(loc),
-        }
+        self.nodes.read(self.places.get(loc), reader)
     }
 
     /// Whether two locations have one label at the epoch's end, and so the same terms. Where it answers no the terms may be
@@ -56,13 +53,7 @@ impl Summary {
         requires other { IsLocation other }
         ensures { IsTrue result → (summary_of self.now).ends one ≡ (summary_of self.now).ends other }
     {
-        let Some(label) = self.places.get(one) else {
-            return false;
-        };
-        match self.places.get(other) {
-            Some(same) => label == same,
-            None => false,
-        }
+        self.places.get(one) == self.places.get(other)
     }
 
     /// How many sinks the epoch has.

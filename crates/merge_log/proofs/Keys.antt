@@ -102,18 +102,23 @@ first_alike log e k h = by (nat_lt (position_or_len (alike e) log) (length log))
       (get_or log k e, slice_get-get_or log k e within_too, ap (λ (i : ℕ). alike e (get_or log i e)) (sym same) ∙ passes_at_first (alike e) log e within)
   by false p q = cc
 
+-- an entry that stands in the log is noted there
+pub noted_here : (log : List Entry) (e : Entry) (n : ℕ) → entry_at log n ≡ Some e → IsNoted log e log n
+noted_here log e zero at = cc
+noted_here log e (suc k) at =
+    let within : k < length log = slice_get_within log k e at in
+    record {
+      stands = omega (arith, within);
+      entry = at;
+      there = λ c. refl;
+      added = λ lacks. absurd (lacks (k, within, get_or_from_slice_get log k e e at));
+    }
+
 pub noted_at : (log : List Entry) (e : Entry) (k : ℕ) → position (alike e) log ≡ Some k → IsNoted log e log (k + 1)
 noted_at log e k h =
     let at = first_alike log e k h in
     let same : at.0 ≡ e = sym (alike_same e at.0 at.2) in
-    let found : slice_get log k ≡ Some e = at.1 ∙ ap Some same in
-    let within : k < length log = slice_get_within log k e found in
-    record {
-      stands = omega (arith, within);
-      entry = at_index log k e found;
-      there = λ c. refl;
-      added = λ lacks. absurd (lacks (k, within, get_or_from_slice_get log k e e found));
-    }
+    noted_here log e (k + 1) (at_index log k e (at.1 ∙ ap Some same))
 
 pub keeps_all : (log : List Entry) → KeepsNodes log log
 keeps_all log = record { nodes = λ n h. h; terms = λ n h. refl }

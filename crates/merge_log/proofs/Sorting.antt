@@ -93,3 +93,15 @@ pub read_nothing : (log : List Entry) (n : ℕ) (sources : List SourceByte) (sta
 read_nothing log n sources starts h s t =
     let make : List SourceByte → List Loc → Terms = λ xs ys. record { sources = xs; starts = ys } in
     ap₂ make s t ∙ sym (ap (terms log) h ∙ nothing_under_0 log)
+
+-- sets of what was found have its leaves
+pub both_members : (sources sources1 : List SourceByte) (starts starts1 : List Loc) → IsSetOf source_compared sources1 sources → IsSetOf loc_compared starts1 starts → (q : Leaf)
+    → has_leaf q (record { sources = sources1; starts = starts1 }) ≡ has_leaf q (record { sources = sources; starts = starts })
+both_members sources sources1 starts starts1 s l (leaf.Source b) = (of_sources sources sources1 s).members b
+both_members sources sources1 starts starts1 s l (leaf.Start p) = (of_starts starts starts1 l).members p
+
+-- sets with the same leaves are the same
+pub same_terms : (a b : Terms) → AreSets a → AreSets b → ((q : Leaf) → has_leaf q a ≡ has_leaf q b) → a ≡ b
+same_terms a b h k same =
+    let make : List SourceByte → List Loc → Terms = λ xs ys. record { sources = xs; starts = ys } in
+    ap₂ make (same_list source_total source_same a.sources b.sources h.sources k.sources (λ q. same (leaf.Source q))) (same_list loc_total loc_same a.starts b.starts h.starts k.starts (λ q. same (leaf.Start q)))

@@ -3,13 +3,19 @@
 //!
 //! Crates above rest on this: `leaf_source`, `leaf_symbol` and `union` give the one node of what they ask for, keep
 //! every node and its leaves, and when refused change nothing; `terms` and `TermsReader::read` give exactly the leaves
-//! under a node, each once. A union with one of its operands is that union itself, where the analysis unites.
+//! under a node, each once, and `ManyTerms::read` those of up to 64 nodes. With `absorbing_union`, by which the analysis
+//! unites, a union with one of its operands is that union itself.
 //! specs/Log.antt says which leaves are under a node.
 #![tactic(auto)]
 
+mod many;
+mod masks;
 mod nodes;
 mod reader;
+mod recent;
+mod spread;
 mod walk;
 
+pub use many::{MOST_ROOTS, ManyTerms};
 pub use nodes::{Entry, MergeLog, Node};
 pub use reader::{Leaf, TermsReader, ascend};

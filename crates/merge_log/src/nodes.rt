@@ -6,6 +6,7 @@ ghost use Rattle.merge_log.specs.Walk.{leaves_of};
 ghost use Rattle.merge_log.specs.declared.nodes.Entry.TheVariants as entry;
 
 use crate::reader::{Leaf, TermsReader};
+use crate::recent::RecentUnions;
 use flow_model::{Loc, SourceByte};
 use indexmap::IndexSet;
 use no_memory::NoMemory;
@@ -31,6 +32,7 @@ pub enum Entry {
 #[derive(Drop)]
 pub struct MergeLog {
     entries: IndexSet<Entry>,
+    recent: RecentUnions,
 }
 
 /// The most entries of a log: its nodes fit into 32 bits.
@@ -55,6 +57,7 @@ impl MergeLog {
     {
         MergeLog {
             entries: IndexSet::new(alloc),
+            recent: RecentUnions::new(alloc),
         }
     }
 
@@ -126,7 +129,12 @@ impl MergeLog {
             return Ok(b);
         }
         let (left, right) = in_order(a as u32, b as u32);
-        self.insert(Entry::Union { left, right })
+        let slot = self.recent.slot_of(left, right);
+        let node = self.recent.node(slot);
+        if self.is_union_of(node, left, right) {
+            return Ok(node as u64);
+        }
+        self.insert_union(left, right, slot)
     }
 
     /// The node of the leaves of two nodes, with fewer nodes: where one is a union that has the other as an operand, it is that
@@ -197,6 +205,43 @@ impl MergeLog {
             Entry::Start(_) => false,
             Entry::Union { left, right } => left == operand || right == operand,
         }
+    }
+
+    /// Whether a number is the node of the union of two others.
+    #[inline(always)]
+    fn is_union_of(&self, node: u32, left: u32, right: u32) -> bool
+        ensures { IsTrue result → entry_at self.now node ≡ Some (entry.Union left right) }
+    {
+        if node == 0 || node as u64 >= self.size() {
+            return false;
+        }
+        match self.entry(node) {
+            Entry::Source(_) => false,
+            Entry::Start(_) => false,
+            Entry::Union {
+                left: one,
+                right: other,
+            } => one == left && other == right,
+        }
+    }
+
+    /// The node of a union, which is made unless it is there, and is noted at the slot of its operands.
+    #[inline(never)]
+    fn insert_union(&mut self, left: u32, right: u32, slot: usize) -> Result<Node, NoMemory>
+        requires { HasOperandsBefore (length self.old + 1) (entry.Union left right) }
+        ensures terms { IfOk result (λ n. terms self.new n ≡ joined (terms self.new left) (terms self.new right)) }
+        ensures noted { IfOk result (λ n. IsNoted self.old (entry.Union left right) self.new n) }
+        ensures kept { KeepsNodes self.old self.new }
+        ensures there { Contains self.old (entry.Union left right) → IsOk result }
+        ensures err { OnErr result (self.new ≡ self.old) }
+    {
+        let before = self.entries.len();
+        let node = self.insert(Entry::Union { left, right })?;
+        self.recent.note(slot, node as u32);
+        if before < self.entries.len() {
+            self.recent.fit(self.entries.len()); // where the node was there no memory is taken
+        }
+        Ok(node)
     }
 
     /// The node of an entry, which is made unless it is there.

@@ -3,7 +3,7 @@
 ghost use Rattle.std.specs.Prelude.{◌≡◌, ◌++◌, map, IfOk, OnOk};
 ghost use Rattle.sorted_set.specs.Sets.{Ascends, has};
 ghost use Rattle.merge_log.specs.Log.{IsNode, AreSets, terms, no_terms, start_term};
-ghost use Rattle.merge_log.specs.Walk.{leaves_of};
+ghost use Rattle.merge_log.specs.Walk.{leaves_of, terms_of};
 ghost use Rattle.merge_log.specs.declared.reader.Leaf.TheVariants as leaf;
 
 use crate::nodes::{MergeLog, Node};
@@ -12,6 +12,7 @@ use flow_model::{Loc, SourceByte};
 use no_memory::NoMemory;
 use std::alloc::Global;
 use std::marker::Model;
+use std::mem;
 
 /// A leaf of a node: a source byte, or a location at the start.
 #[derive(Clone, Copy, Debug, PartialEq, Eq)]
@@ -87,6 +88,14 @@ impl TermsReader {
         self.found.starts.clear();
         self.found.starts.push(loc)?;
         Ok(())
+    }
+
+    /// Changes what was read for what was found otherwise.
+    pub(crate) fn swap_found(&mut self, found: &mut Found)
+        ensures read { self.new ≡ terms_of found.old }
+        ensures given { terms_of found.new ≡ self.old }
+    {
+        mem::swap(&mut self.found, found);
     }
 
     /// Reads the leaves under a node of a log, by one visit to each node under it. When out of memory, it may

@@ -10,7 +10,8 @@ use Rattle.stream_model.specs.Streams.{is_ended, answers_in}
 use Rattle.stream_model.proofs.Counting.{places_stay, resolvable_by_count}
 use Rattle.pass_parts.specs.PartLaws.{CountsStay, AnswerableByCount}
 
-within_more : (ls asked more : List Loc) → is_within loc_cmp ls asked ≡ true → is_within loc_cmp ls (asked ++ more) ≡ true
+-- locations that are all asked stay so when more is asked
+pub within_more : (ls asked more : List Loc) → is_within loc_cmp ls asked ≡ true → is_within loc_cmp ls (asked ++ more) ≡ true
 within_more [] asked more e = refl
 within_more (l ∷ ls) asked more e =
     let parts = and_parts (has loc_cmp l asked) (is_within loc_cmp ls asked) e in

@@ -1,7 +1,6 @@
 -- The ends of a pass, an inlet and an outlet, where there are any, and what went through them.
-use Rattle.std.specs.Prelude.{◌≡◌, ℕ, Bool, true, false, Option, Some, None, List, [], ◌∷◌, ◌++◌, option_map, IfSome}
-use Rattle.atomic_table.specs.Seated.{TableId}
-use Rattle.epoch_link.specs.Link.{Rose}
+use Rattle.std.specs.Prelude.{◌≡◌, Bool, true, false, Option, Some, None, List, [], ◌∷◌, ◌++◌, option_map}
+use Rattle.epoch_link.specs.Link.{EndView, IsSameEnd, HasRefused}
 use Rattle.flow_rule.specs.declared.Message.{Message}
 use Rattle.flow_rule.specs.declared.Message.TheVariants.{End}
 
@@ -9,26 +8,29 @@ use Rattle.flow_rule.specs.declared.Message.TheVariants.{End}
 abbrev pub with : Message → Option (List Message) → Option (List Message)
 with m = option_map (λ ms. ms ++ m ∷ [])
 
-module _ {E : Type 0} (link : E → TableId) (capacity : E → ℕ) (other : E → List Message) where
-  -- the same end of the same link, which an event may have used
+module _ {E : Type 0} (end : E → EndView Message) where
+  -- what went through an end, where there is one
+  abbrev pub through : Option E → Option (List Message)
+  through e = option_map (λ e. (end e).passed) e
+
+  -- the same end, which an event may have used
   abbrev pub IsEndFrom : Option E → Option E → Type 0
   IsEndFrom None None = Unit {0}
-  IsEndFrom (Some new) (Some old) = (link new ≡ link old) × (capacity new ≡ capacity old) × (other new ≡ other old)
+  IsEndFrom (Some new) (Some old) = IsSameEnd (end old) (end new)
   IsEndFrom None (Some old) = ⊥
   IsEndFrom (Some new) None = ⊥
 
-module _ {E : Type 0} (refusals : E → ℕ) (ready : E → Option Bool) where
-  -- the link refused: the count of refusals rose, and where the link tells whether it is ready it was not
+  -- its link refused
   abbrev pub IsRefused : Option E → Option E → Type 0
   IsRefused None None = ⊥
-  IsRefused (Some old) (Some new) = Rose (refusals old) (refusals new) × IfSome (ready old) (λ goes. goes ≡ false)
+  IsRefused (Some old) (Some new) = HasRefused (end old) (end new)
   IsRefused None (Some new) = ⊥
   IsRefused (Some old) None = ⊥
 
-module _ {V I O : Type 0} (got : I → List Message) (sent : O → List Message) where
+module _ {V I O : Type 0} (inlet_end : I → EndView Message) (outlet_end : O → EndView Message) where
   -- a fact of a pass, and of what went through its ends
   abbrev pub Seen : (V → Option (List Message) → Option (List Message) → Type 0) → V → Option I → Option O → Type 0
-  Seen P v inlet outlet = P v (option_map got inlet) (option_map sent outlet)
+  Seen P v inlet outlet = P v (through inlet_end inlet) (through outlet_end outlet)
 
 -- ---- in the words of the streams
 

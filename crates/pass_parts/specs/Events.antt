@@ -1,12 +1,15 @@
 -- An event of a pass, said once for both passes. V is what contracts see of a pass, S its state in the words of the
 -- definitions.
-use Rattle.std.specs.Prelude.{◌≡◌, Bool, true, false, Option, IsSome, List, option_map}
+use Rattle.std.specs.Prelude.{◌≡◌, Bool, true, false, Option, IsSome, List}
+use Rattle.epoch_link.specs.Link.{EndView}
 use Rattle.flow_rule.specs.declared.Message.{Message}
 use Rattle.stream_model.specs.Passes.{Links}
+use Rattle.stream_model.specs.Schedules.{Need}
 use Rattle.pass_parts.specs.declared.next.Next.{Next}
 use Rattle.pass_parts.specs.declared.next.Next.TheVariants as next
 use Rattle.pass_parts.specs.declared.pass_turn.PassTurn.{PassTurn}
-use Rattle.pass_parts.specs.Turns.{OnMoved, OnNotYet, OnOpen, OnOver}
+use Rattle.pass_parts.specs.Ends.{through, IsRefused}
+use Rattle.pass_parts.specs.Turns.{OnMoved, OnNotYet, OnOpen, OnOver, Waits}
 
 -- what the events of a pass are
 pub record Events (V S : Type 0) : Type 1 where
@@ -14,6 +17,8 @@ pub record Events (V S : Type 0) : Type 1 where
   pub state : V → Option (List Message) → Option (List Message) → S
   -- the event of the definitions
   pub event : V → Links → S → S
+  -- what the next one needs
+  pub need : V → S → Need
   -- what the pass keeps of what went through its ends
   pub Keeps : V → Option (List Message) → Option (List Message) → Type 0
   -- what no event changes
@@ -40,10 +45,16 @@ module _ {V S : Type 0} (p : Events V S) (old : V) (got sent : Option (List Mess
     pub not_yet : OnNotYet turn ((new ≡ old) × (got' ≡ got) × (sent' ≡ sent))
 
 -- the same over the ends themselves
-module _ {V S I O : Type 0} (p : Events V S) (got : I → List Message) (sent : O → List Message) where
+module _ {V S I O : Type 0} (p : Events V S) (inlet_end : I → EndView Message) (outlet_end : O → EndView Message) where
   abbrev pub IsEventOver : V → Option I → Option O → V → Option I → Option O → PassTurn → Type 0
   IsEventOver old inlet outlet new inlet' outlet' turn =
-      IsEvent p old (option_map got inlet) (option_map sent outlet) new (option_map got inlet') (option_map sent outlet') turn
+      IsEvent p old (through inlet_end inlet) (through outlet_end outlet) new (through inlet_end inlet') (through outlet_end outlet') turn
+
+  -- where it did not happen, the one link refused that it needs
+  abbrev pub HasWaited : V → Option I → Option O → Option I → Option O → PassTurn → Type 0
+  HasWaited old inlet outlet inlet' outlet' turn =
+      OnNotYet turn (Waits (p.need old (p.state old (through inlet_end inlet) (through outlet_end outlet)))
+      (IsRefused inlet_end inlet inlet') (IsRefused outlet_end outlet outlet'))
 
 -- ---- what is next
 

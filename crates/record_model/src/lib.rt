@@ -2,7 +2,8 @@
 //!
 //! What there is to read stands in specs/. proofs/ has worked examples, which the checker computes.
 //!
-//! Proved (`laws`): a run is recorded in one way; inputs are read in order from their beginning.
+//! Proved (`laws`): where the window can hold the program there is a recording, whatever the clock answers; a run is recorded
+//! in one way; inputs are read in order from their beginning.
 #![tactic(auto)]
 
 pub mod laws;

@@ -24,6 +24,7 @@ use Rattle.replay_model.proofs.Transfers.{IsHeld, read_held, write_held, same_ar
 use Rattle.rv_machine.specs.Hart.{Hart, IsStep}
 use Rattle.rv_machine.specs.declared.Stepped.{Stepped}
 use Rattle.rv_machine.specs.declared.Stepped.TheVariants.{Plain, Called, Trapped}
+use Rattle.replay_run.specs.Expects.{event_time}
 use Rattle.replay_run.specs.Runs.{RunAt, with_hart, IsUnderLog, CanMove, IsDue, IsLater, IsReady, IsFinished}
 
 -- ---- the records that are left are the log's
@@ -49,6 +50,16 @@ before_end_by log done (r ∷ rs) time form all rise none =
 -- a run with records left is before its end
 pub before_end : (r : RunAt) → IsUnderLog r → (r.moment.left ≡ [] → r.moment.time < end_at r.log.end) → r.moment.time < end_at r.log.end
 before_end r under none = before_end_by r.log r.moment.done r.moment.left r.moment.time under.form under.all under.rise none
+
+-- the next call of a run is before its end
+pub event_within : (r : RunAt) → IsUnderLog r → event_time r.moment.left r.log.end ≤ end_at r.log.end
+event_within r under = by r.moment.left under.all under.rise
+  where
+    by : (left : List CallRecord) → r.moment.done ++ left ≡ r.log.records → Rise r.moment.time left → event_time left r.log.end ≤ end_at r.log.end
+    by [] all rise = omega arith
+    by (q ∷ qs) all rise =
+        let last : least_after 0 r.log.records ≡ least_after (at_of q + 1) qs = ap (least_after 0) (sym all) ∙ least_at 0 r.moment.done q qs in
+        omega (arith, under.form.ends_after, least_rises (at_of q + 1) qs rise.1)
 
 -- ---- a record that agrees is due
 

@@ -14,8 +14,10 @@ use crate::expected::{Expected, time_of_call, time_of_end};
 use flow_model::{CallSeen, StepSeen};
 use isa::{CallKind, Instr};
 use log_model::CallRecord;
+use no_memory::NoMemory;
 use replay_log::Log;
 use rv_machine::{Machine, Reply, Stepped};
+use std::alloc::Global;
 use std::marker::Model;
 
 /// A machine that runs under a log. It counts the records whose calls are done, the steps, and the bytes
@@ -139,6 +141,13 @@ impl<'a> Run<'a> {
         ensures { result.now ≡ self.now.log }
     {
         self.log
+    }
+
+    /// Makes the room in which the machine keeps what it decoded, unless there is some: [`Machine::keep_decoded`].
+    pub fn keep_decoded(&mut self, alloc: Global) -> Result<(), NoMemory>
+        ensures { self.new ≡ self.old }
+    {
+        self.machine.keep_decoded(alloc)
     }
 
     /// The machine.

@@ -1,2 +1,10 @@
-mod Summaries
+mod Sequences
+mod Comparing
+mod Checking
+mod Loops
+mod PlainSteps
+mod Passing
+mod Watching
+mod Stretches
 mod Stepping
+mod Summaries

@@ -1,26 +1,34 @@
 -- The step that a job's run makes at a time, and the moment after it.
-use Rattle.std.proofs.Common.{◌≡◌, ℕ, suc, ◌+◌, ◌<◌, false, Some, None, arith, ap, ap₂, sym, ◌∙◌}
+use Rattle.std.proofs.Common.{◌≡◌, ℕ, suc, ◌+◌, ◌<◌, false, Some, None, refl, arith, ap, ap₂, sym, ◌∙◌}
 use Rattle.log_model.specs.Logs.{end_at, steps}
 use Rattle.flow_model.specs.declared.StepSeen.{StepSeen}
 use Rattle.flow_model.specs.Origins.{step_at}
-use Rattle.replay_model.specs.Run.{start, advance, moment_after, step_of}
+use Rattle.replay_model.specs.Run.{Moment, start, advance, moment_after, step_of}
 use Rattle.replay_model.specs.Comparison.{difference}
 use Rattle.replay_model.proofs.Agreement.{agrees_at}
 use Rattle.replay_model.proofs.Offsets.{step_at_from, moment_later, steps_within}
-use Rattle.rv_machine.specs.Hart.{Hart, IsStep}
+use Rattle.rv_machine.specs.Hart.{Hart, IsPlainStep, IsStep}
 use Rattle.isa.specs.declared.Instr.{Instr}
 use Rattle.rv_machine.specs.declared.Stepped.{Stepped}
-use Rattle.rv_machine.specs.declared.Stepped.TheVariants.{Plain}
-use Rattle.replay_run.specs.Runs.{RunAt, with_hart, later_by_one, IsFinished}
-use Rattle.replay_run.proofs.Steps.{done, numbered}
+use Rattle.rv_machine.specs.declared.Stepped.TheVariants.{Plain, Called, Trapped}
+use Rattle.replay_run.specs.Runs.{RunAt, with_hart, later_by_one, IsUnderLog, IsReady, IsFinished}
+use Rattle.replay_run.proofs.Steps.{ready, done, numbered}
 use Rattle.replayer.specs.Jobs.{Job, trace_of}
 use Rattle.replayer.specs.Cursors.{IsCursor}
+use Rattle.replayer.specs.Nexts.{IsStepAt, IsPlainAt}
+use Rattle.replayer.proofs.Stretches.{called_is_some}
 
 -- at a cursor nothing differs
 pub cursor_agrees : (job : Job) (run : RunAt) → IsCursor job run → run.moment.time < steps job.log → difference run.log run.moment ≡ None
 cursor_agrees job run cursor below =
     let last = steps_within job.log.end in
     ap₂ difference cursor.same_log cursor.here ∙ agrees_at job.log (end_at job.log.end + 1) run.moment.time (start job.start job.log) cursor.is_job.agrees (omega arith)
+
+-- the step that the machine makes there can be finished
+pub cursor_ready : (job : Job) (run : RunAt) → IsCursor job run → IsUnderLog run → run.moment.time < steps job.log → (stepped : Stepped) (hart : Hart) → IsStep run.moment.state stepped hart → IsReady (with_hart run hart) stepped
+cursor_ready job run cursor under below stepped hart made =
+    let same : steps run.log ≡ steps job.log = ap steps cursor.same_log in
+    ready run stepped hart under (omega arith) (cursor_agrees job run cursor below) made
 
 -- a plain step that was counted is finished
 pub plain_finished : (run after : RunAt) (hart : Hart) (instr : Instr) (place number : ℕ) → number ≡ run.moment.time → after ≡ later_by_one (with_hart run hart) → IsFinished (record (run.moment) { state = hart.state }) (Plain instr place) (record { number = number; instr = instr; place = place; call = None }) after.moment
@@ -48,3 +56,35 @@ module _ (job : Job) (run : RunAt) (cursor : IsCursor job run) (below : run.mome
   cursor_step after s f =
       let step = (done run.moment stepped hart s after.moment made f).step in
       step_at_from (steps job.log) run.moment.time (start job.start job.log) below ∙ ap (λ (x : StepSeen). Some x) (ap step_of (sym cursor.here) ∙ sym step)
+
+-- ---- a plain step
+
+-- the step that the machine made is counted: the cursor has moved on by it
+pub record IsMade (job : Job) (run after : RunAt) (s : StepSeen) : Type 0 where
+  pub cursor : IsCursor job after
+  pub step : IsStepAt (record { job = job; time = run.moment.time }) s (record { job = job; time = after.moment.time })
+
+pub plain_made : (job : Job) (run after : RunAt) (hart : Hart) (instr : Instr) (place number : ℕ) → IsCursor job run → run.moment.time < steps job.log → IsPlainStep run.moment.state instr place hart
+    → number ≡ run.moment.time → after ≡ later_by_one (with_hart run hart) → IsMade job run after (record { number = number; instr = instr; place = place; call = None })
+plain_made job run after hart instr place number cursor below made n e =
+    let s : StepSeen = record { number = number; instr = instr; place = place; call = None } in
+    let finished = plain_finished run after hart instr place number n e in
+    record {
+      cursor = cursor_moves job run cursor below (Plain instr place) hart made after s finished (ap (λ (r : RunAt). r.log) e) (ap (λ (r : RunAt). r.waits) e ∙ made.goes_on);
+      step = record {
+        below = below;
+        step = cursor_step job run cursor below (Plain instr place) hart made after s finished;
+        number = n;
+        moved = ap (λ (r : RunAt). record { job = job; time = r.moment.time }) e;
+        in_range = record { fits = made.fits; call = tt };
+      };
+    }
+
+-- where the run makes a plain step, the machine makes no other
+pub no_other : (job : Job) (run : RunAt) → IsCursor job run → IsUnderLog run → IsPlainAt job run.moment.time → (stepped : Stepped) (hart : Hart) → IsStep run.moment.state stepped hart → ((instr : Instr) (place : ℕ) → stepped ≡ Plain instr place → ⊥) → ⊥
+no_other job run cursor under plain (Plain instr place) hart made other = other instr place refl
+no_other job run cursor under plain (Called call) hart made other =
+    let m = moment_after run.moment.time (start job.start job.log) in
+    let none = plain.no_call (step_of m) (step_at_from (steps job.log) run.moment.time (start job.start job.log) plain.below) in
+    called_is_some run.moment call made.called (ap (λ (x : Moment). (step_of x).call) cursor.here ∙ none)
+no_other job run cursor under plain (Trapped kind pc) hart made other = cursor_ready job run cursor under plain.below (Trapped kind pc) hart made

@@ -2,5 +2,9 @@ pub mod Jobs
 pub mod Positions
 pub mod Cursors
 pub mod Nexts
+pub mod Differences
+pub mod Comparisons
+pub mod CheckedSteps
+pub mod Watching
 pub mod Checks
 pub mod Saved

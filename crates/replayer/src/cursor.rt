@@ -1,10 +1,11 @@
 //! The steps of a job's run, one by one.
 
 ghost use Rattle.std.specs.Prelude.{◌≡◌, IfOk};
-ghost use Rattle.replayer.specs.Nexts.{IsNext};
+ghost use Rattle.replayer.specs.Nexts.{IsNext, IsStepAt, IsPlainAt, IsPlainUntil, seen_at};
 
 use crate::job::Job;
 use flow_model::StepSeen;
+use isa::Instr;
 use log_model::RunEnd;
 use no_memory::NoMemory;
 use replay_run::Run;
@@ -26,6 +27,13 @@ pub enum Next {
     Step(StepSeen),
     /// All steps are done, and the run ended so.
     End(RunEnd),
+}
+
+/// A step that is no call: its instruction, and the effective address, 0 where the instruction has none.
+#[derive(Clone, Copy)]
+pub struct PlainStep {
+    pub instr: Instr,
+    pub place: u32,
 }
 
 impl<'a> Model for Cursor<'a> {
@@ -53,11 +61,42 @@ impl<'a> Cursor<'a> {
         })
     }
 
+    /// Makes the room in which steps keep what they decoded, unless there is some: a cursor that [`Cursor::from`] makes has
+    /// none. It changes nothing but the time that steps take, and gives up with NoMemory alone.
+    pub fn keep_decoded(&mut self, alloc: Global) -> Result<(), NoMemory>
+        ensures { self.new ≡ self.old }
+    {
+        self.run.keep_decoded(alloc)
+    }
+
     /// How many steps of the run are done.
     pub fn time(&self) -> u64
         ensures { result ≡ self.now.time }
     {
         self.run.time()
+    }
+
+    /// The first time from the cursor's on at which the run makes no plain step: it makes a call there, or all its steps are
+    /// done. Up to it each step can be made by [`Cursor::next_plain`].
+    pub fn plain_until(&self) -> u64
+        ensures { IsPlainUntil self.now.job self.now.time result }
+    {
+        self.run.form();
+        self.run.event_time().max(self.run.time())
+    }
+
+    /// Makes the next step of the run, which is a plain one. It takes no memory, and the log isn't looked at.
+    #[inline(always)]
+    pub fn next_plain(&mut self) -> PlainStep
+        requires { IsPlainAt self.old.job self.old.time }
+        ensures { IsStepAt self.old (seen_at self.old.time result) self.new }
+    {
+        self.run.form();
+        let Stepped::Plain { instr, place } = self.run.step_inlined() else {
+            unreachable!()
+        };
+        self.run.advance();
+        PlainStep { instr, place }
     }
 
     /// Makes the next step of the run, or tells its end, again and again. It takes no memory.

@@ -7,13 +7,14 @@ ghost use Rattle.log_model.specs.Moved.{received, received_by};
 ghost use Rattle.replay_model.specs.Summary.{calls, bytes_read, bytes_written};
 ghost use Rattle.rv_machine.specs.Hart.{running};
 ghost use Rattle.no_memory.specs.Faults.{IsCausedBy};
-ghost use Rattle.replayer.specs.Jobs.{IsJob};
+ghost use Rattle.replayer.specs.Jobs.{IsJob, trace_of};
 ghost use Rattle.replayer.specs.Checks.{IsChecked, IsMisfit};
 
+use crate::check::first_divergence;
+use crate::watcher::{Nobody, Watcher};
 use elf_image::Image;
 use log_model::{CallRecord, RunEnd};
 use no_memory::{Fault, NoMemory};
-use replay_fit::first_divergence;
 use replay_log::Log;
 use replay_model::Misfit;
 use rv_machine::Machine;
@@ -101,6 +102,23 @@ impl Job {
         ensures ok { IfOk result (λ job. IsChecked program.now image log job) }
         ensures fault { IfErr result (IsCausedBy (IsMisfit program.now image log)) }
     {
+        Job::check_watched(alloc, program, image, log, &mut Nobody)
+    }
+
+    /// The same as [`Job::check`], with a watcher that is told of each step of the run as it is checked. Where the log fits, it
+    /// has seen the whole trace of the job; else what it saw is of no use.
+    pub fn check_watched<W: Watcher>(
+        alloc: Global,
+        program: &[u8],
+        image: Image,
+        log: Log,
+        watcher: &mut W,
+    ) -> Result<Job, CheckFault>
+        requires { image_of_file program.now ≡ Ok image }
+        ensures ok { IfOk result (λ job. IsChecked program.now image log job) }
+        ensures seen { IfOk result (λ job. W.seen watcher.old (trace_of job) 0 → W.seen watcher.new (trace_of job) (steps job.log)) }
+        ensures fault { IfErr result (IsCausedBy (IsMisfit program.now image log)) }
+    {
         log.form();
         let kept = log.digest();
         let seen = Sha256::digest(program);
@@ -113,7 +131,7 @@ impl Job {
             Err(Fault::NoMemory(no_memory)) => return Err(Fault::NoMemory(no_memory)),
         };
         let _size = log.size();
-        match first_divergence(machine, &log) {
+        match first_divergence(machine, &log, watcher) {
             Some(divergence) => Err(Fault::At(Misfit::Diverged(divergence))),
             None => Ok(Job { image, log }),
         }

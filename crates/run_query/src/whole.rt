@@ -25,8 +25,8 @@ use std::thread::Threads;
 
 /// The report of a query over a run that is cut into epochs, what crosses each inner cut, and how many events of its nodes
 /// moved, or 2^64 - 1 where they are more. There is a node for each epoch, which analyses it by itself and is joined to its
-/// neighbours by two links; the workers give the nodes turns. Each enters the gate as its analysis begins. It gives up
-/// with NoMemory alone.
+/// neighbours by two links; the workers analyse the epochs, and then one gives the nodes their turns. Each node enters the
+/// gate as its analysis begins. It gives up with NoMemory alone.
 ///
 /// `workers` is 1 to 64, and `capacity`, of messages on a link, 1 to 65536.
 pub fn query<G: Gate, R: Threads + Wait + Sync>(

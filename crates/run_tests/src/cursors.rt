@@ -38,6 +38,9 @@ fn assert_goes_on(rt: &impl Abort, alloc: Global, job: &Job, number: u32) {
     assert!(rt; number < cuts.count());
     let mut cursor = points.start(alloc, number).expect(rt, "memory");
     let mut other = again(rt, alloc, &cursor, job);
+    if number % 2 == 1 {
+        other.keep_decoded(alloc).expect(rt, "memory");
+    }
     let left = job.steps().saturating_sub(cursor.time());
     assert_alike(rt, &mut cursor, &mut other, left);
 }

@@ -2,3 +2,4 @@ pub mod Hart
 pub mod Effects
 pub mod Start
 pub mod Saved
+pub mod Decoded

@@ -8,11 +8,12 @@ ghost use Rattle.no_memory.specs.declared.Fault.TheVariants.{At};
 ghost use Rattle.no_memory.specs.Faults.{IsCausedBy};
 ghost use Rattle.rv_machine.specs.Hart.{running, IsStep, IsAnswer, answered};
 
+use crate::decoded::DecodedWords;
 use crate::state::{Done, HartState, address_of};
 use crate::{MachineFault, Reply, Stepped};
 use elf_image::Image;
 use isa::Call;
-use rv_decode::decode;
+use no_memory::NoMemory;
 use std::alloc::Global;
 use std::marker::Model;
 
@@ -27,6 +28,8 @@ const ILLEGAL_INSTRUCTION: u32 = 2;
 pub struct Machine {
     pub(crate) state: HartState,
     pub(crate) waits: bool,
+    // It changes nothing but the time that steps take.
+    pub(crate) decoded: DecodedWords,
 }
 
 impl Model for Machine {
@@ -51,13 +54,24 @@ impl Machine {
         ensures small { IfErr result (IsCausedBy (λ window. (window.pages ≡ pages) × (start_of image.now pages ≡ None))) }
         ensures window { start_of image.now pages ≡ None → result ≡ Err (At (record { pages = pages })) }
     {
-        match HartState::start(alloc, image, pages) {
-            Ok(state) => Ok(Machine {
-                state,
-                waits: false,
-            }),
-            Err(fault) => Err(fault),
+        let state = HartState::start(alloc, image, pages)?;
+        Ok(Machine {
+            state,
+            waits: false,
+            decoded: DecodedWords::new(alloc)?,
+        })
+    }
+
+    /// Makes the room in which steps keep what they decoded, unless there is some: [`Machine::new`] makes it,
+    /// [`Machine::import_state`] doesn't. It changes nothing but the time that steps take, and gives up with NoMemory
+    /// alone.
+    pub fn keep_decoded(&mut self, alloc: Global) -> Result<(), NoMemory>
+        ensures { self.new ≡ self.old }
+    {
+        if self.decoded.is_none() {
+            self.decoded = DecodedWords::new(alloc)?;
         }
+        Ok(())
     }
 
     /// Makes one step, where no call waits. A trap changes nothing, and a call waits for [`Machine::answer`].
@@ -82,16 +96,17 @@ impl Machine {
                 pc,
             };
         }
-        let Some(instr) = decode(self.state.load(pc, 4)) else {
+        let word = self.state.load(pc, 4);
+        let Some(instr) = self.decoded.look_up(pc, word) else {
             return Stepped::Trapped {
                 kind: ILLEGAL_INSTRUCTION,
                 pc,
             };
         };
-        let effect = self.state.effect_of(&instr);
+        let effect = self.state.effect_of(instr);
         match self.state.execute(effect) {
             Done::Retired => Stepped::Plain {
-                instr,
+                instr: *instr,
                 place: address_of(&effect),
             },
             Done::Called => {

@@ -9,6 +9,7 @@
 //! lent, and put back is as it was.
 #![tactic(auto)]
 
+mod decoded;
 mod hart;
 mod saved;
 mod state;

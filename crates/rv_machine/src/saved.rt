@@ -4,6 +4,7 @@ ghost use Rattle.std.specs.Prelude.{◌≡◌, false, length, IfOk};
 ghost use Rattle.rv_machine.specs.Hart.{running};
 ghost use Rattle.rv_machine.specs.Saved.{rest_of, put_together};
 
+use crate::decoded::DecodedWords;
 use crate::hart::Machine;
 use crate::state::HartState;
 use no_memory::NoMemory;
@@ -75,9 +76,12 @@ impl Machine {
     pub fn import_state(state: MachineState) -> Machine
         ensures { result ≡ running state }
     {
+        let state = state.state;
+        let alloc = *state.memory.allocator();
         Machine {
-            state: state.state,
+            state,
             waits: false,
+            decoded: DecodedWords::none(alloc),
         }
     }
 }

@@ -1,3 +1,1 @@
-mod Steps
-mod Beyond
-mod Written
+mod Whole

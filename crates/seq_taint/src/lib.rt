@@ -1,13 +1,58 @@
-//! Taint analysis, one step after another: which source bytes the content of each location came from, and so the
-//! sources of each output byte and of each point inside the run that a query asks for.
+//! The rows of a whole run, in the order of the run: the run is one epoch, which asks nothing of any other.
 //!
 //! Crates above rest on this: `sequential` is the rows in the order of the run, each output byte and each point once.
 #![tactic(auto)]
 
-mod analysis;
-mod labels;
-mod points;
-mod sinks;
-mod source_set;
+ghost use Rattle.std.specs.Prelude.{◌≡◌, IfOk};
+ghost use Rattle.replayer.specs.Jobs.{trace_of};
+ghost use Rattle.report_model.specs.Rows.{rows_as_written};
+ghost use Rattle.sink_collect.specs.Distinct.{AreDistinct};
 
-pub use analysis::sequential;
+use answer_sets::{Answers, rows};
+use distinct_rows::rows_are_distinct;
+use epoch_cut::{EpochTicket, cuts};
+use local_taint::{Asked, analyse};
+use merge_log::TermsReader;
+use no_memory::NoMemory;
+use query_lang::Query;
+use replayer::{Cursor, Job};
+use sink_collect::SinkSet;
+use std::alloc::Global;
+
+/// The output bytes of a run and the points inside it that the query asks for, each with the source bytes that it came
+/// from, in the order of the run: at each time the points, and then the bytes that the next step writes.
+pub fn sequential(alloc: Global, job: &Job, query: &Query) -> Result<Vec<SinkSet>, NoMemory>
+    ensures rows { IfOk result (λ sets. sets.items ≡ rows_as_written query.now (trace_of job.now)) }
+
+    // No output byte and no point stands twice.
+    ensures distinct { IfOk result (λ sets. AreDistinct sets.items) }
+{
+    rows_are_distinct(job, query);
+    // The contract of this says that the points are at locations.
+    let _points = query.points();
+    let ticket = whole_run(alloc, job.steps())?;
+    let cursor = Cursor::start(alloc, job)?;
+    let summary = analyse(alloc, ticket, cursor, query)?;
+    let mut reader = TermsReader::new(alloc);
+    rows(
+        alloc,
+        &mut reader,
+        &summary,
+        &Asked::new(alloc),
+        &Answers::new(alloc),
+    )
+}
+
+/// The ticket of a run of so many steps that is one epoch.
+fn whole_run(alloc: Global, steps: u64) -> Result<EpochTicket, NoMemory>
+    ensures { IfOk result (λ ticket. ticket ≡ record { number = 0; first = 0; past_last = steps }) }
+{
+    let Ok(whole) = cuts(steps, steps.max(1)) else {
+        unreachable!()
+    };
+    let mut tickets = whole.tickets(alloc)?;
+    let Some(ticket) = tickets.pop() else {
+        unreachable!()
+    };
+    Ok(ticket)
+}

@@ -1,3 +1,4 @@
+pub mod Alike
 mod Arranging
 mod Search
 mod Reaching

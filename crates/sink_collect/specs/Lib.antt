@@ -2,3 +2,4 @@ pub mod Distinct
 pub mod Pairs
 pub mod Reaching
 pub mod Own
+pub mod Listed

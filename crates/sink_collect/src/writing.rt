@@ -5,6 +5,7 @@ ghost use Rattle.std.specs.List.{flat_map};
 ghost use Rattle.std.specs.Fmt.{decimal};
 ghost use Rattle.report_model.specs.Text.{name_text, loc_text, point_text, source_text, row_text, report_text};
 ghost use Rattle.report_model.specs.Influence.{sink_text, reach_text, influence_text as text_of_influence};
+ghost use Rattle.sink_collect.specs.Listed.{Lists};
 
 use crate::influence::{Influence, SourceReach};
 use crate::report::Report;
@@ -72,21 +73,63 @@ fn push_sources(out: &mut Vec<u8>, sources: &[SourceByte]) -> Result<(), NoMemor
     Ok(())
 }
 
-/// Appends the line of an output byte or a point.
-fn push_row(out: &mut Vec<u8>, set: &SinkSet) -> Result<(), NoMemory>
-    ensures { OnOk result (out.new.items ≡ out.old.items ++ row_text set.now) }
+/// Source bytes, and where in a text their names stand, each after a blank.
+#[derive(Clone, Copy)]
+struct Listed<'a> {
+    sources: &'a [SourceByte],
+    start: usize,
+    end: usize,
+}
+
+/// Appends a blank and the name of each source byte. The names of those that were listed last are copied.
+fn push_sources_after(
+    out: &mut Vec<u8>,
+    sources: &[SourceByte],
+    last: Listed<'_>,
+) -> Result<(), NoMemory>
+    requires { Lists out.old.items last }
+    ensures { OnOk result (out.new.items ≡ out.old.items ++ flat_map source_text sources.now) }
+{
+    if sources == last.sources {
+        out.extend_from_within(last.start..last.end)?;
+        return Ok(());
+    }
+    push_sources(out, sources)
+}
+
+/// Appends the line of an output byte or a point, where these source bytes were listed last. Its own are so afterwards.
+fn push_row<'a>(
+    out: &mut Vec<u8>,
+    set: &'a SinkSet,
+    last: Listed<'a>,
+) -> Result<Listed<'a>, NoMemory>
+    requires { Lists out.old.items last }
+    ensures line { OnOk result (out.new.items ≡ out.old.items ++ row_text set.now) }
+    ensures listed { IfOk result (Lists out.new.items) }
 {
     push_point(out, set.sink())?;
-    push_sources(out, set.sources())?;
+    let sources = set.sources();
+    let start = out.len();
+    push_sources_after(out, sources, last)?;
+    let end = out.len();
     out.push(b'\n')?;
-    Ok(())
+    Ok(Listed {
+        sources,
+        start,
+        end,
+    })
 }
 
 fn push_rows(out: &mut Vec<u8>, rows: &[SinkSet]) -> Result<(), NoMemory>
     ensures { OnOk result (out.new.items ≡ out.old.items ++ flat_map row_text rows.now) }
 {
+    let mut last = Listed {
+        sources: &[],
+        start: 0,
+        end: 0,
+    };
     for row in rows {
-        push_row(out, row)?;
+        last = push_row(out, row, last)?;
     }
     Ok(())
 }

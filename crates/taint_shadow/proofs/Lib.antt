@@ -1,5 +1,7 @@
-mod Turning
-mod Lanes
-mod Located
-mod Tables
+pub mod Numbers
+pub mod Meaning
 mod Grown
+mod Bytes
+mod Targets
+mod Flows
+mod Received

@@ -1,4 +1,5 @@
 pub mod Labels
+pub mod Lanes
 pub mod Memory
 pub mod Origins
 pub mod Places

@@ -1,8 +1,6 @@
 -- The origins of a shape's targets.
-use Rattle.std.specs.Prelude.{◌≡◌, ℕ, suc, nat_lt, ◌==◌, ◌&&◌, Bool, false, List, []}
-use Rattle.std.specs.List.{AllByRecursion}
+use Rattle.std.specs.Prelude.{ℕ, List, []}
 use Rattle.flow_model.specs.declared.Loc.{Loc}
-use Rattle.flow_model.specs.declared.Loc.TheVariants.{Reg, Mem}
 use Rattle.flow_model.specs.declared.Rule.TheVariants.{Index}
 use Rattle.flow_model.specs.Flow.{lane, nothing, in_first_lane, each_lane, all_lanes, shifted_lanes, with_base}
 use Rattle.flow_rule.specs.declared.shape.Shape.{Shape}
@@ -20,16 +18,3 @@ origins_of (ShiftedLanes d a b) i = shifted_lanes a b i
 origins_of (FirstLane d a b) i = in_first_lane (all_lanes a b 0) i
 origins_of (Load d base place size fills) i = loaded_lane fills base place size i
 origins_of (Store r base place size) i = with_base Index base (lane r i)
-
--- one of the n lowest lanes of a register, or one from lane n on
-abbrev pub is_lane_below : ℕ → ℕ → Loc → Bool
-is_lane_below d n (Reg r i) = (d == r) && nat_lt i n
-is_lane_below d n (Mem p) = false
-
-abbrev pub is_lane_from : ℕ → ℕ → Loc → Bool
-is_lane_from d n (Reg r i) = (d == r) && nat_lt n (suc i)
-is_lane_from d n (Mem p) = false
-
--- where the lanes of a register are labelled anew from the lowest on, none that is an origin is labelled before it is read
-abbrev pub IsLanewise : ℕ → Shape → Type 0
-IsLanewise d shape = (i : ℕ) → AllByRecursion (λ l. is_lane_below d i l ≡ false) (origins_of shape i)

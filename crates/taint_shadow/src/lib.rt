@@ -1,19 +1,19 @@
 //! The shadow of registers and memory: what each location is labelled with, and how one step of a run turns the labels.
 //!
-//! It is generic over the labels: an analysis by sets of source bytes and one by nodes of a graph are two uses of it.
+//! A label is one word, and a location that no step touched has one too. `Labels` says what they mean, and makes them.
 //!
-//! Crates above rest on this: `step`: whatever the locations' labels meant before a step, they mean what the flow table
-//! makes of it after, for every kind of labels.
+//! Crates above rest on this: `step`, and `plain_step` where the step is no call: whatever the locations' labels meant before
+//! a step, they mean what the flow table makes of it after, for whatever labels mean.
 #![tactic(auto)]
 
 mod labels;
+mod lanes;
 mod memory;
+mod mixing;
 mod places;
-mod reading;
 mod shapes;
 mod steps;
 
-pub use labels::Labels;
+pub use labels::{Label, LabelKind, Labels};
 pub use places::Places;
-pub use reading::label_at;
-pub use steps::step;
+pub use steps::{plain_step, step};

@@ -1,9 +1,16 @@
-//! What is kept for the bytes of memory: regions of pages of lines of cells, each made, and grown, as a byte in it gets a value.
+//! The labels of the bytes of memory: regions of pages of lines of cells. A line is made as a byte in it is labelled;
+//! until then each of its bytes has the label of what it had at the start.
 
-ghost use Rattle.std.specs.Prelude.{◌≡◌, ◌==◌, ◌&&◌, ◌≤◌, ◌<◌, ◌^◌, ◌/◌, ◌%◌, ℕ, None, Some, length, if◌then◌else◌, OnOk};
-ghost use Rattle.std.specs.Option.{option_copied};
-ghost use Rattle.taint_shadow.specs.Memory.{items_at, in_line, in_page, in_region, in_regions, in_memory};
+ghost use Rattle.std.specs.Prelude.{◌≡◌, ◌<◌, ◌≤◌, ◌+◌, ◌*◌, ◌-◌, ◌/◌, ◌%◌, ◌^◌, ℕ, length, slice_index_or, IsTrue, OnOk};
+ghost use Rattle.flow_model.specs.declared.Loc.TheVariants.{Mem};
+ghost use Rattle.isa.specs.Machine.{wrap};
+ghost use Rattle.taint_shadow.specs.Labels.{start_label};
+ghost use Rattle.taint_shadow.specs.Lanes.{lane_at, alike};
+ghost use Rattle.taint_shadow.specs.Memory.{items_at, path_to, cells_of, cells_by, cell_or, in_memory, PutsBytes, set_if, with_cells, IsLineKept, PutsLanes, MakesLine};
 
+use crate::labels::Label;
+use crate::lanes::Lanes;
+use flow_model::Loc;
 use no_memory::NoMemory;
 use std::alloc::Global;
 
@@ -16,205 +23,8 @@ const LINES: usize = 256;
 /// The pages of a region.
 const PAGES: usize = 256;
 
-/// Makes empty tables, until there are at least so many.
-#[inline(always)]
-fn grow_tables<T: Drop>(
-    alloc: Global,
-    tables: &mut Vec<Vec<T>>,
-    size: usize,
-) -> Result<(), NoMemory>
-    ensures room { OnOk result (size ≤ length tables.new.items) }
-    ensures same { OnOk result ((i : ℕ) → items_at tables.new.items i ≡ items_at tables.old.items i) }
-{
-    for _ in tables.len()..size {
-        tables.push(Vec::new(alloc))?;
-    }
-    Ok(())
-}
-
-/// Makes cells without a value, until there are at least so many. A line takes the room of all its cells at once: most lines
-/// that get a value get many.
-#[inline(always)]
-fn grow_cells<L: Drop>(cells: &mut Vec<Option<L>>, size: usize) -> Result<(), NoMemory>
-    ensures room { OnOk result (size ≤ length cells.new.items) }
-    ensures same { OnOk result ((i : ℕ) → in_line cells.new.items i ≡ in_line cells.old.items i) }
-{
-    if cells.is_empty() {
-        cells.reserve(CELLS)?;
-    }
-    for _ in cells.len()..size {
-        cells.push(None)?;
-    }
-    Ok(())
-}
-
-/// Puts a value into a cell of a line.
-#[inline(always)]
-fn put_in_line<L: Drop>(cells: &mut Vec<Option<L>>, cell: usize, value: L) -> Result<(), NoMemory>
-    requires { cell < 2 ^ 32 }
-    ensures { OnOk result ((i : ℕ) → in_line cells.new.items i ≡ (if cell == i then Some value else in_line cells.old.items i)) }
-{
-    grow_cells(cells, cell + 1)?;
-    cells[cell] = Some(value);
-    Ok(())
-}
-
-/// Puts a value into a cell of a page.
-#[inline(always)]
-fn put_in_page<L: Drop>(
-    alloc: Global,
-    lines: &mut Vec<Vec<Option<L>>>,
-    line: usize,
-    cell: usize,
-    value: L,
-) -> Result<(), NoMemory>
-    requires { (line < 2 ^ 32) × (cell < 2 ^ 32) }
-    ensures { OnOk result ((i j : ℕ) → in_page lines.new.items i j ≡ (if (line == i) && (cell == j) then Some value else in_page lines.old.items i j)) }
-{
-    grow_tables(alloc, lines, line + 1)?;
-    put_in_line(&mut lines[line], cell, value)
-}
-
-/// Puts a value into a cell of a region.
-#[inline(always)]
-fn put_in_region<L: Drop>(
-    alloc: Global,
-    pages: &mut Vec<Vec<Vec<Option<L>>>>,
-    page: usize,
-    line: usize,
-    cell: usize,
-    value: L,
-) -> Result<(), NoMemory>
-    requires { (page < 2 ^ 32) × (line < 2 ^ 32) × (cell < 2 ^ 32) }
-    ensures { OnOk result ((h i j : ℕ) → in_region pages.new.items h i j ≡ (if (page == h) && ((line == i) && (cell == j)) then Some value else in_region pages.old.items h i j)) }
-{
-    grow_tables(alloc, pages, page + 1)?;
-    put_in_page(alloc, &mut pages[page], line, cell, value)
-}
-
-/// Puts a value into a cell.
-#[inline(always)]
-fn put_in_regions<L: Drop>(
-    alloc: Global,
-    regions: &mut Vec<Vec<Vec<Vec<Option<L>>>>>,
-    region: usize,
-    page: usize,
-    line: usize,
-    cell: usize,
-    value: L,
-) -> Result<(), NoMemory>
-    requires { (region < 2 ^ 32) × (page < 2 ^ 32) × (line < 2 ^ 32) × (cell < 2 ^ 32) }
-    ensures { OnOk result ((g h i j : ℕ) → in_regions regions.new.items g h i j ≡ (if (region == g) && ((page == h) && ((line == i) && (cell == j))) then Some value else in_regions regions.old.items g h i j)) }
-{
-    grow_tables(alloc, regions, region + 1)?;
-    put_in_region(alloc, &mut regions[region], page, line, cell, value)
-}
-
-/// Empties a cell of a line.
-fn clear_in_line<L: Drop>(cells: &mut Vec<Option<L>>, cell: usize)
-    ensures { (i : ℕ) → in_line cells.new.items i ≡ (if cell == i then None else in_line cells.old.items i) }
-{
-    if cell < cells.len() {
-        cells[cell] = None;
-    }
-}
-
-/// Empties a cell of a page.
-fn clear_in_page<L: Drop>(lines: &mut Vec<Vec<Option<L>>>, line: usize, cell: usize)
-    ensures { (i j : ℕ) → in_page lines.new.items i j ≡ (if (line == i) && (cell == j) then None else in_page lines.old.items i j) }
-{
-    if line < lines.len() {
-        clear_in_line(&mut lines[line], cell);
-    }
-}
-
-/// Empties a cell of a region.
-fn clear_in_region<L: Drop>(
-    pages: &mut Vec<Vec<Vec<Option<L>>>>,
-    page: usize,
-    line: usize,
-    cell: usize,
-)
-    ensures { (h i j : ℕ) → in_region pages.new.items h i j ≡ (if (page == h) && ((line == i) && (cell == j)) then None else in_region pages.old.items h i j) }
-{
-    if page < pages.len() {
-        clear_in_page(&mut pages[page], line, cell);
-    }
-}
-
-/// Empties a cell.
-fn clear_in_regions<L: Drop>(
-    regions: &mut Vec<Vec<Vec<Vec<Option<L>>>>>,
-    region: usize,
-    page: usize,
-    line: usize,
-    cell: usize,
-)
-    ensures { (g h i j : ℕ) → in_regions regions.new.items g h i j ≡ (if (region == g) && ((page == h) && ((line == i) && (cell == j))) then None else in_regions regions.old.items g h i j) }
-{
-    if region < regions.len() {
-        clear_in_region(&mut regions[region], page, line, cell);
-    }
-}
-
-/// The value in a cell of a line.
-#[inline(always)]
-fn value_in_line<L: Drop>(cells: &[Option<L>], cell: usize) -> Option<&L>
-    ensures { option_copied result ≡ in_line cells.now cell }
-{
-    if cell < cells.len() {
-        cells[cell].as_ref()
-    } else {
-        None
-    }
-}
-
-/// The value in a cell of a page.
-#[inline(always)]
-fn value_in_page<L: Drop>(lines: &[Vec<Option<L>>], line: usize, cell: usize) -> Option<&L>
-    ensures { option_copied result ≡ in_page lines.now line cell }
-{
-    if line < lines.len() {
-        value_in_line(lines[line].as_slice(), cell)
-    } else {
-        None
-    }
-}
-
-/// The value in a cell of a region.
-#[inline(always)]
-fn value_in_region<L: Drop>(
-    pages: &[Vec<Vec<Option<L>>>],
-    page: usize,
-    line: usize,
-    cell: usize,
-) -> Option<&L>
-    ensures { option_copied result ≡ in_region pages.now page line cell }
-{
-    if page < pages.len() {
-        value_in_page(pages[page].as_slice(), line, cell)
-    } else {
-        None
-    }
-}
-
-/// The value in a cell.
-#[inline(always)]
-fn value_in_regions<L: Drop>(
-    regions: &[Vec<Vec<Vec<Option<L>>>>],
-    region: usize,
-    page: usize,
-    line: usize,
-    cell: usize,
-) -> Option<&L>
-    ensures { option_copied result ≡ in_regions regions.now region page line cell }
-{
-    if region < regions.len() {
-        value_in_region(regions[region].as_slice(), page, line, cell)
-    } else {
-        None
-    }
-}
+/// Regions of pages of lines of cells.
+pub(crate) type Regions = Vec<Vec<Vec<Vec<Label>>>>;
 
 /// The numbers of a byte's region, of its page there, of its line there, and of its cell there.
 #[derive(Clone, Copy)]
@@ -228,7 +38,7 @@ struct Path {
 /// Where the cell of a byte is.
 #[inline(always)]
 fn path_of(place: u32) -> Path
-    ensures { result ≡ record { region = place / 4194304; page = place / 16384 % 256; line = place / 64 % 256; cell = place % 64 } }
+    ensures { result ≡ path_to place }
 {
     let place = place as usize;
     let line = place / CELLS;
@@ -241,41 +51,239 @@ fn path_of(place: u32) -> Path
     }
 }
 
-/// The value of a byte, if it has one.
+/// A table of this number. One that isn't there is as if it were empty.
 #[inline(always)]
-pub fn value_at<L: Drop>(regions: &[Vec<Vec<Vec<Option<L>>>>], place: u32) -> Option<&L>
-    ensures { option_copied result ≡ in_memory regions.now place }
+fn table<T: Drop>(tables: &[Vec<T>], number: usize) -> &[T]
+    ensures { result.now ≡ items_at tables.now number }
 {
-    let path = path_of(place);
-    value_in_regions(regions, path.region, path.page, path.line, path.cell)
+    if number < tables.len() {
+        tables[number].as_slice()
+    } else {
+        &[]
+    }
 }
 
-/// Puts a value in place of that of a byte.
+/// The cells of a byte's line.
 #[inline(always)]
-pub fn put<L: Drop>(
+fn line_of(regions: &[Vec<Vec<Vec<Label>>>], place: u32) -> &[Label]
+    ensures { result.now ≡ cells_of regions.now place }
+{
+    let path = path_of(place);
+    let pages = table(regions, path.region);
+    let lines = table(pages, path.page);
+    table(lines, path.line)
+}
+
+/// The label of a byte, by the cells of its line.
+#[inline(always)]
+fn label_in(cells: &[Label], place: u32) -> Label
+    ensures { result ≡ cell_or cells.now place }
+{
+    let cell = place as usize % CELLS;
+    if cell < cells.len() {
+        cells[cell]
+    } else {
+        Label::start(Loc::Mem { place })
+    }
+}
+
+/// The label of a byte.
+#[inline(always)]
+pub(crate) fn label_at(regions: &[Vec<Vec<Vec<Label>>>], place: u32) -> Label
+    ensures { result ≡ in_memory regions.now place }
+{
+    label_in(line_of(regions, place), place)
+}
+
+/// The labels of the four bytes from a place on, round the end of memory.
+#[inline(always)]
+pub(crate) fn word_at(regions: &[Vec<Vec<Vec<Label>>>], place: u32) -> Lanes
+    ensures { (i : ℕ) → i < 4 → lane_at result i ≡ in_memory regions.now (wrap (place + i)) }
+{
+    if place as usize % CELLS + 4 <= CELLS {
+        word_in(line_of(regions, place), place)
+    } else {
+        bytes_at(regions, place)
+    }
+}
+
+/// The labels of the four bytes of a word that lies in one line.
+#[inline(always)]
+fn word_in(cells: &[Label], place: u32) -> Lanes
+    requires { place % 64 + 4 ≤ 64 }
+    ensures { (i : ℕ) → i < 4 → lane_at result i ≡ cell_or cells.now (place + i) }
+{
+    let cell = place as usize % CELLS;
+    if cell + 4 <= cells.len() {
+        Lanes {
+            first: cells[cell],
+            second: cells[cell + 1],
+            third: cells[cell + 2],
+            fourth: cells[cell + 3],
+        }
+    } else {
+        Lanes {
+            first: label_in(cells, place),
+            second: label_in(cells, place + 1),
+            third: label_in(cells, place + 2),
+            fourth: label_in(cells, place + 3),
+        }
+    }
+}
+
+/// The labels of four bytes, one by one.
+fn bytes_at(regions: &[Vec<Vec<Vec<Label>>>], place: u32) -> Lanes
+    ensures { (i : ℕ) → i < 4 → lane_at result i ≡ in_memory regions.now (wrap (place + i)) }
+{
+    Lanes {
+        first: label_at(regions, place),
+        second: label_at(regions, place.wrapping_add(1)),
+        third: label_at(regions, place.wrapping_add(2)),
+        fourth: label_at(regions, place.wrapping_add(3)),
+    }
+}
+
+/// Makes empty tables, until there are at least so many.
+fn grow<T: Drop>(alloc: Global, tables: &mut Vec<Vec<T>>, size: usize) -> Result<(), NoMemory>
+    ensures room { OnOk result (size ≤ length tables.new.items) }
+    ensures same { OnOk result ((i : ℕ) → items_at tables.new.items i ≡ items_at tables.old.items i) }
+{
+    for _ in tables.len()..size {
+        tables.push(Vec::new(alloc))?;
+    }
+    Ok(())
+}
+
+/// Fills a line, whose first byte is at `first`, up with what its bytes had at the start.
+fn fill(cells: &mut Vec<Label>, first: u32) -> Result<(), NoMemory>
+    requires { first % 64 ≡ 0 }
+    ensures room { OnOk result (64 ≤ length cells.new.items) }
+    ensures same { OnOk result (IsLineKept first cells.old.items cells.new.items) }
+{
+    cells.reserve(CELLS)?;
+    for cell in cells.len()..CELLS {
+        cells.push(Label::start(Loc::Mem {
+            place: first + cell as u32,
+        }))?;
+    }
+    Ok(())
+}
+
+/// Makes the line of a path, whose first byte is at `first`.
+fn make_line(alloc: Global, regions: &mut Regions, path: Path, first: u32) -> Result<(), NoMemory>
+    requires path { (path.region < 1024) × (path.page < 256) × (path.line < 256) }
+    requires first { first % 64 ≡ 0 }
+    ensures { OnOk result (MakesLine regions.old.items path.region path.page path.line first regions.new.items) }
+{
+    grow(alloc, regions, path.region + 1)?;
+    let pages = &mut regions[path.region];
+    grow(alloc, pages, path.page + 1)?;
+    let lines = &mut pages[path.page];
+    grow(alloc, lines, path.line + 1)?;
+    fill(&mut lines[path.line], first)
+}
+
+/// Labels a cell, if that counts.
+#[inline(always)]
+fn put_cell(cells: &mut Vec<Label>, cell: usize, counts: bool, label: Label)
+    requires { IsTrue counts → cell < length cells.old.items }
+    ensures cells { cells.new.items ≡ set_if counts cells.old.items cell label }
+    ensures size { length cells.new.items ≡ length cells.old.items }
+{
+    if counts {
+        cells[cell] = label;
+    }
+}
+
+/// Labels the lowest `size` of four bytes that have cells in one line.
+#[inline(always)]
+fn put_cells(cells: &mut Vec<Label>, cell: usize, size: u8, lanes: Lanes)
+    requires size { 1 ≤ size }
+    requires line { cell < 64 }
+    requires room { cell + size ≤ length cells.old.items }
+    ensures { cells.new.items ≡ with_cells cells.old.items cell size lanes }
+{
+    put_cell(cells, cell, true, lanes.first);
+    put_cell(cells, cell + 1, 1 < size, lanes.second);
+    put_cell(cells, cell + 2, 2 < size, lanes.third);
+    put_cell(cells, cell + 3, 3 < size, lanes.fourth);
+}
+
+/// The same, in the line where the cells are.
+#[inline(always)]
+fn put_in_line(regions: &mut Regions, path: Path, size: u8, lanes: Lanes)
+    requires size { 1 ≤ size }
+    requires cell { path.cell < 64 }
+    requires room { path.cell + size ≤ length (cells_by regions.old.items path) }
+    ensures { PutsLanes regions.old.items path size lanes regions.new.items }
+{
+    let pages = &mut regions[path.region];
+    let lines = &mut pages[path.page];
+    put_cells(&mut lines[path.line], path.cell, size, lanes);
+}
+
+/// Labels the lowest `size` of four bytes of one line that was made.
+#[inline(always)]
+fn put_word(regions: &mut Regions, place: u32, size: u8, lanes: Lanes)
+    requires size { (1 ≤ size) × (size ≤ 4) }
+    requires line { place % 64 + size ≤ 64 }
+    requires room { place % 64 + size ≤ length (cells_of regions.old.items place) }
+    ensures { PutsBytes regions.old.items place size lanes regions.new.items }
+{
+    put_in_line(regions, path_of(place), size, lanes);
+}
+
+/// Labels a byte.
+pub(crate) fn put_byte(
     alloc: Global,
-    regions: &mut Vec<Vec<Vec<Vec<Option<L>>>>>,
+    regions: &mut Regions,
     place: u32,
-    value: L,
+    label: Label,
 ) -> Result<(), NoMemory>
-    ensures { OnOk result ((q : ℕ) → in_memory regions.new.items q ≡ (if place == q then Some value else in_memory regions.old.items q)) }
+    ensures { OnOk result (PutsBytes regions.old.items place 1 (alike label) regions.new.items) }
 {
-    let path = path_of(place);
-    put_in_regions(
-        alloc,
-        regions,
-        path.region,
-        path.page,
-        path.line,
-        path.cell,
-        value,
-    )
+    if place as usize % CELLS < line_of(regions.as_slice(), place).len() {
+        put_word(regions, place, 1, Lanes::alike(label));
+        return Ok(());
+    }
+    make_line(alloc, regions, path_of(place), place - place % CELLS as u32)?;
+    put_word(regions, place, 1, Lanes::alike(label));
+    Ok(())
 }
 
-/// Takes the value of a byte away.
-pub fn clear<L: Drop>(regions: &mut Vec<Vec<Vec<Vec<Option<L>>>>>, place: u32)
-    ensures { (q : ℕ) → in_memory regions.new.items q ≡ (if place == q then None else in_memory regions.old.items q) }
+/// Labels the bytes from a place on, round the end of memory, one by one.
+fn put_bytes(
+    alloc: Global,
+    regions: &mut Regions,
+    place: u32,
+    size: u8,
+    lanes: Lanes,
+) -> Result<(), NoMemory>
+    requires { (1 ≤ size) × (size ≤ 4) }
+    ensures { OnOk result (PutsBytes regions.old.items place size lanes regions.new.items) }
 {
-    let path = path_of(place);
-    clear_in_regions(regions, path.region, path.page, path.line, path.cell);
+    for i in 0..size {
+        put_byte(alloc, regions, place.wrapping_add(i as u32), lanes.at(i))?;
+    }
+    Ok(())
+}
+
+/// Labels the bytes from a place on, round the end of memory.
+#[inline(always)]
+pub(crate) fn put(
+    alloc: Global,
+    regions: &mut Regions,
+    place: u32,
+    size: u8,
+    lanes: Lanes,
+) -> Result<(), NoMemory>
+    requires { (1 ≤ size) × (size ≤ 4) }
+    ensures { OnOk result (PutsBytes regions.old.items place size lanes regions.new.items) }
+{
+    let past = place as usize % CELLS + size as usize;
+    if past <= CELLS && past <= line_of(regions.as_slice(), place).len() {
+        put_word(regions, place, size, lanes);
+        return Ok(());
+    }
+    put_bytes(alloc, regions, place, size, lanes)
 }

@@ -1,39 +1,41 @@
-//! What is kept for locations.
+//! What locations are labelled with.
 
-ghost use Rattle.std.specs.Prelude.{◌≡◌, ◌+◌, ◌*◌, ◌<◌, None, Some, length, replicate, if◌then◌else◌, IfOk, OnOk};
-ghost use Rattle.std.specs.Option.{option_copied};
-ghost use Rattle.flow_model.specs.declared.Loc.TheVariants.{Reg};
-ghost use Rattle.flow_model.specs.Flow.{loc_eq};
+ghost use Rattle.std.specs.Prelude.{◌≡◌, ◌<◌, ◌≤◌, ◌+◌, ℕ, length, IfOk, OnOk};
+ghost use Rattle.flow_model.specs.declared.Loc.TheVariants.{Reg, Mem};
 ghost use Rattle.flow_model.specs.Ranges.{IsLocation};
+ghost use Rattle.isa.specs.Machine.{wrap};
+ghost use Rattle.taint_shadow.specs.Labels.{start_label};
+ghost use Rattle.taint_shadow.specs.Lanes.{lane_at, alike};
 
-use crate::memory;
+use crate::labels::Label;
+use crate::lanes::Lanes;
+use crate::memory::{self, Regions};
 use flow_model::Loc;
 use no_memory::NoMemory;
 use std::alloc::Global;
 
-/// The lanes of 32 registers.
-const LANES: usize = 4 * 32;
+/// How many registers there are.
+const REGISTERS: usize = 32;
 
-/// A value, or none, for each lane of the 32 registers and for each byte of memory. A line of 64 bytes that never had a value
-/// has no cells.
+/// A label for each lane of the 32 registers and for each byte of memory.
 #[derive(Drop)]
-pub struct Places<L: Drop> {
-    registers: Vec<Option<L>>,
+pub struct Places {
+    registers: Vec<Lanes>,
     alloc: Global,
-    memory: Vec<Vec<Vec<Vec<Option<L>>>>>,
-    ghost lanes: { length registers.items ≡ 4 * 32 },
+    memory: Regions,
+    ghost lanes: { length registers.items ≡ 32 },
 }
 
-impl<L: Drop> Places<L> {
-    ghost use Rattle.taint_shadow.specs.Places.{kept, AreKept};
+impl Places {
+    ghost use Rattle.taint_shadow.specs.Places.{kept, AreKept, origin_lane, with_lanes, with_word};
 
-    /// No value for any location.
+    /// Each location has the label of what it had at the start.
     pub fn new(alloc: Global) -> Result<Self, NoMemory>
-        ensures { IfOk result (λ p. AreKept p (λ l. None)) }
+        ensures { IfOk result (λ p. AreKept p start_label) }
     {
-        let mut registers = Vec::with_capacity(alloc, LANES)?;
-        for _ in 0..LANES {
-            registers.push(None)?;
+        let mut registers = Vec::with_capacity(alloc, REGISTERS)?;
+        for number in 0..REGISTERS {
+            registers.push(start_lanes(number as u8))?;
         }
         Ok(Places {
             registers,
@@ -42,67 +44,74 @@ impl<L: Drop> Places<L> {
         })
     }
 
-    /// The value of a location, if it has one.
+    /// The label of a location.
     #[inline(always)]
-    pub fn get(&self, loc: Loc) -> Option<&L>
+    pub fn get(&self, loc: Loc) -> Label
         requires { IsLocation loc }
-        ensures { option_copied result ≡ kept self.now loc }
+        ensures { result ≡ kept self.now loc }
     {
         match loc {
-            Loc::Reg { number, lane } => self.lane(number, lane),
-            Loc::Mem { place } => memory::value_at(self.memory.as_slice(), place),
+            Loc::Reg { number, lane } => self.registers[number as usize].at(lane),
+            Loc::Mem { place } => memory::label_at(self.memory.as_slice(), place),
         }
     }
 
-    /// The value of a lane of a register, if it has one.
+    /// The labels of the lanes of a register, as origins: those of x0 came from nowhere.
     #[inline(always)]
-    pub fn lane(&self, number: u8, lane: u8) -> Option<&L>
-        requires { IsLocation (Reg number lane) }
-        ensures { option_copied result ≡ kept self.now (Reg number lane) }
+    pub(crate) fn lanes(&self, number: u8) -> Lanes
+        requires { number < 32 }
+        ensures { (i : ℕ) → i < 4 → lane_at result i ≡ origin_lane self.now number i }
     {
-        self.registers[lane_index(number, lane)].as_ref()
-    }
-
-    /// Puts a value in place of the one of a lane of a register.
-    #[inline(always)]
-    pub fn set_lane(&mut self, number: u8, lane: u8, value: L)
-        requires { IsLocation (Reg number lane) }
-        ensures { AreKept self.new (λ l. if loc_eq (Reg number lane) l then Some value else kept self.old l) }
-    {
-        self.registers[lane_index(number, lane)] = Some(value);
-    }
-
-    /// Puts a value in place of the one of a location.
-    #[inline(always)]
-    pub fn set(&mut self, loc: Loc, value: L) -> Result<(), NoMemory>
-        requires { IsLocation loc }
-        ensures { OnOk result (AreKept self.new (λ l. if loc_eq loc l then Some value else kept self.old l)) }
-    {
-        match loc {
-            Loc::Reg { number, lane } => self.set_lane(number, lane, value),
-            Loc::Mem { place } => memory::put(self.alloc, &mut self.memory, place, value)?,
+        if number == 0 {
+            return Lanes::clean();
         }
-        Ok(())
+        self.registers[number as usize]
     }
 
-    /// Takes the value of a location away.
+    /// Labels the lanes of a register anew; those of x0 stay as they are.
     #[inline(always)]
-    pub fn remove(&mut self, loc: Loc)
-        requires { IsLocation loc }
-        ensures { AreKept self.new (λ l. if loc_eq loc l then None else kept self.old l) }
+    pub(crate) fn set_lanes(&mut self, number: u8, lanes: Lanes)
+        requires { number < 32 }
+        ensures { AreKept self.new (with_lanes number lanes (kept self.old)) }
     {
-        match loc {
-            Loc::Reg { number, lane } => self.registers[lane_index(number, lane)] = None,
-            Loc::Mem { place } => memory::clear(&mut self.memory, place),
+        if number > 0 {
+            self.registers[number as usize] = lanes;
         }
+    }
+
+    /// The labels of the four bytes from a place on, round the end of memory.
+    #[inline(always)]
+    pub(crate) fn word(&self, place: u32) -> Lanes
+        ensures { (i : ℕ) → i < 4 → lane_at result i ≡ kept self.now (Mem (wrap (place + i))) }
+    {
+        memory::word_at(self.memory.as_slice(), place)
+    }
+
+    /// Labels the lowest `size` of the four bytes from a place on anew, round the end of memory.
+    #[inline(always)]
+    pub(crate) fn set_word(&mut self, place: u32, size: u8, lanes: Lanes) -> Result<(), NoMemory>
+        requires { (1 ≤ size) × (size ≤ 4) }
+        ensures { OnOk result (AreKept self.new (with_word place size lanes (kept self.old))) }
+    {
+        memory::put(self.alloc, &mut self.memory, place, size, lanes)
+    }
+
+    /// Labels a byte anew.
+    pub(crate) fn set_byte(&mut self, place: u32, label: Label) -> Result<(), NoMemory>
+        ensures { OnOk result (AreKept self.new (with_word place 1 (alike label) (kept self.old))) }
+    {
+        memory::put_byte(self.alloc, &mut self.memory, place, label)
     }
 }
 
-/// The lanes of a register stand side by side.
-#[inline(always)]
-fn lane_index(number: u8, lane: u8) -> usize
-    requires { lane < 4 }
-    ensures { result ≡ 4 * number + lane }
+/// The labels of what the lanes of a register had at the start.
+fn start_lanes(number: u8) -> Lanes
+    ensures { (i : ℕ) → i < 4 → lane_at result i ≡ start_label (Reg number i) }
 {
-    4 * number as usize + lane as usize
+    Lanes {
+        first: Label::start(Loc::Reg { number, lane: 0 }),
+        second: Label::start(Loc::Reg { number, lane: 1 }),
+        third: Label::start(Loc::Reg { number, lane: 2 }),
+        fourth: Label::start(Loc::Reg { number, lane: 3 }),
+    }
 }

@@ -1,223 +1,127 @@
 //! How the flow of an instruction turns what locations are labelled with, by its shape.
 
-ghost use Rattle.std.specs.Prelude.{◌≡◌, ◌≢◌, ◌<◌, ◌≤◌, ℕ, OnOk};
-ghost use Rattle.flow_model.specs.declared.Loc.{Loc as Location};
-ghost use Rattle.flow_model.specs.declared.Loc.TheVariants.{Reg};
-ghost use Rattle.flow_model.specs.Flow.{to_register};
-ghost use Rattle.flow_model.specs.Ranges.{IsLocation};
-ghost use Rattle.flow_rule.specs.Shapes.{targets_of, HasRegisters, HasSizes};
-ghost use Rattle.taint_shadow.specs.Labels.{MakesLabel, KeepsLabels};
-ghost use Rattle.taint_shadow.specs.Origins.{origins_of, is_lane_from, IsLanewise};
-ghost use Rattle.taint_shadow.specs.Steps.{AreStanding, Holds, IsPut, turned, turned_at};
+ghost use Rattle.std.specs.Prelude.{◌<◌, ◌≤◌, IfOk, OnOk};
+ghost use Rattle.flow_rule.specs.Shapes.{HasRegisters, HasSizes};
+ghost use Rattle.taint_shadow.specs.Lanes.{Stand};
+ghost use Rattle.taint_shadow.specs.Steps.{AreStanding, Turns, MakesBased};
 
 use crate::labels::Labels;
+use crate::lanes::Lanes;
+use crate::mixing::{unite_all, unite_both, unite_lanes};
 use crate::places::Places;
-use crate::reading::{stored_label, target_label};
-use flow_rule::{Loc, Shape};
+use flow_rule::Shape;
 use no_memory::NoMemory;
 
-/// The lanes of a register.
-const LANES: u8 = 4;
-
-/// Puts a label in place of the one of a location. One that means what the location had at the start takes no room.
-#[inline(always)]
-pub(crate) fn put<A: Labels>(
-    labels: &A,
-    places: &mut Places<A::Label>,
-    loc: Loc,
-    label: A::Label,
-) -> Result<(), NoMemory>
-    requires location { IsLocation loc }
-    requires stands { A.words.stands labels.now label }
-    ensures { OnOk result (IsPut A.words labels.now loc label places.old places.new) }
-{
-    if labels.is_untouched(&label, loc) {
-        places.remove(loc);
-        return Ok(());
-    }
-    places.set(loc, label)
-}
-
-/// The same for a lane of a register, which takes no memory.
-#[inline(always)]
-fn put_lane<A: Labels>(
-    labels: &A,
-    places: &mut Places<A::Label>,
-    number: u8,
-    lane: u8,
-    label: A::Label,
-)
-    requires location { IsLocation (Reg number lane) }
-    requires stands { A.words.stands labels.now label }
-    ensures { IsPut A.words labels.now (Reg number lane) label places.old places.new }
-{
-    let loc = Loc::Reg { number, lane };
-    if labels.is_untouched(&label, loc) {
-        places.remove(loc);
-    } else {
-        places.set_lane(number, lane, label);
-    }
-}
-
-/// Labels the lanes of a register one after another, where none that is an origin is labelled before it is read.
-///
-/// It is the most frequent turn by far; inlined, it has no test of the shape in each lane.
-#[inline(always)]
-fn turn_lanes<A: Labels>(
+/// Lane i comes from lane i of both registers.
+fn mix_each<A: Labels>(
     labels: &mut A,
-    places: &mut Places<A::Label>,
+    places: &mut Places,
     rd: u8,
-    shape: Shape,
+    rs1: u8,
+    rs2: u8,
 ) -> Result<(), NoMemory>
-    requires register { rd < 32 }
-    requires table { targets_of shape ≡ to_register rd (origins_of shape) }
-    requires lanewise { IsLanewise rd shape }
-    requires registers { HasRegisters shape }
-    requires sizes { HasSizes shape }
+    requires registers { (rd < 32) × (rs1 < 32) × (rs2 < 32) }
     requires standing { AreStanding A.words labels.old places.old }
-    ensures holds { OnOk result ((f : Location → A.Meaning) → Holds A.words labels.old places.old f → Holds A.words labels.new places.new (turned A.words (targets_of shape) f)) }
-    ensures standing { OnOk result (AreStanding A.words labels.new places.new) }
-    ensures keeps { KeepsLabels A.words labels.old labels.new }
+    ensures { OnOk result (Turns A.words labels.old places.old labels.new places.new (Shape.EachLane rd rs1 rs2)) }
 {
-    if rd == 0 {
-        return Ok(());
-    }
-    for lane in 0..LANES {
-        let label = target_label(labels, places, shape, lane)?;
-        put_lane(labels, places, rd, lane, label);
-    }
+    let lanes = unite_lanes(labels, places.lanes(rs1), places.lanes(rs2))?;
+    places.set_lanes(rd, lanes);
     Ok(())
 }
 
-/// The same, as a function of its own: it is for the shapes that compute, so that [`turn_by_shape`] stays small.
-fn mix_lanes<A: Labels>(
+/// Each lane comes from all lanes of both registers.
+fn mix_all<A: Labels>(
     labels: &mut A,
-    places: &mut Places<A::Label>,
+    places: &mut Places,
     rd: u8,
-    shape: Shape,
+    rs1: u8,
+    rs2: u8,
 ) -> Result<(), NoMemory>
-    requires register { rd < 32 }
-    requires table { targets_of shape ≡ to_register rd (origins_of shape) }
-    requires lanewise { IsLanewise rd shape }
-    requires registers { HasRegisters shape }
-    requires sizes { HasSizes shape }
+    requires registers { (rd < 32) × (rs1 < 32) × (rs2 < 32) }
     requires standing { AreStanding A.words labels.old places.old }
-    ensures holds { OnOk result ((f : Location → A.Meaning) → Holds A.words labels.old places.old f → Holds A.words labels.new places.new (turned A.words (targets_of shape) f)) }
-    ensures standing { OnOk result (AreStanding A.words labels.new places.new) }
-    ensures keeps { KeepsLabels A.words labels.old labels.new }
+    ensures { OnOk result (Turns A.words labels.old places.old labels.new places.new (Shape.AllLanes rd rs1 rs2)) }
 {
-    turn_lanes(labels, places, rd, shape)
-}
-
-/// Labels the lanes of a register alike: what flows into each of them is read once.
-fn turn_alike<A: Labels>(
-    labels: &mut A,
-    places: &mut Places<A::Label>,
-    rd: u8,
-    shape: Shape,
-) -> Result<(), NoMemory>
-    requires register { rd < 32 }
-    requires table { targets_of shape ≡ to_register rd (origins_of shape) }
-    requires alike { (i : ℕ) → origins_of shape i ≡ origins_of shape 0 }
-    requires registers { HasRegisters shape }
-    requires sizes { HasSizes shape }
-    requires standing { AreStanding A.words labels.old places.old }
-    ensures holds { OnOk result ((f : Location → A.Meaning) → Holds A.words labels.old places.old f → Holds A.words labels.new places.new (turned A.words (targets_of shape) f)) }
-    ensures standing { OnOk result (AreStanding A.words labels.new places.new) }
-    ensures keeps { KeepsLabels A.words labels.old labels.new }
-{
-    if rd == 0 {
-        return Ok(());
-    }
-    let label = target_label(labels, places, shape, 0)?;
-    for lane in 0..LANES {
-        let shared = labels.share(&label)?;
-        put_lane(labels, places, rd, lane, shared);
-    }
+    let label = unite_both(labels, places.lanes(rs1), places.lanes(rs2))?;
+    places.set_lanes(rd, Lanes::alike(label));
     Ok(())
 }
 
-/// Labels the lanes of a register from number `lane` on, after the origins of each are read.
-fn turn_lanes_from<A: Labels>(
+/// Each lane comes from all lanes of the register that is shifted, and lane 0 of the one with the amount.
+fn shift<A: Labels>(
     labels: &mut A,
-    places: &mut Places<A::Label>,
+    places: &mut Places,
     rd: u8,
-    shape: Shape,
-    lane: u8,
+    rs1: u8,
+    rs2: u8,
 ) -> Result<(), NoMemory>
-    requires lane { lane ≤ 4 }
-    requires register { rd < 32 }
-    requires target { 0 < rd }
-    requires table { targets_of shape ≡ to_register rd (origins_of shape) }
-    requires registers { HasRegisters shape }
-    requires sizes { HasSizes shape }
+    requires registers { (rd < 32) × (rs1 < 32) × (rs2 < 32) }
     requires standing { AreStanding A.words labels.old places.old }
-    ensures holds { OnOk result ((f : Location → A.Meaning) → Holds A.words labels.old places.old f → Holds A.words labels.new places.new (turned_at A.words (is_lane_from rd lane) (targets_of shape) f)) }
-    ensures standing { OnOk result (AreStanding A.words labels.new places.new) }
-    ensures keeps { KeepsLabels A.words labels.old labels.new }
+    ensures { OnOk result (Turns A.words labels.old places.old labels.new places.new (Shape.ShiftedLanes rd rs1 rs2)) }
 {
-    if lane == LANES {
-        return Ok(());
-    }
-    let label = target_label(labels, places, shape, lane)?;
-    turn_lanes_from(labels, places, rd, shape, lane + 1)?;
-    put(labels, places, Loc::Reg { number: rd, lane }, label)
+    let amount = Lanes::alike(places.lanes(rs2).first);
+    let label = unite_both(labels, places.lanes(rs1), amount)?;
+    places.set_lanes(rd, Lanes::alike(label));
+    Ok(())
 }
 
-/// Labels the lanes of a register after the origins of all of them are read.
-fn turn_read_lanes<A: Labels>(
+/// Lane 0 comes from all lanes of both registers, and the other lanes become empty.
+fn compare<A: Labels>(
     labels: &mut A,
-    places: &mut Places<A::Label>,
+    places: &mut Places,
     rd: u8,
-    shape: Shape,
+    rs1: u8,
+    rs2: u8,
 ) -> Result<(), NoMemory>
-    requires register { rd < 32 }
-    requires table { targets_of shape ≡ to_register rd (origins_of shape) }
-    requires registers { HasRegisters shape }
-    requires sizes { HasSizes shape }
+    requires registers { (rd < 32) × (rs1 < 32) × (rs2 < 32) }
     requires standing { AreStanding A.words labels.old places.old }
-    ensures holds { OnOk result ((f : Location → A.Meaning) → Holds A.words labels.old places.old f → Holds A.words labels.new places.new (turned A.words (targets_of shape) f)) }
-    ensures standing { OnOk result (AreStanding A.words labels.new places.new) }
-    ensures keeps { KeepsLabels A.words labels.old labels.new }
+    ensures { OnOk result (Turns A.words labels.old places.old labels.new places.new (Shape.FirstLane rd rs1 rs2)) }
 {
-    if rd == 0 {
-        return Ok(());
-    }
-    turn_lanes_from(labels, places, rd, shape, 0)
+    let label = unite_both(labels, places.lanes(rs1), places.lanes(rs2))?;
+    places.set_lanes(rd, Lanes::alike(label).extended(1, false));
+    Ok(())
 }
 
-/// Labels bytes of memory with what flows into them from registers.
+/// What the lowest `size` lanes have, together with the base register where that counts.
 #[inline(always)]
-fn turn_bytes<A: Labels>(
+fn add_base<A: Labels>(
     labels: &mut A,
-    places: &mut Places<A::Label>,
-    rs: u8,
+    places: &Places,
     base: u8,
-    place: u32,
     size: u8,
-) -> Result<(), NoMemory>
-    requires registers { (rs < 32) × (base < 32) }
+    lanes: Lanes,
+) -> Result<Lanes, NoMemory>
+    requires base { base < 32 }
     requires size { (1 ≤ size) × (size ≤ 4) }
-    requires standing { AreStanding A.words labels.old places.old }
-    ensures holds { OnOk result ((f : Location → A.Meaning) → Holds A.words labels.old places.old f → Holds A.words labels.new places.new (turned A.words (targets_of (Shape.Store rs base place size)) f)) }
-    ensures standing { OnOk result (AreStanding A.words labels.new places.new) }
-    ensures keeps { KeepsLabels A.words labels.old labels.new }
+    requires lanes { Stand A.words labels.old lanes }
+    requires standing { AreStanding A.words labels.old places.now }
+    ensures { IfOk result (MakesBased A.words labels.old places.now base size lanes labels.new) }
 {
-    for i in 0..size {
-        let label = stored_label(labels, places, base, rs, i)?;
-        let loc = Loc::Mem {
-            place: place.wrapping_add(i as u32),
-        };
-        put(labels, places, loc, label)?;
+    if base == 0 {
+        return Ok(lanes);
     }
-    Ok(())
+    based(labels, places, base, lanes.extended(size, false))
 }
 
-/// A load: its lanes have what the bytes have, and what the base register has where that counts.
-#[inline(always)]
-fn turn_by_load<A: Labels>(
+/// What lanes have, together with all lanes of a base register.
+fn based<A: Labels>(
     labels: &mut A,
-    places: &mut Places<A::Label>,
+    places: &Places,
+    base: u8,
+    lanes: Lanes,
+) -> Result<Lanes, NoMemory>
+    requires base { base < 32 }
+    requires lanes { Stand A.words labels.old lanes }
+    requires standing { AreStanding A.words labels.old places.now }
+    ensures { IfOk result (MakesBased A.words labels.old places.now base 4 lanes labels.new) }
+{
+    let label = unite_all(labels, places.lanes(base))?;
+    unite_lanes(labels, Lanes::alike(label), lanes)
+}
+
+/// Lane i comes from byte i, and from the lanes of the base; those above from the highest byte, where it fills them.
+fn load<A: Labels>(
+    labels: &mut A,
+    places: &mut Places,
     rd: u8,
     base: u8,
     place: u32,
@@ -227,60 +131,71 @@ fn turn_by_load<A: Labels>(
     requires registers { (rd < 32) × (base < 32) }
     requires size { (1 ≤ size) × (size ≤ 4) }
     requires standing { AreStanding A.words labels.old places.old }
-    ensures holds { OnOk result ((f : Location → A.Meaning) → Holds A.words labels.old places.old f → Holds A.words labels.new places.new (turned A.words (targets_of (Shape.Load rd base place size fills)) f)) }
-    ensures standing { OnOk result (AreStanding A.words labels.new places.new) }
-    ensures keeps { KeepsLabels A.words labels.old labels.new }
+    ensures { OnOk result (Turns A.words labels.old places.old labels.new places.new (Shape.Load rd base place size fills)) }
 {
-    let shape = Shape::Load {
-        rd,
-        base,
-        place,
-        size,
-        fills,
-    };
-    if base == 0 {
-        return turn_lanes(labels, places, rd, shape);
-    }
-    if fills && size == 1 {
-        return turn_alike(labels, places, rd, shape);
-    }
-    turn_read_lanes(labels, places, rd, shape)
+    let lanes = add_base(labels, places, base, size, places.word(place))?;
+    places.set_lanes(rd, lanes.extended(size, fills));
+    Ok(())
 }
 
-/// Goes on by the flow of an instruction.
+/// Byte i comes from lane i of a register, and from the lanes of the base.
+fn store<A: Labels>(
+    labels: &mut A,
+    places: &mut Places,
+    rs: u8,
+    base: u8,
+    place: u32,
+    size: u8,
+) -> Result<(), NoMemory>
+    requires registers { (rs < 32) × (base < 32) }
+    requires size { (1 ≤ size) × (size ≤ 4) }
+    requires standing { AreStanding A.words labels.old places.old }
+    ensures { OnOk result (Turns A.words labels.old places.old labels.new places.new (Shape.Store rs base place size)) }
+{
+    let lanes = add_base(labels, places, base, size, places.lanes(rs))?;
+    places.set_word(place, size, lanes)
+}
+
+/// Goes on by the flow of an instruction. Each flow that takes more than a copy is a function of its own, so that the loop
+/// over the steps holds no room for its labels.
 #[inline(always)]
 pub(crate) fn turn_by_shape<A: Labels>(
     labels: &mut A,
-    places: &mut Places<A::Label>,
+    places: &mut Places,
     shape: Shape,
 ) -> Result<(), NoMemory>
     requires registers { HasRegisters shape }
     requires sizes { HasSizes shape }
     requires standing { AreStanding A.words labels.old places.old }
-    ensures holds { OnOk result ((f : Location → A.Meaning) → Holds A.words labels.old places.old f → Holds A.words labels.new places.new (turned A.words (targets_of shape) f)) }
-    ensures standing { OnOk result (AreStanding A.words labels.new places.new) }
-    ensures keeps { KeepsLabels A.words labels.old labels.new }
+    ensures { OnOk result (Turns A.words labels.old places.old labels.new places.new shape) }
 {
     match shape {
         Shape::Nothing => Ok(()),
-        Shape::Clear { rd } => turn_lanes(labels, places, rd, Shape::Clear { rd }),
-        Shape::Move { rd, rs } => turn_lanes(labels, places, rd, Shape::Move { rd, rs }),
-        Shape::EachLane { rd, .. } => mix_lanes(labels, places, rd, shape),
-        Shape::AllLanes { rd, .. } => turn_alike(labels, places, rd, shape),
-        Shape::ShiftedLanes { rd, .. } => turn_alike(labels, places, rd, shape),
-        Shape::FirstLane { rd, .. } => turn_read_lanes(labels, places, rd, shape),
+        Shape::Clear { rd } => {
+            places.set_lanes(rd, Lanes::clean());
+            Ok(())
+        }
+        Shape::Move { rd, rs } => {
+            let lanes = places.lanes(rs);
+            places.set_lanes(rd, lanes);
+            Ok(())
+        }
+        Shape::EachLane { rd, rs1, rs2 } => mix_each(labels, places, rd, rs1, rs2),
+        Shape::AllLanes { rd, rs1, rs2 } => mix_all(labels, places, rd, rs1, rs2),
+        Shape::ShiftedLanes { rd, rs1, rs2 } => shift(labels, places, rd, rs1, rs2),
+        Shape::FirstLane { rd, rs1, rs2 } => compare(labels, places, rd, rs1, rs2),
         Shape::Load {
             rd,
             base,
             place,
             size,
             fills,
-        } => turn_by_load(labels, places, rd, base, place, size, fills),
+        } => load(labels, places, rd, base, place, size, fills),
         Shape::Store {
             rs,
             base,
             place,
             size,
-        } => turn_bytes(labels, places, rs, base, place, size),
+        } => store(labels, places, rs, base, place, size),
     }
 }

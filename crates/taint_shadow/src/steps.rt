@@ -1,51 +1,43 @@
 //! How one step turns what locations are labelled with.
 
-ghost use Rattle.std.specs.Prelude.{◌<◌, Some, if◌then◌else◌, IfOk, OnOk};
-ghost use Rattle.flow_model.specs.declared.Loc.{Loc as Location};
-ghost use Rattle.flow_model.specs.Flow.{to_register, nothing, cleared};
-ghost use Rattle.flow_model.specs.Origins.{byte_at};
+ghost use Rattle.std.specs.Prelude.{◌<◌, Some, IfOk, OnOk};
+ghost use Rattle.isa.specs.Encodings.{Fits};
+ghost use Rattle.flow_model.specs.Flow.{flow, to_register, nothing, cleared};
 ghost use Rattle.flow_model.specs.Ranges.{IsInRange, IsCallInRange};
 ghost use Rattle.report_model.specs.Query.{policy_of};
-ghost use Rattle.taint_shadow.specs.Labels.{MakesLabel, KeepsLabels};
-ghost use Rattle.taint_shadow.specs.Steps.{AreStanding, Holds, turned, is_among, introduced as introduced_by, after_call, after};
+ghost use Rattle.taint_shadow.specs.Labels.{Makes};
+ghost use Rattle.taint_shadow.specs.Steps.{AreStanding, Turned, introduced as introduced_by, AfterRead, AfterCall, AfterStep};
 
-use crate::labels::Labels;
+use crate::labels::{Label, Labels};
 use crate::places::Places;
-use crate::shapes::{put, turn_by_shape};
-use flow_model::{CallSeen, StepSeen};
-use flow_rule::{Loc, Shape, SourceByte, shape_of};
-use isa::CallKind;
+use crate::shapes::turn_by_shape;
+use flow_model::{CallSeen, Rule, StepSeen};
+use flow_rule::{Shape, SourceByte, shape_of};
+use isa::{CallKind, Instr};
 use no_memory::NoMemory;
 use query_lang::Query;
 
 /// The label of what a source byte brings in: its own where the query chooses it.
-fn introduced<A: Labels>(
-    labels: &mut A,
-    byte: SourceByte,
-    query: &Query,
-) -> Result<A::Label, NoMemory>
-    ensures made { IfOk result (MakesLabel A.words labels.new (introduced_by A.words (policy_of query.now) byte)) }
-    ensures keeps { KeepsLabels A.words labels.old labels.new }
+fn introduced<A: Labels>(labels: &mut A, byte: SourceByte, query: &Query) -> Result<Label, NoMemory>
+    ensures { IfOk result (Makes A.words labels.old (introduced_by A.words (policy_of query.now) byte) labels.new) }
 {
     if query.source_has(byte) {
         labels.source(byte)
     } else {
-        labels.nothing()
+        Ok(Label::nothing())
     }
 }
 
 /// Labels the bytes that a read received with what they bring in.
 fn receive<A: Labels>(
     labels: &mut A,
-    places: &mut Places<A::Label>,
+    places: &mut Places,
     call: &CallSeen,
     query: &Query,
 ) -> Result<(), NoMemory>
     requires in_range { IsCallInRange (Some call.now) }
     requires standing { AreStanding A.words labels.old places.old }
-    ensures holds { OnOk result ((f : Location → A.Meaning) → Holds A.words labels.old places.old f → Holds A.words labels.new places.new (λ l. if is_among call.now.place call.now.length l then introduced_by A.words (policy_of query.now) (byte_at call.now l) else f l)) }
-    ensures standing { OnOk result (AreStanding A.words labels.new places.new) }
-    ensures keeps { KeepsLabels A.words labels.old labels.new }
+    ensures { OnOk result (AfterRead A.words (policy_of query.now) call.now labels.old places.old labels.new places.new) }
 {
     for i in 0..call.length {
         let byte = SourceByte {
@@ -53,10 +45,7 @@ fn receive<A: Labels>(
             offset: call.offset + i,
         };
         let label = introduced(labels, byte, query)?;
-        let loc = Loc::Mem {
-            place: call.place + i,
-        };
-        put(labels, places, loc, label)?;
+        places.set_byte(call.place + i, label)?;
     }
     Ok(())
 }
@@ -64,13 +53,11 @@ fn receive<A: Labels>(
 /// Empties the registers of a guest call's result.
 fn clear_result<A: Labels>(
     labels: &mut A,
-    places: &mut Places<A::Label>,
+    places: &mut Places,
     kind: CallKind,
 ) -> Result<(), NoMemory>
     requires standing { AreStanding A.words labels.old places.old }
-    ensures holds { OnOk result ((f : Location → A.Meaning) → Holds A.words labels.old places.old f → Holds A.words labels.new places.new (turned A.words (cleared kind) f)) }
-    ensures standing { OnOk result (AreStanding A.words labels.new places.new) }
-    ensures keeps { KeepsLabels A.words labels.old labels.new }
+    ensures { OnOk result (Turned A.words labels.old places.old labels.new places.new (cleared kind)) }
 {
     match kind {
         CallKind::Read | CallKind::Write | CallKind::Other => clear(labels, places, 10),
@@ -83,12 +70,10 @@ fn clear_result<A: Labels>(
 }
 
 /// Empties the lanes of a register.
-fn clear<A: Labels>(labels: &mut A, places: &mut Places<A::Label>, rd: u8) -> Result<(), NoMemory>
+fn clear<A: Labels>(labels: &mut A, places: &mut Places, rd: u8) -> Result<(), NoMemory>
     requires register { rd < 32 }
     requires standing { AreStanding A.words labels.old places.old }
-    ensures holds { OnOk result ((f : Location → A.Meaning) → Holds A.words labels.old places.old f → Holds A.words labels.new places.new (turned A.words (to_register rd nothing) f)) }
-    ensures standing { OnOk result (AreStanding A.words labels.new places.new) }
-    ensures keeps { KeepsLabels A.words labels.old labels.new }
+    ensures { OnOk result (Turned A.words labels.old places.old labels.new places.new (to_register rd nothing)) }
 {
     turn_by_shape(labels, places, Shape::Clear { rd })
 }
@@ -96,15 +81,13 @@ fn clear<A: Labels>(labels: &mut A, places: &mut Places<A::Label>, rd: u8) -> Re
 /// A guest call empties the registers of its result, and a read labels the bytes that it received.
 fn turn_by_call<A: Labels>(
     labels: &mut A,
-    places: &mut Places<A::Label>,
+    places: &mut Places,
     call: &CallSeen,
     query: &Query,
 ) -> Result<(), NoMemory>
     requires in_range { IsCallInRange (Some call.now) }
     requires standing { AreStanding A.words labels.old places.old }
-    ensures holds { OnOk result ((f : Location → A.Meaning) → Holds A.words labels.old places.old f → Holds A.words labels.new places.new (after_call A.words (policy_of query.now) call.now f)) }
-    ensures standing { OnOk result (AreStanding A.words labels.new places.new) }
-    ensures keeps { KeepsLabels A.words labels.old labels.new }
+    ensures { OnOk result (AfterCall A.words (policy_of query.now) call.now labels.old places.old labels.new places.new) }
 {
     clear_result(labels, places, call.kind)?;
     match call.kind {
@@ -116,25 +99,38 @@ fn turn_by_call<A: Labels>(
     }
 }
 
+/// Goes on by one step that is no call: whatever the locations' labels meant before it, they mean what its instruction makes of
+/// that after it. `place` is the effective address of a load or a store.
+#[inline(always)]
+pub fn plain_step<A: Labels>(
+    labels: &mut A,
+    places: &mut Places,
+    instr: &Instr,
+    place: u32,
+    rule: Rule,
+) -> Result<(), NoMemory>
+    requires fits { Fits instr.now }
+    requires standing { AreStanding A.words labels.old places.old }
+    ensures { OnOk result (Turned A.words labels.old places.old labels.new places.new (flow rule instr.now place)) }
+{
+    let shape = shape_of(instr, place, rule);
+    turn_by_shape(labels, places, shape)
+}
+
 /// Goes on by one step: whatever the locations' labels meant before it, they mean what the step makes of that after it.
 #[inline(always)]
 pub fn step<A: Labels>(
     labels: &mut A,
-    places: &mut Places<A::Label>,
+    places: &mut Places,
     step: &StepSeen,
     query: &Query,
 ) -> Result<(), NoMemory>
     requires in_range { IsInRange step.now }
     requires standing { AreStanding A.words labels.old places.old }
-    ensures holds { OnOk result ((f : Location → A.Meaning) → Holds A.words labels.old places.old f → Holds A.words labels.new places.new (after A.words (policy_of query.now) step.now step.now.call f)) }
-    ensures standing { OnOk result (AreStanding A.words labels.new places.new) }
-    ensures keeps { KeepsLabels A.words labels.old labels.new }
+    ensures { OnOk result (AfterStep A.words (policy_of query.now) step.now labels.old places.old labels.new places.new) }
 {
     match &step.call {
-        None => {
-            let shape = shape_of(&step.instr, step.place, query.rule());
-            turn_by_shape(labels, places, shape)
-        }
+        None => plain_step(labels, places, &step.instr, step.place, query.rule()),
         Some(call) => turn_by_call(labels, places, call, query),
     }
 }

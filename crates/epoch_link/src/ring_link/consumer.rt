@@ -1,8 +1,8 @@
 //! The end of a ring that pops.
-ghost use Rattle.std.specs.Prelude.{◌≡◌, ◌≢◌, ◌+◌, ◌≤◌, [], ◌∷◌, ◌++◌, length, true};
-ghost use Rattle.epoch_link.specs.Link.{OnItem, IfItem, OnEmpty, Rose};
+ghost use Rattle.std.specs.Prelude.{◌≡◌, ◌≢◌, ◌+◌, [], ◌∷◌, length, true};
+ghost use Rattle.epoch_link.specs.Link.{IsSameEnd, HasPassed, HasRefused, OnItem, IfItem, OnEmpty};
 ghost use Rattle.epoch_link.specs.Words.{word_of};
-ghost use Rattle.epoch_link.specs.Ends.{AtPop};
+ghost use Rattle.epoch_link.specs.Ends.{AtPop, consumer_end};
 
 use crate::link::{Inlet, Popped};
 use crate::ring_link::end::End;
@@ -37,12 +37,12 @@ impl<T: Drop> Consumer<T> {
     ///
     /// It waits for nothing, and takes no memory.
     pub fn pop(&mut self) -> Popped<T>
-        ensures one_look { (self.new.looks ≡ self.old.looks + 1) × (self.new.link ≡ self.old.link) × (self.new.capacity ≡ self.old.capacity) }
-        ensures item { IfItem result (λ x. (self.new.got ≡ self.old.got ++ x ∷ []) × (self.new.refusals ≡ self.old.refusals)) }
+        ensures one_look { self.new.looks ≡ self.old.looks + 1 }
+        ensures same { IsSameEnd (consumer_end self.old) (consumer_end self.new) }
+        ensures item { IfItem result (λ x. HasPassed x (consumer_end self.old) (consumer_end self.new)) }
         ensures found { OnItem result (self.new.tail ≢ word_of (length self.old.got)) }
-        ensures empty { OnEmpty result ((self.new.tail ≡ word_of (length self.old.got)) × (self.new.got ≡ self.old.got)) }
-        ensures later { self.old.refusals ≤ self.new.refusals }
-        ensures counted { OnEmpty result (Rose self.old.refusals self.new.refusals) }
+        ensures empty { OnEmpty result (self.new.tail ≡ word_of (length self.old.got)) }
+        ensures refused { OnEmpty result (HasRefused (consumer_end self.old) (consumer_end self.new)) }
     {
         let tail = self.end.load_tail();
         if tail == self.end.count {
@@ -54,19 +54,9 @@ impl<T: Drop> Consumer<T> {
 }
 
 impl<T: Drop> Inlet<T> for Consumer<T> {
-    ghost use Rattle.std.specs.Prelude.{[], None};
+    ghost use Rattle.epoch_link.specs.Ends.{consumer_end};
 
-    ghost got = { λ c. c.got };
-
-    ghost link = { λ c. c.link };
-
-    ghost capacity = { λ c. c.capacity };
-
-    ghost other = { λ _. [] };
-
-    ghost refusals = { λ c. c.refusals };
-
-    ghost ready = { λ _. None };
+    ghost end = { consumer_end };
 
     fn pop(&mut self) -> Popped<T> {
         Consumer::pop(self)

@@ -1,8 +1,8 @@
 //! The end of a ring that pushes.
-ghost use Rattle.std.specs.Prelude.{◌≡◌, ◌≢◌, ◌+◌, ◌≤◌, [], ◌∷◌, ◌++◌, length, true, false};
-ghost use Rattle.epoch_link.specs.Link.{OnDone, OnFull, IfFull, Rose};
+ghost use Rattle.std.specs.Prelude.{◌≡◌, ◌≢◌, ◌+◌, [], ◌∷◌, length, true, false};
+ghost use Rattle.epoch_link.specs.Link.{IsSameEnd, HasPassed, HasRefused, OnDone, OnFull, IfFull};
 ghost use Rattle.epoch_link.specs.Words.{word_of, distance};
-ghost use Rattle.epoch_link.specs.Ends.{AtPush};
+ghost use Rattle.epoch_link.specs.Ends.{AtPush, producer_end};
 
 use crate::link::{Outlet, Pushed};
 use crate::ring_link::end::End;
@@ -37,13 +37,13 @@ impl<T: Drop> Producer<T> {
     ///
     /// It waits for nothing, and takes no memory.
     pub fn push(&mut self, item: T) -> Pushed<T>
-        ensures one_look { (self.new.looks ≡ self.old.looks + 1) × (self.new.link ≡ self.old.link) × (self.new.capacity ≡ self.old.capacity) }
-        ensures done { OnDone result ((self.new.sent ≡ self.old.sent ++ item ∷ []) × (self.new.refusals ≡ self.old.refusals)) }
+        ensures one_look { self.new.looks ≡ self.old.looks + 1 }
+        ensures same { IsSameEnd (producer_end self.old) (producer_end self.new) }
+        ensures done { OnDone result (HasPassed item (producer_end self.old) (producer_end self.new)) }
         ensures room { OnDone result (distance (word_of (length self.old.sent)) self.new.head ≢ self.old.capacity) }
         ensures full { OnFull result (distance (word_of (length self.old.sent)) self.new.head ≡ self.old.capacity) }
-        ensures back { IfFull result (λ back. (back ≡ item) × (self.new.sent ≡ self.old.sent)) }
-        ensures later { self.old.refusals ≤ self.new.refusals }
-        ensures counted { OnFull result (Rose self.old.refusals self.new.refusals) }
+        ensures refused { OnFull result (HasRefused (producer_end self.old) (producer_end self.new)) }
+        ensures back { IfFull result (λ back. back ≡ item) }
     {
         let head = self.end.load_head();
         if self.end.count.wrapping_sub(head) == self.end.capacity as u64 {
@@ -56,19 +56,9 @@ impl<T: Drop> Producer<T> {
 }
 
 impl<T: Drop> Outlet<T> for Producer<T> {
-    ghost use Rattle.std.specs.Prelude.{[], None};
+    ghost use Rattle.epoch_link.specs.Ends.{producer_end};
 
-    ghost sent = { λ p. p.sent };
-
-    ghost link = { λ p. p.link };
-
-    ghost capacity = { λ p. p.capacity };
-
-    ghost other = { λ _. [] };
-
-    ghost refusals = { λ p. p.refusals };
-
-    ghost ready = { λ _. None };
+    ghost end = { producer_end };
 
     fn push(&mut self, item: T) -> Pushed<T> {
         Producer::push(self, item)

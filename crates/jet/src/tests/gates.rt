@@ -1,7 +1,11 @@
 //! Gates that are handed to the whole program, and entered by the epochs of its command.
 
 use super::guests::COPY_FOUR;
-use super::{COPIED, COPY, Line, NEVER, files, log_with, program_of, sink, status_by};
+use super::{
+    COPIED, COPY, Line, NEVER, QUERY, files, log, log_with, program, program_of, push_words, sink,
+    status_by,
+};
+use guest_assembler::{Instr, code};
 use outer_io::{Gate, MemoryStore};
 use std::alloc::{AllocError, Global};
 use std::process::Abort;
@@ -31,15 +35,26 @@ fn copied(alloc: Global) -> Result<MemoryStore, AllocError> {
     MemoryStore::new(alloc, files, Vec::new(alloc), 65536, 0)
 }
 
-/// The query is answered where this gate is told of its epochs.
-fn assert_copied<R: Threads + Wait + Sync + AllocGlobal + Abort, G: Gate>(rt: &R, gate: &G) {
+/// The query over these files is answered with this report, where this gate is told of its epochs.
+fn assert_report<R: Threads + Wait + Sync + AllocGlobal + Abort, G: Gate>(
+    rt: &R,
+    line: Line,
+    mut store: MemoryStore,
+    report: &str,
+    gate: &G,
+) {
     let alloc = rt.alloc();
-    let mut store = copied(alloc).expect(rt, "memory");
     let mut out = sink(alloc, NEVER, 65536).expect(rt, "memory");
     let mut err = sink(alloc, NEVER, 1).expect(rt, "memory");
-    let status = status_by(rt, BY_TWO, &mut store, &mut out, &mut err, gate);
+    let status = status_by(rt, line, &mut store, &mut out, &mut err, gate);
     assert_eq!(rt; status.expect(rt, "memory"), 0);
-    assert_eq!(rt; out.bytes(), COPIED.as_bytes());
+    assert_eq!(rt; out.bytes(), report.as_bytes());
+}
+
+/// The query over the four-byte copy is answered, where this gate is told of its epochs.
+fn assert_copied<R: Threads + Wait + Sync + AllocGlobal + Abort, G: Gate>(rt: &R, gate: &G) {
+    let store = copied(rt.alloc()).expect(rt, "memory");
+    assert_report(rt, BY_TWO, store, COPIED, gate);
 }
 
 /// Each epoch of a command enters the gate that the program is handed once.
@@ -56,4 +71,45 @@ fn two_epochs_of_a_command_are_at_work_at_once(rt: HostRuntime) {
     let gate = MeetingGate::new(rt.alloc()).expect(&rt, "memory");
     assert_copied(&rt, &gate);
     assert!(rt; gate.is_met());
+}
+
+/// Counts down from 131072 and exits: 262,147 steps.
+const COUNT_DOWN: [Instr; 5] = code![
+    lui(x5, 0x20000),
+    addi(x5, x5, -1),
+    bne(x5, x0, -4),
+    li(x17, 93),
+    ecall(),
+];
+
+/// A store of the files of that run.
+fn counted(alloc: Global) -> Result<MemoryStore, AllocError> {
+    let program = program(alloc, &COUNT_DOWN)?;
+    let mut records = Vec::new(alloc);
+    records.push(5)?;
+    push_words(&mut records, [262146, 0].as_slice())?;
+    let log = log(alloc, &program, 1, 0, &records)?;
+    let files = files(alloc, &program, &log, COPY.as_bytes())?;
+    MemoryStore::new(alloc, files, Vec::new(alloc), 65536, 0)
+}
+
+/// Queries over that run, and how many epochs enter the gate. Unless their length is told there is one for each worker,
+/// of 262,144 steps at least.
+const SHARES: &[(Line, u32)] = &[
+    (
+        &["jet", "query", "prog", "log", "query", "--workers", "1"],
+        1,
+    ),
+    (QUERY, 2),
+];
+
+#[test]
+fn a_run_has_an_epoch_for_each_worker(rt: HostRuntime) {
+    let alloc = rt.alloc();
+    for &(line, epochs) in SHARES {
+        let gate = CountingGate::new(alloc, epochs).expect(&rt, "memory");
+        let store = counted(alloc).expect(&rt, "memory");
+        assert_report(&rt, line, store, "end 0\n", &gate);
+        assert!(rt; gate.is_entered_by_each_once());
+    }
 }

@@ -43,12 +43,14 @@ pub fn extended(value: u32, size: u8, signed: bool) -> u32
 }
 
 impl HartState {
-    /// Whether the `size` bytes from an address on are all in the window.
+    /// Whether the `size` bytes from an address on are all in the window. An address below the base wraps to one that
+    /// is past the window's end.
     pub fn in_window(&self, address: u32, size: u32) -> bool
+        requires { 0 < size }
         ensures { result ≡ in_window self.now address size }
     {
-        let end = u64::from(address) + u64::from(size);
-        address >= self.base && end <= u64::from(self.base) + self.memory.len() as u64
+        let start = address.wrapping_sub(self.base);
+        u64::from(start) + u64::from(size) <= self.memory.len() as u64
     }
 
     /// The `size` bytes from an address on.

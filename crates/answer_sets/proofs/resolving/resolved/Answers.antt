@@ -11,7 +11,4 @@ pub returns-clause-value : goal.returns-clause-value
 returns-clause-value c =
     resolved_is (answer_to c.args.asked.now c.args.answers.now) (ascends_answer c.args.asked.now c.args.answers.now c.form.ensures)
     (as_terms c.args.terms.now) c.in_ok-all.all.items c.in_ok-all.ensures.ascending
-    (λ b. c.in_ok-all.ensures.members b ∙ c.loop-loc.invariant b ∙ ap (λ (ls : List Loc). among (answer_to c.args.asked.now c.args.answers.now) c.args.terms.now.sources ls b) (take_all _ _ c.loop-loc-test.false ∙ c.starts-loc-items.ensures))
-
-pub add_set-requires : goal.add_set-requires
-add_set-requires c = rw c.find.ensures (ascends_answer c.args.asked.now c.args.answers.now c.form.ensures _)
+    (λ b. c.in_ok-all.ensures.members b ∙ c.loop-loc.invariant.members b ∙ ap (λ (ls : List Loc). among (answer_to c.args.asked.now c.args.answers.now) c.args.terms.now.sources ls b) (take_all _ _ c.loop-loc-test.false ∙ c.starts-loc-items.ensures))

@@ -1,14 +1,25 @@
-use Rattle.std.proofs.Common.{ap, sym, ◌∙◌}
+use Rattle.std.proofs.Common.{ap, sym, subst, ◌∙◌}
 use Rattle.epoch_model.specs.Crossing.{added_all}
 use Rattle.stream_model.specs.Passes.{asked_more}
 use Rattle.local_taint.specs.Summaries.{summary_of}
+use Rattle.backward_pass.specs.Backward.{IsWalked}
+use Rattle.backward_pass.proofs.Counts.{shared_sink}
 use Rattle.backward_pass.proofs.Lists.{next_behind, sink_behind}
 use Rattle.backward_pass.proofs.asking.add_sink.Goals as goal
+use Rattle.backward_pass.proofs.asking.add_sink.Goals.{then-first-via-then-first, then-first-via-else-first+then-shares_terms}
 
 pub returns-then-first : goal.returns-then-first
 returns-then-first c =
-    let next = next_behind (summary_of c.args.summary.now).sinks c.args.number c.requires in
-    record { sink = next.0; is = next.1; added = sym (ap (λ b. asked_more b c.args.asked.now next.0.terms.starts) c.if-first.true) }
+    let ks = (summary_of c.args.summary.now).sinks in
+    elim c.then-first.branch [
+      | then-first-via-then-first w ↦
+          let next = next_behind ks c.args.number c.requires.inside in
+          record { sink = next.0; is = next.1; added = sym (ap (λ b. asked_more b c.args.asked.now next.0.terms.starts) w.if-first.true) }
+      | then-first-via-else-first+then-shares_terms w ↦
+          let shares = w.shares_terms.ensures in let yes = w.if-shares_terms.true in
+          subst (λ b. IsWalked b ks c.args.number c.args.asked.now c.args.asked.now) (sym w.if-first.false)
+          (shared_sink c.args.asked.now ks c.args.number (shares.not_first yes) c.requires.inside (shares.shared yes) (c.requires.walked w.if-first.false))
+    ]
 
 pub returns : goal.returns
 returns c =

@@ -9,13 +9,14 @@ use Rattle.epoch_node.specs.declared.ends.Ends.{Ends}
 use Rattle.epoch_node.specs.Cores.{asked_at}
 use Rattle.epoch_node.specs.Keeping.{HasDone, HasCounted}
 use Rattle.epoch_node.specs.Nodes.{told_by}
-use Rattle.node_groups.specs.Groups.{IsNodeDone}
+use Rattle.epoch_line.specs.Groups.{IsNodeDone}
 use Rattle.epoch_line.specs.Layouts.{epochs_of}
 use Rattle.epoch_line.specs.Lines.{IsOneLink, HasDelivered}
 use Rattle.epoch_line.specs.DoneLines.{DoneNode}
 use Rattle.epoch_line.proofs.Lines.{IsLine, run_line, part}
+use Rattle.epoch_line.proofs.Lists.{one_before}
 use Rattle.epoch_line.proofs.Whole.{done_lines_come}
-use Rattle.epoch_line.proofs.Popping.{Finished, views, node_of, nodes, popped, all_at, all_done, one_before, flat_mapped, links_are, one_more, done_line, capped_more}
+use Rattle.epoch_line.proofs.Popping.{Finished, views, node_of, nodes, popped, all_at, all_done, flat_mapped, links_are, one_more, done_line, capped_more}
 use Rattle.epoch_line.proofs.collecting.collect.Goals as goal
 
 pub finish-own-requires : goal.finish-own-requires

@@ -1,7 +1,7 @@
 use Rattle.std.proofs.Common.{rules, subst, map, is_ok, List, [], ℕ, Bor}
 use Rattle.jet_words.specs.Commands.{RecordOf, ReplayOf, OutputOf, BenchOf}
 use Rattle.jet_files.specs.Outcome.{Follows, seen_by, bytes_of}
-use Rattle.jet_cli.specs.Answers.{IsRecording, IsAnswer, limits_of}
+use Rattle.jet_cli.specs.Answers.{IsRecording, IsAnswer, limits_of, workload_length}
 use Rattle.workload_model.specs.Answer.{IsBenchAnswer}
 use Rattle.outer_io.specs.Reads.{Reads}
 use Rattle.outer_io.proofs.ReadsLemmas.{reads-none, reads-less}
@@ -34,7 +34,7 @@ returns-in-Bench-clause-answer g c =
     let shown = g.S.Store.shown c.args.store.now in
     let b = c.in-Bench in
     let answer : Follows (IsAnswer (BenchOf b.seed b.steps b.pipeline) heard heard) shown shown (seen_by bytes_of c.bench.result) =
-    follows-always (IsBenchAnswer b.seed b.steps b.pipeline.epoch) shown (seen_by bytes_of c.bench.result) c.bench.ensures in
+    follows-always (IsBenchAnswer b.seed b.steps (workload_length b.pipeline)) shown (seen_by bytes_of c.bench.result) c.bench.ensures in
     search rules
 
 pub returns-in-Bench-clause-reads : goal.returns-in-Bench-clause-reads

@@ -3,7 +3,7 @@ use Rattle.report_model.specs.Rows.{Row, rows}
 use Rattle.report_model.specs.Influence.{chosen_sources, turned, influence_text}
 use Rattle.replayer.specs.Jobs.{trace_of}
 use Rattle.jet_model.specs.Report.{influence_of}
-use Rattle.jet_model.specs.Answer.{epochs_check, cut_answer}
+use Rattle.jet_model.specs.Answer.{told_check, cut_answer}
 use Rattle.jet_files.specs.Outcome.{IsWork}
 use Rattle.jet_cli.proofs.Cutting.{made-more, made-stops}
 use Rattle.jet_cli.proofs.influence.influence_of.Goals as goal
@@ -13,12 +13,12 @@ returns-in_err-report g c =
     let job = c.args.job.now in
     let q = c.args.query.now in
     let refused : IsWork (cut_answer c.args.pipeline.epoch job.start job.log (influence_of q)) (Err c.in_err-report.field-0.0) =
-    made-stops (epochs_check c.args.pipeline.epoch job.log) (rows q (trace_of job)) (influence_of q (trace_of job)) c.in_err-report.field-0.0 c.in_err-report.ensures in
+    made-stops (told_check c.args.pipeline.epoch job.log) (rows q (trace_of job)) (influence_of q (trace_of job)) c.in_err-report.field-0.0 c.in_err-report.ensures in
     search rules
 
 pub returns : goal.returns
 returns g c =
     let job = c.args.job.now in
     let q = c.args.query.now in
-    made-more (epochs_check c.args.pipeline.epoch job.log) (rows q (trace_of job)) c.in_ok-report.report (influence_of q (trace_of job)) c.in_ok-text.text.items c.in_ok-report.ensures
+    made-more (told_check c.args.pipeline.epoch job.log) (rows q (trace_of job)) c.in_ok-report.report (influence_of q (trace_of job)) c.in_ok-text.text.items c.in_ok-report.ensures
     (λ same. c.in_ok-text.ensures ∙ ap (λ (rs : List Row). influence_text (turned rs (chosen_sources q (trace_of job)))) same)

@@ -7,9 +7,9 @@ use Rattle.jet_cli.proofs.work.list.Goals as goal
 
 pub returns-in_err-job : goal.returns-in_err-job
 returns-in_err-job g c =
-    let epoch = c.args.pipeline.epoch in
-    let refused : IsWorkOf (IsGivenAlike c.args.listing epoch (run_of c.args.run) c.args.query.now) (Err c.in_err-job.field-0.0) =
-    listing-stops c.args.listing epoch (run_of c.args.run) c.args.query.now c.in_err-job.field-0.0 c.in_err-job.ensures.err in
+    let told = c.args.pipeline.epoch in
+    let refused : IsWorkOf (IsGivenAlike c.args.listing told (run_of c.args.run) c.args.query.now) (Err c.in_err-job.field-0.0) =
+    listing-stops c.args.listing told (run_of c.args.run) c.args.query.now c.in_err-job.field-0.0 c.in_err-job.ensures.err in
     search rules
 
 pub returns : goal.returns

@@ -26,10 +26,10 @@ loop-due-preserved c =
     let more = c.in_ok-collect_point.ensures in
     record {
       within = omega (arith, inside);
-      standing = standing_kept c.loop-due.nodes c.collect_point.new.nodes places more.keeps before.standing;
+      standing = standing_kept c.args.nodes.now c.args.nodes.now places more.keeps before.standing;
       stand = more.stand;
-      noted = subst (λ ks. Notes places ks c.args.nodes.now c.args.sinks.now.items c.collect_point.new.nodes c.collect_point.new.sinks.items) (sym (sinks_more time points due first inside here))
-          (more_notes places _ _ c.args.nodes.now c.loop-due.nodes c.collect_point.new.nodes c.args.sinks.now.items c.loop-due.sinks.items c.collect_point.new.sinks.items c.requires.standing before.noted more);
+      noted = subst (λ ks. Notes places ks c.args.nodes.now c.args.sinks.now.items c.args.nodes.now c.collect_point.new.sinks.items) (sym (sinks_more time points due first inside here))
+          (more_notes places _ _ c.args.nodes.now c.args.nodes.now c.args.nodes.now c.args.sinks.now.items c.loop-due.sinks.items c.collect_point.new.sinks.items c.requires.standing before.noted more);
       turn = turn_more time points due first inside here c.if-points-due.true before.turn;
       later = later_more time points due first inside here c.if-points-due.true before.later;
     }
@@ -51,6 +51,6 @@ returns c =
     ] in
     let long : length (drop due points) ≤ length points - due = omega (arith, length-drop due points) in
     record {
-      noted = subst (λ ps. Notes c.args.places.now (map point_sink ps) c.args.nodes.now c.args.sinks.now.items c.loop-due.nodes c.loop-due.sinks.items) (sym (due_are time points due after c.loop-due.invariant.turn)) c.loop-due.invariant.noted;
+      noted = subst (λ ps. Notes c.args.places.now (map point_sink ps) c.args.nodes.now c.args.sinks.now.items c.args.nodes.now c.loop-due.sinks.items) (sym (due_are time points due after c.loop-due.invariant.turn)) c.loop-due.invariant.noted;
       later = take_all (length points - due) (drop due points) long ∙ later_are time points due after c.loop-due.invariant.later;
     }

@@ -10,7 +10,7 @@ invariant-loop-due l = record {
   within : l.due ≤ length l.points;
   standing : AreStanding label_words l.nodes l.places;
   stand : AreNamed l.nodes l.sinks.items;
-  noted : Notes l.places (map point_sink (take l.due l.points)) l.initial.nodes l.initial.sinks.items l.nodes l.sinks.items;
+  noted : Notes l.places (map point_sink (take l.due l.points)) l.nodes l.initial.sinks.items l.nodes l.sinks.items;
   turn : at_time l.time l.points ≡ take l.due l.points ++ at_time l.time (drop l.due l.points);
   later : from_time (l.time + 1) l.points ≡ from_time (l.time + 1) (drop l.due l.points);
 }

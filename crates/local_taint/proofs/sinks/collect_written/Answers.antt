@@ -22,11 +22,11 @@ loop-i-preserved c =
     let within : call.place + i < 2 ^ 32 = omega (arith, inside, c.loop-i-test.true) in
     let more = c.in_ok-collect_byte.ensures in
     record {
-      standing = standing_kept c.loop-i.nodes c.collect_byte.new.nodes places (more 0).keeps c.loop-i.invariant.standing;
+      standing = standing_kept c.args.nodes.now c.args.nodes.now places (more 0).keeps c.loop-i.invariant.standing;
       stand = (more 0).stand;
       noted = λ t.
-          subst (λ (ks : _). Notes places ks c.args.nodes.now c.args.sinks.now.items c.collect_byte.new.nodes c.collect_byte.new.sinks.items) (sym (one_more_byte q t call i within))
-          (more_notes places _ _ c.args.nodes.now c.loop-i.nodes c.collect_byte.new.nodes c.args.sinks.now.items c.loop-i.sinks.items c.collect_byte.new.sinks.items c.requires.standing (c.loop-i.invariant.noted t) (more t));
+          subst (λ (ks : _). Notes places ks c.args.nodes.now c.args.sinks.now.items c.args.nodes.now c.collect_byte.new.sinks.items) (sym (one_more_byte q t call i within))
+          (more_notes places _ _ c.args.nodes.now c.args.nodes.now c.args.nodes.now c.args.sinks.now.items c.loop-i.sinks.items c.collect_byte.new.sinks.items c.requires.standing (c.loop-i.invariant.noted t) (more t));
     }
 
 pub returns : goal.returns
@@ -34,4 +34,4 @@ returns c t =
     let q = c.args.query.now in
     let call = c.args.call.now in
     let whole : c.loop-i.i ≡ call.length = omega (arith, c.loop-i-test.false, c.loop-i.auto.i-end) in
-    subst (λ n. Notes c.args.places.now (chosen q (map (sink_at t call) (range_with_len 0 n))) c.args.nodes.now c.args.sinks.now.items c.loop-i.nodes c.loop-i.sinks.items) whole (c.loop-i.invariant.noted t)
+    subst (λ n. Notes c.args.places.now (chosen q (map (sink_at t call) (range_with_len 0 n))) c.args.nodes.now c.args.sinks.now.items c.args.nodes.now c.loop-i.sinks.items) whole (c.loop-i.invariant.noted t)

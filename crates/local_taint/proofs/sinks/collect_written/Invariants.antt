@@ -10,5 +10,5 @@ abbrev pub invariant-loop-i : goal.invariant-loop-i
 invariant-loop-i l = record {
   standing : AreStanding label_words l.nodes l.places;
   stand : AreNamed l.nodes l.sinks.items;
-  noted : (t : ℕ) → Notes l.places (chosen l.query (map (sink_at t l.call) (range_with_len 0 l.i))) l.initial.nodes l.initial.sinks.items l.nodes l.sinks.items;
+  noted : (t : ℕ) → Notes l.places (chosen l.query (map (sink_at t l.call) (range_with_len 0 l.i))) l.nodes l.initial.sinks.items l.nodes l.sinks.items;
 }

@@ -1,8 +1,7 @@
 use Rattle.std.proofs.Common.{◌≡◌, ◌+◌, refl, ap, ◌∙◌, arith}
-use Rattle.std.specs.Prelude.{option_map}
 use Rattle.flow_rule.specs.declared.Message.TheVariants.{End}
 use Rattle.pass_parts.proofs.Events.{waits_at}
-use Rattle.pass_parts.specs.Ends.{IsRefused, with}
+use Rattle.pass_parts.specs.Ends.{through, with, IsRefused}
 use Rattle.backward_pass.specs.Backward.{BackView, back_of}
 use Rattle.backward_pass.proofs.Backing.{moved_next, push_next, over_next, full_next, empty_next, pop_next, no_room_next, end_next, needs_room}
 use Rattle.backward_pass.proofs.back.Back.event.Goals as goal
@@ -35,7 +34,7 @@ returns-then-not-push_message-2-clause-event g c =
 pub returns-else-not-push_message-2-clause-event : goal.returns-else-not-push_message-2-clause-event
 returns-else-not-push_message-2-clause-event g c =
     end_next (back_of c.args.self.now) _ _ c.requires (back_of c.next.new.self) c.in-End.ensures.0 _ c.in-End.ensures.1
-    (c.if-not-push_message-2.ensures.sent refl ∙ ap (λ w. with (End w) (option_map g.O.Outlet.sent c.args.outlet.now)) c.whole-whole.ensures)
+    (c.if-not-push_message-2.ensures.sent refl ∙ ap (λ w. with (End w) (through g.O.Outlet.end c.args.outlet.now)) c.whole-whole.ensures)
 
 pub returns-in-Over-clause-event : goal.returns-in-Over-clause-event
 returns-in-Over-clause-event g c = over_next (back_of c.args.self.now) _ _ c.requires (back_of c.next.new.self) c.in-Over.ensures.0 c.in-Over.ensures.1
@@ -47,6 +46,6 @@ overflow_add-self g c =
 
 pub returns-then-not-push_message-clause-waits : goal.returns-then-not-push_message-clause-waits
 returns-then-not-push_message-clause-waits g c =
-    waits_at (IsRefused g.I.Inlet.refusals g.I.Inlet.ready c.args.inlet.now c.args.inlet.now) _
-    (needs_room (back_of c.args.self.now) (option_map g.I.Inlet.got c.args.inlet.now) (option_map g.O.Outlet.sent c.args.outlet.now) c.in-Send.message c.in-Send.ensures.1)
+    waits_at (IsRefused g.I.Inlet.end c.args.inlet.now c.args.inlet.now) _
+    (needs_room (back_of c.args.self.now) (through g.I.Inlet.end c.args.inlet.now) (through g.O.Outlet.end c.args.outlet.now) c.in-Send.message c.in-Send.ensures.1)
     (c.if-not-push_message.ensures.refused refl)

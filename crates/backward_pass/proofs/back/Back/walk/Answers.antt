@@ -1,10 +1,17 @@
-use Rattle.std.proofs.Common.{◌+◌, true, drop, ap, ◌∙◌, arith}
+use Rattle.std.proofs.Common.{◌+◌, true, take, drop, ap, subst, ◌∙◌, arith}
 use Rattle.local_taint.specs.Summaries.{summary_of}
 use Rattle.pass_parts.specs.Known.{known}
 use Rattle.pass_parts.specs.Knowing.{is_whole, summary_in}
-use Rattle.backward_pass.specs.Backward.{back_of}
+use Rattle.backward_pass.specs.Backward.{back_of, AreAsked}
+use Rattle.backward_pass.proofs.Counts.{first_asked}
 use Rattle.backward_pass.proofs.Lists.{next_behind}
 use Rattle.backward_pass.proofs.back.Back.walk.Goals as goal
+
+pub add_sink-requires-clause-walked : goal.add_sink-requires-clause-walked
+add_sink-requires-clause-walked c = λ other.
+    let s = c.args.self.now in
+    subst (λ k. AreAsked s.asked (take s.walked (known (summary_in k)).sinks)) c.in-Whole.is
+    (first_asked s.asked (known (summary_in s.epoch)).sinks s.walked (c.requires.walked (ap is_whole c.in-Whole.is) other))
 
 pub returns-in_default-add_sink-clause-walked : goal.returns-in_default-add_sink-clause-walked
 returns-in_default-add_sink-clause-walked c = λ _.

@@ -19,4 +19,4 @@ returns-clause-time c =
     ∙ ap (option_map time_of) (slice_get-get_or points c.args.k point below)
     ∙ ap (λ (p : CheckpointAt). Some (time_of p)) (sym c.index-point.ensures ∙ sym c.point.view_is)
     ∙ ap (λ (s : SavedCursor). Some s.counters.time) (sym c.whole.ensures)
-    ∙ ap (λ (p : CursorAt). Some p.time) (sym c.from.ensures)
+    ∙ ap (λ (p : CursorAt). Some p.time) (sym c.from-cursor.ensures ∙ sym c.keep_decoded.ensures)

@@ -1,6 +1,8 @@
-use Rattle.std.proofs.Common.{inl, inr, sym, subst, ◌∙◌}
-use Rattle.epoch_node.specs.Cores.{core_of}
+use Rattle.std.proofs.Common.{◌≡◌, inl, inr, sym, subst, ◌∙◌}
+use Rattle.epoch_node.specs.declared.stage.Phase.TheVariants.{Fresh, Done}
+use Rattle.epoch_node.specs.Cores.{core_of, phase_of}
 use Rattle.epoch_node.specs.Nodes.{NodeView, IsLedFrom, led_refl}
+use Rattle.epoch_node.proofs.Led.{begun_by}
 use Rattle.epoch_node.proofs.NodeSteps.{asks_lead, answers_lead}
 use Rattle.epoch_node.proofs.node.Node.step.Goals as goal
 use Rattle.epoch_node.proofs.node.Node.step.Goals.{in-Fresh, in-Asking, in-Answering, in-Done}
@@ -26,3 +28,15 @@ returns-clause-led g c =
           (answers_lead core (core_of w.step-in-Answering.new.self) s.ends w.step-in-Answering.new.inlet w.step-in-Answering.new.outlet w.step-in-Answering.result (sym c.phase.ensures ∙ w.in-Answering.is) e.event e.inlet e.outlet)
       | in-Done w ↦ subst (λ n. IsLedFrom (record { core = core_of n.core; ends = n.ends }) old) (sym w.self-inside-is) (led_refl old)
     ])
+
+pub returns-clause-begun : goal.returns-clause-begun
+returns-clause-begun g c =
+    elim c.match-phase.branch [
+      | in-Fresh w ↦ subst (λ n. ¬ (phase_of (core_of n.core).stage ≡ Fresh)) (sym w.self-inside-is) (begun_by _ _ _ _ _ _ _ _ w.step.ensures.event.steps)
+      | in-Asking w ↦ subst (λ n. ¬ (phase_of (core_of n.core).stage ≡ Fresh)) (sym w.self-inside-is) (begun_by _ _ _ _ _ _ _ _ w.step-in-Asking.ensures.event.steps)
+      | in-Answering w ↦ subst (λ n. ¬ (phase_of (core_of n.core).stage ≡ Fresh)) (sym w.self-inside-is) (begun_by _ _ _ _ _ _ _ _ w.step-in-Answering.ensures.event.steps)
+      | in-Done w ↦ λ h.
+          let done : phase_of (core_of c.self.inside.core).stage ≡ Done = sym c.phase.ensures ∙ w.in-Done.is in
+          let fresh : phase_of (core_of c.self.inside.core).stage ≡ Fresh = subst (λ n. phase_of (core_of n.core).stage ≡ Fresh) w.self-inside-is h in
+          cc
+    ]

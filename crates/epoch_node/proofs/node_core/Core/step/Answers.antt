@@ -17,14 +17,14 @@ returns-in-Moved-clause-event g c =
     let e = c.in-Moved.ensures in
     let counted = ap (core_of {G = g.row.G.Denot}) c.count.ensures in
     open_event (core_of c.args.self.now) (stage_of c.act.new.self) _ _ Moved (acts_of c.deref_mut.ensures.value (stage_of c.act.new.self) _ _ _ e.acts) c.requires.ready
-    (same_none g.I.Inlet.link g.I.Inlet.capacity g.I.Inlet.other g.I.Inlet.got _ _ e.inlet) (same_none g.O.Outlet.link g.O.Outlet.capacity g.O.Outlet.other g.O.Outlet.sent _ _ e.outlet)
+    (same_none g.I.Inlet.end _ _ e.inlet) (same_none g.O.Outlet.end _ _ e.outlet)
     (core_of c.count.new.self) (ap (λ d. d.given) counted) moved_open (ap (λ d. d.stage) counted) (ap (λ d. d.events) counted)
 
 pub returns-in-NotYet-clause-event : goal.returns-in-NotYet-clause-event
 returns-in-NotYet-clause-event g c =
     let e = c.in-NotYet.ensures in
     open_event (core_of c.args.self.now) (stage_of c.act.new.self) _ _ NotYet (acts_of c.deref_mut.ensures.value (stage_of c.act.new.self) _ _ _ e.acts) c.requires.ready
-    (same_none g.I.Inlet.link g.I.Inlet.capacity g.I.Inlet.other g.I.Inlet.got _ _ e.inlet) (same_none g.O.Outlet.link g.O.Outlet.capacity g.O.Outlet.other g.O.Outlet.sent _ _ e.outlet)
+    (same_none g.I.Inlet.end _ _ e.inlet) (same_none g.O.Outlet.end _ _ e.outlet)
     _ refl not_yet_open refl refl
 
 pub returns-then-eq-2-clause-event : goal.returns-then-eq-2-clause-event
@@ -37,7 +37,7 @@ returns-then-eq-2-clause-event g c =
     let done : phase_of after.stage ≡ Done = search rules in
     subst (IsEvent (core_of c.args.self.now) _ after _) (ended_last (phase_of after.stage) done)
     (over_event (core_of c.args.self.now) (stage_of c.act.new.self) _ _ Over (acts_of c.deref_mut.ensures.value (stage_of c.act.new.self) _ _ _ e.acts) c.requires.ready
-    (same_none g.I.Inlet.link g.I.Inlet.capacity g.I.Inlet.other g.I.Inlet.got _ _ e.inlet) (same_none g.O.Outlet.link g.O.Outlet.capacity g.O.Outlet.other g.O.Outlet.sent _ _ e.outlet)
+    (same_none g.I.Inlet.end _ _ e.inlet) (same_none g.O.Outlet.end _ _ e.outlet)
     after (ap (λ d. d.given) counted ∙ c.advance.ensures.given) refl was_open
     (subst (Advances (core_of c.args.self.now).given _) (sym stage) c.advance.ensures.advances) (ap (λ d. d.events) counted ∙ ap one_more c.advance.ensures.events))
 
@@ -51,6 +51,6 @@ returns-else-eq-2-clause-event g c =
     let open_still : phase_of after.stage ≡ Done → ⊥ = search rules in
     subst (IsEvent (core_of c.args.self.now) _ after _) (ended_before (phase_of after.stage) open_still)
     (over_event (core_of c.args.self.now) (stage_of c.act.new.self) _ _ Over (acts_of c.deref_mut.ensures.value (stage_of c.act.new.self) _ _ _ e.acts) c.requires.ready
-    (same_none g.I.Inlet.link g.I.Inlet.capacity g.I.Inlet.other g.I.Inlet.got _ _ e.inlet) (same_none g.O.Outlet.link g.O.Outlet.capacity g.O.Outlet.other g.O.Outlet.sent _ _ e.outlet)
+    (same_none g.I.Inlet.end _ _ e.inlet) (same_none g.O.Outlet.end _ _ e.outlet)
     after (ap (λ d. d.given) counted ∙ c.advance.ensures.given) refl was_open
     (subst (Advances (core_of c.args.self.now).given _) (sym stage) c.advance.ensures.advances) (ap (λ d. d.events) counted ∙ ap one_more c.advance.ensures.events))

@@ -1,8 +1,7 @@
 use Rattle.std.proofs.Common.{ap, refl, ◌∙◌}
-use Rattle.std.specs.Prelude.{option_map}
 use Rattle.flow_rule.specs.declared.Message.TheVariants.{End}
 use Rattle.pass_parts.proofs.Events.{waits_at}
-use Rattle.pass_parts.specs.Ends.{IsRefused, with}
+use Rattle.pass_parts.specs.Ends.{through, with, IsRefused}
 use Rattle.forward_pass.specs.Forward.{ForeView, fore_of}
 use Rattle.forward_pass.specs.Rest.{BeingSent, rest_of}
 use Rattle.forward_pass.proofs.Events.{moved_next, over_next, full_next, push_next, empty_next, needs_item, pop_next, no_room_next, end_next}
@@ -36,13 +35,13 @@ returns-then-not-push_message-2-clause-event g c =
 pub returns-else-not-push_message-2-clause-event : goal.returns-else-not-push_message-2-clause-event
 returns-else-not-push_message-2-clause-event g c =
     end_next (fore_of c.args.self.now) _ _ c.requires (fore_of c.next.new.self) c.in-End.ensures.0 _ c.in-End.ensures.1
-    (c.if-not-push_message-2.ensures.sent refl ∙ ap (λ w. with (End w) (option_map g.O.Outlet.sent c.args.outlet.now)) c.whole-whole.ensures)
+    (c.if-not-push_message-2.ensures.sent refl ∙ ap (λ w. with (End w) (through g.O.Outlet.end c.args.outlet.now)) c.whole-whole.ensures)
 
 pub returns-in-Over-clause-event : goal.returns-in-Over-clause-event
 returns-in-Over-clause-event g c = over_next (fore_of c.args.self.now) _ _ c.requires (fore_of c.next.new.self) c.in-Over.ensures.0 c.in-Over.ensures.1
 
 pub returns-in_default-clause-waits : goal.returns-in_default-clause-waits
 returns-in_default-clause-waits g c =
-    waits_at _ (IsRefused g.O.Outlet.refusals g.O.Outlet.ready c.args.outlet.now c.args.outlet.now)
-    (needs_item (fore_of c.args.self.now) (option_map g.I.Inlet.got c.args.inlet.now) (option_map g.O.Outlet.sent c.args.outlet.now) c.requires c.in-Receive.ensures.1)
+    waits_at _ (IsRefused g.O.Outlet.end c.args.outlet.now c.args.outlet.now)
+    (needs_item (fore_of c.args.self.now) (through g.I.Inlet.end c.args.inlet.now) (through g.O.Outlet.end c.args.outlet.now) c.requires c.in-Receive.ensures.1)
     c.in_default.ensures.refused

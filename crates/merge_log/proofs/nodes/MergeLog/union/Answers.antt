@@ -1,5 +1,6 @@
-use Rattle.std.proofs.Common.{◌∙◌}
+use Rattle.std.proofs.Common.{◌∙◌, refl}
 use Rattle.std.proofs.lemmas.Result.{IfOk-weaker}
+use Rattle.merge_log.proofs.Keys.{keeps_all, noted_here, noted_terms}
 use Rattle.merge_log.proofs.Terms.{with_itself, with_nothing, nothing_with}
 use Rattle.merge_log.proofs.Unions.{made, made_terms, made_there}
 use Rattle.merge_log.proofs.nodes.MergeLog.union.Goals as goal
@@ -15,13 +16,26 @@ returns-then-a-b-clause-terms c =
 pub returns-then-a-eq0-clause-terms : goal.returns-then-a-eq0-clause-terms
 returns-then-a-eq0-clause-terms c = nothing_with c.args.self.now c.args.a c.args.b c.if-a-eq0.true
 
+-- the node that was noted lately is that of the union
+pub returns-then-is_union_of : goal.returns-then-is_union_of
+returns-then-is_union_of c =
+    let log = c.args.self.now in
+    let noted = noted_here log _ _ (c.is_union_of.ensures c.if-is_union_of.true) in
+    record {
+      terms = noted_terms log _ log _ c.form.ensures.log noted ∙ made_terms log c.args.a c.args.b c.in_order-left.result.0 c.in_order-left.result.1 c.form.ensures.log.ordered log (keeps_all log) c.in_order-left.ensures.both c.requires.left c.requires.right;
+      united = made log c.args.a c.args.b c.in_order-left.result.0 c.in_order-left.result.1 c.form.ensures.log.ordered log _ c.in_order-left.ensures.both c.in_order-left.ensures.ordered c.if-a-b.false c.if-a-eq0.false c.if-b-eq0.false noted;
+      kept = keeps_all log;
+      there = λ h. refl;
+      err = tt;
+    }
+
 pub returns-clause-terms : goal.returns-clause-terms
 returns-clause-terms c =
-    IfOk-weaker c.insert.result _ _ (λ n h. h ∙ made_terms c.args.self.now c.args.a c.args.b c.in_order-left.result.0 c.in_order-left.result.1 c.form.ensures.log.ordered c.insert.new.self c.insert.ensures.kept c.in_order-left.ensures.both c.requires.left c.requires.right) c.insert.ensures.terms
+    IfOk-weaker c.insert_union.result _ _ (λ n h. h ∙ made_terms c.args.self.now c.args.a c.args.b c.in_order-left.result.0 c.in_order-left.result.1 c.form.ensures.log.ordered c.insert_union.new.self c.insert_union.ensures.kept c.in_order-left.ensures.both c.requires.left c.requires.right) c.insert_union.ensures.terms
 
 pub returns-clause-united : goal.returns-clause-united
 returns-clause-united c =
-    IfOk-weaker c.insert.result _ _ (λ n h. made c.args.self.now c.args.a c.args.b c.in_order-left.result.0 c.in_order-left.result.1 c.form.ensures.log.ordered c.insert.new.self n c.in_order-left.ensures.both c.in_order-left.ensures.ordered c.if-a-b.false c.if-a-eq0.false c.if-b-eq0.false h) c.insert.ensures.noted
+    IfOk-weaker c.insert_union.result _ _ (λ n h. made c.args.self.now c.args.a c.args.b c.in_order-left.result.0 c.in_order-left.result.1 c.form.ensures.log.ordered c.insert_union.new.self n c.in_order-left.ensures.both c.in_order-left.ensures.ordered c.if-a-b.false c.if-a-eq0.false c.if-b-eq0.false h) c.insert_union.ensures.noted
 
 pub returns-clause-there : goal.returns-clause-there
-returns-clause-there c h = c.insert.ensures.there (made_there c.args.self.now c.args.a c.args.b c.in_order-left.result.0 c.in_order-left.result.1 c.form.ensures.log.ordered c.in_order-left.ensures.both c.in_order-left.ensures.ordered c.if-a-b.false c.if-a-eq0.false c.if-b-eq0.false h)
+returns-clause-there c h = c.insert_union.ensures.there (made_there c.args.self.now c.args.a c.args.b c.in_order-left.result.0 c.in_order-left.result.1 c.form.ensures.log.ordered c.in_order-left.ensures.both c.in_order-left.ensures.ordered c.if-a-b.false c.if-a-eq0.false c.if-b-eq0.false h)

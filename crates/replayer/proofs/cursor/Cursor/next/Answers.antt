@@ -1,10 +1,9 @@
-use Rattle.std.proofs.Common.{◌≡◌, ℕ, ◌<◌, None, arith, ap, sym, ◌∙◌, subst}
+use Rattle.std.proofs.Common.{ℕ, ◌<◌, arith, ap, sym, ◌∙◌, subst}
 use Rattle.log_model.specs.Logs.{steps}
-use Rattle.flow_model.specs.declared.StepSeen.{StepSeen}
 use Rattle.rv_machine.specs.declared.Stepped.TheVariants.{Plain}
 use Rattle.replay_run.specs.Runs.{RunAt, hart_of, with_hart, later_by_one, IsLater, IsReady, IsFinished}
-use Rattle.replay_run.proofs.Steps.{ready, numbered}
-use Rattle.replayer.proofs.Stepping.{cursor_agrees, cursor_moves, cursor_step, plain_finished}
+use Rattle.replay_run.proofs.Steps.{numbered}
+use Rattle.replayer.proofs.Stepping.{cursor_ready, cursor_moves, cursor_step, plain_made}
 use Rattle.replayer.proofs.cursor.Cursor.next.Goals as goal
 
 -- ---- a plain step
@@ -12,53 +11,35 @@ use Rattle.replayer.proofs.cursor.Cursor.next.Goals as goal
 pub advance-requires-clause-later : goal.advance-requires-clause-later
 advance-requires-clause-later c =
     let run = c.self.inside.run in
-    let job = c.self.inside.job.now in
     let within = c.self.invariant.within in
-    let below : run.moment.time < steps job.log = omega arith in
-    let same : steps run.log ≡ steps job.log = ap steps c.self.invariant.same_log in
-    let can = ready run (Plain c.in-Plain.instr c.in-Plain.place) (hart_of c.step_inlined.new.self) c.form.ensures (omega arith) (cursor_agrees job run c.self.invariant below) c.in-Plain.ensures.step in
+    let below : run.moment.time < steps c.self.inside.job.now.log = omega arith in
+    let can = cursor_ready c.self.inside.job.now run c.self.invariant c.form.ensures below (Plain c.in-Plain.instr c.in-Plain.place) (hart_of c.step_inlined.new.self) c.in-Plain.ensures.step in
     subst (λ (r : RunAt). IsLater r.moment.time r.moment.left) (sym c.in-Plain.ensures.rest) can.2
 
 pub invariant_of-self : goal.invariant_of-self
 invariant_of-self c =
     let run = c.self.inside.run in
-    let job = c.self.inside.job.now in
     let within = c.self.invariant.within in
-    let below : run.moment.time < steps job.log = omega arith in
-    let hart = hart_of c.step_inlined.new.self in
+    let below : run.moment.time < steps c.self.inside.job.now.log = omega arith in
     let counted = c.advance.ensures ∙ ap later_by_one c.in-Plain.ensures.rest in
-    let s : StepSeen = record { number = c.time-number.result; instr = c.in-Plain.instr; place = c.in-Plain.place; call = None } in
-    let finished = plain_finished run c.advance.new.self hart c.in-Plain.instr c.in-Plain.place c.time-number.result c.time-number.ensures counted in
-    cursor_moves job run c.self.invariant below (Plain c.in-Plain.instr c.in-Plain.place) hart c.in-Plain.ensures.step c.advance.new.self s finished (ap (λ (r : RunAt). r.log) counted) (ap (λ (r : RunAt). r.waits) counted ∙ c.in-Plain.ensures.step.goes_on)
+    (plain_made c.self.inside.job.now run c.advance.new.self (hart_of c.step_inlined.new.self) c.in-Plain.instr c.in-Plain.place c.time-number.result c.self.invariant below c.in-Plain.ensures.step c.time-number.ensures counted).cursor
 
 pub returns-in-Plain : goal.returns-in-Plain
 returns-in-Plain c =
     let run = c.self.inside.run in
-    let job = c.self.inside.job.now in
     let within = c.self.invariant.within in
-    let below : run.moment.time < steps job.log = omega arith in
-    let hart = hart_of c.step_inlined.new.self in
+    let below : run.moment.time < steps c.self.inside.job.now.log = omega arith in
     let counted = c.advance.ensures ∙ ap later_by_one c.in-Plain.ensures.rest in
-    let s : StepSeen = record { number = c.time-number.result; instr = c.in-Plain.instr; place = c.in-Plain.place; call = None } in
-    let finished = plain_finished run c.advance.new.self hart c.in-Plain.instr c.in-Plain.place c.time-number.result c.time-number.ensures counted in
-    rw (← c.self.view_is) (record {
-      below = below;
-      step = cursor_step job run c.self.invariant below (Plain c.in-Plain.instr c.in-Plain.place) hart c.in-Plain.ensures.step c.advance.new.self s finished;
-      number = c.time-number.ensures;
-      moved = ap (λ (r : RunAt). record { job = job; time = r.moment.time }) counted;
-      in_range = record { fits = c.in-Plain.ensures.step.fits; call = tt };
-    })
+    rw (← c.self.view_is) (plain_made c.self.inside.job.now run c.advance.new.self (hart_of c.step_inlined.new.self) c.in-Plain.instr c.in-Plain.place c.time-number.result c.self.invariant below c.in-Plain.ensures.step c.time-number.ensures counted).step
 
 -- ---- a call
 
 pub finish-requires-clause-ready : goal.finish-requires-clause-ready
 finish-requires-clause-ready c =
     let run = c.self.inside.run in
-    let job = c.self.inside.job.now in
     let within = c.self.invariant.within in
-    let below : run.moment.time < steps job.log = omega arith in
-    let same : steps run.log ≡ steps job.log = ap steps c.self.invariant.same_log in
-    let can = ready run c.step_inlined.result (hart_of c.step_inlined.new.self) c.form.ensures (omega arith) (cursor_agrees job run c.self.invariant below) c.step_inlined.ensures.step in
+    let below : run.moment.time < steps c.self.inside.job.now.log = omega arith in
+    let can = cursor_ready c.self.inside.job.now run c.self.invariant c.form.ensures below c.step_inlined.result (hart_of c.step_inlined.new.self) c.step_inlined.ensures.step in
     subst (λ (r : RunAt). IsReady r c.step_inlined.result) (sym c.step_inlined.ensures.rest) can
 
 pub invariant_of-self-in_default : goal.invariant_of-self-in_default

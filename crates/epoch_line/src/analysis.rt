@@ -1,0 +1,78 @@
+//! The analysis of a node's epoch, as a task of the board.
+
+ghost use Rattle.std.specs.Prelude.{◌≡◌};
+
+use epoch_node::{Node, Phase};
+use outer_io::Gate;
+use run_board::{Numbered, Task, Turn};
+use std::marker::Model;
+
+/// A node whose epoch is to be analysed, which takes one turn. Contracts see the node.
+#[derive(Drop)]
+pub struct Analysis<'a, G> {
+    node: Node<'a, G>,
+}
+
+impl<'a, G> Model for Analysis<'a, G> {
+    ghost use Rattle.epoch_node.specs.Nodes.{NodeView};
+
+    ghost Value = { NodeView };
+
+    ghost view = { λ a. a.node };
+}
+
+impl<'a, G> Analysis<'a, G> {
+    /// The analysis of this node's epoch.
+    pub(crate) fn new(node: Node<'a, G>) -> Analysis<'a, G>
+        ensures { result ≡ node.entry }
+    {
+        Analysis { node }
+    }
+
+    /// The node.
+    pub(crate) fn into_node(self) -> Node<'a, G>
+        ensures { result ≡ self.entry }
+    {
+        let Analysis { node } = self;
+        node
+    }
+}
+
+impl<'a, G: Gate> Numbered for Analysis<'a, G> {
+    ghost use Rattle.epoch_node.specs.Nodes.{IsLedFrom, HasBegun};
+    ghost use Rattle.epoch_line.specs.Groups.{number_of};
+
+    ghost words = { record {
+      number = number_of;
+      led_from = IsLedFrom;
+      ended = HasBegun;
+    } };
+
+    fn number(&self) -> u32 {
+        self.node.number()
+    }
+}
+
+impl<'a, G: Gate> Task for Analysis<'a, G> {
+    ghost use Rattle.std.specs.Prelude.{◌≡◌};
+    ghost use Rattle.run_board.specs.Turns.{AnswersEnded};
+    ghost use Rattle.epoch_node.specs.Nodes.{IsLedFrom, HasBegun, led_refl, led_trans};
+    ghost use Rattle.epoch_line.specs.Groups.{number_of};
+
+    /// The node begins: it enters the gate, and its epoch is analysed. One that has begun is left as it is.
+    fn turn(&mut self) -> Turn
+        ensures led { IsLedFrom self.new self.old }
+        ensures number { number_of self.new ≡ number_of self.old }
+        ensures done { AnswersEnded result (HasBegun self.new) }
+    {
+        if self.node.phase() == Phase::Fresh {
+            self.node.gate().enter(self.node.number());
+        }
+        self.node.begin();
+        Turn::Done
+    }
+
+    ghost reflexive = { led_refl };
+
+    ghost transitive = { led_trans };
+}

@@ -1,0 +1,46 @@
+-- What labels mean is united as sets are.
+use Rattle.std.specs.Prelude.{◌≡◌, List, length}
+use Rattle.std.proofs.Common.{ap, ap₂, sym, subst}
+use Rattle.flow_model.specs.declared.Loc.{Loc}
+use Rattle.flow_model.specs.declared.SourceByte.{SourceByte}
+use Rattle.flow_model.specs.Ranges.{IsLocation}
+use Rattle.flow_model.proofs.Orders.{loc_total, loc_same, source_total, source_same}
+use Rattle.sorted_set.proofs.Algebra.{union_assoc}
+use Rattle.epoch_model.specs.Summary.{Terms}
+use Rattle.merge_log.specs.Log.{IsNode}
+use Rattle.merge_log.proofs.Terms.{ascend-terms, ascend-joined, nothing_under_0, joined_comm, joined_itself, joined_nothing}
+use Rattle.taint_shadow.specs.declared.labels.LabelKind.{LabelKind}
+use Rattle.taint_shadow.specs.declared.labels.LabelKind.TheVariants.{Node, Start}
+use Rattle.taint_shadow.specs.Labels.{MakesLabel, Laws, kind_of, start_label}
+use Rattle.taint_shadow.proofs.Numbers.{start_kind, first_number}
+use Rattle.local_taint.specs.declared.labels.Nodes.{Nodes}
+use Rattle.local_taint.specs.Words.{label_words, as_terms, as_leaves, terms_by, together, AreTerms, node_or_nothing}
+
+terms_ascend : (nodes : Nodes) (k : LabelKind) → AreTerms (terms_by nodes k)
+terms_ascend nodes (Node n) = ascend-terms nodes.log n
+terms_ascend nodes (Start l) = record { sources = tt; starts = (tt, tt) }
+
+grouped : (a b c : Terms) → AreTerms b → AreTerms c → together a (together b c) ≡ together (together a b) c
+grouped a b c h k =
+    let make : List SourceByte → List Loc → Terms = λ s l. record { sources = s; starts = l } in
+    ap₂ make (union_assoc source_total source_same a.sources b.sources c.sources h.sources k.sources)
+    (union_assoc loc_total loc_same a.starts b.starts c.starts h.starts k.starts)
+
+started : (nodes : Nodes) (l : Loc) → IsLocation l → MakesLabel label_words nodes (label_words.untouched l) (start_label l)
+started nodes l here = record {
+  stands = subst (λ (k : LabelKind). IsNode nodes.log (node_or_nothing k)) (sym (start_kind l here)) (first_number (length nodes.log));
+  means = ap (terms_by nodes) (start_kind l here);
+}
+
+pub label_laws : Laws label_words
+label_laws = record {
+  of_none = record { sources = tt; starts = tt };
+  of_nothing = λ nodes. record { stands = first_number (length nodes.log); means = ap as_terms (nothing_under_0 nodes.log) };
+  of_start = started;
+  of_label = λ nodes label stands. terms_ascend nodes (kind_of label);
+  of_both = λ m n h k. ascend-joined (as_leaves m) (as_leaves n) k;
+  with_nothing = λ m h. ap as_terms (joined_nothing (as_leaves m) h);
+  with_itself = λ m h. ap as_terms (joined_itself (as_leaves m) h);
+  swapped = λ m n h k. ap as_terms (joined_comm (as_leaves m) (as_leaves n) h k);
+  grouped = λ m n o h k j. grouped m n o k j;
+}

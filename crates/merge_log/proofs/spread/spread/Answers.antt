@@ -1,0 +1,20 @@
+use Rattle.std.proofs.Common.{arith, ◌≡◌, ◌∙◌, ℕ, ap, sym, subst, List}
+use Rattle.std.proofs.lemmas.Result.{on_ok_weaker}
+use Rattle.merge_log.specs.Masks.{HasBit, IsCover, found_at}
+use Rattle.merge_log.proofs.Covering.{added, no_bit, source_cover, start_cover, union_cover}
+use Rattle.merge_log.proofs.spread.spread.Goals as goal
+
+pub returns-in-Source-clause-covers : goal.returns-in-Source-clause-covers
+returns-in-Source-clause-covers c =
+    on_ok_weaker c.give_source.result (λ given r root h cover. source_cover _ root _ c.args.node c.args.mask r _ _ _ c.in-Source.ensures.at (no_bit _ _ r _ (omega arith) c.requires.clear) (given r h) cover) c.give_source.ensures.given
+
+pub returns-in-Start-clause-covers : goal.returns-in-Start-clause-covers
+returns-in-Start-clause-covers c =
+    on_ok_weaker c.give_start.result (λ given r root h cover. start_cover _ root _ c.args.node c.args.mask r _ _ _ c.in-Start.ensures.at (no_bit _ _ r _ (omega arith) c.requires.clear) (given r h) cover) c.give_start.ensures.given
+
+pub returns-in-Union-clause-covers : goal.returns-in-Union-clause-covers
+returns-in-Union-clause-covers c =
+    let masks = c.args.masks.now.masks.items in
+    let both : c.add-in-Union.new.self.masks.items ≡ added (added masks c.in-Union.left c.args.mask) c.in-Union.right c.args.mask = c.add-in-Union.ensures ∙ ap (λ (ms : List ℕ). added ms c.in-Union.right c.args.mask) c.add.ensures in
+    λ r root h cover. subst (λ (ms : List ℕ). IsCover c.args.log.now root (HasBit ms r) (found_at c.args.found.now.items r)) (sym both)
+    (union_cover c.args.log.now root masks c.args.node c.args.mask r _ c.in-Union.left c.in-Union.right c.in-Union.ensures.at c.in-Union.ensures.before (omega (arith, c.requires.room, c.requires.stands)) (no_bit masks c.args.node r c.args.node (omega arith) c.requires.clear) cover)

@@ -1,0 +1,74 @@
+-- A walk from many roots at once: the masks that say under which of them a node is, and what is still to be found.
+use Rattle.std.specs.Prelude.{◌≡◌, ℕ, zero, suc, ◌<◌, ◌≤◌, ◌*◌, ◌/◌, ◌==◌, ◌⊎◌, if◌then◌else◌, Bool, true, false, List, [], ◌∷◌, ◌++◌, length, slice_index, slice_get, Some}
+use Rattle.std.specs.Int.{bit_at}
+use Rattle.flow_model.specs.declared.Loc.{Loc}
+use Rattle.flow_model.specs.declared.SourceByte.{SourceByte}
+use Rattle.merge_log.specs.declared.nodes.Entry.{Entry}
+use Rattle.merge_log.specs.declared.reader.Leaf.{Leaf}
+use Rattle.merge_log.specs.declared.walk.Found.{Found}
+use Rattle.merge_log.specs.Log.{Terms, no_terms, terms}
+use Rattle.merge_log.specs.Walk.{has_leaf, terms_of}
+
+-- ---- the masks of nodes
+
+-- each node has a block, and where a block isn't marked none of its nodes has a mask
+pub record AreMarked (masks : List ℕ) (blocks : List Bool) : Type 0 where
+  pub room : length masks ≤ 64 * length blocks
+  pub clear : (m : ℕ) → slice_get blocks (m / 64) ≡ Some false → slice_index masks m ≡ 0
+
+-- no node from `past` on has a mask
+abbrev pub IsClearFrom : List ℕ → ℕ → Type 0
+IsClearFrom masks past = (m : ℕ) → past ≤ m → slice_index masks m ≡ 0
+
+-- the mask of a node has the bit of a root
+abbrev pub HasBit : List ℕ → ℕ → ℕ → Type 0
+HasBit masks r m = bit_at (slice_index masks m) r ≡ 1
+
+-- ---- what was found
+
+-- the terms of the root r: none beyond the last
+abbrev pub found_at : List Found → ℕ → Terms
+found_at [] r = no_terms
+found_at (f ∷ fs) zero = terms_of f
+found_at (f ∷ fs) (suc r) = found_at fs r
+
+-- with one source byte more, where the bit is set
+abbrev pub with_source : ℕ → SourceByte → Terms → Terms
+with_source bit b t = if bit == 1 then record { sources = t.sources ++ b ∷ []; starts = t.starts } else t
+
+-- with one start location more, where the bit is set
+abbrev pub with_start : ℕ → Loc → Terms → Terms
+with_start bit l t = if bit == 1 then record { sources = t.sources; starts = t.starts ++ l ∷ [] } else t
+
+-- each root of the mask has the source byte too, and the others are as they were
+abbrev pub GivesSource : ℕ → SourceByte → List Found → List Found → Type 0
+GivesSource mask b old new = (r : ℕ) → r < length old → found_at new r ≡ with_source (bit_at mask r) b (found_at old r)
+
+-- each root of the mask has the start location too, and the others are as they were
+abbrev pub GivesStart : ℕ → Loc → List Found → List Found → Type 0
+GivesStart mask l old new = (r : ℕ) → r < length old → found_at new r ≡ with_start (bit_at mask r) l (found_at old r)
+
+-- each root has the leaves that it had
+abbrev pub HaveLeavesOf : List Found → List Found → Type 0
+HaveLeavesOf old new = (r : ℕ) (q : Leaf) → has_leaf q (found_at new r) ≡ has_leaf q (found_at old r)
+
+-- the leaves under a root are those that were found, and those under the nodes that are left
+pub record IsCover (log : List Entry) (root : ℕ) (is_left : ℕ → Type 0) (found : Terms) : Type 0 where
+  pub under : (m : ℕ) → is_left m → (q : Leaf) → has_leaf q (terms log m) ≡ true → has_leaf q (terms log root) ≡ true
+  pub within : (q : Leaf) → has_leaf q found ≡ true → has_leaf q (terms log root) ≡ true
+  pub covered : (q : Leaf) → has_leaf q (terms log root) ≡ true → (has_leaf q found ≡ true) ⊎ ((m : ℕ) × is_left m × (has_leaf q (terms log m) ≡ true))
+
+-- the node is left beside those of the masks, where its mask has the bit of the root
+abbrev pub IsLeftToo : List ℕ → ℕ → ℕ → ℕ → ℕ → Type 0
+IsLeftToo masks node mask r m = HasBit masks r m ⊎ ((m ≡ node) × (bit_at mask r ≡ 1))
+
+-- each root that was covered with that node is covered by what is left and found now
+abbrev pub KeepCovers : List Entry → ℕ → ℕ → List ℕ → List Found → List ℕ → List Found → Type 0
+KeepCovers log node mask masks found masks1 found1 =
+    (r root : ℕ) → r < length found
+    → IsCover log root (IsLeftToo masks node mask r) (found_at found r) → IsCover log root (HasBit masks1 r) (found_at found1 r)
+
+-- of each root its leaves are found
+abbrev pub AreFound : List Entry → List ℕ → List Found → Type 0
+AreFound log roots found =
+    (r : ℕ) (q : Leaf) → r < length roots → has_leaf q (found_at found r) ≡ has_leaf q (terms log (slice_index roots r))

@@ -1,0 +1,200 @@
+//! The walk from many roots at once.
+
+ghost use Rattle.std.specs.Prelude.{◌≡◌, ℕ, ◌+◌, ◌<◌, ◌≤◌, All, length, slice_index, OnOk};
+ghost use Rattle.std.specs.Int.{bit_at};
+ghost use Rattle.merge_log.specs.Log.{AreSets, IsNode, no_terms};
+ghost use Rattle.merge_log.specs.Walk.{has_leaf, terms_of};
+ghost use Rattle.merge_log.specs.Masks.{HasBit, IsClearFrom, AreFound, GivesSource, GivesStart, HaveLeavesOf, KeepCovers, found_at, with_source, with_start};
+ghost use Rattle.merge_log.specs.declared.reader.Leaf.{Leaf as AnyLeaf};
+
+use crate::masks::Masks;
+use crate::nodes::{Entry, MergeLog, Node};
+use crate::reader::ascend;
+use crate::walk::Found;
+use flow_model::{Loc, SourceByte};
+use no_memory::NoMemory;
+use std::alloc::Global;
+
+/// Finds the leaves under each root, by one visit to each node under any of them: from the last node down, so that a
+/// node's mask is whole when it is visited.
+pub fn walk_many(
+    log: &MergeLog,
+    roots: &[Node],
+    masks: &mut Masks,
+    found: &mut Vec<Found>,
+) -> Result<(), NoMemory>
+    requires few { length roots.now ≤ 64 }
+    requires stand { All (IsNode log.now) roots.now }
+    requires room { length log.now < length masks.old.masks.items }
+    requires clear { IsClearFrom masks.old.masks.items 0 }
+    requires sets { length found.old.items ≡ length roots.now }
+    requires empty { (r : ℕ) → found_at found.old.items r ≡ no_terms }
+    ensures clear { OnOk result (IsClearFrom masks.new.masks.items 0) }
+    ensures sets { length found.new.items ≡ length roots.now }
+    ensures found { OnOk result (AreFound log.now roots.now found.new.items) }
+{
+    log.form();
+    add_roots(log, roots, masks);
+    let mut past = log.size() as usize;
+    while let Some(node) = masks.last_below(past) {
+        past = node as usize;
+        let mask = masks.take(node);
+        if node > 0 {
+            spread(log, node, mask, masks, found)?;
+        }
+    }
+    Ok(())
+}
+
+/// Gives each root its bit in the mask of its node.
+fn add_roots(log: &MergeLog, roots: &[Node], masks: &mut Masks)
+    requires few { length roots.now ≤ 64 }
+    requires stand { All (IsNode log.now) roots.now }
+    requires room { length log.now < length masks.old.masks.items }
+    requires clear { IsClearFrom masks.old.masks.items 0 }
+    ensures room { length masks.new.masks.items ≡ length masks.old.masks.items }
+    ensures above { IsClearFrom masks.new.masks.items (length log.now + 1) }
+    ensures only { (r m : ℕ) → HasBit masks.new.masks.items r m → m ≡ slice_index roots.now r }
+    ensures all { (r : ℕ) → r < length roots.now → HasBit masks.new.masks.items r (slice_index roots.now r) }
+{
+    log.form(); // so that nodes fit into 32 bits
+    for root in 0..roots.len() {
+        masks.add(roots[root] as u32, 1 << root);
+    }
+}
+
+/// Visits a node whose mask was taken: its leaf is found for the roots of the mask, or its operands are left for them.
+fn spread(
+    log: &MergeLog,
+    node: u32,
+    mask: u64,
+    masks: &mut Masks,
+    found: &mut Vec<Found>,
+) -> Result<(), NoMemory>
+    requires above_0 { 0 < node }
+    requires stands { IsNode log.now node }
+    requires room { length log.now < length masks.old.masks.items }
+    requires clear { IsClearFrom masks.old.masks.items node }
+    requires few { length found.old.items ≤ 64 }
+    ensures room { length masks.new.masks.items ≡ length masks.old.masks.items }
+    ensures clear { IsClearFrom masks.new.masks.items node }
+    ensures sets { length found.new.items ≡ length found.old.items }
+    ensures covers { OnOk result (KeepCovers log.now node mask masks.old.masks.items found.old.items masks.new.masks.items found.new.items) }
+{
+    match log.entry(node) {
+        Entry::Source(byte) => give_source(found, mask, byte),
+        Entry::Start(loc) => give_start(found, mask, loc),
+        Entry::Union { left, right } => {
+            masks.add(left, mask);
+            masks.add(right, mask);
+            Ok(())
+        }
+    }
+}
+
+/// Where the roots of a mask begin, and where they end.
+#[inline(always)]
+fn bounds(mask: u64) -> (usize, usize)
+    ensures below { (r : ℕ) → r < result.0 → bit_at mask r ≡ 0 }
+    ensures above { (r : ℕ) → result.1 ≤ r → bit_at mask r ≡ 0 }
+{
+    (
+        mask.trailing_zeros() as usize,
+        64 - mask.leading_zeros() as usize,
+    )
+}
+
+/// Adds a source byte to what was found of the roots of a mask.
+fn give_source(found: &mut Vec<Found>, mask: u64, byte: SourceByte) -> Result<(), NoMemory>
+    requires { length found.old.items ≤ 64 }
+    ensures sets { length found.new.items ≡ length found.old.items }
+    ensures given { OnOk result (GivesSource mask byte found.old.items found.new.items) }
+{
+    let (first, past) = bounds(mask);
+    for root in first..past.min(found.len()) {
+        if (mask >> root) & 1 == 1 {
+            add_source(&mut found[root], byte)?;
+        }
+    }
+    Ok(())
+}
+
+/// Adds a start location to what was found of the roots of a mask.
+fn give_start(found: &mut Vec<Found>, mask: u64, loc: Loc) -> Result<(), NoMemory>
+    requires { length found.old.items ≤ 64 }
+    ensures sets { length found.new.items ≡ length found.old.items }
+    ensures given { OnOk result (GivesStart mask loc found.old.items found.new.items) }
+{
+    let (first, past) = bounds(mask);
+    for root in first..past.min(found.len()) {
+        if (mask >> root) & 1 == 1 {
+            add_start(&mut found[root], loc)?;
+        }
+    }
+    Ok(())
+}
+
+fn add_source(set: &mut Found, byte: SourceByte) -> Result<(), NoMemory>
+    ensures { OnOk result (terms_of set.new ≡ with_source 1 byte (terms_of set.old)) }
+{
+    set.sources.push(byte)?;
+    Ok(())
+}
+
+fn add_start(set: &mut Found, loc: Loc) -> Result<(), NoMemory>
+    ensures { OnOk result (terms_of set.new ≡ with_start 1 loc (terms_of set.old)) }
+{
+    set.starts.push(loc)?;
+    Ok(())
+}
+
+/// Makes so many empty sets. Those that are there are emptied, so that their memory is used again.
+pub fn empty_sets(alloc: Global, found: &mut Vec<Found>, count: usize) -> Result<(), NoMemory>
+    ensures sets { OnOk result (length found.new.items ≡ count) }
+    ensures empty { OnOk result ((r : ℕ) → found_at found.new.items r ≡ no_terms) }
+{
+    found.truncate(count);
+    empty_all(found);
+    for _ in found.len()..count {
+        found.push(Found {
+            sources: Vec::new(alloc),
+            starts: Vec::new(alloc),
+        })?;
+    }
+    Ok(())
+}
+
+fn empty_all(found: &mut Vec<Found>)
+    ensures sets { length found.new.items ≡ length found.old.items }
+    ensures empty { (r : ℕ) → found_at found.new.items r ≡ no_terms }
+{
+    for root in 0..found.len() {
+        empty(&mut found[root]);
+    }
+}
+
+fn empty(set: &mut Found)
+    ensures { terms_of set.new ≡ no_terms }
+{
+    set.sources.clear();
+    set.starts.clear();
+}
+
+/// Makes a set of what was found of each root.
+pub fn ascend_all(found: &mut Vec<Found>)
+    ensures sets { length found.new.items ≡ length found.old.items }
+    ensures members { HaveLeavesOf found.old.items found.new.items }
+    ensures ascending { (r : ℕ) → AreSets (found_at found.new.items r) }
+{
+    for root in 0..found.len() {
+        ascend_both(&mut found[root]);
+    }
+}
+
+fn ascend_both(set: &mut Found)
+    ensures members { (q : AnyLeaf) → has_leaf q (terms_of set.new) ≡ has_leaf q (terms_of set.old) }
+    ensures ascending { AreSets (terms_of set.new) }
+{
+    ascend(&mut set.sources);
+    ascend(&mut set.starts);
+}

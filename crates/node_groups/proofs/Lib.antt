@@ -1,4 +1,0 @@
-mod Lists
-mod Sweeps
-mod Numbers
-mod Jobs

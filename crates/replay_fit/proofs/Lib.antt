@@ -1,6 +1,0 @@
-mod Sequences
-mod Comparing
-mod Checking
-mod Loops
-mod PlainSteps
-mod Passing

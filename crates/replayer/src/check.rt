@@ -1,0 +1,135 @@
+//! Where a log first differs from the run of its program.
+
+ghost use Rattle.std.specs.Prelude.{◌≡◌, ◌≤◌, IfOk, OnOk, None, false};
+ghost use Rattle.log_model.specs.Logs.{end_at, steps};
+ghost use Rattle.replay_model.specs.Run.{trace};
+ghost use Rattle.replay_model.specs.Comparison.{divergence, expected};
+ghost use Rattle.replay_model.specs.Comparison as model;
+ghost use Rattle.rv_machine.specs.Hart.{IsStep};
+ghost use Rattle.replay_run.specs.Expects.{expected_of};
+ghost use Rattle.replay_run.specs.Runs.{hart_of, with_hart};
+ghost use Rattle.replayer.specs.Differences.{IsFirst};
+ghost use Rattle.replayer.specs.Comparisons.{IsFormed, compares};
+ghost use Rattle.replayer.specs.CheckedSteps.{IsStepChecked, IsPlainStepChecked};
+ghost use Rattle.replayer.specs.Watching.{IsTold, AreWatched, IsStepTold};
+
+use crate::compare::{compare, event_in_place_of_a_step, is_limit, is_trap, kept_code, seen_code};
+use crate::cursor::PlainStep;
+use crate::difference::{Difference, compare_words};
+use crate::watcher::Watcher;
+use replay_log::Log;
+use replay_model::{Divergence, Field};
+use replay_run::{Expected, Run, time_of_end};
+use rv_machine::{Machine, Stepped};
+
+/// How the check of one step went, where nothing differs.
+#[derive(Clone, Copy)]
+pub(crate) enum Checked {
+    /// The step was made.
+    Advanced,
+    /// The log's end is reached.
+    Ended,
+}
+
+/// Makes one step of the machine, and compares it with what the log has next. A call then waits.
+fn step(run: &mut Run<'_>, expected: &Expected<'_>, inputs: u32) -> Result<Stepped, Difference>
+    requires goes_on { run.old.waits ≡ false }
+    requires form { IsFormed (expected_of expected.now) }
+    ensures first { IsFirst (compares run.old.moment.state inputs (expected_of expected.now)) result }
+    ensures step { IfOk result (λ stepped. IsStep run.old.moment.state stepped (hart_of run.new)) }
+    ensures rest { run.new ≡ with_hart run.old (hart_of run.new) }
+{
+    let stepped = run.step();
+    compare_words(Field::Event, kept_code(expected), seen_code(&stepped))?;
+    compare(run.machine(), expected, &stepped, inputs)?;
+    Ok(stepped)
+}
+
+/// Makes a step where the log has a plain one next, and tells the watcher of it: whatever else happens is a difference of
+/// events.
+fn check_plain_step<W: Watcher>(run: &mut Run<'_>, watcher: &mut W) -> Result<(), Divergence>
+    requires goes_on { run.old.waits ≡ false }
+    requires plain { expected run.old.moment.time run.old.moment.left run.old.log.end ≡ model.PlainStep }
+    ensures checked { IsPlainStepChecked run.old result run.new }
+    ensures told { OnOk result (IsTold W.seen run.old.moment 1 watcher.old watcher.new) }
+{
+    run.form();
+    let time = run.time();
+    match run.step_inlined() {
+        Stepped::Plain { instr, place } => {
+            run.advance();
+            watcher.plain(time, PlainStep { instr, place });
+            Ok(())
+        }
+        stepped => Err(event_in_place_of_a_step(&stepped).at_step(time)),
+    }
+}
+
+/// Makes the plain steps that the log has before its next call, or before its end, and tells the watcher of them.
+fn check_plain_steps<W: Watcher>(run: &mut Run<'_>, watcher: &mut W) -> Result<(), Divergence>
+    requires goes_on { run.old.waits ≡ false }
+    ensures { AreWatched W.seen run.old watcher.old result run.new watcher.new }
+{
+    let event = run.event_time();
+    for time in run.time()..event {
+        check_plain_step(run, watcher)?;
+    }
+    Ok(())
+}
+
+/// Makes the next step, if the log has it so, and tells the watcher of it. It says where the log differs, or that its end is
+/// reached: there the exit call is the last step, and a trap is none.
+fn check_step<W: Watcher>(run: &mut Run<'_>, watcher: &mut W) -> Result<Checked, Divergence>
+    requires goes_on { run.old.waits ≡ false }
+    requires not_over { run.old.moment.time ≤ end_at run.old.log.end }
+    ensures checked { IsStepChecked run.old result run.new }
+    ensures told { IsStepTold W.seen run.old watcher.old result watcher.new }
+{
+    run.form();
+    let expected = run.expected();
+    let time = run.time();
+    if is_limit(&expected) {
+        return Ok(Checked::Ended);
+    }
+    let inputs = run.log().inputs();
+    let stepped = match step(run, &expected, inputs) {
+        Ok(stepped) => stepped,
+        Err(difference) => return Err(difference.at_step(time)),
+    };
+    if is_trap(&expected) {
+        return Ok(Checked::Ended);
+    }
+    let step = run.finish(stepped);
+    watcher.step(&step);
+    match expected {
+        Expected::End(_) => Ok(Checked::Ended),
+        _ => Ok(Checked::Advanced),
+    }
+}
+
+/// The first difference between a log and a machine's run under it, up to the log's end. The watcher is told of each step
+/// before it: where nothing differs, of the whole trace.
+pub(crate) fn first_divergence<W: Watcher>(
+    machine: Machine,
+    log: &Log,
+    watcher: &mut W,
+) -> Option<Divergence>
+    requires { machine.waits ≡ false }
+    ensures first { result ≡ divergence machine.state log.now }
+    ensures seen { result ≡ None → W.seen watcher.old (trace machine.state log.now) 0 → W.seen watcher.new (trace machine.state log.now) (steps log.now) }
+{
+    let last = time_of_end(log.end());
+    let mut run = Run::start(machine, log);
+    for event in 0..last + 1 {
+        match check_plain_steps(&mut run, watcher) {
+            Ok(()) => {}
+            Err(divergence) => return Some(divergence),
+        }
+        match check_step(&mut run, watcher) {
+            Ok(Checked::Advanced) => {}
+            Ok(Checked::Ended) => return None,
+            Err(divergence) => return Some(divergence),
+        }
+    }
+    None
+}

@@ -1,0 +1,110 @@
+-- The labels of what flows into lanes.
+use Rattle.std.proofs.Common.{◌≡◌, ◌<◌, ◌≤◌, ◌==◌, ◌-◌, ◌+◌, nat_lt, ℕ, List, [], refl, arith, ap, ap₂, sym, ◌∙◌, subst, Bool, true, false, if◌then◌else◌}
+use Rattle.std.proofs.lemmas.Bool.{ltb-true, lt-ltb}
+use Rattle.flow_model.specs.declared.Loc.{Loc}
+use Rattle.flow_model.specs.declared.Loc.TheVariants.{Mem}
+use Rattle.flow_model.specs.declared.Rule.TheVariants.{Index}
+use Rattle.isa.specs.Machine.{wrap}
+use Rattle.flow_model.specs.Flow.{lanes, byte_of, with_base, in_first_lane}
+use Rattle.flow_rule.specs.Shapes.{loaded_lane}
+use Rattle.taint_shadow.specs.declared.labels.Label.{Label}
+use Rattle.taint_shadow.specs.declared.lanes.Lanes.{Lanes}
+use Rattle.taint_shadow.specs.declared.places.Places.{Places}
+use Rattle.taint_shadow.specs.Labels.{LabelWords, Laws, MakesLabel, Makes, nothing_label}
+use Rattle.taint_shadow.specs.Lanes.{lane_at, alike, extended_lane, both_mean, Stand, MakesLanes}
+use Rattle.taint_shadow.specs.Places.{kept}
+use Rattle.taint_shadow.specs.Steps.{meaning_at, AreStanding, united_over, based_mean}
+use Rattle.taint_shadow.proofs.Meaning.{AreHere, either_here, lanes_here, union_here, each_of_four, alike_at, keeps_itself, keeps_then, both_made, nothing_with}
+
+-- ---- where origins lie
+
+pub based_here : (base : ℕ) (ls : List Loc) → base < 32 → AreHere ls → AreHere (with_base Index base ls)
+based_here base ls h k = union_here (lanes base) ls (lanes_here base h) k
+
+byte_here : (place i : ℕ) → AreHere (byte_of place i)
+byte_here place i = (omega arith, tt)
+
+pub first_here : (ls : List Loc) (i : ℕ) → AreHere ls → AreHere (in_first_lane ls i)
+first_here ls i h = either_here (i == 0) ls [] h tt
+
+pub loaded_here : (fills : Bool) (base place size i : ℕ) → base < 32 → AreHere (loaded_lane fills base place size i)
+loaded_here true base place size i h = based_here base (byte_of place (if nat_lt i size then i else size - 1)) h (byte_here place (if nat_lt i size then i else size - 1))
+loaded_here false base place size i h = either_here (nat_lt i size) (with_base Index base (byte_of place i)) [] (based_here base (byte_of place i) h (byte_here place i)) tt
+
+module _ {A M : Type 0} (words : LabelWords A M) (laws : Laws words) where
+  -- lanes that were cut off at a size stand
+  pub cut_stand : (a : A) (x y : Lanes) (n : ℕ) → Stand words a x → ((i : ℕ) → i < 4 → lane_at y i ≡ extended_lane x n false i) → Stand words a y
+  cut_stand a x y n s cut = record { at = λ i h. subst (words.stands a) (sym (cut i h)) (by i h (nat_lt i n)) } where
+    by : (i : ℕ) → i < 4 → (b : Bool) → words.stands a (if b then lane_at x i else nothing_label)
+    by i h true = s.at i h
+    by i h false = (laws.of_nothing a).stands
+
+  pub cut_at : (x y : Lanes) (n i : ℕ) (fills : Bool) → ((i : ℕ) → i < 4 → lane_at y i ≡ extended_lane x n fills i) → i < 4 → i < n → lane_at y i ≡ lane_at x i
+  cut_at x y n i fills cut h k = let yes : nat_lt i n ≡ true = lt-ltb i n k in cut i h ∙ ap (λ (b : Bool). if b then lane_at x i else if fills then lane_at x (n - 1) else nothing_label) yes
+
+  -- one label in the first lane
+  pub first_made : (b : A) (m : List Loc) (f : Loc → M) (label : Label) (z : Lanes) → ((i : ℕ) → i < 4 → lane_at z i ≡ extended_lane (alike label) 1 false i)
+      → MakesLabel words b (united_over words f m) label → (i : ℕ) → i < 4 → MakesLabel words b (united_over words f (in_first_lane m i)) (lane_at z i)
+  first_made b m f label z cut made = each_of_four (λ i. MakesLabel words b (united_over words f (in_first_lane m i)) (lane_at z i))
+      (subst (MakesLabel words b (united_over words f m)) (sym (cut 0 (omega arith))) made)
+      (subst (MakesLabel words b words.nothing) (sym (cut 1 (omega arith))) (laws.of_nothing b))
+      (subst (MakesLabel words b words.nothing) (sym (cut 2 (omega arith))) (laws.of_nothing b))
+      (subst (MakesLabel words b words.nothing) (sym (cut 3 (omega arith))) (laws.of_nothing b))
+
+  module _ (a : A) (p : Places) (standing : AreStanding words a p) where
+    over : List Loc → M
+    over ls = united_over words (meaning_at words a p) ls
+
+    -- x0 as a base adds nothing
+    pub no_base : (base n : ℕ) (x : Lanes) → base ≡ 0 → n ≤ 4 → Stand words a x → MakesLanes words a n (based_mean words a p base x) a x
+    no_base base n x none few s = record {
+      made = λ i h. let here = s.at i (omega (arith, h, few)) in record {
+        stands = here;
+        means = sym (ap (λ (r : ℕ). words.united (united_over words (meaning_at words a p) (lanes r)) (words.means a (lane_at x i))) none
+            ∙ nothing_with words laws (words.means a (lane_at x i)) (laws.of_label a (lane_at x i) here));
+      };
+      keeps = keeps_itself words a;
+    }
+
+    -- the base's label is united with each lane
+    pub with_label : (b c : A) (base : ℕ) (label : Label) (x z : Lanes) → Stand words a x → Makes words a (united_over words (meaning_at words a p) (lanes base)) b label
+        → MakesLanes words b 4 (both_mean words b (alike label) x) c z → MakesLanes words a 4 (based_mean words a p base x) c z
+    with_label b c base label x z s first second = record {
+      made = λ i h. record {
+        stands = (second.made i h).stands;
+        means = (second.made i h).means ∙ ap₂ words.united (ap (words.means b) (alike_at label i h) ∙ first.made.means) (first.keeps (lane_at x i) (s.at i h)).means;
+      };
+      keeps = keeps_then words a b c first.keeps second.keeps;
+    }
+
+    -- lanes that were cut off are based as they were
+    pub base_cut : (b : A) (base n : ℕ) (x y z : Lanes) → n ≤ 4 → ((i : ℕ) → i < 4 → lane_at y i ≡ extended_lane x n false i)
+        → MakesLanes words a 4 (based_mean words a p base y) b z → MakesLanes words a n (based_mean words a p base x) b z
+    base_cut b base n x y z few cut made = record {
+      made = λ i h. let small : i < 4 = omega (arith, h, few) in record {
+        stands = (made.made i small).stands;
+        means = (made.made i small).means
+            ∙ ap (λ l. words.united (united_over words (meaning_at words a p) (lanes base)) (words.means a l)) (cut_at x y n i false cut small h);
+      };
+      keeps = made.keeps;
+    }
+
+    -- the labels of a word's bytes stand
+    pub word_stands : (place : ℕ) (w : Lanes) → ((i : ℕ) → i < 4 → lane_at w i ≡ kept p (Mem (wrap (place + i)))) → Stand words a w
+    word_stands place w is = record { at = λ i h. subst (words.stands a) (sym (is i h)) (standing.at (Mem (wrap (place + i))) (omega arith)) }
+
+    -- what is loaded
+    pub loaded : (b : A) (fills : Bool) (base place n : ℕ) (w z y : Lanes) → base < 32 → 1 ≤ n → n ≤ 4 → ((i : ℕ) → i < 4 → lane_at w i ≡ kept p (Mem (wrap (place + i))))
+        → MakesLanes words a n (based_mean words a p base w) b z → ((i : ℕ) → i < 4 → lane_at y i ≡ extended_lane z n fills i)
+        → (i : ℕ) → i < 4 → MakesLabel words b (united_over words (meaning_at words a p) (loaded_lane fills base place n i)) (lane_at y i)
+    loaded b fills base place n w z y small some few is made cut i h =
+        subst (MakesLabel words b (united_over words (meaning_at words a p) (loaded_lane fills base place n i))) (sym (cut i h)) (by fills (nat_lt i n) refl) where
+          byte : (j : ℕ) → j < n → MakesLabel words b (united_over words (meaning_at words a p) (with_base Index base (byte_of place j))) (lane_at z j)
+          byte j k = both_made words laws a p standing b (lanes base) (byte_of place j) (united_over words (meaning_at words a p) (lanes base)) (words.means a (lane_at w j)) (lane_at z j)
+              (lanes_here base small) (byte_here place j) refl (ap (words.means a) (is j (omega (arith, k, few)))) (made.made j k)
+
+          by : (f o : Bool) → nat_lt i n ≡ o → MakesLabel words b (united_over words (meaning_at words a p) (loaded_lane f base place n i)) (extended_lane z n f i)
+          by true true e = subst (λ (o : Bool). MakesLabel words b (united_over words (meaning_at words a p) (with_base Index base (byte_of place (if o then i else n - 1)))) (if o then lane_at z i else lane_at z (n - 1))) (sym e) (byte i (ltb-true i n e))
+          by true false e = subst (λ (o : Bool). MakesLabel words b (united_over words (meaning_at words a p) (with_base Index base (byte_of place (if o then i else n - 1)))) (if o then lane_at z i else lane_at z (n - 1))) (sym e) (byte (n - 1) (omega (arith, some)))
+          by false true e = subst (λ (o : Bool). MakesLabel words b (united_over words (meaning_at words a p) (if o then with_base Index base (byte_of place i) else [])) (if o then lane_at z i else nothing_label)) (sym e) (byte i (ltb-true i n e))
+          by false false e = subst (λ (o : Bool). MakesLabel words b (united_over words (meaning_at words a p) (if o then with_base Index base (byte_of place i) else [])) (if o then lane_at z i else nothing_label)) (sym e) (laws.of_nothing b)
