@@ -4,6 +4,7 @@ mod Checking
 mod Loops
 mod PlainSteps
 mod Passing
+mod Standing
 mod Watching
 mod Stretches
 mod Stepping

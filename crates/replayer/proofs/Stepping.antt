@@ -1,33 +1,34 @@
 -- The step that a job's run makes at a time, and the moment after it.
-use Rattle.std.proofs.Common.{◌≡◌, ℕ, suc, ◌+◌, ◌<◌, false, Some, None, refl, arith, ap, ap₂, sym, ◌∙◌}
+use Rattle.std.proofs.Common.{◌≡◌, ℕ, zero, suc, ◌+◌, ◌<◌, false, Some, None, refl, arith, ap, ap₂, sym, ◌∙◌}
 use Rattle.log_model.specs.Logs.{end_at, steps}
 use Rattle.flow_model.specs.declared.StepSeen.{StepSeen}
 use Rattle.flow_model.specs.Origins.{step_at}
-use Rattle.replay_model.specs.Run.{Moment, start, advance, moment_after, step_of}
+use Rattle.replay_model.specs.Run.{Moment, start, moment_after, step_of}
 use Rattle.replay_model.specs.Comparison.{difference}
 use Rattle.replay_model.proofs.Agreement.{agrees_at}
-use Rattle.replay_model.proofs.Offsets.{step_at_from, moment_later, steps_within}
+use Rattle.replay_model.proofs.Offsets.{step_at_from, steps_within}
 use Rattle.rv_machine.specs.Hart.{Hart, IsPlainStep, IsStep}
 use Rattle.isa.specs.declared.Instr.{Instr}
 use Rattle.rv_machine.specs.declared.Stepped.{Stepped}
 use Rattle.rv_machine.specs.declared.Stepped.TheVariants.{Plain, Called, Trapped}
 use Rattle.replay_run.specs.Runs.{RunAt, with_hart, later_by_one, IsUnderLog, IsReady, IsFinished}
-use Rattle.replay_run.proofs.Steps.{ready, done, numbered}
+use Rattle.replay_run.proofs.Steps.{ready, done}
 use Rattle.replayer.specs.Jobs.{Job, trace_of}
 use Rattle.replayer.specs.Cursors.{IsCursor}
 use Rattle.replayer.specs.Nexts.{IsStepAt, IsPlainAt}
+use Rattle.replayer.proofs.Standing.{moved_by_one, stands_later, step_here}
 use Rattle.replayer.proofs.Stretches.{called_is_some}
 
 -- at a cursor nothing differs
 pub cursor_agrees : (job : Job) (run : RunAt) → IsCursor job run → run.moment.time < steps job.log → difference run.log run.moment ≡ None
 cursor_agrees job run cursor below =
     let last = steps_within job.log.end in
-    ap₂ difference cursor.same_log cursor.here ∙ agrees_at job.log (end_at job.log.end + 1) run.moment.time (start job.start job.log) cursor.is_job.agrees (omega arith)
+    ap₂ difference cursor.stands.same_log cursor.stands.here ∙ agrees_at job.log (end_at job.log.end + 1) run.moment.time (start job.start job.log) cursor.is_job.agrees (omega arith)
 
 -- the step that the machine makes there can be finished
 pub cursor_ready : (job : Job) (run : RunAt) → IsCursor job run → IsUnderLog run → run.moment.time < steps job.log → (stepped : Stepped) (hart : Hart) → IsStep run.moment.state stepped hart → IsReady (with_hart run hart) stepped
 cursor_ready job run cursor under below stepped hart made =
-    let same : steps run.log ≡ steps job.log = ap steps cursor.same_log in
+    let same : steps run.log ≡ steps job.log = ap steps cursor.stands.same_log in
     ready run stepped hart under (omega arith) (cursor_agrees job run cursor below) made
 
 -- a plain step that was counted is finished
@@ -39,23 +40,16 @@ module _ (job : Job) (run : RunAt) (cursor : IsCursor job run) (below : run.mome
   -- the run stands one step later
   pub cursor_moves : (after : RunAt) (s : StepSeen) → IsFinished (record (run.moment) { state = hart.state }) stepped s after.moment → after.log ≡ run.log → after.waits ≡ false → IsCursor job after
   cursor_moves after s f same_log goes_on =
-      let first = start job.start job.log in
-      let moved = (done run.moment stepped hart s after.moment made f).moved in
-      let time : after.moment.time ≡ run.moment.time + 1 = (numbered (record (run.moment) { state = hart.state }) stepped s after.moment f).time in
-      let next : suc run.moment.time ≡ after.moment.time = omega arith in
       record {
         is_job = cursor.is_job;
-        same_log = same_log ∙ cursor.same_log;
-        within = omega arith;
-        here = moved ∙ ap advance cursor.here ∙ sym (moment_later run.moment.time first) ∙ ap (λ (k : ℕ). moment_after k first) next;
+        stands = stands_later job run cursor.stands (suc zero) after (moved_by_one run after stepped hart s made f same_log) (omega arith);
         goes_on = goes_on;
       }
 
   -- the step is that of the trace
   pub cursor_step : (after : RunAt) (s : StepSeen) → IsFinished (record (run.moment) { state = hart.state }) stepped s after.moment → step_at (trace_of job) run.moment.time ≡ Some s
   cursor_step after s f =
-      let step = (done run.moment stepped hart s after.moment made f).step in
-      step_at_from (steps job.log) run.moment.time (start job.start job.log) below ∙ ap (λ (x : StepSeen). Some x) (ap step_of (sym cursor.here) ∙ sym step)
+      step_here job run cursor.stands below ∙ ap (λ (x : StepSeen). Some x) (sym (done run.moment stepped hart s after.moment made f).step)
 
 -- ---- a plain step
 
@@ -86,5 +80,5 @@ no_other job run cursor under plain (Plain instr place) hart made other = other 
 no_other job run cursor under plain (Called call) hart made other =
     let m = moment_after run.moment.time (start job.start job.log) in
     let none = plain.no_call (step_of m) (step_at_from (steps job.log) run.moment.time (start job.start job.log) plain.below) in
-    called_is_some run.moment call made.called (ap (λ (x : Moment). (step_of x).call) cursor.here ∙ none)
+    called_is_some run.moment call made.called (ap (λ (x : Moment). (step_of x).call) cursor.stands.here ∙ none)
 no_other job run cursor under plain (Trapped kind pc) hart made other = cursor_ready job run cursor under plain.below (Trapped kind pc) hart made

@@ -51,7 +51,7 @@ module _ (job : Job) (run : RunAt) (cursor : IsCursor job run) (under : IsUnderL
   event = event_time run.moment.left job.log.end
 
   within : event ≤ end_at job.log.end
-  within = subst (λ (l : Log). event_time run.moment.left l.end ≤ end_at l.end) cursor.same_log (event_within run under)
+  within = subst (λ (l : Log). event_time run.moment.left l.end ≤ end_at l.end) cursor.stands.same_log (event_within run under)
 
   agrees : (k : ℕ) → k ≤ end_at job.log.end → difference job.log (at k) ≡ None
   agrees k h = agrees_at job.log (end_at job.log.end + 1) k (start job.start job.log) cursor.is_job.agrees (omega arith)
@@ -73,7 +73,7 @@ module _ (job : Job) (run : RunAt) (cursor : IsCursor job run) (under : IsUnderL
   still_after : (i : ℕ) → run.moment.time + i ≤ event → IsStill (run.moment.time + i)
   still_after zero h =
       let same : run.moment.time + 0 ≡ run.moment.time = omega arith in
-      let here : at (run.moment.time + 0) ≡ run.moment = ap at same ∙ sym cursor.here in
+      let here : at (run.moment.time + 0) ≡ run.moment = ap at same ∙ sym cursor.stands.here in
       record { time = ap (λ (m : Moment). m.time) here ∙ sym same; left = ap (λ (m : Moment). m.left) here }
   still_after (suc i) h =
       let k = run.moment.time + i in

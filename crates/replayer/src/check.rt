@@ -2,7 +2,6 @@
 
 ghost use Rattle.std.specs.Prelude.{◌≡◌, ◌≤◌, IfOk, OnOk, None, false};
 ghost use Rattle.log_model.specs.Logs.{end_at, steps};
-ghost use Rattle.replay_model.specs.Run.{trace};
 ghost use Rattle.replay_model.specs.Comparison.{divergence, expected};
 ghost use Rattle.replay_model.specs.Comparison as model;
 ghost use Rattle.rv_machine.specs.Hart.{IsStep};
@@ -16,7 +15,7 @@ ghost use Rattle.replayer.specs.Watching.{IsTold, AreWatched, IsStepTold};
 use crate::compare::{compare, event_in_place_of_a_step, is_limit, is_trap, kept_code, seen_code};
 use crate::cursor::PlainStep;
 use crate::difference::{Difference, compare_words};
-use crate::watcher::Watcher;
+use crate::watcher::{Stand, Watcher};
 use replay_log::Log;
 use replay_model::{Divergence, Field};
 use replay_run::{Expected, Run, time_of_end};
@@ -51,14 +50,14 @@ fn check_plain_step<W: Watcher>(run: &mut Run<'_>, watcher: &mut W) -> Result<()
     requires goes_on { run.old.waits ≡ false }
     requires plain { expected run.old.moment.time run.old.moment.left run.old.log.end ≡ model.PlainStep }
     ensures checked { IsPlainStepChecked run.old result run.new }
-    ensures told { OnOk result (IsTold W.seen run.old.moment 1 watcher.old watcher.new) }
+    ensures told { OnOk result (IsTold W.seen run.old 1 watcher.old watcher.new) }
 {
     run.form();
     let time = run.time();
     match run.step_inlined() {
         Stepped::Plain { instr, place } => {
             run.advance();
-            watcher.plain(time, PlainStep { instr, place });
+            watcher.plain(time, PlainStep { instr, place }, &Stand { run });
             Ok(())
         }
         stepped => Err(event_in_place_of_a_step(&stepped).at_step(time)),
@@ -100,7 +99,7 @@ fn check_step<W: Watcher>(run: &mut Run<'_>, watcher: &mut W) -> Result<Checked,
         return Ok(Checked::Ended);
     }
     let step = run.finish(stepped);
-    watcher.step(&step);
+    watcher.step(&step, &Stand { run });
     match expected {
         Expected::End(_) => Ok(Checked::Ended),
         _ => Ok(Checked::Advanced),
@@ -108,7 +107,7 @@ fn check_step<W: Watcher>(run: &mut Run<'_>, watcher: &mut W) -> Result<Checked,
 }
 
 /// The first difference between a log and a machine's run under it, up to the log's end. The watcher is told of each step
-/// before it: where nothing differs, of the whole trace.
+/// before it: where nothing differs, of the whole run.
 pub(crate) fn first_divergence<W: Watcher>(
     machine: Machine,
     log: &Log,
@@ -116,10 +115,11 @@ pub(crate) fn first_divergence<W: Watcher>(
 ) -> Option<Divergence>
     requires { machine.waits ≡ false }
     ensures first { result ≡ divergence machine.state log.now }
-    ensures seen { result ≡ None → W.seen watcher.old (trace machine.state log.now) 0 → W.seen watcher.new (trace machine.state log.now) (steps log.now) }
+    ensures seen { result ≡ None → W.seen watcher.old watcher.new (record { start = machine.state; log = log.now }) (steps log.now) }
 {
     let last = time_of_end(log.end());
     let mut run = Run::start(machine, log);
+    watcher.begin(&Stand { run: &run });
     for event in 0..last + 1 {
         match check_plain_steps(&mut run, watcher) {
             Ok(()) => {}

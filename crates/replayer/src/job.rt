@@ -1,13 +1,13 @@
 //! A program and a log that fits it.
 
-ghost use Rattle.std.specs.Prelude.{◌≡◌, ◌≤◌, ◌^◌, length, IfOk, IfErr, Ok};
+ghost use Rattle.std.specs.Prelude.{◌≡◌, ◌≤◌, length, IfOk, OnOk, IfErr, Ok};
 ghost use Rattle.elf_model.specs.Image.{image as image_of_file};
-ghost use Rattle.log_model.specs.Logs.{IsEnd, steps, steps_by};
+ghost use Rattle.log_model.specs.Logs.{steps};
 ghost use Rattle.log_model.specs.Moved.{received, received_by};
 ghost use Rattle.replay_model.specs.Summary.{calls, bytes_read, bytes_written};
 ghost use Rattle.rv_machine.specs.Hart.{running};
 ghost use Rattle.no_memory.specs.Faults.{IsCausedBy};
-ghost use Rattle.replayer.specs.Jobs.{IsJob, trace_of};
+ghost use Rattle.replayer.specs.Jobs.{IsJob};
 ghost use Rattle.replayer.specs.Checks.{IsChecked, IsMisfit};
 
 use crate::check::first_divergence;
@@ -57,12 +57,13 @@ impl Model for Job {
     ghost invariant = { λ j. IsKept j.image j.log };
 }
 
-/// The number of steps of a run that ended so. The exit call is a step.
-fn steps_of(end: RunEnd) -> u64
-    requires { IsEnd end }
-    ensures { result ≡ steps_by end }
+/// The number of steps that a log tells, at most 2^40, before any check of it. The exit call is a step, a trapping
+/// instruction isn't.
+pub fn steps_of(log: &Log) -> u64
+    ensures { result ≡ steps log.now }
 {
-    match end {
+    log.form();
+    match log.end() {
         RunEnd::Exit { at, .. } => at + 1,
         RunEnd::Trap { at, .. } => at,
         RunEnd::Limit { at } => at,
@@ -106,7 +107,7 @@ impl Job {
     }
 
     /// The same as [`Job::check`], with a watcher that is told of each step of the run as it is checked. Where the log fits, it
-    /// has seen the whole trace of the job; else what it saw is of no use.
+    /// has seen all steps of the job; else what it saw is of no use.
     pub fn check_watched<W: Watcher>(
         alloc: Global,
         program: &[u8],
@@ -116,7 +117,7 @@ impl Job {
     ) -> Result<Job, CheckFault>
         requires { image_of_file program.now ≡ Ok image }
         ensures ok { IfOk result (λ job. IsChecked program.now image log job) }
-        ensures seen { IfOk result (λ job. W.seen watcher.old (trace_of job) 0 → W.seen watcher.new (trace_of job) (steps job.log)) }
+        ensures seen { IfOk result (λ job. W.seen watcher.old watcher.new job (steps job.log)) }
         ensures fault { IfErr result (IsCausedBy (IsMisfit program.now image log)) }
     {
         log.form();
@@ -141,7 +142,18 @@ impl Job {
     pub fn steps(&self) -> u64
         ensures { result ≡ steps self.now.log }
     {
-        steps_of(self.log.end())
+        steps_of(&self.log)
+    }
+
+    /// Replays the run once more, and tells the watcher of each step of it, as [`Job::check_watched`] does. It gives up with
+    /// NoMemory alone, where there is none for the window.
+    pub fn watch<W: Watcher>(&self, alloc: Global, watcher: &mut W) -> Result<(), NoMemory>
+        ensures { OnOk result (W.seen watcher.old watcher.new self.now (steps self.now.log)) }
+    {
+        self.form();
+        let machine = self.machine(alloc)?;
+        first_divergence(machine, &self.log, watcher);
+        Ok(())
     }
 
     /// The log.

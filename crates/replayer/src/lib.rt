@@ -1,8 +1,8 @@
 //! Replays of recorded runs: whether a log fits a program, and the steps of the run that it records.
 //!
 //! Crates above rest on this, in `replay_model`'s words: `Job::check` is Ok exactly where the log fits, else the first
-//! of digest, window and divergence, but for out of memory; with `Job::check_watched` a `Watcher` has then seen the whole
-//! trace in the same replay; `Cursor::next` is the trace, step by step, then the end, and
+//! of digest, window and divergence, but for out of memory; with `Job::check_watched` a `Watcher` has then seen all steps
+//! in the same replay, and where the run stood after each; `Cursor::next` is the trace, step by step, then the end, and
 //! `next_plain` the same where the step is no call, as up to `plain_until`; a cursor that is saved, or whose parts are
 //! lent, and made again is as it was; `summary` are the run's numbers, `received` the bytes that it read.
 #![tactic(auto)]
@@ -17,7 +17,7 @@ mod watcher;
 
 pub use cursor::{Cursor, Next, PlainStep};
 pub use flow_model::{CallSeen, StepSeen};
-pub use job::{CheckFault, Job, ReplaySummary};
+pub use job::{CheckFault, Job, ReplaySummary, steps_of};
 pub use replay_model::{Divergence, Field, Misfit};
 pub use saved::{CursorState, Rest};
-pub use watcher::{Nobody, Watcher};
+pub use watcher::{Nobody, Stand, Watcher};

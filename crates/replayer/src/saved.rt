@@ -1,10 +1,13 @@
 //! A cursor taken out of its job, and put back.
 
 ghost use Rattle.std.specs.Prelude.{◌≡◌, length, IfOk};
+ghost use Rattle.replayer.specs.Jobs.{Job as JobAt};
+ghost use Rattle.replayer.specs.Cursors.{Stands};
 ghost use Rattle.replayer.specs.Saved.{IsOfJob, position_of, rest_of, put_together};
 
 use crate::cursor::Cursor;
 use crate::job::Job;
+use crate::watcher::Stand;
 use no_memory::NoMemory;
 use replay_run::{Counters, Run};
 use rv_machine::{Machine, MachineState};
@@ -60,9 +63,7 @@ impl<'a> Cursor<'a> {
         ensures again { position_of self.now.job (put_together result.0.now result.1) ≡ self.now }
         ensures size { length result.0.now ≡ result.1.machine.size }
     {
-        let counters = self.run.counters();
-        let (window, machine) = self.run.machine().parts();
-        (window, Rest { machine, counters })
+        Stand { run: &self.run }.parts()
     }
 
     /// The cursor of a state that one of this job's cursors had. It takes no memory.
@@ -76,6 +77,27 @@ impl<'a> Cursor<'a> {
             job,
             run: Run::resume(Machine::import_state(machine), job.log(), counters),
         }
+    }
+}
+
+impl<'r, 'a> Stand<'r, 'a> {
+    /// How many steps of the run are done.
+    pub fn time(&self) -> u64
+        ensures { result ≡ self.now.moment.time }
+    {
+        self.run.time()
+    }
+
+    /// The bytes of the machine's window, lent, and all else: a cursor's state at this time of each job whose run stands here.
+    /// It takes no memory.
+    pub fn parts(&self) -> (&'r [u8], Rest)
+        ensures of_job { (job : JobAt) → Stands job self.now → IsOfJob job (put_together result.0.now result.1) }
+        ensures time { result.1.counters.time ≡ self.now.moment.time }
+        ensures size { length result.0.now ≡ result.1.machine.size }
+    {
+        let counters = self.run.counters();
+        let (window, machine) = self.run.machine().parts();
+        (window, Rest { machine, counters })
     }
 }
 

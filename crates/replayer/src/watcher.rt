@@ -1,30 +1,54 @@
 //! Who watches a run while its log is checked.
 
-ghost use Rattle.std.specs.Prelude.{◌≡◌, ℕ, ◌+◌, List, Some};
+ghost use Rattle.std.specs.Prelude.{◌≡◌, ℕ};
 ghost use Rattle.isa.specs.Encodings.{Fits};
-ghost use Rattle.flow_model.specs.declared.StepSeen.{StepSeen as Step};
-ghost use Rattle.flow_model.specs.Origins.{step_at};
 ghost use Rattle.flow_model.specs.Ranges.{IsInRange};
+ghost use Rattle.replayer.specs.Jobs.{Job};
 ghost use Rattle.replayer.specs.Nexts.{seen_at};
+ghost use Rattle.replayer.specs.Watching.{IsBegun, IsToldOf};
 
 use crate::cursor::PlainStep;
 use flow_model::StepSeen;
+use replay_run::Run;
+use std::marker::Model;
+
+/// Where a run stands, lent to a watcher.
+#[derive(Drop)]
+pub struct Stand<'r, 'a> {
+    pub(crate) run: &'r Run<'a>,
+}
+
+impl<'r, 'a> Model for Stand<'r, 'a> {
+    ghost use Rattle.replay_run.specs.Runs.{RunAt};
+
+    ghost Value = { RunAt };
+
+    ghost view = { λ s. s.run.now };
+
+    ghost use Rattle.std.specs.Prelude.{◌≡◌, false};
+
+    ghost invariant = { λ s. s.run.now.waits ≡ false };
+}
 
 /// Is told of each step of a run, one after another, as it is found to be what the log has. A watcher that is out of memory
 /// keeps that to itself, and goes on doing nothing: what it has seen counts only where the whole log fits.
 pub trait Watcher {
-    /// Holds where the watcher has seen so many of the first steps of a trace.
-    ghost seen: { Self → List Step → ℕ → Type 0 };
+    /// Holds of the watcher as it was, and as it is after it was told of so many of the first steps of a job's run.
+    ghost seen: { Self → Self → Job → ℕ → Type 0 };
 
-    /// After so many steps the run made this one, which is no call.
-    fn plain(&mut self, time: u64, step: PlainStep)
+    /// The run stands at its beginning.
+    fn begin(&mut self, at: &Stand<'_, '_>)
+        ensures { IsBegun seen at.now self.old self.new };
+
+    /// After so many steps the run made this one, which is no call, and stands here now.
+    fn plain(&mut self, time: u64, step: PlainStep, after: &Stand<'_, '_>)
         requires { Fits step.instr }
-        ensures { (trace : List Step) → step_at trace time ≡ Some (seen_at time step) → seen self.old trace time → seen self.new trace (time + 1) };
+        ensures { IsToldOf seen (seen_at time step) after.now self.old self.new };
 
-    /// The run made this step. It is a call, but for few steps.
-    fn step(&mut self, step: &StepSeen)
+    /// The run made this step, and stands here now. It is a call, but for few steps.
+    fn step(&mut self, step: &StepSeen, after: &Stand<'_, '_>)
         requires { IsInRange step.now }
-        ensures { (trace : List Step) → step_at trace step.now.number ≡ Some step.now → seen self.old trace step.now.number → seen self.new trace (step.now.number + 1) };
+        ensures { IsToldOf seen step.now after.now self.old self.new };
 }
 
 /// A watcher that does nothing.
@@ -32,11 +56,14 @@ pub trait Watcher {
 pub struct Nobody;
 
 impl Watcher for Nobody {
-    ghost seen = { λ _ _ _. Unit {0} };
+    ghost seen = { λ _ _ _ _. Unit {0} };
 
     #[inline(always)]
-    fn plain(&mut self, _time: u64, _step: PlainStep) {}
+    fn begin(&mut self, _at: &Stand<'_, '_>) {}
 
     #[inline(always)]
-    fn step(&mut self, _step: &StepSeen) {}
+    fn plain(&mut self, _time: u64, _step: PlainStep, _after: &Stand<'_, '_>) {}
+
+    #[inline(always)]
+    fn step(&mut self, _step: &StepSeen, _after: &Stand<'_, '_>) {}
 }

@@ -1,9 +1,13 @@
 use Rattle.std.proofs.Common.{◌≡◌, ℕ, arith, ap, sym, ◌∙◌, subst}
 use Rattle.replay_model.specs.Comparison.{at_step}
 use Rattle.replay_run.specs.Runs.{RunAt, hart_of, later_by_one, IsLater}
+use Rattle.rv_machine.specs.declared.Stepped.TheVariants.{Plain}
 use Rattle.replayer.specs.Differences.{compared_of}
+use Rattle.replayer.specs.Nexts.{seen_at}
 use Rattle.replayer.proofs.Checking.{end_small}
 use Rattle.replayer.proofs.PlainSteps.{record_later, end_is_later, plain_advances, other_differs}
+use Rattle.replayer.proofs.Stepping.{plain_finished}
+use Rattle.replayer.proofs.Watching.{told_one}
 use Rattle.replayer.proofs.check.check_plain_step.Goals as goal
 
 pub advance-requires-clause-later : goal.advance-requires-clause-later
@@ -23,6 +27,18 @@ returns-in-Plain-clause-checked g c =
       plain_advances c.args.run.now c.advance.new.self (hart_of c.step_inlined.new.self) c.in-Plain.instr c.in-Plain.place c.form.ensures c.requires.plain c.in-Plain.ensures.step moved,
       ap (λ (r : RunAt). r.moment.left) moved,
     )
+
+pub returns-in-Plain-clause-told : goal.returns-in-Plain-clause-told
+returns-in-Plain-clause-told g c =
+    let r = c.args.run.now in
+    let after = c.advance.new.self in
+    let hart = hart_of c.step_inlined.new.self in
+    let instr = c.in-Plain.instr in
+    let place = c.in-Plain.place in
+    let time = c.time-time.result in
+    let counted = c.advance.ensures ∙ ap later_by_one c.in-Plain.ensures.rest in
+    let finished = plain_finished r after hart instr place time c.time-time.ensures counted in
+    told_one g.W.Watcher.seen r after (Plain instr place) hart (seen_at time (record { instr = instr; place = place })) c.args.watcher.now c.plain.new.self c.in-Plain.ensures.step finished (ap (λ (x : RunAt). x.log) counted) c.plain.ensures
 
 pub returns-in_default : goal.returns-in_default
 returns-in_default g c =

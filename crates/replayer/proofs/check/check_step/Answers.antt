@@ -2,9 +2,9 @@ use Rattle.std.proofs.Common.{◌≡◌, ℕ, false, None, Some, ap, sym, ◌∙
 use Rattle.log_model.specs.Logs.{Log}
 use Rattle.replay_model.specs.Run.{advance}
 use Rattle.replay_model.specs.Comparison.{at_step}
-use Rattle.replay_run.specs.Runs.{RunAt, hart_of, with_hart, IsReady, IsFinished}
+use Rattle.replay_run.specs.Runs.{RunAt, hart_of, IsReady, IsFinished}
 use Rattle.replay_run.specs.Expects.{expected_of}
-use Rattle.replay_run.proofs.Steps.{before_end, ready, done, numbered, run_is}
+use Rattle.replay_run.proofs.Steps.{before_end, ready, done, run_is}
 use Rattle.replayer.specs.Differences.{compared_of}
 use Rattle.replayer.proofs.Checking.{formed, end_expected, none_left, step_left, last_left, end_due, difference_is}
 use Rattle.replayer.specs.Watching.{IsTold}
@@ -50,10 +50,9 @@ returns-in-End-clause-told g c =
     let below = step_left r c.expected-expected.result c.form.ensures c.expected-expected.ensures c.requires.not_over no_limit (sym c.is_trap.ensures ∙ c.if-is_trap.false) in
     let one = last_left r c.in-End.field-0 (sym (ap expected_of c.in-End.is) ∙ c.expected-expected.ensures) c.requires.not_over below in
     let finished = subst (λ (x : RunAt). IsFinished x.moment c.in-Ok.stepped c.finish-step.result c.finish-step.new.self.moment) c.in-Ok.ensures.rest c.finish-step.ensures.finished in
-    let step = (done r.moment c.in-Ok.stepped hart c.finish-step.result c.finish-step.new.self.moment c.in-Ok.ensures.step finished).step in
-    let number = (numbered (with_hart r hart).moment c.in-Ok.stepped c.finish-step.result c.finish-step.new.self.moment finished).number in
-    subst (λ (n : ℕ). IsTold g.W.Watcher.seen r.moment n c.args.watcher.now c.step-2.new.self) (sym one)
-    (told_one g.W.Watcher.seen r.moment c.finish-step.result c.finish-step.result.number c.args.watcher.now c.step-2.new.self step number c.step-2.ensures)
+    let same_log : c.finish-step.new.self.log ≡ r.log = c.finish-step.ensures.rest.0 ∙ ap (λ (x : RunAt). x.log) c.in-Ok.ensures.rest in
+    subst (λ (n : ℕ). IsTold g.W.Watcher.seen r n c.args.watcher.now c.step-2.new.self) (sym one)
+    (told_one g.W.Watcher.seen r c.finish-step.new.self c.in-Ok.stepped hart c.finish-step.result c.args.watcher.now c.step-2.new.self c.in-Ok.ensures.step finished same_log c.step-2.ensures)
 
 pub returns-in_default : goal.returns-in_default
 returns-in_default g c =
@@ -64,9 +63,8 @@ returns-in_default g c =
     let early = before_end r c.form.ensures (none_left r.log r.moment (expected_of c.expected-expected.result) c.expected-expected.ensures (λ e h. c.in_default.not-End e (end_expected c.expected-expected.result e h))) in
     let finished = subst (λ (x : RunAt). IsFinished x.moment c.in-Ok.stepped c.finish-step.result c.finish-step.new.self.moment) c.in-Ok.ensures.rest c.finish-step.ensures.finished in
     let made = done r.moment c.in-Ok.stepped hart c.finish-step.result c.finish-step.new.self.moment c.in-Ok.ensures.step finished in
-    let number = (numbered (with_hart r hart).moment c.in-Ok.stepped c.finish-step.result c.finish-step.new.self.moment finished).number in
     let same_log : c.finish-step.new.self.log ≡ r.log = c.finish-step.ensures.rest.0 ∙ ap (λ (x : RunAt). x.log) c.in-Ok.ensures.rest in
     record {
       checked = record { agrees = agrees; early = early; moved = run_is c.finish-step.new.self r.log (advance r.moment) false same_log made.moved c.finish-step.ensures.rest.1 };
-      told = told_one g.W.Watcher.seen r.moment c.finish-step.result c.finish-step.result.number c.args.watcher.now c.step-2.new.self made.step number c.step-2.ensures;
+      told = told_one g.W.Watcher.seen r c.finish-step.new.self c.in-Ok.stepped hart c.finish-step.result c.args.watcher.now c.step-2.new.self c.in-Ok.ensures.step finished same_log c.step-2.ensures;
     }

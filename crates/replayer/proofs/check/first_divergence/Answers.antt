@@ -45,7 +45,7 @@ returns-in-Err g c =
     let below : b.done < end_at c.args.log.now.end + 1 = omega arith in
     record {
       first = checking_differs c.args.log.now c.args.machine.state b.done later.there b.checking c.in-Err.divergence below later.different;
-      seen = λ none h. cc;
+      seen = λ none. cc;
     }
 
 pub returns-in-Err-check_step : goal.returns-in-Err-check_step
@@ -55,7 +55,7 @@ returns-in-Err-check_step g c =
     let below : b.done < end_at c.args.log.now.end + 1 = omega arith in
     record {
       first = checking_differs c.args.log.now c.args.machine.state b.done c.check_plain_steps.new.run b.checking c.in-Err-check_step.divergence below c.in-Err-check_step.ensures.checked;
-      seen = λ none h. cc;
+      seen = λ none. cc;
     }
 
 pub returns : goal.returns

@@ -11,7 +11,7 @@ use Rattle.replayer.proofs.cursor.Cursor.next.Goals as goal
 pub advance-requires-clause-later : goal.advance-requires-clause-later
 advance-requires-clause-later c =
     let run = c.self.inside.run in
-    let within = c.self.invariant.within in
+    let within = c.self.invariant.stands.within in
     let below : run.moment.time < steps c.self.inside.job.now.log = omega arith in
     let can = cursor_ready c.self.inside.job.now run c.self.invariant c.form.ensures below (Plain c.in-Plain.instr c.in-Plain.place) (hart_of c.step_inlined.new.self) c.in-Plain.ensures.step in
     subst (λ (r : RunAt). IsLater r.moment.time r.moment.left) (sym c.in-Plain.ensures.rest) can.2
@@ -19,7 +19,7 @@ advance-requires-clause-later c =
 pub invariant_of-self : goal.invariant_of-self
 invariant_of-self c =
     let run = c.self.inside.run in
-    let within = c.self.invariant.within in
+    let within = c.self.invariant.stands.within in
     let below : run.moment.time < steps c.self.inside.job.now.log = omega arith in
     let counted = c.advance.ensures ∙ ap later_by_one c.in-Plain.ensures.rest in
     (plain_made c.self.inside.job.now run c.advance.new.self (hart_of c.step_inlined.new.self) c.in-Plain.instr c.in-Plain.place c.time-number.result c.self.invariant below c.in-Plain.ensures.step c.time-number.ensures counted).cursor
@@ -27,7 +27,7 @@ invariant_of-self c =
 pub returns-in-Plain : goal.returns-in-Plain
 returns-in-Plain c =
     let run = c.self.inside.run in
-    let within = c.self.invariant.within in
+    let within = c.self.invariant.stands.within in
     let below : run.moment.time < steps c.self.inside.job.now.log = omega arith in
     let counted = c.advance.ensures ∙ ap later_by_one c.in-Plain.ensures.rest in
     rw (← c.self.view_is) (plain_made c.self.inside.job.now run c.advance.new.self (hart_of c.step_inlined.new.self) c.in-Plain.instr c.in-Plain.place c.time-number.result c.self.invariant below c.in-Plain.ensures.step c.time-number.ensures counted).step
@@ -37,7 +37,7 @@ returns-in-Plain c =
 pub finish-requires-clause-ready : goal.finish-requires-clause-ready
 finish-requires-clause-ready c =
     let run = c.self.inside.run in
-    let within = c.self.invariant.within in
+    let within = c.self.invariant.stands.within in
     let below : run.moment.time < steps c.self.inside.job.now.log = omega arith in
     let can = cursor_ready c.self.inside.job.now run c.self.invariant c.form.ensures below c.step_inlined.result (hart_of c.step_inlined.new.self) c.step_inlined.ensures.step in
     subst (λ (r : RunAt). IsReady r c.step_inlined.result) (sym c.step_inlined.ensures.rest) can
@@ -46,7 +46,7 @@ pub invariant_of-self-in_default : goal.invariant_of-self-in_default
 invariant_of-self-in_default c =
     let run = c.self.inside.run in
     let job = c.self.inside.job.now in
-    let within = c.self.invariant.within in
+    let within = c.self.invariant.stands.within in
     let below : run.moment.time < steps job.log = omega arith in
     let hart = hart_of c.step_inlined.new.self in
     let finished = subst (λ (r : RunAt). IsFinished r.moment c.step_inlined.result c.finish.result c.finish.new.self.moment) c.step_inlined.ensures.rest c.finish.ensures.finished in
@@ -57,7 +57,7 @@ pub returns-in_default : goal.returns-in_default
 returns-in_default c =
     let run = c.self.inside.run in
     let job = c.self.inside.job.now in
-    let within = c.self.invariant.within in
+    let within = c.self.invariant.stands.within in
     let below : run.moment.time < steps job.log = omega arith in
     let hart = hart_of c.step_inlined.new.self in
     let finished = subst (λ (r : RunAt). IsFinished r.moment c.step_inlined.result c.finish.result c.finish.new.self.moment) c.step_inlined.ensures.rest c.finish.ensures.finished in

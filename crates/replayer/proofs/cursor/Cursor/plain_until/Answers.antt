@@ -10,6 +10,6 @@ use Rattle.replayer.proofs.cursor.Cursor.plain_until.Goals as goal
 pub returns : goal.returns
 returns c =
     let run = c.self.inside.run in
-    let event : c.event_time.result ≡ event_time run.moment.left c.self.inside.job.now.log.end = c.event_time.ensures ∙ ap (λ (l : Log). event_time run.moment.left l.end) c.self.invariant.same_log in
+    let event : c.event_time.result ≡ event_time run.moment.left c.self.inside.job.now.log.end = c.event_time.ensures ∙ ap (λ (l : Log). event_time run.moment.left l.end) c.self.invariant.stands.same_log in
     let until = c.max.ensures ∙ ap₂ max event c.time.ensures in
     subst (λ (p : CursorAt). IsPlainUntil p.job p.time c.max.result) c.self.view_is (plain_until c.self.inside.job.now run c.self.invariant c.form.ensures c.max.result until)
