@@ -1,0 +1,72 @@
+//! The names that texts print of bytes, locations, points and places in the code.
+//!
+//! Crates above rest on this: each function appends the name that the definitions give (`report_model`'s, and `pc_text`
+//! here), and fails only where there is no memory.
+#![tactic(auto)]
+
+ghost use Rattle.std.specs.Prelude.{◌≡◌, ◌++◌, OnOk};
+ghost use Rattle.report_model.specs.Text.{name_text, loc_text, point_text};
+ghost use Rattle.printed_names.specs.Places.{pc_text};
+
+use flow_model::{Loc, SinkPoint};
+use itoa::Buffer;
+use no_memory::NoMemory;
+
+/// Appends `c:o`, the byte of offset o on channel c.
+pub fn push_byte(out: &mut Vec<u8>, channel: u8, offset: u32) -> Result<(), NoMemory>
+    ensures { OnOk result (out.new.items ≡ out.old.items ++ name_text channel offset) }
+{
+    let mut buffer = Buffer::new();
+    out.extend_from_slice(buffer.format(channel).as_bytes())?;
+    out.push(b':')?;
+    out.extend_from_slice(buffer.format(offset).as_bytes())?;
+    Ok(())
+}
+
+/// Appends `r:R.i` of lane i of register R, `m:A` of address A.
+pub fn push_location(out: &mut Vec<u8>, loc: Loc) -> Result<(), NoMemory>
+    ensures { OnOk result (out.new.items ≡ out.old.items ++ loc_text loc) }
+{
+    let mut buffer = Buffer::new();
+    match loc {
+        Loc::Reg { number, lane } => {
+            out.extend_from_slice(b"r:")?;
+            out.extend_from_slice(buffer.format(number).as_bytes())?;
+            out.push(b'.')?;
+            out.extend_from_slice(buffer.format(lane).as_bytes())?;
+        }
+        Loc::Mem { place } => {
+            out.extend_from_slice(b"m:")?;
+            out.extend_from_slice(buffer.format(place).as_bytes())?;
+        }
+    }
+    Ok(())
+}
+
+/// Appends `c:o` of an output byte; the location and `@T` of a point at time T.
+pub fn push_point(out: &mut Vec<u8>, point: SinkPoint) -> Result<(), NoMemory>
+    ensures { OnOk result (out.new.items ≡ out.old.items ++ point_text point) }
+{
+    match point {
+        SinkPoint::Out(byte) => push_byte(out, byte.channel, byte.offset),
+        SinkPoint::At(inner) => {
+            let mut buffer = Buffer::new();
+            push_location(out, inner.loc)?;
+            out.push(b'@')?;
+            out.extend_from_slice(buffer.format(inner.time).as_bytes())?;
+            Ok(())
+        }
+    }
+}
+
+/// Appends a pc: `0x` and eight hexadecimal digits in lower case.
+pub fn push_pc(out: &mut Vec<u8>, pc: u32) -> Result<(), NoMemory>
+    ensures { OnOk result (out.new.items ≡ out.old.items ++ pc_text pc) }
+{
+    let mut digits = [0; 8];
+    let bytes = pc.to_be_bytes();
+    let _ = hex::encode_to_slice(bytes.as_slice(), &mut digits);
+    out.extend_from_slice(b"0x")?;
+    out.extend_from_slice(&digits)?;
+    Ok(())
+}
