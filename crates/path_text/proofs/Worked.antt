@@ -1,7 +1,7 @@
 -- Worked examples of the text of a path, computed by the checker.
 use Rattle.std.proofs.Common.{◌≡◌, ℕ, List, [], ◌∷◌, ◌++◌, refl, pos}
 use Prim.Native.String.{String}
-use Rattle.std.specs.Prelude.{codes, Some, None}
+use Rattle.std.specs.Prelude.{codes}
 use Rattle.std.specs.List.{flat_map}
 use Rattle.std.specs.Fmt.{digits}
 use Rattle.hex.specs.Hex.{encode_with}
@@ -10,7 +10,7 @@ use Rattle.flow_model.specs.declared.Loc.TheVariants.{Reg, Mem}
 use Rattle.flow_model.specs.declared.SinkPoint.TheVariants.{Out, At}
 use Rattle.path_text.specs.declared.writing.Stop.{Stop}
 use Rattle.path_text.specs.declared.writing.End.{End}
-use Rattle.path_text.specs.Text.{path_text}
+use Rattle.path_text.specs.Text.{no_path_text, path_text}
 
 abbrev of_lines : List String → List ℕ
 of_lines ls = flat_map (λ l. codes l ++ 0x0a ∷ []) ls
@@ -25,7 +25,7 @@ stops =
 abbrev end : End
 end = record { name = Out (record { channel = 1; offset = 2 }); number = 3; pc = 0x10080; loc = Mem 202 }
 
-copied : path_text (record { channel = 0; offset = 2 }) (Some end) stops
+copied : path_text (record { channel = 0; offset = 2 }) end stops
     ≡ of_lines (
     "read 0 0x00010074 0:2 m:102"
     ∷ "hop 1 0x00010078 m:102 r:5.2 lw x5, 0(x10)"
@@ -41,7 +41,7 @@ copied = refl
 abbrev point : End
 point = record { name = At (record { time = 2; loc = Reg 5 2 }); number = 2; pc = 0x1007c; loc = Reg 5 2 }
 
-to_a_point : path_text (record { channel = 0; offset = 2 }) (Some point) (record { number = 0; pc = 0x10074; instr = Ecall; loc = Mem 102 } ∷ record { number = 1; pc = 0x10078; instr = Lw 5 10 (pos 0); loc = Reg 5 2 } ∷ [])
+to_a_point : path_text (record { channel = 0; offset = 2 }) point (record { number = 0; pc = 0x10074; instr = Ecall; loc = Mem 102 } ∷ record { number = 1; pc = 0x10078; instr = Lw 5 10 (pos 0); loc = Reg 5 2 } ∷ [])
     ≡ of_lines (
     "read 0 0x00010074 0:2 m:102"
     ∷ "hop 1 0x00010078 m:102 r:5.2 lw x5, 0(x10)"
@@ -52,6 +52,6 @@ to_a_point : path_text (record { channel = 0; offset = 2 }) (Some point) (record
 unfolding digits encode_with
 to_a_point = refl
 
-none : path_text (record { channel = 0; offset = 2 }) None [] ≡ of_lines ("end 0" ∷ [])
-unfolding digits encode_with
+none : no_path_text ≡ of_lines ("end 0" ∷ [])
+unfolding digits
 none = refl

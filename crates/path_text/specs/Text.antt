@@ -1,5 +1,5 @@
 -- The text of a path: a line for the read, one for each hop, and one for the sink, in the order of the run.
-use Rattle.std.specs.Prelude.{ℕ, ◌+◌, List, [], ◌∷◌, ◌++◌, length, codes, Option, Some, None}
+use Rattle.std.specs.Prelude.{ℕ, ◌+◌, List, [], ◌∷◌, ◌++◌, length, codes}
 use Rattle.std.specs.Fmt.{decimal}
 use Rattle.flow_model.specs.declared.SourceByte.{SourceByte}
 use Rattle.flow_model.specs.declared.SinkPoint.{SinkPoint}
@@ -39,11 +39,11 @@ end_line e = end_word e.name ++ step_text e.number e.pc ++ loc_text e.loc ++ cod
 abbrev pub lines_end : ℕ → List ℕ
 lines_end n = codes "end " ++ decimal n ++ 0x0a ∷ []
 
-abbrev pub stops_text : SourceByte → End → List Stop → List ℕ
-stops_text s e [] = lines_end 0
-stops_text s e (a ∷ rest) = read_line s a ++ hop_lines (a ∷ rest) ++ end_line e ++ lines_end (length (a ∷ rest) + 1)
+-- where there is no path
+abbrev pub no_path_text : List ℕ
+no_path_text = lines_end 0
 
--- a line for each stop, a line for the sink, and `end N`, N the number of those lines. Without a path it is `end 0`
-abbrev pub path_text : SourceByte → Option End → List Stop → List ℕ
-path_text s None stops = lines_end 0
-path_text s (Some e) stops = stops_text s e stops
+-- a line for each stop, a line for the sink, and `end N`, N the number of those lines
+abbrev pub path_text : SourceByte → End → List Stop → List ℕ
+path_text s e [] = no_path_text
+path_text s e (a ∷ rest) = read_line s a ++ hop_lines (a ∷ rest) ++ end_line e ++ lines_end (length (a ∷ rest) + 1)

@@ -1,8 +1,7 @@
 //! The lines of a path.
 
 ghost use Rattle.std.specs.Prelude.{◌≡◌, ◌<◌, ◌^◌, ◌++◌, length, IfOk, OnOk};
-ghost use Rattle.std.specs.Option.{option_copied};
-ghost use Rattle.path_text.specs.Text.{step_text, read_line, hop_line, hop_lines, end_line, lines_end, stops_text, path_text};
+ghost use Rattle.path_text.specs.Text.{step_text, read_line, hop_line, hop_lines, end_line, lines_end, no_path_text, path_text};
 
 use flow_model::{Loc, SinkPoint, SourceByte};
 use instruction_text::push_instruction;
@@ -118,7 +117,7 @@ fn push_lines(
 ) -> Result<(), NoMemory>
     requires some { 0 < length stops.now }
     requires few { length stops.now < 2 ^ 63 }
-    ensures { OnOk result (out.new.items ≡ out.old.items ++ stops_text source end.now stops.now) }
+    ensures { OnOk result (out.new.items ≡ out.old.items ++ path_text source end.now stops.now) }
 {
     push_read(out, source, &stops[0])?;
     push_hops(out, stops)?;
@@ -126,26 +125,30 @@ fn push_lines(
     push_count(out, stops.len() as u64 + 1)
 }
 
-/// The text of a path of a source byte by its end and its stops, in the order of the run. Without a path it is `end 0`. It
-/// fails only where there is no memory.
+/// The text of a path of a source byte by its stops, in the order of the run, and its end. It fails only where there is no
+/// memory.
 pub fn text(
     alloc: Global,
     source: SourceByte,
-    end: Option<&End>,
+    end: &End,
     stops: &[Stop],
 ) -> Result<Vec<u8>, NoMemory>
     requires { length stops.now < 2 ^ 63 }
-    ensures { IfOk result (λ text. text.items ≡ path_text source (option_copied end.entry) stops.now) }
+    ensures { IfOk result (λ text. text.items ≡ path_text source end.now stops.now) }
+{
+    if stops.is_empty() {
+        return text_of_none(alloc);
+    }
+    let mut out = Vec::new(alloc);
+    push_lines(&mut out, source, end, stops)?;
+    Ok(out)
+}
+
+/// The text where there is no path: `end 0`. It fails only where there is no memory.
+pub fn text_of_none(alloc: Global) -> Result<Vec<u8>, NoMemory>
+    ensures { IfOk result (λ text. text.items ≡ no_path_text) }
 {
     let mut out = Vec::new(alloc);
-    let Some(end) = end else {
-        push_count(&mut out, 0)?;
-        return Ok(out);
-    };
-    if stops.is_empty() {
-        push_count(&mut out, 0)?;
-        return Ok(out);
-    }
-    push_lines(&mut out, source, end, stops)?;
+    push_count(&mut out, 0)?;
     Ok(out)
 }

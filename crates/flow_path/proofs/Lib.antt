@@ -1,0 +1,5 @@
+mod Paths
+mod Places
+mod Tables
+mod Apart
+mod Steps

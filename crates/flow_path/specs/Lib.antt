@@ -1,0 +1,4 @@
+pub mod Nodes
+pub mod Labels
+pub mod Carriers
+pub mod Trails
