@@ -3,64 +3,18 @@
 ghost use Rattle.std.specs.Prelude.{◌≡◌, ◌++◌, ◌∷◌, [], codes, length, take, IfOk, OnOk};
 ghost use Rattle.std.specs.List.{flat_map};
 ghost use Rattle.std.specs.Fmt.{decimal};
-ghost use Rattle.report_model.specs.Text.{name_text, loc_text, point_text, source_text, row_text, report_text};
+ghost use Rattle.report_model.specs.Text.{source_text, row_text, report_text};
 ghost use Rattle.report_model.specs.Influence.{sink_text, reach_text, influence_text as text_of_influence};
 ghost use Rattle.sink_collect.specs.Listed.{Lists};
 
 use crate::influence::{Influence, SourceReach};
 use crate::report::Report;
 use crate::sets::SinkSet;
-use flow_model::{Loc, SinkPoint, SourceByte};
+use flow_model::{SinkPoint, SourceByte};
 use itoa::Buffer;
 use no_memory::NoMemory;
+use printed_names::{push_byte, push_point};
 use std::alloc::Global;
-
-/// Appends `c:o`.
-fn push_name(out: &mut Vec<u8>, channel: u8, offset: u32) -> Result<(), NoMemory>
-    ensures { OnOk result (out.new.items ≡ out.old.items ++ name_text channel offset) }
-{
-    let mut buffer = Buffer::new();
-    out.extend_from_slice(buffer.format(channel).as_bytes())?;
-    out.push(b':')?;
-    out.extend_from_slice(buffer.format(offset).as_bytes())?;
-    Ok(())
-}
-
-/// Appends `r:R.i` of lane i of register R, `m:A` of address A.
-fn push_loc(out: &mut Vec<u8>, loc: Loc) -> Result<(), NoMemory>
-    ensures { OnOk result (out.new.items ≡ out.old.items ++ loc_text loc) }
-{
-    let mut buffer = Buffer::new();
-    match loc {
-        Loc::Reg { number, lane } => {
-            out.extend_from_slice(b"r:")?;
-            out.extend_from_slice(buffer.format(number).as_bytes())?;
-            out.push(b'.')?;
-            out.extend_from_slice(buffer.format(lane).as_bytes())?;
-        }
-        Loc::Mem { place } => {
-            out.extend_from_slice(b"m:")?;
-            out.extend_from_slice(buffer.format(place).as_bytes())?;
-        }
-    }
-    Ok(())
-}
-
-/// Appends `c:o` of an output byte; the location and `@T` of a point at time T.
-fn push_point(out: &mut Vec<u8>, point: SinkPoint) -> Result<(), NoMemory>
-    ensures { OnOk result (out.new.items ≡ out.old.items ++ point_text point) }
-{
-    match point {
-        SinkPoint::Out(byte) => push_name(out, byte.channel, byte.offset),
-        SinkPoint::At(inner) => {
-            let mut buffer = Buffer::new();
-            push_loc(out, inner.loc)?;
-            out.push(b'@')?;
-            out.extend_from_slice(buffer.format(inner.time).as_bytes())?;
-            Ok(())
-        }
-    }
-}
 
 /// Appends a blank and the name of each source byte.
 fn push_sources(out: &mut Vec<u8>, sources: &[SourceByte]) -> Result<(), NoMemory>
@@ -68,7 +22,7 @@ fn push_sources(out: &mut Vec<u8>, sources: &[SourceByte]) -> Result<(), NoMemor
 {
     for source in sources {
         out.push(b' ')?;
-        push_name(out, source.channel, source.offset)?;
+        push_byte(out, source.channel, source.offset)?;
     }
     Ok(())
 }
@@ -150,7 +104,7 @@ fn push_reach(out: &mut Vec<u8>, reach: &SourceReach) -> Result<(), NoMemory>
     ensures { OnOk result (out.new.items ≡ out.old.items ++ reach_text reach.now) }
 {
     let source = reach.source();
-    push_name(out, source.channel, source.offset)?;
+    push_byte(out, source.channel, source.offset)?;
     push_sinks(out, reach.sinks())?;
     out.push(b'\n')?;
     Ok(())
