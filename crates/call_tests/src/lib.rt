@@ -18,6 +18,8 @@ mod nodes;
 #[cfg(test)]
 mod outside;
 #[cfg(test)]
+mod paths;
+#[cfg(test)]
 mod queries;
 #[cfg(test)]
 mod reports;
