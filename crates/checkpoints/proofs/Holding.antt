@@ -44,11 +44,6 @@ last_paged job pages numbers before (point ∷ points) each are =
 pub none_paged : (pages : List (List ℕ)) → ArePagesOf pages [] []
 none_paged pages = record { count = refl; each = λ k h. absurd (omega (arith, h)) }
 
-pub last_below : (job : Job) (pages : List (List ℕ)) (points : List CheckpointAt) → AreCheckpoints job pages points → All (λ number. number < length pages) (last_numbers [] points)
-last_below job pages points are k d h =
-    let last = last_paged job pages [] [] points are.each (none_paged pages) in
-    subst (λ (number : ℕ). number < length pages) (get_or_default (last_numbers [] points) k 0 d h) (last.each k h).below
-
 -- pages that weren't touched since the last checkpoint are held by its numbers
 pub others_held : (job : Job) (pages : List (List ℕ)) (points : List CheckpointAt) (flags : List Bool) (window : List ℕ) → AreCheckpoints job pages points → AreOthersSame flags (last_window job [] (map time_of points)) window
     → AreOthersHeld flags pages (last_numbers [] points) window
@@ -66,6 +61,10 @@ last_is numbers (p ∷ q ∷ points) d h =
     more ∙ ap (λ (k : ℕ). (get_or (p ∷ q ∷ points) k d).numbers) place
 
 -- ---- one more checkpoint
+
+pub last_is_new : (numbers : List ℕ) (points : List CheckpointAt) (point : CheckpointAt) → last_numbers numbers (points ++ point ∷ []) ≡ point.numbers
+last_is_new numbers [] point = refl
+last_is_new numbers (p ∷ points) point = last_is_new p.numbers points point
 
 module _ (job : Job) (before after : List (List ℕ)) (points : List CheckpointAt) (are : AreCheckpoints job before points) (more : IsExtended before after) where
   later : (point : CheckpointAt) → IsCheckpoint job before point → IsCheckpoint job after point

@@ -4,3 +4,4 @@ mod Rising
 mod Writing
 mod Untouched
 mod Standing
+mod Taking

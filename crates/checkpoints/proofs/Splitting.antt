@@ -1,6 +1,7 @@
 -- Windows of memory, page by page.
 use Rattle.std.proofs.Common.{◌≡◌, ℕ, zero, suc, ◌+◌, ◌-◌, ◌*◌, ◌<◌, ◌≤◌, ◌⊎◌, inl, inr, min, Bool, List, [], ◌∷◌, ◌++◌, length, take, drop, get_or, refl, arith, ap, sym, ◌∙◌, length-take, length-drop, length-append, append_assoc, subst}
 use Rattle.std.specs.Prelude.{if◌then◌else◌}
+use Rattle.std.specs.List.{All}
 use Rattle.std.proofs.lemmas.Cmp.{nat_list_eq_equiv}
 use Rattle.std.proofs.lemmas.Option.{slice_get-get_or, slice_get_past}
 use Rattle.std.proofs.lemmas.Grind.{div_ceil_times}
@@ -87,6 +88,20 @@ extended_twice a b c first second = record {
   more = first.more ++ second.more;
   is = second.is ∙ ap (λ (pages : List (List ℕ)). pages ++ second.more) first.is ∙ append_assoc a first.more second.more;
 }
+
+-- numbers of pages stay such
+pub below_later : (before after : List (List ℕ)) (numbers : List ℕ) → IsExtended before after → All (λ number. number < length before) numbers → All (λ number. number < length after) numbers
+below_later before after numbers more all k d h = omega (arith, all k d h, ap length more.is, length-append before more.more)
+
+-- and one more number
+pub below_more : (before after : List (List ℕ)) (numbers : List ℕ) (number : ℕ) → IsExtended before after → All (λ n. n < length before) numbers → number < length after → All (λ n. n < length after) (numbers ++ number ∷ [])
+below_more before after numbers number more all own k d h = by (cases_lt k (length numbers))
+  where
+    by : (k < length numbers) ⊎ (length numbers ≤ k) → get_or (numbers ++ number ∷ []) k d < length after
+    by (inl below) = rw (get_or_append_left numbers (number ∷ []) d k below) (below_later before after numbers more all k d below)
+    by (inr past) =
+        let here : length numbers ≡ k = omega (arith, h, past, length-append numbers (number ∷ [])) in
+        rw (get_or_push numbers number d k here) own
 
 module _ (before after : List (List ℕ)) (numbers window : List ℕ) (number place : ℕ) (more : IsExtended before after) (long : length numbers ≡ place) (each : (k : ℕ) → k < place → IsHeld before (get_or numbers k 0) (page window k)) (held : IsHeld after number (page window place)) where
   one : (k : ℕ) → k < place + 1 → (k < place) ⊎ (place ≤ k) → IsHeld after (get_or (numbers ++ number ∷ []) k 0) (page window k)

@@ -3,7 +3,6 @@ use Rattle.std.proofs.Common.{◌≡◌, ℕ, suc, ◌+◌, ◌-◌, ◌*◌, �
 use Rattle.std.specs.Prelude.{◌||◌, Some}
 use Rattle.std.proofs.lemmas.Bool.Decides.{nat_tests}
 use Rattle.std.proofs.lemmas.Bool.{cases_lt}
-use Rattle.std.proofs.lemmas.Grind.{div_ceil_times}
 use Rattle.std.proofs.lemmas.List.{ext_get_or}
 use Rattle.isa.specs.Machine.{State}
 use Rattle.log_model.specs.Logs.{steps}
@@ -12,9 +11,9 @@ use Rattle.flow_model.specs.Origins.{step_at}
 use Rattle.replayer.specs.Jobs.{Job, IsJob, trace_of}
 use Rattle.checkpoints.specs.declared.touched.Span.{Span}
 use Rattle.checkpoints.specs.Pages.{page}
-use Rattle.checkpoints.specs.Touched.{TouchedAt, written, is_touched, has_byte, AreMarked, IsWithin, AreOthersSame}
+use Rattle.checkpoints.specs.Touched.{TouchedAt, written, is_touched, has_byte, AreMarked, AreOthersSame}
 use Rattle.checkpoints.specs.Points.{window_at, AreOfWindow}
-use Rattle.checkpoints.proofs.Writing.{Changes, changed_by, same_window, state_at}
+use Rattle.checkpoints.proofs.Writing.{Changes, changed_by, same_base, state_at}
 
 -- a byte of a page that has none of the bytes is before or after them
 outside : (first size place i : ℕ) → i < 4096 → has_byte first size place ≡ false → 0 < size → (place * 4096 + i < first) ⊎ (first + size ≤ place * 4096 + i)
@@ -54,17 +53,6 @@ no_either false true e = (cc, cc)
 no_either false false e = (refl, refl)
 
 module _ (job : Job) (is : IsJob job) (t : ℕ) (step : StepSeen) (below : t < steps job.log) (at : step_at (trace_of job) t ≡ Some step) where
-  -- what a step writes is in the window
-  pub within : (touched : TouchedAt) → AreOfWindow job touched → IsWithin touched (written step)
-  within touched are =
-      let changes = changed_by job t step is below at in
-      let window = same_window job t is (omega arith) in
-      let all = div_ceil_times (length job.start.memory) 4096 (omega arith) in
-      record {
-        above = λ some. let h = (changes.inside some).above in omega (arith, are.base, window.base, h);
-        below = λ some. let h = (changes.inside some).below in omega (arith, are.base, are.count, window.base, window.size, all.0, h);
-      }
-
   -- pages that weren't touched before the step, and aren't by it, are as they were
   others_after : (before : List ℕ) (old new : TouchedAt) → AreOfWindow job old → AreMarked old.flags ((written step).place - old.base) (written step).size new.flags
       → AreOthersSame old.flags before (window_at job t) → AreOthersSame new.flags before (window_at job (suc t))
@@ -72,7 +60,7 @@ module _ (job : Job) (is : IsJob job) (t : ℕ) (step : StepSeen) (below : t < s
       let bytes = written step in
       let changes = changed_by job t step is below at in
       let neither = no_either (is_touched old.flags place) (has_byte (bytes.place - old.base) bytes.size place) (sym untouched ∙ marked.each place) in
-      let base : old.base ≡ (state_at job t).base = are.base ∙ sym (same_window job t is (omega arith)).base in
+      let base : old.base ≡ (state_at job t).base = are.base ∙ sym (same_base job t is (omega arith)) in
       let none : has_byte (bytes.place - (state_at job t).base) bytes.size place ≡ false = subst (λ (b : ℕ). has_byte (bytes.place - b) bytes.size place ≡ false) base neither.1 in
       page_kept (state_at job t) (state_at job (suc t)) bytes changes place none ∙ same place neither.0
 

@@ -71,14 +71,12 @@ over_nothing mem j =
 pub record Changes (s t : State) (bytes : Span) : Type 0 where
   pub base : t.base ≡ s.base
   pub size : length t.memory ≡ length s.memory
-  pub inside : 0 < bytes.size → Holds s.base (length s.memory) bytes.place bytes.size
   pub kept : (k : ℕ) → (0 < bytes.size → (k < bytes.place - s.base) ⊎ (bytes.place - s.base + bytes.size ≤ k)) → get_or t.memory k 0 ≡ get_or s.memory k 0
 
 same_memory : (s t : State) (a n : ℕ) → n ≡ 0 → t.base ≡ s.base → t.memory ≡ s.memory → Changes s t (span a n)
 same_memory s t a n e base memory = record {
   base = base;
   size = ap length memory;
-  inside = λ some. absurd (omega arith);
   kept = λ k out. ap (λ (m : List ℕ). get_or m k 0) memory;
 }
 
@@ -90,7 +88,6 @@ put_some s t a n bytes few h some base memory =
     record {
       base = base;
       size = ap length memory ∙ over_length s.memory (a - s.base) bytes room;
-      inside = λ some. h;
       kept = λ k out. ap (λ (m : List ℕ). get_or m k 0) memory ∙ by room k (out some);
     }
   where
@@ -279,14 +276,7 @@ changed_by job t step is below e =
     let same : step_of (moment_after t first) ≡ step = cc in
     subst (λ (x : StepSeen). Changes (state_at job t) (state_at job (suc t)) (written x)) same (changes_at job t is below)
 
--- the window stays where it is, and as large
-pub record SameWindow (s t : State) : Type 0 where
-  pub base : t.base ≡ s.base
-  pub size : length t.memory ≡ length s.memory
-
-pub same_window : (job : Job) (t : ℕ) → IsJob job → t ≤ steps job.log → SameWindow job.start (state_at job t)
-same_window job zero is h = record { base = refl; size = refl }
-same_window job (suc t) is h =
-    let before = same_window job t is (omega arith) in
-    let step = changes_at job t is (omega arith) in
-    record { base = step.base ∙ before.base; size = step.size ∙ before.size }
+-- the window stays where it is
+pub same_base : (job : Job) (t : ℕ) → IsJob job → t ≤ steps job.log → (state_at job t).base ≡ job.start.base
+same_base job zero is h = refl
+same_base job (suc t) is h = (changes_at job t is (omega arith)).base ∙ same_base job t is (omega arith)

@@ -1,3 +1,4 @@
 pub mod Pages
 pub mod Touched
 pub mod Points
+pub mod Taking

@@ -1,5 +1,5 @@
 -- Which pages of a window may have been written since the last checkpoint.
-use Rattle.std.specs.Prelude.{◌≡◌, ℕ, ◌+◌, ◌*◌, ◌<◌, ◌≤◌, nat_lt, Bool, true, false, ◌&&◌, ◌||◌, List, length, get_or, Option, Some, None}
+use Rattle.std.specs.Prelude.{◌≡◌, ℕ, ◌+◌, ◌*◌, ◌<◌, nat_lt, Bool, true, false, ◌&&◌, ◌||◌, List, length, get_or, Option, Some, None}
 use Rattle.isa.specs.declared.Instr.{Instr}
 use Rattle.isa.specs.declared.Instr.TheVariants.{Sb, Sh, Sw}
 use Rattle.isa.specs.declared.CallKind.{CallKind}
@@ -7,7 +7,7 @@ use Rattle.isa.specs.declared.CallKind.TheVariants.{Read}
 use Rattle.flow_model.specs.declared.StepSeen.{StepSeen}
 use Rattle.flow_model.specs.declared.CallSeen.{CallSeen}
 use Rattle.checkpoints.specs.declared.touched.Span.{Span}
-use Rattle.checkpoints.specs.Pages.{page, IsHeld}
+use Rattle.checkpoints.specs.Pages.{page, changed, differs, page_before, IsHeld, ArePagesOf}
 
 -- ---- the bytes of memory that a step writes
 
@@ -56,17 +56,28 @@ pub record AreMarked (before : List Bool) (first size : ℕ) (after : List Bool)
   pub count : length after ≡ length before
   pub each : (place : ℕ) → is_touched after place ≡ (is_touched before place || has_byte first size place)
 
--- the bytes are in the window whose pages have these flags, or there are none
-pub record IsWithin (touched : TouchedAt) (bytes : Span) : Type 0 where
-  pub above : 0 < bytes.size → touched.base ≤ bytes.place
-  pub below : 0 < bytes.size → bytes.place + bytes.size ≤ touched.base + length touched.flags * 4096
-
 -- ---- the pages that were not written
 
 -- each is the same in both windows
 abbrev pub AreOthersSame : List Bool → List ℕ → List ℕ → Type 0
 AreOthersSame flags before after = (place : ℕ) → is_touched flags place ≡ false → page after place ≡ page before place
 
--- each has the bytes of the page whose number stands at its place
+-- a page that can't have been written has the bytes of the page whose number stands at its place
+abbrev pub IsHeldUntouched : Bool → List (List ℕ) → List ℕ → ℕ → List ℕ → Type 0
+IsHeldUntouched is_touched pages numbers place bytes = is_touched ≡ false → place < length numbers → IsHeld pages (get_or numbers place 0) bytes
+
+-- so it is with each page of a window
 abbrev pub AreOthersHeld : List Bool → List (List ℕ) → List ℕ → List ℕ → Type 0
-AreOthersHeld flags pages numbers window = (place : ℕ) → is_touched flags place ≡ false → place < length numbers → IsHeld pages (get_or numbers place 0) (page window place)
+AreOthersHeld flags pages numbers window = (place : ℕ) → IsHeldUntouched (is_touched flags place) pages numbers place (page window place)
+
+-- ---- the pages that are kept
+
+-- one page is kept more, where the page at its place before, whose number was there, differs
+abbrev pub IsOneKept : Bool → List (List ℕ) → List ℕ → ℕ → List (List ℕ) → List ℕ → Type 0
+IsOneKept is_touched before numbers place after bytes =
+    IsHeldUntouched is_touched before numbers place bytes → length after ≡ length before + differs (page_before before numbers place) bytes
+
+-- as many pages are kept more as the window has that differ from those of the window before, whose numbers these were
+abbrev pub AreChangedKept : List Bool → List (List ℕ) → List ℕ → List (List ℕ) → List ℕ → Type 0
+AreChangedKept flags before numbers after bytes =
+    (window : List ℕ) → AreOthersHeld flags before numbers bytes → ArePagesOf before numbers window → length after ≡ length before + changed window bytes

@@ -1,6 +1,6 @@
 //! Pages by number.
 
-ghost use Rattle.std.specs.Prelude.{◌≡◌, ◌<◌, [], ◌∷◌, ◌++◌, length, get_or, IfOk};
+ghost use Rattle.std.specs.Prelude.{◌≡◌, ◌<◌, [], ◌∷◌, ◌++◌, length, get_or, IfOk, OnErr};
 
 use no_memory::NoMemory;
 use std::alloc::Global;
@@ -50,6 +50,7 @@ impl Pages {
     pub fn push(&mut self, alloc: Global, page: &[u8]) -> Result<u32, NoMemory>
         ensures number { IfOk result (λ number. number ≡ length self.old) }
         ensures kept { IfOk result (λ _. self.new ≡ self.old ++ page.now ∷ []) }
+        ensures err { OnErr result (self.new ≡ self.old) }
     {
         let Ok(number) = u32::try_from(self.pages.len()) else {
             return Err(NoMemory::past_count());

@@ -1,11 +1,12 @@
 //! A window's pages, kept and put together again.
 
-ghost use Rattle.std.specs.Prelude.{◌≡◌, ℕ, ◌+◌, ◌<◌, false, List, length, get_or, IfOk};
+ghost use Rattle.std.specs.Prelude.{◌≡◌, ℕ, ◌+◌, ◌<◌, List, length, get_or, IfOk};
 ghost use Rattle.std.specs.List.{All};
-ghost use Rattle.checkpoints.specs.Pages.{page_count, changed, differs, IsHeld, ArePagesOf, IsExtended, page_before};
-ghost use Rattle.checkpoints.specs.Touched.{AreOthersHeld};
+ghost use Rattle.checkpoints.specs.Pages.{differs, IsHeld, ArePagesOf, IsExtended, page_before};
+ghost use Rattle.checkpoints.specs.Touched.{IsHeldUntouched, AreOthersHeld, IsOneKept, AreChangedKept};
 
 use crate::pages::Pages;
+use crate::touched::Touched;
 use no_memory::NoMemory;
 use std::alloc::Global;
 
@@ -23,7 +24,7 @@ fn keep(
     requires held { All (λ number. number < length pages.old) before.now }
     requires some { 0 < length page.now }
     ensures held { IfOk result (λ number. IsHeld pages.new number page.now) }
-    ensures extended { IfOk result (λ _. IsExtended pages.old pages.new) }
+    ensures extended { IsExtended pages.old pages.new }
     ensures count { IfOk result (λ _. length pages.new ≡ length pages.old + differs (page_before pages.old before.now place) page.now) }
 {
     if place < before.len() {
@@ -46,11 +47,11 @@ fn number_at(
     page: &[u8],
 ) -> Result<u32, NoMemory>
     requires held { All (λ number. number < length pages.old) before.now }
-    requires same { is_touched ≡ false → place < length before.now → IsHeld pages.old (get_or before.now place 0) page.now }
     requires some { 0 < length page.now }
-    ensures held { IfOk result (λ number. IsHeld pages.new number page.now) }
-    ensures extended { IfOk result (λ _. IsExtended pages.old pages.new) }
-    ensures count { IfOk result (λ _. length pages.new ≡ length pages.old + differs (page_before pages.old before.now place) page.now) }
+    ensures below { IfOk result (λ number. number < length pages.new) }
+    ensures held { IfOk result (λ number. IsHeldUntouched is_touched pages.old before.now place page.now → IsHeld pages.new number page.now) }
+    ensures extended { IsExtended pages.old pages.new }
+    ensures count { IfOk result (λ _. IsOneKept is_touched pages.old before.now place pages.new page.now) }
 {
     if !is_touched && place < before.len() {
         return Ok(before[place]);
@@ -65,29 +66,22 @@ pub fn split(
     alloc: Global,
     pages: &mut Pages,
     before: &[u32],
-    flags: &[bool],
+    touched: &Touched,
     bytes: &[u8],
 ) -> Result<Vec<u32>, NoMemory>
     requires held { All (λ number. number < length pages.old) before.now }
-    requires flags { length flags.now ≡ page_count bytes.now }
-    requires same { AreOthersHeld flags.now pages.old before.now bytes.now }
-    ensures paged { IfOk result (λ numbers. ArePagesOf pages.new numbers.items bytes.now) }
-    ensures extended { IfOk result (λ _. IsExtended pages.old pages.new) }
-    ensures count { IfOk result (λ _. (window : List ℕ) → ArePagesOf pages.old before.now window → length pages.new ≡ length pages.old + changed window bytes.now) }
+    ensures below { IfOk result (λ numbers. All (λ number. number < length pages.new) numbers.items) }
+    ensures paged { IfOk result (λ numbers. AreOthersHeld touched.now.flags pages.old before.now bytes.now → ArePagesOf pages.new numbers.items bytes.now) }
+    ensures extended { IsExtended pages.old pages.new }
+    ensures count { IfOk result (λ _. AreChangedKept touched.now.flags pages.old before.now pages.new bytes.now) }
 {
     let count = bytes.len().div_ceil(PAGE_SIZE);
     let mut numbers = Vec::with_capacity(alloc, count)?;
     for place in 0..count {
         let first = place * PAGE_SIZE;
         let past = bytes.len().min(first + PAGE_SIZE);
-        let number = number_at(
-            alloc,
-            pages,
-            before,
-            place,
-            flags[place],
-            &bytes[first..past],
-        )?;
+        let page = &bytes[first..past];
+        let number = number_at(alloc, pages, before, place, touched.is_touched(place), page)?;
         numbers.push(number)?;
     }
     Ok(numbers)

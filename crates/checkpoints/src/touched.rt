@@ -1,8 +1,8 @@
 //! The pages that the steps since the last checkpoint may have written.
 
-ghost use Rattle.std.specs.Prelude.{◌≡◌, ◌+◌, ◌-◌, ◌*◌, ◌<◌, ◌≤◌, true, false, length, replicate, IfOk};
+ghost use Rattle.std.specs.Prelude.{◌≡◌, ◌-◌, ◌<◌, true, false, length, replicate, IfOk};
 ghost use Rattle.std.specs.Int.{div_ceil};
-ghost use Rattle.checkpoints.specs.Touched.{span, stored_size, written, AreMarked, IsWithin};
+ghost use Rattle.checkpoints.specs.Touched.{span, stored_size, written, is_touched, AreMarked};
 
 use crate::paging::PAGE_SIZE;
 use flow_model::StepSeen;
@@ -74,12 +74,11 @@ pub(crate) fn written(step: &StepSeen) -> Span
 /// Sets the flag of each page that has one of so many bytes of the window, from the first on.
 fn mark(flags: &mut Vec<bool>, first: u32, size: u32)
     requires some { 0 < size }
-    requires within { first + size ≤ length flags.old.items * 4096 }
     ensures { AreMarked flags.old.items first size flags.new.items }
 {
     let first = first as usize;
     let past = first + size as usize;
-    for page in first / PAGE_SIZE..past.div_ceil(PAGE_SIZE) {
+    for page in first / PAGE_SIZE..past.div_ceil(PAGE_SIZE).min(flags.len()) {
         flags[page] = true;
     }
 }
@@ -93,22 +92,32 @@ impl Touched {
         Ok(Touched { base, flags })
     }
 
-    /// For each page, whether it may have been written.
-    pub fn flags(&self) -> &[bool]
-        ensures { result.now ≡ self.now.flags }
+    /// No page.
+    pub fn none(alloc: Global) -> Touched {
+        Touched {
+            base: 0,
+            flags: Vec::new(alloc),
+        }
+    }
+
+    /// Whether the page at a place may have been written. So may one past the last.
+    pub fn is_touched(&self, place: usize) -> bool
+        ensures { result ≡ is_touched self.now.flags place }
     {
-        self.flags.as_slice()
+        match self.flags.get(place) {
+            Some(flag) => *flag,
+            None => true,
+        }
     }
 
     /// Notes the pages that have some of these bytes, which a step writes.
     pub fn note(&mut self, bytes: Span)
-        requires { IsWithin self.old bytes }
         ensures base { self.new.base ≡ self.old.base }
         ensures flags { AreMarked self.old.flags (bytes.place - self.old.base) bytes.size self.new.flags }
     {
         let Span { place, size } = bytes;
         if size > 0 {
-            mark(&mut self.flags, place - self.base, size);
+            mark(&mut self.flags, place.saturating_sub(self.base), size);
         }
     }
 

@@ -3,7 +3,7 @@ use Rattle.std.specs.Prelude.{slice_get}
 use Rattle.std.proofs.lemmas.Option.{get_or_from_slice_get, slice_get_within}
 use Rattle.checkpoints.specs.Points.{CheckpointAt}
 use Rattle.checkpoints.proofs.Holding.{last_is}
-use Rattle.checkpoints.proofs.checkpoints.last_numbers.Goals as goal
+use Rattle.checkpoints.proofs.taken.last_numbers.Goals as goal
 
 pub returns-in-Some : goal.returns-in-Some
 returns-in-Some c =
