@@ -1,5 +1,5 @@
 -- What one step makes of the terms of each location.
-use Rattle.std.proofs.Common.{◌≡◌, ℕ, ◌+◌, ◌-◌, List, [], ◌∷◌, refl, ap, sym, subst, ◌<◌, ◌∙◌, Bool, true, false, if◌then◌else◌, arith, add-one}
+use Rattle.std.proofs.Common.{◌≡◌, ℕ, ◌+◌, List, [], ◌∷◌, refl, ap, sym, subst, ◌<◌, ◌∙◌, Bool, true, false, if◌then◌else◌, arith, add-one}
 use Rattle.std.specs.Prelude.{◌==◌, Option, Some, None}
 use Rattle.std.proofs.lemmas.Bool.{eqb-true, eqb-false}
 use Rattle.std.proofs.lemmas.Bool.Decides.{nat_tests}
@@ -15,7 +15,6 @@ use Rattle.flow_model.specs.Flow.{Target, flow, cleared, loc_eq, origins_by, is_
 use Rattle.flow_model.specs.Ranges.{IsLocation, IsTable, IsInRange}
 use Rattle.flow_model.specs.Origins.{Policy, union_over, introduced, byte_at, fresh_by, step_at}
 use Rattle.flow_model.proofs.Located.{flow_table, cleared_table}
-use Rattle.report_model.specs.Query.{Query, policy_of}
 use Rattle.epoch_model.specs.Stretch.{locations_over, from_step, fresh_step, past, born}
 use Rattle.epoch_model.specs.Summary.{Terms, terms}
 use Rattle.taint_shadow.specs.Places.{AreKept}
@@ -26,7 +25,7 @@ use Rattle.local_taint.specs.declared.labels.Nodes.{Nodes}
 use Rattle.local_taint.specs.Words.{label_words, terms_in, together, of_itself, StandsIn}
 use Rattle.local_taint.specs.Laws.{label_laws}
 use Rattle.local_taint.specs.Sinks.{IsNoLane, Shows}
-use Rattle.local_taint.specs.Summaries.{AreInRange, IsFollowed}
+use Rattle.local_taint.specs.Summaries.{AreInRange}
 
 -- ---- what flows into a location
 
@@ -116,19 +115,3 @@ one_in_range trace s n step at this before i other below is = by (i == n) refl w
       let one : other ≡ step = cc in
       subst IsInRange (sym one) this
   by false e = let less : i < n = omega (arith, below, eqb-false i n e) in before i other less is
-
--- one step more is followed
-pub followed_more : (q : Query) (trace : List StepSeen) (first time : ℕ) (step : StepSeen) (old new : Nodes) (before places : Places) → step_at trace time ≡ Some step → IsInRange step
-    → IsFollowed q trace first time old before → Holds label_words new places (after label_words (policy_of q) step step.call (terms (policy_of q) trace first (time - first)))
-    → IsFollowed q trace first (time + 1) new places
-followed_more q trace first time step old new before places at range so_far holds =
-    let n = time - first in
-    let begun = so_far.begun in
-    let here : time ≡ first + n = omega arith in
-    let next : n + 1 ≡ time + 1 - first = omega arith in
-    let made : step_at trace (first + n) ≡ Some step = subst (λ (t : ℕ). step_at trace t ≡ Some step) here at in
-    record {
-      begun = omega arith;
-      shows = subst (λ (k : ℕ). Shows new places (terms (policy_of q) trace first k)) next (one_more (policy_of q) trace first n step made range.fits old new before places so_far.shows holds);
-      in_range = subst (AreInRange trace first) next (one_in_range trace first n step made range so_far.in_range);
-    }

@@ -2,3 +2,5 @@ pub mod Words
 pub mod Laws
 pub mod Sinks
 pub mod Summaries
+pub mod Following
+pub mod Watched

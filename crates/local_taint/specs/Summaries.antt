@@ -1,17 +1,14 @@
 -- What the analysis of an epoch found.
-use Rattle.std.specs.Prelude.{◌≡◌, ℕ, ◌+◌, ◌-◌, ◌<◌, ◌≤◌, List, Some, map}
+use Rattle.std.specs.Prelude.{◌≡◌, ℕ, ◌+◌, ◌<◌, List, Some, map}
 use Rattle.flow_model.specs.declared.SinkPoint.{SinkPoint}
 use Rattle.flow_model.specs.declared.StepSeen.{StepSeen}
 use Rattle.flow_model.specs.Origins.{step_at}
 use Rattle.flow_model.specs.Ranges.{IsInRange}
-use Rattle.report_model.specs.Query.{Query, policy_of}
-use Rattle.epoch_model.specs.Summary.{Terms, Summary as EpochSummary, terms}
-use Rattle.taint_shadow.specs.declared.places.Places.{Places}
+use Rattle.epoch_model.specs.Summary.{Terms, Summary as EpochSummary}
 use Rattle.taint_shadow.specs.Steps.{meaning_at}
-use Rattle.local_taint.specs.declared.labels.Nodes.{Nodes}
 use Rattle.local_taint.specs.declared.summary.Summary.{Summary}
 use Rattle.local_taint.specs.Words.{label_words}
-use Rattle.local_taint.specs.Sinks.{named, Shows}
+use Rattle.local_taint.specs.Sinks.{named}
 
 -- the number of its epoch
 abbrev pub number_of : Summary → ℕ
@@ -35,10 +32,3 @@ terms_of e = map (λ k. k.terms) (summary_of e).sinks
 -- each of the n steps from time s on is in range
 abbrev pub AreInRange : List StepSeen → ℕ → ℕ → Type 0
 AreInRange trace s n = (i : ℕ) (step : StepSeen) → i < n → step_at trace (s + i) ≡ Some step → IsInRange step
-
--- the steps from the first one's time up to this time are followed: each location has its terms over them, and each of them is
--- in range
-pub record IsFollowed (q : Query) (trace : List StepSeen) (first time : ℕ) (nodes : Nodes) (places : Places) : Type 0 where
-  pub begun : first ≤ time
-  pub shows : Shows nodes places (terms (policy_of q) trace first (time - first))
-  pub in_range : AreInRange trace first (time - first)

@@ -1,12 +1,14 @@
-use Rattle.std.proofs.Common.{◌-◌, ◌≤◌}
-use Rattle.local_taint.proofs.Following.{IsAt}
+use Rattle.std.proofs.Common.{◌≡◌, ◌-◌, ◌≤◌}
+use Rattle.replayer.specs.Jobs.{trace_of}
+use Rattle.local_taint.specs.Following.{IsTracked}
 use Rattle.local_taint.proofs.analysis.follow.Given as goal
 
-abbrev pub invariant-loop-time : goal.invariant-loop-time
-invariant-loop-time l = record {
-  within : l.time - l.first ≤ l.past_last - l.first;
-  here : IsAt l.query l.initial.cursor.job l.first l.time l.cursor l.nodes l.places l.points l.sinks.items;
+abbrev pub invariant-loop-cursor : goal.invariant-loop-cursor
+invariant-loop-cursor l = let job = l.initial.cursor.job in let start = l.initial.cursor.time in record {
+  same_job : l.cursor.job ≡ job;
+  within : l.cursor.time - start ≤ l.past_last - start;
+  here : IsTracked l.initial.tracking.query.now (trace_of job) start l.cursor.time l.tracking;
 }
 
-abbrev pub decreases-loop-time : goal.decreases-loop-time
-decreases-loop-time l = l.past_last - l.time
+abbrev pub decreases-loop-cursor : goal.decreases-loop-cursor
+decreases-loop-cursor l = l.past_last - l.cursor.time
