@@ -21,6 +21,7 @@ use Rattle.epoch_model.specs.Cutting.{Epoch, RisesTo, IsCutting, epochs}
 use Rattle.epoch_model.specs.Summary.{AreSummaries}
 use Rattle.epoch_cut.specs.Numbered.{NumberedEpoch, numbered}
 use Rattle.local_taint.specs.Summaries.{AreInRange}
+use Rattle.local_taint.proofs.Range.{all_in_range, trace_long}
 use Rattle.pass_parts.specs.Ends.{got_by, sent_by, EndsWhole}
 use Rattle.stream_model.specs.Streams.{is_ended, requests, Node, IsDone, AreDone, AreAllDone, summaries}
 use Rattle.stream_model.specs.StreamLaws.{EndsLast, LinksCarry}
@@ -121,37 +122,6 @@ module _ (run : CutRun) where
       let f = found_at (given_at run (record { number = k; first = s; past_last = c }) first false) d line.0 in
       let rest = are_found false (suc k) c cs (b ∷ ds) line.2 in
       record { summaries = (f.summary, rest.summaries); in_range = (f.in_range, rest.in_range) }
-
--- ---- the steps of the run
-
-module _ (trace : List StepSeen) where
-  -- a step from time s on is one of an epoch
-  in_some_epoch : (s n : ℕ) (cs : List ℕ) → RisesTo s cs n → AllByRecursion (λ (e : Epoch). AreInRange trace e.first (e.past_last - e.first)) (epochs s cs)
-      → (t : ℕ) (step : StepSeen) → s ≤ t → t < n → step_at trace t ≡ Some step → IsInRange step
-  in_some_epoch s n [] r a t step low high at = absurd (omega (arith, r, low, high))
-  in_some_epoch s n (c ∷ cs) r a t step low high at =
-      by (λ later. in_some_epoch c n cs r.1 a.1 t step later high at) (nat_lt t c) refl where
-        by : (c ≤ t → IsInRange step) → (b : Bool) → nat_lt t c ≡ b → IsInRange step
-        by go true h =
-            let here : t < c = ltb-true t c h in
-            let place : s + (t - s) ≡ t = omega (arith, low) in
-            a.0 (t - s) step (omega (arith, low, here)) (ap (step_at trace) place ∙ at)
-        by go false h = go (ltb-false t c h)
-
-step_in : (trace : List StepSeen) (i : ℕ) (d : StepSeen) → i < length trace → step_at trace i ≡ Some (get_or trace i d)
-step_in [] i d h = absurd (omega (arith, h))
-step_in (s ∷ ss) zero d h = refl
-step_in (s ∷ ss) (suc i) d h = step_in ss i d (omega (arith, h))
-
-all_in_range : (trace : List StepSeen) (cuts : List ℕ) → IsCutting (length trace) cuts
-    → AllByRecursion (λ (e : Epoch). AreInRange trace e.first (e.past_last - e.first)) (epochs 0 cuts) → All IsInRange trace
-all_in_range [] cuts h a = λ i d below. absurd (omega (arith, below))
-all_in_range (s ∷ ss) cuts h a =
-    λ i d below. in_some_epoch (s ∷ ss) 0 (length (s ∷ ss)) cuts h a i (get_or (s ∷ ss) i d) (omega arith) below (step_in (s ∷ ss) i d below)
-
--- a run has as many steps as its log says
-trace_long : (job : Job) → length (trace_of job) ≡ steps job.log
-trace_long job = length-steps_from (steps job.log) (start job.start job.log)
 
 -- ---- how many events moved
 

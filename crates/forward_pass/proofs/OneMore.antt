@@ -1,11 +1,11 @@
 -- The place of one more member in a set.
 use Rattle.std.proofs.Common.{◌≡◌, ℕ, zero, suc, ◌-◌, ◌<◌, ◌≤◌, List, [], ◌∷◌, ◌++◌, length, take, drop, get_or, refl, ap, ap₂, sym, ◌∙◌, subst, arith, ⊎_elim}
 use Rattle.std.specs.Prelude.{Result, Ok, Err, OnOk, OnErr, Some, slice_get}
-use Rattle.std.specs.List.Sorted.{IsBinarySearchResult, IsNonDecreasingBy}
-use Rattle.std.specs.Cmp.{IsTotalOrder, alike_right, tied_back}
-use Rattle.std.specs.Ordering.{eq_by_cmp, is_eq, ordering_index}
+use Rattle.std.specs.List.Sorted.{IsBinarySearchResult}
+use Rattle.std.specs.Cmp.{IsTotalOrder, tied_back}
+use Rattle.std.specs.Ordering.{eq_by_cmp, is_eq}
 use Rattle.std.specs.declared.cmp.Ordering.{Ordering}
-use Rattle.std.specs.declared.cmp.Ordering.TheVariants.{Less, Equal, Greater}
+use Rattle.std.specs.declared.cmp.Ordering.TheVariants.{Less, Greater}
 use Rattle.std.proofs.lemmas.Bool.{cases_lt}
 use Rattle.std.proofs.lemmas.List.{take_all, drop_all}
 use Rattle.std.proofs.lemmas.List.Folds.{list_any_at}
@@ -16,6 +16,7 @@ use Rattle.no_memory.specs.declared.NoMemory.{NoMemory}
 use Rattle.flow_model.specs.declared.SourceByte.{SourceByte}
 use Rattle.flow_model.specs.Orders.{source_cmp}
 use Rattle.flow_model.proofs.Orders.{source_total}
+use Rattle.sorted_set.proofs.Places.{rising}
 use Rattle.answer_sets.proofs.Members.{compared, order_is}
 
 module _ {K : Type 0} {R : K → K → Ordering} (o : IsTotalOrder R) where
@@ -51,27 +52,6 @@ module _ {K : Type 0} {R : K → K → Ordering} (o : IsTotalOrder R) where
 
   -- ---- what a binary search finds
 
-  at_most_two : (r : Ordering) → ordering_index r ≤ 2
-  at_most_two Less = omega arith
-  at_most_two Equal = omega arith
-  at_most_two Greater = omega arith
-
-  rises : (x y q : K) → R x y ≡ Less → ordering_index (R x q) ≤ ordering_index (R y q)
-  rises x y q e = by (R y q) refl where
-    none : R x q ≡ Less → (n : ℕ) → ordering_index (R x q) ≤ n
-    none f n = let zero_is : ordering_index (R x q) ≡ 0 = ap ordering_index f in omega arith
-
-    by : (r : Ordering) → R y q ≡ r → ordering_index (R x q) ≤ ordering_index (R y q)
-    by Less f = none (o.trans x y q e f) _
-    by Equal f = none (sym (alike_right o y q x f) ∙ e) _
-    by Greater f = let two_is : ordering_index (R y q) ≡ 2 = ap ordering_index f in omega (arith, at_most_two (R x q))
-
-  sorted : (xs : List K) (q : K) → Ascends R xs → IsNonDecreasingBy (λ y. ordering_index (R y q)) xs
-  sorted xs q a m n d le w =
-      ⊎_elim (λ less. rises _ _ q (Ascends-at o xs m n d a less w))
-      (λ equal. let same : n ≡ m = omega arith in subst (λ (p : ℕ). ordering_index (R (get_or xs m d) q) ≤ ordering_index (R (get_or xs p d) q)) (sym same) (omega arith))
-      (cases_lt m n)
-
   -- of the members, as they were searched
   module _ (xs members : List K) (x : K) (same : xs ≡ members) (a : Ascends R members) (i : ℕ) where
     ascends : Ascends R xs
@@ -85,7 +65,7 @@ module _ {K : Type 0} {R : K → K → Ordering} (o : IsTotalOrder R) where
     -- any other comes to its place
     pub takes_place : i ≤ length xs → IsBinarySearchResult (λ y. R y x) xs (Err i) → (new : List K) → new ≡ take i members ++ x ∷ drop i members → new ≡ inserted R x members
     takes_place h at new e =
-        let parted = at (sorted xs x ascends) in
+        let parted = at (rising o xs x ascends) in
         e ∙ subst (λ ys. take i ys ++ x ∷ drop i ys ≡ inserted R x ys) same (sym (inserted_at x xs i h (λ j d k. parted.0 j d (omega arith) k) (λ d k. parted.1 i d (omega arith) k)))
 
 -- source bytes ascend with one more, and without it where there is no memory for it

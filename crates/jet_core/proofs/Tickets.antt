@@ -12,13 +12,14 @@ use Rattle.report_model.specs.Query.{Query}
 use Rattle.replay_model.specs.Run.{start}
 use Rattle.replay_model.proofs.Offsets.{length-steps_from}
 use Rattle.replayer.specs.Jobs.{Job, trace_of}
-use Rattle.epoch_model.specs.Cutting.{RisesTo, IsCutting, epochs}
+use Rattle.epoch_model.specs.Cutting.{Epoch, RisesTo, IsCutting, epochs}
 use Rattle.epoch_model.specs.Summary.{AreSummaries}
 use Rattle.epoch_model.proofs.Asking.{rises_up}
 use Rattle.epoch_cut.specs.Numbered.{numbered}
 use Rattle.checkpoints.specs.Points.{beginnings}
 use Rattle.local_taint.specs.declared.summary.Summary.{Summary}
-use Rattle.local_taint.specs.Summaries.{summary_of}
+use Rattle.local_taint.specs.Summaries.{AreInRange, summary_of}
+use Rattle.local_taint.proofs.Range.{all_in_range}
 use Rattle.jet_core.specs.Tickets.{BeginsAt, AreFound}
 
 -- ---- where epochs begin
@@ -82,34 +83,15 @@ module _ (q : Query) (trace : List StepSeen) where
   found_summaries k s (c ∷ cs) [] a = absurd a
   found_summaries k s (c ∷ cs) (e ∷ es) a = (a.0.summary, found_summaries (suc k) c cs es a.1)
 
-  -- a step from time s on is one of an epoch
-  in_some_epoch : (k s n : ℕ) (cs : List ℕ) (es : List Summary) → RisesTo s cs n → AreFound q trace (numbered k (epochs s cs)) es
-      → (t : ℕ) (step : StepSeen) → s ≤ t → t < n → step_at trace t ≡ Some step → IsInRange step
-  in_some_epoch k s n [] es r a t step low high at = absurd (omega (arith, r, low, high))
-  in_some_epoch k s n (c ∷ cs) [] r a t step low high at = absurd a
-  in_some_epoch k s n (c ∷ cs) (e ∷ es) r a t step low high at =
-      by (λ later. in_some_epoch (suc k) c n cs es r.1 a.1 t step later high at) (nat_lt t c) refl where
-        by : (c ≤ t → IsInRange step) → (b : Bool) → nat_lt t c ≡ b → IsInRange step
-        by go true h =
-            let here : t < c = ltb-true t c h in
-            let place : s + (t - s) ≡ t = omega (arith, low) in
-            a.0.in_range (t - s) step (omega (arith, low, here)) (ap (step_at trace) place ∙ at)
-        by go false h = go (ltb-false t c h)
+  -- so the steps of each epoch are in range
+  epochs_in_range : (k s : ℕ) (cs : List ℕ) (es : List Summary) → AreFound q trace (numbered k (epochs s cs)) es
+      → AllByRecursion (λ (e : Epoch). AreInRange trace e.first (e.past_last - e.first)) (epochs s cs)
+  epochs_in_range k s [] es a = tt
+  epochs_in_range k s (c ∷ cs) [] a = absurd a
+  epochs_in_range k s (c ∷ cs) (e ∷ es) a = (a.0.in_range, epochs_in_range (suc k) c cs es a.1)
 
-step_in : (trace : List StepSeen) (i : ℕ) (d : StepSeen) → i < length trace → step_at trace i ≡ Some (get_or trace i d)
-step_in [] i d h = absurd (omega (arith, h))
-step_in (s ∷ ss) zero d h = refl
-step_in (s ∷ ss) (suc i) d h = step_in ss i d (omega (arith, h))
-
-pub found_in_range : (q : Query) (trace : List StepSeen) (cuts : List ℕ) (es : List Summary) → IsCutting (length trace) cuts
-    → AreFound q trace (numbered 0 (epochs 0 cuts)) es → All IsInRange trace
-found_in_range q [] cuts es h a = λ i d below. absurd (omega (arith, below))
-found_in_range q (s ∷ ss) cuts es h a =
-    λ i d below. in_some_epoch q (s ∷ ss) 0 0 (length (s ∷ ss)) cuts es h a i (get_or (s ∷ ss) i d) (omega arith) below (step_in (s ∷ ss) i d below)
-
--- a run has as many steps as its log says
-pub trace_long : (job : Job) → length (trace_of job) ≡ steps job.log
-trace_long job = length-steps_from (steps job.log) (start job.start job.log)
+  pub found_in_range : (cuts : List ℕ) (es : List Summary) → IsCutting (length trace) cuts → AreFound q trace (numbered 0 (epochs 0 cuts)) es → All IsInRange trace
+  found_in_range cuts es h a = all_in_range trace cuts h (epochs_in_range 0 0 cuts es a)
 
 -- ---- what came of several analyses
 

@@ -15,7 +15,8 @@ use Rattle.local_taint.specs.declared.summary.Summary.{Summary as Found}
 use Rattle.local_taint.specs.Summaries.{summary_of}
 use Rattle.jet_core.specs.Asking.{AreOfOneTrace}
 use Rattle.jet_core.specs.Tickets.{AreFound}
-use Rattle.jet_core.proofs.Tickets.{found_summaries, found_in_range, trace_long}
+use Rattle.local_taint.proofs.Range.{trace_long}
+use Rattle.jet_core.proofs.Tickets.{found_summaries, found_in_range}
 
 -- with the checkpoints and tickets of a cutting
 pub found_at : (job : Job) (q : Query) (cuts : List ℕ) (es : List Found) (points : CheckpointsAt) (tickets : List NumberedEpoch)

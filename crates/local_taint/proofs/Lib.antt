@@ -4,3 +4,4 @@ mod Steps
 mod Between
 mod Following
 mod Alike
+mod Range

@@ -3,13 +3,11 @@ use Rattle.std.proofs.Common.{◌≡◌, ◌≢◌, ℕ, zero, suc, ◌+◌, ◌
 use Rattle.std.specs.Prelude.{slice_index_or}
 use Rattle.std.proofs.lemmas.Grind.{common_steps}
 use Rattle.std.proofs.lemmas.List.{length-set}
-use Rattle.flow_model.specs.declared.Loc.{Loc}
-use Rattle.flow_model.specs.declared.SourceByte.{SourceByte}
 use Rattle.merge_log.specs.declared.reader.Leaf.{Leaf}
 use Rattle.merge_log.specs.declared.walk.Found.{Found}
 use Rattle.merge_log.specs.Log.{Terms, AreSets, no_terms}
 use Rattle.merge_log.specs.Walk.{has_leaf, terms_of}
-use Rattle.merge_log.specs.Masks.{found_at, with_source, with_start}
+use Rattle.merge_log.specs.Masks.{found_at, and_leaf, with_leaf}
 
 -- ---- one of the sets
 
@@ -125,14 +123,8 @@ ascended_all (f ∷ fs) h (suc r) = ascended_all fs (λ i l. h (suc i) (omega (a
 
 -- ---- a bit
 
-pub source_kept : (bit : ℕ) (b : SourceByte) (t : Terms) → bit ≢ 1 → with_source bit b t ≡ t
-source_kept bit b t h = by (bit == 1) refl where
-  by : (x : Bool) → (bit == 1) ≡ x → (if x then record { sources = t.sources ++ b ∷ []; starts = t.starts } else t) ≡ t
-  by true p = absurd (h (grind (arith, common_steps)))
-  by false p = refl
-
-pub start_kept : (bit : ℕ) (l : Loc) (t : Terms) → bit ≢ 1 → with_start bit l t ≡ t
-start_kept bit l t h = by (bit == 1) refl where
-  by : (x : Bool) → (bit == 1) ≡ x → (if x then record { sources = t.sources; starts = t.starts ++ l ∷ [] } else t) ≡ t
+pub leaf_kept : (bit : ℕ) (q : Leaf) (t : Terms) → bit ≢ 1 → with_leaf bit q t ≡ t
+leaf_kept bit q t h = by (bit == 1) refl where
+  by : (x : Bool) → (bit == 1) ≡ x → (if x then and_leaf q t else t) ≡ t
   by true p = absurd (h (grind (arith, common_steps)))
   by false p = refl

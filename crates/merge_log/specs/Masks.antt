@@ -1,10 +1,9 @@
 -- A walk from many roots at once: the masks that say under which of them a node is, and what is still to be found.
 use Rattle.std.specs.Prelude.{◌≡◌, ℕ, zero, suc, ◌<◌, ◌≤◌, ◌*◌, ◌/◌, ◌==◌, ◌⊎◌, if◌then◌else◌, Bool, true, false, List, [], ◌∷◌, ◌++◌, length, slice_index, slice_get, Some}
 use Rattle.std.specs.Int.{bit_at}
-use Rattle.flow_model.specs.declared.Loc.{Loc}
-use Rattle.flow_model.specs.declared.SourceByte.{SourceByte}
 use Rattle.merge_log.specs.declared.nodes.Entry.{Entry}
 use Rattle.merge_log.specs.declared.reader.Leaf.{Leaf}
+use Rattle.merge_log.specs.declared.reader.Leaf.TheVariants.{Source, Start}
 use Rattle.merge_log.specs.declared.walk.Found.{Found}
 use Rattle.merge_log.specs.Log.{Terms, no_terms, terms}
 use Rattle.merge_log.specs.Walk.{has_leaf, terms_of}
@@ -32,21 +31,18 @@ found_at [] r = no_terms
 found_at (f ∷ fs) zero = terms_of f
 found_at (f ∷ fs) (suc r) = found_at fs r
 
--- with one source byte more, where the bit is set
-abbrev pub with_source : ℕ → SourceByte → Terms → Terms
-with_source bit b t = if bit == 1 then record { sources = t.sources ++ b ∷ []; starts = t.starts } else t
+-- with one leaf more
+abbrev pub and_leaf : Leaf → Terms → Terms
+and_leaf (Source b) t = record { sources = t.sources ++ b ∷ []; starts = t.starts }
+and_leaf (Start l) t = record { sources = t.sources; starts = t.starts ++ l ∷ [] }
 
--- with one start location more, where the bit is set
-abbrev pub with_start : ℕ → Loc → Terms → Terms
-with_start bit l t = if bit == 1 then record { sources = t.sources; starts = t.starts ++ l ∷ [] } else t
+-- with one leaf more, where the bit is set
+abbrev pub with_leaf : ℕ → Leaf → Terms → Terms
+with_leaf bit q t = if bit == 1 then and_leaf q t else t
 
--- each root of the mask has the source byte too, and the others are as they were
-abbrev pub GivesSource : ℕ → SourceByte → List Found → List Found → Type 0
-GivesSource mask b old new = (r : ℕ) → r < length old → found_at new r ≡ with_source (bit_at mask r) b (found_at old r)
-
--- each root of the mask has the start location too, and the others are as they were
-abbrev pub GivesStart : ℕ → Loc → List Found → List Found → Type 0
-GivesStart mask l old new = (r : ℕ) → r < length old → found_at new r ≡ with_start (bit_at mask r) l (found_at old r)
+-- each root of the mask has the leaf too, and the others are as they were
+abbrev pub GivesLeaf : ℕ → Leaf → List Found → List Found → Type 0
+GivesLeaf mask q old new = (r : ℕ) → r < length old → found_at new r ≡ with_leaf (bit_at mask r) q (found_at old r)
 
 -- each root has the leaves that it had
 abbrev pub HaveLeavesOf : List Found → List Found → Type 0

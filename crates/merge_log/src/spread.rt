@@ -4,14 +4,13 @@ ghost use Rattle.std.specs.Prelude.{◌≡◌, ℕ, ◌+◌, ◌<◌, ◌≤◌,
 ghost use Rattle.std.specs.Int.{bit_at};
 ghost use Rattle.merge_log.specs.Log.{AreSets, IsNode, no_terms};
 ghost use Rattle.merge_log.specs.Walk.{has_leaf, terms_of};
-ghost use Rattle.merge_log.specs.Masks.{HasBit, IsClearFrom, AreFound, GivesSource, GivesStart, HaveLeavesOf, KeepCovers, found_at, with_source, with_start};
+ghost use Rattle.merge_log.specs.Masks.{HasBit, IsClearFrom, AreFound, GivesLeaf, HaveLeavesOf, KeepCovers, found_at, with_leaf};
 ghost use Rattle.merge_log.specs.declared.reader.Leaf.{Leaf as AnyLeaf};
 
 use crate::masks::Masks;
 use crate::nodes::{Entry, MergeLog, Node};
-use crate::reader::ascend;
+use crate::reader::{Leaf, ascend};
 use crate::walk::Found;
-use flow_model::{Loc, SourceByte};
 use no_memory::NoMemory;
 use std::alloc::Global;
 
@@ -82,8 +81,8 @@ fn spread(
     ensures covers { OnOk result (KeepCovers log.now node mask masks.old.masks.items found.old.items masks.new.masks.items found.new.items) }
 {
     match log.entry(node) {
-        Entry::Source(byte) => give_source(found, mask, byte),
-        Entry::Start(loc) => give_start(found, mask, loc),
+        Entry::Source(byte) => give(found, mask, Leaf::Source(byte)),
+        Entry::Start(loc) => give(found, mask, Leaf::Start(loc)),
         Entry::Union { left, right } => {
             masks.add(left, mask);
             masks.add(right, mask);
@@ -104,47 +103,28 @@ fn bounds(mask: u64) -> (usize, usize)
     )
 }
 
-/// Adds a source byte to what was found of the roots of a mask.
-fn give_source(found: &mut Vec<Found>, mask: u64, byte: SourceByte) -> Result<(), NoMemory>
+/// Adds a leaf to what was found of the roots of a mask.
+fn give(found: &mut Vec<Found>, mask: u64, leaf: Leaf) -> Result<(), NoMemory>
     requires { length found.old.items ≤ 64 }
     ensures sets { length found.new.items ≡ length found.old.items }
-    ensures given { OnOk result (GivesSource mask byte found.old.items found.new.items) }
+    ensures given { OnOk result (GivesLeaf mask leaf found.old.items found.new.items) }
 {
     let (first, past) = bounds(mask);
     for root in first..past.min(found.len()) {
         if (mask >> root) & 1 == 1 {
-            add_source(&mut found[root], byte)?;
+            add_leaf(&mut found[root], leaf)?;
         }
     }
     Ok(())
 }
 
-/// Adds a start location to what was found of the roots of a mask.
-fn give_start(found: &mut Vec<Found>, mask: u64, loc: Loc) -> Result<(), NoMemory>
-    requires { length found.old.items ≤ 64 }
-    ensures sets { length found.new.items ≡ length found.old.items }
-    ensures given { OnOk result (GivesStart mask loc found.old.items found.new.items) }
+fn add_leaf(set: &mut Found, leaf: Leaf) -> Result<(), NoMemory>
+    ensures { OnOk result (terms_of set.new ≡ with_leaf 1 leaf (terms_of set.old)) }
 {
-    let (first, past) = bounds(mask);
-    for root in first..past.min(found.len()) {
-        if (mask >> root) & 1 == 1 {
-            add_start(&mut found[root], loc)?;
-        }
+    match leaf {
+        Leaf::Source(byte) => set.sources.push(byte)?,
+        Leaf::Start(loc) => set.starts.push(loc)?,
     }
-    Ok(())
-}
-
-fn add_source(set: &mut Found, byte: SourceByte) -> Result<(), NoMemory>
-    ensures { OnOk result (terms_of set.new ≡ with_source 1 byte (terms_of set.old)) }
-{
-    set.sources.push(byte)?;
-    Ok(())
-}
-
-fn add_start(set: &mut Found, loc: Loc) -> Result<(), NoMemory>
-    ensures { OnOk result (terms_of set.new ≡ with_start 1 loc (terms_of set.old)) }
-{
-    set.starts.push(loc)?;
     Ok(())
 }
 

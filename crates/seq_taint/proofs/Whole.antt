@@ -64,24 +64,14 @@ ends_whole : (n c : ℕ) → n ≡ c → IsCutting n (c ∷ [])
 ends_whole zero c e = ap (λ t. t ∷ []) (sym e)
 ends_whole (suc n) c e = (omega (arith, e), sym e)
 
-step_in : (trace : List StepSeen) (i : ℕ) (d : StepSeen) → i < length trace → step_at trace i ≡ Some (get_or trace i d)
-step_in [] i d h = absurd (omega (arith, h))
-step_in (s ∷ ss) zero d h = refl
-step_in (s ∷ ss) (suc i) d h = step_in ss i d (omega (arith, h))
-
-all_in_range : (trace : List StepSeen) (n : ℕ) → length trace ≡ n → AreInRange trace 0 n → All IsInRange trace
-all_in_range trace n long h i d below =
-    let place : 0 + i ≡ i = omega arith in
-    h i (get_or trace i d) (omega (arith, long, below)) (ap (step_at trace) place ∙ step_in trace i d below)
-
 module _ (q : Query) (located : AreLocated q.points) (e : Summary) where
   rows_of_job : (job : Job) → IsSummary q (trace_of job) 0 (steps job.log - 0) e → AreInRange (trace_of job) 0 (steps job.log - 0)
       → rows_of e (answer_to [] []) ≡ rows_as_written q (trace_of job)
   rows_of_job job is within =
-      let long : length (trace_of job) ≡ steps job.log = length-steps_from (steps job.log) (start job.start job.log) in
+      let cut = ends_whole (length (trace_of job)) (steps job.log) (trace_long job) in
       sym (append-nil (rows_of e (answer_to [] [])))
-      ∙ join_gives_rows q (trace_of job) (steps job.log ∷ []) (e ∷ []) (all_in_range (trace_of job) (steps job.log - 0) (omega (arith, long)) within) located
-      (ends_whole (length (trace_of job)) (steps job.log) long) (is, tt)
+      ∙ join_gives_rows q (trace_of job) (steps job.log ∷ []) (e ∷ []) (all_in_range (trace_of job) (steps job.log ∷ []) cut (within, tt)) located
+      cut (is, tt)
 
   -- what was found of a whole run by a cursor at its start, where nothing was asked, has the run's rows
   pub rows_of_whole : (job : Job) (from : CursorAt) (ticket : NumberedEpoch) (asked : List Loc) (answers : List (List SourceByte))
