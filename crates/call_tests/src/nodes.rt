@@ -138,7 +138,7 @@ fn leaves_between(
     if before < size && node < size && after < size {
         let mut many = ManyTerms::new(alloc);
         many.read(log, &[before, node, after])?;
-        many.swap(1, &mut reader);
+        many.copy(1, &mut reader)?;
     }
     Ok(reader.leaves(alloc)?)
 }

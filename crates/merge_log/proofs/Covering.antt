@@ -67,14 +67,14 @@ added_now masks n mask r h k =
     added_bit masks n mask r n refl h ∙ bit_at_or (slice_index masks n) mask r ∙ most
 
 -- the first roots have their bits in the masks of their nodes, and no other bit is set
-pub record AreRoots (size : ℕ) (roots masks : List ℕ) (count : ℕ) : Type 0 where
-  pub above : IsClearFrom masks (size + 1)
+pub record AreRoots (past : ℕ) (roots masks : List ℕ) (count : ℕ) : Type 0 where
+  pub above : IsClearFrom masks past
   pub only : (r m : ℕ) → HasBit masks r m → (r < count) × (m ≡ slice_index roots r)
   pub all : (r : ℕ) → r < count → HasBit masks r (slice_index roots r)
 
-pub root_added : (size : ℕ) (roots masks : List ℕ) (root n : ℕ) → n ≡ slice_index roots root → root < 64 → n ≤ size → size < length masks → AreRoots size roots masks root → AreRoots size roots (added masks n (1 * 2 ^ root % 2 ^ 64)) (root + 1)
-root_added size roots masks root n is few within room a = record {
-  above = λ m h. get_or-set_other masks n m (bit_or (slice_index masks n) (1 * 2 ^ root % 2 ^ 64)) 0 (λ e. absurd (omega (arith, e, h, within))) ∙ a.above m h;
+pub root_added : (past : ℕ) (roots masks : List ℕ) (root n : ℕ) → n ≡ slice_index roots root → root < 64 → n < length masks → AreRoots past roots masks root → AreRoots (max (n + 1) past) roots (added masks n (1 * 2 ^ root % 2 ^ 64)) (root + 1)
+root_added past roots masks root n is few n_in a = record {
+  above = λ m h. get_or-set_other masks n m (bit_or (slice_index masks n) (1 * 2 ^ root % 2 ^ 64)) 0 (λ e. absurd (omega (arith, e, h))) ∙ a.above m (omega (arith, h));
   only = λ r m h. elim (number_case r root) [
     | inl e ↦ elim (number_case m n) [
       | inl d ↦ (omega (arith, e), d ∙ is ∙ ap (slice_index roots) (sym e))
@@ -88,9 +88,6 @@ root_added size roots masks root n is few within room a = record {
     | inr e ↦ added_on masks n (1 * 2 ^ root % 2 ^ 64) r (slice_index roots r) n_in (a.all r (omega (arith, h, e)))
   ];
 } where
-  n_in : n < length masks
-  n_in = omega (arith, within, room)
-
   later : (r m : ℕ) → (r < root) × (m ≡ slice_index roots r) → (r < root + 1) × (m ≡ slice_index roots r)
   later r m p = (omega (arith, p.0), p.1)
 

@@ -49,11 +49,6 @@ empty_first [] n h r = refl
 empty_first (g ∷ fs) n h zero = h zero (omega arith)
 empty_first (g ∷ fs) n h (suc r) = empty_first fs n (λ i l. h (suc i) (omega (arith, l))) r
 
-pub map_set : (fs : List Found) (i : ℕ) (f : Found) → map terms_of (slice_set fs i f) ≡ slice_set (map terms_of fs) i (terms_of f)
-map_set [] i f = refl
-map_set (g ∷ fs) zero f = refl
-map_set (g ∷ fs) (suc i) f = ap (λ (ts : List Terms). terms_of g ∷ ts) (map_set fs i f)
-
 -- each set is what a root has
 pub map_found : (fs : List Found) (roots : List ℕ) (G : ℕ → Terms) → length fs ≡ length roots → ((r : ℕ) → r < length roots → found_at fs r ≡ G (slice_index roots r)) → map terms_of fs ≡ map G roots
 map_found [] [] G e h = refl

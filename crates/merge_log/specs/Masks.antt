@@ -19,6 +19,10 @@ pub record AreMarked (masks : List ℕ) (blocks : List Bool) : Type 0 where
 abbrev pub IsClearFrom : List ℕ → ℕ → Type 0
 IsClearFrom masks past = (m : ℕ) → past ≤ m → slice_index masks m ≡ 0
 
+-- no node below `first` has a mask
+abbrev pub IsClearBelow : List ℕ → ℕ → Type 0
+IsClearBelow masks first = (m : ℕ) → m < first → slice_index masks m ≡ 0
+
 -- the mask of a node has the bit of a root
 abbrev pub HasBit : List ℕ → ℕ → ℕ → Type 0
 HasBit masks r m = bit_at (slice_index masks m) r ≡ 1

@@ -1,6 +1,6 @@
 //! Readers of the terms of many nodes at once.
 
-ghost use Rattle.std.specs.Prelude.{◌≡◌, ◌<◌, ◌≤◌, [], All, Some, length, map, slice_get, slice_set, OnOk};
+ghost use Rattle.std.specs.Prelude.{◌≡◌, ◌<◌, ◌≤◌, [], All, Some, length, map, slice_get, OnOk};
 ghost use Rattle.merge_log.specs.Log.{IsNode, terms};
 
 use crate::masks::Masks;
@@ -66,12 +66,11 @@ impl ManyTerms {
         Ok(())
     }
 
-    /// Hands the terms of the node of this number to a reader, for those that it had.
-    pub fn swap(&mut self, number: usize, reader: &mut TermsReader)
-        requires { number < length self.old }
-        ensures taken { slice_get self.old number ≡ Some reader.new }
-        ensures given { self.new ≡ slice_set self.old number reader.old }
+    /// Copies the terms of the node of this number to a reader. When out of memory it may have copied part of them.
+    pub fn copy(&self, number: usize, reader: &mut TermsReader) -> Result<(), NoMemory>
+        requires { number < length self.now }
+        ensures { OnOk result (slice_get self.now number ≡ Some reader.new) }
     {
-        reader.swap_found(&mut self.found[number]);
+        reader.copy_found(&self.found[number])
     }
 }

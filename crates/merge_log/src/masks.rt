@@ -2,7 +2,7 @@
 
 ghost use Rattle.std.specs.Prelude.{◌≡◌, ◌+◌, ◌^◌, ◌<◌, ◌≤◌, [], None, length, IfSome, OnOk, slice_index, slice_set};
 ghost use Rattle.std.specs.Int.RustNames.{bit_or};
-ghost use Rattle.merge_log.specs.Masks.{AreMarked, IsClearFrom};
+ghost use Rattle.merge_log.specs.Masks.{AreMarked, IsClearBelow, IsClearFrom};
 
 use no_memory::NoMemory;
 use std::alloc::Global;
@@ -16,7 +16,10 @@ const BLOCK: usize = 64;
 pub struct Masks {
     masks: Vec<u64>,
     blocks: Vec<bool>,
+    // No node below it has a mask.
+    first: usize,
     ghost marked: { AreMarked masks.items blocks.items },
+    ghost below: { IsClearBelow masks.items first },
 }
 
 impl Masks {
@@ -27,6 +30,7 @@ impl Masks {
         Masks {
             masks: Vec::new(alloc),
             blocks: Vec::new(alloc),
+            first: 0,
         }
     }
 
@@ -40,6 +44,7 @@ impl Masks {
             self.blocks.resize(size / BLOCK + 1, false)?;
             self.masks.resize(size, 0)?;
         }
+        self.first = size;
         Ok(())
     }
 
@@ -51,6 +56,7 @@ impl Masks {
     {
         self.masks[node as usize] |= mask;
         self.blocks[node as usize / BLOCK] = true;
+        self.first = self.first.min(node as usize);
     }
 
     /// Takes the mask of a node, which then has none.
@@ -74,7 +80,7 @@ impl Masks {
         ensures none { result ≡ None → IsClearFrom self.new.masks.items 0 }
     {
         let mut past = limit;
-        while past > 0 {
+        while past > self.first {
             if past % BLOCK == 0 && !self.blocks[past / BLOCK - 1] {
                 past -= BLOCK;
             } else if self.masks[past - 1] == 0 {

@@ -12,7 +12,6 @@ use flow_model::{Loc, SourceByte};
 use no_memory::NoMemory;
 use std::alloc::Global;
 use std::marker::Model;
-use std::mem;
 
 /// A leaf of a node: a source byte, or a location at the start.
 #[derive(Clone, Copy, Debug, PartialEq, Eq)]
@@ -90,12 +89,15 @@ impl TermsReader {
         Ok(())
     }
 
-    /// Changes what was read for what was found otherwise.
-    pub(crate) fn swap_found(&mut self, found: &mut Found)
-        ensures read { self.new ≡ terms_of found.old }
-        ensures given { terms_of found.new ≡ self.old }
+    /// Takes what was found otherwise for what was read.
+    pub(crate) fn copy_found(&mut self, found: &Found) -> Result<(), NoMemory>
+        ensures { OnOk result (self.new ≡ terms_of found.now) }
     {
-        mem::swap(&mut self.found, found);
+        self.found.sources.clear();
+        self.found.starts.clear();
+        self.found.sources.extend_from_slice(&found.sources)?;
+        self.found.starts.extend_from_slice(&found.starts)?;
+        Ok(())
     }
 
     /// Reads the leaves under a node of a log, by one visit to each node under it. When out of memory, it may

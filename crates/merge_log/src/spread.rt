@@ -33,8 +33,7 @@ pub fn walk_many(
     ensures found { OnOk result (AreFound log.now roots.now found.new.items) }
 {
     log.form();
-    add_roots(log, roots, masks);
-    let mut past = log.size() as usize;
+    let mut past = add_roots(log, roots, masks);
     while let Some(node) = masks.last_below(past) {
         past = node as usize;
         let mask = masks.take(node);
@@ -45,21 +44,25 @@ pub fn walk_many(
     Ok(())
 }
 
-/// Gives each root its bit in the mask of its node.
-fn add_roots(log: &MergeLog, roots: &[Node], masks: &mut Masks)
+/// Gives each root its bit in the mask of its node. No node from the answer on has a mask.
+fn add_roots(log: &MergeLog, roots: &[Node], masks: &mut Masks) -> usize
     requires few { length roots.now ≤ 64 }
     requires stand { All (IsNode log.now) roots.now }
     requires room { length log.now < length masks.old.masks.items }
     requires clear { IsClearFrom masks.old.masks.items 0 }
     ensures room { length masks.new.masks.items ≡ length masks.old.masks.items }
-    ensures above { IsClearFrom masks.new.masks.items (length log.now + 1) }
+    ensures past { result ≤ length log.now + 1 }
+    ensures above { IsClearFrom masks.new.masks.items result }
     ensures only { (r m : ℕ) → HasBit masks.new.masks.items r m → m ≡ slice_index roots.now r }
     ensures all { (r : ℕ) → r < length roots.now → HasBit masks.new.masks.items r (slice_index roots.now r) }
 {
     log.form(); // so that nodes fit into 32 bits
+    let mut past = 0;
     for root in 0..roots.len() {
         masks.add(roots[root] as u32, 1 << root);
+        past = (roots[root] as usize + 1).max(past);
     }
+    past
 }
 
 /// Visits a node whose mask was taken: its leaf is found for the roots of the mask, or its operands are left for them.

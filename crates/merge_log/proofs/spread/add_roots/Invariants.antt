@@ -1,4 +1,4 @@
-use Rattle.std.proofs.Common.{◌≡◌, ◌+◌, ◌<◌, ℕ, length, slice_index}
+use Rattle.std.proofs.Common.{◌≡◌, ◌+◌, ◌<◌, ◌≤◌, ℕ, length, slice_index}
 use Rattle.merge_log.specs.Masks.{HasBit, IsClearFrom}
 use Rattle.merge_log.proofs.spread.add_roots.Given as goal
 
@@ -6,7 +6,8 @@ use Rattle.merge_log.proofs.spread.add_roots.Given as goal
 abbrev pub invariant-loop-root : goal.invariant-loop-root
 invariant-loop-root l = record {
   room : length l.masks.masks.items ≡ length l.fn.masks.masks.items;
-  above : IsClearFrom l.masks.masks.items (length l.log + 1);
+  past : l.past ≤ length l.log + 1;
+  above : IsClearFrom l.masks.masks.items l.past;
   only : (r m : ℕ) → HasBit l.masks.masks.items r m → (r < l.root) × (m ≡ slice_index l.roots r);
   all : (r : ℕ) → r < l.root → HasBit l.masks.masks.items r (slice_index l.roots r);
 }
