@@ -1,7 +1,8 @@
 -- Rows, one by one.
-use Rattle.std.proofs.Common.{◌≡◌, ℕ, zero, suc, ◌+◌, ◌-◌, ◌<◌, List, [], ◌∷◌, ◌++◌, map, take, length, get_or, slice_get, Bor, refl, ap, ap₂, sym, arith, ◌∙◌}
+use Rattle.std.proofs.Common.{◌≡◌, ℕ, zero, suc, ◌+◌, ◌-◌, ◌<◌, List, [], ◌∷◌, ◌++◌, map, take, length, get_or, slice_get, ◌==◌, true, Bor, refl, ap, ap₂, sym, arith, ◌∙◌}
 use Rattle.std.specs.Prelude.{Option, Some, None, IfSome}
 use Rattle.std.specs.Option.{option_copied, option_map}
+use Rattle.std.proofs.lemmas.Grind.{common_steps}
 use Rattle.std.proofs.lemmas.List.{length-take-le, get_or-take}
 use Rattle.std.proofs.lemmas.Option.{slice_get_within, slice_get_read, get_or_from_slice_get}
 use Rattle.flow_model.specs.declared.Loc.{Loc}
@@ -10,6 +11,11 @@ use Rattle.flow_model.specs.declared.SinkPoint.{SinkPoint}
 use Rattle.report_model.specs.Rows.{Row}
 use Rattle.epoch_model.specs.Summary.{SinkTerms}
 use Rattle.epoch_model.specs.Join.{resolved, resolved_row}
+
+-- a list of no length has no member
+pub none_in : {X : Type 0} (xs : List X) → (length xs == 0) ≡ true → xs ≡ []
+none_in [] e = refl
+none_in (x ∷ xs) e = absurd (grind (arith, common_steps))
 
 pub take_next : {X : Type 0} (xs : List X) (i : ℕ) (x : X) → slice_get xs i ≡ Some x → take (i + 1) xs ≡ take i xs ++ x ∷ []
 take_next [] i x e = cc

@@ -1,13 +1,18 @@
 //! The rows of an epoch.
 
 ghost use Rattle.std.specs.Prelude.{◌≡◌, ◌<◌, ◌-◌, Some, length, slice_get, IfOk, IfSome};
-ghost use Rattle.epoch_model.specs.Join.{answer_to, rows_of};
+ghost use Rattle.epoch_model.specs.Join.{answer_to, resolved as resolved_terms, rows_of};
+ghost use Rattle.flow_model.specs.Orders.{source_cmp};
+ghost use Rattle.merge_log.specs.Log.{AreSets};
+ghost use Rattle.sorted_set.specs.Sets.{Ascends};
+ghost use Rattle.local_taint.specs.Ahead.{IsAhead};
 ghost use Rattle.local_taint.specs.Summaries.{summary_of};
+ghost use Rattle.local_taint.specs.Words.{as_terms};
 
 use crate::answers::Answers;
 use crate::resolving::resolved;
-use flow_model::SinkPoint;
-use local_taint::{Asked, Summary};
+use flow_model::SourceByte;
+use local_taint::{Asked, SinksAhead, Summary};
 use merge_log::TermsReader;
 use no_memory::NoMemory;
 use sink_collect::SinkSet;
@@ -25,8 +30,12 @@ pub fn rows(
     ensures { IfOk result (λ rows. rows.items ≡ rows_of (summary_of summary.now) (answer_to asked.now answers.now)) }
 {
     let mut rows = Vec::with_capacity(alloc, summary.sink_count())?;
+    let mut ahead = SinksAhead::new(alloc);
     for number in 0..summary.sink_count() {
-        let next = row(alloc, reader, summary, number, rows.last(), asked, answers)?;
+        let before = rows.last();
+        let next = row(
+            alloc, &mut ahead, reader, summary, number, before, asked, answers,
+        )?;
         rows.push(next)?;
     }
     Ok(rows)
@@ -36,6 +45,7 @@ pub fn rows(
 /// two share their terms.
 fn row(
     alloc: Global,
+    ahead: &mut SinksAhead,
     reader: &mut TermsReader,
     summary: &Summary,
     number: usize,
@@ -44,24 +54,44 @@ fn row(
     answers: &Answers,
 ) -> Result<SinkSet, NoMemory>
     requires inside { number < length (summary_of summary.now).sinks }
+    requires ahead { IsAhead summary.now ahead.old }
     requires before { IfSome before (λ last. slice_get (rows_of (summary_of summary.now) (answer_to asked.now answers.now)) (number - 1) ≡ Some last.now) }
-    ensures { IfOk result (λ row. slice_get (rows_of (summary_of summary.now) (answer_to asked.now answers.now)) number ≡ Some row) }
+    ensures ahead { IsAhead summary.now ahead.new }
+    ensures row { IfOk result (λ row. slice_get (rows_of (summary_of summary.now) (answer_to asked.now answers.now)) number ≡ Some row) }
 {
     if let Some(last) = before {
         if summary.shares_terms(number) {
-            return again(alloc, summary.sink(number), last);
+            let sources = copied(alloc, last.sources())?;
+            return Ok(SinkSet::new(summary.sink(number), sources));
         }
     }
-    summary.sink_terms(reader, number)?;
-    let sources = resolved(alloc, reader, asked, answers)?;
+    summary.sink_terms_ahead(ahead, reader, number)?;
+    let sources = sources_of(alloc, reader, asked, answers)?;
     Ok(SinkSet::new(summary.sink(number), sources))
 }
 
-/// The row of a sink that has the terms of the one before it, by the row of that.
-fn again(alloc: Global, sink: SinkPoint, before: &SinkSet) -> Result<SinkSet, NoMemory>
-    ensures { IfOk result (λ row. row ≡ record { sink = sink; sources = before.now.sources }) }
+/// The source bytes of terms, which are sets: those of the terms alone, where no start location is among these.
+fn sources_of(
+    alloc: Global,
+    terms: &TermsReader,
+    asked: &Asked,
+    answers: &Answers,
+) -> Result<Vec<SourceByte>, NoMemory>
+    requires { AreSets terms.now }
+    ensures value { IfOk result (λ all. all.items ≡ resolved_terms (answer_to asked.now answers.now) (as_terms terms.now)) }
+    ensures ascending { IfOk result (λ all. Ascends source_cmp all.items) }
 {
-    let mut sources = Vec::with_capacity(alloc, before.sources().len())?;
-    sources.extend_from_slice(before.sources())?;
-    Ok(SinkSet::new(sink, sources))
+    if terms.starts().is_empty() {
+        return copied(alloc, terms.sources());
+    }
+    resolved(alloc, terms, asked, answers)
+}
+
+/// The same source bytes, in no more room than they need.
+fn copied(alloc: Global, sources: &[SourceByte]) -> Result<Vec<SourceByte>, NoMemory>
+    ensures { IfOk result (λ copy. copy.items ≡ sources.now) }
+{
+    let mut copy = Vec::with_capacity(alloc, sources.len())?;
+    copy.extend_from_slice(sources)?;
+    Ok(copy)
 }

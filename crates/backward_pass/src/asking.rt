@@ -4,13 +4,14 @@ ghost use Rattle.std.specs.Prelude.{◌≡◌, ◌<◌, length, take, Some, fals
 ghost use Rattle.epoch_model.specs.Crossing.{added_all};
 ghost use Rattle.stream_model.specs.Streams.{places_up_to, places_needed};
 ghost use Rattle.stream_model.specs.Passes.{asked_more};
+ghost use Rattle.local_taint.specs.Ahead.{IsAhead};
 ghost use Rattle.local_taint.specs.Summaries.{summary_of};
 ghost use Rattle.pass_parts.specs.Known.{known};
 ghost use Rattle.pass_parts.specs.Requests.{IsCounted, AreCounted};
 ghost use Rattle.backward_pass.specs.Backward.{AreAsked, IsWalked, IsRequested};
 
 use flow_rule::Loc;
-use local_taint::{Asked, Summary};
+use local_taint::{Asked, SinksAhead, Summary};
 use merge_log::TermsReader;
 use no_memory::NoMemory;
 use pass_parts::{Request, Requests, read_end_terms, share_end_terms};
@@ -45,19 +46,22 @@ fn add_starts(reader: &TermsReader, asked: &mut Asked) -> Result<usize, NoMemory
 /// label of the one before it nothing more. When out of memory, part of it may be asked.
 pub(crate) fn add_sink(
     summary: &Summary,
+    ahead: &mut SinksAhead,
     reader: &mut TermsReader,
     number: usize,
     first: bool,
     asked: &mut Asked,
 ) -> Result<(), NoMemory>
     requires inside { number < length (summary_of summary.now).sinks }
+    requires ahead { IsAhead summary.now ahead.old }
     requires walked { first ≡ false → AreAsked asked.old (take number (summary_of summary.now).sinks) }
-    ensures { OnOk result (IsWalked first (summary_of summary.now).sinks number asked.old asked.new) }
+    ensures ahead { IsAhead summary.now ahead.new }
+    ensures walked { OnOk result (IsWalked first (summary_of summary.now).sinks number asked.old asked.new) }
 {
     if first || summary.shares_terms(number) {
         return Ok(());
     }
-    summary.sink_terms(reader, number)?;
+    summary.sink_terms_ahead(ahead, reader, number)?;
     add_starts(reader, asked)?;
     Ok(())
 }

@@ -1,16 +1,16 @@
 //! The pass backwards, event by event.
 
 ghost use Rattle.std.specs.Prelude.{◌≡◌, [], true, false};
-ghost use Rattle.pass_parts.specs.declared.knowledge.Knowledge.TheVariants.{Broken};
 ghost use Rattle.pass_parts.specs.Ends.{IsEndFrom, Seen, fresh_end};
 ghost use Rattle.pass_parts.specs.Events.{IsEventOver, HasWaited};
-ghost use Rattle.pass_parts.specs.Knowing.{summary_in};
-ghost use Rattle.backward_pass.specs.Backward.{back_of, new_back, IsFit, Keeps, Reached, backwards, HasWalked, Walks, Takes, IsNextBack};
+ghost use Rattle.std.specs.Option.{ForSome};
+ghost use Rattle.local_taint.specs.Ahead.{IsAhead};
+ghost use Rattle.backward_pass.specs.Ahead.{read_summary};
 
 use crate::asking::{add_request, add_sink};
 use epoch_link::{Inlet, Outlet};
 use flow_rule::Message;
-use local_taint::{Asked, Summary};
+use local_taint::{Asked, SinksAhead, Summary};
 use merge_log::TermsReader;
 use pass_parts::{Knowledge, Next, PassTurn, Requests, pop_message, push_message};
 use std::alloc::Global;
@@ -28,6 +28,8 @@ pub struct Back {
     first: bool,
     last: bool,
     reader: TermsReader,
+    // Terms of the sinks that are walked next.
+    ahead: SinksAhead,
     // How many sinks are walked.
     walked: usize,
     // Nothing, where it is broken.
@@ -39,9 +41,12 @@ pub struct Back {
     heard: bool,
     // The End was sent.
     over: bool,
+    ghost of_epoch: { ForSome (read_summary epoch) (λ s. IsAhead s ahead) },
 }
 
 impl Back {
+    ghost use Rattle.backward_pass.specs.Backward.{back_of, new_back, IsFit, Keeps, Reached, backwards, HasWalked, Walks, Takes, IsNextBack};
+
     /// A pass that has asked nothing yet. Without a summary it is broken. It takes no memory.
     pub fn new(alloc: Global, summary: Option<Summary>, first: bool, last: bool) -> Back
         ensures made { back_of result ≡ new_back summary first last }
@@ -54,6 +59,7 @@ impl Back {
             first,
             last,
             reader: TermsReader::new(alloc),
+            ahead: SinksAhead::new(alloc),
             walked: 0,
             asked: Asked::new(alloc),
             pushed: 0,
@@ -80,7 +86,7 @@ impl Back {
 
     /// The pass breaks, and forgets what it asked.
     fn give_up(&mut self)
-        ensures { self.new ≡ record self.old { epoch = Broken (summary_in self.old.epoch); asked = [] } }
+        ensures { back_of self.new ≡ record (back_of self.old) { asked = []; whole = false } }
     {
         self.epoch.give_up();
         self.asked = Asked::new(self.alloc);
@@ -100,6 +106,7 @@ impl Back {
         }
         let Ok(()) = add_sink(
             summary,
+            &mut self.ahead,
             &mut self.reader,
             self.walked,
             self.first,

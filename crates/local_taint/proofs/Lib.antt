@@ -5,3 +5,4 @@ mod Between
 mod Following
 mod Alike
 mod Range
+mod Held

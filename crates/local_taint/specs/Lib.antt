@@ -4,3 +4,4 @@ pub mod Sinks
 pub mod Summaries
 pub mod Following
 pub mod Watched
+pub mod Ahead

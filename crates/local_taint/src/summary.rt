@@ -7,12 +7,13 @@ ghost use Rattle.taint_shadow.specs.Steps.{AreStanding};
 ghost use Rattle.local_taint.specs.Words.{label_words, as_terms};
 ghost use Rattle.local_taint.specs.Sinks.{AreNamed};
 
+use crate::ahead::SinksAhead;
 use crate::labels::Nodes;
 use crate::sinks::SinkLabel;
 use flow_model::{Loc, SinkPoint};
-use merge_log::TermsReader;
+use merge_log::{Node, TermsReader};
 use no_memory::NoMemory;
-use taint_shadow::Places;
+use taint_shadow::{LabelKind, Places};
 
 /// What the analysis of an epoch found: the terms of each location at the epoch's end, and the epoch's sinks with their
 /// terms, in the order of the run. A location that the epoch doesn't touch takes no room.
@@ -28,6 +29,7 @@ pub struct Summary {
 
 impl Summary {
     ghost use Rattle.local_taint.specs.Summaries.{number_of, summary_of, names_of, terms_of};
+    ghost use Rattle.local_taint.specs.Ahead.{IsAhead};
 
     /// The number of the epoch: 0 for the first.
     pub fn number(&self) -> u32
@@ -89,5 +91,32 @@ impl Summary {
         ensures ascending { OnOk result (AreSets reader.new) }
     {
         self.nodes.read(self.sinks[number].label, reader)
+    }
+
+    /// The same as [`Summary::sink_terms`], by terms that were read ahead: where those of this sink aren't among them,
+    /// they are read, and where sinks have many terms those of the next sinks with them, by one walk.
+    pub fn sink_terms_ahead(
+        &self,
+        ahead: &mut SinksAhead,
+        reader: &mut TermsReader,
+        number: usize,
+    ) -> Result<(), NoMemory>
+        requires inside { number < length (summary_of self.now).sinks }
+        requires ahead { IsAhead self.now ahead.old }
+        ensures ahead { IsAhead self.now ahead.new }
+        ensures read { OnOk result (slice_get (terms_of self.now) number ≡ Some (as_terms reader.new)) }
+        ensures ascending { OnOk result (AreSets reader.new) }
+    {
+        let label = self.sinks[number].label;
+        match label.kind() {
+            LabelKind::Node(node) => ahead.read(
+                &self.nodes,
+                node as Node,
+                &self.sinks,
+                number,
+                reader,
+            ),
+            LabelKind::Start(loc) => reader.read_start(loc),
+        }
     }
 }

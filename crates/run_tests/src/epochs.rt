@@ -8,7 +8,7 @@ use checkpoints::Checkpoints;
 use epoch_cut::cuts;
 use epoch_cut::laws::cut_times_are_cutting;
 use flow_model::{Loc, SinkByte, SinkPoint, SourceByte};
-use local_taint::{Summary, analyse};
+use local_taint::{SinksAhead, Summary, analyse};
 use merge_log::TermsReader;
 use query_lang::parse;
 use replayer::{Cursor, Next};
@@ -69,13 +69,24 @@ fn assert_read(rt: &impl Abort, reader: &TermsReader, sources: &[SourceByte], st
 }
 
 /// A sink of the whole run's summary is a byte that is written, and comes from the one of its own offset that is read.
-fn assert_sink(rt: &impl Abort, summary: &Summary, reader: &mut TermsReader, offset: u32) {
+fn assert_sink(
+    rt: &impl Abort,
+    alloc: Global,
+    summary: &Summary,
+    reader: &mut TermsReader,
+    offset: u32,
+) {
     let byte = SinkByte { channel: 1, offset };
     let source = SourceByte { channel: 0, offset };
     let at = offset as usize;
     assert!(rt; at < summary.sink_count());
     assert!(rt; summary.sink(at) == SinkPoint::Out(byte));
     summary.sink_terms(reader, at).expect(rt, "memory");
+    assert_read(rt, reader, &[source], &[]);
+    let mut ahead = SinksAhead::new(alloc);
+    summary
+        .sink_terms_ahead(&mut ahead, reader, at)
+        .expect(rt, "memory");
     assert_read(rt, reader, &[source], &[]);
 }
 
@@ -85,7 +96,7 @@ fn assert_summary(rt: &impl Abort, alloc: Global, summary: &Summary) {
     assert!(rt; summary.number() == 0);
     assert!(rt; summary.sink_count() == 4);
     for offset in 0..4 {
-        assert_sink(rt, summary, &mut reader, offset);
+        assert_sink(rt, alloc, summary, &mut reader, offset);
     }
     for (loc, sources, starts) in ENDS {
         summary.end_terms(&mut reader, loc).expect(rt, "memory");

@@ -8,8 +8,8 @@ use Rattle.backward_pass.proofs.Lists.{next_behind, sink_behind}
 use Rattle.backward_pass.proofs.asking.add_sink.Goals as goal
 use Rattle.backward_pass.proofs.asking.add_sink.Goals.{then-first-via-then-first, then-first-via-else-first+then-shares_terms}
 
-pub returns-then-first : goal.returns-then-first
-returns-then-first c =
+pub returns-then-first-clause-walked : goal.returns-then-first-clause-walked
+returns-then-first-clause-walked c =
     let ks = (summary_of c.args.summary.now).sinks in
     elim c.then-first.branch [
       | then-first-via-then-first w ↦
@@ -21,9 +21,9 @@ returns-then-first c =
           (shared_sink c.args.asked.now ks c.args.number (shares.not_first yes) c.requires.inside (shares.shared yes) (c.requires.walked w.if-first.false))
     ]
 
-pub returns : goal.returns
-returns c =
-    let next = sink_behind (summary_of c.args.summary.now).sinks c.args.number _ c.in_ok-sink_terms.ensures.read in
+pub returns-clause-walked : goal.returns-clause-walked
+returns-clause-walked c =
+    let next = sink_behind (summary_of c.args.summary.now).sinks c.args.number _ c.in_ok-sink_terms_ahead.ensures.read in
     record {
       sink = next.0;
       is = next.2;

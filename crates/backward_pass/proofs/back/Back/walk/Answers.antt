@@ -2,7 +2,7 @@ use Rattle.std.proofs.Common.{◌+◌, true, take, drop, ap, subst, ◌∙◌, a
 use Rattle.local_taint.specs.Summaries.{summary_of}
 use Rattle.pass_parts.specs.Known.{known}
 use Rattle.pass_parts.specs.Knowing.{is_whole, summary_in}
-use Rattle.backward_pass.specs.Backward.{back_of, AreAsked}
+use Rattle.backward_pass.specs.Backward.{AreAsked}
 use Rattle.backward_pass.proofs.Counts.{first_asked}
 use Rattle.backward_pass.proofs.Lists.{next_behind}
 use Rattle.backward_pass.proofs.back.Back.walk.Goals as goal
@@ -23,5 +23,5 @@ returns-in_default-add_sink-clause-walked c = λ _.
       sink = next.0;
       left = drop (s.walked + 1) (summary_of c.in-Whole.summary).sinks;
       next = ap (λ k. drop s.walked (known (summary_in k)).sinks) c.in-Whole.is ∙ next.1;
-      is = ap back_of c.give_up.ensures;
+      is = c.give_up.ensures;
     }

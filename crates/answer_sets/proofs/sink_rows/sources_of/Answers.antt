@@ -1,0 +1,23 @@
+use Rattle.std.proofs.Common.{◌≡◌, [], ap, sym, subst, ◌∙◌, List}
+use Rattle.std.proofs.lemmas.Result.{IfOk-weaker}
+use Rattle.flow_model.specs.declared.Loc.{Loc}
+use Rattle.flow_model.specs.Orders.{source_cmp}
+use Rattle.flow_model.specs.Origins.{union_over}
+use Rattle.flow_model.proofs.Orders.{source_total}
+use Rattle.sorted_set.specs.Sets.{Ascends, union}
+use Rattle.sorted_set.proofs.Algebra.{union-nil}
+use Rattle.epoch_model.specs.Join.{answer_to}
+use Rattle.answer_sets.proofs.Each.{none_in}
+use Rattle.answer_sets.proofs.sink_rows.sources_of.Goals as goal
+
+pub returns-then-is_empty-clause-value : goal.returns-then-is_empty-clause-value
+returns-then-is_empty-clause-value c =
+    let sources = c.args.terms.now.sources in
+    let before = answer_to c.args.asked.now c.args.answers.now in
+    let none : c.args.terms.now.starts ≡ [] = sym c.starts.ensures ∙ none_in c.starts.result.now (sym c.is_empty.ensures ∙ c.if-is_empty.true) in
+    let alone = ap (λ (ls : List Loc). union source_cmp sources (union_over before ls)) none ∙ union-nil source_total sources c.requires.sources in
+    IfOk-weaker c.copied.result _ _ (λ all is. is ∙ c.sources.ensures ∙ sym alone) c.copied.ensures
+
+pub returns-then-is_empty-clause-ascending : goal.returns-then-is_empty-clause-ascending
+returns-then-is_empty-clause-ascending c =
+    IfOk-weaker c.copied.result _ _ (λ all is. subst (Ascends source_cmp) (sym (is ∙ c.sources.ensures)) c.requires.sources) c.copied.ensures
