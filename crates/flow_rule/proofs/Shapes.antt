@@ -8,7 +8,8 @@ use Rattle.flow_model.specs.declared.Rule.{Rule}
 use Rattle.flow_model.specs.declared.Rule.TheVariants.{Copy, Compute, Index}
 use Rattle.flow_model.specs.Flow as model
 use Rattle.flow_rule.specs.declared.shape.Shape.{Shape}
-use Rattle.flow_rule.specs.declared.shape.Shape.TheVariants.{Move, AllLanes, Load, Store}
+use Rattle.flow_rule.specs.declared.shape.Shape.TheVariants.{Move, Mixed, Load, Store}
+use Rattle.flow_rule.specs.declared.shape.Mixing.TheVariants.{AllLanes}
 use Rattle.flow_rule.specs.Shapes.{targets_of, HasSizes, HasRegisters, computed_shape, moved_shape_or, base_of, fills_by}
 
 -- a shape has these targets, sizes in range, and registers in range where X holds
@@ -72,19 +73,19 @@ store_row rule a b place n sized = (stored_targets rule a b place n, sized, λ f
 pub alone : (a : ℕ) → model.all_lanes a 0 0 ≡ model.lanes a
 alone a = search rules
 
-alone_targets : (d a : ℕ) → targets_of (AllLanes d a 0) ≡ model.to_register d (λ i. model.lanes a)
+alone_targets : (d a : ℕ) → targets_of (Mixed AllLanes d a 0) ≡ model.to_register d (λ i. model.lanes a)
 alone_targets d a = ap (λ (ls : List Loc). model.to_register d (λ i. ls)) (alone a)
 
-pub alone_row : {X : Type 0} (d a : ℕ) → (X → (d < 32) × (a < 32)) → IsRow X (model.to_register d (λ i. model.lanes a)) (AllLanes d a 0)
+pub alone_row : {X : Type 0} (d a : ℕ) → (X → (d < 32) × (a < 32)) → IsRow X (model.to_register d (λ i. model.lanes a)) (Mixed AllLanes d a 0)
 alone_row d a small = (alone_targets d a, tt, λ x. ((small x).0, (small x).1, omega arith))
 
 -- the nine instructions that are computed from all lanes of both registers, and are no moves
-pub arithmetic : {s : Shape} (i : Instr) (rule : Rule) (place d a b : ℕ) → s ≡ computed_shape rule d (AllLanes d a b)
+pub arithmetic : {s : Shape} (i : Instr) (rule : Rule) (place d a b : ℕ) → s ≡ computed_shape rule d (Mixed AllLanes d a b)
     → (i ≡ Sub d a b) ⊎ ((i ≡ Mul d a b) ⊎ ((i ≡ Mulh d a b) ⊎ ((i ≡ Mulhsu d a b) ⊎ ((i ≡ Mulhu d a b) ⊎ ((i ≡ Div d a b) ⊎ ((i ≡ Divu d a b) ⊎ ((i ≡ Rem d a b) ⊎ (i ≡ Remu d a b))))))))
     → IsShapeOf rule place s i
 arithmetic {s} i rule place d a b same = by where
-  row : IsRow (FitsThree d a b) (model.to_register d (model.computed rule (model.all_lanes a b))) (computed_shape rule d (AllLanes d a b))
-  row = computed_row rule d (AllLanes d a b) (model.all_lanes a b) (λ f. f.0) (refl, tt, λ f. f)
+  row : IsRow (FitsThree d a b) (model.to_register d (model.computed rule (model.all_lanes a b))) (computed_shape rule d (Mixed AllLanes d a b))
+  row = computed_row rule d (Mixed AllLanes d a b) (model.all_lanes a b) (λ f. f.0) (refl, tt, λ f. f)
 
   by : (i ≡ Sub d a b) ⊎ ((i ≡ Mul d a b) ⊎ ((i ≡ Mulh d a b) ⊎ ((i ≡ Mulhsu d a b) ⊎ ((i ≡ Mulhu d a b) ⊎ ((i ≡ Div d a b) ⊎ ((i ≡ Divu d a b) ⊎ ((i ≡ Rem d a b) ⊎ (i ≡ Remu d a b))))))))
       → IsShapeOf rule place s i

@@ -6,7 +6,9 @@ use Rattle.flow_model.specs.declared.Rule.{Rule}
 use Rattle.flow_model.specs.declared.Rule.TheVariants.{Copy, Compute, Index}
 use Rattle.flow_model.specs.Flow.{Target, lane, to_register, to_memory, nothing, in_first_lane, each_lane, all_lanes, shifted_lanes, with_base, loaded_byte, sign_extended_byte}
 use Rattle.flow_rule.specs.declared.shape.Shape.{Shape}
-use Rattle.flow_rule.specs.declared.shape.Shape.TheVariants.{Nothing, Clear, Move, EachLane, AllLanes, ShiftedLanes, FirstLane, Load, Store}
+use Rattle.flow_rule.specs.declared.shape.Shape.TheVariants.{Nothing, Clear, Move, Mixed, Load, Store}
+use Rattle.flow_rule.specs.declared.shape.Mixing.{Mixing}
+use Rattle.flow_rule.specs.declared.shape.Mixing.TheVariants.{EachLane, AllLanes, ShiftedLanes, FirstLane}
 
 -- lane i of a load: the lanes above the bytes are empty, or filled with the sign of the highest one. The base counts as under
 -- the rule index; x0 has no lanes
@@ -14,14 +16,18 @@ abbrev pub loaded_lane : Bool → ℕ → ℕ → ℕ → ℕ → List Loc
 loaded_lane true base place size i = sign_extended_byte Index base place size i
 loaded_lane false base place size i = loaded_byte Index base place size i
 
+-- lane i of two registers that flow together
+abbrev pub mixed_lanes : Mixing → ℕ → ℕ → ℕ → List Loc
+mixed_lanes EachLane a b i = each_lane a b i
+mixed_lanes AllLanes a b i = all_lanes a b i
+mixed_lanes ShiftedLanes a b i = shifted_lanes a b i
+mixed_lanes FirstLane a b i = in_first_lane (all_lanes a b 0) i
+
 abbrev pub targets_of : Shape → List Target
 targets_of Nothing = []
 targets_of (Clear d) = to_register d nothing
 targets_of (Move d r) = to_register d (lane r)
-targets_of (EachLane d a b) = to_register d (each_lane a b)
-targets_of (AllLanes d a b) = to_register d (all_lanes a b)
-targets_of (ShiftedLanes d a b) = to_register d (shifted_lanes a b)
-targets_of (FirstLane d a b) = to_register d (in_first_lane (all_lanes a b 0))
+targets_of (Mixed mixing d a b) = to_register d (mixed_lanes mixing a b)
 targets_of (Load d base place size fills) = to_register d (loaded_lane fills base place size)
 targets_of (Store r base place size) = to_memory place size (λ i. with_base Index base (lane r i))
 
@@ -30,10 +36,7 @@ abbrev pub HasSizes : Shape → Type 0
 HasSizes Nothing = Unit {0}
 HasSizes (Clear d) = Unit {0}
 HasSizes (Move d r) = Unit {0}
-HasSizes (EachLane d a b) = Unit {0}
-HasSizes (AllLanes d a b) = Unit {0}
-HasSizes (ShiftedLanes d a b) = Unit {0}
-HasSizes (FirstLane d a b) = Unit {0}
+HasSizes (Mixed mixing d a b) = Unit {0}
 HasSizes (Load d base place size fills) = (1 ≤ size) × (size ≤ 4)
 HasSizes (Store r base place size) = (1 ≤ size) × (size ≤ 4)
 
@@ -42,10 +45,7 @@ abbrev pub HasRegisters : Shape → Type 0
 HasRegisters Nothing = Unit {0}
 HasRegisters (Clear d) = d < 32
 HasRegisters (Move d r) = (d < 32) × (r < 32)
-HasRegisters (EachLane d a b) = (d < 32) × (a < 32) × (b < 32)
-HasRegisters (AllLanes d a b) = (d < 32) × (a < 32) × (b < 32)
-HasRegisters (ShiftedLanes d a b) = (d < 32) × (a < 32) × (b < 32)
-HasRegisters (FirstLane d a b) = (d < 32) × (a < 32) × (b < 32)
+HasRegisters (Mixed mixing d a b) = (d < 32) × (a < 32) × (b < 32)
 HasRegisters (Load d base place size fills) = (d < 32) × (base < 32)
 HasRegisters (Store r base place size) = (r < 32) × (base < 32)
 
@@ -74,4 +74,4 @@ abbrev pub moved_shape_or : ℕ → ℕ → ℕ → Shape → Shape
 moved_shape_or d a b otherwise = if a == 0 then Move d b else if b == 0 then Move d a else otherwise
 
 abbrev pub added_shape : Rule → ℕ → ℕ → ℤ → Shape
-added_shape rule d a imm = if int_eq imm (pos 0) then Move d a else computed_shape rule d (AllLanes d a 0)
+added_shape rule d a imm = if int_eq imm (pos 0) then Move d a else computed_shape rule d (Mixed AllLanes d a 0)

@@ -24,26 +24,9 @@ pub enum Shape {
         rd: u8,
         rs: u8,
     },
-    /// Lane i comes from lane i of both registers.
-    EachLane {
-        rd: u8,
-        rs1: u8,
-        rs2: u8,
-    },
-    /// Each lane comes from all lanes of both registers.
-    AllLanes {
-        rd: u8,
-        rs1: u8,
-        rs2: u8,
-    },
-    /// Each lane comes from all lanes of the register that is shifted, and lane 0 of the one with the amount.
-    ShiftedLanes {
-        rd: u8,
-        rs1: u8,
-        rs2: u8,
-    },
-    /// Lane 0 comes from all lanes of both registers, and the other lanes become empty.
-    FirstLane {
+    /// The lanes of two registers flow together.
+    Mixed {
+        mixing: Mixing,
         rd: u8,
         rs1: u8,
         rs2: u8,
@@ -67,6 +50,19 @@ pub enum Shape {
     },
 }
 
+/// How the lanes of two registers flow together into those of a third.
+#[derive(Clone, Copy)]
+pub enum Mixing {
+    /// Lane i comes from lane i of both.
+    EachLane,
+    /// Each lane comes from all lanes of both.
+    AllLanes,
+    /// Each lane comes from all lanes of the first, which is shifted, and from lane 0 of the second, which has the amount.
+    ShiftedLanes,
+    /// Lane 0 comes from all lanes of both, and the other lanes become empty.
+    FirstLane,
+}
+
 /// The shape of an instruction's flow under a rule. `place` is the effective address of a load or a store; the places of
 /// their bytes wrap.
 #[inline(always)]
@@ -87,14 +83,14 @@ pub fn shape_of(instr: &Instr, place: u32, rule: Rule) -> Shape
 
         Instr::Addi { rd, rs1, imm } => added(rule, rd, rs1, imm),
         Instr::Add { rd, rs1, rs2 } => {
-            let sum = computed(rule, rd, Shape::AllLanes { rd, rs1, rs2 });
+            let sum = mixed(rule, Mixing::AllLanes, rd, rs1, rs2);
             moved_or(rd, rs1, rs2, sum)
         }
         Instr::Or { rd, rs1, rs2 } | Instr::Xor { rd, rs1, rs2 } => {
-            let bits = computed(rule, rd, Shape::EachLane { rd, rs1, rs2 });
+            let bits = mixed(rule, Mixing::EachLane, rd, rs1, rs2);
             moved_or(rd, rs1, rs2, bits)
         }
-        Instr::And { rd, rs1, rs2 } => computed(rule, rd, Shape::EachLane { rd, rs1, rs2 }),
+        Instr::And { rd, rs1, rs2 } => mixed(rule, Mixing::EachLane, rd, rs1, rs2),
         Instr::Andi { rd, rs1, .. } | Instr::Ori { rd, rs1, .. } | Instr::Xori { rd, rs1, .. } => {
             computed(rule, rd, Shape::Move { rd, rs: rs1 })
         }
@@ -107,20 +103,22 @@ pub fn shape_of(instr: &Instr, place: u32, rule: Rule) -> Shape
         | Instr::Div { rd, rs1, rs2 }
         | Instr::Divu { rd, rs1, rs2 }
         | Instr::Rem { rd, rs1, rs2 }
-        | Instr::Remu { rd, rs1, rs2 } => computed(rule, rd, Shape::AllLanes { rd, rs1, rs2 }),
+        | Instr::Remu { rd, rs1, rs2 } => mixed(rule, Mixing::AllLanes, rd, rs1, rs2),
         Instr::Slli { rd, rs1, .. } | Instr::Srli { rd, rs1, .. } | Instr::Srai { rd, rs1, .. } => {
-            computed(rule, rd, Shape::AllLanes { rd, rs1, rs2: 0 })
+            mixed(rule, Mixing::AllLanes, rd, rs1, 0)
         }
         Instr::Sll { rd, rs1, rs2 } | Instr::Srl { rd, rs1, rs2 } | Instr::Sra { rd, rs1, rs2 } => {
-            computed(rule, rd, Shape::ShiftedLanes { rd, rs1, rs2 })
+            mixed(rule, Mixing::ShiftedLanes, rd, rs1, rs2)
         }
-        Instr::Slt { rd, rs1, rs2 } | Instr::Sltu { rd, rs1, rs2 } => computed(
+        Instr::Slt { rd, rs1, rs2 } | Instr::Sltu { rd, rs1, rs2 } => mixed(
             rule,
+            Mixing::FirstLane,
             rd,
-            Shape::FirstLane { rd, rs1, rs2 },
+            rs1,
+            rs2,
         ),
         Instr::Slti { rd, rs1, .. } | Instr::Sltiu { rd, rs1, .. } => {
-            computed(rule, rd, Shape::FirstLane { rd, rs1, rs2: 0 })
+            mixed(rule, Mixing::FirstLane, rd, rs1, 0)
         }
 
         Instr::Lui { rd, .. }
@@ -149,6 +147,19 @@ fn computed(rule: Rule, rd: u8, shape: Shape) -> Shape
     }
 }
 
+/// What flows together is computed.
+fn mixed(rule: Rule, mixing: Mixing, rd: u8, rs1: u8, rs2: u8) -> Shape
+    ensures { result ≡ computed_shape rule rd (Shape.Mixed mixing rd rs1 rs2) }
+{
+    let shape = Shape::Mixed {
+        mixing,
+        rd,
+        rs1,
+        rs2,
+    };
+    computed(rule, rd, shape)
+}
+
 /// With x0 as a source the instruction is a move of the other one.
 fn moved_or(rd: u8, rs1: u8, rs2: u8, otherwise: Shape) -> Shape
     ensures { result ≡ moved_shape_or rd rs1 rs2 otherwise }
@@ -169,7 +180,7 @@ fn added(rule: Rule, rd: u8, rs1: u8, imm: i32) -> Shape
     if imm == 0 {
         Shape::Move { rd, rs: rs1 }
     } else {
-        computed(rule, rd, Shape::AllLanes { rd, rs1, rs2: 0 })
+        mixed(rule, Mixing::AllLanes, rd, rs1, 0)
     }
 }
 

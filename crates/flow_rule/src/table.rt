@@ -11,7 +11,7 @@ ghost use Rattle.flow_rule.specs.Shapes as shapes;
 
 use crate::flows::{Flow, Origins, Targets};
 use crate::locations::Locations;
-use crate::shape::{Shape, shape_of};
+use crate::shape::{Mixing, Shape, shape_of};
 use flow_model::Rule;
 use isa::{CallKind, Instr};
 
@@ -43,10 +43,12 @@ fn of_shape(shape: Shape) -> Flow
         Shape::Nothing => untouched(),
         Shape::Clear { rd } => to_register(rd, nothing()),
         Shape::Move { rd, rs } => to_register(rd, lane_by_lane(rs)),
-        Shape::EachLane { rd, rs1, rs2 } => to_register(rd, each_lane(rs1, rs2)),
-        Shape::AllLanes { rd, rs1, rs2 } => to_register(rd, all_lanes(rs1, rs2)),
-        Shape::ShiftedLanes { rd, rs1, rs2 } => to_register(rd, shifted_lanes(rs1, rs2)),
-        Shape::FirstLane { rd, rs1, rs2 } => to_register(rd, first_lane(rs1, rs2)),
+        Shape::Mixed {
+            mixing,
+            rd,
+            rs1,
+            rs2,
+        } => to_register(rd, mixed_lanes(mixing, rs1, rs2)),
         Shape::Load {
             rd,
             base,
@@ -106,6 +108,18 @@ fn lane_by_lane(number: u8) -> Origins
         Locations::lane(number, 2),
         Locations::lane(number, 3),
     ])
+}
+
+/// What flows together.
+fn mixed_lanes(mixing: Mixing, rs1: u8, rs2: u8) -> Origins
+    ensures { by_lane (origins_at result) ≡ by_lane (shapes.mixed_lanes mixing rs1 rs2) }
+{
+    match mixing {
+        Mixing::EachLane => each_lane(rs1, rs2),
+        Mixing::AllLanes => all_lanes(rs1, rs2),
+        Mixing::ShiftedLanes => shifted_lanes(rs1, rs2),
+        Mixing::FirstLane => first_lane(rs1, rs2),
+    }
 }
 
 /// Lane i from lane i of both registers.

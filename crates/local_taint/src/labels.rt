@@ -60,7 +60,7 @@ impl Nodes {
     }
 
     /// The label of the union of two labels' nodes.
-    #[inline(always)]
+    #[inline(never)]
     fn unite_nodes(&mut self, left: Label, right: Label) -> Result<Label, NoMemory>
         requires left { label_words.stands self.old left }
         requires right { label_words.stands self.old right }

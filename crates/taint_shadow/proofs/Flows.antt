@@ -5,16 +5,20 @@ use Rattle.flow_model.specs.declared.Loc.{Loc}
 use Rattle.flow_model.specs.declared.Loc.TheVariants.{Mem}
 use Rattle.flow_model.specs.declared.Rule.TheVariants.{Index}
 use Rattle.isa.specs.Machine.{wrap}
-use Rattle.flow_model.specs.Flow.{lanes, byte_of, with_base, in_first_lane}
-use Rattle.flow_rule.specs.Shapes.{loaded_lane}
+use Rattle.flow_model.specs.Flow.{lane, lanes, all_lanes, byte_of, with_base, in_first_lane}
+use Rattle.flow_model.specs.Orders.{loc_cmp}
+use Rattle.sorted_set.specs.Sets.{union}
+use Rattle.flow_rule.specs.declared.shape.Mixing.{Mixing}
+use Rattle.flow_rule.specs.declared.shape.Mixing.TheVariants.{EachLane, AllLanes, ShiftedLanes, FirstLane}
+use Rattle.flow_rule.specs.Shapes.{loaded_lane, mixed_lanes}
 use Rattle.taint_shadow.specs.declared.labels.Label.{Label}
 use Rattle.taint_shadow.specs.declared.lanes.Lanes.{Lanes}
 use Rattle.taint_shadow.specs.declared.places.Places.{Places}
 use Rattle.taint_shadow.specs.Labels.{LabelWords, Laws, MakesLabel, Makes, nothing_label}
-use Rattle.taint_shadow.specs.Lanes.{lane_at, alike, extended_lane, both_mean, Stand, MakesLanes}
-use Rattle.taint_shadow.specs.Places.{kept}
+use Rattle.taint_shadow.specs.Lanes.{lane_at, alike, clean, extended_lane, both_mean, Stand, MakesLanes}
+use Rattle.taint_shadow.specs.Places.{kept, origin_lane}
 use Rattle.taint_shadow.specs.Steps.{meaning_at, AreStanding, united_over, based_mean}
-use Rattle.taint_shadow.proofs.Meaning.{AreHere, either_here, lanes_here, union_here, each_of_four, alike_at, keeps_itself, keeps_then, both_made, nothing_with}
+use Rattle.taint_shadow.proofs.Meaning.{AreHere, either_here, lane_here, lane_made, lanes_mean, all_clean, lanes_here, union_here, each_of_four, alike_at, keeps_itself, keeps_then, both_made, nothing_with}
 
 -- ---- where origins lie
 
@@ -31,7 +35,17 @@ pub loaded_here : (fills : Bool) (base place size i : ℕ) → base < 32 → Are
 loaded_here true base place size i h = based_here base (byte_of place (if nat_lt i size then i else size - 1)) h (byte_here place (if nat_lt i size then i else size - 1))
 loaded_here false base place size i h = either_here (nat_lt i size) (with_base Index base (byte_of place i)) [] (based_here base (byte_of place i) h (byte_here place i)) tt
 
+pub mixed_here : (mixing : Mixing) (r s i : ℕ) → r < 32 → s < 32 → i < 4 → AreHere (mixed_lanes mixing r s i)
+mixed_here EachLane r s i h k l = union_here (lane r i) (lane s i) (lane_here r i h l) (lane_here s i k l)
+mixed_here AllLanes r s i h k l = union_here (lanes r) (lanes s) (lanes_here r h) (lanes_here s k)
+mixed_here ShiftedLanes r s i h k l = union_here (lanes r) (lane s 0) (lanes_here r h) (lane_here s 0 k (omega arith))
+mixed_here FirstLane r s i h k l = first_here (all_lanes r s 0) i (union_here (lanes r) (lanes s) (lanes_here r h) (lanes_here s k))
+
 module _ {A M : Type 0} (words : LabelWords A M) (laws : Laws words) where
+  -- one label in each lane
+  pub alike_made : (b : A) (m : M) (label : Label) → MakesLabel words b m label → (i : ℕ) → i < 4 → MakesLabel words b m (lane_at (alike label) i)
+  alike_made b m label made i h = subst (MakesLabel words b m) (sym (alike_at label i h)) made
+
   -- lanes that were cut off at a size stand
   pub cut_stand : (a : A) (x y : Lanes) (n : ℕ) → Stand words a x → ((i : ℕ) → i < 4 → lane_at y i ≡ extended_lane x n false i) → Stand words a y
   cut_stand a x y n s cut = record { at = λ i h. subst (words.stands a) (sym (cut i h)) (by i h (nat_lt i n)) } where
@@ -52,8 +66,38 @@ module _ {A M : Type 0} (words : LabelWords A M) (laws : Laws words) where
       (subst (MakesLabel words b words.nothing) (sym (cut 3 (omega arith))) (laws.of_nothing b))
 
   module _ (a : A) (p : Places) (standing : AreStanding words a p) where
-    over : List Loc → M
+    abbrev over : List Loc → M
     over ls = united_over words (meaning_at words a p) ls
+
+    -- where no lane of two registers has a label, what they make together has none
+    pub clean_mixed : (mixing : Mixing) (r s i : ℕ) → r < 32 → s < 32 → i < 4 → ((j : ℕ) → j < 4 → origin_lane p r j ≡ nothing_label)
+        → ((j : ℕ) → j < 4 → origin_lane p s j ≡ nothing_label) → MakesLabel words a (over (mixed_lanes mixing r s i)) nothing_label
+    clean_mixed mixing r s i h k l clean_r clean_s = by mixing where
+      none : MakesLabel words a words.nothing nothing_label
+      none = laws.of_nothing a
+
+      no_lane : (t j : ℕ) → t < 32 → j < 4 → ((n : ℕ) → n < 4 → origin_lane p t n ≡ nothing_label) → words.nothing ≡ over (lane t j)
+      no_lane t j small low is = sym none.means ∙ (lane_made words laws a p standing t j nothing_label small low (sym (is j low))).means
+
+      no_lanes : (t : ℕ) → t < 32 → ((n : ℕ) → n < 4 → origin_lane p t n ≡ nothing_label) → words.nothing ≡ over (lanes t)
+      no_lanes t small is = sym (all_clean words laws a clean refl) ∙ lanes_mean words laws a p standing t clean small (λ n low. alike_at nothing_label n low ∙ sym (is n low))
+
+      both : (xs ys : List Loc) → AreHere xs → AreHere ys → words.nothing ≡ over xs → words.nothing ≡ over ys → MakesLabel words a (over (union loc_cmp xs ys)) nothing_label
+      both xs ys here there e f = both_made words laws a p standing a xs ys words.nothing words.nothing nothing_label here there e f
+          (subst (λ m. MakesLabel words a m nothing_label) (sym (laws.with_nothing words.nothing laws.of_none)) none)
+
+      all : MakesLabel words a (over (all_lanes r s 0)) nothing_label
+      all = both (lanes r) (lanes s) (lanes_here r h) (lanes_here s k) (no_lanes r h clean_r) (no_lanes s k clean_s)
+
+      first : (b : Bool) → MakesLabel words a (over (if b then all_lanes r s 0 else [])) nothing_label
+      first true = all
+      first false = none
+
+      by : (m : Mixing) → MakesLabel words a (over (mixed_lanes m r s i)) nothing_label
+      by EachLane = both (lane r i) (lane s i) (lane_here r i h l) (lane_here s i k l) (no_lane r i h l clean_r) (no_lane s i k l clean_s)
+      by AllLanes = all
+      by ShiftedLanes = both (lanes r) (lane s 0) (lanes_here r h) (lane_here s 0 k (omega arith)) (no_lanes r h clean_r) (no_lane s 0 k (omega arith) clean_s)
+      by FirstLane = first (i == 0)
 
     -- x0 as a base adds nothing
     pub no_base : (base n : ℕ) (x : Lanes) → base ≡ 0 → n ≤ 4 → Stand words a x → MakesLanes words a n (based_mean words a p base x) a x

@@ -1,6 +1,7 @@
 pub mod Numbers
 pub mod Meaning
 mod Grown
+mod Notes
 mod Bytes
 mod Targets
 mod Flows

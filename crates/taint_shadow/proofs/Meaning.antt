@@ -16,7 +16,7 @@ use Rattle.taint_shadow.specs.declared.lanes.Lanes.{Lanes}
 use Rattle.taint_shadow.specs.declared.places.Places.{Places}
 use Rattle.taint_shadow.specs.Labels.{LabelWords, Laws, MakesLabel, KeepsLabels, Makes, nothing_label}
 use Rattle.taint_shadow.specs.Lanes.{lane_at, alike, clean, all_mean, both_mean, Stand, MakesLanes}
-use Rattle.taint_shadow.specs.Places.{kept, origin_lane}
+use Rattle.taint_shadow.specs.Places.{kept, origin_lane, origin_lanes}
 use Rattle.taint_shadow.specs.Steps.{meaning_at, AreStanding, Holds, united_over}
 
 -- what holds of the first four numbers holds of each below 4
@@ -29,6 +29,9 @@ each_of_four P a b c d (suc (suc (suc (suc i)))) h = absurd (omega (arith, h))
 
 pub alike_at : (l : Label) (i : ℕ) → i < 4 → lane_at (alike l) i ≡ l
 alike_at l = each_of_four (λ i. lane_at (alike l) i ≡ l) refl refl refl refl
+
+pub origins_at : (p : Places) (r i : ℕ) → i < 4 → lane_at (origin_lanes p r) i ≡ origin_lane p r i
+origins_at p r = each_of_four (λ i. lane_at (origin_lanes p r) i ≡ origin_lane p r i) refl refl refl refl
 
 -- all of some locations are in range
 abbrev pub AreHere : List Loc → Type 0

@@ -1,6 +1,6 @@
 pub mod Labels
 pub mod Lanes
 pub mod Memory
-pub mod Origins
+pub mod Notes
 pub mod Places
 pub mod Steps

@@ -23,6 +23,10 @@ pub record AreKept (p : Places) (f : Loc → Label) : Type 0 where
 abbrev pub origin_lane : Places → ℕ → ℕ → Label
 origin_lane p r i = if r == 0 then nothing_label else kept p (Reg r i)
 
+-- the same, as lanes
+abbrev pub origin_lanes : Places → ℕ → Lanes
+origin_lanes p r = record { first = origin_lane p r 0; second = origin_lane p r 1; third = origin_lane p r 2; fourth = origin_lane p r 3 }
+
 -- the labels of locations, with these for the lanes of a register: x0 keeps its own
 abbrev pub with_lanes : ℕ → Lanes → (Loc → Label) → Loc → Label
 with_lanes d x f (Reg r i) = if d == 0 then f (Reg r i) else if d == r then lane_at x i else f (Reg r i)

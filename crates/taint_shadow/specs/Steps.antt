@@ -10,9 +10,10 @@ use Rattle.flow_model.specs.Origins.{Policy, byte_at}
 use Rattle.flow_model.specs.Ranges.{IsLocation}
 use Rattle.flow_rule.specs.declared.shape.Shape.{Shape}
 use Rattle.flow_rule.specs.Shapes.{targets_of}
+use Rattle.taint_shadow.specs.declared.labels.Label.{Label}
 use Rattle.taint_shadow.specs.declared.lanes.Lanes.{Lanes}
 use Rattle.taint_shadow.specs.declared.places.Places.{Places}
-use Rattle.taint_shadow.specs.Labels.{LabelWords, KeepsLabels}
+use Rattle.taint_shadow.specs.Labels.{LabelWords, KeepsLabels, Makes}
 use Rattle.taint_shadow.specs.Lanes.{lane_at, MakesLanes}
 use Rattle.taint_shadow.specs.Places.{kept}
 
@@ -56,6 +57,14 @@ module _ {A M : Type 0} (words : LabelWords A M) where
 
   abbrev pub Turns : A → Places → A → Places → Shape → Type 0
   Turns old before new now shape = Turned old before new now (targets_of shape)
+
+  -- a label means what some locations have together
+  abbrev pub MakesOver : A → Places → List Loc → A → Label → Type 0
+  MakesOver old p ls new label = Makes words old (united_over (meaning_at old p) ls) new label
+
+  -- lane i means what its origins, as `from` gives them, have together
+  abbrev pub MakesFrom : A → Places → (ℕ → List Loc) → A → Lanes → Type 0
+  MakesFrom old p from new x = MakesLanes words old 4 (λ i. united_over (meaning_at old p) (from i)) new x
 
   -- what lane i means together with all lanes of a base register
   abbrev pub based_mean : A → Places → ℕ → Lanes → ℕ → M

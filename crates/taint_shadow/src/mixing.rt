@@ -32,9 +32,6 @@ pub(crate) fn unite_both<A: Labels>(
     requires other { Stand A.words labels.old other }
     ensures { IfOk result (Makes A.words labels.old (all_both_mean A.words labels.old one other) labels.new) }
 {
-    if one.are_clean() && other.are_clean() {
-        return Ok(Label::nothing());
-    }
     let left = unite_all(labels, one)?;
     let right = unite_all(labels, other)?;
     labels.unite(left, right)

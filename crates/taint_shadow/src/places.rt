@@ -1,11 +1,12 @@
 //! What locations are labelled with.
 
-ghost use Rattle.std.specs.Prelude.{◌≡◌, ◌<◌, ◌≤◌, ◌+◌, ℕ, length, IfOk, OnOk};
+ghost use Rattle.std.specs.Prelude.{◌≡◌, ◌<◌, ◌≤◌, ◌+◌, ℕ, length, IfOk, OnOk, IsTrue};
 ghost use Rattle.flow_model.specs.declared.Loc.TheVariants.{Reg, Mem};
 ghost use Rattle.flow_model.specs.Ranges.{IsLocation};
 ghost use Rattle.isa.specs.Machine.{wrap};
-ghost use Rattle.taint_shadow.specs.Labels.{start_label};
-ghost use Rattle.taint_shadow.specs.Lanes.{lane_at, alike};
+ghost use Rattle.taint_shadow.specs.Labels.{start_label, nothing_label};
+ghost use Rattle.taint_shadow.specs.Lanes.{lane_at, alike, clean};
+ghost use Rattle.taint_shadow.specs.Notes.{AreNoted};
 
 use crate::labels::Label;
 use crate::lanes::Lanes;
@@ -21,13 +22,16 @@ const REGISTERS: usize = 32;
 #[derive(Drop)]
 pub struct Places {
     registers: Vec<Lanes>,
+    // Whether a register, as an origin, may have a label.
+    labelled: [bool; REGISTERS],
     alloc: Global,
     memory: Regions,
     ghost lanes: { length registers.items ≡ 32 },
+    ghost noted: { AreNoted labelled registers.items },
 }
 
 impl Places {
-    ghost use Rattle.taint_shadow.specs.Places.{kept, AreKept, origin_lane, with_lanes, with_word};
+    ghost use Rattle.taint_shadow.specs.Places.{kept, AreKept, origin_lane, origin_lanes, with_lanes, with_word};
 
     /// Each location has the label of what it had at the start.
     pub fn new(alloc: Global) -> Result<Self, NoMemory>
@@ -37,8 +41,11 @@ impl Places {
         for number in 0..REGISTERS {
             registers.push(start_lanes(number as u8))?;
         }
+        let mut labelled = [true; REGISTERS];
+        labelled[0] = false;
         Ok(Places {
             registers,
+            labelled,
             alloc,
             memory: Vec::new(alloc),
         })
@@ -62,10 +69,32 @@ impl Places {
         requires { number < 32 }
         ensures { (i : ℕ) → i < 4 → lane_at result i ≡ origin_lane self.now number i }
     {
-        if number == 0 {
-            return Lanes::clean();
+        if self.labelled[number as usize] {
+            self.registers[number as usize]
+        } else {
+            Lanes::clean()
         }
-        self.registers[number as usize]
+    }
+
+    /// Whether no lane of a register, as an origin, has a label. It is told without a look at the lanes.
+    #[inline(always)]
+    pub(crate) fn is_clean(&self, number: u8) -> bool
+        requires { number < 32 }
+        ensures { IsTrue result → (i : ℕ) → i < 4 → origin_lane self.now number i ≡ nothing_label }
+    {
+        !self.labelled[number as usize]
+    }
+
+    /// Empties the lanes of a register; those of x0 stay as they are.
+    #[inline(always)]
+    pub(crate) fn clear(&mut self, number: u8)
+        requires { number < 32 }
+        ensures { AreKept self.new (with_lanes number clean (kept self.old)) }
+    {
+        if self.labelled[number as usize] {
+            self.registers[number as usize] = Lanes::clean();
+            self.labelled[number as usize] = false;
+        }
     }
 
     /// Labels the lanes of a register anew; those of x0 stay as they are.
@@ -76,6 +105,34 @@ impl Places {
     {
         if number > 0 {
             self.registers[number as usize] = lanes;
+            self.labelled[number as usize] = true;
+        }
+    }
+
+    /// The same. Of lanes that have no label it is noted that they are clean.
+    #[inline(always)]
+    pub(crate) fn put_lanes(&mut self, number: u8, lanes: Lanes)
+        requires { number < 32 }
+        ensures { AreKept self.new (with_lanes number lanes (kept self.old)) }
+    {
+        if lanes.are_clean() {
+            self.clear(number);
+        } else {
+            self.set_lanes(number, lanes);
+        }
+    }
+
+    /// Labels the lanes of a register as those of another; those of x0 stay as they are.
+    #[inline(always)]
+    pub(crate) fn copy_lanes(&mut self, number: u8, from: u8)
+        requires { (number < 32) × (from < 32) }
+        ensures { AreKept self.new (with_lanes number (origin_lanes self.old from) (kept self.old)) }
+    {
+        if self.is_clean(from) {
+            self.clear(number);
+        } else {
+            let lanes = self.lanes(from);
+            self.set_lanes(number, lanes);
         }
     }
 

@@ -1,84 +1,131 @@
 //! How the flow of an instruction turns what locations are labelled with, by its shape.
 
 ghost use Rattle.std.specs.Prelude.{◌<◌, ◌≤◌, IfOk, OnOk};
-ghost use Rattle.flow_rule.specs.Shapes.{HasRegisters, HasSizes};
+ghost use Rattle.flow_rule.specs.Shapes.{HasRegisters, HasSizes, mixed_lanes};
+ghost use Rattle.flow_model.specs.Flow.{each_lane, all_lanes, shifted_lanes};
 ghost use Rattle.taint_shadow.specs.Lanes.{Stand};
-ghost use Rattle.taint_shadow.specs.Steps.{AreStanding, Turns, MakesBased};
+ghost use Rattle.taint_shadow.specs.Steps.{AreStanding, Turns, MakesBased, MakesOver, MakesFrom};
 
-use crate::labels::Labels;
+use crate::labels::{Label, Labels};
 use crate::lanes::Lanes;
 use crate::mixing::{unite_all, unite_both, unite_lanes};
 use crate::places::Places;
-use flow_rule::Shape;
+use flow_rule::{Mixing, Shape};
 use no_memory::NoMemory;
 
-/// Lane i comes from lane i of both registers.
-fn mix_each<A: Labels>(
+/// The label of what all lanes of two registers have together.
+#[inline(always)]
+fn all_label<A: Labels>(
+    labels: &mut A,
+    places: &Places,
+    rs1: u8,
+    rs2: u8,
+) -> Result<Label, NoMemory>
+    requires registers { (rs1 < 32) × (rs2 < 32) }
+    requires standing { AreStanding A.words labels.old places.now }
+    ensures { IfOk result (MakesOver A.words labels.old places.now (all_lanes rs1 rs2 0) labels.new) }
+{
+    unite_both(labels, places.lanes(rs1), places.lanes(rs2))
+}
+
+/// The label of what all lanes of a register have together with lane 0 of another.
+#[inline(always)]
+fn shifted_label<A: Labels>(
+    labels: &mut A,
+    places: &Places,
+    rs1: u8,
+    rs2: u8,
+) -> Result<Label, NoMemory>
+    requires registers { (rs1 < 32) × (rs2 < 32) }
+    requires standing { AreStanding A.words labels.old places.now }
+    ensures { IfOk result (MakesOver A.words labels.old places.now (shifted_lanes rs1 rs2 0) labels.new) }
+{
+    let amount = Lanes::alike(places.lanes(rs2).first);
+    unite_both(labels, places.lanes(rs1), amount)
+}
+
+/// The labels of what the same lane of two registers has together.
+#[inline(always)]
+fn lane_labels<A: Labels>(
+    labels: &mut A,
+    places: &Places,
+    rs1: u8,
+    rs2: u8,
+) -> Result<Lanes, NoMemory>
+    requires registers { (rs1 < 32) × (rs2 < 32) }
+    requires standing { AreStanding A.words labels.old places.now }
+    ensures { IfOk result (MakesFrom A.words labels.old places.now (each_lane rs1 rs2) labels.new) }
+{
+    unite_lanes(labels, places.lanes(rs1), places.lanes(rs2))
+}
+
+/// The labels of what two registers' lanes make together.
+#[inline(always)]
+fn mixed<A: Labels>(
+    labels: &mut A,
+    places: &Places,
+    mixing: Mixing,
+    rs1: u8,
+    rs2: u8,
+) -> Result<Lanes, NoMemory>
+    requires registers { (rs1 < 32) × (rs2 < 32) }
+    requires standing { AreStanding A.words labels.old places.now }
+    ensures { IfOk result (MakesFrom A.words labels.old places.now (mixed_lanes mixing rs1 rs2) labels.new) }
+{
+    match mixing {
+        Mixing::EachLane => lane_labels(labels, places, rs1, rs2),
+        Mixing::AllLanes => {
+            let label = all_label(labels, places, rs1, rs2)?;
+            Ok(Lanes::alike(label))
+        }
+        Mixing::ShiftedLanes => {
+            let label = shifted_label(labels, places, rs1, rs2)?;
+            Ok(Lanes::alike(label))
+        }
+        Mixing::FirstLane => {
+            let label = all_label(labels, places, rs1, rs2)?;
+            Ok(Lanes::alike(label).extended(1, false))
+        }
+    }
+}
+
+/// Labels the lanes of a register with what two others' make together.
+fn mix_labels<A: Labels>(
     labels: &mut A,
     places: &mut Places,
+    mixing: Mixing,
     rd: u8,
     rs1: u8,
     rs2: u8,
 ) -> Result<(), NoMemory>
     requires registers { (rd < 32) × (rs1 < 32) × (rs2 < 32) }
     requires standing { AreStanding A.words labels.old places.old }
-    ensures { OnOk result (Turns A.words labels.old places.old labels.new places.new (Shape.EachLane rd rs1 rs2)) }
+    ensures { OnOk result (Turns A.words labels.old places.old labels.new places.new (Shape.Mixed mixing rd rs1 rs2)) }
 {
-    let lanes = unite_lanes(labels, places.lanes(rs1), places.lanes(rs2))?;
+    let lanes = mixed(labels, places, mixing, rs1, rs2)?;
     places.set_lanes(rd, lanes);
     Ok(())
 }
 
-/// Each lane comes from all lanes of both registers.
-fn mix_all<A: Labels>(
+/// The same. Where both registers are clean, so is what they make.
+#[inline(always)]
+fn mix<A: Labels>(
     labels: &mut A,
     places: &mut Places,
+    mixing: Mixing,
     rd: u8,
     rs1: u8,
     rs2: u8,
 ) -> Result<(), NoMemory>
     requires registers { (rd < 32) × (rs1 < 32) × (rs2 < 32) }
     requires standing { AreStanding A.words labels.old places.old }
-    ensures { OnOk result (Turns A.words labels.old places.old labels.new places.new (Shape.AllLanes rd rs1 rs2)) }
+    ensures { OnOk result (Turns A.words labels.old places.old labels.new places.new (Shape.Mixed mixing rd rs1 rs2)) }
 {
-    let label = unite_both(labels, places.lanes(rs1), places.lanes(rs2))?;
-    places.set_lanes(rd, Lanes::alike(label));
-    Ok(())
-}
-
-/// Each lane comes from all lanes of the register that is shifted, and lane 0 of the one with the amount.
-fn shift<A: Labels>(
-    labels: &mut A,
-    places: &mut Places,
-    rd: u8,
-    rs1: u8,
-    rs2: u8,
-) -> Result<(), NoMemory>
-    requires registers { (rd < 32) × (rs1 < 32) × (rs2 < 32) }
-    requires standing { AreStanding A.words labels.old places.old }
-    ensures { OnOk result (Turns A.words labels.old places.old labels.new places.new (Shape.ShiftedLanes rd rs1 rs2)) }
-{
-    let amount = Lanes::alike(places.lanes(rs2).first);
-    let label = unite_both(labels, places.lanes(rs1), amount)?;
-    places.set_lanes(rd, Lanes::alike(label));
-    Ok(())
-}
-
-/// Lane 0 comes from all lanes of both registers, and the other lanes become empty.
-fn compare<A: Labels>(
-    labels: &mut A,
-    places: &mut Places,
-    rd: u8,
-    rs1: u8,
-    rs2: u8,
-) -> Result<(), NoMemory>
-    requires registers { (rd < 32) × (rs1 < 32) × (rs2 < 32) }
-    requires standing { AreStanding A.words labels.old places.old }
-    ensures { OnOk result (Turns A.words labels.old places.old labels.new places.new (Shape.FirstLane rd rs1 rs2)) }
-{
-    let label = unite_both(labels, places.lanes(rs1), places.lanes(rs2))?;
-    places.set_lanes(rd, Lanes::alike(label).extended(1, false));
-    Ok(())
+    if places.is_clean(rs1) && places.is_clean(rs2) {
+        places.clear(rd);
+        return Ok(());
+    }
+    mix_labels(labels, places, mixing, rd, rs1, rs2)
 }
 
 /// What the lowest `size` lanes have, together with the base register where that counts.
@@ -134,7 +181,7 @@ fn load<A: Labels>(
     ensures { OnOk result (Turns A.words labels.old places.old labels.new places.new (Shape.Load rd base place size fills)) }
 {
     let lanes = add_base(labels, places, base, size, places.word(place))?;
-    places.set_lanes(rd, lanes.extended(size, fills));
+    places.put_lanes(rd, lanes.extended(size, fills));
     Ok(())
 }
 
@@ -172,18 +219,19 @@ pub(crate) fn turn_by_shape<A: Labels>(
     match shape {
         Shape::Nothing => Ok(()),
         Shape::Clear { rd } => {
-            places.set_lanes(rd, Lanes::clean());
+            places.clear(rd);
             Ok(())
         }
         Shape::Move { rd, rs } => {
-            let lanes = places.lanes(rs);
-            places.set_lanes(rd, lanes);
+            places.copy_lanes(rd, rs);
             Ok(())
         }
-        Shape::EachLane { rd, rs1, rs2 } => mix_each(labels, places, rd, rs1, rs2),
-        Shape::AllLanes { rd, rs1, rs2 } => mix_all(labels, places, rd, rs1, rs2),
-        Shape::ShiftedLanes { rd, rs1, rs2 } => shift(labels, places, rd, rs1, rs2),
-        Shape::FirstLane { rd, rs1, rs2 } => compare(labels, places, rd, rs1, rs2),
+        Shape::Mixed {
+            mixing,
+            rd,
+            rs1,
+            rs2,
+        } => mix(labels, places, mixing, rd, rs1, rs2),
         Shape::Load {
             rd,
             base,

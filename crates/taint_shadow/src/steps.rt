@@ -113,8 +113,10 @@ pub fn plain_step<A: Labels>(
     requires standing { AreStanding A.words labels.old places.old }
     ensures { OnOk result (Turned A.words labels.old places.old labels.new places.new (flow rule instr.now place)) }
 {
-    let shape = shape_of(instr, place, rule);
-    turn_by_shape(labels, places, shape)
+    match rule {
+        Rule::Copy => turn_by_shape(labels, places, shape_of(instr, place, Rule::Copy)),
+        Rule::Compute | Rule::Index => turn_by_shape(labels, places, shape_of(instr, place, rule)),
+    }
 }
 
 /// Goes on by one step: whatever the locations' labels meant before it, they mean what the step makes of that after it.

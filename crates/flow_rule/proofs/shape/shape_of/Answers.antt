@@ -1,7 +1,8 @@
 -- Each arm's shape is the row of its instructions, by what the parts ensure.
 use Rattle.std.proofs.Common.{arith, ap, ◌∙◌, refl, inl, inr}
 use Rattle.flow_model.specs.Flow as model
-use Rattle.flow_rule.specs.declared.shape.Shape.TheVariants.{Move, EachLane, AllLanes, ShiftedLanes, FirstLane}
+use Rattle.flow_rule.specs.declared.shape.Shape.TheVariants.{Move, Mixed}
+use Rattle.flow_rule.specs.declared.shape.Mixing.TheVariants.{EachLane, AllLanes, ShiftedLanes, FirstLane}
 use Rattle.flow_rule.specs.Shapes.{moved_shape_or}
 use Rattle.flow_rule.proofs.Shapes.{IsShapeOf, known, computed_row, moved_row, load_row, signed_row, store_row, alone, alone_row, arithmetic}
 use Rattle.flow_rule.proofs.shape.shape_of.Goals as goal
@@ -113,8 +114,8 @@ returns-in-Sb-clause-registers c = (sb c).2
 add : (c : goal.After-moved_or) → IsShapeOf c.args.rule c.args.place c.moved_or.result c.args.instr.now
 add c =
     let d = c.in-Add.rd in let a = c.in-Add.rs1 in let b = c.in-Add.rs2 in
-    known c.args.rule c.args.place (c.moved_or.ensures ∙ ap (moved_shape_or d a b) c.computed-sum.ensures) c.in-Add.is
-    (moved_row d a b _ (model.computed c.args.rule (model.all_lanes a b)) (λ f. f) (computed_row c.args.rule d (AllLanes d a b) (model.all_lanes a b) (λ f. f.0) (refl, tt, λ f. f)))
+    known c.args.rule c.args.place (c.moved_or.ensures ∙ ap (moved_shape_or d a b) c.mixed-sum.ensures) c.in-Add.is
+    (moved_row d a b _ (model.computed c.args.rule (model.all_lanes a b)) (λ f. f) (computed_row c.args.rule d (Mixed AllLanes d a b) (model.all_lanes a b) (λ f. f.0) (refl, tt, λ f. f)))
 
 pub returns-in-Add-clause-targets : goal.returns-in-Add-clause-targets
 returns-in-Add-clause-targets c = (add c).0
@@ -128,10 +129,10 @@ returns-in-Add-clause-registers c = (add c).2
 or : (c : goal.After-moved_or-in-Or) → IsShapeOf c.args.rule c.args.place c.moved_or-in-Or.result c.args.instr.now
 or c =
     let d = c.in-Or.rd in let a = c.in-Or.rs1 in let b = c.in-Or.rs2 in
-    let same = c.moved_or-in-Or.ensures ∙ ap (moved_shape_or d a b) c.computed-bits.ensures in
+    let same = c.moved_or-in-Or.ensures ∙ ap (moved_shape_or d a b) c.mixed-bits.ensures in
     elim c.in-Or.is [
-      | inl e ↦ known c.args.rule c.args.place same e (moved_row d a b _ (model.computed c.args.rule (model.each_lane a b)) (λ f. f) (computed_row c.args.rule d (EachLane d a b) (model.each_lane a b) (λ f. f.0) (refl, tt, λ f. f)))
-      | inr e ↦ known c.args.rule c.args.place same e (moved_row d a b _ (model.computed c.args.rule (model.each_lane a b)) (λ f. f) (computed_row c.args.rule d (EachLane d a b) (model.each_lane a b) (λ f. f.0) (refl, tt, λ f. f)))
+      | inl e ↦ known c.args.rule c.args.place same e (moved_row d a b _ (model.computed c.args.rule (model.each_lane a b)) (λ f. f) (computed_row c.args.rule d (Mixed EachLane d a b) (model.each_lane a b) (λ f. f.0) (refl, tt, λ f. f)))
+      | inr e ↦ known c.args.rule c.args.place same e (moved_row d a b _ (model.computed c.args.rule (model.each_lane a b)) (λ f. f) (computed_row c.args.rule d (Mixed EachLane d a b) (model.each_lane a b) (λ f. f.0) (refl, tt, λ f. f)))
     ]
 
 pub returns-in-Or-clause-targets : goal.returns-in-Or-clause-targets
@@ -143,10 +144,10 @@ returns-in-Or-clause-sizes c = (or c).1
 pub returns-in-Or-clause-registers : goal.returns-in-Or-clause-registers
 returns-in-Or-clause-registers c = (or c).2
 
-and : (c : goal.After-computed) → IsShapeOf c.args.rule c.args.place c.computed.result c.args.instr.now
+and : (c : goal.After-mixed) → IsShapeOf c.args.rule c.args.place c.mixed.result c.args.instr.now
 and c =
     let d = c.in-And.rd in let a = c.in-And.rs1 in let b = c.in-And.rs2 in
-    known c.args.rule c.args.place c.computed.ensures c.in-And.is (computed_row c.args.rule d (EachLane d a b) (model.each_lane a b) (λ f. f.0) (refl, tt, λ f. f))
+    known c.args.rule c.args.place c.mixed.ensures c.in-And.is (computed_row c.args.rule d (Mixed EachLane d a b) (model.each_lane a b) (λ f. f.0) (refl, tt, λ f. f))
 
 pub returns-in-And-clause-targets : goal.returns-in-And-clause-targets
 returns-in-And-clause-targets c = (and c).0
@@ -157,14 +158,14 @@ returns-in-And-clause-sizes c = (and c).1
 pub returns-in-And-clause-registers : goal.returns-in-And-clause-registers
 returns-in-And-clause-registers c = (and c).2
 
-andi : (c : goal.After-computed-in-Andi) → IsShapeOf c.args.rule c.args.place c.computed-in-Andi.result c.args.instr.now
+andi : (c : goal.After-computed) → IsShapeOf c.args.rule c.args.place c.computed.result c.args.instr.now
 andi c =
     let d = c.in-Andi.rd in let a = c.in-Andi.rs1 in
     elim c.in-Andi.is [
-      | inl e ↦ known c.args.rule c.args.place c.computed-in-Andi.ensures e.1 (computed_row c.args.rule d (Move d a) (model.lane a) (λ f. f.0) (refl, tt, λ f. (f.0, f.1)))
+      | inl e ↦ known c.args.rule c.args.place c.computed.ensures e.1 (computed_row c.args.rule d (Move d a) (model.lane a) (λ f. f.0) (refl, tt, λ f. (f.0, f.1)))
       | inr o ↦ elim o [
-        | inl e ↦ known c.args.rule c.args.place c.computed-in-Andi.ensures e.1 (computed_row c.args.rule d (Move d a) (model.lane a) (λ f. f.0) (refl, tt, λ f. (f.0, f.1)))
-        | inr e ↦ known c.args.rule c.args.place c.computed-in-Andi.ensures e.1 (computed_row c.args.rule d (Move d a) (model.lane a) (λ f. f.0) (refl, tt, λ f. (f.0, f.1)))
+        | inl e ↦ known c.args.rule c.args.place c.computed.ensures e.1 (computed_row c.args.rule d (Move d a) (model.lane a) (λ f. f.0) (refl, tt, λ f. (f.0, f.1)))
+        | inr e ↦ known c.args.rule c.args.place c.computed.ensures e.1 (computed_row c.args.rule d (Move d a) (model.lane a) (λ f. f.0) (refl, tt, λ f. (f.0, f.1)))
       ]
     ]
 
@@ -177,9 +178,9 @@ returns-in-Andi-clause-sizes c = (andi c).1
 pub returns-in-Andi-clause-registers : goal.returns-in-Andi-clause-registers
 returns-in-Andi-clause-registers c = (andi c).2
 
-sub : (c : goal.After-computed-in-Sub) → IsShapeOf c.args.rule c.args.place c.computed-in-Sub.result c.args.instr.now
+sub : (c : goal.After-mixed-in-Sub) → IsShapeOf c.args.rule c.args.place c.mixed-in-Sub.result c.args.instr.now
 sub c =
-    arithmetic c.args.instr.now c.args.rule c.args.place c.in-Sub.rd c.in-Sub.rs1 c.in-Sub.rs2 c.computed-in-Sub.ensures c.in-Sub.is
+    arithmetic c.args.instr.now c.args.rule c.args.place c.in-Sub.rd c.in-Sub.rs1 c.in-Sub.rs2 c.mixed-in-Sub.ensures c.in-Sub.is
 
 pub returns-in-Sub-clause-targets : goal.returns-in-Sub-clause-targets
 returns-in-Sub-clause-targets c = (sub c).0
@@ -190,14 +191,14 @@ returns-in-Sub-clause-sizes c = (sub c).1
 pub returns-in-Sub-clause-registers : goal.returns-in-Sub-clause-registers
 returns-in-Sub-clause-registers c = (sub c).2
 
-slli : (c : goal.After-computed-in-Slli) → IsShapeOf c.args.rule c.args.place c.computed-in-Slli.result c.args.instr.now
+slli : (c : goal.After-mixed-in-Slli) → IsShapeOf c.args.rule c.args.place c.mixed-in-Slli.result c.args.instr.now
 slli c =
     let d = c.in-Slli.rd in let a = c.in-Slli.rs1 in
     elim c.in-Slli.is [
-      | inl e ↦ known c.args.rule c.args.place c.computed-in-Slli.ensures e.1 (computed_row c.args.rule d (AllLanes d a 0) (λ i. model.lanes a) (λ f. f.0) (alone_row d a (λ f. (f.0, f.1))))
+      | inl e ↦ known c.args.rule c.args.place c.mixed-in-Slli.ensures e.1 (computed_row c.args.rule d (Mixed AllLanes d a 0) (λ i. model.lanes a) (λ f. f.0) (alone_row d a (λ f. (f.0, f.1))))
       | inr o ↦ elim o [
-        | inl e ↦ known c.args.rule c.args.place c.computed-in-Slli.ensures e.1 (computed_row c.args.rule d (AllLanes d a 0) (λ i. model.lanes a) (λ f. f.0) (alone_row d a (λ f. (f.0, f.1))))
-        | inr e ↦ known c.args.rule c.args.place c.computed-in-Slli.ensures e.1 (computed_row c.args.rule d (AllLanes d a 0) (λ i. model.lanes a) (λ f. f.0) (alone_row d a (λ f. (f.0, f.1))))
+        | inl e ↦ known c.args.rule c.args.place c.mixed-in-Slli.ensures e.1 (computed_row c.args.rule d (Mixed AllLanes d a 0) (λ i. model.lanes a) (λ f. f.0) (alone_row d a (λ f. (f.0, f.1))))
+        | inr e ↦ known c.args.rule c.args.place c.mixed-in-Slli.ensures e.1 (computed_row c.args.rule d (Mixed AllLanes d a 0) (λ i. model.lanes a) (λ f. f.0) (alone_row d a (λ f. (f.0, f.1))))
       ]
     ]
 
@@ -210,14 +211,14 @@ returns-in-Slli-clause-sizes c = (slli c).1
 pub returns-in-Slli-clause-registers : goal.returns-in-Slli-clause-registers
 returns-in-Slli-clause-registers c = (slli c).2
 
-sll : (c : goal.After-computed-in-Sll) → IsShapeOf c.args.rule c.args.place c.computed-in-Sll.result c.args.instr.now
+sll : (c : goal.After-mixed-in-Sll) → IsShapeOf c.args.rule c.args.place c.mixed-in-Sll.result c.args.instr.now
 sll c =
     let d = c.in-Sll.rd in let a = c.in-Sll.rs1 in let b = c.in-Sll.rs2 in
     elim c.in-Sll.is [
-      | inl e ↦ known c.args.rule c.args.place c.computed-in-Sll.ensures e (computed_row c.args.rule d (ShiftedLanes d a b) (model.shifted_lanes a b) (λ f. f.0) (refl, tt, λ f. f))
+      | inl e ↦ known c.args.rule c.args.place c.mixed-in-Sll.ensures e (computed_row c.args.rule d (Mixed ShiftedLanes d a b) (model.shifted_lanes a b) (λ f. f.0) (refl, tt, λ f. f))
       | inr o ↦ elim o [
-        | inl e ↦ known c.args.rule c.args.place c.computed-in-Sll.ensures e (computed_row c.args.rule d (ShiftedLanes d a b) (model.shifted_lanes a b) (λ f. f.0) (refl, tt, λ f. f))
-        | inr e ↦ known c.args.rule c.args.place c.computed-in-Sll.ensures e (computed_row c.args.rule d (ShiftedLanes d a b) (model.shifted_lanes a b) (λ f. f.0) (refl, tt, λ f. f))
+        | inl e ↦ known c.args.rule c.args.place c.mixed-in-Sll.ensures e (computed_row c.args.rule d (Mixed ShiftedLanes d a b) (model.shifted_lanes a b) (λ f. f.0) (refl, tt, λ f. f))
+        | inr e ↦ known c.args.rule c.args.place c.mixed-in-Sll.ensures e (computed_row c.args.rule d (Mixed ShiftedLanes d a b) (model.shifted_lanes a b) (λ f. f.0) (refl, tt, λ f. f))
       ]
     ]
 
@@ -230,12 +231,12 @@ returns-in-Sll-clause-sizes c = (sll c).1
 pub returns-in-Sll-clause-registers : goal.returns-in-Sll-clause-registers
 returns-in-Sll-clause-registers c = (sll c).2
 
-slt : (c : goal.After-computed-in-Slt) → IsShapeOf c.args.rule c.args.place c.computed-in-Slt.result c.args.instr.now
+slt : (c : goal.After-mixed-in-Slt) → IsShapeOf c.args.rule c.args.place c.mixed-in-Slt.result c.args.instr.now
 slt c =
     let d = c.in-Slt.rd in let a = c.in-Slt.rs1 in let b = c.in-Slt.rs2 in
     elim c.in-Slt.is [
-      | inl e ↦ known c.args.rule c.args.place c.computed-in-Slt.ensures e (computed_row c.args.rule d (FirstLane d a b) (model.in_first_lane (model.all_lanes a b 0)) (λ f. f.0) (refl, tt, λ f. f))
-      | inr e ↦ known c.args.rule c.args.place c.computed-in-Slt.ensures e (computed_row c.args.rule d (FirstLane d a b) (model.in_first_lane (model.all_lanes a b 0)) (λ f. f.0) (refl, tt, λ f. f))
+      | inl e ↦ known c.args.rule c.args.place c.mixed-in-Slt.ensures e (computed_row c.args.rule d (Mixed FirstLane d a b) (model.in_first_lane (model.all_lanes a b 0)) (λ f. f.0) (refl, tt, λ f. f))
+      | inr e ↦ known c.args.rule c.args.place c.mixed-in-Slt.ensures e (computed_row c.args.rule d (Mixed FirstLane d a b) (model.in_first_lane (model.all_lanes a b 0)) (λ f. f.0) (refl, tt, λ f. f))
     ]
 
 pub returns-in-Slt-clause-targets : goal.returns-in-Slt-clause-targets
@@ -247,12 +248,12 @@ returns-in-Slt-clause-sizes c = (slt c).1
 pub returns-in-Slt-clause-registers : goal.returns-in-Slt-clause-registers
 returns-in-Slt-clause-registers c = (slt c).2
 
-slti : (c : goal.After-computed-in-Slti) → IsShapeOf c.args.rule c.args.place c.computed-in-Slti.result c.args.instr.now
+slti : (c : goal.After-mixed-in-Slti) → IsShapeOf c.args.rule c.args.place c.mixed-in-Slti.result c.args.instr.now
 slti c =
     let d = c.in-Slti.rd in let a = c.in-Slti.rs1 in
     elim c.in-Slti.is [
-      | inl e ↦ known c.args.rule c.args.place c.computed-in-Slti.ensures e.1 (computed_row c.args.rule d (FirstLane d a 0) (model.in_first_lane (model.lanes a)) (λ f. f.0) (ap (λ ls. model.to_register d (model.in_first_lane ls)) (alone a), tt, λ f. (f.0, f.1, omega arith)))
-      | inr e ↦ known c.args.rule c.args.place c.computed-in-Slti.ensures e.1 (computed_row c.args.rule d (FirstLane d a 0) (model.in_first_lane (model.lanes a)) (λ f. f.0) (ap (λ ls. model.to_register d (model.in_first_lane ls)) (alone a), tt, λ f. (f.0, f.1, omega arith)))
+      | inl e ↦ known c.args.rule c.args.place c.mixed-in-Slti.ensures e.1 (computed_row c.args.rule d (Mixed FirstLane d a 0) (model.in_first_lane (model.lanes a)) (λ f. f.0) (ap (λ ls. model.to_register d (model.in_first_lane ls)) (alone a), tt, λ f. (f.0, f.1, omega arith)))
+      | inr e ↦ known c.args.rule c.args.place c.mixed-in-Slti.ensures e.1 (computed_row c.args.rule d (Mixed FirstLane d a 0) (model.in_first_lane (model.lanes a)) (λ f. f.0) (ap (λ ls. model.to_register d (model.in_first_lane ls)) (alone a), tt, λ f. (f.0, f.1, omega arith)))
     ]
 
 pub returns-in-Slti-clause-targets : goal.returns-in-Slti-clause-targets

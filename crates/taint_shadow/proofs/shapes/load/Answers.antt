@@ -15,4 +15,4 @@ returns g c =
     let made = c.in_ok-lanes.ensures in
     register_turned words a _ p _ c.requires.standing made.keeps c.args.rd (loaded_lane c.args.fills c.args.base c.args.place c.args.size) c.extended.result
     (loaded words laws a p c.requires.standing _ c.args.fills c.args.base c.args.place c.args.size c.word.result c.in_ok-lanes.lanes c.extended.result c.requires.registers.1 c.requires.size.0 c.requires.size.1 c.word.ensures made c.extended.ensures)
-    (λ i h. loaded_here c.args.fills c.args.base c.args.place c.args.size i c.requires.registers.1) c.set_lanes.ensures
+    (λ i h. loaded_here c.args.fills c.args.base c.args.place c.args.size i c.requires.registers.1) c.put_lanes.ensures

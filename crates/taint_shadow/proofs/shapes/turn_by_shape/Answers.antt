@@ -1,6 +1,6 @@
 use Rattle.flow_model.specs.Flow.{lane}
-use Rattle.taint_shadow.specs.Lanes.{lane_at}
-use Rattle.taint_shadow.proofs.Meaning.{keeps_itself, lane_here, lane_made}
+use Rattle.taint_shadow.specs.Places.{origin_lanes}
+use Rattle.taint_shadow.proofs.Meaning.{keeps_itself, lane_here, lane_made, origins_at}
 use Rattle.taint_shadow.proofs.Targets.{register_turned}
 use Rattle.taint_shadow.proofs.shapes.turn_by_shape.Goals as goal
 
@@ -12,6 +12,6 @@ returns-in-Move g c =
     let rs = c.in-Move.rs in
     let registers = rw c.in-Move.is at c.requires.registers in
     rw c.in-Move.is
-    (register_turned words a a p c.set_lanes-in-Move.new.self c.requires.standing (keeps_itself words a) c.in-Move.rd (lane rs) c.lanes-lanes.result
-    (λ i h. lane_made words g.met.A.Labels.laws a p c.requires.standing rs i (lane_at c.lanes-lanes.result i) registers.1 h (c.lanes-lanes.ensures i h))
-    (λ i h. lane_here rs i registers.1 h) c.set_lanes-in-Move.ensures)
+    (register_turned words a a p c.copy_lanes.new.self c.requires.standing (keeps_itself words a) c.in-Move.rd (lane rs) (origin_lanes p rs)
+    (λ i h. lane_made words g.met.A.Labels.laws a p c.requires.standing rs i _ registers.1 h (origins_at p rs i h))
+    (λ i h. lane_here rs i registers.1 h) c.copy_lanes.ensures)

@@ -1,4 +1,4 @@
-use Rattle.std.proofs.Common.{◌≡◌, ◌<◌, ℕ, [], length, slice_index_or, arith, ap, sym, subst, ◌∙◌}
+use Rattle.std.proofs.Common.{◌≡◌, ◌<◌, ℕ, [], length, slice_index_or, refl, arith, ap, sym, subst, ◌∙◌}
 use Rattle.flow_model.specs.declared.Loc.TheVariants.{Reg, Mem}
 use Rattle.taint_shadow.specs.declared.lanes.Lanes.{Lanes}
 use Rattle.taint_shadow.specs.Labels.{start_label}
@@ -9,6 +9,7 @@ use Rattle.taint_shadow.specs.Memory.{in_memory}
 use Rattle.taint_shadow.specs.Places.{kept, AreKept}
 use Rattle.taint_shadow.specs.declared.places.Places.{Places}
 use Rattle.taint_shadow.proofs.Grown.{push_read}
+use Rattle.taint_shadow.proofs.Notes.{noted_start}
 use Rattle.taint_shadow.proofs.places.Places.new.Goals as goal
 
 pub loop-number-preserved : goal.loop-number-preserved
@@ -30,6 +31,11 @@ started p all none begun = record { at = λ l here. by l here } where
   by : (l : Loc) → IsLocation l → kept p l ≡ start_label l
   by (Reg r i) here = begun r (omega (arith, all, here.0)) i here.1
   by (Mem q) here = ap (λ R. in_memory R q) none
+
+pub invariant_of-result : goal.invariant_of-result
+invariant_of-result c =
+    let all : length c.loop-number.registers.items ≡ 32 = omega (arith, c.loop-number.invariant.size, c.loop-number-test.false, c.loop-number.auto.number-end) in
+    record { lanes = all; noted = noted_start _ c.loop-number.registers.items refl refl all }
 
 pub returns : goal.returns
 returns c =
