@@ -18,7 +18,7 @@ use Rattle.taint_shadow.specs.Labels.{LabelWords, Laws, MakesLabel, Makes, nothi
 use Rattle.taint_shadow.specs.Lanes.{lane_at, alike, clean, extended_lane, both_mean, Stand, MakesLanes}
 use Rattle.taint_shadow.specs.Places.{kept, origin_lane}
 use Rattle.taint_shadow.specs.Steps.{meaning_at, AreStanding, united_over, based_mean}
-use Rattle.taint_shadow.proofs.Meaning.{AreHere, either_here, lane_here, lane_made, lanes_mean, all_clean, lanes_here, union_here, each_of_four, alike_at, keeps_itself, keeps_then, both_made, nothing_with}
+use Rattle.taint_shadow.proofs.Meaning.{AreHere, over_union, over_meaning, can_mean, either_here, lane_here, lane_made, lanes_mean, all_clean, lanes_here, union_here, each_of_four, alike_at, keeps_itself, keeps_then, both_made, nothing_with}
 
 -- ---- where origins lie
 
@@ -69,6 +69,20 @@ module _ {A M : Type 0} (words : LabelWords A M) (laws : Laws words) where
     abbrev over : List Loc → M
     over ls = united_over words (meaning_at words a p) ls
 
+    -- the lanes of a register that has no label mean nothing
+    no_lanes : (t : ℕ) → t < 32 → ((n : ℕ) → n < 4 → origin_lane p t n ≡ nothing_label) → words.nothing ≡ over (lanes t)
+    no_lanes t small is = sym (all_clean words laws a clean refl) ∙ lanes_mean words laws a p standing t clean small (λ n low. alike_at nothing_label n low ∙ sym (is n low))
+
+    -- with them all lanes of a register mean what they mean alone
+    pub with_clean : (b : A) (r s : ℕ) (label : Label) → r < 32 → s < 32 → ((j : ℕ) → j < 4 → origin_lane p s j ≡ nothing_label)
+        → MakesLabel words b (over (lanes r)) label → MakesLabel words b (over (all_lanes r s 0)) label
+    with_clean b r s label h k clean_s made = record {
+      stands = made.stands;
+      means = made.means ∙ sym (over_union words laws (meaning_at words a p) (can_mean words laws a p standing) (lanes r) (lanes s) (lanes_here r h) (lanes_here s k)
+          ∙ ap (words.united (over (lanes r))) (sym (no_lanes s k clean_s))
+          ∙ laws.with_nothing (over (lanes r)) (over_meaning words laws (meaning_at words a p) (can_mean words laws a p standing) (lanes r) (lanes_here r h)));
+    }
+
     -- where no lane of two registers has a label, what they make together has none
     pub clean_mixed : (mixing : Mixing) (r s i : ℕ) → r < 32 → s < 32 → i < 4 → ((j : ℕ) → j < 4 → origin_lane p r j ≡ nothing_label)
         → ((j : ℕ) → j < 4 → origin_lane p s j ≡ nothing_label) → MakesLabel words a (over (mixed_lanes mixing r s i)) nothing_label
@@ -78,9 +92,6 @@ module _ {A M : Type 0} (words : LabelWords A M) (laws : Laws words) where
 
       no_lane : (t j : ℕ) → t < 32 → j < 4 → ((n : ℕ) → n < 4 → origin_lane p t n ≡ nothing_label) → words.nothing ≡ over (lane t j)
       no_lane t j small low is = sym none.means ∙ (lane_made words laws a p standing t j nothing_label small low (sym (is j low))).means
-
-      no_lanes : (t : ℕ) → t < 32 → ((n : ℕ) → n < 4 → origin_lane p t n ≡ nothing_label) → words.nothing ≡ over (lanes t)
-      no_lanes t small is = sym (all_clean words laws a clean refl) ∙ lanes_mean words laws a p standing t clean small (λ n low. alike_at nothing_label n low ∙ sym (is n low))
 
       both : (xs ys : List Loc) → AreHere xs → AreHere ys → words.nothing ≡ over xs → words.nothing ≡ over ys → MakesLabel words a (over (union loc_cmp xs ys)) nothing_label
       both xs ys here there e f = both_made words laws a p standing a xs ys words.nothing words.nothing nothing_label here there e f

@@ -1,7 +1,7 @@
 //! How the flow of an instruction turns what locations are labelled with, by its shape.
 
 ghost use Rattle.std.specs.Prelude.{◌<◌, ◌≤◌, IfOk, OnOk};
-ghost use Rattle.flow_rule.specs.Shapes.{HasRegisters, HasSizes, mixed_lanes};
+ghost use Rattle.flow_rule.specs.Shapes.{HasRegisters, HasSizes};
 ghost use Rattle.flow_model.specs.Flow.{each_lane, all_lanes, shifted_lanes};
 ghost use Rattle.taint_shadow.specs.Lanes.{Stand};
 ghost use Rattle.taint_shadow.specs.Steps.{AreStanding, Turns, MakesBased, MakesOver, MakesFrom};
@@ -25,7 +25,11 @@ fn all_label<A: Labels>(
     requires standing { AreStanding A.words labels.old places.now }
     ensures { IfOk result (MakesOver A.words labels.old places.now (all_lanes rs1 rs2 0) labels.new) }
 {
-    unite_both(labels, places.lanes(rs1), places.lanes(rs2))
+    let one = places.lanes(rs1);
+    if places.is_clean(rs2) {
+        return unite_all(labels, one);
+    }
+    unite_both(labels, one, places.lanes(rs2))
 }
 
 /// The label of what all lanes of a register have together with lane 0 of another.
@@ -59,55 +63,75 @@ fn lane_labels<A: Labels>(
     unite_lanes(labels, places.lanes(rs1), places.lanes(rs2))
 }
 
-/// The labels of what two registers' lanes make together.
-#[inline(always)]
-fn mixed<A: Labels>(
-    labels: &mut A,
-    places: &Places,
-    mixing: Mixing,
-    rs1: u8,
-    rs2: u8,
-) -> Result<Lanes, NoMemory>
-    requires registers { (rs1 < 32) × (rs2 < 32) }
-    requires standing { AreStanding A.words labels.old places.now }
-    ensures { IfOk result (MakesFrom A.words labels.old places.now (mixed_lanes mixing rs1 rs2) labels.new) }
-{
-    match mixing {
-        Mixing::EachLane => lane_labels(labels, places, rs1, rs2),
-        Mixing::AllLanes => {
-            let label = all_label(labels, places, rs1, rs2)?;
-            Ok(Lanes::alike(label))
-        }
-        Mixing::ShiftedLanes => {
-            let label = shifted_label(labels, places, rs1, rs2)?;
-            Ok(Lanes::alike(label))
-        }
-        Mixing::FirstLane => {
-            let label = all_label(labels, places, rs1, rs2)?;
-            Ok(Lanes::alike(label).extended(1, false))
-        }
-    }
-}
-
-/// Labels the lanes of a register with what two others' make together.
-fn mix_labels<A: Labels>(
+/// Lane i comes from lane i of both registers.
+fn mix_each<A: Labels>(
     labels: &mut A,
     places: &mut Places,
-    mixing: Mixing,
     rd: u8,
     rs1: u8,
     rs2: u8,
 ) -> Result<(), NoMemory>
     requires registers { (rd < 32) × (rs1 < 32) × (rs2 < 32) }
     requires standing { AreStanding A.words labels.old places.old }
-    ensures { OnOk result (Turns A.words labels.old places.old labels.new places.new (Shape.Mixed mixing rd rs1 rs2)) }
+    ensures { OnOk result (Turns A.words labels.old places.old labels.new places.new (Shape.Mixed Mixing.EachLane rd rs1 rs2)) }
 {
-    let lanes = mixed(labels, places, mixing, rs1, rs2)?;
+    let lanes = lane_labels(labels, places, rs1, rs2)?;
     places.set_lanes(rd, lanes);
     Ok(())
 }
 
-/// The same. Where both registers are clean, so is what they make.
+/// Each lane comes from all lanes of both registers.
+fn mix_all<A: Labels>(
+    labels: &mut A,
+    places: &mut Places,
+    rd: u8,
+    rs1: u8,
+    rs2: u8,
+) -> Result<(), NoMemory>
+    requires registers { (rd < 32) × (rs1 < 32) × (rs2 < 32) }
+    requires standing { AreStanding A.words labels.old places.old }
+    ensures { OnOk result (Turns A.words labels.old places.old labels.new places.new (Shape.Mixed Mixing.AllLanes rd rs1 rs2)) }
+{
+    let label = all_label(labels, places, rs1, rs2)?;
+    places.set_lanes(rd, Lanes::alike(label));
+    Ok(())
+}
+
+/// Each lane comes from all lanes of the register that is shifted, and lane 0 of the one with the amount.
+fn shift<A: Labels>(
+    labels: &mut A,
+    places: &mut Places,
+    rd: u8,
+    rs1: u8,
+    rs2: u8,
+) -> Result<(), NoMemory>
+    requires registers { (rd < 32) × (rs1 < 32) × (rs2 < 32) }
+    requires standing { AreStanding A.words labels.old places.old }
+    ensures { OnOk result (Turns A.words labels.old places.old labels.new places.new (Shape.Mixed Mixing.ShiftedLanes rd rs1 rs2)) }
+{
+    let label = shifted_label(labels, places, rs1, rs2)?;
+    places.set_lanes(rd, Lanes::alike(label));
+    Ok(())
+}
+
+/// Lane 0 comes from all lanes of both registers, and the other lanes become empty.
+fn compare<A: Labels>(
+    labels: &mut A,
+    places: &mut Places,
+    rd: u8,
+    rs1: u8,
+    rs2: u8,
+) -> Result<(), NoMemory>
+    requires registers { (rd < 32) × (rs1 < 32) × (rs2 < 32) }
+    requires standing { AreStanding A.words labels.old places.old }
+    ensures { OnOk result (Turns A.words labels.old places.old labels.new places.new (Shape.Mixed Mixing.FirstLane rd rs1 rs2)) }
+{
+    let label = all_label(labels, places, rs1, rs2)?;
+    places.set_lanes(rd, Lanes::alike(label).extended(1, false));
+    Ok(())
+}
+
+/// The lanes of two registers flow together. Where both are clean, so is what they make.
 #[inline(always)]
 fn mix<A: Labels>(
     labels: &mut A,
@@ -125,7 +149,12 @@ fn mix<A: Labels>(
         places.clear(rd);
         return Ok(());
     }
-    mix_labels(labels, places, mixing, rd, rs1, rs2)
+    match mixing {
+        Mixing::EachLane => mix_each(labels, places, rd, rs1, rs2),
+        Mixing::AllLanes => mix_all(labels, places, rd, rs1, rs2),
+        Mixing::ShiftedLanes => shift(labels, places, rd, rs1, rs2),
+        Mixing::FirstLane => compare(labels, places, rd, rs1, rs2),
+    }
 }
 
 /// What the lowest `size` lanes have, together with the base register where that counts.
