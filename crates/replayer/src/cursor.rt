@@ -1,6 +1,7 @@
 //! The steps of a job's run, one by one.
 
 ghost use Rattle.std.specs.Prelude.{◌≡◌, IfOk};
+ghost use Rattle.replay_model.specs.Run.{start, moment_after};
 ghost use Rattle.replayer.specs.Nexts.{IsNext, IsStepAt, IsPlainAt, IsPlainUntil, seen_at};
 
 use crate::job::Job;
@@ -74,6 +75,13 @@ impl<'a> Cursor<'a> {
         ensures { result ≡ self.now.time }
     {
         self.run.time()
+    }
+
+    /// The address of the instruction that the next step does; where all steps are done, the pc in which the run ended.
+    pub fn pc(&self) -> u32
+        ensures { result ≡ (moment_after self.now.time (start self.now.job.start self.now.job.log)).state.pc }
+    {
+        self.run.machine().pc()
     }
 
     /// The first time from the cursor's on at which the run makes no plain step: it makes a call there, or all its steps are

@@ -161,6 +161,13 @@ impl Machine {
         self.state.refusal(call, inputs)
     }
 
+    /// The address of the instruction that the next step does.
+    pub fn pc(&self) -> u32
+        ensures { result ≡ self.now.state.pc }
+    {
+        self.state.pc()
+    }
+
     /// The lowest address of the window. The window ends at most at 2^32.
     pub fn base(&self) -> u32
         ensures is { result ≡ self.now.state.base }
