@@ -1,0 +1,5 @@
+mod Meetings
+mod Ranges
+mod Passing
+mod Once
+mod Told

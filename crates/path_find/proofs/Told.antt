@@ -1,0 +1,105 @@
+-- Where a path is told.
+use Rattle.std.proofs.Common.{◌≡◌, ℕ, Bool, true, false, ◌&&◌, if◌then◌else◌, List, [], ◌∷◌, length, map, refl, ap, sym, ◌∙◌, arith}
+use Rattle.std.specs.Prelude.{Option, Some, None, All, reverse}
+use Rattle.std.proofs.lemmas.List.{length-map, length-reverse}
+use Rattle.std.proofs.lemmas.List.Elements.{All-contains}
+use Rattle.isa.specs.Machine.{State}
+use Rattle.log_model.specs.Logs.{Log}
+use Rattle.sorted_set.proofs.Algebra.{Contains-has}
+use Rattle.flow_model.specs.declared.InnerSink.{InnerSink}
+use Rattle.flow_model.specs.declared.Rule.{Rule}
+use Rattle.flow_model.specs.declared.SinkPoint.{SinkPoint}
+use Rattle.flow_model.specs.declared.SinkPoint.TheVariants.{Out, At}
+use Rattle.flow_model.specs.declared.SourceByte.{SourceByte}
+use Rattle.flow_model.specs.declared.StepSeen.{StepSeen}
+use Rattle.flow_model.specs.Ranges.{IsLocation}
+use Rattle.flow_model.proofs.Orders.{inner_total, inner_same}
+use Rattle.report_model.specs.Query.{Query, has_source, has_sink}
+use Rattle.report_model.specs.Rows.{Sink, rows}
+use Rattle.replay_model.specs.Run.{trace}
+use Rattle.replay_model.proofs.Offsets.{writes_apart}
+use Rattle.replayer.specs.Jobs.{Job}
+use Rattle.path_model.specs.declared.Arrival.{Arrival}
+use Rattle.path_model.specs.declared.Pair.{Pair}
+use Rattle.path_model.specs.Paths.{path}
+use Rattle.path_model.specs.Answer.{PathTo, sink_of, ended_in, path_to_sink, path_to, first_pair, NoneIsListed, FirstPairHasPath}
+use Rattle.path_model.proofs.One.{is_path}
+use Rattle.path_text.specs.declared.writing.Stop.{Stop}
+use Rattle.path_text.specs.declared.writing.End.{End}
+use Rattle.path_text.specs.Text.{no_path_text, path_text}
+use Rattle.path_find.specs.Sinks.{HasLocation}
+use Rattle.path_find.specs.Stops.{stop_at}
+use Rattle.path_find.specs.Answer.{end_of, found_report, found_report_or, pair_report, path_report}
+use Rattle.path_find.specs.AnswerLaws.{NoPathIsToldOfNone, FirstPairIsLocated}
+use Rattle.path_find.proofs.Once.{written_once}
+
+-- ---- a path that is told
+
+-- the query chooses the sink, and there is a path to it
+record IsTold (q : Query) (steps : List StepSeen) (pair : Pair) (p : PathTo) : Type 0 where
+  chosen : has_sink q pair.sink ≡ true
+  is_path : path_to_sink q.rule pair.source steps (sink_of steps pair.sink) ≡ Some p
+
+is_told : (q : Query) (steps : List StepSeen) (pair : Pair) (p : PathTo) → path_to q steps pair.sink pair.source ≡ Some p → IsTold q steps pair p
+is_told q steps pair p e = by (has_source q pair.source) (has_sink q pair.sink) refl e where
+  by : (a b : Bool) → has_sink q pair.sink ≡ b → (if a && b then path_to_sink q.rule pair.source steps (sink_of steps pair.sink) else None) ≡ Some p → IsTold q steps pair p
+  by true true is e = record { chosen = is; is_path = e }
+  by true false is e = absurd cc
+  by false b is e = absurd cc
+
+-- it has an arrival
+has_arrival : (rule : Rule) (s : SourceByte) (steps : List StepSeen) (o : Option Sink) (p : PathTo) → path_to_sink rule s steps o ≡ Some p → p.arrivals ≡ [] → ⊥
+has_arrival rule s steps None p e none = cc
+has_arrival rule s steps (Some x) p e none = by (path rule s steps x.time x.loc) refl e where
+  some_is : (a b : PathTo) → Some a ≡ Some b → a ≡ b
+  some_is a b e = cc
+
+  by : (o : Option (List Arrival)) → path rule s steps x.time x.loc ≡ o → ended_in x o ≡ Some p → ⊥
+  by None is e = cc
+  by (Some arrivals) is e =
+      let same : arrivals ≡ [] = ap (λ (z : PathTo). z.arrivals) (some_is (record { sink = x; arrivals = arrivals }) p e) ∙ none in
+      is_path rule s steps [] x.time x.loc (is ∙ ap Some same)
+
+first_code : List ℕ → ℕ
+first_code [] = 0
+first_code (c ∷ cs) = c
+
+-- so its text begins with an `r`, and is no `end 0`
+text_apart : (s : SourceByte) (e : End) (stops : List Stop) → (stops ≡ [] → ⊥) → path_text s e stops ≡ no_path_text → ⊥
+unfolding first_code
+text_apart s e [] some same = some refl
+text_apart s e (a ∷ rest) some same = let begins : ◌≡◌ {A = ℕ} 114 101 = ap first_code same in absurd (omega (arith, begins))
+
+found_apart : (job : Job) (s : SourceByte) (p : PathTo) → (p.arrivals ≡ [] → ⊥) → found_report job s p ≡ no_path_text → ⊥
+found_apart job s p some = text_apart s (end_of job p) (map (stop_at job) (reverse p.arrivals)) (λ none. some (empty p.arrivals (ap length none))) where
+  empty : (xs : List Arrival) → length (map (stop_at job) (reverse xs)) ≡ 0 → xs ≡ []
+  empty [] e = refl
+  empty (x ∷ xs) e = absurd (omega (arith, e, length-map (reverse (x ∷ xs)) (stop_at job), length-reverse (x ∷ xs)))
+
+-- ---- the laws
+
+module _ (none_is_listed : NoneIsListed) (first_has_path : FirstPairHasPath) where
+  told_of : (state : State) (log : Log) (q : Query) (pair : Pair) → first_pair (rows q (trace state log)) ≡ Some pair
+      → (p : PathTo) × IsTold q (trace state log) pair p
+  told_of state log q pair e =
+      let p = first_has_path q (trace state log) pair (written_once (trace state log) (writes_apart state log)) e in
+      (p.0, is_told q (trace state log) pair p.0 p.1)
+
+  pub no_path_is_told_of_none : NoPathIsToldOfNone
+  no_path_is_told_of_none state log q = (
+    λ e. to e (first_pair (rows q (trace state log))) refl,
+    λ none. ap (pair_report (record { start = state; log = log }) q.rule) ((none_is_listed (rows q (trace state log))).1 none),
+  ) where
+    to : path_report state log q ≡ no_path_text → (o : Option Pair) → first_pair (rows q (trace state log)) ≡ o → All (λ r. r.sources ≡ []) (rows q (trace state log))
+    to e None is = (none_is_listed (rows q (trace state log))).0 is
+    to e (Some pair) is =
+        let t = told_of state log q pair is in
+        let text : found_report (record { start = state; log = log }) pair.source t.0 ≡ no_path_text =
+        sym (ap (pair_report (record { start = state; log = log }) q.rule) is ∙ ap (found_report_or (record { start = state; log = log }) pair.source) t.1.is_path) ∙ e in
+        absurd (found_apart (record { start = state; log = log }) pair.source t.0 (has_arrival q.rule pair.source (trace state log) (sink_of (trace state log) pair.sink) t.0 t.1.is_path) text)
+
+  pub first_pair_is_located : FirstPairIsLocated
+  first_pair_is_located state log q pair located e = by pair.sink (told_of state log q pair e).1.chosen where
+    by : (name : SinkPoint) → has_sink q name ≡ true → HasLocation name
+    by (Out b) c = tt
+    by (At p) c = All-contains (λ (x : InnerSink). IsLocation x.loc) q.points p located (Contains-has inner_total inner_same q.points p c)

@@ -1,0 +1,20 @@
+-- What is always true of the texts of paths.
+use Rattle.std.specs.Prelude.{◌≡◌, [], Some, ◌↔◌, All}
+use Rattle.isa.specs.Machine.{State}
+use Rattle.log_model.specs.Logs.{Log}
+use Rattle.report_model.specs.Query.{Query, AreLocated}
+use Rattle.report_model.specs.Rows.{rows}
+use Rattle.replay_model.specs.Run.{trace}
+use Rattle.path_model.specs.declared.Pair.{Pair}
+use Rattle.path_model.specs.Answer.{first_pair}
+use Rattle.path_text.specs.Text.{no_path_text}
+use Rattle.path_find.specs.Sinks.{IsLocated}
+use Rattle.path_find.specs.Answer.{path_report}
+
+-- no path is told exactly where no row lists a source byte
+abbrev pub NoPathIsToldOfNone : Type 0
+NoPathIsToldOfNone = (state : State) (log : Log) (q : Query) → (path_report state log q ≡ no_path_text) ↔ All (λ r. r.sources ≡ []) (rows q (trace state log))
+
+-- the first pair of a report is located where the query's points are
+abbrev pub FirstPairIsLocated : Type 0
+FirstPairIsLocated = (state : State) (log : Log) (q : Query) (pair : Pair) → AreLocated q.points → first_pair (rows q (trace state log)) ≡ Some pair → IsLocated pair

@@ -1,0 +1,4 @@
+pub mod Sinks
+pub mod Stops
+pub mod Answer
+pub mod AnswerLaws

@@ -1,0 +1,85 @@
+//! One pass over the run, up to the sink.
+
+ghost use Rattle.std.specs.Prelude.{◌≡◌, ◌≤◌, List, IfOk, IfSome};
+ghost use Rattle.log_model.specs.Logs.{steps};
+ghost use Rattle.flow_model.specs.declared.Rule.{Rule as RuleOfFlow};
+ghost use Rattle.flow_model.specs.declared.SourceByte.{SourceByte as Source};
+ghost use Rattle.flow_model.specs.declared.StepSeen.{StepSeen as Step};
+ghost use Rattle.flow_model.specs.Ranges.{IsLocation};
+ghost use Rattle.replayer.specs.Jobs.{trace_of};
+ghost use Rattle.path_model.specs.Paths.{path};
+ghost use Rattle.path_model.specs.Answer.{sink_of, ended_in, path_to_sink};
+ghost use Rattle.flow_path.specs.Trails.{IsTrail, IsAfter};
+ghost use Rattle.path_find.specs.Sinks.{IsLocated, shown_found};
+
+use crate::sinks::{sink_at_end, sink_in};
+use flow_model::{Loc, Rule, SinkPoint};
+use flow_path::Trail;
+use no_memory::NoMemory;
+use path_model::{Arrival, Pair};
+use replayer::{Cursor, Job, Next};
+use std::alloc::Global;
+
+/// A path, the latest arrival first, and the sink that it ends in: the number of steps done before it, and its location.
+#[derive(Drop)]
+pub struct Found {
+    pub name: SinkPoint,
+    pub time: u64,
+    pub loc: Loc,
+    pub arrivals: Vec<Arrival>,
+}
+
+/// The path of the trail's source byte to a location, which a sink has at this time.
+fn path_here(
+    alloc: Global,
+    trail: &Trail,
+    name: SinkPoint,
+    time: u64,
+    loc: Loc,
+) -> Result<Option<Found>, NoMemory>
+    requires location { IsLocation loc }
+    requires trail { IsTrail trail.now }
+    ensures path { IfOk result (λ f. (rule : RuleOfFlow) (s : Source) (trace : List Step) → IsAfter rule s trace time trail.now
+        → shown_found f ≡ ended_in (record { name = name; time = time; loc = loc }) (path rule s trace time loc)) }
+    ensures time { IfOk result (λ f. IfSome f (λ x. x.time ≡ time)) }
+{
+    let Some(arrivals) = trail.path(alloc, loc)? else {
+        return Ok(None);
+    };
+    Ok(Some(Found {
+        name,
+        time,
+        loc,
+        arrivals,
+    }))
+}
+
+/// The path of a pair's source byte to its sink in the run of a job, by a rule. None means that the run has no such sink, or
+/// that the source byte isn't among its origins.
+pub fn find_path(
+    alloc: Global,
+    job: &Job,
+    rule: Rule,
+    pair: Pair,
+) -> Result<Option<Found>, NoMemory>
+    requires located { IsLocated pair }
+    ensures path { IfOk result (λ f. shown_found f ≡ path_to_sink rule pair.source (trace_of job.now) (sink_of (trace_of job.now) pair.sink)) }
+
+    // The end of the path isn't after the run.
+    ensures inside { IfOk result (λ f. IfSome f (λ x. x.time ≤ steps job.now.log)) }
+{
+    job.form();
+    let mut cursor = Cursor::start(alloc, job)?;
+    let mut trail = Trail::new(alloc, rule, pair.source)?;
+    while let Next::Step(step) = cursor.next() {
+        if let Some(loc) = sink_in(&step, pair.sink) {
+            return path_here(alloc, &trail, pair.sink, step.number, loc);
+        }
+        trail.follow(&step)?;
+    }
+    let end = job.steps();
+    match sink_at_end(pair.sink, end) {
+        None => Ok(None),
+        Some(loc) => path_here(alloc, &trail, pair.sink, end, loc),
+    }
+}
