@@ -18,12 +18,12 @@ mod nodes;
 #[cfg(test)]
 mod outside;
 #[cfg(test)]
-mod paths;
-#[cfg(test)]
 mod queries;
 #[cfg(test)]
 mod reports;
 #[cfg(test)]
 mod sets;
+#[cfg(test)]
+mod texts;
 #[cfg(test)]
 mod words;

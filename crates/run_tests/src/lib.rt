@@ -1,5 +1,5 @@
 //! Tests of runs that are cut into epochs: where these begin, each by itself, what its core sends, and all of them
-//! together, with what crosses the cuts between them.
+//! together, with what crosses the cuts between them. Paths over runs.
 #![tactic(auto)]
 
 #[cfg(test)]
@@ -10,5 +10,7 @@ mod cursors;
 mod epochs;
 #[cfg(test)]
 mod guests;
+#[cfg(test)]
+mod paths;
 #[cfg(test)]
 mod runs;

@@ -1,0 +1,81 @@
+//! Paths over runs, as text.
+
+ghost use Rattle.flow_model.specs.Ranges.{IsLocation};
+ghost use Rattle.path_find.specs.Sinks.{HasLocation};
+
+use crate::guests::{copy_in_two, copy_many};
+use flow_model::{InnerSink, Loc, Rule, SinkByte, SinkPoint, SourceByte};
+use path_find::answer;
+use path_model::Pair;
+use replayer::Job;
+use std::alloc::Global;
+use std::process::Abort;
+
+/// The path of a source byte of channel 0 to a sink has this text.
+fn assert_path(rt: &impl Abort, alloc: Global, job: &Job, sink: SinkPoint, offset: u32, lines: &str)
+    requires { HasLocation sink }
+{
+    let source = SourceByte { channel: 0, offset };
+    let text = answer(alloc, job, Rule::Copy, Some(Pair { sink, source })).expect(rt, "memory");
+    assert_eq!(rt; text.as_slice(), lines.as_bytes());
+}
+
+/// An output byte of channel 1.
+fn output(offset: u32) -> SinkPoint
+    ensures { HasLocation result }
+{
+    SinkPoint::Out(SinkByte { channel: 1, offset })
+}
+
+/// A point inside a run.
+fn point(time: u64, loc: Loc) -> SinkPoint
+    requires { IsLocation loc }
+    ensures { HasLocation result }
+{
+    SinkPoint::At(InnerSink { time, loc })
+}
+
+#[test]
+fn a_path_is_a_read_and_the_write_where_nothing_moves(rt: HostRuntime) {
+    let alloc = rt.alloc();
+    let job = copy_in_two(&rt, alloc);
+    let moved = "read 9 0x00010024 0:4 m:65796\nwrite 14 0x00010038 m:65796 1:4\nend 2\n";
+    assert_path(&rt, alloc, &job, output(4), 4, moved);
+    assert_path(&rt, alloc, &job, output(3), 4, "end 0\n");
+    assert_path(&rt, alloc, &job, output(5), 4, "end 0\n");
+    let none = answer(alloc, &job, Rule::Copy, None).expect(&rt, "memory");
+    assert_eq!(rt; none.as_slice(), b"end 0\n".as_slice());
+}
+
+/// At the end of the run, after its exit, the pc is behind the exit's ECALL.
+#[test]
+fn a_path_to_a_point_ends_at_its_time(rt: HostRuntime) {
+    let alloc = rt.alloc();
+    let job = copy_in_two(&rt, alloc);
+    let place = Loc::Mem { place: 65792 };
+    let last = "read 5 0x00010014 0:0 m:65792\npoint 18 0x00010048 m:65792 m:65792@18\nend 2\n";
+    assert_path(&rt, alloc, &job, point(18, place), 0, last);
+    assert_path(&rt, alloc, &job, point(5, place), 0, "end 0\n");
+    assert_path(&rt, alloc, &job, point(19, place), 0, "end 0\n");
+}
+
+#[test]
+fn a_path_has_a_hop_for_each_step_that_moves(rt: HostRuntime) {
+    let alloc = rt.alloc();
+    let job = copy_many(&rt, alloc);
+    let lines = "read 5 0x00010014 0:4999 m:74631\n\
+        hop 25003 0x00010020 m:74631 r:28.0 lbu x28, 0(x11)\n\
+        hop 25004 0x00010024 r:28.0 m:82823 sb x28, 0(x6)\n\
+        write 25011 0x00010040 m:82823 1:4999\n\
+        end 4\n";
+    assert_path(&rt, alloc, &job, output(4999), 4999, lines);
+    let lane = Loc::Reg {
+        number: 28,
+        lane: 0,
+    };
+    let there = "read 5 0x00010014 0:4999 m:74631\n\
+        hop 25003 0x00010020 m:74631 r:28.0 lbu x28, 0(x11)\n\
+        point 25004 0x00010024 r:28.0 r:28.0@25004\n\
+        end 3\n";
+    assert_path(&rt, alloc, &job, point(25004, lane), 4999, there);
+}
