@@ -19,11 +19,14 @@ use Rattle.replayer.specs.Jobs.{Job, trace_of}
 use Rattle.replayer.specs.Positions.{CursorAt}
 use Rattle.epoch_model.specs.ByLength.{epoch_count, cut_at, cut_times}
 use Rattle.epoch_model.specs.Cutting.{IsCutting, epochs}
-use Rattle.epoch_model.specs.Summary.{Summary, IsSummary}
+use Rattle.epoch_model.specs.Summary.{IsSummary}
 use Rattle.epoch_model.specs.Join.{answer_to, rows_of}
 use Rattle.epoch_model.proofs.Joining.{join_gives_rows}
 use Rattle.epoch_cut.specs.Numbered.{NumberedEpoch, numbered}
-use Rattle.local_taint.specs.Summaries.{AreInRange}
+use Rattle.local_taint.specs.declared.summary.Summary.{Summary}
+use Rattle.local_taint.proofs.Range.{all_in_range, trace_long}
+use Rattle.local_taint.specs.Summaries.{summary_of, AreInRange}
+use Rattle.seq_taint.specs.Runs.{IsSummaryOfRun}
 
 -- ---- the ticket
 
@@ -64,23 +67,31 @@ ends_whole : (n c : ℕ) → n ≡ c → IsCutting n (c ∷ [])
 ends_whole zero c e = ap (λ t. t ∷ []) (sym e)
 ends_whole (suc n) c e = (omega (arith, e), sym e)
 
-module _ (q : Query) (located : AreLocated q.points) (e : Summary) where
-  rows_of_job : (job : Job) → IsSummary q (trace_of job) 0 (steps job.log - 0) e → AreInRange (trace_of job) 0 (steps job.log - 0)
-      → rows_of e (answer_to [] []) ≡ rows_as_written q (trace_of job)
-  rows_of_job job is within =
-      let cut = ends_whole (length (trace_of job)) (steps job.log) (trace_long job) in
-      sym (append-nil (rows_of e (answer_to [] [])))
-      ∙ join_gives_rows q (trace_of job) (steps job.log ∷ []) (e ∷ []) (all_in_range (trace_of job) (steps job.log ∷ []) cut (within, tt)) located
-      cut (is, tt)
+-- the summary of all steps of a run, where nothing was asked, has the run's rows
+pub rows_of_summary : (q : Query) (job : Job) (e : Summary) → AreLocated q.points → IsSummaryOfRun q job e → (asked : List Loc) (answers : List (List SourceByte)) → asked ≡ [] → answers ≡ []
+    → rows_of (summary_of e) (answer_to asked answers) ≡ rows_as_written q (trace_of job)
+rows_of_summary q job e located is asked answers nothing none =
+    let n : ℕ = steps job.log in
+    let all : n ≡ n - 0 = omega arith in
+    let cut = ends_whole (length (trace_of job)) n (trace_long job) in
+    ap₂ (λ (ls : List Loc) (sets : List (List SourceByte)). rows_of (summary_of e) (answer_to ls sets)) nothing none
+    ∙ sym (append-nil (rows_of (summary_of e) (answer_to [] [])))
+    ∙ join_gives_rows q (trace_of job) (n ∷ []) (summary_of e ∷ [])
+    (all_in_range (trace_of job) (n ∷ []) cut (subst (λ (m : ℕ). AreInRange (trace_of job) 0 m) all is.in_range, tt)) located
+    cut (subst (λ (m : ℕ). IsSummary q (trace_of job) 0 m (summary_of e)) all is.summary, tt)
 
-  -- what was found of a whole run by a cursor at its start, where nothing was asked, has the run's rows
-  pub rows_of_whole : (job : Job) (from : CursorAt) (ticket : NumberedEpoch) (asked : List Loc) (answers : List (List SourceByte))
-      → from ≡ record { job = job; time = 0 } → ticket ≡ whole (steps job.log) → asked ≡ [] → answers ≡ []
-      → IsSummary q (trace_of from.job) ticket.first (ticket.past_last - ticket.first) e → AreInRange (trace_of from.job) ticket.first (ticket.past_last - ticket.first)
-      → rows_of e (answer_to asked answers) ≡ rows_as_written q (trace_of job)
-  rows_of_whole job from ticket asked answers begins all nothing none is within =
-      let summary = subst (λ (c : CursorAt). IsSummary q (trace_of c.job) 0 (steps job.log - 0) e) begins
-      (subst (λ (t : NumberedEpoch). IsSummary q (trace_of from.job) t.first (t.past_last - t.first) e) all is) in
-      let steps_in_range = subst (λ (c : CursorAt). AreInRange (trace_of c.job) 0 (steps job.log - 0)) begins
-      (subst (λ (t : NumberedEpoch). AreInRange (trace_of from.job) t.first (t.past_last - t.first)) all within) in
-      ap₂ (λ (ls : List Loc) (sets : List (List SourceByte)). rows_of e (answer_to ls sets)) nothing none ∙ rows_of_job job summary steps_in_range
+-- what a cursor at the start of a run found of its one epoch
+pub summary_of_ticket : (q : Query) (job : Job) (e : Summary) (from : CursorAt) (ticket : NumberedEpoch) → from ≡ record { job = job; time = 0 } → ticket ≡ whole (steps job.log)
+    → IsSummary q (trace_of from.job) ticket.first (ticket.past_last - ticket.first) (summary_of e) → AreInRange (trace_of from.job) ticket.first (ticket.past_last - ticket.first)
+    → IsSummaryOfRun q job e
+summary_of_ticket q job e from ticket begins all is within =
+    let n : ℕ = steps job.log in
+    let whole_length : n - 0 ≡ n = omega arith in
+    record {
+      summary = subst (λ (m : ℕ). IsSummary q (trace_of job) 0 m (summary_of e)) whole_length
+          (subst (λ (c : CursorAt). IsSummary q (trace_of c.job) 0 (n - 0) (summary_of e)) begins
+          (subst (λ (t : NumberedEpoch). IsSummary q (trace_of from.job) t.first (t.past_last - t.first) (summary_of e)) all is));
+      in_range = subst (λ (m : ℕ). AreInRange (trace_of job) 0 m) whole_length
+          (subst (λ (c : CursorAt). AreInRange (trace_of c.job) 0 (n - 0)) begins
+          (subst (λ (t : NumberedEpoch). AreInRange (trace_of from.job) t.first (t.past_last - t.first)) all within));
+    }
