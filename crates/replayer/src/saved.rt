@@ -57,15 +57,6 @@ impl<'a> Cursor<'a> {
         Ok(CursorState { machine, counters })
     }
 
-    /// The bytes of the machine's window, lent, and all else, with which the cursor can be made again. It takes no memory.
-    pub fn parts(&self) -> (&[u8], Rest)
-        ensures of_job { IsOfJob self.now.job (put_together result.0.now result.1) }
-        ensures again { position_of self.now.job (put_together result.0.now result.1) ≡ self.now }
-        ensures size { length result.0.now ≡ result.1.machine.size }
-    {
-        Stand { run: &self.run }.parts()
-    }
-
     /// The cursor of a state that one of this job's cursors had. It takes no memory.
     pub fn from(job: &'a Job, state: CursorState) -> Cursor<'a>
         requires { IsOfJob job.now state }
