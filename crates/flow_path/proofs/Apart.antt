@@ -11,8 +11,11 @@ use Rattle.flow_model.specs.declared.Loc.{Loc}
 use Rattle.flow_model.specs.declared.Loc.TheVariants.{Reg, Mem}
 use Rattle.flow_model.specs.declared.Rule.TheVariants.{Index}
 use Rattle.flow_model.specs.Orders.{loc_cmp}
-use Rattle.flow_model.specs.Flow.{Target, lane, lanes, to_memory, with_base, loc_eq}
+use Rattle.flow_model.specs.Flow.{Target, lane, lanes, all_lanes, in_first_lane, to_register, to_memory, with_base, loc_eq}
 use Rattle.flow_model.specs.Ranges.{IsLocation, AreLocations, IsTable}
+use Rattle.flow_rule.specs.declared.shape.Mixing.{Mixing}
+use Rattle.flow_rule.specs.declared.shape.Mixing.TheVariants.{EachLane, AllLanes, ShiftedLanes, FirstLane}
+use Rattle.flow_rule.specs.Shapes.{mixed_lanes}
 use Rattle.path_model.specs.declared.Arrival.{Arrival}
 use Rattle.path_model.specs.Paths.{arrived, first_of}
 use Rattle.flow_path.specs.declared.nodes.Node.{Node}
@@ -48,6 +51,27 @@ module _ (P : Loc → Type 0) where
     by : (b : Bool) → AllByRecursion P (if b then [] else Reg r 0 ∷ Reg r 1 ∷ Reg r 2 ∷ Reg r 3 ∷ [])
     by true = tt
     by false = (h 0, (h 1, (h 2, (h 3, tt))))
+
+  register_apart : (r : ℕ) (origins : ℕ → List Loc) → ((i : ℕ) → P (Reg r i)) → ((i : ℕ) → AllByRecursion P (origins i)) → IsApart P (to_register r origins)
+  register_apart r origins h k = by (r == 0) where
+    by : (b : Bool) → IsApart P (if b then [] else map (λ i. record { loc = Reg r i; origins = origins i }) (range_with_len 0 4))
+    by true = tt
+    by false = (h 0, k 0, h 1, k 1, h 2, k 2, h 3, k 3, tt)
+
+  in_first : (ls : List Loc) (i : ℕ) → AllByRecursion P ls → AllByRecursion P (in_first_lane ls i)
+  in_first ls i h = by (i == 0) where
+    by : (b : Bool) → AllByRecursion P (if b then ls else [])
+    by true = h
+    by false = tt
+
+  in_mixed : (mixing : Mixing) (a b i : ℕ) → ((j : ℕ) → P (Reg a j)) → ((j : ℕ) → P (Reg b j)) → AllByRecursion P (mixed_lanes mixing a b i)
+  in_mixed EachLane a b i h k = in_union (lane a i) (lane b i) (in_lane a i (h i)) (in_lane b i (k i))
+  in_mixed AllLanes a b i h k = in_union (lanes a) (lanes b) (in_lanes a h) (in_lanes b k)
+  in_mixed ShiftedLanes a b i h k = in_union (lanes a) (lane b 0) (in_lanes a h) (in_lane b 0 (k 0))
+  in_mixed FirstLane a b i h k = in_first (all_lanes a b 0) i (in_union (lanes a) (lanes b) (in_lanes a h) (in_lanes b k))
+
+  pub mixed_apart : (mixing : Mixing) (d a b : ℕ) → ((i : ℕ) → P (Reg d i)) → ((i : ℕ) → P (Reg a i)) → ((i : ℕ) → P (Reg b i)) → IsApart P (to_register d (mixed_lanes mixing a b))
+  mixed_apart mixing d a b x h k = register_apart d (mixed_lanes mixing a b) x (λ i. in_mixed mixing a b i h k)
 
   bytes_apart : (place : ℕ) (origins : ℕ → List Loc) (m n : ℕ) → ((i : ℕ) → i < m + n → P (Mem (wrap (place + i)))) → ((i : ℕ) → AllByRecursion P (origins i))
       → IsApart P (map (λ i. record { loc = Mem (wrap (place + i)); origins = origins i }) (range_with_len m n))

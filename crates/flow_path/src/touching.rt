@@ -20,10 +20,7 @@ pub(crate) fn is_apart(carriers: &Carriers, shape: Shape) -> bool
         Shape::Nothing => true,
         Shape::Clear { rd } => carriers.has_no_lane(rd),
         Shape::Move { rd, rs } => carriers.has_no_lane(rd) && carriers.has_no_lane(rs),
-        Shape::EachLane { rd, rs1, rs2 } => are_apart(carriers, rd, rs1, rs2),
-        Shape::AllLanes { rd, rs1, rs2 } => are_apart(carriers, rd, rs1, rs2),
-        Shape::ShiftedLanes { rd, rs1, rs2 } => are_apart(carriers, rd, rs1, rs2),
-        Shape::FirstLane { rd, rs1, rs2 } => are_apart(carriers, rd, rs1, rs2),
+        Shape::Mixed { rd, rs1, rs2, .. } => are_apart(carriers, rd, rs1, rs2),
         Shape::Load {
             rd,
             base,

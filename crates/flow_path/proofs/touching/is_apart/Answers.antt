@@ -3,7 +3,7 @@ use Rattle.flow_rule.specs.declared.shape.Shape.{Shape}
 use Rattle.flow_rule.specs.Shapes.{targets_of}
 use Rattle.flow_path.specs.Carriers.{HasNothing}
 use Rattle.flow_path.specs.Trails.{IsApart}
-use Rattle.flow_path.proofs.Apart.{store_apart}
+use Rattle.flow_path.proofs.Apart.{mixed_apart, store_apart}
 use Rattle.flow_path.proofs.touching.is_apart.Goals as goal
 
 pub returns-then-are_apart-2 : goal.returns-then-are_apart-2
@@ -12,3 +12,10 @@ returns-then-are_apart-2 c = λ none.
     let lanes = c.are_apart-in-Store.ensures c.if-are_apart-2.true in
     subst (λ (s : Shape). IsApart P (targets_of s)) (sym c.in-Store.is)
     (store_apart P c.in-Store.rs c.in-Store.base c.in-Store.place c.in-Store.size (λ i. (lanes i).0) (λ i. (lanes i).1) (c.has_no_byte-then-are_apart-2.ensures none))
+
+pub returns-in-Mixed : goal.returns-in-Mixed
+returns-in-Mixed c = λ none.
+    let P = HasNothing c.args.carriers.now in
+    let lanes = c.are_apart.ensures none in
+    subst (λ (s : Shape). IsApart P (targets_of s)) (sym c.in-Mixed.is)
+    (mixed_apart P c.in-Mixed.mixing c.in-Mixed.rd c.in-Mixed.rs1 c.in-Mixed.rs2 (λ i. (lanes i).0) (λ i. (lanes i).1) (λ i. (lanes i).2))
