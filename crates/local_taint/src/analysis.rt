@@ -93,8 +93,9 @@ fn follow_plain(cursor: &mut Cursor, until: u64, tracking: &mut Tracking) -> Res
     ensures sound { OnOk result (IsSound tracking.new) }
     ensures followed { OnOk result (Follows (trace_of cursor.old.job) cursor.old.time until tracking.old tracking.new) }
 {
+    let rule = tracking.rule();
     for time in cursor.time()..until {
-        tracking.turn(cursor.next_plain())?;
+        tracking.turn(cursor.next_plain(), rule)?;
     }
     Ok(())
 }

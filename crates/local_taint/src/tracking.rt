@@ -12,7 +12,7 @@ use crate::labels::Nodes;
 use crate::points::{collect_due, collect_first};
 use crate::sinks::{SinkLabel, collect};
 use crate::summary::Summary;
-use flow_model::{InnerSink, StepSeen};
+use flow_model::{InnerSink, Rule, StepSeen};
 use merge_log::MergeLog;
 use no_memory::NoMemory;
 use query_lang::Query;
@@ -70,16 +70,24 @@ impl<'q> Tracking<'q> {
         self.due_after
     }
 
-    /// Turns the labels by one step that is no call, and looks at no point.
+    /// The query's rule.
     #[inline(always)]
-    pub fn turn(&mut self, step: PlainStep) -> Result<(), NoMemory>
+    pub fn rule(&self) -> Rule
+        ensures { result ≡ self.now.query.now.rule }
+    {
+        self.query.rule()
+    }
+
+    /// Turns the labels by one step that is no call, and looks at no point. The rule is the query's: a loop asks for it once.
+    #[inline(always)]
+    pub fn turn(&mut self, step: PlainStep, rule: Rule) -> Result<(), NoMemory>
         requires fits { Fits step.instr }
+        requires rule { rule ≡ self.old.query.now.rule }
         requires sound { IsSound self.old }
         ensures sound { OnOk result (IsSound self.new) }
         ensures turned { OnOk result (IsTurned step self.old self.new) }
     {
         let PlainStep { instr, place } = step;
-        let rule = self.query.rule();
         taint_shadow::plain_step(&mut self.nodes, &mut self.places, &instr, place, rule)
     }
 
@@ -91,7 +99,7 @@ impl<'q> Tracking<'q> {
         ensures sound { OnOk result (IsSound self.new) }
         ensures followed { OnOk result (FollowsStep (seen_at number step) self.old self.new) }
     {
-        self.turn(step)?;
+        self.turn(step, self.rule())?;
         self.note_due(number)?;
         Ok(())
     }

@@ -11,6 +11,9 @@ pub next_plain-requires : goal.next_plain-requires
 next_plain-requires c =
     subst (λ (p : CursorAt). IsPlainAt p.job p.time) (sym c.loop-time.invariant.cursor) (c.requires.plain c.loop-time.time c.loop-time.invariant.begun c.loop-time-test.true)
 
+pub turn-requires-clause-rule : goal.turn-requires-clause-rule
+turn-requires-clause-rule c = c.rule-rule.ensures ∙ ap (λ q. q.now.rule) (sym c.loop-time.invariant.query)
+
 pub loop-time-preserved : goal.loop-time-preserved
 loop-time-preserved c =
     let trace = trace_of c.args.cursor.now.job in
@@ -27,6 +30,7 @@ loop-time-preserved c =
       within = omega arith;
       cursor = made.ensures.moved ∙ ap (λ (p : CursorAt). record p { time = p.time + 1 }) so_far.cursor;
       sound = sound;
+      query = ap (λ (t : Tracking). t.query) turn.rest ∙ so_far.query;
       quiet = quiet;
       followed = λ q first begun.
           plain_step q trace first time c.loop-time.tracking (so_far.followed q first begun) made.result at made.ensures.in_range.fits turned turned turn

@@ -9,6 +9,7 @@ invariant-loop-time l = let job = l.initial.cursor.job in let start = l.initial.
   within : l.time ≤ l.until;
   cursor : l.cursor ≡ record { job = job; time = l.time };
   sound : IsSound l.tracking;
+  query : l.tracking.query ≡ l.initial.tracking.query;
   quiet : l.until ≤ l.tracking.due_after;
   followed : Follows (trace_of job) start l.time l.initial.tracking l.tracking;
 }
