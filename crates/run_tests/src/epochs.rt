@@ -1,17 +1,18 @@
 //! A run whose epochs begin at checkpoints, and an epoch that is analysed by itself.
 
 ghost use Rattle.std.specs.Prelude.{◌≡◌, ◌≤◌, ◌<◌, length};
+ghost use Rattle.flow_model.specs.Ranges.{IsLocation};
 ghost use Rattle.local_taint.specs.Summaries.{summary_of};
 
-use crate::guests::copy_four;
+use crate::guests::{call_and_exit, copy_four, copy_in_two, copy_many, cut_off, trap};
 use checkpoints::Checkpoints;
 use epoch_cut::cuts;
 use epoch_cut::laws::cut_times_are_cutting;
 use flow_model::{Loc, SinkByte, SinkPoint, SourceByte};
-use local_taint::{SinksAhead, Summary, analyse};
+use local_taint::{SinksAhead, Summary, Watching, analyse};
 use merge_log::TermsReader;
-use query_lang::parse;
-use replayer::{Cursor, Next};
+use query_lang::{Query, parse};
+use replayer::{Cursor, Job, Next};
 use std::alloc::Global;
 use std::process::Abort;
 
@@ -109,15 +110,90 @@ fn an_epoch_is_analysed_by_itself(rt: HostRuntime) {
     let alloc = rt.alloc();
     let job = copy_four(&rt, alloc);
     let query = parse(alloc, b"rule copy\nsource all\nsink all\n").expect(&rt, "a query");
-    let cuts = cuts(job.steps(), 12).expect(&rt, "few epochs");
-    let mut tickets = cuts.tickets(alloc).expect(&rt, "memory");
+    let summary = analysed(&rt, alloc, &job, &query);
+    assert_summary(&rt, alloc, &summary);
+}
+
+/// The summary of a run with one epoch, which the analysis of that epoch finds.
+fn analysed(rt: &impl Abort, alloc: Global, job: &Job, query: &Query) -> Summary {
+    let cuts = cuts(job.steps(), job.steps().max(1)).expect(rt, "few epochs");
+    let mut tickets = cuts.tickets(alloc).expect(rt, "memory");
     let Some(ticket) = tickets.pop() else {
         rt.abort()
     };
     if ticket.first() != 0 || ticket.past_last() > job.steps() {
         rt.abort()
     }
-    let cursor = Cursor::start(alloc, &job).expect(&rt, "memory");
-    let summary = analyse(alloc, ticket, cursor, &query).expect(&rt, "memory");
-    assert_summary(&rt, alloc, &summary);
+    let cursor = Cursor::start(alloc, job).expect(rt, "memory");
+    analyse(alloc, ticket, cursor, query).expect(rt, "memory")
+}
+
+/// The summary of the same run, which a watcher of its steps finds.
+fn watched(rt: &impl Abort, alloc: Global, job: &Job, query: &Query) -> Summary {
+    let mut watching = Watching::new(alloc, query).expect(rt, "memory");
+    job.watch(alloc, &mut watching).expect(rt, "memory");
+    watching.finish().expect(rt, "memory")
+}
+
+/// Two readers have read the same terms.
+fn assert_same_terms(rt: &impl Abort, one: &TermsReader, other: &TermsReader) {
+    assert!(rt; one.sources() == other.sources());
+    assert!(rt; one.starts() == other.starts());
+}
+
+/// Two summaries have the same sinks, with the same terms.
+fn assert_same_sinks(rt: &impl Abort, alloc: Global, one: &Summary, other: &Summary) {
+    assert!(rt; one.sink_count() == other.sink_count());
+    let (mut left, mut right) = (TermsReader::new(alloc), TermsReader::new(alloc));
+    for number in 0..one.sink_count() {
+        assert!(rt; one.sink(number) == other.sink(number));
+        one.sink_terms(&mut left, number).expect(rt, "memory");
+        other.sink_terms(&mut right, number).expect(rt, "memory");
+        assert_same_terms(rt, &left, &right);
+    }
+}
+
+/// A location has the same terms at the ends of two epochs.
+fn assert_same_end(rt: &impl Abort, alloc: Global, one: &Summary, other: &Summary, loc: Loc)
+    requires { IsLocation loc }
+{
+    let (mut left, mut right) = (TermsReader::new(alloc), TermsReader::new(alloc));
+    one.end_terms(&mut left, loc).expect(rt, "memory");
+    other.end_terms(&mut right, loc).expect(rt, "memory");
+    assert_same_terms(rt, &left, &right);
+}
+
+/// A watcher of this run's steps finds what the analysis of its one epoch finds: so many sinks.
+fn assert_watched(rt: &impl Abort, alloc: Global, job: &Job, query: &[u8], sinks: usize) {
+    assert!(rt; query.len() <= 4096);
+    let query = parse(alloc, query).expect(rt, "a query");
+    let one = analysed(rt, alloc, job, &query);
+    let other = watched(rt, alloc, job, &query);
+    assert!(rt; other.number() == 0);
+    assert!(rt; other.sink_count() == sinks);
+    assert_same_sinks(rt, alloc, &one, &other);
+    for number in 0..32 {
+        assert_same_end(rt, alloc, &one, &other, Loc::Reg { number, lane: 0 });
+    }
+    for offset in 0..8 {
+        let place = BUFFER + offset;
+        assert_same_end(rt, alloc, &one, &other, Loc::Mem { place });
+    }
+}
+
+/// All bytes that are written, registers before the first step, after plain steps and after calls, memory after a read and at
+/// the end, and a point past the end of the short runs.
+const POINTS: &[u8] =
+    b"rule compute\nsource all\nsink all\nsink reg 10 at 0\nsink reg 10 at 1\nsink reg 11 at 2\n\
+sink reg 10 at 5\nsink reg 10 at 6\nsink mem 65792 4 at 6\nsink mem 65792 4 at 12\nsink reg 12 at 40\n";
+
+#[test]
+fn a_watcher_finds_what_the_analysis_of_one_epoch_finds(rt: HostRuntime) {
+    let alloc = rt.alloc();
+    assert_watched(&rt, alloc, &copy_four(&rt, alloc), POINTS, 32);
+    assert_watched(&rt, alloc, &copy_in_two(&rt, alloc), POINTS, 33);
+    assert_watched(&rt, alloc, &call_and_exit(&rt, alloc), POINTS, 12);
+    assert_watched(&rt, alloc, &cut_off(&rt, alloc), POINTS, 16);
+    assert_watched(&rt, alloc, &trap(&rt, alloc), POINTS, 4);
+    assert_watched(&rt, alloc, &copy_many(&rt, alloc), POINTS, 5032);
 }

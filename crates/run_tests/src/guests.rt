@@ -104,6 +104,28 @@ pub fn trap(rt: &impl Abort, alloc: Global) -> Job {
     )
 }
 
+/// Begins by a call that isn't known, and exits by the next: three steps.
+pub fn call_and_exit(rt: &impl Abort, alloc: Global) -> Job {
+    job_of(
+        rt,
+        alloc,
+        &code![ecall(), li(x17, 93), ecall()],
+        b"\x01\0\0\0\0\0\0\0\
+        \x04\0\0\0\0\0\0\0\0\
+        \x05\x02\0\0\0\xda\xff\xff\xff",
+    )
+}
+
+/// Counts without end, and is cut off after five steps.
+pub fn cut_off(rt: &impl Abort, alloc: Global) -> Job {
+    job_of(
+        rt,
+        alloc,
+        &code![addi(x5, x5, 1), beq(x0, x0, -4)],
+        b"\x01\0\0\0\0\0\0\0\x07\x05\0\0\0",
+    )
+}
+
 const COUNT_DOWN: &[Instr] = &code![
     li(x5, 2047),
     addi(x5, x5, -1),
