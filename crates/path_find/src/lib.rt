@@ -9,9 +9,11 @@
 mod answers;
 mod finding;
 pub mod laws;
+mod pairs;
 mod passes;
 mod sinks;
 
 pub use answers::answer;
 pub use finding::{Found, find_path};
+pub use pairs::first_pair;
 pub use passes::stops;

@@ -1,0 +1,24 @@
+//! The pair whose path is told.
+
+ghost use Rattle.std.specs.Prelude.{◌≡◌};
+ghost use Rattle.path_model.specs.Answer.{first_pair as first_of_rows};
+
+use path_model::Pair;
+use sink_collect::SinkSet;
+
+/// The first pair of rows: the first row that lists a source byte, and the first byte that it lists. None where no row lists
+/// any.
+pub fn first_pair(rows: &[SinkSet]) -> Option<Pair>
+    ensures { result ≡ first_of_rows rows.now }
+{
+    for row in rows {
+        let sources = row.sources();
+        if !sources.is_empty() {
+            return Some(Pair {
+                sink: row.sink(),
+                source: sources[0],
+            });
+        }
+    }
+    None
+}
