@@ -32,6 +32,23 @@ pub(crate) fn follow_instruction(
     if is_apart(carriers, shape_of(instr, place, rule)) {
         return Ok(());
     }
+    carry_by_instruction(nodes, carriers, rule, number, instr, place)
+}
+
+/// What is at the origins of an instruction arrives at its targets, in the step of this number. It is a function of its own, so
+/// that the loop over the steps holds no room for the table.
+fn carry_by_instruction(
+    nodes: &mut Nodes,
+    carriers: &mut Carriers,
+    rule: Rule,
+    number: u64,
+    instr: &Instr,
+    place: u32,
+) -> Result<(), NoMemory>
+    requires fits { Fits instr.now }
+    requires standing { AreStanding nodes.old carriers.old }
+    ensures { OnOk result (Carries nodes.old carriers.old number (flow_of rule instr.now place) nodes.new carriers.new) }
+{
     carry(nodes, carriers, number, &flow(instr, place, rule))
 }
 

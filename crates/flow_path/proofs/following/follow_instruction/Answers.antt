@@ -1,5 +1,4 @@
-use Rattle.std.proofs.Common.{sym, subst}
-use Rattle.flow_model.specs.Ranges.{IsTable}
+use Rattle.std.proofs.Common.{subst}
 use Rattle.flow_model.proofs.Located.{flow_table}
 use Rattle.flow_path.specs.Carriers.{HasNothing}
 use Rattle.flow_path.specs.Trails.{IsApart}
@@ -9,6 +8,3 @@ use Rattle.flow_path.proofs.following.follow_instruction.Goals as goal
 pub returns-then-is_apart : goal.returns-then-is_apart
 returns-then-is_apart c = apart_stays c.args.nodes.now c.args.carriers.now c.args.number _ c.requires.standing (flow_table c.args.rule c.args.instr.now c.args.place c.requires.fits)
     (subst (IsApart (HasNothing c.args.carriers.now)) c.shape_of.ensures.targets (c.is_apart.ensures c.if-is_apart.true))
-
-pub carry-requires-clause-table : goal.carry-requires-clause-table
-carry-requires-clause-table c = subst IsTable (sym c.flow.ensures) (flow_table c.args.rule c.args.instr.now c.args.place c.requires.fits)
