@@ -56,7 +56,7 @@ module _ (P : Loc → Type 0) where
   register_apart r origins h k = by (r == 0) where
     by : (b : Bool) → IsApart P (if b then [] else map (λ i. record { loc = Reg r i; origins = origins i }) (range_with_len 0 4))
     by true = tt
-    by false = (h 0, k 0, h 1, k 1, h 2, k 2, h 3, k 3, tt)
+    by false = (h 0, k 0, (h 1, k 1, (h 2, k 2, (h 3, k 3, tt))))
 
   in_first : (ls : List Loc) (i : ℕ) → AllByRecursion P ls → AllByRecursion P (in_first_lane ls i)
   in_first ls i h = by (i == 0) where

@@ -12,12 +12,11 @@ ghost use Rattle.seq_taint.specs.Runs.{IsSummaryOfRun};
 
 use answer_sets::{Answers, rows};
 use distinct_rows::rows_are_distinct;
-use epoch_cut::{EpochTicket, cuts};
-use local_taint::{Asked, Summary, analyse};
+use local_taint::{Asked, Summary, Watching};
 use merge_log::TermsReader;
 use no_memory::NoMemory;
 use query_lang::Query;
-use replayer::{Cursor, Job};
+use replayer::Job;
 use sink_collect::SinkSet;
 use std::alloc::Global;
 
@@ -38,10 +37,9 @@ pub fn sequential(alloc: Global, job: &Job, query: &Query) -> Result<Vec<SinkSet
 pub fn summary_of_run(alloc: Global, job: &Job, query: &Query) -> Result<Summary, NoMemory>
     ensures { IfOk result (IsSummaryOfRun query.now job.now) }
 {
-    let ticket = whole_run(alloc, job.steps())?;
-    let cursor = Cursor::start(alloc, job)?;
-    let summary = analyse(alloc, ticket, cursor, query)?;
-    Ok(summary)
+    let mut watching = Watching::new(alloc, query)?;
+    job.watch(alloc, &mut watching)?;
+    watching.finish()
 }
 
 /// The rows of a run, of its summary as one epoch. It gives up with NoMemory alone.
@@ -64,18 +62,4 @@ pub fn rows_of_run(
         &Asked::new(alloc),
         &Answers::new(alloc),
     )
-}
-
-/// The ticket of a run of so many steps that is one epoch.
-fn whole_run(alloc: Global, steps: u64) -> Result<EpochTicket, NoMemory>
-    ensures { IfOk result (λ ticket. ticket ≡ record { number = 0; first = 0; past_last = steps }) }
-{
-    let Ok(whole) = cuts(steps, steps.max(1)) else {
-        unreachable!()
-    };
-    let mut tickets = whole.tickets(alloc)?;
-    let Some(ticket) = tickets.pop() else {
-        unreachable!()
-    };
-    Ok(ticket)
 }

@@ -1,8 +1,11 @@
-use Rattle.std.proofs.Common.{ℕ, ◌∙◌, ap}
-use Rattle.seq_taint.proofs.Whole.{summary_of_ticket}
+use Rattle.std.proofs.lemmas.Result.{IfOk-weaker}
+use Rattle.log_model.specs.Logs.{steps}
+use Rattle.replayer.specs.Jobs.{trace_of}
+use Rattle.seq_taint.specs.Runs.{IsSummaryOfRun}
 use Rattle.seq_taint.proofs.summary_of_run.Goals as goal
 
 pub returns : goal.returns
 returns c =
-    summary_of_ticket c.args.query.now c.args.job.now c.in_ok-summary.summary c.in_ok-cursor.cursor c.in_ok-ticket.ticket
-    c.in_ok-cursor.ensures (c.in_ok-ticket.ensures ∙ ap (λ (n : ℕ). record { number = 0; first = 0; past_last = n }) c.steps.ensures) c.in_ok-summary.ensures.summary c.in_ok-summary.ensures.in_range
+    let query = c.args.query.now in
+    let job = c.args.job.now in
+    IfOk-weaker c.finish.result _ (IsSummaryOfRun query job) (λ e found. found query (trace_of job) (steps job.log) (c.in_ok-watch.ensures query c.in_ok-watching.ensures)) c.finish.ensures.found
