@@ -2,7 +2,6 @@ mod KeepingLemmas
 mod Delivered
 mod Fitting
 mod Working
-mod Cutting
 mod Recording
 mod Refused
 mod Reporting

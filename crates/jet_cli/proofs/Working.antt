@@ -3,7 +3,6 @@ use Rattle.std.proofs.Common.{◌≡◌, ◌∙◌, ap, ap₂, sym, refl, ℕ, �
 use Rattle.std.specs.Prelude.{codes, if◌then◌else◌}
 use Rattle.std.specs.List.{filter}
 use Rattle.std.specs.Fmt.{decimal}
-use Rattle.isa.specs.Machine.{State}
 use Rattle.log_model.specs.Logs.{Log}
 use Rattle.outer_io.specs.Faults.{Rose}
 use Rattle.outer_io.specs.Tells.{Tells}
@@ -36,7 +35,7 @@ use Rattle.jet_files.specs.Outcome.{AskAlike, IsKeptFor, Comes, Found, Follows, 
 use Rattle.jet_files.proofs.Composing.{comes-then, follows-stops}
 use Rattle.jet_cli.specs.declared.work.Listing.{Listing}
 use Rattle.jet_cli.specs.declared.work.Listing.TheVariants.{BySink, BySource}
-use Rattle.jet_cli.specs.Answers.{IsWorkOf, given_by, IsGivenAlike, AreGivenAlike}
+use Rattle.jet_cli.specs.Answers.{IsWorkOf, fits_and_is_cut, given_by, IsGivenAlike, AreGivenAlike}
 use Rattle.jet_cli.proofs.Fitting.{fitting_start-ok}
 
 -- the first calls gave a value, and what the work on it says is that of all
@@ -49,14 +48,6 @@ follows-answer R Q T x f g step first (Err r) work =
     IsOwedTo-map (by_reading (Q (Err r)) ⊥) (by_reading (Tells f.files g.files (Found (λ file. T file (Err r)))) (Rose f.faults g.faults))
     (λ p. p) (λ q. tells-map f.files g.files (Found (λ file. R file (Ok x))) (Found (λ file. T file (Err r))) (λ o n d. record { found = step o.file (Err r) d.found q }) first)
     (λ p. absurd p) (λ p. p) r work
-
--- ---- the answer of some work
-
--- what holds of the answer of some work
-work-holds : (answer : Result (List ℕ) Refusal) (is : Result (List ℕ) Refusal → Type 0) → ((outcome : Result (List ℕ) Refusal) → answer ≡ outcome → is outcome)
-    → (outcome : Result (List ℕ) Refusal) → IsWork answer outcome → IsWorkOf is outcome
-work-holds answer is step (Ok x) work = step (Ok x) work
-work-holds answer is step (Err r) work = IsOwedTo-map (by_reading (answer ≡ Err r) ⊥) (by_reading (is (Err r)) ⊥) (λ p. p) (step (Err r)) (λ p. p) (λ p. p) r work
 
 -- ---- a query that was read
 
@@ -95,19 +86,29 @@ after_run program log read next run = comes-then (λ file. run_at file program l
 fitting : (run : Run) (job : Job) → IsChecked run.program.bytes run.program.image run.log job → fitting_start run.program run.log ≡ Ok job.start
 fitting run job checked = fitting_start-ok run.program run.log job.start checked.digest checked.start checked.agrees
 
+-- the log fits, but there are too many epochs
+pub cutting-stops : (told : Option ℕ) (run : Run) (job : Job) (r : Refusal) → IsChecked run.program.bytes run.program.image run.log job → IsWork (told_check told run.log) (Err r)
+    → IsWork (fits_and_is_cut told run) (Err r)
+cutting-stops told run job r checked =
+    IsOwedTo-map (by_reading (told_check told run.log ≡ Err r) ⊥) (by_reading (fits_and_is_cut told run ≡ Err r) ⊥) (λ p. p)
+    (λ e. and_then-ok (fitting_start run.program run.log) (λ start. told_check told run.log) job.start (fitting run job checked) ∙ e) (λ p. p) (λ p. p) r
+
 -- a text over the trace
-traced-cut : (told : Option ℕ) (run : Run) (given : List StepSeen → List ℕ) (job : Job) → IsChecked run.program.bytes run.program.image run.log job
-    → traced_answer told run given ≡ cut_answer told job.start job.log given
-traced-cut told run given job checked =
+traced-gives : (told : Option ℕ) (run : Run) (given : List StepSeen → List ℕ) (job : Job) (text : List ℕ) → IsChecked run.program.bytes run.program.image run.log job → told_check told run.log ≡ Ok tt
+    → text ≡ given (trace_of job) → traced_answer told run given ≡ Ok text
+traced-gives told run given job text checked few is =
     and_then-ok (fitting_start run.program run.log) (λ start. cut_answer told start run.log given) job.start (fitting run job checked)
-    ∙ ap (λ (l : Log). cut_answer told job.start l given) (sym checked.same_log)
+    ∙ and_then-ok (told_check told run.log) (λ few. Ok (given (trace job.start run.log))) tt few
+    ∙ ap (λ (l : Log). Ok (given (trace job.start l))) (sym checked.same_log) ∙ ap Ok (sym is)
 
-traced-stops : (told : Option ℕ) (run : Run) (given : List StepSeen → List ℕ) (r : Refusal) → fitting_start run.program run.log ≡ Err r → traced_answer told run given ≡ Err r
-traced-stops told run given r e = and_then-err (fitting_start run.program run.log) (λ start. cut_answer told start run.log given) r e
+both_stop : {A B : Type 0} (fits : Result A Refusal) (check : Result (Unit {0}) Refusal) (next : A → B) (r : Refusal) → and_then fits (λ x. check) ≡ Err r
+    → and_then fits (λ x. and_then check (λ few. Ok (next x))) ≡ Err r
+both_stop (Ok x) (Ok few) next r e = cc
+both_stop (Ok x) (Err s) next r e = cc
+both_stop (Err s) check next r e = cc
 
-same_cut : (told : Option ℕ) (start : State) (log : Log) (given other : List StepSeen → List ℕ) → given (trace start log) ≡ other (trace start log)
-    → cut_answer told start log given ≡ cut_answer told start log other
-same_cut told start log given other e = ap (λ (text : List ℕ). and_then (told_check told log) (λ few. Ok text)) e
+traced-stops : (told : Option ℕ) (run : Run) (given : List StepSeen → List ℕ) (r : Refusal) → fits_and_is_cut told run ≡ Err r → traced_answer told run given ≡ Err r
+traced-stops told run given r = both_stop (fitting_start run.program run.log) (told_check told run.log) (λ start. given (trace start run.log)) r
 
 -- ---- the listing of a query
 
@@ -118,20 +119,18 @@ pub same_listing : (listing : Listing) (q p : Query) (steps : List StepSeen) →
 same_listing BySink q p steps a = ap report_text (same_rows q p steps a)
 same_listing BySource q p steps a = ap₂ (λ (rs : List Row) (bs : List SourceByte). influence_text (turned rs bs)) (same_rows q p steps a) (same_sources q p steps a)
 
--- a log that doesn't fit
-pub listing-stops : (listing : Listing) (told : Option ℕ) (run : Run) (kept : Query) (r : Refusal) → IsWork (fitting_start run.program run.log) (Err r)
+-- a log that doesn't fit, or too many epochs
+pub listing-stops : (listing : Listing) (told : Option ℕ) (run : Run) (kept : Query) (r : Refusal) → IsWork (fits_and_is_cut told run) (Err r)
     → IsWorkOf (IsGivenAlike listing told run kept) (Err r)
 listing-stops listing told run kept r =
-    IsOwedTo-map (by_reading (fitting_start run.program run.log ≡ Err r) ⊥) (by_reading (IsGivenAlike listing told run kept (Err r)) ⊥) (λ p. p)
+    IsOwedTo-map (by_reading (fits_and_is_cut told run ≡ Err r) ⊥) (by_reading (IsGivenAlike listing told run kept (Err r)) ⊥) (λ p. p)
     (λ e q alike. traced-stops told run (given_by listing q) r e) (λ p. p) (λ p. p) r
 
 -- what one query gives is what every query gives that asks alike
-pub listing-gives : (listing : Listing) (told : Option ℕ) (run : Run) (kept : Query) (job : Job) → IsChecked run.program.bytes run.program.image run.log job
-    → (outcome : Result (List ℕ) Refusal) → IsWork (cut_answer told job.start job.log (given_by listing kept)) outcome → IsWorkOf (IsGivenAlike listing told run kept) outcome
-listing-gives listing told run kept job checked =
-    work-holds (cut_answer told job.start job.log (given_by listing kept)) (IsGivenAlike listing told run kept)
-    (λ outcome e q alike. traced-cut told run (given_by listing q) job checked
-    ∙ same_cut told job.start job.log (given_by listing q) (given_by listing kept) (sym (same_listing listing kept q (trace_of job) alike)) ∙ e)
+pub listing-gives : (listing : Listing) (told : Option ℕ) (run : Run) (kept : Query) (job : Job) (text : List ℕ) → IsChecked run.program.bytes run.program.image run.log job → told_check told run.log ≡ Ok tt
+    → text ≡ given_by listing kept (trace_of job) → IsGivenAlike listing told run kept (Ok text)
+listing-gives listing told run kept job text checked few is q alike =
+    traced-gives told run (given_by listing q) job text checked few (is ∙ same_listing listing kept q (trace_of job) alike)
 
 -- ---- several queries
 
@@ -167,20 +166,18 @@ rules-stop told run kept r =
 one_rule-check : (kept qs : List Query) → AskAlike kept qs → first_other_rule kept ≡ None → rules_check qs ≡ Ok tt
 one_rule-check kept qs alike e = sym (same_check kept qs alike) ∙ ap unless_other_rule e
 
--- a log that doesn't fit
-pub reports-stop : (told : Option ℕ) (run : Run) (kept : List Query) (r : Refusal) → first_other_rule kept ≡ None → IsWork (fitting_start run.program run.log) (Err r)
+-- a log that doesn't fit, or too many epochs
+pub reports-stop : (told : Option ℕ) (run : Run) (kept : List Query) (r : Refusal) → first_other_rule kept ≡ None → IsWork (fits_and_is_cut told run) (Err r)
     → IsWorkOf (AreGivenAlike told run kept) (Err r)
 reports-stop told run kept r one =
-    IsOwedTo-map (by_reading (fitting_start run.program run.log ≡ Err r) ⊥) (by_reading (AreGivenAlike told run kept (Err r)) ⊥) (λ p. p)
+    IsOwedTo-map (by_reading (fits_and_is_cut told run ≡ Err r) ⊥) (by_reading (AreGivenAlike told run kept (Err r)) ⊥) (λ p. p)
     (λ e qs alike. and_then-ok (rules_check qs) (λ same. traced_answer told run (reports_of qs)) tt (one_rule-check kept qs alike one) ∙ traced-stops told run (reports_of qs) r e) (λ p. p) (λ p. p) r
 
-pub reports-give : (told : Option ℕ) (run : Run) (kept : List Query) (job : Job) → first_other_rule kept ≡ None → IsChecked run.program.bytes run.program.image run.log job
-    → (outcome : Result (List ℕ) Refusal) → IsWork (cut_answer told job.start job.log (reports_of kept)) outcome → IsWorkOf (AreGivenAlike told run kept) outcome
-reports-give told run kept job one checked =
-    work-holds (cut_answer told job.start job.log (reports_of kept)) (AreGivenAlike told run kept)
-    (λ outcome e qs alike. and_then-ok (rules_check qs) (λ same. traced_answer told run (reports_of qs)) tt (one_rule-check kept qs alike one)
-    ∙ traced-cut told run (reports_of qs) job checked
-    ∙ same_cut told job.start job.log (reports_of qs) (reports_of kept) (sym (same_reports 1 kept qs (trace_of job) alike)) ∙ e)
+pub reports-give : (told : Option ℕ) (run : Run) (kept : List Query) (job : Job) (text : List ℕ) → first_other_rule kept ≡ None → IsChecked run.program.bytes run.program.image run.log job
+    → told_check told run.log ≡ Ok tt → text ≡ reports_of kept (trace_of job) → AreGivenAlike told run kept (Ok text)
+reports-give told run kept job text one checked few is qs alike =
+    and_then-ok (rules_check qs) (λ same. traced_answer told run (reports_of qs)) tt (one_rule-check kept qs alike one)
+    ∙ traced-gives told run (reports_of qs) job text checked few (is ∙ same_reports 1 kept qs (trace_of job) alike)
 
 -- ---- a text that the log gives
 

@@ -14,7 +14,7 @@ use Rattle.report_model.specs.Together.{only, together, first_other_rule}
 use Rattle.jet_model.specs.Outcomes.{and_then}
 use Rattle.jet_model.specs.Contents.{Contents, Names, Run}
 use Rattle.jet_model.specs.Report.{report_of, influence_of, reports_of}
-use Rattle.jet_model.specs.Answer.{Limits, Source, IsCaptureAnswer, IsRecordAnswer, traced_answer, query_answer, rules_check, queries_answer, fitting_start, limited_text, text_answer, log_answer, convert_answer}
+use Rattle.jet_model.specs.Answer.{Limits, Source, IsCaptureAnswer, IsRecordAnswer, traced_answer, query_answer, rules_check, queries_answer, fitting_start, told_check, limited_text, text_answer, log_answer, convert_answer}
 use Rattle.workload_model.specs.Answer.{IsBenchAnswer}
 use Rattle.jet_refusal.specs.Causes.{IsOwedTo}
 use Rattle.jet_cli.specs.declared.work.Listing.{Listing}
@@ -76,6 +76,10 @@ IsWorkOf is_answer (Err r) = IsOwedTo (by_reading (is_answer (Err r)) ⊥) r
 abbrev pub given_by : Listing → Query → List StepSeen → List ℕ
 given_by BySink = report_of
 given_by BySource = influence_of
+
+-- the log fits its program, and then its run has few epochs of the length that is told
+abbrev pub fits_and_is_cut : Option ℕ → Run → Result (Unit {0}) Refusal
+fits_and_is_cut told run = and_then (fitting_start run.program run.log) (λ start. told_check told run.log)
 
 -- what is made of a run without a query, if its log fits its program: its numbers, what it wrote on a channel, or its log in version 2
 abbrev pub product_of : Product → Run → Result (List ℕ) Refusal

@@ -122,7 +122,7 @@ pub fn bench<R: Threads + Wait + Sync, G: Gate>(
 {
     let job = workload_job(engine.alloc, seed, steps)?;
     let length = pipeline.epoch.unwrap_or(WORKLOAD_LENGTH);
-    let cuts = cuts_of(&job, length)?;
+    let cuts = cuts_of(job.log(), length)?;
     let text = lines(engine, &job, cuts, pipeline)?;
     Ok(text)
 }

@@ -5,20 +5,19 @@ ghost use Rattle.report_model.specs.Query.{has_source};
 ghost use Rattle.report_model.specs.Influence.{chosen_sources, turned, influence_text as text_of_influence};
 ghost use Rattle.jet_model.specs.Report.{influence_of as influence_text_of};
 ghost use Rattle.replayer.specs.Jobs.{trace_of};
-ghost use Rattle.jet_model.specs.Answer.{cut_answer};
 ghost use Rattle.jet_model.specs.Sources.{sources_on};
 ghost use Rattle.jet_words.specs.Commands.{IsPipeline};
-ghost use Rattle.jet_files.specs.Outcome.{IsWork, seen_by, bytes_of};
+ghost use Rattle.run_query.specs.Preparing.{IsPrepared};
 
 use crate::engine::Engine;
 use crate::rows::rows_of;
 use flow_model::SourceByte;
-use jet_refusal::Refusal;
 use jet_words::Pipeline;
 use no_memory::NoMemory;
 use outer_io::Gate;
 use query_lang::Query;
 use replayer::Job;
+use run_query::Prepared;
 use sink_collect::{Report, influence_text, turn_round};
 use std::alloc::Global;
 use std::sync::Wait;
@@ -82,13 +81,13 @@ pub fn influence_of<R: Threads + Wait + Sync, G: Gate>(
     engine: &Engine<R, G>,
     job: &Job,
     query: &Query,
+    prepared: Prepared,
     pipeline: Pipeline,
-) -> Result<Vec<u8>, Refusal>
-    requires { IsPipeline pipeline }
-    ensures { IsWork (cut_answer pipeline.epoch job.now.start job.now.log (influence_text_of query.now))
-        (seen_by bytes_of result) }
+) -> Result<Vec<u8>, NoMemory>
+    requires prepared { IsPrepared query.now job.now prepared }
+    requires pipeline { IsPipeline pipeline }
+    ensures { IfOk result (λ text. text.items ≡ influence_text_of query.now (trace_of job.now)) }
 {
-    let report = rows_of(engine, job, query, pipeline)?;
-    let text = turned_text(engine.alloc, job, query, &report)?;
-    Ok(text)
+    let report = rows_of(engine, job, query, prepared, pipeline)?;
+    turned_text(engine.alloc, job, query, &report)
 }

@@ -7,8 +7,10 @@ ghost use Rattle.report_model.specs.Query.{Query as Choice};
 ghost use Rattle.report_model.specs.Rows.{rows};
 ghost use Rattle.jet_model.specs.Report.{report_of, reports_of as reports_by};
 ghost use Rattle.jet_words.specs.Commands.{IsPipeline};
-ghost use Rattle.jet_model.specs.Answer.{cut_answer, rules_check};
-ghost use Rattle.jet_files.specs.Outcome.{IsWork, seen_by, bytes_of};
+ghost use Rattle.jet_model.specs.Answer.{rules_check};
+ghost use Rattle.jet_files.specs.Outcome.{IsWork};
+ghost use Rattle.replayer.specs.Jobs.{trace_of};
+ghost use Rattle.run_query.specs.Preparing.{IsPrepared};
 ghost use Rattle.jet_cli.specs.Answers.{IsUnion, numbered_text};
 
 use crate::engine::Engine;
@@ -20,6 +22,7 @@ use no_memory::NoMemory;
 use outer_io::Gate;
 use query_lang::{Query, together};
 use replayer::Job;
+use run_query::Prepared;
 use sink_collect::{Report, text};
 use std::alloc::Global;
 use std::sync::Wait;
@@ -30,15 +33,15 @@ pub fn report_text<R: Threads + Wait + Sync, G: Gate>(
     engine: &Engine<R, G>,
     job: &Job,
     query: &Query,
+    prepared: Prepared,
     pipeline: Pipeline,
-) -> Result<Vec<u8>, Refusal>
-    requires { IsPipeline pipeline }
-    ensures { IsWork (cut_answer pipeline.epoch job.now.start job.now.log (report_of query.now))
-        (seen_by bytes_of result) }
+) -> Result<Vec<u8>, NoMemory>
+    requires prepared { IsPrepared query.now job.now prepared }
+    requires pipeline { IsPipeline pipeline }
+    ensures { IfOk result (λ text. text.items ≡ report_of query.now (trace_of job.now)) }
 {
-    let report = rows_of(engine, job, query, pipeline)?;
-    let text = text(engine.alloc, &report)?;
-    Ok(text)
+    let report = rows_of(engine, job, query, prepared, pipeline)?;
+    text(engine.alloc, &report)
 }
 
 /// One query that chooses what any of several does. It gives up with `Rules`, where their rules differ, or is out of memory.
@@ -95,15 +98,15 @@ pub fn reports_of<R: Threads + Wait + Sync, G: Gate>(
     job: &Job,
     union: &Query,
     queries: &[Query],
+    prepared: Prepared,
     pipeline: Pipeline,
-) -> Result<Vec<u8>, Refusal>
+) -> Result<Vec<u8>, NoMemory>
     requires union { IsUnion queries.now union.now }
     requires few { length queries.now ≤ 16 }
+    requires prepared { IsPrepared union.now job.now prepared }
     requires pipeline { IsPipeline pipeline }
-    ensures { IsWork (cut_answer pipeline.epoch job.now.start job.now.log (reports_by queries.now))
-        (seen_by bytes_of result) }
+    ensures { IfOk result (λ text. text.items ≡ reports_by queries.now (trace_of job.now)) }
 {
-    let all = rows_of(engine, job, union, pipeline)?;
-    let text = own_reports(engine.alloc, &all, queries)?;
-    Ok(text)
+    let all = rows_of(engine, job, union, prepared, pipeline)?;
+    own_reports(engine.alloc, &all, queries)
 }

@@ -7,8 +7,9 @@ ghost use Rattle.epoch_model.specs.ByLength.{cut_times};
 ghost use Rattle.epoch_model.specs.Cutting.{IsCutting};
 ghost use Rattle.jet_words.specs.Commands.{IsPipeline};
 ghost use Rattle.jet_model.specs.Lengths.{epoch_length, cuts_by};
-ghost use Rattle.jet_model.specs.Answer.{epochs_check, told_check, cut_answer};
+ghost use Rattle.jet_model.specs.Answer.{epochs_check, told_check};
 ghost use Rattle.jet_files.specs.Outcome.{IsWork, seen_by};
+ghost use Rattle.run_query.specs.Preparing.{IsPrepared};
 
 use crate::engine::Engine;
 use epoch_cut::laws::cut_times_are_cutting;
@@ -18,7 +19,9 @@ use jet_words::Pipeline;
 use no_memory::NoMemory;
 use outer_io::Gate;
 use query_lang::Query;
-use replayer::Job;
+use replay_log::Log;
+use replayer::{Job, steps_of};
+use run_query::{Prepared, query_prepared};
 use sink_collect::Report;
 use std::sync::Wait;
 use std::thread::Threads;
@@ -38,71 +41,53 @@ fn epoch_length(told: Option<u64>, workers: u32, steps: u64) -> u64
     }
 }
 
-/// The cuts of the run into epochs of this length. It gives up with `TooManyEpochs`.
-pub fn cuts_of(job: &Job, epoch: u64) -> Result<Cuts, Refusal>
+/// The cuts of a log's run into epochs of this length. It gives up with `TooManyEpochs`.
+pub fn cuts_of(log: &Log, epoch: u64) -> Result<Cuts, Refusal>
     requires { 1 ≤ epoch }
-    ensures times { IfOk result (λ cuts. cuts ≡ cut_times (steps job.now.log) epoch) }
-    ensures check { IsWork (epochs_check epoch job.now.log) (seen_by (λ cuts. tt) result) }
-    ensures cutting { IfOk result (λ cuts. IsCutting (steps job.now.log) cuts) }
+    ensures times { IfOk result (λ cuts. cuts ≡ cut_times (steps log.now) epoch) }
+    ensures check { IsWork (epochs_check epoch log.now) (seen_by (λ cuts. tt) result) }
+    ensures cutting { IfOk result (λ cuts. IsCutting (steps log.now) cuts) }
 {
     cut_times_are_cutting();
-    match cuts(job.steps(), epoch) {
+    match cuts(steps_of(log), epoch) {
         Ok(cuts) => Ok(cuts),
         Err(CutFault::TooMany(count)) => Err(Refusal::TooManyEpochs(count)),
     }
 }
 
-/// The cuts of the run into epochs, as the words tell their length, or as there are workers. It gives up with
+/// The cuts of a log's run into epochs, as the words tell their length, or as there are workers. It gives up with
 /// `TooManyEpochs`, where a length is told.
-fn cuts_by(job: &Job, pipeline: Pipeline) -> Result<Cuts, Refusal>
+pub fn cuts_by(log: &Log, pipeline: Pipeline) -> Result<Cuts, Refusal>
     requires { IsPipeline pipeline }
-    ensures times { IfOk result (λ cuts. cuts ≡ cuts_by pipeline.epoch pipeline.workers (steps job.now.log)) }
-    ensures check { IsWork (told_check pipeline.epoch job.now.log) (seen_by (λ cuts. tt) result) }
-    ensures cutting { IfOk result (λ cuts. IsCutting (steps job.now.log) cuts) }
+    ensures times { IfOk result (λ cuts. cuts ≡ cuts_by pipeline.epoch pipeline.workers (steps log.now)) }
+    ensures check { IsWork (told_check pipeline.epoch log.now) (seen_by (λ cuts. tt) result) }
+    ensures cutting { IfOk result (λ cuts. IsCutting (steps log.now) cuts) }
 {
-    cuts_of(
-        job,
-        epoch_length(pipeline.epoch, pipeline.workers, job.steps()),
-    )
+    let length = epoch_length(pipeline.epoch, pipeline.workers, steps_of(log));
+    cuts_of(log, length)
 }
 
-/// The rows of a query over the run, of which the epochs are analysed.
-fn analysed<R: Threads + Wait + Sync, G: Gate>(
+/// The rows of a query over the run, of what was prepared for it. It gives up with NoMemory alone.
+pub fn rows_of<R: Threads + Wait + Sync, G: Gate>(
     engine: &Engine<R, G>,
     job: &Job,
     query: &Query,
-    cuts: Cuts,
+    prepared: Prepared,
     pipeline: Pipeline,
 ) -> Result<Report, NoMemory>
-    requires cuts { IsCutting (steps job.now.log) cuts }
+    requires prepared { IsPrepared query.now job.now prepared }
     requires pipeline { IsPipeline pipeline }
     ensures { IfOk result (λ report. report ≡ rows query.now (trace_of job.now)) }
 {
-    let (report, _, _) = run_query::query(
+    let (report, _, _) = query_prepared(
         engine.rt,
         engine.alloc,
         engine.gate,
         job,
         query,
-        cuts,
+        prepared,
         pipeline.workers,
         pipeline.link,
     )?;
-    Ok(report)
-}
-
-/// The rows of a query over the run. It gives up with `TooManyEpochs`, where the run has too many epochs of the length
-/// that is told, or is out of memory.
-pub fn rows_of<R: Threads + Wait + Sync, G: Gate>(
-    engine: &Engine<R, G>,
-    job: &Job,
-    query: &Query,
-    pipeline: Pipeline,
-) -> Result<Report, Refusal>
-    requires { IsPipeline pipeline }
-    ensures { IsWork (cut_answer pipeline.epoch job.now.start job.now.log (rows query.now)) result }
-{
-    let cuts = cuts_by(job, pipeline)?;
-    let report = analysed(engine, job, query, cuts, pipeline)?;
     Ok(report)
 }

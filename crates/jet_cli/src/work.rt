@@ -1,26 +1,31 @@
 //! The work over a program and a log that were read: the log is fitted to its program, the run is replayed, and a text is
 //! made of it.
-ghost use Rattle.std.specs.Prelude.{◌≡◌, ◌≤◌, Ok, Err, length, IfOk, IfErr};
+ghost use Rattle.std.specs.Prelude.{◌≡◌, ◌≤◌, Ok, Err, length, IfOk, IfErr, OnOk};
 ghost use Rattle.elf_model.specs.Image.{image as image_of_file};
 ghost use Rattle.replayer.specs.Checks.{IsChecked};
+ghost use Rattle.replayer.specs.Jobs.{trace_of};
+ghost use Rattle.run_query.specs.Preparing.{IsPrepared};
 ghost use Rattle.jet_words.specs.Commands.{IsPipeline};
-ghost use Rattle.jet_model.specs.Answer.{fitting_start, cut_answer};
+ghost use Rattle.jet_model.specs.Answer.{fitting_start, told_check};
 ghost use Rattle.jet_files.specs.Outcome.{IsWork, seen_by, bytes_of};
 ghost use Rattle.jet_files.specs.Views.{run_of};
-ghost use Rattle.jet_cli.specs.Answers.{IsWorkOf, IsGivenAlike, AreGivenAlike, given_by, product_of};
+ghost use Rattle.jet_cli.specs.Answers.{IsWorkOf, IsGivenAlike, AreGivenAlike, fits_and_is_cut, given_by, product_of};
 
 use crate::engine::Engine;
 use crate::influence::influence_of;
 use crate::reports::{report_text, reports_of, union_of};
+use crate::rows::cuts_by;
 use elf_image::Image;
 use jet_files::{LONGEST_FILE, Program, Run};
 use jet_refusal::Refusal;
 use jet_words::Pipeline;
+use no_memory::NoMemory;
 use outer_io::Gate;
 use query_lang::Query;
 use replay_log::{Log, write_log};
 use replayer::Job;
 use run_output::{output_on, summary_text};
+use run_query::{Prepared, check_for};
 use std::alloc::Global;
 use std::sync::Wait;
 use std::thread::Threads;
@@ -46,6 +51,35 @@ fn fitted_run(alloc: Global, run: Run) -> Result<Job, Refusal>
     fitted(alloc, &bytes, image, log)
 }
 
+/// A run whose log fits its program, with what the query needs of it: both come of one replay. The misfits of the log come
+/// first, and then `TooManyEpochs`, where a length is told.
+fn prepared_run<R: Threads + Wait + Sync, G: Gate>(
+    engine: &Engine<R, G>,
+    run: Run,
+    query: &Query,
+    pipeline: Pipeline,
+) -> Result<(Job, Prepared), Refusal>
+    requires image { image_of_file run.program.bytes.items ≡ Ok run.program.image }
+    requires pipeline { IsPipeline pipeline }
+    ensures checked { IfOk result (λ r. IsChecked run.program.bytes.items run.program.image run.log r.0) }
+    ensures few { OnOk result (told_check pipeline.epoch run.log ≡ Ok tt) }
+    ensures prepared { IfOk result (λ r. IsPrepared query.now r.0 r.1) }
+    ensures err { IfErr result (λ r. IsWork (fits_and_is_cut pipeline.epoch (run_of run)) (Err r)) }
+{
+    let Run { program, log } = run;
+    let Program { bytes, image } = program;
+    match cuts_by(&log, pipeline) {
+        Ok(cuts) => {
+            let prepared = check_for(engine.alloc, engine.gate, &bytes, image, log, query, cuts)?;
+            Ok(prepared)
+        }
+        Err(refusal) => {
+            let _job = fitted(engine.alloc, &bytes, image, log)?;
+            Err(refusal)
+        }
+    }
+}
+
 /// What is listed of a query's rows.
 #[derive(Clone, Copy)]
 pub enum Listing {
@@ -55,21 +89,22 @@ pub enum Listing {
     BySource,
 }
 
-/// The text of a listing.
+/// The text of a listing. It gives up with NoMemory alone.
 fn listed<R: Threads + Wait + Sync, G: Gate>(
     engine: &Engine<R, G>,
     job: &Job,
     query: &Query,
+    prepared: Prepared,
     listing: Listing,
     pipeline: Pipeline,
-) -> Result<Vec<u8>, Refusal>
-    requires { IsPipeline pipeline }
-    ensures { IsWork (cut_answer pipeline.epoch job.now.start job.now.log (given_by listing query.now))
-        (seen_by bytes_of result) }
+) -> Result<Vec<u8>, NoMemory>
+    requires prepared { IsPrepared query.now job.now prepared }
+    requires pipeline { IsPipeline pipeline }
+    ensures { IfOk result (λ text. text.items ≡ given_by listing query.now (trace_of job.now)) }
 {
     match listing {
-        Listing::BySink => report_text(engine, job, query, pipeline),
-        Listing::BySource => influence_of(engine, job, query, pipeline),
+        Listing::BySink => report_text(engine, job, query, prepared, pipeline),
+        Listing::BySource => influence_of(engine, job, query, prepared, pipeline),
     }
 }
 
@@ -85,8 +120,9 @@ pub fn list<R: Threads + Wait + Sync, G: Gate>(
     requires pipeline { IsPipeline pipeline }
     ensures { IsWorkOf (IsGivenAlike listing pipeline.epoch (run_of run) query.now) (seen_by bytes_of result) }
 {
-    let job = fitted_run(engine.alloc, run)?;
-    listed(engine, &job, query, listing, pipeline)
+    let (job, prepared) = prepared_run(engine, run, query, pipeline)?;
+    let text = listed(engine, &job, query, prepared, listing, pipeline)?;
+    Ok(text)
 }
 
 /// The reports of several queries over the run, for all queries that these stand for. The rules are compared first; then
@@ -104,8 +140,9 @@ pub fn reports<R: Threads + Wait + Sync, G: Gate>(
     ensures { IsWorkOf (AreGivenAlike pipeline.epoch (run_of run) queries.now) (seen_by bytes_of result) }
 {
     let union = union_of(engine.alloc, queries)?;
-    let job = fitted_run(engine.alloc, run)?;
-    reports_of(engine, &job, &union, queries, pipeline)
+    let (job, prepared) = prepared_run(engine, run, &union, pipeline)?;
+    let text = reports_of(engine, &job, &union, queries, prepared, pipeline)?;
+    Ok(text)
 }
 
 /// The numbers of the run, as text.

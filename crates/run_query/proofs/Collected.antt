@@ -1,5 +1,5 @@
 -- What nodes collected of a run from its checkpoints, said of the run's job.
-use Rattle.std.proofs.Common.{◌≡◌, ◌∙◌, ap, sym, subst, arith, ℕ, ◌<◌, ◌≤◌, ◌^◌, List, [], ◌∷◌, length}
+use Rattle.std.proofs.Common.{◌≡◌, ◌∙◌, ap, refl, sym, subst, arith, ℕ, ◌+◌, ◌<◌, ◌≤◌, ◌^◌, List, [], ◌∷◌, length}
 use Rattle.std.specs.Prelude.{Result, IfOk}
 use Rattle.flow_model.specs.declared.Loc.{Loc}
 use Rattle.flow_model.specs.declared.StepSeen.{StepSeen}
@@ -38,3 +38,17 @@ module _ (job : Job) (q : Query) (cuts : List ℕ) (points : CheckpointsAt) (tak
         → IfOk r (λ x. P x events) → IfOk r (λ x. P x (capped (run_work q (trace_of job) cuts)))
     events_of_job P events is h =
         subst (λ (n : ℕ). IfOk r (λ x. P x n)) (is ∙ ap (λ p. capped (run_work q (trace_of p.job) cuts)) taken) h
+
+-- ---- a run of one epoch
+
+-- it has no inner cut
+pub nothing_asked : (q : Query) (trace : List StepSeen) (cuts : List ℕ) → length cuts ≡ 1 → asked_at q trace cuts ≡ []
+nothing_asked q trace [] one = refl
+nothing_asked q trace (c ∷ []) one = refl
+nothing_asked q trace (c ∷ d ∷ cuts) one = absurd (omega (arith, one))
+
+-- and so many events
+pub work_of_one : (q : Query) (trace : List StepSeen) (cuts : List ℕ) → length cuts ≡ 1 → length (rows_as_written q trace) + 4 ≡ run_work q trace cuts
+work_of_one q trace [] one = absurd (omega (arith, one))
+work_of_one q trace (c ∷ []) one = omega arith
+work_of_one q trace (c ∷ d ∷ cuts) one = absurd (omega (arith, one))

@@ -1,11 +1,17 @@
-//! A query over a run that is cut into epochs: checkpoints, the line of nodes, and the report. The contract is
-//! [`query`]'s: the rows of the run, what crosses each inner cut, and how many events moved.
+//! A query over a run that is cut into epochs: of one epoch its rows alone; of several checkpoints, the line of nodes, and
+//! the report.
+//!
+//! Crates above rest on this: `query` gives the rows of the run, what crosses each inner cut, and how many events moved.
+//! `check_for` is `replayer::Job::check`, and prepares in the same replay what a query needs of the run; `query_prepared`
+//! gives then what `query` does.
 #![tactic(auto)]
 
 mod answer;
 mod crossed;
+mod prepared;
 mod whole;
 
 pub use answer::answer_with;
 pub use crossed::Crossed;
-pub use whole::query;
+pub use prepared::{Prepared, check_for};
+pub use whole::{query, query_prepared};

@@ -1,4 +1,4 @@
-//! A query over a whole run, by nodes that a board works.
+//! A query over a whole run.
 
 ghost use Rattle.std.specs.Prelude.{◌≡◌, ◌≤◌, IfOk};
 ghost use Rattle.log_model.specs.Logs.{steps};
@@ -8,25 +8,27 @@ ghost use Rattle.stream_model.specs.Work.{run_work};
 ghost use Rattle.replayer.specs.Jobs.{trace_of};
 ghost use Rattle.sink_collect.specs.Pairs.{capped};
 ghost use Rattle.run_query.specs.Crossings.{crossed};
+ghost use Rattle.run_query.specs.Preparing.{IsPrepared, cuts_of};
 
-use crate::answer::answer_with;
+use crate::answer::{answer_of_line, answer_of_one};
 use crate::crossed::Crossed;
+use crate::prepared::{Found, Prepared};
 use checkpoints::Checkpoints;
 use epoch_cut::Cuts;
-use epoch_line::work;
 use no_memory::NoMemory;
 use outer_io::Gate;
 use query_lang::Query;
 use replayer::Job;
+use seq_taint::{rows_of_run, sequential};
 use sink_collect::Report;
 use std::alloc::Global;
 use std::sync::Wait;
 use std::thread::Threads;
 
 /// The report of a query over a run that is cut into epochs, what crosses each inner cut, and how many events of its nodes
-/// moved, or 2^64 - 1 where they are more. There is a node for each epoch, which analyses it by itself and is joined to its
-/// neighbours by two links; the workers analyse the epochs, and then one gives the nodes their turns. Each node enters the
-/// gate as its analysis begins. It gives up with NoMemory alone.
+/// move, or 2^64 - 1 where they are more. One epoch alone is analysed here. Of several there is a node for each, which analyses
+/// it by itself and is joined to its neighbours by two links; the workers analyse the epochs, and then one gives the nodes
+/// their turns. Each epoch enters the gate as its analysis begins. It gives up with NoMemory alone.
 ///
 /// `workers` is 1 to 64, and `capacity`, of messages on a link, 1 to 65536.
 pub fn query<G: Gate, R: Threads + Wait + Sync>(
@@ -46,19 +48,60 @@ pub fn query<G: Gate, R: Threads + Wait + Sync>(
     ensures crossed { IfOk result (λ r. r.1.items ≡ crossed query.now (trace_of job.now) cuts) }
     ensures events { IfOk result (λ r. r.2 ≡ capped (run_work query.now (trace_of job.now) cuts)) }
 {
-    job.form();
-    // The contract of this says that the epochs are few.
-    let _count = cuts.count();
+    if cuts.count() == 1 {
+        gate.enter(0);
+        let sets = sequential(alloc, job, query)?;
+        return answer_of_one(alloc, job, query, sets);
+    }
     let checkpoints = Checkpoints::take(alloc, job, &cuts)?;
-    let collected = work(
+    answer_of_line(
         rt,
         alloc,
         gate,
+        job,
         &checkpoints,
         query,
         cuts,
         workers,
         capacity,
-    )?;
-    answer_with(alloc, job, query, collected)
+    )
+}
+
+/// The same as [`query`], of what [`crate::check_for`] prepared for the query while the log was checked.
+pub fn query_prepared<G: Gate, R: Threads + Wait + Sync>(
+    rt: &R,
+    alloc: Global,
+    gate: &G,
+    job: &Job,
+    query: &Query,
+    prepared: Prepared,
+    workers: u32,
+    capacity: u32,
+) -> Result<(Report, Vec<Crossed>, u64), NoMemory>
+    requires prepared { IsPrepared query.now job.now prepared }
+    requires workers { (1 ≤ workers) × (workers ≤ 64) }
+    requires capacity { (1 ≤ capacity) × (capacity ≤ 65536) }
+    ensures report { IfOk result (λ r. r.0 ≡ rows query.now (trace_of job.now)) }
+    ensures crossed { IfOk result (λ r. r.1.items ≡ crossed query.now (trace_of job.now) (cuts_of prepared)) }
+    ensures events { IfOk result (λ r. r.2 ≡ capped (run_work query.now (trace_of job.now) (cuts_of prepared))) }
+{
+    let Prepared { cuts, found } = prepared;
+    let checkpoints = match found {
+        Found::Whole(summary) => {
+            let sets = rows_of_run(alloc, job, query, &summary)?;
+            return answer_of_one(alloc, job, query, sets);
+        }
+        Found::Parts(taker) => taker.finish(job)?,
+    };
+    answer_of_line(
+        rt,
+        alloc,
+        gate,
+        job,
+        &checkpoints,
+        query,
+        cuts,
+        workers,
+        capacity,
+    )
 }

@@ -1,6 +1,9 @@
 //! Programs, each with the log of a run of it.
 
-use elf_image::load;
+ghost use Rattle.std.specs.Prelude.{◌≡◌, Ok};
+ghost use Rattle.elf_model.specs.Image.{image as image_of_file};
+
+use elf_image::{Image, load};
 use guest_assembler::{Instr, code, program};
 use replay_log::{Log, read_log};
 use replayer::Job;
@@ -23,11 +26,27 @@ fn log_of(rt: &impl Abort, alloc: Global, file: &[u8], log: &[u8]) -> Log {
     read_log(alloc, &bytes).expect(rt, "a log")
 }
 
+/// A program's file and image, and the log of a run of it.
+#[derive(Drop)]
+pub struct Recorded {
+    pub file: Vec<u8>,
+    pub image: Image,
+    pub log: Log,
+}
+
 /// A program with such a log.
-fn job_of(rt: &impl Abort, alloc: Global, code: &[Instr], log: &[u8]) -> Job {
+fn record(rt: &impl Abort, alloc: Global, code: &[Instr], log: &[u8]) -> Recorded
+    ensures { image_of_file result.file.items ≡ Ok result.image }
+{
     let file = program(alloc, code).expect(rt, "a program");
     let image = load(alloc, &file).expect(rt, "an image");
     let log = log_of(rt, alloc, &file, log);
+    Recorded { file, image, log }
+}
+
+/// The same, checked.
+fn job_of(rt: &impl Abort, alloc: Global, code: &[Instr], log: &[u8]) -> Job {
+    let Recorded { file, image, log } = record(rt, alloc, code, log);
     Job::check(alloc, &file, image, log).expect(rt, "a log that fits")
 }
 
@@ -46,17 +65,21 @@ const COPY_FOUR: &[Instr] = &code![
     ecall(),
 ];
 
+const COPY_FOUR_LOG: &[u8] = b"\x01\0\0\0\x01\0\0\0\
+    \x01\x05\0\0\0\0\0\0\0\0\x01\x01\0\x04\0\0\0\x04\0\0\0ABCD\
+    \x02\x08\0\0\0\x01\0\0\0\0\x01\x01\0\x04\0\0\0\x04\0\0\0ABCD\
+    \x05\x0b\0\0\0\0\0\0\0";
+
 /// Reads four bytes to 0x10100 in step 5 and writes them in step 8: twelve steps.
 pub fn copy_four(rt: &impl Abort, alloc: Global) -> Job {
-    job_of(
-        rt,
-        alloc,
-        COPY_FOUR,
-        b"\x01\0\0\0\x01\0\0\0\
-        \x01\x05\0\0\0\0\0\0\0\0\x01\x01\0\x04\0\0\0\x04\0\0\0ABCD\
-        \x02\x08\0\0\0\x01\0\0\0\0\x01\x01\0\x04\0\0\0\x04\0\0\0ABCD\
-        \x05\x0b\0\0\0\0\0\0\0",
-    )
+    job_of(rt, alloc, COPY_FOUR, COPY_FOUR_LOG)
+}
+
+/// The same, with its log not yet checked.
+pub fn copy_four_recorded(rt: &impl Abort, alloc: Global) -> Recorded
+    ensures { image_of_file result.file.items ≡ Ok result.image }
+{
+    record(rt, alloc, COPY_FOUR, COPY_FOUR_LOG)
 }
 
 const COPY_IN_TWO: &[Instr] = &code![

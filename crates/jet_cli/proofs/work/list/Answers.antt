@@ -1,5 +1,4 @@
 use Rattle.std.proofs.Common.{rules, Err}
-use Rattle.jet_files.specs.Outcome.{seen_by, bytes_of}
 use Rattle.jet_files.specs.Views.{run_of}
 use Rattle.jet_cli.specs.Answers.{IsWorkOf, IsGivenAlike}
 use Rattle.jet_cli.proofs.Working.{listing-stops, listing-gives}
@@ -14,4 +13,4 @@ returns-in_err-job g c =
 
 pub returns : goal.returns
 returns g c =
-    listing-gives c.args.listing c.args.pipeline.epoch (run_of c.args.run) c.args.query.now c.in_ok-job.job c.in_ok-job.ensures.ok (seen_by bytes_of c.listed.result) c.listed.ensures
+    listing-gives c.args.listing c.args.pipeline.epoch (run_of c.args.run) c.args.query.now c.in_ok-job.job c.in_ok-text.text.items c.in_ok-job.ensures.checked c.in_ok-job.ensures.few c.in_ok-text.ensures

@@ -1,5 +1,4 @@
 use Rattle.std.proofs.Common.{rules, Err}
-use Rattle.jet_files.specs.Outcome.{seen_by, bytes_of}
 use Rattle.jet_files.specs.Views.{run_of}
 use Rattle.jet_cli.specs.Answers.{IsWorkOf, AreGivenAlike}
 use Rattle.jet_cli.proofs.Working.{rules-stop, reports-stop, reports-give}
@@ -19,4 +18,4 @@ returns-in_err-job g c =
 
 pub returns : goal.returns
 returns g c =
-    reports-give c.args.pipeline.epoch (run_of c.args.run) c.args.queries.now c.in_ok-job.job c.in_ok-union.ensures.ok.one_rule c.in_ok-job.ensures.ok (seen_by bytes_of c.reports_of.result) c.reports_of.ensures
+    reports-give c.args.pipeline.epoch (run_of c.args.run) c.args.queries.now c.in_ok-job.job c.in_ok-text.text.items c.in_ok-union.ensures.ok.one_rule c.in_ok-job.ensures.checked c.in_ok-job.ensures.few c.in_ok-text.ensures
