@@ -4,5 +4,5 @@ mod Steps
 mod Between
 mod Following
 mod Alike
-mod Range
+pub mod Range
 mod Held
