@@ -63,7 +63,8 @@ pub fn find_path(
     pair: Pair,
 ) -> Result<Option<Found>, NoMemory>
     requires located { IsLocated pair }
-    ensures path { IfOk result (λ f. shown_found f ≡ path_to_sink rule pair.source (trace_of job.now) (sink_of (trace_of job.now) pair.sink)) }
+    ensures path { IfOk result (λ f. shown_found f ≡ path_to_sink rule pair.source (trace_of job.now)
+        (sink_of (trace_of job.now) pair.sink)) }
 
     // The end of the path isn't after the run.
     ensures inside { IfOk result (λ f. IfSome f (λ x. x.time ≤ steps job.now.log)) }
