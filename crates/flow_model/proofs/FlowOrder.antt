@@ -1,6 +1,6 @@
 -- The origins in the flow table ascend.
 use Rattle.std.proofs.Common.{◌≡◌, ℕ, zero, suc, ◌+◌, ◌-◌, List, [], ◌∷◌, Bool, true, false, cond, map, ap}
-use Rattle.std.specs.Prelude.{ℤ, pos, nat_lt, ◌==◌, if◌then◌else◌}
+use Rattle.std.specs.Prelude.{ℤ, pos, nat_lt, nat_le, ◌%◌, ◌/◌, ◌==◌, ◌&&◌, if◌then◌else◌}
 use Rattle.std.specs.List.{range_with_len, AllByRecursion}
 use Rattle.std.specs.Ordering.{int_eq, nat_cmp, ordering_then}
 use Rattle.std.specs.Cmp.{tied_itself}
@@ -15,11 +15,11 @@ use Rattle.isa.specs.declared.CallKind.TheVariants as kind
 use Rattle.flow_model.specs.declared.Loc.{Loc}
 use Rattle.flow_model.specs.declared.Loc.TheVariants.{Reg, Mem}
 use Rattle.flow_model.specs.declared.Rule.{Rule}
-use Rattle.flow_model.specs.declared.Rule.TheVariants.{Copy, Compute, Index}
+use Rattle.flow_model.specs.declared.Rule.TheVariants.{Copy, Keep, Compute, Index}
 use Rattle.sorted_set.specs.Sets.{Ascends}
 use Rattle.flow_model.specs.Orders.{loc_cmp}
 use Rattle.isa.specs.Machine.{wrap}
-use Rattle.flow_model.specs.Flow.{Target, lane, lanes, to_register, nothing, computed, with_base, in_first_lane, byte_of, loaded_byte, signed_load, moved_or, each_lane, all_lanes, shifted_lanes, flow, cleared}
+use Rattle.flow_model.specs.Flow.{Target, lane, lanes, to_register, nothing, computed, kept_or_computed, with_base, in_first_lane, byte_of, loaded_byte, signed_load, moved_or, each_lane, all_lanes, shifted_lanes, immediate_byte, unchanged_lanes, left_lanes, right_lanes, flow, cleared}
 use Rattle.flow_model.specs.OriginLaws.{FlowAscends, ClearedAscends}
 use Rattle.sorted_set.proofs.Algebra.{Ascends-union}
 use Rattle.flow_model.proofs.Orders.{loc_total}
@@ -60,11 +60,28 @@ nothing_ascends i = tt
 
 computed_ascends : (rule : Rule) (origins : ℕ → List Loc) → EachAscends origins → EachAscends (computed rule origins)
 computed_ascends Copy origins h i = tt
+computed_ascends Keep origins h i = tt
 computed_ascends Compute origins h i = h i
 computed_ascends Index origins h i = h i
 
+kept_ascends : (rule : Rule) (kept origins : ℕ → List Loc) → EachAscends kept → EachAscends origins → EachAscends (kept_or_computed rule kept origins)
+kept_ascends Copy kept origins g h i = tt
+kept_ascends Keep kept origins g h i = g i
+kept_ascends Compute kept origins g h i = h i
+kept_ascends Index kept origins g h i = h i
+
+unchanged_lanes_ascend : (byte : ℕ) (imm : ℤ) (a : ℕ) → EachAscends (unchanged_lanes byte imm a)
+unchanged_lanes_ascend byte imm a i = chosen (immediate_byte imm i == byte) (lane a i) [] (lane_ascends a i) tt
+
+left_lanes_ascend : (k a : ℕ) → EachAscends (left_lanes k a)
+left_lanes_ascend k a i = chosen ((k % 8 == 0) && nat_le (k / 8) i) (lane a (i - k / 8)) [] (lane_ascends a (i - k / 8)) tt
+
+right_lanes_ascend : (k a : ℕ) → EachAscends (right_lanes k a)
+right_lanes_ascend k a i = chosen ((k % 8 == 0) && nat_lt (i + k / 8) 4) (lane a (i + k / 8)) [] (lane_ascends a (i + k / 8)) tt
+
 with_base_ascends : (rule : Rule) (a : ℕ) (origins : List Loc) → Ascends loc_cmp origins → Ascends loc_cmp (with_base rule a origins)
 with_base_ascends Copy a origins h = h
+with_base_ascends Keep a origins h = h
 with_base_ascends Compute a origins h = h
 with_base_ascends Index a origins h = Ascends-union loc_total (lanes a) origins h
 
@@ -79,6 +96,7 @@ loaded_byte_ascends rule a address n i = chosen (nat_lt i n) (with_base rule a (
 
 signed_load_ascends : (rule : Rule) (a address n : ℕ) → EachAscends (signed_load rule a address n)
 signed_load_ascends Copy a address n i = loaded_byte_ascends Copy a address n i
+signed_load_ascends Keep a address n i = loaded_byte_ascends Keep a address n i
 signed_load_ascends Compute a address n i = byte_ascends Compute a address (if nat_lt i n then i else n - 1)
 signed_load_ascends Index a address n i = byte_ascends Index a address (if nat_lt i n then i else n - 1)
 
@@ -107,8 +125,11 @@ bitwise_ascends rule a b = computed_ascends rule (each_lane a b) (each_lane_asce
 from_one_ascends : (rule : Rule) (a : ℕ) → EachAscends (computed rule (λ i. lanes a))
 from_one_ascends rule a = computed_ascends rule (λ i. lanes a) (λ i. lanes_ascend a)
 
-same_lane_ascends : (rule : Rule) (a : ℕ) → EachAscends (computed rule (lane a))
-same_lane_ascends rule a = computed_ascends rule (lane a) (lane_ascends a)
+bitwise_immediate_ascends : (rule : Rule) (byte : ℕ) (imm : ℤ) (a : ℕ) → EachAscends (kept_or_computed rule (unchanged_lanes byte imm a) (lane a))
+bitwise_immediate_ascends rule byte imm a = kept_ascends rule (unchanged_lanes byte imm a) (lane a) (unchanged_lanes_ascend byte imm a) (lane_ascends a)
+
+shift_immediate_ascends : (rule : Rule) (kept : ℕ → List Loc) (a : ℕ) → EachAscends kept → EachAscends (kept_or_computed rule kept (λ i. lanes a))
+shift_immediate_ascends rule kept a h = kept_ascends rule kept (λ i. lanes a) h (λ i. lanes_ascend a)
 
 shift_ascends : (rule : Rule) (a b : ℕ) → EachAscends (computed rule (shifted_lanes a b))
 shift_ascends rule a b = computed_ascends rule (shifted_lanes a b) (shifted_lanes_ascend a b)
@@ -139,9 +160,9 @@ table_ascends rule (Add d a b) place = to_register_ascends d (moved_or a b (comp
 table_ascends rule (Or d a b) place = to_register_ascends d (moved_or a b (computed rule (each_lane a b))) (moved_or_ascends a b _ (bitwise_ascends rule a b))
 table_ascends rule (Xor d a b) place = to_register_ascends d (moved_or a b (computed rule (each_lane a b))) (moved_or_ascends a b _ (bitwise_ascends rule a b))
 table_ascends rule (And d a b) place = to_register_ascends d (computed rule (each_lane a b)) (bitwise_ascends rule a b)
-table_ascends rule (Andi d a imm) place = to_register_ascends d (computed rule (lane a)) (same_lane_ascends rule a)
-table_ascends rule (Ori d a imm) place = to_register_ascends d (computed rule (lane a)) (same_lane_ascends rule a)
-table_ascends rule (Xori d a imm) place = to_register_ascends d (computed rule (lane a)) (same_lane_ascends rule a)
+table_ascends rule (Andi d a imm) place = to_register_ascends d (kept_or_computed rule (unchanged_lanes 255 imm a) (lane a)) (bitwise_immediate_ascends rule 255 imm a)
+table_ascends rule (Ori d a imm) place = to_register_ascends d (kept_or_computed rule (unchanged_lanes 0 imm a) (lane a)) (bitwise_immediate_ascends rule 0 imm a)
+table_ascends rule (Xori d a imm) place = to_register_ascends d (kept_or_computed rule (unchanged_lanes 0 imm a) (lane a)) (bitwise_immediate_ascends rule 0 imm a)
 table_ascends rule (Sub d a b) place = to_register_ascends d (computed rule (all_lanes a b)) (sum_ascends rule a b)
 table_ascends rule (Mul d a b) place = to_register_ascends d (computed rule (all_lanes a b)) (sum_ascends rule a b)
 table_ascends rule (Mulh d a b) place = to_register_ascends d (computed rule (all_lanes a b)) (sum_ascends rule a b)
@@ -151,9 +172,9 @@ table_ascends rule (Div d a b) place = to_register_ascends d (computed rule (all
 table_ascends rule (Divu d a b) place = to_register_ascends d (computed rule (all_lanes a b)) (sum_ascends rule a b)
 table_ascends rule (Rem d a b) place = to_register_ascends d (computed rule (all_lanes a b)) (sum_ascends rule a b)
 table_ascends rule (Remu d a b) place = to_register_ascends d (computed rule (all_lanes a b)) (sum_ascends rule a b)
-table_ascends rule (Slli d a k) place = to_register_ascends d (computed rule (λ i. lanes a)) (from_one_ascends rule a)
-table_ascends rule (Srli d a k) place = to_register_ascends d (computed rule (λ i. lanes a)) (from_one_ascends rule a)
-table_ascends rule (Srai d a k) place = to_register_ascends d (computed rule (λ i. lanes a)) (from_one_ascends rule a)
+table_ascends rule (Slli d a k) place = to_register_ascends d (kept_or_computed rule (left_lanes k a) (λ i. lanes a)) (shift_immediate_ascends rule (left_lanes k a) a (left_lanes_ascend k a))
+table_ascends rule (Srli d a k) place = to_register_ascends d (kept_or_computed rule (right_lanes k a) (λ i. lanes a)) (shift_immediate_ascends rule (right_lanes k a) a (right_lanes_ascend k a))
+table_ascends rule (Srai d a k) place = to_register_ascends d (kept_or_computed rule (right_lanes k a) (λ i. lanes a)) (shift_immediate_ascends rule (right_lanes k a) a (right_lanes_ascend k a))
 table_ascends rule (Sll d a b) place = to_register_ascends d (computed rule (shifted_lanes a b)) (shift_ascends rule a b)
 table_ascends rule (Srl d a b) place = to_register_ascends d (computed rule (shifted_lanes a b)) (shift_ascends rule a b)
 table_ascends rule (Sra d a b) place = to_register_ascends d (computed rule (shifted_lanes a b)) (shift_ascends rule a b)

@@ -6,3 +6,4 @@ pub mod OriginsRead
 mod Members
 pub mod Narrowed
 pub mod Located
+mod Worked

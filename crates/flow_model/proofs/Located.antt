@@ -1,10 +1,10 @@
 -- The targets and origins of an instruction that fits are locations, and so are those of a step. Crates above cite these
 -- lemmas.
-use Rattle.std.proofs.Common.{ℕ, ◌+◌, ◌-◌, ◌<◌, ◌==◌, nat_lt, List, [], ◌∷◌, ◌++◌, zero, suc, ◌≡◌, subst, arith, Bool, true, false, if◌then◌else◌}
+use Rattle.std.proofs.Common.{ℕ, ◌+◌, ◌-◌, ◌<◌, ◌==◌, nat_lt, List, [], ◌∷◌, ◌++◌, zero, suc, ◌≡◌, subst, refl, ltb-true, arith, Bool, true, false, if◌then◌else◌}
 use Rattle.std.specs.Ordering.{int_eq}
 use Rattle.std.specs.declared.cmp.Ordering.{Ordering}
 use Rattle.std.specs.declared.cmp.Ordering.TheVariants.{Less, Equal, Greater}
-use Rattle.std.specs.Prelude.{pos, Option, Some, None, map, slice_get}
+use Rattle.std.specs.Prelude.{ℤ, pos, nat_le, ◌%◌, ◌/◌, ◌&&◌, Option, Some, None, map, slice_get}
 use Rattle.isa.specs.Encodings.{Fits}
 use Rattle.isa.specs.declared.Instr.{Instr}
 use Rattle.isa.specs.declared.Instr.TheVariants.{Lui, Auipc, Jal, Jalr, Beq, Bne, Blt, Bge, Bltu, Bgeu, Lb, Lh, Lw, Lbu, Lhu, Sb, Sh, Sw, Addi, Slti, Sltiu, Xori, Ori, Andi, Slli, Srli, Srai, Add, Sub, Sll, Slt, Sltu, Xor, Srl, Sra, Or, And, Mul, Mulh, Mulhsu, Mulhu, Div, Divu, Rem, Remu, Fence, Ecall, Ebreak}
@@ -13,11 +13,11 @@ use Rattle.isa.specs.declared.CallKind.TheVariants as kind
 use Rattle.flow_model.specs.declared.Loc.{Loc}
 use Rattle.flow_model.specs.declared.Loc.TheVariants.{Reg, Mem}
 use Rattle.flow_model.specs.declared.Rule.{Rule}
-use Rattle.flow_model.specs.declared.Rule.TheVariants.{Copy, Compute, Index}
+use Rattle.flow_model.specs.declared.Rule.TheVariants.{Copy, Keep, Compute, Index}
 use Rattle.sorted_set.specs.Sets.{union, inserted, placed}
 use Rattle.flow_model.specs.Orders.{loc_cmp}
 use Rattle.isa.specs.Machine.{wrap}
-use Rattle.flow_model.specs.Flow.{Target, lane, lanes, to_register, nothing, computed, with_base, in_first_lane, byte_of, loaded_byte, signed_load, moved_or, each_lane, flow, cleared, origins_by, loc_eq, is_received, from_call, from_instruction_or}
+use Rattle.flow_model.specs.Flow.{Target, lane, lanes, to_register, nothing, computed, kept_or_computed, with_base, in_first_lane, byte_of, loaded_byte, signed_load, moved_or, each_lane, immediate_byte, unchanged_lanes, left_lanes, right_lanes, flow, cleared, origins_by, loc_eq, is_received, from_call, from_instruction_or}
 use Rattle.flow_model.specs.declared.StepSeen.{StepSeen}
 use Rattle.flow_model.specs.declared.CallSeen.{CallSeen}
 use Rattle.flow_model.specs.Ranges.{IsLocation, AreLocations, IsTable}
@@ -65,14 +65,35 @@ in-nothing i h = tt
 
 in-computed : (rule : Rule) (f : ℕ → List Loc) → Lanewise f → Lanewise (computed rule f)
 in-computed Copy f h i k = tt
+in-computed Keep f h i k = tt
 in-computed Compute f h i k = h i k
 in-computed Index f h i k = h i k
+
+in-kept : (rule : Rule) (kept f : ℕ → List Loc) → Lanewise kept → Lanewise f → Lanewise (kept_or_computed rule kept f)
+in-kept Copy kept f g h i k = tt
+in-kept Keep kept f g h i k = g i k
+in-kept Compute kept f g h i k = h i k
+in-kept Index kept f g h i k = h i k
+
+in-unchanged : (byte : ℕ) (imm : ℤ) (a : ℕ) → a < 32 → Lanewise (unchanged_lanes byte imm a)
+in-unchanged byte imm a h i l = either (immediate_byte imm i == byte) (lane a i) [] (in-lane a i h l) tt
+
+in-left : (k a : ℕ) → a < 32 → Lanewise (left_lanes k a)
+in-left k a h i l = either ((k % 8 == 0) && nat_le (k / 8) i) (lane a (i - k / 8)) [] (in-lane a (i - k / 8) h (omega arith)) tt
+
+in-right : (k a : ℕ) → a < 32 → Lanewise (right_lanes k a)
+in-right k a h i l = by (k % 8 == 0) (nat_lt (i + k / 8) 4) refl where
+  by : (b c : Bool) → nat_lt (i + k / 8) 4 ≡ c → AreLocations (if b && c then lane a (i + k / 8) else [])
+  by true true e = in-lane a (i + k / 8) h (ltb-true (i + k / 8) 4 e)
+  by true false e = tt
+  by false c e = tt
 
 in-first : (ls : List Loc) → AreLocations ls → Lanewise (in_first_lane ls)
 in-first ls h i k = either (i == 0) ls [] h tt
 
 in-base : (rule : Rule) (a : ℕ) (ls : List Loc) → a < 32 → AreLocations ls → AreLocations (with_base rule a ls)
 in-base Copy a ls h k = k
+in-base Keep a ls h k = k
 in-base Compute a ls h k = k
 in-base Index a ls h k = in-union (lanes a) ls (in-lanes a h) k
 
@@ -81,6 +102,7 @@ in-loaded rule a place n h i k = either (nat_lt i n) _ [] (in-base rule a (byte_
 
 in-signed : (rule : Rule) (a place n : ℕ) → a < 32 → Lanewise (signed_load rule a place n)
 in-signed Copy a place n h i k = in-loaded Copy a place n h i k
+in-signed Keep a place n h i k = in-loaded Keep a place n h i k
 in-signed Compute a place n h i k = let j = if nat_lt i n then i else n - 1 in in-base Compute a (byte_of place j) h (in-byte (place + j))
 in-signed Index a place n h i k = let j = if nat_lt i n then i else n - 1 in in-base Index a (byte_of place j) h (in-byte (place + j))
 
@@ -125,9 +147,9 @@ flow_table rule (Add d a b) place h = to_register_table d _ h.0 (in-moved a b _ 
 flow_table rule (Or d a b) place h = to_register_table d _ h.0 (in-moved a b _ h.1 h.2 (in-computed rule _ (in-each a b h.1 h.2)))
 flow_table rule (Xor d a b) place h = to_register_table d _ h.0 (in-moved a b _ h.1 h.2 (in-computed rule _ (in-each a b h.1 h.2)))
 flow_table rule (And d a b) place h = to_register_table d _ h.0 (in-computed rule _ (in-each a b h.1 h.2))
-flow_table rule (Andi d a imm) place h = to_register_table d _ h.0 (in-computed rule _ (in-lanewise a h.1))
-flow_table rule (Ori d a imm) place h = to_register_table d _ h.0 (in-computed rule _ (in-lanewise a h.1))
-flow_table rule (Xori d a imm) place h = to_register_table d _ h.0 (in-computed rule _ (in-lanewise a h.1))
+flow_table rule (Andi d a imm) place h = to_register_table d _ h.0 (in-kept rule _ _ (in-unchanged 255 imm a h.1) (in-lanewise a h.1))
+flow_table rule (Ori d a imm) place h = to_register_table d _ h.0 (in-kept rule _ _ (in-unchanged 0 imm a h.1) (in-lanewise a h.1))
+flow_table rule (Xori d a imm) place h = to_register_table d _ h.0 (in-kept rule _ _ (in-unchanged 0 imm a h.1) (in-lanewise a h.1))
 flow_table rule (Sub d a b) place h = to_register_table d _ h.0 (in-computed rule _ (in-same _ (in-both a b h.1 h.2)))
 flow_table rule (Mul d a b) place h = to_register_table d _ h.0 (in-computed rule _ (in-same _ (in-both a b h.1 h.2)))
 flow_table rule (Mulh d a b) place h = to_register_table d _ h.0 (in-computed rule _ (in-same _ (in-both a b h.1 h.2)))
@@ -137,9 +159,9 @@ flow_table rule (Div d a b) place h = to_register_table d _ h.0 (in-computed rul
 flow_table rule (Divu d a b) place h = to_register_table d _ h.0 (in-computed rule _ (in-same _ (in-both a b h.1 h.2)))
 flow_table rule (Rem d a b) place h = to_register_table d _ h.0 (in-computed rule _ (in-same _ (in-both a b h.1 h.2)))
 flow_table rule (Remu d a b) place h = to_register_table d _ h.0 (in-computed rule _ (in-same _ (in-both a b h.1 h.2)))
-flow_table rule (Slli d a k) place h = to_register_table d _ h.0 (in-computed rule _ (in-same _ (in-lanes a h.1)))
-flow_table rule (Srli d a k) place h = to_register_table d _ h.0 (in-computed rule _ (in-same _ (in-lanes a h.1)))
-flow_table rule (Srai d a k) place h = to_register_table d _ h.0 (in-computed rule _ (in-same _ (in-lanes a h.1)))
+flow_table rule (Slli d a k) place h = to_register_table d _ h.0 (in-kept rule _ _ (in-left k a h.1) (in-same _ (in-lanes a h.1)))
+flow_table rule (Srli d a k) place h = to_register_table d _ h.0 (in-kept rule _ _ (in-right k a h.1) (in-same _ (in-lanes a h.1)))
+flow_table rule (Srai d a k) place h = to_register_table d _ h.0 (in-kept rule _ _ (in-right k a h.1) (in-same _ (in-lanes a h.1)))
 flow_table rule (Sll d a b) place h = to_register_table d _ h.0 (in-computed rule _ (in-same _ (in-shifted a b h.1 h.2)))
 flow_table rule (Srl d a b) place h = to_register_table d _ h.0 (in-computed rule _ (in-same _ (in-shifted a b h.1 h.2)))
 flow_table rule (Sra d a b) place h = to_register_table d _ h.0 (in-computed rule _ (in-same _ (in-shifted a b h.1 h.2)))

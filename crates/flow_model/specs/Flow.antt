@@ -1,17 +1,18 @@
 -- The flow table: the targets of one step, and from which locations each gets its content. A location that is no target
 -- keeps its content, and a target without origins becomes empty.
-use Rattle.std.specs.Prelude.{ℕ, ◌+◌, ◌-◌, ◌^◌, ◌==◌, nat_lt, Bool, false, ◌&&◌, if◌then◌else◌, List, [], ◌∷◌, ◌++◌, map, pos, Option, Some, None}
+use Rattle.std.specs.Prelude.{ℕ, ℤ, ◌+◌, ◌-◌, ◌/◌, ◌%◌, ◌^◌, ◌==◌, nat_lt, nat_le, Bool, false, ◌&&◌, if◌then◌else◌, List, [], ◌∷◌, ◌++◌, map, slice_index, pos, Option, Some, None}
+use Rattle.std.specs.Int.{w32, to_le_bytes}
 use Rattle.std.specs.List.{range_with_len}
 use Rattle.std.specs.Ordering.{int_eq}
 use Rattle.isa.specs.declared.Instr.{Instr}
 use Rattle.isa.specs.declared.Instr.TheVariants.{Lui, Auipc, Jal, Jalr, Beq, Bne, Blt, Bge, Bltu, Bgeu, Lb, Lh, Lw, Lbu, Lhu, Sb, Sh, Sw, Addi, Slti, Sltiu, Xori, Ori, Andi, Slli, Srli, Srai, Add, Sub, Sll, Slt, Sltu, Xor, Srl, Sra, Or, And, Mul, Mulh, Mulhsu, Mulhu, Div, Divu, Rem, Remu, Fence, Ecall, Ebreak}
 use Rattle.isa.specs.declared.CallKind.{CallKind}
 use Rattle.isa.specs.declared.CallKind.TheVariants as kind
-use Rattle.isa.specs.Machine.{wrap}
+use Rattle.isa.specs.Machine.{wrap, as_word}
 use Rattle.flow_model.specs.declared.Loc.{Loc}
 use Rattle.flow_model.specs.declared.Loc.TheVariants.{Reg, Mem}
 use Rattle.flow_model.specs.declared.Rule.{Rule}
-use Rattle.flow_model.specs.declared.Rule.TheVariants.{Copy, Compute, Index}
+use Rattle.flow_model.specs.declared.Rule.TheVariants.{Copy, Keep, Compute, Index}
 use Rattle.flow_model.specs.declared.StepSeen.{StepSeen}
 use Rattle.flow_model.specs.declared.CallSeen.{CallSeen}
 use Rattle.sorted_set.specs.Sets.{union}
@@ -44,12 +45,21 @@ nothing i = []
 -- what is computed flows under the rules compute and index
 abbrev pub computed : Rule → (ℕ → List Loc) → ℕ → List Loc
 computed Copy origins i = []
+computed Keep origins i = []
 computed Compute origins i = origins i
 computed Index origins i = origins i
+
+-- what an operation keeps whole flows under the rule keep, and all that it is computed from under compute and index
+abbrev pub kept_or_computed : Rule → (ℕ → List Loc) → (ℕ → List Loc) → ℕ → List Loc
+kept_or_computed Copy kept origins i = []
+kept_or_computed Keep kept origins i = kept i
+kept_or_computed Compute kept origins i = origins i
+kept_or_computed Index kept origins i = origins i
 
 -- under the rule index what goes to or comes from memory also comes from the register that holds the base address
 abbrev pub with_base : Rule → ℕ → List Loc → List Loc
 with_base Copy a origins = origins
+with_base Keep a origins = origins
 with_base Compute a origins = origins
 with_base Index a origins = union loc_cmp (lanes a) origins
 
@@ -71,6 +81,7 @@ sign_extended_byte rule a address n i = with_base rule a (byte_of address (if na
 
 abbrev pub signed_load : Rule → ℕ → ℕ → ℕ → ℕ → List Loc
 signed_load Copy a address n i = loaded_byte Copy a address n i
+signed_load Keep a address n i = loaded_byte Keep a address n i
 signed_load Compute a address n i = sign_extended_byte Compute a address n i
 signed_load Index a address n i = sign_extended_byte Index a address n i
 
@@ -88,6 +99,22 @@ all_lanes a b i = union loc_cmp (lanes a) (lanes b)
 abbrev pub shifted_lanes : ℕ → ℕ → ℕ → List Loc
 shifted_lanes a b i = union loc_cmp (lanes a) (lane b 0)
 
+-- byte i of an immediate, sign-extended to a word
+abbrev pub immediate_byte : ℤ → ℕ → ℕ
+immediate_byte imm i = slice_index (to_le_bytes w32 (as_word imm)) i
+
+-- the lanes where the immediate has this byte: ANDI leaves a lane as it is where that is 255, ORI and XORI where it is 0
+abbrev pub unchanged_lanes : ℕ → ℤ → ℕ → ℕ → List Loc
+unchanged_lanes byte imm a i = if immediate_byte imm i == byte then lane a i else []
+
+-- a shift by k bits moves lanes whole where k is a multiple of 8: to lane i comes the one k / 8 below, and to the right the
+-- one k / 8 above. Where there is none come zeros, or the sign
+abbrev pub left_lanes : ℕ → ℕ → ℕ → List Loc
+left_lanes k a i = if (k % 8 == 0) && nat_le (k / 8) i then lane a (i - k / 8) else []
+
+abbrev pub right_lanes : ℕ → ℕ → ℕ → List Loc
+right_lanes k a i = if (k % 8 == 0) && nat_lt (i + k / 8) 4 then lane a (i + k / 8) else []
+
 -- the targets of an instruction whose effective address is `place`
 abbrev pub flow : Rule → Instr → ℕ → List Target
 flow rule (Lw d a imm) place = to_register d (loaded_byte rule a place 4)
@@ -103,9 +130,9 @@ flow rule (Add d a b) place = to_register d (moved_or a b (computed rule (all_la
 flow rule (Or d a b) place = to_register d (moved_or a b (computed rule (each_lane a b)))
 flow rule (Xor d a b) place = to_register d (moved_or a b (computed rule (each_lane a b)))
 flow rule (And d a b) place = to_register d (computed rule (each_lane a b))
-flow rule (Andi d a imm) place = to_register d (computed rule (lane a))
-flow rule (Ori d a imm) place = to_register d (computed rule (lane a))
-flow rule (Xori d a imm) place = to_register d (computed rule (lane a))
+flow rule (Andi d a imm) place = to_register d (kept_or_computed rule (unchanged_lanes 255 imm a) (lane a))
+flow rule (Ori d a imm) place = to_register d (kept_or_computed rule (unchanged_lanes 0 imm a) (lane a))
+flow rule (Xori d a imm) place = to_register d (kept_or_computed rule (unchanged_lanes 0 imm a) (lane a))
 flow rule (Sub d a b) place = to_register d (computed rule (all_lanes a b))
 flow rule (Mul d a b) place = to_register d (computed rule (all_lanes a b))
 flow rule (Mulh d a b) place = to_register d (computed rule (all_lanes a b))
@@ -115,9 +142,9 @@ flow rule (Div d a b) place = to_register d (computed rule (all_lanes a b))
 flow rule (Divu d a b) place = to_register d (computed rule (all_lanes a b))
 flow rule (Rem d a b) place = to_register d (computed rule (all_lanes a b))
 flow rule (Remu d a b) place = to_register d (computed rule (all_lanes a b))
-flow rule (Slli d a k) place = to_register d (computed rule (λ i. lanes a))
-flow rule (Srli d a k) place = to_register d (computed rule (λ i. lanes a))
-flow rule (Srai d a k) place = to_register d (computed rule (λ i. lanes a))
+flow rule (Slli d a k) place = to_register d (kept_or_computed rule (left_lanes k a) (λ i. lanes a))
+flow rule (Srli d a k) place = to_register d (kept_or_computed rule (right_lanes k a) (λ i. lanes a))
+flow rule (Srai d a k) place = to_register d (kept_or_computed rule (right_lanes k a) (λ i. lanes a))
 flow rule (Sll d a b) place = to_register d (computed rule (shifted_lanes a b))
 flow rule (Srl d a b) place = to_register d (computed rule (shifted_lanes a b))
 flow rule (Sra d a b) place = to_register d (computed rule (shifted_lanes a b))

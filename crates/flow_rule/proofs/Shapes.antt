@@ -1,16 +1,24 @@
 -- The shape of each kind of instruction has the targets of its row in the flow table, and sizes and registers in range.
-use Rattle.std.proofs.Common.{◌≡◌, ◌<◌, ◌≤◌, ℕ, ◌==◌, Bool, true, false, if◌then◌else◌, List, arith, rules, ap, sym, subst, refl, ◌⊎◌, inl, inr}
+use Rattle.std.proofs.Common.{◌≡◌, ◌<◌, ◌≤◌, ℕ, ℤ, ◌==◌, Bool, true, false, if◌then◌else◌, List, [], map, arith, rules, ap, sym, subst, refl, ◌⊎◌, inl, inr}
+use Rattle.std.specs.List.{range_with_len}
+use mir.Syntax.{w32}
+use mir.Val.{SFits, to_z, of_z}
+use Rattle.std.proofs.lemmas.Int.{to_z-of_z}
 use Rattle.isa.specs.Encodings.{Fits, FitsThree}
 use Rattle.isa.specs.declared.Instr.{Instr}
 use Rattle.isa.specs.declared.Instr.TheVariants.{Sub, Mul, Mulh, Mulhsu, Mulhu, Div, Divu, Rem, Remu}
 use Rattle.flow_model.specs.declared.Loc.{Loc}
+use Rattle.flow_model.specs.declared.Loc.TheVariants.{Reg}
 use Rattle.flow_model.specs.declared.Rule.{Rule}
-use Rattle.flow_model.specs.declared.Rule.TheVariants.{Copy, Compute, Index}
+use Rattle.flow_model.specs.declared.Rule.TheVariants.{Copy, Keep, Compute, Index}
 use Rattle.flow_model.specs.Flow as model
 use Rattle.flow_rule.specs.declared.shape.Shape.{Shape}
 use Rattle.flow_rule.specs.declared.shape.Shape.TheVariants.{Move, Mixed, Load, Store}
 use Rattle.flow_rule.specs.declared.shape.Mixing.TheVariants.{AllLanes}
-use Rattle.flow_rule.specs.Shapes.{targets_of, HasSizes, HasRegisters, computed_shape, moved_shape_or, base_of, fills_by}
+use Rattle.flow_rule.specs.declared.shuffle.Shuffle.{Shuffle}
+use Rattle.flow_rule.specs.Flows.{by_lane}
+use Rattle.flow_rule.specs.Shuffles.{shuffled_lanes, AreLanes, Chooses}
+use Rattle.flow_rule.specs.Shapes.{targets_of, HasSizes, HasRegisters, computed_shape, kept_or_computed_shape, moved_shape_or, base_of, fills_by}
 
 -- a shape has these targets, sizes in range, and registers in range where X holds
 abbrev pub IsRow : Type 0 → List model.Target → Shape → Type 0
@@ -26,8 +34,30 @@ known {i} {j} {s} {t} rule place same e h = subst (λ (u : Shape). IsShapeOf rul
 pub computed_row : {X : Type 0} (rule : Rule) (d : ℕ) (s : Shape) (f : ℕ → List Loc) → (X → d < 32) → IsRow X (model.to_register d f) s
     → IsRow X (model.to_register d (model.computed rule f)) (computed_shape rule d s)
 computed_row Copy d s f small h = (refl, tt, small)
+computed_row Keep d s f small h = (refl, tt, small)
 computed_row Compute d s f small h = h
 computed_row Index d s f small h = h
+
+-- the same lanes make the same targets
+same_targets : (d : ℕ) (f g : ℕ → List Loc) → by_lane f ≡ by_lane g → model.to_register d f ≡ model.to_register d g
+same_targets d f g e = by (d == 0) where
+  of : (ℕ → List Loc) → List model.Target
+  of h = map (λ i. record { loc = Reg d i; origins = h i }) (range_with_len 0 4)
+
+  by : (b : Bool) → (if b then [] else of f) ≡ (if b then [] else of g)
+  by true = refl
+  by false = cc
+
+-- an immediate as it is passed on is the same
+pub chosen_by : (shuffle : Shuffle) (byte : ℕ) (imm : ℤ) → SFits w32 imm → Chooses shuffle (model.unchanged_lanes byte (to_z w32 (of_z w32 imm))) → Chooses shuffle (model.unchanged_lanes byte imm)
+chosen_by shuffle byte imm fits h = subst (λ (z : ℤ). Chooses shuffle (model.unchanged_lanes byte z)) (to_z-of_z w32 imm fits) h
+
+pub kept_row : {X : Type 0} (rule : Rule) (d r : ℕ) (kept : Shuffle) (lanes : ℕ → ℕ → List Loc) (s : Shape) (f : ℕ → List Loc) → (X → (d < 32) × (r < 32)) → AreLanes kept → Chooses kept lanes
+    → IsRow X (model.to_register d f) s → IsRow X (model.to_register d (model.kept_or_computed rule (lanes r) f)) (kept_or_computed_shape rule d r kept s)
+kept_row Copy d r kept lanes s f small few chosen h = (refl, tt, λ x. (small x).0)
+kept_row Keep d r kept lanes s f small few chosen h = (same_targets d (shuffled_lanes kept r) (lanes r) (chosen r), few, small)
+kept_row Compute d r kept lanes s f small few chosen h = h
+kept_row Index d r kept lanes s f small few chosen h = h
 
 pub moved_row : {X : Type 0} (d a b : ℕ) (s : Shape) (f : ℕ → List Loc) → (X → (d < 32) × (a < 32) × (b < 32)) → IsRow X (model.to_register d f) s
     → IsRow X (model.to_register d (model.moved_or a b f)) (moved_shape_or d a b s)
@@ -39,21 +69,25 @@ moved_row {X} d a b s f small h = by (a == 0) (b == 0) where
 
 base_small : (rule : Rule) (a : ℕ) → a < 32 → base_of rule a < 32
 base_small Copy a h = omega arith
+base_small Keep a h = omega arith
 base_small Compute a h = omega arith
 base_small Index a h = h
 
 loaded_targets : (rule : Rule) (d a place n : ℕ) → targets_of (Load d (base_of rule a) place n false) ≡ model.to_register d (model.loaded_byte rule a place n)
 loaded_targets Copy d a place n = refl
+loaded_targets Keep d a place n = refl
 loaded_targets Compute d a place n = refl
 loaded_targets Index d a place n = refl
 
 signed_targets : (rule : Rule) (d a place n : ℕ) → targets_of (Load d (base_of rule a) place n (fills_by rule)) ≡ model.to_register d (model.signed_load rule a place n)
 signed_targets Copy d a place n = refl
+signed_targets Keep d a place n = refl
 signed_targets Compute d a place n = refl
 signed_targets Index d a place n = refl
 
 stored_targets : (rule : Rule) (a b place n : ℕ) → targets_of (Store b (base_of rule a) place n) ≡ model.to_memory place n (λ i. model.with_base rule a (model.lane b i))
 stored_targets Copy a b place n = refl
+stored_targets Keep a b place n = refl
 stored_targets Compute a b place n = refl
 stored_targets Index a b place n = refl
 

@@ -1,3 +1,4 @@
 pub mod Locations
 pub mod Flows
+pub mod Shuffles
 pub mod Shapes

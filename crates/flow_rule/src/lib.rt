@@ -8,12 +8,14 @@
 mod flows;
 mod locations;
 mod shape;
+mod shuffle;
 mod table;
 
 pub use flow_model::{InnerSink, Loc, Rule, SinkByte, SinkPoint, SourceByte};
 pub use flows::Flow;
 pub use locations::Locations;
 pub use shape::{Mixing, Shape, shape_of};
+pub use shuffle::Shuffle;
 pub use table::{cleared, flow};
 
 /// What the parts of an analysis send each other: a question for a location's origins, one of its source

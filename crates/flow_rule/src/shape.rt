@@ -3,8 +3,9 @@
 ghost use Rattle.std.specs.Prelude.{◌≡◌, false};
 ghost use Rattle.isa.specs.Encodings.{Fits};
 ghost use Rattle.flow_model.specs.Flow as model;
-ghost use Rattle.flow_rule.specs.Shapes.{targets_of, HasSizes, HasRegisters, computed_shape, moved_shape_or, added_shape, base_of, fills_by};
+ghost use Rattle.flow_rule.specs.Shapes.{targets_of, HasSizes, HasRegisters, computed_shape, kept_or_computed_shape, moved_shape_or, added_shape, base_of, fills_by};
 
+use crate::shuffle::{Shuffle, moved_left, moved_right, unchanged};
 use flow_model::Rule;
 use isa::Instr;
 
@@ -21,6 +22,12 @@ pub enum Shape {
     },
     /// Lane i comes from lane i of a register.
     Move {
+        rd: u8,
+        rs: u8,
+    },
+    /// Each lane comes from one lane of a register, or becomes empty.
+    Shuffled {
+        shuffle: Shuffle,
         rd: u8,
         rs: u8,
     },
@@ -91,9 +98,9 @@ pub fn shape_of(instr: &Instr, place: u32, rule: Rule) -> Shape
             moved_or(rd, rs1, rs2, bits)
         }
         Instr::And { rd, rs1, rs2 } => mixed(rule, Mixing::EachLane, rd, rs1, rs2),
-        Instr::Andi { rd, rs1, .. } | Instr::Ori { rd, rs1, .. } | Instr::Xori { rd, rs1, .. } => {
-            computed(rule, rd, Shape::Move { rd, rs: rs1 })
-        }
+        Instr::Andi { rd, rs1, imm } => bitwise(rule, rd, rs1, unchanged(imm, 0xff)),
+        Instr::Ori { rd, rs1, imm } => bitwise(rule, rd, rs1, unchanged(imm, 0)),
+        Instr::Xori { rd, rs1, imm } => bitwise(rule, rd, rs1, unchanged(imm, 0)),
 
         Instr::Sub { rd, rs1, rs2 }
         | Instr::Mul { rd, rs1, rs2 }
@@ -104,8 +111,9 @@ pub fn shape_of(instr: &Instr, place: u32, rule: Rule) -> Shape
         | Instr::Divu { rd, rs1, rs2 }
         | Instr::Rem { rd, rs1, rs2 }
         | Instr::Remu { rd, rs1, rs2 } => mixed(rule, Mixing::AllLanes, rd, rs1, rs2),
-        Instr::Slli { rd, rs1, .. } | Instr::Srli { rd, rs1, .. } | Instr::Srai { rd, rs1, .. } => {
-            mixed(rule, Mixing::AllLanes, rd, rs1, 0)
+        Instr::Slli { rd, rs1, amount } => shifted(rule, rd, rs1, moved_left(amount)),
+        Instr::Srli { rd, rs1, amount } | Instr::Srai { rd, rs1, amount } => {
+            shifted(rule, rd, rs1, moved_right(amount))
         }
         Instr::Sll { rd, rs1, rs2 } | Instr::Srl { rd, rs1, rs2 } | Instr::Sra { rd, rs1, rs2 } => {
             mixed(rule, Mixing::ShiftedLanes, rd, rs1, rs2)
@@ -137,14 +145,52 @@ pub fn shape_of(instr: &Instr, place: u32, rule: Rule) -> Shape
     }
 }
 
-/// What is computed does not flow under [`Rule::Copy`].
+/// What is computed does not flow under [`Rule::Copy`] and [`Rule::Keep`].
 fn computed(rule: Rule, rd: u8, shape: Shape) -> Shape
     ensures { result ≡ computed_shape rule rd shape }
 {
     match rule {
-        Rule::Copy => Shape::Clear { rd },
+        Rule::Copy | Rule::Keep => Shape::Clear { rd },
         Rule::Compute | Rule::Index => shape,
     }
+}
+
+/// The lanes that are kept whole flow under [`Rule::Keep`].
+#[inline(always)]
+fn kept_or_computed(rule: Rule, rd: u8, rs: u8, kept: Shuffle, shape: Shape) -> Shape
+    ensures { result ≡ kept_or_computed_shape rule rd rs kept shape }
+{
+    match rule {
+        Rule::Copy => Shape::Clear { rd },
+        Rule::Keep => Shape::Shuffled {
+            shuffle: kept,
+            rd,
+            rs,
+        },
+        Rule::Compute | Rule::Index => shape,
+    }
+}
+
+/// A bitwise operation with an immediate is computed lane by lane.
+#[inline(always)]
+fn bitwise(rule: Rule, rd: u8, rs1: u8, kept: Shuffle) -> Shape
+    ensures { result ≡ kept_or_computed_shape rule rd rs1 kept (Shape.Move rd rs1) }
+{
+    kept_or_computed(rule, rd, rs1, kept, Shape::Move { rd, rs: rs1 })
+}
+
+/// A shift by an immediate is computed from all lanes.
+#[inline(always)]
+fn shifted(rule: Rule, rd: u8, rs1: u8, kept: Shuffle) -> Shape
+    ensures { result ≡ kept_or_computed_shape rule rd rs1 kept (Shape.Mixed Mixing.AllLanes rd rs1 0) }
+{
+    let shape = Shape::Mixed {
+        mixing: Mixing::AllLanes,
+        rd,
+        rs1,
+        rs2: 0,
+    };
+    kept_or_computed(rule, rd, rs1, kept, shape)
 }
 
 /// What flows together is computed.
@@ -202,7 +248,7 @@ fn signed_load(rule: Rule, rd: u8, rs1: u8, place: u32, size: u8) -> Shape
     ensures { result ≡ Shape.Load rd (base_of rule rs1) place size (fills_by rule) }
 {
     let fills = match rule {
-        Rule::Copy => false,
+        Rule::Copy | Rule::Keep => false,
         Rule::Compute | Rule::Index => true,
     };
     Shape::Load {
@@ -230,7 +276,7 @@ fn base(rule: Rule, rs1: u8) -> u8
     ensures { result ≡ base_of rule rs1 }
 {
     match rule {
-        Rule::Copy | Rule::Compute => 0,
+        Rule::Copy | Rule::Keep | Rule::Compute => 0,
         Rule::Index => rs1,
     }
 }

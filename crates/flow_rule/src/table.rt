@@ -2,16 +2,19 @@
 //! call empties.
 
 ghost use Rattle.std.specs.Prelude.{◌≡◌, ◌≤◌, ◌+◌, []};
+ghost use Rattle.std.specs.Option.{option_map_or};
 ghost use Rattle.flow_model.specs.declared.Rule.TheVariants.{Index};
 ghost use Rattle.flow_model.specs.Flow as model;
 ghost use Rattle.flow_rule.specs.Locations.{locs_of};
 ghost use Rattle.flow_rule.specs.Flows.{by_lane, origins_at};
 ghost use Rattle.flow_rule.specs.Shapes.{targets_of, HasSizes};
 ghost use Rattle.flow_rule.specs.Shapes as shapes;
+ghost use Rattle.flow_rule.specs.Shuffles as shuffles;
 
 use crate::flows::{Flow, Origins, Targets};
 use crate::locations::Locations;
 use crate::shape::{Mixing, Shape, shape_of};
+use crate::shuffle::Shuffle;
 use flow_model::Rule;
 use isa::{CallKind, Instr};
 
@@ -43,6 +46,7 @@ fn of_shape(shape: Shape) -> Flow
         Shape::Nothing => untouched(),
         Shape::Clear { rd } => to_register(rd, nothing()),
         Shape::Move { rd, rs } => to_register(rd, lane_by_lane(rs)),
+        Shape::Shuffled { shuffle, rd, rs } => to_register(rd, shuffled_lanes(shuffle, rs)),
         Shape::Mixed {
             mixing,
             rd,
@@ -108,6 +112,28 @@ fn lane_by_lane(number: u8) -> Origins
         Locations::lane(number, 2),
         Locations::lane(number, 3),
     ])
+}
+
+/// Lane i from the lane of a register that is chosen for it.
+fn shuffled_lanes(shuffle: Shuffle, number: u8) -> Origins
+    ensures { by_lane (origins_at result) ≡ by_lane (shuffles.shuffled_lanes shuffle number) }
+{
+    Origins::Each([
+        lane_if(number, shuffle.first),
+        lane_if(number, shuffle.second),
+        lane_if(number, shuffle.third),
+        lane_if(number, shuffle.fourth),
+    ])
+}
+
+/// A lane of a register, if one is chosen.
+fn lane_if(number: u8, lane: Option<u8>) -> Locations
+    ensures { locs_of result ≡ option_map_or (model.lane number) lane [] }
+{
+    match lane {
+        None => Locations::Empty,
+        Some(lane) => Locations::lane(number, lane),
+    }
 }
 
 /// What flows together.

@@ -45,6 +45,8 @@ fn rule_named(name: &[u8]) -> Option<Rule>
 {
     if name == b"copy".as_slice() {
         Some(Rule::Copy)
+    } else if name == b"keep".as_slice() {
+        Some(Rule::Keep)
     } else if name == b"compute".as_slice() {
         Some(Rule::Compute)
     } else if name == b"index".as_slice() {

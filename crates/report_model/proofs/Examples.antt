@@ -5,7 +5,7 @@ use Rattle.std.specs.Prelude.{◌++◌, codes, Some, None, Result, Ok, Err}
 use Rattle.std.specs.List.{flat_map}
 use Rattle.std.specs.Fmt.{digits}
 use Rattle.flow_model.specs.declared.Rule.{Rule}
-use Rattle.flow_model.specs.declared.Rule.TheVariants.{Copy, Compute, Index}
+use Rattle.flow_model.specs.declared.Rule.TheVariants.{Copy, Keep, Compute, Index}
 use Rattle.report_model.specs.declared.QueryKind.{QueryKind}
 use Rattle.report_model.specs.declared.QueryKind.TheVariants.{BadByte, Word, Count, Number, Channel, Range, SecondRule, NoRule}
 use Rattle.flow_model.specs.declared.InnerSink.{InnerSink}
@@ -26,6 +26,9 @@ of_lines ls = flat_map (λ l. codes l ++ 0x0a ∷ []) ls
 good : query (of_lines ("rule copy" ∷ "source all" ∷ "sink all" ∷ [])) ≡ Ok (all_by Copy)
 good = refl
 
+good_keep : query (of_lines ("rule keep" ∷ "source all" ∷ "sink all" ∷ [])) ≡ Ok (all_by Keep)
+good_keep = refl
+
 good_compute : query (of_lines ("sink all" ∷ "  rule   compute" ∷ "# a comment" ∷ "" ∷ "source all" ∷ [])) ≡ Ok (all_by Compute)
 good_compute = refl
 
@@ -35,6 +38,9 @@ good_index = refl
 -- a carriage return before a line feed is dropped; the last line feed may be missing; tabs separate words
 other_ends : query (codes "rule copy" ++ 0x0d ∷ 0x0a ∷ codes "source 0 1 2" ++ 0x0d ∷ 0x0a ∷ 0x09 ∷ codes "sink all") ≡ Ok (record { rule = Copy; sources = record { channel = Some 0; offsets = Some (record { from = 1; past = 2 }) } ∷ []; sinks = everything ∷ []; points = [] })
 other_ends = refl
+
+longer_rule : query (codes "rule keeps") ≡ Err (1, Word)
+longer_rule = refl
 
 unknown_rule : query (codes "rule cop") ≡ Err (1, Word)
 unknown_rule = refl
@@ -190,6 +196,9 @@ none_differs = refl
 
 third_differs : first_other_rule (all_by Copy ∷ all_by Copy ∷ all_by Index ∷ all_by Compute ∷ []) ≡ Some (Copy, 3, Index)
 third_differs = refl
+
+keep_is_no_copy : first_other_rule (all_by Keep ∷ all_by Copy ∷ []) ≡ Some (Keep, 2, Copy)
+keep_is_no_copy = refl
 
 points_of_both : together (of_points (points_of_memory 8 2 3) ∷ of_points (points_of_register 1 3 ++ points_of_memory 9 2 3) ∷ []) ≡ of_points (points_of_register 1 3 ++ points_of_memory 8 3 3)
 points_of_both = refl

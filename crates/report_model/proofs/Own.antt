@@ -8,7 +8,7 @@ use Rattle.std.proofs.lemmas.List.Elements.{filter-append, recursion_from_All, A
 use Rattle.std.proofs.lemmas.List.Folds.{list_any-append}
 use Rattle.flow_model.specs.declared.InnerSink.{InnerSink}
 use Rattle.flow_model.specs.declared.Rule.{Rule}
-use Rattle.flow_model.specs.declared.Rule.TheVariants.{Copy, Compute, Index}
+use Rattle.flow_model.specs.declared.Rule.TheVariants.{Copy, Keep, Compute, Index}
 use Rattle.flow_model.specs.declared.SinkPoint.{SinkPoint}
 use Rattle.flow_model.specs.declared.SinkPoint.TheVariants.{Out, At}
 use Rattle.flow_model.specs.declared.SourceByte.{SourceByte}
@@ -152,12 +152,19 @@ any_flat {X} {Y} t f x (y ∷ ys) h e = ap (list_any t) (flat_map-cons f y ys) �
 
 same_rule : (a b : Rule) → is_same_rule a b ≡ true → a ≡ b
 same_rule Copy Copy e = refl
+same_rule Copy Keep e = cc
 same_rule Copy Compute e = cc
 same_rule Copy Index e = cc
+same_rule Keep Copy e = cc
+same_rule Keep Keep e = refl
+same_rule Keep Compute e = cc
+same_rule Keep Index e = cc
 same_rule Compute Copy e = cc
+same_rule Compute Keep e = cc
 same_rule Compute Compute e = refl
 same_rule Compute Index e = cc
 same_rule Index Copy e = cc
+same_rule Index Keep e = cc
 same_rule Index Compute e = cc
 same_rule Index Index e = refl
 

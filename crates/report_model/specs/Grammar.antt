@@ -8,7 +8,7 @@ use Rattle.sorted_set.specs.Sets.{set_of}
 use Rattle.flow_model.specs.declared.InnerSink.{InnerSink}
 use Rattle.flow_model.specs.declared.Loc.TheVariants.{Reg, Mem}
 use Rattle.flow_model.specs.declared.Rule.{Rule}
-use Rattle.flow_model.specs.declared.Rule.TheVariants.{Copy, Compute, Index}
+use Rattle.flow_model.specs.declared.Rule.TheVariants.{Copy, Keep, Compute, Index}
 use Rattle.flow_model.specs.Orders.{inner_cmp}
 use Rattle.report_model.specs.declared.QueryKind.{QueryKind}
 use Rattle.report_model.specs.declared.QueryKind.TheVariants.{BadByte, Word, Count, Number, Channel, Range, SecondRule, NoRule}
@@ -67,6 +67,7 @@ unless (Some fault) x = Err fault
 abbrev pub rule_named : List ℕ → Option Rule
 rule_named word =
     if bytes_eq word (codes "copy") then Some Copy else
+    if bytes_eq word (codes "keep") then Some Keep else
     if bytes_eq word (codes "compute") then Some Compute else
     if bytes_eq word (codes "index") then Some Index else None
 

@@ -3,7 +3,7 @@ use Rattle.std.specs.Prelude.{◌≡◌, ℕ, ◌+◌, Bool, true, false, if◌t
 use Rattle.std.specs.List.{filter, flat_map}
 use Rattle.flow_model.specs.declared.InnerSink.{InnerSink}
 use Rattle.flow_model.specs.declared.Rule.{Rule}
-use Rattle.flow_model.specs.declared.Rule.TheVariants.{Copy, Compute, Index}
+use Rattle.flow_model.specs.declared.Rule.TheVariants.{Copy, Keep, Compute, Index}
 use Rattle.flow_model.specs.Orders.{inner_cmp}
 use Rattle.sorted_set.specs.Sets.{set_of, has}
 use Rattle.report_model.specs.Query.{Query, chooses, has_source, has_sink}
@@ -37,12 +37,19 @@ together qs = record {
 
 abbrev pub is_same_rule : Rule → Rule → Bool
 is_same_rule Copy Copy = true
+is_same_rule Copy Keep = false
 is_same_rule Copy Compute = false
 is_same_rule Copy Index = false
+is_same_rule Keep Copy = false
+is_same_rule Keep Keep = true
+is_same_rule Keep Compute = false
+is_same_rule Keep Index = false
 is_same_rule Compute Copy = false
+is_same_rule Compute Keep = false
 is_same_rule Compute Compute = true
 is_same_rule Compute Index = false
 is_same_rule Index Copy = false
+is_same_rule Index Keep = false
 is_same_rule Index Compute = false
 is_same_rule Index Index = true
 

@@ -1,10 +1,12 @@
 -- Each arm's shape is the row of its instructions, by what the parts ensure.
-use Rattle.std.proofs.Common.{arith, ap, ◌∙◌, refl, inl, inr}
+use Rattle.std.proofs.Common.{arith, rules, ap, ◌∙◌, refl, inl, inr}
+use mir.Syntax.{w32}
+use mir.Val.{SFits}
 use Rattle.flow_model.specs.Flow as model
 use Rattle.flow_rule.specs.declared.shape.Shape.TheVariants.{Move, Mixed}
 use Rattle.flow_rule.specs.declared.shape.Mixing.TheVariants.{EachLane, AllLanes, ShiftedLanes, FirstLane}
 use Rattle.flow_rule.specs.Shapes.{moved_shape_or}
-use Rattle.flow_rule.proofs.Shapes.{IsShapeOf, known, computed_row, moved_row, load_row, signed_row, store_row, alone, alone_row, arithmetic}
+use Rattle.flow_rule.proofs.Shapes.{IsShapeOf, known, computed_row, chosen_by, kept_row, moved_row, load_row, signed_row, store_row, alone, alone_row, arithmetic}
 use Rattle.flow_rule.proofs.shape.shape_of.Goals as goal
 
 lw : (c : goal.After-load) → IsShapeOf c.args.rule c.args.place c.load.result c.args.instr.now
@@ -158,16 +160,12 @@ returns-in-And-clause-sizes c = (and c).1
 pub returns-in-And-clause-registers : goal.returns-in-And-clause-registers
 returns-in-And-clause-registers c = (and c).2
 
-andi : (c : goal.After-computed) → IsShapeOf c.args.rule c.args.place c.computed.result c.args.instr.now
+andi : (c : goal.After-bitwise) → IsShapeOf c.args.rule c.args.place c.bitwise.result c.args.instr.now
 andi c =
     let d = c.in-Andi.rd in let a = c.in-Andi.rs1 in
-    elim c.in-Andi.is [
-      | inl e ↦ known c.args.rule c.args.place c.computed.ensures e.1 (computed_row c.args.rule d (Move d a) (model.lane a) (λ f. f.0) (refl, tt, λ f. (f.0, f.1)))
-      | inr o ↦ elim o [
-        | inl e ↦ known c.args.rule c.args.place c.computed.ensures e.1 (computed_row c.args.rule d (Move d a) (model.lane a) (λ f. f.0) (refl, tt, λ f. (f.0, f.1)))
-        | inr e ↦ known c.args.rule c.args.place c.computed.ensures e.1 (computed_row c.args.rule d (Move d a) (model.lane a) (λ f. f.0) (refl, tt, λ f. (f.0, f.1)))
-      ]
-    ]
+    let fits : SFits w32 c.in-Andi.imm = search rules in
+    known c.args.rule c.args.place c.bitwise.ensures c.in-Andi.is
+    (kept_row c.args.rule d a c.unchanged.result (model.unchanged_lanes 255 c.in-Andi.imm) (Move d a) (model.lane a) (λ f. (f.0, f.1)) c.unchanged.ensures.lanes (chosen_by c.unchanged.result 255 c.in-Andi.imm fits c.unchanged.ensures.chosen) (refl, tt, λ f. (f.0, f.1)))
 
 pub returns-in-Andi-clause-targets : goal.returns-in-Andi-clause-targets
 returns-in-Andi-clause-targets c = (andi c).0
@@ -177,6 +175,38 @@ returns-in-Andi-clause-sizes c = (andi c).1
 
 pub returns-in-Andi-clause-registers : goal.returns-in-Andi-clause-registers
 returns-in-Andi-clause-registers c = (andi c).2
+
+ori : (c : goal.After-bitwise-in-Ori) → IsShapeOf c.args.rule c.args.place c.bitwise-in-Ori.result c.args.instr.now
+ori c =
+    let d = c.in-Ori.rd in let a = c.in-Ori.rs1 in
+    let fits : SFits w32 c.in-Ori.imm = search rules in
+    known c.args.rule c.args.place c.bitwise-in-Ori.ensures c.in-Ori.is
+    (kept_row c.args.rule d a c.unchanged-in-Ori.result (model.unchanged_lanes 0 c.in-Ori.imm) (Move d a) (model.lane a) (λ f. (f.0, f.1)) c.unchanged-in-Ori.ensures.lanes (chosen_by c.unchanged-in-Ori.result 0 c.in-Ori.imm fits c.unchanged-in-Ori.ensures.chosen) (refl, tt, λ f. (f.0, f.1)))
+
+pub returns-in-Ori-clause-targets : goal.returns-in-Ori-clause-targets
+returns-in-Ori-clause-targets c = (ori c).0
+
+pub returns-in-Ori-clause-sizes : goal.returns-in-Ori-clause-sizes
+returns-in-Ori-clause-sizes c = (ori c).1
+
+pub returns-in-Ori-clause-registers : goal.returns-in-Ori-clause-registers
+returns-in-Ori-clause-registers c = (ori c).2
+
+xori : (c : goal.After-bitwise-in-Xori) → IsShapeOf c.args.rule c.args.place c.bitwise-in-Xori.result c.args.instr.now
+xori c =
+    let d = c.in-Xori.rd in let a = c.in-Xori.rs1 in
+    let fits : SFits w32 c.in-Xori.imm = search rules in
+    known c.args.rule c.args.place c.bitwise-in-Xori.ensures c.in-Xori.is
+    (kept_row c.args.rule d a c.unchanged-in-Xori.result (model.unchanged_lanes 0 c.in-Xori.imm) (Move d a) (model.lane a) (λ f. (f.0, f.1)) c.unchanged-in-Xori.ensures.lanes (chosen_by c.unchanged-in-Xori.result 0 c.in-Xori.imm fits c.unchanged-in-Xori.ensures.chosen) (refl, tt, λ f. (f.0, f.1)))
+
+pub returns-in-Xori-clause-targets : goal.returns-in-Xori-clause-targets
+returns-in-Xori-clause-targets c = (xori c).0
+
+pub returns-in-Xori-clause-sizes : goal.returns-in-Xori-clause-sizes
+returns-in-Xori-clause-sizes c = (xori c).1
+
+pub returns-in-Xori-clause-registers : goal.returns-in-Xori-clause-registers
+returns-in-Xori-clause-registers c = (xori c).2
 
 sub : (c : goal.After-mixed-in-Sub) → IsShapeOf c.args.rule c.args.place c.mixed-in-Sub.result c.args.instr.now
 sub c =
@@ -191,16 +221,11 @@ returns-in-Sub-clause-sizes c = (sub c).1
 pub returns-in-Sub-clause-registers : goal.returns-in-Sub-clause-registers
 returns-in-Sub-clause-registers c = (sub c).2
 
-slli : (c : goal.After-mixed-in-Slli) → IsShapeOf c.args.rule c.args.place c.mixed-in-Slli.result c.args.instr.now
+slli : (c : goal.After-shifted) → IsShapeOf c.args.rule c.args.place c.shifted.result c.args.instr.now
 slli c =
     let d = c.in-Slli.rd in let a = c.in-Slli.rs1 in
-    elim c.in-Slli.is [
-      | inl e ↦ known c.args.rule c.args.place c.mixed-in-Slli.ensures e.1 (computed_row c.args.rule d (Mixed AllLanes d a 0) (λ i. model.lanes a) (λ f. f.0) (alone_row d a (λ f. (f.0, f.1))))
-      | inr o ↦ elim o [
-        | inl e ↦ known c.args.rule c.args.place c.mixed-in-Slli.ensures e.1 (computed_row c.args.rule d (Mixed AllLanes d a 0) (λ i. model.lanes a) (λ f. f.0) (alone_row d a (λ f. (f.0, f.1))))
-        | inr e ↦ known c.args.rule c.args.place c.mixed-in-Slli.ensures e.1 (computed_row c.args.rule d (Mixed AllLanes d a 0) (λ i. model.lanes a) (λ f. f.0) (alone_row d a (λ f. (f.0, f.1))))
-      ]
-    ]
+    known c.args.rule c.args.place c.shifted.ensures c.in-Slli.is
+    (kept_row c.args.rule d a c.moved_left.result (model.left_lanes c.in-Slli.amount) (Mixed AllLanes d a 0) (λ i. model.lanes a) (λ f. (f.0, f.1)) c.moved_left.ensures.lanes c.moved_left.ensures.chosen (alone_row d a (λ f. (f.0, f.1))))
 
 pub returns-in-Slli-clause-targets : goal.returns-in-Slli-clause-targets
 returns-in-Slli-clause-targets c = (slli c).0
@@ -210,6 +235,24 @@ returns-in-Slli-clause-sizes c = (slli c).1
 
 pub returns-in-Slli-clause-registers : goal.returns-in-Slli-clause-registers
 returns-in-Slli-clause-registers c = (slli c).2
+
+srli : (c : goal.After-shifted-in-Srli) → IsShapeOf c.args.rule c.args.place c.shifted-in-Srli.result c.args.instr.now
+srli c =
+    let d = c.in-Srli.rd in let a = c.in-Srli.rs1 in
+    let row = kept_row c.args.rule d a c.moved_right.result (model.right_lanes c.in-Srli.amount) (Mixed AllLanes d a 0) (λ i. model.lanes a) (λ f. (f.0, f.1)) c.moved_right.ensures.lanes c.moved_right.ensures.chosen (alone_row d a (λ f. (f.0, f.1))) in
+    elim c.in-Srli.is [
+      | inl e ↦ known c.args.rule c.args.place c.shifted-in-Srli.ensures e row
+      | inr e ↦ known c.args.rule c.args.place c.shifted-in-Srli.ensures e row
+    ]
+
+pub returns-in-Srli-clause-targets : goal.returns-in-Srli-clause-targets
+returns-in-Srli-clause-targets c = (srli c).0
+
+pub returns-in-Srli-clause-sizes : goal.returns-in-Srli-clause-sizes
+returns-in-Srli-clause-sizes c = (srli c).1
+
+pub returns-in-Srli-clause-registers : goal.returns-in-Srli-clause-registers
+returns-in-Srli-clause-registers c = (srli c).2
 
 sll : (c : goal.After-mixed-in-Sll) → IsShapeOf c.args.rule c.args.place c.mixed-in-Sll.result c.args.instr.now
 sll c =
