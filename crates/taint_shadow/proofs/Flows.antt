@@ -1,5 +1,7 @@
 -- The labels of what flows into lanes.
 use Rattle.std.proofs.Common.{◌≡◌, ◌<◌, ◌≤◌, ◌==◌, ◌-◌, ◌+◌, nat_lt, ℕ, List, [], refl, arith, ap, ap₂, sym, ◌∙◌, subst, Bool, true, false, if◌then◌else◌}
+use Rattle.std.specs.Prelude.{Option, Some, None, IfSome}
+use Rattle.std.specs.Option.{option_map_or}
 use Rattle.std.proofs.lemmas.Bool.{ltb-true, lt-ltb}
 use Rattle.flow_model.specs.declared.Loc.{Loc}
 use Rattle.flow_model.specs.declared.Loc.TheVariants.{Mem}
@@ -10,15 +12,17 @@ use Rattle.flow_model.specs.Orders.{loc_cmp}
 use Rattle.sorted_set.specs.Sets.{union}
 use Rattle.flow_rule.specs.declared.shape.Mixing.{Mixing}
 use Rattle.flow_rule.specs.declared.shape.Mixing.TheVariants.{EachLane, AllLanes, ShiftedLanes, FirstLane}
+use Rattle.flow_rule.specs.declared.shuffle.Shuffle.{Shuffle}
+use Rattle.flow_rule.specs.Shuffles.{chosen_at, shuffled_lanes, AreLanes}
 use Rattle.flow_rule.specs.Shapes.{loaded_lane, mixed_lanes}
 use Rattle.taint_shadow.specs.declared.labels.Label.{Label}
 use Rattle.taint_shadow.specs.declared.lanes.Lanes.{Lanes}
 use Rattle.taint_shadow.specs.declared.places.Places.{Places}
 use Rattle.taint_shadow.specs.Labels.{LabelWords, Laws, MakesLabel, Makes, nothing_label}
-use Rattle.taint_shadow.specs.Lanes.{lane_at, alike, clean, extended_lane, both_mean, Stand, MakesLanes}
-use Rattle.taint_shadow.specs.Places.{kept, origin_lane}
+use Rattle.taint_shadow.specs.Lanes.{lane_at, alike, clean, chosen_label, shuffled, extended_lane, both_mean, Stand, MakesLanes}
+use Rattle.taint_shadow.specs.Places.{kept, origin_lane, origin_lanes}
 use Rattle.taint_shadow.specs.Steps.{meaning_at, AreStanding, united_over, based_mean}
-use Rattle.taint_shadow.proofs.Meaning.{AreHere, over_union, over_meaning, can_mean, either_here, lane_here, lane_made, lanes_mean, all_clean, lanes_here, union_here, each_of_four, alike_at, keeps_itself, keeps_then, both_made, nothing_with}
+use Rattle.taint_shadow.proofs.Meaning.{AreHere, over_union, over_meaning, can_mean, either_here, lane_here, lane_made, lanes_mean, all_clean, lanes_here, union_here, each_of_four, alike_at, origins_at, keeps_itself, keeps_then, both_made, nothing_with}
 
 -- ---- where origins lie
 
@@ -34,6 +38,12 @@ first_here ls i h = either_here (i == 0) ls [] h tt
 pub loaded_here : (fills : Bool) (base place size i : ℕ) → base < 32 → AreHere (loaded_lane fills base place size i)
 loaded_here true base place size i h = based_here base (byte_of place (if nat_lt i size then i else size - 1)) h (byte_here place (if nat_lt i size then i else size - 1))
 loaded_here false base place size i h = either_here (nat_lt i size) (with_base Index base (byte_of place i)) [] (based_here base (byte_of place i) h (byte_here place i)) tt
+
+pub shuffled_here : (shuffle : Shuffle) (r i : ℕ) → r < 32 → AreLanes shuffle → AreHere (shuffled_lanes shuffle r i)
+shuffled_here shuffle r i h few = by (chosen_at shuffle i) (few i) where
+  by : (o : Option ℕ) → IfSome o (λ j. j < 4) → AreHere (option_map_or (lane r) o [])
+  by None k = tt
+  by (Some j) k = lane_here r j h k
 
 pub mixed_here : (mixing : Mixing) (r s i : ℕ) → r < 32 → s < 32 → i < 4 → AreHere (mixed_lanes mixing r s i)
 mixed_here EachLane r s i h k l = union_here (lane r i) (lane s i) (lane_here r i h l) (lane_here s i k l)
@@ -68,6 +78,15 @@ module _ {A M : Type 0} (words : LabelWords A M) (laws : Laws words) where
   module _ (a : A) (p : Places) (standing : AreStanding words a p) where
     abbrev over : List Loc → M
     over ls = united_over words (meaning_at words a p) ls
+
+    -- the lanes of a register that are chosen
+    chosen_made : (r : ℕ) (lane_chosen : Option ℕ) → r < 32 → IfSome lane_chosen (λ j. j < 4) → MakesLabel words a (over (option_map_or (lane r) lane_chosen [])) (chosen_label (origin_lanes p r) lane_chosen)
+    chosen_made r None h k = laws.of_nothing a
+    chosen_made r (Some j) h k = lane_made words laws a p standing r j _ h k (origins_at p r j k)
+
+    pub shuffled_made : (shuffle : Shuffle) (r : ℕ) → r < 32 → AreLanes shuffle → (i : ℕ) → i < 4 → MakesLabel words a (over (shuffled_lanes shuffle r i)) (lane_at (shuffled (origin_lanes p r) shuffle) i)
+    shuffled_made shuffle r h few = each_of_four (λ i. MakesLabel words a (over (shuffled_lanes shuffle r i)) (lane_at (shuffled (origin_lanes p r) shuffle) i))
+        (chosen_made r shuffle.first h (few 0)) (chosen_made r shuffle.second h (few 1)) (chosen_made r shuffle.third h (few 2)) (chosen_made r shuffle.fourth h (few 3))
 
     -- the lanes of a register that has no label mean nothing
     no_lanes : (t : ℕ) → t < 32 → ((n : ℕ) → n < 4 → origin_lane p t n ≡ nothing_label) → words.nothing ≡ over (lanes t)

@@ -33,6 +33,12 @@ alike_at l = each_of_four (λ i. lane_at (alike l) i ≡ l) refl refl refl refl
 pub origins_at : (p : Places) (r i : ℕ) → i < 4 → lane_at (origin_lanes p r) i ≡ origin_lane p r i
 origins_at p r = each_of_four (λ i. lane_at (origin_lanes p r) i ≡ origin_lane p r i) refl refl refl refl
 
+-- lanes are known by their labels
+pub lanes_are : (x : Lanes) (p : Places) (r : ℕ) → ((i : ℕ) → i < 4 → lane_at x i ≡ origin_lane p r i) → x ≡ origin_lanes p r
+lanes_are x p r is =
+    ap₂ (λ (a b : Label). record { first = a; second = b; third = x.third; fourth = x.fourth }) (is 0 (omega arith)) (is 1 (omega arith))
+    ∙ ap₂ (λ (a b : Label). record { first = origin_lane p r 0; second = origin_lane p r 1; third = a; fourth = b }) (is 2 (omega arith)) (is 3 (omega arith))
+
 -- all of some locations are in range
 abbrev pub AreHere : List Loc → Type 0
 AreHere ls = AllByRecursion IsLocation ls

@@ -1,5 +1,7 @@
 -- Four labels at once.
-use Rattle.std.specs.Prelude.{ℕ, zero, suc, ◌-◌, ◌<◌, nat_lt, Bool, if◌then◌else◌}
+use Rattle.std.specs.Prelude.{ℕ, zero, suc, ◌-◌, ◌<◌, nat_lt, Bool, if◌then◌else◌, Option}
+use Rattle.std.specs.Option.{option_map_or}
+use Rattle.flow_rule.specs.declared.shuffle.Shuffle.{Shuffle}
 use Rattle.taint_shadow.specs.declared.labels.Label.{Label}
 use Rattle.taint_shadow.specs.declared.lanes.Lanes.{Lanes}
 use Rattle.taint_shadow.specs.Labels.{LabelWords, MakesLabel, KeepsLabels, mean_together, nothing_label}
@@ -17,6 +19,18 @@ alike l = record { first = l; second = l; third = l; fourth = l }
 
 abbrev pub clean : Lanes
 clean = alike nothing_label
+
+-- the label of a lane, if one is chosen; of none that of what came from nowhere
+abbrev pub chosen_label : Lanes → Option ℕ → Label
+chosen_label x lane = option_map_or (lane_at x) lane nothing_label
+
+abbrev pub shuffled : Lanes → Shuffle → Lanes
+shuffled x shuffle = record {
+  first = chosen_label x shuffle.first;
+  second = chosen_label x shuffle.second;
+  third = chosen_label x shuffle.third;
+  fourth = chosen_label x shuffle.fourth;
+}
 
 -- lane i of a load of n bytes: the lanes above are like the highest byte's, or came from nowhere
 abbrev pub extended_lane : Lanes → ℕ → Bool → ℕ → Label

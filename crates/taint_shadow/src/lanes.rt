@@ -1,10 +1,12 @@
 //! Four labels at once: those of a register's lanes, or of the bytes of a word.
 
-ghost use Rattle.std.specs.Prelude.{◌≡◌, ◌<◌, ◌≤◌, ℕ, IsTrue};
-ghost use Rattle.taint_shadow.specs.Lanes.{lane_at, alike, clean, extended_lane};
+ghost use Rattle.std.specs.Prelude.{◌≡◌, ◌<◌, ◌≤◌, ℕ, IsTrue, IfSome};
+ghost use Rattle.flow_rule.specs.Shuffles.{AreLanes};
+ghost use Rattle.taint_shadow.specs.Lanes.{lane_at, alike, clean, chosen_label, shuffled, extended_lane};
 
 use crate::labels::Label;
 use flow_model::Loc;
+use flow_rule::Shuffle;
 
 /// The labels of the four lanes of a register, or of four bytes, the lowest first.
 #[derive(Clone, Copy)]
@@ -48,6 +50,32 @@ impl Lanes {
             1 => self.second,
             2 => self.third,
             _ => self.fourth,
+        }
+    }
+
+    /// The label of a lane, if one is chosen: of none it is that of what came from nowhere.
+    #[inline(always)]
+    fn chosen(self, lane: Option<u8>) -> Label
+        requires { IfSome lane (λ i. i < 4) }
+        ensures { result ≡ chosen_label self lane }
+    {
+        match lane {
+            Some(lane) => self.at(lane),
+            None => Label::nothing(),
+        }
+    }
+
+    /// For each lane the label of the one that is chosen for it.
+    #[inline(always)]
+    pub(crate) fn shuffled(self, shuffle: Shuffle) -> Lanes
+        requires { AreLanes shuffle }
+        ensures { result ≡ shuffled self shuffle }
+    {
+        Lanes {
+            first: self.chosen(shuffle.first),
+            second: self.chosen(shuffle.second),
+            third: self.chosen(shuffle.third),
+            fourth: self.chosen(shuffle.fourth),
         }
     }
 

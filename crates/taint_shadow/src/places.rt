@@ -5,13 +5,15 @@ ghost use Rattle.flow_model.specs.declared.Loc.TheVariants.{Reg, Mem};
 ghost use Rattle.flow_model.specs.Ranges.{IsLocation};
 ghost use Rattle.isa.specs.Machine.{wrap};
 ghost use Rattle.taint_shadow.specs.Labels.{start_label, nothing_label};
-ghost use Rattle.taint_shadow.specs.Lanes.{lane_at, alike, clean};
+ghost use Rattle.flow_rule.specs.Shuffles.{AreLanes};
+ghost use Rattle.taint_shadow.specs.Lanes.{lane_at, alike, clean, shuffled};
 ghost use Rattle.taint_shadow.specs.Notes.{AreNoted};
 
 use crate::labels::Label;
 use crate::lanes::Lanes;
 use crate::memory::{self, Regions};
 use flow_model::Loc;
+use flow_rule::Shuffle;
 use no_memory::NoMemory;
 use std::alloc::Global;
 
@@ -134,6 +136,16 @@ impl Places {
             let lanes = self.lanes(from);
             self.set_lanes(number, lanes);
         }
+    }
+
+    /// Labels each lane of a register as the one of another that is chosen for it; those of x0 stay as they are.
+    pub(crate) fn shuffle_lanes(&mut self, number: u8, from: u8, shuffle: Shuffle)
+        requires registers { (number < 32) × (from < 32) }
+        requires lanes { AreLanes shuffle }
+        ensures { AreKept self.new (with_lanes number (shuffled (origin_lanes self.old from) shuffle) (kept self.old)) }
+    {
+        let lanes = self.lanes(from).shuffled(shuffle);
+        self.put_lanes(number, lanes);
     }
 
     /// The labels of the four bytes from a place on, round the end of memory.

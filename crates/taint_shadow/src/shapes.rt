@@ -255,6 +255,10 @@ pub(crate) fn turn_by_shape<A: Labels>(
             places.copy_lanes(rd, rs);
             Ok(())
         }
+        Shape::Shuffled { shuffle, rd, rs } => {
+            places.shuffle_lanes(rd, rs, shuffle);
+            Ok(())
+        }
         Shape::Mixed {
             mixing,
             rd,
