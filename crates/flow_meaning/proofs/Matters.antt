@@ -1,6 +1,6 @@
 -- The flow table against values. Each origin of the compute table can matter, but for those that docs/MEANING.md tells: two
 -- states differ there alone, and the target's contents after the instruction differ. And what matters is listed.
-use Rattle.std.proofs.Common.{◌≡◌, ℕ, ◌+◌, ◌-◌, ◌*◌, ◌^◌, Bool, true, false, not, ◌||◌, ◌&&◌, List, [], ◌∷◌, ◌++◌, map, refl, pos, negsuc, replicate}
+use Rattle.std.proofs.Common.{◌≡◌, ℕ, ◌+◌, ◌-◌, ◌*◌, ◌^◌, Bool, true, false, not, ◌||◌, ◌&&◌, List, [], ◌∷◌, ◌++◌, map, ℤ, refl, pos, negsuc, replicate}
 use Rattle.std.specs.Prelude.{◌==◌, nat_lt, nat_le, slice_set}
 use Rattle.std.specs.List.{filter, flat_map, list_all, list_any, range_with_len}
 use Rattle.std.specs.Int.{w32, to_le_bytes}
@@ -10,7 +10,7 @@ use Rattle.isa.specs.Machine.{State, Outcome, Retired, Called, Trapped, reg, exe
 use Rattle.flow_model.specs.declared.Loc.{Loc}
 use Rattle.flow_model.specs.declared.Loc.TheVariants.{Reg, Mem}
 use Rattle.flow_model.specs.declared.Rule.{Rule}
-use Rattle.flow_model.specs.declared.Rule.TheVariants.{Copy, Compute, Index}
+use Rattle.flow_model.specs.declared.Rule.TheVariants.{Copy, Keep, Compute, Index}
 use Rattle.flow_model.specs.Flow.{Target, flow, origins_by, loc_eq}
 use Rattle.flow_meaning.specs.Content.{content, lane_of}
 
@@ -236,7 +236,7 @@ no_stored_lane_unlisted = refl
 no_base_unlisted : flat_map (unlisted Index (lanes_of 3) (lanes_of 5)) loads ≡ []
 no_base_unlisted = refl
 
--- ---- what flows by copy is the byte
+-- ---- what flows by copy, and by keep, is the byte
 
 abbrev leaves : Loc → ℕ → Outcome → Bool
 leaves target v (Retired s) = content s target == v
@@ -248,3 +248,25 @@ is_moved i t = list_all (λ o. list_all (λ s. leaves t.loc (content s o) (execu
 
 copies_move : list_all (λ i. list_all (is_moved i) (table Copy i)) (loads ++ stores ++ operations) ≡ true
 copies_move = refl
+
+-- bitwise operations with an immediate, and shifts by one
+abbrev masks : List ℤ
+masks = pos 0 ∷ pos 255 ∷ pos 256 ∷ pos 2047 ∷ negsuc 0 ∷ negsuc 15 ∷ negsuc 255 ∷ negsuc 2047 ∷ []
+
+abbrev keeping : List Instr
+keeping =
+    flat_map (λ m. Andi 3 1 m ∷ Ori 3 1 m ∷ Xori 3 1 m ∷ []) masks ++ flat_map (λ k. Slli 3 1 k ∷ Srli 3 1 k ∷ Srai 3 1 k ∷ []) (range_with_len 0 32)
+
+keeps_move : list_all (λ i. list_all (is_moved i) (table Keep i)) (loads ++ stores ++ operations ++ keeping) ≡ true
+keeps_move = refl
+
+-- what comes from none by keep is in none of the lanes, in one of these states at least: no move is left out
+abbrev is_somewhere : Instr → Target → Bool
+is_somewhere i t = list_any (λ o. is_moved i (record { loc = t.loc; origins = o ∷ [] })) (lanes_of 1)
+
+abbrev is_empty : List Loc → Bool
+is_empty [] = true
+is_empty (l ∷ ls) = false
+
+no_move_is_missed : list_any (λ i. list_any (λ t. is_empty t.origins && is_somewhere i t) (table Keep i)) keeping ≡ false
+no_move_is_missed = refl

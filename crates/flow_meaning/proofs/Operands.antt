@@ -1,20 +1,51 @@
 -- Operands: what it says of two states that they agree at the lanes of registers, and what moves and operations carry.
-use Rattle.std.proofs.Common.{◌≡◌, ℕ, zero, suc, ◌+◌, ◌-◌, ◌*◌, ◌^◌, ◌%◌, ◌<◌, Bool, true, false, cond, List, [], ◌∷◌, refl, arith, ap, ap₂, sym, ◌∙◌, subst, length, get_or, eqb-true, ltb-true, ltb-false, mod-eq_of_lt, ℤ}
-use Rattle.std.specs.Prelude.{◌==◌, nat_lt, if◌then◌else◌}
+use Rattle.std.proofs.Common.{◌≡◌, ℕ, zero, suc, ◌+◌, ◌-◌, ◌*◌, ◌/◌, ◌^◌, ◌%◌, ◌<◌, Bool, true, false, cond, List, [], ◌∷◌, refl, arith, ap, ap₂, sym, ◌∙◌, subst, length, get_or, eqb-true, leb-true, ltb-true, ltb-false, mod-eq_of_lt, ℤ}
+use Rattle.std.specs.Prelude.{◌==◌, ◌&&◌, nat_lt, nat_le, if◌then◌else◌}
 use Rattle.std.proofs.lemmas.List.{get_or_past}
 use Rattle.isa.specs.Machine.{State, reg, flag, bytes_at, little_endian, sign_extended, low_bytes, effective_address, as_word, wrap}
 use Rattle.flow_model.specs.declared.Loc.{Loc}
 use Rattle.flow_model.specs.declared.Loc.TheVariants.{Reg, Mem}
 use Rattle.flow_model.specs.declared.Rule.{Rule}
-use Rattle.flow_model.specs.declared.Rule.TheVariants.{Copy, Compute, Index}
-use Rattle.flow_model.specs.Flow.{nothing, lane, lanes, computed, in_first_lane, with_base, byte_of, loaded_byte, signed_load, moved_or, each_lane, all_lanes, shifted_lanes}
+use Rattle.flow_model.specs.declared.Rule.TheVariants.{Copy, Keep, Compute, Index}
+use Rattle.flow_model.specs.Flow.{nothing, lane, lanes, computed, kept_or_computed, in_first_lane, with_base, byte_of, loaded_byte, signed_load, moved_or, each_lane, all_lanes, shifted_lanes, immediate_byte, unchanged_lanes, left_lanes, right_lanes}
 use Rattle.flow_model.proofs.Orders.{loc_same}
 use Rattle.flow_meaning.specs.Content.{content, lane_of, byte_in, AgreeAt, IsSound}
 use Rattle.flow_meaning.proofs.Sets.{union-all}
-use Rattle.flow_meaning.proofs.Lanes.{same_word, flag_lane, low_byte}
+use Rattle.flow_meaning.proofs.Lanes.{same_word, lane_small, flag_lane, low_byte, lane_up}
 use Rattle.flow_meaning.proofs.Bytes.{Size, Short, ShortOne, ShortTwo, lanes_of_bytes, signed_lanes, sign_byte}
 use Rattle.flow_meaning.proofs.Window.{window_bytes, Holds, bytes_length, byte_of_window}
-use Rattle.flow_meaning.proofs.Targets.{AgreesOn, Carries, carry}
+use Rattle.flow_meaning.proofs.Targets.{AgreesOn, IsMoved, Carries, carry}
+
+-- ---- a lane that is moved
+
+pub no_location : {A : Type 0} (k : Loc) → [] ≡ k ∷ [] → A
+no_location k e = cc
+
+pub lane_content : (s : State) (a i : ℕ) (k : Loc) → lane a i ≡ k ∷ [] → lane_of (reg s a) i ≡ content s k
+lane_content s a i k e = by (a == 0) e
+  where
+    by : (b : Bool) → cond b [] (Reg a i ∷ []) ≡ k ∷ [] → lane_of (reg s a) i ≡ content s k
+    by true e = no_location k e
+    by false e = let same : Reg a i ≡ k = cc in ap (content s) same
+
+-- a shift by whole lanes
+pub left_moved : (s : State) (a k i : ℕ) → i < 4 → IsMoved s (left_lanes k a i) (lane_of (wrap (reg s a * 2 ^ k)) i)
+left_moved s a k i h = by (k % 8 == 0) refl (nat_le (k / 8) i) refl
+  where
+    by : (b : Bool) → (k % 8 == 0) ≡ b → (c : Bool) → nat_le (k / 8) i ≡ c → IsMoved s (cond (b && c) (lane a (i - k / 8)) []) (lane_of (wrap (reg s a * 2 ^ k)) i)
+    by true e true f q one =
+        lane_up (reg s a) k i h (eqb-true (k % 8) 0 e) (leb-true (k / 8) i f) ∙ lane_content s a (i - k / 8) q one
+    by true e false f q none = no_location q none
+    by false e c f q none = no_location q none
+
+-- to the right by whatever moves the lanes above down
+pub right_moved : (s : State) (f : ℕ → ℕ) (a k i : ℕ) → (k % 8 ≡ 0 → i + k / 8 < 4 → lane_of (f (reg s a)) i ≡ lane_of (reg s a) (i + k / 8)) → IsMoved s (right_lanes k a i) (lane_of (f (reg s a)) i)
+right_moved s f a k i down = by (k % 8 == 0) refl (nat_lt (i + k / 8) 4) refl
+  where
+    by : (b : Bool) → (k % 8 == 0) ≡ b → (c : Bool) → nat_lt (i + k / 8) 4 ≡ c → IsMoved s (cond (b && c) (lane a (i + k / 8)) []) (lane_of (f (reg s a)) i)
+    by true e true g q one = down (eqb-true (k % 8) 0 e) (ltb-true (i + k / 8) 4 g) ∙ lane_content s a (i + k / 8) q one
+    by true e false g q none = no_location q none
+    by false e c g q none = no_location q none
 
 -- ---- operands that agree
 
@@ -51,6 +82,7 @@ module _ {s t : State} (ss : IsSound s) (st : IsSound t) where
   -- what comes by a base register comes from one address
   pub base_agrees : (rule : Rule) (a : ℕ) (imm : ℤ) (ls : List Loc) → AgreesOn rule (effective_address s a imm) (effective_address t a imm) → AgreeAt s t (with_base rule a ls) → (effective_address s a imm ≡ effective_address t a imm) × AgreeAt s t ls
   base_agrees Copy a imm ls e h = (e, h)
+  base_agrees Keep a imm ls e h = (e, h)
   base_agrees Compute a imm ls e h = (e, h)
   base_agrees Index a imm ls e h = let both = union-all loc_same (λ l. content s l ≡ content t l) (lanes a) ls h in (address_agrees a imm both.0, both.1)
 
@@ -95,8 +127,25 @@ module _ {s t : State} (ss : IsSound s) (st : IsSound t) where
     pub of_bytes : (f : ℕ → ℕ → ℕ) → ((v w i : ℕ) → lane_of (f v w) i ≡ f (lane_of v i) (lane_of w i)) → (a b i : ℕ) → P (computed rule (each_lane a b) i) (lane_of (f (reg s a) (reg s b)) i) (lane_of (f (reg t a) (reg t b)) i)
     of_bytes f law a b i = c.counts (each_lane a b) i _ _ (λ h. let both = lanes_agree a b i h in law (reg s a) (reg s b) i ∙ ap₂ f both.0 both.1 ∙ sym (law (reg t a) (reg t b) i))
 
-    pub of_byte : (f : ℕ → ℕ → ℕ) → ((v w i : ℕ) → lane_of (f v w) i ≡ f (lane_of v i) (lane_of w i)) → (a k i : ℕ) → P (computed rule (lane a) i) (lane_of (f (reg s a) k) i) (lane_of (f (reg t a) k) i)
-    of_byte f law a k i = c.counts (lane a) i _ _ (λ h. law (reg s a) k i ∙ ap (λ (v : ℕ). f v (lane_of k i)) (lane_agrees a i h) ∙ sym (law (reg t a) k i))
+    -- and with an immediate: the lanes where that has a neutral byte are kept
+    pub of_immediate : (f : ℕ → ℕ → ℕ) → ((v w i : ℕ) → lane_of (f v w) i ≡ f (lane_of v i) (lane_of w i)) → (byte : ℕ) → ((v : ℕ) → v < 2 ^ 8 → f v byte ≡ v) → (a : ℕ) (imm : ℤ) (i : ℕ)
+        → P (kept_or_computed rule (unchanged_lanes byte imm a) (lane a) i) (lane_of (f (reg s a) (as_word imm)) i) (lane_of (f (reg t a) (as_word imm)) i)
+    of_immediate f law byte neutral a imm i = c.keeps (unchanged_lanes byte imm a) (lane a) i _ _ (moved (immediate_byte imm i == byte) refl)
+        (λ h. law (reg s a) word i ∙ ap (λ (v : ℕ). f v (lane_of word i)) (lane_agrees a i h) ∙ sym (law (reg t a) word i))
+      where
+        word : ℕ
+        word = as_word imm
+
+        moved : (b : Bool) → (immediate_byte imm i == byte) ≡ b → IsMoved s (cond b (lane a i) []) (lane_of (f (reg s a) word) i)
+        moved true e k one =
+            law (reg s a) word i ∙ ap (f (lane_of (reg s a) i)) (eqb-true (immediate_byte imm i) byte e) ∙ neutral (lane_of (reg s a) i) (lane_small (reg s a) i)
+            ∙ lane_content s a i k one
+        moved false e k none = no_location k none
+
+    -- a shift by an immediate: the lanes that it moves are kept
+    pub of_shift_by : (f : ℕ → ℕ) (kept : ℕ → List Loc) (a i : ℕ) → IsMoved s (kept i) (lane_of (f (reg s a)) i)
+        → P (kept_or_computed rule kept (λ j. lanes a) i) (lane_of (f (reg s a)) i) (lane_of (f (reg t a)) i)
+    of_shift_by f kept a i moved = c.keeps kept (λ j. lanes a) i _ _ moved (λ h. ap (λ (v : ℕ). lane_of (f v) i) (word_agrees a h))
 
     -- comparisons: a bit in the first lane
     of_flags : (origins : List Loc) (x y : Bool) (i : ℕ) → (AgreeAt s t origins → x ≡ y) → P (computed rule (in_first_lane origins) i) (lane_of (flag x) i) (lane_of (flag y) i)
@@ -161,11 +210,13 @@ module _ {s t : State} (ss : IsSound s) (st : IsSound t) where
 
     above : (r : Rule) (k a n i : ℕ) → nat_lt i n ≡ false → signed_load r k a n i ≡ computed r (λ j. with_base r k (byte_of a (n - 1))) i
     above Copy k a n i e = ap (λ (b : Bool). cond b (byte_of a i) []) e
+    above Keep k a n i e = ap (λ (b : Bool). cond b (byte_of a i) []) e
     above Compute k a n i e = ap (λ (b : Bool). byte_of a (cond b i (n - 1))) e
     above Index k a n i e = ap (λ (b : Bool). with_base Index k (byte_of a (cond b i (n - 1)))) e
 
     below : (r : Rule) (k a n i : ℕ) → nat_lt i n ≡ true → signed_load r k a n i ≡ with_base r k (byte_of a i)
     below Copy k a n i e = ap (λ (b : Bool). cond b (byte_of a i) []) e
+    below Keep k a n i e = ap (λ (b : Bool). cond b (byte_of a i) []) e
     below Compute k a n i e = ap (λ (b : Bool). byte_of a (cond b i (n - 1))) e
     below Index k a n i e = ap (λ (b : Bool). with_base Index k (byte_of a (cond b i (n - 1)))) e
 

@@ -8,7 +8,6 @@ use Rattle.isa.specs.Machine.{State}
 use Rattle.log_model.specs.Logs.{Log, steps}
 use Rattle.sorted_set.proofs.Algebra.{All-set_of}
 use Rattle.flow_model.specs.declared.Rule.{Rule}
-use Rattle.flow_model.specs.declared.Rule.TheVariants.{Copy}
 use Rattle.flow_model.specs.declared.InnerSink.{InnerSink}
 use Rattle.flow_model.specs.declared.SourceByte.{SourceByte}
 use Rattle.flow_model.specs.declared.StepSeen.{StepSeen}
@@ -19,7 +18,7 @@ use Rattle.report_model.specs.Query.{Query, has_source, has_sink}
 use Rattle.report_model.specs.Rows.{Sink, sink_at, sinks_of_call, sinks_of_step, point_sink, points_at, sinks_from, chosen_sinks, Row, row, rows, rows_as_written, row_cmp}
 use Rattle.replay_model.specs.Run.{Moment, start, advance, moment_after, step_of, steps_from, trace, call_seen}
 use Rattle.flow_meaning.specs.Content.{content}
-use Rattle.flow_meaning.specs.StepLaws.{DeterminedBy}
+use Rattle.flow_meaning.specs.StepLaws.{OnlyMoves, DeterminedBy}
 use Rattle.flow_meaning.specs.RunLaws.{IsRun, moment_at, content_at, byte_at_sink, under, AlikeAt, AlikeElsewhere, SamePath, IsCopied, CopiedRows, DeterminedRows}
 use Rattle.flow_meaning.proofs.Never.{none_is, some_is}
 use Rattle.flow_meaning.proofs.Sets.{all-gives}
@@ -118,18 +117,18 @@ output_is log s t call i run h e w g = by (does log.inputs m (done_at log s t ru
 abbrev HasCopied : Log → State → Rule → (SourceByte → Bool) → Sink → Type 0
 HasCopied log s rule introduces x = IsCopied log (byte_at_sink s log x.name) (origins (under rule introduces) (trace s log) x.time x.loc)
 
-copied_sinks : (log : Log) (s : State) → IsRun log s → (q : Query) → All (λ p. IsLocation p.loc) q.points → AllByRecursion (HasCopied log s Copy (has_source q)) (chosen_sinks q (trace s log))
-copied_sinks log s run q located = all_sinks (HasCopied log s Copy (has_source q)) q s log
-    (all-gives (λ p. IsLocation p.loc) (λ p. p.time ≤ steps log → HasCopied log s Copy (has_source q) (point_sink p)) (λ p l h. copied_contents log s run (has_source q) p.time p.loc h l) q.points (recursion_from_All (λ p. IsLocation p.loc) q.points located))
-    (λ t h call e w i g. subst (λ (v : ℕ). IsCopied log v (origins (under Copy (has_source q)) (trace s log) t (sink_at t call i).loc)) (output_is log s t call i run h e w g)
-    (copied_contents log s run (has_source q) t (sink_at t call i).loc (omega arith) (is_place (call.place + i))))
+copied_sinks : (log : Log) (s : State) → IsRun log s → (rule : Rule) → OnlyMoves rule → (q : Query) → All (λ p. IsLocation p.loc) q.points → AllByRecursion (HasCopied log s rule (has_source q)) (chosen_sinks q (trace s log))
+copied_sinks log s run rule only q located = all_sinks (HasCopied log s rule (has_source q)) q s log
+    (all-gives (λ p. IsLocation p.loc) (λ p. p.time ≤ steps log → HasCopied log s rule (has_source q) (point_sink p)) (λ p l h. copied_contents log s run rule only (has_source q) p.time p.loc h l) q.points (recursion_from_All (λ p. IsLocation p.loc) q.points located))
+    (λ t h call e w i g. subst (λ (v : ℕ). IsCopied log v (origins (under rule (has_source q)) (trace s log) t (sink_at t call i).loc)) (output_is log s t call i run h e w g)
+    (copied_contents log s run rule only (has_source q) t (sink_at t call i).loc (omega arith) (is_place (call.place + i))))
   where
     is_place : (n : ℕ) → n % 2 ^ 32 < 2 ^ 32
     is_place n = omega arith
 
 pub copied_rows : CopiedRows
-copied_rows log s run q e located = all_rows (λ r. IsCopied log (byte_at_sink s log r.sink) r.sources) q (trace s log)
-    (subst (λ (rule : Rule). AllByRecursion (HasCopied log s rule (has_source q)) (chosen_sinks q (trace s log))) (sym e) (copied_sinks log s run q located))
+copied_rows log s run q only located =
+    all_rows (λ r. IsCopied log (byte_at_sink s log r.sink) r.sources) q (trace s log) (copied_sinks log s run q.rule only q located)
 
 abbrev IsAlikeIn : Log → Log → State → Rule → (SourceByte → Bool) → Sink → Type 0
 IsAlikeIn a b s rule introduces x = AlikeAt a b (origins (under rule introduces) (trace s a) x.time x.loc) → byte_at_sink s a x.name ≡ byte_at_sink s b x.name

@@ -8,7 +8,6 @@ use Rattle.log_model.specs.Logs.{Log, steps}
 use Rattle.flow_model.specs.declared.Loc.{Loc}
 use Rattle.flow_model.specs.declared.Loc.TheVariants.{Reg, Mem}
 use Rattle.flow_model.specs.declared.Rule.{Rule}
-use Rattle.flow_model.specs.declared.Rule.TheVariants.{Copy}
 use Rattle.flow_model.specs.declared.SourceByte.{SourceByte}
 use Rattle.flow_model.specs.declared.StepSeen.{StepSeen}
 use Rattle.flow_model.specs.declared.CallSeen.{CallSeen}
@@ -18,12 +17,12 @@ use Rattle.flow_model.specs.Origins.{Policy, origins, introduced, byte_at, union
 use Rattle.replay_model.specs.Run.{Moment, start, advance, moment_after, step_of, steps_from, trace, call_seen}
 use Rattle.replay_model.proofs.Offsets.{step_at_from, moment_later}
 use Rattle.flow_meaning.specs.Content.{content, AgreeAt}
-use Rattle.flow_meaning.specs.StepLaws.{DeterminedBy, receives, bytes_given}
+use Rattle.flow_meaning.specs.StepLaws.{OnlyMoves, DeterminedBy, receives, bytes_given}
 use Rattle.flow_meaning.specs.RunLaws.{IsRun, byte_received, moment_at, content_at, under, AlikeElsewhere, IsCopied, NoOrigin, OneOrigin, SamePath, CopiedContents, SamePathSameTrace, DeterminedContents}
 use Rattle.flow_meaning.proofs.Never.{no, none_is, some_is}
 use Rattle.flow_meaning.proofs.Window.{byte_beyond}
 use Rattle.flow_meaning.proofs.Single.{IsPlace, AtMostOne, Nothing, One, single_place}
-use Rattle.flow_meaning.proofs.Steps.{Does, Plain, Calls, does, same_call, copy_moves, received_is_there}
+use Rattle.flow_meaning.proofs.Steps.{Does, Plain, Calls, does, same_call, moves_keep_content, received_is_there}
 use Rattle.flow_meaning.proofs.Sets.{union_over-all, all-gives}
 use Rattle.flow_meaning.proofs.After.{Receives, receives_one, flows, arrives}
 use Rattle.flow_meaning.proofs.Done.{on_track, done_at, sound_at}
@@ -63,7 +62,7 @@ received_content log s t call p run h x e r =
     ∙ (received_is_there log.inputs (moment_at s log t) call p (sound_at log s t run (omega arith)) (done_at log s t run h) x e r).content_is
     ∙ sym (received_now log s t call p run h e r)
 
--- ---- copy
+-- ---- moves
 
 introduced_copied : (log : Log) (policy : Policy) (v : ℕ) (b : SourceByte) → v ≡ byte_received log b → IsCopied log v (introduced policy b)
 introduced_copied log policy v b e = by (policy.introduces b)
@@ -76,40 +75,40 @@ copied_as : (log : Log) (v w : ℕ) (bs cs : List SourceByte) → v ≡ w → bs
 copied_as log v w bs cs e f (NoOrigin g) = NoOrigin (f ∙ g)
 copied_as log v w bs cs e f (OneOrigin b g h) = OneOrigin b (f ∙ g) (e ∙ h)
 
-copied_received : (log : Log) (s : State) (introduces : SourceByte → Bool) (t : ℕ) (l : Loc) → IsRun log s → t < steps log → IsPlace l → Receives (step_of (moment_at s log t)) l → IsCopied log (content_at s log (suc t) l) (origins (under Copy introduces) (trace s log) (suc t) l)
-copied_received log s introduces t (Reg r i) run h p g = no (sym g.is_there)
-copied_received log s introduces t (Mem q) run h p g =
-    let policy = under Copy introduces in
+copied_received : (log : Log) (s : State) (rule : Rule) (introduces : SourceByte → Bool) (t : ℕ) (l : Loc) → IsRun log s → t < steps log → IsPlace l → Receives (step_of (moment_at s log t)) l → IsCopied log (content_at s log (suc t) l) (origins (under rule introduces) (trace s log) (suc t) l)
+copied_received log s rule introduces t (Reg r i) run h p g = no (sym g.is_there)
+copied_received log s rule introduces t (Mem q) run h p g =
+    let policy = under rule introduces in
     copied_as log (content_at s log (suc t) (Mem q)) (content_at s log (suc t) (Mem q)) (origins policy (trace s log) (suc t) (Mem q)) (introduced policy (byte_at g.call (Mem q))) refl
     (origins_after policy s log t (Mem q) h ∙ arrives policy (step_of (moment_at s log t)) (origins policy (trace s log) t) (Mem q) g)
     (introduced_copied log policy (content_at s log (suc t) (Mem q)) (byte_at g.call (Mem q)) (received_content log s t g.call q run h p g.is_call g.is_there))
 
-copied_moved : (log : Log) (s : State) (introduces : SourceByte → Bool) (t : ℕ) (l : Loc) → IsRun log s → t < steps log → receives (step_of (moment_at s log t)) l ≡ false
-    → ((k : Loc) → IsPlace k → IsCopied log (content_at s log t k) (origins (under Copy introduces) (trace s log) t k)) → AtMostOne IsPlace (from Copy (step_of (moment_at s log t)) l) → IsCopied log (content_at s log (suc t) l) (origins (under Copy introduces) (trace s log) (suc t) l)
-copied_moved log s introduces t l run h g ih (Nothing e) =
-    let policy = under Copy introduces in
+copied_moved : (log : Log) (s : State) (rule : Rule) → OnlyMoves rule → (introduces : SourceByte → Bool) (t : ℕ) (l : Loc) → IsRun log s → t < steps log → receives (step_of (moment_at s log t)) l ≡ false
+    → ((k : Loc) → IsPlace k → IsCopied log (content_at s log t k) (origins (under rule introduces) (trace s log) t k)) → AtMostOne IsPlace (from rule (step_of (moment_at s log t)) l) → IsCopied log (content_at s log (suc t) l) (origins (under rule introduces) (trace s log) (suc t) l)
+copied_moved log s rule only introduces t l run h g ih (Nothing e) =
+    let policy = under rule introduces in
     NoOrigin (origins_after policy s log t l h ∙ flows policy (step_of (moment_at s log t)) (origins policy (trace s log) t) l g ∙ ap (union_over (origins policy (trace s log) t)) e)
-copied_moved log s introduces t l run h g ih (One k p e) =
-    let policy = under Copy introduces in
+copied_moved log s rule only introduces t l run h g ih (One k p e) =
+    let policy = under rule introduces in
     copied_as log (content_at s log (suc t) l) (content_at s log t k) (origins policy (trace s log) (suc t) l) (origins policy (trace s log) t k)
-    (content_after s log t l ∙ copy_moves log.inputs (moment_at s log t) l k (sound_at log s t run (omega arith)) (done_at log s t run h) e)
+    (content_after s log t l ∙ moves_keep_content rule only log.inputs (moment_at s log t) l k (sound_at log s t run (omega arith)) (done_at log s t run h) e)
     (origins_after policy s log t l h ∙ flows policy (step_of (moment_at s log t)) (origins policy (trace s log) t) l g ∙ ap (union_over (origins policy (trace s log) t)) e)
     (ih k p)
 
-copied : (log : Log) (s : State) → IsRun log s → (introduces : SourceByte → Bool) (t : ℕ) (l : Loc) → t ≤ steps log → IsPlace l → IsCopied log (content_at s log t l) (origins (under Copy introduces) (trace s log) t l)
-copied log s run introduces zero l h p = NoOrigin refl
-copied log s run introduces (suc t) l h p = by (λ k q. copied log s run introduces t k (omega arith) q) (receives (step_of (moment_at s log t)) l) refl
+copied : (log : Log) (s : State) → IsRun log s → (rule : Rule) → OnlyMoves rule → (introduces : SourceByte → Bool) (t : ℕ) (l : Loc) → t ≤ steps log → IsPlace l → IsCopied log (content_at s log t l) (origins (under rule introduces) (trace s log) t l)
+copied log s run rule only introduces zero l h p = NoOrigin refl
+copied log s run rule only introduces (suc t) l h p = by (λ k q. copied log s run rule only introduces t k (omega arith) q) (receives (step_of (moment_at s log t)) l) refl
   where
-    by : ((k : Loc) → IsPlace k → IsCopied log (content_at s log t k) (origins (under Copy introduces) (trace s log) t k)) → (b : Bool) → receives (step_of (moment_at s log t)) l ≡ b → IsCopied log (content_at s log (suc t) l) (origins (under Copy introduces) (trace s log) (suc t) l)
-    by ih true e = copied_received log s introduces t l run (omega arith) p (receives_one (step_of (moment_at s log t)) l e)
-    by ih false e = copied_moved log s introduces t l run (omega arith) e ih (single_place (step_of (moment_at s log t)) l p)
+    by : ((k : Loc) → IsPlace k → IsCopied log (content_at s log t k) (origins (under rule introduces) (trace s log) t k)) → (b : Bool) → receives (step_of (moment_at s log t)) l ≡ b → IsCopied log (content_at s log (suc t) l) (origins (under rule introduces) (trace s log) (suc t) l)
+    by ih true e = copied_received log s rule introduces t l run (omega arith) p (receives_one (step_of (moment_at s log t)) l e)
+    by ih false e = copied_moved log s rule only introduces t l run (omega arith) e ih (single_place rule only (step_of (moment_at s log t)) l p)
 
 a_place : (l : Loc) → IsLocation l → IsPlace l
 a_place (Reg r i) h = tt
 a_place (Mem p) h = h
 
 pub copied_contents : CopiedContents
-copied_contents log s run introduces t l h p = copied log s run introduces t l h (a_place l p)
+copied_contents log s run rule only introduces t l h p = copied log s run rule only introduces t l h (a_place l p)
 
 -- ---- the other rules
 

@@ -2,6 +2,7 @@
 use Rattle.std.proofs.Common.{◌≡◌, Bool, true, false, List, [], ◌∷◌, refl, ap, sym, ◌∙◌, subst}
 use Rattle.std.specs.Prelude.{◌||◌}
 use Rattle.std.specs.FinMap.{IsAntisymmetric}
+use Rattle.std.specs.Ordering.{eq_by_cmp}
 use Rattle.std.specs.List.{AllByRecursion, list_any}
 use Rattle.std.specs.declared.cmp.Ordering.{Ordering}
 use Rattle.std.specs.declared.cmp.Ordering.TheVariants.{Less, Equal, Greater}
@@ -67,6 +68,16 @@ within_same ls k h = h
 
 pub within_none : (ls : List Loc) → Within [] ls
 within_none ls k h = cc
+
+pub within_first : (l : Loc) (ns : List Loc) → Within (l ∷ []) (l ∷ ns)
+within_first l ns k h = by (eq_by_cmp loc_cmp k l) h
+  where
+    by : (b : Bool) → (b || false) ≡ true → (b || has loc_cmp k ns) ≡ true
+    by true h = refl
+    by false h = cc
+
+pub within_later : (l : Loc) (ms ns : List Loc) → Within ms ns → Within ms (l ∷ ns)
+within_later l ms ns f k h = ap (λ (b : Bool). eq_by_cmp loc_cmp k l || b) (f k h) ∙ or_true (eq_by_cmp loc_cmp k l)
 
 pub within_union : (ls ms : List Loc) → Within ms (union loc_cmp ls ms)
 within_union ls ms k h = has-union loc_total ls ms k ∙ ap (λ (b : Bool). has loc_cmp k ls || b) h ∙ or_true (has loc_cmp k ls)

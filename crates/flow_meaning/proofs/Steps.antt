@@ -11,16 +11,16 @@ use Rattle.log_model.specs.declared.CallRecord.TheVariants.{Read, Write, Clock, 
 use Rattle.flow_model.specs.declared.Loc.{Loc}
 use Rattle.flow_model.specs.declared.Loc.TheVariants.{Mem}
 use Rattle.flow_model.specs.declared.Rule.{Rule}
-use Rattle.flow_model.specs.declared.Rule.TheVariants.{Copy, Compute, Index}
+use Rattle.flow_model.specs.declared.Rule.TheVariants.{Copy, Keep, Compute, Index}
 use Rattle.flow_model.specs.declared.StepSeen.{StepSeen}
 use Rattle.flow_model.specs.declared.CallSeen.{CallSeen}
 use Rattle.flow_model.specs.Flow.{flow, from, from_call, from_instruction_or, origins_by, cleared, is_received, distance}
 use Rattle.replay_model.specs.Run.{Moment, advance, after_outcome, step_of, step_by, plain_step, call_seen}
 use Rattle.flow_meaning.specs.Content.{content, AgreeAt, IsSound}
-use Rattle.flow_meaning.specs.StepLaws.{IsAnswered, IsDoneBy, IsDone, words_given, answer_by, bytes_given, receives_by, receives, is_load, on_path, SameStep, StaysSound, CopyMoves, DeterminedBy, IsReceivedThere, ReceivedIsThere}
+use Rattle.flow_meaning.specs.StepLaws.{IsAnswered, IsDoneBy, IsDone, words_given, answer_by, bytes_given, receives_by, receives, is_load, on_path, SameStep, StaysSound, OnlyMoves, ByCopy, ByKeep, MovesKeepContent, DeterminedBy, IsReceivedThere, ReceivedIsThere}
 use Rattle.flow_meaning.proofs.Never.{no, none_is, some_is}
-use Rattle.flow_meaning.proofs.Targets.{agrees_on, Carries}
-use Rattle.flow_meaning.proofs.Operands.{base_agrees}
+use Rattle.flow_meaning.proofs.Targets.{agrees_on, IsMoved, Carries}
+use Rattle.flow_meaning.proofs.Operands.{base_agrees, no_location}
 use Rattle.flow_meaning.proofs.Leaves.{Leaves, leaves_is}
 use Rattle.flow_meaning.proofs.Table.{SamePlace, SamePlaceIf, carries}
 use Rattle.flow_meaning.proofs.Decoded.{fetched_in_range}
@@ -82,11 +82,13 @@ sound_after inputs m h d = by (does inputs m d)
 
 same_instr : (rule : Rule) (x y : StepSeen) → on_path rule x ≡ on_path rule y → x.instr ≡ y.instr
 same_instr Copy x y e = ap (λ (z : StepSeen). z.instr) e
+same_instr Keep x y e = ap (λ (z : StepSeen). z.instr) e
 same_instr Compute x y e = ap (λ (z : StepSeen). z.instr) e
 same_instr Index x y e = ap (λ (z : StepSeen). z.instr) e
 
 pub same_call : (rule : Rule) (x y : StepSeen) → on_path rule x ≡ on_path rule y → x.call ≡ y.call
 same_call Copy x y e = ap (λ (z : StepSeen). z.call) e
+same_call Keep x y e = ap (λ (z : StepSeen). z.call) e
 same_call Compute x y e = ap (λ (z : StepSeen). z.call) e
 same_call Index x y e = ap (λ (z : StepSeen). z.call) e
 
@@ -96,6 +98,7 @@ place_if false rule x y e = e
 
 same_place : (rule : Rule) (x y : StepSeen) → on_path rule x ≡ on_path rule y → SamePlace rule x.instr x.place y.place
 same_place Copy x y e = place_if (is_load x.instr) Copy x.place y.place (ap (λ (z : StepSeen). z.place) e)
+same_place Keep x y e = place_if (is_load x.instr) Keep x.place y.place (ap (λ (z : StepSeen). z.place) e)
 same_place Compute x y e = place_if (is_load x.instr) Compute x.place y.place (ap (λ (z : StepSeen). z.place) e)
 same_place Index x y e = by (is_load x.instr) (subst (λ (i : Instr). (if is_load x.instr then 0 else x.place) ≡ (if is_load i then 0 else y.place)) (sym (same_instr Index x y e)) (ap (λ (z : StepSeen). z.place) e))
   where
@@ -144,23 +147,28 @@ module _ (inputs others : ℕ) (m n : Moment) (ss : IsSound m.state) (st : IsSou
 
 -- ---- the rules
 
--- by copy: where one location flows, its content
+-- by copy and by keep: where one location flows, its content
 abbrev pub IsCopy : State → List Loc → ℕ → ℕ → Type 0
-IsCopy s ls v w = (k : Loc) → ls ≡ k ∷ [] → v ≡ content s k
+IsCopy s ls v w = IsMoved s ls v
 
-pub by_copy : (s t : State) → Carries s t Copy (IsCopy s)
-by_copy s t = record {
-  self = λ l k e. ap (content s) (one l k e);
-  none = λ v k e. none k e;
-  counts = λ origins i v w h k e. none k e;
+one_location : (l k : Loc) → l ∷ [] ≡ k ∷ [] → l ≡ k
+one_location l k e = cc
+
+pub by_moves : (rule : Rule) → OnlyMoves rule → (s t : State) → Carries s t rule (IsCopy s)
+by_moves rule ByCopy s t = record {
+  self = λ l k e. ap (content s) (one_location l k e);
+  none = λ v k e. no_location k e;
+  counts = λ origins i v w h k e. no_location k e;
+  keeps = λ kept origins i v w moved h k e. no_location k e;
   based = λ a imm ls v w e f. f e;
 }
-  where
-    one : (l k : Loc) → l ∷ [] ≡ k ∷ [] → l ≡ k
-    one l k e = cc
-
-    none : {A : Type 0} (k : Loc) → [] ≡ k ∷ [] → A
-    none k e = cc
+by_moves rule ByKeep s t = record {
+  self = λ l k e. ap (content s) (one_location l k e);
+  none = λ v k e. no_location k e;
+  counts = λ origins i v w h k e. no_location k e;
+  keeps = λ kept origins i v w moved h. moved;
+  based = λ a imm ls v w e f. f e;
+}
 
 -- by the other rules: where the contents of all that flows agree, the contents agree
 abbrev pub IsDetermined : State → State → List Loc → ℕ → ℕ → Type 0
@@ -171,6 +179,7 @@ by_compute s t = record {
   self = λ l h. h.0;
   none = λ v h. refl;
   counts = λ origins i v w h. h;
+  keeps = λ kept origins i v w moved h. h;
   based = λ a imm ls v w e f. f e;
 }
 
@@ -179,25 +188,26 @@ by_index s t ss st = record {
   self = λ l h. h.0;
   none = λ v h. refl;
   counts = λ origins i v w h. h;
+  keeps = λ kept origins i v w moved h. h;
   based = λ a imm ls v w e f h. let both = base_agrees ss st Index a imm ls tt h in f both.0 both.1;
 }
 
-nothing_received : (step : StepSeen) (o : Option CallSeen) (l : Loc) → step.call ≡ o → receives_by o l ≡ true → from Copy step l ≡ []
-nothing_received step None l e h = no (sym h)
-nothing_received step (Some call) l e h = ap (λ (x : Option CallSeen). from_instruction_or Copy step x l) e ∙ ap (λ (b : Bool). if b then [] else origins_by (cleared call.kind) l) h
+nothing_received : (rule : Rule) (step : StepSeen) (o : Option CallSeen) (l : Loc) → step.call ≡ o → receives_by o l ≡ true → from rule step l ≡ []
+nothing_received rule step None l e h = no (sym h)
+nothing_received rule step (Some call) l e h = ap (λ (x : Option CallSeen). from_instruction_or rule step x l) e ∙ ap (λ (b : Bool). if b then [] else origins_by (cleared call.kind) l) h
 
 same_step : (rule : Rule) (m : Moment) → SameStep rule m m
 same_step rule m = record { pc = refl; step = refl; answer = refl }
 
-pub copy_moves : CopyMoves
-copy_moves inputs m l k h d e = by (receives (step_of m) l) refl
+pub moves_keep_content : MovesKeepContent
+moves_keep_content rule moves inputs m l k h d e = by (receives (step_of m) l) refl
   where
     none : {A : Type 0} → [] ≡ k ∷ [] → A
     none e = cc
 
     by : (b : Bool) → receives (step_of m) l ≡ b → content (advance m).state l ≡ content m.state k
-    by true g = none (sym (nothing_received (step_of m) (step_of m).call l refl g) ∙ e)
-    by false g = step_carries inputs inputs m m h h (by_copy m.state m.state) d d (same_step Copy m) l g k e
+    by true g = none (sym (nothing_received rule (step_of m) (step_of m).call l refl g) ∙ e)
+    by false g = step_carries inputs inputs m m h h (by_moves rule moves m.state m.state) d d (same_step rule m) l g k e
 
 pub compute_determines : DeterminedBy Compute
 compute_determines i j m n l ss st dm dn same g agree = step_carries i j m n ss st (by_compute m.state n.state) dm dn same l g agree

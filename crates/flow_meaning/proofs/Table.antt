@@ -9,14 +9,14 @@ use Rattle.isa.specs.declared.Instr.TheVariants.{Lui, Auipc, Jal, Jalr, Beq, Bne
 use Rattle.isa.specs.Machine.{State, reg, execute, effect_of, effective_address, relative, place_of, as_word, as_signed, flag, arithmetic_right, wrap, in_window, jumped, landed, is_aligned, branched, loaded, stored, little_endian, sign_extended, bytes_at, low_bytes, moved_on_with, upper_word, quotient, remainder, unsigned_quotient, unsigned_remainder}
 use Rattle.flow_model.specs.declared.Loc.{Loc}
 use Rattle.flow_model.specs.declared.Rule.{Rule}
-use Rattle.flow_model.specs.Flow.{flow, origins_by, to_register, to_memory, nothing, computed, with_base, lane, lanes, loaded_byte, signed_load, moved_or, each_lane, all_lanes, shifted_lanes, in_first_lane}
+use Rattle.flow_model.specs.Flow.{flow, origins_by, to_register, to_memory, nothing, computed, kept_or_computed, with_base, lane, lanes, loaded_byte, signed_load, moved_or, each_lane, all_lanes, shifted_lanes, in_first_lane, unchanged_lanes, left_lanes, right_lanes}
 use Rattle.flow_meaning.specs.Content.{content, lane_of, IsSound}
 use Rattle.flow_meaning.specs.StepLaws.{is_load}
-use Rattle.flow_meaning.proofs.Lanes.{xor_lane, or_lane, and_lane}
+use Rattle.flow_meaning.proofs.Lanes.{xor_lane, or_lane, and_lane, and_all, lane_down, lane_down_signed}
 use Rattle.flow_meaning.proofs.Bytes.{low_length, Size, OneByte, TwoBytes, FourBytes, Short, ShortOne, ShortTwo}
 use Rattle.flow_meaning.proofs.Window.{holds_by}
 use Rattle.flow_meaning.proofs.Targets.{AgreesOn, agrees_on, Carries, carry, kept, to_set, to_put}
-use Rattle.flow_meaning.proofs.Operands.{same_value, moves, of_one, of_two, of_shift, of_bytes, of_byte, of_test, of_tests, of_move, of_load, of_signed_load, of_store}
+use Rattle.flow_meaning.proofs.Operands.{left_moved, right_moved, same_value, moves, of_one, of_two, of_shift, of_bytes, of_immediate, of_shift_by, of_test, of_tests, of_move, of_load, of_signed_load, of_store}
 use Rattle.flow_meaning.proofs.Leaves.{Leaves, on_landed, on_branched, on_loaded, on_stored}
 
 -- the register that an instruction sets; 0 where it sets none
@@ -167,12 +167,12 @@ module _ {s t : State} (ss : IsSound s) (st : IsSound t) {rule : Rule} {P : List
   carries (Addi d a imm) h e p l = set_both d (wrap (reg s a + as_word imm)) (wrap (reg t a + as_word imm)) (if int_eq imm (pos 0) then lane a else computed rule (λ j. lanes a)) h (λ i g. add_immediate a imm i) l
   carries (Slti d a imm) h e p l = set_both d (flag (int_lt (as_signed (reg s a)) imm)) (flag (int_lt (as_signed (reg t a)) imm)) (computed rule (in_first_lane (lanes a))) h (λ i g. of_test ss st c (λ v. int_lt (as_signed v) imm) a i) l
   carries (Sltiu d a imm) h e p l = set_both d (flag (nat_lt (reg s a) (as_word imm))) (flag (nat_lt (reg t a) (as_word imm))) (computed rule (in_first_lane (lanes a))) h (λ i g. of_test ss st c (λ v. nat_lt v (as_word imm)) a i) l
-  carries (Xori d a imm) h e p l = set_both d (bit_xor (reg s a) (as_word imm)) (bit_xor (reg t a) (as_word imm)) (computed rule (lane a)) h (λ i g. of_byte ss st c bit_xor xor_lane a (as_word imm) i) l
-  carries (Ori d a imm) h e p l = set_both d (bit_or (reg s a) (as_word imm)) (bit_or (reg t a) (as_word imm)) (computed rule (lane a)) h (λ i g. of_byte ss st c bit_or or_lane a (as_word imm) i) l
-  carries (Andi d a imm) h e p l = set_both d (bit_and (reg s a) (as_word imm)) (bit_and (reg t a) (as_word imm)) (computed rule (lane a)) h (λ i g. of_byte ss st c bit_and and_lane a (as_word imm) i) l
-  carries (Slli d a k) h e p l = set_both d (wrap (reg s a * 2 ^ k)) (wrap (reg t a * 2 ^ k)) (computed rule (λ j. lanes a)) h (λ i g. of_one ss st c (λ v. wrap (v * 2 ^ k)) a i) l
-  carries (Srli d a k) h e p l = set_both d (reg s a / 2 ^ k) (reg t a / 2 ^ k) (computed rule (λ j. lanes a)) h (λ i g. of_one ss st c (λ v. v / 2 ^ k) a i) l
-  carries (Srai d a k) h e p l = set_both d (arithmetic_right (reg s a) k) (arithmetic_right (reg t a) k) (computed rule (λ j. lanes a)) h (λ i g. of_one ss st c (λ v. arithmetic_right v k) a i) l
+  carries (Xori d a imm) h e p l = set_both d (bit_xor (reg s a) (as_word imm)) (bit_xor (reg t a) (as_word imm)) (kept_or_computed rule (unchanged_lanes 0 imm a) (lane a)) h (λ i g. of_immediate ss st c bit_xor xor_lane 0 (λ v x. xor_zero_r v) a imm i) l
+  carries (Ori d a imm) h e p l = set_both d (bit_or (reg s a) (as_word imm)) (bit_or (reg t a) (as_word imm)) (kept_or_computed rule (unchanged_lanes 0 imm a) (lane a)) h (λ i g. of_immediate ss st c bit_or or_lane 0 (λ v x. or_zero_r v) a imm i) l
+  carries (Andi d a imm) h e p l = set_both d (bit_and (reg s a) (as_word imm)) (bit_and (reg t a) (as_word imm)) (kept_or_computed rule (unchanged_lanes 255 imm a) (lane a)) h (λ i g. of_immediate ss st c bit_and and_lane 255 and_all a imm i) l
+  carries (Slli d a k) h e p l = set_both d (wrap (reg s a * 2 ^ k)) (wrap (reg t a * 2 ^ k)) (kept_or_computed rule (left_lanes k a) (λ j. lanes a)) h (λ i g. of_shift_by ss st c (λ v. wrap (v * 2 ^ k)) (left_lanes k a) a i (left_moved s a k i g)) l
+  carries (Srli d a k) h e p l = set_both d (reg s a / 2 ^ k) (reg t a / 2 ^ k) (kept_or_computed rule (right_lanes k a) (λ j. lanes a)) h (λ i g. of_shift_by ss st c (λ v. v / 2 ^ k) (right_lanes k a) a i (right_moved s (λ v. v / 2 ^ k) a k i (lane_down (reg s a) k i))) l
+  carries (Srai d a k) h e p l = set_both d (arithmetic_right (reg s a) k) (arithmetic_right (reg t a) k) (kept_or_computed rule (right_lanes k a) (λ j. lanes a)) h (λ i g. of_shift_by ss st c (λ v. arithmetic_right v k) (right_lanes k a) a i (right_moved s (λ v. arithmetic_right v k) a k i (lane_down_signed (reg s a) k i (ss.words a)))) l
   carries (Add d a b) h e p l = set_both d (wrap (reg s a + reg s b)) (wrap (reg t a + reg t b)) (moved_or a b (computed rule (all_lanes a b))) h (λ i g. of_move ss st c (λ v w. wrap (v + w)) sum_left sum_right a b (computed rule (all_lanes a b)) i (of_two ss st c (λ v w. wrap (v + w)) a b i)) l
   carries (Sub d a b) h e p l = set_both d (wrap (reg s a + (2 ^ 32 - reg s b))) (wrap (reg t a + (2 ^ 32 - reg t b))) (computed rule (all_lanes a b)) h (λ i g. of_two ss st c (λ v w. wrap (v + (2 ^ 32 - w))) a b i) l
   carries (Sll d a b) h e p l = set_both d (wrap (reg s a * 2 ^ (reg s b % 32))) (wrap (reg t a * 2 ^ (reg t b % 32))) (computed rule (shifted_lanes a b)) h (λ i g. of_shift ss st c (λ v k. wrap (v * 2 ^ k)) a b i) l

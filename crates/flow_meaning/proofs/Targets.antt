@@ -7,8 +7,8 @@ use Rattle.isa.specs.Machine.{State, with_register, overwritten, effective_addre
 use Rattle.flow_model.specs.declared.Loc.{Loc}
 use Rattle.flow_model.specs.declared.Loc.TheVariants.{Reg, Mem}
 use Rattle.flow_model.specs.declared.Rule.{Rule}
-use Rattle.flow_model.specs.declared.Rule.TheVariants.{Copy, Compute, Index}
-use Rattle.flow_model.specs.Flow.{Target, to_register, to_memory, computed, with_base, origins_by}
+use Rattle.flow_model.specs.declared.Rule.TheVariants.{Copy, Keep, Compute, Index}
+use Rattle.flow_model.specs.Flow.{Target, to_register, to_memory, computed, kept_or_computed, with_base, origins_by}
 use Rattle.flow_meaning.specs.Content.{content, lane_of, byte_in, AgreeAt, IsSound}
 use Rattle.flow_meaning.proofs.Never.{no}
 use Rattle.flow_meaning.proofs.Window.{Holds, put_in, put_out}
@@ -16,13 +16,19 @@ use Rattle.flow_meaning.proofs.Window.{Holds, put_in, put_out}
 -- two runs load from one address; under the rule index from any two
 abbrev pub AgreesOn : Rule → ℕ → ℕ → Type 0
 AgreesOn Copy x y = x ≡ y
+AgreesOn Keep x y = x ≡ y
 AgreesOn Compute x y = x ≡ y
 AgreesOn Index x y = Unit {0}
 
 pub agrees_on : (rule : Rule) (x y : ℕ) → x ≡ y → AgreesOn rule x y
 agrees_on Copy x y e = e
+agrees_on Keep x y e = e
 agrees_on Compute x y e = e
 agrees_on Index x y e = tt
+
+-- where one location flowed in, v is its content
+abbrev pub IsMoved : State → List Loc → ℕ → Type 0
+IsMoved s ls v = (k : Loc) → ls ≡ k ∷ [] → v ≡ content s k
 
 -- P says what the contents v in s and w in t, where they came from these locations, have to do with each other
 pub record Carries (s t : State) (rule : Rule) (P : List Loc → ℕ → ℕ → Type 0) : Type 0 where
@@ -32,6 +38,8 @@ pub record Carries (s t : State) (rule : Rule) (P : List Loc → ℕ → ℕ →
   pub none : (v : ℕ) → P [] v v
   -- what is computed from these locations alone
   pub counts : (origins : ℕ → List Loc) (i v w : ℕ) → (AgreeAt s t (origins i) → v ≡ w) → P (computed rule origins i) v w
+  -- what is kept whole, and is computed from these locations alone
+  pub keeps : (kept origins : ℕ → List Loc) (i v w : ℕ) → IsMoved s (kept i) v → (AgreeAt s t (origins i) → v ≡ w) → P (kept_or_computed rule kept origins i) v w
   -- what is moved to or from memory, by the base register a
   pub based : (a : ℕ) (imm : ℤ) (ls : List Loc) (v w : ℕ) → AgreesOn rule (effective_address s a imm) (effective_address t a imm)
       → (effective_address s a imm ≡ effective_address t a imm → P ls v w) → P (with_base rule a ls) v w

@@ -5,7 +5,7 @@ use Rattle.log_model.specs.Logs.{Log, IsLog, IsBytes, steps}
 use Rattle.log_model.specs.Moved.{received, written}
 use Rattle.flow_model.specs.declared.Loc.{Loc}
 use Rattle.flow_model.specs.declared.Rule.{Rule}
-use Rattle.flow_model.specs.declared.Rule.TheVariants.{Copy, Compute}
+use Rattle.flow_model.specs.declared.Rule.TheVariants.{Compute}
 use Rattle.flow_model.specs.declared.SourceByte.{SourceByte}
 use Rattle.flow_model.specs.declared.SinkByte.{SinkByte}
 use Rattle.flow_model.specs.declared.SinkPoint.{SinkPoint}
@@ -19,7 +19,7 @@ use Rattle.replay_model.specs.Run.{Moment, start, moment_after, trace}
 use Rattle.replay_model.specs.Comparison.{divergence}
 use Rattle.replay_model.specs.Fits.{Fits}
 use Rattle.flow_meaning.specs.Content.{content, IsSound}
-use Rattle.flow_meaning.specs.StepLaws.{SameStep}
+use Rattle.flow_meaning.specs.StepLaws.{OnlyMoves, SameStep}
 
 -- the byte that a log keeps of a source byte, and of an output byte
 abbrev pub byte_received : Log → SourceByte → ℕ
@@ -72,15 +72,16 @@ AlikeElsewhere introduces a b = (x : SourceByte) → introduces x ≡ false → 
 abbrev pub FitsMakesRun : Type 0
 FitsMakesRun = (program : List ℕ) (log : Log) → IsBytes program → IsLog log → (f : Fits program log) → IsRun log f.start
 
--- under copy each location has at most one origin at each time, and where it has one, its content is the byte received
--- there
+-- under a rule by which content is only moved each location has at most one origin at each time, and where it has one,
+-- its content is the byte received there
 abbrev pub CopiedContents : Type 0
-CopiedContents = (log : Log) (s : State) → IsRun log s → (introduces : SourceByte → Bool) (t : ℕ) (l : Loc) → t ≤ steps log → IsLocation l
-    → IsCopied log (content_at s log t l) (origins (under Copy introduces) (trace s log) t l)
+CopiedContents = (log : Log) (s : State) → IsRun log s → (rule : Rule) → OnlyMoves rule
+    → (introduces : SourceByte → Bool) (t : ℕ) (l : Loc) → t ≤ steps log → IsLocation l
+    → IsCopied log (content_at s log t l) (origins (under rule introduces) (trace s log) t l)
 
 -- and so has each row of a report, of an output byte or of a point
 abbrev pub CopiedRows : Type 0
-CopiedRows = (log : Log) (s : State) → IsRun log s → (q : Query) → q.rule ≡ Copy → AreLocated q.points
+CopiedRows = (log : Log) (s : State) → IsRun log s → (q : Query) → OnlyMoves q.rule → AreLocated q.points
     → All (λ r. IsCopied log (byte_at_sink s log r.sink) r.sources) (rows q (trace s log))
 
 -- where two runs take one path and received the same bytes apart from those that introduce taint, and at all origins of

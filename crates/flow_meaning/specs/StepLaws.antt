@@ -11,7 +11,7 @@ use Rattle.log_model.specs.Moved.{received_of}
 use Rattle.flow_model.specs.declared.Loc.{Loc}
 use Rattle.flow_model.specs.declared.Loc.TheVariants.{Mem}
 use Rattle.flow_model.specs.declared.Rule.{Rule}
-use Rattle.flow_model.specs.declared.Rule.TheVariants.{Copy, Compute, Index}
+use Rattle.flow_model.specs.declared.Rule.TheVariants.{Copy, Keep, Compute, Index}
 use Rattle.flow_model.specs.declared.StepSeen.{StepSeen}
 use Rattle.flow_model.specs.declared.CallSeen.{CallSeen}
 use Rattle.flow_model.specs.Flow.{from, is_received, distance}
@@ -82,6 +82,7 @@ is_load other = false
 -- load, since what is loaded comes from the base register too
 abbrev pub on_path : Rule → StepSeen → StepSeen
 on_path Copy step = step
+on_path Keep step = step
 on_path Compute step = step
 on_path Index step = record step { place = if is_load step.instr then 0 else step.place }
 
@@ -97,14 +98,19 @@ pub record SameStep (rule : Rule) (m n : Moment) : Type 0 where
 abbrev pub StaysSound : Type 0
 StaysSound = (inputs : ℕ) (m : Moment) → IsSound m.state → IsDone inputs m → IsSound (advance m).state
 
--- at most one location flows into another by copy
-abbrev pub CopyIsSingle : Type 0
-CopyIsSingle = (step : StepSeen) (l : Loc) → length (from Copy step l) ≤ 1
+-- the rules by which content is moved, and never computed
+pub data OnlyMoves : Rule → Type 0 where
+  ByCopy : OnlyMoves Copy
+  ByKeep : OnlyMoves Keep
 
--- where one location flows into another by copy, the content after the step is that location's before it
-abbrev pub CopyMoves : Type 0
-CopyMoves = (inputs : ℕ) (m : Moment) (l k : Loc) → IsSound m.state → IsDone inputs m
-    → from Copy (step_of m) l ≡ k ∷ [] → content (advance m).state l ≡ content m.state k
+-- at most one location flows into another by such a rule
+abbrev pub MovesAreSingle : Type 0
+MovesAreSingle = (rule : Rule) → OnlyMoves rule → (step : StepSeen) (l : Loc) → length (from rule step l) ≤ 1
+
+-- where one location flows into another by such a rule, the content after the step is that location's before it
+abbrev pub MovesKeepContent : Type 0
+MovesKeepContent = (rule : Rule) → OnlyMoves rule → (inputs : ℕ) (m : Moment) (l k : Loc) → IsSound m.state → IsDone inputs m
+    → from rule (step_of m) l ≡ k ∷ [] → content (advance m).state l ≡ content m.state k
 
 -- where the same is done in two states that agree at all that flows into a location by the rule, they agree there after
 -- the step. A byte that is read is none of these contents

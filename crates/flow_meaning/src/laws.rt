@@ -1,7 +1,7 @@
 //! Laws of the definitions: each is the contract of a function that does nothing.
 
-ghost use Rattle.flow_model.specs.declared.Rule.TheVariants.{Copy, Compute, Index};
-ghost use Rattle.flow_meaning.specs.StepLaws.{StaysSound, CopyIsSingle, CopyMoves, DeterminedBy, ReceivedIsThere, FlowsWithin};
+ghost use Rattle.flow_model.specs.declared.Rule.TheVariants.{Copy, Keep, Compute, Index};
+ghost use Rattle.flow_meaning.specs.StepLaws.{StaysSound, MovesAreSingle, MovesKeepContent, DeterminedBy, ReceivedIsThere, FlowsWithin};
 ghost use Rattle.flow_meaning.specs.FewerLaws.{FewerDetermine};
 ghost use Rattle.flow_meaning.specs.RunLaws.{FitsMakesRun, CopiedContents, CopiedRows, DeterminedContents, DeterminedRows, SamePathSameTrace, OriginsWithin};
 
@@ -10,11 +10,11 @@ pub fn steps_stay_sound()
     ensures { StaysSound }
 {}
 
-/// What flows by copy is the very byte: at most one location flows into another, and the content after the step is that
-/// location's before it.
+/// What flows by copy, and by keep, is the very byte: at most one location flows into another, and the content after the
+/// step is that location's before it.
 pub fn copy_moves()
-    ensures single { CopyIsSingle }
-    ensures step { CopyMoves }
+    ensures single { MovesAreSingle }
+    ensures step { MovesKeepContent }
 {}
 
 /// What flows by compute determines the content after the step, unless the step receives it, among steps with one
@@ -25,12 +25,14 @@ pub fn flow_determines()
     ensures received { ReceivedIsThere }
 {}
 
-/// The rules nest: what flows by copy flows by compute, and what flows by compute flows by index, in each step. So it is
-/// with the origins of each location, at each time and in each trace.
+/// The rules nest: what flows by copy flows by keep, what flows by keep flows by compute, and what flows by compute flows
+/// by index, in each step. So it is with the origins of each location, at each time and in each trace.
 pub fn rules_nest()
-    ensures copied { FlowsWithin Copy Compute }
+    ensures copied { FlowsWithin Copy Keep }
+    ensures kept { FlowsWithin Keep Compute }
     ensures computed { FlowsWithin Compute Index }
-    ensures copied_origins { OriginsWithin Copy Compute }
+    ensures copied_origins { OriginsWithin Copy Keep }
+    ensures kept_origins { OriginsWithin Keep Compute }
     ensures computed_origins { OriginsWithin Compute Index }
 {}
 
@@ -39,8 +41,9 @@ pub fn fits_makes_run()
     ensures { FitsMakesRun }
 {}
 
-/// Copied bytes are the bytes: under copy each location has at most one origin at each time, and where it has one, its
-/// content is the byte received there. So has each row: an output byte that has a source is the byte received there.
+/// Copied bytes are the bytes: under copy, and under keep, each location has at most one origin at each time, and where it
+/// has one, its content is the byte received there. So has each row: an output byte that has a source is the byte received
+/// there.
 pub fn copied_bytes_are_received()
     ensures contents { CopiedContents }
     ensures rows { CopiedRows }
