@@ -19,7 +19,9 @@ pub(crate) fn is_apart(carriers: &Carriers, shape: Shape) -> bool
     match shape {
         Shape::Nothing => true,
         Shape::Clear { rd } => carriers.has_no_lane(rd),
-        Shape::Move { rd, rs } => carriers.has_no_lane(rd) && carriers.has_no_lane(rs),
+        Shape::Move { rd, rs } | Shape::Shuffled { rd, rs, .. } => {
+            carriers.has_no_lane(rd) && carriers.has_no_lane(rs)
+        }
         Shape::Mixed { rd, rs1, rs2, .. } => are_apart(carriers, rd, rs1, rs2),
         Shape::Load {
             rd,
