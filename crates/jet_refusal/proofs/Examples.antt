@@ -64,6 +64,10 @@ another_rule : line_of (refusal.Rules rule.Copy 2 rule.Compute) ≡ codes "jet: 
 unfolding digits
 another_rule = refl
 
+a_rule_beside_keep : line_of (refusal.Rules rule.Keep 2 rule.Copy) ≡ codes "jet: rules keep 2 copy\n"
+unfolding digits
+a_rule_beside_keep = refl
+
 another_rule_at_last : line_of (refusal.Rules rule.Compute 16 rule.Index) ≡ codes "jet: rules compute 16 index\n"
 unfolding digits
 another_rule_at_last = refl

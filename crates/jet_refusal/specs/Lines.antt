@@ -137,6 +137,7 @@ query_of_text file line kind = codes "query " ++ decimal file ++ codes " " ++ qu
 -- as queries name it
 abbrev pub rule_name : Rule → List ℕ
 rule_name rule.Copy = codes "copy"
+rule_name rule.Keep = codes "keep"
 rule_name rule.Compute = codes "compute"
 rule_name rule.Index = codes "index"
 

@@ -70,6 +70,7 @@ pub(crate) fn rule_name(rule: Rule) -> &'static str
 {
     match rule {
         Rule::Copy => "copy",
+        Rule::Keep => "keep",
         Rule::Compute => "compute",
         Rule::Index => "index",
     }
