@@ -231,6 +231,14 @@ const CASES: &[Case] = &[
         [EMPTIED, FROM_X7, FROM_X7],
     ),
     (
+        Instr::Andi {
+            rd: 5,
+            rs1: 7,
+            imm: 255,
+        },
+        [EMPTIED, FROM_X7, FROM_X7],
+    ),
+    (
         Instr::Xori {
             rd: 5,
             rs1: 7,
@@ -329,6 +337,218 @@ const CASES: &[Case] = &[
     (Instr::Ecall, [NO_ROW, NO_ROW, NO_ROW]),
 ];
 
+const LOWEST_KEPT: Rows = &[&[0x50, 0x70], &[0x51], &[0x52], &[0x53]];
+
+const UPPER_KEPT: Rows = &[&[0x50], &[0x51, 0x71], &[0x52, 0x72], &[0x53, 0x73]];
+
+const HIGH_HALF_KEPT: Rows = &[&[0x50], &[0x51], &[0x52, 0x72], &[0x53, 0x73]];
+
+const HIGHEST_LOWERED: Rows = &[&[0x50, 0x73], &[0x51], &[0x52], &[0x53]];
+
+/// Operations with an immediate, and their rows under keep.
+const KEPT: &[(Instr, Rows)] = &[
+    (
+        Instr::Andi {
+            rd: 5,
+            rs1: 7,
+            imm: 255,
+        },
+        LOWEST_KEPT,
+    ),
+    (
+        Instr::Andi {
+            rd: 5,
+            rs1: 7,
+            imm: -256,
+        },
+        UPPER_KEPT,
+    ),
+    (
+        Instr::Andi {
+            rd: 5,
+            rs1: 7,
+            imm: -2033,
+        },
+        HIGH_HALF_KEPT,
+    ),
+    (
+        Instr::Andi {
+            rd: 5,
+            rs1: 7,
+            imm: -1,
+        },
+        FROM_X7,
+    ),
+    (
+        Instr::Andi {
+            rd: 5,
+            rs1: 7,
+            imm: 0,
+        },
+        EMPTIED,
+    ),
+    (
+        Instr::Andi {
+            rd: 5,
+            rs1: 0,
+            imm: 255,
+        },
+        EMPTIED,
+    ),
+    (
+        Instr::Andi {
+            rd: 0,
+            rs1: 7,
+            imm: 255,
+        },
+        NO_ROW,
+    ),
+    (
+        Instr::Ori {
+            rd: 5,
+            rs1: 7,
+            imm: 255,
+        },
+        UPPER_KEPT,
+    ),
+    (
+        Instr::Ori {
+            rd: 5,
+            rs1: 7,
+            imm: 0,
+        },
+        FROM_X7,
+    ),
+    (
+        Instr::Ori {
+            rd: 5,
+            rs1: 7,
+            imm: -1,
+        },
+        EMPTIED,
+    ),
+    (
+        Instr::Xori {
+            rd: 5,
+            rs1: 7,
+            imm: -256,
+        },
+        LOWEST_KEPT,
+    ),
+    (
+        Instr::Xori {
+            rd: 5,
+            rs1: 7,
+            imm: 0,
+        },
+        FROM_X7,
+    ),
+    (
+        Instr::Xori {
+            rd: 5,
+            rs1: 7,
+            imm: -1,
+        },
+        EMPTIED,
+    ),
+    (
+        Instr::Slli {
+            rd: 5,
+            rs1: 7,
+            amount: 0,
+        },
+        FROM_X7,
+    ),
+    (
+        Instr::Slli {
+            rd: 5,
+            rs1: 7,
+            amount: 8,
+        },
+        &[&[0x50], &[0x51, 0x70], &[0x52, 0x71], &[0x53, 0x72]],
+    ),
+    (
+        Instr::Slli {
+            rd: 5,
+            rs1: 7,
+            amount: 16,
+        },
+        &[&[0x50], &[0x51], &[0x52, 0x70], &[0x53, 0x71]],
+    ),
+    (
+        Instr::Slli {
+            rd: 5,
+            rs1: 7,
+            amount: 24,
+        },
+        &[&[0x50], &[0x51], &[0x52], &[0x53, 0x70]],
+    ),
+    (
+        Instr::Slli {
+            rd: 5,
+            rs1: 7,
+            amount: 5,
+        },
+        EMPTIED,
+    ),
+    (
+        Instr::Srli {
+            rd: 5,
+            rs1: 7,
+            amount: 8,
+        },
+        &[&[0x50, 0x71], &[0x51, 0x72], &[0x52, 0x73], &[0x53]],
+    ),
+    (
+        Instr::Srli {
+            rd: 5,
+            rs1: 7,
+            amount: 16,
+        },
+        &[&[0x50, 0x72], &[0x51, 0x73], &[0x52], &[0x53]],
+    ),
+    (
+        Instr::Srli {
+            rd: 5,
+            rs1: 7,
+            amount: 24,
+        },
+        HIGHEST_LOWERED,
+    ),
+    (
+        Instr::Srli {
+            rd: 5,
+            rs1: 7,
+            amount: 31,
+        },
+        EMPTIED,
+    ),
+    (
+        Instr::Srai {
+            rd: 5,
+            rs1: 7,
+            amount: 0,
+        },
+        FROM_X7,
+    ),
+    (
+        Instr::Srai {
+            rd: 5,
+            rs1: 7,
+            amount: 24,
+        },
+        HIGHEST_LOWERED,
+    ),
+    (
+        Instr::Srai {
+            rd: 5,
+            rs1: 7,
+            amount: 12,
+        },
+        EMPTIED,
+    ),
+];
+
 const X10: Rows = &[&[0xa0], &[0xa1], &[0xa2], &[0xa3]];
 
 const X10_X11: Rows = &[
@@ -398,6 +618,34 @@ fn first_wrong(cases: &[Case]) -> Option<usize> {
 #[test]
 fn instructions_have_their_rows_under_each_rule(rt: HostRuntime) {
     assert_eq!(rt; first_wrong(CASES), None);
+}
+
+/// Whether an instruction may keep lanes whole though it computes.
+fn may_keep(instr: &Instr) -> bool {
+    matches!(
+        instr,
+        Instr::Andi { .. }
+            | Instr::Ori { .. }
+            | Instr::Xori { .. }
+            | Instr::Slli { .. }
+            | Instr::Srli { .. }
+            | Instr::Srai { .. }
+    )
+}
+
+#[test]
+fn operations_with_an_immediate_keep_lanes(rt: HostRuntime) {
+    for (i, (instr, rows)) in KEPT.iter().enumerate() {
+        assert!(rt; has_rows(&flow(instr, PLACE, Rule::Keep), rows), "{i}");
+    }
+}
+
+#[test]
+fn what_else_is_moved_is_moved_by_keep_as_by_copy(rt: HostRuntime) {
+    for (i, (instr, [copy, _, _])) in CASES.iter().enumerate() {
+        let is_right = may_keep(instr) || has_rows(&flow(instr, PLACE, Rule::Keep), copy);
+        assert!(rt; is_right, "{i}");
+    }
 }
 
 #[test]

@@ -10,7 +10,7 @@ use std::process::Abort;
 use std::test::Fail;
 
 /// Texts, and the line and the kind of their first fault.
-const FAULTS: [(&[u8], u32, QueryKind); 18] = [
+const FAULTS: [(&[u8], u32, QueryKind); 20] = [
     (b"", 0, QueryKind::NoRule),
     (b"#\xff\nsink all", 0, QueryKind::NoRule),
     (b"\x07", 1, QueryKind::BadByte),
@@ -18,6 +18,8 @@ const FAULTS: [(&[u8], u32, QueryKind); 18] = [
     (b"rule copy\r\r\n", 1, QueryKind::BadByte),
     (b"rule cop", 1, QueryKind::Word),
     (b"rule x y", 1, QueryKind::Word),
+    (b"rule keeps", 1, QueryKind::Word),
+    (b"rule keep keep", 1, QueryKind::Count),
     (b"rule copy x", 1, QueryKind::Count),
     (b"rule", 1, QueryKind::Count),
     (b"source all 1 2", 1, QueryKind::Count),
@@ -50,7 +52,7 @@ const TRIED: [(u8, u32); 13] = [
 
 /// Texts, the rule of the query that each stands for, and which of the bytes that are tried it chooses: as
 /// sources, and as sinks.
-const QUERIES: [(&[u8], Rule, &[(u8, u32)], &[(u8, u32)]); 4] = [
+const QUERIES: [(&[u8], Rule, &[(u8, u32)], &[(u8, u32)]); 5] = [
     (
         b"rule copy\r\nsource 0 1 2\r\n\tsink 1",
         Rule::Copy,
@@ -70,6 +72,7 @@ const QUERIES: [(&[u8], Rule, &[(u8, u32)], &[(u8, u32)]); 4] = [
         &[(0, 4), (0, 5), (0, 6), (15, 0)],
     ),
     (b"rule index", Rule::Index, &[], &[]),
+    (b"rule\tkeep\nsource 15 0 1", Rule::Keep, &[(15, 0)], &[]),
 ];
 
 /// What `parse` answers for the first 4096 bytes of a text.

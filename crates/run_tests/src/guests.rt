@@ -117,6 +117,37 @@ pub fn copy_in_two(rt: &impl Abort, alloc: Global) -> Job {
     )
 }
 
+/// Reads a byte to 0x10100, masks it, shifts it by a byte and writes a zero byte and that: seventeen steps.
+pub fn mask_and_shift(rt: &impl Abort, alloc: Global) -> Job {
+    job_of(
+        rt,
+        alloc,
+        &code![
+            lui(x11, 0x10000),
+            addi(x11, x11, 256),
+            li(x10, 0),
+            li(x12, 1),
+            li(x17, 63),
+            ecall(),
+            lbu(x5, 0(x11)),
+            andi(x6, x5, 255),
+            slli(x6, x6, 8),
+            sh(x6, 0(x11)),
+            li(x10, 1),
+            li(x12, 2),
+            li(x17, 64),
+            ecall(),
+            li(x10, 0),
+            li(x17, 93),
+            ecall(),
+        ],
+        b"\x01\0\0\0\x01\0\0\0\
+        \x01\x05\0\0\0\0\0\0\0\0\x01\x01\0\x01\0\0\0\x01\0\0\0A\
+        \x02\x0d\0\0\0\x01\0\0\0\0\x01\x01\0\x02\0\0\0\x02\0\0\0\0A\
+        \x05\x10\0\0\0\0\0\0\0",
+    )
+}
+
 /// Traps at once, so it makes no step.
 pub fn trap(rt: &impl Abort, alloc: Global) -> Job {
     job_of(

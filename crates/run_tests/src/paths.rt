@@ -3,7 +3,7 @@
 ghost use Rattle.flow_model.specs.Ranges.{IsLocation};
 ghost use Rattle.path_find.specs.Sinks.{HasLocation};
 
-use crate::guests::{copy_in_two, copy_many};
+use crate::guests::{copy_in_two, copy_many, mask_and_shift};
 use flow_model::{InnerSink, Loc, Rule, SinkByte, SinkPoint, SourceByte};
 use path_find::answer;
 use path_model::Pair;
@@ -11,13 +11,28 @@ use replayer::Job;
 use std::alloc::Global;
 use std::process::Abort;
 
-/// The path of a source byte of channel 0 to a sink has this text.
-fn assert_path(rt: &impl Abort, alloc: Global, job: &Job, sink: SinkPoint, offset: u32, lines: &str)
+/// The path of a source byte of channel 0 to a sink, by a rule, has this text.
+fn assert_path_by(
+    rt: &impl Abort,
+    alloc: Global,
+    job: &Job,
+    rule: Rule,
+    sink: SinkPoint,
+    offset: u32,
+    lines: &str,
+)
     requires { HasLocation sink }
 {
     let source = SourceByte { channel: 0, offset };
-    let text = answer(alloc, job, Rule::Copy, Some(Pair { sink, source })).expect(rt, "memory");
+    let text = answer(alloc, job, rule, Some(Pair { sink, source })).expect(rt, "memory");
     assert_eq!(rt; text.as_slice(), lines.as_bytes());
+}
+
+/// The same, by copy.
+fn assert_path(rt: &impl Abort, alloc: Global, job: &Job, sink: SinkPoint, offset: u32, lines: &str)
+    requires { HasLocation sink }
+{
+    assert_path_by(rt, alloc, job, Rule::Copy, sink, offset, lines);
 }
 
 /// An output byte of channel 1.
@@ -78,4 +93,20 @@ fn a_path_has_a_hop_for_each_step_that_moves(rt: HostRuntime) {
         point 25004 0x00010024 r:28.0 r:28.0@25004\n\
         end 3\n";
     assert_path(&rt, alloc, &job, point(25004, lane), 4999, there);
+}
+
+#[test]
+fn by_keep_a_path_goes_through_masks_and_shifts(rt: HostRuntime) {
+    let alloc = rt.alloc();
+    let job = mask_and_shift(&rt, alloc);
+    let lines = "read 5 0x00010014 0:0 m:65792\n\
+        hop 6 0x00010018 m:65792 r:5.0 lbu x5, 0(x11)\n\
+        hop 7 0x0001001c r:5.0 r:6.0 andi x6, x5, 255\n\
+        hop 8 0x00010020 r:6.0 r:6.1 slli x6, x6, 8\n\
+        hop 9 0x00010024 r:6.1 m:65793 sh x6, 0(x11)\n\
+        write 13 0x00010034 m:65793 1:1\n\
+        end 6\n";
+    assert_path_by(&rt, alloc, &job, Rule::Keep, output(1), 0, lines);
+    assert_path_by(&rt, alloc, &job, Rule::Keep, output(0), 0, "end 0\n");
+    assert_path(&rt, alloc, &job, output(1), 0, "end 0\n");
 }
