@@ -1,8 +1,7 @@
 -- Each row of a report is told in one way.
-use Rattle.std.proofs.Common.{◌≡◌, ℕ, suc, ◌+◌, Bool, true, false, not, ◌&&◌, cond, List, [], ◌∷◌, length, refl, ap, sym, ◌∙◌, arith}
-use Rattle.std.specs.List.{filter, flat_map}
+use Rattle.std.proofs.Common.{◌≡◌, suc, ◌+◌, Bool, true, false, not, ◌&&◌, cond, List, [], ◌∷◌, length, refl, ap, sym, ◌∙◌, arith}
 use Rattle.report_model.specs.Rows.{Row}
-use Rattle.range_model.specs.Runs.{is_output, has_any, output_rows, point_rows, rows_without, runs}
+use Rattle.range_model.specs.Runs.{is_output, has_any, output_rows, point_rows, rows_without}
 use Rattle.range_model.specs.RunLaws.{RowsAreCounted}
 use Rattle.range_model.proofs.Longest.{runs_hold_rows}
 

@@ -1,15 +1,14 @@
 -- Rows of neighbouring output bytes, and which row goes on from them. Crates above cite these lemmas.
-use Rattle.std.proofs.Common.{◌≡◌, ℕ, zero, suc, ◌+◌, ◌==◌, Bool, true, false, ◌&&◌, ◌||◌, List, [], ◌∷◌, ◌++◌, length, refl, sym, ap, ap₂, ◌∙◌, subst, arith, eqb-true}
+use Rattle.std.proofs.Common.{◌≡◌, ℕ, zero, suc, ◌+◌, ◌==◌, Bool, true, false, ◌&&◌, ◌||◌, List, [], ◌∷◌, ◌++◌, length, refl, sym, ap, ap₂, ◌∙◌, arith}
 use Rattle.std.specs.List.{flat_map, list_all}
 use Rattle.std.proofs.lemmas.Bool.{and_right}
 use Rattle.std.proofs.lemmas.Bool.Decides.{nat_tests}
 use Rattle.flow_model.specs.declared.SourceByte.{SourceByte}
-use Rattle.flow_model.specs.declared.SinkPoint.{SinkPoint}
-use Rattle.flow_model.specs.declared.SinkPoint.TheVariants.{Out, At}
+use Rattle.flow_model.specs.declared.SinkPoint.TheVariants.{Out}
 use Rattle.report_model.specs.Rows.{Row}
 use Rattle.source_ranges.specs.Ranges.{byte_on}
 use Rattle.source_ranges.proofs.Longest.{bytes_from}
-use Rattle.range_model.specs.Runs.{is_next_sink, is_next_source, same_source, same_sources, go_on, has_one, is_moved, is_shared, is_run}
+use Rattle.range_model.specs.Runs.{is_next_sink, is_next_source, same_sources, go_on, has_one, is_moved, is_shared, is_run}
 
 abbrev pub row_of : ℕ → ℕ → List SourceByte → Row
 row_of c o bs = record { sink = Out (record { channel = c; offset = o }); sources = bs }

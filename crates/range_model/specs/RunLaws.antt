@@ -1,7 +1,7 @@
 -- What the runs of a report are: they hold its rows in order, and none can be longer.
-use Rattle.std.specs.Prelude.{◌≡◌, ℕ, ◌+◌, ◌≤◌, Bool, true, false, List, [], ◌∷◌, ◌++◌, length}
+use Rattle.std.specs.Prelude.{◌≡◌, ◌+◌, ◌≤◌, true, false, List, [], ◌∷◌, ◌++◌, length}
 use Rattle.std.specs.List.{flat_map}
-use Rattle.log_model.specs.Logs.{Log}
+use Rattle.log_model.specs.declared.CallRecord.{CallRecord}
 use Rattle.log_model.specs.Moved.{received, written}
 use Rattle.report_model.specs.Rows.{Row}
 use Rattle.source_ranges.specs.declared.SourceRange.{SourceRange}
@@ -38,18 +38,18 @@ abbrev pub RowsAreCounted : Type 0
 RowsAreCounted = (rs : List Row)
     → length rs ≡ length (flat_map (λ run. run) (runs (output_rows rs))) + length (point_rows rs) + length (rows_without rs)
 
--- the log has the bytes that a run wrote, and those of a range
-pub record HasBytes (log : Log) (run : List Row) (range : SourceRange) : Type 0 where
-  pub written : (first_of run).offset + length run ≤ length (written (first_of run).channel log.records)
-  pub received : range.past ≤ length (received range.channel log.records)
+-- calls moved the bytes that a run wrote, and those of a range
+pub record HasBytes (calls : List CallRecord) (run : List Row) (range : SourceRange) : Type 0 where
+  pub written : (first_of run).offset + length run ≤ length (written (first_of run).channel calls)
+  pub received : range.past ≤ length (received range.channel calls)
 
 -- the sources of a run are one range, as long as it, and the bytes that were written are those that were received there
-pub record HoldsRange (log : Log) (run : List Row) : Type 0 where
+pub record HoldsRange (calls : List CallRecord) (run : List Row) : Type 0 where
   pub range : SourceRange
   pub alone : ranges_of (sources_of run) ≡ range ∷ []
   pub long : range.past ≡ range.from + length run
-  pub same : HasBytes log run range → written_in log run ≡ received_in log range
+  pub same : HasBytes calls run range → written_in calls run ≡ received_in calls range
 
 -- a run that is told as the same is so
 abbrev pub SameHoldsRange : Type 0
-SameHoldsRange = (log : Log) (r : Row) (rs : List Row) → kind_of log (r ∷ rs) ≡ Same → HoldsRange log (r ∷ rs)
+SameHoldsRange = (calls : List CallRecord) (r : Row) (rs : List Row) → kind_of calls (r ∷ rs) ≡ Same → HoldsRange calls (r ∷ rs)

@@ -1,5 +1,5 @@
 -- A report in runs: output bytes one after the other whose source bytes go on alike.
-use Rattle.std.specs.Prelude.{ℕ, ◌+◌, ◌==◌, Bool, true, false, not, ◌&&◌, ◌||◌, List, [], ◌∷◌, ◌++◌, length}
+use Rattle.std.specs.Prelude.{◌+◌, ◌==◌, Bool, true, false, not, ◌&&◌, ◌||◌, List, [], ◌∷◌, ◌++◌, length}
 use Rattle.std.specs.List.{filter, list_all}
 use Rattle.std.specs.Cmp.Lexicographic.{pointwise}
 use Rattle.flow_model.specs.declared.SourceByte.{SourceByte}
