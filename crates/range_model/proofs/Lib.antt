@@ -1,0 +1,4 @@
+pub mod Longest
+mod Counted
+pub mod Texts
+mod Worked
