@@ -23,7 +23,8 @@ pub record AreAdded (old : ByteCounts) (way : Way) (channel n : ℕ) (new : Byte
 
 -- the bytes of a call are counted
 pub record IsCounted (old : ByteCounts) (call : CallRecord) (new : ByteCounts) : Type 0 where
-  pub each : (way : Way) (channel : ℕ) → count_of new way channel ≡ count_of old way channel + length (moved_by way channel call)
+  pub each : (way : Way) (channel : ℕ)
+      → count_of new way channel ≡ count_of old way channel + length (moved_by way channel call)
 
 -- the counts with those of a call are numbers of 64 bits
 pub record HasRoom (counts : ByteCounts) (call : CallRecord) : Type 0 where

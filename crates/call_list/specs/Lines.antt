@@ -11,8 +11,8 @@ use Rattle.run_output.specs.declared.ways.Way.{Way}
 use Rattle.run_output.specs.declared.ways.Way.TheVariants.{Received, Written}
 use Rattle.run_output.specs.Ways.{moved}
 
--- the bytes that a read or a write moved, 0 of them too: the step, the channel, how many bytes were moved on it that way
--- before, the address of the first, and the bytes
+-- the bytes that a read or a write moved, 0 of them too: the step, the channel, how many bytes were moved on it that
+-- way before, the address of the first, and the bytes
 pub record Piece : Type 0 where
   pub at : ℕ
   pub channel : ℕ
@@ -20,7 +20,7 @@ pub record Piece : Type 0 where
   pub address : ℕ
   pub bytes : List ℕ
 
--- a read or a write that was refused: the step, the channel, the result, and how many bytes it asked for at what address
+-- a read or a write that was refused: the step, the channel, the result, how many bytes it asked for, and the address
 pub record Refusal : Type 0 where
   pub at : ℕ
   pub channel : ℕ
@@ -38,10 +38,22 @@ pub data Line : Type 0 where
 -- ---- the lines of calls
 
 abbrev pub piece : ℕ → List ℕ → ℕ → List ℕ → Piece
-piece at args offset bytes = record { at = at; channel = channel_of args; offset = offset; address = buffer_of args; bytes = bytes }
+piece at args offset bytes = record {
+  at = at;
+  channel = channel_of args;
+  offset = offset;
+  address = buffer_of args;
+  bytes = bytes;
+}
 
 abbrev pub refusal : ℕ → List ℕ → ℤ → Refusal
-refusal at args result = record { at = at; channel = channel_of args; result = result; asked = length_of args; address = buffer_of args }
+refusal at args result = record {
+  at = at;
+  channel = channel_of args;
+  result = result;
+  asked = length_of args;
+  address = buffer_of args;
+}
 
 -- the line of a read or a write, which has a negative result where it was refused
 abbrev pub transfer_line : Way → ℕ → ℕ → List ℕ → ℤ → List ℕ → Line
@@ -50,8 +62,10 @@ transfer_line way offset at args (negsuc n) bytes = RefusedLine way (refusal at 
 
 -- the line of a call, where so many bytes were moved each way on each channel before
 abbrev pub line_of : (Way → ℕ → ℕ) → CallRecord → Line
-line_of before (Read at args result bytes) = transfer_line Received (before Received (channel_of args)) at args result bytes
-line_of before (Write at args result bytes) = transfer_line Written (before Written (channel_of args)) at args result bytes
+line_of before (Read at args result bytes) =
+    transfer_line Received (before Received (channel_of args)) at args result bytes
+line_of before (Write at args result bytes) =
+    transfer_line Written (before Written (channel_of args)) at args result bytes
 line_of before (Clock at value) = ClockLine at value
 line_of before (Other at number) = OtherLine at number
 

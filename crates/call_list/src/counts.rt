@@ -9,8 +9,7 @@ use run_output::Way;
 use std::alloc::Global;
 use std::collections::HashMap;
 
-/// How many bytes were read, and how many were written, on each channel: those of a channel that isn't among the keys are
-/// none.
+/// How many bytes were read, and how many were written, on each channel: none on one that isn't among the keys.
 #[derive(Drop)]
 pub(crate) struct ByteCounts {
     received: HashMap<u32, u64>,

@@ -199,8 +199,8 @@ fn push_limit(out: &mut Vec<u8>, at: u64) -> Result<(), NoMemory>
     Ok(())
 }
 
-/// The text of the calls of a run: a line for each, in order, one for the end, and `end N`, N the number of those lines. A log
-/// that fits no program has a text too. It fails only where there is no memory.
+/// The text of the calls of a run: a line for each, in order, one for the end, and `end N`, N the number of those
+/// lines. A log that fits no program has a text too. It fails only where there is no memory.
 pub fn calls_text(alloc: Global, log: &Log) -> Result<Vec<u8>, NoMemory>
     ensures { IfOk result (λ text. text.items ≡ text_of_calls log.now) }
 {

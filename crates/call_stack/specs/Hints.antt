@@ -1,5 +1,5 @@
--- Which instructions call and return: the return-address prediction hints of "Unconditional Jumps" (RISC-V Unprivileged ISA
--- manual, section 2.5). x1 and x5 are the link registers.
+-- Which instructions call and return: the return-address prediction hints of "Unconditional Jumps" (RISC-V Unprivileged
+-- ISA manual, section 2.5). x1 and x5 are the link registers.
 use Rattle.std.specs.Prelude.{ℕ, ◌==◌, Bool, true, false, ◌||◌, if◌then◌else◌}
 use Rattle.isa.specs.declared.Instr.{Instr}
 use Rattle.isa.specs.declared.Instr.TheVariants.{Jal, Jalr}

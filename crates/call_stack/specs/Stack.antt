@@ -21,7 +21,8 @@ abbrev pub outside_of : ℕ → List ℕ → Option (List ℕ)
 outside_of address [] = None
 outside_of address (call ∷ calls) = if return_address call == address then Some calls else outside_of address calls
 
--- a return to an address ends the innermost call that returns there, with those inside it; where none does, the innermost
+-- a return to an address ends the innermost call that returns there, with those inside it; where none does, it ends the
+-- innermost
 abbrev pub after_return : ℕ → List ℕ → List ℕ
 after_return address calls = unwrap_or (outside_of address calls) (drop 1 calls)
 

@@ -29,7 +29,8 @@ fn end_calls(calls: &mut Vec<u32>, address: u32)
     calls.truncate(left);
 }
 
-/// Begins and ends calls as the instruction at a pc does, from which the run goes to the target. The innermost is the last.
+/// Begins and ends calls as the instruction at a pc does, from which the run goes to the target. The innermost is the
+/// last.
 #[inline(always)]
 pub(crate) fn follow_hint(
     calls: &mut Vec<u32>,

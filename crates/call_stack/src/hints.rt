@@ -5,8 +5,8 @@ ghost use Rattle.call_stack.specs.Hints.{is_link as is_link_register, jalr_hint 
 
 use isa::Instr;
 
-/// What an instruction does to the calls in progress, by the return-address prediction hints of the RISC-V Unprivileged ISA
-/// manual ("Unconditional Jumps", section 2.5).
+/// What an instruction does to the calls in progress, by the return-address prediction hints of the RISC-V Unprivileged
+/// ISA manual ("Unconditional Jumps", section 2.5).
 #[derive(Clone, Copy)]
 pub enum Hint {
     /// A call begins.

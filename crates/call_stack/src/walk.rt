@@ -56,9 +56,9 @@ fn text_of(alloc: Global, pcs: &[u32]) -> Result<Vec<u8>, NoMemory>
     Ok(out)
 }
 
-/// The text of where the run of a job stands after so many steps: the pc, the calls in progress, the innermost first, each by
-/// the address of its JAL or JALR, and `end N`, N the number of those lines. It is `end 0` where the run has fewer steps. It
-/// fails only where there is no memory.
+/// The text of where the run of a job stands after so many steps: the pc, the calls in progress, the innermost first,
+/// each by the address of its JAL or JALR, and `end N`, N the number of those lines. It is `end 0` where the run has
+/// fewer steps. It fails only where there is no memory.
 pub fn stack_text(alloc: Global, job: &Job, time: u64) -> Result<Vec<u8>, NoMemory>
     ensures { IfOk result (λ text. text.items ≡ stack_of_run job.now.start job.now.log time) }
 {
