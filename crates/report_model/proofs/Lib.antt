@@ -5,5 +5,7 @@ pub mod Located
 pub mod Due
 mod Each
 mod Examples
+mod NeededExamples
 pub mod Members
 pub mod Turned
+pub mod Needed

@@ -8,3 +8,4 @@ pub mod InfluenceLaws
 pub mod Together
 pub mod TogetherLaws
 pub mod PointLaws
+pub mod Needed

@@ -4,6 +4,7 @@ ghost use Rattle.report_model.specs.RowLaws.{AlikeHaveSameRows, RowsAscend, Rows
 ghost use Rattle.report_model.specs.InfluenceLaws.{InfluenceTurnsRows};
 ghost use Rattle.report_model.specs.TogetherLaws.{PointsAscend, OnlyIsOwn, TogetherCovers, TogetherAscends, EachIsOwn};
 ghost use Rattle.report_model.specs.PointLaws.{PointsOfTexts, PointsTogether};
+ghost use Rattle.report_model.specs.Needed.{RowsOfBeginning, NeededAreMade};
 
 /// Queries that have one rule and the same points, and choose the same bytes, have the same rows, over each trace.
 pub fn alike_have_same_rows()
@@ -64,4 +65,11 @@ pub fn together_covers()
 /// So the rows of each of several queries of one rule are its own of the rows of them all together.
 pub fn each_is_own()
     ensures { EachIsOwn }
+{}
+
+/// The rows over a trace are those over each of its beginnings that has the steps which the last chosen sink needs. The
+/// trace has them all.
+pub fn rows_of_beginning()
+    ensures rows { RowsOfBeginning }
+    ensures made { NeededAreMade }
 {}

@@ -5,7 +5,8 @@
 //! locations; rows ascend, each once, and none is missing; a point has a row, with its location's origins, exactly
 //! where the query has it and the run reaches its time; queries that are alike have the same rows; a source byte and a
 //! sink stand together in the influence exactly where they do in the rows; the rows of a query are its own of those of
-//! any query that covers it, and several queries together cover each.
+//! any query that covers it, and several queries together cover each; what comes after the last chosen sink changes no
+//! row.
 #![tactic(auto)]
 
 pub mod laws;

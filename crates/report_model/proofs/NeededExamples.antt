@@ -1,0 +1,56 @@
+-- Worked examples of the steps that rows need, computed by the checker.
+use Rattle.std.proofs.Common.{◌≡◌, ℕ, List, [], ◌∷◌, refl}
+use Rattle.std.specs.Prelude.{Option, Some, None}
+use Rattle.isa.specs.declared.Instr.TheVariants.{Ecall}
+use Rattle.isa.specs.declared.CallKind.TheVariants.{Read, Write}
+use Rattle.flow_model.specs.declared.Rule.TheVariants.{Copy}
+use Rattle.flow_model.specs.declared.InnerSink.{InnerSink}
+use Rattle.flow_model.specs.declared.Loc.TheVariants.{Reg}
+use Rattle.flow_model.specs.declared.StepSeen.{StepSeen}
+use Rattle.flow_model.specs.declared.CallSeen.{CallSeen}
+use Rattle.report_model.specs.Grammar.{everything}
+use Rattle.report_model.specs.Query.{Query, Choice}
+use Rattle.report_model.specs.Needed.{needed_steps}
+
+abbrev step : ℕ → Option CallSeen → StepSeen
+step t call = record { number = t; instr = Ecall; place = 0; call = call }
+
+abbrev write : ℕ → ℕ → CallSeen
+write channel offset = record { kind = Write; channel = channel; place = 0; offset = offset; length = 2 }
+
+-- two bytes are written on channel 1, then two on channel 2, then two are read on channel 1, and two steps follow
+abbrev five_steps : List StepSeen
+five_steps =
+    step 0 (Some (write 1 0)) ∷ step 1 (Some (write 2 0)) ∷
+    step 2 (Some (record { kind = Read; channel = 1; place = 0; offset = 0; length = 2 })) ∷ step 3 None ∷ step 4 None ∷ []
+
+abbrev query_of : List Choice → List InnerSink → Query
+query_of sinks points = record { rule = Copy; sources = []; sinks = sinks; points = points }
+
+abbrev point : ℕ → InnerSink
+point t = record { time = t; loc = Reg 5 0 }
+
+abbrev on_channel : ℕ → Choice
+on_channel c = record { channel = Some c; offsets = None }
+
+all_bytes : needed_steps (query_of (everything ∷ []) []) five_steps ≡ 2
+all_bytes = refl
+
+one_channel : needed_steps (query_of (on_channel 1 ∷ []) []) five_steps ≡ 1
+one_channel = refl
+
+second_byte : needed_steps (query_of (record { channel = Some 2; offsets = Some (record { from = 1; past = 2 }) } ∷ []) []) five_steps ≡ 2
+second_byte = refl
+
+no_such_byte : needed_steps (query_of (record { channel = Some 2; offsets = Some (record { from = 2; past = 9 }) } ∷ []) []) five_steps ≡ 0
+no_such_byte = refl
+
+nothing_chosen : needed_steps (query_of [] []) five_steps ≡ 0
+nothing_chosen = refl
+
+-- the last point inside the run counts, and one after its end doesn't
+points_and_bytes : needed_steps (query_of (everything ∷ []) (point 1 ∷ point 4 ∷ point 6 ∷ [])) five_steps ≡ 4
+points_and_bytes = refl
+
+point_at_the_end : needed_steps (query_of [] (point 5 ∷ [])) five_steps ≡ 5
+point_at_the_end = refl
