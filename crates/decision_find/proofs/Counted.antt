@@ -1,7 +1,6 @@
 -- Groups with one decision more.
-use Rattle.std.proofs.Common.{◌≡◌, ℕ, zero, suc, ◌+◌, Bool, true, false, cond, List, [], ◌∷◌, ◌++◌, map, length, length-append, refl, ap, ap₂, sym, ◌∙◌, subst, arith, append-nil}
+use Rattle.std.proofs.Common.{◌≡◌, ℕ, ◌+◌, Bool, true, false, cond, List, [], ◌∷◌, ◌++◌, map, length, length-append, refl, ap, ap₂, sym, ◌∙◌, subst, arith, append-nil}
 use Rattle.std.specs.Prelude.{◌||◌, Option, Some, None}
-use Rattle.std.specs.List.{filter}
 use Rattle.std.specs.BTreeMap.{BTreeMap, get, insert_entry}
 use Rattle.std.specs.Cmp.{IsTotalOrder, tied_itself, tied_back}
 use Rattle.std.specs.FinMap.{IsAntisymmetric}
@@ -14,11 +13,10 @@ use Rattle.std.proofs.lemmas.List.Folds.{list_any-append}
 use Rattle.sorted_set.specs.Sets.{union, inserted, placed, set_of, has, Ascends}
 use Rattle.sorted_set.proofs.Algebra.{tied_by, less_turned, greater_turned, has-inserted, has-set_of, Ascends-inserted, Ascends-set_of, Ascends-union, same_list, union_assoc, union-nil}
 use Rattle.flow_model.specs.declared.Loc.{Loc}
-use Rattle.flow_model.specs.declared.SourceByte.{SourceByte}
 use Rattle.flow_model.specs.Orders.{source_cmp}
 use Rattle.flow_model.proofs.Orders.{source_total, source_same}
 use Rattle.taint_shadow.specs.declared.labels.Label.{Label}
-use Rattle.taint_shadow.specs.Labels.{KeepsLabels, MakesLabel}
+use Rattle.taint_shadow.specs.Labels.{KeepsLabels}
 use Rattle.taint_shadow.proofs.Meaning.{made_kept}
 use Rattle.decision_model.specs.declared.Place.{Place}
 use Rattle.decision_model.specs.Decisions.{Decision}

@@ -1,12 +1,9 @@
 -- A step that is followed: its look is noted, and the labels are turned.
-use Rattle.std.proofs.Common.{◌≡◌, ℕ, zero, suc, ◌+◌, ◌<◌, Bool, true, false, List, [], ◌∷◌, ◌++◌, map, refl, ap, ap₂, sym, ◌∙◌, subst, arith, add-one, append_assoc, append-nil, if◌then◌else◌}
+use Rattle.std.proofs.Common.{◌≡◌, ℕ, zero, suc, ◌+◌, Bool, true, false, List, [], ◌∷◌, ◌++◌, refl, ap, ap₂, sym, ◌∙◌, subst, add-one, append_assoc, append-nil, if◌then◌else◌}
 use Rattle.std.specs.Prelude.{Option, Some, None}
-use Rattle.std.specs.List.{filter}
 use Rattle.isa.specs.declared.Instr.{Instr}
-use Rattle.isa.specs.Machine.{State, Trapped, next, reg, kind_of, fetch}
-use Rattle.log_model.specs.declared.RunEnd.{RunEnd}
-use Rattle.log_model.specs.declared.RunEnd.TheVariants.{Exit, Trap, Limit}
-use Rattle.log_model.specs.Logs.{Log, steps, steps_by}
+use Rattle.isa.specs.Machine.{fetch}
+use Rattle.log_model.specs.Logs.{steps}
 use Rattle.flow_model.specs.declared.Loc.{Loc}
 use Rattle.flow_model.specs.declared.Rule.{Rule}
 use Rattle.flow_model.specs.declared.SourceByte.{SourceByte}
@@ -15,33 +12,26 @@ use Rattle.flow_model.specs.declared.CallSeen.{CallSeen}
 use Rattle.flow_model.specs.Flow.{cleared, flow, origins_by, is_received, from_instruction_or}
 use Rattle.flow_model.specs.Orders.{source_cmp}
 use Rattle.flow_model.specs.Origins.{Policy, union_over, introduced, byte_at, fresh_by, after_step, step_at, origins}
-use Rattle.flow_model.specs.Ranges.{IsLocation}
 use Rattle.sorted_set.specs.Sets.{union}
 use Rattle.report_model.specs.Query.{Query, has_source}
 use Rattle.replay_model.specs.Run.{Moment, start, advance, moment_after}
-use Rattle.replay_model.proofs.Track.{on_track_at}
-use Rattle.replay_model.proofs.Offsets.{steps_within}
-use Rattle.replayer.specs.Jobs.{Job, IsJob, trace_of}
+use Rattle.replayer.specs.Jobs.{Job, trace_of}
 use Rattle.taint_shadow.specs.declared.places.Places.{Places}
-use Rattle.taint_shadow.specs.Labels.{KeepsLabels, start_label}
+use Rattle.taint_shadow.specs.Labels.{start_label}
 use Rattle.taint_shadow.specs.Places.{AreKept}
-use Rattle.taint_shadow.specs.Steps.{AreStanding, Holds, united_over, introduced as brought_in, after}
+use Rattle.taint_shadow.specs.Steps.{Holds, united_over, introduced as brought_in, after}
 use Rattle.taint_shadow.proofs.Meaning.{holds_kept}
 use Rattle.decision_model.specs.Decides.{deciding_rule}
-use Rattle.decision_model.specs.Decisions.{Decision, decision, decisions, decided_at, decided_from, decided, moments_seen, is_some_byte, instr_of, decides_fetched, fetched_from}
-use Rattle.decision_model.specs.Text.{decided_by}
-use Rattle.decision_model.proofs.Answered.{traps_at}
-use Rattle.decision_find.specs.declared.labels.SourceLabels.{SourceLabels}
-use Rattle.decision_find.specs.declared.groups.Groups.{Groups}
+use Rattle.decision_model.specs.Decisions.{Decision, decisions, decided_at, decided_from, moments_seen, instr_of, fetched_from}
 use Rattle.decision_find.specs.declared.looks.Look.{Look}
 use Rattle.decision_find.specs.declared.tracking.Tracking.{Tracking}
-use Rattle.decision_find.specs.Words.{label_words, sources_by}
+use Rattle.decision_find.specs.Words.{label_words}
 use Rattle.decision_find.specs.Laws.{label_laws}
-use Rattle.decision_find.specs.Looks.{IsLookAt, look_at_step, looked_at, decision_of, listed}
+use Rattle.decision_find.specs.Looks.{IsLookAt, look_at_step, looked_at, listed}
 use Rattle.decision_find.specs.Groups.{AreGroups, HaveLabels}
 use Rattle.decision_find.specs.Following.{IsSound, IsTracked, IsStepOf, IsTurned, Notes, HasDecisions, deciding_policy, moment_of}
 use Rattle.decision_find.proofs.Counted.{groups_kept}
-use Rattle.decision_find.proofs.Looking.{looks_at_step, looks_at_trap}
+use Rattle.decision_find.proofs.Looking.{looks_at_step}
 
 -- ---- the origins after a step
 
@@ -115,7 +105,7 @@ module _ (q : Query) (job : Job) (t : ℕ) (look : Look) (old mid : Tracking) (h
       let first = start job.start job.log in
       let f = origins p trace t in
       let lists : listed look f (looked_at old.rule look) ≡ decided_at p trace (moment_after t first) =
-          ap₂ (λ (k : ℕ) (r : Rule). listed look (origins p trace k) (looked_at r look)) (sym time) h.rule ∙ look_lists p trace (moment_after t first) look is in
+      ap₂ (λ (k : ℕ) (r : Rule). listed look (origins p trace k) (looked_at r look)) (sym time) h.rule ∙ look_lists p trace (moment_after t first) look is in
       let counted = noted.groups f (decided_from p trace t first) h.holds h.groups in
       subst (λ (ds : List Decision). AreGroups mid.labels ds mid.groups)
       (ap (λ (ds : List Decision). decided_from p trace t first ++ ds) lists ∙ sym (decided_more p trace t first)) counted

@@ -1,7 +1,5 @@
 -- What a look decides by are locations.
-use Rattle.std.proofs.Common.{◌≡◌, ℕ, zero, suc, ◌+◌, ◌<◌, ◌%◌, ◌^◌, List, [], ◌∷◌, ◌++◌, length, get_or, arith}
-use Rattle.std.specs.Prelude.{Option, Some, None}
-use Rattle.std.specs.List.{AllByRecursion}
+use Rattle.std.proofs.Common.{ℕ, zero, suc, ◌<◌, List, [], ◌∷◌, ◌++◌, length, get_or, arith}
 use Rattle.isa.specs.declared.CallKind.{CallKind}
 use Rattle.isa.specs.declared.CallKind.TheVariants as kind
 use Rattle.isa.specs.declared.Instr.{Instr}

@@ -1,5 +1,5 @@
 -- The look before a step of a run is that of the moment, and so is the look at a trap.
-use Rattle.std.proofs.Common.{◌≡◌, ℕ, ◌+◌, ◌<◌, ◌≤◌, ◌⊎◌, inl, inr, Bool, true, false, List, [], ◌∷◌, ◌++◌, refl, ap, ap₂, sym, ◌∙◌, subst, arith, int_lt}
+use Rattle.std.proofs.Common.{◌≡◌, ℕ, ◌≤◌, ◌⊎◌, inl, inr, Bool, true, false, List, [], ◌∷◌, refl, ap, ap₂, sym, ◌∙◌, subst, arith, int_lt}
 use Rattle.std.specs.Prelude.{◌==◌, not, nat_lt, nat_le, Option, Some, None, MatchOption}
 use Rattle.isa.specs.declared.Call.{Call}
 use Rattle.isa.specs.declared.CallKind.{CallKind}
@@ -13,12 +13,10 @@ use Rattle.log_model.specs.declared.RunEnd.TheVariants.{Trap}
 use Rattle.log_model.specs.Logs.{Log, steps, steps_by, end_at}
 use Rattle.flow_model.specs.declared.Rule.{Rule}
 use Rattle.flow_model.specs.declared.StepSeen.{StepSeen}
-use Rattle.flow_model.specs.Origins.{step_at}
 use Rattle.replay_model.specs.Run.{Moment, start, call_seen, plain_step, step_by, step_of}
-use Rattle.replay_model.proofs.Agreement.{kind_by}
 use Rattle.replay_model.proofs.Offsets.{step_at_from, steps_within}
 use Rattle.replay_model.proofs.Track.{on_track_at}
-use Rattle.replayer.specs.Jobs.{Job, IsJob, trace_of}
+use Rattle.replayer.specs.Jobs.{Job, IsJob}
 use Rattle.replayer.specs.Positions.{CursorAt, state_at}
 use Rattle.decision_model.specs.Decides.{decides}
 use Rattle.decision_model.specs.Decisions.{instr_of, decides_fetched}
@@ -173,7 +171,7 @@ looks_at_step job pc s is =
     let time : m.time ≡ t = there.time in
     let made : s ≡ step_of m = one_step s (step_of m) (sym is.step ∙ step_at_from (steps job.log) t (start job.start job.log) is.below) in
     let done : IsDoneAt job.log m.time m.state m.left (next m.state) =
-        subst (λ (k : ℕ). IsDoneAt job.log k m.state m.left (next m.state)) (sym time) (done_at job.log job.start t is.is_job.form is.is_job.agrees is.below) in
+    subst (λ (k : ℕ). IsDoneAt job.log k m.state m.left (next m.state)) (sym time) (done_at job.log job.start t is.is_job.form is.is_job.agrees is.below) in
     let shown : IsShown m.state (fetch m.state) s = subst (IsShown m.state (fetch m.state)) (sym made) (by_fetch job.log m (fetch m.state) refl done) in
     record { time = sym time; pc = is.at_pc; instr = shown.instr; decides = shown.decides_too }
   where

@@ -1,12 +1,11 @@
 -- The decisions that are noted, one location after another.
-use Rattle.std.proofs.Common.{◌≡◌, ℕ, zero, suc, ◌+◌, ◌<◌, Bool, true, false, cond, List, [], ◌∷◌, ◌++◌, map, take, refl, ap, ap₂, sym, ◌∙◌, subst, arith, append_assoc, append-nil}
+use Rattle.std.proofs.Common.{◌≡◌, Bool, true, false, cond, List, [], ◌∷◌, ◌++◌, map, refl, ap, sym, ◌∙◌, subst, append_assoc, append-nil}
 use Rattle.std.specs.List.{filter}
 use Rattle.std.proofs.lemmas.List.{map-append}
 use Rattle.std.proofs.lemmas.List.Elements.{filter-append}
 use Rattle.flow_model.specs.declared.Loc.{Loc}
 use Rattle.flow_model.specs.declared.SourceByte.{SourceByte}
 use Rattle.flow_model.specs.Ranges.{IsLocation}
-use Rattle.taint_shadow.specs.declared.labels.Label.{Label}
 use Rattle.taint_shadow.specs.declared.places.Places.{Places}
 use Rattle.taint_shadow.specs.Labels.{KeepsLabels}
 use Rattle.taint_shadow.specs.Places.{kept}
@@ -75,7 +74,7 @@ module _ (look : Look) (t : Tracking) (loc : Loc) (here : IsLocation loc) where
   -- it has one, and its decision was counted
   pub one_noted : (labels : SourceLabels) (groups : Groups) → is_some_byte (label_words.means t.labels (kept t.places loc)) ≡ true → KeepsLabels label_words t.labels labels
       → ((ds : List Decision) → AreGroups t.labels ds t.groups
-          → AreGroups labels (ds ++ decision_of look (λ l. label_words.means t.labels (kept t.places loc)) loc ∷ []) groups)
+      → AreGroups labels (ds ++ decision_of look (λ l. label_words.means t.labels (kept t.places loc)) loc ∷ []) groups)
       → Notes look (loc ∷ []) t (record t { labels = labels; groups = groups })
   one_noted labels groups e k added = record {
     keeps = k;
@@ -84,6 +83,6 @@ module _ (look : Look) (t : Tracking) (loc : Loc) (here : IsLocation loc) where
         let means : label_words.means t.labels (kept t.places loc) ≡ f loc = holds.at loc here in
         let one : listed look f (loc ∷ []) ≡ decision_of look f loc ∷ [] = listed_if f true (ap is_some_byte (sym means) ∙ e) in
         let same : decision_of look (λ l. label_words.means t.labels (kept t.places loc)) loc ≡ decision_of look f loc =
-            ap (λ (bs : List SourceByte). decision_of look (λ l. bs) loc) means in
+        ap (λ (bs : List SourceByte). decision_of look (λ l. bs) loc) means in
         subst (λ (xs : List Decision). AreGroups labels xs groups) (ap (λ (d : Decision). ds ++ d ∷ []) same ∙ ap (λ (xs : List Decision). ds ++ xs) (sym one)) (added ds h);
   }

@@ -1,23 +1,18 @@
 -- The record that answers a call of a run.
-use Rattle.std.proofs.Common.{◌≡◌, ℕ, ℤ, pos, suc, ◌+◌, ◌<◌, ◌≤◌, ◌⊎◌, inl, inr, List, [], ◌∷◌, length, get_or, None, refl, arith, ap, ap₂, sym, ◌∙◌, subst}
-use Rattle.std.proofs.lemmas.Bool.{cases_lt}
+use Rattle.std.proofs.Common.{◌≡◌, ℕ, ℤ, pos, List, [], ◌∷◌, length, get_or, None, refl, arith, ap, ap₂, ◌∙◌, subst}
 use Rattle.isa.specs.declared.Call.{Call}
 use Rattle.isa.specs.declared.CallKind.TheVariants as kind
-use Rattle.isa.specs.Machine.{State, Retired, Called, Trapped, next, reg}
+use Rattle.isa.specs.Machine.{State, Called, next, reg}
 use Rattle.isa.specs.Calls.{refusal_of}
-use Rattle.log_model.specs.declared.CallRecord.{CallRecord}
 use Rattle.log_model.specs.declared.CallRecord.TheVariants.{Read, Write, Other}
 use Rattle.log_model.specs.declared.RunEnd.{RunEnd}
-use Rattle.log_model.specs.declared.RunEnd.TheVariants.{Exit, Trap, Limit}
-use Rattle.log_model.specs.Logs.{Log, IsRecord, Rise, least_after, at_of, end_at, steps, steps_by}
-use Rattle.replay_model.specs.Run.{Moment, start}
-use Rattle.replay_model.specs.Comparison.{PlainStep, CallOf, EndOf, difference, difference_at, expected, seen_event, trap_kind, IsLawful, arguments_of, allowed, bytes_compared, compared}
+use Rattle.log_model.specs.declared.RunEnd.TheVariants.{Exit}
+use Rattle.log_model.specs.Logs.{Log, IsRecord, end_at}
+use Rattle.replay_model.specs.Comparison.{EndOf, difference_at, seen_event, IsLawful, arguments_of, allowed, bytes_compared, compared}
 use Rattle.replay_model.specs.Comparison.{result as result_compared}
 use Rattle.replay_model.specs.declared.Field.TheVariants as field
 use Rattle.isa.specs.Machine.{bytes_at}
-use Rattle.replay_model.proofs.Agreement.{first_agrees, kind_by, call_agrees, plain_agrees, exit_agrees, trap_agrees, expects_plain_at_end, expects_plain_before, expects_call, expects_end, agrees_at}
-use Rattle.replay_model.proofs.Track.{moment, IsOnTrack, agrees_with, least_rises, on_track_at}
-use Rattle.replay_model.proofs.Offsets.{steps_within}
+use Rattle.replay_model.proofs.Agreement.{first_agrees, exit_agrees}
 use Rattle.replay_model.proofs.Transfers.{same_arguments}
 use Rattle.flow_meaning.specs.RunLaws.{IsRun, moment_at}
 use Rattle.decision_model.proofs.Answered.{ends_at}
@@ -65,4 +60,3 @@ exits_at log s at code run e =
     let same = (first_agrees (compared field.Event 5 (seen_event (next m.state))) (compared field.Code code (reg m.state 10) ∷ []) d).1 in
     let code_same : pos code ≡ pos (reg m.state 10) = (first_agrees (compared field.Code code (reg m.state 10)) [] same).0 in
     record { call = exits.0; calls = exits.1; is_exit = exits.2; code_is = cc }
-

@@ -1,6 +1,5 @@
-use Rattle.std.proofs.Common.{◌≡◌, ◌+◌, ℕ, ap, sym, ◌∙◌, subst, arith}
-use Rattle.log_model.specs.Logs.{steps}
-use Rattle.replayer.specs.Jobs.{Job, trace_of}
+use Rattle.std.proofs.Common.{◌≡◌, ℕ, ap, sym, ◌∙◌, subst, arith}
+use Rattle.replayer.specs.Jobs.{Job}
 use Rattle.decision_find.specs.Following.{IsTracked, moment_of}
 use Rattle.decision_find.proofs.finding.follow.Goals as goal
 

@@ -1,6 +1,5 @@
-use Rattle.std.proofs.Common.{◌≡◌, ◌+◌, ℕ, ap, ap₂, sym, ◌∙◌, subst}
+use Rattle.std.proofs.Common.{◌≡◌, ◌+◌, ℕ, ap, ap₂, sym, ◌∙◌}
 use Rattle.isa.specs.declared.CallKind.TheVariants.{Other}
-use Rattle.log_model.specs.declared.RunEnd.{RunEnd}
 use Rattle.log_model.specs.declared.RunEnd.TheVariants.{Trap}
 use Rattle.log_model.specs.Logs.{Log, steps, steps_by}
 use Rattle.replayer.specs.Jobs.{Job}

@@ -20,5 +20,5 @@ returns-then-one-eq0 c =
 pub returns : goal.returns
 returns c =
     let made = both_nodes c.args.self.now c.args.left c.args.right c.node_of-one.result c.node_of-other.result c.requires.left c.requires.right
-        c.node_of-one.ensures.means c.node_of-other.ensures.means in
+    c.node_of-one.ensures.means c.node_of-other.ensures.means in
     IfOk-weaker c.unite_nodes.result _ _ (λ label h. made c.unite_nodes.new.self label h) c.unite_nodes.ensures

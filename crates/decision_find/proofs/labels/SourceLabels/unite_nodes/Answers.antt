@@ -1,4 +1,3 @@
-use Rattle.std.proofs.Common.{◌<◌}
 use Rattle.decision_find.specs.declared.labels.SourceLabels.{SourceLabels}
 use Rattle.decision_find.proofs.Nodes.{joined_stands, joined_made}
 use Rattle.decision_find.proofs.labels.SourceLabels.unite_nodes.Goals as goal

@@ -1,6 +1,5 @@
 use Rattle.std.proofs.Common.{refl, ap, ◌∙◌}
 use Rattle.decision_model.specs.Decides.{deciding_rule}
-use Rattle.decision_find.specs.declared.tracking.Tracking.{Tracking}
 use Rattle.decision_find.proofs.Followed.{begun}
 use Rattle.decision_find.proofs.tracking.Tracking.begin.Goals as goal
 

@@ -12,5 +12,5 @@ returns-clause-noted c =
     let operands = decides_fetched c.args.self.now.rule look.kind look.instr in
     on_ok_weaker c.note_all.result
     (λ h. noted_then look operands (fetched_from look.pc) c.args.self.now c.note_operands.new.self c.note_all.new.self c.requires.sound.locations c.in_ok-note_operands.ensures.noted
-        (subst (λ (ls : List Loc). Notes look ls c.note_operands.new.self c.note_all.new.self) c.bytes.ensures h))
+    (subst (λ (ls : List Loc). Notes look ls c.note_operands.new.self c.note_all.new.self) c.bytes.ensures h))
     c.note_all.ensures.noted

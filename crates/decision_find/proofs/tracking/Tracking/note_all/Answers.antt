@@ -1,4 +1,4 @@
-use Rattle.std.proofs.Common.{sym, subst, List, take, ◌++◌, ◌∷◌, []}
+use Rattle.std.proofs.Common.{sym, subst, List}
 use Rattle.std.proofs.lemmas.List.{take_more}
 use Rattle.flow_model.specs.declared.Loc.{Loc}
 use Rattle.flow_model.specs.declared.Loc.TheVariants.{Reg}
