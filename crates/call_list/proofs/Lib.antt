@@ -1,0 +1,4 @@
+mod Examples
+mod Lines
+mod Room
+mod Tiling
