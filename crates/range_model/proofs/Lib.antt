@@ -1,0 +1,5 @@
+pub mod Rows
+pub mod Longest
+mod Counted
+pub mod Texts
+mod Worked
