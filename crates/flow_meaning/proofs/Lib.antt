@@ -1,10 +1,10 @@
-mod Never
+pub mod Never
 mod Lanes
 pub mod Bytes
 pub mod Window
-mod Sets
+pub mod Sets
 mod Targets
-mod Operands
+pub mod Operands
 pub mod Leaves
 mod Table
 mod Products
@@ -14,11 +14,11 @@ pub mod Calls
 pub mod Steps
 mod Single
 mod Nested
-mod Done
+pub mod Done
 mod Transferred
-mod After
-mod Runs
-mod Rows
+pub mod After
+pub mod Runs
+pub mod Rows
 pub mod Beginning
 mod Matters
 mod Worked

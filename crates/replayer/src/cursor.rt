@@ -1,7 +1,11 @@
 //! The steps of a job's run, one by one.
 
-ghost use Rattle.std.specs.Prelude.{◌≡◌, IfOk};
+ghost use Rattle.std.specs.Prelude.{◌≡◌, IfOk, IfSome, MatchOption};
+ghost use Rattle.isa.specs.declared.Instr.{Instr as AnyInstr};
+ghost use Rattle.isa.specs.Encodings.{Fits};
+ghost use Rattle.isa.specs.Machine.{Fetched, fetch};
 ghost use Rattle.replay_model.specs.Run.{start, moment_after};
+ghost use Rattle.replayer.specs.Positions.{state_at};
 ghost use Rattle.replayer.specs.Nexts.{IsNext, IsStepAt, IsPlainAt, IsPlainUntil, seen_at};
 
 use crate::job::Job;
@@ -82,6 +86,16 @@ impl<'a> Cursor<'a> {
         ensures { result ≡ (moment_after self.now.time (start self.now.job.start self.now.job.log)).state.pc }
     {
         self.run.machine().pc()
+    }
+
+    /// The instruction at the pc; None where the four bytes there stand for none, or don't all lie in the window.
+    pub fn fetched(&self) -> Option<Instr>
+        ensures there { MatchOption result
+            ((instr : AnyInstr) → fetch (state_at self.now) ≡ Fetched instr → ⊥)
+            (λ instr. fetch (state_at self.now) ≡ Fetched instr) }
+        ensures fits { IfSome result Fits }
+    {
+        self.run.machine().fetched()
     }
 
     /// The first time from the cursor's on at which the run makes no plain step: it makes a call there, or all its steps are

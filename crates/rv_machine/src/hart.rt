@@ -1,8 +1,10 @@
 //! The machine.
 
-ghost use Rattle.std.specs.Prelude.{◌≡◌, ℕ, ◌+◌, ◌^◌, ◌≤◌, Some, None, Err, IfOk, IfErr, IfSome, IsSome, ◌↔◌, IsTrue, ◌⊎◌, length, true, false};
+ghost use Rattle.std.specs.Prelude.{◌≡◌, ℕ, ◌+◌, ◌^◌, ◌≤◌, Some, None, Err, IfOk, IfErr, IfSome, IsSome, MatchOption, ◌↔◌, IsTrue, ◌⊎◌, length, true, false};
 ghost use Rattle.elf_model.specs.Window.{start_of};
-ghost use Rattle.isa.specs.Machine.{in_window, bytes_at};
+ghost use Rattle.isa.specs.declared.Instr.{Instr as AnyInstr};
+ghost use Rattle.isa.specs.Encodings.{Fits};
+ghost use Rattle.isa.specs.Machine.{in_window, bytes_at, Fetched, fetch};
 ghost use Rattle.isa.specs.Calls.{refusal};
 ghost use Rattle.no_memory.specs.declared.Fault.TheVariants.{At};
 ghost use Rattle.no_memory.specs.Faults.{IsCausedBy};
@@ -12,8 +14,9 @@ use crate::decoded::DecodedWords;
 use crate::state::{Done, HartState, address_of};
 use crate::{MachineFault, Reply, Stepped};
 use elf_image::Image;
-use isa::Call;
+use isa::{Call, Instr};
 use no_memory::NoMemory;
+use rv_decode::decode;
 use std::alloc::Global;
 use std::marker::Model;
 
@@ -166,6 +169,21 @@ impl Machine {
         ensures { result ≡ self.now.state.pc }
     {
         self.state.pc()
+    }
+
+    /// The instruction at the pc, which the next step does; None where the four bytes there stand for none, or don't all
+    /// lie in the window.
+    pub fn fetched(&self) -> Option<Instr>
+        ensures there { MatchOption result
+            ((instr : AnyInstr) → fetch self.now.state ≡ Fetched instr → ⊥)
+            (λ instr. fetch self.now.state ≡ Fetched instr) }
+        ensures fits { IfSome result Fits }
+    {
+        let pc = self.state.pc();
+        if !self.state.in_window(pc, 4) {
+            return None;
+        }
+        decode(self.state.load(pc, 4))
     }
 
     /// The lowest address of the window. The window ends at most at 2^32.

@@ -1,0 +1,6 @@
+pub mod Words
+pub mod Laws
+pub mod Looks
+pub mod Groups
+pub mod Following
+pub mod Lines

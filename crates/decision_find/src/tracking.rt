@@ -1,0 +1,112 @@
+//! The labels that are kept, and the decisions that are counted, while the steps of a run are told one after another.
+
+ghost use Rattle.std.specs.Prelude.{◌≡◌, ◌∷◌, [], IfOk, OnOk};
+ghost use Rattle.flow_model.specs.Ranges.{IsInRange, IsLocation, AreLocations};
+ghost use Rattle.replayer.specs.Jobs.{Job as JobOf};
+ghost use Rattle.decision_find.specs.Looks.{looked_at, HasFitting};
+ghost use Rattle.decision_find.specs.Following.{IsSound, IsTracked, Notes, IsTurned, Follows};
+
+use crate::groups::Groups;
+use crate::labels::SourceLabels;
+use crate::looks::Look;
+use decision_rule::{deciding_rule, decisions_of};
+use flow_model::{Loc, Rule, StepSeen};
+use no_memory::NoMemory;
+use query_lang::Query;
+use std::alloc::Global;
+use taint_shadow::{Places, plain_step};
+
+/// What is known of a run after some of its steps: the label of each location, and the decisions so far.
+#[derive(Drop)]
+pub struct Tracking<'q> {
+    query: &'q Query,
+    rule: Rule,
+    pub(crate) labels: SourceLabels,
+    places: Places,
+    pub(crate) groups: Groups,
+}
+
+impl<'q> Tracking<'q> {
+    /// Before the first step of a run.
+    pub(crate) fn begin(alloc: Global, query: &'q Query) -> Result<Tracking<'q>, NoMemory>
+        ensures { IfOk result (λ t. (job : JobOf) → IsTracked query.now job 0 t) }
+    {
+        Ok(Tracking {
+            query,
+            rule: deciding_rule(query.rule()),
+            labels: SourceLabels::new(alloc),
+            places: Places::new(alloc)?,
+            groups: Groups::new(alloc),
+        })
+    }
+
+    /// Goes on by a step, which is made at this pc.
+    pub(crate) fn step(&mut self, pc: u32, step: &StepSeen) -> Result<(), NoMemory>
+        requires in_range { IsInRange step.now }
+        requires sound { IsSound self.old }
+        ensures sound { OnOk result (IsSound self.new) }
+        ensures followed { OnOk result (Follows pc step.now self.old self.new) }
+    {
+        self.note(&Look::before(pc, step))?;
+        self.turn(step)
+    }
+
+    /// Notes the decisions of a look.
+    pub(crate) fn note(&mut self, look: &Look) -> Result<(), NoMemory>
+        requires fits { HasFitting look.now.instr }
+        requires sound { IsSound self.old }
+        ensures sound { OnOk result (IsSound self.new) }
+        ensures noted { OnOk result (Notes look.now (looked_at self.old.rule look.now) self.old self.new) }
+    {
+        if let Some(instr) = &look.instr {
+            self.note_all(look, decisions_of(self.rule, look.kind, instr).as_slice())?;
+        }
+        self.note_all(look, &look.bytes())
+    }
+
+    /// Notes those of these locations that have a source byte.
+    fn note_all(&mut self, look: &Look, locs: &[Loc]) -> Result<(), NoMemory>
+        requires located { AreLocations locs.now }
+        requires sound { IsSound self.old }
+        ensures sound { OnOk result (IsSound self.new) }
+        ensures noted { OnOk result (Notes look.now locs.now self.old self.new) }
+    {
+        for loc in locs {
+            self.note_one(look, *loc)?;
+        }
+        Ok(())
+    }
+
+    /// Notes a location, if it has a source byte.
+    fn note_one(&mut self, look: &Look, loc: Loc) -> Result<(), NoMemory>
+        requires located { IsLocation loc }
+        requires sound { IsSound self.old }
+        ensures sound { OnOk result (IsSound self.new) }
+        ensures noted { OnOk result (Notes look.now (loc ∷ []) self.old self.new) }
+    {
+        let label = self.places.get(loc);
+        if self.labels.has_source(label) {
+            self.groups.add(&mut self.labels, look, loc, label)?;
+        }
+        Ok(())
+    }
+
+    /// Turns the labels by a step.
+    fn turn(&mut self, step: &StepSeen) -> Result<(), NoMemory>
+        requires in_range { IsInRange step.now }
+        requires sound { IsSound self.old }
+        ensures sound { OnOk result (IsSound self.new) }
+        ensures turned { OnOk result (IsTurned step.now self.old self.new) }
+    {
+        match &step.call {
+            None => plain_step(
+                &mut self.labels,
+                &mut self.places,
+                &step.instr,
+                step.place,
+                self.rule,
+            ),
+            Some(_) => taint_shadow::step(&mut self.labels, &mut self.places, step, self.query),
+        }
+    }
+}

@@ -1,0 +1,84 @@
+//! The text of decisions.
+
+ghost use Rattle.std.specs.Prelude.{◌≡◌, ◌++◌, List, IfOk, OnOk};
+ghost use Rattle.decision_model.specs.Decisions.{Decision};
+ghost use Rattle.decision_model.specs.Text.{mnemonic_text, ranges_text, decisions_text};
+ghost use Rattle.decision_find.specs.Groups.{AreGroups, HaveLabels};
+ghost use Rattle.decision_find.specs.Lines.{group_line};
+
+use crate::groups::Group;
+use crate::tracking::Tracking;
+use decision_model::Place;
+use flow_model::SourceByte;
+use instruction_text::mnemonic;
+use isa::Instr;
+use itoa::Buffer;
+use merge_log::TermsReader;
+use no_memory::NoMemory;
+use printed_names::{push_lines_end, push_location, push_pc};
+use source_ranges::{push_range, split_first_range};
+use std::alloc::Global;
+
+/// The text of the decisions of a run: a line for each place, and `end N`.
+pub(crate) fn text(alloc: Global, tracking: &Tracking) -> Result<Vec<u8>, NoMemory>
+    requires { HaveLabels tracking.now.labels tracking.now.groups }
+    ensures { IfOk result (λ text. (ds : List Decision) → AreGroups tracking.now.labels ds tracking.now.groups
+        → text.items ≡ decisions_text ds) }
+{
+    let mut reader = TermsReader::new(alloc);
+    let mut out = Vec::new(alloc);
+    for (place, group) in &tracking.groups.by_place {
+        tracking.labels.read(group.label, &mut reader)?;
+        push_line(&mut out, *place, group, reader.sources())?;
+    }
+    push_lines_end(&mut out, tracking.groups.by_place.len() as u64)?;
+    Ok(out)
+}
+
+/// Appends the line of a place, whose decisions have these source bytes.
+fn push_line(
+    out: &mut Vec<u8>,
+    place: Place,
+    group: &Group,
+    sources: &[SourceByte],
+) -> Result<(), NoMemory>
+    ensures { OnOk result (out.new.items ≡ out.old.items ++ group_line place group.now sources.now) }
+{
+    let mut buffer = Buffer::new();
+    push_pc(out, place.pc)?;
+    out.push(b' ')?;
+    push_mnemonic(out, &group.instr)?;
+    out.push(b' ')?;
+    push_location(out, place.loc)?;
+    out.push(b' ')?;
+    out.extend_from_slice(buffer.format(group.count).as_bytes())?;
+    out.push(b' ')?;
+    out.extend_from_slice(buffer.format(group.first).as_bytes())?;
+    push_ranges(out, sources)?;
+    out.push(b'\n')?;
+    Ok(())
+}
+
+/// Appends the mnemonic of an instruction; `.word` where there is none.
+fn push_mnemonic(out: &mut Vec<u8>, instr: &Option<Instr>) -> Result<(), NoMemory>
+    ensures { OnOk result (out.new.items ≡ out.old.items ++ mnemonic_text instr.now) }
+{
+    match instr {
+        Some(instr) => out.extend_from_slice(mnemonic(instr).as_bytes())?,
+        None => out.extend_from_slice(b".word")?,
+    }
+    Ok(())
+}
+
+/// Appends the ranges of source bytes, each after a blank.
+fn push_ranges(out: &mut Vec<u8>, sources: &[SourceByte]) -> Result<(), NoMemory>
+    ensures { OnOk result (out.new.items ≡ out.old.items ++ ranges_text sources.now) }
+{
+    let mut left = sources;
+    while let Some((range, rest)) = split_first_range(left) {
+        out.push(b' ')?;
+        push_range(out, range)?;
+        left = rest;
+    }
+    Ok(())
+}

@@ -1,0 +1,4 @@
+pub mod Decides
+pub mod Decisions
+pub mod Places
+pub mod Text

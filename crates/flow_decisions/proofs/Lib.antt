@@ -1,0 +1,12 @@
+mod Windows
+mod Outcomes
+mod Answered
+mod Alike
+mod Listed
+mod Together
+mod Ends
+mod Both
+mod Recordings
+mod Worked
+mod Applied
+mod Needed

@@ -1,0 +1,30 @@
+-- Two recordings of one program, over inputs that differ at some bytes.
+use Rattle.std.specs.Prelude.{◌≡◌, ℕ, Bool, false, List, length, slice_index, All}
+use Rattle.log_model.specs.Logs.{Log, IsBytes}
+use Rattle.flow_model.specs.declared.Rule.TheVariants.{Compute}
+use Rattle.flow_model.specs.declared.SourceByte.{SourceByte}
+use Rattle.report_model.specs.Query.{Query, has_source}
+use Rattle.record_model.specs.Recorded.{Setting, input_of, IsRecorded}
+use Rattle.decision_model.specs.Decides.{deciding_rule}
+use Rattle.decision_model.specs.Text.{deciding_query, decided_by}
+use Rattle.flow_decisions.specs.DecisionLaws.{NoneDiffers, AreAlikeBut}
+
+-- two settings are the same but for bytes of the inputs: the channels have as many bytes
+pub record AreSettingsAlike (differs : SourceByte → Bool) (x y : Setting) : Type 0 where
+  pub program : x.program ≡ y.program
+  pub pages : x.pages ≡ y.pages
+  pub channels : length x.inputs ≡ length y.inputs
+  pub lengths : (c : ℕ) → length (input_of x.inputs c) ≡ length (input_of y.inputs c)
+  pub bytes : (c o : ℕ) → differs (record { channel = c; offset = o }) ≡ false → slice_index (input_of x.inputs c) o ≡ slice_index (input_of y.inputs c) o
+  pub piece : x.piece ≡ y.piece
+  pub steps : x.steps ≡ y.steps
+
+-- a program is recorded twice, and the clock gave the same answers. Where none of the decisions that a query lists of the
+-- first run comes from an input byte that differs, and the query chooses all that differs, the runs are the same but for
+-- the rows that, by the rule of decisions, list such a byte
+abbrev pub RecordingsAreAlike : Type 0
+RecordingsAreAlike = (x y : Setting) (answers : List ℕ) (a b : Log) (differs : SourceByte → Bool) → AreSettingsAlike differs x y → IsBytes x.program
+    → (recorded : IsRecorded x answers a) → IsRecorded y answers b → (q : Query) → deciding_rule q.rule ≡ Compute
+    → ((z : SourceByte) → has_source q z ≡ false → differs z ≡ false)
+    → All (λ d. NoneDiffers differs d.sources) (decided_by q recorded.fits.start a)
+    → AreAlikeBut (deciding_query q) differs recorded.fits.start a b
