@@ -1,4 +1,3 @@
-pub mod Rows
 pub mod Longest
 mod Counted
 pub mod Texts

@@ -1,4 +1,4 @@
--- What the line of a moved run tells. Crates above cite `moved-range`.
+-- What the line of a moved run tells. Crates above cite `one_range`, `next_sink-is` and `next_source-is`.
 use Rattle.std.proofs.Common.{◌≡◌, ℕ, zero, suc, ◌+◌, ◌-◌, ◌<◌, ◌≤◌, ◌==◌, Bool, true, false, ◌&&◌, List, [], ◌∷◌, ◌++◌, length, get_or, take, drop, refl, sym, ap, ap₂, ◌∙◌, arith, eqb-true, append-nil}
 use Rattle.std.specs.Prelude.{if◌then◌else◌}
 use Rattle.std.specs.List.{flat_map, list_all}
@@ -40,20 +40,20 @@ same_slices xs ys a b (suc n) low high each =
 
 -- ---- a row that is the next
 
-next_sink-is : (p q : SinkPoint) → is_next_sink p q ≡ true → ((byte_of p).channel ≡ (byte_of q).channel) × ((byte_of p).offset + 1 ≡ (byte_of q).offset)
+pub next_sink-is : (p q : SinkPoint) → is_next_sink p q ≡ true → ((byte_of p).channel ≡ (byte_of q).channel) × ((byte_of p).offset + 1 ≡ (byte_of q).offset)
 next_sink-is (Out a) (Out b) h =
     let parts = and_parts (a.channel == b.channel) (a.offset + 1 == b.offset) h in
     (eqb-true a.channel b.channel parts.0, eqb-true (a.offset + 1) b.offset parts.1)
 next_sink-is (Out a) (At q) h = cc
 next_sink-is (At p) q h = cc
 
-record IsNext (x : SourceByte) (ys : List SourceByte) : Type 0 where
-  byte : SourceByte
-  alone : ys ≡ byte ∷ []
-  channel : x.channel ≡ byte.channel
-  offset : x.offset + 1 ≡ byte.offset
+pub record IsNext (x : SourceByte) (ys : List SourceByte) : Type 0 where
+  pub byte : SourceByte
+  pub alone : ys ≡ byte ∷ []
+  pub channel : x.channel ≡ byte.channel
+  pub offset : x.offset + 1 ≡ byte.offset
 
-next_source-is : (x : SourceByte) (ys : List SourceByte) → is_next_source (x ∷ []) ys ≡ true → IsNext x ys
+pub next_source-is : (x : SourceByte) (ys : List SourceByte) → is_next_source (x ∷ []) ys ≡ true → IsNext x ys
 next_source-is x [] h = cc
 next_source-is x (y ∷ z ∷ ys) h = cc
 next_source-is x (y ∷ []) h =

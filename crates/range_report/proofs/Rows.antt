@@ -1,27 +1,20 @@
--- Rows of neighbouring output bytes, and which row goes on from them. Crates above cite these lemmas.
-use Rattle.std.proofs.Common.{◌≡◌, ℕ, zero, suc, ◌+◌, ◌==◌, Bool, true, false, ◌&&◌, ◌||◌, List, [], ◌∷◌, ◌++◌, length, refl, sym, ap, ap₂, ◌∙◌, arith}
+-- Rows of neighbouring output bytes, and which row goes on from them.
+use Rattle.std.proofs.Common.{◌≡◌, ℕ, zero, suc, ◌+◌, ◌≤◌, ◌==◌, Bool, true, false, ◌&&◌, ◌||◌, List, [], ◌∷◌, ◌++◌, length, refl, sym, ap, ap₂, ◌∙◌, arith, append-nil, not}
+use Rattle.std.specs.Prelude.{if◌then◌else◌}
 use Rattle.std.specs.List.{flat_map, list_all}
+use Rattle.std.specs.Cmp.Lexicographic.{pointwise}
 use Rattle.std.proofs.lemmas.Bool.{and_right}
 use Rattle.std.proofs.lemmas.Bool.Decides.{nat_tests}
 use Rattle.flow_model.specs.declared.SourceByte.{SourceByte}
 use Rattle.flow_model.specs.declared.SinkPoint.TheVariants.{Out}
+use Rattle.flow_model.specs.contracts.SourceBytePartialEq.TheImpl as test
 use Rattle.report_model.specs.Rows.{Row}
+use Rattle.sink_collect.proofs.Alike.{same_sources as equal_sources}
 use Rattle.source_ranges.specs.Ranges.{byte_on}
 use Rattle.source_ranges.proofs.Longest.{bytes_from}
+use Rattle.range_report.specs.OpenRuns.{row_of, moved_rows, shared_rows}
+use Rattle.range_model.specs.Text.{sources_of}
 use Rattle.range_model.specs.Runs.{is_next_sink, is_next_source, same_sources, go_on, has_one, is_moved, is_shared, is_run}
-
-abbrev pub row_of : ℕ → ℕ → List SourceByte → Row
-row_of c o bs = record { sink = Out (record { channel = c; offset = o }); sources = bs }
-
--- n output bytes of channel c from offset o on, each from the same source bytes, or from one byte of channel d from offset
--- e on
-abbrev pub shared_rows : ℕ → ℕ → List SourceByte → ℕ → List Row
-shared_rows c o bs zero = []
-shared_rows c o bs (suc n) = row_of c o bs ∷ shared_rows c (o + 1) bs n
-
-abbrev pub moved_rows : ℕ → ℕ → ℕ → ℕ → ℕ → List Row
-moved_rows c o d e zero = []
-moved_rows c o d e (suc n) = row_of c o (byte_on d e ∷ []) ∷ moved_rows c (o + 1) d (e + 1) n
 
 -- ---- tests
 
@@ -219,3 +212,60 @@ length-moved c o d e (suc n) = ap suc (length-moved c (o + 1) d (e + 1) n)
 pub length-shared : (c o : ℕ) (bs : List SourceByte) (n : ℕ) → length (shared_rows c o bs n) ≡ n
 length-shared c o bs zero = refl
 length-shared c o bs (suc n) = ap suc (length-shared c (o + 1) bs n)
+
+-- ---- the tests of runs in short
+
+pub shared-test : (c o : ℕ) (bs : List SourceByte) (n t : ℕ) (r : Row) → 1 ≤ t → t + 1 ≡ n
+    → is_run (shared_rows c o bs n ++ r ∷ [])
+    ≡ (is_next_sink (Out (record { channel = c; offset = o + t })) r.sink && same_sources bs r.sources)
+shared-test c o bs n zero r low e = absurd (omega arith)
+shared-test c o bs n (suc m) r low e =
+    let count : n ≡ suc (suc m) = omega (arith, e) in
+    ap (λ (k : ℕ). is_run (shared_rows c o bs k ++ r ∷ [])) count ∙ shared-is_run c o bs m r
+
+pub moved-test : (c o d e n t : ℕ) (r : Row) → 1 ≤ t → t + 1 ≡ n
+    → is_run (moved_rows c o d e n ++ r ∷ [])
+    ≡ (is_next_sink (Out (record { channel = c; offset = o + t })) r.sink && is_next_source (byte_on d (e + t) ∷ []) r.sources)
+moved-test c o d e n zero r low h = absurd (omega arith)
+moved-test c o d e n (suc m) r low h =
+    let count : n ≡ suc (suc m) = omega (arith, h) in
+    ap (λ (k : ℕ). is_run (moved_rows c o d e k ++ r ∷ [])) count ∙ moved-is_run c o d e m r
+
+-- rows that share their sources aren't moved, and have the sources of the first
+pub shared-origin : (c o : ℕ) (bs : List SourceByte) (n : ℕ) → 2 ≤ n
+    → (is_moved (shared_rows c o bs n) ≡ false) × (sources_of (shared_rows c o bs n) ≡ bs)
+shared-origin c o bs zero low = absurd (omega arith)
+shared-origin c o bs (suc zero) low = absurd (omega arith)
+shared-origin c o bs (suc (suc n)) low =
+    let rs = shared_rows c o bs (suc (suc n)) in
+    let moved : is_moved rs ≡ false = ap is_moved (sym (append-nil rs)) ∙ shared-not_moved c o bs n [] in
+    (moved, ap (λ (b : Bool). if b then flat_map (λ (r : Row). r.sources) rs else bs) moved)
+
+-- ---- the derived test of source bytes
+
+abbrev pub alike : SourceByte → SourceByte → Bool
+alike = test.eq-value.it
+
+pub alike-same : (xs ys : List SourceByte) → pointwise alike xs ys ≡ same_sources xs ys
+alike-same [] [] = refl
+alike-same [] (y ∷ ys) = refl
+alike-same (x ∷ xs) [] = refl
+alike-same (x ∷ xs) (y ∷ ys) = ap (λ (b : Bool). (alike x y) && b) (alike-same xs ys)
+
+pub same-sources : (xs ys : List SourceByte) → same_sources xs ys ≡ true → xs ≡ ys
+same-sources xs ys h = equal_sources xs ys (alike-same xs ys ∙ h)
+
+-- what the derived test answers of two lists that differ, or don't
+not_true : (b : Bool) → not b ≡ true → b ≡ false
+not_true true h = sym h
+not_true false h = refl
+
+not_false : (b : Bool) → not b ≡ false → b ≡ true
+not_false true h = refl
+not_false false h = sym h
+
+pub differ : (xs ys : List SourceByte) (r : Bool) → r ≡ not (pointwise alike xs ys) → r ≡ true → same_sources xs ys ≡ false
+differ xs ys r is h = sym (alike-same xs ys) ∙ not_true (pointwise alike xs ys) (sym is ∙ h)
+
+pub agree : (xs ys : List SourceByte) (r : Bool) → r ≡ not (pointwise alike xs ys) → r ≡ false → same_sources xs ys ≡ true
+agree xs ys r is h = sym (alike-same xs ys) ∙ not_false (pointwise alike xs ys) (sym is ∙ h)
