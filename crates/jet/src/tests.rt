@@ -9,6 +9,7 @@ mod gates;
 mod guests;
 mod influence;
 mod outside;
+mod path;
 mod points;
 mod queries;
 mod record;

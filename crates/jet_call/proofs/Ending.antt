@@ -5,7 +5,7 @@ use Rattle.outer_io.specs.Faults.{Rose}
 use Rattle.outer_io.specs.Tells.{Tells, Gains}
 use Rattle.outer_io.specs.Files.{Files}
 use Rattle.outer_io.proofs.TellsLemmas.{tells-map}
-use Rattle.jet_words.specs.Commands.{CommandOf, QueryOf, RecordOf, ReplayOf, OutputOf, ConvertOf, InfluenceOf, QueriesOf, BenchOf}
+use Rattle.jet_words.specs.Commands.{CommandOf, AnalysisOf, ProductOf, RecordOf, ConvertOf, QueriesOf, BenchOf}
 use Rattle.jet_refusal.specs.declared.refusal.Refusal.{Refusal}
 use Rattle.jet_refusal.specs.declared.refusal.Refusal.TheVariants as refusal
 use Rattle.jet_refusal.specs.Refusals.{status_of, line_of}
@@ -13,14 +13,11 @@ use Rattle.jet_refusal.specs.Causes.{Causes, IsOwedTo}
 use Rattle.jet_refusal.proofs.Causes.{IsOwedTo-map}
 use Rattle.jet_model.specs.Contents.{Contents}
 use Rattle.jet_model.specs.Answer.{IsRecordAnswer}
-use Rattle.jet_model.specs.Report.{report_of, influence_of}
-use Rattle.jet_model.proofs.Headline.{answer-is_given, given-is_answer, reports-are_given, given-are_reports, log_answer-is_given, given-is_log_answer, convert-is_given, given-is_convert, record_answer-is_recording, recording-is_record_answer, one_record_answer}
+use Rattle.jet_model.proofs.Headline.{answer-is_given, given-is_answer, reports-are_given, given-are_reports, run_answer-is_given, given-is_run_answer, convert-is_given, given-is_convert, record_answer-is_recording, recording-is_record_answer, one_record_answer}
 use Rattle.workload_model.proofs.Outcomes.{one_answer as one_bench_answer, answer-is_lines, lines-are_answer}
-use Rattle.run_output.specs.Summary.{summary_text}
-use Rattle.run_output.specs.Output.{output}
 use Rattle.jet_files.specs.Outcome.{Found}
 use Rattle.jet_cli.specs.Targets.{Target, ToOutput, ToFile, target_of}
-use Rattle.jet_cli.specs.Answers.{IsAnswer, named, limits_of, workload_length}
+use Rattle.jet_cli.specs.Answers.{IsAnswer, given_by, made_by, named, limits_of, workload_length}
 use Rattle.jet_cli.specs.Outside.{Change, Told, IsUndisturbed}
 use Rattle.jet_cli.specs.Writing.{FailsToWrite}
 use Rattle.jet_cli.specs.Ending.{IsText, WritesWhole, WritesPart, Ends, IsUnasked, causes_of, status_after}
@@ -40,37 +37,31 @@ module _ (change : Change) (file : Contents) where
   Answers command = IsAnswer command change.before.heard change.after.heard file
 
   one_answer : (command : CommandOf) (a b : Result (List ℕ) Refusal) → IsHeard command change → Answers command a → Answers command b → a ≡ b
-  one_answer (QueryOf program log query pipeline) a b told p q = sym p ∙ q
+  one_answer (AnalysisOf listing program log query pipeline) a b told p q = sym p ∙ q
   one_answer (RecordOf program log inputs pages piece steps) a b told p q =
       let limits = limits_of pages piece steps in
       one_record_answer file program inputs limits q.answers a b
       (subst (λ (xs : List ℕ). IsRecordAnswer file program inputs limits xs a) (same_gain change.before.heard change.after.heard p.answers q.answers told p.gained q.gained) p.holds) q.holds
-  one_answer (ReplayOf program log) a b told p q = sym p ∙ q
-  one_answer (OutputOf program log channel) a b told p q = sym p ∙ q
+  one_answer (ProductOf product program log) a b told p q = sym p ∙ q
   one_answer (ConvertOf program log new) a b told p q = sym p ∙ q
-  one_answer (InfluenceOf program log query pipeline) a b told p q = sym p ∙ q
   one_answer (QueriesOf program log queries pipeline) a b told p q = sym p ∙ q
   one_answer (BenchOf seed steps pipeline) a b told p q = one_bench_answer seed steps (workload_length pipeline) a b p q
 
   wanted : (command : CommandOf) (text : List ℕ) → Answers command (Ok text) → IsWanted command change file text
-  wanted (QueryOf program log query pipeline) text h = answer-is_given report_of pipeline.epoch file (named program log query) text h
+  wanted (AnalysisOf listing program log query pipeline) text h = answer-is_given (given_by listing) pipeline.epoch file (named program log query) text h
   wanted (RecordOf program log inputs pages piece steps) text h =
       record { answers = h.answers; gained = h.gained; holds = record_answer-is_recording file program inputs (limits_of pages piece steps) h.answers text h.holds }
-  wanted (ReplayOf program log) text h = log_answer-is_given file program log summary_text text h
-  wanted (OutputOf program log channel) text h = log_answer-is_given file program log (output channel) text h
+  wanted (ProductOf product program log) text h = run_answer-is_given file program log (made_by product) text h
   wanted (ConvertOf program log new) text h = convert-is_given file program log text h
-  wanted (InfluenceOf program log query pipeline) text h = answer-is_given influence_of pipeline.epoch file (named program log query) text h
   wanted (QueriesOf program log queries pipeline) text h = reports-are_given pipeline.epoch file program log queries text h
   wanted (BenchOf seed steps pipeline) text h = answer-is_lines seed steps (workload_length pipeline) text h
 
   answered : (command : CommandOf) (text : List ℕ) (is : IsWanted command change file text) → AreWithinLimits command change file text is → Answers command (Ok text)
-  answered (QueryOf program log query pipeline) text h within = given-is_answer report_of pipeline.epoch file (named program log query) text within.0 h within.1
+  answered (AnalysisOf listing program log query pipeline) text h within = given-is_answer (given_by listing) pipeline.epoch file (named program log query) text within.0 h within.1
   answered (RecordOf program log inputs pages piece steps) text h within =
       record { answers = h.answers; gained = h.gained; holds = recording-is_record_answer file program inputs (limits_of pages piece steps) h.answers text within.0 within.1 within.2 h.holds }
-  answered (ReplayOf program log) text h within = given-is_log_answer file program log summary_text text within.0 within.1 h
-  answered (OutputOf program log channel) text h within = given-is_log_answer file program log (output channel) text within.0 within.1 h
+  answered (ProductOf product program log) text h within = given-is_run_answer file program log (made_by product) text within.0 within.1 h
   answered (ConvertOf program log new) text h within = given-is_convert file program log text within.0 within.1 within.2 h.given
-  answered (InfluenceOf program log query pipeline) text h within = given-is_answer influence_of pipeline.epoch file (named program log query) text within.0 h within.1
   answered (QueriesOf program log queries pipeline) text h within = given-are_reports pipeline.epoch file program log queries text within.0 within.1 within.2 h within.3
   answered (BenchOf seed steps pipeline) text h within = lines-are_answer seed steps (workload_length pipeline) text h within.0 within.1
 

@@ -2,18 +2,16 @@
 -- clock show before the call and after it.
 use Rattle.std.specs.Prelude.{◌≡◌, ◌⊎◌, ◌≤◌, ◌^◌, ℕ, List, length, not, Option, Some, None, IsSome, Result, Ok}
 use Rattle.outer_io.specs.Files.{Files}
-use Rattle.jet_words.specs.Commands.{CommandOf, QueryOf, RecordOf, ReplayOf, OutputOf, ConvertOf, InfluenceOf, QueriesOf, BenchOf}
+use Rattle.jet_words.specs.Commands.{CommandOf, AnalysisOf, ProductOf, RecordOf, ConvertOf, QueriesOf, BenchOf}
 use Rattle.log_model.specs.declared.Version.TheVariants.{Two}
 use Rattle.log_model.specs.Logs.{log_text}
 use Rattle.jet_refusal.specs.declared.refusal.Refusal.{Refusal}
 use Rattle.jet_refusal.specs.Refusals.{status_of, line_of}
 use Rattle.jet_refusal.specs.Causes.{IsOwedTo}
 use Rattle.jet_model.specs.Contents.{Contents}
-use Rattle.jet_model.specs.Headline.{IsReportOf, IsInfluenceOf, AreReportsOf, IsGivenBy, IsConversionOf, IsRecordingOf, IsShort, AreShort, AreAllShort, HasFewEpochs, HasFewIfTold}
+use Rattle.jet_model.specs.Headline.{IsGivenByQuery, AreReportsOf, IsGivenBy, IsConversionOf, IsRecordingOf, IsShort, AreShort, AreAllShort, HasFewEpochs, HasFewIfTold}
 use Rattle.workload_model.specs.Answer.{IsBenchOf}
-use Rattle.run_output.specs.Summary.{summary_text}
-use Rattle.run_output.specs.Output.{output}
-use Rattle.jet_cli.specs.Answers.{IsAnswer, Hears, named, limits_of, workload_length}
+use Rattle.jet_cli.specs.Answers.{IsAnswer, Hears, given_by, made_by, named, limits_of, workload_length}
 use Rattle.jet_cli.specs.Targets.{Unless, plan_of}
 use Rattle.jet_cli.specs.Outside.{Change, Told, IsUndisturbed}
 use Rattle.jet_cli.specs.Ending.{WritesWhole, WritesPart, IsUnasked, causes_of, status_after}
@@ -24,16 +22,15 @@ IsStatus status = (status ≡ 0) ⊎ ((2 ≤ status) × (status ≤ 11))
 
 -- ---- 0: the text that the words want was written whole
 
--- the text is the report of a query; the log of a run, by the clock's answers; the numbers of a run; what a run wrote on a
--- channel; a log in version 2; an influence; the reports of several queries; or the numbers of the workload's run
+-- the text is what a query gives of a run, as its report; what is made of a run, as its numbers; the log of a run, by the clock's
+-- answers; a log in version 2; the reports of several queries; or the numbers of the workload's run
 abbrev pub IsWanted : CommandOf → Change → Contents → List ℕ → Type 0
-IsWanted (QueryOf program log query pipeline) change file text = IsReportOf file (named program log query) text
+IsWanted (AnalysisOf listing program log query pipeline) change file text =
+    IsGivenByQuery (given_by listing) file (named program log query) text
+IsWanted (ProductOf product program log) change file text = IsGivenBy file program log (made_by product) text
 IsWanted (RecordOf program log inputs pages piece steps) change file text =
     Hears change.before.heard change.after.heard (λ answers. IsRecordingOf file program inputs (limits_of pages piece steps) answers text)
-IsWanted (ReplayOf program log) change file text = IsGivenBy file program log summary_text text
-IsWanted (OutputOf program log channel) change file text = IsGivenBy file program log (output channel) text
 IsWanted (ConvertOf program log new) change file text = IsConversionOf file program log text
-IsWanted (InfluenceOf program log query pipeline) change file text = IsInfluenceOf file (named program log query) text
 IsWanted (QueriesOf program log queries pipeline) change file text = AreReportsOf file program log queries text
 IsWanted (BenchOf seed steps pipeline) change file text = IsBenchOf seed steps (workload_length pipeline) text
 
@@ -73,16 +70,13 @@ IsDecided status (Some command) change = (u : IsUndisturbed change) → IsHeard 
 -- has at most 4096 epochs of the length that the words tell, if they tell one
 abbrev pub AreWithinLimits : (command : CommandOf) (change : Change) (file : Contents) (text : List ℕ)
     → IsWanted command change file text → Type 0
-AreWithinLimits (QueryOf program log query pipeline) change file text is =
+AreWithinLimits (AnalysisOf listing program log query pipeline) change file text is =
     AreShort file (named program log query) × HasFewIfTold pipeline.epoch is.log
+AreWithinLimits (ProductOf product program log) change file text is = IsShort (file program) × IsShort (file log)
 AreWithinLimits (RecordOf program log inputs pages piece steps) change file text is =
     IsShort (file program) × AreAllShort file inputs × (length text ≤ 2 ^ 26)
-AreWithinLimits (ReplayOf program log) change file text is = IsShort (file program) × IsShort (file log)
-AreWithinLimits (OutputOf program log channel) change file text is = IsShort (file program) × IsShort (file log)
 AreWithinLimits (ConvertOf program log new) change file text is =
     IsShort (file program) × IsShort (file log) × (length text ≤ 2 ^ 26)
-AreWithinLimits (InfluenceOf program log query pipeline) change file text is =
-    AreShort file (named program log query) × HasFewIfTold pipeline.epoch is.log
 AreWithinLimits (QueriesOf program log queries pipeline) change file text is =
     IsShort (file program) × IsShort (file log) × AreAllShort file queries × HasFewIfTold pipeline.epoch is.log
 AreWithinLimits (BenchOf seed steps pipeline) change file text is =

@@ -3,6 +3,7 @@ use Rattle.std.proofs.Common.{◌≡◌, ◌∙◌, ap, ap₂, sym, refl, ℕ, �
 use Rattle.std.specs.Prelude.{codes, if◌then◌else◌}
 use Rattle.std.specs.List.{filter}
 use Rattle.std.specs.Fmt.{decimal}
+use Rattle.isa.specs.Machine.{State}
 use Rattle.log_model.specs.Logs.{Log}
 use Rattle.outer_io.specs.Faults.{Rose}
 use Rattle.outer_io.specs.Tells.{Tells}
@@ -28,14 +29,16 @@ use Rattle.jet_refusal.specs.declared.refusal.Refusal.{Refusal}
 use Rattle.jet_refusal.proofs.Causes.{IsOwedTo-map}
 use Rattle.jet_model.specs.Outcomes.{and_then}
 use Rattle.jet_model.specs.Contents.{Contents, Run, run_at}
-use Rattle.jet_model.specs.Report.{reports_from, reports_of}
-use Rattle.jet_model.specs.Answer.{fitting_start, told_check, cut_answer, traced_answer, unless_other_rule, rules_check, text_answer, limited_text}
+use Rattle.jet_model.specs.Report.{over_trace, reports_from, reports_of}
+use Rattle.jet_model.specs.Answer.{fitting_start, told_check, cut_answer, analysed_answer, unless_other_rule, rules_check, text_answer, limited_text}
 use Rattle.jet_model.proofs.AndThen.{and_then-ok, and_then-err}
 use Rattle.jet_files.specs.Outcome.{AskAlike, IsKeptFor, Comes, Found, Follows, IsWork, by_reading}
 use Rattle.jet_files.proofs.Composing.{comes-then, follows-stops}
-use Rattle.jet_cli.specs.declared.work.Listing.{Listing}
-use Rattle.jet_cli.specs.declared.work.Listing.TheVariants.{BySink, BySource}
-use Rattle.jet_cli.specs.Answers.{IsWorkOf, fits_and_is_cut, given_by, IsGivenAlike, AreGivenAlike}
+use Rattle.jet_words.specs.declared.command.Listing.{Listing}
+use Rattle.jet_words.specs.declared.command.Listing.TheVariants.{BySink, BySource, ByPath}
+use Rattle.jet_cli.specs.Answers.{IsWorkOf, fits_and_is_cut, conversion_of, given_by, IsGivenAlike, AreGivenAlike}
+use Rattle.path_model.specs.Answer.{first_pair}
+use Rattle.path_find.specs.Answer.{pair_report, path_report}
 use Rattle.jet_cli.proofs.Fitting.{fitting_start-ok}
 
 -- the first calls gave a value, and what the work on it says is that of all
@@ -93,13 +96,13 @@ cutting-stops told run job r checked =
     IsOwedTo-map (by_reading (told_check told run.log ≡ Err r) ⊥) (by_reading (fits_and_is_cut told run ≡ Err r) ⊥) (λ p. p)
     (λ e. and_then-ok (fitting_start run.program run.log) (λ start. told_check told run.log) job.start (fitting run job checked) ∙ e) (λ p. p) (λ p. p) r
 
--- a text over the trace
-traced-gives : (told : Option ℕ) (run : Run) (given : List StepSeen → List ℕ) (job : Job) (text : List ℕ) → IsChecked run.program.bytes run.program.image run.log job → told_check told run.log ≡ Ok tt
-    → text ≡ given (trace_of job) → traced_answer told run given ≡ Ok text
-traced-gives told run given job text checked few is =
+-- a text that is made of the run
+analysed-gives : (told : Option ℕ) (run : Run) (given : State → Log → List ℕ) (job : Job) (text : List ℕ) → IsChecked run.program.bytes run.program.image run.log job → told_check told run.log ≡ Ok tt
+    → text ≡ given job.start job.log → analysed_answer told run given ≡ Ok text
+analysed-gives told run given job text checked few is =
     and_then-ok (fitting_start run.program run.log) (λ start. cut_answer told start run.log given) job.start (fitting run job checked)
-    ∙ and_then-ok (told_check told run.log) (λ few. Ok (given (trace job.start run.log))) tt few
-    ∙ ap (λ (l : Log). Ok (given (trace job.start l))) (sym checked.same_log) ∙ ap Ok (sym is)
+    ∙ and_then-ok (told_check told run.log) (λ few. Ok (given job.start run.log)) tt few
+    ∙ ap (λ (l : Log). Ok (given job.start l)) (sym checked.same_log) ∙ ap Ok (sym is)
 
 both_stop : {A B : Type 0} (fits : Result A Refusal) (check : Result (Unit {0}) Refusal) (next : A → B) (r : Refusal) → and_then fits (λ x. check) ≡ Err r
     → and_then fits (λ x. and_then check (λ few. Ok (next x))) ≡ Err r
@@ -107,30 +110,36 @@ both_stop (Ok x) (Ok few) next r e = cc
 both_stop (Ok x) (Err s) next r e = cc
 both_stop (Err s) check next r e = cc
 
-traced-stops : (told : Option ℕ) (run : Run) (given : List StepSeen → List ℕ) (r : Refusal) → fits_and_is_cut told run ≡ Err r → traced_answer told run given ≡ Err r
-traced-stops told run given r = both_stop (fitting_start run.program run.log) (told_check told run.log) (λ start. given (trace start run.log)) r
+analysed-stops : (told : Option ℕ) (run : Run) (given : State → Log → List ℕ) (r : Refusal) → fits_and_is_cut told run ≡ Err r → analysed_answer told run given ≡ Err r
+analysed-stops told run given r = both_stop (fitting_start run.program run.log) (told_check told run.log) (λ start. given start run.log) r
 
 -- ---- the listing of a query
 
 same_sources : (q p : Query) (steps : List StepSeen) → Alike q p → chosen_sources q steps ≡ chosen_sources p steps
 same_sources q p steps a = λ i. set_of source_cmp (filter (λ b. a.sources b.channel b.offset i) (sources_of steps))
 
-pub same_listing : (listing : Listing) (q p : Query) (steps : List StepSeen) → Alike q p → given_by listing q steps ≡ given_by listing p steps
-same_listing BySink q p steps a = ap report_text (same_rows q p steps a)
-same_listing BySource q p steps a = ap₂ (λ (rs : List Row) (bs : List SourceByte). influence_text (turned rs bs)) (same_rows q p steps a) (same_sources q p steps a)
+same_path : (q p : Query) (start : State) (log : Log) → Alike q p → path_report start log q ≡ path_report start log p
+same_path q p start log a =
+    ap₂ (λ (rule : Rule) (rs : List Row). pair_report (record { start = start; log = log }) rule (first_pair rs)) a.rule (same_rows q p (trace start log) a)
+
+same_listing : (listing : Listing) (q p : Query) (start : State) (log : Log) → Alike q p → given_by listing q start log ≡ given_by listing p start log
+same_listing BySink q p start log a = ap report_text (same_rows q p (trace start log) a)
+same_listing BySource q p start log a =
+    ap₂ (λ (rs : List Row) (bs : List SourceByte). influence_text (turned rs bs)) (same_rows q p (trace start log) a) (same_sources q p (trace start log) a)
+same_listing ByPath q p start log a = same_path q p start log a
 
 -- a log that doesn't fit, or too many epochs
 pub listing-stops : (listing : Listing) (told : Option ℕ) (run : Run) (kept : Query) (r : Refusal) → IsWork (fits_and_is_cut told run) (Err r)
     → IsWorkOf (IsGivenAlike listing told run kept) (Err r)
 listing-stops listing told run kept r =
     IsOwedTo-map (by_reading (fits_and_is_cut told run ≡ Err r) ⊥) (by_reading (IsGivenAlike listing told run kept (Err r)) ⊥) (λ p. p)
-    (λ e q alike. traced-stops told run (given_by listing q) r e) (λ p. p) (λ p. p) r
+    (λ e q alike. analysed-stops told run (given_by listing q) r e) (λ p. p) (λ p. p) r
 
 -- what one query gives is what every query gives that asks alike
 pub listing-gives : (listing : Listing) (told : Option ℕ) (run : Run) (kept : Query) (job : Job) (text : List ℕ) → IsChecked run.program.bytes run.program.image run.log job → told_check told run.log ≡ Ok tt
-    → text ≡ given_by listing kept (trace_of job) → IsGivenAlike listing told run kept (Ok text)
+    → text ≡ given_by listing kept job.start job.log → IsGivenAlike listing told run kept (Ok text)
 listing-gives listing told run kept job text checked few is q alike =
-    traced-gives told run (given_by listing q) job text checked few (is ∙ same_listing listing kept q (trace_of job) alike)
+    analysed-gives told run (given_by listing q) job text checked few (is ∙ same_listing listing kept q job.start job.log alike)
 
 -- ---- several queries
 
@@ -161,7 +170,7 @@ same_reports n (k ∷ ks) (q ∷ qs) steps h =
 pub rules-stop : (told : Option ℕ) (run : Run) (kept : List Query) (r : Refusal) → IsWork (rules_check kept) (Err r) → IsWorkOf (AreGivenAlike told run kept) (Err r)
 rules-stop told run kept r =
     IsOwedTo-map (by_reading (rules_check kept ≡ Err r) ⊥) (by_reading (AreGivenAlike told run kept (Err r)) ⊥) (λ p. p)
-    (λ e qs alike. and_then-err (rules_check qs) (λ same. traced_answer told run (reports_of qs)) r (sym (same_check kept qs alike) ∙ e)) (λ p. p) (λ p. p) r
+    (λ e qs alike. and_then-err (rules_check qs) (λ same. analysed_answer told run (over_trace (reports_of qs))) r (sym (same_check kept qs alike) ∙ e)) (λ p. p) (λ p. p) r
 
 one_rule-check : (kept qs : List Query) → AskAlike kept qs → first_other_rule kept ≡ None → rules_check qs ≡ Ok tt
 one_rule-check kept qs alike e = sym (same_check kept qs alike) ∙ ap unless_other_rule e
@@ -171,25 +180,25 @@ pub reports-stop : (told : Option ℕ) (run : Run) (kept : List Query) (r : Refu
     → IsWorkOf (AreGivenAlike told run kept) (Err r)
 reports-stop told run kept r one =
     IsOwedTo-map (by_reading (fits_and_is_cut told run ≡ Err r) ⊥) (by_reading (AreGivenAlike told run kept (Err r)) ⊥) (λ p. p)
-    (λ e qs alike. and_then-ok (rules_check qs) (λ same. traced_answer told run (reports_of qs)) tt (one_rule-check kept qs alike one) ∙ traced-stops told run (reports_of qs) r e) (λ p. p) (λ p. p) r
+    (λ e qs alike. and_then-ok (rules_check qs) (λ same. analysed_answer told run (over_trace (reports_of qs))) tt (one_rule-check kept qs alike one) ∙ analysed-stops told run (over_trace (reports_of qs)) r e) (λ p. p) (λ p. p) r
 
 pub reports-give : (told : Option ℕ) (run : Run) (kept : List Query) (job : Job) (text : List ℕ) → first_other_rule kept ≡ None → IsChecked run.program.bytes run.program.image run.log job
     → told_check told run.log ≡ Ok tt → text ≡ reports_of kept (trace_of job) → AreGivenAlike told run kept (Ok text)
 reports-give told run kept job text one checked few is qs alike =
-    and_then-ok (rules_check qs) (λ same. traced_answer told run (reports_of qs)) tt (one_rule-check kept qs alike one)
-    ∙ traced-gives told run (reports_of qs) job text checked few (is ∙ same_reports 1 kept qs (trace_of job) alike)
+    and_then-ok (rules_check qs) (λ same. analysed_answer told run (over_trace (reports_of qs))) tt (one_rule-check kept qs alike one)
+    ∙ analysed-gives told run (over_trace (reports_of qs)) job text checked few (is ∙ same_reports 1 kept qs (trace_of job) alike)
 
--- ---- a text that the log gives
+-- ---- a text that is made of a run without a query
 
-pub text-gives : (run : Run) (given : Log → List ℕ) (job : Job) (text : List ℕ) → IsChecked run.program.bytes run.program.image run.log job
-    → text ≡ given job.log → text_answer run given ≡ Ok text
+pub text-gives : (run : Run) (given : State → Log → List ℕ) (job : Job) (text : List ℕ) → IsChecked run.program.bytes run.program.image run.log job
+    → text ≡ given job.start job.log → text_answer run given ≡ Ok text
 text-gives run given job text checked e =
-    and_then-ok (fitting_start run.program run.log) (λ start. Ok (given run.log)) job.start (fitting run job checked)
-    ∙ ap Ok (sym (e ∙ ap given checked.same_log))
+    and_then-ok (fitting_start run.program run.log) (λ start. Ok (given start run.log)) job.start (fitting run job checked)
+    ∙ ap Ok (sym (e ∙ ap (given job.start) checked.same_log))
 
 -- the log in version 2, or that it is too long
 pub conversion-gives : (run : Run) (job : Job) (answer : Result (List ℕ) Refusal) → IsChecked run.program.bytes run.program.image run.log job
-    → limited_text job.log ≡ answer → and_then (fitting_start run.program run.log) (λ start. limited_text run.log) ≡ answer
+    → limited_text job.log ≡ answer → conversion_of run ≡ answer
 conversion-gives run job answer checked e =
     and_then-ok (fitting_start run.program run.log) (λ start. limited_text run.log) job.start (fitting run job checked)
     ∙ ap limited_text (sym checked.same_log) ∙ e

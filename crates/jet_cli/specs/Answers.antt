@@ -3,24 +3,27 @@ use Rattle.std.specs.Prelude.{◌≡◌, ℕ, List, [], ◌∷◌, ◌++◌, cod
 use Rattle.std.specs.Fmt.{decimal}
 use Rattle.outer_io.specs.Files.{Text}
 use Rattle.outer_io.specs.Tells.{Tells, Gains}
-use Rattle.jet_words.specs.Commands.{CommandOf, QueryOf, RecordOf, ReplayOf, OutputOf, ConvertOf, InfluenceOf, QueriesOf, BenchOf}
+use Rattle.isa.specs.Machine.{State}
+use Rattle.log_model.specs.Logs.{Log}
+use Rattle.jet_words.specs.Commands.{CommandOf, AnalysisOf, ProductOf, RecordOf, ConvertOf, QueriesOf, BenchOf}
+use Rattle.jet_words.specs.declared.command.Listing.{Listing}
+use Rattle.jet_words.specs.declared.command.Listing.TheVariants.{BySink, BySource, ByPath}
+use Rattle.jet_words.specs.declared.command.Product.{Product}
+use Rattle.jet_words.specs.declared.command.Product.TheVariants.{Numbers, Output}
 use Rattle.jet_words.specs.declared.command.Pipeline.{Pipeline}
 use Rattle.jet_refusal.specs.declared.refusal.Refusal.{Refusal}
-use Rattle.flow_model.specs.declared.StepSeen.{StepSeen}
 use Rattle.report_model.specs.Query.{Query, Alike}
 use Rattle.report_model.specs.Rows.{Row}
 use Rattle.report_model.specs.Text.{report_text}
 use Rattle.report_model.specs.Together.{only, together, first_other_rule}
+use Rattle.replay_model.specs.Run.{trace}
 use Rattle.jet_model.specs.Outcomes.{and_then}
 use Rattle.jet_model.specs.Contents.{Contents, Names, Run}
-use Rattle.jet_model.specs.Report.{report_of, influence_of, reports_of}
-use Rattle.jet_model.specs.Answer.{Limits, Source, IsCaptureAnswer, IsRecordAnswer, traced_answer, query_answer, rules_check, queries_answer, fitting_start, told_check, limited_text, text_answer, log_answer, convert_answer}
+use Rattle.jet_model.specs.Report.{over_trace, report_of, influence_of, reports_of}
+use Rattle.path_find.specs.Answer.{path_report}
+use Rattle.jet_model.specs.Answer.{Limits, Source, IsCaptureAnswer, IsRecordAnswer, analysed_answer, query_answer, rules_check, queries_answer, fitting_start, told_check, limited_text, run_answer, convert_answer}
 use Rattle.workload_model.specs.Answer.{IsBenchAnswer}
 use Rattle.jet_refusal.specs.Causes.{IsOwedTo}
-use Rattle.jet_cli.specs.declared.work.Listing.{Listing}
-use Rattle.jet_cli.specs.declared.work.Listing.TheVariants.{BySink, BySource}
-use Rattle.jet_cli.specs.declared.work.Product.{Product}
-use Rattle.jet_cli.specs.declared.work.Product.TheVariants.{Numbers, Output, Conversion}
 use Rattle.jet_files.specs.Outcome.{by_reading, AskAlike}
 use Rattle.run_output.specs.Summary.{summary_text}
 use Rattle.run_output.specs.Output.{output}
@@ -50,17 +53,30 @@ IsRecording program inputs limits heard heard_after file answer =
 abbrev pub workload_length : Pipeline → ℕ
 workload_length pipeline = unwrap_or pipeline.epoch 4096
 
+-- the text that a query gives of a run: its report, a line for each sink; its influence, a line for each source byte; or the path
+-- of the first source byte that its report lists
+abbrev pub given_by : Listing → Query → State → Log → List ℕ
+given_by BySink q start log = report_of q (trace start log)
+given_by BySource q start log = influence_of q (trace start log)
+given_by ByPath q start log = path_report start log q
+
+-- the text that is made of a run without a query: its numbers, or what it wrote on a channel
+abbrev pub made_by : Product → State → Log → List ℕ
+made_by Numbers start log = summary_text log
+made_by (Output channel) start log = output channel log
+
+-- the log of a run in version 2, if it fits its program
+abbrev pub conversion_of : Run → Result (List ℕ) Refusal
+conversion_of run = and_then (fitting_start run.program run.log) (λ start. limited_text run.log)
+
 -- the content of the files comes to this answer
 abbrev pub IsAnswer : CommandOf → Option (List ℕ) → Option (List ℕ) → Contents → Result (List ℕ) Refusal → Type 0
-IsAnswer (QueryOf program log query pipeline) heard heard_after file answer =
-    query_answer report_of pipeline.epoch file (named program log query) ≡ answer
+IsAnswer (AnalysisOf listing program log query pipeline) heard heard_after file answer =
+    query_answer (given_by listing) pipeline.epoch file (named program log query) ≡ answer
+IsAnswer (ProductOf product program log) heard heard_after file answer = run_answer file program log (made_by product) ≡ answer
 IsAnswer (RecordOf program log inputs pages piece steps) heard heard_after file answer =
     IsRecording program inputs (limits_of pages piece steps) heard heard_after file answer
-IsAnswer (ReplayOf program log) heard heard_after file answer = log_answer file program log summary_text ≡ answer
-IsAnswer (OutputOf program log channel) heard heard_after file answer = log_answer file program log (output channel) ≡ answer
 IsAnswer (ConvertOf program log new) heard heard_after file answer = convert_answer file program log ≡ answer
-IsAnswer (InfluenceOf program log query pipeline) heard heard_after file answer =
-    query_answer influence_of pipeline.epoch file (named program log query) ≡ answer
 IsAnswer (QueriesOf program log queries pipeline) heard heard_after file answer =
     queries_answer pipeline.epoch file program log queries ≡ answer
 IsAnswer (BenchOf seed steps pipeline) heard heard_after file answer = IsBenchAnswer seed steps (workload_length pipeline) answer
@@ -72,29 +88,18 @@ IsWorkOf is_answer (Err r) = IsOwedTo (by_reading (is_answer (Err r)) ⊥) r
 
 -- ---- work for a query that is kept
 
--- the text that a query gives of a trace: its report, a line for each sink, or its influence, a line for each source byte
-abbrev pub given_by : Listing → Query → List StepSeen → List ℕ
-given_by BySink = report_of
-given_by BySource = influence_of
-
 -- the log fits its program, and then its run has few epochs of the length that is told
 abbrev pub fits_and_is_cut : Option ℕ → Run → Result (Unit {0}) Refusal
 fits_and_is_cut told run = and_then (fitting_start run.program run.log) (λ start. told_check told run.log)
 
--- what is made of a run without a query, if its log fits its program: its numbers, what it wrote on a channel, or its log in version 2
-abbrev pub product_of : Product → Run → Result (List ℕ) Refusal
-product_of Numbers run = text_answer run summary_text
-product_of (Output channel) run = text_answer run (output channel)
-product_of Conversion run = and_then (fitting_start run.program run.log) (λ start. limited_text run.log)
-
 -- the answer is what every query gives that asks alike
 abbrev pub IsGivenAlike : Listing → Option ℕ → Run → Query → Result (List ℕ) Refusal → Type 0
 IsGivenAlike listing told run kept answer =
-    (q : Query) → Alike kept q → traced_answer told run (given_by listing q) ≡ answer
+    (q : Query) → Alike kept q → analysed_answer told run (given_by listing q) ≡ answer
 
 -- the reports of several queries, whose rules are compared first
 abbrev pub several_answer : Option ℕ → Run → List Query → Result (List ℕ) Refusal
-several_answer told run qs = and_then (rules_check qs) (λ same. traced_answer told run (reports_of qs))
+several_answer told run qs = and_then (rules_check qs) (λ same. analysed_answer told run (over_trace (reports_of qs)))
 
 -- the answer is what all queries give that ask alike
 abbrev pub AreGivenAlike : Option ℕ → Run → List Query → Result (List ℕ) Refusal → Type 0

@@ -1,29 +1,27 @@
 //! What a command gives: its files are read one after another, and a text is made of them.
 ghost use Rattle.std.specs.Prelude.{◌≡◌, ◌≤◌, ◌∷◌, [], length, map, is_ok, IfErr};
 ghost use Rattle.outer_io.specs.Reads.{Reads};
-ghost use Rattle.jet_model.specs.Outcomes.{and_then};
-ghost use Rattle.jet_model.specs.Contents.{run_at};
-ghost use Rattle.jet_model.specs.Answer.{query_answer, queries_answer};
+ghost use Rattle.jet_model.specs.Answer.{query_answer, queries_answer, run_answer, convert_answer};
 ghost use Rattle.jet_words.specs.Commands.{plain_command, IsPipeline, IsInRange};
 ghost use Rattle.jet_files.specs.Outcome.{Comes, Follows, seen_by, bytes_of};
 ghost use Rattle.jet_cli.specs.Targets.{sources_of, IfUntimed};
-ghost use Rattle.jet_cli.specs.Answers.{IsAnswer, given_by, product_of, named};
+ghost use Rattle.jet_cli.specs.Answers.{IsAnswer, given_by, made_by, named};
 ghost use Rattle.jet_cli.specs.Ending.{IsUnasked};
 
 use crate::bench::bench;
 use crate::engine::Engine;
 use crate::record::{Limits, record};
-use crate::work::{Listing, Product, list, make, reports};
+use crate::work::{conversion, list, make, reports};
 use jet_files::{open_queries, open_query, open_run};
 use jet_refusal::Refusal;
-use jet_words::{Command, Pipeline};
+use jet_words::{Command, Listing, Pipeline, Product};
 use outer_io::{Clock, Gate, Store};
 use std::alloc::Global;
 use std::sync::Wait;
 use std::thread::Threads;
 
-/// The listing of a query.
-fn query<R: Threads + Wait + Sync, S: Store, G: Gate>(
+/// What is told of the rows of a query.
+fn analysis<R: Threads + Wait + Sync, S: Store, G: Gate>(
     engine: &Engine<R, G>,
     store: &mut S,
     program: &str,
@@ -73,12 +71,27 @@ fn run_product<S: Store>(
     log: &str,
     product: Product,
 ) -> Result<Vec<u8>, Refusal>
-    ensures answer { Comes (λ file. and_then (run_at file program.now log.now) (product_of product))
+    ensures answer { Comes (λ file. run_answer file program.now log.now (made_by product))
         (S.shown store.old) (S.shown store.new) (seen_by bytes_of result) }
     ensures reads { Reads (program.now ∷ log.now ∷ []) (is_ok result) (S.shown store.old) (S.shown store.new) }
 {
     let run = open_run(alloc, store, program, log)?;
     make(alloc, run, product)
+}
+
+/// The log of a run in version 2.
+fn convert<S: Store>(
+    alloc: Global,
+    store: &mut S,
+    program: &str,
+    log: &str,
+) -> Result<Vec<u8>, Refusal>
+    ensures answer { Comes (λ file. convert_answer file program.now log.now)
+        (S.shown store.old) (S.shown store.new) (seen_by bytes_of result) }
+    ensures reads { Reads (program.now ∷ log.now ∷ []) (is_ok result) (S.shown store.old) (S.shown store.new) }
+{
+    let run = open_run(alloc, store, program, log)?;
+    conversion(alloc, run)
 }
 
 /// The text of a command, which `deliver` writes.
@@ -98,20 +111,18 @@ pub fn answer<R: Threads + Wait + Sync, S: Store, K: Clock, G: Gate>(
 {
     let alloc = engine.alloc;
     match command {
-        Command::Query {
+        Command::Analysis {
+            listing,
             program,
             log,
-            query: name,
+            query,
             pipeline,
-        } => query(
-            engine,
-            store,
+        } => analysis(engine, store, program, log, query, *listing, *pipeline),
+        Command::Product {
+            product,
             program,
             log,
-            name,
-            Listing::BySink,
-            *pipeline,
-        ),
+        } => run_product(alloc, store, program, log, *product),
         Command::Record {
             program,
             inputs,
@@ -127,39 +138,7 @@ pub fn answer<R: Threads + Wait + Sync, S: Store, K: Clock, G: Gate>(
             };
             record(alloc, store, clock, program, inputs, limits)
         }
-        Command::Replay { program, log } => run_product(
-            alloc,
-            store,
-            program,
-            log,
-            Product::Numbers,
-        ),
-        Command::Output {
-            program,
-            log,
-            channel,
-        } => run_product(alloc, store, program, log, Product::Output(*channel)),
-        Command::Convert { program, log, .. } => run_product(
-            alloc,
-            store,
-            program,
-            log,
-            Product::Conversion,
-        ),
-        Command::Influence {
-            program,
-            log,
-            query: name,
-            pipeline,
-        } => query(
-            engine,
-            store,
-            program,
-            log,
-            name,
-            Listing::BySource,
-            *pipeline,
-        ),
+        Command::Convert { program, log, .. } => convert(alloc, store, program, log),
         Command::Queries {
             program,
             log,

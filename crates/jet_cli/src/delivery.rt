@@ -30,12 +30,10 @@ pub fn deliver<S: Store, O: Sink>(
     ensures later { (S.shown store.old).faults ≤ (S.shown store.new).faults }
 {
     match command {
+        Command::Analysis { .. } => write_whole(out, text),
+        Command::Product { .. } => write_whole(out, text),
         Command::Record { log, .. } => write_file(store, log, text),
-        Command::Query { .. } => write_whole(out, text),
-        Command::Replay { .. } => write_whole(out, text),
-        Command::Output { .. } => write_whole(out, text),
         Command::Convert { new, .. } => write_file(store, new, text),
-        Command::Influence { .. } => write_whole(out, text),
         Command::Queries { .. } => write_whole(out, text),
         Command::Bench { .. } => write_whole(out, text),
     }

@@ -3,22 +3,23 @@
 ghost use Rattle.std.specs.Prelude.{◌≡◌, ◌≤◌, Ok, Err, length, IfOk, IfErr, OnOk};
 ghost use Rattle.elf_model.specs.Image.{image as image_of_file};
 ghost use Rattle.replayer.specs.Checks.{IsChecked};
-ghost use Rattle.replayer.specs.Jobs.{trace_of};
 ghost use Rattle.run_query.specs.Preparing.{IsPrepared};
 ghost use Rattle.jet_words.specs.Commands.{IsPipeline};
-ghost use Rattle.jet_model.specs.Answer.{fitting_start, told_check};
+ghost use Rattle.jet_model.specs.Answer.{fitting_start, told_check, text_answer};
 ghost use Rattle.jet_files.specs.Outcome.{IsWork, seen_by, bytes_of};
 ghost use Rattle.jet_files.specs.Views.{run_of};
-ghost use Rattle.jet_cli.specs.Answers.{IsWorkOf, IsGivenAlike, AreGivenAlike, fits_and_is_cut, given_by, product_of};
+ghost use Rattle.jet_cli.specs.Answers.{IsWorkOf, IsGivenAlike, AreGivenAlike, fits_and_is_cut, given_by, made_by};
+ghost use Rattle.jet_cli.specs.Answers.{conversion_of};
 
 use crate::engine::Engine;
 use crate::influence::influence_of;
+use crate::path::path_text;
 use crate::reports::{report_text, reports_of, union_of};
 use crate::rows::cuts_by;
 use elf_image::Image;
 use jet_files::{LONGEST_FILE, Program, Run};
 use jet_refusal::Refusal;
-use jet_words::Pipeline;
+use jet_words::{Listing, Pipeline, Product};
 use no_memory::NoMemory;
 use outer_io::Gate;
 use query_lang::Query;
@@ -80,16 +81,7 @@ fn prepared_run<R: Threads + Wait + Sync, G: Gate>(
     }
 }
 
-/// What is listed of a query's rows.
-#[derive(Clone, Copy)]
-pub enum Listing {
-    /// The report: a line for each output byte and point, with its source bytes.
-    BySink,
-    /// The influence: a line for each source byte, with what it came to.
-    BySource,
-}
-
-/// The text of a listing. It gives up with NoMemory alone.
+/// What is told of the rows of a query. It gives up with NoMemory alone.
 fn listed<R: Threads + Wait + Sync, G: Gate>(
     engine: &Engine<R, G>,
     job: &Job,
@@ -100,15 +92,16 @@ fn listed<R: Threads + Wait + Sync, G: Gate>(
 ) -> Result<Vec<u8>, NoMemory>
     requires prepared { IsPrepared query.now job.now prepared }
     requires pipeline { IsPipeline pipeline }
-    ensures { IfOk result (λ text. text.items ≡ given_by listing query.now (trace_of job.now)) }
+    ensures { IfOk result (λ text. text.items ≡ given_by listing query.now job.now.start job.now.log) }
 {
     match listing {
         Listing::BySink => report_text(engine, job, query, prepared, pipeline),
         Listing::BySource => influence_of(engine, job, query, prepared, pipeline),
+        Listing::ByPath => path_text(engine, job, query, prepared, pipeline),
     }
 }
 
-/// The listing of a query over the run, for each query that this one stands for.
+/// What is told of the rows of a query over the run, for each query that this one stands for.
 pub fn list<R: Threads + Wait + Sync, G: Gate>(
     engine: &Engine<R, G>,
     run: Run,
@@ -145,30 +138,30 @@ pub fn reports<R: Threads + Wait + Sync, G: Gate>(
     Ok(text)
 }
 
-/// The numbers of the run, as text.
-fn summary(alloc: Global, run: Run) -> Result<Vec<u8>, Refusal>
-    requires image { image_of_file run.program.bytes.items ≡ Ok run.program.image }
-    ensures { IsWork (product_of Product.Numbers (run_of run)) (seen_by bytes_of result) }
+/// The text that is made of a run without a query. It gives up with NoMemory alone.
+fn made(alloc: Global, job: &Job, product: Product) -> Result<Vec<u8>, NoMemory>
+    ensures { IfOk result (λ text. text.items ≡ made_by product job.now.start job.now.log) }
 {
-    let job = fitted_run(alloc, run)?;
-    let text = summary_text(alloc, &job.summary())?;
-    Ok(text)
+    match product {
+        Product::Numbers => summary_text(alloc, &job.summary()),
+        Product::Output(channel) => output_on(alloc, job.log().records(), channel),
+    }
 }
 
-/// What the run wrote on a channel.
-fn output(alloc: Global, run: Run, channel: u32) -> Result<Vec<u8>, Refusal>
+/// What is made of the run without a query.
+pub fn make(alloc: Global, run: Run, product: Product) -> Result<Vec<u8>, Refusal>
     requires image { image_of_file run.program.bytes.items ≡ Ok run.program.image }
-    ensures { IsWork (product_of (Product.Output channel) (run_of run)) (seen_by bytes_of result) }
+    ensures { IsWork (text_answer (run_of run) (made_by product)) (seen_by bytes_of result) }
 {
     let job = fitted_run(alloc, run)?;
-    let text = output_on(alloc, job.log().records(), channel)?;
+    let text = made(alloc, &job, product)?;
     Ok(text)
 }
 
 /// The log of the run in version 2. It gives up with `LogTooLong`, where that has more than 2^26 bytes.
-fn conversion(alloc: Global, run: Run) -> Result<Vec<u8>, Refusal>
+pub fn conversion(alloc: Global, run: Run) -> Result<Vec<u8>, Refusal>
     requires image { image_of_file run.program.bytes.items ≡ Ok run.program.image }
-    ensures { IsWork (product_of Product.Conversion (run_of run)) (seen_by bytes_of result) }
+    ensures { IsWork (conversion_of (run_of run)) (seen_by bytes_of result) }
 {
     let job = fitted_run(alloc, run)?;
     job.form();
@@ -179,27 +172,4 @@ fn conversion(alloc: Global, run: Run) -> Result<Vec<u8>, Refusal>
     }
     let text = write_log(alloc, log)?;
     Ok(text)
-}
-
-/// What is made of a run without a query.
-#[derive(Clone, Copy)]
-pub enum Product {
-    /// Its numbers, as text.
-    Numbers,
-    /// What it wrote on this channel.
-    Output(u32),
-    /// Its log in version 2.
-    Conversion,
-}
-
-/// What is asked for of the run.
-pub fn make(alloc: Global, run: Run, product: Product) -> Result<Vec<u8>, Refusal>
-    requires image { image_of_file run.program.bytes.items ≡ Ok run.program.image }
-    ensures { IsWork (product_of product (run_of run)) (seen_by bytes_of result) }
-{
-    match product {
-        Product::Numbers => summary(alloc, run),
-        Product::Output(channel) => output(alloc, run, channel),
-        Product::Conversion => conversion(alloc, run),
-    }
 }

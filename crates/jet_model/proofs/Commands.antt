@@ -3,6 +3,7 @@ use Rattle.std.proofs.Common.{◌≡◌, ℕ, List, [], ◌∷◌, refl, None, O
 use Rattle.std.specs.Prelude.{◌++◌, Some, codes, pos, if◌then◌else◌}
 use Rattle.std.specs.Fmt.{digits}
 use Rattle.std.specs.Str.{bytes_eq}
+use Rattle.isa.specs.Machine.{State}
 use Rattle.log_model.specs.declared.Version.TheVariants.{One}
 use Rattle.log_model.specs.declared.RunEnd.TheVariants.{Exit, Limit}
 use Rattle.log_model.specs.declared.LogKind.TheVariants as log
@@ -10,6 +11,7 @@ use Rattle.log_model.specs.Logs.{Log, log_text}
 use Rattle.log_model.specs.Reading.{log_of, channels_of, body_of}
 use Rattle.flow_model.specs.declared.Rule.TheVariants.{Copy, Compute}
 use Rattle.report_model.specs.declared.QueryKind.TheVariants as query
+use Rattle.report_model.specs.Query.{Query}
 use Rattle.elf_model.specs.declared.ImageKind.TheVariants as image
 use Rattle.replay_model.specs.declared.Field.TheVariants as field
 use Rattle.sha2.specs.Sha256.{sha256, digest_bytes, hash_after, compress, rounds, first_words, schedule}
@@ -19,7 +21,7 @@ use Rattle.jet_model.specs.Contents.{Contents, Names, program_in}
 use Rattle.epoch_model.specs.ByLength.{epoch_count, cut_times}
 use Rattle.jet_model.specs.Lengths.{epoch_length}
 use Rattle.jet_model.specs.Answer.{start_in, epochs_check, told_check, query_answer, queries_answer, convert_answer}
-use Rattle.jet_model.specs.Report.{report_of}
+use Rattle.jet_model.specs.Report.{over_trace, report_of}
 use Rattle.jet_model.proofs.Guests.{copy_four, copy_four_log, add_words, add_words_log, a_read, a_write}
 use Rattle.jet_model.proofs.Guests.{log_of as log_with}
 use Rattle.jet_model.proofs.Reports.{of_lines}
@@ -35,34 +37,37 @@ three_files program log query name =
     if bytes_eq name (codes "log") then Some log else
     if bytes_eq name (codes "query") then Some query else None
 
+abbrev reported : Query → State → Log → List ℕ
+reported q = over_trace (report_of q)
+
 abbrev all_bytes : List ℕ
 all_bytes = of_lines ("rule copy" ∷ "source all" ∷ "sink all" ∷ [])
 
-a_report : query_answer report_of None (three_files copy_four (log_text One copy_four_log) all_bytes) names ≡ Ok (of_lines ("1:0 0:0" ∷ "1:1 0:1" ∷ "1:2 0:2" ∷ "1:3 0:3" ∷ "end 4" ∷ []))
+a_report : query_answer reported None (three_files copy_four (log_text One copy_four_log) all_bytes) names ≡ Ok (of_lines ("1:0 0:0" ∷ "1:1 0:1" ∷ "1:2 0:2" ∷ "1:3 0:3" ∷ "end 4" ∷ []))
 unfolding digits log_of channels_of body_of sha256 digest_bytes hash_after compress rounds first_words schedule
 a_report = refl
 
-no_file : query_answer report_of None (λ name. None) names ≡ Err refusal.ReadFault
+no_file : query_answer reported None (λ name. None) names ≡ Err refusal.ReadFault
 no_file = refl
 
 -- the program is refused before the log
-no_image : query_answer report_of None (three_files (codes "ELF") [] []) names ≡ Err (refusal.Image image.Short)
+no_image : query_answer reported None (three_files (codes "ELF") [] []) names ≡ Err (refusal.Image image.Short)
 no_image = refl
 
-no_log : query_answer report_of None (three_files copy_four all_bytes []) names ≡ Err (refusal.Log log.Magic 0)
+no_log : query_answer reported None (three_files copy_four all_bytes []) names ≡ Err (refusal.Log log.Magic 0)
 unfolding log_of
 no_log = refl
 
 -- the query is refused before the log is compared with the program
-no_query : query_answer report_of None (three_files copy_four (log_text One add_words_log) (codes "rule copy x")) names ≡ Err (refusal.Query 1 query.Count)
+no_query : query_answer reported None (three_files copy_four (log_text One add_words_log) (codes "rule copy x")) names ≡ Err (refusal.Query 1 query.Count)
 unfolding log_of channels_of body_of sha256 digest_bytes hash_after compress rounds first_words schedule
 no_query = refl
 
-another_program : query_answer report_of None (three_files copy_four (log_text One add_words_log) all_bytes) names ≡ Err (refusal.Program (sha256 add_words) (sha256 copy_four))
+another_program : query_answer reported None (three_files copy_four (log_text One add_words_log) all_bytes) names ≡ Err (refusal.Program (sha256 add_words) (sha256 copy_four))
 unfolding log_of channels_of body_of sha256 digest_bytes hash_after compress rounds first_words schedule
 another_program = refl
 
-another_byte : query_answer report_of None (three_files copy_four (log_text One (log_with copy_four 1 1 (a_read 5 4 abcd ∷ a_write 8 (0x41 ∷ 0x42 ∷ 0x58 ∷ 0x44 ∷ []) ∷ []) (Exit 11 0))) all_bytes) names
+another_byte : query_answer reported None (three_files copy_four (log_text One (log_with copy_four 1 1 (a_read 5 4 abcd ∷ a_write 8 (0x41 ∷ 0x42 ∷ 0x58 ∷ 0x44 ∷ []) ∷ []) (Exit 11 0))) all_bytes) names
     ≡ Err (refusal.Diverged (record { step = 8; field = field.Byte 2; kept = pos 88; seen = pos 67 }))
 unfolding log_of channels_of body_of sha256 digest_bytes hash_after compress rounds first_words schedule
 another_byte = refl
@@ -136,7 +141,7 @@ unfolding digits log_of channels_of body_of sha256 digest_bytes hash_after compr
 converted_again = refl
 
 -- the report is the same, and so it is with epochs of another length
-a_wide_report : query_answer report_of (Some 5) (three_files copy_four wide_copy_four all_bytes) names ≡ Ok (of_lines ("1:0 0:0" ∷ "1:1 0:1" ∷ "1:2 0:2" ∷ "1:3 0:3" ∷ "end 4" ∷ []))
+a_wide_report : query_answer reported (Some 5) (three_files copy_four wide_copy_four all_bytes) names ≡ Ok (of_lines ("1:0 0:0" ∷ "1:1 0:1" ∷ "1:2 0:2" ∷ "1:3 0:3" ∷ "end 4" ∷ []))
 unfolding digits log_of channels_of body_of sha256 digest_bytes hash_after compress rounds first_words schedule
 a_wide_report = refl
 

@@ -14,11 +14,9 @@ use Rattle.log_model.specs.Logs.{Log, IsLog, steps, log_text}
 use Rattle.log_model.specs.Reading.{log_of}
 use Rattle.log_model.proofs.Reading.{reads_log}
 use Rattle.flow_model.specs.declared.Rule.{Rule}
-use Rattle.flow_model.specs.declared.StepSeen.{StepSeen}
 use Rattle.report_model.specs.Query.{Query}
 use Rattle.report_model.specs.Together.{first_other_rule}
 use Rattle.replay_model.specs.declared.Divergence.{Divergence}
-use Rattle.replay_model.specs.Run.{trace}
 use Rattle.replay_model.specs.Comparison.{divergence}
 use Rattle.replay_model.specs.Fits.{Fits, beginning, start_in_image}
 use Rattle.sha2.specs.Sha256.{sha256}
@@ -26,8 +24,8 @@ use Rattle.jet_refusal.specs.declared.refusal.Refusal.{Refusal}
 use Rattle.jet_refusal.specs.declared.refusal.Refusal.TheVariants as refusal
 use Rattle.jet_model.specs.Outcomes.{and_then}
 use Rattle.jet_model.specs.Contents.{Contents, Names, Program, Run, program_at, query_at, queries_at, run_at, inputs_at}
-use Rattle.jet_model.specs.Report.{reports_of, text_from, text_over}
-use Rattle.jet_model.specs.Answer.{digest_check, start_in, unless_diverged, fitting_start, epochs_check, told_check, cut_answer, traced_answer, query_answer, unless_other_rule, rules_check, queries_answer, text_answer, log_answer, limited_text, convert_answer, Limits, Source, source_at, setting_of, IsCaptured, IsCaptureAnswer, IsRecordAnswer}
+use Rattle.jet_model.specs.Report.{over_trace, reports_of}
+use Rattle.jet_model.specs.Answer.{digest_check, start_in, unless_diverged, fitting_start, epochs_check, told_check, cut_answer, analysed_answer, query_answer, unless_other_rule, rules_check, queries_answer, text_answer, run_answer, limited_text, convert_answer, Limits, Source, source_at, setting_of, IsCaptured, IsCaptureAnswer, IsRecordAnswer}
 use Rattle.jet_model.specs.Headline.{IsRunOf, IsGivenByQuery, AreReportsOf, IsGivenBy, IsConversionOf, IsRecordingOf, IsShort, AreShort, AreAllShort, HasFewEpochs, HasFewIfTold}
 use Rattle.jet_model.proofs.AndThen.{ok-one, and_then-ok, and_then-is_ok, AndThen-ok, AndThen-is_ok, AndThen-one, ok_or-is_ok}
 use Rattle.replay_model.proofs.Received.{fitting_is_held}
@@ -131,18 +129,10 @@ read_run file program_name log_name program log short short_log r =
       begins = fitting_start-fits program log r.fits b.im b.begins;
     }
 
--- ---- a text over the trace
+-- ---- a text that is made of a run
 
 abbrev Text : Type 0
-Text = List StepSeen → List ℕ
-
-over_run : (program : List ℕ) (log : Log) (f : Fits program log) (given : Text) → given (trace f.start log) ≡ text_over program log given
-over_run program log f given = ap (λ (s : Option State). text_from s log given) (sym f.begins)
-
-is_over : (program : List ℕ) (log : Log) (given : Text) (f : Fits program log) (start : State) (text : List ℕ) → f.start ≡ start → text ≡ given (trace start log)
-    → text ≡ text_over program log given
-is_over program log given f start text same e =
-    e ∙ ap (λ (s : State). given (trace s log)) (sym same) ∙ over_run program log f given
+Text = State → Log → List ℕ
 
 -- the run has few epochs
 epochs-few : (epoch : ℕ) (log : Log) → HasFewEpochs epoch log → epochs_check epoch log ≡ Ok tt
@@ -154,32 +144,36 @@ told-few None log few = refl
 told-few (Some epoch) log few = epochs-few epoch log few
 
 -- the text is made where the log fits and its run has few epochs
-traced : (told : Option ℕ) (run : Run) (start : State) (given : Text) → fitting_start run.program run.log ≡ Ok start → HasFewIfTold told run.log
-    → traced_answer told run given ≡ Ok (given (trace start run.log))
-traced told run start given e few =
+analysed : (told : Option ℕ) (run : Run) (start : State) (given : Text) → fitting_start run.program run.log ≡ Ok start → HasFewIfTold told run.log
+    → analysed_answer told run given ≡ Ok (given start run.log)
+analysed told run start given e few =
     and_then-ok (fitting_start run.program run.log) (λ s. cut_answer told s run.log given) start e
-    ∙ and_then-ok (told_check told run.log) (λ few. Ok (given (trace start run.log))) tt (told-few told run.log few)
+    ∙ and_then-ok (told_check told run.log) (λ few. Ok (given start run.log)) tt (told-few told run.log few)
 
 -- where it was made, the log fits
-record IsTraced (run : Run) (given : Text) (text : List ℕ) : Type 0 where
+record IsAnalysed (run : Run) (given : Text) (text : List ℕ) : Type 0 where
   start : State
   begins : fitting_start run.program run.log ≡ Ok start
-  gives : text ≡ given (trace start run.log)
+  gives : text ≡ given start run.log
 
-traced-is_ok : (told : Option ℕ) (run : Run) (given : Text) (text : List ℕ) → traced_answer told run given ≡ Ok text → IsTraced run given text
-traced-is_ok told run given text h =
+analysed-is_ok : (told : Option ℕ) (run : Run) (given : Text) (text : List ℕ) → analysed_answer told run given ≡ Ok text → IsAnalysed run given text
+analysed-is_ok told run given text h =
     let s = and_then-is_ok (fitting_start run.program run.log) (λ start. cut_answer told start run.log given) text h in
-    let few = and_then-is_ok (told_check told run.log) (λ few. Ok (given (trace s.0 run.log))) text s.2 in
+    let few = and_then-is_ok (told_check told run.log) (λ few. Ok (given s.0 run.log)) text s.2 in
     record { start = s.0; begins = s.1; gives = sym (ok_same _ _ few.2) }
+
+-- the log that was read is the same
+on_log : (given : Text) (start : State) (log other : Log) (text : List ℕ) → log ≡ other → text ≡ given start other → ok_text (given start log) ≡ ok_text text
+on_log given start log other text same gives = ap (λ (l : Log). ok_text (given start l)) same ∙ ap ok_text (sym gives)
 
 -- ---- a query
 
 pub answer-is_given : (given : Query → Text) (told : Option ℕ) (file : Contents) (names : Names) (text : List ℕ) → query_answer given told file names ≡ Ok text → IsGivenByQuery given file names text
 answer-is_given given told file names text h =
-    let r = and_then-is_ok (run_at file names.program names.log) (λ run. and_then (query_at file names.query) (λ q. traced_answer told run (given q))) text h in
+    let r = and_then-is_ok (run_at file names.program names.log) (λ run. and_then (query_at file names.query) (λ q. analysed_answer told run (given q))) text h in
     let run = r.0 in
-    let q = and_then-is_ok (query_at file names.query) (λ q. traced_answer told run (given q)) text r.2 in
-    let s = traced-is_ok told run (given q.0) text q.2 in
+    let q = and_then-is_ok (query_at file names.query) (λ q. analysed_answer told run (given q)) text r.2 in
+    let s = analysed-is_ok told run (given q.0) text q.2 in
     let found = fitting_run file names.program names.log run s.start r.1 s.begins in
     let found_query = query_at-is_ok file names.query q.0 q.1 in
     record {
@@ -190,7 +184,7 @@ answer-is_given given told file names text h =
       the_query = q.0;
       query_file = found_query.1;
       is_query = found_query.2;
-      gives = is_over run.program.bytes run.log (given q.0) found.the_run.fits s.start text found.start_is s.gives;
+      gives = s.gives ∙ ap (λ (start : State). given q.0 start run.log) (sym found.start_is);
     }
 
 pub given-is_answer : (given : Query → Text) (told : Option ℕ) (file : Contents) (names : Names) (text : List ℕ) → AreShort file names → (g : IsGivenByQuery given file names text) → HasFewIfTold told g.log
@@ -198,11 +192,10 @@ pub given-is_answer : (given : Query → Text) (told : Option ℕ) (file : Conte
 given-is_answer given told file names text short g few =
     let r = read_run file names.program names.log g.program g.log short.program short.log g.run in
     let start = g.run.fits.start in
-    and_then-ok (run_at file names.program names.log) (λ x. and_then (query_at file names.query) (λ q. traced_answer told x (given q))) r.run r.is_read
-    ∙ and_then-ok (query_at file names.query) (λ q. traced_answer told r.run (given q)) g.the_query (query_at-there file names.query g.query_text g.the_query g.query_file short.query g.is_query)
-    ∙ traced told r.run start (given g.the_query) r.begins (subst (HasFewIfTold told) (sym r.same_log) few)
-    ∙ ap (λ (l : Log). ok_text (given g.the_query (trace start l))) r.same_log
-    ∙ ap ok_text (over_run g.program g.log g.run.fits (given g.the_query) ∙ sym g.gives)
+    and_then-ok (run_at file names.program names.log) (λ x. and_then (query_at file names.query) (λ q. analysed_answer told x (given q))) r.run r.is_read
+    ∙ and_then-ok (query_at file names.query) (λ q. analysed_answer told r.run (given q)) g.the_query (query_at-there file names.query g.query_text g.the_query g.query_file short.query g.is_query)
+    ∙ analysed told r.run start (given g.the_query) r.begins (subst (HasFewIfTold told) (sym r.same_log) few)
+    ∙ on_log (given g.the_query) start r.run.log g.log text r.same_log g.gives
 
 -- ---- several queries
 
@@ -215,11 +208,11 @@ rules-one qs e = ap unless_other_rule e
 
 pub reports-are_given : (told : Option ℕ) (file : Contents) (program log : List ℕ) (names : List (List ℕ)) (text : List ℕ) → queries_answer told file program log names ≡ Ok text → AreReportsOf file program log names text
 reports-are_given told file program log names text h =
-    let r = and_then-is_ok (run_at file program log) (λ run. and_then (queries_at file names) (λ qs. and_then (rules_check qs) (λ same. traced_answer told run (reports_of qs)))) text h in
+    let r = and_then-is_ok (run_at file program log) (λ run. and_then (queries_at file names) (λ qs. and_then (rules_check qs) (λ same. analysed_answer told run (over_trace (reports_of qs))))) text h in
     let run = r.0 in
-    let q = and_then-is_ok (queries_at file names) (λ qs. and_then (rules_check qs) (λ same. traced_answer told run (reports_of qs))) text r.2 in
-    let one = and_then-is_ok (rules_check q.0) (λ same. traced_answer told run (reports_of q.0)) text q.2 in
-    let s = traced-is_ok told run (reports_of q.0) text one.2 in
+    let q = and_then-is_ok (queries_at file names) (λ qs. and_then (rules_check qs) (λ same. analysed_answer told run (over_trace (reports_of qs)))) text r.2 in
+    let one = and_then-is_ok (rules_check q.0) (λ same. analysed_answer told run (over_trace (reports_of q.0))) text q.2 in
+    let s = analysed-is_ok told run (over_trace (reports_of q.0)) text one.2 in
     let found = fitting_run file program log run s.start r.1 s.begins in
     let found_queries = queries_at-is_ok file names q.0 q.1 in
     record {
@@ -231,7 +224,7 @@ reports-are_given told file program log names text h =
       query_files = found_queries.1.there;
       are_queries = found_queries.1.are_queries;
       one_rule = rules-is_ok (first_other_rule q.0) one.0 one.1;
-      gives = is_over run.program.bytes run.log (reports_of q.0) found.the_run.fits s.start text found.start_is s.gives;
+      gives = s.gives ∙ ap (λ (start : State). over_trace (reports_of q.0) start run.log) (sym found.start_is);
     }
 
 pub given-are_reports : (told : Option ℕ) (file : Contents) (program log : List ℕ) (names : List (List ℕ)) (text : List ℕ) → IsShort (file program) → IsShort (file log) → AreAllShort file names
@@ -240,32 +233,35 @@ given-are_reports told file program log names text short short_log all g few =
     let r = read_run file program log g.program g.log short short_log g.run in
     let start = g.run.fits.start in
     let qs = g.the_queries in
-    and_then-ok (run_at file program log) (λ x. and_then (queries_at file names) (λ qs. and_then (rules_check qs) (λ same. traced_answer told x (reports_of qs)))) r.run r.is_read
-    ∙ and_then-ok (queries_at file names) (λ qs. and_then (rules_check qs) (λ same. traced_answer told r.run (reports_of qs))) qs
+    and_then-ok (run_at file program log) (λ x. and_then (queries_at file names) (λ qs. and_then (rules_check qs) (λ same. analysed_answer told x (over_trace (reports_of qs))))) r.run r.is_read
+    ∙ and_then-ok (queries_at file names) (λ qs. and_then (rules_check qs) (λ same. analysed_answer told r.run (over_trace (reports_of qs)))) qs
     (queries_at-there file names g.query_texts qs (record { there = g.query_files; are_queries = g.are_queries }) all)
-    ∙ and_then-ok (rules_check qs) (λ same. traced_answer told r.run (reports_of qs)) tt (rules-one qs g.one_rule)
-    ∙ traced told r.run start (reports_of qs) r.begins (subst (HasFewIfTold told) (sym r.same_log) few)
-    ∙ ap (λ (l : Log). ok_text (reports_of qs (trace start l))) r.same_log
-    ∙ ap ok_text (over_run g.program g.log g.run.fits (reports_of qs) ∙ sym g.gives)
+    ∙ and_then-ok (rules_check qs) (λ same. analysed_answer told r.run (over_trace (reports_of qs))) tt (rules-one qs g.one_rule)
+    ∙ analysed told r.run start (over_trace (reports_of qs)) r.begins (subst (HasFewIfTold told) (sym r.same_log) few)
+    ∙ on_log (over_trace (reports_of qs)) start r.run.log g.log text r.same_log g.gives
 
--- ---- a text that a log gives
+-- ---- a run without a query
 
-pub log_answer-is_given : (file : Contents) (program log : List ℕ) (given : Log → List ℕ) (text : List ℕ) → log_answer file program log given ≡ Ok text → IsGivenBy file program log given text
-log_answer-is_given file program log given text h =
+pub run_answer-is_given : (file : Contents) (program log : List ℕ) (given : Text) (text : List ℕ) → run_answer file program log given ≡ Ok text → IsGivenBy file program log given text
+run_answer-is_given file program log given text h =
     let r = and_then-is_ok (run_at file program log) (λ run. text_answer run given) text h in
     let run = r.0 in
-    let s = and_then-is_ok (fitting_start run.program run.log) (λ start. Ok (given run.log)) text r.2 in
+    let s = and_then-is_ok (fitting_start run.program run.log) (λ start. Ok (given start run.log)) text r.2 in
     let found = fitting_run file program log run s.0 r.1 s.1 in
-    record { program = run.program.bytes; log = run.log; run = found.the_run; gives = sym (ok_same _ _ s.2) }
+    record {
+      program = run.program.bytes;
+      log = run.log;
+      run = found.the_run;
+      gives = sym (ok_same _ _ s.2) ∙ ap (λ (start : State). given start run.log) (sym found.start_is);
+    }
 
-pub given-is_log_answer : (file : Contents) (program log : List ℕ) (given : Log → List ℕ) (text : List ℕ) → IsShort (file program) → IsShort (file log) → IsGivenBy file program log given text
-    → log_answer file program log given ≡ Ok text
-given-is_log_answer file program log given text short short_log g =
+pub given-is_run_answer : (file : Contents) (program log : List ℕ) (given : Text) (text : List ℕ) → IsShort (file program) → IsShort (file log) → IsGivenBy file program log given text
+    → run_answer file program log given ≡ Ok text
+given-is_run_answer file program log given text short short_log g =
     let r = read_run file program log g.program g.log short short_log g.run in
     and_then-ok (run_at file program log) (λ x. text_answer x given) r.run r.is_read
-    ∙ and_then-ok (fitting_start r.run.program r.run.log) (λ start. Ok (given r.run.log)) g.run.fits.start r.begins
-    ∙ ap (λ (l : Log). ok_text (given l)) r.same_log
-    ∙ ap ok_text (sym g.gives)
+    ∙ and_then-ok (fitting_start r.run.program r.run.log) (λ start. Ok (given start r.run.log)) g.run.fits.start r.begins
+    ∙ on_log given g.run.fits.start r.run.log g.log text r.same_log g.gives
 
 -- ---- a log that is written
 
@@ -292,7 +288,7 @@ fitting-is_read log program text is_log fits e short =
     let size : length (log_text Two log) ≤ 2 ^ 27 = omega (arith, ap length e, short) in
     reads_log text log is_log (record { version = Two; held = fitting_is_held fits.start log is_log fits.agrees size; spelt = e })
 
-pub given-is_conversion : (file : Contents) (program log text : List ℕ) → IsGivenBy file program log (log_text Two) text → length text ≤ 2 ^ 26 → IsConversionOf file program log text
+pub given-is_conversion : (file : Contents) (program log text : List ℕ) → IsGivenBy file program log (λ start. log_text Two) text → length text ≤ 2 ^ 26 → IsConversionOf file program log text
 given-is_conversion file program log text g short =
     record { given = g; same = fitting-is_read g.log g.program text g.run.is_log g.run.fits g.gives short }
 
@@ -305,7 +301,7 @@ convert-is_given file program log text h =
     let limited = limited-is_ok run.log text (sym s.2) in
     given-is_conversion file program log text (record { program = run.program.bytes; log = run.log; run = found.the_run; gives = limited.0 }) limited.1
 
-pub given-is_convert : (file : Contents) (program log text : List ℕ) → IsShort (file program) → IsShort (file log) → length text ≤ 2 ^ 26 → IsGivenBy file program log (log_text Two) text
+pub given-is_convert : (file : Contents) (program log text : List ℕ) → IsShort (file program) → IsShort (file log) → length text ≤ 2 ^ 26 → IsGivenBy file program log (λ start. log_text Two) text
     → convert_answer file program log ≡ Ok text
 given-is_convert file program log text short short_log fits g =
     let r = read_run file program log g.program g.log short short_log g.run in

@@ -9,10 +9,8 @@ use Rattle.elf_model.specs.Window.{start_of}
 use Rattle.log_model.specs.declared.Version.TheVariants.{Two}
 use Rattle.log_model.specs.Logs.{Log, IsBytes, steps, log_text}
 use Rattle.flow_model.specs.declared.Rule.{Rule}
-use Rattle.flow_model.specs.declared.StepSeen.{StepSeen}
 use Rattle.report_model.specs.Query.{Query}
 use Rattle.report_model.specs.Together.{first_other_rule}
-use Rattle.replay_model.specs.Run.{trace}
 use Rattle.replay_model.specs.declared.Divergence.{Divergence}
 use Rattle.replay_model.specs.Comparison.{divergence}
 use Rattle.epoch_model.specs.ByLength.{epoch_count}
@@ -22,7 +20,7 @@ use Rattle.sha2.specs.Sha256.{sha256}
 use Rattle.jet_refusal.specs.declared.refusal.Refusal.{Refusal}
 use Rattle.jet_refusal.specs.declared.refusal.Refusal.TheVariants as refusal
 use Rattle.jet_model.specs.Outcomes.{and_then, AndThen}
-use Rattle.jet_model.specs.Report.{reports_of}
+use Rattle.jet_model.specs.Report.{over_trace, reports_of}
 use Rattle.jet_model.specs.Contents.{Contents, Names, Program, Run, program_at, query_at, queries_at, run_at, inputs_at}
 
 -- ---- a log that fits its program
@@ -60,24 +58,24 @@ abbrev pub told_check : Option ℕ → Log → Result (Unit {0}) Refusal
 told_check None log = Ok tt
 told_check (Some epoch) log = epochs_check epoch log
 
--- what is made of the trace of a run from this state, where it has few epochs of the length that is told
-abbrev pub cut_answer : {A : Type 0} → Option ℕ → State → Log → (List StepSeen → A) → Result A Refusal
+-- what is made of the run from this state, where it has few epochs of the length that is told
+abbrev pub cut_answer : {A : Type 0} → Option ℕ → State → Log → (State → Log → A) → Result A Refusal
 cut_answer told start log given =
     and_then (told_check told log) (λ few.
-    Ok (given (trace start log)))
+    Ok (given start log))
 
--- a text that is made of a run's trace
-abbrev pub traced_answer : Option ℕ → Run → (List StepSeen → List ℕ) → Result (List ℕ) Refusal
-traced_answer told run text =
+-- a text that is made of a run whose log fits its program, where it has few epochs of the length that is told
+abbrev pub analysed_answer : Option ℕ → Run → (State → Log → List ℕ) → Result (List ℕ) Refusal
+analysed_answer told run text =
     and_then (fitting_start run.program run.log) (λ start.
     cut_answer told start run.log text)
 
--- the text that a query gives of a trace, as `report_of` or `influence_of`
-abbrev pub query_answer : (Query → List StepSeen → List ℕ) → Option ℕ → Contents → Names → Result (List ℕ) Refusal
+-- the text that a query gives of a run
+abbrev pub query_answer : (Query → State → Log → List ℕ) → Option ℕ → Contents → Names → Result (List ℕ) Refusal
 query_answer given told file names =
     and_then (run_at file names.program names.log) (λ run.
     and_then (query_at file names.query) (λ q.
-    traced_answer told run (given q)))
+    analysed_answer told run (given q)))
 
 abbrev pub unless_other_rule : Option (Rule × ℕ × Rule) → Result (Unit {0}) Refusal
 unless_other_rule None = Ok tt
@@ -93,16 +91,16 @@ queries_answer told file program log names =
     and_then (run_at file program log) (λ run.
     and_then (queries_at file names) (λ qs.
     and_then (rules_check qs) (λ same.
-    traced_answer told run (reports_of qs))))
+    analysed_answer told run (over_trace (reports_of qs)))))
 
 -- ---- what a program and a log come to
 
--- a text that the log gives
-abbrev pub text_answer : Run → (Log → List ℕ) → Result (List ℕ) Refusal
-text_answer run text = and_then (fitting_start run.program run.log) (λ start. Ok (text run.log))
+-- a text that is made of a run whose log fits its program
+abbrev pub text_answer : Run → (State → Log → List ℕ) → Result (List ℕ) Refusal
+text_answer run text = and_then (fitting_start run.program run.log) (λ start. Ok (text start run.log))
 
-abbrev pub log_answer : Contents → List ℕ → List ℕ → (Log → List ℕ) → Result (List ℕ) Refusal
-log_answer file program log text = and_then (run_at file program log) (λ run. text_answer run text)
+abbrev pub run_answer : Contents → List ℕ → List ℕ → (State → Log → List ℕ) → Result (List ℕ) Refusal
+run_answer file program log text = and_then (run_at file program log) (λ run. text_answer run text)
 
 -- ---- a log that is written
 

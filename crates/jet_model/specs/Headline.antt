@@ -1,7 +1,7 @@
 -- What it means that a text is what files come to, each in one piece.
 use Rattle.std.specs.Prelude.{◌≡◌, ◌≤◌, ◌^◌, ℕ, List, length, map, Option, Some, None, IfSome, Ok}
 use Rattle.std.specs.List.{AllByRecursion}
-use Rattle.flow_model.specs.declared.StepSeen.{StepSeen}
+use Rattle.isa.specs.Machine.{State}
 use Rattle.log_model.specs.declared.Version.TheVariants.{Two}
 use Rattle.log_model.specs.Logs.{Log, steps, log_text, IsLog, IsTextOf}
 use Rattle.log_model.specs.Reading.{log_of}
@@ -13,7 +13,7 @@ use Rattle.record_model.specs.Recorded.{IsRecorded}
 use Rattle.epoch_model.specs.ByLength.{epoch_count}
 use Rattle.jet_model.specs.Contents.{Contents, Names}
 use Rattle.jet_model.specs.Answer.{Limits}
-use Rattle.jet_model.specs.Report.{report_of, influence_of, reports_of, text_over}
+use Rattle.jet_model.specs.Report.{over_trace, reports_of}
 
 -- the two named files are a program, and a text of a log that fits it
 pub record IsRunOf (file : Contents) (program_name log_name : List ℕ) (program : List ℕ) (log : Log) : Type 0 where
@@ -24,8 +24,8 @@ pub record IsRunOf (file : Contents) (program_name log_name : List ℕ) (program
   pub is_text : IsTextOf log bytes
   pub fits : Fits program log
 
--- the text is what the query of the three named files gives over the run of the other two
-pub record IsGivenByQuery (given : Query → List StepSeen → List ℕ) (file : Contents) (names : Names) (text : List ℕ) : Type 0 where
+-- the text is what the query of the three named files gives over the run of the other two: a program, and a log that fits it
+pub record IsGivenByQuery (given : Query → State → Log → List ℕ) (file : Contents) (names : Names) (text : List ℕ) : Type 0 where
   pub program : List ℕ
   pub log : Log
   pub run : IsRunOf file names.program names.log program log
@@ -33,15 +33,7 @@ pub record IsGivenByQuery (given : Query → List StepSeen → List ℕ) (file :
   pub the_query : Query
   pub query_file : file names.query ≡ Some query_text
   pub is_query : query query_text ≡ Ok the_query
-  pub gives : text ≡ text_over program log (given the_query)
-
--- the text is the report of the three named files: a program, a log that fits it, and a query
-abbrev pub IsReportOf : Contents → Names → List ℕ → Type 0
-IsReportOf file names text = IsGivenByQuery report_of file names text
-
--- the text is the influence of the source bytes that the query chooses
-abbrev pub IsInfluenceOf : Contents → Names → List ℕ → Type 0
-IsInfluenceOf file names text = IsGivenByQuery influence_of file names text
+  pub gives : text ≡ given the_query run.fits.start log
 
 -- the text is the reports of several queries, which have one rule
 pub record AreReportsOf (file : Contents) (program_name log_name : List ℕ) (query_names : List (List ℕ)) (text : List ℕ) : Type 0 where
@@ -53,18 +45,18 @@ pub record AreReportsOf (file : Contents) (program_name log_name : List ℕ) (qu
   pub query_files : map file query_names ≡ map Some query_texts
   pub are_queries : map query query_texts ≡ map Ok the_queries
   pub one_rule : first_other_rule the_queries ≡ None
-  pub gives : text ≡ text_over program log (reports_of the_queries)
+  pub gives : text ≡ over_trace (reports_of the_queries) run.fits.start log
 
--- the text is what the log of the two named files gives: a program, and a log that fits it
-pub record IsGivenBy (file : Contents) (program_name log_name : List ℕ) (given : Log → List ℕ) (text : List ℕ) : Type 0 where
+-- the text is what is made of the run of the two named files: a program, and a log that fits it
+pub record IsGivenBy (file : Contents) (program_name log_name : List ℕ) (given : State → Log → List ℕ) (text : List ℕ) : Type 0 where
   pub program : List ℕ
   pub log : Log
   pub run : IsRunOf file program_name log_name program log
-  pub gives : text ≡ given log
+  pub gives : text ≡ given run.fits.start log
 
 -- the text is the log of the two named files in version 2, and it is read as the same log: so the run is the same, and fits
 pub record IsConversionOf (file : Contents) (program_name log_name : List ℕ) (text : List ℕ) : Type 0 where
-  pub given : IsGivenBy file program_name log_name (log_text Two) text
+  pub given : IsGivenBy file program_name log_name (λ start. log_text Two) text
   pub same : log_of text ≡ Ok given.log
 
 -- the text is the log of the run of the named program over the contents of the named inputs, where the clock gave these

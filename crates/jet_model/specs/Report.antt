@@ -37,10 +37,14 @@ reports_of qs trace = reports_from 1 qs trace
 
 -- ---- over the run of a program under a log
 
--- a text over the trace of the run that begins in this state; that of a run that can't begin is used nowhere
+-- a text over the trace of the run that begins in this state
+abbrev pub over_trace : (List StepSeen → List ℕ) → State → Log → List ℕ
+over_trace text start log = text (trace start log)
+
+-- the same, if the run can begin; that of one that can't is used nowhere
 abbrev pub text_from : Option State → Log → (List StepSeen → List ℕ) → List ℕ
 text_from None log text = []
-text_from (Some start) log text = text (trace start log)
+text_from (Some start) log text = over_trace text start log
 
 -- a text over the trace of the program's run under the log
 abbrev pub text_over : List ℕ → Log → (List StepSeen → List ℕ) → List ℕ

@@ -3,7 +3,6 @@
 ghost use Rattle.std.specs.Prelude.{◌≡◌, ◌<◌, ◌≤◌, ◌^◌, ℕ, List, Option, None, Result, Ok, length};
 ghost use Rattle.std.specs.List.{filter};
 ghost use Rattle.isa.specs.Machine.{State};
-ghost use Rattle.flow_model.specs.declared.StepSeen.{StepSeen as Step};
 ghost use Rattle.log_model.specs.declared.Version.TheVariants.{Two};
 ghost use Rattle.log_model.specs.Logs.{Log, IsLog, log_text, steps};
 ghost use Rattle.log_model.specs.Reading.{log_of};
@@ -17,7 +16,7 @@ ghost use Rattle.jet_model.specs.Contents.{Contents, Names};
 ghost use Rattle.jet_model.specs.Sources.{received_sources};
 ghost use Rattle.jet_model.specs.Lengths.{epoch_length};
 ghost use Rattle.jet_model.specs.Answer.{epochs_check, told_check};
-ghost use Rattle.jet_model.specs.Answer.{Limits, query_answer, queries_answer, log_answer, convert_answer, IsRecordAnswer, HoldsBytes, AreInRange, RecordAnswer};
+ghost use Rattle.jet_model.specs.Answer.{Limits, query_answer, queries_answer, run_answer, convert_answer, IsRecordAnswer, HoldsBytes, AreInRange, RecordAnswer};
 ghost use Rattle.jet_model.specs.Headline.{IsGivenByQuery, AreReportsOf, IsGivenBy, IsConversionOf, IsRecordingOf};
 ghost use Rattle.jet_model.specs.Headline.{IsShort, AreShort, AreAllShort, HasFewIfTold};
 
@@ -32,14 +31,14 @@ pub fn untold_epochs_are_few()
 /// Where three files come to a text, it is what the query gives over the run, as a report or an influence, whatever the
 /// length of an epoch: the log fits the program, and the query can be read.
 pub fn answer_is_given()
-    ensures { (given : Query → List Step → List ℕ) (told : Option ℕ) (file : Contents) (names : Names) (text : List ℕ)
+    ensures { (given : Query → State → Log → List ℕ) (told : Option ℕ) (file : Contents) (names : Names) (text : List ℕ)
         → query_answer given told file names ≡ Ok text → IsGivenByQuery given file names text }
 {}
 
 /// Three files come to what the query gives, where none has more than 2^26 bytes, and the run no more than 4096 epochs
 /// of a length that is told.
 pub fn given_is_answer()
-    ensures { (given : Query → List Step → List ℕ) (told : Option ℕ) (file : Contents) (names : Names) (text : List ℕ)
+    ensures { (given : Query → State → Log → List ℕ) (told : Option ℕ) (file : Contents) (names : Names) (text : List ℕ)
         → AreShort file names → (g : IsGivenByQuery given file names text) → HasFewIfTold told g.log
         → query_answer given told file names ≡ Ok text }
 {}
@@ -60,17 +59,17 @@ pub fn given_are_reports()
         → queries_answer told file program log names ≡ Ok text }
 {}
 
-/// Where a program and a log come to a text, it is that of the log, which fits the program.
-pub fn log_answer_is_given()
-    ensures { (file : Contents) (program log : List ℕ) (given : Log → List ℕ) (text : List ℕ)
-        → log_answer file program log given ≡ Ok text → IsGivenBy file program log given text }
+/// Where a program and a log come to a text, it is what is made of the run: the log fits the program.
+pub fn run_answer_is_given()
+    ensures { (file : Contents) (program log : List ℕ) (given : State → Log → List ℕ) (text : List ℕ)
+        → run_answer file program log given ≡ Ok text → IsGivenBy file program log given text }
 {}
 
-/// A program and a fitting log come to the text that the log gives, where neither file has more than 2^26 bytes.
-pub fn given_is_log_answer()
-    ensures { (file : Contents) (program log : List ℕ) (given : Log → List ℕ) (text : List ℕ)
+/// A program and a fitting log come to the text that is made of the run, where neither file has more than 2^26 bytes.
+pub fn given_is_run_answer()
+    ensures { (file : Contents) (program log : List ℕ) (given : State → Log → List ℕ) (text : List ℕ)
         → IsShort (file program) → IsShort (file log) → IsGivenBy file program log given text
-        → log_answer file program log given ≡ Ok text }
+        → run_answer file program log given ≡ Ok text }
 {}
 
 /// Where a program and a log come to a new text of the log, it is that in version 2, and it is read as the same log.
@@ -83,13 +82,13 @@ pub fn convert_answer_is_conversion()
 pub fn given_is_convert_answer()
     ensures { (file : Contents) (program log text : List ℕ)
         → IsShort (file program) → IsShort (file log) → length text ≤ 2 ^ 26
-        → IsGivenBy file program log (log_text Two) text → convert_answer file program log ≡ Ok text }
+        → IsGivenBy file program log (λ start. log_text Two) text → convert_answer file program log ≡ Ok text }
 {}
 
 /// A fitting log in version 2, where it has at most 2^26 bytes, is read as the same log.
 pub fn given_is_conversion()
     ensures { (file : Contents) (program log text : List ℕ)
-        → IsGivenBy file program log (log_text Two) text → length text ≤ 2 ^ 26 → IsConversionOf file program log text }
+        → IsGivenBy file program log (λ start. log_text Two) text → length text ≤ 2 ^ 26 → IsConversionOf file program log text }
 {}
 
 /// Where a program, inputs and the clock's answers come to a text, it is the log of the program's run.

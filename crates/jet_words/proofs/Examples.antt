@@ -6,7 +6,9 @@ use Rattle.clap.specs.Words.{Text}
 use Rattle.clap.specs.Walk.{walked, bundle_met}
 use Rattle.clap.specs.Takes.{walk_passes, flags_pass}
 use Rattle.jet_words.specs.declared.command.Pipeline.{Pipeline}
-use Rattle.jet_words.specs.Commands.{CommandOf, command_of, QueryOf, RecordOf, ReplayOf, OutputOf, ConvertOf, InfluenceOf, QueriesOf, BenchOf}
+use Rattle.jet_words.specs.declared.command.Listing.TheVariants.{BySink, BySource, ByPath}
+use Rattle.jet_words.specs.declared.command.Product.TheVariants.{Numbers, Output}
+use Rattle.jet_words.specs.Commands.{CommandOf, command_of, AnalysisOf, ProductOf, RecordOf, ConvertOf, QueriesOf, BenchOf}
 
 abbrev before_word : Bool → ℕ → List Text → List Text
 before_word true c words = [] ∷ words
@@ -52,7 +54,7 @@ abbrev usual : Pipeline
 usual = record { epoch = None; workers = 4; link = 256 }
 
 abbrev query : Text → Text → Text → Text → Line
-query line program log name = (line, QueryOf program log name usual)
+query line program log name = (line, AnalysisOf BySink program log name usual)
 
 reports : Stands (
     query (codes "jet query a b c") (codes "a") (codes "b") (codes "c")
@@ -75,10 +77,10 @@ no_reports : AreRefused (
 unfolding command_of walked walk_passes
 no_reports = refl
 
--- ---- the options of query, influence and queries
+-- ---- the options of the commands that analyse a run
 
 abbrev piped : Text → Pipeline → Line
-piped line pipeline = (line, QueryOf (codes "p") (codes "l") (codes "q") pipeline)
+piped line pipeline = (line, AnalysisOf BySink (codes "p") (codes "l") (codes "q") pipeline)
 
 pipelines : Stands (
     piped (codes "jet query p l q --epoch 1") (record usual { epoch = Some 1 })
@@ -96,7 +98,7 @@ no_pipelines : AreRefused (
     ∷ codes "jet query p l q --workers 0" ∷ codes "jet query p l q --workers 65"
     ∷ codes "jet query p l q --link 0" ∷ codes "jet query p l q --link 65537"
     ∷ codes "jet query p l q --link 1 --link 1" ∷ codes "jet query p l q --workers a" ∷ codes "jet query p l --epoch 1"
-    -- they are of these three commands alone
+    -- they are of no other commands
     ∷ codes "jet replay p l --epoch 1" ∷ codes "jet convert p l n --workers 1" ∷ codes "jet output p l 1 --link 1" ∷ [])
 unfolding command_of walked walk_passes
 no_pipelines = refl
@@ -144,7 +146,7 @@ no_recordings = refl
 
 -- ---- replay and output
 
-replays : Stands ((codes "jet replay p l", ReplayOf (codes "p") (codes "l")) ∷ [])
+replays : Stands ((codes "jet replay p l", ProductOf Numbers (codes "p") (codes "l")) ∷ [])
 unfolding command_of walked walk_passes
 replays = refl
 
@@ -153,7 +155,7 @@ unfolding command_of walked walk_passes
 no_replays = refl
 
 abbrev written : Text → ℕ → Line
-written line channel = (line, OutputOf (codes "p") (codes "l") channel)
+written line channel = (line, ProductOf (Output channel) (codes "p") (codes "l"))
 
 outputs : Stands (
     written (codes "jet output p l 0") 0 ∷ written (codes "jet output p l 15") 15 ∷ written (codes "jet output p l +5") 5
@@ -187,7 +189,7 @@ no_conversions = refl
 -- ---- influence
 
 abbrev turned : Text → Pipeline → Line
-turned line pipeline = (line, InfluenceOf (codes "p") (codes "l") (codes "q") pipeline)
+turned line pipeline = (line, AnalysisOf BySource (codes "p") (codes "l") (codes "q") pipeline)
 
 influences : Stands (
     turned (codes "jet influence p l q") usual
@@ -199,6 +201,22 @@ no_influences : AreRefused (codes "jet influence p l" ∷ codes "jet influence p
     ∷ codes "jet influence p l q --workers 65" ∷ [])
 unfolding command_of walked walk_passes
 no_influences = refl
+
+-- ---- path
+
+abbrev told : Text → Pipeline → Line
+told line pipeline = (line, AnalysisOf ByPath (codes "p") (codes "l") (codes "q") pipeline)
+
+paths : Stands (
+    told (codes "jet path p l q") usual
+    ∷ told (codes "jet path --epoch 5 p l q --workers 2 --link 3") (record { epoch = Some 5; workers = 2; link = 3 }) ∷ [])
+unfolding command_of walked walk_passes
+paths = refl
+
+no_paths : AreRefused (codes "jet path p l" ∷ codes "jet path p l q r" ∷ codes "jet path p l q --steps 1"
+    ∷ codes "jet path p l q --epoch 0" ∷ codes "jet paths p l q" ∷ [])
+unfolding command_of walked walk_passes
+no_paths = refl
 
 -- ---- queries
 

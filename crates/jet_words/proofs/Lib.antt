@@ -1,3 +1,4 @@
 mod Ranges
 mod Taken
+mod Made
 mod Examples

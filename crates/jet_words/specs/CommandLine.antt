@@ -1,5 +1,5 @@
 -- The command line of the program, as a command of `clap`.
-use Rattle.std.specs.Prelude.{codes}
+use Rattle.std.specs.Prelude.{codes, List, [], ◌∷◌}
 use Rattle.clap.specs.Words.{App, Rule, Text, new_app, with_rule, with_subcommand}
 use Rattle.clap.specs.Simple.{on_top}
 use Rattle.clap_command.specs.Arguments.{positional, number, list, required_list, number_option, optional_number, requires_subcommand}
@@ -24,9 +24,29 @@ link_option = number_option (codes "link") 1 65536 (codes "256")
 abbrev pub with_pipeline : App → App
 with_pipeline command = with_rule (with_rule (with_rule command epoch_option) workers_option) link_option
 
--- query PROG LOG QUERY [--epoch N] [--workers W] [--link C]
+-- NAME PROG LOG QUERY [--epoch N] [--workers W] [--link C]
+abbrev pub analysis : Text → App
+analysis name = with_pipeline (with_rule (program_and_log name) (positional (codes "QUERY")))
+
 abbrev pub query_app : App
-query_app = with_pipeline (with_rule (program_and_log (codes "query")) (positional (codes "QUERY")))
+query_app = analysis (codes "query")
+
+abbrev pub influence_app : App
+influence_app = analysis (codes "influence")
+
+abbrev pub path_app : App
+path_app = analysis (codes "path")
+
+-- NAME PROG LOG C
+abbrev pub on_channel : Text → App
+on_channel name = with_rule (program_and_log name) (number (codes "C") 0 15)
+
+-- replay PROG LOG
+abbrev pub replay_app : App
+replay_app = program_and_log (codes "replay")
+
+abbrev pub output_app : App
+output_app = on_channel (codes "output")
 
 -- record PROG LOG [IN].. [--pages N] [--piece N] [--steps N]
 abbrev pub record_app : App
@@ -36,21 +56,9 @@ record_app =
     (number_option (codes "piece") 1 16777216 (codes "16777216")))
     (number_option (codes "steps") 1 1099511627776 (codes "4294967295"))
 
--- replay PROG LOG
-abbrev pub replay_app : App
-replay_app = program_and_log (codes "replay")
-
--- output PROG LOG C
-abbrev pub output_app : App
-output_app = with_rule (program_and_log (codes "output")) (number (codes "C") 0 15)
-
 -- convert PROG LOG NEW
 abbrev pub convert_app : App
 convert_app = with_rule (program_and_log (codes "convert")) (positional (codes "NEW"))
-
--- influence PROG LOG QUERY [--epoch N] [--workers W] [--link C]
-abbrev pub influence_app : App
-influence_app = with_pipeline (with_rule (program_and_log (codes "influence")) (positional (codes "QUERY")))
 
 -- queries PROG LOG QUERY.. [--epoch N] [--workers W] [--link C], 1 to 16 of QUERY
 abbrev pub queries_app : App
@@ -67,10 +75,22 @@ bench_app =
 abbrev pub bare_app : App
 bare_app = on_top requires_subcommand (new_app (codes "jet"))
 
+-- a command with these subcommands besides
+abbrev pub with_each : App → List App → App
+with_each command [] = command
+with_each command (subcommand ∷ more) = with_each (with_subcommand command subcommand.top) more
+
+-- the subcommands that tell of the rows of a query
+abbrev pub analyses : List App
+analyses = query_app ∷ influence_app ∷ path_app ∷ []
+
+-- those that make something of a run without a query
+abbrev pub products : List App
+products = replay_app ∷ output_app ∷ []
+
+abbrev pub others : List App
+others = record_app ∷ convert_app ∷ queries_app ∷ bench_app ∷ []
+
 -- jet SUBCOMMAND ..
 abbrev pub jet_app : App
-jet_app =
-    with_subcommand (with_subcommand (with_subcommand (with_subcommand
-    (with_subcommand (with_subcommand (with_subcommand (with_subcommand bare_app
-    query_app.top) record_app.top) replay_app.top) output_app.top)
-    convert_app.top) influence_app.top) queries_app.top) bench_app.top
+jet_app = with_each (with_each (with_each bare_app analyses) products) others

@@ -4,25 +4,25 @@ use Rattle.std.specs.Str.{bytes_eq}
 use Rattle.clap.specs.Words.{Row, Text, takes, subcommand_of}
 use Rattle.clap_command.specs.Values.{value_of, values_of, number_of, optional_number_of}
 use Rattle.jet_words.specs.CommandLine.{jet_app}
+use Rattle.jet_words.specs.declared.command.Listing.{Listing}
+use Rattle.jet_words.specs.declared.command.Listing.TheVariants.{BySink, BySource, ByPath}
+use Rattle.jet_words.specs.declared.command.Product.{Product}
+use Rattle.jet_words.specs.declared.command.Product.TheVariants.{Numbers, Output}
 use Rattle.jet_words.specs.declared.command.Pipeline.{Pipeline}
 use Rattle.jet_words.specs.declared.command.Command.{Command}
-use Rattle.jet_words.specs.declared.command.Command.TheVariants.{Query, Record, Replay, Output, Convert, Influence, Queries, Bench}
+use Rattle.jet_words.specs.declared.command.Command.TheVariants.{Analysis, Product as Made, Record, Convert, Queries, Bench}
 
 -- a command; files are told by their names
 pub data CommandOf : Type 0 where
-  -- the report of a query
-  QueryOf : (program log query : Text) (pipeline : Pipeline) → CommandOf
+  -- what is told of the rows of a query
+  AnalysisOf : (listing : Listing) (program log query : Text) (pipeline : Pipeline) → CommandOf
+  -- what is made of a recorded run
+  ProductOf : (product : Product) (program log : Text) → CommandOf
   -- the log of a run over these input files, with so many pages of memory, at most `piece` bytes to a read, and cut off after
   -- `steps` steps
   RecordOf : (program log : Text) (inputs : List Text) (pages piece steps : ℕ) → CommandOf
-  -- the numbers of a recorded run
-  ReplayOf : (program log : Text) → CommandOf
-  -- what a recorded run wrote on a channel
-  OutputOf : (program log : Text) (channel : ℕ) → CommandOf
   -- the log, written anew into another file
   ConvertOf : (program log new : Text) → CommandOf
-  -- the report of a query, turned round
-  InfluenceOf : (program log query : Text) (pipeline : Pipeline) → CommandOf
   -- the reports of several queries
   QueriesOf : (program log : Text) (queries : List Text) (pipeline : Pipeline) → CommandOf
   -- the numbers of the workload's run by this seed, cut off after `steps` steps
@@ -37,26 +37,19 @@ pipeline_of rows = record {
   link = number_of (codes "link") rows;
 }
 
-abbrev pub query_of : List Row → CommandOf
-query_of rows = QueryOf (value_of (codes "PROG") rows) (value_of (codes "LOG") rows) (value_of (codes "QUERY") rows)
-    (pipeline_of rows)
+abbrev pub analysis_of : Listing → List Row → CommandOf
+analysis_of listing rows =
+    AnalysisOf listing (value_of (codes "PROG") rows) (value_of (codes "LOG") rows) (value_of (codes "QUERY") rows) (pipeline_of rows)
+
+abbrev pub product_of : Product → List Row → CommandOf
+product_of product rows = ProductOf product (value_of (codes "PROG") rows) (value_of (codes "LOG") rows)
 
 abbrev pub record_of : List Row → CommandOf
 record_of rows = RecordOf (value_of (codes "PROG") rows) (value_of (codes "LOG") rows) (values_of (codes "IN") rows)
     (number_of (codes "pages") rows) (number_of (codes "piece") rows) (number_of (codes "steps") rows)
 
-abbrev pub replay_of : List Row → CommandOf
-replay_of rows = ReplayOf (value_of (codes "PROG") rows) (value_of (codes "LOG") rows)
-
-abbrev pub output_of : List Row → CommandOf
-output_of rows = OutputOf (value_of (codes "PROG") rows) (value_of (codes "LOG") rows) (number_of (codes "C") rows)
-
 abbrev pub convert_of : List Row → CommandOf
 convert_of rows = ConvertOf (value_of (codes "PROG") rows) (value_of (codes "LOG") rows) (value_of (codes "NEW") rows)
-
-abbrev pub influence_of : List Row → CommandOf
-influence_of rows = InfluenceOf (value_of (codes "PROG") rows) (value_of (codes "LOG") rows) (value_of (codes "QUERY") rows)
-    (pipeline_of rows)
 
 abbrev pub queries_of : List Row → CommandOf
 queries_of rows = QueriesOf (value_of (codes "PROG") rows) (value_of (codes "LOG") rows) (values_of (codes "QUERY") rows)
@@ -65,17 +58,36 @@ queries_of rows = QueriesOf (value_of (codes "PROG") rows) (value_of (codes "LOG
 abbrev pub bench_of : List Row → CommandOf
 bench_of rows = BenchOf (number_of (codes "SEED") rows) (number_of (codes "STEPS") rows) (pipeline_of rows)
 
+-- what the subcommand of this name tells of the rows of a query, if it is of these
+abbrev pub listing_by : Text → Option Listing
+listing_by name =
+    if bytes_eq name (codes "query") then Some BySink
+    else (if bytes_eq name (codes "influence") then Some BySource
+    else (if bytes_eq name (codes "path") then Some ByPath else None))
+
+-- what it makes of a run, if it is of those that do
+abbrev pub product_by : Text → List Row → Option Product
+product_by name rows =
+    if bytes_eq name (codes "replay") then Some Numbers
+    else (if bytes_eq name (codes "output") then Some (Output (number_of (codes "C") rows)) else None)
+
+-- the command of any other
+abbrev pub other_by : Text → List Row → Option CommandOf
+other_by name rows =
+    if bytes_eq name (codes "record") then Some (record_of rows)
+    else (if bytes_eq name (codes "convert") then Some (convert_of rows)
+    else (if bytes_eq name (codes "queries") then Some (queries_of rows)
+    else (if bytes_eq name (codes "bench") then Some (bench_of rows) else None)))
+
+-- an analysis, else a product, else another command
+abbrev pub first_of : List Row → Option Listing → Option Product → Option CommandOf → Option CommandOf
+first_of rows (Some listing) product other = Some (analysis_of listing rows)
+first_of rows None (Some product) other = Some (product_of product rows)
+first_of rows None None other = other
+
 -- the command of a subcommand, by its name and the values of its arguments
 abbrev pub command_by : Text × List Row → Option CommandOf
-command_by (name, rows) =
-    if bytes_eq name (codes "query") then Some (query_of rows)
-    else (if bytes_eq name (codes "record") then Some (record_of rows)
-    else (if bytes_eq name (codes "replay") then Some (replay_of rows)
-    else (if bytes_eq name (codes "output") then Some (output_of rows)
-    else (if bytes_eq name (codes "convert") then Some (convert_of rows)
-    else (if bytes_eq name (codes "influence") then Some (influence_of rows)
-    else (if bytes_eq name (codes "queries") then Some (queries_of rows)
-    else (if bytes_eq name (codes "bench") then Some (bench_of rows) else None)))))))
+command_by (name, rows) = first_of rows (listing_by name) (product_by name rows) (other_by name rows)
 
 -- the command that words stand for; none where the command line doesn't take them. The first word is the program's name
 unfoldable pub command_of : List Text → Option CommandOf
@@ -84,12 +96,10 @@ command_of words = if takes jet_app words then option_and_then command_by (subco
 -- ---- the command that was read
 
 abbrev pub plain_command : Command → CommandOf
-plain_command (Query program log query pipeline) = QueryOf program.now log.now query.now pipeline
+plain_command (Analysis listing program log query pipeline) = AnalysisOf listing program.now log.now query.now pipeline
+plain_command (Made product program log) = ProductOf product program.now log.now
 plain_command (Record program log inputs pages piece steps) = RecordOf program.now log.now (map (λ s. s.now) inputs.items) pages piece steps
-plain_command (Replay program log) = ReplayOf program.now log.now
-plain_command (Output program log channel) = OutputOf program.now log.now channel
 plain_command (Convert program log new) = ConvertOf program.now log.now new.now
-plain_command (Influence program log query pipeline) = InfluenceOf program.now log.now query.now pipeline
 plain_command (Queries program log queries pipeline) =
     QueriesOf program.now log.now (map (λ s. s.now) queries.items) pipeline
 plain_command (Bench seed steps pipeline) = BenchOf seed steps pipeline
@@ -99,15 +109,18 @@ abbrev pub IsPipeline : Pipeline → Type 0
 IsPipeline p =
     IfSome p.epoch (λ n. (1 ≤ n) × (n ≤ 1099511627776)) × (1 ≤ p.workers) × (p.workers ≤ 64) × (1 ≤ p.link) × (p.link ≤ 65536)
 
+-- the channel does
+abbrev pub IsProduct : Product → Type 0
+IsProduct Numbers = ⊤
+IsProduct (Output channel) = channel ≤ 15
+
 -- the numbers of the command do
 abbrev pub IsInRange : CommandOf → Type 0
-IsInRange (QueryOf program log query pipeline) = IsPipeline pipeline
+IsInRange (AnalysisOf listing program log query pipeline) = IsPipeline pipeline
+IsInRange (ProductOf product program log) = IsProduct product
 IsInRange (RecordOf program log inputs pages piece steps) =
     (length inputs ≤ 16) × (1 ≤ pages) × (pages ≤ 4096) × (1 ≤ piece) × (piece ≤ 16777216) × (1 ≤ steps) × (steps ≤ 1099511627776)
-IsInRange (ReplayOf program log) = ⊤
-IsInRange (OutputOf program log channel) = channel ≤ 15
 IsInRange (ConvertOf program log new) = ⊤
-IsInRange (InfluenceOf program log query pipeline) = IsPipeline pipeline
 IsInRange (QueriesOf program log queries pipeline) = (1 ≤ length queries) × (length queries ≤ 16) × IsPipeline pipeline
 IsInRange (BenchOf seed steps pipeline) =
     (seed ≤ 18446744073709551615) × (1 ≤ steps) × (steps ≤ 2000000) × IsPipeline pipeline

@@ -1,8 +1,9 @@
 -- What the code rests on where it reads numbers. No meaning of words rests on it.
-use Rattle.std.specs.Prelude.{◌≡◌, true, List, codes}
+use Rattle.std.specs.Prelude.{◌≡◌, true, List, IsSome, codes}
 use Rattle.std.specs.Str.{bytes_eq}
 use Rattle.clap.specs.Words.{Row, Text}
 use Rattle.clap_command.specs.Numbers.{IsNumber, IsLongNumber, IsOptionalNumber}
+use Rattle.jet_words.specs.Commands.{listing_by}
 
 -- the numbers of the pipeline can be read
 abbrev pub HasPipelineNumbers : List Row → Type 0
@@ -12,10 +13,9 @@ HasPipelineNumbers rows =
 -- each number of the subcommand can be read
 abbrev pub HasNumbers : Text × List Row → Type 0
 HasNumbers (name, rows) =
-    (bytes_eq name (codes "record") ≡ true → IsNumber (codes "pages") rows × IsNumber (codes "piece") rows × IsLongNumber (codes "steps") rows)
+    (IsSome (listing_by name) → HasPipelineNumbers rows)
     × (bytes_eq name (codes "output") ≡ true → IsNumber (codes "C") rows)
-    × (bytes_eq name (codes "query") ≡ true → HasPipelineNumbers rows)
-    × (bytes_eq name (codes "influence") ≡ true → HasPipelineNumbers rows)
+    × (bytes_eq name (codes "record") ≡ true → IsNumber (codes "pages") rows × IsNumber (codes "piece") rows × IsLongNumber (codes "steps") rows)
     × (bytes_eq name (codes "queries") ≡ true → HasPipelineNumbers rows)
     × (bytes_eq name (codes "bench") ≡ true →
     IsLongNumber (codes "SEED") rows × IsLongNumber (codes "STEPS") rows × HasPipelineNumbers rows)

@@ -11,15 +11,46 @@ pub struct Pipeline {
     pub link: u32,
 }
 
+/// What is told of the rows of a query.
+#[derive(Clone, Copy)]
+pub enum Listing {
+    /// The report: a line for each output byte and point, with its source bytes.
+    BySink,
+    /// The influence: a line for each source byte, with what it came to.
+    BySource,
+    /// The path by which the first source byte that is listed came to its output byte or point.
+    ByPath,
+}
+
+/// What is made of a recorded run without a query.
+#[derive(Clone, Copy)]
+pub enum Product {
+    /// Its numbers, as text.
+    Numbers,
+    /// What it wrote on a channel, 0 to 15.
+    Output(u32),
+}
+
 /// What words stand for.
 #[derive(Drop)]
 pub enum Command<'a> {
-    /// The report of a query: the names of the program, the log and the query, and how the run is analysed.
-    Query {
+    /// What is told of the rows of a query.
+    Analysis {
+        listing: Listing,
+        /// The program's name.
+        program: &'a str,
+        /// The log's name.
+        log: &'a str,
+        /// The query's name.
+        query: &'a str,
+        /// How the run is analysed.
+        pipeline: Pipeline,
+    },
+    /// What is made of a run: the names of the program and the log.
+    Product {
+        product: Product,
         program: &'a str,
         log: &'a str,
-        query: &'a str,
-        pipeline: Pipeline,
     },
     /// The recording of a run.
     Record {
@@ -36,33 +67,11 @@ pub enum Command<'a> {
         /// The number of steps after which the run is cut off, 1 to 1099511627776 (2^40).
         steps: u64,
     },
-    /// The numbers of a recorded run: the names of the program and the log.
-    Replay {
-        program: &'a str,
-        log: &'a str,
-    },
-    /// What a recorded run wrote on a channel.
-    Output {
-        /// The program's name.
-        program: &'a str,
-        /// The log's name.
-        log: &'a str,
-        /// The channel, 0 to 15.
-        channel: u32,
-    },
     /// The log written anew in version 2: the names of the program, the log and the file that is written.
     Convert {
         program: &'a str,
         log: &'a str,
         new: &'a str,
-    },
-    /// The report of a query, turned round: the names of the program, the log and the query, and how the run is
-    /// analysed.
-    Influence {
-        program: &'a str,
-        log: &'a str,
-        query: &'a str,
-        pipeline: Pipeline,
     },
     /// The reports of several queries.
     Queries {

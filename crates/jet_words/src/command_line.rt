@@ -3,9 +3,9 @@ ghost use Rattle.std.specs.Prelude.{◌≡◌, false, IfOk, IsOkAnd};
 ghost use Rattle.clap.specs.Words.{app_of, with_subcommand};
 ghost use Rattle.clap.specs.declared.builder.Command.TheViews.{out-Command as fields_of};
 ghost use Rattle.jet_words.specs.CommandLine.{program_and_log as program_and_log_app};
-ghost use Rattle.jet_words.specs.CommandLine.{with_pipeline as with_pipeline_app, query_app, record_app};
-ghost use Rattle.jet_words.specs.CommandLine.{replay_app, output_app, convert_app, influence_app};
-ghost use Rattle.jet_words.specs.CommandLine.{queries_app, bench_app, bare_app, jet_app};
+ghost use Rattle.jet_words.specs.CommandLine.{with_pipeline as with_pipeline_app, analysis, on_channel};
+ghost use Rattle.jet_words.specs.CommandLine.{record_app, convert_app, queries_app, bench_app, bare_app};
+ghost use Rattle.jet_words.specs.CommandLine.{with_each, analyses, products, others, jet_app};
 
 use clap::Command;
 use clap_command::{
@@ -35,13 +35,23 @@ fn with_pipeline<'a>(alloc: Global, command: Command<'a>) -> Result<Command<'a>,
     with_argument(command, number_option(alloc, "link", 1, 65536, "256"))
 }
 
-fn query_command<'a>(alloc: Global) -> Result<Command<'a>, AllocError>
-    ensures app { IfOk result (λ c. app_of c ≡ query_app) }
+// A command for a query of a run that is analysed.
+fn analysis_command<'a>(alloc: Global, name: &'a str) -> Result<Command<'a>, AllocError>
+    ensures app { IfOk result (λ c. app_of c ≡ analysis name.entry.now) }
     ensures globals { IfOk result (λ c. (fields_of c).has_globals ≡ false) }
 {
-    let command = program_and_log(alloc, "query")?;
+    let command = program_and_log(alloc, name)?;
     let command = with_argument(command, positional(alloc, "QUERY"))?;
     with_pipeline(alloc, command)
+}
+
+// A command for a channel of a run.
+fn channel_command<'a>(alloc: Global, name: &'a str) -> Result<Command<'a>, AllocError>
+    ensures app { IfOk result (λ c. app_of c ≡ on_channel name.entry.now) }
+    ensures globals { IfOk result (λ c. (fields_of c).has_globals ≡ false) }
+{
+    let command = program_and_log(alloc, name)?;
+    with_argument(command, number(alloc, "C", 0, 15))
 }
 
 fn record_command<'a>(alloc: Global) -> Result<Command<'a>, AllocError>
@@ -61,36 +71,12 @@ fn record_command<'a>(alloc: Global) -> Result<Command<'a>, AllocError>
     )
 }
 
-fn replay_command<'a>(alloc: Global) -> Result<Command<'a>, AllocError>
-    ensures app { IfOk result (λ c. app_of c ≡ replay_app) }
-    ensures globals { IfOk result (λ c. (fields_of c).has_globals ≡ false) }
-{
-    program_and_log(alloc, "replay")
-}
-
-fn output_command<'a>(alloc: Global) -> Result<Command<'a>, AllocError>
-    ensures app { IfOk result (λ c. app_of c ≡ output_app) }
-    ensures globals { IfOk result (λ c. (fields_of c).has_globals ≡ false) }
-{
-    let command = program_and_log(alloc, "output")?;
-    with_argument(command, number(alloc, "C", 0, 15))
-}
-
 fn convert_command<'a>(alloc: Global) -> Result<Command<'a>, AllocError>
     ensures app { IfOk result (λ c. app_of c ≡ convert_app) }
     ensures globals { IfOk result (λ c. (fields_of c).has_globals ≡ false) }
 {
     let command = program_and_log(alloc, "convert")?;
     with_argument(command, positional(alloc, "NEW"))
-}
-
-fn influence_command<'a>(alloc: Global) -> Result<Command<'a>, AllocError>
-    ensures app { IfOk result (λ c. app_of c ≡ influence_app) }
-    ensures globals { IfOk result (λ c. (fields_of c).has_globals ≡ false) }
-{
-    let command = program_and_log(alloc, "influence")?;
-    let command = with_argument(command, positional(alloc, "QUERY"))?;
-    with_pipeline(alloc, command)
 }
 
 fn queries_command<'a>(alloc: Global) -> Result<Command<'a>, AllocError>
@@ -132,17 +118,39 @@ fn with_made<'a>(
     with_command(command, subcommand)
 }
 
+// The subcommands that tell of the rows of a query.
+fn with_analyses<'a>(alloc: Global, command: Command<'a>) -> Result<Command<'a>, AllocError>
+    ensures { IfOk result (λ c. app_of c ≡ with_each (app_of command.entry) analyses) }
+{
+    let command = with_made(command, analysis_command(alloc, "query"))?;
+    let command = with_made(command, analysis_command(alloc, "influence"))?;
+    with_made(command, analysis_command(alloc, "path"))
+}
+
+// The subcommands that make something of a run without a query.
+fn with_products<'a>(alloc: Global, command: Command<'a>) -> Result<Command<'a>, AllocError>
+    ensures { IfOk result (λ c. app_of c ≡ with_each (app_of command.entry) products) }
+{
+    let command = with_made(command, program_and_log(alloc, "replay"))?;
+    with_made(command, channel_command(alloc, "output"))
+}
+
+// All other subcommands.
+fn with_others<'a>(alloc: Global, command: Command<'a>) -> Result<Command<'a>, AllocError>
+    ensures { IfOk result (λ c. app_of c ≡ with_each (app_of command.entry) others) }
+{
+    let command = with_made(command, record_command(alloc))?;
+    let command = with_made(command, convert_command(alloc))?;
+    let command = with_made(command, queries_command(alloc))?;
+    with_made(command, bench_command(alloc))
+}
+
 /// The command line. The error is out of memory.
 pub fn command_line<'a>(alloc: Global) -> Result<Command<'a>, AllocError>
     ensures app { IfOk result (λ c. app_of c ≡ jet_app) }
 {
     let command = bare_command(alloc);
-    let command = with_made(command, query_command(alloc))?;
-    let command = with_made(command, record_command(alloc))?;
-    let command = with_made(command, replay_command(alloc))?;
-    let command = with_made(command, output_command(alloc))?;
-    let command = with_made(command, convert_command(alloc))?;
-    let command = with_made(command, influence_command(alloc))?;
-    let command = with_made(command, queries_command(alloc))?;
-    with_made(command, bench_command(alloc))
+    let command = with_analyses(alloc, command)?;
+    let command = with_products(alloc, command)?;
+    with_others(alloc, command)
 }

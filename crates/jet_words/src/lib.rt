@@ -4,7 +4,8 @@
 //! `command_of` of specs/Commands.antt. proofs/Examples.antt has worked examples, which the checker computes.
 //!
 //! A new subcommand has its arguments in specs/CommandLine.antt and src/command_line.rt, what it stands for in
-//! specs/Commands.antt, its reading in src/read.rt, and its line in proofs/Ranges.antt.
+//! specs/Commands.antt and src/read.rt (one row, where it tells of a query's rows or makes something of a run), and its line
+//! in proofs/Ranges.antt.
 //!
 //! Crates above rest on this: `read_words` is what the words stand for, in its ranges, or Usage where `clap` doesn't
 //! take them for `jet_app`.
@@ -16,5 +17,5 @@ pub mod laws;
 mod read;
 
 pub use clap_command::{Usage, WordsFault};
-pub use command::{Command, Pipeline};
+pub use command::{Command, Listing, Pipeline, Product};
 pub use read::read_words;

@@ -6,11 +6,12 @@ ghost use Rattle.no_memory.specs.Faults.{IsCausedBy};
 ghost use Rattle.clap_command.specs.Numbers.{IsNumber, IsLongNumber};
 ghost use Rattle.jet_words.specs.CommandLine.{jet_app};
 ghost use Rattle.jet_words.specs.Commands.{command_of, command_by, plain_command, IsInRange};
-ghost use Rattle.jet_words.specs.Commands.{pipeline_of, query_of, record_of, replay_of, output_of};
-ghost use Rattle.jet_words.specs.Commands.{convert_of, influence_of, queries_of, bench_of};
+ghost use Rattle.jet_words.specs.Commands.{listing_by, product_by, other_by};
+ghost use Rattle.jet_words.specs.Commands.{pipeline_of, analysis_of, product_of as product_of_rows};
+ghost use Rattle.jet_words.specs.Commands.{record_of, convert_of, queries_of, bench_of};
 ghost use Rattle.jet_words.specs.Numbers.{HasPipelineNumbers, HasNumbers};
 
-use crate::command::{Command, Pipeline};
+use crate::command::{Command, Listing, Pipeline, Product};
 use crate::command_line::command_line;
 use clap::ArgMatches;
 use clap_command::{
@@ -39,15 +40,26 @@ fn read_pipeline(matches: &ArgMatches) -> Pipeline
     }
 }
 
-fn read_query<'a>(matches: &ArgMatches<'a>) -> Command<'a>
+fn read_analysis<'a>(matches: &ArgMatches<'a>, listing: Listing) -> Command<'a>
     requires { HasPipelineNumbers (rows_of (found_of matches.now)) }
-    ensures { plain_command result ≡ query_of (rows_of (found_of matches.now)) }
+    ensures { plain_command result ≡ analysis_of listing (rows_of (found_of matches.now)) }
 {
-    Command::Query {
+    Command::Analysis {
+        listing,
         program: read_value(matches, "PROG"),
         log: read_value(matches, "LOG"),
         query: read_value(matches, "QUERY"),
         pipeline: read_pipeline(matches),
+    }
+}
+
+fn read_product<'a>(matches: &ArgMatches<'a>, product: Product) -> Command<'a>
+    ensures { plain_command result ≡ product_of_rows product (rows_of (found_of matches.now)) }
+{
+    Command::Product {
+        product,
+        program: read_value(matches, "PROG"),
+        log: read_value(matches, "LOG"),
     }
 }
 
@@ -68,26 +80,6 @@ fn read_record<'a>(alloc: Global, matches: &ArgMatches<'a>) -> Result<Command<'a
     })
 }
 
-fn read_replay<'a>(matches: &ArgMatches<'a>) -> Command<'a>
-    ensures { plain_command result ≡ replay_of (rows_of (found_of matches.now)) }
-{
-    Command::Replay {
-        program: read_value(matches, "PROG"),
-        log: read_value(matches, "LOG"),
-    }
-}
-
-fn read_output<'a>(matches: &ArgMatches<'a>) -> Command<'a>
-    requires { IsNumber (codes "C") (rows_of (found_of matches.now)) }
-    ensures { plain_command result ≡ output_of (rows_of (found_of matches.now)) }
-{
-    Command::Output {
-        program: read_value(matches, "PROG"),
-        log: read_value(matches, "LOG"),
-        channel: read_number(matches, "C"),
-    }
-}
-
 fn read_convert<'a>(matches: &ArgMatches<'a>) -> Command<'a>
     ensures { plain_command result ≡ convert_of (rows_of (found_of matches.now)) }
 {
@@ -95,18 +87,6 @@ fn read_convert<'a>(matches: &ArgMatches<'a>) -> Command<'a>
         program: read_value(matches, "PROG"),
         log: read_value(matches, "LOG"),
         new: read_value(matches, "NEW"),
-    }
-}
-
-fn read_influence<'a>(matches: &ArgMatches<'a>) -> Command<'a>
-    requires { HasPipelineNumbers (rows_of (found_of matches.now)) }
-    ensures { plain_command result ≡ influence_of (rows_of (found_of matches.now)) }
-{
-    Command::Influence {
-        program: read_value(matches, "PROG"),
-        log: read_value(matches, "LOG"),
-        query: read_value(matches, "QUERY"),
-        pipeline: read_pipeline(matches),
     }
 }
 
@@ -136,6 +116,57 @@ fn read_bench<'a>(matches: &ArgMatches<'a>) -> Command<'a>
     }
 }
 
+// What the subcommand of this name tells of the rows of a query, if it is of these.
+fn listing_of(name: &str) -> Option<Listing>
+    ensures { result ≡ listing_by name.now }
+{
+    if name == "query" {
+        Some(Listing::BySink)
+    } else if name == "influence" {
+        Some(Listing::BySource)
+    } else if name == "path" {
+        Some(Listing::ByPath)
+    } else {
+        None
+    }
+}
+
+// What it makes of a run, if it is of those that do.
+fn product_of(name: &str, matches: &ArgMatches<'_>) -> Option<Product>
+    requires { HasNumbers (name.now, rows_of (found_of matches.now)) }
+    ensures { result ≡ product_by name.now (rows_of (found_of matches.now)) }
+{
+    if name == "replay" {
+        Some(Product::Numbers)
+    } else if name == "output" {
+        Some(Product::Output(read_number(matches, "C")))
+    } else {
+        None
+    }
+}
+
+// The command of any other. The error is out of memory.
+fn other_of<'a>(
+    alloc: Global,
+    name: &str,
+    matches: &ArgMatches<'a>,
+) -> Result<Option<Command<'a>>, AllocError>
+    requires { HasNumbers (name.now, rows_of (found_of matches.now)) }
+    ensures { IfOk result (λ c. option_map plain_command c ≡ other_by name.now (rows_of (found_of matches.now))) }
+{
+    if name == "record" {
+        Ok(Some(read_record(alloc, matches)?))
+    } else if name == "convert" {
+        Ok(Some(read_convert(matches)))
+    } else if name == "queries" {
+        Ok(Some(read_queries(alloc, matches)?))
+    } else if name == "bench" {
+        Ok(Some(read_bench(matches)))
+    } else {
+        Ok(None)
+    }
+}
+
 // The command of the subcommand of this name. The error is out of memory.
 fn command_by_name<'a>(
     alloc: Global,
@@ -145,25 +176,13 @@ fn command_by_name<'a>(
     requires { HasNumbers (name.now, rows_of (found_of matches.now)) }
     ensures { IfOk result (λ c. option_map plain_command c ≡ command_by (name.now, rows_of (found_of matches.now))) }
 {
-    if name == "query" {
-        Ok(Some(read_query(matches)))
-    } else if name == "record" {
-        Ok(Some(read_record(alloc, matches)?))
-    } else if name == "replay" {
-        Ok(Some(read_replay(matches)))
-    } else if name == "output" {
-        Ok(Some(read_output(matches)))
-    } else if name == "convert" {
-        Ok(Some(read_convert(matches)))
-    } else if name == "influence" {
-        Ok(Some(read_influence(matches)))
-    } else if name == "queries" {
-        Ok(Some(read_queries(alloc, matches)?))
-    } else if name == "bench" {
-        Ok(Some(read_bench(matches)))
-    } else {
-        Ok(None)
+    if let Some(listing) = listing_of(name) {
+        return Ok(Some(read_analysis(matches, listing)));
     }
+    if let Some(product) = product_of(name, matches) {
+        return Ok(Some(read_product(matches, product)));
+    }
+    other_of(alloc, name, matches)
 }
 
 // The command of the subcommand. The error is out of memory.

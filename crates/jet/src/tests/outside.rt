@@ -3,7 +3,7 @@
 ghost use Rattle.std.specs.Prelude.{◌<◌};
 
 use super::guests::COPY_FOUR;
-use super::runs::{CONVERT, INFLUENCE, NUMBERS, OUTPUT, QUERIES, REPLAY};
+use super::runs::{CONVERT, INFLUENCE, NUMBERS, OUTPUT, PATH, QUERIES, REPLAY};
 use super::{
     COPIED, COPY, Ending, Line, NEVER, QUERY, assert_ends, assert_puts, files, log_with,
     program_of, status_of,
@@ -25,6 +25,11 @@ const COMMANDS: &[(Line, u64, &str)] = &[
         QUERIES,
         9,
         "query 1\n1:0 0:0\n1:1 0:1\n1:2 0:2\n1:3 0:3\nend 4\n",
+    ),
+    (
+        PATH,
+        9,
+        "read 5 0x00010014 0:0 m:65792\nwrite 8 0x00010020 m:65792 1:0\nend 2\n",
     ),
 ];
 
@@ -179,6 +184,7 @@ const WORDS: &[(Line, u8, &str)] = &[
     (CONVERT, 7, "jet: read fault\n"),
     (INFLUENCE, 7, "jet: read fault\n"),
     (QUERIES, 7, "jet: read fault\n"),
+    (PATH, 7, "jet: read fault\n"),
 ];
 
 /// Over a store of no files the command of these words ends so.

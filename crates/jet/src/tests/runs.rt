@@ -22,8 +22,10 @@ pub const INFLUENCE: Line = &["jet", "influence", "prog", "log", "query"];
 
 pub const QUERIES: Line = &["jet", "queries", "prog", "log", "query"];
 
+pub const PATH: Line = &["jet", "path", "prog", "log", "query"];
+
 /// The commands over a log.
-pub const READERS: [Line; 6] = [QUERY, REPLAY, OUTPUT, CONVERT, INFLUENCE, QUERIES];
+pub const READERS: [Line; 7] = [QUERY, REPLAY, OUTPUT, CONVERT, INFLUENCE, QUERIES, PATH];
 
 /// The numbers of the four-byte copy.
 pub const NUMBERS: &str = "steps 12\ncalls 2\nread 4\nwritten 4\nend exit 0\n";

@@ -1,5 +1,5 @@
 use Rattle.std.proofs.Common.{rules, subst, map, is_ok, List, [], ℕ, Bor}
-use Rattle.jet_words.specs.Commands.{RecordOf, ReplayOf, OutputOf, BenchOf}
+use Rattle.jet_words.specs.Commands.{RecordOf, ProductOf, BenchOf}
 use Rattle.jet_files.specs.Outcome.{Follows, seen_by, bytes_of}
 use Rattle.jet_cli.specs.Answers.{IsRecording, IsAnswer, limits_of, workload_length}
 use Rattle.workload_model.specs.Answer.{IsBenchAnswer}
@@ -17,15 +17,11 @@ returns-in-Record-clause-answer g c =
     subst (λ (names : List (Bor (List ℕ))). Follows (IsRecording r.program.now (map (λ (s : Bor (List ℕ)). s.now) names) (limits_of r.pages r.piece r.steps) heard after) (g.S.Store.shown c.args.store.now) (g.S.Store.shown c.record.new.store) (seen_by bytes_of c.record.result)) c.deref.ensures.value c.record.ensures.answer in
     search rules
 
-pub returns-in-Replay-clause-answer : goal.returns-in-Replay-clause-answer
-returns-in-Replay-clause-answer g c =
+pub returns-in-Product-clause-answer : goal.returns-in-Product-clause-answer
+returns-in-Product-clause-answer g c =
     let heard = g.K.Clock.answers c.args.clock.now in
-    let answer : Follows (IsAnswer (ReplayOf c.in-Replay.program.now c.in-Replay.log.now) heard heard) (g.S.Store.shown c.args.store.now) (g.S.Store.shown c.run_product.new.store) (seen_by bytes_of c.run_product.result) = c.run_product.ensures.answer in
-    search rules
-
-pub returns-in-Output-clause-answer : goal.returns-in-Output-clause-answer
-returns-in-Output-clause-answer g c =
-    let answer : Follows (IsAnswer (OutputOf c.in-Output.program.now c.in-Output.log.now c.in-Output.channel) (g.K.Clock.answers c.args.clock.now) (g.K.Clock.answers c.args.clock.now)) (g.S.Store.shown c.args.store.now) (g.S.Store.shown c.run_product-in-Output.new.store) (seen_by bytes_of c.run_product-in-Output.result) = c.run_product-in-Output.ensures.answer in
+    let r = c.in-Product in
+    let answer : Follows (IsAnswer (ProductOf r.product r.program.now r.log.now) heard heard) (g.S.Store.shown c.args.store.now) (g.S.Store.shown c.run_product.new.store) (seen_by bytes_of c.run_product.result) = c.run_product.ensures.answer in
     search rules
 
 pub returns-in-Bench-clause-answer : goal.returns-in-Bench-clause-answer

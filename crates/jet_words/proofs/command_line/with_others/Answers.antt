@@ -1,0 +1,15 @@
+use Rattle.std.proofs.Common.{refl}
+use Rattle.std.proofs.lemmas.Result.{IfOk-weaker}
+use Rattle.clap.specs.Words.{app_of}
+use Rattle.jet_words.proofs.Made.{with_one}
+use Rattle.jet_words.proofs.command_line.with_others.Goals as goal
+
+pub returns : goal.returns
+returns c = IfOk-weaker c.with_made-4.result _ _ (λ m h. with_one c.bench_command.result _ _ _ _
+    (with_one c.queries_command.result _ _ _ _
+    (with_one c.convert_command.result _ _ _ _
+    (with_one c.record_command.result _ _ (app_of c.args.command) _ refl c.record_command.ensures.app c.in_ok-command.ensures)
+    c.convert_command.ensures.app c.in_ok-command-2.ensures)
+    c.queries_command.ensures.app c.in_ok-command-3.ensures)
+    c.bench_command.ensures.app h)
+    c.with_made-4.ensures
