@@ -12,7 +12,7 @@ ghost use Rattle.local_taint.specs.Words.{as_terms};
 use crate::answers::Answers;
 use crate::resolving::resolved;
 use flow_model::SourceByte;
-use local_taint::{Asked, SinksAhead, Summary};
+use local_taint::{Asked, Summary, TermsAhead};
 use merge_log::TermsReader;
 use no_memory::NoMemory;
 use sink_collect::SinkSet;
@@ -30,7 +30,7 @@ pub fn rows(
     ensures { IfOk result (λ rows. rows.items ≡ rows_of (summary_of summary.now) (answer_to asked.now answers.now)) }
 {
     let mut rows = Vec::with_capacity(alloc, summary.sink_count())?;
-    let mut ahead = SinksAhead::new(alloc);
+    let mut ahead = TermsAhead::new(alloc);
     for number in 0..summary.sink_count() {
         let before = rows.last();
         let next = row(
@@ -45,7 +45,7 @@ pub fn rows(
 /// two share their terms.
 fn row(
     alloc: Global,
-    ahead: &mut SinksAhead,
+    ahead: &mut TermsAhead,
     reader: &mut TermsReader,
     summary: &Summary,
     number: usize,

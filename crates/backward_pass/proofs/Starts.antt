@@ -18,9 +18,6 @@ use Rattle.stream_model.specs.Streams.{places_up_to, places_needed}
 use Rattle.stream_model.proofs.Growing.{added_all-append, added_all_keeps}
 use Rattle.stream_model.proofs.Counting.{places_stay}
 
-no : {A : Type 0} → true ≡ false → A
-no e = cc
-
 -- ---- the place of one location
 
 loc_itself : (l : Loc) → eq_by_cmp loc_cmp l l ≡ true
@@ -33,14 +30,6 @@ is_eq_turned Greater = refl
 
 loc_eq_turned : (l m : Loc) → eq_by_cmp loc_cmp m l ≡ eq_by_cmp loc_cmp l m
 loc_eq_turned l m = ap is_eq (loc_total.antisymm m l) ∙ is_eq_turned (loc_cmp l m)
-
--- one that is not asked comes after all
-pub all_before : (asked : List Loc) (l : Loc) → has loc_cmp l asked ≡ false → places_up_to asked l ≡ length asked
-all_before [] l e = refl
-all_before (m ∷ ms) l e = by (all_before ms l) (eq_by_cmp loc_cmp l m) e where
-  by : (has loc_cmp l ms ≡ false → places_up_to ms l ≡ length ms) → (b : Bool) → (b || has loc_cmp l ms) ≡ false → cond b 1 (1 + places_up_to ms l) ≡ suc (length ms)
-  by ih true h = no h
-  by ih false h = let rest = ih h in omega (arith, rest)
 
 -- where each is asked once, a location stands at one place alone
 pub place_is : (asked : List Loc) (l : Loc) (i : ℕ) → IsDistinct (eq_by_cmp loc_cmp) asked → slice_get asked i ≡ Some l → places_up_to asked l ≡ i + 1

@@ -1,7 +1,7 @@
 //! What is asked for a sink, and for a request of the next epoch.
 
 ghost use Rattle.std.specs.Prelude.{◌≡◌, ◌<◌, length, take, Some, false, IfOk, OnOk};
-ghost use Rattle.epoch_model.specs.Crossing.{added_all};
+ghost use Rattle.epoch_model.specs.Crossing.{added, added_all};
 ghost use Rattle.stream_model.specs.Streams.{places_up_to, places_needed};
 ghost use Rattle.stream_model.specs.Passes.{asked_more};
 ghost use Rattle.local_taint.specs.Ahead.{IsAhead};
@@ -11,21 +11,21 @@ ghost use Rattle.pass_parts.specs.Requests.{IsCounted, AreCounted};
 ghost use Rattle.backward_pass.specs.Backward.{AreAsked, IsWalked, IsRequested};
 
 use flow_rule::Loc;
-use local_taint::{Asked, SinksAhead, Summary};
+use local_taint::{Asked, Summary, TermsAhead};
 use merge_log::TermsReader;
 use no_memory::NoMemory;
 use pass_parts::{Request, Requests, read_end_terms, share_end_terms};
 
-/// How many of the asked locations there are up to this one: all of them where it is not asked.
-fn places_up_to(asked: &Asked, loc: Loc) -> usize
-    ensures { result ≡ places_up_to asked.now loc }
+/// Asks for a start location. It gives how many of the asked locations there are up to it. When out of memory nothing is
+/// asked.
+fn add_start(asked: &mut Asked, start: Loc) -> Result<usize, NoMemory>
+    ensures added { OnOk result (asked.new ≡ added asked.old start) }
+    ensures up_to { IfOk result (λ n. n ≡ places_up_to asked.new start) }
 {
+    let place = asked.add(start)?;
     asked.form();
-    let count = asked.count();
-    match asked.place_of(loc) {
-        Some(place) => place + 1,
-        None => count,
-    }
+    let _count = asked.count(); // so that the number after a place fits
+    Ok(place + 1)
 }
 
 /// Asks for the start locations that were read last. It gives how many of the asked locations there are up to the last
@@ -36,8 +36,7 @@ fn add_starts(reader: &TermsReader, asked: &mut Asked) -> Result<usize, NoMemory
 {
     let mut needed = 0;
     for start in reader.starts() {
-        asked.add(*start)?;
-        needed = places_up_to(asked, *start).max(needed);
+        needed = add_start(asked, *start)?.max(needed);
     }
     Ok(needed)
 }
@@ -46,7 +45,7 @@ fn add_starts(reader: &TermsReader, asked: &mut Asked) -> Result<usize, NoMemory
 /// label of the one before it nothing more. When out of memory, part of it may be asked.
 pub(crate) fn add_sink(
     summary: &Summary,
-    ahead: &mut SinksAhead,
+    ahead: &mut TermsAhead,
     reader: &mut TermsReader,
     number: usize,
     first: bool,
@@ -71,12 +70,15 @@ pub(crate) fn add_sink(
 /// part of it may be asked.
 fn add_location(
     summary: &Summary,
+    ahead: &mut TermsAhead,
     reader: &mut TermsReader,
     loc: Loc,
     asked: &mut Asked,
     requests: &Requests,
 ) -> Result<usize, NoMemory>
-    requires { AreCounted asked.old (known (Some summary.now)) requests.now.items }
+    requires ahead { IsAhead summary.now ahead.old }
+    requires counted { AreCounted asked.old (known (Some summary.now)) requests.now.items }
+    ensures ahead { IsAhead summary.now ahead.new }
     ensures asked { OnOk result (asked.new ≡ added_all asked.old ((known (Some summary.now)).ends loc).starts) }
     ensures counted { IfOk result (λ n.
         IsCounted asked.new (known (Some summary.now)) (record { loc = loc; needed_first = n })) }
@@ -86,7 +88,7 @@ fn add_location(
             return Ok(last.needed_first);
         }
     }
-    read_end_terms(summary, reader, loc)?;
+    read_end_terms(summary, ahead, reader, loc)?;
     add_starts(reader, asked)
 }
 
@@ -94,19 +96,22 @@ fn add_location(
 /// asks nothing. When out of memory, part of it may be asked.
 pub(crate) fn add_request(
     summary: &Summary,
+    ahead: &mut TermsAhead,
     reader: &mut TermsReader,
     loc: Loc,
     first: bool,
     asked: &mut Asked,
     requests: &mut Requests,
 ) -> Result<(), NoMemory>
-    requires { first ≡ false → AreCounted asked.old (known (Some summary.now)) requests.old.items }
+    requires ahead { IsAhead summary.now ahead.old }
+    requires counted { first ≡ false → AreCounted asked.old (known (Some summary.now)) requests.old.items }
+    ensures ahead { IsAhead summary.now ahead.new }
     ensures asked { OnOk result (asked.new ≡ asked_more first asked.old ((known (Some summary.now)).ends loc).starts) }
     ensures noted { OnOk result (IsRequested first asked.new (known (Some summary.now)) loc requests.old.items requests.new.items) }
 {
     let mut needed_first = 0;
     if !first {
-        needed_first = add_location(summary, reader, loc, asked, requests)?;
+        needed_first = add_location(summary, ahead, reader, loc, asked, requests)?;
     }
     requests.push(Request { loc, needed_first })?;
     Ok(())

@@ -3,14 +3,12 @@
 ghost use Rattle.std.specs.Prelude.{◌≡◌, [], true, false};
 ghost use Rattle.pass_parts.specs.Ends.{IsEndFrom, Seen, fresh_end};
 ghost use Rattle.pass_parts.specs.Events.{IsEventOver, HasWaited};
-ghost use Rattle.std.specs.Option.{ForSome};
-ghost use Rattle.local_taint.specs.Ahead.{IsAhead};
-ghost use Rattle.backward_pass.specs.Ahead.{read_summary};
+ghost use Rattle.pass_parts.specs.Knowing.{IsOfEpoch};
 
 use crate::asking::{add_request, add_sink};
 use epoch_link::{Inlet, Outlet};
 use flow_rule::Message;
-use local_taint::{Asked, SinksAhead, Summary};
+use local_taint::{Asked, Summary, TermsAhead};
 use merge_log::TermsReader;
 use pass_parts::{Knowledge, Next, PassTurn, Requests, pop_message, push_message};
 use std::alloc::Global;
@@ -28,8 +26,8 @@ pub struct Back {
     first: bool,
     last: bool,
     reader: TermsReader,
-    // Terms of the sinks that are walked next.
-    ahead: SinksAhead,
+    // Terms of the sinks that are walked next, and then of locations that may be requested next.
+    ahead: TermsAhead,
     // How many sinks are walked.
     walked: usize,
     // Nothing, where it is broken.
@@ -41,7 +39,7 @@ pub struct Back {
     heard: bool,
     // The End was sent.
     over: bool,
-    ghost of_epoch: { ForSome (read_summary epoch) (λ s. IsAhead s ahead) },
+    ghost of_epoch: { IsOfEpoch epoch ahead },
 }
 
 impl Back {
@@ -59,7 +57,7 @@ impl Back {
             first,
             last,
             reader: TermsReader::new(alloc),
-            ahead: SinksAhead::new(alloc),
+            ahead: TermsAhead::new(alloc),
             walked: 0,
             asked: Asked::new(alloc),
             pushed: 0,
@@ -129,6 +127,7 @@ impl Back {
                 if let Knowledge::Whole(summary) = &self.epoch {
                     let Ok(()) = add_request(
                         summary,
+                        &mut self.ahead,
                         &mut self.reader,
                         loc,
                         self.first,

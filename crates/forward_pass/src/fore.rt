@@ -5,6 +5,7 @@ ghost use Rattle.flow_model.specs.declared.Loc.{Loc};
 ghost use Rattle.flow_rule.specs.declared.Message.{Message};
 ghost use Rattle.epoch_model.specs.Join.{answer_to, resolved as resolved_terms};
 ghost use Rattle.stream_model.specs.Passes.{is_whole_message, rows_or_none};
+ghost use Rattle.local_taint.specs.Ahead.{IsAhead};
 ghost use Rattle.pass_parts.specs.Ends.{IsEndFrom, Seen, fresh_end};
 ghost use Rattle.pass_parts.specs.Events.{IsEventOver, HasWaited};
 ghost use Rattle.pass_parts.specs.Known.{known};
@@ -18,7 +19,7 @@ use crate::state::Fore;
 use answer_sets::{Answers, resolved, rows};
 use epoch_link::{Inlet, Outlet};
 use flow_rule::{Loc, Message, SourceByte};
-use local_taint::{Asked, Summary};
+use local_taint::{Asked, Summary, TermsAhead};
 use merge_log::TermsReader;
 use no_memory::NoMemory;
 use pass_parts::{
@@ -30,15 +31,18 @@ use std::alloc::Global;
 /// The answer to a location, where this was asked and these answers came. It gives up with NoMemory alone.
 fn answer_for(
     alloc: Global,
+    ahead: &mut TermsAhead,
     reader: &mut TermsReader,
     summary: &Summary,
     loc: Loc,
     asked: &Asked,
     answers: &Answers,
 ) -> Result<Vec<SourceByte>, NoMemory>
-    ensures { IfOk result (λ set. set.items ≡ resolved_terms (answer_to asked.now answers.now) ((known (Some summary.now)).ends loc)) }
+    requires { IsAhead summary.now ahead.old }
+    ensures ahead { IsAhead summary.now ahead.new }
+    ensures value { IfOk result (λ set. set.items ≡ resolved_terms (answer_to asked.now answers.now) ((known (Some summary.now)).ends loc)) }
 {
-    read_end_terms(summary, reader, loc)?;
+    read_end_terms(summary, ahead, reader, loc)?;
     resolved(alloc, reader, asked, answers)
 }
 
@@ -94,6 +98,7 @@ impl Fore {
             received: Received::new(alloc, first),
             rows: None,
             reader: TermsReader::new(alloc),
+            ahead: TermsAhead::new(alloc),
             over: false,
         }
     }
@@ -219,6 +224,7 @@ impl Fore {
         let answers = self.received.answers();
         let Ok(set) = answer_for(
             alloc,
+            &mut self.ahead,
             &mut self.reader,
             summary,
             request.loc,

@@ -4,12 +4,12 @@ ghost use Rattle.std.specs.Prelude.{◌≡◌};
 ghost use Rattle.std.specs.Option.{ForSome};
 ghost use Rattle.epoch_model.specs.Join.{answer_to, resolved};
 ghost use Rattle.pass_parts.specs.Known.{known};
-ghost use Rattle.pass_parts.specs.Knowing.{summary_in};
+ghost use Rattle.pass_parts.specs.Knowing.{IsOfEpoch, summary_in};
 
 use crate::received::Received;
 use crate::sending::Sending;
 use flow_rule::Loc;
-use local_taint::Asked;
+use local_taint::{Asked, TermsAhead};
 use merge_log::TermsReader;
 use pass_parts::{Knowledge, Requests};
 use sink_collect::SinkSets;
@@ -32,6 +32,9 @@ pub struct Fore {
     pub(crate) rows: Option<SinkSets>,
     // It keeps its marks from one set to the next.
     pub(crate) reader: TermsReader,
+    // Terms of locations that may be answered next.
+    pub(crate) ahead: TermsAhead,
     pub(crate) over: bool,
+    ghost of_epoch: { IsOfEpoch epoch ahead },
     ghost last_answer: { ForSome last (λ l. sending.set ≡ resolved (answer_to asked received.answers) ((known (summary_in epoch)).ends l)) },
 }

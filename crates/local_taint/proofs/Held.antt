@@ -1,4 +1,4 @@
--- What is read of sinks, at once or one by one.
+-- What is read of nodes, at once or one by one.
 use Rattle.std.proofs.Common.{◌≡◌, ℕ, ◌<◌, ◌⊎◌, inl, inr, List, [], ◌∷◌, ◌++◌, length, slice_get, get_or, ap, sym, subst, ◌∙◌, arith, length-append}
 use Rattle.std.specs.Prelude.{Some}
 use Rattle.std.specs.Option.{option_map}
@@ -19,10 +19,10 @@ at_front [] n first h = cc
 at_front (m ∷ next) n first h = h
 
 -- one node more to read, or none
-pub next_more : (log : List Entry) (node most : ℕ) (old new : List ℕ) (n : ℕ) → AreNext log node most old → length old < most → IsNode log n
-    → (new ≡ old) ⊎ (new ≡ old ++ n ∷ []) → AreNext log node most new
-next_more log node most old new n a room stands (inl e) = subst (AreNext log node most) (sym e) a
-next_more log node most old new n a room stands (inr e) = subst (AreNext log node most) (sym e) (record {
+pub next_more : (log : List Entry) (node : ℕ) (old new : List ℕ) (n : ℕ) → AreNext log node old → length old < 64 → IsNode log n
+    → (new ≡ old) ⊎ (new ≡ old ++ n ∷ []) → AreNext log node new
+next_more log node old new n a room stands (inl e) = subst (AreNext log node) (sym e) a
+next_more log node old new n a room stands (inr e) = subst (AreNext log node) (sym e) (record {
   first = at_front old n node a.first;
   stand = All-push (IsNode log) old n a.stand stands;
   few = omega (arith, length-append old (n ∷ []), room);

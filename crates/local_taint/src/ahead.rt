@@ -1,55 +1,64 @@
-//! The terms of sinks that are read ahead of their use.
+//! Terms that are read ahead of their use.
 
-ghost use Rattle.std.specs.Prelude.{◌≡◌, ◌<◌, ◌≤◌, ◌⊎◌, ◌∷◌, ◌++◌, [], Some, slice_get, IfOk, IfSome, OnOk};
+ghost use Rattle.std.specs.Prelude.{◌≡◌, ◌<◌, ◌≤◌, ◌⊎◌, ◌∷◌, ◌++◌, [], Some, slice_get, IfOk, IfSome, IsTrue, OnOk};
 ghost use Rattle.merge_log.specs.Log.{IsNode, terms};
+ghost use Rattle.flow_model.specs.Ranges.{IsLocation};
 ghost use Rattle.taint_shadow.specs.Labels.{kind_of};
-ghost use Rattle.local_taint.specs.Words.{node_or_nothing};
+ghost use Rattle.taint_shadow.specs.Steps.{AreStanding};
+ghost use Rattle.local_taint.specs.Words.{label_words, node_or_nothing};
 ghost use Rattle.local_taint.specs.Sinks.{AreNamed};
 ghost use Rattle.local_taint.specs.Ahead.{AreHeld, AreNext, IsAhead};
 ghost use Rattle.local_taint.specs.declared.summary.Summary.{Summary as AnySummary};
 
 use crate::labels::Nodes;
 use crate::sinks::SinkLabel;
+use flow_model::Loc;
 use merge_log::{MOST_ROOTS, ManyTerms, Node, TermsReader};
 use no_memory::NoMemory;
 use std::alloc::Global;
 use std::mem;
-use taint_shadow::{Label, LabelKind};
+use taint_shadow::{Label, LabelKind, Places};
 
-/// The terms of sinks of one summary that were read by one walk, ahead of their use: neighbours have most of what is
-/// under their nodes in common.
+/// The terms of sinks of one summary, or of locations at its end, that were read by one walk, ahead of their use:
+/// neighbours have most of what is under their nodes in common.
 #[derive(Drop)]
-pub struct SinksAhead {
+pub struct TermsAhead {
     alloc: Global,
-    // The nodes of the sinks, each once.
+    // The nodes that were read, each once.
     nodes: Vec<Node>,
     // The terms of these nodes.
     held: ManyTerms,
-    // How many terms were read lately: about twice those of a sink, where each has as many.
+    // How many terms were read lately: about twice those of a node, where each has as many.
     lately: usize,
+    // The location at the end that was read last.
+    last: Option<Loc>,
 }
 
-/// Where fewer terms were read lately, a sink is read by itself.
+/// Where fewer terms were read lately, a node is read by itself.
 const WORTH: usize = 64;
 
-/// About so many terms are held at most, where each sink has as many as those before.
+/// About so many terms are held at most, where each node has as many as those before.
 const MOST_HELD: usize = 1_048_576;
 
-impl SinksAhead {
-    /// The terms of no sink. It takes no memory.
+/// So far apart are locations at most that are read together.
+const NEAR: u32 = 256;
+
+impl TermsAhead {
+    /// The terms of no node. It takes no memory.
     pub fn new(alloc: Global) -> Self
         ensures { (e : AnySummary) → IsAhead e result }
     {
-        SinksAhead {
+        TermsAhead {
             alloc,
             nodes: Vec::new(alloc),
             held: ManyTerms::new(alloc),
             lately: 0,
+            last: None,
         }
     }
 
     /// Reads the terms of a node, which is that of sink number `first` of these, and perhaps those of the sinks after it.
-    pub(crate) fn read(
+    pub(crate) fn read_sink(
         &mut self,
         nodes: &Nodes,
         node: Node,
@@ -63,13 +72,103 @@ impl SinksAhead {
         ensures held { AreHeld nodes.now.log self.new.nodes.items self.new.held }
         ensures read { OnOk result (reader.new ≡ terms nodes.now.log node) }
     {
+        if self.read_held(nodes, node, reader)? {
+            return Ok(());
+        }
+        if self.lately < WORTH {
+            return self.read_one(nodes, node, reader);
+        }
+        let next = next_sinks(self.alloc, nodes, node, sinks, first, self.most())?;
+        self.read_all(nodes, node, next, reader)
+    }
+
+    /// Reads the terms of a node, which is that of a location at the end, and perhaps those of the locations after it.
+    pub(crate) fn read_end(
+        &mut self,
+        nodes: &Nodes,
+        node: Node,
+        places: &Places,
+        loc: Loc,
+        reader: &mut TermsReader,
+    ) -> Result<(), NoMemory>
+        requires stands { IsNode nodes.now.log node }
+        requires standing { AreStanding label_words nodes.now places.now }
+        requires location { IsLocation loc }
+        requires held { AreHeld nodes.now.log self.old.nodes.items self.old.held }
+        ensures held { AreHeld nodes.now.log self.new.nodes.items self.new.held }
+        ensures read { OnOk result (reader.new ≡ terms nodes.now.log node) }
+    {
+        let last = self.last.replace(loc);
+        if self.read_held(nodes, node, reader)? {
+            return Ok(());
+        }
+        if self.lately < WORTH || !is_near(last, loc) {
+            return self.read_one(nodes, node, reader);
+        }
+        let next = next_ends(self.alloc, nodes, node, places, loc, self.most())?;
+        self.read_all(nodes, node, next, reader)
+    }
+
+    /// Reads the terms of a node, where that takes no walk: it is the empty one, or its terms are held. Else it answers no.
+    fn read_held(
+        &mut self,
+        nodes: &Nodes,
+        node: Node,
+        reader: &mut TermsReader,
+    ) -> Result<bool, NoMemory>
+        requires stands { IsNode nodes.now.log node }
+        requires held { AreHeld nodes.now.log self.old.nodes.items self.old.held }
+        ensures held { AreHeld nodes.now.log self.new.nodes.items self.new.held }
+        ensures read { IfOk result (λ is_read. IsTrue is_read → reader.new ≡ terms nodes.now.log node) }
+    {
         if node == 0 {
-            return reader.read(&nodes.log, node);
+            reader.read(&nodes.log, node)?;
+            return Ok(true);
         }
-        match self.place_of(node) {
-            Some(place) => self.held.copy(place, reader)?,
-            None => self.read_on(nodes, node, sinks, first, reader)?,
-        }
+        let Some(place) = self.place_of(node) else {
+            return Ok(false);
+        };
+        self.held.copy(place, reader)?;
+        self.note(reader);
+        Ok(true)
+    }
+
+    /// Reads the terms of a node by itself.
+    fn read_one(
+        &mut self,
+        nodes: &Nodes,
+        node: Node,
+        reader: &mut TermsReader,
+    ) -> Result<(), NoMemory>
+        requires { IsNode nodes.now.log node }
+        ensures nodes { self.new.nodes ≡ self.old.nodes }
+        ensures held { self.new.held ≡ self.old.held }
+        ensures read { OnOk result (reader.new ≡ terms nodes.now.log node) }
+    {
+        reader.read(&nodes.log, node)?;
+        self.note(reader);
+        Ok(())
+    }
+
+    /// Reads the terms of these nodes by one walk, and gives those of the first.
+    fn read_all(
+        &mut self,
+        nodes: &Nodes,
+        node: Node,
+        next: Vec<Node>,
+        reader: &mut TermsReader,
+    ) -> Result<(), NoMemory>
+        requires next { AreNext nodes.now.log node next.items }
+        requires held { AreHeld nodes.now.log self.old.nodes.items self.old.held }
+        ensures held { AreHeld nodes.now.log self.new.nodes.items self.new.held }
+        ensures read { OnOk result (reader.new ≡ terms nodes.now.log node) }
+    {
+        let mut held = mem::replace(&mut self.held, ManyTerms::new(self.alloc));
+        self.nodes.clear();
+        held.read(&nodes.log, &next)?;
+        self.held = held;
+        self.nodes = next;
+        self.held.copy(0, reader)?;
         self.note(reader);
         Ok(())
     }
@@ -86,43 +185,12 @@ impl SinksAhead {
         None
     }
 
-    /// Reads the terms of a node that is not among those, by itself or with those of the next sinks.
-    fn read_on(
-        &mut self,
-        nodes: &Nodes,
-        node: Node,
-        sinks: &[SinkLabel],
-        first: usize,
-        reader: &mut TermsReader,
-    ) -> Result<(), NoMemory>
-        requires stands { IsNode nodes.now.log node }
-        requires named { AreNamed nodes.now sinks.now }
-        requires held { AreHeld nodes.now.log self.old.nodes.items self.old.held }
-        ensures held { AreHeld nodes.now.log self.new.nodes.items self.new.held }
-        ensures read { OnOk result (reader.new ≡ terms nodes.now.log node) }
-    {
-        let most = self.most();
-        if most == 1 {
-            return reader.read(&nodes.log, node);
-        }
-        let next = next_nodes(self.alloc, nodes, node, sinks, first, most)?;
-        let mut held = mem::replace(&mut self.held, ManyTerms::new(self.alloc));
-        self.nodes.clear();
-        held.read(&nodes.log, &next)?;
-        self.held = held;
-        self.nodes = next;
-        self.held.copy(0, reader)
-    }
-
-    /// How many nodes the next walk reads: the fewer, the more terms they have, and one where they have few.
+    /// How many nodes the next walk reads: the fewer, the more terms they have.
     fn most(&self) -> usize
         ensures some { 0 < result }
         ensures few { result ≤ 64 }
     {
-        if self.lately < WORTH {
-            return 1;
-        }
-        (2 * MOST_HELD / self.lately).max(2).min(MOST_ROOTS)
+        (2 * MOST_HELD / self.lately.max(1)).max(2).min(MOST_ROOTS)
     }
 
     /// Notes how many terms were read.
@@ -135,8 +203,38 @@ impl SinksAhead {
     }
 }
 
-/// A node, and then so many of those of these sinks, from the first one on, each once.
-fn next_nodes(
+/// Whether a location comes soon after the one that was read last.
+fn is_near(last: Option<Loc>, loc: Loc) -> bool {
+    match (last, loc) {
+        (Some(Loc::Mem { place: last }), Loc::Mem { place }) => place.wrapping_sub(last) <= NEAR,
+        (Some(Loc::Reg { .. }), Loc::Reg { .. }) => true,
+        _ => false,
+    }
+}
+
+/// The location after one: the next byte, or the next lane of a register.
+fn after(loc: Loc) -> Option<Loc>
+    requires { IsLocation loc }
+    ensures { IfSome result IsLocation }
+{
+    match loc {
+        Loc::Mem { place } => Some(Loc::Mem {
+            place: place.checked_add(1)?,
+        }),
+        Loc::Reg { number, lane } if lane < 3 => Some(Loc::Reg {
+            number,
+            lane: lane + 1,
+        }),
+        Loc::Reg { number, .. } if number < 31 => Some(Loc::Reg {
+            number: number + 1,
+            lane: 0,
+        }),
+        Loc::Reg { .. } => None,
+    }
+}
+
+/// A node, and then those of these sinks, from the first one on, each once, `most` nodes in all at most.
+fn next_sinks(
     alloc: Global,
     nodes: &Nodes,
     node: Node,
@@ -147,15 +245,48 @@ fn next_nodes(
     requires stands { IsNode nodes.now.log node }
     requires named { AreNamed nodes.now sinks.now }
     requires some { 0 < most }
-    ensures { IfOk result (λ next. AreNext nodes.now.log node most next.items) }
+    requires few { most ≤ 64 }
+    ensures { IfOk result (λ next. AreNext nodes.now.log node next.items) }
 {
     let mut next = Vec::new(alloc);
     next.push(node)?;
     for number in first..sinks.len() {
-        if next.len() == most {
+        if next.len() >= most {
             break;
         }
         add_node(&mut next, sinks[number].label)?;
+    }
+    Ok(next)
+}
+
+/// A node, and then those that the locations after this one have at the end, each once, `most` nodes in all at most.
+fn next_ends(
+    alloc: Global,
+    nodes: &Nodes,
+    node: Node,
+    places: &Places,
+    loc: Loc,
+    most: usize,
+) -> Result<Vec<Node>, NoMemory>
+    requires stands { IsNode nodes.now.log node }
+    requires standing { AreStanding label_words nodes.now places.now }
+    requires location { IsLocation loc }
+    requires some { 0 < most }
+    requires few { most ≤ 64 }
+    ensures { IfOk result (λ next. AreNext nodes.now.log node next.items) }
+{
+    let mut next = Vec::new(alloc);
+    next.push(node)?;
+    let mut here = loc;
+    for _ in 0..NEAR {
+        if next.len() >= most {
+            break;
+        }
+        let Some(there) = after(here) else {
+            break;
+        };
+        add_node(&mut next, places.get(there))?;
+        here = there;
     }
     Ok(next)
 }

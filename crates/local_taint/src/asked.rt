@@ -1,6 +1,6 @@
 //! What one epoch asks of the one before it.
 
-ghost use Rattle.std.specs.Prelude.{◌≡◌, ◌<◌, [], length, slice_get, Some, is_some, IfSome, OnOk, OnErr};
+ghost use Rattle.std.specs.Prelude.{◌≡◌, ◌<◌, [], length, slice_get, Some, is_some, IfOk, IfSome, OnOk, OnErr};
 ghost use Rattle.std.specs.List.{IsDistinct};
 ghost use Rattle.std.specs.Ordering.{eq_by_cmp};
 ghost use Rattle.flow_model.specs.Orders.{loc_cmp};
@@ -83,12 +83,14 @@ impl Asked {
         self.locations.get_index_of(&loc)
     }
 
-    /// Asks for a location too, unless it is asked already. When out of memory nothing changes.
-    pub fn add(&mut self, loc: Loc) -> Result<(), NoMemory>
+    /// Asks for a location too, unless it is asked already. It gives the location's place, counted from 0. When out of
+    /// memory nothing changes.
+    pub fn add(&mut self, loc: Loc) -> Result<usize, NoMemory>
         ensures added { OnOk result (self.new ≡ added self.old loc) }
+        ensures place { IfOk result (λ place. slice_get self.new place ≡ Some loc) }
         ensures err { OnErr result (self.new ≡ self.old) }
     {
-        self.locations.insert(loc)?;
-        Ok(())
+        let (place, _) = self.locations.insert_full(loc)?;
+        Ok(place)
     }
 }

@@ -7,7 +7,7 @@ ghost use Rattle.taint_shadow.specs.Steps.{AreStanding};
 ghost use Rattle.local_taint.specs.Words.{label_words, as_terms};
 ghost use Rattle.local_taint.specs.Sinks.{AreNamed};
 
-use crate::ahead::SinksAhead;
+use crate::ahead::TermsAhead;
 use crate::labels::Nodes;
 use crate::sinks::SinkLabel;
 use flow_model::{Loc, SinkPoint};
@@ -46,6 +46,33 @@ impl Summary {
         ensures ascending { OnOk result (AreSets reader.new) }
     {
         self.nodes.read(self.places.get(loc), reader)
+    }
+
+    /// The same as [`Summary::end_terms`], by terms that were read ahead: where those of this location aren't among them,
+    /// they are read, and where such have many terms those of the locations after it with them, by one walk.
+    pub fn end_terms_ahead(
+        &self,
+        ahead: &mut TermsAhead,
+        reader: &mut TermsReader,
+        loc: Loc,
+    ) -> Result<(), NoMemory>
+        requires location { IsLocation loc }
+        requires ahead { IsAhead self.now ahead.old }
+        ensures ahead { IsAhead self.now ahead.new }
+        ensures read { OnOk result (as_terms reader.new ≡ (summary_of self.now).ends loc) }
+        ensures ascending { OnOk result (AreSets reader.new) }
+    {
+        let label = self.places.get(loc);
+        match label.kind() {
+            LabelKind::Node(node) => ahead.read_end(
+                &self.nodes,
+                node as Node,
+                &self.places,
+                loc,
+                reader,
+            ),
+            LabelKind::Start(start) => reader.read_start(start),
+        }
     }
 
     /// Whether two locations have one label at the epoch's end, and so the same terms. Where it answers no the terms may be
@@ -97,7 +124,7 @@ impl Summary {
     /// they are read, and where sinks have many terms those of the next sinks with them, by one walk.
     pub fn sink_terms_ahead(
         &self,
-        ahead: &mut SinksAhead,
+        ahead: &mut TermsAhead,
         reader: &mut TermsReader,
         number: usize,
     ) -> Result<(), NoMemory>
@@ -109,7 +136,7 @@ impl Summary {
     {
         let label = self.sinks[number].label;
         match label.kind() {
-            LabelKind::Node(node) => ahead.read(
+            LabelKind::Node(node) => ahead.read_sink(
                 &self.nodes,
                 node as Node,
                 &self.sinks,

@@ -1,6 +1,9 @@
 -- What a pass knows of its epoch, which tells whether it is whole.
-use Rattle.std.specs.Prelude.{Bool, true, false, Option, Some}
+use Rattle.std.specs.Prelude.{Bool, true, false, Option, Some, None}
+use Rattle.std.specs.Option.{ForSome}
+use Rattle.local_taint.specs.declared.ahead.TermsAhead.{TermsAhead}
 use Rattle.local_taint.specs.declared.summary.Summary.{Summary}
+use Rattle.local_taint.specs.Ahead.{IsAhead}
 use Rattle.pass_parts.specs.declared.knowledge.Knowledge.{Knowledge}
 use Rattle.pass_parts.specs.declared.knowledge.Knowledge.TheVariants.{Whole, Broken}
 
@@ -12,3 +15,12 @@ is_whole (Broken s) = false
 abbrev pub summary_in : Knowledge → Option Summary
 summary_in (Whole s) = Some s
 summary_in (Broken s) = s
+
+-- the summary that a pass still reads: a broken one reads none
+abbrev pub read_summary : Knowledge → Option Summary
+read_summary (Whole s) = Some s
+read_summary (Broken s) = None
+
+-- the terms that were read ahead are of the summary that is still read
+abbrev pub IsOfEpoch : Knowledge → TermsAhead → Type 0
+IsOfEpoch epoch ahead = ForSome (read_summary epoch) (λ s. IsAhead s ahead)

@@ -2,11 +2,12 @@
 
 ghost use Rattle.std.specs.Prelude.{◌≡◌, IsTrue, Some, OnOk};
 ghost use Rattle.merge_log.specs.Log.{AreSets};
+ghost use Rattle.local_taint.specs.Ahead.{IsAhead};
 ghost use Rattle.local_taint.specs.Words.{as_terms};
 ghost use Rattle.pass_parts.specs.Known.{is_location, known};
 
 use flow_rule::Loc;
-use local_taint::Summary;
+use local_taint::{Summary, TermsAhead};
 use merge_log::TermsReader;
 use no_memory::NoMemory;
 
@@ -20,14 +21,22 @@ fn is_location(loc: Loc) -> bool
     }
 }
 
-/// Reads the terms of a location at the epoch's end: the location itself where the epoch doesn't touch it, or where no
-/// register has such a lane. When out of memory, the reader may have read part of them, and can go on.
-pub fn read_end_terms(summary: &Summary, reader: &mut TermsReader, loc: Loc) -> Result<(), NoMemory>
+/// Reads the terms of a location at the epoch's end, by those that were read ahead: the location itself where the epoch
+/// doesn't touch it, or where no register has such a lane. When out of memory, the reader may have read part of them, and
+/// can go on.
+pub fn read_end_terms(
+    summary: &Summary,
+    ahead: &mut TermsAhead,
+    reader: &mut TermsReader,
+    loc: Loc,
+) -> Result<(), NoMemory>
+    requires { IsAhead summary.now ahead.old }
+    ensures ahead { IsAhead summary.now ahead.new }
     ensures read { OnOk result (as_terms reader.new ≡ (known (Some summary.now)).ends loc) }
     ensures ascending { OnOk result (AreSets reader.new) }
 {
     if is_location(loc) {
-        summary.end_terms(reader, loc)
+        summary.end_terms_ahead(ahead, reader, loc)
     } else {
         reader.read_start(loc)
     }

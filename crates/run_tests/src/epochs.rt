@@ -9,7 +9,7 @@ use checkpoints::Checkpoints;
 use epoch_cut::cuts;
 use epoch_cut::laws::cut_times_are_cutting;
 use flow_model::{Loc, SinkByte, SinkPoint, SourceByte};
-use local_taint::{SinksAhead, Summary, Watching, analyse};
+use local_taint::{Summary, TermsAhead, Watching, analyse};
 use merge_log::TermsReader;
 use query_lang::{Query, parse};
 use replayer::{Cursor, Job, Next};
@@ -84,7 +84,7 @@ fn assert_sink(
     assert!(rt; summary.sink(at) == SinkPoint::Out(byte));
     summary.sink_terms(reader, at).expect(rt, "memory");
     assert_read(rt, reader, &[source], &[]);
-    let mut ahead = SinksAhead::new(alloc);
+    let mut ahead = TermsAhead::new(alloc);
     summary
         .sink_terms_ahead(&mut ahead, reader, at)
         .expect(rt, "memory");

@@ -9,11 +9,11 @@ use Rattle.local_taint.proofs.summary.Summary.sink_terms_ahead.Goals as goal
 pub returns-in-Node-clause-read : goal.returns-in-Node-clause-read
 returns-in-Node-clause-read c =
     let e = c.args.self.now in
-    on_ok_weaker c.read.result
-    (λ read. sink_read e c.args.number c.index.result.now _ c.requires.inside c.index.ensures (ap as_terms read ∙ ap (terms_by e.nodes) (sym c.in-Node.is ∙ c.kind.ensures))) c.read.ensures.read
+    on_ok_weaker c.read_sink.result
+    (λ read. sink_read e c.args.number c.index.result.now _ c.requires.inside c.index.ensures (ap as_terms read ∙ ap (terms_by e.nodes) (sym c.in-Node.is ∙ c.kind.ensures))) c.read_sink.ensures.read
 
 pub returns-in-Node-clause-ascending : goal.returns-in-Node-clause-ascending
-returns-in-Node-clause-ascending c = on_ok_weaker c.read.result (λ read. subst AreSets (sym read) (ascend-terms c.args.self.now.nodes.log c.in-Node.node)) c.read.ensures.read
+returns-in-Node-clause-ascending c = on_ok_weaker c.read_sink.result (λ read. subst AreSets (sym read) (ascend-terms c.args.self.now.nodes.log c.in-Node.node)) c.read_sink.ensures.read
 
 pub returns-in-Start-clause-read : goal.returns-in-Start-clause-read
 returns-in-Start-clause-read c =
