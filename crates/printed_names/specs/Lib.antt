@@ -1,1 +1,3 @@
 pub mod Places
+pub mod Quoted
+pub mod Lines

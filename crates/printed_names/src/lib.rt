@@ -1,19 +1,30 @@
-//! The names that texts print of bytes, locations, points and places in the code.
+//! The names that texts print of bytes, locations, points and places in the code, and bytes as a quoted text.
 //!
-//! Crates above rest on this: each function appends the name that the definitions give (`report_model`'s, and `pc_text`
-//! here), and fails only where there is no memory.
+//! Crates above rest on this: each function appends what the definitions give (`report_model`'s names, and `pc_text`,
+//! `quoted_text` and `lines_end` here), and fails only where there is no memory.
 #![tactic(auto)]
 
 ghost use Rattle.std.specs.Prelude.{◌≡◌, ◌++◌, OnOk};
 ghost use Rattle.report_model.specs.Text.{name_text, loc_text, point_text};
 ghost use Rattle.printed_names.specs.Places.{pc_text};
+ghost use Rattle.printed_names.specs.Lines.{lines_end};
+
+mod quoted;
 
 use flow_model::{Loc, SinkPoint};
 use itoa::Buffer;
 use no_memory::NoMemory;
+pub use quoted::push_quoted;
 
 /// Appends `c:o`, the byte of offset o on channel c.
 pub fn push_byte(out: &mut Vec<u8>, channel: u8, offset: u32) -> Result<(), NoMemory>
+    ensures { OnOk result (out.new.items ≡ out.old.items ++ name_text channel offset) }
+{
+    push_wide_byte(out, u32::from(channel), u64::from(offset))
+}
+
+/// The same, of whatever channel and offset.
+pub fn push_wide_byte(out: &mut Vec<u8>, channel: u32, offset: u64) -> Result<(), NoMemory>
     ensures { OnOk result (out.new.items ≡ out.old.items ++ name_text channel offset) }
 {
     let mut buffer = Buffer::new();
@@ -68,5 +79,16 @@ pub fn push_pc(out: &mut Vec<u8>, pc: u32) -> Result<(), NoMemory>
     let _ = hex::encode_to_slice(bytes.as_slice(), &mut digits);
     out.extend_from_slice(b"0x")?;
     out.extend_from_slice(&digits)?;
+    Ok(())
+}
+
+/// Appends `end N`, the last line of a text with so many lines before it, and a line feed.
+pub fn push_lines_end(out: &mut Vec<u8>, lines: u64) -> Result<(), NoMemory>
+    ensures { OnOk result (out.new.items ≡ out.old.items ++ lines_end lines) }
+{
+    let mut buffer = Buffer::new();
+    out.extend_from_slice(b"end ")?;
+    out.extend_from_slice(buffer.format(lines).as_bytes())?;
+    out.push(b'\n')?;
     Ok(())
 }

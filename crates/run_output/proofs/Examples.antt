@@ -6,6 +6,7 @@ use Rattle.log_model.specs.declared.CallRecord.TheVariants.{Read, Write}
 use Rattle.log_model.specs.declared.RunEnd.TheVariants.{Exit, Trap, Limit}
 use Rattle.log_model.specs.Logs.{Log}
 use Rattle.run_output.specs.Output.{output}
+use Rattle.run_output.specs.Input.{input}
 use Rattle.run_output.specs.Summary.{summary_text, end_line}
 
 -- a program that reads four bytes and writes them, and exits in its twelfth step; its digest is in no line
@@ -44,3 +45,9 @@ copy_four-no_output digest = refl
 
 illegal-no_output : (digest : List ℕ) → output 1 (illegal digest) ≡ []
 illegal-no_output digest = refl
+
+copy_four-input : (digest : List ℕ) → input 0 (copy_four digest) ≡ codes "ABCD"
+copy_four-input digest = refl
+
+copy_four-no_input : (digest : List ℕ) → input 1 (copy_four digest) ≡ []
+copy_four-no_input digest = refl

@@ -1,2 +1,4 @@
+pub mod Ways
 pub mod Output
+pub mod Input
 pub mod Summary
