@@ -1,0 +1,3 @@
+pub mod Rows
+pub mod Data
+pub mod Page
