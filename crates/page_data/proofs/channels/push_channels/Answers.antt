@@ -1,4 +1,4 @@
-use Rattle.std.proofs.Common.{◌≡◌, ◌∙◌, ap, sym, ℕ, ◌+◌, ◌++◌, List, append_assoc}
+use Rattle.std.proofs.Common.{◌≡◌, ◌∙◌, ap, sym, ℕ, ◌++◌, List, append_assoc}
 use Rattle.std.specs.List.{flat_map, range_with_len}
 use Rattle.run_output.specs.Ways.{moved}
 use Rattle.page_model.specs.Data.{channel_line}

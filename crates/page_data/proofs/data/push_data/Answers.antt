@@ -24,7 +24,7 @@ returns c =
     let ends : c.push_number.new.out.items ≡ third ++ end = c.in_ok-push_number.ensures ∙ ap (λ (n : ℕ). third ++ number_line (codes "end") n) c.lines.ensures in
     let rows : second ≡ first ++ joined_rows report = c.in_ok-push_rows.ensures ∙ ap (λ (rs : List Row). first ++ joined_rows rs) c.rows.ensures in
     next old (head ++ joined_rows report ++ told) end third c.push_number.new.out.items
-      (next old (head ++ joined_rows report) told second third
-        (next old head (joined_rows report) first second c.in_ok-extend_from_slice.ensures.items rows)
-        c.in_ok-push_told.ensures)
-      ends
+    (next old (head ++ joined_rows report) told second third
+    (next old head (joined_rows report) first second c.in_ok-extend_from_slice.ensures.items rows)
+    c.in_ok-push_told.ensures)
+    ends
