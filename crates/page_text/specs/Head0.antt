@@ -8,7 +8,7 @@ head0 =
     codes "<head>\n" ++
     codes "<meta charset=\"utf-8\">\n" ++
     codes "<meta name=\"viewport\" content=\"width=device-width, initial-scale=1\">\n" ++
-    codes "<meta http-equiv=\"Content-Security-Policy\" content=\"default-src 'none'; style-src 'sha256-p+t3QsZCPCUdCIJM5fx5apfWnylA2sLODLKCQ98sReE='; script-src 'sha256-1SEPcsLYe78GhKXkvmvqGRzxXnGI6cQzQqGewhLOccw='; base-uri 'none'; form-action 'none'\">\n" ++
+    codes "<meta http-equiv=\"Content-Security-Policy\" content=\"default-src 'none'; style-src 'sha256-1iq3epYzKsAcWcK1/RxG5h1k141H8lI3cQndS0NjBlk='; script-src 'sha256-MS+GFvv/UqmFXkJu19STTzYHyECP6NNk1+xWDtCYFsA='; base-uri 'none'; form-action 'none'\">\n" ++
     codes "<title>jet: where each output byte came from</title>\n" ++
     codes "<style>\n" ++
     codes "/* The script reads these as colors. */\n" ++
@@ -44,26 +44,31 @@ head0 =
     codes "\n" ++
     codes "table { border-collapse: collapse; }\n" ++
     codes "caption { text-align: left; padding: 0.25rem 0; color: var(--faint); }\n" ++
-    codes "th, td { padding: 0.15rem 0.75rem 0.15rem 0; text-align: left; vertical-align: baseline; }\n" ++
-    codes "th { font-weight: 600; border-bottom: 1px solid var(--edge); white-space: nowrap; }\n" ++
+    codes "th, td { padding: 0.15rem 0.6rem 0.15rem 0; text-align: left; vertical-align: baseline; }\n" ++
+    codes "th { font-weight: 600; border-bottom: 1px solid var(--edge); }\n" ++
+    codes "#channels select { max-width: 6.5rem; }\n" ++
     codes "td.number, th.number { text-align: right; font-variant-numeric: tabular-nums; }\n" ++
     codes "tr.foreign td { color: var(--foreign); }\n" ++
     codes "\n" ++
     codes "button, select, input { font: inherit; color: inherit; background: var(--paper); border: 1px solid var(--edge); border-radius: 4px; padding: 0.1rem 0.4rem; }\n" ++
     codes "button { cursor: pointer; }\n" ++
     codes "button.link { border: 0; padding: 0; background: none; color: var(--accent); text-decoration: underline; font-family: var(--bytes); font-size: 0.93em; text-align: left; }\n" ++
-    codes "input[type=\"number\"] { width: 5.5rem; }\n" ++
+    codes "input[type=\"number\"] { width: 4.5rem; }\n" ++
     codes ":focus-visible { outline: 2px solid var(--accent); outline-offset: 1px; }\n" ++
     codes "\n" ++
-    codes ".side-by-side { display: grid; grid-template-columns: minmax(0, 2fr) minmax(0, 3fr); gap: 0.5rem 2rem; }\n" ++
-    codes ".scroll { max-height: 11rem; overflow: auto; scrollbar-width: thin; }\n" ++
+    codes "/* The summary and the bytes stand side by side, in one window's height. */\n" ++
+    codes "body { display: grid; grid-template-rows: auto minmax(0, 1fr); height: 100vh; min-height: 34rem; }\n" ++
+    codes "main:not([hidden]) { display: grid; grid-template-columns: minmax(0, 4fr) minmax(0, 9fr); min-height: 0; }\n" ++
+    codes "#summary { overflow: auto; scrollbar-width: thin; border-right: 1px solid var(--edge); }\n" ++
+    codes "#summary section { margin-bottom: 0.75rem; }\n" ++
+    codes ".scroll { max-height: 14rem; overflow: auto; scrollbar-width: thin; }\n" ++
     codes ".scroll th { position: sticky; top: 0; background: var(--paper); }\n" ++
     codes "\n" ++
-    codes "#bytes { display: grid; grid-template: auto auto minmax(0, 1fr) / minmax(0, 1fr) minmax(0, 1fr); gap: 0.5rem 1rem; height: 100vh; min-height: 30rem; border-top: 1px solid var(--edge); }\n" ++
+    codes "#bytes { display: grid; grid-template: auto auto minmax(0, 1fr) / minmax(0, 1fr) minmax(0, 1fr); gap: 0.5rem 1rem; min-height: 0; }\n" ++
     codes "#tools, #told { grid-column: 1 / -1; }\n" ++
     codes "#tools { display: flex; flex-wrap: wrap; gap: 0.25rem 1.25rem; align-items: center; margin: 0; }\n" ++
     codes "#tools input[type=\"search\"] { min-width: 0; max-width: 100%; }\n" ++
-    codes "#told { height: 6.6rem; overflow: auto; background: var(--raised); border: 1px solid var(--edge); border-radius: 4px; padding: 0.4rem 0.75rem; }\n" ++
+    codes "#told { height: 7.5rem; overflow: auto; background: var(--raised); border: 1px solid var(--edge); border-radius: 4px; padding: 0.4rem 0.75rem; }\n" ++
     codes "#told ul { margin: 0; padding: 0; list-style: none; }\n" ++
     codes ".side { display: grid; grid-template-rows: auto minmax(0, 1fr); min-width: 0; min-height: 0; }\n" ++
     codes ".side h2 { display: flex; flex-wrap: wrap; gap: 0 0.75rem; align-items: baseline; }\n" ++
@@ -74,10 +79,10 @@ head0 =
     codes ".lines { position: absolute; top: 0; left: 0; min-width: 100%; }\n" ++
     codes ".line { display: flex; height: 18px; white-space: pre; }\n" ++
     codes ".line .record, .line .offset { flex: none; color: var(--faint); text-align: right; padding-right: 1ch; }\n" ++
-    codes ".line .record { width: 8ch; }\n" ++
-    codes ".line .offset { width: 11ch; }\n" ++
+    codes ".line .record { width: calc(var(--record) * 1ch); }\n" ++
+    codes ".line .offset { width: calc(var(--offset) * 1ch); }\n" ++
     codes ".line .hex, .line .text { flex: none; padding-left: 1ch; }\n" ++
-    codes ".line .hex { min-width: calc(var(--columns) * 3ch + 1ch); }\n" ++
+    codes ".line .hex { min-width: calc(var(--width) * 3ch + 1ch); }\n" ++
     codes ".hex span { padding: 0 0.5ch; }\n" ++
     codes ".title { color: var(--faint); font-weight: 600; padding-left: 1ch; background: var(--raised); }\n" ++
     codes "\n" ++
@@ -93,18 +98,18 @@ head0 =
     codes ".cursor { outline: 2px solid var(--accent); outline-offset: -1px; }\n" ++
     codes "\n" ++
     codes "@media (max-width: 60rem) {\n" ++
-    codes "  .side-by-side { grid-template-columns: minmax(0, 1fr); }\n" ++
-    codes "  #bytes { grid-template: auto auto 24rem 24rem / minmax(0, 1fr); height: auto; }\n" ++
+    codes "  body { height: auto; }\n" ++
+    codes "  main:not([hidden]) { grid-template: minmax(0, 34vh) auto / minmax(0, 1fr); }\n" ++
+    codes "  #summary { border-right: 0; border-bottom: 1px solid var(--edge); }\n" ++
+    codes "  #bytes { grid-template: auto auto 24rem 24rem / minmax(0, 1fr); }\n" ++
     codes "  header, main > section { padding: 0.5rem 0.6rem; }\n" ++
-    codes "  .line .record { width: 6ch; }\n" ++
-    codes "  .line .offset { width: 9ch; }\n" ++
     codes "}\n" ++
     codes "\n" ++
     codes "@media print {\n" ++
     codes "  :root { color-scheme: light; }\n" ++
     codes "  #tools, .frame canvas, main button:not(.link), main label { display: none; }\n" ++
-    codes "  .side-by-side, #bytes { display: block; height: auto; }\n" ++
-    codes "  #told, .scroll, .frame, .pane { height: auto; max-height: none; overflow: visible; }\n" ++
+    codes "  body, main:not([hidden]), #bytes { display: block; height: auto; }\n" ++
+    codes "  #summary, #told, .scroll, .frame, .pane { height: auto; max-height: none; overflow: visible; }\n" ++
     codes "  .lines { position: static; transform: none !important; }\n" ++
     codes "  .sizer { display: none; }\n" ++
     codes "  .line, tr { break-inside: avoid; }\n" ++
@@ -118,19 +123,23 @@ head0 =
     codes "<p id=\"facts\">This page is not whole, or scripts are off. Without a script it shows nothing; <code>jet query</code> writes the same as text.</p>\n" ++
     codes "</header>\n" ++
     codes "<main hidden>\n" ++
-    codes "<section class=\"side-by-side\" id=\"summary\">\n" ++
-    codes "<div>\n" ++
-    codes "<h2>Channels</h2>\n" ++
-    codes "<div class=\"scroll\"><table id=\"channels\"></table></div>\n" ++
-    codes "<p class=\"faint\">With flow: input bytes that came to something listed, output bytes that have a source.</p>\n" ++
-    codes "</div>\n" ++
-    codes "<div>\n" ++
+    codes "<section id=\"summary\" aria-label=\"Summary\" tabindex=\"0\">\n" ++
+    codes "<section>\n" ++
     codes "<h2>Records</h2>\n" ++
     codes "<p id=\"alarm\">Being counted.</p>\n" ++
-    codes "<p><button type=\"button\" id=\"before\">Previous</button> <button type=\"button\" id=\"after\">Next</button>\n" ++
-    codes "<label>A written record's own input record is <select id=\"own\"><option value=\"newest\">the newest that reached it</option><option value=\"number\">that of its number</option></select></label></p>\n" ++
+    codes "<p><button type=\"button\" id=\"before\">Previous</button> <button type=\"button\" id=\"after\">Next</button></p>\n" ++
     codes "<div class=\"scroll\" tabindex=\"0\" role=\"region\" aria-label=\"Patterns of flow between records\"><table id=\"patterns\"></table></div>\n" ++
-    codes "</div>\n" ++
+    codes "</section>\n" ++
+    codes "<section>\n" ++
+    codes "<h2>Channels</h2>\n" ++
+    codes "<table id=\"channels\"></table>\n" ++
+    codes "<p class=\"faint\">With flow: input bytes that came to something listed, output bytes that have a source.</p>\n" ++
+    codes "</section>\n" ++
+    codes "<section id=\"points\" hidden>\n" ++
+    codes "<h2>Points inside the run</h2>\n" ++
+    codes "<p class=\"faint\">Registers and memory, each after so many steps, and what they came from.</p>\n" ++
+    codes "<div class=\"scroll\" tabindex=\"0\" role=\"region\" aria-label=\"Points inside the run\"><table></table></div>\n" ++
+    codes "</section>\n" ++
     codes "</section>\n" ++
     codes "\n" ++
     codes "<section id=\"bytes\" aria-label=\"Bytes\">\n" ++
@@ -138,14 +147,16 @@ head0 =
     codes "<label>Bytes a line <select id=\"width\"><option>auto</option><option>4</option><option>8</option><option>16</option><option>24</option><option>32</option><option>48</option><option>64</option></select></label>\n" ++
     codes "<label><input type=\"checkbox\" id=\"hex\" checked> hex</label>\n" ++
     codes "<label><input type=\"checkbox\" id=\"broken\" checked> a line for each record</label>\n" ++
-    codes "<label>Find <select id=\"what\"><option value=\"text\">text</option><option value=\"hex\">hex digits</option><option value=\"in\">input byte c:o</option><option value=\"out\">output byte c:o</option></select></label>\n" ++
+    codes "<label>Find <select id=\"what\"><option value=\"text\">text</option><option value=\"hex\">hex digits</option><option value=\"in\">input bytes</option><option value=\"out\">output bytes</option></select></label>\n" ++
     codes "<input id=\"wanted\" type=\"search\" aria-label=\"What to find\" size=\"22\" spellcheck=\"false\" autocomplete=\"off\">\n" ++
     codes "<button>Find next</button>\n" ++
     codes "<output id=\"matches\" aria-label=\"Matches\"></output>\n" ++
     codes "<details>\n" ++
     codes "<summary>Keys and marks</summary>\n" ++
+    codes "<p>Bytes are named <code>channel:offset</code>, and ranges <code>channel:from-past</code>; the byte at <code>past</code> isn't one of them.</p>\n" ++
     codes "<p>Yellow and ruled: what the chosen or pointed byte came from or came to. Blue: chosen. Green: found. Grey: without a listed source, or came to nothing listed;\n" ++
-    codes "grey and slanted: not asked for. Red and dotted: from a record other than the own one, or came to such a one. A thin line stands where joined bytes begin.</p>\n" ++
+    codes "grey and slanted: not asked for. Red and dotted: from a record other than the own one, or came to such a one. A written record's own record of an input\n" ++
+    codes "is the newest that reached it. A thin line stands where joined bytes begin.</p>\n" ++
     codes "<p>Arrows, Page Up and Down, Home and End move the cursor in a pane; with Shift they select. Enter goes to the first lit byte on the other side.\n" ++
     codes "<kbd>a</kbd> selects the bytes that are joined with this one, <kbd>r</kbd> its record, <kbd>n</kbd> and <kbd>p</kbd> go to the next and the last of a foreign record,\n" ++
     codes "<kbd>/</kbd> to the search, Escape clears. Copying in a pane takes the report's lines of what is selected. A double click selects joined bytes, a click on <code>#</code> a record.</p>\n" ++
@@ -154,12 +165,6 @@ head0 =
     codes "<div id=\"told\" role=\"status\" aria-label=\"The chosen bytes\"></div>\n" ++
     codes "<div class=\"side\" id=\"inputs\"><h2>Inputs <span class=\"faint\"></span></h2><div class=\"frame\"><div class=\"pane\" tabindex=\"0\" role=\"application\" aria-label=\"Input bytes\" aria-describedby=\"told\"></div><canvas aria-hidden=\"true\"></canvas></div></div>\n" ++
     codes "<div class=\"side\" id=\"outputs\"><h2>Outputs <span class=\"faint\"></span></h2><div class=\"frame\"><div class=\"pane\" tabindex=\"0\" role=\"application\" aria-label=\"Output bytes\" aria-describedby=\"told\"></div><canvas aria-hidden=\"true\"></canvas></div></div>\n" ++
-    codes "</section>\n" ++
-    codes "\n" ++
-    codes "<section id=\"points\" hidden>\n" ++
-    codes "<h2>Points inside the run</h2>\n" ++
-    codes "<p class=\"faint\">Registers and memory, each after so many steps, and what they came from.</p>\n" ++
-    codes "<div class=\"scroll\" tabindex=\"0\" role=\"region\" aria-label=\"Points inside the run\"><table></table></div>\n" ++
     codes "</section>\n" ++
     codes "</main>\n" ++
     codes "<script type=\"text/plain\" id=\"data\">"

@@ -12,12 +12,12 @@ tail0 =
     codes "// are one run here: `count` offsets from `first` on, all with the same source spans or, where the run moves, each with those\n" ++
     codes "// of the one before moved on by one.\n" ++
     codes "\n" ++
-    codes "// ---- reading the data\n" ++
+    codes "// ---- The data: its text is read once, from the front, into places, runs, calls and facts.\n" ++
     codes "\n" ++
     codes "const byId = (id) => document.getElementById(id);\n" ++
     codes "\n" ++
-    codes "function place(kind, number, time, bytes) {\n" ++
-    codes "  return { kind, number, time, bytes, calls: [], runs: [], records: [0], own: [], marks: new Uint8Array(bytes.length) };\n" ++
+    codes "function place(kind, number, time) {\n" ++
+    codes "  return { kind, number, time, bytes: new Uint8Array(0), calls: [], runs: [], records: [0], own: [] };\n" ++
     codes "}\n" ++
     codes "\n" ++
     codes "function decoded(base64) {\n" ++
@@ -27,24 +27,16 @@ tail0 =
     codes "  return bytes;\n" ++
     codes "}\n" ++
     codes "\n" ++
-    codes "/** Goes through the data's text. */\n" ++
+    codes "/** Goes through a text. */\n" ++
     codes "class Scanner {\n" ++
     codes "  constructor(text) {\n" ++
     codes "    this.text = text;\n" ++
     codes "    this.at = 0;\n" ++
     codes "  }\n" ++
     codes "\n" ++
-    codes "  get next() {\n" ++
-    codes "    return this.text[this.at];\n" ++
-    codes "  }\n" ++
-    codes "\n" ++
-    codes "  get isAtEnd() {\n" ++
-    codes "    return this.at >= this.text.length;\n" ++
-    codes "  }\n" ++
-    codes "\n" ++
     codes "  /** Passes over a character, if it is the next one. */\n" ++
     codes "  takes(character) {\n" ++
-    codes "    if (this.next !== character) return false;\n" ++
+    codes "    if (this.text[this.at] !== character) return false;\n" ++
     codes "    this.at++;\n" ++
     codes "    return true;\n" ++
     codes "  }\n" ++
@@ -69,33 +61,14 @@ tail0 =
     codes "    this.at = end + 1;\n" ++
     codes "    return line;\n" ++
     codes "  }\n" ++
-    codes "}\n" ++
     codes "\n" ++
-    codes "/** Adds a call that moved bytes to those of its channel. Others moved none, and may be on no channel at all. */\n" ++
-    codes "function addCall(places, [channel, length, time]) {\n" ++
-    codes "  if (Number(length) === 0) return;\n" ++
-    codes "  const { calls } = places[channel];\n" ++
-    codes "  const first = calls.length > 0 ? calls.at(-1).past : 0;\n" ++
-    codes "  calls.push({ first, past: first + Number(length), time: Number(time) });\n" ++
-    codes "}\n" ++
-    codes "\n" ++
-    codes "/** Reads the lines before the rows: what is known of the run, and the bytes that it moved. */\n" ++
-    codes "function readFacts(scanner) {\n" ++
-    codes "  const run = { facts: {}, sources: [], inputs: [], outputs: [] };\n" ++
-    codes "  for (let line = scanner.line(); line !== 'rows'; line = scanner.line()) {\n" ++
-    codes "    const [word, ...rest] = line.split(' ');\n" ++
-    codes "    if (word === 'in' || word === 'out') {\n" ++
-    codes "      const places = word === 'in' ? run.inputs : run.outputs;\n" ++
-    codes "      places.push(place(word, Number(rest[0]), 0, decoded(rest[1])));\n" ++
-    codes "    } else if (word === 'r' || word === 'w') {\n" ++
-    codes "      addCall(word === 'r' ? run.inputs : run.outputs, rest);\n" ++
-    codes "    } else if (word === 'sources') {\n" ++
-    codes "      run.sources = rest;\n" ++
-    codes "    } else {\n" ++
-    codes "      run.facts[word] = rest.join(' ');\n" ++
-    codes "    }\n" ++
+    codes "  /** Ranges `c:a-b`, each after a blank, up to the line's end. */\n" ++
+    codes "  spans(places) {\n" ++
+    codes "    const spans = [];\n" ++
+    codes "    while (this.takes(' ')) spans.push({ place: places[this.numberAndNext()], from: this.numberAndNext(), past: this.number() });\n" ++
+    codes "    if (!this.takes('\\n')) throw new Error('a line has no end');\n" ++
+    codes "    return spans;\n" ++
     codes "  }\n" ++
-    codes "  return run;\n" ++
     codes "}\n" ++
     codes "\n" ++
     codes "/** Reads the rows, and gives each place its runs. */\n" ++
@@ -107,18 +80,15 @@ tail0 =
     codes "    this.last = null;\n" ++
     codes "  }\n" ++
     codes "\n" ++
+    codes "  /** All rows: what comes after them begins with `p`. */\n" ++
     codes "  read() {\n" ++
-    codes "    const { scanner } = this;\n" ++
-    codes "    let rows = 0;\n" ++
-    codes "    for (; !scanner.takes('e'); rows++) {\n" ++
-    codes "      if (scanner.isAtEnd) throw new Error('the rows have no end');\n" ++
+    codes "    const { scanner, run } = this;\n" ++
+    codes "    for (run.rows = 0; scanner.text[scanner.at] !== 'p'; run.rows++) {\n" ++
     codes "      if (scanner.takes('=')) this.join(false);\n" ++
     codes "      else if (scanner.takes('+')) this.join(true);\n" ++
-    codes "      else this.begin(...this.sink(), this.sources());\n" ++
+    codes "      else this.begin(...this.sink(), scanner.spans(run.inputs));\n" ++
     codes "    }\n" ++
-    codes "    if (scanner.line() !== `nd ${rows}`) throw new Error('rows are missing');\n" ++
-    codes "    this.run.rows = rows;\n" ++
-    codes "    this.run.points = [...this.points.values()];\n" ++
+    codes "    run.points = [...this.points.values()];\n" ++
     codes "  }\n" ++
     codes "\n" ++
     codes "  begin(where, first, spans) {\n" ++
@@ -141,53 +111,60 @@ tail0 =
     codes "  /** What a row is of: `c:o`, `m:A@T` or `r:R.L@T`. */\n" ++
     codes "  sink() {\n" ++
     codes "    const { scanner, run } = this;\n" ++
-    codes "    if (scanner.takes('m')) {\n" ++
-    codes "      scanner.takes(':');\n" ++
-    codes "      const address = scanner.numberAndNext();\n" ++
-    codes "      return [this.point('memory', 0, scanner.number()), address];\n" ++
-    codes "    }\n" ++
-    codes "    if (scanner.takes('r')) {\n" ++
-    codes "      scanner.takes(':');\n" ++
-    codes "      const register = scanner.numberAndNext();\n" ++
-    codes "      const lane = scanner.numberAndNext();\n" ++
-    codes "      return [this.point('register', register, scanner.number()), lane];\n" ++
-    codes "    }\n" ++
-    codes "    const channel = scanner.numberAndNext();\n" ++
-    codes "    return [run.outputs[channel], scanner.number()];\n" ++
+    codes "    const kind = scanner.takes('m') ? 'memory' : scanner.takes('r') ? 'register' : 'out';\n" ++
+    codes "    if (kind === 'out') return [run.outputs[scanner.numberAndNext()], scanner.number()];\n" ++
+    codes "    scanner.takes(':');\n" ++
+    codes "    const register = kind === 'register' ? scanner.numberAndNext() : 0;\n" ++
+    codes "    const offset = scanner.numberAndNext();\n" ++
+    codes "    return [this.point(kind, register, scanner.number()), offset];\n" ++
     codes "  }\n" ++
     codes "\n" ++
     codes "  point(kind, register, time) {\n" ++
     codes "    const key = `${kind} ${register} ${time}`;\n" ++
-    codes "    if (!this.points.has(key)) this.points.set(key, place(kind, register, time, new Uint8Array(0)));\n" ++
+    codes "    if (!this.points.has(key)) this.points.set(key, place(kind, register, time));\n" ++
     codes "    return this.points.get(key);\n" ++
     codes "  }\n" ++
+    codes "}\n" ++
     codes "\n" ++
-    codes "  sources() {\n" ++
-    codes "    const { scanner, run } = this;\n" ++
-    codes "    const spans = [];\n" ++
-    codes "    while (scanner.takes(' ')) {\n" ++
-    codes "      const channel = scanner.numberAndNext();\n" ++
-    codes "      const from = scanner.number();\n" ++
-    codes "      spans.push({ place: run.inputs[channel], from, past: (scanner.takes('-') ? scanner.number() : from) + 1 });\n" ++
+    codes "/** Reads what is told beside the rows, up to the line that counts them. */\n" ++
+    codes "function readFacts(scanner, run) {\n" ++
+    codes "  for (;;) {\n" ++
+    codes "    if (scanner.text.startsWith('sources', scanner.at)) {\n" ++
+    codes "      scanner.at += 'sources'.length;\n" ++
+    codes "      run.sources = scanner.spans(run.inputs);\n" ++
     codes "    }\n" ++
-    codes "    scanner.takes('\\n');\n" ++
-    codes "    return spans;\n" ++
+    codes "    const [word, ...rest] = scanner.line().split(' ');\n" ++
+    codes "    if (word === 'in' || word === 'out') {\n" ++
+    codes "      (word === 'in' ? run.inputs : run.outputs)[rest[0]].bytes = decoded(rest[1]);\n" ++
+    codes "    } else if (word === 'r' || word === 'w') {\n" ++
+    codes "      const { calls } = (word === 'r' ? run.inputs : run.outputs)[rest[0]];\n" ++
+    codes "      const first = calls.at(-1)?.past ?? 0;\n" ++
+    codes "      calls.push({ first, past: first + Number(rest[1]), time: Number(rest[2]) });\n" ++
+    codes "    } else if (word === 'end' && run.facts.end) {\n" ++
+    codes "      if (Number(rest[0]) !== run.rows) throw new Error('rows are missing');\n" ++
+    codes "      return;\n" ++
+    codes "    } else {\n" ++
+    codes "      run.facts[word] = rest.join(' ');\n" ++
+    codes "    }\n" ++
     codes "  }\n" ++
     codes "}\n" ++
     codes "\n" ++
     codes "function read(text) {\n" ++
     codes "  const scanner = new Scanner(text);\n" ++
     codes "  if (scanner.line() !== 'jet page 1') throw new Error('the data is of no version that this page reads');\n" ++
-    codes "  const run = readFacts(scanner);\n" ++
+    codes "  if (scanner.line() !== 'rows') throw new Error('there are no rows');\n" ++
+    codes "  const channels = (kind) => Array.from({ length: 16 }, (none, number) => place(kind, number, 0));\n" ++
+    codes "  const run = { facts: {}, inputs: channels('in'), outputs: channels('out') };\n" ++
     codes "  new RowReader(scanner, run).read();\n" ++
+    codes "  readFacts(scanner, run);\n" ++
     codes "  run.inputs = run.inputs.filter((p) => p.bytes.length > 0);\n" ++
     codes "  run.outputs = run.outputs.filter((p) => p.bytes.length > 0);\n" ++
     codes "  run.sinks = [...run.outputs, ...run.points];\n" ++
-    codes "  [...run.inputs, ...run.sinks].forEach((where, order) => Object.assign(where, { order }));\n" ++
+    codes "  [...run.inputs, ...run.sinks].forEach((where, order) => Object.assign(where, { order, marks: new Uint8Array(where.bytes.length) }));\n" ++
     codes "  return run;\n" ++
     codes "}\n" ++
     codes "\n" ++
-    codes "// ---- names\n" ++
+    codes "// ---- Names: of bytes and ranges as jet's texts have them, of counts, and of bytes as text.\n" ++
     codes "\n" ++
     codes "const decimal = new Intl.NumberFormat('en');\n" ++
     codes "const many = (n, what) => `${decimal.format(n)} ${what}${n === 1 ? '' : 's'}`;\n" ++
@@ -199,10 +176,11 @@ tail0 =
     codes "  return `${where.number}:${offset}`;\n" ++
     codes "}\n" ++
     codes "\n" ++
+    codes "/** The name of a range; of one byte its own. */\n" ++
     codes "function spanName({ place: where, from, past }) {\n" ++
     codes "  if (past - from === 1) return byteName(where, from);\n" ++
     codes "  if (where.kind === 'memory' || where.kind === 'register') return `${byteName(where, from)} to ${byteName(where, past - 1)}`;\n" ++
-    codes "  return `${where.number}:${from}\\u2013${past - 1}`;\n" ++
+    codes "  return `${where.number}:${from}-${past}`;\n" ++
     codes "}\n" ++
     codes "\n" ++
     codes "const sideName = (where) => (where.kind === 'in' ? 'Input' : where.kind === 'out' ? 'Output' : 'Point');\n" ++
@@ -217,7 +195,7 @@ tail0 =
     codes "  return past - from > most ? `${text}\\u2026` : text;\n" ++
     codes "}\n" ++
     codes "\n" ++
-    codes "// ---- flow\n" ++
+    codes "// ---- Flow: what bytes came from, and what they came to.\n" ++
     codes "\n" ++
     codes "/** The span of sources that the offsets from `from` up to `past` of a run have by one of its source spans. */\n" ++
     codes "function sourceSpan(run, span, from, past) {\n" ++
@@ -299,7 +277,7 @@ tail0 =
     codes "\n" ++
     codes "const linkedTo = (span) => (span.place.kind === 'in' ? reachOf(span) : sourcesOf(span));\n" ++
     codes "\n" ++
-    codes "// ---- records\n" ++
+    codes "// ---- Records: where they begin, and which bytes came from another record than the own one.\n" ++
     codes "\n" ++
     codes "/** Where the records of a channel begin: at each line, at each call that moved bytes, or every `size` bytes. */\n" ++
     codes "function recordStarts(where, how, size) {\n" ++

@@ -27,28 +27,29 @@ tail1 =
     codes "\n" ++
     codes "const isOwn = (sink, source) => recordsBack(sink.place, recordAt(sink.place, sink.from), source) === 0;\n" ++
     codes "\n" ++
+    codes "const numbers = (from, past) => (past - from === 1 ? `${from}` : `${from}-${past}`);\n" ++
+    codes "\n" ++
     codes "/** Where in its record a source span stands, as text. */\n" ++
     codes "function textInRecord({ place: where, from, past }) {\n" ++
     codes "  const record = recordAt(where, from);\n" ++
     codes "  const last = recordAt(where, past - 1);\n" ++
-    codes "  if (last > record) return `${where.number}: in ${last - record + 1} records`;\n" ++
-    codes "  const begin = from - where.records[record];\n" ++
-    codes "  return past - from === 1 ? `${where.number}: ${begin}` : `${where.number}: ${begin}\\u2013${begin + past - from - 1}`;\n" ++
+    codes "  const begin = where.records[record];\n" ++
+    codes "  return `${where.number}: ${last > record ? `in ${last - record + 1} records` : numbers(from - begin, past - begin)}`;\n" ++
     codes "}\n" ++
     codes "\n" ++
     codes "const MOST_PATTERNS = 5000;\n" ++
     codes "\n" ++
     codes "/**\n" ++
     codes " * How bytes flow between records: `patterns`, each a place in written records with the places in received records that it\n" ++
-    codes " * came from, and how often, and what `others` there were once they were many; and `mixed`, the spans of outputs that came from other records than their own, and of inputs\n" ++
-    codes " * that came there.\n" ++
+    codes " * came from, and how often; how many `others` there were once they were many; and `mixed`, the spans of outputs that came\n" ++
+    codes " * from other records than their own, and of inputs that came there.\n" ++
     codes " */\n" ++
-    codes "function analyse(own) {\n" ++
+    codes "function analyse() {\n" ++
     codes "  const patterns = new Map();\n" ++
     codes "  let others = 0;\n" ++
     codes "  const mixed = { in: [], out: [] };\n" ++
     codes "  for (const where of data.outputs) {\n" ++
-    codes "    where.own = own === 'newest' ? newestRecords(where) : [];\n" ++
+    codes "    where.own = newestRecords(where);\n" ++
     codes "    for (const run of where.runs) {\n" ++
     codes "      if (run.spans.length === 0) continue;\n" ++
     codes "      for (const { from, past } of partsOf(run)) {\n" ++
@@ -65,15 +66,15 @@ tail1 =
     codes "        const key = `${where.order} ${begin} ${end} ${cameFrom} ${back}`;\n" ++
     codes "        const known = patterns.get(key);\n" ++
     codes "        if (known) known.count++;\n" ++
-    codes "        else if (patterns.size < MOST_PATTERNS) patterns.set(key, { example: { place: where, from, past }, begin, end, moves: run.moves, cameFrom, back, foreign: foreign.length > 0, count: 1 });\n" ++
-    codes "        else others++;\n" ++
+    codes "        else if (patterns.size === MOST_PATTERNS) others++;\n" ++
+    codes "        else patterns.set(key, { example: { place: where, from, past }, begin, end, moves: run.moves, cameFrom, back, foreign: foreign.length > 0, count: 1 });\n" ++
     codes "      }\n" ++
     codes "    }\n" ++
     codes "  }\n" ++
     codes "  return { patterns: [...patterns.values()], others, mixed: { in: merged(mixed.in), out: merged(mixed.out) } };\n" ++
     codes "}\n" ++
     codes "\n" ++
-    codes "// ---- marks: a bit for each look of a byte\n" ++
+    codes "// ---- Marks: a bit for each look of a byte, which are its classes.\n" ++
     codes "\n" ++
     codes "const MARKS = ['silent', 'outside', 'starts', 'foreign', 'found', 'lit', 'chosen', 'cursor'];\n" ++
     codes "const [SILENT, OUTSIDE, STARTS, FOREIGN, FOUND, LIT, CHOSEN, CURSOR] = MARKS.map((name, i) => 1 << i);\n" ++
@@ -99,9 +100,7 @@ tail1 =
     codes "    }\n" ++
     codes "  }\n" ++
     codes "  for (const where of data.inputs) mark({ place: where, from: 0, past: where.bytes.length }, OUTSIDE);\n" ++
-    codes "  for (const text of data.sources) {\n" ++
-    codes "    const [channel, first, last = first] = text.split(/[:-]/).map(Number);\n" ++
-    codes "    const span = { place: data.inputs.find((p) => p.number === channel), from: first, past: last + 1 };\n" ++
+    codes "  for (const span of data.sources) {\n" ++
     codes "    unmark(span, OUTSIDE);\n" ++
     codes "    mark(span, SILENT);\n" ++
     codes "  }\n" ++
@@ -112,7 +111,7 @@ tail1 =
     codes "  }\n" ++
     codes "}\n" ++
     codes "\n" ++
-    codes "// ---- making elements: all that came from the run goes in as text\n" ++
+    codes "// ---- Elements: all that came from the run goes in as text, never as markup.\n" ++
     codes "\n" ++
     codes "function element(name, properties = {}, ...children) {\n" ++
     codes "  const made = Object.assign(document.createElement(name), properties);\n" ++
@@ -122,7 +121,7 @@ tail1 =
     codes "\n" ++
     codes "const spanButton = (span) => element('button', { type: 'button', className: 'link', textContent: spanName(span), onclick: () => go(span) });\n" ++
     codes "\n" ++
-    codes "// ---- panes: a scroller that holds only the lines in view\n" ++
+    codes "// ---- Panes: the bytes of all channels of a side, in a scroller that holds only the lines in view.\n" ++
     codes "\n" ++
     codes "const LINE = 18;\n" ++
     codes "const TALLEST = 8e6;\n" ++
@@ -159,11 +158,11 @@ tail1 =
     codes "    new ResizeObserver(() => this.layOut()).observe(this.view);\n" ++
     codes "  }\n" ++
     codes "\n" ++
-    codes "  /** How many bytes a line of the pane has room for: four columns each with hex, one without. */\n" ++
-    codes "  fitting(hex) {\n" ++
+    codes "  /** How many bytes a line of the pane has room for beside so many columns: four columns each with hex, one without. */\n" ++
+    codes "  fitting(hex, beside) {\n" ++
     codes "    const probe = element('span', { textContent: '0'.repeat(100) });\n" ++
     codes "    this.lines.append(probe);\n" ++
-    codes "    const columns = this.view.clientWidth / (probe.getBoundingClientRect().width / 100) - 23;\n" ++
+    codes "    const columns = this.view.clientWidth / (probe.getBoundingClientRect().width / 100) - beside;\n" ++
     codes "    probe.remove();\n" ++
     codes "    return [128, 96, 64, 48, 32, 24, 16, 8].find((n) => n * (hex ? 4 : 1) <= columns) ?? 4;\n" ++
     codes "  }\n" ++
@@ -171,7 +170,10 @@ tail1 =
     codes "  /** Finds where the lines begin: after `width` bytes and, if wanted, at each record. A line before each channel is its title. */\n" ++
     codes "  layOut() {\n" ++
     codes "    const hex = byId('hex').checked;\n" ++
-    codes "    const width = Number(byId('width').value) || this.fitting(hex);\n" ++
+    codes "    const longest = (nameOf) => Math.max(0, ...this.places.map((where) => nameOf(where).length)) + 1;\n" ++
+    codes "    const record = longest((where) => `#${where.records.length}`);\n" ++
+    codes "    const offset = longest((where) => byteName(where, where.bytes.length));\n" ++
+    codes "    const width = Number(byId('width').value) || this.fitting(hex, record + offset + 4);\n" ++
     codes "    const layout = `${width} ${hex} ${byId('broken').checked} ${this.places.map((p) => p.records.length)}`;\n" ++
     codes "    const top = this.topByte();\n" ++
     codes "    if (layout !== this.layout) {\n" ++
@@ -190,7 +192,7 @@ tail1 =
     codes "      this.layout = layout;\n" ++
     codes "      this.made.clear();\n" ++
     codes "      this.lines.replaceChildren();\n" ++
-    codes "      this.lines.style.setProperty('--columns', width);\n" ++
+    codes "      for (const [name, columns] of Object.entries({ width, record, offset })) this.lines.style.setProperty(`--${name}`, columns);\n" ++
     codes "      this.sizer.style.height = `${Math.min(count * LINE, TALLEST)}px`;\n" ++
     codes "      if (top) this.scrollTo(top.place, top.offset, true);\n" ++
     codes "    }\n" ++
@@ -267,11 +269,4 @@ tail1 =
     codes "      }\n" ++
     codes "    }\n" ++
     codes "  }\n" ++
-    codes "\n" ++
-    codes "  /** A strip of where in all lines the lit, the chosen and the foreign bytes stand. */\n" ++
-    codes "  drawMap() {\n" ++
-    codes "    const { map } = this;\n" ++
-    codes "    map.width = map.clientWidth;\n" ++
-    codes "    map.height = map.clientHeight;\n" ++
-    codes "    const pen = map.getContext('2d');\n" ++
-    codes "    const style = getComputedStyle(map);\n"
+    codes "\n"

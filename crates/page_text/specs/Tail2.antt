@@ -3,6 +3,13 @@ use Rattle.std.specs.Prelude.{ℕ, List, codes, ◌++◌}
 
 unfoldable pub tail2 : List ℕ
 tail2 =
+    codes "  /** A strip of where in all lines the lit, the chosen and the foreign bytes stand. */\n" ++
+    codes "  drawMap() {\n" ++
+    codes "    const { map } = this;\n" ++
+    codes "    map.width = map.clientWidth;\n" ++
+    codes "    map.height = map.clientHeight;\n" ++
+    codes "    const pen = map.getContext('2d');\n" ++
+    codes "    const style = getComputedStyle(map);\n" ++
     codes "    const strip = (spans, color, left, width) => {\n" ++
     codes "      pen.fillStyle = style.getPropertyValue(color);\n" ++
     codes "      let bottom = -1;\n" ++
@@ -107,7 +114,7 @@ tail2 =
     codes "  }\n" ++
     codes "}\n" ++
     codes "\n" ++
-    codes "// ---- what is chosen, what is pointed at, and what is lit for it\n" ++
+    codes "// ---- What is chosen, what is pointed at, what is lit for it, and what is told of it.\n" ++
     codes "\n" ++
     codes "let data;\n" ++
     codes "let panes = [];\n" ++
@@ -197,7 +204,7 @@ tail2 =
     codes "    const record = recordAt(where, from);\n" ++
     codes "    const begin = where.records[record];\n" ++
     codes "    parts.push(past > recordEnd(where, record) ? `records ${record} to ${recordAt(where, past - 1)}`\n" ++
-    codes "      : past - from === 1 ? `byte ${from - begin} of record ${record}` : `bytes ${from - begin} to ${past - 1 - begin} of record ${record}`);\n" ++
+    codes "      : `${past - from === 1 ? 'byte' : 'bytes'} ${numbers(from - begin, past - begin)} of record ${record}`);\n" ++
     codes "    parts.push(`${where.kind === 'in' ? 'read' : 'written'} at step ${decimal.format(timeOf(where, from))}`);\n" ++
     codes "  }\n" ++
     codes "  return parts.join(', ');\n" ++
@@ -208,7 +215,29 @@ tail2 =
     codes "  return where.calls[lastUpTo(offset, where.calls.length, (k) => where.calls[k].first)].time;\n" ++
     codes "}\n" ++
     codes "\n" ++
+    codes "/** A line of a query that asks for the first byte of a span: of an input as a source, else as a sink; of a register's lanes for all. */\n" ++
+    codes "function queryLine({ place: where, from }) {\n" ++
+    codes "  if (where.kind === 'memory') return `sink mem ${from} 1 at ${where.time}`;\n" ++
+    codes "  if (where.kind === 'register') return `sink reg ${where.number} at ${where.time}`;\n" ++
+    codes "  return `${where.kind === 'in' ? 'source' : 'sink'} ${where.number} ${from} ${from + 1}`;\n" ++
+    codes "}\n" ++
+    codes "\n" ++
+    codes "/** The command line that tells how a byte came there: of the first byte of a span, and the first that is lit for it. */\n" ++
+    codes "function pathCommand(span) {\n" ++
+    codes "  const [other] = span.past - span.from === 1 ? linked : linkedTo({ place: span.place, from: span.from, past: span.from + 1 });\n" ++
+    codes "  if (!other) return '';\n" ++
+    codes "  const lines = [`rule ${data.facts.rule}`, queryLine(span), queryLine(other)];\n" ++
+    codes "  return `printf '${lines.join('\\\\n')}\\\\n' >path.query; jet path PROG LOG path.query`;\n" ++
+    codes "}\n" ++
+    codes "\n" ++
     codes "const MOST_TOLD = 40;\n" ++
+    codes "\n" ++
+    codes "function pathLine(span) {\n" ++
+    codes "  const command = pathCommand(span);\n" ++
+    codes "  if (command === '') return '';\n" ++
+    codes "  return element('div', {}, 'The path of its first byte: ', element('code', { textContent: command }), ' ',\n" ++
+    codes "    element('button', { type: 'button', textContent: 'Copy', onclick: () => navigator.clipboard.writeText(command) }));\n" ++
+    codes "}\n" ++
     codes "\n" ++
     codes "function tell(span) {\n" ++
     codes "  if (!span) {\n" ++
@@ -226,7 +255,8 @@ tail2 =
     codes "    element('div', {}, `${sideName(span.place)} `, element('strong', { className: 'mono', textContent: spanName(span) }), ' ', element('code', { textContent: preview(span) }), ` ${describe(span)}`),\n" ++
     codes "    element('div', {}, size === 0 ? `${verb} nothing that is listed` : `${verb} ${many(size, 'byte')} in ${many(linked.length, 'range')}:`),\n" ++
     codes "    element('ul', {}, ...list),\n" ++
-    codes "    linked.length > MOST_TOLD ? `and ${many(linked.length - MOST_TOLD, 'more range')}` : '');\n" ++
+    codes "    linked.length > MOST_TOLD ? `and ${many(linked.length - MOST_TOLD, 'more range')}` : '',\n" ++
+    codes "    pathLine(span));\n" ++
     codes "}\n" ++
     codes "\n" ++
     codes "/** The report's lines of the chosen output bytes, or the influence's of the chosen input bytes. */\n" ++
@@ -243,7 +273,7 @@ tail2 =
     codes "  return lines.join('');\n" ++
     codes "}\n" ++
     codes "\n" ++
-    codes "// ---- search\n" ++
+    codes "// ---- Search: bytes by their text or hex digits, and bytes by name.\n" ++
     codes "\n" ++
     codes "let found = [];\n" ++
     codes "\n" ++
@@ -257,44 +287,4 @@ tail2 =
     codes "  }\n" ++
     codes "  return spans;\n" ++
     codes "}\n" ++
-    codes "\n" ++
-    codes "function findNamed(places, name) {\n" ++
-    codes "  const match = /^\\s*(\\d+):(\\d+)(?:[-\\u2013](\\d+))?\\s*$/.exec(name);\n" ++
-    codes "  const where = match && places.find((p) => p.number === Number(match[1]));\n" ++
-    codes "  const from = Number(match?.[2]);\n" ++
-    codes "  const past = Number(match?.[3] ?? from) + 1;\n" ++
-    codes "  return where && from < past && past <= where.bytes.length ? [{ place: where, from, past }] : [];\n" ++
-    codes "}\n" ++
-    codes "\n" ++
-    codes "function wantedSpans(what, text) {\n" ++
-    codes "  if (what === 'text') return findBytes([...new TextEncoder().encode(text)]);\n" ++
-    codes "  if (what === 'hex') return /^(\\s*[0-9a-f]{2})*\\s*$/i.test(text) ? findBytes((text.match(/[0-9a-f]{2}/gi) ?? []).map((h) => parseInt(h, 16))) : [];\n" ++
-    codes "  return findNamed(what === 'in' ? data.inputs : data.outputs, text);\n" ++
-    codes "}\n" ++
-    codes "\n" ++
-    codes "let searched = '';\n" ++
-    codes "let nextFound = 0;\n" ++
-    codes "\n" ++
-    codes "function findNext(event) {\n" ++
-    codes "  event.preventDefault();\n" ++
-    codes "  const what = byId('what').value;\n" ++
-    codes "  const text = byId('wanted').value;\n" ++
-    codes "  if (`${what} ${text}` !== searched) {\n" ++
-    codes "    for (const span of found) unmark(span, FOUND);\n" ++
-    codes "    found = wantedSpans(what, text);\n" ++
-    codes "    for (const span of found) mark(span, FOUND);\n" ++
-    codes "    searched = `${what} ${text}`;\n" ++
-    codes "    nextFound = 0;\n" ++
-    codes "  }\n" ++
-    codes "  const inputs = found.filter((s) => s.place.kind === 'in').length;\n" ++
-    codes "  byId('matches').textContent = text === '' ? '' : found.length === 0 ? 'not found'\n" ++
-    codes "    : `${decimal.format(nextFound + 1)} of ${decimal.format(found.length)}: ${many(inputs, 'input')}, ${many(found.length - inputs, 'output')}`;\n" ++
-    codes "  if (found.length > 0) go(found[nextFound]);\n" ++
-    codes "  else light();\n" ++
-    codes "  nextFound = found.length > 0 ? (nextFound + 1) % found.length : 0;\n" ++
-    codes "}\n" ++
-    codes "\n" ++
-    codes "// ---- the summary\n" ++
-    codes "\n" ++
-    codes "function countWithout(where, bits) {\n" ++
-    codes "  let count = 0;\n"
+    codes "\n"

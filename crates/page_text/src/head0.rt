@@ -16,7 +16,7 @@ pub(crate) fn push(out: &mut Vec<u8>) -> Result<(), NoMemory>
 <head>
 <meta charset="utf-8">
 <meta name="viewport" content="width=device-width, initial-scale=1">
-<meta http-equiv="Content-Security-Policy" content="default-src 'none'; style-src 'sha256-p+t3QsZCPCUdCIJM5fx5apfWnylA2sLODLKCQ98sReE='; script-src 'sha256-1SEPcsLYe78GhKXkvmvqGRzxXnGI6cQzQqGewhLOccw='; base-uri 'none'; form-action 'none'">
+<meta http-equiv="Content-Security-Policy" content="default-src 'none'; style-src 'sha256-1iq3epYzKsAcWcK1/RxG5h1k141H8lI3cQndS0NjBlk='; script-src 'sha256-MS+GFvv/UqmFXkJu19STTzYHyECP6NNk1+xWDtCYFsA='; base-uri 'none'; form-action 'none'">
 <title>jet: where each output byte came from</title>
 <style>
 /* The script reads these as colors. */
@@ -52,26 +52,31 @@ code, .mono { font-family: var(--bytes); font-size: 0.93em; overflow-wrap: anywh
 
 table { border-collapse: collapse; }
 caption { text-align: left; padding: 0.25rem 0; color: var(--faint); }
-th, td { padding: 0.15rem 0.75rem 0.15rem 0; text-align: left; vertical-align: baseline; }
-th { font-weight: 600; border-bottom: 1px solid var(--edge); white-space: nowrap; }
+th, td { padding: 0.15rem 0.6rem 0.15rem 0; text-align: left; vertical-align: baseline; }
+th { font-weight: 600; border-bottom: 1px solid var(--edge); }
+#channels select { max-width: 6.5rem; }
 td.number, th.number { text-align: right; font-variant-numeric: tabular-nums; }
 tr.foreign td { color: var(--foreign); }
 
 button, select, input { font: inherit; color: inherit; background: var(--paper); border: 1px solid var(--edge); border-radius: 4px; padding: 0.1rem 0.4rem; }
 button { cursor: pointer; }
 button.link { border: 0; padding: 0; background: none; color: var(--accent); text-decoration: underline; font-family: var(--bytes); font-size: 0.93em; text-align: left; }
-input[type="number"] { width: 5.5rem; }
+input[type="number"] { width: 4.5rem; }
 :focus-visible { outline: 2px solid var(--accent); outline-offset: 1px; }
 
-.side-by-side { display: grid; grid-template-columns: minmax(0, 2fr) minmax(0, 3fr); gap: 0.5rem 2rem; }
-.scroll { max-height: 11rem; overflow: auto; scrollbar-width: thin; }
+/* The summary and the bytes stand side by side, in one window's height. */
+body { display: grid; grid-template-rows: auto minmax(0, 1fr); height: 100vh; min-height: 34rem; }
+main:not([hidden]) { display: grid; grid-template-columns: minmax(0, 4fr) minmax(0, 9fr); min-height: 0; }
+#summary { overflow: auto; scrollbar-width: thin; border-right: 1px solid var(--edge); }
+#summary section { margin-bottom: 0.75rem; }
+.scroll { max-height: 14rem; overflow: auto; scrollbar-width: thin; }
 .scroll th { position: sticky; top: 0; background: var(--paper); }
 
-#bytes { display: grid; grid-template: auto auto minmax(0, 1fr) / minmax(0, 1fr) minmax(0, 1fr); gap: 0.5rem 1rem; height: 100vh; min-height: 30rem; border-top: 1px solid var(--edge); }
+#bytes { display: grid; grid-template: auto auto minmax(0, 1fr) / minmax(0, 1fr) minmax(0, 1fr); gap: 0.5rem 1rem; min-height: 0; }
 #tools, #told { grid-column: 1 / -1; }
 #tools { display: flex; flex-wrap: wrap; gap: 0.25rem 1.25rem; align-items: center; margin: 0; }
 #tools input[type="search"] { min-width: 0; max-width: 100%; }
-#told { height: 6.6rem; overflow: auto; background: var(--raised); border: 1px solid var(--edge); border-radius: 4px; padding: 0.4rem 0.75rem; }
+#told { height: 7.5rem; overflow: auto; background: var(--raised); border: 1px solid var(--edge); border-radius: 4px; padding: 0.4rem 0.75rem; }
 #told ul { margin: 0; padding: 0; list-style: none; }
 .side { display: grid; grid-template-rows: auto minmax(0, 1fr); min-width: 0; min-height: 0; }
 .side h2 { display: flex; flex-wrap: wrap; gap: 0 0.75rem; align-items: baseline; }
@@ -82,10 +87,10 @@ input[type="number"] { width: 5.5rem; }
 .lines { position: absolute; top: 0; left: 0; min-width: 100%; }
 .line { display: flex; height: 18px; white-space: pre; }
 .line .record, .line .offset { flex: none; color: var(--faint); text-align: right; padding-right: 1ch; }
-.line .record { width: 8ch; }
-.line .offset { width: 11ch; }
+.line .record { width: calc(var(--record) * 1ch); }
+.line .offset { width: calc(var(--offset) * 1ch); }
 .line .hex, .line .text { flex: none; padding-left: 1ch; }
-.line .hex { min-width: calc(var(--columns) * 3ch + 1ch); }
+.line .hex { min-width: calc(var(--width) * 3ch + 1ch); }
 .hex span { padding: 0 0.5ch; }
 .title { color: var(--faint); font-weight: 600; padding-left: 1ch; background: var(--raised); }
 
@@ -101,18 +106,18 @@ input[type="number"] { width: 5.5rem; }
 .cursor { outline: 2px solid var(--accent); outline-offset: -1px; }
 
 @media (max-width: 60rem) {
-  .side-by-side { grid-template-columns: minmax(0, 1fr); }
-  #bytes { grid-template: auto auto 24rem 24rem / minmax(0, 1fr); height: auto; }
+  body { height: auto; }
+  main:not([hidden]) { grid-template: minmax(0, 34vh) auto / minmax(0, 1fr); }
+  #summary { border-right: 0; border-bottom: 1px solid var(--edge); }
+  #bytes { grid-template: auto auto 24rem 24rem / minmax(0, 1fr); }
   header, main > section { padding: 0.5rem 0.6rem; }
-  .line .record { width: 6ch; }
-  .line .offset { width: 9ch; }
 }
 
 @media print {
   :root { color-scheme: light; }
   #tools, .frame canvas, main button:not(.link), main label { display: none; }
-  .side-by-side, #bytes { display: block; height: auto; }
-  #told, .scroll, .frame, .pane { height: auto; max-height: none; overflow: visible; }
+  body, main:not([hidden]), #bytes { display: block; height: auto; }
+  #summary, #told, .scroll, .frame, .pane { height: auto; max-height: none; overflow: visible; }
   .lines { position: static; transform: none !important; }
   .sizer { display: none; }
   .line, tr { break-inside: avoid; }
@@ -126,19 +131,23 @@ input[type="number"] { width: 5.5rem; }
 <p id="facts">This page is not whole, or scripts are off. Without a script it shows nothing; <code>jet query</code> writes the same as text.</p>
 </header>
 <main hidden>
-<section class="side-by-side" id="summary">
-<div>
-<h2>Channels</h2>
-<div class="scroll"><table id="channels"></table></div>
-<p class="faint">With flow: input bytes that came to something listed, output bytes that have a source.</p>
-</div>
-<div>
+<section id="summary" aria-label="Summary" tabindex="0">
+<section>
 <h2>Records</h2>
 <p id="alarm">Being counted.</p>
-<p><button type="button" id="before">Previous</button> <button type="button" id="after">Next</button>
-<label>A written record's own input record is <select id="own"><option value="newest">the newest that reached it</option><option value="number">that of its number</option></select></label></p>
+<p><button type="button" id="before">Previous</button> <button type="button" id="after">Next</button></p>
 <div class="scroll" tabindex="0" role="region" aria-label="Patterns of flow between records"><table id="patterns"></table></div>
-</div>
+</section>
+<section>
+<h2>Channels</h2>
+<table id="channels"></table>
+<p class="faint">With flow: input bytes that came to something listed, output bytes that have a source.</p>
+</section>
+<section id="points" hidden>
+<h2>Points inside the run</h2>
+<p class="faint">Registers and memory, each after so many steps, and what they came from.</p>
+<div class="scroll" tabindex="0" role="region" aria-label="Points inside the run"><table></table></div>
+</section>
 </section>
 
 <section id="bytes" aria-label="Bytes">
@@ -146,14 +155,16 @@ input[type="number"] { width: 5.5rem; }
 <label>Bytes a line <select id="width"><option>auto</option><option>4</option><option>8</option><option>16</option><option>24</option><option>32</option><option>48</option><option>64</option></select></label>
 <label><input type="checkbox" id="hex" checked> hex</label>
 <label><input type="checkbox" id="broken" checked> a line for each record</label>
-<label>Find <select id="what"><option value="text">text</option><option value="hex">hex digits</option><option value="in">input byte c:o</option><option value="out">output byte c:o</option></select></label>
+<label>Find <select id="what"><option value="text">text</option><option value="hex">hex digits</option><option value="in">input bytes</option><option value="out">output bytes</option></select></label>
 <input id="wanted" type="search" aria-label="What to find" size="22" spellcheck="false" autocomplete="off">
 <button>Find next</button>
 <output id="matches" aria-label="Matches"></output>
 <details>
 <summary>Keys and marks</summary>
+<p>Bytes are named <code>channel:offset</code>, and ranges <code>channel:from-past</code>; the byte at <code>past</code> isn't one of them.</p>
 <p>Yellow and ruled: what the chosen or pointed byte came from or came to. Blue: chosen. Green: found. Grey: without a listed source, or came to nothing listed;
-grey and slanted: not asked for. Red and dotted: from a record other than the own one, or came to such a one. A thin line stands where joined bytes begin.</p>
+grey and slanted: not asked for. Red and dotted: from a record other than the own one, or came to such a one. A written record's own record of an input
+is the newest that reached it. A thin line stands where joined bytes begin.</p>
 <p>Arrows, Page Up and Down, Home and End move the cursor in a pane; with Shift they select. Enter goes to the first lit byte on the other side.
 <kbd>a</kbd> selects the bytes that are joined with this one, <kbd>r</kbd> its record, <kbd>n</kbd> and <kbd>p</kbd> go to the next and the last of a foreign record,
 <kbd>/</kbd> to the search, Escape clears. Copying in a pane takes the report's lines of what is selected. A double click selects joined bytes, a click on <code>#</code> a record.</p>
@@ -162,12 +173,6 @@ grey and slanted: not asked for. Red and dotted: from a record other than the ow
 <div id="told" role="status" aria-label="The chosen bytes"></div>
 <div class="side" id="inputs"><h2>Inputs <span class="faint"></span></h2><div class="frame"><div class="pane" tabindex="0" role="application" aria-label="Input bytes" aria-describedby="told"></div><canvas aria-hidden="true"></canvas></div></div>
 <div class="side" id="outputs"><h2>Outputs <span class="faint"></span></h2><div class="frame"><div class="pane" tabindex="0" role="application" aria-label="Output bytes" aria-describedby="told"></div><canvas aria-hidden="true"></canvas></div></div>
-</section>
-
-<section id="points" hidden>
-<h2>Points inside the run</h2>
-<p class="faint">Registers and memory, each after so many steps, and what they came from.</p>
-<div class="scroll" tabindex="0" role="region" aria-label="Points inside the run"><table></table></div>
 </section>
 </main>
 <script type="text/plain" id="data">"#,

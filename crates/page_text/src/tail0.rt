@@ -20,12 +20,12 @@ pub(crate) fn push(out: &mut Vec<u8>) -> Result<(), NoMemory>
 // are one run here: `count` offsets from `first` on, all with the same source spans or, where the run moves, each with those
 // of the one before moved on by one.
 
-// ---- reading the data
+// ---- The data: its text is read once, from the front, into places, runs, calls and facts.
 
 const byId = (id) => document.getElementById(id);
 
-function place(kind, number, time, bytes) {
-  return { kind, number, time, bytes, calls: [], runs: [], records: [0], own: [], marks: new Uint8Array(bytes.length) };
+function place(kind, number, time) {
+  return { kind, number, time, bytes: new Uint8Array(0), calls: [], runs: [], records: [0], own: [] };
 }
 
 function decoded(base64) {
@@ -35,24 +35,16 @@ function decoded(base64) {
   return bytes;
 }
 
-/** Goes through the data's text. */
+/** Goes through a text. */
 class Scanner {
   constructor(text) {
     this.text = text;
     this.at = 0;
   }
 
-  get next() {
-    return this.text[this.at];
-  }
-
-  get isAtEnd() {
-    return this.at >= this.text.length;
-  }
-
   /** Passes over a character, if it is the next one. */
   takes(character) {
-    if (this.next !== character) return false;
+    if (this.text[this.at] !== character) return false;
     this.at++;
     return true;
   }
@@ -77,33 +69,14 @@ class Scanner {
     this.at = end + 1;
     return line;
   }
-}
 
-/** Adds a call that moved bytes to those of its channel. Others moved none, and may be on no channel at all. */
-function addCall(places, [channel, length, time]) {
-  if (Number(length) === 0) return;
-  const { calls } = places[channel];
-  const first = calls.length > 0 ? calls.at(-1).past : 0;
-  calls.push({ first, past: first + Number(length), time: Number(time) });
-}
-
-/** Reads the lines before the rows: what is known of the run, and the bytes that it moved. */
-function readFacts(scanner) {
-  const run = { facts: {}, sources: [], inputs: [], outputs: [] };
-  for (let line = scanner.line(); line !== 'rows'; line = scanner.line()) {
-    const [word, ...rest] = line.split(' ');
-    if (word === 'in' || word === 'out') {
-      const places = word === 'in' ? run.inputs : run.outputs;
-      places.push(place(word, Number(rest[0]), 0, decoded(rest[1])));
-    } else if (word === 'r' || word === 'w') {
-      addCall(word === 'r' ? run.inputs : run.outputs, rest);
-    } else if (word === 'sources') {
-      run.sources = rest;
-    } else {
-      run.facts[word] = rest.join(' ');
-    }
+  /** Ranges `c:a-b`, each after a blank, up to the line's end. */
+  spans(places) {
+    const spans = [];
+    while (this.takes(' ')) spans.push({ place: places[this.numberAndNext()], from: this.numberAndNext(), past: this.number() });
+    if (!this.takes('\n')) throw new Error('a line has no end');
+    return spans;
   }
-  return run;
 }
 
 /** Reads the rows, and gives each place its runs. */
@@ -115,18 +88,15 @@ class RowReader {
     this.last = null;
   }
 
+  /** All rows: what comes after them begins with `p`. */
   read() {
-    const { scanner } = this;
-    let rows = 0;
-    for (; !scanner.takes('e'); rows++) {
-      if (scanner.isAtEnd) throw new Error('the rows have no end');
+    const { scanner, run } = this;
+    for (run.rows = 0; scanner.text[scanner.at] !== 'p'; run.rows++) {
       if (scanner.takes('=')) this.join(false);
       else if (scanner.takes('+')) this.join(true);
-      else this.begin(...this.sink(), this.sources());
+      else this.begin(...this.sink(), scanner.spans(run.inputs));
     }
-    if (scanner.line() !== `nd ${rows}`) throw new Error('rows are missing');
-    this.run.rows = rows;
-    this.run.points = [...this.points.values()];
+    run.points = [...this.points.values()];
   }
 
   begin(where, first, spans) {
@@ -149,53 +119,60 @@ class RowReader {
   /** What a row is of: `c:o`, `m:A@T` or `r:R.L@T`. */
   sink() {
     const { scanner, run } = this;
-    if (scanner.takes('m')) {
-      scanner.takes(':');
-      const address = scanner.numberAndNext();
-      return [this.point('memory', 0, scanner.number()), address];
-    }
-    if (scanner.takes('r')) {
-      scanner.takes(':');
-      const register = scanner.numberAndNext();
-      const lane = scanner.numberAndNext();
-      return [this.point('register', register, scanner.number()), lane];
-    }
-    const channel = scanner.numberAndNext();
-    return [run.outputs[channel], scanner.number()];
+    const kind = scanner.takes('m') ? 'memory' : scanner.takes('r') ? 'register' : 'out';
+    if (kind === 'out') return [run.outputs[scanner.numberAndNext()], scanner.number()];
+    scanner.takes(':');
+    const register = kind === 'register' ? scanner.numberAndNext() : 0;
+    const offset = scanner.numberAndNext();
+    return [this.point(kind, register, scanner.number()), offset];
   }
 
   point(kind, register, time) {
     const key = `${kind} ${register} ${time}`;
-    if (!this.points.has(key)) this.points.set(key, place(kind, register, time, new Uint8Array(0)));
+    if (!this.points.has(key)) this.points.set(key, place(kind, register, time));
     return this.points.get(key);
   }
+}
 
-  sources() {
-    const { scanner, run } = this;
-    const spans = [];
-    while (scanner.takes(' ')) {
-      const channel = scanner.numberAndNext();
-      const from = scanner.number();
-      spans.push({ place: run.inputs[channel], from, past: (scanner.takes('-') ? scanner.number() : from) + 1 });
+/** Reads what is told beside the rows, up to the line that counts them. */
+function readFacts(scanner, run) {
+  for (;;) {
+    if (scanner.text.startsWith('sources', scanner.at)) {
+      scanner.at += 'sources'.length;
+      run.sources = scanner.spans(run.inputs);
     }
-    scanner.takes('\n');
-    return spans;
+    const [word, ...rest] = scanner.line().split(' ');
+    if (word === 'in' || word === 'out') {
+      (word === 'in' ? run.inputs : run.outputs)[rest[0]].bytes = decoded(rest[1]);
+    } else if (word === 'r' || word === 'w') {
+      const { calls } = (word === 'r' ? run.inputs : run.outputs)[rest[0]];
+      const first = calls.at(-1)?.past ?? 0;
+      calls.push({ first, past: first + Number(rest[1]), time: Number(rest[2]) });
+    } else if (word === 'end' && run.facts.end) {
+      if (Number(rest[0]) !== run.rows) throw new Error('rows are missing');
+      return;
+    } else {
+      run.facts[word] = rest.join(' ');
+    }
   }
 }
 
 function read(text) {
   const scanner = new Scanner(text);
   if (scanner.line() !== 'jet page 1') throw new Error('the data is of no version that this page reads');
-  const run = readFacts(scanner);
+  if (scanner.line() !== 'rows') throw new Error('there are no rows');
+  const channels = (kind) => Array.from({ length: 16 }, (none, number) => place(kind, number, 0));
+  const run = { facts: {}, inputs: channels('in'), outputs: channels('out') };
   new RowReader(scanner, run).read();
+  readFacts(scanner, run);
   run.inputs = run.inputs.filter((p) => p.bytes.length > 0);
   run.outputs = run.outputs.filter((p) => p.bytes.length > 0);
   run.sinks = [...run.outputs, ...run.points];
-  [...run.inputs, ...run.sinks].forEach((where, order) => Object.assign(where, { order }));
+  [...run.inputs, ...run.sinks].forEach((where, order) => Object.assign(where, { order, marks: new Uint8Array(where.bytes.length) }));
   return run;
 }
 
-// ---- names
+// ---- Names: of bytes and ranges as jet's texts have them, of counts, and of bytes as text.
 
 const decimal = new Intl.NumberFormat('en');
 const many = (n, what) => `${decimal.format(n)} ${what}${n === 1 ? '' : 's'}`;
@@ -207,10 +184,11 @@ function byteName(where, offset) {
   return `${where.number}:${offset}`;
 }
 
+/** The name of a range; of one byte its own. */
 function spanName({ place: where, from, past }) {
   if (past - from === 1) return byteName(where, from);
   if (where.kind === 'memory' || where.kind === 'register') return `${byteName(where, from)} to ${byteName(where, past - 1)}`;
-  return `${where.number}:${from}\u2013${past - 1}`;
+  return `${where.number}:${from}-${past}`;
 }
 
 const sideName = (where) => (where.kind === 'in' ? 'Input' : where.kind === 'out' ? 'Output' : 'Point');
@@ -225,7 +203,7 @@ function preview({ place: where, from, past }, most = 48) {
   return past - from > most ? `${text}\u2026` : text;
 }
 
-// ---- flow
+// ---- Flow: what bytes came from, and what they came to.
 
 /** The span of sources that the offsets from `from` up to `past` of a run have by one of its source spans. */
 function sourceSpan(run, span, from, past) {
@@ -307,7 +285,7 @@ function reachOf({ place: where, from, past }) {
 
 const linkedTo = (span) => (span.place.kind === 'in' ? reachOf(span) : sourcesOf(span));
 
-// ---- records
+// ---- Records: where they begin, and which bytes came from another record than the own one.
 
 /** Where the records of a channel begin: at each line, at each call that moved bytes, or every `size` bytes. */
 function recordStarts(where, how, size) {

@@ -35,28 +35,29 @@ function recordsBack(where, record, source) {
 
 const isOwn = (sink, source) => recordsBack(sink.place, recordAt(sink.place, sink.from), source) === 0;
 
+const numbers = (from, past) => (past - from === 1 ? `${from}` : `${from}-${past}`);
+
 /** Where in its record a source span stands, as text. */
 function textInRecord({ place: where, from, past }) {
   const record = recordAt(where, from);
   const last = recordAt(where, past - 1);
-  if (last > record) return `${where.number}: in ${last - record + 1} records`;
-  const begin = from - where.records[record];
-  return past - from === 1 ? `${where.number}: ${begin}` : `${where.number}: ${begin}\u2013${begin + past - from - 1}`;
+  const begin = where.records[record];
+  return `${where.number}: ${last > record ? `in ${last - record + 1} records` : numbers(from - begin, past - begin)}`;
 }
 
 const MOST_PATTERNS = 5000;
 
 /**
  * How bytes flow between records: `patterns`, each a place in written records with the places in received records that it
- * came from, and how often, and what `others` there were once they were many; and `mixed`, the spans of outputs that came from other records than their own, and of inputs
- * that came there.
+ * came from, and how often; how many `others` there were once they were many; and `mixed`, the spans of outputs that came
+ * from other records than their own, and of inputs that came there.
  */
-function analyse(own) {
+function analyse() {
   const patterns = new Map();
   let others = 0;
   const mixed = { in: [], out: [] };
   for (const where of data.outputs) {
-    where.own = own === 'newest' ? newestRecords(where) : [];
+    where.own = newestRecords(where);
     for (const run of where.runs) {
       if (run.spans.length === 0) continue;
       for (const { from, past } of partsOf(run)) {
@@ -73,15 +74,15 @@ function analyse(own) {
         const key = `${where.order} ${begin} ${end} ${cameFrom} ${back}`;
         const known = patterns.get(key);
         if (known) known.count++;
-        else if (patterns.size < MOST_PATTERNS) patterns.set(key, { example: { place: where, from, past }, begin, end, moves: run.moves, cameFrom, back, foreign: foreign.length > 0, count: 1 });
-        else others++;
+        else if (patterns.size === MOST_PATTERNS) others++;
+        else patterns.set(key, { example: { place: where, from, past }, begin, end, moves: run.moves, cameFrom, back, foreign: foreign.length > 0, count: 1 });
       }
     }
   }
   return { patterns: [...patterns.values()], others, mixed: { in: merged(mixed.in), out: merged(mixed.out) } };
 }
 
-// ---- marks: a bit for each look of a byte
+// ---- Marks: a bit for each look of a byte, which are its classes.
 
 const MARKS = ['silent', 'outside', 'starts', 'foreign', 'found', 'lit', 'chosen', 'cursor'];
 const [SILENT, OUTSIDE, STARTS, FOREIGN, FOUND, LIT, CHOSEN, CURSOR] = MARKS.map((name, i) => 1 << i);
@@ -107,9 +108,7 @@ function markRows() {
     }
   }
   for (const where of data.inputs) mark({ place: where, from: 0, past: where.bytes.length }, OUTSIDE);
-  for (const text of data.sources) {
-    const [channel, first, last = first] = text.split(/[:-]/).map(Number);
-    const span = { place: data.inputs.find((p) => p.number === channel), from: first, past: last + 1 };
+  for (const span of data.sources) {
     unmark(span, OUTSIDE);
     mark(span, SILENT);
   }
@@ -120,7 +119,7 @@ function markRows() {
   }
 }
 
-// ---- making elements: all that came from the run goes in as text
+// ---- Elements: all that came from the run goes in as text, never as markup.
 
 function element(name, properties = {}, ...children) {
   const made = Object.assign(document.createElement(name), properties);
@@ -130,7 +129,7 @@ function element(name, properties = {}, ...children) {
 
 const spanButton = (span) => element('button', { type: 'button', className: 'link', textContent: spanName(span), onclick: () => go(span) });
 
-// ---- panes: a scroller that holds only the lines in view
+// ---- Panes: the bytes of all channels of a side, in a scroller that holds only the lines in view.
 
 const LINE = 18;
 const TALLEST = 8e6;
@@ -167,11 +166,11 @@ class Pane {
     new ResizeObserver(() => this.layOut()).observe(this.view);
   }
 
-  /** How many bytes a line of the pane has room for: four columns each with hex, one without. */
-  fitting(hex) {
+  /** How many bytes a line of the pane has room for beside so many columns: four columns each with hex, one without. */
+  fitting(hex, beside) {
     const probe = element('span', { textContent: '0'.repeat(100) });
     this.lines.append(probe);
-    const columns = this.view.clientWidth / (probe.getBoundingClientRect().width / 100) - 23;
+    const columns = this.view.clientWidth / (probe.getBoundingClientRect().width / 100) - beside;
     probe.remove();
     return [128, 96, 64, 48, 32, 24, 16, 8].find((n) => n * (hex ? 4 : 1) <= columns) ?? 4;
   }
@@ -179,7 +178,10 @@ class Pane {
   /** Finds where the lines begin: after `width` bytes and, if wanted, at each record. A line before each channel is its title. */
   layOut() {
     const hex = byId('hex').checked;
-    const width = Number(byId('width').value) || this.fitting(hex);
+    const longest = (nameOf) => Math.max(0, ...this.places.map((where) => nameOf(where).length)) + 1;
+    const record = longest((where) => `#${where.records.length}`);
+    const offset = longest((where) => byteName(where, where.bytes.length));
+    const width = Number(byId('width').value) || this.fitting(hex, record + offset + 4);
     const layout = `${width} ${hex} ${byId('broken').checked} ${this.places.map((p) => p.records.length)}`;
     const top = this.topByte();
     if (layout !== this.layout) {
@@ -198,7 +200,7 @@ class Pane {
       this.layout = layout;
       this.made.clear();
       this.lines.replaceChildren();
-      this.lines.style.setProperty('--columns', width);
+      for (const [name, columns] of Object.entries({ width, record, offset })) this.lines.style.setProperty(`--${name}`, columns);
       this.sizer.style.height = `${Math.min(count * LINE, TALLEST)}px`;
       if (top) this.scrollTo(top.place, top.offset, true);
     }
@@ -276,13 +278,6 @@ class Pane {
     }
   }
 
-  /** A strip of where in all lines the lit, the chosen and the foreign bytes stand. */
-  drawMap() {
-    const { map } = this;
-    map.width = map.clientWidth;
-    map.height = map.clientHeight;
-    const pen = map.getContext('2d');
-    const style = getComputedStyle(map);
 "#,
     )?;
     Ok(())

@@ -11,7 +11,14 @@ pub(crate) fn push(out: &mut Vec<u8>) -> Result<(), NoMemory>
     ensures { OnOk result (out.new.items ≡ out.old.items ++ tail2) }
 {
     out.extend_from_slice(
-        br#"    const strip = (spans, color, left, width) => {
+        br#"  /** A strip of where in all lines the lit, the chosen and the foreign bytes stand. */
+  drawMap() {
+    const { map } = this;
+    map.width = map.clientWidth;
+    map.height = map.clientHeight;
+    const pen = map.getContext('2d');
+    const style = getComputedStyle(map);
+    const strip = (spans, color, left, width) => {
       pen.fillStyle = style.getPropertyValue(color);
       let bottom = -1;
       for (const { place: where, from, past } of spans) {
@@ -115,7 +122,7 @@ pub(crate) fn push(out: &mut Vec<u8>) -> Result<(), NoMemory>
   }
 }
 
-// ---- what is chosen, what is pointed at, and what is lit for it
+// ---- What is chosen, what is pointed at, what is lit for it, and what is told of it.
 
 let data;
 let panes = [];
@@ -205,7 +212,7 @@ function describe(span) {
     const record = recordAt(where, from);
     const begin = where.records[record];
     parts.push(past > recordEnd(where, record) ? `records ${record} to ${recordAt(where, past - 1)}`
-      : past - from === 1 ? `byte ${from - begin} of record ${record}` : `bytes ${from - begin} to ${past - 1 - begin} of record ${record}`);
+      : `${past - from === 1 ? 'byte' : 'bytes'} ${numbers(from - begin, past - begin)} of record ${record}`);
     parts.push(`${where.kind === 'in' ? 'read' : 'written'} at step ${decimal.format(timeOf(where, from))}`);
   }
   return parts.join(', ');
@@ -216,7 +223,29 @@ function timeOf(where, offset) {
   return where.calls[lastUpTo(offset, where.calls.length, (k) => where.calls[k].first)].time;
 }
 
+/** A line of a query that asks for the first byte of a span: of an input as a source, else as a sink; of a register's lanes for all. */
+function queryLine({ place: where, from }) {
+  if (where.kind === 'memory') return `sink mem ${from} 1 at ${where.time}`;
+  if (where.kind === 'register') return `sink reg ${where.number} at ${where.time}`;
+  return `${where.kind === 'in' ? 'source' : 'sink'} ${where.number} ${from} ${from + 1}`;
+}
+
+/** The command line that tells how a byte came there: of the first byte of a span, and the first that is lit for it. */
+function pathCommand(span) {
+  const [other] = span.past - span.from === 1 ? linked : linkedTo({ place: span.place, from: span.from, past: span.from + 1 });
+  if (!other) return '';
+  const lines = [`rule ${data.facts.rule}`, queryLine(span), queryLine(other)];
+  return `printf '${lines.join('\\n')}\\n' >path.query; jet path PROG LOG path.query`;
+}
+
 const MOST_TOLD = 40;
+
+function pathLine(span) {
+  const command = pathCommand(span);
+  if (command === '') return '';
+  return element('div', {}, 'The path of its first byte: ', element('code', { textContent: command }), ' ',
+    element('button', { type: 'button', textContent: 'Copy', onclick: () => navigator.clipboard.writeText(command) }));
+}
 
 function tell(span) {
   if (!span) {
@@ -234,7 +263,8 @@ function tell(span) {
     element('div', {}, `${sideName(span.place)} `, element('strong', { className: 'mono', textContent: spanName(span) }), ' ', element('code', { textContent: preview(span) }), ` ${describe(span)}`),
     element('div', {}, size === 0 ? `${verb} nothing that is listed` : `${verb} ${many(size, 'byte')} in ${many(linked.length, 'range')}:`),
     element('ul', {}, ...list),
-    linked.length > MOST_TOLD ? `and ${many(linked.length - MOST_TOLD, 'more range')}` : '');
+    linked.length > MOST_TOLD ? `and ${many(linked.length - MOST_TOLD, 'more range')}` : '',
+    pathLine(span));
 }
 
 /** The report's lines of the chosen output bytes, or the influence's of the chosen input bytes. */
@@ -251,7 +281,7 @@ function reportLines() {
   return lines.join('');
 }
 
-// ---- search
+// ---- Search: bytes by their text or hex digits, and bytes by name.
 
 let found = [];
 
@@ -266,46 +296,6 @@ function findBytes(wanted) {
   return spans;
 }
 
-function findNamed(places, name) {
-  const match = /^\s*(\d+):(\d+)(?:[-\u2013](\d+))?\s*$/.exec(name);
-  const where = match && places.find((p) => p.number === Number(match[1]));
-  const from = Number(match?.[2]);
-  const past = Number(match?.[3] ?? from) + 1;
-  return where && from < past && past <= where.bytes.length ? [{ place: where, from, past }] : [];
-}
-
-function wantedSpans(what, text) {
-  if (what === 'text') return findBytes([...new TextEncoder().encode(text)]);
-  if (what === 'hex') return /^(\s*[0-9a-f]{2})*\s*$/i.test(text) ? findBytes((text.match(/[0-9a-f]{2}/gi) ?? []).map((h) => parseInt(h, 16))) : [];
-  return findNamed(what === 'in' ? data.inputs : data.outputs, text);
-}
-
-let searched = '';
-let nextFound = 0;
-
-function findNext(event) {
-  event.preventDefault();
-  const what = byId('what').value;
-  const text = byId('wanted').value;
-  if (`${what} ${text}` !== searched) {
-    for (const span of found) unmark(span, FOUND);
-    found = wantedSpans(what, text);
-    for (const span of found) mark(span, FOUND);
-    searched = `${what} ${text}`;
-    nextFound = 0;
-  }
-  const inputs = found.filter((s) => s.place.kind === 'in').length;
-  byId('matches').textContent = text === '' ? '' : found.length === 0 ? 'not found'
-    : `${decimal.format(nextFound + 1)} of ${decimal.format(found.length)}: ${many(inputs, 'input')}, ${many(found.length - inputs, 'output')}`;
-  if (found.length > 0) go(found[nextFound]);
-  else light();
-  nextFound = found.length > 0 ? (nextFound + 1) % found.length : 0;
-}
-
-// ---- the summary
-
-function countWithout(where, bits) {
-  let count = 0;
 "#,
     )?;
     Ok(())

@@ -11,8 +11,73 @@ pub(crate) fn push(out: &mut Vec<u8>) -> Result<(), NoMemory>
     ensures { OnOk result (out.new.items ≡ out.old.items ++ tail3) }
 {
     out.extend_from_slice(
-        br#"  for (const marks of where.marks) count += (marks & bits) === 0;
+        br#"/** A byte `c:o` or a range `c:a-b` of a side. */
+function findNamed(places, name) {
+  const match = /^\s*(\d+):(\d+)(?:-(\d+))?\s*$/.exec(name);
+  const where = match && places.find((p) => p.number === Number(match[1]));
+  const from = Number(match?.[2]);
+  const past = Number(match?.[3] ?? from + 1);
+  return where && from < past && past <= where.bytes.length ? [{ place: where, from, past }] : [];
+}
+
+function wantedSpans(what, text) {
+  if (what === 'text') return findBytes([...new TextEncoder().encode(text)]);
+  if (what === 'hex') return /^(\s*[0-9a-f]{2})*\s*$/i.test(text) ? findBytes((text.match(/[0-9a-f]{2}/gi) ?? []).map((h) => parseInt(h, 16))) : [];
+  return findNamed(what === 'in' ? data.inputs : data.outputs, text);
+}
+
+let searched = '';
+let nextFound = 0;
+
+function findNext(event) {
+  event.preventDefault();
+  const what = byId('what').value;
+  const text = byId('wanted').value;
+  if (`${what} ${text}` !== searched) {
+    for (const span of found) unmark(span, FOUND);
+    found = wantedSpans(what, text);
+    for (const span of found) mark(span, FOUND);
+    searched = `${what} ${text}`;
+    nextFound = 0;
+  }
+  const inputs = found.filter((s) => s.place.kind === 'in').length;
+  byId('matches').textContent = text === '' ? '' : found.length === 0 ? 'not found'
+    : `${decimal.format(nextFound + 1)} of ${decimal.format(found.length)}: ${many(inputs, 'input')}, ${many(found.length - inputs, 'output')}`;
+  if (found.length > 0) go(found[nextFound]);
+  else light();
+  nextFound = found.length > 0 ? (nextFound + 1) % found.length : 0;
+}
+
+// ---- The summary: the run and the query in words, records, channels and points.
+
+function countWithout(where, bits) {
+  let count = 0;
+  for (const marks of where.marks) count += (marks & bits) === 0;
   return count;
+}
+
+const RULES = {
+  copy: 'only where it is moved',
+  keep: 'where it is moved, also by masks and shifts that keep a byte whole',
+  compute: 'into all that is computed from it',
+  index: 'into all that is computed from it, and through addresses',
+};
+
+const TRAPS = {
+  0: 'a jump to an address that is no multiple of 4',
+  1: 'no instruction in the window at the pc',
+  2: 'an illegal instruction',
+  3: 'a breakpoint',
+  5: 'a load outside the window',
+  7: 'a store outside the window',
+};
+
+/** How the run ended, in words. */
+function endText() {
+  const [kind, code, pc] = data.facts.end.split(' ');
+  if (kind === 'exit') return `ended by an exit with code ${code}`;
+  if (kind === 'trap') return `ended by trap ${code}, ${TRAPS[code]}, at pc 0x${Number(pc).toString(16).padStart(8, '0')}`;
+  return 'was cut off at its limit of steps';
 }
 
 function showFacts() {
@@ -21,23 +86,24 @@ function showFacts() {
   const pairs = total(data.sinks, (where) => total(where.runs, (run) => run.count * total(run.spans, (s) => s.past - s.from)));
   const asked = (places) => decimal.format(total(places, (where) => countWithout(where, OUTSIDE)));
   byId('facts').replaceChildren(
-    'Under ', element('strong', { textContent: `rule ${facts.rule}` }),
-    `, ${asked(data.inputs)} of ${many(Number(facts.read), 'byte')} received count as sources, and ${asked(data.outputs)} of ${many(Number(facts.written), 'byte')} written are asked for: ${many(pairs, 'pair')} of an output byte or a point and a source. The run took ${many(Number(facts.steps), 'step')} and ${many(Number(facts.calls), 'call')}, and ended by ${facts.end}. Program SHA-256 `,
+    'By ', element('strong', { textContent: `rule ${facts.rule}` }), ` a byte is followed ${RULES[facts.rule]}. `,
+    `${asked(data.inputs)} of ${many(Number(facts.read), 'byte')} received count as sources, and ${asked(data.outputs)} of ${many(Number(facts.written), 'byte')} written are asked for: `,
+    `${many(pairs, 'pair')} of an output byte or a point and a source. The run took ${many(Number(facts.steps), 'step')} and ${many(Number(facts.calls), 'call')}, and ${endText()}. Program SHA-256 `,
     element('code', { textContent: facts.program }));
 }
 
 function showChannels() {
-  const head = element('tr', {}, ...['Channel', 'Bytes', 'With flow', 'A record is', 'Records'].map((t) => element('th', { scope: 'col', textContent: t })));
+  const head = element('tr', {}, ...['Channel', 'Bytes', 'With flow', 'Records'].map((t) => element('th', { scope: 'col', textContent: t })));
   const rows = [...data.inputs, ...data.outputs].map((where) => {
     const input = where.kind === 'in';
     const how = element('select', { ariaLabel: `Records of ${sideName(where)} ${where.number}` },
       ...[['line', 'each line'], ['call', `each ${input ? 'read' : 'write'}`], ['size', 'so many bytes:']].map(([value, text]) => element('option', { value, textContent: text })));
     const size = element('input', { type: 'number', min: 1, value: 16, ariaLabel: 'Bytes in a record' });
-    const count = element('td', { className: 'number' });
+    const count = element('span');
     const set = () => {
       size.hidden = how.value !== 'size';
       where.records = recordStarts(where, how.value, Math.max(1, Math.floor(Number(size.value)) || 1));
-      count.textContent = decimal.format(where.records.length);
+      count.textContent = `${decimal.format(where.records.length)}: `;
     };
     how.value = usualRecords(where);
     set();
@@ -46,8 +112,7 @@ function showChannels() {
       element('td', {}, element('button', { type: 'button', className: 'link', textContent: `${input ? 'in' : 'out'} ${where.number}`, onclick: () => go({ place: where, from: 0, past: where.bytes.length }) })),
       element('td', { className: 'number', textContent: decimal.format(where.bytes.length) }),
       element('td', { className: 'number', textContent: decimal.format(countWithout(where, SILENT | OUTSIDE)) }),
-      element('td', {}, how, ' ', size),
-      count);
+      element('td', {}, count, how, ' ', size));
   });
   byId('channels').replaceChildren(head, ...rows);
 }
@@ -59,7 +124,7 @@ function recordName(back) {
 
 function showRecords() {
   for (const span of [...mixed.in, ...mixed.out]) unmark(span, FOREIGN);
-  const found = analyse(byId('own').value);
+  const found = analyse();
   mixed = found.mixed;
   for (const span of [...mixed.in, ...mixed.out]) mark(span, FOREIGN);
   showAlarm();
@@ -91,10 +156,10 @@ const PATTERNS_SHOWN = 200;
 
 function showPatterns({ patterns, others }) {
   patterns.sort((a, b) => b.foreign - a.foreign || inOrder(a.example, b.example));
-  const head = element('tr', {}, ...['Output', 'bytes of a record', 'came from bytes', 'of the record', 'times'].map((t) => element('th', { scope: 'col', textContent: t })));
+  const head = element('tr', {}, ...['Out', 'bytes', 'came from', 'of the record', 'times'].map((t) => element('th', { scope: 'col', textContent: t })));
   const rows = patterns.slice(0, PATTERNS_SHOWN).map((p) => element('tr', { className: p.foreign ? 'foreign' : '' },
     element('td', { textContent: p.example.place.number }),
-    element('td', {}, element('button', { type: 'button', className: 'link', textContent: p.end - p.begin === 1 ? p.begin : `${p.begin}\u2013${p.end - 1}`, title: 'Show the first of these', onclick: () => go(p.example) })),
+    element('td', {}, element('button', { type: 'button', className: 'link', textContent: numbers(p.begin, p.end), title: 'Show the first of these', onclick: () => go(p.example) })),
     element('td', { className: 'mono', textContent: p.cameFrom.slice(0, 4).join(', ') + (p.cameFrom.length > 4 ? ', \u2026' : p.moves ? ' one by one' : '') }),
     element('td', { textContent: [...new Set(p.back.map(recordName))].slice(0, 4).join(', ') }),
     element('td', { className: 'number', textContent: decimal.format(p.count) })));
@@ -121,7 +186,7 @@ function showPoints() {
     element('thead', {}, head), element('tbody', {}, ...rows));
 }
 
-// ---- the beginning
+// ---- The beginning.
 
 function start() {
   data = read(byId('data').textContent);
@@ -132,7 +197,6 @@ function start() {
   panes = [new Pane('in', data.inputs), new Pane('out', data.outputs)];
   showPoints();
   setTimeout(showRecords);
-  byId('own').onchange = showRecords;
   byId('before').onclick = () => step(-1, 'out');
   byId('after').onclick = () => step(1, 'out');
   byId('tools').onsubmit = findNext;
