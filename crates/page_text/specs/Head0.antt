@@ -8,7 +8,7 @@ head0 =
     codes "<head>\n" ++
     codes "<meta charset=\"utf-8\">\n" ++
     codes "<meta name=\"viewport\" content=\"width=device-width, initial-scale=1\">\n" ++
-    codes "<meta http-equiv=\"Content-Security-Policy\" content=\"default-src 'none'; style-src 'sha256-1iq3epYzKsAcWcK1/RxG5h1k141H8lI3cQndS0NjBlk='; script-src 'sha256-MS+GFvv/UqmFXkJu19STTzYHyECP6NNk1+xWDtCYFsA='; base-uri 'none'; form-action 'none'\">\n" ++
+    codes "<meta http-equiv=\"Content-Security-Policy\" content=\"default-src 'none'; style-src 'sha256-1Ckqpa99RODWbupNH3abRUa6GvNmkZEydIpa2LRrdtw='; script-src 'sha256-fjty4QGDYddmjSEXFFe43Y+UL8XF6jWcX4/mvStlQw4='; base-uri 'none'; form-action 'none'\">\n" ++
     codes "<title>jet: where each output byte came from</title>\n" ++
     codes "<style>\n" ++
     codes "/* The script reads these as colors. */\n" ++
@@ -50,9 +50,11 @@ head0 =
     codes "td.number, th.number { text-align: right; font-variant-numeric: tabular-nums; }\n" ++
     codes "tr.foreign td { color: var(--foreign); }\n" ++
     codes "\n" ++
-    codes "button, select, input { font: inherit; color: inherit; background: var(--paper); border: 1px solid var(--edge); border-radius: 4px; padding: 0.1rem 0.4rem; }\n" ++
+    codes "button, select, input { font: inherit; color: inherit; background: var(--paper); padding: 0.1rem 0.4rem; }\n" ++
+    codes "button, select, input, #told, .frame { border: 1px solid var(--edge); border-radius: 4px; }\n" ++
     codes "button { cursor: pointer; }\n" ++
-    codes "button.link { border: 0; padding: 0; background: none; color: var(--accent); text-decoration: underline; font-family: var(--bytes); font-size: 0.93em; text-align: left; }\n" ++
+    codes "button.link { border: 0; padding: 0; background: none; color: var(--accent); text-decoration: underline; }\n" ++
+    codes "button.link { font-family: var(--bytes); font-size: 0.93em; text-align: left; }\n" ++
     codes "input[type=\"number\"] { width: 4.5rem; }\n" ++
     codes ":focus-visible { outline: 2px solid var(--accent); outline-offset: 1px; }\n" ++
     codes "\n" ++
@@ -64,16 +66,18 @@ head0 =
     codes ".scroll { max-height: 14rem; overflow: auto; scrollbar-width: thin; }\n" ++
     codes ".scroll th { position: sticky; top: 0; background: var(--paper); }\n" ++
     codes "\n" ++
-    codes "#bytes { display: grid; grid-template: auto auto minmax(0, 1fr) / minmax(0, 1fr) minmax(0, 1fr); gap: 0.5rem 1rem; min-height: 0; }\n" ++
+    codes "#bytes { display: grid; gap: 0.5rem 1rem; min-height: 0; }\n" ++
+    codes "#bytes { grid-template: auto auto minmax(0, 1fr) / minmax(0, 1fr) minmax(0, 1fr); }\n" ++
     codes "#tools, #told { grid-column: 1 / -1; }\n" ++
     codes "#tools { display: flex; flex-wrap: wrap; gap: 0.25rem 1.25rem; align-items: center; margin: 0; }\n" ++
     codes "#tools input[type=\"search\"] { min-width: 0; max-width: 100%; }\n" ++
-    codes "#told { height: 7.5rem; overflow: auto; background: var(--raised); border: 1px solid var(--edge); border-radius: 4px; padding: 0.4rem 0.75rem; }\n" ++
+    codes "#told { height: 7.5rem; overflow: auto; background: var(--raised); padding: 0.4rem 0.75rem; }\n" ++
     codes "#told ul { margin: 0; padding: 0; list-style: none; }\n" ++
     codes ".side { display: grid; grid-template-rows: auto minmax(0, 1fr); min-width: 0; min-height: 0; }\n" ++
     codes ".side h2 { display: flex; flex-wrap: wrap; gap: 0 0.75rem; align-items: baseline; }\n" ++
-    codes ".frame { display: flex; min-height: 0; border: 1px solid var(--edge); border-radius: 4px; }\n" ++
-    codes ".frame canvas { flex: none; width: 14px; height: 100%; background: var(--raised); border-left: 1px solid var(--edge); cursor: pointer; }\n" ++
+    codes ".frame { display: flex; min-height: 0; }\n" ++
+    codes ".frame canvas { flex: none; width: 14px; height: 100%; cursor: pointer; }\n" ++
+    codes ".frame canvas { background: var(--raised); border-left: 1px solid var(--edge); }\n" ++
     codes "\n" ++
     codes ".pane { flex: 1; overflow: auto; position: relative; font: 12px/18px var(--bytes); cursor: default; user-select: none; }\n" ++
     codes ".lines { position: absolute; top: 0; left: 0; min-width: 100%; }\n" ++
@@ -120,7 +124,8 @@ head0 =
     codes "<body>\n" ++
     codes "<header>\n" ++
     codes "<h1>Where each output byte came from</h1>\n" ++
-    codes "<p id=\"facts\">This page is not whole, or scripts are off. Without a script it shows nothing; <code>jet query</code> writes the same as text.</p>\n" ++
+    codes "<p id=\"facts\">This page is not whole, or scripts are off. Without a script it shows nothing;\n" ++
+    codes "<code>jet query</code> writes the same as text.</p>\n" ++
     codes "</header>\n" ++
     codes "<main hidden>\n" ++
     codes "<section id=\"summary\" aria-label=\"Summary\" tabindex=\"0\">\n" ++
@@ -128,7 +133,9 @@ head0 =
     codes "<h2>Records</h2>\n" ++
     codes "<p id=\"alarm\">Being counted.</p>\n" ++
     codes "<p><button type=\"button\" id=\"before\">Previous</button> <button type=\"button\" id=\"after\">Next</button></p>\n" ++
-    codes "<div class=\"scroll\" tabindex=\"0\" role=\"region\" aria-label=\"Patterns of flow between records\"><table id=\"patterns\"></table></div>\n" ++
+    codes "<div class=\"scroll\" tabindex=\"0\" role=\"region\" aria-label=\"Patterns of flow between records\">\n" ++
+    codes "<table id=\"patterns\"></table>\n" ++
+    codes "</div>\n" ++
     codes "</section>\n" ++
     codes "<section>\n" ++
     codes "<h2>Channels</h2>\n" ++
@@ -144,27 +151,51 @@ head0 =
     codes "\n" ++
     codes "<section id=\"bytes\" aria-label=\"Bytes\">\n" ++
     codes "<form id=\"tools\">\n" ++
-    codes "<label>Bytes a line <select id=\"width\"><option>auto</option><option>4</option><option>8</option><option>16</option><option>24</option><option>32</option><option>48</option><option>64</option></select></label>\n" ++
+    codes "<label>Bytes a line\n" ++
+    codes "<select id=\"width\">\n" ++
+    codes "<option>auto</option><option>4</option><option>8</option><option>16</option>\n" ++
+    codes "<option>24</option><option>32</option><option>48</option><option>64</option>\n" ++
+    codes "</select></label>\n" ++
     codes "<label><input type=\"checkbox\" id=\"hex\" checked> hex</label>\n" ++
     codes "<label><input type=\"checkbox\" id=\"broken\" checked> a line for each record</label>\n" ++
-    codes "<label>Find <select id=\"what\"><option value=\"text\">text</option><option value=\"hex\">hex digits</option><option value=\"in\">input bytes</option><option value=\"out\">output bytes</option></select></label>\n" ++
+    codes "<label>Find\n" ++
+    codes "<select id=\"what\">\n" ++
+    codes "<option value=\"text\">text</option><option value=\"hex\">hex digits</option>\n" ++
+    codes "<option value=\"in\">input bytes</option><option value=\"out\">output bytes</option>\n" ++
+    codes "</select></label>\n" ++
     codes "<input id=\"wanted\" type=\"search\" aria-label=\"What to find\" size=\"22\" spellcheck=\"false\" autocomplete=\"off\">\n" ++
     codes "<button>Find next</button>\n" ++
     codes "<output id=\"matches\" aria-label=\"Matches\"></output>\n" ++
     codes "<details>\n" ++
     codes "<summary>Keys and marks</summary>\n" ++
-    codes "<p>Bytes are named <code>channel:offset</code>, and ranges <code>channel:from-past</code>; the byte at <code>past</code> isn't one of them.</p>\n" ++
-    codes "<p>Yellow and ruled: what the chosen or pointed byte came from or came to. Blue: chosen. Green: found. Grey: without a listed source, or came to nothing listed;\n" ++
-    codes "grey and slanted: not asked for. Red and dotted: from a record other than the own one, or came to such a one. A written record's own record of an input\n" ++
-    codes "is the newest that reached it. A thin line stands where joined bytes begin.</p>\n" ++
-    codes "<p>Arrows, Page Up and Down, Home and End move the cursor in a pane; with Shift they select. Enter goes to the first lit byte on the other side.\n" ++
-    codes "<kbd>a</kbd> selects the bytes that are joined with this one, <kbd>r</kbd> its record, <kbd>n</kbd> and <kbd>p</kbd> go to the next and the last of a foreign record,\n" ++
-    codes "<kbd>/</kbd> to the search, Escape clears. Copying in a pane takes the report's lines of what is selected. A double click selects joined bytes, a click on <code>#</code> a record.</p>\n" ++
+    codes "<p>Bytes are named <code>channel:offset</code>, and ranges <code>channel:from-past</code>; the byte at <code>past</code>\n" ++
+    codes "isn't one of them.</p>\n" ++
+    codes "<p>Yellow and ruled: what the chosen or pointed byte came from or came to. Blue: chosen. Green: found. Grey: without a\n" ++
+    codes "listed source, or came to nothing listed; grey and slanted: not asked for. Red and dotted: from a record other than the\n" ++
+    codes "own one, or came to such a one. A written record's own record of an input is the newest that reached it. A thin line\n" ++
+    codes "stands where joined bytes begin.</p>\n" ++
+    codes "<p>Arrows, Page Up and Down, Home and End move the cursor in a pane; with Shift they select. Enter goes to the first lit\n" ++
+    codes "byte on the other side. <kbd>a</kbd> selects the bytes that are joined with this one, <kbd>r</kbd> its record,\n" ++
+    codes "<kbd>n</kbd> and <kbd>p</kbd> go to the next and the last of a foreign record, <kbd>/</kbd> to the search, Escape clears.\n" ++
+    codes "Copying in a pane takes the report's lines of what is selected. A double click selects joined bytes, a click on\n" ++
+    codes "<code>#</code> a record.</p>\n" ++
     codes "</details>\n" ++
     codes "</form>\n" ++
     codes "<div id=\"told\" role=\"status\" aria-label=\"The chosen bytes\"></div>\n" ++
-    codes "<div class=\"side\" id=\"inputs\"><h2>Inputs <span class=\"faint\"></span></h2><div class=\"frame\"><div class=\"pane\" tabindex=\"0\" role=\"application\" aria-label=\"Input bytes\" aria-describedby=\"told\"></div><canvas aria-hidden=\"true\"></canvas></div></div>\n" ++
-    codes "<div class=\"side\" id=\"outputs\"><h2>Outputs <span class=\"faint\"></span></h2><div class=\"frame\"><div class=\"pane\" tabindex=\"0\" role=\"application\" aria-label=\"Output bytes\" aria-describedby=\"told\"></div><canvas aria-hidden=\"true\"></canvas></div></div>\n" ++
+    codes "<div class=\"side\" id=\"inputs\">\n" ++
+    codes "<h2>Inputs <span class=\"faint\"></span></h2>\n" ++
+    codes "<div class=\"frame\">\n" ++
+    codes "<div class=\"pane\" tabindex=\"0\" role=\"application\" aria-label=\"Input bytes\" aria-describedby=\"told\"></div>\n" ++
+    codes "<canvas aria-hidden=\"true\"></canvas>\n" ++
+    codes "</div>\n" ++
+    codes "</div>\n" ++
+    codes "<div class=\"side\" id=\"outputs\">\n" ++
+    codes "<h2>Outputs <span class=\"faint\"></span></h2>\n" ++
+    codes "<div class=\"frame\">\n" ++
+    codes "<div class=\"pane\" tabindex=\"0\" role=\"application\" aria-label=\"Output bytes\" aria-describedby=\"told\"></div>\n" ++
+    codes "<canvas aria-hidden=\"true\"></canvas>\n" ++
+    codes "</div>\n" ++
+    codes "</div>\n" ++
     codes "</section>\n" ++
     codes "</main>\n" ++
     codes "<script type=\"text/plain\" id=\"data\">"

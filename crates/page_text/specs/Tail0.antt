@@ -7,10 +7,10 @@ tail0 =
     codes "<script>\n" ++
     codes "'use strict';\n" ++
     codes "\n" ++
-    codes "// A place is what bytes are numbered in: a channel that was read or written, or memory or a register at one time. A span is\n" ++
-    codes "// a place and the offsets `from` up to and without `past`. The data tells a row for each output byte; rows that go on alike\n" ++
-    codes "// are one run here: `count` offsets from `first` on, all with the same source spans or, where the run moves, each with those\n" ++
-    codes "// of the one before moved on by one.\n" ++
+    codes "// A place is what bytes are numbered in: a channel that was read or written, or memory or a register at one time. A\n" ++
+    codes "// span is a place and the offsets `from` up to and without `past`. The data tells a row for each output byte; rows\n" ++
+    codes "// that go on alike are one run here: `count` offsets from `first` on, all with the same source spans or, where the run\n" ++
+    codes "// moves, each with those of the one before moved on by one.\n" ++
     codes "\n" ++
     codes "// ---- The data: its text is read once, from the front, into places, runs, calls and facts.\n" ++
     codes "\n" ++
@@ -43,8 +43,11 @@ tail0 =
     codes "\n" ++
     codes "  number() {\n" ++
     codes "    let n = 0;\n" ++
-    codes "    for (let c = this.text.charCodeAt(this.at); c >= 48 && c <= 57; c = this.text.charCodeAt(++this.at)) n = n * 10 + c - 48;\n" ++
-    codes "    return n;\n" ++
+    codes "    for (;; this.at++) {\n" ++
+    codes "      const digit = this.text.charCodeAt(this.at) - 48;\n" ++
+    codes "      if (!(digit >= 0 && digit <= 9)) return n;\n" ++
+    codes "      n = n * 10 + digit;\n" ++
+    codes "    }\n" ++
     codes "  }\n" ++
     codes "\n" ++
     codes "  /** A number, and what ends it. */\n" ++
@@ -65,7 +68,9 @@ tail0 =
     codes "  /** Ranges `c:a-b`, each after a blank, up to the line's end. */\n" ++
     codes "  spans(places) {\n" ++
     codes "    const spans = [];\n" ++
-    codes "    while (this.takes(' ')) spans.push({ place: places[this.numberAndNext()], from: this.numberAndNext(), past: this.number() });\n" ++
+    codes "    while (this.takes(' ')) {\n" ++
+    codes "      spans.push({ place: places[this.numberAndNext()], from: this.numberAndNext(), past: this.number() });\n" ++
+    codes "    }\n" ++
     codes "    if (!this.takes('\\n')) throw new Error('a line has no end');\n" ++
     codes "    return spans;\n" ++
     codes "  }\n" ++
@@ -104,7 +109,8 @@ tail0 =
     codes "      last.count++;\n" ++
     codes "    } else {\n" ++
     codes "      const by = (last.moves ? last.count - 1 : 0) + (moves ? 1 : 0);\n" ++
-    codes "      this.begin(last.place, last.first + last.count, last.spans.map((s) => ({ place: s.place, from: s.from + by, past: s.past + by })));\n" ++
+    codes "      const spans = last.spans.map((s) => ({ place: s.place, from: s.from + by, past: s.past + by }));\n" ++
+    codes "      this.begin(last.place, last.first + last.count, spans);\n" ++
     codes "    }\n" ++
     codes "  }\n" ++
     codes "\n" ++
@@ -160,7 +166,10 @@ tail0 =
     codes "  run.inputs = run.inputs.filter((p) => p.bytes.length > 0);\n" ++
     codes "  run.outputs = run.outputs.filter((p) => p.bytes.length > 0);\n" ++
     codes "  run.sinks = [...run.outputs, ...run.points];\n" ++
-    codes "  [...run.inputs, ...run.sinks].forEach((where, order) => Object.assign(where, { order, marks: new Uint8Array(where.bytes.length) }));\n" ++
+    codes "  [...run.inputs, ...run.sinks].forEach((where, order) => {\n" ++
+    codes "    where.order = order;\n" ++
+    codes "    where.marks = new Uint8Array(where.bytes.length);\n" ++
+    codes "  });\n" ++
     codes "  return run;\n" ++
     codes "}\n" ++
     codes "\n" ++
@@ -179,8 +188,8 @@ tail0 =
     codes "/** The name of a range; of one byte its own. */\n" ++
     codes "function spanName({ place: where, from, past }) {\n" ++
     codes "  if (past - from === 1) return byteName(where, from);\n" ++
-    codes "  if (where.kind === 'memory' || where.kind === 'register') return `${byteName(where, from)} to ${byteName(where, past - 1)}`;\n" ++
-    codes "  return `${where.number}:${from}-${past}`;\n" ++
+    codes "  if (where.kind === 'in' || where.kind === 'out') return `${where.number}:${from}-${past}`;\n" ++
+    codes "  return `${byteName(where, from)} to ${byteName(where, past - 1)}`;\n" ++
     codes "}\n" ++
     codes "\n" ++
     codes "const sideName = (where) => (where.kind === 'in' ? 'Input' : where.kind === 'out' ? 'Output' : 'Point');\n" ++
@@ -203,7 +212,7 @@ tail0 =
     codes "  return { place: span.place, from: span.from + from - run.first, past: span.past + past - 1 - run.first };\n" ++
     codes "}\n" ++
     codes "\n" ++
-    codes "/** The offsets of a run that have, by one of its source spans, a source from `from` up to `past`; there has to be one. */\n" ++
+    codes "/** The offsets of a run that have, by one of its source spans, a source from `from` up to `past`; there is one. */\n" ++
     codes "function sinkSpan(run, span, from, past) {\n" ++
     codes "  const begin = run.moves ? Math.max(0, from - span.past + 1) : 0;\n" ++
     codes "  const end = run.moves ? Math.min(run.count, past - span.from) : run.count;\n" ++
@@ -239,16 +248,20 @@ tail0 =
     codes "/** The runs of a place that have offsets of `from` up to `past`, with these offsets. */\n" ++
     codes "function* runsWithin(where, from, past) {\n" ++
     codes "  const { runs } = where;\n" ++
-    codes "  for (let i = Math.max(0, lastUpTo(from, runs.length, (k) => runs[k].first)); i < runs.length && runs[i].first < past; i++) {\n" ++
+    codes "  const start = Math.max(0, lastUpTo(from, runs.length, (k) => runs[k].first));\n" ++
+    codes "  for (let i = start; i < runs.length && runs[i].first < past; i++) {\n" ++
     codes "    const begin = Math.max(from, runs[i].first);\n" ++
     codes "    const end = Math.min(past, runs[i].first + runs[i].count);\n" ++
     codes "    if (begin < end) yield { run: runs[i], from: begin, past: end };\n" ++
     codes "  }\n" ++
     codes "}\n" ++
     codes "\n" ++
+    codes "const wholeSpan = (where) => ({ place: where, from: 0, past: where.bytes.length });\n" ++
+    codes "const runSpan = (run) => ({ place: run.place, from: run.first, past: run.first + run.count });\n" ++
+    codes "\n" ++
     codes "/** The bytes of the run that an offset is in; of an input the one byte. */\n" ++
     codes "function joinedSpan(where, offset) {\n" ++
-    codes "  for (const { run } of runsWithin(where, offset, offset + 1)) return { place: where, from: run.first, past: run.first + run.count };\n" ++
+    codes "  for (const { run } of runsWithin(where, offset, offset + 1)) return runSpan(run);\n" ++
     codes "  return { place: where, from: offset, past: offset + 1 };\n" ++
     codes "}\n" ++
     codes "\n" ++
@@ -268,7 +281,8 @@ tail0 =
     codes "    for (const run of sinks.runs) {\n" ++
     codes "      const moved = run.moves ? run.count - 1 : 0;\n" ++
     codes "      for (const span of run.spans) {\n" ++
-    codes "        if (span.place === where && span.from < past && from < span.past + moved) spans.push(sinkSpan(run, span, from, past));\n" ++
+    codes "        const reaches = span.place === where && span.from < past && from < span.past + moved;\n" ++
+    codes "        if (reaches) spans.push(sinkSpan(run, span, from, past));\n" ++
     codes "      }\n" ++
     codes "    }\n" ++
     codes "  }\n" ++
@@ -307,12 +321,4 @@ tail0 =
     codes "  const end = run.first + run.count;\n" ++
     codes "  for (let from = run.first; from < end;) {\n" ++
     codes "    let past = Math.min(end, recordEnd(run.place, recordAt(run.place, from)));\n" ++
-    codes "    if (run.moves) {\n" ++
-    codes "      const source = sourceSpan(run, run.spans[0], from, from + 1);\n" ++
-    codes "      past = Math.min(past, from + recordEnd(source.place, recordAt(source.place, source.from)) - source.from);\n" ++
-    codes "    }\n" ++
-    codes "    yield { from, past };\n" ++
-    codes "    from = past;\n" ++
-    codes "  }\n" ++
-    codes "}\n" ++
-    codes "\n"
+    codes "    if (run.moves) {\n"

@@ -3,6 +3,14 @@ use Rattle.std.specs.Prelude.{ℕ, List, codes, ◌++◌}
 
 unfoldable pub tail1 : List ℕ
 tail1 =
+    codes "      const source = sourceSpan(run, run.spans[0], from, from + 1);\n" ++
+    codes "      past = Math.min(past, from + recordEnd(source.place, recordAt(source.place, source.from)) - source.from);\n" ++
+    codes "    }\n" ++
+    codes "    yield { from, past };\n" ++
+    codes "    from = past;\n" ++
+    codes "  }\n" ++
+    codes "}\n" ++
+    codes "\n" ++
     codes "/** For each record of an output channel the newest record of each input channel that reached it. */\n" ++
     codes "function newestRecords(where) {\n" ++
     codes "  const newest = where.records.map(() => new Map());\n" ++
@@ -19,7 +27,7 @@ tail1 =
     codes "  return newest;\n" ++
     codes "}\n" ++
     codes "\n" ++
-    codes "/** How many records before the own one of a written record a source span begins. A channel of one record is always own. */\n" ++
+    codes "/** How many records before the own one of a written record a source span begins; 0 where its channel is one record. */\n" ++
     codes "function recordsBack(where, record, source) {\n" ++
     codes "  if (source.place.records.length === 1) return 0;\n" ++
     codes "  return (where.own[record]?.get(source.place) ?? record) - recordAt(source.place, source.from);\n" ++
@@ -40,9 +48,9 @@ tail1 =
     codes "const MOST_PATTERNS = 5000;\n" ++
     codes "\n" ++
     codes "/**\n" ++
-    codes " * How bytes flow between records: `patterns`, each a place in written records with the places in received records that it\n" ++
-    codes " * came from, and how often; how many `others` there were once they were many; and `mixed`, the spans of outputs that came\n" ++
-    codes " * from other records than their own, and of inputs that came there.\n" ++
+    codes " * How bytes flow between records: `patterns`, each a place in written records with the places in received records that\n" ++
+    codes " * it came from, and how often; how many `others` there were once they were many; and `mixed`, the spans of outputs that\n" ++
+    codes " * came from other records than their own, and of inputs that came there.\n" ++
     codes " */\n" ++
     codes "function analyse() {\n" ++
     codes "  const patterns = new Map();\n" ++
@@ -67,7 +75,11 @@ tail1 =
     codes "        const known = patterns.get(key);\n" ++
     codes "        if (known) known.count++;\n" ++
     codes "        else if (patterns.size === MOST_PATTERNS) others++;\n" ++
-    codes "        else patterns.set(key, { example: { place: where, from, past }, begin, end, moves: run.moves, cameFrom, back, foreign: foreign.length > 0, count: 1 });\n" ++
+    codes "        else {\n" ++
+    codes "          const example = { place: where, from, past };\n" ++
+    codes "          const isForeign = foreign.length > 0;\n" ++
+    codes "          patterns.set(key, { example, begin, end, moves: run.moves, cameFrom, back, isForeign, count: 1 });\n" ++
+    codes "        }\n" ++
     codes "      }\n" ++
     codes "    }\n" ++
     codes "  }\n" ++
@@ -88,18 +100,17 @@ tail1 =
     codes "  for (let i = from; i < past && i < where.marks.length; i++) where.marks[i] &= ~bit;\n" ++
     codes "}\n" ++
     codes "\n" ++
-    codes "/** Marks what never changes: bytes that no one chose, bytes without a source or that came nowhere, and where runs begin. */\n" ++
+    codes "/** Marks what never changes: bytes that no one chose, that have no source or came nowhere, and where runs begin. */\n" ++
     codes "function markRows() {\n" ++
     codes "  for (const where of data.outputs) {\n" ++
-    codes "    mark({ place: where, from: 0, past: where.bytes.length }, OUTSIDE);\n" ++
+    codes "    mark(wholeSpan(where), OUTSIDE);\n" ++
     codes "    for (const run of where.runs) {\n" ++
-    codes "      const span = { place: where, from: run.first, past: run.first + run.count };\n" ++
-    codes "      unmark(span, OUTSIDE);\n" ++
-    codes "      if (run.spans.length === 0) mark(span, SILENT);\n" ++
+    codes "      unmark(runSpan(run), OUTSIDE);\n" ++
+    codes "      if (run.spans.length === 0) mark(runSpan(run), SILENT);\n" ++
     codes "      where.marks[run.first] |= STARTS;\n" ++
     codes "    }\n" ++
     codes "  }\n" ++
-    codes "  for (const where of data.inputs) mark({ place: where, from: 0, past: where.bytes.length }, OUTSIDE);\n" ++
+    codes "  for (const where of data.inputs) mark(wholeSpan(where), OUTSIDE);\n" ++
     codes "  for (const span of data.sources) {\n" ++
     codes "    unmark(span, OUTSIDE);\n" ++
     codes "    mark(span, SILENT);\n" ++
@@ -119,7 +130,15 @@ tail1 =
     codes "  return made;\n" ++
     codes "}\n" ++
     codes "\n" ++
-    codes "const spanButton = (span) => element('button', { type: 'button', className: 'link', textContent: spanName(span), onclick: () => go(span) });\n" ++
+    codes "const words = (name, textContent, className = '') => element(name, { textContent, className });\n" ++
+    codes "const link = (textContent, onclick) => element('button', { type: 'button', className: 'link', textContent, onclick });\n" ++
+    codes "const spanLink = (span) => link(spanName(span), () => go(span));\n" ++
+    codes "\n" ++
+    codes "function fillTable(table, caption, columns, rows) {\n" ++
+    codes "  const head = columns.map((textContent) => element('th', { scope: 'col', textContent }));\n" ++
+    codes "  table.replaceChildren(\n" ++
+    codes "    words('caption', caption), element('thead', {}, element('tr', {}, ...head)), element('tbody', {}, ...rows));\n" ++
+    codes "}\n" ++
     codes "\n" ++
     codes "// ---- Panes: the bytes of all channels of a side, in a scroller that holds only the lines in view.\n" ++
     codes "\n" ++
@@ -153,7 +172,8 @@ tail1 =
     codes "      event.preventDefault();\n" ++
     codes "    });\n" ++
     codes "    this.map.addEventListener('pointerdown', (event) => {\n" ++
-    codes "      this.view.scrollTop = (event.offsetY / this.map.clientHeight) * this.view.scrollHeight - this.view.clientHeight / 2;\n" ++
+    codes "      const middle = (event.offsetY / this.map.clientHeight) * this.view.scrollHeight;\n" ++
+    codes "      this.view.scrollTop = middle - this.view.clientHeight / 2;\n" ++
     codes "    });\n" ++
     codes "    new ResizeObserver(() => this.layOut()).observe(this.view);\n" ++
     codes "  }\n" ++
@@ -167,7 +187,7 @@ tail1 =
     codes "    return [128, 96, 64, 48, 32, 24, 16, 8].find((n) => n * (hex ? 4 : 1) <= columns) ?? 4;\n" ++
     codes "  }\n" ++
     codes "\n" ++
-    codes "  /** Finds where the lines begin: after `width` bytes and, if wanted, at each record. A line before each channel is its title. */\n" ++
+    codes "  /** Finds where the lines begin: after `width` bytes and, if wanted, at each record. Each channel has a title line. */\n" ++
     codes "  layOut() {\n" ++
     codes "    const hex = byId('hex').checked;\n" ++
     codes "    const longest = (nameOf) => Math.max(0, ...this.places.map((where) => nameOf(where).length)) + 1;\n" ++
@@ -192,7 +212,9 @@ tail1 =
     codes "      this.layout = layout;\n" ++
     codes "      this.made.clear();\n" ++
     codes "      this.lines.replaceChildren();\n" ++
-    codes "      for (const [name, columns] of Object.entries({ width, record, offset })) this.lines.style.setProperty(`--${name}`, columns);\n" ++
+    codes "      for (const [name, columns] of Object.entries({ width, record, offset })) {\n" ++
+    codes "        this.lines.style.setProperty(`--${name}`, columns);\n" ++
+    codes "      }\n" ++
     codes "      this.sizer.style.height = `${Math.min(count * LINE, TALLEST)}px`;\n" ++
     codes "      if (top) this.scrollTo(top.place, top.offset, true);\n" ++
     codes "    }\n" ++
@@ -207,7 +229,8 @@ tail1 =
     codes "\n" ++
     codes "  /** Browsers limit an element's height, so a very long pane scrolls by more than it is moved. */\n" ++
     codes "  get scale() {\n" ++
-    codes "    return Math.max(1, (this.count * LINE - this.view.clientHeight) / Math.max(1, this.sizer.offsetHeight - this.view.clientHeight));\n" ++
+    codes "    const room = Math.max(1, this.sizer.offsetHeight - this.view.clientHeight);\n" ++
+    codes "    return Math.max(1, (this.count * LINE - this.view.clientHeight) / room);\n" ++
     codes "  }\n" ++
     codes "\n" ++
     codes "  topByte() {\n" ++
@@ -241,32 +264,14 @@ tail1 =
     codes "    const { where, at } = this.lineAt(line);\n" ++
     codes "    if (at < 0) {\n" ++
     codes "      const side = where.kind === 'in' ? 'received' : 'written';\n" ++
-    codes "      return element('div', { className: 'line title', textContent: `channel ${where.number}: ${many(where.bytes.length, 'byte')} ${side}` });\n" ++
+    codes "      return words('div', `channel ${where.number}: ${many(where.bytes.length, 'byte')} ${side}`, 'line title');\n" ++
     codes "    }\n" ++
     codes "    const from = where.starts[at];\n" ++
     codes "    const past = where.starts[at + 1] ?? where.bytes.length;\n" ++
     codes "    const record = recordAt(where, from);\n" ++
     codes "    const bytes = Array.from(where.bytes.subarray(from, past));\n" ++
     codes "    const made = element('div', { className: 'line' },\n" ++
-    codes "      element('span', { className: 'record', textContent: where.records[record] === from ? `#${record}` : '' }),\n" ++
-    codes "      element('span', { className: 'offset', textContent: byteName(where, from) }));\n" ++
-    codes "    if (byId('hex').checked) {\n" ++
-    codes "      made.append(element('span', { className: 'hex' }, ...bytes.map((b) => element('span', { textContent: b.toString(16).padStart(2, '0') }))));\n" ++
-    codes "    }\n" ++
-    codes "    made.append(element('span', { className: 'text' }, ...Array.from(shown(bytes), (c) => element('span', { textContent: c }))));\n" ++
-    codes "    made.span = { place: where, from, past };\n" ++
-    codes "    return made;\n" ++
-    codes "  }\n" ++
-    codes "\n" ++
-    codes "  paint(made) {\n" ++
-    codes "    if (!made.span) return;\n" ++
-    codes "    const { place: where, from } = made.span;\n" ++
-    codes "    for (const group of made.querySelectorAll('.hex, .text')) {\n" ++
-    codes "      let at = from;\n" ++
-    codes "      for (const cell of group.children) {\n" ++
-    codes "        const look = LOOKS[where.marks[at++]];\n" ++
-    codes "        if (cell.className !== look) cell.className = look;\n" ++
-    codes "      }\n" ++
-    codes "    }\n" ++
-    codes "  }\n" ++
-    codes "\n"
+    codes "      words('span', where.records[record] === from ? `#${record}` : '', 'record'),\n" ++
+    codes "      words('span', byteName(where, from), 'offset'));\n" ++
+    codes "    const cells = (className, texts) => element('span', { className }, ...texts.map((text) => words('span', text)));\n" ++
+    codes "    if (byId('hex').checked) made.append(cells('hex', bytes.map((b) => b.toString(16).padStart(2, '0'))));\n"

@@ -3,6 +3,23 @@ use Rattle.std.specs.Prelude.{ℕ, List, codes, ◌++◌}
 
 unfoldable pub tail2 : List ℕ
 tail2 =
+    codes "    made.append(cells('text', [...shown(bytes)]));\n" ++
+    codes "    made.span = { place: where, from, past };\n" ++
+    codes "    return made;\n" ++
+    codes "  }\n" ++
+    codes "\n" ++
+    codes "  paint(made) {\n" ++
+    codes "    if (!made.span) return;\n" ++
+    codes "    const { place: where, from } = made.span;\n" ++
+    codes "    for (const group of made.querySelectorAll('.hex, .text')) {\n" ++
+    codes "      let at = from;\n" ++
+    codes "      for (const cell of group.children) {\n" ++
+    codes "        const look = LOOKS[where.marks[at++]];\n" ++
+    codes "        if (cell.className !== look) cell.className = look;\n" ++
+    codes "      }\n" ++
+    codes "    }\n" ++
+    codes "  }\n" ++
+    codes "\n" ++
     codes "  /** A strip of where in all lines the lit, the chosen and the foreign bytes stand. */\n" ++
     codes "  drawMap() {\n" ++
     codes "    const { map } = this;\n" ++
@@ -39,7 +56,8 @@ tail2 =
     codes "  byteUnder(event) {\n" ++
     codes "    const cell = event.target.closest?.('.hex > span, .text > span');\n" ++
     codes "    const line = cell?.closest('.line');\n" ++
-    codes "    return line ? { place: line.span.place, offset: line.span.from + Array.prototype.indexOf.call(cell.parentNode.children, cell) } : null;\n" ++
+    codes "    if (!line) return null;\n" ++
+    codes "    return { place: line.span.place, offset: line.span.from + [...cell.parentNode.children].indexOf(cell) };\n" ++
     codes "  }\n" ++
     codes "\n" ++
     codes "  pointed(event) {\n" ++
@@ -52,9 +70,10 @@ tail2 =
     codes "    if (event.button !== 0) return;\n" ++
     codes "    const byte = this.byteUnder(event);\n" ++
     codes "    const line = event.target.closest('.line')?.span;\n" ++
-    codes "    if (!byte && line && event.target.className === 'record') choose(recordSpan(line.place, recordAt(line.place, line.from)));\n" ++
-    codes "    if (!byte) return;\n" ++
-    codes "    if (event.shiftKey && byte.place === chosen?.place) extend(byte.offset);\n" ++
+    codes "    const isRecord = line && event.target.className === 'record';\n" ++
+    codes "    if (isRecord) choose(recordSpan(line.place, recordAt(line.place, line.from)));\n" ++
+    codes "    else if (!byte) return;\n" ++
+    codes "    else if (event.shiftKey && byte.place === chosen?.place) extend(byte.offset);\n" ++
     codes "    else choose({ place: byte.place, from: byte.offset, past: byte.offset + 1 });\n" ++
     codes "  }\n" ++
     codes "\n" ++
@@ -76,7 +95,7 @@ tail2 =
     codes "    event.preventDefault();\n" ++
     codes "  }\n" ++
     codes "\n" ++
-    codes "  /** The offset that a key moves the cursor to, which may lie outside the channel; undefined where it is no such key. */\n" ++
+    codes "  /** The offset that a key moves the cursor to, which may lie outside the channel; undefined where it moves none. */\n" ++
     codes "  moved(event, where, at) {\n" ++
     codes "    const { starts, bytes } = where;\n" ++
     codes "    const line = Math.max(0, lastUpTo(at, starts.length, (k) => starts[k]));\n" ++
@@ -191,7 +210,8 @@ tail2 =
     codes "function step(by, side) {\n" ++
     codes "  const spans = mixed[side];\n" ++
     codes "  if (spans.length === 0) return;\n" ++
-    codes "  const from = chosen && (chosen.place.kind === 'in') === (side === 'in') ? chosen : { place: spans[0].place, from: -1 };\n" ++
+    codes "  const onSide = chosen && (chosen.place.kind === 'in') === (side === 'in');\n" ++
+    codes "  const from = onSide ? chosen : { place: spans[0].place, from: -1 };\n" ++
     codes "  const before = spans.filter((s) => inOrder(s, from) < 0).length;\n" ++
     codes "  const here = spans[before] && inOrder(spans[before], from) === 0;\n" ++
     codes "  go(spans.at(by > 0 ? (before + (here ? 1 : 0)) % spans.length : before - 1));\n" ++
@@ -215,7 +235,7 @@ tail2 =
     codes "  return where.calls[lastUpTo(offset, where.calls.length, (k) => where.calls[k].first)].time;\n" ++
     codes "}\n" ++
     codes "\n" ++
-    codes "/** A line of a query that asks for the first byte of a span: of an input as a source, else as a sink; of a register's lanes for all. */\n" ++
+    codes "/** A query's line that asks for a span's first byte: of an input as a source, else as a sink; for all of a register. */\n" ++
     codes "function queryLine({ place: where, from }) {\n" ++
     codes "  if (where.kind === 'memory') return `sink mem ${from} 1 at ${where.time}`;\n" ++
     codes "  if (where.kind === 'register') return `sink reg ${where.number} at ${where.time}`;\n" ++
@@ -224,36 +244,48 @@ tail2 =
     codes "\n" ++
     codes "/** The command line that tells how a byte came there: of the first byte of a span, and the first that is lit for it. */\n" ++
     codes "function pathCommand(span) {\n" ++
-    codes "  const [other] = span.past - span.from === 1 ? linked : linkedTo({ place: span.place, from: span.from, past: span.from + 1 });\n" ++
+    codes "  const first = { place: span.place, from: span.from, past: span.from + 1 };\n" ++
+    codes "  const [other] = span.past === first.past ? linked : linkedTo(first);\n" ++
     codes "  if (!other) return '';\n" ++
     codes "  const lines = [`rule ${data.facts.rule}`, queryLine(span), queryLine(other)];\n" ++
     codes "  return `printf '${lines.join('\\\\n')}\\\\n' >path.query; jet path PROG LOG path.query`;\n" ++
     codes "}\n" ++
     codes "\n" ++
-    codes "const MOST_TOLD = 40;\n" ++
-    codes "\n" ++
     codes "function pathLine(span) {\n" ++
     codes "  const command = pathCommand(span);\n" ++
     codes "  if (command === '') return '';\n" ++
-    codes "  return element('div', {}, 'The path of its first byte: ', element('code', { textContent: command }), ' ',\n" ++
-    codes "    element('button', { type: 'button', textContent: 'Copy', onclick: () => navigator.clipboard.writeText(command) }));\n" ++
+    codes "  const onclick = () => navigator.clipboard.writeText(command);\n" ++
+    codes "  return element('div', {}, 'The path of its first byte: ', words('code', command), ' ',\n" ++
+    codes "    element('button', { type: 'button', textContent: 'Copy', onclick }));\n" ++
+    codes "}\n" ++
+    codes "\n" ++
+    codes "const HINT = 'Point at a byte, or choose one or several: what it came from, or came to, lights up on the other side '\n" ++
+    codes "  + 'and is listed here.';\n" ++
+    codes "const MOST_TOLD = 40;\n" ++
+    codes "\n" ++
+    codes "/** Whether the source of a pair is of another record than the own one of what was written. */\n" ++
+    codes "function isForeign(span, other) {\n" ++
+    codes "  const [source, sink] = span.place.kind === 'in' ? [span, other] : [other, span];\n" ++
+    codes "  return sink.place.kind === 'out' && !isOwn(sink, source);\n" ++
     codes "}\n" ++
     codes "\n" ++
     codes "function tell(span) {\n" ++
     codes "  if (!span) {\n" ++
-    codes "    byId('told').replaceChildren(element('span', { className: 'faint', textContent: 'Point at a byte, or choose one or several: what it came from, or came to, lights up on the other side and is listed here.' }));\n" ++
+    codes "    byId('told').replaceChildren(words('span', HINT, 'faint'));\n" ++
     codes "    return;\n" ++
     codes "  }\n" ++
     codes "  const size = linked.reduce((sum, s) => sum + s.past - s.from, 0);\n" ++
-    codes "  const input = span.place.kind === 'in';\n" ++
-    codes "  const verb = input ? 'came to' : 'came from';\n" ++
-    codes "  const foreign = linked.map((s) => s.place.bytes.length > 0 && span.place.bytes.length > 0 && !(input ? isOwn(s, span) : isOwn(span, s)));\n" ++
-    codes "  const list = [...linked.keys()].sort((a, b) => foreign[b] - foreign[a]).slice(0, MOST_TOLD).map((i) => element('li', {},\n" ++
-    codes "    spanButton(linked[i]), ' ', element('code', { textContent: preview(linked[i]) }), ` ${describe(linked[i])}`,\n" ++
-    codes "    foreign[i] ? element('span', { className: 'alarm', textContent: ' foreign' }) : ''));\n" ++
+    codes "  const verb = span.place.kind === 'in' ? 'came to' : 'came from';\n" ++
+    codes "  const foreign = new Map(linked.map((other) => [other, isForeign(span, other)]));\n" ++
+    codes "  const told = [...linked].sort((a, b) => foreign.get(b) - foreign.get(a)).slice(0, MOST_TOLD);\n" ++
+    codes "  const list = told.map((other) => element('li', {},\n" ++
+    codes "    spanLink(other), ' ', words('code', preview(other)), ` ${describe(other)}`,\n" ++
+    codes "    foreign.get(other) ? words('span', ' foreign', 'alarm') : ''));\n" ++
     codes "  byId('told').replaceChildren(\n" ++
-    codes "    element('div', {}, `${sideName(span.place)} `, element('strong', { className: 'mono', textContent: spanName(span) }), ' ', element('code', { textContent: preview(span) }), ` ${describe(span)}`),\n" ++
-    codes "    element('div', {}, size === 0 ? `${verb} nothing that is listed` : `${verb} ${many(size, 'byte')} in ${many(linked.length, 'range')}:`),\n" ++
+    codes "    element('div', {}, `${sideName(span.place)} `, words('strong', spanName(span), 'mono'), ' ',\n" ++
+    codes "      words('code', preview(span)), ` ${describe(span)}`),\n" ++
+    codes "    words('div', size === 0 ? `${verb} nothing that is listed`\n" ++
+    codes "      : `${verb} ${many(size, 'byte')} in ${many(linked.length, 'range')}:`),\n" ++
     codes "    element('ul', {}, ...list),\n" ++
     codes "    linked.length > MOST_TOLD ? `and ${many(linked.length - MOST_TOLD, 'more range')}` : '',\n" ++
     codes "    pathLine(span));\n" ++
@@ -265,26 +297,4 @@ tail2 =
     codes "  const lines = [];\n" ++
     codes "  for (let offset = chosen.from; offset < chosen.past && lines.length < 10000; offset++) {\n" ++
     codes "    const names = [byteName(chosen.place, offset)];\n" ++
-    codes "    for (const span of linkedTo({ place: chosen.place, from: offset, past: offset + 1 })) {\n" ++
-    codes "      for (let o = span.from; o < span.past; o++) names.push(byteName(span.place, o));\n" ++
-    codes "    }\n" ++
-    codes "    lines.push(`${names.join(' ')}\\n`);\n" ++
-    codes "  }\n" ++
-    codes "  return lines.join('');\n" ++
-    codes "}\n" ++
-    codes "\n" ++
-    codes "// ---- Search: bytes by their text or hex digits, and bytes by name.\n" ++
-    codes "\n" ++
-    codes "let found = [];\n" ++
-    codes "\n" ++
-    codes "function findBytes(wanted) {\n" ++
-    codes "  const spans = [];\n" ++
-    codes "  if (wanted.length === 0) return spans;\n" ++
-    codes "  for (const where of [...data.inputs, ...data.outputs]) {\n" ++
-    codes "    for (let at = where.bytes.indexOf(wanted[0]); at >= 0 && spans.length < 100000; at = where.bytes.indexOf(wanted[0], at + 1)) {\n" ++
-    codes "      if (wanted.every((b, i) => where.bytes[at + i] === b)) spans.push({ place: where, from: at, past: at + wanted.length });\n" ++
-    codes "    }\n" ++
-    codes "  }\n" ++
-    codes "  return spans;\n" ++
-    codes "}\n" ++
-    codes "\n"
+    codes "    for (const span of linkedTo({ place: chosen.place, from: offset, past: offset + 1 })) {\n"

@@ -3,6 +3,32 @@ use Rattle.std.specs.Prelude.{ℕ, List, codes, ◌++◌}
 
 unfoldable pub tail3 : List ℕ
 tail3 =
+    codes "      for (let o = span.from; o < span.past; o++) names.push(byteName(span.place, o));\n" ++
+    codes "    }\n" ++
+    codes "    lines.push(`${names.join(' ')}\\n`);\n" ++
+    codes "  }\n" ++
+    codes "  return lines.join('');\n" ++
+    codes "}\n" ++
+    codes "\n" ++
+    codes "// ---- Search: bytes by their text or hex digits, and bytes by name.\n" ++
+    codes "\n" ++
+    codes "const MOST_FOUND = 100000;\n" ++
+    codes "\n" ++
+    codes "let found = [];\n" ++
+    codes "\n" ++
+    codes "function findBytes(wanted) {\n" ++
+    codes "  const spans = [];\n" ++
+    codes "  if (wanted.length === 0) return spans;\n" ++
+    codes "  for (const where of [...data.inputs, ...data.outputs]) {\n" ++
+    codes "    const next = (from) => where.bytes.indexOf(wanted[0], from);\n" ++
+    codes "    for (let at = next(0); at >= 0 && spans.length < MOST_FOUND; at = next(at + 1)) {\n" ++
+    codes "      const isThere = wanted.every((b, i) => where.bytes[at + i] === b);\n" ++
+    codes "      if (isThere) spans.push({ place: where, from: at, past: at + wanted.length });\n" ++
+    codes "    }\n" ++
+    codes "  }\n" ++
+    codes "  return spans;\n" ++
+    codes "}\n" ++
+    codes "\n" ++
     codes "/** A byte `c:o` or a range `c:a-b` of a side. */\n" ++
     codes "function findNamed(places, name) {\n" ++
     codes "  const match = /^\\s*(\\d+):(\\d+)(?:-(\\d+))?\\s*$/.exec(name);\n" ++
@@ -12,9 +38,15 @@ tail3 =
     codes "  return where && from < past && past <= where.bytes.length ? [{ place: where, from, past }] : [];\n" ++
     codes "}\n" ++
     codes "\n" ++
+    codes "/** The bytes that pairs of hex digits write; none where the text isn't such pairs. */\n" ++
+    codes "function hexBytes(text) {\n" ++
+    codes "  const isHex = /^(\\s*[0-9a-f]{2})*\\s*$/i.test(text);\n" ++
+    codes "  return isHex ? Array.from(text.matchAll(/[0-9a-f]{2}/gi), ([pair]) => parseInt(pair, 16)) : [];\n" ++
+    codes "}\n" ++
+    codes "\n" ++
     codes "function wantedSpans(what, text) {\n" ++
     codes "  if (what === 'text') return findBytes([...new TextEncoder().encode(text)]);\n" ++
-    codes "  if (what === 'hex') return /^(\\s*[0-9a-f]{2})*\\s*$/i.test(text) ? findBytes((text.match(/[0-9a-f]{2}/gi) ?? []).map((h) => parseInt(h, 16))) : [];\n" ++
+    codes "  if (what === 'hex') return findBytes(hexBytes(text));\n" ++
     codes "  return findNamed(what === 'in' ? data.inputs : data.outputs, text);\n" ++
     codes "}\n" ++
     codes "\n" ++
@@ -32,12 +64,17 @@ tail3 =
     codes "    searched = `${what} ${text}`;\n" ++
     codes "    nextFound = 0;\n" ++
     codes "  }\n" ++
-    codes "  const inputs = found.filter((s) => s.place.kind === 'in').length;\n" ++
-    codes "  byId('matches').textContent = text === '' ? '' : found.length === 0 ? 'not found'\n" ++
-    codes "    : `${decimal.format(nextFound + 1)} of ${decimal.format(found.length)}: ${many(inputs, 'input')}, ${many(found.length - inputs, 'output')}`;\n" ++
+    codes "  byId('matches').textContent = text === '' ? '' : matchesText();\n" ++
     codes "  if (found.length > 0) go(found[nextFound]);\n" ++
     codes "  else light();\n" ++
     codes "  nextFound = found.length > 0 ? (nextFound + 1) % found.length : 0;\n" ++
+    codes "}\n" ++
+    codes "\n" ++
+    codes "function matchesText() {\n" ++
+    codes "  if (found.length === 0) return 'not found';\n" ++
+    codes "  const inputs = found.filter((s) => s.place.kind === 'in').length;\n" ++
+    codes "  const sides = `${many(inputs, 'input')}, ${many(found.length - inputs, 'output')}`;\n" ++
+    codes "  return `${decimal.format(nextFound + 1)} of ${decimal.format(found.length)}: ${sides}`;\n" ++
     codes "}\n" ++
     codes "\n" ++
     codes "// ---- The summary: the run and the query in words, records, channels and points.\n" ++
@@ -68,45 +105,55 @@ tail3 =
     codes "function endText() {\n" ++
     codes "  const [kind, code, pc] = data.facts.end.split(' ');\n" ++
     codes "  if (kind === 'exit') return `ended by an exit with code ${code}`;\n" ++
-    codes "  if (kind === 'trap') return `ended by trap ${code}, ${TRAPS[code]}, at pc 0x${Number(pc).toString(16).padStart(8, '0')}`;\n" ++
+    codes "  const place = `0x${Number(pc).toString(16).padStart(8, '0')}`;\n" ++
+    codes "  if (kind === 'trap') return `ended by trap ${code}, ${TRAPS[code]}, at pc ${place}`;\n" ++
     codes "  return 'was cut off at its limit of steps';\n" ++
     codes "}\n" ++
     codes "\n" ++
     codes "function showFacts() {\n" ++
     codes "  const { facts } = data;\n" ++
     codes "  const total = (list, size) => list.reduce((sum, each) => sum + size(each), 0);\n" ++
-    codes "  const pairs = total(data.sinks, (where) => total(where.runs, (run) => run.count * total(run.spans, (s) => s.past - s.from)));\n" ++
+    codes "  const pairsOf = (run) => run.count * total(run.spans, (s) => s.past - s.from);\n" ++
+    codes "  const pairs = total(data.sinks, (where) => total(where.runs, pairsOf));\n" ++
     codes "  const asked = (places) => decimal.format(total(places, (where) => countWithout(where, OUTSIDE)));\n" ++
+    codes "  const counted = (name, what) => many(Number(facts[name]), what);\n" ++
     codes "  byId('facts').replaceChildren(\n" ++
-    codes "    'By ', element('strong', { textContent: `rule ${facts.rule}` }), ` a byte is followed ${RULES[facts.rule]}. `,\n" ++
-    codes "    `${asked(data.inputs)} of ${many(Number(facts.read), 'byte')} received count as sources, and ${asked(data.outputs)} of ${many(Number(facts.written), 'byte')} written are asked for: `,\n" ++
-    codes "    `${many(pairs, 'pair')} of an output byte or a point and a source. The run took ${many(Number(facts.steps), 'step')} and ${many(Number(facts.calls), 'call')}, and ${endText()}. Program SHA-256 `,\n" ++
-    codes "    element('code', { textContent: facts.program }));\n" ++
+    codes "    'By ', words('strong', `rule ${facts.rule}`), ` a byte is followed ${RULES[facts.rule]}. `,\n" ++
+    codes "    `${asked(data.inputs)} of ${counted('read', 'byte')} received count as sources, and `,\n" ++
+    codes "    `${asked(data.outputs)} of ${counted('written', 'byte')} written are asked for: `,\n" ++
+    codes "    `${many(pairs, 'pair')} of an output byte or a point and a source. `,\n" ++
+    codes "    `The run took ${counted('steps', 'step')} and ${counted('calls', 'call')}, and ${endText()}. Program SHA-256 `,\n" ++
+    codes "    words('code', facts.program));\n" ++
+    codes "}\n" ++
+    codes "\n" ++
+    codes "/** What a channel's records are, to be chosen. */\n" ++
+    codes "function recordChoice(where) {\n" ++
+    codes "  const options = { line: 'each line', call: where.kind === 'in' ? 'each read' : 'each write', size: 'so many bytes:' };\n" ++
+    codes "  const how = element('select', { ariaLabel: `Records of ${sideName(where)} ${where.number}` },\n" ++
+    codes "    ...Object.entries(options).map(([value, textContent]) => element('option', { value, textContent })));\n" ++
+    codes "  const size = element('input', { type: 'number', min: 1, value: 16, ariaLabel: 'Bytes in a record' });\n" ++
+    codes "  const count = element('span');\n" ++
+    codes "  const set = () => {\n" ++
+    codes "    size.hidden = how.value !== 'size';\n" ++
+    codes "    where.records = recordStarts(where, how.value, Math.max(1, Math.floor(Number(size.value)) || 1));\n" ++
+    codes "    count.textContent = `${decimal.format(where.records.length)}: `;\n" ++
+    codes "  };\n" ++
+    codes "  how.value = usualRecords(where);\n" ++
+    codes "  set();\n" ++
+    codes "  how.onchange = size.onchange = () => {\n" ++
+    codes "    set();\n" ++
+    codes "    showRecords();\n" ++
+    codes "  };\n" ++
+    codes "  return element('td', {}, count, how, ' ', size);\n" ++
     codes "}\n" ++
     codes "\n" ++
     codes "function showChannels() {\n" ++
-    codes "  const head = element('tr', {}, ...['Channel', 'Bytes', 'With flow', 'Records'].map((t) => element('th', { scope: 'col', textContent: t })));\n" ++
-    codes "  const rows = [...data.inputs, ...data.outputs].map((where) => {\n" ++
-    codes "    const input = where.kind === 'in';\n" ++
-    codes "    const how = element('select', { ariaLabel: `Records of ${sideName(where)} ${where.number}` },\n" ++
-    codes "      ...[['line', 'each line'], ['call', `each ${input ? 'read' : 'write'}`], ['size', 'so many bytes:']].map(([value, text]) => element('option', { value, textContent: text })));\n" ++
-    codes "    const size = element('input', { type: 'number', min: 1, value: 16, ariaLabel: 'Bytes in a record' });\n" ++
-    codes "    const count = element('span');\n" ++
-    codes "    const set = () => {\n" ++
-    codes "      size.hidden = how.value !== 'size';\n" ++
-    codes "      where.records = recordStarts(where, how.value, Math.max(1, Math.floor(Number(size.value)) || 1));\n" ++
-    codes "      count.textContent = `${decimal.format(where.records.length)}: `;\n" ++
-    codes "    };\n" ++
-    codes "    how.value = usualRecords(where);\n" ++
-    codes "    set();\n" ++
-    codes "    how.onchange = size.onchange = () => { set(); showRecords(); };\n" ++
-    codes "    return element('tr', {},\n" ++
-    codes "      element('td', {}, element('button', { type: 'button', className: 'link', textContent: `${input ? 'in' : 'out'} ${where.number}`, onclick: () => go({ place: where, from: 0, past: where.bytes.length }) })),\n" ++
-    codes "      element('td', { className: 'number', textContent: decimal.format(where.bytes.length) }),\n" ++
-    codes "      element('td', { className: 'number', textContent: decimal.format(countWithout(where, SILENT | OUTSIDE)) }),\n" ++
-    codes "      element('td', {}, count, how, ' ', size));\n" ++
-    codes "  });\n" ++
-    codes "  byId('channels').replaceChildren(head, ...rows);\n" ++
+    codes "  const rows = [...data.inputs, ...data.outputs].map((where) => element('tr', {},\n" ++
+    codes "    element('td', {}, link(`${where.kind} ${where.number}`, () => go(wholeSpan(where)))),\n" ++
+    codes "    words('td', decimal.format(where.bytes.length), 'number'),\n" ++
+    codes "    words('td', decimal.format(countWithout(where, SILENT | OUTSIDE)), 'number'),\n" ++
+    codes "    recordChoice(where)));\n" ++
+    codes "  fillTable(byId('channels'), '', ['Channel', 'Bytes', 'With flow', 'Records'], rows);\n" ++
     codes "}\n" ++
     codes "\n" ++
     codes "function recordName(back) {\n" ++
@@ -135,29 +182,33 @@ tail3 =
     codes "}\n" ++
     codes "\n" ++
     codes "function showAlarm() {\n" ++
-    codes "  const counted = (places, side) => places.map((where) => ({ where, n: countRecords(where, mixed[side]) })).filter(({ n }) => n > 0);\n" ++
-    codes "  const written = counted(data.outputs, 'out').map(({ where, n }) => `${decimal.format(n)} of ${many(where.records.length, 'record')} of output ${where.number}`);\n" ++
-    codes "  const received = counted(data.inputs, 'in').map(({ where, n }) => `${many(n, 'record')} of input ${where.number}`);\n" ++
-    codes "  byId('alarm').className = written.length > 0 ? 'alarm' : '';\n" ++
-    codes "  byId('alarm').textContent = written.length === 0 ? 'No written record has bytes that came from another input record than its own.'\n" ++
-    codes "    : `${written.join(' and ')} hold bytes that came from another input record than their own: from ${received.join(' and ')}.`;\n" ++
-    codes "  for (const id of ['before', 'after']) byId(id).disabled = written.length === 0;\n" ++
+    codes "  const counted = (places, side, words) => places.map((where) => [countRecords(where, mixed[side]), where])\n" ++
+    codes "    .filter(([n]) => n > 0).map(([n, where]) => words(n, where)).join(' and ');\n" ++
+    codes "  const written = counted(data.outputs, 'out',\n" ++
+    codes "    (n, where) => `${decimal.format(n)} of ${many(where.records.length, 'record')} of output ${where.number}`);\n" ++
+    codes "  const received = counted(data.inputs, 'in', (n, where) => `${many(n, 'record')} of input ${where.number}`);\n" ++
+    codes "  byId('alarm').className = written ? 'alarm' : '';\n" ++
+    codes "  byId('alarm').textContent = written\n" ++
+    codes "    ? `${written} hold bytes that came from another input record than their own: from ${received}.`\n" ++
+    codes "    : 'No written record has bytes that came from another input record than its own.';\n" ++
+    codes "  for (const id of ['before', 'after']) byId(id).disabled = !written;\n" ++
     codes "}\n" ++
     codes "\n" ++
     codes "const PATTERNS_SHOWN = 200;\n" ++
     codes "\n" ++
     codes "function showPatterns({ patterns, others }) {\n" ++
-    codes "  patterns.sort((a, b) => b.foreign - a.foreign || inOrder(a.example, b.example));\n" ++
-    codes "  const head = element('tr', {}, ...['Out', 'bytes', 'came from', 'of the record', 'times'].map((t) => element('th', { scope: 'col', textContent: t })));\n" ++
-    codes "  const rows = patterns.slice(0, PATTERNS_SHOWN).map((p) => element('tr', { className: p.foreign ? 'foreign' : '' },\n" ++
-    codes "    element('td', { textContent: p.example.place.number }),\n" ++
-    codes "    element('td', {}, element('button', { type: 'button', className: 'link', textContent: numbers(p.begin, p.end), title: 'Show the first of these', onclick: () => go(p.example) })),\n" ++
-    codes "    element('td', { className: 'mono', textContent: p.cameFrom.slice(0, 4).join(', ') + (p.cameFrom.length > 4 ? ', \\u2026' : p.moves ? ' one by one' : '') }),\n" ++
-    codes "    element('td', { textContent: [...new Set(p.back.map(recordName))].slice(0, 4).join(', ') }),\n" ++
-    codes "    element('td', { className: 'number', textContent: decimal.format(p.count) })));\n" ++
-    codes "  byId('patterns').replaceChildren(\n" ++
-    codes "    element('caption', { textContent: `${many(patterns.length, 'pattern')} of flow from record to record${others > 0 ? ' and more' : ''}, those from foreign records first${patterns.length > PATTERNS_SHOWN ? `; ${PATTERNS_SHOWN} are shown` : ''}` }),\n" ++
-    codes "    element('thead', {}, head), element('tbody', {}, ...rows));\n" ++
+    codes "  patterns.sort((a, b) => b.isForeign - a.isForeign || inOrder(a.example, b.example));\n" ++
+    codes "  const sourcesText = ({ cameFrom, moves }) => cameFrom.slice(0, 4).join(', ')\n" ++
+    codes "    + (cameFrom.length > 4 ? ', \\u2026' : moves ? ' one by one' : '');\n" ++
+    codes "  const rows = patterns.slice(0, PATTERNS_SHOWN).map((p) => element('tr', { className: p.isForeign ? 'foreign' : '' },\n" ++
+    codes "    words('td', p.example.place.number),\n" ++
+    codes "    element('td', {}, link(numbers(p.begin, p.end), () => go(p.example))),\n" ++
+    codes "    words('td', sourcesText(p), 'mono'),\n" ++
+    codes "    words('td', [...new Set(p.back.map(recordName))].slice(0, 4).join(', ')),\n" ++
+    codes "    words('td', decimal.format(p.count), 'number')));\n" ++
+    codes "  const caption = [`${many(patterns.length, 'pattern')} of flow from record to record`, others > 0 ? ' and more' : '',\n" ++
+    codes "    ', those from foreign records first', patterns.length > PATTERNS_SHOWN ? `; ${PATTERNS_SHOWN} are shown` : ''];\n" ++
+    codes "  fillTable(byId('patterns'), caption.join(''), ['Out', 'bytes', 'came from', 'of the record', 'times'], rows);\n" ++
     codes "}\n" ++
     codes "\n" ++
     codes "const MOST_POINTS = 1000;\n" ++
@@ -165,17 +216,14 @@ tail3 =
     codes "function showPoints() {\n" ++
     codes "  const runs = data.points.flatMap((where) => where.runs);\n" ++
     codes "  byId('points').hidden = Number(data.facts.points) === 0;\n" ++
-    codes "  const head = element('tr', {}, ...['Point', 'came from'].map((t) => element('th', { scope: 'col', textContent: t })));\n" ++
-    codes "  const rows = runs.slice(0, MOST_POINTS).map((run) => {\n" ++
-    codes "    const span = { place: run.place, from: run.first, past: run.first + run.count };\n" ++
-    codes "    const sources = sourcesOf(span);\n" ++
-    codes "    return element('tr', {}, element('td', {}, spanButton(span)),\n" ++
-    codes "      element('td', { className: 'mono', textContent: sources.length === 0 ? 'nothing that is listed' : sources.slice(0, 20).map(spanName).join(' ') + (run.moves ? ' one by one' : '') }));\n" ++
-    codes "  });\n" ++
+    codes "  const sourcesText = (run) => sourcesOf(runSpan(run)).slice(0, 20).map(spanName).join(' ')\n" ++
+    codes "    + (run.moves ? ' one by one' : '') || 'nothing that is listed';\n" ++
+    codes "  const rows = runs.slice(0, MOST_POINTS).map((run) => element('tr', {},\n" ++
+    codes "    element('td', {}, spanLink(runSpan(run))), words('td', sourcesText(run), 'mono')));\n" ++
     codes "  const late = Number(data.facts.points) - runs.reduce((sum, run) => sum + run.count, 0);\n" ++
-    codes "  byId('points').querySelector('table').replaceChildren(\n" ++
-    codes "    element('caption', { textContent: [runs.length > MOST_POINTS ? `The first ${MOST_POINTS} of ${decimal.format(runs.length)}.` : '', late > 0 ? `${many(late, 'point')} lie after the run's end.` : ''].join(' ') }),\n" ++
-    codes "    element('thead', {}, head), element('tbody', {}, ...rows));\n" ++
+    codes "  const caption = [runs.length > MOST_POINTS ? `The first ${MOST_POINTS} of ${decimal.format(runs.length)}.` : '',\n" ++
+    codes "    late > 0 ? `${many(late, 'point')} lie after the run's end.` : ''];\n" ++
+    codes "  fillTable(byId('points').querySelector('table'), caption.join(' '), ['Point', 'came from'], rows);\n" ++
     codes "}\n" ++
     codes "\n" ++
     codes "// ---- The beginning.\n" ++

@@ -16,7 +16,7 @@ pub(crate) fn push(out: &mut Vec<u8>) -> Result<(), NoMemory>
 <head>
 <meta charset="utf-8">
 <meta name="viewport" content="width=device-width, initial-scale=1">
-<meta http-equiv="Content-Security-Policy" content="default-src 'none'; style-src 'sha256-1iq3epYzKsAcWcK1/RxG5h1k141H8lI3cQndS0NjBlk='; script-src 'sha256-MS+GFvv/UqmFXkJu19STTzYHyECP6NNk1+xWDtCYFsA='; base-uri 'none'; form-action 'none'">
+<meta http-equiv="Content-Security-Policy" content="default-src 'none'; style-src 'sha256-1Ckqpa99RODWbupNH3abRUa6GvNmkZEydIpa2LRrdtw='; script-src 'sha256-fjty4QGDYddmjSEXFFe43Y+UL8XF6jWcX4/mvStlQw4='; base-uri 'none'; form-action 'none'">
 <title>jet: where each output byte came from</title>
 <style>
 /* The script reads these as colors. */
@@ -58,9 +58,11 @@ th { font-weight: 600; border-bottom: 1px solid var(--edge); }
 td.number, th.number { text-align: right; font-variant-numeric: tabular-nums; }
 tr.foreign td { color: var(--foreign); }
 
-button, select, input { font: inherit; color: inherit; background: var(--paper); border: 1px solid var(--edge); border-radius: 4px; padding: 0.1rem 0.4rem; }
+button, select, input { font: inherit; color: inherit; background: var(--paper); padding: 0.1rem 0.4rem; }
+button, select, input, #told, .frame { border: 1px solid var(--edge); border-radius: 4px; }
 button { cursor: pointer; }
-button.link { border: 0; padding: 0; background: none; color: var(--accent); text-decoration: underline; font-family: var(--bytes); font-size: 0.93em; text-align: left; }
+button.link { border: 0; padding: 0; background: none; color: var(--accent); text-decoration: underline; }
+button.link { font-family: var(--bytes); font-size: 0.93em; text-align: left; }
 input[type="number"] { width: 4.5rem; }
 :focus-visible { outline: 2px solid var(--accent); outline-offset: 1px; }
 
@@ -72,16 +74,18 @@ main:not([hidden]) { display: grid; grid-template-columns: minmax(0, 4fr) minmax
 .scroll { max-height: 14rem; overflow: auto; scrollbar-width: thin; }
 .scroll th { position: sticky; top: 0; background: var(--paper); }
 
-#bytes { display: grid; grid-template: auto auto minmax(0, 1fr) / minmax(0, 1fr) minmax(0, 1fr); gap: 0.5rem 1rem; min-height: 0; }
+#bytes { display: grid; gap: 0.5rem 1rem; min-height: 0; }
+#bytes { grid-template: auto auto minmax(0, 1fr) / minmax(0, 1fr) minmax(0, 1fr); }
 #tools, #told { grid-column: 1 / -1; }
 #tools { display: flex; flex-wrap: wrap; gap: 0.25rem 1.25rem; align-items: center; margin: 0; }
 #tools input[type="search"] { min-width: 0; max-width: 100%; }
-#told { height: 7.5rem; overflow: auto; background: var(--raised); border: 1px solid var(--edge); border-radius: 4px; padding: 0.4rem 0.75rem; }
+#told { height: 7.5rem; overflow: auto; background: var(--raised); padding: 0.4rem 0.75rem; }
 #told ul { margin: 0; padding: 0; list-style: none; }
 .side { display: grid; grid-template-rows: auto minmax(0, 1fr); min-width: 0; min-height: 0; }
 .side h2 { display: flex; flex-wrap: wrap; gap: 0 0.75rem; align-items: baseline; }
-.frame { display: flex; min-height: 0; border: 1px solid var(--edge); border-radius: 4px; }
-.frame canvas { flex: none; width: 14px; height: 100%; background: var(--raised); border-left: 1px solid var(--edge); cursor: pointer; }
+.frame { display: flex; min-height: 0; }
+.frame canvas { flex: none; width: 14px; height: 100%; cursor: pointer; }
+.frame canvas { background: var(--raised); border-left: 1px solid var(--edge); }
 
 .pane { flex: 1; overflow: auto; position: relative; font: 12px/18px var(--bytes); cursor: default; user-select: none; }
 .lines { position: absolute; top: 0; left: 0; min-width: 100%; }
@@ -128,7 +132,8 @@ main:not([hidden]) { display: grid; grid-template-columns: minmax(0, 4fr) minmax
 <body>
 <header>
 <h1>Where each output byte came from</h1>
-<p id="facts">This page is not whole, or scripts are off. Without a script it shows nothing; <code>jet query</code> writes the same as text.</p>
+<p id="facts">This page is not whole, or scripts are off. Without a script it shows nothing;
+<code>jet query</code> writes the same as text.</p>
 </header>
 <main hidden>
 <section id="summary" aria-label="Summary" tabindex="0">
@@ -136,7 +141,9 @@ main:not([hidden]) { display: grid; grid-template-columns: minmax(0, 4fr) minmax
 <h2>Records</h2>
 <p id="alarm">Being counted.</p>
 <p><button type="button" id="before">Previous</button> <button type="button" id="after">Next</button></p>
-<div class="scroll" tabindex="0" role="region" aria-label="Patterns of flow between records"><table id="patterns"></table></div>
+<div class="scroll" tabindex="0" role="region" aria-label="Patterns of flow between records">
+<table id="patterns"></table>
+</div>
 </section>
 <section>
 <h2>Channels</h2>
@@ -152,27 +159,51 @@ main:not([hidden]) { display: grid; grid-template-columns: minmax(0, 4fr) minmax
 
 <section id="bytes" aria-label="Bytes">
 <form id="tools">
-<label>Bytes a line <select id="width"><option>auto</option><option>4</option><option>8</option><option>16</option><option>24</option><option>32</option><option>48</option><option>64</option></select></label>
+<label>Bytes a line
+<select id="width">
+<option>auto</option><option>4</option><option>8</option><option>16</option>
+<option>24</option><option>32</option><option>48</option><option>64</option>
+</select></label>
 <label><input type="checkbox" id="hex" checked> hex</label>
 <label><input type="checkbox" id="broken" checked> a line for each record</label>
-<label>Find <select id="what"><option value="text">text</option><option value="hex">hex digits</option><option value="in">input bytes</option><option value="out">output bytes</option></select></label>
+<label>Find
+<select id="what">
+<option value="text">text</option><option value="hex">hex digits</option>
+<option value="in">input bytes</option><option value="out">output bytes</option>
+</select></label>
 <input id="wanted" type="search" aria-label="What to find" size="22" spellcheck="false" autocomplete="off">
 <button>Find next</button>
 <output id="matches" aria-label="Matches"></output>
 <details>
 <summary>Keys and marks</summary>
-<p>Bytes are named <code>channel:offset</code>, and ranges <code>channel:from-past</code>; the byte at <code>past</code> isn't one of them.</p>
-<p>Yellow and ruled: what the chosen or pointed byte came from or came to. Blue: chosen. Green: found. Grey: without a listed source, or came to nothing listed;
-grey and slanted: not asked for. Red and dotted: from a record other than the own one, or came to such a one. A written record's own record of an input
-is the newest that reached it. A thin line stands where joined bytes begin.</p>
-<p>Arrows, Page Up and Down, Home and End move the cursor in a pane; with Shift they select. Enter goes to the first lit byte on the other side.
-<kbd>a</kbd> selects the bytes that are joined with this one, <kbd>r</kbd> its record, <kbd>n</kbd> and <kbd>p</kbd> go to the next and the last of a foreign record,
-<kbd>/</kbd> to the search, Escape clears. Copying in a pane takes the report's lines of what is selected. A double click selects joined bytes, a click on <code>#</code> a record.</p>
+<p>Bytes are named <code>channel:offset</code>, and ranges <code>channel:from-past</code>; the byte at <code>past</code>
+isn't one of them.</p>
+<p>Yellow and ruled: what the chosen or pointed byte came from or came to. Blue: chosen. Green: found. Grey: without a
+listed source, or came to nothing listed; grey and slanted: not asked for. Red and dotted: from a record other than the
+own one, or came to such a one. A written record's own record of an input is the newest that reached it. A thin line
+stands where joined bytes begin.</p>
+<p>Arrows, Page Up and Down, Home and End move the cursor in a pane; with Shift they select. Enter goes to the first lit
+byte on the other side. <kbd>a</kbd> selects the bytes that are joined with this one, <kbd>r</kbd> its record,
+<kbd>n</kbd> and <kbd>p</kbd> go to the next and the last of a foreign record, <kbd>/</kbd> to the search, Escape clears.
+Copying in a pane takes the report's lines of what is selected. A double click selects joined bytes, a click on
+<code>#</code> a record.</p>
 </details>
 </form>
 <div id="told" role="status" aria-label="The chosen bytes"></div>
-<div class="side" id="inputs"><h2>Inputs <span class="faint"></span></h2><div class="frame"><div class="pane" tabindex="0" role="application" aria-label="Input bytes" aria-describedby="told"></div><canvas aria-hidden="true"></canvas></div></div>
-<div class="side" id="outputs"><h2>Outputs <span class="faint"></span></h2><div class="frame"><div class="pane" tabindex="0" role="application" aria-label="Output bytes" aria-describedby="told"></div><canvas aria-hidden="true"></canvas></div></div>
+<div class="side" id="inputs">
+<h2>Inputs <span class="faint"></span></h2>
+<div class="frame">
+<div class="pane" tabindex="0" role="application" aria-label="Input bytes" aria-describedby="told"></div>
+<canvas aria-hidden="true"></canvas>
+</div>
+</div>
+<div class="side" id="outputs">
+<h2>Outputs <span class="faint"></span></h2>
+<div class="frame">
+<div class="pane" tabindex="0" role="application" aria-label="Output bytes" aria-describedby="told"></div>
+<canvas aria-hidden="true"></canvas>
+</div>
+</div>
 </section>
 </main>
 <script type="text/plain" id="data">"#,

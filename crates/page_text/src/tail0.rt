@@ -15,10 +15,10 @@ pub(crate) fn push(out: &mut Vec<u8>) -> Result<(), NoMemory>
 <script>
 'use strict';
 
-// A place is what bytes are numbered in: a channel that was read or written, or memory or a register at one time. A span is
-// a place and the offsets `from` up to and without `past`. The data tells a row for each output byte; rows that go on alike
-// are one run here: `count` offsets from `first` on, all with the same source spans or, where the run moves, each with those
-// of the one before moved on by one.
+// A place is what bytes are numbered in: a channel that was read or written, or memory or a register at one time. A
+// span is a place and the offsets `from` up to and without `past`. The data tells a row for each output byte; rows
+// that go on alike are one run here: `count` offsets from `first` on, all with the same source spans or, where the run
+// moves, each with those of the one before moved on by one.
 
 // ---- The data: its text is read once, from the front, into places, runs, calls and facts.
 
@@ -51,8 +51,11 @@ class Scanner {
 
   number() {
     let n = 0;
-    for (let c = this.text.charCodeAt(this.at); c >= 48 && c <= 57; c = this.text.charCodeAt(++this.at)) n = n * 10 + c - 48;
-    return n;
+    for (;; this.at++) {
+      const digit = this.text.charCodeAt(this.at) - 48;
+      if (!(digit >= 0 && digit <= 9)) return n;
+      n = n * 10 + digit;
+    }
   }
 
   /** A number, and what ends it. */
@@ -73,7 +76,9 @@ class Scanner {
   /** Ranges `c:a-b`, each after a blank, up to the line's end. */
   spans(places) {
     const spans = [];
-    while (this.takes(' ')) spans.push({ place: places[this.numberAndNext()], from: this.numberAndNext(), past: this.number() });
+    while (this.takes(' ')) {
+      spans.push({ place: places[this.numberAndNext()], from: this.numberAndNext(), past: this.number() });
+    }
     if (!this.takes('\n')) throw new Error('a line has no end');
     return spans;
   }
@@ -112,7 +117,8 @@ class RowReader {
       last.count++;
     } else {
       const by = (last.moves ? last.count - 1 : 0) + (moves ? 1 : 0);
-      this.begin(last.place, last.first + last.count, last.spans.map((s) => ({ place: s.place, from: s.from + by, past: s.past + by })));
+      const spans = last.spans.map((s) => ({ place: s.place, from: s.from + by, past: s.past + by }));
+      this.begin(last.place, last.first + last.count, spans);
     }
   }
 
@@ -168,7 +174,10 @@ function read(text) {
   run.inputs = run.inputs.filter((p) => p.bytes.length > 0);
   run.outputs = run.outputs.filter((p) => p.bytes.length > 0);
   run.sinks = [...run.outputs, ...run.points];
-  [...run.inputs, ...run.sinks].forEach((where, order) => Object.assign(where, { order, marks: new Uint8Array(where.bytes.length) }));
+  [...run.inputs, ...run.sinks].forEach((where, order) => {
+    where.order = order;
+    where.marks = new Uint8Array(where.bytes.length);
+  });
   return run;
 }
 
@@ -187,8 +196,8 @@ function byteName(where, offset) {
 /** The name of a range; of one byte its own. */
 function spanName({ place: where, from, past }) {
   if (past - from === 1) return byteName(where, from);
-  if (where.kind === 'memory' || where.kind === 'register') return `${byteName(where, from)} to ${byteName(where, past - 1)}`;
-  return `${where.number}:${from}-${past}`;
+  if (where.kind === 'in' || where.kind === 'out') return `${where.number}:${from}-${past}`;
+  return `${byteName(where, from)} to ${byteName(where, past - 1)}`;
 }
 
 const sideName = (where) => (where.kind === 'in' ? 'Input' : where.kind === 'out' ? 'Output' : 'Point');
@@ -211,7 +220,7 @@ function sourceSpan(run, span, from, past) {
   return { place: span.place, from: span.from + from - run.first, past: span.past + past - 1 - run.first };
 }
 
-/** The offsets of a run that have, by one of its source spans, a source from `from` up to `past`; there has to be one. */
+/** The offsets of a run that have, by one of its source spans, a source from `from` up to `past`; there is one. */
 function sinkSpan(run, span, from, past) {
   const begin = run.moves ? Math.max(0, from - span.past + 1) : 0;
   const end = run.moves ? Math.min(run.count, past - span.from) : run.count;
@@ -247,16 +256,20 @@ function lastUpTo(n, length, numberAt) {
 /** The runs of a place that have offsets of `from` up to `past`, with these offsets. */
 function* runsWithin(where, from, past) {
   const { runs } = where;
-  for (let i = Math.max(0, lastUpTo(from, runs.length, (k) => runs[k].first)); i < runs.length && runs[i].first < past; i++) {
+  const start = Math.max(0, lastUpTo(from, runs.length, (k) => runs[k].first));
+  for (let i = start; i < runs.length && runs[i].first < past; i++) {
     const begin = Math.max(from, runs[i].first);
     const end = Math.min(past, runs[i].first + runs[i].count);
     if (begin < end) yield { run: runs[i], from: begin, past: end };
   }
 }
 
+const wholeSpan = (where) => ({ place: where, from: 0, past: where.bytes.length });
+const runSpan = (run) => ({ place: run.place, from: run.first, past: run.first + run.count });
+
 /** The bytes of the run that an offset is in; of an input the one byte. */
 function joinedSpan(where, offset) {
-  for (const { run } of runsWithin(where, offset, offset + 1)) return { place: where, from: run.first, past: run.first + run.count };
+  for (const { run } of runsWithin(where, offset, offset + 1)) return runSpan(run);
   return { place: where, from: offset, past: offset + 1 };
 }
 
@@ -276,7 +289,8 @@ function reachOf({ place: where, from, past }) {
     for (const run of sinks.runs) {
       const moved = run.moves ? run.count - 1 : 0;
       for (const span of run.spans) {
-        if (span.place === where && span.from < past && from < span.past + moved) spans.push(sinkSpan(run, span, from, past));
+        const reaches = span.place === where && span.from < past && from < span.past + moved;
+        if (reaches) spans.push(sinkSpan(run, span, from, past));
       }
     }
   }
@@ -316,14 +330,6 @@ function* partsOf(run) {
   for (let from = run.first; from < end;) {
     let past = Math.min(end, recordEnd(run.place, recordAt(run.place, from)));
     if (run.moves) {
-      const source = sourceSpan(run, run.spans[0], from, from + 1);
-      past = Math.min(past, from + recordEnd(source.place, recordAt(source.place, source.from)) - source.from);
-    }
-    yield { from, past };
-    from = past;
-  }
-}
-
 "#,
     )?;
     Ok(())

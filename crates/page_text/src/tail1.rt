@@ -11,7 +11,15 @@ pub(crate) fn push(out: &mut Vec<u8>) -> Result<(), NoMemory>
     ensures { OnOk result (out.new.items ≡ out.old.items ++ tail1) }
 {
     out.extend_from_slice(
-        br#"/** For each record of an output channel the newest record of each input channel that reached it. */
+        br#"      const source = sourceSpan(run, run.spans[0], from, from + 1);
+      past = Math.min(past, from + recordEnd(source.place, recordAt(source.place, source.from)) - source.from);
+    }
+    yield { from, past };
+    from = past;
+  }
+}
+
+/** For each record of an output channel the newest record of each input channel that reached it. */
 function newestRecords(where) {
   const newest = where.records.map(() => new Map());
   for (const run of where.runs) {
@@ -27,7 +35,7 @@ function newestRecords(where) {
   return newest;
 }
 
-/** How many records before the own one of a written record a source span begins. A channel of one record is always own. */
+/** How many records before the own one of a written record a source span begins; 0 where its channel is one record. */
 function recordsBack(where, record, source) {
   if (source.place.records.length === 1) return 0;
   return (where.own[record]?.get(source.place) ?? record) - recordAt(source.place, source.from);
@@ -48,9 +56,9 @@ function textInRecord({ place: where, from, past }) {
 const MOST_PATTERNS = 5000;
 
 /**
- * How bytes flow between records: `patterns`, each a place in written records with the places in received records that it
- * came from, and how often; how many `others` there were once they were many; and `mixed`, the spans of outputs that came
- * from other records than their own, and of inputs that came there.
+ * How bytes flow between records: `patterns`, each a place in written records with the places in received records that
+ * it came from, and how often; how many `others` there were once they were many; and `mixed`, the spans of outputs that
+ * came from other records than their own, and of inputs that came there.
  */
 function analyse() {
   const patterns = new Map();
@@ -75,7 +83,11 @@ function analyse() {
         const known = patterns.get(key);
         if (known) known.count++;
         else if (patterns.size === MOST_PATTERNS) others++;
-        else patterns.set(key, { example: { place: where, from, past }, begin, end, moves: run.moves, cameFrom, back, foreign: foreign.length > 0, count: 1 });
+        else {
+          const example = { place: where, from, past };
+          const isForeign = foreign.length > 0;
+          patterns.set(key, { example, begin, end, moves: run.moves, cameFrom, back, isForeign, count: 1 });
+        }
       }
     }
   }
@@ -96,18 +108,17 @@ function unmark({ place: where, from, past }, bit) {
   for (let i = from; i < past && i < where.marks.length; i++) where.marks[i] &= ~bit;
 }
 
-/** Marks what never changes: bytes that no one chose, bytes without a source or that came nowhere, and where runs begin. */
+/** Marks what never changes: bytes that no one chose, that have no source or came nowhere, and where runs begin. */
 function markRows() {
   for (const where of data.outputs) {
-    mark({ place: where, from: 0, past: where.bytes.length }, OUTSIDE);
+    mark(wholeSpan(where), OUTSIDE);
     for (const run of where.runs) {
-      const span = { place: where, from: run.first, past: run.first + run.count };
-      unmark(span, OUTSIDE);
-      if (run.spans.length === 0) mark(span, SILENT);
+      unmark(runSpan(run), OUTSIDE);
+      if (run.spans.length === 0) mark(runSpan(run), SILENT);
       where.marks[run.first] |= STARTS;
     }
   }
-  for (const where of data.inputs) mark({ place: where, from: 0, past: where.bytes.length }, OUTSIDE);
+  for (const where of data.inputs) mark(wholeSpan(where), OUTSIDE);
   for (const span of data.sources) {
     unmark(span, OUTSIDE);
     mark(span, SILENT);
@@ -127,7 +138,15 @@ function element(name, properties = {}, ...children) {
   return made;
 }
 
-const spanButton = (span) => element('button', { type: 'button', className: 'link', textContent: spanName(span), onclick: () => go(span) });
+const words = (name, textContent, className = '') => element(name, { textContent, className });
+const link = (textContent, onclick) => element('button', { type: 'button', className: 'link', textContent, onclick });
+const spanLink = (span) => link(spanName(span), () => go(span));
+
+function fillTable(table, caption, columns, rows) {
+  const head = columns.map((textContent) => element('th', { scope: 'col', textContent }));
+  table.replaceChildren(
+    words('caption', caption), element('thead', {}, element('tr', {}, ...head)), element('tbody', {}, ...rows));
+}
 
 // ---- Panes: the bytes of all channels of a side, in a scroller that holds only the lines in view.
 
@@ -161,7 +180,8 @@ class Pane {
       event.preventDefault();
     });
     this.map.addEventListener('pointerdown', (event) => {
-      this.view.scrollTop = (event.offsetY / this.map.clientHeight) * this.view.scrollHeight - this.view.clientHeight / 2;
+      const middle = (event.offsetY / this.map.clientHeight) * this.view.scrollHeight;
+      this.view.scrollTop = middle - this.view.clientHeight / 2;
     });
     new ResizeObserver(() => this.layOut()).observe(this.view);
   }
@@ -175,7 +195,7 @@ class Pane {
     return [128, 96, 64, 48, 32, 24, 16, 8].find((n) => n * (hex ? 4 : 1) <= columns) ?? 4;
   }
 
-  /** Finds where the lines begin: after `width` bytes and, if wanted, at each record. A line before each channel is its title. */
+  /** Finds where the lines begin: after `width` bytes and, if wanted, at each record. Each channel has a title line. */
   layOut() {
     const hex = byId('hex').checked;
     const longest = (nameOf) => Math.max(0, ...this.places.map((where) => nameOf(where).length)) + 1;
@@ -200,7 +220,9 @@ class Pane {
       this.layout = layout;
       this.made.clear();
       this.lines.replaceChildren();
-      for (const [name, columns] of Object.entries({ width, record, offset })) this.lines.style.setProperty(`--${name}`, columns);
+      for (const [name, columns] of Object.entries({ width, record, offset })) {
+        this.lines.style.setProperty(`--${name}`, columns);
+      }
       this.sizer.style.height = `${Math.min(count * LINE, TALLEST)}px`;
       if (top) this.scrollTo(top.place, top.offset, true);
     }
@@ -215,7 +237,8 @@ class Pane {
 
   /** Browsers limit an element's height, so a very long pane scrolls by more than it is moved. */
   get scale() {
-    return Math.max(1, (this.count * LINE - this.view.clientHeight) / Math.max(1, this.sizer.offsetHeight - this.view.clientHeight));
+    const room = Math.max(1, this.sizer.offsetHeight - this.view.clientHeight);
+    return Math.max(1, (this.count * LINE - this.view.clientHeight) / room);
   }
 
   topByte() {
@@ -249,35 +272,17 @@ class Pane {
     const { where, at } = this.lineAt(line);
     if (at < 0) {
       const side = where.kind === 'in' ? 'received' : 'written';
-      return element('div', { className: 'line title', textContent: `channel ${where.number}: ${many(where.bytes.length, 'byte')} ${side}` });
+      return words('div', `channel ${where.number}: ${many(where.bytes.length, 'byte')} ${side}`, 'line title');
     }
     const from = where.starts[at];
     const past = where.starts[at + 1] ?? where.bytes.length;
     const record = recordAt(where, from);
     const bytes = Array.from(where.bytes.subarray(from, past));
     const made = element('div', { className: 'line' },
-      element('span', { className: 'record', textContent: where.records[record] === from ? `#${record}` : '' }),
-      element('span', { className: 'offset', textContent: byteName(where, from) }));
-    if (byId('hex').checked) {
-      made.append(element('span', { className: 'hex' }, ...bytes.map((b) => element('span', { textContent: b.toString(16).padStart(2, '0') }))));
-    }
-    made.append(element('span', { className: 'text' }, ...Array.from(shown(bytes), (c) => element('span', { textContent: c }))));
-    made.span = { place: where, from, past };
-    return made;
-  }
-
-  paint(made) {
-    if (!made.span) return;
-    const { place: where, from } = made.span;
-    for (const group of made.querySelectorAll('.hex, .text')) {
-      let at = from;
-      for (const cell of group.children) {
-        const look = LOOKS[where.marks[at++]];
-        if (cell.className !== look) cell.className = look;
-      }
-    }
-  }
-
+      words('span', where.records[record] === from ? `#${record}` : '', 'record'),
+      words('span', byteName(where, from), 'offset'));
+    const cells = (className, texts) => element('span', { className }, ...texts.map((text) => words('span', text)));
+    if (byId('hex').checked) made.append(cells('hex', bytes.map((b) => b.toString(16).padStart(2, '0'))));
 "#,
     )?;
     Ok(())

@@ -11,7 +11,24 @@ pub(crate) fn push(out: &mut Vec<u8>) -> Result<(), NoMemory>
     ensures { OnOk result (out.new.items ≡ out.old.items ++ tail2) }
 {
     out.extend_from_slice(
-        br#"  /** A strip of where in all lines the lit, the chosen and the foreign bytes stand. */
+        br#"    made.append(cells('text', [...shown(bytes)]));
+    made.span = { place: where, from, past };
+    return made;
+  }
+
+  paint(made) {
+    if (!made.span) return;
+    const { place: where, from } = made.span;
+    for (const group of made.querySelectorAll('.hex, .text')) {
+      let at = from;
+      for (const cell of group.children) {
+        const look = LOOKS[where.marks[at++]];
+        if (cell.className !== look) cell.className = look;
+      }
+    }
+  }
+
+  /** A strip of where in all lines the lit, the chosen and the foreign bytes stand. */
   drawMap() {
     const { map } = this;
     map.width = map.clientWidth;
@@ -47,7 +64,8 @@ pub(crate) fn push(out: &mut Vec<u8>) -> Result<(), NoMemory>
   byteUnder(event) {
     const cell = event.target.closest?.('.hex > span, .text > span');
     const line = cell?.closest('.line');
-    return line ? { place: line.span.place, offset: line.span.from + Array.prototype.indexOf.call(cell.parentNode.children, cell) } : null;
+    if (!line) return null;
+    return { place: line.span.place, offset: line.span.from + [...cell.parentNode.children].indexOf(cell) };
   }
 
   pointed(event) {
@@ -60,9 +78,10 @@ pub(crate) fn push(out: &mut Vec<u8>) -> Result<(), NoMemory>
     if (event.button !== 0) return;
     const byte = this.byteUnder(event);
     const line = event.target.closest('.line')?.span;
-    if (!byte && line && event.target.className === 'record') choose(recordSpan(line.place, recordAt(line.place, line.from)));
-    if (!byte) return;
-    if (event.shiftKey && byte.place === chosen?.place) extend(byte.offset);
+    const isRecord = line && event.target.className === 'record';
+    if (isRecord) choose(recordSpan(line.place, recordAt(line.place, line.from)));
+    else if (!byte) return;
+    else if (event.shiftKey && byte.place === chosen?.place) extend(byte.offset);
     else choose({ place: byte.place, from: byte.offset, past: byte.offset + 1 });
   }
 
@@ -84,7 +103,7 @@ pub(crate) fn push(out: &mut Vec<u8>) -> Result<(), NoMemory>
     event.preventDefault();
   }
 
-  /** The offset that a key moves the cursor to, which may lie outside the channel; undefined where it is no such key. */
+  /** The offset that a key moves the cursor to, which may lie outside the channel; undefined where it moves none. */
   moved(event, where, at) {
     const { starts, bytes } = where;
     const line = Math.max(0, lastUpTo(at, starts.length, (k) => starts[k]));
@@ -199,7 +218,8 @@ function go(span) {
 function step(by, side) {
   const spans = mixed[side];
   if (spans.length === 0) return;
-  const from = chosen && (chosen.place.kind === 'in') === (side === 'in') ? chosen : { place: spans[0].place, from: -1 };
+  const onSide = chosen && (chosen.place.kind === 'in') === (side === 'in');
+  const from = onSide ? chosen : { place: spans[0].place, from: -1 };
   const before = spans.filter((s) => inOrder(s, from) < 0).length;
   const here = spans[before] && inOrder(spans[before], from) === 0;
   go(spans.at(by > 0 ? (before + (here ? 1 : 0)) % spans.length : before - 1));
@@ -223,7 +243,7 @@ function timeOf(where, offset) {
   return where.calls[lastUpTo(offset, where.calls.length, (k) => where.calls[k].first)].time;
 }
 
-/** A line of a query that asks for the first byte of a span: of an input as a source, else as a sink; of a register's lanes for all. */
+/** A query's line that asks for a span's first byte: of an input as a source, else as a sink; for all of a register. */
 function queryLine({ place: where, from }) {
   if (where.kind === 'memory') return `sink mem ${from} 1 at ${where.time}`;
   if (where.kind === 'register') return `sink reg ${where.number} at ${where.time}`;
@@ -232,36 +252,48 @@ function queryLine({ place: where, from }) {
 
 /** The command line that tells how a byte came there: of the first byte of a span, and the first that is lit for it. */
 function pathCommand(span) {
-  const [other] = span.past - span.from === 1 ? linked : linkedTo({ place: span.place, from: span.from, past: span.from + 1 });
+  const first = { place: span.place, from: span.from, past: span.from + 1 };
+  const [other] = span.past === first.past ? linked : linkedTo(first);
   if (!other) return '';
   const lines = [`rule ${data.facts.rule}`, queryLine(span), queryLine(other)];
   return `printf '${lines.join('\\n')}\\n' >path.query; jet path PROG LOG path.query`;
 }
 
-const MOST_TOLD = 40;
-
 function pathLine(span) {
   const command = pathCommand(span);
   if (command === '') return '';
-  return element('div', {}, 'The path of its first byte: ', element('code', { textContent: command }), ' ',
-    element('button', { type: 'button', textContent: 'Copy', onclick: () => navigator.clipboard.writeText(command) }));
+  const onclick = () => navigator.clipboard.writeText(command);
+  return element('div', {}, 'The path of its first byte: ', words('code', command), ' ',
+    element('button', { type: 'button', textContent: 'Copy', onclick }));
+}
+
+const HINT = 'Point at a byte, or choose one or several: what it came from, or came to, lights up on the other side '
+  + 'and is listed here.';
+const MOST_TOLD = 40;
+
+/** Whether the source of a pair is of another record than the own one of what was written. */
+function isForeign(span, other) {
+  const [source, sink] = span.place.kind === 'in' ? [span, other] : [other, span];
+  return sink.place.kind === 'out' && !isOwn(sink, source);
 }
 
 function tell(span) {
   if (!span) {
-    byId('told').replaceChildren(element('span', { className: 'faint', textContent: 'Point at a byte, or choose one or several: what it came from, or came to, lights up on the other side and is listed here.' }));
+    byId('told').replaceChildren(words('span', HINT, 'faint'));
     return;
   }
   const size = linked.reduce((sum, s) => sum + s.past - s.from, 0);
-  const input = span.place.kind === 'in';
-  const verb = input ? 'came to' : 'came from';
-  const foreign = linked.map((s) => s.place.bytes.length > 0 && span.place.bytes.length > 0 && !(input ? isOwn(s, span) : isOwn(span, s)));
-  const list = [...linked.keys()].sort((a, b) => foreign[b] - foreign[a]).slice(0, MOST_TOLD).map((i) => element('li', {},
-    spanButton(linked[i]), ' ', element('code', { textContent: preview(linked[i]) }), ` ${describe(linked[i])}`,
-    foreign[i] ? element('span', { className: 'alarm', textContent: ' foreign' }) : ''));
+  const verb = span.place.kind === 'in' ? 'came to' : 'came from';
+  const foreign = new Map(linked.map((other) => [other, isForeign(span, other)]));
+  const told = [...linked].sort((a, b) => foreign.get(b) - foreign.get(a)).slice(0, MOST_TOLD);
+  const list = told.map((other) => element('li', {},
+    spanLink(other), ' ', words('code', preview(other)), ` ${describe(other)}`,
+    foreign.get(other) ? words('span', ' foreign', 'alarm') : ''));
   byId('told').replaceChildren(
-    element('div', {}, `${sideName(span.place)} `, element('strong', { className: 'mono', textContent: spanName(span) }), ' ', element('code', { textContent: preview(span) }), ` ${describe(span)}`),
-    element('div', {}, size === 0 ? `${verb} nothing that is listed` : `${verb} ${many(size, 'byte')} in ${many(linked.length, 'range')}:`),
+    element('div', {}, `${sideName(span.place)} `, words('strong', spanName(span), 'mono'), ' ',
+      words('code', preview(span)), ` ${describe(span)}`),
+    words('div', size === 0 ? `${verb} nothing that is listed`
+      : `${verb} ${many(size, 'byte')} in ${many(linked.length, 'range')}:`),
     element('ul', {}, ...list),
     linked.length > MOST_TOLD ? `and ${many(linked.length - MOST_TOLD, 'more range')}` : '',
     pathLine(span));
@@ -274,28 +306,6 @@ function reportLines() {
   for (let offset = chosen.from; offset < chosen.past && lines.length < 10000; offset++) {
     const names = [byteName(chosen.place, offset)];
     for (const span of linkedTo({ place: chosen.place, from: offset, past: offset + 1 })) {
-      for (let o = span.from; o < span.past; o++) names.push(byteName(span.place, o));
-    }
-    lines.push(`${names.join(' ')}\n`);
-  }
-  return lines.join('');
-}
-
-// ---- Search: bytes by their text or hex digits, and bytes by name.
-
-let found = [];
-
-function findBytes(wanted) {
-  const spans = [];
-  if (wanted.length === 0) return spans;
-  for (const where of [...data.inputs, ...data.outputs]) {
-    for (let at = where.bytes.indexOf(wanted[0]); at >= 0 && spans.length < 100000; at = where.bytes.indexOf(wanted[0], at + 1)) {
-      if (wanted.every((b, i) => where.bytes[at + i] === b)) spans.push({ place: where, from: at, past: at + wanted.length });
-    }
-  }
-  return spans;
-}
-
 "#,
     )?;
     Ok(())

@@ -11,7 +11,33 @@ pub(crate) fn push(out: &mut Vec<u8>) -> Result<(), NoMemory>
     ensures { OnOk result (out.new.items ≡ out.old.items ++ tail3) }
 {
     out.extend_from_slice(
-        br#"/** A byte `c:o` or a range `c:a-b` of a side. */
+        br#"      for (let o = span.from; o < span.past; o++) names.push(byteName(span.place, o));
+    }
+    lines.push(`${names.join(' ')}\n`);
+  }
+  return lines.join('');
+}
+
+// ---- Search: bytes by their text or hex digits, and bytes by name.
+
+const MOST_FOUND = 100000;
+
+let found = [];
+
+function findBytes(wanted) {
+  const spans = [];
+  if (wanted.length === 0) return spans;
+  for (const where of [...data.inputs, ...data.outputs]) {
+    const next = (from) => where.bytes.indexOf(wanted[0], from);
+    for (let at = next(0); at >= 0 && spans.length < MOST_FOUND; at = next(at + 1)) {
+      const isThere = wanted.every((b, i) => where.bytes[at + i] === b);
+      if (isThere) spans.push({ place: where, from: at, past: at + wanted.length });
+    }
+  }
+  return spans;
+}
+
+/** A byte `c:o` or a range `c:a-b` of a side. */
 function findNamed(places, name) {
   const match = /^\s*(\d+):(\d+)(?:-(\d+))?\s*$/.exec(name);
   const where = match && places.find((p) => p.number === Number(match[1]));
@@ -20,9 +46,15 @@ function findNamed(places, name) {
   return where && from < past && past <= where.bytes.length ? [{ place: where, from, past }] : [];
 }
 
+/** The bytes that pairs of hex digits write; none where the text isn't such pairs. */
+function hexBytes(text) {
+  const isHex = /^(\s*[0-9a-f]{2})*\s*$/i.test(text);
+  return isHex ? Array.from(text.matchAll(/[0-9a-f]{2}/gi), ([pair]) => parseInt(pair, 16)) : [];
+}
+
 function wantedSpans(what, text) {
   if (what === 'text') return findBytes([...new TextEncoder().encode(text)]);
-  if (what === 'hex') return /^(\s*[0-9a-f]{2})*\s*$/i.test(text) ? findBytes((text.match(/[0-9a-f]{2}/gi) ?? []).map((h) => parseInt(h, 16))) : [];
+  if (what === 'hex') return findBytes(hexBytes(text));
   return findNamed(what === 'in' ? data.inputs : data.outputs, text);
 }
 
@@ -40,12 +72,17 @@ function findNext(event) {
     searched = `${what} ${text}`;
     nextFound = 0;
   }
-  const inputs = found.filter((s) => s.place.kind === 'in').length;
-  byId('matches').textContent = text === '' ? '' : found.length === 0 ? 'not found'
-    : `${decimal.format(nextFound + 1)} of ${decimal.format(found.length)}: ${many(inputs, 'input')}, ${many(found.length - inputs, 'output')}`;
+  byId('matches').textContent = text === '' ? '' : matchesText();
   if (found.length > 0) go(found[nextFound]);
   else light();
   nextFound = found.length > 0 ? (nextFound + 1) % found.length : 0;
+}
+
+function matchesText() {
+  if (found.length === 0) return 'not found';
+  const inputs = found.filter((s) => s.place.kind === 'in').length;
+  const sides = `${many(inputs, 'input')}, ${many(found.length - inputs, 'output')}`;
+  return `${decimal.format(nextFound + 1)} of ${decimal.format(found.length)}: ${sides}`;
 }
 
 // ---- The summary: the run and the query in words, records, channels and points.
@@ -76,45 +113,55 @@ const TRAPS = {
 function endText() {
   const [kind, code, pc] = data.facts.end.split(' ');
   if (kind === 'exit') return `ended by an exit with code ${code}`;
-  if (kind === 'trap') return `ended by trap ${code}, ${TRAPS[code]}, at pc 0x${Number(pc).toString(16).padStart(8, '0')}`;
+  const place = `0x${Number(pc).toString(16).padStart(8, '0')}`;
+  if (kind === 'trap') return `ended by trap ${code}, ${TRAPS[code]}, at pc ${place}`;
   return 'was cut off at its limit of steps';
 }
 
 function showFacts() {
   const { facts } = data;
   const total = (list, size) => list.reduce((sum, each) => sum + size(each), 0);
-  const pairs = total(data.sinks, (where) => total(where.runs, (run) => run.count * total(run.spans, (s) => s.past - s.from)));
+  const pairsOf = (run) => run.count * total(run.spans, (s) => s.past - s.from);
+  const pairs = total(data.sinks, (where) => total(where.runs, pairsOf));
   const asked = (places) => decimal.format(total(places, (where) => countWithout(where, OUTSIDE)));
+  const counted = (name, what) => many(Number(facts[name]), what);
   byId('facts').replaceChildren(
-    'By ', element('strong', { textContent: `rule ${facts.rule}` }), ` a byte is followed ${RULES[facts.rule]}. `,
-    `${asked(data.inputs)} of ${many(Number(facts.read), 'byte')} received count as sources, and ${asked(data.outputs)} of ${many(Number(facts.written), 'byte')} written are asked for: `,
-    `${many(pairs, 'pair')} of an output byte or a point and a source. The run took ${many(Number(facts.steps), 'step')} and ${many(Number(facts.calls), 'call')}, and ${endText()}. Program SHA-256 `,
-    element('code', { textContent: facts.program }));
+    'By ', words('strong', `rule ${facts.rule}`), ` a byte is followed ${RULES[facts.rule]}. `,
+    `${asked(data.inputs)} of ${counted('read', 'byte')} received count as sources, and `,
+    `${asked(data.outputs)} of ${counted('written', 'byte')} written are asked for: `,
+    `${many(pairs, 'pair')} of an output byte or a point and a source. `,
+    `The run took ${counted('steps', 'step')} and ${counted('calls', 'call')}, and ${endText()}. Program SHA-256 `,
+    words('code', facts.program));
+}
+
+/** What a channel's records are, to be chosen. */
+function recordChoice(where) {
+  const options = { line: 'each line', call: where.kind === 'in' ? 'each read' : 'each write', size: 'so many bytes:' };
+  const how = element('select', { ariaLabel: `Records of ${sideName(where)} ${where.number}` },
+    ...Object.entries(options).map(([value, textContent]) => element('option', { value, textContent })));
+  const size = element('input', { type: 'number', min: 1, value: 16, ariaLabel: 'Bytes in a record' });
+  const count = element('span');
+  const set = () => {
+    size.hidden = how.value !== 'size';
+    where.records = recordStarts(where, how.value, Math.max(1, Math.floor(Number(size.value)) || 1));
+    count.textContent = `${decimal.format(where.records.length)}: `;
+  };
+  how.value = usualRecords(where);
+  set();
+  how.onchange = size.onchange = () => {
+    set();
+    showRecords();
+  };
+  return element('td', {}, count, how, ' ', size);
 }
 
 function showChannels() {
-  const head = element('tr', {}, ...['Channel', 'Bytes', 'With flow', 'Records'].map((t) => element('th', { scope: 'col', textContent: t })));
-  const rows = [...data.inputs, ...data.outputs].map((where) => {
-    const input = where.kind === 'in';
-    const how = element('select', { ariaLabel: `Records of ${sideName(where)} ${where.number}` },
-      ...[['line', 'each line'], ['call', `each ${input ? 'read' : 'write'}`], ['size', 'so many bytes:']].map(([value, text]) => element('option', { value, textContent: text })));
-    const size = element('input', { type: 'number', min: 1, value: 16, ariaLabel: 'Bytes in a record' });
-    const count = element('span');
-    const set = () => {
-      size.hidden = how.value !== 'size';
-      where.records = recordStarts(where, how.value, Math.max(1, Math.floor(Number(size.value)) || 1));
-      count.textContent = `${decimal.format(where.records.length)}: `;
-    };
-    how.value = usualRecords(where);
-    set();
-    how.onchange = size.onchange = () => { set(); showRecords(); };
-    return element('tr', {},
-      element('td', {}, element('button', { type: 'button', className: 'link', textContent: `${input ? 'in' : 'out'} ${where.number}`, onclick: () => go({ place: where, from: 0, past: where.bytes.length }) })),
-      element('td', { className: 'number', textContent: decimal.format(where.bytes.length) }),
-      element('td', { className: 'number', textContent: decimal.format(countWithout(where, SILENT | OUTSIDE)) }),
-      element('td', {}, count, how, ' ', size));
-  });
-  byId('channels').replaceChildren(head, ...rows);
+  const rows = [...data.inputs, ...data.outputs].map((where) => element('tr', {},
+    element('td', {}, link(`${where.kind} ${where.number}`, () => go(wholeSpan(where)))),
+    words('td', decimal.format(where.bytes.length), 'number'),
+    words('td', decimal.format(countWithout(where, SILENT | OUTSIDE)), 'number'),
+    recordChoice(where)));
+  fillTable(byId('channels'), '', ['Channel', 'Bytes', 'With flow', 'Records'], rows);
 }
 
 function recordName(back) {
@@ -143,29 +190,33 @@ function countRecords(where, spans) {
 }
 
 function showAlarm() {
-  const counted = (places, side) => places.map((where) => ({ where, n: countRecords(where, mixed[side]) })).filter(({ n }) => n > 0);
-  const written = counted(data.outputs, 'out').map(({ where, n }) => `${decimal.format(n)} of ${many(where.records.length, 'record')} of output ${where.number}`);
-  const received = counted(data.inputs, 'in').map(({ where, n }) => `${many(n, 'record')} of input ${where.number}`);
-  byId('alarm').className = written.length > 0 ? 'alarm' : '';
-  byId('alarm').textContent = written.length === 0 ? 'No written record has bytes that came from another input record than its own.'
-    : `${written.join(' and ')} hold bytes that came from another input record than their own: from ${received.join(' and ')}.`;
-  for (const id of ['before', 'after']) byId(id).disabled = written.length === 0;
+  const counted = (places, side, words) => places.map((where) => [countRecords(where, mixed[side]), where])
+    .filter(([n]) => n > 0).map(([n, where]) => words(n, where)).join(' and ');
+  const written = counted(data.outputs, 'out',
+    (n, where) => `${decimal.format(n)} of ${many(where.records.length, 'record')} of output ${where.number}`);
+  const received = counted(data.inputs, 'in', (n, where) => `${many(n, 'record')} of input ${where.number}`);
+  byId('alarm').className = written ? 'alarm' : '';
+  byId('alarm').textContent = written
+    ? `${written} hold bytes that came from another input record than their own: from ${received}.`
+    : 'No written record has bytes that came from another input record than its own.';
+  for (const id of ['before', 'after']) byId(id).disabled = !written;
 }
 
 const PATTERNS_SHOWN = 200;
 
 function showPatterns({ patterns, others }) {
-  patterns.sort((a, b) => b.foreign - a.foreign || inOrder(a.example, b.example));
-  const head = element('tr', {}, ...['Out', 'bytes', 'came from', 'of the record', 'times'].map((t) => element('th', { scope: 'col', textContent: t })));
-  const rows = patterns.slice(0, PATTERNS_SHOWN).map((p) => element('tr', { className: p.foreign ? 'foreign' : '' },
-    element('td', { textContent: p.example.place.number }),
-    element('td', {}, element('button', { type: 'button', className: 'link', textContent: numbers(p.begin, p.end), title: 'Show the first of these', onclick: () => go(p.example) })),
-    element('td', { className: 'mono', textContent: p.cameFrom.slice(0, 4).join(', ') + (p.cameFrom.length > 4 ? ', \u2026' : p.moves ? ' one by one' : '') }),
-    element('td', { textContent: [...new Set(p.back.map(recordName))].slice(0, 4).join(', ') }),
-    element('td', { className: 'number', textContent: decimal.format(p.count) })));
-  byId('patterns').replaceChildren(
-    element('caption', { textContent: `${many(patterns.length, 'pattern')} of flow from record to record${others > 0 ? ' and more' : ''}, those from foreign records first${patterns.length > PATTERNS_SHOWN ? `; ${PATTERNS_SHOWN} are shown` : ''}` }),
-    element('thead', {}, head), element('tbody', {}, ...rows));
+  patterns.sort((a, b) => b.isForeign - a.isForeign || inOrder(a.example, b.example));
+  const sourcesText = ({ cameFrom, moves }) => cameFrom.slice(0, 4).join(', ')
+    + (cameFrom.length > 4 ? ', \u2026' : moves ? ' one by one' : '');
+  const rows = patterns.slice(0, PATTERNS_SHOWN).map((p) => element('tr', { className: p.isForeign ? 'foreign' : '' },
+    words('td', p.example.place.number),
+    element('td', {}, link(numbers(p.begin, p.end), () => go(p.example))),
+    words('td', sourcesText(p), 'mono'),
+    words('td', [...new Set(p.back.map(recordName))].slice(0, 4).join(', ')),
+    words('td', decimal.format(p.count), 'number')));
+  const caption = [`${many(patterns.length, 'pattern')} of flow from record to record`, others > 0 ? ' and more' : '',
+    ', those from foreign records first', patterns.length > PATTERNS_SHOWN ? `; ${PATTERNS_SHOWN} are shown` : ''];
+  fillTable(byId('patterns'), caption.join(''), ['Out', 'bytes', 'came from', 'of the record', 'times'], rows);
 }
 
 const MOST_POINTS = 1000;
@@ -173,17 +224,14 @@ const MOST_POINTS = 1000;
 function showPoints() {
   const runs = data.points.flatMap((where) => where.runs);
   byId('points').hidden = Number(data.facts.points) === 0;
-  const head = element('tr', {}, ...['Point', 'came from'].map((t) => element('th', { scope: 'col', textContent: t })));
-  const rows = runs.slice(0, MOST_POINTS).map((run) => {
-    const span = { place: run.place, from: run.first, past: run.first + run.count };
-    const sources = sourcesOf(span);
-    return element('tr', {}, element('td', {}, spanButton(span)),
-      element('td', { className: 'mono', textContent: sources.length === 0 ? 'nothing that is listed' : sources.slice(0, 20).map(spanName).join(' ') + (run.moves ? ' one by one' : '') }));
-  });
+  const sourcesText = (run) => sourcesOf(runSpan(run)).slice(0, 20).map(spanName).join(' ')
+    + (run.moves ? ' one by one' : '') || 'nothing that is listed';
+  const rows = runs.slice(0, MOST_POINTS).map((run) => element('tr', {},
+    element('td', {}, spanLink(runSpan(run))), words('td', sourcesText(run), 'mono')));
   const late = Number(data.facts.points) - runs.reduce((sum, run) => sum + run.count, 0);
-  byId('points').querySelector('table').replaceChildren(
-    element('caption', { textContent: [runs.length > MOST_POINTS ? `The first ${MOST_POINTS} of ${decimal.format(runs.length)}.` : '', late > 0 ? `${many(late, 'point')} lie after the run's end.` : ''].join(' ') }),
-    element('thead', {}, head), element('tbody', {}, ...rows));
+  const caption = [runs.length > MOST_POINTS ? `The first ${MOST_POINTS} of ${decimal.format(runs.length)}.` : '',
+    late > 0 ? `${many(late, 'point')} lie after the run's end.` : ''];
+  fillTable(byId('points').querySelector('table'), caption.join(' '), ['Point', 'came from'], rows);
 }
 
 // ---- The beginning.
