@@ -64,7 +64,7 @@ pub(crate) fn query_kind(kind: QueryKind) -> &'static str
 }
 
 /// The name of a rule, as queries have it.
-pub(crate) fn rule_name(rule: Rule) -> &'static str
+pub fn rule_name(rule: Rule) -> &'static str
     ensures text { result.now ≡ rule_name rule }
     ensures short { length result.now ≤ 7 }
 {

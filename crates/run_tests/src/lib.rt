@@ -1,5 +1,6 @@
 //! Tests of runs that are cut into epochs: where these begin, each by itself, what its core sends, and all of them
 //! together, with what crosses the cuts between them. Paths over runs, and decisions of runs.
+//! together, with what crosses the cuts between them. Paths over runs, and pages of them.
 #![tactic(auto)]
 
 #[cfg(test)]
@@ -12,6 +13,8 @@ mod deciding;
 mod epochs;
 #[cfg(test)]
 mod guests;
+#[cfg(test)]
+mod pages;
 #[cfg(test)]
 mod paths;
 #[cfg(test)]

@@ -1,0 +1,4 @@
+pub mod Rows
+pub mod Data
+pub mod Page
+pub mod PageLaws

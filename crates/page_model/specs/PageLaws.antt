@@ -1,0 +1,40 @@
+-- What is always true of the data of pages.
+use Rattle.std.specs.Prelude.{◌≡◌, ◌<◌, ◌^◌, List}
+use Rattle.std.specs.List.{AllByRecursion}
+use Rattle.isa.specs.Machine.{State}
+use Rattle.log_model.specs.Logs.{Log}
+use Rattle.flow_model.specs.declared.Loc.{Loc}
+use Rattle.flow_model.specs.declared.Loc.TheVariants.{Reg, Mem}
+use Rattle.flow_model.specs.declared.SourceByte.{SourceByte}
+use Rattle.flow_model.specs.declared.SinkPoint.{SinkPoint}
+use Rattle.flow_model.specs.declared.SinkPoint.TheVariants.{Out, At}
+use Rattle.report_model.specs.Query.{Query, Alike}
+use Rattle.report_model.specs.Rows.{Row}
+use Rattle.page_model.specs.Data.{Asked, data_text, page_data}
+
+-- ---- the numbers in rows are below 2^63, as in each report of a run
+
+abbrev pub HasSmallLoc : Loc → Type 0
+HasSmallLoc (Reg r i) = (r < 2 ^ 63) × (i < 2 ^ 63)
+HasSmallLoc (Mem a) = a < 2 ^ 63
+
+abbrev pub IsSmallSink : SinkPoint → Type 0
+IsSmallSink (Out b) = (b.channel < 2 ^ 63) × (b.offset < 2 ^ 63)
+IsSmallSink (At p) = HasSmallLoc p.loc × (p.time < 2 ^ 63)
+
+abbrev pub IsSmallSource : SourceByte → Type 0
+IsSmallSource b = (b.channel < 2 ^ 63) × (b.offset < 2 ^ 63)
+
+abbrev pub IsSmallRow : Row → Type 0
+IsSmallRow r = IsSmallSink r.sink × AllByRecursion IsSmallSource r.sources
+
+-- ---- the laws
+
+-- pages with the same data are of the same report, whatever they are of beside it
+abbrev pub DataTellReports : Type 0
+DataTellReports = (a b : Asked) (log other : Log) (rs ss : List Row) → AllByRecursion IsSmallRow rs → AllByRecursion IsSmallRow ss
+    → data_text a log rs ≡ data_text b other ss → rs ≡ ss
+
+-- queries that are alike have the same data
+abbrev pub AlikeHaveSameData : Type 0
+AlikeHaveSameData = (q p : Query) (state : State) (log : Log) → Alike q p → page_data q state log ≡ page_data p state log

@@ -1,0 +1,277 @@
+-- A part of the page's constant texts. Made from page/page.html by page/make_text.
+use Rattle.std.specs.Prelude.{ℕ, List, codes, ◌++◌}
+
+unfoldable pub tail1 : List ℕ
+tail1 =
+    codes "      const source = sourceSpan(run, run.spans[0], from, from + 1);\n" ++
+    codes "      past = Math.min(past, from + recordEnd(source.place, recordAt(source.place, source.from)) - source.from);\n" ++
+    codes "    }\n" ++
+    codes "    yield { from, past };\n" ++
+    codes "    from = past;\n" ++
+    codes "  }\n" ++
+    codes "}\n" ++
+    codes "\n" ++
+    codes "/** For each record of an output channel the newest record of each input channel that reached it. */\n" ++
+    codes "function newestRecords(where) {\n" ++
+    codes "  const newest = where.records.map(() => new Map());\n" ++
+    codes "  for (const run of where.runs) {\n" ++
+    codes "    if (run.spans.length === 0) continue;\n" ++
+    codes "    for (const { from, past } of partsOf(run)) {\n" ++
+    codes "      const known = newest[recordAt(where, from)];\n" ++
+    codes "      for (const span of run.spans) {\n" ++
+    codes "        const record = recordAt(span.place, sourceSpan(run, span, from, past).past - 1);\n" ++
+    codes "        if (record > (known.get(span.place) ?? -1)) known.set(span.place, record);\n" ++
+    codes "      }\n" ++
+    codes "    }\n" ++
+    codes "  }\n" ++
+    codes "  return newest;\n" ++
+    codes "}\n" ++
+    codes "\n" ++
+    codes "/** How many records before the own one of a written record a source span begins; 0 where its channel is one record. */\n" ++
+    codes "function recordsBack(where, record, source) {\n" ++
+    codes "  if (source.place.records.length === 1) return 0;\n" ++
+    codes "  return (where.own[record]?.get(source.place) ?? record) - recordAt(source.place, source.from);\n" ++
+    codes "}\n" ++
+    codes "\n" ++
+    codes "const isOwn = (sink, source) => recordsBack(sink.place, recordAt(sink.place, sink.from), source) === 0;\n" ++
+    codes "\n" ++
+    codes "const numbers = (from, past) => (past - from === 1 ? `${from}` : `${from}-${past}`);\n" ++
+    codes "\n" ++
+    codes "/** Where in its record a source span stands, as text. */\n" ++
+    codes "function textInRecord({ place: where, from, past }) {\n" ++
+    codes "  const record = recordAt(where, from);\n" ++
+    codes "  const last = recordAt(where, past - 1);\n" ++
+    codes "  const begin = where.records[record];\n" ++
+    codes "  return `${where.number}: ${last > record ? `in ${last - record + 1} records` : numbers(from - begin, past - begin)}`;\n" ++
+    codes "}\n" ++
+    codes "\n" ++
+    codes "const MOST_PATTERNS = 5000;\n" ++
+    codes "\n" ++
+    codes "/**\n" ++
+    codes " * How bytes flow between records: `patterns`, each a place in written records with the places in received records that\n" ++
+    codes " * it came from, and how often; how many `others` there were once they were many; and `mixed`, the spans of outputs that\n" ++
+    codes " * came from other records than their own, and of inputs that came there.\n" ++
+    codes " */\n" ++
+    codes "function analyse() {\n" ++
+    codes "  const patterns = new Map();\n" ++
+    codes "  let others = 0;\n" ++
+    codes "  const mixed = { in: [], out: [] };\n" ++
+    codes "  for (const where of data.outputs) {\n" ++
+    codes "    where.own = newestRecords(where);\n" ++
+    codes "    for (const run of where.runs) {\n" ++
+    codes "      if (run.spans.length === 0) continue;\n" ++
+    codes "      for (const { from, past } of partsOf(run)) {\n" ++
+    codes "        const record = recordAt(where, from);\n" ++
+    codes "        const sources = run.spans.map((span) => sourceSpan(run, span, from, past));\n" ++
+    codes "        const back = sources.map((source) => recordsBack(where, record, source));\n" ++
+    codes "        const foreign = sources.filter((source, i) => back[i] !== 0);\n" ++
+    codes "        if (foreign.length > 0) mixed.out.push({ place: where, from, past });\n" ++
+    codes "        mixed.in.push(...foreign);\n" ++
+    codes "\n" ++
+    codes "        const begin = from - where.records[record];\n" ++
+    codes "        const end = past - where.records[record];\n" ++
+    codes "        const cameFrom = sources.slice(0, 5).map(textInRecord);\n" ++
+    codes "        const key = `${where.order} ${begin} ${end} ${cameFrom} ${back}`;\n" ++
+    codes "        const known = patterns.get(key);\n" ++
+    codes "        if (known) known.count++;\n" ++
+    codes "        else if (patterns.size === MOST_PATTERNS) others++;\n" ++
+    codes "        else {\n" ++
+    codes "          const example = { place: where, from, past };\n" ++
+    codes "          const isForeign = foreign.length > 0;\n" ++
+    codes "          patterns.set(key, { example, begin, end, moves: run.moves, cameFrom, back, isForeign, count: 1 });\n" ++
+    codes "        }\n" ++
+    codes "      }\n" ++
+    codes "    }\n" ++
+    codes "  }\n" ++
+    codes "  return { patterns: [...patterns.values()], others, mixed: { in: merged(mixed.in), out: merged(mixed.out) } };\n" ++
+    codes "}\n" ++
+    codes "\n" ++
+    codes "// ---- Marks: a bit for each look of a byte, which are its classes.\n" ++
+    codes "\n" ++
+    codes "const MARKS = ['silent', 'outside', 'starts', 'foreign', 'found', 'lit', 'chosen', 'cursor'];\n" ++
+    codes "const [SILENT, OUTSIDE, STARTS, FOREIGN, FOUND, LIT, CHOSEN, CURSOR] = MARKS.map((name, i) => 1 << i);\n" ++
+    codes "const LOOKS = Array.from({ length: 256 }, (none, bits) => MARKS.filter((name, i) => bits & (1 << i)).join(' '));\n" ++
+    codes "\n" ++
+    codes "function mark({ place: where, from, past }, bit) {\n" ++
+    codes "  for (let i = from; i < past && i < where.marks.length; i++) where.marks[i] |= bit;\n" ++
+    codes "}\n" ++
+    codes "\n" ++
+    codes "function unmark({ place: where, from, past }, bit) {\n" ++
+    codes "  for (let i = from; i < past && i < where.marks.length; i++) where.marks[i] &= ~bit;\n" ++
+    codes "}\n" ++
+    codes "\n" ++
+    codes "/** Marks what never changes: bytes that no one chose, that have no source or came nowhere, and where runs begin. */\n" ++
+    codes "function markRows() {\n" ++
+    codes "  for (const where of data.outputs) {\n" ++
+    codes "    mark(wholeSpan(where), OUTSIDE);\n" ++
+    codes "    for (const run of where.runs) {\n" ++
+    codes "      unmark(runSpan(run), OUTSIDE);\n" ++
+    codes "      if (run.spans.length === 0) mark(runSpan(run), SILENT);\n" ++
+    codes "      where.marks[run.first] |= STARTS;\n" ++
+    codes "    }\n" ++
+    codes "  }\n" ++
+    codes "  for (const where of data.inputs) mark(wholeSpan(where), OUTSIDE);\n" ++
+    codes "  for (const span of data.sources) {\n" ++
+    codes "    unmark(span, OUTSIDE);\n" ++
+    codes "    mark(span, SILENT);\n" ++
+    codes "  }\n" ++
+    codes "  for (const sinks of data.sinks) {\n" ++
+    codes "    for (const run of sinks.runs) {\n" ++
+    codes "      for (const span of run.spans) unmark(sourceSpan(run, span, run.first, run.first + run.count), SILENT);\n" ++
+    codes "    }\n" ++
+    codes "  }\n" ++
+    codes "}\n" ++
+    codes "\n" ++
+    codes "// ---- Elements: all that came from the run goes in as text, never as markup.\n" ++
+    codes "\n" ++
+    codes "function element(name, properties = {}, ...children) {\n" ++
+    codes "  const made = Object.assign(document.createElement(name), properties);\n" ++
+    codes "  made.append(...children);\n" ++
+    codes "  return made;\n" ++
+    codes "}\n" ++
+    codes "\n" ++
+    codes "const words = (name, textContent, className = '') => element(name, { textContent, className });\n" ++
+    codes "const link = (textContent, onclick) => element('button', { type: 'button', className: 'link', textContent, onclick });\n" ++
+    codes "const spanLink = (span) => link(spanName(span), () => go(span));\n" ++
+    codes "\n" ++
+    codes "function fillTable(table, caption, columns, rows) {\n" ++
+    codes "  const head = columns.map((textContent) => element('th', { scope: 'col', textContent }));\n" ++
+    codes "  table.replaceChildren(\n" ++
+    codes "    words('caption', caption), element('thead', {}, element('tr', {}, ...head)), element('tbody', {}, ...rows));\n" ++
+    codes "}\n" ++
+    codes "\n" ++
+    codes "// ---- Panes: the bytes of all channels of a side, in a scroller that holds only the lines in view.\n" ++
+    codes "\n" ++
+    codes "const LINE = 18;\n" ++
+    codes "const TALLEST = 8e6;\n" ++
+    codes "const PRINTED = 80;\n" ++
+    codes "\n" ++
+    codes "class Pane {\n" ++
+    codes "  constructor(side, places) {\n" ++
+    codes "    this.side = side;\n" ++
+    codes "    this.places = places;\n" ++
+    codes "    const box = byId(side === 'in' ? 'inputs' : 'outputs');\n" ++
+    codes "    this.view = box.querySelector('.pane');\n" ++
+    codes "    this.map = box.querySelector('canvas');\n" ++
+    codes "    this.heading = box.querySelector('h2 span');\n" ++
+    codes "    this.sizer = element('div', { className: 'sizer' });\n" ++
+    codes "    this.lines = element('div', { className: 'lines' });\n" ++
+    codes "    this.view.append(this.sizer, this.lines);\n" ++
+    codes "    this.made = new Map();\n" ++
+    codes "    this.view.addEventListener('scroll', () => this.draw(), { passive: true });\n" ++
+    codes "    this.view.addEventListener('pointermove', (event) => this.pointed(event));\n" ++
+    codes "    this.view.addEventListener('pointerleave', () => point(null));\n" ++
+    codes "    this.view.addEventListener('pointerdown', (event) => this.pressed(event));\n" ++
+    codes "    this.view.addEventListener('dblclick', (event) => {\n" ++
+    codes "      const byte = this.byteUnder(event);\n" ++
+    codes "      if (byte) choose(joinedSpan(byte.place, byte.offset), byte.offset);\n" ++
+    codes "    });\n" ++
+    codes "    this.view.addEventListener('keydown', (event) => this.key(event));\n" ++
+    codes "    this.view.addEventListener('copy', (event) => {\n" ++
+    codes "      event.clipboardData.setData('text/plain', reportLines());\n" ++
+    codes "      event.preventDefault();\n" ++
+    codes "    });\n" ++
+    codes "    this.map.addEventListener('pointerdown', (event) => {\n" ++
+    codes "      const middle = (event.offsetY / this.map.clientHeight) * this.view.scrollHeight;\n" ++
+    codes "      this.view.scrollTop = middle - this.view.clientHeight / 2;\n" ++
+    codes "    });\n" ++
+    codes "    new ResizeObserver(() => this.layOut()).observe(this.view);\n" ++
+    codes "  }\n" ++
+    codes "\n" ++
+    codes "  /** How many bytes a line of the pane has room for beside so many columns: four columns each with hex, one without. */\n" ++
+    codes "  fitting(hex, beside) {\n" ++
+    codes "    const probe = element('span', { textContent: '0'.repeat(100) });\n" ++
+    codes "    this.lines.append(probe);\n" ++
+    codes "    const columns = this.view.clientWidth / (probe.getBoundingClientRect().width / 100) - beside;\n" ++
+    codes "    probe.remove();\n" ++
+    codes "    return [128, 96, 64, 48, 32, 24, 16, 8].find((n) => n * (hex ? 4 : 1) <= columns) ?? 4;\n" ++
+    codes "  }\n" ++
+    codes "\n" ++
+    codes "  /** Finds where the lines begin: after `width` bytes and, if wanted, at each record. Each channel has a title line. */\n" ++
+    codes "  layOut() {\n" ++
+    codes "    const hex = byId('hex').checked;\n" ++
+    codes "    const longest = (nameOf) => Math.max(0, ...this.places.map((where) => nameOf(where).length)) + 1;\n" ++
+    codes "    const record = longest((where) => `#${where.records.length}`);\n" ++
+    codes "    const offset = longest((where) => byteName(where, where.bytes.length));\n" ++
+    codes "    const width = Number(byId('width').value) || this.fitting(hex, record + offset + 4);\n" ++
+    codes "    const layout = `${width} ${hex} ${byId('broken').checked} ${this.places.map((p) => p.records.length)}`;\n" ++
+    codes "    const top = this.topByte();\n" ++
+    codes "    if (layout !== this.layout) {\n" ++
+    codes "      let count = 0;\n" ++
+    codes "      for (const where of this.places) {\n" ++
+    codes "        where.firstLine = count;\n" ++
+    codes "        where.starts = [];\n" ++
+    codes "        const bounds = byId('broken').checked ? where.records : [0];\n" ++
+    codes "        for (let k = 0; k < bounds.length; k++) {\n" ++
+    codes "          const end = k + 1 < bounds.length ? bounds[k + 1] : where.bytes.length;\n" ++
+    codes "          for (let at = bounds[k]; at < end; at += width) where.starts.push(at);\n" ++
+    codes "        }\n" ++
+    codes "        count += where.starts.length + 1;\n" ++
+    codes "      }\n" ++
+    codes "      this.count = count;\n" ++
+    codes "      this.layout = layout;\n" ++
+    codes "      this.made.clear();\n" ++
+    codes "      this.lines.replaceChildren();\n" ++
+    codes "      for (const [name, columns] of Object.entries({ width, record, offset })) {\n" ++
+    codes "        this.lines.style.setProperty(`--${name}`, columns);\n" ++
+    codes "      }\n" ++
+    codes "      this.sizer.style.height = `${Math.min(count * LINE, TALLEST)}px`;\n" ++
+    codes "      if (top) this.scrollTo(top.place, top.offset, true);\n" ++
+    codes "    }\n" ++
+    codes "    this.draw();\n" ++
+    codes "  }\n" ++
+    codes "\n" ++
+    codes "  /** Where the line stands: its place, and its number there, or -1 for the title. */\n" ++
+    codes "  lineAt(line) {\n" ++
+    codes "    const where = this.places.findLast((p) => p.firstLine <= line);\n" ++
+    codes "    return where && { where, at: line - where.firstLine - 1 };\n" ++
+    codes "  }\n" ++
+    codes "\n" ++
+    codes "  /** Browsers limit an element's height, so a very long pane scrolls by more than it is moved. */\n" ++
+    codes "  get scale() {\n" ++
+    codes "    const room = Math.max(1, this.sizer.offsetHeight - this.view.clientHeight);\n" ++
+    codes "    return Math.max(1, (this.count * LINE - this.view.clientHeight) / room);\n" ++
+    codes "  }\n" ++
+    codes "\n" ++
+    codes "  topByte() {\n" ++
+    codes "    if (!this.count) return null;\n" ++
+    codes "    const { where, at } = this.lineAt(Math.min(this.count - 1, Math.floor((this.view.scrollTop * this.scale) / LINE)));\n" ++
+    codes "    return { place: where, offset: where.starts[Math.max(0, at)] ?? 0 };\n" ++
+    codes "  }\n" ++
+    codes "\n" ++
+    codes "  draw(forPrint = false) {\n" ++
+    codes "    if (!this.count) return;\n" ++
+    codes "    const shift = this.view.scrollTop * this.scale;\n" ++
+    codes "    const from = Math.max(0, Math.floor(shift / LINE) - 2);\n" ++
+    codes "    const past = Math.min(this.count, from + (forPrint ? PRINTED : Math.ceil(this.view.clientHeight / LINE) + 5));\n" ++
+    codes "    const kept = new Map();\n" ++
+    codes "    let same = past - from === this.made.size;\n" ++
+    codes "    for (let line = from; line < past; line++) {\n" ++
+    codes "      const known = this.made.get(line);\n" ++
+    codes "      const made = known ?? this.makeLine(line);\n" ++
+    codes "      same &&= known !== undefined;\n" ++
+    codes "      this.paint(made);\n" ++
+    codes "      kept.set(line, made);\n" ++
+    codes "    }\n" ++
+    codes "    this.made = kept;\n" ++
+    codes "    if (!same) this.lines.replaceChildren(...kept.values());\n" ++
+    codes "    this.lines.style.transform = `translateY(${from * LINE - shift + this.view.scrollTop}px)`;\n" ++
+    codes "    const here = this.topByte();\n" ++
+    codes "    this.heading.textContent = here ? `channel ${here.place.number}, from byte ${decimal.format(here.offset)}` : '';\n" ++
+    codes "  }\n" ++
+    codes "\n" ++
+    codes "  makeLine(line) {\n" ++
+    codes "    const { where, at } = this.lineAt(line);\n" ++
+    codes "    if (at < 0) {\n" ++
+    codes "      const side = where.kind === 'in' ? 'received' : 'written';\n" ++
+    codes "      return words('div', `channel ${where.number}: ${many(where.bytes.length, 'byte')} ${side}`, 'line title');\n" ++
+    codes "    }\n" ++
+    codes "    const from = where.starts[at];\n" ++
+    codes "    const past = where.starts[at + 1] ?? where.bytes.length;\n" ++
+    codes "    const record = recordAt(where, from);\n" ++
+    codes "    const bytes = Array.from(where.bytes.subarray(from, past));\n" ++
+    codes "    const made = element('div', { className: 'line' },\n" ++
+    codes "      words('span', where.records[record] === from ? `#${record}` : '', 'record'),\n" ++
+    codes "      words('span', byteName(where, from), 'offset'));\n" ++
+    codes "    const cells = (className, texts) => element('span', { className }, ...texts.map((text) => words('span', text)));\n" ++
+    codes "    if (byId('hex').checked) made.append(cells('hex', bytes.map((b) => b.toString(16).padStart(2, '0'))));\n"

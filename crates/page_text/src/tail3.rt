@@ -1,0 +1,268 @@
+//! A part of the page's constant texts. Made from page/page.html by page/make_text.
+
+ghost use Rattle.std.specs.Prelude.{◌≡◌, ◌++◌, OnOk};
+ghost use Rattle.page_text.specs.Tail3.{tail3};
+
+use no_memory::NoMemory;
+
+/// Appends the part.
+#[tactic(auto, unfolding(crate::specs::Tail3::tail3))]
+pub(crate) fn push(out: &mut Vec<u8>) -> Result<(), NoMemory>
+    ensures { OnOk result (out.new.items ≡ out.old.items ++ tail3) }
+{
+    out.extend_from_slice(
+        br#"      for (let o = span.from; o < span.past; o++) names.push(byteName(span.place, o));
+    }
+    lines.push(`${names.join(' ')}\n`);
+  }
+  return lines.join('');
+}
+
+// ---- Search: bytes by their text or hex digits, and bytes by name.
+
+const MOST_FOUND = 100000;
+
+let found = [];
+
+function findBytes(wanted) {
+  const spans = [];
+  if (wanted.length === 0) return spans;
+  for (const where of [...data.inputs, ...data.outputs]) {
+    const next = (from) => where.bytes.indexOf(wanted[0], from);
+    for (let at = next(0); at >= 0 && spans.length < MOST_FOUND; at = next(at + 1)) {
+      const isThere = wanted.every((b, i) => where.bytes[at + i] === b);
+      if (isThere) spans.push({ place: where, from: at, past: at + wanted.length });
+    }
+  }
+  return spans;
+}
+
+/** A byte `c:o` or a range `c:a-b` of a side. */
+function findNamed(places, name) {
+  const match = /^\s*(\d+):(\d+)(?:-(\d+))?\s*$/.exec(name);
+  const where = match && places.find((p) => p.number === Number(match[1]));
+  const from = Number(match?.[2]);
+  const past = Number(match?.[3] ?? from + 1);
+  return where && from < past && past <= where.bytes.length ? [{ place: where, from, past }] : [];
+}
+
+/** The bytes that pairs of hex digits write; none where the text isn't such pairs. */
+function hexBytes(text) {
+  const isHex = /^(\s*[0-9a-f]{2})*\s*$/i.test(text);
+  return isHex ? Array.from(text.matchAll(/[0-9a-f]{2}/gi), ([pair]) => parseInt(pair, 16)) : [];
+}
+
+function wantedSpans(what, text) {
+  if (what === 'text') return findBytes([...new TextEncoder().encode(text)]);
+  if (what === 'hex') return findBytes(hexBytes(text));
+  return findNamed(what === 'in' ? data.inputs : data.outputs, text);
+}
+
+let searched = '';
+let nextFound = 0;
+
+function findNext(event) {
+  event.preventDefault();
+  const what = byId('what').value;
+  const text = byId('wanted').value;
+  if (`${what} ${text}` !== searched) {
+    for (const span of found) unmark(span, FOUND);
+    found = wantedSpans(what, text);
+    for (const span of found) mark(span, FOUND);
+    searched = `${what} ${text}`;
+    nextFound = 0;
+  }
+  byId('matches').textContent = text === '' ? '' : matchesText();
+  if (found.length > 0) go(found[nextFound]);
+  else light();
+  nextFound = found.length > 0 ? (nextFound + 1) % found.length : 0;
+}
+
+function matchesText() {
+  if (found.length === 0) return 'not found';
+  const inputs = found.filter((s) => s.place.kind === 'in').length;
+  const sides = `${many(inputs, 'input')}, ${many(found.length - inputs, 'output')}`;
+  return `${decimal.format(nextFound + 1)} of ${decimal.format(found.length)}: ${sides}`;
+}
+
+// ---- The summary: the run and the query in words, records, channels and points.
+
+function countWithout(where, bits) {
+  let count = 0;
+  for (const marks of where.marks) count += (marks & bits) === 0;
+  return count;
+}
+
+const RULES = {
+  copy: 'only where it is moved',
+  keep: 'where it is moved, also by masks and shifts that keep a byte whole',
+  compute: 'into all that is computed from it',
+  index: 'into all that is computed from it, and through addresses',
+};
+
+const TRAPS = {
+  0: 'a jump to an address that is no multiple of 4',
+  1: 'no instruction in the window at the pc',
+  2: 'an illegal instruction',
+  3: 'a breakpoint',
+  5: 'a load outside the window',
+  7: 'a store outside the window',
+};
+
+/** How the run ended, in words. */
+function endText() {
+  const [kind, code, pc] = data.facts.end.split(' ');
+  if (kind === 'exit') return `ended by an exit with code ${code}`;
+  const place = `0x${Number(pc).toString(16).padStart(8, '0')}`;
+  if (kind === 'trap') return `ended by trap ${code}, ${TRAPS[code]}, at pc ${place}`;
+  return 'was cut off at its limit of steps';
+}
+
+function showFacts() {
+  const { facts } = data;
+  const total = (list, size) => list.reduce((sum, each) => sum + size(each), 0);
+  const pairsOf = (run) => run.count * total(run.spans, (s) => s.past - s.from);
+  const pairs = total(data.sinks, (where) => total(where.runs, pairsOf));
+  const asked = (places) => decimal.format(total(places, (where) => countWithout(where, OUTSIDE)));
+  const counted = (name, what) => many(Number(facts[name]), what);
+  byId('facts').replaceChildren(
+    'By ', words('strong', `rule ${facts.rule}`), ` a byte is followed ${RULES[facts.rule]}. `,
+    `${asked(data.inputs)} of ${counted('read', 'byte')} received count as sources, and `,
+    `${asked(data.outputs)} of ${counted('written', 'byte')} written are asked for: `,
+    `${many(pairs, 'pair')} of an output byte or a point and a source. `,
+    `The run took ${counted('steps', 'step')} and ${counted('calls', 'call')}, and ${endText()}. Program SHA-256 `,
+    words('code', facts.program));
+}
+
+/** What a channel's records are, to be chosen. */
+function recordChoice(where) {
+  const options = { line: 'each line', call: where.kind === 'in' ? 'each read' : 'each write', size: 'so many bytes:' };
+  const how = element('select', { ariaLabel: `Records of ${sideName(where)} ${where.number}` },
+    ...Object.entries(options).map(([value, textContent]) => element('option', { value, textContent })));
+  const size = element('input', { type: 'number', min: 1, value: 16, ariaLabel: 'Bytes in a record' });
+  const count = element('span');
+  const set = () => {
+    size.hidden = how.value !== 'size';
+    where.records = recordStarts(where, how.value, Math.max(1, Math.floor(Number(size.value)) || 1));
+    count.textContent = `${decimal.format(where.records.length)}: `;
+  };
+  how.value = usualRecords(where);
+  set();
+  how.onchange = size.onchange = () => {
+    set();
+    showRecords();
+  };
+  return element('td', {}, count, how, ' ', size);
+}
+
+function showChannels() {
+  const rows = [...data.inputs, ...data.outputs].map((where) => element('tr', {},
+    element('td', {}, link(`${where.kind} ${where.number}`, () => go(wholeSpan(where)))),
+    words('td', decimal.format(where.bytes.length), 'number'),
+    words('td', decimal.format(countWithout(where, SILENT | OUTSIDE)), 'number'),
+    recordChoice(where)));
+  fillTable(byId('channels'), '', ['Channel', 'Bytes', 'With flow', 'Records'], rows);
+}
+
+function recordName(back) {
+  if (back === 0) return 'own';
+  return back > 0 ? `${decimal.format(back)} before` : `${decimal.format(-back)} after`;
+}
+
+function showRecords() {
+  for (const span of [...mixed.in, ...mixed.out]) unmark(span, FOREIGN);
+  const found = analyse();
+  mixed = found.mixed;
+  for (const span of [...mixed.in, ...mixed.out]) mark(span, FOREIGN);
+  showAlarm();
+  showPatterns(found);
+  for (const pane of panes) pane.layOut();
+  light();
+}
+
+/** How many records of a place have a byte of these spans. */
+function countRecords(where, spans) {
+  const records = new Set();
+  for (const { from, past } of spans.filter((span) => span.place === where)) {
+    for (let k = recordAt(where, from); k <= recordAt(where, past - 1); k++) records.add(k);
+  }
+  return records.size;
+}
+
+function showAlarm() {
+  const counted = (places, side, words) => places.map((where) => [countRecords(where, mixed[side]), where])
+    .filter(([n]) => n > 0).map(([n, where]) => words(n, where)).join(' and ');
+  const written = counted(data.outputs, 'out',
+    (n, where) => `${decimal.format(n)} of ${many(where.records.length, 'record')} of output ${where.number}`);
+  const received = counted(data.inputs, 'in', (n, where) => `${many(n, 'record')} of input ${where.number}`);
+  byId('alarm').className = written ? 'alarm' : '';
+  byId('alarm').textContent = written
+    ? `${written} hold bytes that came from another input record than their own: from ${received}.`
+    : 'No written record has bytes that came from another input record than its own.';
+  for (const id of ['before', 'after']) byId(id).disabled = !written;
+}
+
+const PATTERNS_SHOWN = 200;
+
+function showPatterns({ patterns, others }) {
+  patterns.sort((a, b) => b.isForeign - a.isForeign || inOrder(a.example, b.example));
+  const sourcesText = ({ cameFrom, moves }) => cameFrom.slice(0, 4).join(', ')
+    + (cameFrom.length > 4 ? ', \u2026' : moves ? ' one by one' : '');
+  const rows = patterns.slice(0, PATTERNS_SHOWN).map((p) => element('tr', { className: p.isForeign ? 'foreign' : '' },
+    words('td', p.example.place.number),
+    element('td', {}, link(numbers(p.begin, p.end), () => go(p.example))),
+    words('td', sourcesText(p), 'mono'),
+    words('td', [...new Set(p.back.map(recordName))].slice(0, 4).join(', ')),
+    words('td', decimal.format(p.count), 'number')));
+  const caption = [`${many(patterns.length, 'pattern')} of flow from record to record`, others > 0 ? ' and more' : '',
+    ', those from foreign records first', patterns.length > PATTERNS_SHOWN ? `; ${PATTERNS_SHOWN} are shown` : ''];
+  fillTable(byId('patterns'), caption.join(''), ['Out', 'bytes', 'came from', 'of the record', 'times'], rows);
+}
+
+const MOST_POINTS = 1000;
+
+function showPoints() {
+  const runs = data.points.flatMap((where) => where.runs);
+  byId('points').hidden = Number(data.facts.points) === 0;
+  const sourcesText = (run) => sourcesOf(runSpan(run)).slice(0, 20).map(spanName).join(' ')
+    + (run.moves ? ' one by one' : '') || 'nothing that is listed';
+  const rows = runs.slice(0, MOST_POINTS).map((run) => element('tr', {},
+    element('td', {}, spanLink(runSpan(run))), words('td', sourcesText(run), 'mono')));
+  const late = Number(data.facts.points) - runs.reduce((sum, run) => sum + run.count, 0);
+  const caption = [runs.length > MOST_POINTS ? `The first ${MOST_POINTS} of ${decimal.format(runs.length)}.` : '',
+    late > 0 ? `${many(late, 'point')} lie after the run's end.` : ''];
+  fillTable(byId('points').querySelector('table'), caption.join(' '), ['Point', 'came from'], rows);
+}
+
+// ---- The beginning.
+
+function start() {
+  data = read(byId('data').textContent);
+  document.querySelector('main').hidden = false;
+  markRows();
+  showFacts();
+  showChannels();
+  panes = [new Pane('in', data.inputs), new Pane('out', data.outputs)];
+  showPoints();
+  setTimeout(showRecords);
+  byId('before').onclick = () => step(-1, 'out');
+  byId('after').onclick = () => step(1, 'out');
+  byId('tools').onsubmit = findNext;
+  for (const id of ['width', 'hex', 'broken']) byId(id).onchange = () => panes.forEach((pane) => pane.layOut());
+  addEventListener('beforeprint', () => panes.forEach((pane) => pane.draw(true)));
+  addEventListener('afterprint', () => panes.forEach((pane) => pane.draw()));
+}
+
+try {
+  start();
+} catch (error) {
+  byId('facts').textContent = `This page can't be shown: ${error.message}.`;
+  throw error;
+}
+</script>
+</body>
+</html>
+"#,
+    )?;
+    Ok(())
+}

@@ -1,0 +1,26 @@
+//! The constant texts of a page. Made from page/page.html by page/make_text.
+
+ghost use Rattle.std.specs.Prelude.{◌≡◌, ◌++◌, OnOk};
+ghost use Rattle.page_text.specs.Texts.{head, tail};
+
+use crate::{head0, tail0, tail1, tail2, tail3};
+use no_memory::NoMemory;
+
+/// Appends what stands before the data of a page. It fails only where there is no memory.
+#[tactic(auto, unfolding(crate::specs::Texts::head))]
+pub fn push_head(out: &mut Vec<u8>) -> Result<(), NoMemory>
+    ensures { OnOk result (out.new.items ≡ out.old.items ++ head) }
+{
+    head0::push(out)
+}
+
+/// Appends what stands after the data of a page. It fails only where there is no memory.
+#[tactic(auto, unfolding(crate::specs::Texts::tail))]
+pub fn push_tail(out: &mut Vec<u8>) -> Result<(), NoMemory>
+    ensures { OnOk result (out.new.items ≡ out.old.items ++ tail) }
+{
+    tail0::push(out)?;
+    tail1::push(out)?;
+    tail2::push(out)?;
+    tail3::push(out)
+}
