@@ -1,6 +1,6 @@
 #!/bin/sh
-# build.sh: compiles the start code and the library that jet-gcc links programs with, into the folder out beside this file.
-# `./install` calls it, and jet-gcc does where nothing was built yet.
+# build.sh: compiles the start code and the library that jet-gcc links programs with, into the folder out beside this
+# file. `./install` calls it, and jet-gcc does where nothing was built yet.
 set -eu
 cd "$(dirname "$0")"
 command -v riscv64-unknown-elf-gcc >/dev/null || {

@@ -1,5 +1,5 @@
-/* The memory of a program: code and constants from 0x10000 on, variables, and then the heap. The stack comes down from the
-   end of the window, whose size `jet record --pages` tells. Address 0 lies outside, so that a null pointer traps. */
+/* The memory of a program: code and constants from 0x10000 on, variables, and then the heap. The stack comes down from
+   the end of the window, whose size `jet record --pages` tells. Address 0 lies outside, so that a null pointer traps. */
 ENTRY(_start)
 PHDRS
 {

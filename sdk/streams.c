@@ -1,5 +1,5 @@
-/* Streams over channels. Standard input is channel 0, standard output channel 1, standard error channel 2; fopen("3", "w")
-   and fdopen(3, "w") open channel 3. Output goes out by the line, so each line is a write of its own in the log. */
+/* Streams over channels. Standard input is channel 0, standard output channel 1, standard error channel 2;
+   fopen("3", "w") and fdopen(3, "w") open channel 3. Output goes out by the line: each line is a write in the log. */
 #include <errno.h>
 #include <fcntl.h>
 #include <stdio.h>
@@ -22,8 +22,10 @@ static int get(FILE *file);
 static int flush(FILE *file);
 static int shut(FILE *file);
 
-#define READ_FROM(c) { .file = FDEV_SETUP_CLOSE(NULL, get, NULL, shut, _FDEV_SETUP_READ), .channel = (c) }
-#define WRITE_TO(c, n) { .file = FDEV_SETUP_CLOSE(put, NULL, flush, shut, _FDEV_SETUP_WRITE), .next = (n), .channel = (c) }
+#define READ_FROM(c) \
+    { .file = FDEV_SETUP_CLOSE(NULL, get, NULL, shut, _FDEV_SETUP_READ), .channel = (c) }
+#define WRITE_TO(c, following) \
+    { .file = FDEV_SETUP_CLOSE(put, NULL, flush, shut, _FDEV_SETUP_WRITE), .next = (following), .channel = (c) }
 
 static struct stream in = READ_FROM(0), err = WRITE_TO(2, NULL), out = WRITE_TO(1, &err);
 static struct stream *written = &out;

@@ -1,4 +1,4 @@
-/* What picolibc asks of a system: channels as descriptors, memory, the clock, an end. There are no files, and one process. */
+/* What picolibc asks of a system: channels as descriptors, memory, the clock, an end. There are no files. */
 #include <errno.h>
 #include <stddef.h>
 #include <stdlib.h>
@@ -30,11 +30,24 @@ int channel_answer(int result)
     return -1;
 }
 
-ssize_t read(int channel, void *buffer, size_t length) { return channel_answer(jet_read(channel, buffer, length)); }
-ssize_t write(int channel, const void *buffer, size_t length) { return channel_answer(jet_write(channel, buffer, length)); }
+ssize_t read(int channel, void *buffer, size_t length)
+{
+    return channel_answer(jet_read(channel, buffer, length));
+}
+
+ssize_t write(int channel, const void *buffer, size_t length)
+{
+    return channel_answer(jet_write(channel, buffer, length));
+}
+
+off_t lseek(int channel, off_t offset, int whence)
+{
+    (void)channel, (void)offset, (void)whence;
+    return channel_answer(-ESPIPE);
+}
+
 int close(int channel) { (void)channel; return 0; }
 int isatty(int channel) { (void)channel; return 0; }
-off_t lseek(int channel, off_t offset, int whence) { (void)channel, (void)offset, (void)whence; return channel_answer(-ESPIPE); }
 
 /* A channel's name is its number. */
 int open(const char *name, int flags, ...)

@@ -1,10 +1,11 @@
-//! A ledger. Channel 0 has its entries, a line "account amount" each; channel 1 gets the balance of each account, in the
-//! order in which they come first.
+//! A ledger. Channel 0 has its entries, a line "account amount" each; channel 1 gets the balance of each account, in
+//! the order in which they come first.
 //!
 //! It has a fault: an entry counts for each account whose name its line begins with, so what belongs to the account
 //! `rent-2026` counts for `rent` too. With `--cfg fix` the whole name has to be the same.
 #![no_std]
 #![no_main]
+#![allow(unknown_lints, unexpected_cfgs)]
 extern crate alloc;
 
 use alloc::vec::Vec;

@@ -2,8 +2,8 @@
        customer,account,symbol,side,quantity,price in cents
    Each is answered by a line on standard output, and the accepted ones go to the exchange on channel 3.
 
-   It has a leak. An empty account is no text for sscanf, which stores nothing then: `order` keeps the account of the order
-   before, another customer's, and the answer tells it. With -DFIX such an order is malformed. */
+   It has a leak. An empty account is no text for sscanf, which stores nothing then: `order` keeps the account of the
+   order before, another customer's, and the answer tells it. With -DFIX such an order is malformed. */
 #include <stdio.h>
 #include <stdlib.h>
 #include <string.h>

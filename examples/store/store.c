@@ -1,11 +1,11 @@
-/* A store of values for two clients. The first asks on channel 0 and is answered on channel 3, the second asks on channel 1
-   and is answered on channel 4. They take turns, a line each:
+/* A store of values for two clients. The first asks on channel 0 and is answered on channel 3, the second asks on
+   channel 1 and is answered on channel 4. They take turns, a line each:
        SET key value      keeps a value of this client's own
        GET key            answers it
        ECHO length text   answers the text, whose length is told
 
-   ECHO reads over its end: it trusts the length that it is told, and the buffer holds what an earlier request left, which
-   may be the other client's. With -DFIX it answers no more than the text. */
+   ECHO reads over its end: it trusts the length that it is told, and the buffer holds what an earlier request left,
+   which may be the other client's. With -DFIX it answers no more than the text. */
 #include <stdio.h>
 #include <stdlib.h>
 #include <string.h>
