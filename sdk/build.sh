@@ -15,8 +15,8 @@ command -v riscv64-unknown-elf-gcc >/dev/null || {
 made=$(mktemp -d)
 trap 'rm -r "$made"' EXIT
 for file in start.S calls.S streams.c system.c new.cc; do
-    riscv64-unknown-elf-gcc -march=rv32im -mabi=ilp32 --specs=./jet.specs -O2 -Wall -Wextra -ffunction-sections \
-        -c "$file" -o "$made/${file%.*}.o"
+    riscv64-unknown-elf-gcc -march=rv32im -mabi=ilp32 --specs=./jet.specs -O2 -g -Wall -Wextra -ffunction-sections \
+        -fdebug-prefix-map="$PWD"=jet -c "$file" -o "$made/${file%.*}.o"
 done
 (cd "$made" && riscv64-unknown-elf-ar rcsD libjet.a calls.o streams.o system.o new.o)
 mkdir -p out
