@@ -2,11 +2,6 @@
 #ifndef KIT_H
 #define KIT_H
 
-enum { CHANNELS = 16 };
-
-/* The result of a guest call as C's functions answer it: -1 and errno where it is a fault. */
-int channel_answer(int result);
-
 /* Writes what stands in the buffers of all streams. */
 void flush_streams(void);
 

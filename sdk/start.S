@@ -24,6 +24,6 @@ name:   .asciz "prog"
 arguments:
         .word name, 0
 
-# The linker gives a thread's variables no room where none of them has a value at the start.
+# A variable of the thread that has a value at the start: where there is none, the linker gives the others no room.
         .section .tdata.start, "awT", @progbits
         .word 0

@@ -2,7 +2,6 @@
 #include <errno.h>
 #include <stddef.h>
 #include <stdlib.h>
-#include <sys/stat.h>
 #include <sys/time.h>
 #include <sys/times.h>
 #include <unistd.h>
@@ -22,7 +21,8 @@ static int is_under_qemu(void)
     return (char *)__builtin_frame_address(0) - __window_start > LONGEST_WINDOW;
 }
 
-int channel_answer(int result)
+/* The result of a guest call as C's functions answer it: -1 and errno where it is a fault. */
+static int answer(int result)
 {
     if (result >= 0)
         return result;
@@ -32,36 +32,34 @@ int channel_answer(int result)
 
 ssize_t read(int channel, void *buffer, size_t length)
 {
-    return channel_answer(jet_read(channel, buffer, length));
+    return answer(jet_read(channel, buffer, length));
 }
 
 ssize_t write(int channel, const void *buffer, size_t length)
 {
-    return channel_answer(jet_write(channel, buffer, length));
+    return answer(jet_write(channel, buffer, length));
 }
 
 off_t lseek(int channel, off_t offset, int whence)
 {
     (void)channel, (void)offset, (void)whence;
-    return channel_answer(-ESPIPE);
+    return answer(-ESPIPE);
 }
 
 int close(int channel) { (void)channel; return 0; }
 int isatty(int channel) { (void)channel; return 0; }
 
-/* A channel's name is its number. */
+/* A channel's name is its number, 0 to 15. */
 int open(const char *name, int flags, ...)
 {
     char *end;
     long channel = strtol(name, &end, 10);
     (void)flags;
-    return *name && !*end && channel >= 0 && channel < CHANNELS ? (int)channel : channel_answer(-ENOENT);
+    return *name && !*end && channel >= 0 && channel < 16 ? (int)channel : answer(-ENOENT);
 }
 
-int unlink(const char *name) { (void)name; return channel_answer(-ENOENT); }
-int rename(const char *from, const char *to) { (void)from, (void)to; return channel_answer(-ENOENT); }
-int stat(const char *name, struct stat *status) { (void)name, (void)status; return channel_answer(-ENOENT); }
-int fstat(int channel, struct stat *status) { (void)channel, (void)status; return channel_answer(-EBADF); }
+int unlink(const char *name) { (void)name; return answer(-ENOENT); }
+int rename(const char *from, const char *to) { (void)from, (void)to; return answer(-ENOENT); }
 
 /* The heap begins behind the variables, and grows up to STACK bytes below where the stack stands. */
 void *sbrk(ptrdiff_t more)
