@@ -1,7 +1,7 @@
 /* Prints the symbols of orders, the third field of each line of CSV.
 
-   It has a fault. strtok_r takes the two commas around an empty field for one, so a line of three fields of which one is
-   empty has no third. With -DFIX the fields are told apart by strsep. */
+   It has a fault. strtok_r takes the two commas around an empty field for one, so a line of three fields of which one
+   is empty has no third. With -DFIX the fields are told apart by strsep. */
 #include <stdio.h>
 #include <string.h>
 
