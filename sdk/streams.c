@@ -83,6 +83,20 @@ static int shut(FILE *file)
     return result;
 }
 
+/* As the standard has it. That of picolibc 1.8 loses a last line that no line feed ends. */
+char *fgets(char *line, int size, FILE *file)
+{
+    int c = 0, length = 0;
+    if (size <= 0)
+        return NULL;
+    while (length < size - 1 && c != '\n' && (c = getc(file)) != EOF)
+        line[length++] = c;
+    if (c == EOF && (length == 0 || ferror(file)))
+        return NULL;
+    line[length] = 0;
+    return line;
+}
+
 FILE *fdopen(int channel, const char *mode)
 {
     int is_read = mode[0] == 'r';
