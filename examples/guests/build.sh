@@ -7,6 +7,6 @@ shift
 mkdir -p "$out"
 for guest in parser cipher sort store; do
     riscv64-unknown-elf-gcc -march=rv32i -mabi=ilp32 -O2 "$@" -ffreestanding -fno-builtin -fno-tree-loop-distribute-patterns \
-        -nostdlib -static -s -T link.ld start.S guest.c "$guest.c" -lgcc -o "$out/$guest.elf"
+        -nostdlib -static -s -T ../gateway/link.ld ../gateway/start.S guest.c "$guest.c" -lgcc -o "$out/$guest.elf"
 done
 awk -v out="$out" -f inputs.awk

@@ -1,0 +1,26 @@
+#!/bin/sh
+# build.sh: compiles the start code and the library that jet-gcc links programs with, into the folder out beside this
+# file. `./install` calls it, and jet-gcc does where nothing was built yet.
+set -eu
+cd "$(dirname "$0")"
+command -v riscv64-unknown-elf-gcc >/dev/null || {
+    echo "jet-gcc: there is no riscv64-unknown-elf-gcc (Debian's gcc-riscv64-unknown-elf)" >&2
+    exit 1
+}
+[ -e /usr/lib/picolibc/riscv64-unknown-elf/include/stdio.h ] || {
+    echo "jet-gcc: there is no picolibc (Debian's picolibc-riscv64-unknown-elf)" >&2
+    exit 1
+}
+# What is built is put in place whole, so that two builds at a time don't meet.
+made=$(mktemp -d)
+trap 'rm -r "$made"' EXIT
+for file in start.S calls.S streams.c system.c new.cc; do
+    riscv64-unknown-elf-gcc -march=rv32im -mabi=ilp32 --specs=./jet.specs -O2 -g -Wall -Wextra -ffunction-sections \
+        -fdebug-prefix-map="$PWD"=jet -c "$file" -o "$made/${file%.*}.o"
+done
+(cd "$made" && riscv64-unknown-elf-ar rcsD libjet.a calls.o streams.o system.o new.o)
+mkdir -p out
+for file in start.o libjet.a; do
+    mv "$made/$file" "out/$file.$$"
+    mv "out/$file.$$" "out/$file"
+done
