@@ -1,6 +1,5 @@
 //! Tests of runs that are cut into epochs: where these begin, each by itself, what its core sends, and all of them
-//! together, with what crosses the cuts between them. Paths over runs, and decisions of runs.
-//! together, with what crosses the cuts between them. Paths over runs, and pages of them.
+//! together, with what crosses the cuts between them. Paths over runs, decisions of runs, and pages of them.
 #![tactic(auto)]
 
 #[cfg(test)]
