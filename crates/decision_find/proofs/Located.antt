@@ -7,7 +7,7 @@ use Rattle.isa.specs.declared.Instr.TheVariants.{Lui, Auipc, Jal, Jalr, Beq, Bne
 use Rattle.isa.specs.Encodings.{Fits}
 use Rattle.flow_model.specs.declared.Loc.{Loc}
 use Rattle.flow_model.specs.declared.Rule.{Rule}
-use Rattle.flow_model.specs.declared.Rule.TheVariants.{Copy, Compute, Index}
+use Rattle.flow_model.specs.declared.Rule.TheVariants.{Copy, Keep, Compute, Index}
 use Rattle.flow_model.specs.Flow.{lanes, all_lanes}
 use Rattle.flow_model.specs.Ranges.{IsLocation, AreLocations}
 use Rattle.taint_shadow.proofs.Meaning.{AreHere, lanes_here, union_here}
@@ -35,6 +35,7 @@ in_all_lanes a b h k = located (all_lanes a b 0) (union_here (lanes a) (lanes b)
 
 in_base : (rule : Rule) (a : ℕ) → a < 32 → AreLocations (base_of_load rule a)
 in_base Copy a h = in_lanes a h
+in_base Keep a h = in_lanes a h
 in_base Compute a h = in_lanes a h
 in_base Index a h = tt
 

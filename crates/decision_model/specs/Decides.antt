@@ -6,19 +6,21 @@ use Rattle.isa.specs.declared.CallKind.{CallKind}
 use Rattle.isa.specs.declared.CallKind.TheVariants as kind
 use Rattle.flow_model.specs.declared.Loc.{Loc}
 use Rattle.flow_model.specs.declared.Rule.{Rule}
-use Rattle.flow_model.specs.declared.Rule.TheVariants.{Copy, Compute, Index}
+use Rattle.flow_model.specs.declared.Rule.TheVariants.{Copy, Keep, Compute, Index}
 use Rattle.flow_model.specs.Flow.{lanes, all_lanes}
 
 -- the rule by which the origins of decisions are those of all that they were computed from: a rule by which less flows
 -- would leave out what decides
 abbrev pub deciding_rule : Rule → Rule
 deciding_rule Copy = Compute
+deciding_rule Keep = Compute
 deciding_rule Compute = Compute
 deciding_rule Index = Index
 
 -- the base of a load. Under the rule index what is loaded comes from the base too, so the address need not be the same
 abbrev pub base_of_load : Rule → ℕ → List Loc
 base_of_load Copy a = lanes a
+base_of_load Keep a = lanes a
 base_of_load Compute a = lanes a
 base_of_load Index a = []
 

@@ -97,7 +97,7 @@ fn base_of_load(rule: Rule, rs1: u8) -> Locations
     ensures { locs_of result ≡ model.base_of_load rule rs1 }
 {
     match rule {
-        Rule::Copy | Rule::Compute => Locations::lanes(rs1),
+        Rule::Copy | Rule::Keep | Rule::Compute => Locations::lanes(rs1),
         Rule::Index => Locations::Empty,
     }
 }

@@ -10,7 +10,7 @@ pub fn deciding_rule(rule: Rule) -> Rule
     ensures { result ≡ model.deciding_rule rule }
 {
     match rule {
-        Rule::Copy | Rule::Compute => Rule::Compute,
+        Rule::Copy | Rule::Keep | Rule::Compute => Rule::Compute,
         Rule::Index => Rule::Index,
     }
 }

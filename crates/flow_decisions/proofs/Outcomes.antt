@@ -8,7 +8,7 @@ use Rattle.isa.specs.Machine.{as_word, State, Outcome, Retired, Called, Trapped,
 use Rattle.flow_model.specs.declared.Loc.{Loc}
 use Rattle.flow_model.specs.declared.Loc.TheVariants.{Mem}
 use Rattle.flow_model.specs.declared.Rule.{Rule}
-use Rattle.flow_model.specs.declared.Rule.TheVariants.{Copy, Compute, Index}
+use Rattle.flow_model.specs.declared.Rule.TheVariants.{Copy, Keep, Compute, Index}
 use Rattle.flow_model.specs.Flow.{lanes, all_lanes}
 use Rattle.flow_meaning.specs.Content.{content, byte_in, AgreeAt, IsSound}
 use Rattle.flow_meaning.specs.StepLaws.{is_load}
@@ -117,6 +117,7 @@ module _ {s t : State} (ss : IsSound s) (st : IsSound t) (pc : s.pc ≡ t.pc) (b
 
   load_address : (r : Rule) (a : ℕ) (imm : ℤ) → AgreeAt s t (base_of_load r a) → (effective_address s a imm ≡ effective_address t a imm) ⊎ (r ≡ Index)
   load_address Copy a imm h = inl (address_agrees ss st a imm h)
+  load_address Keep a imm h = inl (address_agrees ss st a imm h)
   load_address Compute a imm h = inl (address_agrees ss st a imm h)
   load_address Index a imm h = inr refl
 

@@ -11,7 +11,7 @@ use Rattle.log_model.specs.Logs.{Log, steps}
 use Rattle.flow_model.specs.declared.Loc.{Loc}
 use Rattle.flow_model.specs.declared.Loc.TheVariants.{Reg, Mem}
 use Rattle.flow_model.specs.declared.Rule.{Rule}
-use Rattle.flow_model.specs.declared.Rule.TheVariants.{Copy, Compute, Index}
+use Rattle.flow_model.specs.declared.Rule.TheVariants.{Copy, Keep, Compute, Index}
 use Rattle.flow_model.specs.declared.SourceByte.{SourceByte}
 use Rattle.flow_model.specs.declared.StepSeen.{StepSeen}
 use Rattle.flow_model.specs.declared.CallSeen.{CallSeen}
@@ -51,6 +51,10 @@ on_same Index j k i p q e (inr f) =
 on_same Copy j k i p q e (inr f) = absurd (other f.1)
   where
     other : Copy ≡ Index → ⊥
+    other e = cc
+on_same Keep j k i p q e (inr f) = absurd (other f.1)
+  where
+    other : Keep ≡ Index → ⊥
     other e = cc
 on_same Compute j k i p q e (inr f) = absurd (other f.1)
   where

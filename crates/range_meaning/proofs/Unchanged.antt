@@ -17,7 +17,7 @@ use Rattle.range_model.specs.declared.RunKind.TheVariants.{Same, Changed, Shared
 use Rattle.range_model.specs.Runs.{is_output, has_any, output_rows, is_moved, runs}
 use Rattle.range_model.specs.Text.{byte_of, byte_written, byte_received, holds_sources, kind_of}
 use Rattle.range_model.specs.RunLaws.{RunsHoldRows}
-use Rattle.range_meaning.specs.RangeMeaning.{CopiedAreUnchanged, CopyIsUnchanged}
+use Rattle.range_meaning.specs.RangeMeaning.{CopiedAreUnchanged, MovesAreUnchanged}
 
 -- a row of an output byte that is copied holds its source
 row_holds : (log : Log) (s : State) (sink : SinkPoint) (bs : List SourceByte) → is_output sink ≡ true → IsCopied log (byte_at_sink s log sink) bs
@@ -67,5 +67,5 @@ copied_are_unchanged law log s rs copied =
     (ap (list_all (holds_sources log.records)) (law (output_rows rs)).rows
     ∙ rows_hold log s rs (recursion_from_All (λ r. IsCopied log (byte_at_sink s log r.sink) r.sources) rs copied)))
 
-pub copy_is_unchanged : RunsHoldRows → CopiedRows → CopyIsUnchanged
-copy_is_unchanged law copied log s run q rule located = copied_are_unchanged law log s _ (copied log s run q rule located)
+pub moves_are_unchanged : RunsHoldRows → CopiedRows → MovesAreUnchanged
+moves_are_unchanged law copied log s run q rule located = copied_are_unchanged law log s _ (copied log s run q rule located)

@@ -3,10 +3,10 @@ use Rattle.std.specs.Prelude.{◌≡◌, List, All}
 use Rattle.isa.specs.Machine.{State}
 use Rattle.log_model.specs.declared.CallRecord.{CallRecord}
 use Rattle.log_model.specs.Logs.{Log}
-use Rattle.flow_model.specs.declared.Rule.TheVariants.{Copy}
 use Rattle.report_model.specs.Query.{Query, AreLocated}
 use Rattle.report_model.specs.Rows.{Row, rows}
 use Rattle.replay_model.specs.Run.{trace}
+use Rattle.flow_meaning.specs.StepLaws.{OnlyMoves}
 use Rattle.flow_meaning.specs.RunLaws.{IsRun, IsCopied, byte_at_sink}
 use Rattle.range_model.specs.declared.RunKind.TheVariants.{Changed}
 use Rattle.range_model.specs.Runs.{output_rows, runs}
@@ -20,7 +20,7 @@ NoneIsChanged calls rs = All (λ run. kind_of calls run ≡ Changed → ⊥) (ru
 abbrev pub CopiedAreUnchanged : Type 0
 CopiedAreUnchanged = (log : Log) (s : State) (rs : List Row) → All (λ r. IsCopied log (byte_at_sink s log r.sink) r.sources) rs → NoneIsChanged log.records rs
 
--- under copy
-abbrev pub CopyIsUnchanged : Type 0
-CopyIsUnchanged = (log : Log) (s : State) → IsRun log s → (q : Query) → q.rule ≡ Copy → AreLocated q.points
+-- under a rule by which content is only moved
+abbrev pub MovesAreUnchanged : Type 0
+MovesAreUnchanged = (log : Log) (s : State) → IsRun log s → (q : Query) → OnlyMoves q.rule → AreLocated q.points
     → NoneIsChanged log.records (rows q (trace s log))
