@@ -18,8 +18,8 @@ mod runs;
 
 use guest_assembler::{Instr, code, program};
 use guests::{
-    ADD_WORDS, COPY_FOUR, Guest, LESS_THAN, LOAD_SIGNED, LOAD_UNSIGNED, LOOK_UP, MULTIPLY_WORDS,
-    OVERWRITE, UNALIGNED, XOR_WORDS,
+    ADD_WORDS, COPY_FOUR, Guest, LESS_THAN, LOAD_SIGNED, LOAD_UNSIGNED, LOOK_UP, MASK_AND_SHIFT,
+    MULTIPLY_WORDS, OVERWRITE, UNALIGNED, XOR_WORDS,
 };
 use jet_call::jet;
 use outer_io::{Gate, ListClock, MemoryFile, MemorySink, MemoryStore, OpenGate, Sink, Store};
@@ -31,6 +31,8 @@ use std::test::Fail;
 use std::thread::Threads;
 
 const COPY: &str = "rule copy\nsource all\nsink all\n";
+
+const KEEP: &str = "rule keep\nsource all\nsink all\n";
 
 const COMPUTE: &str = "rule compute\nsource all\nsink all\n";
 
@@ -526,6 +528,31 @@ const REPORTS: &[(&Guest, &str, &str)] = &[
         COPY,
         "1:0 0:0\n1:1 0:0\n1:2 0:1\n1:3 0:2\nend 4\n",
     ),
+    (&MASK_AND_SHIFT, COPY, "1:0\n1:1\n1:2\n1:3\nend 4\n"),
+    (
+        &MASK_AND_SHIFT,
+        KEEP,
+        "1:0 0:0\n1:1 0:0\n1:2 0:2\n1:3 0:3\nend 4\n",
+    ),
+    // Lane 1 of x7 is moved there whole, from lane 0.
+    (
+        &MASK_AND_SHIFT,
+        "rule keep\nsource all\nsink reg 7 at 10\n",
+        "r:7.0@10\nr:7.1@10 0:0\nr:7.2@10\nr:7.3@10\nend 4\n",
+    ),
+    (
+        &MASK_AND_SHIFT,
+        COMPUTE,
+        "1:0 0:0
+1:1 0:0 0:1 0:2 0:3
+1:2 0:0 0:1 0:2 0:3
+1:3 0:0 0:1 0:2 0:3
+end 4
+",
+    ),
+    (&COPY_FOUR, KEEP, COPIED),
+    (&ADD_WORDS, KEEP, "1:0\n1:1\n1:2\n1:3\nend 4\n"),
+    (&LOAD_SIGNED, KEEP, "1:0 0:0\n1:1\n1:2\n1:3\nend 4\n"),
     (&ADD_WORDS, COMPUTE, SUM),
     (&MULTIPLY_WORDS, COPY, "1:0\n1:1\n1:2\n1:3\nend 4\n"),
     (&MULTIPLY_WORDS, COMPUTE, SUM),

@@ -384,3 +384,44 @@ pub const LOOK_UP: Guest = Guest {
     },
     exit: 16,
 };
+
+/// Reads four bytes and writes the first twice and the last two. Each goes through a mask or shifts by whole bytes, as code of
+/// C libraries passes characters.
+pub const MASK_AND_SHIFT: Guest = Guest {
+    code: &code![
+        lui(x11, 0x10000),
+        addi(x11, x11, 256),
+        li(x10, 0),
+        li(x12, 4),
+        li(x17, 63),
+        ecall(),
+        lw(x6, 0(x11)),
+        andi(x7, x6, 255),
+        sb(x7, 0(x11)),
+        slli(x7, x7, 8),
+        srli(x7, x7, 8),
+        sb(x7, 1(x11)),
+        srli(x6, x6, 16),
+        sh(x6, 2(x11)),
+        li(x10, 1),
+        li(x17, 64),
+        ecall(),
+        li(x10, 0),
+        li(x17, 93),
+        ecall(),
+    ],
+    pages: 1,
+    read: Moved {
+        at: 5,
+        place: BUFFER,
+        asked: 4,
+        bytes: b"ABCD",
+    },
+    write: Moved {
+        at: 16,
+        place: BUFFER,
+        asked: 4,
+        bytes: b"AACD",
+    },
+    exit: 19,
+};

@@ -2,7 +2,7 @@
 
 use super::guests::{ADD_WORDS, COPY_FOUR, Guest};
 use super::refusals::copied;
-use super::{COMPUTE, COPY, Ending, Line, assert_ends, log_with, program_of, push_file};
+use super::{COMPUTE, COPY, Ending, KEEP, Line, assert_ends, log_with, program_of, push_file};
 use outer_io::{MemoryFile, MemoryStore};
 use std::alloc::{AllocError, Global};
 use std::process::Abort;
@@ -95,6 +95,7 @@ query 16\n1:3 0:3\nend 1
 /// Words, queries, their status and their line.
 const REFUSED: &[(Line, &[&str], u8, &str)] = &[
     (TWO, &[COPY, COMPUTE], 11, "jet: rules copy 2 compute\n"),
+    (TWO, &[KEEP, COPY], 11, "jet: rules keep 2 copy\n"),
     (
         THREE,
         &[COMPUTE, COMPUTE, "rule index\n"],
