@@ -15,7 +15,7 @@ use Rattle.flow_model.specs.Origins.{Policy, step_at, after_step, origins}
 use Rattle.sorted_set.specs.Sets.{set_of}
 use Rattle.report_model.specs.Query.{Query, has_sink, policy_of}
 use Rattle.report_model.specs.Rows.{Sink, Row, sink_at, sinks_of_call, sinks_of_step, point_sink, at_time, points_at, sinks_from, chosen_sinks, row, row_cmp}
-use Rattle.report_model.specs.Needed.{greatest, steps_for, steps_for_sink, RowsOfBeginning, NeededAreMade}
+use Rattle.report_model.specs.Needed.{greatest, steps_for, steps_for_sink, RowsOfBeginning, OrderOfBeginning, NeededAreMade}
 use Rattle.report_model.proofs.Each.{each-gives, each-append, each-filter, each-trivial, each-map}
 
 -- ---- the greatest of some numbers
@@ -130,10 +130,12 @@ rows_of_front q trace n (x ∷ xs) h =
     let here = origins_of_front (policy_of q) trace n x.time x.loc (omega (arith, h, time-le x.name x.time)) in
     ap₂ (λ (sources : List SourceByte) (rs : List Row). record { sink = x.name; sources = sources } ∷ rs) here (rows_of_front q trace n xs (omega (arith, h)))
 
+pub order_of_beginning : OrderOfBeginning
+order_of_beginning q trace n h =
+    ap (map (row q (take n trace))) (sinks_of_front q 0 n trace (omega (arith, h))) ∙ rows_of_front q trace n (chosen_sinks q trace) h
+
 pub rows_of_beginning : RowsOfBeginning
-rows_of_beginning q trace n h =
-    ap (set_of row_cmp)
-    (ap (map (row q (take n trace))) (sinks_of_front q 0 n trace (omega (arith, h))) ∙ rows_of_front q trace n (chosen_sinks q trace) h)
+rows_of_beginning q trace n h = ap (set_of row_cmp) (order_of_beginning q trace n h)
 
 pub needed_are_made : NeededAreMade
 needed_are_made q trace = needed-le (length trace) (chosen_sinks q trace) (each_needs (λ n. n ≤ length trace) q 0 trace (λ n low high. omega (arith, high)))

@@ -4,7 +4,7 @@ use Rattle.flow_model.specs.declared.SinkPoint.{SinkPoint}
 use Rattle.flow_model.specs.declared.SinkPoint.TheVariants.{Out, At}
 use Rattle.flow_model.specs.declared.StepSeen.{StepSeen}
 use Rattle.report_model.specs.Query.{Query}
-use Rattle.report_model.specs.Rows.{Sink, rows, chosen_sinks}
+use Rattle.report_model.specs.Rows.{Sink, rows, rows_as_written, chosen_sinks}
 
 -- the greatest of these numbers, 0 where there is none
 abbrev pub greatest : List ℕ → ℕ
@@ -29,6 +29,11 @@ needed_steps q trace = greatest (map steps_for_sink (chosen_sinks q trace))
 abbrev pub RowsOfBeginning : Type 0
 RowsOfBeginning = (q : Query) (trace : List StepSeen) (n : ℕ)
     → needed_steps q trace ≤ n → rows q (take n trace) ≡ rows q trace
+
+-- and has them in the same order of the run
+abbrev pub OrderOfBeginning : Type 0
+OrderOfBeginning = (q : Query) (trace : List StepSeen) (n : ℕ)
+    → needed_steps q trace ≤ n → rows_as_written q (take n trace) ≡ rows_as_written q trace
 
 -- the run makes them
 abbrev pub NeededAreMade : Type 0

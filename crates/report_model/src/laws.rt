@@ -4,7 +4,7 @@ ghost use Rattle.report_model.specs.RowLaws.{AlikeHaveSameRows, RowsAscend, Rows
 ghost use Rattle.report_model.specs.InfluenceLaws.{InfluenceTurnsRows};
 ghost use Rattle.report_model.specs.TogetherLaws.{PointsAscend, OnlyIsOwn, TogetherCovers, TogetherAscends, EachIsOwn};
 ghost use Rattle.report_model.specs.PointLaws.{PointsOfTexts, PointsTogether};
-ghost use Rattle.report_model.specs.Needed.{RowsOfBeginning, NeededAreMade};
+ghost use Rattle.report_model.specs.Needed.{RowsOfBeginning, OrderOfBeginning, NeededAreMade};
 
 /// Queries that have one rule and the same points, and choose the same bytes, have the same rows, over each trace.
 pub fn alike_have_same_rows()
@@ -67,9 +67,10 @@ pub fn each_is_own()
     ensures { EachIsOwn }
 {}
 
-/// The rows over a trace are those over each of its beginnings that has the steps which the last chosen sink needs. The
-/// trace has them all.
+/// The rows over a trace, also in the order of the run, are those over each of its beginnings that has the steps which
+/// the last chosen sink needs. The trace has them all.
 pub fn rows_of_beginning()
     ensures rows { RowsOfBeginning }
+    ensures order { OrderOfBeginning }
     ensures made { NeededAreMade }
 {}

@@ -1,0 +1,4 @@
+mod Points
+mod CallNeeds
+mod Told
+mod Counting
