@@ -1,26 +1,26 @@
 -- The look before a step of a run is that of the moment, and so is the look at a trap.
-use Rattle.std.proofs.Common.{◌≡◌, ℕ, ◌+◌, ◌<◌, ◌≤◌, ◌⊎◌, inl, inr, Bool, true, false, List, [], ◌∷◌, ◌++◌, refl, ap, ap₂, sym, ◌∙◌, subst, arith}
-use Rattle.std.specs.Prelude.{Option, Some, None}
+use Rattle.std.proofs.Common.{◌≡◌, ℕ, ◌≤◌, ◌⊎◌, inl, inr, Bool, true, false, List, [], ◌∷◌, refl, ap, ap₂, sym, ◌∙◌, subst, arith, int_lt}
+use Rattle.std.specs.Prelude.{◌==◌, not, nat_lt, nat_le, Option, Some, None, MatchOption}
 use Rattle.isa.specs.declared.Call.{Call}
 use Rattle.isa.specs.declared.CallKind.{CallKind}
 use Rattle.isa.specs.declared.CallKind.TheVariants as kind
 use Rattle.isa.specs.declared.Instr.{Instr}
 use Rattle.isa.specs.declared.Instr.TheVariants.{Lui, Auipc, Jal, Jalr, Beq, Bne, Blt, Bge, Bltu, Bgeu, Lb, Lh, Lw, Lbu, Lhu, Sb, Sh, Sw, Addi, Slti, Sltiu, Xori, Ori, Andi, Slli, Srli, Srai, Add, Sub, Sll, Slt, Sltu, Xor, Srl, Sra, Or, And, Mul, Mulh, Mulhsu, Mulhu, Div, Divu, Rem, Remu, Fence, Ecall, Ebreak}
-use Rattle.isa.specs.Machine.{State, Outcome, Retired, Called, Trapped, reg, kind_of, call_of, execute, effect_of, landed, branched, loaded, stored, is_aligned, Fetch, Fetched, OutsideWindow, Illegal, fetch, outcome_of, next}
+use Rattle.isa.specs.Machine.{State, Outcome, Retired, Called, Trapped, as_signed, relative, reg, kind_of, call_of, execute, effect_of, landed, branched, loaded, stored, is_aligned, Fetch, Fetched, OutsideWindow, Illegal, fetch, outcome_of, next}
 use Rattle.log_model.specs.declared.CallRecord.{CallRecord}
 use Rattle.log_model.specs.declared.CallRecord.TheVariants.{Read, Write, Clock, Other}
-use Rattle.log_model.specs.Logs.{Log, steps, end_at}
+use Rattle.log_model.specs.declared.RunEnd.TheVariants.{Trap}
+use Rattle.log_model.specs.Logs.{Log, steps, steps_by, end_at}
 use Rattle.flow_model.specs.declared.Rule.{Rule}
 use Rattle.flow_model.specs.declared.StepSeen.{StepSeen}
-use Rattle.flow_model.specs.Origins.{step_at}
 use Rattle.replay_model.specs.Run.{Moment, start, call_seen, plain_step, step_by, step_of}
-use Rattle.replay_model.proofs.Agreement.{kind_by}
 use Rattle.replay_model.proofs.Offsets.{step_at_from, steps_within}
 use Rattle.replay_model.proofs.Track.{on_track_at}
-use Rattle.replayer.specs.Jobs.{Job, IsJob, trace_of}
+use Rattle.replayer.specs.Jobs.{Job, IsJob}
+use Rattle.replayer.specs.Positions.{CursorAt, state_at}
 use Rattle.decision_model.specs.Decides.{decides}
 use Rattle.decision_model.specs.Decisions.{instr_of, decides_fetched}
-use Rattle.decision_model.proofs.Answered.{IsCallAt, IsDoneAt, done_at}
+use Rattle.decision_model.proofs.Answered.{IsCallAt, IsDoneAt, done_at, traps_at}
 use Rattle.decision_find.specs.declared.looks.Look.{Look}
 use Rattle.decision_find.specs.Looks.{look_at_step, kind_seen, IsLookAt}
 use Rattle.decision_find.specs.Following.{IsStepOf, moment_of}
@@ -171,7 +171,7 @@ looks_at_step job pc s is =
     let time : m.time ≡ t = there.time in
     let made : s ≡ step_of m = one_step s (step_of m) (sym is.step ∙ step_at_from (steps job.log) t (start job.start job.log) is.below) in
     let done : IsDoneAt job.log m.time m.state m.left (next m.state) =
-        subst (λ (k : ℕ). IsDoneAt job.log k m.state m.left (next m.state)) (sym time) (done_at job.log job.start t is.is_job.form is.is_job.agrees is.below) in
+    subst (λ (k : ℕ). IsDoneAt job.log k m.state m.left (next m.state)) (sym time) (done_at job.log job.start t is.is_job.form is.is_job.agrees is.below) in
     let shown : IsShown m.state (fetch m.state) s = subst (IsShown m.state (fetch m.state)) (sym made) (by_fetch job.log m (fetch m.state) refl done) in
     record { time = sym time; pc = is.at_pc; instr = shown.instr; decides = shown.decides_too }
   where
@@ -206,3 +206,29 @@ looks_at_trap m look k e time pc instr = record {
     by rule OutsideWindow h = refl
     by rule Illegal h = refl
     by rule (Fetched i) h = of_instr rule i (other_or_call m.state i) h
+
+-- what a cursor says that it fetched
+fetched_is : (o : Option Instr) (f : Fetch) → MatchOption o ((i : Instr) → f ≡ Fetched i → ⊥) (λ i. f ≡ Fetched i) → o ≡ instr_of f
+fetched_is None OutsideWindow h = refl
+fetched_is None Illegal h = refl
+fetched_is None (Fetched i) h = absurd (h i refl)
+fetched_is (Some i) f h = ap instr_of (sym h)
+
+trap_time : (log : Log) (at k pc : ℕ) → log.end ≡ Trap at k pc → steps log ≡ at
+trap_time log at k pc e = ap steps_by e
+
+-- the look of a cursor that stands at the end of a run that traps
+pub looks_at_end : (job : Job) (cursor : CursorAt) (look : Look) (at k pc : ℕ) → IsJob job → cursor ≡ record { job = job; time = steps job.log } → job.log.end ≡ Trap at k pc
+    → look.time ≡ steps job.log → look.pc ≡ (state_at cursor).pc
+    → MatchOption look.instr ((i : Instr) → fetch (state_at cursor) ≡ Fetched i → ⊥) (λ i. fetch (state_at cursor) ≡ Fetched i)
+    → IsLookAt (moment_of job (steps job.log)) look
+looks_at_end job cursor look at k pc is stands e time here there =
+    let n = steps job.log in
+    let last : n ≡ at = trap_time job.log at k pc e in
+    let end : end_at job.log.end ≡ at = ap end_at e in
+    let m = moment_of job n in
+    let moment_time : m.time ≡ n = (on_track_at job.log job.start n is.form is.agrees (omega arith)).time in
+    let traps : next m.state ≡ Trapped k = subst (λ (t : ℕ). next (moment_of job t).state ≡ Trapped k) (sym last) (traps_at job.log job.start at k pc is.form is.agrees e).traps in
+    let state : state_at cursor ≡ m.state = ap state_at stands in
+    looks_at_trap m look k traps (time ∙ sym moment_time) (here ∙ ap (λ (s : State). s.pc) state)
+    (fetched_is look.instr (fetch (state_at cursor)) there ∙ ap (λ (s : State). instr_of (fetch s)) state)

@@ -7,6 +7,7 @@ use Rattle.decision_model.specs.declared.Place.{Place}
 use Rattle.decision_model.specs.Decisions.{Decision}
 use Rattle.decision_model.specs.Places.{place_cmp, places, decided_there, sources_of}
 use Rattle.decision_find.specs.declared.labels.SourceLabels.{SourceLabels}
+use Rattle.decision_find.specs.declared.looks.Look.{Look}
 use Rattle.decision_find.specs.declared.groups.Group.{Group}
 use Rattle.decision_find.specs.declared.groups.Groups.{Groups}
 use Rattle.decision_find.specs.Words.{label_words}
@@ -37,6 +38,12 @@ pub record Joins (old : SourceLabels) (g : Group) (label : Label) (new : SourceL
   pub sources : MakesLabel label_words new (mean_together label_words old g.label label) joined.label
   pub count : joined.count ≡ g.count + 1
   pub rest : joined ≡ record g { count = joined.count; label = joined.label }
+
+-- what the group of a place is with one decision more, of a look, which has this label: that decision's own, where the place
+-- had none
+abbrev pub Grows : SourceLabels → Option Group → Look → Label → SourceLabels → Group → Type 0
+Grows old None look label new g = g ≡ record { instr = look.instr; count = 1; first = look.time; label = label }
+Grows old (Some h) look label new g = Joins old h label new g
 
 -- the label of each group stands
 abbrev pub HaveLabels : SourceLabels → Groups → Type 0

@@ -1,5 +1,5 @@
 -- What labels mean is united as sets are.
-use Rattle.std.specs.Prelude.{◌≡◌, ◌<◌, List, [], length}
+use Rattle.std.specs.Prelude.{◌≡◌, List, [], length}
 use Rattle.std.proofs.Common.{arith, ap, sym, subst}
 use Rattle.flow_model.specs.declared.Loc.{Loc}
 use Rattle.flow_model.specs.declared.SourceByte.{SourceByte}

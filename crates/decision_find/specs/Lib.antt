@@ -3,4 +3,3 @@ pub mod Laws
 pub mod Looks
 pub mod Groups
 pub mod Following
-pub mod Lines

@@ -1,5 +1,5 @@
 -- What a run looks at before it goes on.
-use Rattle.std.specs.Prelude.{◌≡◌, ℕ, List, [], ◌∷◌, ◌++◌, map, Option, Some, None}
+use Rattle.std.specs.Prelude.{◌≡◌, ℕ, List, ◌++◌, map, Option, Some, None}
 use Rattle.std.specs.List.{filter}
 use Rattle.isa.specs.declared.Instr.{Instr}
 use Rattle.isa.specs.declared.CallKind.{CallKind}

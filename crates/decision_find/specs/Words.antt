@@ -4,7 +4,6 @@ use Rattle.sorted_set.specs.Sets.{union, Ascends}
 use Rattle.flow_model.specs.declared.SourceByte.{SourceByte}
 use Rattle.flow_model.specs.Orders.{source_cmp}
 use Rattle.merge_log.specs.Log.{IsNode, terms}
-use Rattle.taint_shadow.specs.declared.labels.Label.{Label}
 use Rattle.taint_shadow.specs.declared.labels.LabelKind.{LabelKind}
 use Rattle.taint_shadow.specs.declared.labels.LabelKind.TheVariants.{Node, Start}
 use Rattle.taint_shadow.specs.Labels.{LabelWords, kind_of}

@@ -1,8 +1,10 @@
 //! One pass over the run.
 
-ghost use Rattle.std.specs.Prelude.{◌≡◌, IfOk};
+ghost use Rattle.std.specs.Prelude.{◌≡◌, IfOk, OnOk};
+ghost use Rattle.log_model.specs.Logs.{steps};
+ghost use Rattle.report_model.specs.Query.{Query as QueryOf};
 ghost use Rattle.decision_model.specs.Text.{decisions_report};
-ghost use Rattle.decision_find.specs.Following.{HasDecisions};
+ghost use Rattle.decision_find.specs.Following.{IsSound, IsTracked, HasDecisions};
 
 use crate::looks::Look;
 use crate::tracking::Tracking;
@@ -35,13 +37,31 @@ fn follow<'q>(alloc: Global, job: &Job, query: &'q Query) -> Result<Tracking<'q>
         tracking.step(pc, &step)?;
         pc = cursor.pc();
     }
-    if let RunEnd::Trap { .. } = job.log().end() {
-        tracking.note(&Look {
-            time: job.steps(),
-            pc,
-            instr: cursor.fetched(),
-            kind: CallKind::Other,
-        })?;
-    }
+    look_at_end(job, &cursor, &mut tracking)?;
     Ok(tracking)
+}
+
+/// Where all steps of a run are followed, and it traps, looks at the instruction that traps.
+fn look_at_end(job: &Job, cursor: &Cursor, tracking: &mut Tracking) -> Result<(), NoMemory>
+    requires job { cursor.now.job ≡ job.now }
+    requires done { cursor.now.time ≡ steps job.now.log }
+    requires sound { IsSound tracking.old }
+    ensures { OnOk result ((q : QueryOf) → IsTracked q job.now (steps job.now.log) tracking.old
+        → HasDecisions q job.now tracking.new) }
+{
+    job.form();
+    match job.log().end() {
+        RunEnd::Exit { .. } => Ok(()),
+        RunEnd::Limit { .. } => Ok(()),
+        RunEnd::Trap { .. } => {
+            let look = Look {
+                time: job.steps(),
+                pc: cursor.pc(),
+                instr: cursor.fetched(),
+                kind: CallKind::Other,
+            };
+            tracking.note(&look)?;
+            Ok(())
+        }
+    }
 }

@@ -1,11 +1,13 @@
 //! The decisions of a run so far, counted at each place.
 
 ghost use Rattle.std.specs.Prelude.{◌≡◌, ◌∷◌, ◌++◌, [], List, IfOk, OnOk};
+ghost use Rattle.std.specs.BTreeMap.{get};
 ghost use Rattle.decision_model.specs.Decisions.{Decision};
+ghost use Rattle.decision_model.specs.Places.{place_cmp};
 ghost use Rattle.taint_shadow.specs.Labels.{KeepsLabels};
 ghost use Rattle.decision_find.specs.Words.{label_words};
 ghost use Rattle.decision_find.specs.Looks.{decision_of};
-ghost use Rattle.decision_find.specs.Groups.{AreGroups, HaveLabels, Joins};
+ghost use Rattle.decision_find.specs.Groups.{AreGroups, HaveLabels, Joins, Grows};
 ghost use Rattle.decision_find.specs.declared.labels.SourceLabels.{SourceLabels as AnyLabels};
 
 use crate::labels::SourceLabels;
@@ -92,11 +94,28 @@ impl Groups {
             → AreGroups labels.new (ds ++ decision_of look.now (λ l. label_words.means labels.old label) loc ∷ []) self.new) }
     {
         let place = Place { pc: look.pc, loc };
-        let group = match self.by_place.get(&place) {
-            None => Group::of_one(look, label),
-            Some(group) => group.with_one(labels, label)?,
-        };
+        let group = self.grown(labels, place, look, label)?;
         self.by_place.insert(place, group)?;
         Ok(())
+    }
+
+    /// The group of a place with one decision more, of a look, which has this label.
+    fn grown(
+        &self,
+        labels: &mut SourceLabels,
+        place: Place,
+        look: &Look,
+        label: Label,
+    ) -> Result<Group, NoMemory>
+        requires stands { label_words.stands labels.old label }
+        requires groups { HaveLabels labels.old self.now }
+        ensures keeps { OnOk result (KeepsLabels label_words labels.old labels.new) }
+        ensures grows { IfOk result
+            (λ group. Grows labels.old (get place_cmp self.now.by_place place) look.now label labels.new group) }
+    {
+        match self.by_place.get(&place) {
+            None => Ok(Group::of_one(look, label)),
+            Some(group) => group.with_one(labels, label),
+        }
     }
 }

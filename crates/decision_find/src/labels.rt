@@ -90,17 +90,19 @@ impl SourceLabels {
         Ok(self.label_of(node))
     }
 
-    /// The label of two together. No node is made where the labels are equal, or one of them has no source byte.
+    /// The label of two together. No node is made where their nodes are one, or one of
+    /// them has no source byte.
     #[inline(always)]
     pub(crate) fn unite_labels(&mut self, left: Label, right: Label) -> Result<Label, NoMemory>
         requires left { label_words.stands self.old left }
         requires right { label_words.stands self.old right }
         ensures { IfOk result (Makes label_words self.old (mean_together label_words self.old left right) self.new) }
     {
-        if left == right {
+        let one = self.node_of(left);
+        let other = self.node_of(right);
+        if one == other {
             return Ok(left);
         }
-        let (one, other) = (self.node_of(left), self.node_of(right));
         if other == 0 {
             return Ok(left);
         }

@@ -42,12 +42,7 @@ impl Look {
     pub fn bytes(&self) -> [Loc; 4]
         ensures { result ≡ fetched_from self.now.pc }
     {
-        [
-            self.byte(0),
-            self.byte(1),
-            self.byte(2),
-            self.byte(3),
-        ]
+        [self.byte(0), self.byte(1), self.byte(2), self.byte(3)]
     }
 
     /// One of these bytes.

@@ -3,6 +3,7 @@
 ghost use Rattle.std.specs.Prelude.{◌≡◌, ◌∷◌, [], IfOk, OnOk};
 ghost use Rattle.flow_model.specs.Ranges.{IsInRange, IsLocation, AreLocations};
 ghost use Rattle.replayer.specs.Jobs.{Job as JobOf};
+ghost use Rattle.decision_model.specs.Decisions.{decides_fetched};
 ghost use Rattle.decision_find.specs.Looks.{looked_at, HasFitting};
 ghost use Rattle.decision_find.specs.Following.{IsSound, IsTracked, Notes, IsTurned, Follows};
 
@@ -48,7 +49,8 @@ impl<'q> Tracking<'q> {
         ensures followed { OnOk result (Follows pc step.now self.old self.new) }
     {
         self.note(&Look::before(pc, step))?;
-        self.turn(step)
+        self.turn(step)?;
+        Ok(())
     }
 
     /// Notes the decisions of a look.
@@ -58,10 +60,24 @@ impl<'q> Tracking<'q> {
         ensures sound { OnOk result (IsSound self.new) }
         ensures noted { OnOk result (Notes look.now (looked_at self.old.rule look.now) self.old self.new) }
     {
-        if let Some(instr) = &look.instr {
-            self.note_all(look, decisions_of(self.rule, look.kind, instr).as_slice())?;
-        }
+        self.note_operands(look)?;
         self.note_all(look, &look.bytes())
+    }
+
+    /// Notes those besides the bytes of the instruction.
+    fn note_operands(&mut self, look: &Look) -> Result<(), NoMemory>
+        requires fits { HasFitting look.now.instr }
+        requires sound { IsSound self.old }
+        ensures sound { OnOk result (IsSound self.new) }
+        ensures noted { OnOk result
+            (Notes look.now (decides_fetched self.old.rule look.now.kind look.now.instr) self.old self.new) }
+    {
+        match &look.instr {
+            None => Ok(()),
+            Some(instr) => {
+                self.note_all(look, decisions_of(self.rule, look.kind, instr).as_slice())
+            }
+        }
     }
 
     /// Notes those of these locations that have a source byte.

@@ -2,9 +2,8 @@
 
 ghost use Rattle.std.specs.Prelude.{◌≡◌, ◌++◌, List, IfOk, OnOk};
 ghost use Rattle.decision_model.specs.Decisions.{Decision};
-ghost use Rattle.decision_model.specs.Text.{mnemonic_text, ranges_text, decisions_text};
+ghost use Rattle.decision_model.specs.Text.{mnemonic_text, ranges_text, place_text, line_text, decisions_text};
 ghost use Rattle.decision_find.specs.Groups.{AreGroups, HaveLabels};
-ghost use Rattle.decision_find.specs.Lines.{group_line};
 
 use crate::groups::Group;
 use crate::tracking::Tracking;
@@ -42,14 +41,11 @@ fn push_line(
     group: &Group,
     sources: &[SourceByte],
 ) -> Result<(), NoMemory>
-    ensures { OnOk result (out.new.items ≡ out.old.items ++ group_line place group.now sources.now) }
+    ensures { OnOk result (out.new.items ≡ out.old.items
+        ++ line_text place group.now.instr group.now.count group.now.first sources.now) }
 {
     let mut buffer = Buffer::new();
-    push_pc(out, place.pc)?;
-    out.push(b' ')?;
-    push_mnemonic(out, &group.instr)?;
-    out.push(b' ')?;
-    push_location(out, place.loc)?;
+    push_place(out, place, &group.instr)?;
     out.push(b' ')?;
     out.extend_from_slice(buffer.format(group.count).as_bytes())?;
     out.push(b' ')?;
@@ -57,6 +53,17 @@ fn push_line(
     push_ranges(out, sources)?;
     out.push(b'\n')?;
     Ok(())
+}
+
+/// Appends a place, and the mnemonic of the instruction there.
+fn push_place(out: &mut Vec<u8>, place: Place, instr: &Option<Instr>) -> Result<(), NoMemory>
+    ensures { OnOk result (out.new.items ≡ out.old.items ++ place_text place instr.now) }
+{
+    push_pc(out, place.pc)?;
+    out.push(b' ')?;
+    push_mnemonic(out, instr)?;
+    out.push(b' ')?;
+    push_location(out, place.loc)
 }
 
 /// Appends the mnemonic of an instruction; `.word` where there is none.

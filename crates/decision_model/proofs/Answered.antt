@@ -1,6 +1,6 @@
 -- Each step of a run in which nothing differs is done: an instruction retires, or a call is made that the next record
 -- answers. Crates above cite these lemmas.
-use Rattle.std.proofs.Common.{◌≡◌, ℕ, suc, ◌+◌, ◌<◌, ◌≤◌, ◌⊎◌, inl, inr, List, [], ◌∷◌, None, refl, arith, ap, sym, ◌∙◌, subst}
+use Rattle.std.proofs.Common.{◌≡◌, ℕ, suc, ◌+◌, ◌<◌, ◌≤◌, ◌⊎◌, inl, inr, List, [], ◌∷◌, None, refl, arith, ap, sym, ◌∙◌, subst, pos}
 use Rattle.std.proofs.lemmas.Bool.{cases_lt}
 use Rattle.isa.specs.declared.Call.{Call}
 use Rattle.isa.specs.declared.CallKind.TheVariants as kind
@@ -8,10 +8,11 @@ use Rattle.isa.specs.Machine.{State, Outcome, Retired, Called, Trapped, next}
 use Rattle.log_model.specs.declared.CallRecord.{CallRecord}
 use Rattle.log_model.specs.declared.RunEnd.{RunEnd}
 use Rattle.log_model.specs.declared.RunEnd.TheVariants.{Exit, Trap, Limit}
-use Rattle.log_model.specs.Logs.{Log, IsLog, IsRecord, at_of, end_at, steps, steps_by}
+use Rattle.log_model.specs.Logs.{Log, IsLog, IsRecord, Rise, least_after, at_of, end_at, steps, steps_by}
 use Rattle.replay_model.specs.Run.{Moment, start, moment_after}
-use Rattle.replay_model.specs.Comparison.{PlainStep, CallOf, EndOf, difference, divergence, expected, IsLawful}
-use Rattle.replay_model.proofs.Agreement.{kind_by, call_agrees, plain_agrees, exit_agrees, expects_plain_at_end, expects_plain_before, expects_call, expects_end, agrees_at}
+use Rattle.replay_model.specs.Comparison.{PlainStep, CallOf, EndOf, difference, difference_at, divergence, expected, seen_event, trap_kind, compared, IsLawful}
+use Rattle.replay_model.specs.declared.Field.TheVariants as field
+use Rattle.replay_model.proofs.Agreement.{first_agrees, kind_by, trap_agrees, call_agrees, plain_agrees, exit_agrees, expects_plain_at_end, expects_plain_before, expects_call, expects_end, agrees_at}
 use Rattle.replay_model.proofs.Offsets.{steps_within}
 use Rattle.replay_model.proofs.Track.{moment, IsOnTrack, IsOnTrackAt, agrees_with, least_rises, on_track_at}
 
@@ -106,3 +107,40 @@ pub call_at_time : (log : Log) (s : State) (t : ℕ) → IsLog log → divergenc
     → next (moment_after t (start s log)).state ≡ Called call → IsCallAt log t (moment_after t (start s log)).state call (moment_after t (start s log)).left
 call_at_time log s t form fits h call f =
     subst (IsDoneAt log t (moment_after t (start s log)).state (moment_after t (start s log)).left) f (done_at log s t form fits h)
+
+-- ---- the end
+
+pub none_left : (log : Log) (m : Moment) → IsOnTrack log m → end_at log.end ≤ m.time → m.left ≡ []
+none_left log m on h = by m.left on.rise on.ends_after
+  where
+    by : (left : List CallRecord) → Rise m.time left → least_after m.time left ≤ end_at log.end → left ≡ []
+    by [] rise ends = refl
+    by (r ∷ rs) rise ends = let first = rise.0 in let later = least_rises (at_of r + 1) rs rise.1 in absurd (omega arith)
+
+-- what a run's end is held against, at its time
+pub ends_at : (log : Log) (s : State) → IsLog log → divergence s log ≡ None → difference_at (moment_after (end_at log.end) (start s log)) log.inputs (EndOf log.end) ≡ None
+ends_at log s form fits =
+    let m = moment_after (end_at log.end) (start s log) in
+    let there = on_track_at log s (end_at log.end) form fits (omega arith) in
+    let time = there.time in
+    let due : expected m.time m.left log.end ≡ EndOf log.end = ap (λ (left : List CallRecord). expected m.time left log.end) (none_left log m there.on (omega arith)) ∙ expects_end m.time log.end (omega arith) in
+    agrees_with log m (EndOf log.end) due (agrees_at log (end_at log.end + 1) (end_at log.end) (start s log) fits (omega arith))
+
+-- a run whose end is a trap
+pub record IsTrapAt (s : State) (k pc : ℕ) : Type 0 where
+  pub traps : next s ≡ Trapped k
+  pub pc_is : pc ≡ s.pc
+
+pub traps_at : (log : Log) (s : State) (at k pc : ℕ) → IsLog log → divergence s log ≡ None → log.end ≡ Trap at k pc → IsTrapAt (moment_after at (start s log)).state k pc
+traps_at log s at k pc form fits e =
+    let m = moment_after at (start s log) in
+    let d : difference_at m log.inputs (EndOf (Trap at k pc)) ≡ None = subst (λ (end : RunEnd). difference_at (moment_after (end_at end) (start s log)) log.inputs (EndOf end) ≡ None) e (ends_at log s form fits) in
+    let trap = trap_agrees m log.inputs at k pc d in
+    let pc_compared = compared field.Pc pc m.state.pc in
+    let kind_compared = compared field.Kind k (trap_kind (next m.state)) in
+    let same = (first_agrees (compared field.Event 6 (seen_event (next m.state))) (kind_compared ∷ pc_compared ∷ []) d).1 in
+    let kinds = first_agrees kind_compared (pc_compared ∷ []) same in
+    let kind_same : pos k ≡ pos (trap_kind (next m.state)) = kinds.0 in
+    let pc_same : pos pc ≡ pos m.state.pc = (first_agrees pc_compared [] kinds.1).0 in
+    let kind_is : trap_kind (next m.state) ≡ k = cc in
+    record { traps = trap ∙ ap Trapped kind_is; pc_is = cc }

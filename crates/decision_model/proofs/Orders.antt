@@ -1,5 +1,5 @@
 -- The order of places is total, only the same tie, and the derived order is the definition's. Crates above cite these lemmas.
-use Rattle.std.proofs.Common.{◌≡◌, ℕ, List, refl, ap, ap₂, nat_cmp, sym, ◌∙◌}
+use Rattle.std.proofs.Common.{◌≡◌, ℕ, List, ap, ap₂, nat_cmp, sym, ◌∙◌}
 use Rattle.std.specs.Ordering.{ordering_then}
 use Rattle.std.specs.Cmp.{IsTotalOrder, on_total, tied_itself}
 use Rattle.std.specs.Cmp.Lexicographic.{slice_cmp, nat_list_cmp_total}
@@ -7,7 +7,7 @@ use Rattle.std.specs.FinMap.{IsAntisymmetric, nat_cmp-IsAntisymmetric, slice_cmp
 use Rattle.std.specs.declared.cmp.Ordering.{Ordering}
 use Rattle.std.specs.declared.cmp.Ordering.TheVariants.{Equal}
 use Rattle.flow_model.specs.declared.Loc.{Loc}
-use Rattle.flow_model.specs.Orders.{loc_key, loc_cmp}
+use Rattle.flow_model.specs.Orders.{loc_key}
 use Rattle.flow_model.proofs.Orders.{loc_same}
 use Rattle.flow_model.proofs.Derived.{loc_order_is}
 use Rattle.decision_model.specs.declared.Place.{Place}

@@ -26,16 +26,24 @@ mnemonic_text None = codes ".word"
 abbrev pub ranges_text : List SourceByte → List ℕ
 ranges_text bs = flat_map (λ r. codes " " ++ range_text r) (ranges_of bs)
 
--- of the decisions of a place the pc, the mnemonic at the first of them, the location, how many they are, the time of the
--- first, and the ranges of their source bytes
+-- `PC MNEMONIC LOC`: a place, and the instruction there
+abbrev pub place_text : Place → Option Instr → List ℕ
+place_text p instr = pc_text p.pc ++ codes " " ++ mnemonic_text instr ++ codes " " ++ loc_text p.loc
+
+-- `PC MNEMONIC LOC COUNT T` and the ranges: of a place that has so many decisions, the first at this time, from these bytes
+abbrev pub line_text : Place → Option Instr → ℕ → ℕ → List SourceByte → List ℕ
+line_text p instr count first bs =
+    place_text p instr ++ codes " " ++ decimal count ++ codes " " ++ decimal first ++ ranges_text bs ++ 0x0a ∷ []
+
+-- the line of the decisions of a place: the instruction is that at the first of them
 abbrev pub place_line : Place → List Decision → List ℕ
 place_line p [] = []
-place_line p (d ∷ ds) = pc_text p.pc ++ codes " " ++ mnemonic_text d.instr ++ codes " " ++ loc_text p.loc ++ codes " "
-    ++ decimal (length (d ∷ ds)) ++ codes " " ++ decimal d.time ++ ranges_text (sources_of (d ∷ ds)) ++ 0x0a ∷ []
+place_line p (d ∷ ds) = line_text p d.instr (length (d ∷ ds)) d.time (sources_of (d ∷ ds))
 
 -- a line for each place, and then `end N`, N the number of those lines
 abbrev pub decisions_text : List Decision → List ℕ
-decisions_text ds = flat_map (λ p. place_line p (decided_there p ds)) (places ds) ++ lines_end (length (places ds))
+decisions_text ds =
+    flat_map (λ p. place_line p (decided_there p ds)) (places ds) ++ lines_end (length (places ds))
 
 -- the query by which decisions have their origins: its own rule where that is no narrower than compute
 abbrev pub deciding_query : Query → Query

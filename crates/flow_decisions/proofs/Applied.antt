@@ -10,7 +10,7 @@ use Rattle.log_model.specs.declared.RunEnd.TheVariants.{Exit}
 use Rattle.log_model.specs.Logs.{Log, IsLog, IsBytes, word32}
 use Rattle.flow_model.specs.declared.Rule.TheVariants.{Compute}
 use Rattle.flow_model.specs.declared.SourceByte.{SourceByte}
-use Rattle.report_model.specs.Query.{Query, Choice, policy_of}
+use Rattle.report_model.specs.Query.{Query, Choice}
 use Rattle.replay_model.specs.Fits.{beginning}
 use Rattle.record_model.specs.Recorded.{Setting, input_of, IsRecorded}
 use Rattle.sha2.specs.Sha256.{sha256, digest_bytes, hash_after, compress, rounds, first_words, schedule}
@@ -21,7 +21,7 @@ use Rattle.flow_meaning.specs.RunLaws.{SamePath, content_at, byte_written, under
 use Rattle.flow_meaning.proofs.Steps.{compute_determines}
 use Rattle.flow_decisions.specs.Environments.{SameAnswers}
 use Rattle.flow_meaning.proofs.Never.{no}
-use Rattle.decision_model.specs.Decisions.{Decision, decided}
+use Rattle.decision_model.specs.Decisions.{Decision}
 use Rattle.decision_model.specs.Text.{decided_by}
 use Rattle.flow_decisions.specs.DecisionLaws.{NoneDiffers, IsUndecided, AreAlikeBut}
 use Rattle.flow_decisions.specs.Recordings.{AreSettingsAlike}

@@ -28,10 +28,11 @@ use Rattle.flow_meaning.proofs.Steps.{compute_determines}
 use Rattle.decision_model.specs.Decisions.{decided}
 use Rattle.decision_model.specs.Text.{deciding_query}
 use Rattle.flow_decisions.specs.DecisionLaws.{NoneDiffers, IsUndecided, StepsAreSame, ContentsAreSame, PathIsSame, ReceivedIsSame, RowsAreSame, AreRuns, NoInfluence}
-use Rattle.flow_decisions.proofs.Answered.{none_left, exits_at}
 use Rattle.flow_decisions.proofs.Alike.{done_after}
 use Rattle.flow_decisions.proofs.Together.{together_at, same_steps, moved_by}
 use Rattle.flow_decisions.proofs.Ends.{lengths_are_same, ends_are_same}
+use Rattle.decision_model.proofs.Answered.{none_left}
+use Rattle.flow_decisions.proofs.Answered.{exits_at}
 
 pub steps_are_same : (rule : Rule) → DeterminedBy rule → StepsAreSame rule
 steps_are_same rule law introduces differs s a b u k h g = same_steps rule law introduces differs s a b u k h g

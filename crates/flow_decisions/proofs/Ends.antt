@@ -23,11 +23,11 @@ use Rattle.decision_model.specs.Decides.{used}
 use Rattle.decision_model.specs.Decisions.{moments_seen}
 use Rattle.flow_decisions.specs.DecisionLaws.{IsUndecided, LengthsAreSame, EndsAreSame}
 use Rattle.flow_decisions.proofs.Outcomes.{AlikeOutcomes}
-use Rattle.decision_model.proofs.Answered.{IsCallAt, call_at_time}
-use Rattle.flow_decisions.proofs.Answered.{exits_at, traps_at}
 use Rattle.flow_decisions.proofs.Alike.{not_exit}
 use Rattle.flow_decisions.proofs.Listed.{steps_seen}
 use Rattle.flow_decisions.proofs.Together.{Together, outcomes_alike, together_at}
+use Rattle.decision_model.proofs.Answered.{IsCallAt, call_at_time, traps_at}
+use Rattle.flow_decisions.proofs.Answered.{exits_at}
 
 not_index : {A : Type 0} → Compute ≡ Index → A
 not_index e = absurd (other e)
@@ -134,7 +134,7 @@ module _ (introduces differs : SourceByte → Bool) (s : State) (a b : Log) (u :
   first_longer n (Trap at k pc) e x y h =
       let all : steps a ≡ at = ap steps_by e in
       let seen : moments_seen a.end ≡ at + 1 = ap moments_seen e in
-      let trap = traps_at a s at k pc u.first e in
+      let trap = traps_at a s at k pc u.first.form u.first.agrees e in
       let other = second_traps at k (omega arith) (omega arith) (omega arith) trap.traps in
       not_trapped s b.inputs k (moment_at s b at) other (done_at b s at u.second (omega arith))
   first_longer n (Limit at) e x y h =
@@ -152,7 +152,7 @@ module _ (introduces differs : SourceByte → Bool) (s : State) (a b : Log) (u :
       omega arith
   second_longer n (Trap at k pc) e x y h =
       let all : steps b ≡ at = ap steps_by e in
-      let trap = traps_at b s at k pc u.second e in
+      let trap = traps_at b s at k pc u.second.form u.second.agrees e in
       let other = first_traps at k (omega arith) (omega arith) trap.traps in
       not_trapped s a.inputs k (moment_at s a at) other (done_at a s at u.first (omega arith))
   second_longer n (Limit at) e x y h =
@@ -201,8 +201,8 @@ module _ (introduces differs : SourceByte → Bool) (s : State) (a b : Log) (u :
       let all : steps a ≡ at = ap steps_by e in
       let others : steps b ≡ at1 = ap steps_by f in
       let seen : moments_seen a.end ≡ at + 1 = ap moments_seen e in
-      let first = traps_at a s at k pc u.first e in
-      let second = traps_at b s at1 k1 pc1 u.second f in
+      let first = traps_at a s at k pc u.first.form u.first.agrees e in
+      let second = traps_at b s at1 k1 pc1 u.second.form u.second.agrees f in
       let there = second_traps at k (omega arith) (omega arith) (omega arith) first.traps in
       let both = together at (omega arith) (omega arith) in
       let same : Trapped k ≡ Trapped k1 = sym there ∙ ap (λ (t : ℕ). next (moment_at s b t).state) g ∙ second.traps in

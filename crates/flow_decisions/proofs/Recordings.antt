@@ -31,11 +31,11 @@ use Rattle.flow_decisions.specs.Environments.{BytesAlike, SameAnswers}
 use Rattle.flow_decisions.specs.DecisionLaws.{AreRuns}
 use Rattle.flow_decisions.specs.Recordings.{AreSettingsAlike, RecordingsAreAlike}
 use Rattle.flow_decisions.proofs.Windows.{SameWindow, window_at}
-use Rattle.decision_model.proofs.Answered.{IsCallAt, call_at_time}
-use Rattle.flow_decisions.proofs.Answered.{none_left, read_arguments, write_arguments}
 use Rattle.flow_decisions.proofs.Alike.{left_after}
 use Rattle.flow_decisions.proofs.Together.{moved_by}
 use Rattle.flow_decisions.proofs.Both.{begins_alike, no_influence}
+use Rattle.decision_model.proofs.Answered.{IsCallAt, call_at_time, none_left}
+use Rattle.flow_decisions.proofs.Answered.{read_arguments, write_arguments}
 
 -- ---- each record of a run was lawful, in a state with the window of the beginning
 

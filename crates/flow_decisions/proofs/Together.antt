@@ -35,9 +35,9 @@ use Rattle.decision_model.specs.Decisions.{decisions, moments_seen}
 use Rattle.flow_decisions.specs.DecisionLaws.{IsUndecided}
 use Rattle.flow_decisions.proofs.Windows.{window_at}
 use Rattle.flow_decisions.proofs.Outcomes.{AlikeOutcomes, next_alike, same_fetched, places_alike}
-use Rattle.decision_model.proofs.Answered.{call_at_time}
 use Rattle.flow_decisions.proofs.Alike.{AreAlike, both_answered, done_after, left_after}
 use Rattle.flow_decisions.proofs.Listed.{Clear, undecided, steps_seen}
+use Rattle.decision_model.proofs.Answered.{call_at_time}
 
 -- ---- steps on one path
 

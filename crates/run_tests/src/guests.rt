@@ -234,3 +234,130 @@ pub const ROUND: u64 = 12_288;
 pub fn fill(rt: &impl Abort, alloc: Global) -> Job {
     job_of(rt, alloc, FILL, b"\0\x10\0\0\0\0\0\0\x07\x01\0\x03\0")
 }
+
+const CIPHER: &[Instr] = &code![
+    lui(x11, 0x10000),
+    addi(x11, x11, 256),
+    li(x10, 0),
+    li(x12, 8),
+    li(x17, 63),
+    ecall(),
+    lw(x5, 0(x11)),
+    lw(x6, 4(x11)),
+    add(x7, x5, x6),
+    xor(x7, x7, x5),
+    sw(x7, 8(x11)),
+    addi(x11, x11, 8),
+    li(x10, 1),
+    li(x12, 4),
+    li(x17, 64),
+    ecall(),
+    li(x10, 0),
+    li(x17, 93),
+    ecall(),
+];
+
+/// Reads a key and a message of four bytes each, adds them, and writes the sum with the key's bits turned: nineteen steps.
+pub fn cipher(rt: &impl Abort, alloc: Global) -> Job {
+    job_of(
+        rt,
+        alloc,
+        CIPHER,
+        b"\x01\0\0\0\x01\0\0\0\
+        \x01\x05\0\0\0\0\0\0\0\0\x01\x01\0\x08\0\0\0\x08\0\0\0KEY!ABCD\
+        \x02\x0f\0\0\0\x01\0\0\0\x08\x01\x01\0\x04\0\0\0\x04\0\0\0\xc7\xc2\xc5\x44\
+        \x05\x12\0\0\0\0\0\0\0",
+    )
+}
+
+const COMPARE_AND_LOOK_UP: &[Instr] = &code![
+    lui(x11, 0x10000),
+    addi(x11, x11, 256),
+    li(x10, 0),
+    li(x12, 2),
+    li(x17, 63),
+    ecall(),
+    li(x28, 2),
+    lbu(x5, 0(x11)),
+    beq(x5, x0, 8),
+    addi(x11, x11, 1),
+    addi(x28, x28, -1),
+    bne(x28, x0, -16),
+    lbu(x7, 4(x5)),
+];
+
+/// Reads two bytes, compares each with 0, and loads from an address that the second is, which is outside the window:
+/// seventeen steps, and a trap.
+pub fn compare_and_look_up(rt: &impl Abort, alloc: Global) -> Job {
+    job_of(
+        rt,
+        alloc,
+        COMPARE_AND_LOOK_UP,
+        b"\x01\0\0\0\x01\0\0\0\
+        \x01\x05\0\0\0\0\0\0\0\0\x01\x01\0\x02\0\0\0\x02\0\0\0KE\
+        \x06\x11\0\0\0\x05\0\0\0\x30\0\x01\0",
+    )
+}
+
+const ASK_BY_INPUT: &[Instr] = &code![
+    lui(x11, 0x10000),
+    addi(x11, x11, 256),
+    li(x10, 0),
+    li(x12, 1),
+    li(x17, 63),
+    ecall(),
+    lbu(x12, 0(x11)),
+    li(x10, 0),
+    ecall(),
+    lbu(x10, 0(x11)),
+    li(x17, 93),
+    ecall(),
+];
+
+/// Reads a byte, asks for so many more, of which there is none, and exits with that byte as its code: twelve steps.
+pub fn ask_by_input(rt: &impl Abort, alloc: Global) -> Job {
+    job_of(
+        rt,
+        alloc,
+        ASK_BY_INPUT,
+        b"\x01\0\0\0\x01\0\0\0\
+        \x01\x05\0\0\0\0\0\0\0\0\x01\x01\0\x01\0\0\0\x01\0\0\0\x02\
+        \x01\x08\0\0\0\0\0\0\0\0\x01\x01\0\x02\0\0\0\0\0\0\0\
+        \x05\x0b\0\0\0\x02\0\0\0",
+    )
+}
+
+const RUN_WHAT_IS_READ: &[Instr] = &code![
+    lui(x11, 0x10000),
+    addi(x11, x11, 24),
+    li(x10, 0),
+    li(x12, 4),
+    li(x17, 63),
+    ecall(),
+    addi(x6, x0, 0),
+    ebreak(),
+];
+
+/// Reads the next instruction, `addi x6, x0, 0`, over itself, and traps after it: seven steps.
+pub fn run_what_is_read(rt: &impl Abort, alloc: Global) -> Job {
+    job_of(
+        rt,
+        alloc,
+        RUN_WHAT_IS_READ,
+        b"\x01\0\0\0\x01\0\0\0\
+        \x01\x05\0\0\0\0\0\0\0\x18\0\x01\0\x04\0\0\0\x04\0\0\0\x13\x03\0\0\
+        \x06\x07\0\0\0\x03\0\0\0\x1c\0\x01\0",
+    )
+}
+
+/// Reads a word that stands for no instruction there, and traps at it: six steps.
+pub fn trap_in_what_is_read(rt: &impl Abort, alloc: Global) -> Job {
+    job_of(
+        rt,
+        alloc,
+        RUN_WHAT_IS_READ,
+        b"\x01\0\0\0\x01\0\0\0\
+        \x01\x05\0\0\0\0\0\0\0\x18\0\x01\0\x04\0\0\0\x04\0\0\0\xff\xff\xff\xff\
+        \x06\x06\0\0\0\x02\0\0\0\x18\0\x01\0",
+    )
+}

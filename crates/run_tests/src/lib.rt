@@ -1,11 +1,13 @@
 //! Tests of runs that are cut into epochs: where these begin, each by itself, what its core sends, and all of them
-//! together, with what crosses the cuts between them. Paths over runs.
+//! together, with what crosses the cuts between them. Paths over runs, and decisions of runs.
 #![tactic(auto)]
 
 #[cfg(test)]
 mod cores;
 #[cfg(test)]
 mod cursors;
+#[cfg(test)]
+mod deciding;
 #[cfg(test)]
 mod epochs;
 #[cfg(test)]

@@ -1,0 +1,203 @@
+-- Groups with one decision more.
+use Rattle.std.proofs.Common.{◌≡◌, ℕ, ◌+◌, Bool, true, false, cond, List, [], ◌∷◌, ◌++◌, map, length, length-append, refl, ap, ap₂, sym, ◌∙◌, subst, arith, append-nil}
+use Rattle.std.specs.Prelude.{◌||◌, Option, Some, None}
+use Rattle.std.specs.BTreeMap.{BTreeMap, get, insert_entry}
+use Rattle.std.specs.Cmp.{IsTotalOrder, tied_itself, tied_back}
+use Rattle.std.specs.FinMap.{IsAntisymmetric}
+use Rattle.std.specs.Ordering.{is_eq, eq_by_cmp, match_ordering}
+use Rattle.std.specs.declared.cmp.Ordering.{Ordering}
+use Rattle.std.specs.declared.cmp.Ordering.TheVariants.{Less, Equal, Greater}
+use Rattle.std.proofs.lemmas.List.{map-append}
+use Rattle.std.proofs.lemmas.List.Elements.{filter-append}
+use Rattle.std.proofs.lemmas.List.Folds.{list_any-append}
+use Rattle.sorted_set.specs.Sets.{union, inserted, placed, set_of, has, Ascends}
+use Rattle.sorted_set.proofs.Algebra.{tied_by, less_turned, greater_turned, has-inserted, has-set_of, Ascends-inserted, Ascends-set_of, Ascends-union, same_list, union_assoc, union-nil}
+use Rattle.flow_model.specs.declared.Loc.{Loc}
+use Rattle.flow_model.specs.Orders.{source_cmp}
+use Rattle.flow_model.proofs.Orders.{source_total, source_same}
+use Rattle.taint_shadow.specs.declared.labels.Label.{Label}
+use Rattle.taint_shadow.specs.Labels.{KeepsLabels}
+use Rattle.taint_shadow.proofs.Meaning.{made_kept}
+use Rattle.decision_model.specs.declared.Place.{Place}
+use Rattle.decision_model.specs.Decisions.{Decision}
+use Rattle.decision_model.specs.Places.{place_cmp, place_of, places, is_at, decided_there, sources_of}
+use Rattle.decision_model.proofs.Orders.{place_total, place_same, place_compared, place_order_is}
+use Rattle.decision_find.specs.declared.labels.SourceLabels.{SourceLabels}
+use Rattle.decision_find.specs.declared.looks.Look.{Look}
+use Rattle.decision_find.specs.declared.groups.Group.{Group}
+use Rattle.decision_find.specs.declared.groups.Groups.{Groups}
+use Rattle.decision_find.specs.Words.{label_words}
+use Rattle.decision_find.specs.Laws.{label_laws}
+use Rattle.decision_find.specs.Groups.{IsGroup, IsGroupOf, AreGroups, HaveLabels, Joins, Grows}
+use Rattle.decision_find.specs.Looks.{decision_of}
+
+-- ---- the places of one decision more
+
+or_swapped : (a b : Bool) → (a || (b || false)) ≡ (b || a)
+or_swapped true true = refl
+or_swapped true false = refl
+or_swapped false true = refl
+or_swapped false false = refl
+
+module _ {K : Type 0} {R : K → K → Ordering} (o : IsTotalOrder R) (same : IsAntisymmetric R) where
+  set_of-push : (xs : List K) (x : K) → set_of R (xs ++ x ∷ []) ≡ inserted R x (set_of R xs)
+  set_of-push xs x = same_list o same _ _ (Ascends-set_of o (xs ++ x ∷ [])) (Ascends-inserted o x (set_of R xs) (Ascends-set_of o xs)) (λ q.
+      has-set_of o (xs ++ x ∷ []) q ∙ list_any-append (eq_by_cmp R q) xs (x ∷ []) ∙ or_swapped (has R q xs) (eq_by_cmp R q x)
+      ∙ ap (λ (b : Bool). eq_by_cmp R q x || b) (sym (has-set_of o xs q)) ∙ sym (has-inserted o x (set_of R xs) q))
+
+-- the keys of a map with one entry more
+keys_of_inserted : {K X : Type 0} (R : K → K → Ordering) (es : List (K × X)) (k : K) (v : X) → map (λ e. e.0) (insert_entry R es k v) ≡ inserted R k (map (λ e. e.0) es)
+keys_of_inserted R [] k v = refl
+keys_of_inserted R (e ∷ es) k v = by (R k e.0) (keys_of_inserted R es k v)
+  where
+    by : (r : Ordering) → map (λ e. e.0) (insert_entry R es k v) ≡ inserted R k (map (λ e. e.0) es)
+        → map (λ e. e.0) (match_ordering r ((k, v) ∷ e ∷ es) ((e.0, v) ∷ es) (e ∷ insert_entry R es k v)) ≡ placed r k e.0 (map (λ e. e.0) es) (inserted R k (map (λ e. e.0) es))
+    by Less ih = refl
+    by Equal ih = refl
+    by Greater ih = ap (λ (ks : List _). e.0 ∷ ks) ih
+
+pub keys_pushed : (es new : List (Place × Group)) (ds : List Decision) (d : Decision) (g : Group) → map (λ e. e.0) es ≡ places ds → new ≡ insert_entry place_cmp es (place_of d) g
+    → map (λ e. e.0) new ≡ places (ds ++ d ∷ [])
+keys_pushed es new ds d g h is =
+    ap (map (λ e. e.0)) is ∙ keys_of_inserted place_cmp es (place_of d) g ∙ ap (inserted place_cmp (place_of d)) h
+    ∙ sym (set_of-push place_total place_same (map place_of ds) (place_of d)) ∙ ap (set_of place_cmp) (sym (map-append place_of ds (d ∷ [])))
+
+-- ---- the decisions of a place, of one decision more
+
+pub there_too : (p : Place) (ds : List Decision) (d : Decision) → is_at p d ≡ true → decided_there p (ds ++ d ∷ []) ≡ decided_there p ds ++ d ∷ []
+there_too p ds d h = filter-append (is_at p) ds (d ∷ []) ∙ ap (λ (b : Bool). decided_there p ds ++ cond b (d ∷ []) []) h
+
+pub not_there : (p : Place) (ds : List Decision) (d : Decision) → is_at p d ≡ false → decided_there p (ds ++ d ∷ []) ≡ decided_there p ds
+not_there p ds d h = filter-append (is_at p) ds (d ∷ []) ∙ ap (λ (b : Bool). decided_there p ds ++ cond b (d ∷ []) []) h ∙ append-nil (decided_there p ds)
+
+-- ---- the source bytes of one decision more
+
+ascend_all : (ds : List Decision) → Ascends source_cmp (sources_of ds)
+ascend_all [] = tt
+ascend_all (d ∷ ds) = Ascends-union source_total d.sources (sources_of ds) (ascend_all ds)
+
+pub sources_pushed : (ds : List Decision) (d : Decision) → Ascends source_cmp d.sources → sources_of (ds ++ d ∷ []) ≡ union source_cmp (sources_of ds) d.sources
+sources_pushed [] d h = union-nil source_total d.sources h
+sources_pushed (e ∷ ds) d h =
+    ap (union source_cmp e.sources) (sources_pushed ds d h) ∙ union_assoc source_total source_same e.sources (sources_of ds) d.sources (ascend_all ds) h
+
+-- two places tie whichever comes first
+flips : (p q : Place) → eq_by_cmp place_cmp p q ≡ eq_by_cmp place_cmp q p
+flips p q = by (place_cmp p q) refl
+  where
+    by : (r : Ordering) → place_cmp p q ≡ r → is_eq (place_cmp p q) ≡ is_eq (place_cmp q p)
+    by Less e = ap is_eq e ∙ sym (ap is_eq (less_turned place_total p q e))
+    by Equal e = ap is_eq e ∙ sym (ap is_eq (tied_back place_total p q e))
+    by Greater e = ap is_eq e ∙ sym (ap is_eq (greater_turned place_total p q e))
+
+-- ---- a group of one decision more
+
+module _ (old new : SourceLabels) (k : KeepsLabels label_words old new) where
+  group_kept : (d : Decision) (ds : List Decision) (g : Group) → IsGroupOf old d ds g → IsGroupOf new d ds g
+  group_kept d ds g h = record { instr = h.instr; first = h.first; count = h.count; sources = made_kept label_words old new _ g.label k h.sources }
+
+  is_kept : (ds : List Decision) (o : Option Group) → IsGroup old ds o → IsGroup new ds o
+  is_kept [] None h = h
+  is_kept [] (Some g) h = h
+  is_kept (d ∷ ds) None h = h
+  is_kept (d ∷ ds) (Some g) h = group_kept d ds g h
+
+  pub groups_kept : (ds : List Decision) (groups : Groups) → AreGroups old ds groups → AreGroups new ds groups
+  groups_kept ds groups h = record { keys = h.keys; each = λ p. is_kept (decided_there p ds) (get place_cmp groups.by_place p) (h.each p) }
+
+  pub labels_kept : (groups : Groups) → HaveLabels old groups → HaveLabels new groups
+  labels_kept groups h = λ p g e. (k g.label (h p g e)).stands
+
+  -- the first decision of a place
+  first_group : (d : Decision) (label : Label) (g : Group) → label_words.stands old label → d.sources ≡ label_words.means old label
+      → g ≡ record { instr = d.instr; count = 1; first = d.time; label = label } → IsGroupOf new d [] g
+  first_group d label g stands means is =
+      let ascends = subst (Ascends source_cmp) (sym means) (label_laws.of_label old label stands) in
+      subst (IsGroupOf new d []) (sym is) (record {
+        instr = refl;
+        first = refl;
+        count = refl;
+        sources = record { stands = (k label stands).stands; means = (k label stands).means ∙ sym means ∙ sym (union-nil source_total d.sources ascends) };
+      })
+
+  -- one more
+  more_group : (e : Decision) (ds : List Decision) (d : Decision) (label : Label) (g joined : Group) → label_words.stands old label → d.sources ≡ label_words.means old label
+      → IsGroupOf old e ds g → Joins old g label new joined → IsGroupOf new e (ds ++ d ∷ []) joined
+  more_group e ds d label g joined stands means h j =
+      let ascends = subst (Ascends source_cmp) (sym means) (label_laws.of_label old label stands) in
+      record {
+        instr = ap (λ (x : Group). x.instr) j.rest ∙ h.instr;
+        first = ap (λ (x : Group). x.first) j.rest ∙ h.first;
+        count = j.count ∙ ap (λ (n : ℕ). n + 1) h.count ∙ counted;
+        sources = record {
+          stands = j.sources.stands;
+          means = j.sources.means ∙ ap₂ (union source_cmp) h.sources.means (sym means) ∙ sym (sources_pushed (e ∷ ds) d ascends);
+        };
+      }
+    where
+      counted : length (e ∷ ds) + 1 ≡ length (e ∷ ds ++ d ∷ [])
+      counted = let long = length-append ds (d ∷ []) in omega (arith, long)
+
+-- ---- all groups
+
+-- a map that has this at a place, and at every other what it had
+pub record IsPut (place : Place) (g : Group) (old new : BTreeMap Place Group) : Type 0 where
+  pub entries : new.entries ≡ insert_entry place_cmp old.entries place g
+  pub gets : (p : Place) → get place_cmp new p ≡ cond (eq_by_cmp place_cmp place p) (Some g) (get place_cmp old p)
+
+-- by the derived order too
+pub found_at : (m : BTreeMap Place Group) (p : Place) (o : Option Group) → o ≡ get place_compared m p → get place_cmp m p ≡ o
+found_at m p o e = ap (λ (c : Place → Place → Ordering). get c m p) place_order_is ∙ sym e
+
+pub is_put : (place : Place) (g : Group) (old new : BTreeMap Place Group) → new.entries ≡ insert_entry place_compared old.entries place g
+    → ((p : Place) → get place_compared new p ≡ cond (eq_by_cmp place_compared place p) (Some g) (get place_compared old p)) → IsPut place g old new
+is_put place g old new is gets = record {
+  entries = subst (λ (c : Place → Place → Ordering). new.entries ≡ insert_entry c old.entries place g) (sym place_order_is) is;
+  gets = subst (λ (c : Place → Place → Ordering). (p : Place) → get c new p ≡ cond (eq_by_cmp c place p) (Some g) (get c old p)) (sym place_order_is) gets;
+}
+
+module _ (old new : SourceLabels) (k : KeepsLabels label_words old new) (look : Look) (loc : Loc) (label : Label) (stands : label_words.stands old label) where
+  abbrev pub d : Decision
+  d = decision_of look (λ l. label_words.means old label) loc
+
+  made_stands : (o : Option Group) (g : Group) → Grows old o look label new g → label_words.stands new g.label
+  made_stands None g is = subst (label_words.stands new) (sym (ap (λ (x : Group). x.label) is)) (k label stands).stands
+  made_stands (Some h) g is = is.sources.stands
+
+  module _ (before after : BTreeMap Place Group) (g : Group) (made : Grows old (get place_cmp before (place_of d)) look label new g) (put : IsPut (place_of d) g before after) where
+    same_group : (h j : Group) → Some h ≡ Some j → h ≡ j
+    same_group h j e = cc
+
+    pub labels_added : HaveLabels old (record { by_place = before }) → HaveLabels new (record { by_place = after })
+    labels_added h = λ p j e. by p j (eq_by_cmp place_cmp (place_of d) p) (sym (put.gets p) ∙ e)
+      where
+        by : (p : Place) (j : Group) (b : Bool) → cond b (Some g) (get place_cmp before p) ≡ Some j → label_words.stands new j.label
+        by p j true e = subst (λ (x : Group). label_words.stands new x.label) (same_group g j e) (made_stands (get place_cmp before (place_of d)) g made)
+        by p j false e = (k j.label (h p j e)).stands
+
+    joined_is : (ds : List Decision) (o : Option Group) → IsGroup old ds o → Grows old o look label new g → IsGroup new (ds ++ d ∷ []) (Some g)
+    joined_is [] None h is = first_group old new k d label g stands refl is
+    joined_is [] (Some j) h is = absurd h
+    joined_is (e ∷ ds) None h is = absurd h
+    joined_is (e ∷ ds) (Some j) h is = more_group old new k e ds d label j g stands refl h is
+
+    pub groups_added : (ds : List Decision) → AreGroups old ds (record { by_place = before }) → AreGroups new (ds ++ d ∷ []) (record { by_place = after })
+    groups_added ds h = record {
+      keys = keys_pushed before.entries after.entries ds d g h.keys put.entries;
+      each = λ p. each p (eq_by_cmp place_cmp (place_of d) p) refl;
+    }
+      where
+        each : (p : Place) (b : Bool) → eq_by_cmp place_cmp (place_of d) p ≡ b → IsGroup new (decided_there p (ds ++ d ∷ [])) (get place_cmp after p)
+        each p true e =
+            let here : place_of d ≡ p = place_same (place_of d) p (tied_by (place_cmp (place_of d) p) e) in
+            let at : is_at p d ≡ true = ap (λ (q : Place). eq_by_cmp place_cmp q (place_of d)) (sym here) ∙ ap is_eq (tied_itself place_total (place_of d)) in
+            let found : get place_cmp after p ≡ Some g = put.gets p ∙ ap (λ (b : Bool). cond b (Some g) (get place_cmp before p)) e in
+            let was : IsGroup old (decided_there p ds) (get place_cmp before p) = h.each p in
+            let is : Grows old (get place_cmp before p) look label new g = subst (λ (q : Place). Grows old (get place_cmp before q) look label new g) here made in
+            subst (IsGroup new (decided_there p (ds ++ d ∷ []))) (sym found)
+            (subst (λ (xs : List Decision). IsGroup new xs (Some g)) (sym (there_too p ds d at)) (joined_is (decided_there p ds) (get place_cmp before p) was is))
+        each p false e =
+            let at : is_at p d ≡ false = flips p (place_of d) ∙ e in
+            let found : get place_cmp after p ≡ get place_cmp before p = put.gets p ∙ ap (λ (b : Bool). cond b (Some g) (get place_cmp before p)) e in
+            subst (IsGroup new (decided_there p (ds ++ d ∷ []))) (sym found)
+            (subst (λ (xs : List Decision). IsGroup new xs (get place_cmp before p)) (sym (not_there p ds d at)) (is_kept old new k (decided_there p ds) (get place_cmp before p) (h.each p)))

@@ -1,0 +1,171 @@
+-- A step that is followed: its look is noted, and the labels are turned.
+use Rattle.std.proofs.Common.{◌≡◌, ℕ, zero, suc, ◌+◌, Bool, true, false, List, [], ◌∷◌, ◌++◌, refl, ap, ap₂, sym, ◌∙◌, subst, add-one, append_assoc, append-nil, if◌then◌else◌}
+use Rattle.std.specs.Prelude.{Option, Some, None}
+use Rattle.isa.specs.declared.Instr.{Instr}
+use Rattle.isa.specs.Machine.{fetch}
+use Rattle.log_model.specs.Logs.{steps}
+use Rattle.flow_model.specs.declared.Loc.{Loc}
+use Rattle.flow_model.specs.declared.Rule.{Rule}
+use Rattle.flow_model.specs.declared.SourceByte.{SourceByte}
+use Rattle.flow_model.specs.declared.StepSeen.{StepSeen}
+use Rattle.flow_model.specs.declared.CallSeen.{CallSeen}
+use Rattle.flow_model.specs.Flow.{cleared, flow, origins_by, is_received, from_instruction_or}
+use Rattle.flow_model.specs.Orders.{source_cmp}
+use Rattle.flow_model.specs.Origins.{Policy, union_over, introduced, byte_at, fresh_by, after_step, step_at, origins}
+use Rattle.sorted_set.specs.Sets.{union}
+use Rattle.report_model.specs.Query.{Query, has_source}
+use Rattle.replay_model.specs.Run.{Moment, start, advance, moment_after}
+use Rattle.replayer.specs.Jobs.{Job, trace_of}
+use Rattle.taint_shadow.specs.declared.places.Places.{Places}
+use Rattle.taint_shadow.specs.Labels.{start_label}
+use Rattle.taint_shadow.specs.Places.{AreKept}
+use Rattle.taint_shadow.specs.Steps.{Holds, united_over, introduced as brought_in, after}
+use Rattle.taint_shadow.proofs.Meaning.{holds_kept}
+use Rattle.decision_model.specs.Decides.{deciding_rule}
+use Rattle.decision_model.specs.Decisions.{Decision, decisions, decided_at, decided_from, moments_seen, instr_of, fetched_from}
+use Rattle.decision_find.specs.declared.looks.Look.{Look}
+use Rattle.decision_find.specs.declared.tracking.Tracking.{Tracking}
+use Rattle.decision_find.specs.Words.{label_words}
+use Rattle.decision_find.specs.Laws.{label_laws}
+use Rattle.decision_find.specs.Looks.{IsLookAt, look_at_step, looked_at, listed}
+use Rattle.decision_find.specs.Groups.{AreGroups, HaveLabels}
+use Rattle.decision_find.specs.Following.{IsSound, IsTracked, IsStepOf, IsTurned, Notes, HasDecisions, deciding_policy, moment_of}
+use Rattle.decision_find.proofs.Counted.{groups_kept}
+use Rattle.decision_find.proofs.Looking.{looks_at_step}
+
+-- ---- the origins after a step
+
+over_is : (f : Loc → List SourceByte) (ls : List Loc) → united_over label_words f ls ≡ union_over f ls
+over_is f [] = refl
+over_is f (l ∷ []) = refl
+over_is f (l ∷ m ∷ ls) = ap (union source_cmp (f l)) (over_is f (m ∷ ls))
+
+alone : (b : Bool) (s : SourceByte) → (if b then label_words.source s else label_words.nothing) ≡ union source_cmp (if b then s ∷ [] else []) []
+alone true s = refl
+alone false s = refl
+
+by_call : (policy : Policy) (f : Loc → List SourceByte) (b : SourceByte) (ls : List Loc) (o : Bool)
+    → (if o then brought_in label_words policy b else united_over label_words f (if o then [] else ls))
+    ≡ union source_cmp (if o then introduced policy b else []) (union_over f (if o then [] else ls))
+by_call policy f b ls true = alone (policy.introduces b) b
+by_call policy f b ls false = over_is f ls
+
+after_is : (policy : Policy) (step : StepSeen) (call : Option CallSeen) (f : Loc → List SourceByte) (l : Loc)
+    → after label_words policy step call f l ≡ union source_cmp (fresh_by policy call l) (union_over f (from_instruction_or policy.rule step call l))
+after_is policy step None f l = over_is f (origins_by (flow policy.rule step.instr step.place) l)
+after_is policy step (Some call) f l = by_call policy f (byte_at call l) (origins_by (cleared call.kind) l) (is_received call l)
+
+origins_later : (policy : Policy) (trace : List StepSeen) (t : ℕ) (step : StepSeen) (l : Loc) → step_at trace t ≡ Some step
+    → after label_words policy step step.call (origins policy trace t) l ≡ origins policy trace (t + 1) l
+origins_later policy trace t step l at =
+    after_is policy step step.call (origins policy trace t) l ∙ ap (λ (o : Option StepSeen). after_step policy o (origins policy trace t) l) (sym at)
+    ∙ ap (λ (k : ℕ). origins policy trace k l) (sym (add-one t))
+
+-- ---- the decisions of one moment more
+
+decided_push : (policy : Policy) (trace : List StepSeen) (n : ℕ) (m : Moment) → decided_from policy trace (suc n) m ≡ decided_from policy trace n m ++ decided_at policy trace (moment_after n m)
+decided_push policy trace zero m = append-nil (decided_at policy trace m)
+decided_push policy trace (suc n) m =
+    ap (λ (ds : List Decision). decided_at policy trace m ++ ds) (decided_push policy trace n (advance m))
+    ∙ sym (append_assoc (decided_at policy trace m) (decided_from policy trace n (advance m)) (decided_at policy trace (moment_after n (advance m))))
+
+pub decided_more : (policy : Policy) (trace : List StepSeen) (n : ℕ) (m : Moment) → decided_from policy trace (n + 1) m ≡ decided_from policy trace n m ++ decided_at policy trace (moment_after n m)
+decided_more policy trace n m = ap (λ (k : ℕ). decided_from policy trace k m) (add-one n) ∙ decided_push policy trace n m
+
+-- what a look at a moment lists are the decisions there
+look_lists : (policy : Policy) (trace : List StepSeen) (m : Moment) (look : Look) → IsLookAt m look
+    → listed look (origins policy trace look.time) (looked_at policy.rule look) ≡ decided_at policy trace m
+look_lists policy trace m look is =
+    ap (λ (ls : List Loc). listed look (origins policy trace look.time) ls) here ∙ ap (λ (x : Look). listed x (origins policy trace x.time) (decisions policy.rule m.state)) same
+  where
+    here : looked_at policy.rule look ≡ decisions policy.rule m.state
+    here = ap₂ (λ (xs ys : List Loc). xs ++ ys) (is.decides policy.rule) (ap fetched_from is.pc)
+
+    made : ℕ → ℕ → Option Instr → Look
+    made t p i = record { time = t; pc = p; instr = i; kind = look.kind }
+
+    same : look ≡ made m.time m.state.pc (instr_of (fetch m.state))
+    same = ap (λ (t : ℕ). made t look.pc look.instr) is.time ∙ ap₂ (λ (p : ℕ) (i : Option Instr). made m.time p i) is.pc is.instr
+
+-- ---- a tracking after one look more
+
+-- what is tracked is kept where a look is noted: the decisions of its moment are counted too
+module _ (q : Query) (job : Job) (t : ℕ) (look : Look) (old mid : Tracking) (h : IsTracked q job t old) (is : IsLookAt (moment_of job t) look) (time : look.time ≡ t)
+    (noted : Notes look (looked_at old.rule look) old mid) where
+  pub holds_still : Holds label_words mid.labels mid.places (origins (deciding_policy q) (trace_of job) t)
+  holds_still =
+      let same : mid.places ≡ old.places = ap (λ (x : Tracking). x.places) noted.rest in
+      subst (λ (p : Places). Holds label_words mid.labels p (origins (deciding_policy q) (trace_of job) t)) (sym same)
+      (holds_kept label_words old.labels mid.labels old.places (origins (deciding_policy q) (trace_of job) t) noted.keeps h.sound.locations h.holds)
+
+  pub groups_more : AreGroups mid.labels (decided_from (deciding_policy q) (trace_of job) (t + 1) (start job.start job.log)) mid.groups
+  groups_more =
+      let p = deciding_policy q in
+      let trace = trace_of job in
+      let first = start job.start job.log in
+      let f = origins p trace t in
+      let lists : listed look f (looked_at old.rule look) ≡ decided_at p trace (moment_after t first) =
+      ap₂ (λ (k : ℕ) (r : Rule). listed look (origins p trace k) (looked_at r look)) (sym time) h.rule ∙ look_lists p trace (moment_after t first) look is in
+      let counted = noted.groups f (decided_from p trace t first) h.holds h.groups in
+      subst (λ (ds : List Decision). AreGroups mid.labels ds mid.groups)
+      (ap (λ (ds : List Decision). decided_from p trace t first ++ ds) lists ∙ sym (decided_more p trace t first)) counted
+
+-- ---- a step
+
+abbrev policy_with : Rule → Query → Policy
+policy_with rule q = record { rule = rule; introduces = has_source q }
+
+pub step_followed : (q : Query) (job : Job) (pc : ℕ) (s : StepSeen) (old mid new : Tracking) → IsStepOf job pc s → IsTracked q job s.number old
+    → Notes (look_at_step pc s) (looked_at old.rule (look_at_step pc s)) old mid → IsTurned s mid new → IsSound new → IsTracked q job (s.number + 1) new
+step_followed q job pc s old mid new is h noted turned sound =
+    let t = s.number in
+    let p = deciding_policy q in
+    let trace = trace_of job in
+    let look = look_at_step pc s in
+    let seen = looks_at_step job pc s is in
+    let query : mid.query.now ≡ q = ap (λ (x : Tracking). x.query.now) noted.rest ∙ h.query in
+    let rule : mid.rule ≡ deciding_rule q.rule = ap (λ (x : Tracking). x.rule) noted.rest ∙ h.rule in
+    let policy : policy_with mid.rule mid.query.now ≡ p = ap₂ policy_with rule query in
+    let becomes = turned.labels.holds (origins p trace t) (holds_still q job t look old mid h seen refl noted) in
+    let by_policy = subst (λ (x : Policy). Holds label_words new.labels new.places (after label_words x s s.call (origins p trace t))) policy becomes in
+    let groups = groups_kept mid.labels new.labels turned.labels.keeps _ mid.groups (groups_more q job t look old mid h seen refl noted) in
+    let same : new.groups ≡ mid.groups = ap (λ (x : Tracking). x.groups) turned.rest in
+    record {
+      query = ap (λ (x : Tracking). x.query.now) turned.rest ∙ query;
+      rule = ap (λ (x : Tracking). x.rule) turned.rest ∙ rule;
+      sound = sound;
+      holds = record { at = λ l here. by_policy.at l here ∙ origins_later p trace t s l is.step };
+      groups = subst (AreGroups new.labels _) (sym same) groups;
+    }
+
+-- ---- the beginning and the end
+
+pub begun : (q : Query) (job : Job) (t : Tracking) → t.query.now ≡ q → t.rule ≡ deciding_rule q.rule → AreKept t.places start_label
+    → HaveLabels t.labels t.groups → AreGroups t.labels [] t.groups → IsTracked q job 0 t
+begun q job t query rule kept groups none = record {
+  query = query;
+  rule = rule;
+  sound = record {
+    locations = record { at = λ l here. subst (label_words.stands t.labels) (sym (kept.at l here)) (label_laws.of_start t.labels l here).stands };
+    groups = groups;
+  };
+  holds = record { at = λ l here. ap (label_words.means t.labels) (kept.at l here) ∙ (label_laws.of_start t.labels l here).means };
+  groups = none;
+}
+
+-- a run that doesn't trap is seen at each of its steps
+pub seen_at_steps : (q : Query) (job : Job) (t : Tracking) → moments_seen job.log.end ≡ steps job.log → IsTracked q job (steps job.log) t → HasDecisions q job t
+seen_at_steps q job t e h = record {
+  sound = h.sound.groups;
+  groups = subst (λ (n : ℕ). AreGroups t.labels (decided_from (deciding_policy q) (trace_of job) n (start job.start job.log)) t.groups) (sym e) h.groups;
+}
+
+-- and one that traps there too
+pub seen_at_trap : (q : Query) (job : Job) (look : Look) (old new : Tracking) → IsLookAt (moment_of job (steps job.log)) look → look.time ≡ steps job.log
+    → moments_seen job.log.end ≡ steps job.log + 1 → Notes look (looked_at old.rule look) old new → HaveLabels new.labels new.groups
+    → IsTracked q job (steps job.log) old → HasDecisions q job new
+seen_at_trap q job look old new is time e noted sound h = record {
+  sound = sound;
+  groups = subst (λ (n : ℕ). AreGroups new.labels (decided_from (deciding_policy q) (trace_of job) n (start job.start job.log)) new.groups) (sym e)
+      (groups_more q job (steps job.log) look old new h is time noted);
+}

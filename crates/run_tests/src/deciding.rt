@@ -1,0 +1,64 @@
+//! The decisions of runs, as text. The expected lines were worked by hand.
+
+use crate::guests::{ask_by_input, cipher, compare_and_look_up, run_what_is_read, trap_in_what_is_read};
+use crate::runs::query_of;
+use decision_find::decisions;
+use replayer::Job;
+use std::alloc::Global;
+use std::process::Abort;
+
+const COMPUTE: &[u8] = b"rule compute\nsource all\n";
+
+/// The decisions of a run by a query have this text.
+fn assert_decisions(rt: &impl Abort, alloc: Global, job: &Job, query: &[u8], lines: &str) {
+    let query = query_of(rt, alloc, query);
+    let text = decisions(alloc, job, &query).expect(rt, "memory");
+    assert_eq!(rt; text.as_slice(), lines.as_bytes());
+}
+
+/// Neither the path nor an address comes from the key or the message.
+#[test]
+fn a_cipher_decides_nothing(rt: HostRuntime) {
+    let alloc = rt.alloc();
+    let job = cipher(&rt, alloc);
+    assert_decisions(&rt, alloc, &job, COMPUTE, "end 0\n");
+    assert_decisions(&rt, alloc, &job, b"rule copy\nsource 0 0 4\n", "end 0\n");
+}
+
+/// Each key byte is compared with 0, and the second is the address of a load, which traps.
+#[test]
+fn a_comparison_and_a_look_up_decide(rt: HostRuntime) {
+    let alloc = rt.alloc();
+    let job = compare_and_look_up(&rt, alloc);
+    let both = "0x00010020 beq r:5.0 2 8 0:0-2\n0x00010030 lbu r:5.0 1 17 0:1-2\nend 2\n";
+    assert_decisions(&rt, alloc, &job, COMPUTE, both);
+    assert_decisions(&rt, alloc, &job, b"rule copy\nsource all\n", both);
+    let compared = "0x00010020 beq r:5.0 2 8 0:0-2\nend 1\n";
+    assert_decisions(&rt, alloc, &job, b"rule index\nsource all\n", compared);
+    let second = "0x00010020 beq r:5.0 1 13 0:1-2\n0x00010030 lbu r:5.0 1 17 0:1-2\nend 2\n";
+    assert_decisions(&rt, alloc, &job, b"rule compute\nsource 0 1 2\n", second);
+    assert_decisions(&rt, alloc, &job, b"rule compute\nsource 1\n", "end 0\n");
+}
+
+/// The length of a read, and the exit's code, were read.
+#[test]
+fn what_a_call_asks_decides(rt: HostRuntime) {
+    let alloc = rt.alloc();
+    let job = ask_by_input(&rt, alloc);
+    let asked = "0x00010020 ecall r:12.0 1 8 0:0-1\n0x0001002c ecall r:10.0 1 11 0:0-1\nend 2\n";
+    assert_decisions(&rt, alloc, &job, COMPUTE, asked);
+}
+
+/// The bytes of an instruction decide, also where they stand for none.
+#[test]
+fn what_is_run_decides(rt: HostRuntime) {
+    let alloc = rt.alloc();
+    let run = run_what_is_read(&rt, alloc);
+    let bytes = "0x00010018 addi m:65560 1 6 0:0-1\n0x00010018 addi m:65561 1 6 0:1-2\n\
+        0x00010018 addi m:65562 1 6 0:2-3\n0x00010018 addi m:65563 1 6 0:3-4\nend 4\n";
+    assert_decisions(&rt, alloc, &run, COMPUTE, bytes);
+    let illegal = trap_in_what_is_read(&rt, alloc);
+    let word = "0x00010018 .word m:65560 1 6 0:0-1\n0x00010018 .word m:65561 1 6 0:1-2\n\
+        0x00010018 .word m:65562 1 6 0:2-3\n0x00010018 .word m:65563 1 6 0:3-4\nend 4\n";
+    assert_decisions(&rt, alloc, &illegal, COMPUTE, word);
+}
