@@ -66,7 +66,8 @@ fn push_moved(alloc: Global, out: &mut Vec<u8>, log: &Log) -> Result<(), NoMemor
 /// Appends what is told beside the rows.
 #[tactic(auto, unfolding(page_model::specs::Data::told_text))]
 fn push_told(alloc: Global, out: &mut Vec<u8>, job: &Job, query: &Query) -> Result<(), NoMemory>
-    ensures { OnOk result (out.new.items ≡ out.old.items ++ told_text (asked query.now (trace_of job.now)) job.now.log) }
+    ensures { OnOk result (out.new.items ≡ out.old.items
+        ++ told_text (asked query.now (trace_of job.now)) job.now.log) }
 {
     let sources = sources_of(alloc, job, query)?;
     push_run(alloc, out, job)?;
@@ -74,7 +75,8 @@ fn push_told(alloc: Global, out: &mut Vec<u8>, job: &Job, query: &Query) -> Resu
     push_moved(alloc, out, job.log())
 }
 
-/// Appends the data of a page: of this report of the query over the run of the job. It fails only where there is no memory.
+/// Appends the data of a page: of this report of the query over the run of the job. It fails only where there is no
+/// memory.
 pub(crate) fn push_data(
     alloc: Global,
     out: &mut Vec<u8>,
@@ -82,7 +84,8 @@ pub(crate) fn push_data(
     query: &Query,
     report: &Report,
 ) -> Result<(), NoMemory>
-    ensures { OnOk result (out.new.items ≡ out.old.items ++ data_text (asked query.now (trace_of job.now)) job.now.log report.now) }
+    ensures { OnOk result (out.new.items ≡ out.old.items
+        ++ data_text (asked query.now (trace_of job.now)) job.now.log report.now) }
 {
     out.extend_from_slice(b"jet page 1\nrows\n")?;
     push_rows(out, report.rows())?;

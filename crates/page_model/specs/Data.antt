@@ -1,5 +1,5 @@
--- The data of a page: the rows of a report, and what is told of the run and of the query that they are of. It is printable
--- ASCII without `<`, `>`, `&`, quotes and backslashes, and line feeds, whatever the run moved.
+-- The data of a page: the rows of a report, and what is told of the run and of the query that they are of. It is
+-- printable ASCII without `<`, `>`, `&`, quotes and backslashes, and line feeds, whatever the run moved.
 use Rattle.std.specs.Prelude.{ℕ, ◌==◌, if◌then◌else◌, List, [], ◌++◌, length, codes, slice_index}
 use Rattle.std.specs.List.{flat_map, range_with_len}
 use Rattle.std.specs.Fmt.{decimal}
@@ -43,7 +43,8 @@ channel_line way channel bytes = way_word way ++ decimal channel ++ codes " " ++
 unfoldable pub channel_lines : Way → Log → List ℕ
 channel_lines way log = flat_map (λ c. channel_line way c (moved way c log.records)) (range_with_len 0 16)
 
--- a call that moved bytes: its channel, how many they were, and the number of steps before it. One that moved none isn't told.
+-- a call that moved bytes: its channel, how many they were, and the number of steps before it. One that moved none isn't
+-- told.
 abbrev pub moved_line : List ℕ → ℕ → List ℕ → ℕ → List ℕ
 moved_line word channel bytes at =
     if length bytes == 0 then [] else
@@ -85,7 +86,8 @@ told_text a log = run_text log ++ asked_text a ++ moved_text log
 
 -- the version, the rows, what is told beside them, and how many they are
 abbrev pub data_text : Asked → Log → List Row → List ℕ
-data_text a log rs = codes "jet page 1\nrows\n" ++ joined_rows rs ++ told_text a log ++ number_line (codes "end") (length rs)
+data_text a log rs =
+    codes "jet page 1\nrows\n" ++ joined_rows rs ++ told_text a log ++ number_line (codes "end") (length rs)
 
 -- the data of the page of a query, over the run from a state under a log
 abbrev pub page_data : Query → State → Log → List ℕ

@@ -9,8 +9,10 @@ use Rattle.flow_model.specs.declared.SourceByte.{SourceByte}
 use Rattle.flow_model.specs.declared.SinkPoint.{SinkPoint}
 use Rattle.flow_model.specs.declared.SinkPoint.TheVariants.{Out, At}
 use Rattle.report_model.specs.Query.{Query, Alike}
-use Rattle.report_model.specs.Rows.{Row}
+use Rattle.report_model.specs.Rows.{Row, rows}
+use Rattle.replay_model.specs.Run.{trace}
 use Rattle.page_model.specs.Data.{Asked, data_text, page_data}
+use Rattle.page_model.specs.Page.{page_report}
 
 -- ---- the numbers in rows are below 2^63, as in each report of a run
 
@@ -32,9 +34,17 @@ IsSmallRow r = IsSmallSink r.sink × AllByRecursion IsSmallSource r.sources
 
 -- pages with the same data are of the same report, whatever they are of beside it
 abbrev pub DataTellReports : Type 0
-DataTellReports = (a b : Asked) (log other : Log) (rs ss : List Row) → AllByRecursion IsSmallRow rs → AllByRecursion IsSmallRow ss
-    → data_text a log rs ≡ data_text b other ss → rs ≡ ss
+DataTellReports = (a b : Asked) (log k : Log) (rs ss : List Row)
+    → AllByRecursion IsSmallRow rs → AllByRecursion IsSmallRow ss
+    → data_text a log rs ≡ data_text b k ss → rs ≡ ss
+
+-- so are pages that are the same: a page tells the whole report
+abbrev pub PagesTellReports : Type 0
+PagesTellReports = (q p : Query) (state other : State) (log k : Log)
+    → AllByRecursion IsSmallRow (rows q (trace state log)) → AllByRecursion IsSmallRow (rows p (trace other k))
+    → page_report q state log ≡ page_report p other k → rows q (trace state log) ≡ rows p (trace other k)
 
 -- queries that are alike have the same data
 abbrev pub AlikeHaveSameData : Type 0
-AlikeHaveSameData = (q p : Query) (state : State) (log : Log) → Alike q p → page_data q state log ≡ page_data p state log
+AlikeHaveSameData = (q p : Query) (state : State) (log : Log)
+    → Alike q p → page_data q state log ≡ page_data p state log

@@ -23,7 +23,8 @@ fn push_sources(
     count: u32,
     query: &Query,
 ) -> Result<(), NoMemory>
-    ensures { OnOk result (sources.new.items ≡ sources.old.items ++ filter (has_source query.now) (sources_on channel count)) }
+    ensures { OnOk result (sources.new.items ≡ sources.old.items
+        ++ filter (has_source query.now) (sources_on channel count)) }
 {
     for offset in 0..count {
         let byte = SourceByte { channel, offset };
@@ -34,8 +35,8 @@ fn push_sources(
     Ok(())
 }
 
-/// The source bytes that the run of a job received and the query chooses, by channel and then offset. It fails only where
-/// there is no memory.
+/// The source bytes that the run of a job received and the query chooses, by channel and then offset. It fails only
+/// where there is no memory.
 pub fn sources_of(alloc: Global, job: &Job, query: &Query) -> Result<Vec<SourceByte>, NoMemory>
     ensures { IfOk result (λ sources. sources.items ≡ chosen_sources query.now (trace_of job.now)) }
 {

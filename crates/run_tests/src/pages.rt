@@ -14,7 +14,8 @@ use std::process::Abort;
 const ROWS: &str = "jet page 1\nrows\n1:0 0:0-1\n+++m:65792@8 0:0-1\n+";
 
 /// What it tells beside them, after the program's digest.
-const TOLD: &str = "steps 12\ncalls 2\nread 4\nwritten 4\nend exit 0\nrule copy\npoints 2\nsources 0:0-4\n\
+const TOLD: &str =
+    "steps 12\ncalls 2\nread 4\nwritten 4\nend exit 0\nrule copy\npoints 2\nsources 0:0-4\n\
     in 0 QUJDRA==\nin 1 \nin 2 \nin 3 \nin 4 \nin 5 \nin 6 \nin 7 \n\
     in 8 \nin 9 \nin 10 \nin 11 \nin 12 \nin 13 \nin 14 \nin 15 \n\
     out 0 \nout 1 QUJDRA==\nout 2 \nout 3 \nout 4 \nout 5 \nout 6 \nout 7 \n\

@@ -1,0 +1,18 @@
+use Rattle.std.proofs.lemmas.List.{append_cancel_left, append_cancel_right}
+use Rattle.std.proofs.Common.{◌++◌}
+use Rattle.replay_model.specs.Run.{trace}
+use Rattle.report_model.specs.Rows.{rows}
+use Rattle.page_text.specs.Texts.{head, tail}
+use Rattle.page_model.specs.Data.{asked, page_data}
+use Rattle.page_model.specs.PageLaws.{PagesTellReports}
+use Rattle.page_model.proofs.Apart.{data_tell}
+use Rattle.page_model.proofs.laws.pages_tell_reports.Goals as goal
+
+pages_tell : PagesTellReports
+pages_tell q p state other log k hr hs e =
+    let same = append_cancel_right (head ++ page_data q state log) (head ++ page_data p other k) tail e in
+    data_tell (asked q (trace state log)) (asked p (trace other k)) log k (rows q (trace state log)) (rows p (trace other k)) hr hs
+    (append_cancel_left head (page_data q state log) (page_data p other k) same)
+
+pub returns : goal.returns
+returns c = pages_tell
