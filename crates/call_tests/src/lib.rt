@@ -20,6 +20,8 @@ mod outside;
 #[cfg(test)]
 mod queries;
 #[cfg(test)]
+mod ranges;
+#[cfg(test)]
 mod reports;
 #[cfg(test)]
 mod sets;
