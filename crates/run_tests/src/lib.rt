@@ -1,5 +1,5 @@
 //! Tests of runs that are cut into epochs: where these begin, each by itself, what its core sends, and all of them
-//! together, with what crosses the cuts between them. Paths over runs.
+//! together, with what crosses the cuts between them. Paths over runs, and the calls in progress.
 #![tactic(auto)]
 
 #[cfg(test)]
@@ -14,3 +14,5 @@ mod guests;
 mod paths;
 #[cfg(test)]
 mod runs;
+#[cfg(test)]
+mod stacks;
