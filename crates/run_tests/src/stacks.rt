@@ -169,6 +169,10 @@ fn calls_in_progress_are_told_innermost_first(rt: HostRuntime) {
 fn a_run_that_exits_stands_after_its_last_call(rt: HostRuntime) {
     let alloc = rt.alloc();
     let job = copy_in_two(&rt, alloc);
-    let stacks = [(17, "0x00010044\nend 1\n"), (18, "0x00010048\nend 1\n"), (19, "end 0\n")];
+    let stacks = [
+        (17, "0x00010044\nend 1\n"),
+        (18, "0x00010048\nend 1\n"),
+        (19, "end 0\n"),
+    ];
     assert_stacks(&rt, alloc, &job, &stacks);
 }
