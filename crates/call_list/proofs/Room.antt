@@ -31,11 +31,6 @@ front_forms zero rs is = tt
 front_forms (suc n) [] is = tt
 front_forms (suc n) (r ∷ rs) is = (is.0, front_forms n rs is.1)
 
-pub form_at : (rs : List CallRecord) (i : ℕ) (d : CallRecord) → AllByRecursion IsRecord rs → i < length rs → IsRecord (get_or rs i d)
-form_at [] i d is h = absurd (omega (arith, h))
-form_at (r ∷ rs) zero d is h = is.0
-form_at (r ∷ rs) (suc i) d is h = form_at rs i d is.1 (omega (arith, h))
-
 -- what the calls up to, and with, one of them moved
 pub room_at : (log : Log) (way : Way) (c i : ℕ) (d : CallRecord) → IsLog log → length (log_text Two log) ≤ 2 ^ 27 → i < length log.records
     → counts_of (take i log.records) way c + length (moved_by way c (get_or log.records i d)) < 2 ^ 64

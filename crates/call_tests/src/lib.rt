@@ -6,6 +6,8 @@
 #[cfg(test)]
 mod assembly;
 #[cfg(test)]
+mod calls;
+#[cfg(test)]
 mod cuts;
 #[cfg(test)]
 mod flows;

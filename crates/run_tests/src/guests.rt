@@ -392,3 +392,16 @@ pub fn trap_in_what_is_read(rt: &impl Abort, alloc: Global) -> Job {
         \x06\x06\0\0\0\x02\0\0\0\x18\0\x01\0",
     )
 }
+
+/// A program that makes no call, and comes to EBREAK at this pc after so many steps.
+pub fn breaks_at(rt: &impl Abort, alloc: Global, code: &[Instr], steps: u32, pc: u32) -> Job {
+    let mut log = Vec::new(alloc);
+    log.extend_from_slice(b"\x01\0\0\0\0\0\0\0\x06")
+        .expect(rt, "memory");
+    log.extend_from_slice(&steps.to_le_bytes())
+        .expect(rt, "memory");
+    log.extend_from_slice(b"\x03\0\0\0").expect(rt, "memory");
+    log.extend_from_slice(&pc.to_le_bytes())
+        .expect(rt, "memory");
+    job_of(rt, alloc, code, &log)
+}

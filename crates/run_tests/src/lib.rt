@@ -1,5 +1,5 @@
 //! Tests of runs that are cut into epochs: where these begin, each by itself, what its core sends, and all of them
-//! together, with what crosses the cuts between them. Paths over runs, decisions of runs, and pages of them.
+//! together, with what crosses the cuts between them. Paths over runs, decisions of runs, the calls in progress, and pages.
 #![tactic(auto)]
 
 #[cfg(test)]
@@ -18,3 +18,5 @@ mod pages;
 mod paths;
 #[cfg(test)]
 mod runs;
+#[cfg(test)]
+mod stacks;
