@@ -37,7 +37,8 @@ pub record IsTracked (q : Query) (job : Job) (t : ℕ) (tracking : Tracking) : T
   pub rule : tracking.rule ≡ deciding_rule q.rule
   pub sound : IsSound tracking
   pub holds : Holds label_words tracking.labels tracking.places (origins (deciding_policy q) (trace_of job) t)
-  pub groups : AreGroups tracking.labels (decided_from (deciding_policy q) (trace_of job) t (start job.start job.log)) tracking.groups
+  pub groups : AreGroups tracking.labels
+      (decided_from (deciding_policy q) (trace_of job) t (start job.start job.log)) tracking.groups
 
 -- ---- the parts of a step
 

@@ -39,8 +39,8 @@ pub record Joins (old : SourceLabels) (g : Group) (label : Label) (new : SourceL
   pub count : joined.count ≡ g.count + 1
   pub rest : joined ≡ record g { count = joined.count; label = joined.label }
 
--- what the group of a place is with one decision more, of a look, which has this label: that decision's own, where the place
--- had none
+-- what the group of a place is with one decision more, of a look, which has this label: that decision's own, where the
+-- place had none
 abbrev pub Grows : SourceLabels → Option Group → Look → Label → SourceLabels → Group → Type 0
 Grows old None look label new g = g ≡ record { instr = look.instr; count = 1; first = look.time; label = label }
 Grows old (Some h) look label new g = Joins old h label new g

@@ -28,7 +28,8 @@ started labels l here = record {
 }
 
 with_itself : (m : List SourceByte) → Ascends source_cmp m → union source_cmp m m ≡ m
-with_itself m h = ap (λ (t : Terms). t.sources) (joined_itself (record { sources = m; starts = [] }) (record { sources = h; starts = tt }))
+with_itself m h =
+    ap (λ (t : Terms). t.sources) (joined_itself (record { sources = m; starts = [] }) (record { sources = h; starts = tt }))
 
 pub label_laws : Laws label_words
 label_laws = record {

@@ -29,7 +29,8 @@ pub record IsLookAt (m : Moment) (look : Look) : Type 0 where
   pub time : look.time ≡ m.time
   pub pc : look.pc ≡ m.state.pc
   pub instr : look.instr ≡ instr_of (fetch m.state)
-  pub decides : (rule : Rule) → decides_fetched rule look.kind look.instr ≡ decides_fetched rule (kind_of (reg m.state 17)) (instr_of (fetch m.state))
+  pub decides : (rule : Rule) → decides_fetched rule look.kind look.instr
+      ≡ decides_fetched rule (kind_of (reg m.state 17)) (instr_of (fetch m.state))
 
 -- the instruction has a word, so its registers are below 32
 abbrev pub HasFitting : Option Instr → Type 0

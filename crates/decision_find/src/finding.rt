@@ -16,8 +16,8 @@ use query_lang::Query;
 use replayer::{Cursor, Job, Next};
 use std::alloc::Global;
 
-/// The text of the decisions of a job's run that come from the source bytes that a query chooses: a line for each place, and
-/// the number of those lines. It fails only where there is no memory.
+/// The text of the decisions of a job's run that come from the source bytes that a query chooses: a line for each place,
+/// and the number of those lines. It fails only where there is no memory.
 pub fn decisions(alloc: Global, job: &Job, query: &Query) -> Result<Vec<u8>, NoMemory>
     ensures { IfOk result (λ text. text.items ≡ decisions_report job.now.start job.now.log query.now) }
 {

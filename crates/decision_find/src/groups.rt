@@ -20,8 +20,8 @@ use std::alloc::Global;
 use std::collections::BTreeMap;
 use taint_shadow::Label;
 
-/// The decisions of one place: the instruction at the first of them, how many they are, the time of the first, and a label of
-/// all their source bytes.
+/// The decisions of one place: the instruction at the first of them, how many they are, the time of the first, and a label
+/// of all their source bytes.
 #[derive(Clone, Copy)]
 pub struct Group {
     pub instr: Option<Instr>,
@@ -91,7 +91,8 @@ impl Groups {
         ensures groups { OnOk result (HaveLabels labels.new self.new) }
         ensures keeps { OnOk result (KeepsLabels label_words labels.old labels.new) }
         ensures added { OnOk result ((ds : List Decision) → AreGroups labels.old ds self.old
-            → AreGroups labels.new (ds ++ decision_of look.now (λ l. label_words.means labels.old label) loc ∷ []) self.new) }
+            → AreGroups labels.new
+            (ds ++ decision_of look.now (λ l. label_words.means labels.old label) loc ∷ []) self.new) }
     {
         let place = Place { pc: look.pc, loc };
         let group = self.grown(labels, place, look, label)?;

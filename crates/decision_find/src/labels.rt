@@ -84,7 +84,8 @@ impl SourceLabels {
         requires one { IsSourceNode self.old one }
         requires other { IsSourceNode self.old other }
         requires some { 0 < one }
-        ensures { IfOk result (Makes label_words self.old (joined (terms self.old.log one) (terms self.old.log other)).sources self.new) }
+        ensures { IfOk result (Makes label_words self.old
+            (joined (terms self.old.log one) (terms self.old.log other)).sources self.new) }
     {
         let node = self.log.absorbing_union(one, other)?;
         Ok(self.label_of(node))
@@ -96,7 +97,8 @@ impl SourceLabels {
     pub(crate) fn unite_labels(&mut self, left: Label, right: Label) -> Result<Label, NoMemory>
         requires left { label_words.stands self.old left }
         requires right { label_words.stands self.old right }
-        ensures { IfOk result (Makes label_words self.old (mean_together label_words self.old left right) self.new) }
+        ensures { IfOk result (Makes label_words self.old
+            (mean_together label_words self.old left right) self.new) }
     {
         let one = self.node_of(left);
         let other = self.node_of(right);

@@ -9,8 +9,8 @@ ghost use Rattle.decision_find.specs.Looks.{look_at_step};
 use flow_model::{Loc, StepSeen};
 use isa::{CallKind, Instr};
 
-/// One look of a run at its program: after so many steps, at this pc, it finds this instruction, if the four bytes there stand
-/// for one, and a call would be of this kind.
+/// One look of a run at its program: after so many steps, at this pc, it finds this instruction, if the four bytes there
+/// stand for one, and a call would be of this kind.
 #[derive(Clone, Copy)]
 pub struct Look {
     pub time: u64,

@@ -34,39 +34,52 @@ pub record IsUndecided (rule : Rule) (introduces differs : SourceByte → Bool) 
 
 -- as far as both go they do the same at each step
 abbrev pub StepsAreSame : Rule → Type 0
-StepsAreSame rule = (introduces differs : SourceByte → Bool) (s : State) (a b : Log) → IsUndecided rule introduces differs s a b
+StepsAreSame rule = (introduces differs : SourceByte → Bool) (s : State) (a b : Log)
+    → IsUndecided rule introduces differs s a b
     → (k : ℕ) → k < steps a → k < steps b → SameStep rule (moment_at s a k) (moment_at s b k)
 
 -- and the content of each location that comes from nothing that differs is the same
 abbrev pub ContentsAreSame : Rule → Type 0
-ContentsAreSame rule = (introduces differs : SourceByte → Bool) (s : State) (a b : Log) → IsUndecided rule introduces differs s a b
-    → (t : ℕ) (l : Loc) → t ≤ steps a → t ≤ steps b → NoneDiffers differs (origins (under rule introduces) (trace s a) t l)
+ContentsAreSame rule = (introduces differs : SourceByte → Bool) (s : State) (a b : Log)
+    → IsUndecided rule introduces differs s a b
+    → (t : ℕ) (l : Loc) → t ≤ steps a → t ≤ steps b
+    → NoneDiffers differs (origins (under rule introduces) (trace s a) t l)
     → content_at s a t l ≡ content_at s b t l
 
 -- where both are as long, they take one path, and received the same where nothing differs
 abbrev pub PathIsSame : Rule → Type 0
-PathIsSame rule = (introduces differs : SourceByte → Bool) (s : State) (a b : Log) → IsUndecided rule introduces differs s a b
+PathIsSame rule = (introduces differs : SourceByte → Bool) (s : State) (a b : Log)
+    → IsUndecided rule introduces differs s a b
     → steps a ≡ steps b → SamePath rule s a b
 
 abbrev pub ReceivedIsSame : Rule → Type 0
-ReceivedIsSame rule = (introduces differs : SourceByte → Bool) (s : State) (a b : Log) → IsUndecided rule introduces differs s a b
+ReceivedIsSame rule = (introduces differs : SourceByte → Bool) (s : State) (a b : Log)
+    → IsUndecided rule introduces differs s a b
     → steps a ≡ steps b → (x : SourceByte) → differs x ≡ false → byte_received a x ≡ byte_received b x
+
+-- the byte of each row is the same where nothing that the row lists differs
+abbrev pub RowsAreAlike : Query → (SourceByte → Bool) → State → Log → Log → Type 0
+RowsAreAlike q differs s a b =
+    All (λ r. NoneDiffers differs r.sources → byte_at_sink s a r.sink ≡ byte_at_sink s b r.sink) (rows q (trace s a))
 
 -- so the byte of a row differs only where the row lists a byte that differs
 abbrev pub RowsAreSame : Rule → Type 0
-RowsAreSame rule = (q : Query) (differs : SourceByte → Bool) (s : State) (a b : Log) → q.rule ≡ rule → IsUndecided rule (has_source q) differs s a b
-    → steps a ≡ steps b → All (λ r. NoneDiffers differs r.sources → byte_at_sink s a r.sink ≡ byte_at_sink s b r.sink) (rows q (trace s a))
+RowsAreSame rule = (q : Query) (differs : SourceByte → Bool) (s : State) (a b : Log) → q.rule ≡ rule
+    → IsUndecided rule (has_source q) differs s a b
+    → steps a ≡ steps b → RowsAreAlike q differs s a b
 
 -- ---- the end
 
 -- by compute two runs that are cut off after as many steps, unless they end by themselves, are as long
 abbrev pub LengthsAreSame : Type 0
-LengthsAreSame = (introduces differs : SourceByte → Bool) (s : State) (a b : Log) → IsUndecided Compute introduces differs s a b
+LengthsAreSame = (introduces differs : SourceByte → Bool) (s : State) (a b : Log)
+    → IsUndecided Compute introduces differs s a b
     → (n : ℕ) → EndsWithin n a.end → EndsWithin n b.end → steps a ≡ steps b
 
 -- and end alike: by one exit, with one code, or by one trap, or both cut off
 abbrev pub EndsAreSame : Type 0
-EndsAreSame = (introduces differs : SourceByte → Bool) (s : State) (a b : Log) → IsUndecided Compute introduces differs s a b
+EndsAreSame = (introduces differs : SourceByte → Bool) (s : State) (a b : Log)
+    → IsUndecided Compute introduces differs s a b
     → (n : ℕ) → EndsWithin n a.end → EndsWithin n b.end → a.end ≡ b.end
 
 -- ---- two runs of one program
@@ -84,7 +97,7 @@ pub record AreRuns (program : List ℕ) (a b : Log) : Type 0 where
 pub record AreAlikeBut (q : Query) (differs : SourceByte → Bool) (s : State) (a b : Log) : Type 0 where
   pub path : SamePath Compute s a b
   pub end : a.end ≡ b.end
-  pub rows_are : All (λ r. NoneDiffers differs r.sources → byte_at_sink s a r.sink ≡ byte_at_sink s b r.sink) (rows q (trace s a))
+  pub rows_are : RowsAreAlike q differs s a b
 
 -- where none of the decisions that a query lists comes from a byte that differs, and the query chooses all that differs,
 -- another run of the program that is answered the same but for these bytes is the same but for the rows that, by the rule

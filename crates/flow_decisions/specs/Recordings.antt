@@ -15,7 +15,8 @@ pub record AreSettingsAlike (differs : SourceByte → Bool) (x y : Setting) : Ty
   pub pages : x.pages ≡ y.pages
   pub channels : length x.inputs ≡ length y.inputs
   pub lengths : (c : ℕ) → length (input_of x.inputs c) ≡ length (input_of y.inputs c)
-  pub bytes : (c o : ℕ) → differs (record { channel = c; offset = o }) ≡ false → slice_index (input_of x.inputs c) o ≡ slice_index (input_of y.inputs c) o
+  pub bytes : (c o : ℕ) → differs (record { channel = c; offset = o }) ≡ false
+      → slice_index (input_of x.inputs c) o ≡ slice_index (input_of y.inputs c) o
   pub piece : x.piece ≡ y.piece
   pub steps : x.steps ≡ y.steps
 
@@ -23,7 +24,8 @@ pub record AreSettingsAlike (differs : SourceByte → Bool) (x y : Setting) : Ty
 -- first run comes from an input byte that differs, and the query chooses all that differs, the runs are the same but for
 -- the rows that, by the rule of decisions, list such a byte
 abbrev pub RecordingsAreAlike : Type 0
-RecordingsAreAlike = (x y : Setting) (answers : List ℕ) (a b : Log) (differs : SourceByte → Bool) → AreSettingsAlike differs x y → IsBytes x.program
+RecordingsAreAlike = (x y : Setting) (answers : List ℕ) (a b : Log) (differs : SourceByte → Bool)
+    → AreSettingsAlike differs x y → IsBytes x.program
     → (recorded : IsRecorded x answers a) → IsRecorded y answers b → (q : Query) → deciding_rule q.rule ≡ Compute
     → ((z : SourceByte) → has_source q z ≡ false → differs z ≡ false)
     → All (λ d. NoneDiffers differs d.sources) (decided_by q recorded.fits.start a)
