@@ -4,6 +4,7 @@ ghost use Rattle.std.specs.Prelude.{◌<◌};
 
 mod bench;
 mod convert;
+mod decisions;
 mod epochs;
 mod gates;
 mod guests;
@@ -15,6 +16,7 @@ mod queries;
 mod record;
 mod refusals;
 mod runs;
+mod show;
 
 use guest_assembler::{Instr, code, program};
 use guests::{

@@ -5,7 +5,7 @@ use Rattle.outer_io.specs.Faults.{Rose}
 use Rattle.outer_io.specs.Tells.{Tells, Gains}
 use Rattle.outer_io.specs.Files.{Files}
 use Rattle.outer_io.proofs.TellsLemmas.{tells-map}
-use Rattle.jet_words.specs.Commands.{CommandOf, AnalysisOf, ProductOf, RecordOf, ConvertOf, QueriesOf, BenchOf}
+use Rattle.jet_words.specs.Commands.{CommandOf, AnalysisOf, ProductOf, DecisionsOf, RecordOf, ConvertOf, QueriesOf, BenchOf}
 use Rattle.jet_refusal.specs.declared.refusal.Refusal.{Refusal}
 use Rattle.jet_refusal.specs.declared.refusal.Refusal.TheVariants as refusal
 use Rattle.jet_refusal.specs.Refusals.{status_of, line_of}
@@ -17,7 +17,7 @@ use Rattle.jet_model.proofs.Headline.{answer-is_given, given-is_answer, reports-
 use Rattle.workload_model.proofs.Outcomes.{one_answer as one_bench_answer, answer-is_lines, lines-are_answer}
 use Rattle.jet_files.specs.Outcome.{Found}
 use Rattle.jet_cli.specs.Targets.{Target, ToOutput, ToFile, target_of}
-use Rattle.jet_cli.specs.Answers.{IsAnswer, given_by, made_by, named, limits_of, workload_length}
+use Rattle.jet_cli.specs.Answers.{IsAnswer, given_by, decisions_by, made_by, named, limits_of, workload_length}
 use Rattle.jet_cli.specs.Outside.{Change, Told, IsUndisturbed}
 use Rattle.jet_cli.specs.Writing.{FailsToWrite}
 use Rattle.jet_cli.specs.Ending.{IsText, WritesWhole, WritesPart, Ends, IsUnasked, causes_of, status_after}
@@ -38,6 +38,7 @@ module _ (change : Change) (file : Contents) where
 
   one_answer : (command : CommandOf) (a b : Result (List ℕ) Refusal) → IsHeard command change → Answers command a → Answers command b → a ≡ b
   one_answer (AnalysisOf listing program log query pipeline) a b told p q = sym p ∙ q
+  one_answer (DecisionsOf program log query) a b told p q = sym p ∙ q
   one_answer (RecordOf program log inputs pages piece steps) a b told p q =
       let limits = limits_of pages piece steps in
       one_record_answer file program inputs limits q.answers a b
@@ -49,6 +50,7 @@ module _ (change : Change) (file : Contents) where
 
   wanted : (command : CommandOf) (text : List ℕ) → Answers command (Ok text) → IsWanted command change file text
   wanted (AnalysisOf listing program log query pipeline) text h = answer-is_given (given_by listing) pipeline.epoch file (named program log query) text h
+  wanted (DecisionsOf program log query) text h = answer-is_given decisions_by None file (named program log query) text h
   wanted (RecordOf program log inputs pages piece steps) text h =
       record { answers = h.answers; gained = h.gained; holds = record_answer-is_recording file program inputs (limits_of pages piece steps) h.answers text h.holds }
   wanted (ProductOf product program log) text h = run_answer-is_given file program log (made_by product) text h
@@ -58,6 +60,7 @@ module _ (change : Change) (file : Contents) where
 
   answered : (command : CommandOf) (text : List ℕ) (is : IsWanted command change file text) → AreWithinLimits command change file text is → Answers command (Ok text)
   answered (AnalysisOf listing program log query pipeline) text h within = given-is_answer (given_by listing) pipeline.epoch file (named program log query) text within.0 h within.1
+  answered (DecisionsOf program log query) text h within = given-is_answer decisions_by None file (named program log query) text within h tt
   answered (RecordOf program log inputs pages piece steps) text h within =
       record { answers = h.answers; gained = h.gained; holds = recording-is_record_answer file program inputs (limits_of pages piece steps) h.answers text within.0 within.1 within.2 h.holds }
   answered (ProductOf product program log) text h within = given-is_run_answer file program log (made_by product) text within.0 within.1 h

@@ -2,7 +2,7 @@
 -- clock show before the call and after it.
 use Rattle.std.specs.Prelude.{◌≡◌, ◌⊎◌, ◌≤◌, ◌^◌, ℕ, List, length, not, Option, Some, None, IsSome, Result, Ok}
 use Rattle.outer_io.specs.Files.{Files}
-use Rattle.jet_words.specs.Commands.{CommandOf, AnalysisOf, ProductOf, RecordOf, ConvertOf, QueriesOf, BenchOf}
+use Rattle.jet_words.specs.Commands.{CommandOf, AnalysisOf, ProductOf, DecisionsOf, RecordOf, ConvertOf, QueriesOf, BenchOf}
 use Rattle.log_model.specs.declared.Version.TheVariants.{Two}
 use Rattle.log_model.specs.Logs.{log_text}
 use Rattle.jet_refusal.specs.declared.refusal.Refusal.{Refusal}
@@ -11,7 +11,7 @@ use Rattle.jet_refusal.specs.Causes.{IsOwedTo}
 use Rattle.jet_model.specs.Contents.{Contents}
 use Rattle.jet_model.specs.Headline.{IsGivenByQuery, AreReportsOf, IsGivenBy, IsConversionOf, IsRecordingOf, IsShort, AreShort, AreAllShort, HasFewEpochs, HasFewIfTold}
 use Rattle.workload_model.specs.Answer.{IsBenchOf}
-use Rattle.jet_cli.specs.Answers.{IsAnswer, Hears, given_by, made_by, named, limits_of, workload_length}
+use Rattle.jet_cli.specs.Answers.{IsAnswer, Hears, given_by, decisions_by, made_by, named, limits_of, workload_length}
 use Rattle.jet_cli.specs.Targets.{Unless, plan_of}
 use Rattle.jet_cli.specs.Outside.{Change, Told, IsUndisturbed}
 use Rattle.jet_cli.specs.Ending.{WritesWhole, WritesPart, IsUnasked, causes_of, status_after}
@@ -22,12 +22,13 @@ IsStatus status = (status ≡ 0) ⊎ ((2 ≤ status) × (status ≤ 11))
 
 -- ---- 0: the text that the words want was written whole
 
--- the text is what a query gives of a run, as its report; what is made of a run, as its numbers; the log of a run, by the clock's
+-- the text is what a query gives of a run, as its report, or its decisions; what is made of a run, as its numbers; the log of a run, by the clock's
 -- answers; a log in version 2; the reports of several queries; or the numbers of the workload's run
 abbrev pub IsWanted : CommandOf → Change → Contents → List ℕ → Type 0
 IsWanted (AnalysisOf listing program log query pipeline) change file text =
     IsGivenByQuery (given_by listing) file (named program log query) text
 IsWanted (ProductOf product program log) change file text = IsGivenBy file program log (made_by product) text
+IsWanted (DecisionsOf program log query) change file text = IsGivenByQuery decisions_by file (named program log query) text
 IsWanted (RecordOf program log inputs pages piece steps) change file text =
     Hears change.before.heard change.after.heard (λ answers. IsRecordingOf file program inputs (limits_of pages piece steps) answers text)
 IsWanted (ConvertOf program log new) change file text = IsConversionOf file program log text
@@ -73,6 +74,7 @@ abbrev pub AreWithinLimits : (command : CommandOf) (change : Change) (file : Con
 AreWithinLimits (AnalysisOf listing program log query pipeline) change file text is =
     AreShort file (named program log query) × HasFewIfTold pipeline.epoch is.log
 AreWithinLimits (ProductOf product program log) change file text is = IsShort (file program) × IsShort (file log)
+AreWithinLimits (DecisionsOf program log query) change file text is = AreShort file (named program log query)
 AreWithinLimits (RecordOf program log inputs pages piece steps) change file text is =
     IsShort (file program) × AreAllShort file inputs × (length text ≤ 2 ^ 26)
 AreWithinLimits (ConvertOf program log new) change file text is =

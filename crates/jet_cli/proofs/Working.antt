@@ -28,17 +28,21 @@ use Rattle.replayer.specs.Checks.{IsChecked}
 use Rattle.jet_refusal.specs.declared.refusal.Refusal.{Refusal}
 use Rattle.jet_refusal.proofs.Causes.{IsOwedTo-map}
 use Rattle.jet_model.specs.Outcomes.{and_then}
-use Rattle.jet_model.specs.Contents.{Contents, Run, run_at}
+use Rattle.jet_model.specs.Contents.{Contents, Run, run_at, query_at}
 use Rattle.jet_model.specs.Report.{over_trace, reports_from, reports_of}
-use Rattle.jet_model.specs.Answer.{fitting_start, told_check, cut_answer, analysed_answer, unless_other_rule, rules_check, text_answer, limited_text}
+use Rattle.jet_model.specs.Answer.{fitting_start, told_check, cut_answer, analysed_answer, query_answer, unless_other_rule, rules_check, text_answer, limited_text}
 use Rattle.jet_model.proofs.AndThen.{and_then-ok, and_then-err}
-use Rattle.jet_files.specs.Outcome.{AskAlike, IsKeptFor, Comes, Found, Follows, IsWork, by_reading}
-use Rattle.jet_files.proofs.Composing.{comes-then, follows-stops}
+use Rattle.jet_files.specs.Outcome.{AskAlike, AreAlike, IsKeptFor, Comes, Found, Follows, IsWork, by_reading}
+use Rattle.jet_files.proofs.Composing.{comes-then, comes-stops, follows-stops}
 use Rattle.jet_words.specs.declared.command.Listing.{Listing}
-use Rattle.jet_words.specs.declared.command.Listing.TheVariants.{BySink, BySource, ByPath}
-use Rattle.jet_cli.specs.Answers.{IsWorkOf, fits_and_is_cut, conversion_of, given_by, IsGivenAlike, AreGivenAlike}
+use Rattle.jet_words.specs.declared.command.Listing.TheVariants.{BySink, BySource, ByPath, ByRange}
+use Rattle.jet_cli.specs.Answers.{IsWorkOf, fits_and_is_cut, conversion_of, given_by, decisions_by, IsGivenAlike, AreGivenAlike, named}
 use Rattle.path_model.specs.Answer.{first_pair}
 use Rattle.path_find.specs.Answer.{pair_report, path_report}
+use Rattle.range_model.specs.Text.{ranges_report}
+use Rattle.decision_model.specs.Decides.{deciding_rule}
+use Rattle.decision_model.specs.Decisions.{decided}
+use Rattle.decision_model.specs.Text.{decisions_text}
 use Rattle.jet_cli.proofs.Fitting.{fitting_start-ok}
 
 -- the first calls gave a value, and what the work on it says is that of all
@@ -84,6 +88,30 @@ pub after_run : {A : Type 0} {names more : List Text} {one two : Bool} (program 
     → Comes (λ file. and_then (run_at file program log) (λ r. and_then (read file) (next r))) f h outcome
 after_run program log read next run = comes-then (λ file. run_at file program log) (λ r file. and_then (read file) (next r)) run
 
+-- what a run and a query come to
+module _ (given : Query → State → Log → List ℕ) (told : Option ℕ) (program log query : List ℕ) where
+  abbrev pub Asks : Contents → Result (List ℕ) Refusal
+  Asks file = query_answer given told file (named program log query)
+
+  abbrev next : Run → Query → Result (List ℕ) Refusal
+  next run q = analysed_answer told run (given q)
+
+  pub run-refused : (f g : StoreShown) (r : Refusal) → Comes (λ file. run_at file program log) f g (Err r) → Comes Asks f g (Err r)
+  run-refused f g r = comes-stops (λ file. run_at file program log) (λ run file. and_then (query_at file query) (next run)) f g r
+
+  module _ {names more : List Text} {one two : Bool} (run : Run) (f g h : StoreShown) (first : Comes (λ file. run_at file program log) f g (Ok run))
+      (reads : Reads names one f g) (after : Reads more two g h) where
+    pub query-refused : (r : Refusal) → Follows (λ file kept. AreAlike kept (query_at file query)) g h (Err r) → Comes Asks f h (Err r)
+    query-refused r second =
+        after_run program log (λ file. query_at file query) next run f g h first reads after (Err r)
+        (kept-refused Alike (λ file. query_at file query) (next run) g h r second)
+
+    pub query-given : (kept : Query) → Follows (λ file kept. AreAlike kept (query_at file query)) g h (Ok kept) → (outcome : Result (List ℕ) Refusal)
+        → IsWorkOf (IsGivenAlike given told run kept) outcome → Comes Asks f h outcome
+    query-given kept second outcome work =
+        after_run program log (λ file. query_at file query) next run f g h first reads after outcome
+        (kept-given Alike (λ file. query_at file query) (next run) g h kept second outcome work)
+
 -- ---- work over a run
 
 fitting : (run : Run) (job : Job) → IsChecked run.program.bytes run.program.image run.log job → fitting_start run.program run.log ≡ Ok job.start
@@ -122,24 +150,42 @@ same_path : (q p : Query) (start : State) (log : Log) → Alike q p → path_rep
 same_path q p start log a =
     ap₂ (λ (rule : Rule) (rs : List Row). pair_report (record { start = start; log = log }) rule (first_pair rs)) a.rule (same_rows q p (trace start log) a)
 
-same_listing : (listing : Listing) (q p : Query) (start : State) (log : Log) → Alike q p → given_by listing q start log ≡ given_by listing p start log
+pub same_listing : (listing : Listing) (q p : Query) (start : State) (log : Log) → Alike q p → given_by listing q start log ≡ given_by listing p start log
 same_listing BySink q p start log a = ap report_text (same_rows q p (trace start log) a)
 same_listing BySource q p start log a =
     ap₂ (λ (rs : List Row) (bs : List SourceByte). influence_text (turned rs bs)) (same_rows q p (trace start log) a) (same_sources q p (trace start log) a)
 same_listing ByPath q p start log a = same_path q p start log a
+same_listing ByRange q p start log a = ap (ranges_report log) (same_rows q p (trace start log) a)
+
+pub same_decisions : (q p : Query) (start : State) (log : Log) → Alike q p → decisions_by q start log ≡ decisions_by p start log
+same_decisions q p start log a = λ i. decisions_text (decided (record { rule = deciding_rule (a.rule i); introduces = λ b. a.sources b.channel b.offset i }) start log)
+
+-- what queries give that ask alike is the same
+abbrev IsSame : (Query → State → Log → List ℕ) → Type 0
+IsSame given = (q p : Query) (start : State) (log : Log) → Alike q p → given q start log ≡ given p start log
 
 -- a log that doesn't fit, or too many epochs
-pub listing-stops : (listing : Listing) (told : Option ℕ) (run : Run) (kept : Query) (r : Refusal) → IsWork (fits_and_is_cut told run) (Err r)
-    → IsWorkOf (IsGivenAlike listing told run kept) (Err r)
-listing-stops listing told run kept r =
-    IsOwedTo-map (by_reading (fits_and_is_cut told run ≡ Err r) ⊥) (by_reading (IsGivenAlike listing told run kept (Err r)) ⊥) (λ p. p)
-    (λ e q alike. analysed-stops told run (given_by listing q) r e) (λ p. p) (λ p. p) r
+pub given-stops : (given : Query → State → Log → List ℕ) (told : Option ℕ) (run : Run) (kept : Query) (r : Refusal) → IsWork (fits_and_is_cut told run) (Err r)
+    → IsWorkOf (IsGivenAlike given told run kept) (Err r)
+given-stops given told run kept r =
+    IsOwedTo-map (by_reading (fits_and_is_cut told run ≡ Err r) ⊥) (by_reading (IsGivenAlike given told run kept (Err r)) ⊥) (λ p. p)
+    (λ e q alike. analysed-stops told run (given q) r e) (λ p. p) (λ p. p) r
+
+-- the same of a run that isn't cut
+fits-stops : (run : Run) (r : Refusal) → IsWork (fitting_start run.program run.log) (Err r) → IsWork (fits_and_is_cut None run) (Err r)
+fits-stops run r =
+    IsOwedTo-map (by_reading (fitting_start run.program run.log ≡ Err r) ⊥) (by_reading (fits_and_is_cut None run ≡ Err r) ⊥) (λ p. p)
+    (λ e. and_then-err (fitting_start run.program run.log) (λ start. told_check None run.log) r e) (λ p. p) (λ p. p) r
+
+pub uncut-stops : (given : Query → State → Log → List ℕ) (run : Run) (kept : Query) (r : Refusal) → IsWork (fitting_start run.program run.log) (Err r)
+    → IsWorkOf (IsGivenAlike given None run kept) (Err r)
+uncut-stops given run kept r w = given-stops given None run kept r (fits-stops run r w)
 
 -- what one query gives is what every query gives that asks alike
-pub listing-gives : (listing : Listing) (told : Option ℕ) (run : Run) (kept : Query) (job : Job) (text : List ℕ) → IsChecked run.program.bytes run.program.image run.log job → told_check told run.log ≡ Ok tt
-    → text ≡ given_by listing kept job.start job.log → IsGivenAlike listing told run kept (Ok text)
-listing-gives listing told run kept job text checked few is q alike =
-    analysed-gives told run (given_by listing q) job text checked few (is ∙ same_listing listing kept q job.start job.log alike)
+pub given-gives : (given : Query → State → Log → List ℕ) (told : Option ℕ) (run : Run) (kept : Query) (job : Job) (text : List ℕ) → IsSame given → IsChecked run.program.bytes run.program.image run.log job
+    → told_check told run.log ≡ Ok tt → text ≡ given kept job.start job.log → IsGivenAlike given told run kept (Ok text)
+given-gives given told run kept job text same checked few is q alike =
+    analysed-gives told run (given q) job text checked few (is ∙ same kept q job.start job.log alike)
 
 -- ---- several queries
 

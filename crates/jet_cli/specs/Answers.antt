@@ -5,15 +5,15 @@ use Rattle.outer_io.specs.Files.{Text}
 use Rattle.outer_io.specs.Tells.{Tells, Gains}
 use Rattle.isa.specs.Machine.{State}
 use Rattle.log_model.specs.Logs.{Log}
-use Rattle.jet_words.specs.Commands.{CommandOf, AnalysisOf, ProductOf, RecordOf, ConvertOf, QueriesOf, BenchOf}
+use Rattle.jet_words.specs.Commands.{CommandOf, AnalysisOf, ProductOf, DecisionsOf, RecordOf, ConvertOf, QueriesOf, BenchOf}
 use Rattle.jet_words.specs.declared.command.Listing.{Listing}
-use Rattle.jet_words.specs.declared.command.Listing.TheVariants.{BySink, BySource, ByPath}
+use Rattle.jet_words.specs.declared.command.Listing.TheVariants.{BySink, BySource, ByPath, ByRange}
 use Rattle.jet_words.specs.declared.command.Product.{Product}
-use Rattle.jet_words.specs.declared.command.Product.TheVariants.{Numbers, Output}
+use Rattle.jet_words.specs.declared.command.Product.TheVariants.{Numbers, Calls, Input, Output, Stack}
 use Rattle.jet_words.specs.declared.command.Pipeline.{Pipeline}
 use Rattle.jet_refusal.specs.declared.refusal.Refusal.{Refusal}
 use Rattle.report_model.specs.Query.{Query, Alike}
-use Rattle.report_model.specs.Rows.{Row}
+use Rattle.report_model.specs.Rows.{Row, rows}
 use Rattle.report_model.specs.Text.{report_text}
 use Rattle.report_model.specs.Together.{only, together, first_other_rule}
 use Rattle.replay_model.specs.Run.{trace}
@@ -21,12 +21,17 @@ use Rattle.jet_model.specs.Outcomes.{and_then}
 use Rattle.jet_model.specs.Contents.{Contents, Names, Run}
 use Rattle.jet_model.specs.Report.{over_trace, report_of, influence_of, reports_of}
 use Rattle.path_find.specs.Answer.{path_report}
+use Rattle.range_model.specs.Text.{ranges_report}
+use Rattle.decision_model.specs.Text.{decisions_report}
 use Rattle.jet_model.specs.Answer.{Limits, Source, IsCaptureAnswer, IsRecordAnswer, analysed_answer, query_answer, rules_check, queries_answer, fitting_start, told_check, limited_text, run_answer, convert_answer}
 use Rattle.workload_model.specs.Answer.{IsBenchAnswer}
 use Rattle.jet_refusal.specs.Causes.{IsOwedTo}
 use Rattle.jet_files.specs.Outcome.{by_reading, AskAlike}
 use Rattle.run_output.specs.Summary.{summary_text}
+use Rattle.run_output.specs.Input.{input}
 use Rattle.run_output.specs.Output.{output}
+use Rattle.call_list.specs.Calls.{calls_text}
+use Rattle.call_stack.specs.Stack.{stack_text}
 
 abbrev pub named : Text → Text → Text → Names
 named program log query = record { program = program; log = log; query = query }
@@ -53,17 +58,26 @@ IsRecording program inputs limits heard heard_after file answer =
 abbrev pub workload_length : Pipeline → ℕ
 workload_length pipeline = unwrap_or pipeline.epoch 4096
 
--- the text that a query gives of a run: its report, a line for each sink; its influence, a line for each source byte; or the path
--- of the first source byte that its report lists
+-- the text that a query gives of a run: its report, a line for each sink; its influence, a line for each source byte; the path
+-- of the first source byte that its report lists; or the report in ranges
 abbrev pub given_by : Listing → Query → State → Log → List ℕ
 given_by BySink q start log = report_of q (trace start log)
 given_by BySource q start log = influence_of q (trace start log)
 given_by ByPath q start log = path_report start log q
+given_by ByRange q start log = ranges_report log (rows q (trace start log))
 
--- the text that is made of a run without a query: its numbers, or what it wrote on a channel
+-- where a source byte of a query could turn a run, as text
+abbrev pub decisions_by : Query → State → Log → List ℕ
+decisions_by q start log = decisions_report start log q
+
+-- the text that is made of a run without a query: its numbers, its calls, what it read or wrote on a channel, or
+-- the calls in progress at a time
 abbrev pub made_by : Product → State → Log → List ℕ
 made_by Numbers start log = summary_text log
+made_by Calls start log = calls_text log
+made_by (Input channel) start log = input channel log
 made_by (Output channel) start log = output channel log
+made_by (Stack time) start log = stack_text start log time
 
 -- the log of a run in version 2, if it fits its program
 abbrev pub conversion_of : Run → Result (List ℕ) Refusal
@@ -74,6 +88,8 @@ abbrev pub IsAnswer : CommandOf → Option (List ℕ) → Option (List ℕ) → 
 IsAnswer (AnalysisOf listing program log query pipeline) heard heard_after file answer =
     query_answer (given_by listing) pipeline.epoch file (named program log query) ≡ answer
 IsAnswer (ProductOf product program log) heard heard_after file answer = run_answer file program log (made_by product) ≡ answer
+IsAnswer (DecisionsOf program log query) heard heard_after file answer =
+    query_answer decisions_by None file (named program log query) ≡ answer
 IsAnswer (RecordOf program log inputs pages piece steps) heard heard_after file answer =
     IsRecording program inputs (limits_of pages piece steps) heard heard_after file answer
 IsAnswer (ConvertOf program log new) heard heard_after file answer = convert_answer file program log ≡ answer
@@ -93,9 +109,8 @@ abbrev pub fits_and_is_cut : Option ℕ → Run → Result (Unit {0}) Refusal
 fits_and_is_cut told run = and_then (fitting_start run.program run.log) (λ start. told_check told run.log)
 
 -- the answer is what every query gives that asks alike
-abbrev pub IsGivenAlike : Listing → Option ℕ → Run → Query → Result (List ℕ) Refusal → Type 0
-IsGivenAlike listing told run kept answer =
-    (q : Query) → Alike kept q → analysed_answer told run (given_by listing q) ≡ answer
+abbrev pub IsGivenAlike : (Query → State → Log → List ℕ) → Option ℕ → Run → Query → Result (List ℕ) Refusal → Type 0
+IsGivenAlike given told run kept answer = (q : Query) → Alike kept q → analysed_answer told run (given q) ≡ answer
 
 -- the reports of several queries, whose rules are compared first
 abbrev pub several_answer : Option ℕ → Run → List Query → Result (List ℕ) Refusal

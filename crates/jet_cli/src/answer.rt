@@ -1,17 +1,17 @@
 //! What a command gives: its files are read one after another, and a text is made of them.
-ghost use Rattle.std.specs.Prelude.{◌≡◌, ◌≤◌, ◌∷◌, [], length, map, is_ok, IfErr};
+ghost use Rattle.std.specs.Prelude.{◌≡◌, ◌≤◌, ◌∷◌, [], length, map, is_ok, None, IfErr};
 ghost use Rattle.outer_io.specs.Reads.{Reads};
 ghost use Rattle.jet_model.specs.Answer.{query_answer, queries_answer, run_answer, convert_answer};
 ghost use Rattle.jet_words.specs.Commands.{plain_command, IsPipeline, IsInRange};
 ghost use Rattle.jet_files.specs.Outcome.{Comes, Follows, seen_by, bytes_of};
 ghost use Rattle.jet_cli.specs.Targets.{sources_of, IfUntimed};
-ghost use Rattle.jet_cli.specs.Answers.{IsAnswer, given_by, made_by, named};
+ghost use Rattle.jet_cli.specs.Answers.{IsAnswer, given_by, decisions_by, made_by, named};
 ghost use Rattle.jet_cli.specs.Ending.{IsUnasked};
 
 use crate::bench::bench;
 use crate::engine::Engine;
 use crate::record::{Limits, record};
-use crate::work::{conversion, list, make, reports};
+use crate::work::{conversion, decide, list, make, reports};
 use jet_files::{open_queries, open_query, open_run};
 use jet_refusal::Refusal;
 use jet_words::{Command, Listing, Pipeline, Product};
@@ -39,6 +39,23 @@ fn analysis<R: Threads + Wait + Sync, S: Store, G: Gate>(
     let run = open_run(engine.alloc, store, program, log)?;
     let query = open_query(engine.alloc, store, query)?;
     list(engine, run, &query, listing, pipeline)
+}
+
+/// Where a source byte of a query could turn a run.
+fn decisions<S: Store>(
+    alloc: Global,
+    store: &mut S,
+    program: &str,
+    log: &str,
+    query: &str,
+) -> Result<Vec<u8>, Refusal>
+    ensures answer { Comes (λ file. query_answer decisions_by None file (named program.now log.now query.now))
+        (S.shown store.old) (S.shown store.new) (seen_by bytes_of result) }
+    ensures reads { Reads (program.now ∷ log.now ∷ query.now ∷ []) (is_ok result) (S.shown store.old) (S.shown store.new) }
+{
+    let run = open_run(alloc, store, program, log)?;
+    let query = open_query(alloc, store, query)?;
+    decide(alloc, run, &query)
 }
 
 /// The reports of several queries.
@@ -123,6 +140,11 @@ pub fn answer<R: Threads + Wait + Sync, S: Store, K: Clock, G: Gate>(
             program,
             log,
         } => run_product(alloc, store, program, log, *product),
+        Command::Decisions {
+            program,
+            log,
+            query,
+        } => decisions(alloc, store, program, log, query),
         Command::Record {
             program,
             inputs,

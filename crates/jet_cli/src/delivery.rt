@@ -32,6 +32,7 @@ pub fn deliver<S: Store, O: Sink>(
     match command {
         Command::Analysis { .. } => write_whole(out, text),
         Command::Product { .. } => write_whole(out, text),
+        Command::Decisions { .. } => write_whole(out, text),
         Command::Record { log, .. } => write_file(store, log, text),
         Command::Convert { new, .. } => write_file(store, new, text),
         Command::Queries { .. } => write_whole(out, text),

@@ -11,6 +11,7 @@ ghost use Rattle.jet_model.specs.Answer.{rules_check};
 ghost use Rattle.jet_files.specs.Outcome.{IsWork};
 ghost use Rattle.replayer.specs.Jobs.{trace_of};
 ghost use Rattle.run_query.specs.Preparing.{IsPrepared};
+ghost use Rattle.range_model.specs.Text.{ranges_report};
 ghost use Rattle.jet_cli.specs.Answers.{IsUnion, numbered_text};
 
 use crate::engine::Engine;
@@ -21,6 +22,7 @@ use jet_words::Pipeline;
 use no_memory::NoMemory;
 use outer_io::Gate;
 use query_lang::{Query, together};
+use range_report::shown;
 use replayer::Job;
 use run_query::Prepared;
 use sink_collect::{Report, text};
@@ -42,6 +44,22 @@ pub fn report_text<R: Threads + Wait + Sync, G: Gate>(
 {
     let report = rows_of(engine, job, query, prepared, pipeline)?;
     text(engine.alloc, &report)
+}
+
+/// The text of a query's report in ranges, with the bytes on both sides.
+pub fn ranges_text<R: Threads + Wait + Sync, G: Gate>(
+    engine: &Engine<R, G>,
+    job: &Job,
+    query: &Query,
+    prepared: Prepared,
+    pipeline: Pipeline,
+) -> Result<Vec<u8>, NoMemory>
+    requires prepared { IsPrepared query.now job.now prepared }
+    requires pipeline { IsPipeline pipeline }
+    ensures { IfOk result (λ text. text.items ≡ ranges_report job.now.log (rows query.now (trace_of job.now))) }
+{
+    let report = rows_of(engine, job, query, prepared, pipeline)?;
+    shown(engine.alloc, &report, job.log())
 }
 
 /// One query that chooses what any of several does. It gives up with `Rules`, where their rules differ, or is out of memory.

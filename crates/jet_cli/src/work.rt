@@ -1,6 +1,6 @@
 //! The work over a program and a log that were read: the log is fitted to its program, the run is replayed, and a text is
 //! made of it.
-ghost use Rattle.std.specs.Prelude.{◌≡◌, ◌≤◌, Ok, Err, length, IfOk, IfErr, OnOk};
+ghost use Rattle.std.specs.Prelude.{◌≡◌, ◌≤◌, None, Ok, Err, length, IfOk, IfErr, OnOk};
 ghost use Rattle.elf_model.specs.Image.{image as image_of_file};
 ghost use Rattle.replayer.specs.Checks.{IsChecked};
 ghost use Rattle.run_query.specs.Preparing.{IsPrepared};
@@ -9,13 +9,16 @@ ghost use Rattle.jet_model.specs.Answer.{fitting_start, told_check, text_answer}
 ghost use Rattle.jet_files.specs.Outcome.{IsWork, seen_by, bytes_of};
 ghost use Rattle.jet_files.specs.Views.{run_of};
 ghost use Rattle.jet_cli.specs.Answers.{IsWorkOf, IsGivenAlike, AreGivenAlike, fits_and_is_cut, given_by, made_by};
-ghost use Rattle.jet_cli.specs.Answers.{conversion_of};
+ghost use Rattle.jet_cli.specs.Answers.{conversion_of, decisions_by};
 
 use crate::engine::Engine;
 use crate::influence::influence_of;
 use crate::path::path_text;
-use crate::reports::{report_text, reports_of, union_of};
+use crate::reports::{ranges_text, report_text, reports_of, union_of};
 use crate::rows::cuts_by;
+use call_list::calls_text;
+use call_stack::stack_text;
+use decision_find::decisions;
 use elf_image::Image;
 use jet_files::{LONGEST_FILE, Program, Run};
 use jet_refusal::Refusal;
@@ -25,7 +28,7 @@ use outer_io::Gate;
 use query_lang::Query;
 use replay_log::{Log, write_log};
 use replayer::Job;
-use run_output::{output_on, summary_text};
+use run_output::{input_on, output_on, summary_text};
 use run_query::{Prepared, check_for};
 use std::alloc::Global;
 use std::sync::Wait;
@@ -98,6 +101,7 @@ fn listed<R: Threads + Wait + Sync, G: Gate>(
         Listing::BySink => report_text(engine, job, query, prepared, pipeline),
         Listing::BySource => influence_of(engine, job, query, prepared, pipeline),
         Listing::ByPath => path_text(engine, job, query, prepared, pipeline),
+        Listing::ByRange => ranges_text(engine, job, query, prepared, pipeline),
     }
 }
 
@@ -111,10 +115,20 @@ pub fn list<R: Threads + Wait + Sync, G: Gate>(
 ) -> Result<Vec<u8>, Refusal>
     requires image { image_of_file run.program.bytes.items ≡ Ok run.program.image }
     requires pipeline { IsPipeline pipeline }
-    ensures { IsWorkOf (IsGivenAlike listing pipeline.epoch (run_of run) query.now) (seen_by bytes_of result) }
+    ensures { IsWorkOf (IsGivenAlike (given_by listing) pipeline.epoch (run_of run) query.now) (seen_by bytes_of result) }
 {
     let (job, prepared) = prepared_run(engine, run, query, pipeline)?;
     let text = listed(engine, &job, query, prepared, listing, pipeline)?;
+    Ok(text)
+}
+
+/// Where a source byte of a query could turn the run, for each query that this one stands for.
+pub fn decide(alloc: Global, run: Run, query: &Query) -> Result<Vec<u8>, Refusal>
+    requires image { image_of_file run.program.bytes.items ≡ Ok run.program.image }
+    ensures { IsWorkOf (IsGivenAlike decisions_by None (run_of run) query.now) (seen_by bytes_of result) }
+{
+    let job = fitted_run(alloc, run)?;
+    let text = decisions(alloc, &job, query)?;
     Ok(text)
 }
 
@@ -144,7 +158,10 @@ fn made(alloc: Global, job: &Job, product: Product) -> Result<Vec<u8>, NoMemory>
 {
     match product {
         Product::Numbers => summary_text(alloc, &job.summary()),
+        Product::Calls => calls_text(alloc, job.log()),
+        Product::Input(channel) => input_on(alloc, job.log().records(), channel),
         Product::Output(channel) => output_on(alloc, job.log().records(), channel),
+        Product::Stack(time) => stack_text(alloc, job, time),
     }
 }
 

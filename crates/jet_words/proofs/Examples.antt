@@ -6,9 +6,9 @@ use Rattle.clap.specs.Words.{Text}
 use Rattle.clap.specs.Walk.{walked, bundle_met}
 use Rattle.clap.specs.Takes.{walk_passes, flags_pass}
 use Rattle.jet_words.specs.declared.command.Pipeline.{Pipeline}
-use Rattle.jet_words.specs.declared.command.Listing.TheVariants.{BySink, BySource, ByPath}
-use Rattle.jet_words.specs.declared.command.Product.TheVariants.{Numbers, Output}
-use Rattle.jet_words.specs.Commands.{CommandOf, command_of, AnalysisOf, ProductOf, RecordOf, ConvertOf, QueriesOf, BenchOf}
+use Rattle.jet_words.specs.declared.command.Listing.TheVariants.{BySink, BySource, ByPath, ByRange}
+use Rattle.jet_words.specs.declared.command.Product.TheVariants.{Numbers, Calls, Input, Output, Stack}
+use Rattle.jet_words.specs.Commands.{CommandOf, command_of, AnalysisOf, ProductOf, DecisionsOf, RecordOf, ConvertOf, QueriesOf, BenchOf}
 
 abbrev before_word : Bool → ℕ → List Text → List Text
 before_word true c words = [] ∷ words
@@ -144,7 +144,7 @@ no_recordings : AreRefused (
 unfolding command_of walked walk_passes
 no_recordings = refl
 
--- ---- replay and output
+-- ---- replay, calls, input and output
 
 replays : Stands ((codes "jet replay p l", ProductOf Numbers (codes "p") (codes "l")) ∷ [])
 unfolding command_of walked walk_passes
@@ -153,6 +153,25 @@ replays = refl
 no_replays : AreRefused (codes "jet replay p" ∷ codes "jet replay p l i" ∷ codes "jet replay p l --pages 1" ∷ [])
 unfolding command_of walked walk_passes
 no_replays = refl
+
+call_lists : Stands ((codes "jet calls p l", ProductOf Calls (codes "p") (codes "l")) ∷ [])
+unfolding command_of walked walk_passes
+call_lists = refl
+
+no_call_lists : AreRefused (codes "jet calls p" ∷ codes "jet calls p l 1" ∷ codes "jet calls p l --epoch 1" ∷ codes "jet call p l" ∷ [])
+unfolding command_of walked walk_passes
+no_call_lists = refl
+
+abbrev read_on : Text → ℕ → Line
+read_on line channel = (line, ProductOf (Input channel) (codes "p") (codes "l"))
+
+what_was_read : Stands (read_on (codes "jet input p l 0") 0 ∷ read_on (codes "jet input p l 15") 15 ∷ [])
+unfolding command_of walked walk_passes
+what_was_read = refl
+
+nothing_read : AreRefused (codes "jet input p l" ∷ codes "jet input p l 16" ∷ codes "jet input p l 1 2" ∷ codes "jet input p l a" ∷ [])
+unfolding command_of walked walk_passes
+nothing_read = refl
 
 abbrev written : Text → ℕ → Line
 written line channel = (line, ProductOf (Output channel) (codes "p") (codes "l"))
@@ -168,6 +187,20 @@ no_outputs : AreRefused (
     ∷ codes "jet output p l 1 --steps 1" ∷ [])
 unfolding command_of walked walk_passes
 no_outputs = refl
+
+-- ---- stack
+
+abbrev standing : Text → ℕ → Line
+standing line time = (line, ProductOf (Stack time) (codes "p") (codes "l"))
+
+stacks : Stands (standing (codes "jet stack p l 0") 0 ∷ standing (codes "jet stack p l 1099511627776") 1099511627776 ∷ [])
+unfolding command_of walked walk_passes
+stacks = refl
+
+no_stacks : AreRefused (codes "jet stack p l" ∷ codes "jet stack p l 1099511627777" ∷ codes "jet stack p l 1 2" ∷ codes "jet stack p l a"
+    ∷ codes "jet stack p l 1 --epoch 1" ∷ [])
+unfolding command_of walked walk_passes
+no_stacks = refl
 
 -- ---- convert
 
@@ -217,6 +250,33 @@ no_paths : AreRefused (codes "jet path p l" ∷ codes "jet path p l q r" ∷ cod
     ∷ codes "jet path p l q --epoch 0" ∷ codes "jet paths p l q" ∷ [])
 unfolding command_of walked walk_passes
 no_paths = refl
+
+-- ---- show
+
+abbrev shown : Text → Pipeline → Line
+shown line pipeline = (line, AnalysisOf ByRange (codes "p") (codes "l") (codes "q") pipeline)
+
+reports_in_ranges : Stands (
+    shown (codes "jet show p l q") usual
+    ∷ shown (codes "jet show p l q --epoch 5 --link 3 --workers 2") (record { epoch = Some 5; workers = 2; link = 3 }) ∷ [])
+unfolding command_of walked walk_passes
+reports_in_ranges = refl
+
+no_reports_in_ranges : AreRefused (codes "jet show p l" ∷ codes "jet show p l q r" ∷ codes "jet show p l q --steps 1"
+    ∷ codes "jet show p l q --link 0" ∷ codes "jet shows p l q" ∷ [])
+unfolding command_of walked walk_passes
+no_reports_in_ranges = refl
+
+-- ---- decisions
+
+decisions : Stands ((codes "jet decisions p l q", DecisionsOf (codes "p") (codes "l") (codes "q")) ∷ [])
+unfolding command_of walked walk_passes
+decisions = refl
+
+no_decisions : AreRefused (codes "jet decisions p l" ∷ codes "jet decisions p l q r" ∷ codes "jet decisions p l q --epoch 5"
+    ∷ codes "jet decision p l q" ∷ [])
+unfolding command_of walked walk_passes
+no_decisions = refl
 
 -- ---- queries
 

@@ -37,6 +37,9 @@ influence_app = analysis (codes "influence")
 abbrev pub path_app : App
 path_app = analysis (codes "path")
 
+abbrev pub show_app : App
+show_app = analysis (codes "show")
+
 -- NAME PROG LOG C
 abbrev pub on_channel : Text → App
 on_channel name = with_rule (program_and_log name) (number (codes "C") 0 15)
@@ -44,6 +47,13 @@ on_channel name = with_rule (program_and_log name) (number (codes "C") 0 15)
 -- replay PROG LOG
 abbrev pub replay_app : App
 replay_app = program_and_log (codes "replay")
+
+-- calls PROG LOG
+abbrev pub calls_app : App
+calls_app = program_and_log (codes "calls")
+
+abbrev pub input_app : App
+input_app = on_channel (codes "input")
 
 abbrev pub output_app : App
 output_app = on_channel (codes "output")
@@ -80,16 +90,24 @@ abbrev pub with_each : App → List App → App
 with_each command [] = command
 with_each command (subcommand ∷ more) = with_each (with_subcommand command subcommand.top) more
 
+-- stack PROG LOG T
+abbrev pub stack_app : App
+stack_app = with_rule (program_and_log (codes "stack")) (number (codes "T") 0 1099511627776)
+
+-- decisions PROG LOG QUERY
+abbrev pub decisions_app : App
+decisions_app = with_rule (program_and_log (codes "decisions")) (positional (codes "QUERY"))
+
 -- the subcommands that tell of the rows of a query
 abbrev pub analyses : List App
-analyses = query_app ∷ influence_app ∷ path_app ∷ []
+analyses = query_app ∷ influence_app ∷ path_app ∷ show_app ∷ []
 
 -- those that make something of a run without a query
 abbrev pub products : List App
-products = replay_app ∷ output_app ∷ []
+products = replay_app ∷ calls_app ∷ input_app ∷ output_app ∷ stack_app ∷ []
 
 abbrev pub others : List App
-others = record_app ∷ convert_app ∷ queries_app ∷ bench_app ∷ []
+others = decisions_app ∷ record_app ∷ convert_app ∷ queries_app ∷ bench_app ∷ []
 
 -- jet SUBCOMMAND ..
 abbrev pub jet_app : App

@@ -5,12 +5,12 @@ use Rattle.clap.specs.Words.{Row, Text, takes, subcommand_of}
 use Rattle.clap_command.specs.Values.{value_of, values_of, number_of, optional_number_of}
 use Rattle.jet_words.specs.CommandLine.{jet_app}
 use Rattle.jet_words.specs.declared.command.Listing.{Listing}
-use Rattle.jet_words.specs.declared.command.Listing.TheVariants.{BySink, BySource, ByPath}
+use Rattle.jet_words.specs.declared.command.Listing.TheVariants.{BySink, BySource, ByPath, ByRange}
 use Rattle.jet_words.specs.declared.command.Product.{Product}
-use Rattle.jet_words.specs.declared.command.Product.TheVariants.{Numbers, Output}
+use Rattle.jet_words.specs.declared.command.Product.TheVariants.{Numbers, Calls, Input, Output, Stack}
 use Rattle.jet_words.specs.declared.command.Pipeline.{Pipeline}
 use Rattle.jet_words.specs.declared.command.Command.{Command}
-use Rattle.jet_words.specs.declared.command.Command.TheVariants.{Analysis, Product as Made, Record, Convert, Queries, Bench}
+use Rattle.jet_words.specs.declared.command.Command.TheVariants.{Analysis, Product as Made, Decisions, Record, Convert, Queries, Bench}
 
 -- a command; files are told by their names
 pub data CommandOf : Type 0 where
@@ -18,6 +18,8 @@ pub data CommandOf : Type 0 where
   AnalysisOf : (listing : Listing) (program log query : Text) (pipeline : Pipeline) → CommandOf
   -- what is made of a recorded run
   ProductOf : (product : Product) (program log : Text) → CommandOf
+  -- where a source byte of a query could turn a run
+  DecisionsOf : (program log query : Text) → CommandOf
   -- the log of a run over these input files, with so many pages of memory, at most `piece` bytes to a read, and cut off after
   -- `steps` steps
   RecordOf : (program log : Text) (inputs : List Text) (pages piece steps : ℕ) → CommandOf
@@ -44,6 +46,9 @@ analysis_of listing rows =
 abbrev pub product_of : Product → List Row → CommandOf
 product_of product rows = ProductOf product (value_of (codes "PROG") rows) (value_of (codes "LOG") rows)
 
+abbrev pub decisions_of : List Row → CommandOf
+decisions_of rows = DecisionsOf (value_of (codes "PROG") rows) (value_of (codes "LOG") rows) (value_of (codes "QUERY") rows)
+
 abbrev pub record_of : List Row → CommandOf
 record_of rows = RecordOf (value_of (codes "PROG") rows) (value_of (codes "LOG") rows) (values_of (codes "IN") rows)
     (number_of (codes "pages") rows) (number_of (codes "piece") rows) (number_of (codes "steps") rows)
@@ -63,21 +68,26 @@ abbrev pub listing_by : Text → Option Listing
 listing_by name =
     if bytes_eq name (codes "query") then Some BySink
     else (if bytes_eq name (codes "influence") then Some BySource
-    else (if bytes_eq name (codes "path") then Some ByPath else None))
+    else (if bytes_eq name (codes "path") then Some ByPath
+    else (if bytes_eq name (codes "show") then Some ByRange else None)))
 
 -- what it makes of a run, if it is of those that do
 abbrev pub product_by : Text → List Row → Option Product
 product_by name rows =
     if bytes_eq name (codes "replay") then Some Numbers
-    else (if bytes_eq name (codes "output") then Some (Output (number_of (codes "C") rows)) else None)
+    else (if bytes_eq name (codes "calls") then Some Calls
+    else (if bytes_eq name (codes "input") then Some (Input (number_of (codes "C") rows))
+    else (if bytes_eq name (codes "output") then Some (Output (number_of (codes "C") rows))
+    else (if bytes_eq name (codes "stack") then Some (Stack (number_of (codes "T") rows)) else None))))
 
 -- the command of any other
 abbrev pub other_by : Text → List Row → Option CommandOf
 other_by name rows =
-    if bytes_eq name (codes "record") then Some (record_of rows)
+    if bytes_eq name (codes "decisions") then Some (decisions_of rows)
+    else (if bytes_eq name (codes "record") then Some (record_of rows)
     else (if bytes_eq name (codes "convert") then Some (convert_of rows)
     else (if bytes_eq name (codes "queries") then Some (queries_of rows)
-    else (if bytes_eq name (codes "bench") then Some (bench_of rows) else None)))
+    else (if bytes_eq name (codes "bench") then Some (bench_of rows) else None))))
 
 -- an analysis, else a product, else another command
 abbrev pub first_of : List Row → Option Listing → Option Product → Option CommandOf → Option CommandOf
@@ -98,6 +108,7 @@ command_of words = if takes jet_app words then option_and_then command_by (subco
 abbrev pub plain_command : Command → CommandOf
 plain_command (Analysis listing program log query pipeline) = AnalysisOf listing program.now log.now query.now pipeline
 plain_command (Made product program log) = ProductOf product program.now log.now
+plain_command (Decisions program log query) = DecisionsOf program.now log.now query.now
 plain_command (Record program log inputs pages piece steps) = RecordOf program.now log.now (map (λ s. s.now) inputs.items) pages piece steps
 plain_command (Convert program log new) = ConvertOf program.now log.now new.now
 plain_command (Queries program log queries pipeline) =
@@ -109,15 +120,19 @@ abbrev pub IsPipeline : Pipeline → Type 0
 IsPipeline p =
     IfSome p.epoch (λ n. (1 ≤ n) × (n ≤ 1099511627776)) × (1 ≤ p.workers) × (p.workers ≤ 64) × (1 ≤ p.link) × (p.link ≤ 65536)
 
--- the channel does
+-- the channel or the time does
 abbrev pub IsProduct : Product → Type 0
 IsProduct Numbers = ⊤
+IsProduct Calls = ⊤
+IsProduct (Input channel) = channel ≤ 15
 IsProduct (Output channel) = channel ≤ 15
+IsProduct (Stack time) = time ≤ 1099511627776
 
 -- the numbers of the command do
 abbrev pub IsInRange : CommandOf → Type 0
 IsInRange (AnalysisOf listing program log query pipeline) = IsPipeline pipeline
 IsInRange (ProductOf product program log) = IsProduct product
+IsInRange (DecisionsOf program log query) = ⊤
 IsInRange (RecordOf program log inputs pages piece steps) =
     (length inputs ≤ 16) × (1 ≤ pages) × (pages ≤ 4096) × (1 ≤ piece) × (piece ≤ 16777216) × (1 ≤ steps) × (steps ≤ 1099511627776)
 IsInRange (ConvertOf program log new) = ⊤

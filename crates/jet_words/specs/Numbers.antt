@@ -14,7 +14,9 @@ HasPipelineNumbers rows =
 abbrev pub HasNumbers : Text × List Row → Type 0
 HasNumbers (name, rows) =
     (IsSome (listing_by name) → HasPipelineNumbers rows)
+    × (bytes_eq name (codes "input") ≡ true → IsNumber (codes "C") rows)
     × (bytes_eq name (codes "output") ≡ true → IsNumber (codes "C") rows)
+    × (bytes_eq name (codes "stack") ≡ true → IsLongNumber (codes "T") rows)
     × (bytes_eq name (codes "record") ≡ true → IsNumber (codes "pages") rows × IsNumber (codes "piece") rows × IsLongNumber (codes "steps") rows)
     × (bytes_eq name (codes "queries") ≡ true → HasPipelineNumbers rows)
     × (bytes_eq name (codes "bench") ≡ true →

@@ -20,6 +20,8 @@ pub enum Listing {
     BySource,
     /// The path by which the first source byte that is listed came to its output byte or point.
     ByPath,
+    /// The report in runs of output bytes, with ranges of source bytes, and the bytes on both sides.
+    ByRange,
 }
 
 /// What is made of a recorded run without a query.
@@ -27,8 +29,14 @@ pub enum Listing {
 pub enum Product {
     /// Its numbers, as text.
     Numbers,
+    /// A line for each of its calls, and one for its end.
+    Calls,
+    /// What it read on a channel, 0 to 15.
+    Input(u32),
     /// What it wrote on a channel, 0 to 15.
     Output(u32),
+    /// The calls in progress after so many steps, 0 to 1099511627776 (2^40).
+    Stack(u64),
 }
 
 /// What words stand for.
@@ -51,6 +59,12 @@ pub enum Command<'a> {
         product: Product,
         program: &'a str,
         log: &'a str,
+    },
+    /// Where a source byte of a query could turn a run: the names of the program, the log and the query.
+    Decisions {
+        program: &'a str,
+        log: &'a str,
+        query: &'a str,
     },
     /// The recording of a run.
     Record {

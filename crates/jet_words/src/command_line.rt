@@ -3,8 +3,8 @@ ghost use Rattle.std.specs.Prelude.{◌≡◌, false, IfOk, IsOkAnd};
 ghost use Rattle.clap.specs.Words.{app_of, with_subcommand};
 ghost use Rattle.clap.specs.declared.builder.Command.TheViews.{out-Command as fields_of};
 ghost use Rattle.jet_words.specs.CommandLine.{program_and_log as program_and_log_app};
-ghost use Rattle.jet_words.specs.CommandLine.{with_pipeline as with_pipeline_app, analysis, on_channel};
-ghost use Rattle.jet_words.specs.CommandLine.{record_app, convert_app, queries_app, bench_app, bare_app};
+ghost use Rattle.jet_words.specs.CommandLine.{with_pipeline as with_pipeline_app, analysis, on_channel, stack_app};
+ghost use Rattle.jet_words.specs.CommandLine.{decisions_app, record_app, convert_app, queries_app, bench_app, bare_app};
 ghost use Rattle.jet_words.specs.CommandLine.{with_each, analyses, products, others, jet_app};
 
 use clap::Command;
@@ -45,6 +45,15 @@ fn analysis_command<'a>(alloc: Global, name: &'a str) -> Result<Command<'a>, All
     with_pipeline(alloc, command)
 }
 
+// The command for a time of a run.
+fn stack_command<'a>(alloc: Global) -> Result<Command<'a>, AllocError>
+    ensures app { IfOk result (λ c. app_of c ≡ stack_app) }
+    ensures globals { IfOk result (λ c. (fields_of c).has_globals ≡ false) }
+{
+    let command = program_and_log(alloc, "stack")?;
+    with_argument(command, number(alloc, "T", 0, 1099511627776))
+}
+
 // A command for a channel of a run.
 fn channel_command<'a>(alloc: Global, name: &'a str) -> Result<Command<'a>, AllocError>
     ensures app { IfOk result (λ c. app_of c ≡ on_channel name.entry.now) }
@@ -52,6 +61,14 @@ fn channel_command<'a>(alloc: Global, name: &'a str) -> Result<Command<'a>, Allo
 {
     let command = program_and_log(alloc, name)?;
     with_argument(command, number(alloc, "C", 0, 15))
+}
+
+fn decisions_command<'a>(alloc: Global) -> Result<Command<'a>, AllocError>
+    ensures app { IfOk result (λ c. app_of c ≡ decisions_app) }
+    ensures globals { IfOk result (λ c. (fields_of c).has_globals ≡ false) }
+{
+    let command = program_and_log(alloc, "decisions")?;
+    with_argument(command, positional(alloc, "QUERY"))
 }
 
 fn record_command<'a>(alloc: Global) -> Result<Command<'a>, AllocError>
@@ -124,7 +141,8 @@ fn with_analyses<'a>(alloc: Global, command: Command<'a>) -> Result<Command<'a>,
 {
     let command = with_made(command, analysis_command(alloc, "query"))?;
     let command = with_made(command, analysis_command(alloc, "influence"))?;
-    with_made(command, analysis_command(alloc, "path"))
+    let command = with_made(command, analysis_command(alloc, "path"))?;
+    with_made(command, analysis_command(alloc, "show"))
 }
 
 // The subcommands that make something of a run without a query.
@@ -132,13 +150,17 @@ fn with_products<'a>(alloc: Global, command: Command<'a>) -> Result<Command<'a>,
     ensures { IfOk result (λ c. app_of c ≡ with_each (app_of command.entry) products) }
 {
     let command = with_made(command, program_and_log(alloc, "replay"))?;
-    with_made(command, channel_command(alloc, "output"))
+    let command = with_made(command, program_and_log(alloc, "calls"))?;
+    let command = with_made(command, channel_command(alloc, "input"))?;
+    let command = with_made(command, channel_command(alloc, "output"))?;
+    with_made(command, stack_command(alloc))
 }
 
 // All other subcommands.
 fn with_others<'a>(alloc: Global, command: Command<'a>) -> Result<Command<'a>, AllocError>
     ensures { IfOk result (λ c. app_of c ≡ with_each (app_of command.entry) others) }
 {
+    let command = with_made(command, decisions_command(alloc))?;
     let command = with_made(command, record_command(alloc))?;
     let command = with_made(command, convert_command(alloc))?;
     let command = with_made(command, queries_command(alloc))?;

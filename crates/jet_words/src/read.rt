@@ -8,7 +8,7 @@ ghost use Rattle.jet_words.specs.CommandLine.{jet_app};
 ghost use Rattle.jet_words.specs.Commands.{command_of, command_by, plain_command, IsInRange};
 ghost use Rattle.jet_words.specs.Commands.{listing_by, product_by, other_by};
 ghost use Rattle.jet_words.specs.Commands.{pipeline_of, analysis_of, product_of as product_of_rows};
-ghost use Rattle.jet_words.specs.Commands.{record_of, convert_of, queries_of, bench_of};
+ghost use Rattle.jet_words.specs.Commands.{decisions_of, record_of, convert_of, queries_of, bench_of};
 ghost use Rattle.jet_words.specs.Numbers.{HasPipelineNumbers, HasNumbers};
 
 use crate::command::{Command, Listing, Pipeline, Product};
@@ -60,6 +60,16 @@ fn read_product<'a>(matches: &ArgMatches<'a>, product: Product) -> Command<'a>
         product,
         program: read_value(matches, "PROG"),
         log: read_value(matches, "LOG"),
+    }
+}
+
+fn read_decisions<'a>(matches: &ArgMatches<'a>) -> Command<'a>
+    ensures { plain_command result ≡ decisions_of (rows_of (found_of matches.now)) }
+{
+    Command::Decisions {
+        program: read_value(matches, "PROG"),
+        log: read_value(matches, "LOG"),
+        query: read_value(matches, "QUERY"),
     }
 }
 
@@ -126,6 +136,8 @@ fn listing_of(name: &str) -> Option<Listing>
         Some(Listing::BySource)
     } else if name == "path" {
         Some(Listing::ByPath)
+    } else if name == "show" {
+        Some(Listing::ByRange)
     } else {
         None
     }
@@ -138,8 +150,14 @@ fn product_of(name: &str, matches: &ArgMatches<'_>) -> Option<Product>
 {
     if name == "replay" {
         Some(Product::Numbers)
+    } else if name == "calls" {
+        Some(Product::Calls)
+    } else if name == "input" {
+        Some(Product::Input(read_number(matches, "C")))
     } else if name == "output" {
         Some(Product::Output(read_number(matches, "C")))
+    } else if name == "stack" {
+        Some(Product::Stack(read_long_number(matches, "T")))
     } else {
         None
     }
@@ -154,7 +172,9 @@ fn other_of<'a>(
     requires { HasNumbers (name.now, rows_of (found_of matches.now)) }
     ensures { IfOk result (λ c. option_map plain_command c ≡ other_by name.now (rows_of (found_of matches.now))) }
 {
-    if name == "record" {
+    if name == "decisions" {
+        Ok(Some(read_decisions(matches)))
+    } else if name == "record" {
         Ok(Some(read_record(alloc, matches)?))
     } else if name == "convert" {
         Ok(Some(read_convert(matches)))

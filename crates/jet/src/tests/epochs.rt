@@ -48,6 +48,14 @@ const LIMITS: &[(Line, Ending<'static>)] = &[
         },
     ),
     (
+        &["jet", "show", "prog", "log", "query", "--epoch", "1"],
+        Ending {
+            status: 9,
+            out: &[],
+            err: "jet: limit epochs 4097\n",
+        },
+    ),
+    (
         &[
             "jet", "queries", "prog", "log", "query", "query", "--epoch", "1",
         ],

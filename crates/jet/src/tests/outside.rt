@@ -3,7 +3,10 @@
 ghost use Rattle.std.specs.Prelude.{◌<◌};
 
 use super::guests::COPY_FOUR;
-use super::runs::{CONVERT, INFLUENCE, NUMBERS, OUTPUT, PATH, QUERIES, REPLAY};
+use super::runs::{
+    CALLS, CALLS_OF_COPY, CONVERT, DECISIONS, INFLUENCE, INPUT, NUMBERS, OUTPUT, PATH, QUERIES,
+    REPLAY, SHOW, STACK,
+};
 use super::{
     COPIED, COPY, Ending, Line, NEVER, QUERY, assert_ends, assert_puts, files, log_with,
     program_of, status_of,
@@ -20,12 +23,17 @@ const COMMANDS: &[(Line, u64, &str)] = &[
     (QUERY, 9, COPIED),
     (REPLAY, 6, NUMBERS),
     (OUTPUT, 6, "ABCD"),
+    (INPUT, 6, "ABCD"),
+    (CALLS, 6, CALLS_OF_COPY),
+    (DECISIONS, 9, "end 0\n"),
+    (STACK, 6, "0x0001000c\nend 1\n"),
     (INFLUENCE, 9, "0:0 1:0\n0:1 1:1\n0:2 1:2\n0:3 1:3\nend 4\n"),
     (
         QUERIES,
         9,
         "query 1\n1:0 0:0\n1:1 0:1\n1:2 0:2\n1:3 0:3\nend 4\n",
     ),
+    (SHOW, 9, "1:0-4 \"ABCD\" = 0:0-4 \"ABCD\"\nend 1 0\n"),
     (
         PATH,
         9,
@@ -174,6 +182,9 @@ const WORDS: &[(Line, u8, &str)] = &[
     (&["jet", "record", "prog", "log"], 7, "jet: read fault\n"),
     (REPLAY, 7, "jet: read fault\n"),
     (OUTPUT, 7, "jet: read fault\n"),
+    (INPUT, 7, "jet: read fault\n"),
+    (STACK, 7, "jet: read fault\n"),
+    (CALLS, 7, "jet: read fault\n"),
     (&["jet", "convert", "prog", "log"], 2, "jet: usage\n"),
     (&["jet", "influence", "prog", "log"], 2, "jet: usage\n"),
     (
@@ -185,6 +196,8 @@ const WORDS: &[(Line, u8, &str)] = &[
     (INFLUENCE, 7, "jet: read fault\n"),
     (QUERIES, 7, "jet: read fault\n"),
     (PATH, 7, "jet: read fault\n"),
+    (DECISIONS, 7, "jet: read fault\n"),
+    (SHOW, 7, "jet: read fault\n"),
 ];
 
 /// Over a store of no files the command of these words ends so.

@@ -22,10 +22,22 @@ pub const INFLUENCE: Line = &["jet", "influence", "prog", "log", "query"];
 
 pub const QUERIES: Line = &["jet", "queries", "prog", "log", "query"];
 
+pub const CALLS: Line = &["jet", "calls", "prog", "log"];
+
+pub const INPUT: Line = &["jet", "input", "prog", "log", "0"];
+
+pub const STACK: Line = &["jet", "stack", "prog", "log", "3"];
+
+pub const SHOW: Line = &["jet", "show", "prog", "log", "query"];
+
+pub const DECISIONS: Line = &["jet", "decisions", "prog", "log", "query"];
+
 pub const PATH: Line = &["jet", "path", "prog", "log", "query"];
 
 /// The commands over a log.
-pub const READERS: [Line; 7] = [QUERY, REPLAY, OUTPUT, CONVERT, INFLUENCE, QUERIES, PATH];
+pub const READERS: [Line; 12] = [
+    QUERY, REPLAY, OUTPUT, CONVERT, INFLUENCE, QUERIES, PATH, CALLS, INPUT, STACK, SHOW, DECISIONS,
+];
 
 /// The numbers of the four-byte copy.
 pub const NUMBERS: &str = "steps 12\ncalls 2\nread 4\nwritten 4\nend exit 0\n";
@@ -85,6 +97,54 @@ pub const ON_TWO: &[Entry] = &[
     Entry::Exit(23, 0),
 ];
 
+/// Calls a function that calls another, and exits.
+const CALL_TWICE: &[Instr] = &code![
+    jal(x1, 12),
+    li(x17, 93),
+    ecall(),
+    addi(x5, x1, 0),
+    jal(x1, 12),
+    addi(x1, x5, 0),
+    jalr(x0, 0(x1)),
+    jalr(x0, 0(x1)),
+];
+
+/// Its run.
+const CALLED: &[Entry] = &[Entry::Exit(7, 0)];
+
+/// Reads a byte, and skips an instruction where it is 0.
+const BRANCH: &[Instr] = &code![
+    lui(x11, 0x10000),
+    addi(x11, x11, 256),
+    li(x10, 0),
+    li(x12, 1),
+    li(x17, 63),
+    ecall(),
+    lbu(x6, 0(x11)),
+    beq(x6, x0, 8),
+    li(x10, 0),
+    li(x17, 93),
+    ecall(),
+];
+
+/// The calls of the four-byte copy.
+pub const CALLS_OF_COPY: &str = "5 read 0:0 4 m:65792 \"ABCD\"
+8 write 1:0 4 m:65792 \"ABCD\"
+11 exit 0
+end 3
+";
+
+/// Those of the guest that writes on two channels.
+const CALLS_ON_TWO: &str = "5 read 0:0 4 m:65792 \"ABCD\"
+8 write 1:0 4 m:65792 \"ABCD\"
+11 write 2:0 1 m:65792 \"A\"
+13 clock 4294967298
+15 other 5
+20 write 1:4 1 m:65792 \"A\"
+23 exit 0
+end 7
+";
+
 /// Words, a guest's code, its records, and what is written.
 const RUNS: &[(Line, &[Instr], &[Entry], &str)] = &[
     (REPLAY, COPY_CODE, COPIES, NUMBERS),
@@ -106,6 +166,87 @@ const RUNS: &[(Line, &[Instr], &[Entry], &str)] = &[
         CUT,
         "steps 6\ncalls 1\nread 4\nwritten 0\nend limit\n",
     ),
+    (INPUT, COPY_CODE, COPIES, "ABCD"),
+    (INPUT, COPY_CODE, CUT, "ABCD"),
+    (INPUT, COPY_CODE, &[Entry::Limit(5)], ""),
+    (&["jet", "input", "prog", "log", "1"], COPY_CODE, COPIES, ""),
+    (
+        &["jet", "input", "prog", "log", "15"],
+        COPY_CODE,
+        COPIES,
+        "",
+    ),
+    // The guest calls at 0x10000, and in that at 0x10010, and returns from both.
+    (
+        &["jet", "stack", "prog", "log", "0"],
+        CALL_TWICE,
+        CALLED,
+        "0x00010000\nend 1\n",
+    ),
+    (
+        &["jet", "stack", "prog", "log", "1"],
+        CALL_TWICE,
+        CALLED,
+        "0x0001000c\n0x00010000\nend 2\n",
+    ),
+    (
+        STACK,
+        CALL_TWICE,
+        CALLED,
+        "0x0001001c\n0x00010010\n0x00010000\nend 3\n",
+    ),
+    (
+        &["jet", "stack", "prog", "log", "4"],
+        CALL_TWICE,
+        CALLED,
+        "0x00010014\n0x00010000\nend 2\n",
+    ),
+    (
+        &["jet", "stack", "prog", "log", "6"],
+        CALL_TWICE,
+        CALLED,
+        "0x00010004\nend 1\n",
+    ),
+    // At the run's end the pc is behind the exit's ECALL; the run has no later time.
+    (
+        &["jet", "stack", "prog", "log", "8"],
+        CALL_TWICE,
+        CALLED,
+        "0x0001000c\nend 1\n",
+    ),
+    (
+        &["jet", "stack", "prog", "log", "9"],
+        CALL_TWICE,
+        CALLED,
+        "end 0\n",
+    ),
+    (
+        &["jet", "stack", "prog", "log", "1099511627776"],
+        CALL_TWICE,
+        CALLED,
+        "end 0\n",
+    ),
+    (
+        DECISIONS,
+        BRANCH,
+        &[Entry::Read(5, 0, 1, b"A"), Entry::Exit(10, 0)],
+        "0x0001001c beq r:6.0 1 7 0:0-1\nend 1\n",
+    ),
+    (CALLS, COPY_CODE, COPIES, CALLS_OF_COPY),
+    (
+        CALLS,
+        COPY_CODE,
+        CUT,
+        "5 read 0:0 4 m:65792 \"ABCD\"\n6 limit\nend 2\n",
+    ),
+    (CALLS, COPY_CODE, &[Entry::Limit(5)], "5 limit\nend 1\n"),
+    (
+        CALLS,
+        &[NO_INSTRUCTION],
+        &[Entry::Trap(0, 2, BASE)],
+        "0 trap 2 0x00010000\nend 1\n",
+    ),
+    (CALLS, WRITE_ON_TWO, ON_TWO, CALLS_ON_TWO),
     (OUTPUT, COPY_CODE, COPIES, "ABCD"),
     (OUTPUT, COPY_CODE, CUT, ""),
     (

@@ -1,22 +1,18 @@
 use Rattle.std.proofs.Common.{rules, [], ◌∷◌, Err}
 use Rattle.std.proofs.lemmas.Result.{err_from_is_err_and}
 use Rattle.outer_io.proofs.ReadsLemmas.{reads-then, reads-stops, reads-less}
-use Rattle.report_model.specs.Query.{Alike}
-use Rattle.jet_model.specs.Outcomes.{and_then}
-use Rattle.jet_model.specs.Contents.{Contents, run_at, query_at}
-use Rattle.jet_model.specs.Answer.{analysed_answer, query_answer}
+use Rattle.jet_model.specs.Answer.{query_answer}
 use Rattle.jet_files.specs.Outcome.{Comes, seen_by, bytes_of}
 use Rattle.jet_files.specs.Views.{run_of}
-use Rattle.jet_files.proofs.Composing.{comes-stops}
 use Rattle.jet_cli.specs.Answers.{given_by, named}
-use Rattle.jet_cli.proofs.Working.{after_run, kept-refused, kept-given}
+use Rattle.jet_cli.proofs.Working.{run-refused, query-refused, query-given}
 use Rattle.jet_cli.proofs.answer.analysis.Goals as goal
 
 pub returns-in_err-run-clause-answer : goal.returns-in_err-run-clause-answer
 returns-in_err-run-clause-answer g c =
     let a = c.args in
     let refused : Comes (λ file. query_answer (given_by a.listing) a.pipeline.epoch file (named a.program.now a.log.now a.query.now)) (g.S.Store.shown a.store.now) (g.S.Store.shown c.open_run.new.store) (Err c.in_err-run.field-0.0) =
-    comes-stops (λ (file : Contents). run_at file a.program.now a.log.now) (λ run file. and_then (query_at file a.query.now) (λ q. analysed_answer a.pipeline.epoch run (given_by a.listing q))) (g.S.Store.shown a.store.now) (g.S.Store.shown c.open_run.new.store) c.in_err-run.field-0.0 c.in_err-run.ensures.outcome in
+    run-refused (given_by a.listing) a.pipeline.epoch a.program.now a.log.now a.query.now (g.S.Store.shown a.store.now) (g.S.Store.shown c.open_run.new.store) c.in_err-run.field-0.0 c.in_err-run.ensures.outcome in
     search rules
 
 pub returns-in_err-query-clause-answer : goal.returns-in_err-query-clause-answer
@@ -24,9 +20,8 @@ returns-in_err-query-clause-answer g c =
     let a = c.args in
     let p = err_from_is_err_and c.from_residual-in_err-query.result c.from_residual-in_err-query.ensures.1 in
     rw (p.1, p.2)
-    (after_run a.program.now a.log.now (λ file. query_at file a.query.now) (λ run q. analysed_answer a.pipeline.epoch run (given_by a.listing q)) (run_of c.in_ok-run.run') (g.S.Store.shown a.store.now) (g.S.Store.shown c.open_run.new.store) (g.S.Store.shown c.open_query.new.store)
-    c.in_ok-run.ensures.outcome c.in_ok-run.ensures.reads c.open_query.ensures.reads
-    (Err c.in_err-query.field-0.0) (kept-refused Alike (λ file. query_at file a.query.now) (λ q. analysed_answer a.pipeline.epoch (run_of c.in_ok-run.run') (given_by a.listing q)) (g.S.Store.shown c.open_run.new.store) (g.S.Store.shown c.open_query.new.store) c.in_err-query.field-0.0 c.in_err-query.ensures.outcome))
+    (query-refused (given_by a.listing) a.pipeline.epoch a.program.now a.log.now a.query.now (run_of c.in_ok-run.run') (g.S.Store.shown a.store.now) (g.S.Store.shown c.open_run.new.store) (g.S.Store.shown c.open_query.new.store)
+    c.in_ok-run.ensures.outcome c.in_ok-run.ensures.reads c.open_query.ensures.reads c.in_err-query.field-0.0 c.in_err-query.ensures.outcome)
 
 pub returns-in_err-run-clause-reads : goal.returns-in_err-run-clause-reads
 returns-in_err-run-clause-reads g c =
@@ -39,9 +34,8 @@ returns-in_err-query-clause-reads g c = reads-less _ (reads-then c.in_ok-run.ens
 pub returns-clause-answer : goal.returns-clause-answer
 returns-clause-answer g c =
     let a = c.args in
-    after_run a.program.now a.log.now (λ file. query_at file a.query.now) (λ run q. analysed_answer a.pipeline.epoch run (given_by a.listing q)) (run_of c.in_ok-run.run') (g.S.Store.shown a.store.now) (g.S.Store.shown c.open_run.new.store) (g.S.Store.shown c.open_query.new.store)
-    c.in_ok-run.ensures.outcome c.in_ok-run.ensures.reads c.open_query.ensures.reads
-    (seen_by bytes_of c.list.result) (kept-given Alike (λ file. query_at file a.query.now) (λ q. analysed_answer a.pipeline.epoch (run_of c.in_ok-run.run') (given_by a.listing q)) (g.S.Store.shown c.open_run.new.store) (g.S.Store.shown c.open_query.new.store) c.in_ok-query.query c.in_ok-query.ensures.outcome (seen_by bytes_of c.list.result) c.list.ensures)
+    query-given (given_by a.listing) a.pipeline.epoch a.program.now a.log.now a.query.now (run_of c.in_ok-run.run') (g.S.Store.shown a.store.now) (g.S.Store.shown c.open_run.new.store) (g.S.Store.shown c.open_query.new.store)
+    c.in_ok-run.ensures.outcome c.in_ok-run.ensures.reads c.open_query.ensures.reads c.in_ok-query.query c.in_ok-query.ensures.outcome (seen_by bytes_of c.list.result) c.list.ensures
 
 pub returns-clause-reads : goal.returns-clause-reads
 returns-clause-reads g c = reads-less _ (reads-then c.in_ok-run.ensures.reads c.open_query.ensures.reads)

@@ -1,16 +1,16 @@
 use Rattle.std.proofs.Common.{rules, Err}
 use Rattle.jet_files.specs.Views.{run_of}
-use Rattle.jet_cli.specs.Answers.{IsWorkOf, IsGivenAlike}
-use Rattle.jet_cli.proofs.Working.{listing-stops, listing-gives}
+use Rattle.jet_cli.specs.Answers.{IsWorkOf, IsGivenAlike, given_by}
+use Rattle.jet_cli.proofs.Working.{given-stops, given-gives, same_listing}
 use Rattle.jet_cli.proofs.work.list.Goals as goal
 
 pub returns-in_err-job : goal.returns-in_err-job
 returns-in_err-job g c =
     let told = c.args.pipeline.epoch in
-    let refused : IsWorkOf (IsGivenAlike c.args.listing told (run_of c.args.run) c.args.query.now) (Err c.in_err-job.field-0.0) =
-    listing-stops c.args.listing told (run_of c.args.run) c.args.query.now c.in_err-job.field-0.0 c.in_err-job.ensures.err in
+    let refused : IsWorkOf (IsGivenAlike (given_by c.args.listing) told (run_of c.args.run) c.args.query.now) (Err c.in_err-job.field-0.0) =
+    given-stops (given_by c.args.listing) told (run_of c.args.run) c.args.query.now c.in_err-job.field-0.0 c.in_err-job.ensures.err in
     search rules
 
 pub returns : goal.returns
 returns g c =
-    listing-gives c.args.listing c.args.pipeline.epoch (run_of c.args.run) c.args.query.now c.in_ok-job.job c.in_ok-text.text.items c.in_ok-job.ensures.checked c.in_ok-job.ensures.few c.in_ok-text.ensures
+    given-gives (given_by c.args.listing) c.args.pipeline.epoch (run_of c.args.run) c.args.query.now c.in_ok-job.job c.in_ok-text.text.items (same_listing c.args.listing) c.in_ok-job.ensures.checked c.in_ok-job.ensures.few c.in_ok-text.ensures
