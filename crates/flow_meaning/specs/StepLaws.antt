@@ -109,8 +109,9 @@ MovesAreSingle = (rule : Rule) → OnlyMoves rule → (step : StepSeen) (l : Loc
 
 -- where one location flows into another by such a rule, the content after the step is that location's before it
 abbrev pub MovesKeepContent : Type 0
-MovesKeepContent = (rule : Rule) → OnlyMoves rule → (inputs : ℕ) (m : Moment) (l k : Loc) → IsSound m.state → IsDone inputs m
-    → from rule (step_of m) l ≡ k ∷ [] → content (advance m).state l ≡ content m.state k
+MovesKeepContent = (rule : Rule) → OnlyMoves rule → (inputs : ℕ) (m : Moment) (l k : Loc)
+    → IsSound m.state → IsDone inputs m → from rule (step_of m) l ≡ k ∷ []
+    → content (advance m).state l ≡ content m.state k
 
 -- where the same is done in two states that agree at all that flows into a location by the rule, they agree there after
 -- the step. A byte that is read is none of these contents

@@ -10,8 +10,8 @@ pub fn steps_stay_sound()
     ensures { StaysSound }
 {}
 
-/// What flows by copy, and by keep, is the very byte: at most one location flows into another, and the content after the
-/// step is that location's before it.
+/// What flows by copy, and by keep, is the very byte: at most one location flows into another, and the content after
+/// the step is that location's before it.
 pub fn copy_moves()
     ensures single { MovesAreSingle }
     ensures step { MovesKeepContent }
@@ -25,8 +25,8 @@ pub fn flow_determines()
     ensures received { ReceivedIsThere }
 {}
 
-/// The rules nest: what flows by copy flows by keep, what flows by keep flows by compute, and what flows by compute flows
-/// by index, in each step. So it is with the origins of each location, at each time and in each trace.
+/// The rules nest: what flows by copy flows by keep, what flows by keep flows by compute, and what flows by compute
+/// flows by index, in each step. So it is with the origins of each location, at each time and in each trace.
 pub fn rules_nest()
     ensures copied { FlowsWithin Copy Keep }
     ensures kept { FlowsWithin Keep Compute }
@@ -41,9 +41,9 @@ pub fn fits_makes_run()
     ensures { FitsMakesRun }
 {}
 
-/// Copied bytes are the bytes: under copy, and under keep, each location has at most one origin at each time, and where it
-/// has one, its content is the byte received there. So has each row: an output byte that has a source is the byte received
-/// there.
+/// Copied bytes are the bytes: under copy, and under keep, each location has at most one origin at each time, and where
+/// it has one, its content is the byte received there. So has each row: an output byte that has a source is the byte
+/// received there.
 pub fn copied_bytes_are_received()
     ensures contents { CopiedContents }
     ensures rows { CopiedRows }

@@ -103,12 +103,12 @@ shifted_lanes a b i = union loc_cmp (lanes a) (lane b 0)
 abbrev pub immediate_byte : ℤ → ℕ → ℕ
 immediate_byte imm i = slice_index (to_le_bytes w32 (as_word imm)) i
 
--- the lanes where the immediate has this byte: ANDI leaves a lane as it is where that is 255, ORI and XORI where it is 0
+-- the lanes where the immediate has this byte: by 255 ANDI leaves a lane as it is, by 0 ORI and XORI do
 abbrev pub unchanged_lanes : ℕ → ℤ → ℕ → ℕ → List Loc
 unchanged_lanes byte imm a i = if immediate_byte imm i == byte then lane a i else []
 
--- a shift by k bits moves lanes whole where k is a multiple of 8: to lane i comes the one k / 8 below, and to the right the
--- one k / 8 above. Where there is none come zeros, or the sign
+-- a shift by k bits moves lanes whole where k is a multiple of 8: to lane i comes the one k / 8 below, and to the right
+-- the one k / 8 above. Where there is none come zeros, or the sign
 abbrev pub left_lanes : ℕ → ℕ → ℕ → List Loc
 left_lanes k a i = if (k % 8 == 0) && nat_le (k / 8) i then lane a (i - k / 8) else []
 

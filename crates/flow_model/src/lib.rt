@@ -58,8 +58,8 @@ pub enum SinkPoint {
 pub enum Rule {
     /// Moves alone.
     Copy,
-    /// Moves, and the lanes that an operation with an immediate keeps whole: those that ANDI, ORI and XORI leave as they
-    /// are, and those that a shift by 0, 8, 16 or 24 bits moves.
+    /// Moves, and the lanes that an operation with an immediate keeps whole: those that ANDI, ORI and XORI leave as
+    /// they are, and those that a shift by 0, 8, 16 or 24 bits moves.
     Keep,
     /// Moves, and whatever is computed from an operand.
     Compute,

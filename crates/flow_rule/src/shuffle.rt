@@ -57,7 +57,8 @@ pub(crate) fn moved_left(bits: u8) -> Shuffle
     }
 }
 
-/// The lanes that a shift to the right by so many bits moves whole. The lanes above, which the sign may fill, come from none.
+/// The lanes that a shift to the right by so many bits moves whole. The lanes above, which the sign may fill, come from
+/// none.
 #[inline(always)]
 pub(crate) fn moved_right(bits: u8) -> Shuffle
     ensures lanes { AreLanes result }

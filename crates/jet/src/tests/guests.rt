@@ -385,8 +385,8 @@ pub const LOOK_UP: Guest = Guest {
     exit: 16,
 };
 
-/// Reads four bytes and writes the first twice and the last two. Each goes through a mask or shifts by whole bytes, as code of
-/// C libraries passes characters.
+/// Reads four bytes and writes the first twice and the last two. Each goes through a mask or shifts by whole bytes, as
+/// code of C libraries passes characters.
 pub const MASK_AND_SHIFT: Guest = Guest {
     code: &code![
         lui(x11, 0x10000),
