@@ -13,8 +13,8 @@ pub fn rows_are_counted()
     ensures { RowsAreCounted }
 {}
 
-/// A run that is told as the same has one range of source bytes, as long as it is, and holds the bytes that were received
-/// there.
+/// A run that is told as the same has one range of source bytes, as long as it is, and holds the bytes that were
+/// received there.
 pub fn same_holds_its_range()
     ensures { SameHoldsRange }
 {}

@@ -1,11 +1,11 @@
-//! A report in runs, as definitions: output bytes one after the other whose source bytes go on alike, with the bytes on both
-//! sides.
+//! A report in runs, as definitions: output bytes one after the other whose source bytes go on alike, with the bytes
+//! on both sides.
 //!
 //! What there is to read stands in specs/: the runs of rows (Runs.antt), and their text (Text.antt).
 //!
-//! Proved (`laws`): the runs have, in order, the rows of output bytes that have a source, each run is as long as can be, and
-//! no other runs are so; each row stands in a run, in the line of a point, or in the number of those without; where a line
-//! says that the bytes are the same, they are.
+//! Proved (`laws`): the runs have, in order, the rows of output bytes that have a source, each run is as long as can
+//! be, and no other runs are so; each row stands in a run, in the line of a point, or in the number of those without;
+//! where a line says that the bytes are the same, they are.
 #![tactic(auto)]
 
 pub mod laws;

@@ -141,9 +141,10 @@ fn count_without(rows: &[SinkSet]) -> u64
     count
 }
 
-/// The text of a report in runs, of a run with this log: a line `C:A-B TEXT KIND` for each run of output bytes, with a blank
-/// and `c:a-b TEXT` for each range of its source bytes; a line `NAME <` likewise for each point that has a source; and last
-/// `end N WITHOUT`, the number of lines and that of the rows without a source. It fails only where there is no memory.
+/// The text of a report in runs, of a run with this log: a line `C:A-B TEXT KIND` for each run of output bytes, with
+/// a blank and `c:a-b TEXT` for each range of its source bytes; a line `NAME <` likewise for each point that has a
+/// source; and last `end N WITHOUT`, the number of lines and that of the rows without a source. It fails only where
+/// there is no memory.
 pub fn shown(alloc: Global, report: &Report, log: &Log) -> Result<Vec<u8>, NoMemory>
     ensures { IfOk result (λ text. text.items ≡ ranges_report log.now report.now) }
 {

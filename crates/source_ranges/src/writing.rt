@@ -7,8 +7,8 @@ use crate::SourceRange;
 use itoa::Buffer;
 use no_memory::NoMemory;
 
-/// Appends `c:a-b`, the bytes of channel c from offset a on, up to offset b, which isn't one of them. It fails only where
-/// there is no memory.
+/// Appends `c:a-b`, the bytes of channel c from offset a on, up to offset b, which isn't one of them. It fails only
+/// where there is no memory.
 pub fn push_span(out: &mut Vec<u8>, channel: u8, from: u64, past: u64) -> Result<(), NoMemory>
     ensures { OnOk result (out.new.items ≡ out.old.items ++ span_text channel from past) }
 {
