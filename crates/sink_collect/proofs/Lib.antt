@@ -1,4 +1,5 @@
 pub mod Alike
 mod Arranging
 mod Search
+mod Moving
 mod Reaching

@@ -10,6 +10,7 @@ mod choosing;
 mod influence;
 mod report;
 mod sets;
+mod streams;
 mod writing;
 
 pub use influence::{Influence, SourceReach, turn_round};

@@ -1,14 +1,15 @@
 //! A report: the sets of a replay in the order of their output bytes and points.
 
-ghost use Rattle.std.specs.Prelude.{◌≡◌, length, IfOk, OnOk};
+ghost use Rattle.std.specs.Prelude.{◌≡◌, List, length, IfOk, IsPermutation, OnOk};
 ghost use Rattle.sorted_set.specs.Sets.{set_of};
-ghost use Rattle.report_model.specs.Rows.{row_cmp};
+ghost use Rattle.report_model.specs.Rows.{Row, row_cmp};
 ghost use Rattle.report_model.specs.Together.{only};
 ghost use Rattle.sink_collect.specs.Distinct.{AreDistinct};
 ghost use Rattle.sink_collect.specs.Pairs.{pairs, capped};
 
 use crate::choosing::{chosen_part, is_chosen};
 use crate::sets::SinkSet;
+use crate::streams::by_stream;
 use no_memory::NoMemory;
 use query_lang::Query;
 use std::alloc::Global;
@@ -77,15 +78,14 @@ pub fn gather(alloc: Global, sets: Vec<SinkSet>) -> Result<Report, NoMemory>
     requires { AreDistinct sets.items }
     ensures { IfOk result (λ report. report ≡ set_of row_cmp sets.items) }
 {
-    let mut rows = sets;
+    let mut rows = by_stream(alloc, sets)?;
     sort(alloc, &mut rows)?;
     Ok(Report { rows })
 }
 
-/// Sorts sets by their output bytes and points.
+/// Sorts sets, which are those of a report in some order, by their output bytes and points.
 fn sort(alloc: Global, sets: &mut [SinkSet]) -> Result<(), NoMemory>
-    requires { AreDistinct sets.old }
-    ensures { OnOk result (sets.new ≡ set_of row_cmp sets.old) }
+    ensures { OnOk result ((all : List Row) → AreDistinct all → IsPermutation all sets.old → sets.new ≡ set_of row_cmp all) }
 {
     sets.sort_by_key(alloc, |set| set.sink())?;
     Ok(())
