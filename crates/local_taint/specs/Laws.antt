@@ -1,14 +1,12 @@
 -- What labels mean is united as sets are.
 use Rattle.std.specs.Prelude.{◌≡◌, List, length}
-use Rattle.std.proofs.Common.{ap, ap₂, sym, subst}
+use Rattle.std.proofs.Common.{ap, sym, subst}
 use Rattle.flow_model.specs.declared.Loc.{Loc}
 use Rattle.flow_model.specs.declared.SourceByte.{SourceByte}
 use Rattle.flow_model.specs.Ranges.{IsLocation}
-use Rattle.flow_model.proofs.Orders.{loc_total, loc_same, source_total, source_same}
-use Rattle.sorted_set.proofs.Algebra.{union_assoc}
 use Rattle.epoch_model.specs.Summary.{Terms}
 use Rattle.merge_log.specs.Log.{IsNode}
-use Rattle.merge_log.proofs.Terms.{ascend-terms, ascend-joined, nothing_under_0, joined_comm, joined_itself, joined_nothing}
+use Rattle.merge_log.proofs.Terms.{ascend-terms, ascend-joined, nothing_under_0, joined_assoc, joined_comm, joined_itself, joined_nothing}
 use Rattle.taint_shadow.specs.declared.labels.LabelKind.{LabelKind}
 use Rattle.taint_shadow.specs.declared.labels.LabelKind.TheVariants.{Node, Start}
 use Rattle.taint_shadow.specs.Labels.{MakesLabel, Laws, kind_of, start_label}
@@ -21,10 +19,7 @@ terms_ascend nodes (Node n) = ascend-terms nodes.log n
 terms_ascend nodes (Start l) = record { sources = tt; starts = (tt, tt) }
 
 grouped : (a b c : Terms) → AreTerms b → AreTerms c → together a (together b c) ≡ together (together a b) c
-grouped a b c h k =
-    let make : List SourceByte → List Loc → Terms = λ s l. record { sources = s; starts = l } in
-    ap₂ make (union_assoc source_total source_same a.sources b.sources c.sources h.sources k.sources)
-    (union_assoc loc_total loc_same a.starts b.starts c.starts h.starts k.starts)
+grouped a b c h k = ap as_terms (joined_assoc (as_leaves a) (as_leaves b) (as_leaves c) h k)
 
 started : (nodes : Nodes) (l : Loc) → IsLocation l → MakesLabel label_words nodes (label_words.untouched l) (start_label l)
 started nodes l here = record {

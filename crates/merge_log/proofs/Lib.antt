@@ -9,3 +9,4 @@ mod Covering
 mod Blocks
 mod Roots
 mod Bounds
+mod Noted

@@ -6,7 +6,7 @@ use Rattle.std.specs.Cmp.{IsTotalOrder}
 use Rattle.std.specs.FinMap.{IsAntisymmetric}
 use Rattle.std.specs.declared.cmp.Ordering.{Ordering}
 use Rattle.sorted_set.specs.Sets.{union, Ascends, has}
-use Rattle.sorted_set.proofs.Algebra.{Ascends-union, same_list, union_comm, union-nil, has-union}
+use Rattle.sorted_set.proofs.Algebra.{Ascends-union, same_list, union_assoc, union_comm, union-nil, has-union}
 use Rattle.flow_model.proofs.Orders.{loc_total, loc_same, source_total, source_same}
 use Rattle.flow_model.specs.declared.Loc.{Loc}
 use Rattle.flow_model.specs.declared.SourceByte.{SourceByte}
@@ -131,6 +131,12 @@ pub joined_comm : (a b : Terms) → AreSets a → AreSets b → joined a b ≡ j
 joined_comm a b h k =
     let make : List SourceByte → List Loc → Terms = λ s l. record { sources = s; starts = l } in
     ap₂ make (union_comm source_total source_same a.sources b.sources h.sources k.sources) (union_comm loc_total loc_same a.starts b.starts h.starts k.starts)
+
+pub joined_assoc : (a b c : Terms) → AreSets b → AreSets c → joined a (joined b c) ≡ joined (joined a b) c
+joined_assoc a b c h k =
+    let make : List SourceByte → List Loc → Terms = λ s l. record { sources = s; starts = l } in
+    ap₂ make (union_assoc source_total source_same a.sources b.sources c.sources h.sources k.sources)
+    (union_assoc loc_total loc_same a.starts b.starts c.starts h.starts k.starts)
 
 module _ {K : Type 0} {R : K → K → Ordering} (o : IsTotalOrder R) (same : IsAntisymmetric R) where
   or_itself : (b : Bool) → (b || b) ≡ b

@@ -3,8 +3,8 @@ use Rattle.std.proofs.Common.{◌≡◌, ℕ, ◌<◌, ◌≤◌, List, refl, ap
 use Rattle.std.proofs.lemmas.Grind.{common_steps}
 use Rattle.merge_log.specs.declared.nodes.Entry.{Entry}
 use Rattle.merge_log.specs.declared.nodes.Entry.TheVariants.{Union}
-use Rattle.merge_log.specs.Log.{Terms, AreSets, joined, entry_terms, terms, IsNode, AreOrdered, IsNoted, KeepsNodes, union_entry, HasOperand, HasUnion, IsUnited, AreApart, IsAbsorbed}
-use Rattle.merge_log.proofs.Terms.{joined_again, joined_comm, ascend-terms, terms_step, entry_before}
+use Rattle.merge_log.specs.Log.{Terms, AreSets, joined, entry_terms, terms, IsNode, AreOrdered, IsNoted, KeepsNodes, union_entry, Covers, HasOperand, HasUnion, IsUnited, AreApart, IsAbsorbed}
+use Rattle.merge_log.proofs.Terms.{joined_again, joined_assoc, joined_comm, ascend-terms, terms_step, entry_before}
 
 -- ---- a node and its operand
 
@@ -18,8 +18,8 @@ joined_part : (t l r : Terms) → AreSets r → t ≡ joined l r → t ≡ joine
 joined_part t l r h is = is ∙ sym (joined_again l r h) ∙ ap (joined l) (sym is)
 
 -- a union has the leaves of its operand already
-operand_with : (log : List Entry) (n o : ℕ) → AreOrdered 1 log → HasOperand log n o → terms log n ≡ joined (terms log o) (terms log n)
-operand_with log n o order h = by h.operand where
+pub operand_covered : (log : List Entry) (n o : ℕ) → AreOrdered 1 log → HasOperand log n o → Covers log n o
+operand_covered log n o order h = by h.operand where
   step : terms log n ≡ joined (terms log h.left) (terms log h.right)
   step = terms_step log n (Union h.left h.right) h.entry (entry_before log n (Union h.left h.right) order h.entry)
 
@@ -28,8 +28,11 @@ operand_with log n o order h = by h.operand where
   by (inr p) = subst (λ (i : ℕ). terms log n ≡ joined (terms log i) (terms log n)) (sym p)
       (joined_part (terms log n) (terms log h.right) (terms log h.left) (ascend-terms log h.left) (step ∙ joined_comm (terms log h.left) (terms log h.right) (ascend-terms log h.left) (ascend-terms log h.right)))
 
-with_operand : (log : List Entry) (n o : ℕ) → AreOrdered 1 log → HasOperand log n o → terms log n ≡ joined (terms log n) (terms log o)
-with_operand log n o order h = operand_with log n o order h ∙ joined_comm _ _ (ascend-terms log o) (ascend-terms log n)
+-- what it has of its operand it has of that one's too
+pub covered_through : (log : List Entry) (n m o : ℕ) → Covers log n m → Covers log m o → Covers log n o
+covered_through log n m o h k =
+    h ∙ ap (λ (t : Terms). joined t (terms log n)) k ∙ sym (joined_assoc (terms log o) (terms log m) (terms log n) (ascend-terms log m) (ascend-terms log n))
+    ∙ ap (joined (terms log o)) (sym h)
 
 -- ---- two nodes in order
 
@@ -38,10 +41,14 @@ abbrev pub AreBoth : ℕ → ℕ → ℕ → ℕ → Type 0
 AreBoth a b l r = ◌≡◌ {A = ℕ × ℕ} (l, r) (a, b) ⊎ ◌≡◌ {A = ℕ × ℕ} (l, r) (b, a)
 
 module _ (log : List Entry) (a b l r : ℕ) (order : AreOrdered 1 log) where
-  -- the greater one, which has the smaller one as an operand, has the leaves of both
+  -- the greater one, which has the leaves of the smaller one, has those of both
+  pub covered_terms : AreBoth a b l r → Covers log r l → terms log r ≡ joined (terms log a) (terms log b)
+  covered_terms (inl p) h = subst (λ (q : ℕ × ℕ). terms log r ≡ joined (terms log q.0) (terms log q.1)) p h
+  covered_terms (inr p) h = subst (λ (q : ℕ × ℕ). terms log r ≡ joined (terms log q.1) (terms log q.0)) p
+      (h ∙ joined_comm _ _ (ascend-terms log l) (ascend-terms log r))
+
   pub absorbed_terms : AreBoth a b l r → HasOperand log r l → terms log r ≡ joined (terms log a) (terms log b)
-  absorbed_terms (inl p) h = subst (λ (q : ℕ × ℕ). terms log r ≡ joined (terms log q.0) (terms log q.1)) p (operand_with log r l order h)
-  absorbed_terms (inr p) h = subst (λ (q : ℕ × ℕ). terms log r ≡ joined (terms log q.1) (terms log q.0)) p (with_operand log r l order h)
+  absorbed_terms both h = covered_terms both (operand_covered log r l order h)
 
   -- where one of both has the other as an operand, the greater one has the smaller one
   in_order : AreBoth a b l r → l ≤ r → HasOperand log a b ⊎ HasOperand log b a → HasOperand log r l
@@ -77,6 +84,19 @@ module _ (log : List Entry) (a b l r : ℕ) (order : AreOrdered 1 log) where
         right_has = λ k. (greater_right both less (operand_below log b a order k).1, refl);
         other = λ apart. absurd (elim (one_has both h) [ inl k ↦ apart.0 k | inr k ↦ apart.1 k ]);
       }
+
+  is_one : AreBoth a b l r → (r ≡ a) ⊎ (r ≡ b)
+  is_one (inl p) = inr (ap (λ (q : ℕ × ℕ). q.1) p)
+  is_one (inr p) = inl (ap (λ (q : ℕ × ℕ). q.1) p)
+
+  -- the greater one stands for both, where neither has the other as an operand
+  pub absorbed_apart : AreBoth a b l r → IsNode log a → IsNode log b → AreApart log a b → IsAbsorbed log a b log r
+  absorbed_apart both a_stands b_stands apart = record {
+    stands = greater_stands both a_stands b_stands;
+    left_has = λ k. absurd (apart.0 k);
+    right_has = λ k. absurd (apart.1 k);
+    other = λ k. inl (is_one both, refl);
+  }
 
   -- neither absorbs the other
   pub apart : AreBoth a b l r → l ≤ r → (0 < l → l < r → HasOperand log r l → ⊥) → AreApart log a b
@@ -114,3 +134,18 @@ module _ (log : List Entry) (a b l r : ℕ) (order : AreOrdered 1 log) where
   made_there both o differ a_made b_made (inr (inl e)) = absurd (a_made e)
   made_there both o differ a_made b_made (inr (inr (inl e))) = absurd (b_made e)
   made_there both o differ a_made b_made (inr (inr (inr c))) = subst (Contains log) (sym (entry_is both o differ)) c
+
+-- the union of two nodes of which neither has the other as an operand
+pub united_apart : (old : List Entry) (a b : ℕ) (new : List Entry) (n : ℕ) → AreApart old a b → IsUnited old a b new n → IsAbsorbed old a b new n
+united_apart old a b new n apart h = record {
+  stands = h.stands;
+  left_has = λ k. absurd (apart.0 k);
+  right_has = λ k. absurd (apart.1 k);
+  other = λ k. inr h;
+}
+
+-- where neither has the other as an operand, a union that stands is by its entry, or by one of both alone
+pub union_there : (log : List Entry) (a b : ℕ) → AreApart log a b → HasOperand log a b ⊎ HasOperand log b a ⊎ HasUnion log a b → HasUnion log a b
+union_there log a b apart (inl h) = absurd (apart.0 h)
+union_there log a b apart (inr (inl h)) = absurd (apart.1 h)
+union_there log a b apart (inr (inr h)) = h

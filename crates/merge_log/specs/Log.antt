@@ -127,6 +127,16 @@ pub record IsUnited (old : List Entry) (a b : ℕ) (new : List Entry) (n : ℕ) 
   pub right_empty : b ≡ 0 → (n ≡ a) × (new ≡ old)
   pub other : (a ≡ b → ⊥) → 0 < a → 0 < b → IsNoted old (union_entry a b) new n
 
+-- the node n has the leaves of the node o
+abbrev pub Covers : List Entry → ℕ → ℕ → Type 0
+Covers log n o = terms log n ≡ joined (terms log o) (terms log n)
+
+-- two nodes that differ, neither of them empty
+pub record AreTwo (a b : ℕ) : Type 0 where
+  pub differ : a ≡ b → ⊥
+  pub left : a ≡ 0 → ⊥
+  pub right : b ≡ 0 → ⊥
+
 -- neither of two nodes has the other as an operand
 abbrev pub AreApart : List Entry → ℕ → ℕ → Type 0
 AreApart log a b = (HasOperand log a b → ⊥) × (HasOperand log b a → ⊥)
@@ -135,9 +145,14 @@ AreApart log a b = (HasOperand log a b → ⊥) × (HasOperand log b a → ⊥)
 abbrev pub HasAbsorbingUnion : List Entry → ℕ → ℕ → Type 0
 HasAbsorbingUnion log a b = HasOperand log a b ⊎ HasOperand log b a ⊎ HasUnion log a b
 
--- the node n is the one of a and b that has the other as an operand, and the log is as it was; or else it is their union
+-- the node n is one of two, and the log is as it was
+abbrev pub IsOneOf : List Entry → ℕ → ℕ → List Entry → ℕ → Type 0
+IsOneOf old a b new n = ((n ≡ a) ⊎ (n ≡ b)) × (new ≡ old)
+
+-- the node n is the one of a and b that has the other as an operand, and the log is as it was. Where neither has, it is one of both too, or
+-- else their union
 pub record IsAbsorbed (old : List Entry) (a b : ℕ) (new : List Entry) (n : ℕ) : Type 0 where
   pub stands : IsNode new n
   pub left_has : HasOperand old a b → (n ≡ a) × (new ≡ old)
   pub right_has : HasOperand old b a → (n ≡ b) × (new ≡ old)
-  pub other : AreApart old a b → IsUnited old a b new n
+  pub other : AreApart old a b → IsOneOf old a b new n ⊎ IsUnited old a b new n

@@ -1,12 +1,13 @@
 //! The log, and what its nodes are.
 
 ghost use Rattle.std.specs.Prelude.{◌≡◌, ℕ, ◌+◌, ◌<◌, [], length, Some, None, ◌≤◌, ◌⊎◌, ◌↔◌, Contains, IsTrue, IfSome, IsOk, IfOk, OnErr};
-ghost use Rattle.merge_log.specs.Log.{IsLog, AreSets, IsNode, HasOperandsBefore, IsNoted, KeepsNodes, IsUnited, HasUnion, IsAbsorbed, HasAbsorbingUnion, AreApart, HasOperand, terms, no_terms, source_term, start_term, entry_at, entry_terms, joined};
+ghost use Rattle.merge_log.specs.Log.{IsLog, AreSets, IsNode, HasOperandsBefore, IsNoted, KeepsNodes, IsUnited, HasUnion, IsAbsorbed, HasAbsorbingUnion, AreApart, AreTwo, Covers, HasOperand, terms, no_terms, source_term, start_term, entry_at, entry_terms, joined};
 ghost use Rattle.merge_log.specs.Walk.{leaves_of};
 ghost use Rattle.merge_log.specs.declared.nodes.Entry.TheVariants as entry;
 
 use crate::reader::{Leaf, TermsReader};
 use crate::recent::RecentUnions;
+use crate::under::StartsUnder;
 use flow_model::{Loc, SourceByte};
 use indexmap::IndexSet;
 use no_memory::NoMemory;
@@ -33,6 +34,7 @@ pub enum Entry {
 pub struct MergeLog {
     entries: IndexSet<Entry>,
     recent: RecentUnions,
+    under: StartsUnder,
 }
 
 /// The most entries of a log: its nodes fit into 32 bits.
@@ -42,12 +44,13 @@ impl Model for MergeLog {
     ghost use Rattle.std.specs.Prelude.{List};
     ghost use Rattle.merge_log.specs.declared.nodes.Entry.{Entry};
     ghost use Rattle.merge_log.specs.Log.{IsLog};
+    ghost use Rattle.merge_log.specs.Under.{AreUnder};
 
     ghost Value = { List Entry };
 
     ghost view = { λ log. log.entries.keys };
 
-    ghost invariant = { λ log. IsLog log.entries.keys };
+    ghost invariant = { λ log. IsLog log.entries.keys × AreUnder log.entries.keys log.under.leaves.items log.under.masks.items };
 }
 
 impl MergeLog {
@@ -58,6 +61,7 @@ impl MergeLog {
         MergeLog {
             entries: IndexSet::new(alloc),
             recent: RecentUnions::new(alloc),
+            under: StartsUnder::new(alloc),
         }
     }
 
@@ -121,24 +125,14 @@ impl MergeLog {
         ensures there { HasUnion self.old a b → IsOk result }
         ensures err { OnErr result (self.new ≡ self.old) }
     {
-        self.form(); // so that nodes fit into 32 bits
-        if a == b || b == 0 {
-            return Ok(a);
+        match self.recent_union(a, b) {
+            Some(node) => Ok(node),
+            None => self.make_union(a, b),
         }
-        if a == 0 {
-            return Ok(b);
-        }
-        let (left, right) = in_order(a as u32, b as u32);
-        let slot = self.recent.slot_of(left, right);
-        let node = self.recent.node(slot);
-        if self.is_union_of(node, left, right) {
-            return Ok(node as u64);
-        }
-        self.insert_union(left, right, slot)
     }
 
     /// The node of the leaves of two nodes, with fewer nodes: where one is a union that has the other as an operand, it is that
-    /// union, and else [`MergeLog::union`].
+    /// union, and so it is where one is a start location that is noted as under the other. Else it is [`MergeLog::union`].
     #[inline(always)]
     pub fn absorbing_union(&mut self, a: Node, b: Node) -> Result<Node, NoMemory>
         requires left { IsNode self.old a }
@@ -149,9 +143,12 @@ impl MergeLog {
         ensures there { HasAbsorbingUnion self.old a b → IsOk result }
         ensures err { OnErr result (self.new ≡ self.old) }
     {
-        match self.absorber(a, b) {
+        if let Some(node) = self.absorber(a, b) {
+            return Ok(node);
+        }
+        match self.recent_union(a, b) {
             Some(node) => Ok(node),
-            None => self.union(a, b),
+            None => self.absorb_or_make(a, b),
         }
     }
 
@@ -174,6 +171,67 @@ impl MergeLog {
         ensures before { HasOperandsBefore node result }
     {
         self.entries.as_slice()[node as usize - 1]
+    }
+
+    /// The union of two nodes, where it is one of them, or stands in the log and was asked for lately.
+    #[inline(always)]
+    fn recent_union(&self, a: Node, b: Node) -> Option<Node>
+        requires left { IsNode self.now a }
+        requires right { IsNode self.now b }
+        ensures terms { IfSome result (λ n. terms self.now n ≡ joined (terms self.now a) (terms self.now b)) }
+        ensures united { IfSome result (λ n. IsUnited self.now a b self.now n) }
+        ensures none { result ≡ None → AreTwo a b }
+    {
+        self.form(); // so that nodes fit into 32 bits
+        if a == b || b == 0 {
+            return Some(a);
+        }
+        if a == 0 {
+            return Some(b);
+        }
+        let (left, right) = in_order(a as u32, b as u32);
+        let node = self.recent.node(self.recent.slot_of(left, right));
+        if self.is_union_of(node, left, right) {
+            return Some(node as u64);
+        }
+        None
+    }
+
+    /// The union of two nodes that differ, neither of them empty.
+    fn make_union(&mut self, a: Node, b: Node) -> Result<Node, NoMemory>
+        requires left { IsNode self.old a }
+        requires right { IsNode self.old b }
+        requires two { AreTwo a b }
+        ensures terms { IfOk result (λ n. terms self.new n ≡ joined (terms self.old a) (terms self.old b)) }
+        ensures united { IfOk result (λ n. IsUnited self.old a b self.new n) }
+        ensures kept { KeepsNodes self.old self.new }
+        ensures there { HasUnion self.old a b → IsOk result }
+        ensures err { OnErr result (self.new ≡ self.old) }
+    {
+        self.form(); // so that nodes fit into 32 bits
+        let (left, right) = in_order(a as u32, b as u32);
+        self.insert_union(left, right)
+    }
+
+    /// The same, unless the smaller one is a start location that is noted as under the other: then it is the other one.
+    #[inline(never)]
+    fn absorb_or_make(&mut self, a: Node, b: Node) -> Result<Node, NoMemory>
+        requires left { IsNode self.old a }
+        requires right { IsNode self.old b }
+        requires two { AreTwo a b }
+        requires apart { AreApart self.old a b }
+        ensures terms { IfOk result (λ n. terms self.new n ≡ joined (terms self.old a) (terms self.old b)) }
+        ensures absorbed { IfOk result (λ n. IsAbsorbed self.old a b self.new n) }
+        ensures kept { KeepsNodes self.old self.new }
+        ensures there { HasUnion self.old a b → IsOk result }
+        ensures err { OnErr result (self.new ≡ self.old) }
+    {
+        self.form(); // so that nodes fit into 32 bits
+        let (left, right) = in_order(a as u32, b as u32);
+        if self.under.has(right, left) {
+            return Ok(right as u64);
+        }
+        self.make_union(a, b)
     }
 
     /// Which of two nodes is a union that has the other as an operand.
@@ -227,7 +285,7 @@ impl MergeLog {
 
     /// The node of a union, which is made unless it is there, and is noted at the slot of its operands.
     #[inline(never)]
-    fn insert_union(&mut self, left: u32, right: u32, slot: usize) -> Result<Node, NoMemory>
+    fn insert_union(&mut self, left: u32, right: u32) -> Result<Node, NoMemory>
         requires { HasOperandsBefore (length self.old + 1) (entry.Union left right) }
         ensures terms { IfOk result (λ n. terms self.new n ≡ joined (terms self.new left) (terms self.new right)) }
         ensures noted { IfOk result (λ n. IsNoted self.old (entry.Union left right) self.new n) }
@@ -237,6 +295,7 @@ impl MergeLog {
     {
         let before = self.entries.len();
         let node = self.insert(Entry::Union { left, right })?;
+        let slot = self.recent.slot_of(left, right);
         self.recent.note(slot, node as u32);
         if before < self.entries.len() {
             self.recent.fit(self.entries.len()); // where the node was there no memory is taken
@@ -255,6 +314,7 @@ impl MergeLog {
     {
         if self.entries.len() < MOST_ENTRIES {
             let (index, _) = self.entries.insert_full(entry)?;
+            self.under.note(index as u32 + 1, entry);
             return Ok(index as u64 + 1);
         }
         match self.entries.get_index_of(&entry) {
