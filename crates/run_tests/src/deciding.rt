@@ -1,6 +1,8 @@
 //! The decisions of runs, as text. The expected lines were worked by hand.
 
-use crate::guests::{ask_by_input, cipher, compare_and_look_up, run_what_is_read, trap_in_what_is_read};
+use crate::guests::{
+    ask_by_input, cipher, compare_and_look_up, run_what_is_read, trap_in_what_is_read,
+};
 use crate::runs::query_of;
 use decision_find::decisions;
 use replayer::Job;
