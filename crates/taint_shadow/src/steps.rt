@@ -99,22 +99,6 @@ fn turn_by_call<A: Labels>(
     }
 }
 
-/// Goes on by one step under the rule keep. It is a function of its own, so that a loop over the steps, which has the others
-/// inlined, doesn't grow by it.
-#[inline(never)]
-fn keep_step<A: Labels>(
-    labels: &mut A,
-    places: &mut Places,
-    instr: &Instr,
-    place: u32,
-) -> Result<(), NoMemory>
-    requires fits { Fits instr.now }
-    requires standing { AreStanding A.words labels.old places.old }
-    ensures { OnOk result (Turned A.words labels.old places.old labels.new places.new (flow Rule.Keep instr.now place)) }
-{
-    turn_by_shape(labels, places, shape_of(instr, place, Rule::Keep))
-}
-
 /// Goes on by one step that is no call: whatever the locations' labels meant before it, they mean what its instruction makes of
 /// that after it. `place` is the effective address of a load or a store.
 #[inline(always)]
@@ -131,8 +115,9 @@ pub fn plain_step<A: Labels>(
 {
     match rule {
         Rule::Copy => turn_by_shape(labels, places, shape_of(instr, place, Rule::Copy)),
-        Rule::Keep => keep_step(labels, places, instr, place),
-        Rule::Compute | Rule::Index => turn_by_shape(labels, places, shape_of(instr, place, rule)),
+        Rule::Keep | Rule::Compute | Rule::Index => {
+            turn_by_shape(labels, places, shape_of(instr, place, rule))
+        }
     }
 }
 
