@@ -115,9 +115,8 @@ pub fn plain_step<A: Labels>(
 {
     match rule {
         Rule::Copy => turn_by_shape(labels, places, shape_of(instr, place, Rule::Copy)),
-        Rule::Keep | Rule::Compute | Rule::Index => {
-            turn_by_shape(labels, places, shape_of(instr, place, rule))
-        }
+        Rule::Keep => turn_by_shape(labels, places, shape_of(instr, place, Rule::Keep)),
+        Rule::Compute | Rule::Index => turn_by_shape(labels, places, shape_of(instr, place, rule)),
     }
 }
 
