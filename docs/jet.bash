@@ -4,11 +4,11 @@ _jet() {
     local word=${COMP_WORDS[COMP_CWORD]} before=${COMP_WORDS[COMP_CWORD - 1]} options=
     COMPREPLY=()
     if [ "$COMP_CWORD" = 1 ]; then
-        mapfile -t COMPREPLY < <(compgen -W 'query record replay calls input output stack convert influence queries decisions show path bench' -- "$word")
+        mapfile -t COMPREPLY < <(compgen -W 'query record replay calls input output stack convert influence queries decisions show path page bench' -- "$word")
         return
     fi
     case ${COMP_WORDS[1]} in
-    query | influence | queries | show | path | bench) options='--epoch --workers --link' ;;
+    query | influence | queries | show | path | page | bench) options='--epoch --workers --link' ;;
     record) options='--pages --piece --steps' ;;
     esac
     case $before in

@@ -10,6 +10,7 @@ mod gates;
 mod guests;
 mod influence;
 mod outside;
+mod pages;
 mod path;
 mod points;
 mod queries;

@@ -5,7 +5,7 @@ use Rattle.outer_io.specs.Faults.{Rose}
 use Rattle.outer_io.specs.Tells.{Tells, Gains}
 use Rattle.outer_io.specs.Files.{Files}
 use Rattle.outer_io.proofs.TellsLemmas.{tells-map}
-use Rattle.jet_words.specs.Commands.{CommandOf, AnalysisOf, ProductOf, DecisionsOf, RecordOf, ConvertOf, QueriesOf, BenchOf}
+use Rattle.jet_words.specs.Commands.{CommandOf, AnalysisOf, ProductOf, DecisionsOf, PageOf, RecordOf, ConvertOf, QueriesOf, BenchOf}
 use Rattle.jet_refusal.specs.declared.refusal.Refusal.{Refusal}
 use Rattle.jet_refusal.specs.declared.refusal.Refusal.TheVariants as refusal
 use Rattle.jet_refusal.specs.Refusals.{status_of, line_of}
@@ -14,6 +14,7 @@ use Rattle.jet_refusal.proofs.Causes.{IsOwedTo-map}
 use Rattle.jet_model.specs.Contents.{Contents}
 use Rattle.jet_model.specs.Answer.{IsRecordAnswer}
 use Rattle.jet_model.proofs.Headline.{answer-is_given, given-is_answer, reports-are_given, given-are_reports, run_answer-is_given, given-is_run_answer, convert-is_given, given-is_convert, record_answer-is_recording, recording-is_record_answer, one_record_answer}
+use Rattle.page_model.specs.Page.{page_report}
 use Rattle.workload_model.proofs.Outcomes.{one_answer as one_bench_answer, answer-is_lines, lines-are_answer}
 use Rattle.jet_files.specs.Outcome.{Found}
 use Rattle.jet_cli.specs.Targets.{Target, ToOutput, ToFile, target_of}
@@ -39,6 +40,7 @@ module _ (change : Change) (file : Contents) where
   one_answer : (command : CommandOf) (a b : Result (List ℕ) Refusal) → IsHeard command change → Answers command a → Answers command b → a ≡ b
   one_answer (AnalysisOf listing program log query pipeline) a b told p q = sym p ∙ q
   one_answer (DecisionsOf program log query) a b told p q = sym p ∙ q
+  one_answer (PageOf program log query page pipeline) a b told p q = sym p ∙ q
   one_answer (RecordOf program log inputs pages piece steps) a b told p q =
       let limits = limits_of pages piece steps in
       one_record_answer file program inputs limits q.answers a b
@@ -51,6 +53,7 @@ module _ (change : Change) (file : Contents) where
   wanted : (command : CommandOf) (text : List ℕ) → Answers command (Ok text) → IsWanted command change file text
   wanted (AnalysisOf listing program log query pipeline) text h = answer-is_given (given_by listing) pipeline.epoch file (named program log query) text h
   wanted (DecisionsOf program log query) text h = answer-is_given decisions_by None file (named program log query) text h
+  wanted (PageOf program log query page pipeline) text h = answer-is_given page_report pipeline.epoch file (named program log query) text h
   wanted (RecordOf program log inputs pages piece steps) text h =
       record { answers = h.answers; gained = h.gained; holds = record_answer-is_recording file program inputs (limits_of pages piece steps) h.answers text h.holds }
   wanted (ProductOf product program log) text h = run_answer-is_given file program log (made_by product) text h
@@ -61,6 +64,7 @@ module _ (change : Change) (file : Contents) where
   answered : (command : CommandOf) (text : List ℕ) (is : IsWanted command change file text) → AreWithinLimits command change file text is → Answers command (Ok text)
   answered (AnalysisOf listing program log query pipeline) text h within = given-is_answer (given_by listing) pipeline.epoch file (named program log query) text within.0 h within.1
   answered (DecisionsOf program log query) text h within = given-is_answer decisions_by None file (named program log query) text within h tt
+  answered (PageOf program log query page pipeline) text h within = given-is_answer page_report pipeline.epoch file (named program log query) text within.0 h within.1
   answered (RecordOf program log inputs pages piece steps) text h within =
       record { answers = h.answers; gained = h.gained; holds = recording-is_record_answer file program inputs (limits_of pages piece steps) h.answers text within.0 within.1 within.2 h.holds }
   answered (ProductOf product program log) text h within = given-is_run_answer file program log (made_by product) text within.0 within.1 h

@@ -2,7 +2,7 @@
 -- clock show before the call and after it.
 use Rattle.std.specs.Prelude.{◌≡◌, ◌⊎◌, ◌≤◌, ◌^◌, ℕ, List, length, not, Option, Some, None, IsSome, Result, Ok}
 use Rattle.outer_io.specs.Files.{Files}
-use Rattle.jet_words.specs.Commands.{CommandOf, AnalysisOf, ProductOf, DecisionsOf, RecordOf, ConvertOf, QueriesOf, BenchOf}
+use Rattle.jet_words.specs.Commands.{CommandOf, AnalysisOf, ProductOf, DecisionsOf, PageOf, RecordOf, ConvertOf, QueriesOf, BenchOf}
 use Rattle.log_model.specs.declared.Version.TheVariants.{Two}
 use Rattle.log_model.specs.Logs.{log_text}
 use Rattle.jet_refusal.specs.declared.refusal.Refusal.{Refusal}
@@ -10,6 +10,7 @@ use Rattle.jet_refusal.specs.Refusals.{status_of, line_of}
 use Rattle.jet_refusal.specs.Causes.{IsOwedTo}
 use Rattle.jet_model.specs.Contents.{Contents}
 use Rattle.jet_model.specs.Headline.{IsGivenByQuery, AreReportsOf, IsGivenBy, IsConversionOf, IsRecordingOf, IsShort, AreShort, AreAllShort, HasFewEpochs, HasFewIfTold}
+use Rattle.page_model.specs.Page.{page_report}
 use Rattle.workload_model.specs.Answer.{IsBenchOf}
 use Rattle.jet_cli.specs.Answers.{IsAnswer, Hears, given_by, decisions_by, made_by, named, limits_of, workload_length}
 use Rattle.jet_cli.specs.Targets.{Unless, plan_of}
@@ -22,13 +23,15 @@ IsStatus status = (status ≡ 0) ⊎ ((2 ≤ status) × (status ≤ 11))
 
 -- ---- 0: the text that the words want was written whole
 
--- the text is what a query gives of a run, as its report, or its decisions; what is made of a run, as its numbers; the log of a run, by the clock's
--- answers; a log in version 2; the reports of several queries; or the numbers of the workload's run
+-- the text is what a query gives of a run, as its report, its decisions, or its page; what is made of a run, as its numbers; the
+-- log of a run, by the clock's answers; a log in version 2; the reports of several queries; or the numbers of the workload's run
 abbrev pub IsWanted : CommandOf → Change → Contents → List ℕ → Type 0
 IsWanted (AnalysisOf listing program log query pipeline) change file text =
     IsGivenByQuery (given_by listing) file (named program log query) text
 IsWanted (ProductOf product program log) change file text = IsGivenBy file program log (made_by product) text
 IsWanted (DecisionsOf program log query) change file text = IsGivenByQuery decisions_by file (named program log query) text
+IsWanted (PageOf program log query page pipeline) change file text =
+    IsGivenByQuery page_report file (named program log query) text
 IsWanted (RecordOf program log inputs pages piece steps) change file text =
     Hears change.before.heard change.after.heard (λ answers. IsRecordingOf file program inputs (limits_of pages piece steps) answers text)
 IsWanted (ConvertOf program log new) change file text = IsConversionOf file program log text
@@ -75,6 +78,8 @@ AreWithinLimits (AnalysisOf listing program log query pipeline) change file text
     AreShort file (named program log query) × HasFewIfTold pipeline.epoch is.log
 AreWithinLimits (ProductOf product program log) change file text is = IsShort (file program) × IsShort (file log)
 AreWithinLimits (DecisionsOf program log query) change file text is = AreShort file (named program log query)
+AreWithinLimits (PageOf program log query page pipeline) change file text is =
+    AreShort file (named program log query) × HasFewIfTold pipeline.epoch is.log
 AreWithinLimits (RecordOf program log inputs pages piece steps) change file text is =
     IsShort (file program) × AreAllShort file inputs × (length text ≤ 2 ^ 26)
 AreWithinLimits (ConvertOf program log new) change file text is =

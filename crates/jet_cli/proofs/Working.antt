@@ -36,13 +36,17 @@ use Rattle.jet_files.specs.Outcome.{AskAlike, AreAlike, IsKeptFor, Comes, Found,
 use Rattle.jet_files.proofs.Composing.{comes-then, comes-stops, follows-stops}
 use Rattle.jet_words.specs.declared.command.Listing.{Listing}
 use Rattle.jet_words.specs.declared.command.Listing.TheVariants.{BySink, BySource, ByPath, ByRange}
-use Rattle.jet_cli.specs.Answers.{IsWorkOf, fits_and_is_cut, conversion_of, given_by, decisions_by, IsGivenAlike, AreGivenAlike, named}
+use Rattle.jet_cli.specs.Answers.{IsWorkOf, fits_and_is_cut, conversion_of, given_by, telling_text, decisions_by, IsGivenAlike, AreGivenAlike, named}
 use Rattle.path_model.specs.Answer.{first_pair}
 use Rattle.path_find.specs.Answer.{pair_report, path_report}
 use Rattle.range_model.specs.Text.{ranges_report}
 use Rattle.decision_model.specs.Decides.{deciding_rule}
 use Rattle.decision_model.specs.Decisions.{decided}
 use Rattle.decision_model.specs.Text.{decisions_text}
+use Rattle.page_text.specs.Texts.{head, tail}
+use Rattle.page_model.specs.PageLaws.{AlikeHaveSameData}
+use Rattle.jet_cli.specs.declared.work.Telling.{Telling}
+use Rattle.jet_cli.specs.declared.work.Telling.TheVariants.{Listed, Page}
 use Rattle.jet_cli.proofs.Fitting.{fitting_start-ok}
 
 -- the first calls gave a value, and what the work on it says is that of all
@@ -150,12 +154,17 @@ same_path : (q p : Query) (start : State) (log : Log) → Alike q p → path_rep
 same_path q p start log a =
     ap₂ (λ (rule : Rule) (rs : List Row). pair_report (record { start = start; log = log }) rule (first_pair rs)) a.rule (same_rows q p (trace start log) a)
 
-pub same_listing : (listing : Listing) (q p : Query) (start : State) (log : Log) → Alike q p → given_by listing q start log ≡ given_by listing p start log
+same_listing : (listing : Listing) (q p : Query) (start : State) (log : Log) → Alike q p → given_by listing q start log ≡ given_by listing p start log
 same_listing BySink q p start log a = ap report_text (same_rows q p (trace start log) a)
 same_listing BySource q p start log a =
     ap₂ (λ (rs : List Row) (bs : List SourceByte). influence_text (turned rs bs)) (same_rows q p (trace start log) a) (same_sources q p (trace start log) a)
 same_listing ByPath q p start log a = same_path q p start log a
 same_listing ByRange q p start log a = ap (ranges_report log) (same_rows q p (trace start log) a)
+
+-- and of a page
+pub same_telling : AlikeHaveSameData → (telling : Telling) (q p : Query) (start : State) (log : Log) → Alike q p → telling_text telling q start log ≡ telling_text telling p start log
+same_telling same_data (Listed listing) q p start log a = same_listing listing q p start log a
+same_telling same_data Page q p start log a = ap (λ (data_of : List ℕ). head ++ data_of ++ tail) (same_data q p start log a)
 
 pub same_decisions : (q p : Query) (start : State) (log : Log) → Alike q p → decisions_by q start log ≡ decisions_by p start log
 same_decisions q p start log a = λ i. decisions_text (decided (record { rule = deciding_rule (a.rule i); introduces = λ b. a.sources b.channel b.offset i }) start log)

@@ -5,7 +5,7 @@ use Rattle.outer_io.specs.Files.{Text}
 use Rattle.outer_io.specs.Tells.{Tells, Gains}
 use Rattle.isa.specs.Machine.{State}
 use Rattle.log_model.specs.Logs.{Log}
-use Rattle.jet_words.specs.Commands.{CommandOf, AnalysisOf, ProductOf, DecisionsOf, RecordOf, ConvertOf, QueriesOf, BenchOf}
+use Rattle.jet_words.specs.Commands.{CommandOf, AnalysisOf, ProductOf, DecisionsOf, PageOf, RecordOf, ConvertOf, QueriesOf, BenchOf}
 use Rattle.jet_words.specs.declared.command.Listing.{Listing}
 use Rattle.jet_words.specs.declared.command.Listing.TheVariants.{BySink, BySource, ByPath, ByRange}
 use Rattle.jet_words.specs.declared.command.Product.{Product}
@@ -23,6 +23,7 @@ use Rattle.jet_model.specs.Report.{over_trace, report_of, influence_of, reports_
 use Rattle.path_find.specs.Answer.{path_report}
 use Rattle.range_model.specs.Text.{ranges_report}
 use Rattle.decision_model.specs.Text.{decisions_report}
+use Rattle.page_model.specs.Page.{page_report}
 use Rattle.jet_model.specs.Answer.{Limits, Source, IsCaptureAnswer, IsRecordAnswer, analysed_answer, query_answer, rules_check, queries_answer, fitting_start, told_check, limited_text, run_answer, convert_answer}
 use Rattle.workload_model.specs.Answer.{IsBenchAnswer}
 use Rattle.jet_refusal.specs.Causes.{IsOwedTo}
@@ -32,6 +33,8 @@ use Rattle.run_output.specs.Input.{input}
 use Rattle.run_output.specs.Output.{output}
 use Rattle.call_list.specs.Calls.{calls_text}
 use Rattle.call_stack.specs.Stack.{stack_text}
+use Rattle.jet_cli.specs.declared.work.Telling.{Telling}
+use Rattle.jet_cli.specs.declared.work.Telling.TheVariants.{Listed, Page}
 
 abbrev pub named : Text → Text → Text → Names
 named program log query = record { program = program; log = log; query = query }
@@ -66,6 +69,11 @@ given_by BySource q start log = influence_of q (trace start log)
 given_by ByPath q start log = path_report start log q
 given_by ByRange q start log = ranges_report log (rows q (trace start log))
 
+-- what is told of the rows of a query: one of these texts, or the page
+abbrev pub telling_text : Telling → Query → State → Log → List ℕ
+telling_text (Listed listing) = given_by listing
+telling_text Page = page_report
+
 -- where a source byte of a query could turn a run, as text
 abbrev pub decisions_by : Query → State → Log → List ℕ
 decisions_by q start log = decisions_report start log q
@@ -90,6 +98,8 @@ IsAnswer (AnalysisOf listing program log query pipeline) heard heard_after file 
 IsAnswer (ProductOf product program log) heard heard_after file answer = run_answer file program log (made_by product) ≡ answer
 IsAnswer (DecisionsOf program log query) heard heard_after file answer =
     query_answer decisions_by None file (named program log query) ≡ answer
+IsAnswer (PageOf program log query page pipeline) heard heard_after file answer =
+    query_answer page_report pipeline.epoch file (named program log query) ≡ answer
 IsAnswer (RecordOf program log inputs pages piece steps) heard heard_after file answer =
     IsRecording program inputs (limits_of pages piece steps) heard heard_after file answer
 IsAnswer (ConvertOf program log new) heard heard_after file answer = convert_answer file program log ≡ answer

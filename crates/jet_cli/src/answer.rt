@@ -5,16 +5,16 @@ ghost use Rattle.jet_model.specs.Answer.{query_answer, queries_answer, run_answe
 ghost use Rattle.jet_words.specs.Commands.{plain_command, IsPipeline, IsInRange};
 ghost use Rattle.jet_files.specs.Outcome.{Comes, Follows, seen_by, bytes_of};
 ghost use Rattle.jet_cli.specs.Targets.{sources_of, IfUntimed};
-ghost use Rattle.jet_cli.specs.Answers.{IsAnswer, given_by, decisions_by, made_by, named};
+ghost use Rattle.jet_cli.specs.Answers.{IsAnswer, telling_text, decisions_by, made_by, named};
 ghost use Rattle.jet_cli.specs.Ending.{IsUnasked};
 
 use crate::bench::bench;
 use crate::engine::Engine;
 use crate::record::{Limits, record};
-use crate::work::{conversion, decide, list, make, reports};
+use crate::work::{Telling, conversion, decide, make, reports, tell};
 use jet_files::{open_queries, open_query, open_run};
 use jet_refusal::Refusal;
-use jet_words::{Command, Listing, Pipeline, Product};
+use jet_words::{Command, Pipeline, Product};
 use outer_io::{Clock, Gate, Store};
 use std::alloc::Global;
 use std::sync::Wait;
@@ -27,18 +27,18 @@ fn analysis<R: Threads + Wait + Sync, S: Store, G: Gate>(
     program: &str,
     log: &str,
     query: &str,
-    listing: Listing,
+    telling: Telling,
     pipeline: Pipeline,
 ) -> Result<Vec<u8>, Refusal>
     requires { IsPipeline pipeline }
     ensures answer { Comes
-        (λ file. query_answer (given_by listing) pipeline.epoch file (named program.now log.now query.now))
+        (λ file. query_answer (telling_text telling) pipeline.epoch file (named program.now log.now query.now))
         (S.shown store.old) (S.shown store.new) (seen_by bytes_of result) }
     ensures reads { Reads (program.now ∷ log.now ∷ query.now ∷ []) (is_ok result) (S.shown store.old) (S.shown store.new) }
 {
     let run = open_run(engine.alloc, store, program, log)?;
     let query = open_query(engine.alloc, store, query)?;
-    list(engine, run, &query, listing, pipeline)
+    tell(engine, run, &query, telling, pipeline)
 }
 
 /// Where a source byte of a query could turn a run.
@@ -134,7 +134,10 @@ pub fn answer<R: Threads + Wait + Sync, S: Store, K: Clock, G: Gate>(
             log,
             query,
             pipeline,
-        } => analysis(engine, store, program, log, query, *listing, *pipeline),
+        } => {
+            let telling = Telling::Listed(*listing);
+            analysis(engine, store, program, log, query, telling, *pipeline)
+        }
         Command::Product {
             product,
             program,
@@ -145,6 +148,13 @@ pub fn answer<R: Threads + Wait + Sync, S: Store, K: Clock, G: Gate>(
             log,
             query,
         } => decisions(alloc, store, program, log, query),
+        Command::Page {
+            program,
+            log,
+            query,
+            pipeline,
+            ..
+        } => analysis(engine, store, program, log, query, Telling::Page, *pipeline),
         Command::Record {
             program,
             inputs,

@@ -10,7 +10,7 @@ ghost use Rattle.jet_cli.specs.Writing.{Delivers, DeliversPart, FailsToWrite};
 use jet_words::Command;
 use outer_io::{Sink, Store, WriteFault, write_file, write_whole};
 
-/// Writes the text of a command: a log into its file, and every other text to the output.
+/// Writes the text of a command: a log or a page into its file, and every other text to the output.
 #[tactic(auto, using(crate::proofs::KeepingLemmas::keeps))]
 pub fn deliver<S: Store, O: Sink>(
     store: &mut S,
@@ -33,6 +33,7 @@ pub fn deliver<S: Store, O: Sink>(
         Command::Analysis { .. } => write_whole(out, text),
         Command::Product { .. } => write_whole(out, text),
         Command::Decisions { .. } => write_whole(out, text),
+        Command::Page { page, .. } => write_file(store, page, text),
         Command::Record { log, .. } => write_file(store, log, text),
         Command::Convert { new, .. } => write_file(store, new, text),
         Command::Queries { .. } => write_whole(out, text),

@@ -1,4 +1,4 @@
-//! Reports: of one query, and of several by one analysis of the run.
+//! Reports: of one query, also as a page, and of several by one analysis of the run.
 ghost use Rattle.std.specs.Prelude.{◌≡◌, ◌≤◌, ◌++◌, List, Err, length, IfOk, IfErr, OnOk};
 ghost use Rattle.sorted_set.specs.Sets.{Ascends};
 ghost use Rattle.flow_model.specs.Orders.{inner_cmp};
@@ -12,6 +12,7 @@ ghost use Rattle.jet_files.specs.Outcome.{IsWork};
 ghost use Rattle.replayer.specs.Jobs.{trace_of};
 ghost use Rattle.run_query.specs.Preparing.{IsPrepared};
 ghost use Rattle.range_model.specs.Text.{ranges_report};
+ghost use Rattle.page_model.specs.Page.{page_report};
 ghost use Rattle.jet_cli.specs.Answers.{IsUnion, numbered_text};
 
 use crate::engine::Engine;
@@ -21,6 +22,7 @@ use jet_refusal::Refusal;
 use jet_words::Pipeline;
 use no_memory::NoMemory;
 use outer_io::Gate;
+use page_data::page;
 use query_lang::{Query, together};
 use range_report::shown;
 use replayer::Job;
@@ -60,6 +62,22 @@ pub fn ranges_text<R: Threads + Wait + Sync, G: Gate>(
 {
     let report = rows_of(engine, job, query, prepared, pipeline)?;
     shown(engine.alloc, &report, job.log())
+}
+
+/// The page of a query.
+pub fn page_text<R: Threads + Wait + Sync, G: Gate>(
+    engine: &Engine<R, G>,
+    job: &Job,
+    query: &Query,
+    prepared: Prepared,
+    pipeline: Pipeline,
+) -> Result<Vec<u8>, NoMemory>
+    requires prepared { IsPrepared query.now job.now prepared }
+    requires pipeline { IsPipeline pipeline }
+    ensures { IfOk result (λ text. text.items ≡ page_report query.now job.now.start job.now.log) }
+{
+    let report = rows_of(engine, job, query, prepared, pipeline)?;
+    page(engine.alloc, job, query, &report)
 }
 
 /// One query that chooses what any of several does. It gives up with `Rules`, where their rules differ, or is out of memory.

@@ -8,13 +8,13 @@ ghost use Rattle.jet_words.specs.Commands.{IsPipeline};
 ghost use Rattle.jet_model.specs.Answer.{fitting_start, told_check, text_answer};
 ghost use Rattle.jet_files.specs.Outcome.{IsWork, seen_by, bytes_of};
 ghost use Rattle.jet_files.specs.Views.{run_of};
-ghost use Rattle.jet_cli.specs.Answers.{IsWorkOf, IsGivenAlike, AreGivenAlike, fits_and_is_cut, given_by, made_by};
+ghost use Rattle.jet_cli.specs.Answers.{IsWorkOf, IsGivenAlike, AreGivenAlike, fits_and_is_cut, telling_text, made_by};
 ghost use Rattle.jet_cli.specs.Answers.{conversion_of, decisions_by};
 
 use crate::engine::Engine;
 use crate::influence::influence_of;
 use crate::path::path_text;
-use crate::reports::{ranges_text, report_text, reports_of, union_of};
+use crate::reports::{page_text, ranges_text, report_text, reports_of, union_of};
 use crate::rows::cuts_by;
 use call_list::calls_text;
 use call_stack::stack_text;
@@ -25,6 +25,7 @@ use jet_refusal::Refusal;
 use jet_words::{Listing, Pipeline, Product};
 use no_memory::NoMemory;
 use outer_io::Gate;
+use page_model::laws::alike_have_same_data;
 use query_lang::Query;
 use replay_log::{Log, write_log};
 use replayer::Job;
@@ -33,6 +34,15 @@ use run_query::{Prepared, check_for};
 use std::alloc::Global;
 use std::sync::Wait;
 use std::thread::Threads;
+
+/// What is told of the rows of a query.
+#[derive(Clone, Copy)]
+pub enum Telling {
+    /// A text to read, line by line.
+    Listed(Listing),
+    /// The page of the query.
+    Page,
+}
 
 /// The log fitted to its program.
 pub fn fitted(alloc: Global, program: &[u8], image: Image, log: Log) -> Result<Job, Refusal>
@@ -85,40 +95,42 @@ fn prepared_run<R: Threads + Wait + Sync, G: Gate>(
 }
 
 /// What is told of the rows of a query. It gives up with NoMemory alone.
-fn listed<R: Threads + Wait + Sync, G: Gate>(
+fn told<R: Threads + Wait + Sync, G: Gate>(
     engine: &Engine<R, G>,
     job: &Job,
     query: &Query,
     prepared: Prepared,
-    listing: Listing,
+    telling: Telling,
     pipeline: Pipeline,
 ) -> Result<Vec<u8>, NoMemory>
     requires prepared { IsPrepared query.now job.now prepared }
     requires pipeline { IsPipeline pipeline }
-    ensures { IfOk result (λ text. text.items ≡ given_by listing query.now job.now.start job.now.log) }
+    ensures { IfOk result (λ text. text.items ≡ telling_text telling query.now job.now.start job.now.log) }
 {
-    match listing {
-        Listing::BySink => report_text(engine, job, query, prepared, pipeline),
-        Listing::BySource => influence_of(engine, job, query, prepared, pipeline),
-        Listing::ByPath => path_text(engine, job, query, prepared, pipeline),
-        Listing::ByRange => ranges_text(engine, job, query, prepared, pipeline),
+    match telling {
+        Telling::Listed(Listing::BySink) => report_text(engine, job, query, prepared, pipeline),
+        Telling::Listed(Listing::BySource) => influence_of(engine, job, query, prepared, pipeline),
+        Telling::Listed(Listing::ByPath) => path_text(engine, job, query, prepared, pipeline),
+        Telling::Listed(Listing::ByRange) => ranges_text(engine, job, query, prepared, pipeline),
+        Telling::Page => page_text(engine, job, query, prepared, pipeline),
     }
 }
 
 /// What is told of the rows of a query over the run, for each query that this one stands for.
-pub fn list<R: Threads + Wait + Sync, G: Gate>(
+pub fn tell<R: Threads + Wait + Sync, G: Gate>(
     engine: &Engine<R, G>,
     run: Run,
     query: &Query,
-    listing: Listing,
+    telling: Telling,
     pipeline: Pipeline,
 ) -> Result<Vec<u8>, Refusal>
     requires image { image_of_file run.program.bytes.items ≡ Ok run.program.image }
     requires pipeline { IsPipeline pipeline }
-    ensures { IsWorkOf (IsGivenAlike (given_by listing) pipeline.epoch (run_of run) query.now) (seen_by bytes_of result) }
+    ensures { IsWorkOf (IsGivenAlike (telling_text telling) pipeline.epoch (run_of run) query.now) (seen_by bytes_of result) }
 {
     let (job, prepared) = prepared_run(engine, run, query, pipeline)?;
-    let text = listed(engine, &job, query, prepared, listing, pipeline)?;
+    alike_have_same_data();
+    let text = told(engine, &job, query, prepared, telling, pipeline)?;
     Ok(text)
 }
 

@@ -8,7 +8,7 @@ use Rattle.clap.specs.Takes.{walk_passes, flags_pass}
 use Rattle.jet_words.specs.declared.command.Pipeline.{Pipeline}
 use Rattle.jet_words.specs.declared.command.Listing.TheVariants.{BySink, BySource, ByPath, ByRange}
 use Rattle.jet_words.specs.declared.command.Product.TheVariants.{Numbers, Calls, Input, Output, Stack}
-use Rattle.jet_words.specs.Commands.{CommandOf, command_of, AnalysisOf, ProductOf, DecisionsOf, RecordOf, ConvertOf, QueriesOf, BenchOf}
+use Rattle.jet_words.specs.Commands.{CommandOf, command_of, AnalysisOf, ProductOf, DecisionsOf, PageOf, RecordOf, ConvertOf, QueriesOf, BenchOf}
 
 abbrev before_word : Bool → ℕ → List Text → List Text
 before_word true c words = [] ∷ words
@@ -277,6 +277,24 @@ no_decisions : AreRefused (codes "jet decisions p l" ∷ codes "jet decisions p 
     ∷ codes "jet decision p l q" ∷ [])
 unfolding command_of walked walk_passes
 no_decisions = refl
+
+-- ---- page
+
+abbrev page_made : Text → Text → Pipeline → Line
+page_made line page pipeline = (line, PageOf (codes "p") (codes "l") (codes "q") page pipeline)
+
+pages : Stands (
+    page_made (codes "jet page p l q n") (codes "n") usual
+    ∷ page_made (codes "jet page p l q q") (codes "q") usual
+    ∷ page_made (codes "jet page p l -- q --n") (codes "--n") usual
+    ∷ page_made (codes "jet page p l --epoch 5 q n --link 3 --workers 2") (codes "n") (record { epoch = Some 5; workers = 2; link = 3 }) ∷ [])
+unfolding command_of walked walk_passes
+pages = refl
+
+no_pages : AreRefused (codes "jet page p l q" ∷ codes "jet page p l q n m" ∷ codes "jet page p l q n --steps 1"
+    ∷ codes "jet page p l q n --workers 65" ∷ codes "jet pages p l q n" ∷ [])
+unfolding command_of walked walk_passes
+no_pages = refl
 
 -- ---- queries
 

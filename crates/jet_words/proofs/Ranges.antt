@@ -8,7 +8,7 @@ use Rattle.clap.specs.Simple.{App, Shape, built_leaf, filled, help_shape, inheri
 use Rattle.clap_command.specs.Plain.{is_plain_subcommand}
 use Rattle.clap_command.proofs.Rows.{Only, list-filled, list-length, number-in_range, option-in_range, optional-in_range}
 use Rattle.clap_command.proofs.Subcommands.{AtTaken, AtEach, at_subcommand, help-not_named}
-use Rattle.jet_words.specs.CommandLine.{epoch_option, workers_option, link_option, bench_app, calls_app, convert_app, decisions_app, influence_app, input_app, jet_app, others, output_app, path_app, products, queries_app, query_app, record_app, replay_app, show_app, stack_app}
+use Rattle.jet_words.specs.CommandLine.{epoch_option, workers_option, link_option, bench_app, calls_app, convert_app, decisions_app, influence_app, input_app, jet_app, others, output_app, page_app, path_app, products, queries_app, query_app, record_app, replay_app, show_app, stack_app}
 use Rattle.jet_words.specs.Commands.{IsPipeline, IsInRange, pipeline_of, command_by}
 use Rattle.jet_words.specs.Numbers.{HasPipelineNumbers, HasNumbers}
 
@@ -48,46 +48,51 @@ pipeline_sound s words plain has e =
 query_sound : AtTaken IsSound (leaf query_app)
 query_sound words e =
     let p = pipeline_sound (leaf query_app) words refl (refl, refl, refl) e in
-    record { numbers = (λ here. p.numbers, λ bad. cc, λ bad. cc, λ bad. cc, λ bad. cc, λ bad. cc, λ bad. cc); ranges = p.ranges }
+    record { numbers = (λ here. p.numbers, λ bad. cc, λ bad. cc, λ bad. cc, λ bad. cc, λ bad. cc, λ bad. cc, λ bad. cc); ranges = p.ranges }
 
 influence_sound : AtTaken IsSound (leaf influence_app)
 influence_sound words e =
     let p = pipeline_sound (leaf influence_app) words refl (refl, refl, refl) e in
-    record { numbers = (λ here. p.numbers, λ bad. cc, λ bad. cc, λ bad. cc, λ bad. cc, λ bad. cc, λ bad. cc); ranges = p.ranges }
+    record { numbers = (λ here. p.numbers, λ bad. cc, λ bad. cc, λ bad. cc, λ bad. cc, λ bad. cc, λ bad. cc, λ bad. cc); ranges = p.ranges }
 
 path_sound : AtTaken IsSound (leaf path_app)
 path_sound words e =
     let p = pipeline_sound (leaf path_app) words refl (refl, refl, refl) e in
-    record { numbers = (λ here. p.numbers, λ bad. cc, λ bad. cc, λ bad. cc, λ bad. cc, λ bad. cc, λ bad. cc); ranges = p.ranges }
+    record { numbers = (λ here. p.numbers, λ bad. cc, λ bad. cc, λ bad. cc, λ bad. cc, λ bad. cc, λ bad. cc, λ bad. cc); ranges = p.ranges }
 
 show_sound : AtTaken IsSound (leaf show_app)
 show_sound words e =
     let p = pipeline_sound (leaf show_app) words refl (refl, refl, refl) e in
-    record { numbers = (λ here. p.numbers, λ bad. cc, λ bad. cc, λ bad. cc, λ bad. cc, λ bad. cc, λ bad. cc); ranges = p.ranges }
+    record { numbers = (λ here. p.numbers, λ bad. cc, λ bad. cc, λ bad. cc, λ bad. cc, λ bad. cc, λ bad. cc, λ bad. cc); ranges = p.ranges }
 
 replay_sound : AtTaken IsSound (leaf replay_app)
-replay_sound words e = record { numbers = (λ bad. cc, λ bad. cc, λ bad. cc, λ bad. cc, λ bad. cc, λ bad. cc, λ bad. cc); ranges = tt }
+replay_sound words e = record { numbers = (λ bad. cc, λ bad. cc, λ bad. cc, λ bad. cc, λ bad. cc, λ bad. cc, λ bad. cc, λ bad. cc); ranges = tt }
 
 calls_sound : AtTaken IsSound (leaf calls_app)
-calls_sound words e = record { numbers = (λ bad. cc, λ bad. cc, λ bad. cc, λ bad. cc, λ bad. cc, λ bad. cc, λ bad. cc); ranges = tt }
+calls_sound words e = record { numbers = (λ bad. cc, λ bad. cc, λ bad. cc, λ bad. cc, λ bad. cc, λ bad. cc, λ bad. cc, λ bad. cc); ranges = tt }
 
 input_sound : AtTaken IsSound (leaf input_app)
 input_sound words e =
     let channel = number-in_range (leaf input_app) words refl e (codes "C") _ 4294967295 0 15 refl refl refl refl refl in
-    record { numbers = (λ bad. cc, λ here. channel.can_be_read, λ bad. cc, λ bad. cc, λ bad. cc, λ bad. cc, λ bad. cc); ranges = channel.at_most }
+    record { numbers = (λ bad. cc, λ here. channel.can_be_read, λ bad. cc, λ bad. cc, λ bad. cc, λ bad. cc, λ bad. cc, λ bad. cc); ranges = channel.at_most }
 
 output_sound : AtTaken IsSound (leaf output_app)
 output_sound words e =
     let channel = number-in_range (leaf output_app) words refl e (codes "C") _ 4294967295 0 15 refl refl refl refl refl in
-    record { numbers = (λ bad. cc, λ bad. cc, λ here. channel.can_be_read, λ bad. cc, λ bad. cc, λ bad. cc, λ bad. cc); ranges = channel.at_most }
+    record { numbers = (λ bad. cc, λ bad. cc, λ here. channel.can_be_read, λ bad. cc, λ bad. cc, λ bad. cc, λ bad. cc, λ bad. cc); ranges = channel.at_most }
 
 stack_sound : AtTaken IsSound (leaf stack_app)
 stack_sound words e =
     let time = number-in_range (leaf stack_app) words refl e (codes "T") _ 18446744073709551615 0 1099511627776 refl refl refl refl refl in
-    record { numbers = (λ bad. cc, λ bad. cc, λ bad. cc, λ here. time.can_be_read, λ bad. cc, λ bad. cc, λ bad. cc); ranges = time.at_most }
+    record { numbers = (λ bad. cc, λ bad. cc, λ bad. cc, λ here. time.can_be_read, λ bad. cc, λ bad. cc, λ bad. cc, λ bad. cc); ranges = time.at_most }
 
 decisions_sound : AtTaken IsSound (leaf decisions_app)
-decisions_sound words e = record { numbers = (λ bad. cc, λ bad. cc, λ bad. cc, λ bad. cc, λ bad. cc, λ bad. cc, λ bad. cc); ranges = tt }
+decisions_sound words e = record { numbers = (λ bad. cc, λ bad. cc, λ bad. cc, λ bad. cc, λ bad. cc, λ bad. cc, λ bad. cc, λ bad. cc); ranges = tt }
+
+page_sound : AtTaken IsSound (leaf page_app)
+page_sound words e =
+    let p = pipeline_sound (leaf page_app) words refl (refl, refl, refl) e in
+    record { numbers = (λ bad. cc, λ bad. cc, λ bad. cc, λ bad. cc, λ here. p.numbers, λ bad. cc, λ bad. cc, λ bad. cc); ranges = p.ranges }
 
 record_sound : AtTaken IsSound (leaf record_app)
 record_sound words e =
@@ -95,7 +100,7 @@ record_sound words e =
     let piece = option-in_range (leaf record_app) words refl e (codes "piece") _ 4294967295 1 16777216 refl refl refl refl refl in
     let steps = option-in_range (leaf record_app) words refl e (codes "steps") _ 18446744073709551615 1 1099511627776 refl refl refl refl refl in
     record {
-      numbers = (λ bad. cc, λ bad. cc, λ bad. cc, λ bad. cc, λ here. (pages.can_be_read, piece.can_be_read, steps.can_be_read), λ bad. cc, λ bad. cc);
+      numbers = (λ bad. cc, λ bad. cc, λ bad. cc, λ bad. cc, λ bad. cc, λ here. (pages.can_be_read, piece.can_be_read, steps.can_be_read), λ bad. cc, λ bad. cc);
       ranges = (
         list-length (leaf record_app) words refl e (codes "IN") _ 16 refl refl,
         pages.at_least,
@@ -108,13 +113,13 @@ record_sound words e =
     }
 
 convert_sound : AtTaken IsSound (leaf convert_app)
-convert_sound words e = record { numbers = (λ bad. cc, λ bad. cc, λ bad. cc, λ bad. cc, λ bad. cc, λ bad. cc, λ bad. cc); ranges = tt }
+convert_sound words e = record { numbers = (λ bad. cc, λ bad. cc, λ bad. cc, λ bad. cc, λ bad. cc, λ bad. cc, λ bad. cc, λ bad. cc); ranges = tt }
 
 queries_sound : AtTaken IsSound (leaf queries_app)
 queries_sound words e =
     let p = pipeline_sound (leaf queries_app) words refl (refl, refl, refl) e in
     record {
-      numbers = (λ bad. cc, λ bad. cc, λ bad. cc, λ bad. cc, λ bad. cc, λ here. p.numbers, λ bad. cc);
+      numbers = (λ bad. cc, λ bad. cc, λ bad. cc, λ bad. cc, λ bad. cc, λ bad. cc, λ here. p.numbers, λ bad. cc);
       ranges = (
         list-filled (leaf queries_app) words refl e (codes "QUERY") _ 1 refl refl refl,
         list-length (leaf queries_app) words refl e (codes "QUERY") _ 16 refl refl,
@@ -128,12 +133,12 @@ bench_sound words e =
     let steps = number-in_range (leaf bench_app) words refl e (codes "STEPS") _ 18446744073709551615 1 2000000 refl refl refl refl refl in
     let p = pipeline_sound (leaf bench_app) words refl (refl, refl, refl) e in
     record {
-      numbers = (λ bad. cc, λ bad. cc, λ bad. cc, λ bad. cc, λ bad. cc, λ bad. cc, λ here. (seed.can_be_read, steps.can_be_read, p.numbers));
+      numbers = (λ bad. cc, λ bad. cc, λ bad. cc, λ bad. cc, λ bad. cc, λ bad. cc, λ bad. cc, λ here. (seed.can_be_read, steps.can_be_read, p.numbers));
       ranges = (seed.at_most, steps.at_least, steps.at_most, p.ranges);
     }
 
 others_sound : AtEach IsSound (map leaf others ++ built_leaf help_shape ∷ [])
-others_sound = (λ word named other. decisions_sound, (λ word named other. record_sound, (λ word named other. convert_sound, (λ word named other. queries_sound, (λ word named other. bench_sound, (help-not_named IsSound, tt))))))
+others_sound = (λ word named other. decisions_sound, (λ word named other. page_sound, (λ word named other. record_sound, (λ word named other. convert_sound, (λ word named other. queries_sound, (λ word named other. bench_sound, (help-not_named IsSound, tt)))))))
 
 products_sound : AtEach IsSound (map leaf products ++ map leaf others ++ built_leaf help_shape ∷ [])
 products_sound = (λ word named other. replay_sound, (λ word named other. calls_sound, (λ word named other. input_sound, (λ word named other. output_sound, (λ word named other. stack_sound, others_sound)))))

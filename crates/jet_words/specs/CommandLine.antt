@@ -98,6 +98,10 @@ stack_app = with_rule (program_and_log (codes "stack")) (number (codes "T") 0 10
 abbrev pub decisions_app : App
 decisions_app = with_rule (program_and_log (codes "decisions")) (positional (codes "QUERY"))
 
+-- page PROG LOG QUERY PAGE [--epoch N] [--workers W] [--link C]
+abbrev pub page_app : App
+page_app = with_pipeline (with_rule (with_rule (program_and_log (codes "page")) (positional (codes "QUERY"))) (positional (codes "PAGE")))
+
 -- the subcommands that tell of the rows of a query
 abbrev pub analyses : List App
 analyses = query_app ∷ influence_app ∷ path_app ∷ show_app ∷ []
@@ -107,7 +111,7 @@ abbrev pub products : List App
 products = replay_app ∷ calls_app ∷ input_app ∷ output_app ∷ stack_app ∷ []
 
 abbrev pub others : List App
-others = decisions_app ∷ record_app ∷ convert_app ∷ queries_app ∷ bench_app ∷ []
+others = decisions_app ∷ page_app ∷ record_app ∷ convert_app ∷ queries_app ∷ bench_app ∷ []
 
 -- jet SUBCOMMAND ..
 abbrev pub jet_app : App

@@ -10,7 +10,7 @@ use Rattle.jet_words.specs.declared.command.Product.{Product}
 use Rattle.jet_words.specs.declared.command.Product.TheVariants.{Numbers, Calls, Input, Output, Stack}
 use Rattle.jet_words.specs.declared.command.Pipeline.{Pipeline}
 use Rattle.jet_words.specs.declared.command.Command.{Command}
-use Rattle.jet_words.specs.declared.command.Command.TheVariants.{Analysis, Product as Made, Decisions, Record, Convert, Queries, Bench}
+use Rattle.jet_words.specs.declared.command.Command.TheVariants.{Analysis, Product as Made, Decisions, Page, Record, Convert, Queries, Bench}
 
 -- a command; files are told by their names
 pub data CommandOf : Type 0 where
@@ -20,6 +20,8 @@ pub data CommandOf : Type 0 where
   ProductOf : (product : Product) (program log : Text) → CommandOf
   -- where a source byte of a query could turn a run
   DecisionsOf : (program log query : Text) → CommandOf
+  -- the page of a query, written into a file
+  PageOf : (program log query page : Text) (pipeline : Pipeline) → CommandOf
   -- the log of a run over these input files, with so many pages of memory, at most `piece` bytes to a read, and cut off after
   -- `steps` steps
   RecordOf : (program log : Text) (inputs : List Text) (pages piece steps : ℕ) → CommandOf
@@ -48,6 +50,10 @@ product_of product rows = ProductOf product (value_of (codes "PROG") rows) (valu
 
 abbrev pub decisions_of : List Row → CommandOf
 decisions_of rows = DecisionsOf (value_of (codes "PROG") rows) (value_of (codes "LOG") rows) (value_of (codes "QUERY") rows)
+
+abbrev pub page_of : List Row → CommandOf
+page_of rows = PageOf (value_of (codes "PROG") rows) (value_of (codes "LOG") rows) (value_of (codes "QUERY") rows)
+    (value_of (codes "PAGE") rows) (pipeline_of rows)
 
 abbrev pub record_of : List Row → CommandOf
 record_of rows = RecordOf (value_of (codes "PROG") rows) (value_of (codes "LOG") rows) (values_of (codes "IN") rows)
@@ -84,10 +90,11 @@ product_by name rows =
 abbrev pub other_by : Text → List Row → Option CommandOf
 other_by name rows =
     if bytes_eq name (codes "decisions") then Some (decisions_of rows)
+    else (if bytes_eq name (codes "page") then Some (page_of rows)
     else (if bytes_eq name (codes "record") then Some (record_of rows)
     else (if bytes_eq name (codes "convert") then Some (convert_of rows)
     else (if bytes_eq name (codes "queries") then Some (queries_of rows)
-    else (if bytes_eq name (codes "bench") then Some (bench_of rows) else None))))
+    else (if bytes_eq name (codes "bench") then Some (bench_of rows) else None)))))
 
 -- an analysis, else a product, else another command
 abbrev pub first_of : List Row → Option Listing → Option Product → Option CommandOf → Option CommandOf
@@ -109,6 +116,7 @@ abbrev pub plain_command : Command → CommandOf
 plain_command (Analysis listing program log query pipeline) = AnalysisOf listing program.now log.now query.now pipeline
 plain_command (Made product program log) = ProductOf product program.now log.now
 plain_command (Decisions program log query) = DecisionsOf program.now log.now query.now
+plain_command (Page program log query page pipeline) = PageOf program.now log.now query.now page.now pipeline
 plain_command (Record program log inputs pages piece steps) = RecordOf program.now log.now (map (λ s. s.now) inputs.items) pages piece steps
 plain_command (Convert program log new) = ConvertOf program.now log.now new.now
 plain_command (Queries program log queries pipeline) =
@@ -133,6 +141,7 @@ abbrev pub IsInRange : CommandOf → Type 0
 IsInRange (AnalysisOf listing program log query pipeline) = IsPipeline pipeline
 IsInRange (ProductOf product program log) = IsProduct product
 IsInRange (DecisionsOf program log query) = ⊤
+IsInRange (PageOf program log query page pipeline) = IsPipeline pipeline
 IsInRange (RecordOf program log inputs pages piece steps) =
     (length inputs ≤ 16) × (1 ≤ pages) × (pages ≤ 4096) × (1 ≤ piece) × (piece ≤ 16777216) × (1 ≤ steps) × (steps ≤ 1099511627776)
 IsInRange (ConvertOf program log new) = ⊤

@@ -17,6 +17,7 @@ HasNumbers (name, rows) =
     × (bytes_eq name (codes "input") ≡ true → IsNumber (codes "C") rows)
     × (bytes_eq name (codes "output") ≡ true → IsNumber (codes "C") rows)
     × (bytes_eq name (codes "stack") ≡ true → IsLongNumber (codes "T") rows)
+    × (bytes_eq name (codes "page") ≡ true → HasPipelineNumbers rows)
     × (bytes_eq name (codes "record") ≡ true → IsNumber (codes "pages") rows × IsNumber (codes "piece") rows × IsLongNumber (codes "steps") rows)
     × (bytes_eq name (codes "queries") ≡ true → HasPipelineNumbers rows)
     × (bytes_eq name (codes "bench") ≡ true →

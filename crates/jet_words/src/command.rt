@@ -66,6 +66,19 @@ pub enum Command<'a> {
         log: &'a str,
         query: &'a str,
     },
+    /// The page of a query.
+    Page {
+        /// The program's name.
+        program: &'a str,
+        /// The log's name.
+        log: &'a str,
+        /// The query's name.
+        query: &'a str,
+        /// The name of the page that is written.
+        page: &'a str,
+        /// How the run is analysed.
+        pipeline: Pipeline,
+    },
     /// The recording of a run.
     Record {
         /// The program's name.

@@ -4,7 +4,7 @@ ghost use Rattle.clap.specs.Words.{app_of, with_subcommand};
 ghost use Rattle.clap.specs.declared.builder.Command.TheViews.{out-Command as fields_of};
 ghost use Rattle.jet_words.specs.CommandLine.{program_and_log as program_and_log_app};
 ghost use Rattle.jet_words.specs.CommandLine.{with_pipeline as with_pipeline_app, analysis, on_channel, stack_app};
-ghost use Rattle.jet_words.specs.CommandLine.{decisions_app, record_app, convert_app, queries_app, bench_app, bare_app};
+ghost use Rattle.jet_words.specs.CommandLine.{decisions_app, page_app, record_app, convert_app, queries_app, bench_app, bare_app};
 ghost use Rattle.jet_words.specs.CommandLine.{with_each, analyses, products, others, jet_app};
 
 use clap::Command;
@@ -69,6 +69,16 @@ fn decisions_command<'a>(alloc: Global) -> Result<Command<'a>, AllocError>
 {
     let command = program_and_log(alloc, "decisions")?;
     with_argument(command, positional(alloc, "QUERY"))
+}
+
+fn page_command<'a>(alloc: Global) -> Result<Command<'a>, AllocError>
+    ensures app { IfOk result (λ c. app_of c ≡ page_app) }
+    ensures globals { IfOk result (λ c. (fields_of c).has_globals ≡ false) }
+{
+    let command = program_and_log(alloc, "page")?;
+    let command = with_argument(command, positional(alloc, "QUERY"))?;
+    let command = with_argument(command, positional(alloc, "PAGE"))?;
+    with_pipeline(alloc, command)
 }
 
 fn record_command<'a>(alloc: Global) -> Result<Command<'a>, AllocError>
@@ -161,6 +171,7 @@ fn with_others<'a>(alloc: Global, command: Command<'a>) -> Result<Command<'a>, A
     ensures { IfOk result (λ c. app_of c ≡ with_each (app_of command.entry) others) }
 {
     let command = with_made(command, decisions_command(alloc))?;
+    let command = with_made(command, page_command(alloc))?;
     let command = with_made(command, record_command(alloc))?;
     let command = with_made(command, convert_command(alloc))?;
     let command = with_made(command, queries_command(alloc))?;

@@ -8,7 +8,7 @@ ghost use Rattle.jet_words.specs.CommandLine.{jet_app};
 ghost use Rattle.jet_words.specs.Commands.{command_of, command_by, plain_command, IsInRange};
 ghost use Rattle.jet_words.specs.Commands.{listing_by, product_by, other_by};
 ghost use Rattle.jet_words.specs.Commands.{pipeline_of, analysis_of, product_of as product_of_rows};
-ghost use Rattle.jet_words.specs.Commands.{decisions_of, record_of, convert_of, queries_of, bench_of};
+ghost use Rattle.jet_words.specs.Commands.{decisions_of, page_of, record_of, convert_of, queries_of, bench_of};
 ghost use Rattle.jet_words.specs.Numbers.{HasPipelineNumbers, HasNumbers};
 
 use crate::command::{Command, Listing, Pipeline, Product};
@@ -70,6 +70,19 @@ fn read_decisions<'a>(matches: &ArgMatches<'a>) -> Command<'a>
         program: read_value(matches, "PROG"),
         log: read_value(matches, "LOG"),
         query: read_value(matches, "QUERY"),
+    }
+}
+
+fn read_page<'a>(matches: &ArgMatches<'a>) -> Command<'a>
+    requires { HasPipelineNumbers (rows_of (found_of matches.now)) }
+    ensures { plain_command result ≡ page_of (rows_of (found_of matches.now)) }
+{
+    Command::Page {
+        program: read_value(matches, "PROG"),
+        log: read_value(matches, "LOG"),
+        query: read_value(matches, "QUERY"),
+        page: read_value(matches, "PAGE"),
+        pipeline: read_pipeline(matches),
     }
 }
 
@@ -174,6 +187,8 @@ fn other_of<'a>(
 {
     if name == "decisions" {
         Ok(Some(read_decisions(matches)))
+    } else if name == "page" {
+        Ok(Some(read_page(matches)))
     } else if name == "record" {
         Ok(Some(read_record(alloc, matches)?))
     } else if name == "convert" {

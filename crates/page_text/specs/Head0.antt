@@ -3,6 +3,7 @@ use Rattle.std.specs.Prelude.{ℕ, List, codes, ◌++◌}
 
 unfoldable pub head0 : List ℕ
 head0 =
+    codes "<!--jet page-->\n" ++
     codes "<!DOCTYPE html>\n" ++
     codes "<html lang=\"en\">\n" ++
     codes "<head>\n" ++

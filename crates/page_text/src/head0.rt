@@ -11,7 +11,8 @@ pub(crate) fn push(out: &mut Vec<u8>) -> Result<(), NoMemory>
     ensures { OnOk result (out.new.items ≡ out.old.items ++ head0) }
 {
     out.extend_from_slice(
-        br#"<!DOCTYPE html>
+        br#"<!--jet page-->
+<!DOCTYPE html>
 <html lang="en">
 <head>
 <meta charset="utf-8">

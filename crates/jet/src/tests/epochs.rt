@@ -48,6 +48,16 @@ const LIMITS: &[(Line, Ending<'static>)] = &[
         },
     ),
     (
+        &[
+            "jet", "page", "prog", "log", "query", "page", "--epoch", "1",
+        ],
+        Ending {
+            status: 9,
+            out: &[],
+            err: "jet: limit epochs 4097\n",
+        },
+    ),
+    (
         &["jet", "show", "prog", "log", "query", "--epoch", "1"],
         Ending {
             status: 9,

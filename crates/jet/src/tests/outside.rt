@@ -4,8 +4,8 @@ ghost use Rattle.std.specs.Prelude.{◌<◌};
 
 use super::guests::COPY_FOUR;
 use super::runs::{
-    CALLS, CALLS_OF_COPY, CONVERT, DECISIONS, INFLUENCE, INPUT, NUMBERS, OUTPUT, PATH, QUERIES,
-    REPLAY, SHOW, STACK,
+    CALLS, CALLS_OF_COPY, CONVERT, DECISIONS, INFLUENCE, INPUT, NUMBERS, OUTPUT, PAGE, PATH,
+    QUERIES, REPLAY, SHOW, STACK,
 };
 use super::{
     COPIED, COPY, Ending, Line, NEVER, QUERY, assert_ends, assert_puts, files, log_with,
@@ -198,6 +198,8 @@ const WORDS: &[(Line, u8, &str)] = &[
     (PATH, 7, "jet: read fault\n"),
     (DECISIONS, 7, "jet: read fault\n"),
     (SHOW, 7, "jet: read fault\n"),
+    (&["jet", "page", "prog", "log", "query"], 2, "jet: usage\n"),
+    (PAGE, 7, "jet: read fault\n"),
 ];
 
 /// Over a store of no files the command of these words ends so.

@@ -34,9 +34,12 @@ pub const DECISIONS: Line = &["jet", "decisions", "prog", "log", "query"];
 
 pub const PATH: Line = &["jet", "path", "prog", "log", "query"];
 
+pub const PAGE: Line = &["jet", "page", "prog", "log", "query", "page"];
+
 /// The commands over a log.
-pub const READERS: [Line; 12] = [
-    QUERY, REPLAY, OUTPUT, CONVERT, INFLUENCE, QUERIES, PATH, CALLS, INPUT, STACK, SHOW, DECISIONS,
+pub const READERS: [Line; 13] = [
+    QUERY, REPLAY, OUTPUT, CONVERT, INFLUENCE, QUERIES, PATH, PAGE, CALLS, INPUT, STACK, SHOW,
+    DECISIONS,
 ];
 
 /// The numbers of the four-byte copy.
