@@ -23,8 +23,9 @@ IsStatus status = (status ≡ 0) ⊎ ((2 ≤ status) × (status ≤ 11))
 
 -- ---- 0: the text that the words want was written whole
 
--- the text is what a query gives of a run, as its report, its decisions, or its page; what is made of a run, as its numbers; the
--- log of a run, by the clock's answers; a log in version 2; the reports of several queries; or the numbers of the workload's run
+-- the text is what a query gives of a run, as its report, its decisions, or its page; what is made of a run, as its
+-- numbers; the log of a run, by the clock's answers; a log in version 2; the reports of several queries; or the numbers
+-- of the workload's run
 abbrev pub IsWanted : CommandOf → Change → Contents → List ℕ → Type 0
 IsWanted (AnalysisOf listing program log query pipeline) change file text =
     IsGivenByQuery (given_by listing) file (named program log query) text

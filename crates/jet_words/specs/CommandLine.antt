@@ -100,7 +100,9 @@ decisions_app = with_rule (program_and_log (codes "decisions")) (positional (cod
 
 -- page PROG LOG QUERY PAGE [--epoch N] [--workers W] [--link C]
 abbrev pub page_app : App
-page_app = with_pipeline (with_rule (with_rule (program_and_log (codes "page")) (positional (codes "QUERY"))) (positional (codes "PAGE")))
+page_app =
+    with_pipeline (with_rule (with_rule (program_and_log (codes "page")) (positional (codes "QUERY")))
+    (positional (codes "PAGE")))
 
 -- the subcommands that tell of the rows of a query
 abbrev pub analyses : List App

@@ -4,7 +4,8 @@ ghost use Rattle.clap.specs.Words.{app_of, with_subcommand};
 ghost use Rattle.clap.specs.declared.builder.Command.TheViews.{out-Command as fields_of};
 ghost use Rattle.jet_words.specs.CommandLine.{program_and_log as program_and_log_app};
 ghost use Rattle.jet_words.specs.CommandLine.{with_pipeline as with_pipeline_app, analysis, on_channel, stack_app};
-ghost use Rattle.jet_words.specs.CommandLine.{decisions_app, page_app, record_app, convert_app, queries_app, bench_app, bare_app};
+ghost use Rattle.jet_words.specs.CommandLine.{decisions_app, page_app, record_app, convert_app, queries_app};
+ghost use Rattle.jet_words.specs.CommandLine.{bench_app, bare_app};
 ghost use Rattle.jet_words.specs.CommandLine.{with_each, analyses, products, others, jet_app};
 
 use clap::Command;

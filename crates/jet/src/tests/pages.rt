@@ -65,7 +65,8 @@ fn store(alloc: Global, program: &[u8], failing: u64) -> Result<MemoryStore, All
     MemoryStore::new(alloc, files, failing, 65536, 70000)
 }
 
-/// The command of these words ends so over the copy's files, of which this call fails; then there is this page, or none.
+/// The command of these words ends so over the copy's files, of which this call fails. Then there is this page, or
+/// none.
 fn assert_page<R: Threads + Wait + Sync + AllocGlobal + Abort>(
     rt: &R,
     line: Line,
