@@ -172,7 +172,7 @@ impl<'a, G> Core<'a, G> {
     {
         let stage = mem::replace(&mut *self.stage, Stage::Between);
         let next = self.stage_after(stage);
-        *self.stage = next;
+        drop(mem::replace(&mut *self.stage, next));
     }
 
     /// The same as `event`, in a core that has entered the gate where it begins. What a task's turn calls may have no
@@ -225,7 +225,7 @@ impl<'a, G> Core<'a, G> {
     {
         let alloc = self.alloc;
         let events = self.events;
-        let Stage::Done(fore) = Box::into_inner(self.stage) else {
+        let Some(fore) = Box::into_inner(self.stage).into_done() else {
             return (Err(Broken), Asked::new(alloc), events);
         };
         let whole = fore.whole();

@@ -1,9 +1,10 @@
 //! How far a node has come.
 
-ghost use Rattle.std.specs.Prelude.{◌≡◌};
+ghost use Rattle.std.specs.Prelude.{◌≡◌, None, IfSome};
 ghost use Rattle.pass_parts.specs.Ends.{IsEndFrom, IsRefused};
 ghost use Rattle.pass_parts.specs.Turns.{OnNotYet};
-ghost use Rattle.epoch_node.specs.Cores.{stage_of, phase_of};
+ghost use Rattle.forward_pass.specs.Forward.{fore_of};
+ghost use Rattle.epoch_node.specs.Cores.{stage_of, phase_of, StageView as view};
 ghost use Rattle.epoch_node.specs.Events.{went, CanAct, Acts, WaitsAt};
 
 use backward_pass::Back;
@@ -71,6 +72,20 @@ impl Stage {
             Stage::Answering(fore) => fore.event(inlet, outlet),
             Stage::Done(_) => unreachable!(),
             Stage::Between => unreachable!(),
+        }
+    }
+
+    /// The pass forwards of a node that is done.
+    pub(crate) fn into_done(self) -> Option<Fore>
+        ensures done { IfSome result (λ fore. stage_of self ≡ view.Done (fore_of fore)) }
+        ensures between { result ≡ None → phase_of (stage_of self) ≡ Phase.Done → stage_of self ≡ view.Between }
+    {
+        match self {
+            Stage::Done(fore) => Some(fore),
+            other => {
+                drop(other);
+                None
+            }
         }
     }
 }

@@ -8,14 +8,15 @@ use Rattle.epoch_node.proofs.node_core.Core.into_result.Goals as goal
 
 pub returns-clause-done : goal.returns-clause-done
 returns-clause-done g c = λ w k.
-    let at = subst (λ s. AtStage (core_of c.args.self).given (stage_of s) w) (sym c.into_inner.ensures ∙ c.in-Done.is) k.stage in
-    has_done (core_of c.args.self).given (fore_of c.in-Done.fore) w at.0 at.1 (sym c.whole-whole.ensures ∙ c.if-not-whole.false) _ _ c.into_sets-sets.ensures.asked c.into_sets-sets.ensures.rows
+    let done = ap stage_of (sym c.into_inner.ensures) ∙ c.in-Some.ensures.done in
+    let at = subst (λ s. AtStage (core_of c.args.self).given s w) done k.stage in
+    has_done (core_of c.args.self).given (fore_of c.in-Some.fore) w at.0 at.1 (sym c.whole-whole.ensures ∙ c.if-not-whole.false) _ _ c.into_sets-sets.ensures.asked c.into_sets-sets.ensures.rows
 
 pub returns-clause-counted : goal.returns-clause-counted
 returns-clause-counted g c = λ w k.
-    let done = sym c.into_inner.ensures ∙ c.in-Done.is in
-    let at = subst (λ s. AtStage (core_of c.args.self).given (stage_of s) w) done k.stage in
+    let done = ap stage_of (sym c.into_inner.ensures) ∙ c.in-Some.ensures.done in
+    let at = subst (λ s. AtStage (core_of c.args.self).given s w) done k.stage in
     let whole = sym c.whole-whole.ensures ∙ c.if-not-whole.false in
-    let counts = k.counts (ap (λ s. whole_at (stage_of s)) done ∙ whole) in
-    has_counted (core_of c.args.self).given (fore_of c.in-Done.fore) w at.0 at.1 whole counts.moved (subst (λ s. MovedAt (core_of c.args.self).given (stage_of s) w counts.moved) done counts.at_stage)
+    let counts = k.counts (ap whole_at done ∙ whole) in
+    has_counted (core_of c.args.self).given (fore_of c.in-Some.fore) w at.0 at.1 whole counts.moved (subst (λ s. MovedAt (core_of c.args.self).given s w counts.moved) done counts.at_stage)
     c.into_sets-sets.result.1 _ _ c.into_sets-sets.ensures.rows counts.is
