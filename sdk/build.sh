@@ -11,6 +11,10 @@ command -v riscv64-unknown-elf-gcc >/dev/null || {
     echo "jet-gcc: there is no picolibc (Debian's picolibc-riscv64-unknown-elf)" >&2
     exit 1
 }
+if ! mkdir -p out 2>/dev/null || ! [ -w out ]; then
+    echo "jet-gcc: its library isn't built yet, and $PWD/out can't be written: give this once as who installed it" >&2
+    exit 1
+fi
 # What is built is put in place whole, so that two builds at a time don't meet.
 made=$(mktemp -d)
 trap 'rm -r "$made"' EXIT
@@ -19,7 +23,6 @@ for file in start.S calls.S streams.c system.c new.cc; do
         -fdebug-prefix-map="$PWD"=jet -c "$file" -o "$made/${file%.*}.o"
 done
 (cd "$made" && riscv64-unknown-elf-ar rcsD libjet.a calls.o streams.o system.o new.o)
-mkdir -p out
 for file in start.o libjet.a; do
     mv "$made/$file" "out/$file.$$"
     mv "out/$file.$$" "out/$file"

@@ -16,7 +16,7 @@ struct Entry<'a> {
     amount: i64,
 }
 
-fn entry(line: &str) -> Option<Entry> {
+fn entry(line: &str) -> Option<Entry<'_>> {
     let (account, amount) = line.split_once(' ')?;
     Some(Entry { account, amount: amount.parse().ok()? })
 }
