@@ -12,6 +12,10 @@ _start:
     lw t1, 0(a1)                # each byte of t1 has a source of its own,
     srli t2, t1, 8
     add t2, t2, t1              # and of t2 several
+    lbu t0, 4(a1)               # the bytes at 4 and 5 are those before them
+    sb t0, 5(a1)
+    lbu t0, 3(a1)
+    sb t0, 4(a1)
     li a0, 1
     li a7, 64
     ecall                       # write(1, text, the rest)

@@ -9,7 +9,7 @@ head0 =
     codes "<head>\n" ++
     codes "<meta charset=\"utf-8\">\n" ++
     codes "<meta name=\"viewport\" content=\"width=device-width, initial-scale=1\">\n" ++
-    codes "<meta http-equiv=\"Content-Security-Policy\" content=\"default-src 'none'; style-src 'sha256-1Ckqpa99RODWbupNH3abRUa6GvNmkZEydIpa2LRrdtw='; script-src 'sha256-i49q0Sw0tFUXjUWJlMi3sm0s9tsVkjVzLvdqS0tMs78='; base-uri 'none'; form-action 'none'\">\n" ++
+    codes "<meta http-equiv=\"Content-Security-Policy\" content=\"default-src 'none'; style-src 'sha256-1Ckqpa99RODWbupNH3abRUa6GvNmkZEydIpa2LRrdtw='; script-src 'sha256-tRas9z5XWgoxc5ztpjZrkuq6mVjGQl9/eGra2tk/eDA='; base-uri 'none'; form-action 'none'\">\n" ++
     codes "<title>jet: where each output byte came from</title>\n" ++
     codes "<style>\n" ++
     codes "/* The script reads these as colors. */\n" ++

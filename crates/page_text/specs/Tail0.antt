@@ -186,13 +186,13 @@ tail0 =
     codes "  return out;\n" ++
     codes "}\n" ++
     codes "\n" ++
-    codes "/** The index of the last of the ascending numbers that is at most n. */\n" ++
-    codes "function lastUpTo(n, length, numberAt) {\n" ++
+    codes "/** The index of the last of the items, ascending by their numbers, whose number is at most n. */\n" ++
+    codes "function lastUpTo(n, items, numberOf = (item) => item) {\n" ++
     codes "  let low = 0;\n" ++
-    codes "  let high = length;\n" ++
+    codes "  let high = items.length;\n" ++
     codes "  while (low < high) {\n" ++
     codes "    const middle = (low + high) >> 1;\n" ++
-    codes "    if (numberAt(middle) <= n) low = middle + 1;\n" ++
+    codes "    if (numberOf(items[middle]) <= n) low = middle + 1;\n" ++
     codes "    else high = middle;\n" ++
     codes "  }\n" ++
     codes "  return low - 1;\n" ++
@@ -201,7 +201,7 @@ tail0 =
     codes "/** The runs of a place that have offsets of `from` up to `past`, with these offsets. */\n" ++
     codes "function* runsWithin(where, from, past) {\n" ++
     codes "  const { runs } = where;\n" ++
-    codes "  const start = Math.max(0, lastUpTo(from, runs.length, (k) => runs[k].first));\n" ++
+    codes "  const start = Math.max(0, lastUpTo(from, runs, (run) => run.first));\n" ++
     codes "  for (let i = start; i < runs.length && runs[i].first < past; i++) {\n" ++
     codes "    const begin = Math.max(from, runs[i].first);\n" ++
     codes "    const end = Math.min(past, runs[i].first + runs[i].count);\n" ++
@@ -256,7 +256,7 @@ tail0 =
     codes "  return lines >= where.calls.length && lines > where.bytes.length / 100 ? 'line' : 'call';\n" ++
     codes "}\n" ++
     codes "\n" ++
-    codes "const recordAt = (where, offset) => lastUpTo(offset, where.records.length, (k) => where.records[k]);\n" ++
+    codes "const recordAt = (where, offset) => lastUpTo(offset, where.records);\n" ++
     codes "const recordEnd = (where, k) => where.records[k + 1] ?? where.bytes.length;\n" ++
     codes "const recordSpan = (where, k) => ({ place: where, from: where.records[k], past: recordEnd(where, k) });\n" ++
     codes "\n" ++
@@ -292,5 +292,4 @@ tail0 =
     codes "  return newest;\n" ++
     codes "}\n" ++
     codes "\n" ++
-    codes "/** How many records before the own one of a written record a source span begins; 0 where its channel is one record. */\n" ++
-    codes "function recordsBack(where, record, source) {\n"
+    codes "/** How many records before the own one of a written record a source span begins; 0 where its channel is one record. */\n"

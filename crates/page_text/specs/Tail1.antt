@@ -3,6 +3,7 @@ use Rattle.std.specs.Prelude.{ℕ, List, codes, ◌++◌}
 
 unfoldable pub tail1 : List ℕ
 tail1 =
+    codes "function recordsBack(where, record, source) {\n" ++
     codes "  if (source.place.records.length === 1) return 0;\n" ++
     codes "  return (where.own[record]?.get(source.place) ?? record) - recordAt(source.place, source.from);\n" ++
     codes "}\n" ++
@@ -38,7 +39,7 @@ tail1 =
     codes "      const back = sources.map((source) => recordsBack(where, record, source));\n" ++
     codes "      const foreign = sources.filter((source, i) => back[i] !== 0);\n" ++
     codes "      if (foreign.length > 0) mixed.out.push(span);\n" ++
-    codes "      mixed.in.push(...foreign);\n" ++
+    codes "      for (const source of foreign) mixed.in.push(source);\n" ++
     codes "\n" ++
     codes "      const at = numbersInRecord(span);\n" ++
     codes "      const cameFrom = sources.slice(0, 5).map(sourceText);\n" ++
@@ -212,6 +213,7 @@ tail1 =
     codes "\n" ++
     codes "  draw(forPrint = false) {\n" ++
     codes "    if (!this.count) return;\n" ++
+    codes "    const here = this.topByte();\n" ++
     codes "    const shift = this.view.scrollTop * this.scale;\n" ++
     codes "    const from = Math.max(0, Math.floor(shift / LINE) - 2);\n" ++
     codes "    const past = Math.min(this.count, from + (forPrint ? PRINTED : Math.ceil(this.view.clientHeight / LINE) + 5));\n" ++
@@ -227,7 +229,6 @@ tail1 =
     codes "    this.made = kept;\n" ++
     codes "    if (!same) this.lines.replaceChildren(...kept.values());\n" ++
     codes "    this.lines.style.transform = `translateY(${from * LINE - shift + this.view.scrollTop}px)`;\n" ++
-    codes "    const here = this.topByte();\n" ++
     codes "    this.heading.textContent = `channel ${here.place.number}, from byte ${decimal(here.from)}`;\n" ++
     codes "  }\n" ++
     codes "\n" ++
@@ -280,6 +281,4 @@ tail1 =
     codes "        pen.fillRect(left, top, width, bottom - top);\n" ++
     codes "        bottom -= 1;\n" ++
     codes "      }\n" ++
-    codes "    };\n" ++
-    codes "    strip(mixed[this.side], '--foreign', 9, 5);\n" ++
-    codes "    strip(linked, '--lit', 0, 9);\n"
+    codes "    };\n"

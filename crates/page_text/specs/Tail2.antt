@@ -3,11 +3,13 @@ use Rattle.std.specs.Prelude.{ℕ, List, codes, ◌++◌}
 
 unfoldable pub tail2 : List ℕ
 tail2 =
+    codes "    strip(mixed[this.side], '--foreign', 9, 5);\n" ++
+    codes "    strip(linked, '--lit', 0, 9);\n" ++
     codes "    strip(chosen ? [chosen] : [], '--accent', 0, 9);\n" ++
     codes "  }\n" ++
     codes "\n" ++
     codes "  lineOf(where, offset) {\n" ++
-    codes "    return where.firstLine + 1 + lastUpTo(offset, where.starts.length, (k) => where.starts[k]);\n" ++
+    codes "    return where.firstLine + 1 + lastUpTo(offset, where.starts);\n" ++
     codes "  }\n" ++
     codes "\n" ++
     codes "  scrollTo(where, offset, toTop = false) {\n" ++
@@ -59,7 +61,7 @@ tail2 =
     codes "  /** The offset that a key moves the cursor to, which may lie outside the channel; undefined where it moves none. */\n" ++
     codes "  moved(event, where, at) {\n" ++
     codes "    const { starts, bytes } = where;\n" ++
-    codes "    const line = Math.max(0, lastUpTo(at, starts.length, (k) => starts[k]));\n" ++
+    codes "    const line = Math.max(0, lastUpTo(at, starts));\n" ++
     codes "    const end = (k) => (starts[k + 1] ?? bytes.length) - 1;\n" ++
     codes "    const down = (n) => {\n" ++
     codes "      const next = at < 0 ? 0 : line + n;\n" ++
@@ -187,7 +189,7 @@ tail2 =
     codes "\n" ++
     codes "/** How many steps were done before a byte was read or written. */\n" ++
     codes "function timeOf(where, offset) {\n" ++
-    codes "  return where.calls[lastUpTo(offset, where.calls.length, (k) => where.calls[k].first)].time;\n" ++
+    codes "  return where.calls[lastUpTo(offset, where.calls, (call) => call.first)].time;\n" ++
     codes "}\n" ++
     codes "\n" ++
     codes "/** A query's line that asks for a span's first byte: of an input as a source, else as a sink; for all of a register. */\n" ++

@@ -17,7 +17,7 @@ pub(crate) fn push(out: &mut Vec<u8>) -> Result<(), NoMemory>
 <head>
 <meta charset="utf-8">
 <meta name="viewport" content="width=device-width, initial-scale=1">
-<meta http-equiv="Content-Security-Policy" content="default-src 'none'; style-src 'sha256-1Ckqpa99RODWbupNH3abRUa6GvNmkZEydIpa2LRrdtw='; script-src 'sha256-i49q0Sw0tFUXjUWJlMi3sm0s9tsVkjVzLvdqS0tMs78='; base-uri 'none'; form-action 'none'">
+<meta http-equiv="Content-Security-Policy" content="default-src 'none'; style-src 'sha256-1Ckqpa99RODWbupNH3abRUa6GvNmkZEydIpa2LRrdtw='; script-src 'sha256-tRas9z5XWgoxc5ztpjZrkuq6mVjGQl9/eGra2tk/eDA='; base-uri 'none'; form-action 'none'">
 <title>jet: where each output byte came from</title>
 <style>
 /* The script reads these as colors. */

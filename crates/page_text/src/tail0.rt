@@ -194,13 +194,13 @@ function merged(spans) {
   return out;
 }
 
-/** The index of the last of the ascending numbers that is at most n. */
-function lastUpTo(n, length, numberAt) {
+/** The index of the last of the items, ascending by their numbers, whose number is at most n. */
+function lastUpTo(n, items, numberOf = (item) => item) {
   let low = 0;
-  let high = length;
+  let high = items.length;
   while (low < high) {
     const middle = (low + high) >> 1;
-    if (numberAt(middle) <= n) low = middle + 1;
+    if (numberOf(items[middle]) <= n) low = middle + 1;
     else high = middle;
   }
   return low - 1;
@@ -209,7 +209,7 @@ function lastUpTo(n, length, numberAt) {
 /** The runs of a place that have offsets of `from` up to `past`, with these offsets. */
 function* runsWithin(where, from, past) {
   const { runs } = where;
-  const start = Math.max(0, lastUpTo(from, runs.length, (k) => runs[k].first));
+  const start = Math.max(0, lastUpTo(from, runs, (run) => run.first));
   for (let i = start; i < runs.length && runs[i].first < past; i++) {
     const begin = Math.max(from, runs[i].first);
     const end = Math.min(past, runs[i].first + runs[i].count);
@@ -264,7 +264,7 @@ function usualRecords(where) {
   return lines >= where.calls.length && lines > where.bytes.length / 100 ? 'line' : 'call';
 }
 
-const recordAt = (where, offset) => lastUpTo(offset, where.records.length, (k) => where.records[k]);
+const recordAt = (where, offset) => lastUpTo(offset, where.records);
 const recordEnd = (where, k) => where.records[k + 1] ?? where.bytes.length;
 const recordSpan = (where, k) => ({ place: where, from: where.records[k], past: recordEnd(where, k) });
 
@@ -301,7 +301,6 @@ function newestRecords(where) {
 }
 
 /** How many records before the own one of a written record a source span begins; 0 where its channel is one record. */
-function recordsBack(where, record, source) {
 "#,
     )?;
     Ok(())

@@ -11,7 +11,8 @@ pub(crate) fn push(out: &mut Vec<u8>) -> Result<(), NoMemory>
     ensures { OnOk result (out.new.items ≡ out.old.items ++ tail1) }
 {
     out.extend_from_slice(
-        br#"  if (source.place.records.length === 1) return 0;
+        br#"function recordsBack(where, record, source) {
+  if (source.place.records.length === 1) return 0;
   return (where.own[record]?.get(source.place) ?? record) - recordAt(source.place, source.from);
 }
 
@@ -46,7 +47,7 @@ function analyse() {
       const back = sources.map((source) => recordsBack(where, record, source));
       const foreign = sources.filter((source, i) => back[i] !== 0);
       if (foreign.length > 0) mixed.out.push(span);
-      mixed.in.push(...foreign);
+      for (const source of foreign) mixed.in.push(source);
 
       const at = numbersInRecord(span);
       const cameFrom = sources.slice(0, 5).map(sourceText);
@@ -220,6 +221,7 @@ class Pane {
 
   draw(forPrint = false) {
     if (!this.count) return;
+    const here = this.topByte();
     const shift = this.view.scrollTop * this.scale;
     const from = Math.max(0, Math.floor(shift / LINE) - 2);
     const past = Math.min(this.count, from + (forPrint ? PRINTED : Math.ceil(this.view.clientHeight / LINE) + 5));
@@ -235,7 +237,6 @@ class Pane {
     this.made = kept;
     if (!same) this.lines.replaceChildren(...kept.values());
     this.lines.style.transform = `translateY(${from * LINE - shift + this.view.scrollTop}px)`;
-    const here = this.topByte();
     this.heading.textContent = `channel ${here.place.number}, from byte ${decimal(here.from)}`;
   }
 
@@ -289,8 +290,6 @@ class Pane {
         bottom -= 1;
       }
     };
-    strip(mixed[this.side], '--foreign', 9, 5);
-    strip(linked, '--lit', 0, 9);
 "#,
     )?;
     Ok(())

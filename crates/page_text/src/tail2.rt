@@ -11,11 +11,13 @@ pub(crate) fn push(out: &mut Vec<u8>) -> Result<(), NoMemory>
     ensures { OnOk result (out.new.items ≡ out.old.items ++ tail2) }
 {
     out.extend_from_slice(
-        br#"    strip(chosen ? [chosen] : [], '--accent', 0, 9);
+        br#"    strip(mixed[this.side], '--foreign', 9, 5);
+    strip(linked, '--lit', 0, 9);
+    strip(chosen ? [chosen] : [], '--accent', 0, 9);
   }
 
   lineOf(where, offset) {
-    return where.firstLine + 1 + lastUpTo(offset, where.starts.length, (k) => where.starts[k]);
+    return where.firstLine + 1 + lastUpTo(offset, where.starts);
   }
 
   scrollTo(where, offset, toTop = false) {
@@ -67,7 +69,7 @@ pub(crate) fn push(out: &mut Vec<u8>) -> Result<(), NoMemory>
   /** The offset that a key moves the cursor to, which may lie outside the channel; undefined where it moves none. */
   moved(event, where, at) {
     const { starts, bytes } = where;
-    const line = Math.max(0, lastUpTo(at, starts.length, (k) => starts[k]));
+    const line = Math.max(0, lastUpTo(at, starts));
     const end = (k) => (starts[k + 1] ?? bytes.length) - 1;
     const down = (n) => {
       const next = at < 0 ? 0 : line + n;
@@ -195,7 +197,7 @@ function describe(span) {
 
 /** How many steps were done before a byte was read or written. */
 function timeOf(where, offset) {
-  return where.calls[lastUpTo(offset, where.calls.length, (k) => where.calls[k].first)].time;
+  return where.calls[lastUpTo(offset, where.calls, (call) => call.first)].time;
 }
 
 /** A query's line that asks for a span's first byte: of an input as a source, else as a sink; for all of a register. */
