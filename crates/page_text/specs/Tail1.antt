@@ -229,7 +229,8 @@ tail1 =
     codes "    this.made = kept;\n" ++
     codes "    if (!same) this.lines.replaceChildren(...kept.values());\n" ++
     codes "    this.lines.style.transform = `translateY(${from * LINE - shift + this.view.scrollTop}px)`;\n" ++
-    codes "    this.heading.textContent = `channel ${here.place.number}, from byte ${decimal(here.from)}`;\n" ++
+    codes "    const heading = `channel ${here.place.number}, from byte ${decimal(here.from)}`;\n" ++
+    codes "    if (this.heading.textContent !== heading) this.heading.textContent = heading;\n" ++
     codes "  }\n" ++
     codes "\n" ++
     codes "  makeLine(line) {\n" ++
@@ -277,8 +278,4 @@ tail1 =
     codes "      for (const { place: where, from, past } of spans) {\n" ++
     codes "        if (!this.places.includes(where)) continue;\n" ++
     codes "        const top = Math.max(bottom, Math.floor((this.lineOf(where, from) / this.count) * map.height));\n" ++
-    codes "        bottom = Math.max(top + 2, Math.ceil(((this.lineOf(where, past - 1) + 1) / this.count) * map.height));\n" ++
-    codes "        pen.fillRect(left, top, width, bottom - top);\n" ++
-    codes "        bottom -= 1;\n" ++
-    codes "      }\n" ++
-    codes "    };\n"
+    codes "        bottom = Math.max(top + 2, Math.ceil(((this.lineOf(where, past - 1) + 1) / this.count) * map.height));\n"

@@ -3,6 +3,10 @@ use Rattle.std.specs.Prelude.{ℕ, List, codes, ◌++◌}
 
 unfoldable pub tail2 : List ℕ
 tail2 =
+    codes "        pen.fillRect(left, top, width, bottom - top);\n" ++
+    codes "        bottom -= 1;\n" ++
+    codes "      }\n" ++
+    codes "    };\n" ++
     codes "    strip(mixed[this.side], '--foreign', 9, 5);\n" ++
     codes "    strip(linked, '--lit', 0, 9);\n" ++
     codes "    strip(chosen ? [chosen] : [], '--accent', 0, 9);\n" ++
@@ -302,5 +306,4 @@ tail2 =
     codes "/** A byte `c:o` or a range `c:a-b` of a side. */\n" ++
     codes "function findNamed(places, name) {\n" ++
     codes "  const [, ...parts] = /^\\s*(\\d+):(\\d+)(?:-(\\d+))?\\s*$/.exec(name) ?? [];\n" ++
-    codes "  const [number, from, past = from + 1] = parts.filter((part) => part !== undefined).map(Number);\n" ++
-    codes "  const where = places.find((p) => p.number === number);\n"
+    codes "  const [number, from, past = from + 1] = parts.filter((part) => part !== undefined).map(Number);\n"

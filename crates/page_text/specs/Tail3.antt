@@ -3,6 +3,7 @@ use Rattle.std.specs.Prelude.{ℕ, List, codes, ◌++◌}
 
 unfoldable pub tail3 : List ℕ
 tail3 =
+    codes "  const where = places.find((p) => p.number === number);\n" ++
     codes "  return where && from < past && past <= where.bytes.length ? [{ place: where, from, past }] : [];\n" ++
     codes "}\n" ++
     codes "\n" ++

@@ -237,7 +237,8 @@ class Pane {
     this.made = kept;
     if (!same) this.lines.replaceChildren(...kept.values());
     this.lines.style.transform = `translateY(${from * LINE - shift + this.view.scrollTop}px)`;
-    this.heading.textContent = `channel ${here.place.number}, from byte ${decimal(here.from)}`;
+    const heading = `channel ${here.place.number}, from byte ${decimal(here.from)}`;
+    if (this.heading.textContent !== heading) this.heading.textContent = heading;
   }
 
   makeLine(line) {
@@ -286,10 +287,6 @@ class Pane {
         if (!this.places.includes(where)) continue;
         const top = Math.max(bottom, Math.floor((this.lineOf(where, from) / this.count) * map.height));
         bottom = Math.max(top + 2, Math.ceil(((this.lineOf(where, past - 1) + 1) / this.count) * map.height));
-        pen.fillRect(left, top, width, bottom - top);
-        bottom -= 1;
-      }
-    };
 "#,
     )?;
     Ok(())

@@ -11,7 +11,11 @@ pub(crate) fn push(out: &mut Vec<u8>) -> Result<(), NoMemory>
     ensures { OnOk result (out.new.items ≡ out.old.items ++ tail2) }
 {
     out.extend_from_slice(
-        br#"    strip(mixed[this.side], '--foreign', 9, 5);
+        br#"        pen.fillRect(left, top, width, bottom - top);
+        bottom -= 1;
+      }
+    };
+    strip(mixed[this.side], '--foreign', 9, 5);
     strip(linked, '--lit', 0, 9);
     strip(chosen ? [chosen] : [], '--accent', 0, 9);
   }
@@ -311,7 +315,6 @@ function findBytes(wanted) {
 function findNamed(places, name) {
   const [, ...parts] = /^\s*(\d+):(\d+)(?:-(\d+))?\s*$/.exec(name) ?? [];
   const [number, from, past = from + 1] = parts.filter((part) => part !== undefined).map(Number);
-  const where = places.find((p) => p.number === number);
 "#,
     )?;
     Ok(())

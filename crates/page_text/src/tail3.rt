@@ -11,7 +11,8 @@ pub(crate) fn push(out: &mut Vec<u8>) -> Result<(), NoMemory>
     ensures { OnOk result (out.new.items ≡ out.old.items ++ tail3) }
 {
     out.extend_from_slice(
-        br#"  return where && from < past && past <= where.bytes.length ? [{ place: where, from, past }] : [];
+        br#"  const where = places.find((p) => p.number === number);
+  return where && from < past && past <= where.bytes.length ? [{ place: where, from, past }] : [];
 }
 
 /** Bytes by their text, or by the pairs of hex digits that write them, or by name. */
