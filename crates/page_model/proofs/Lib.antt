@@ -1,3 +1,4 @@
 pub mod Told
 pub mod Apart
+pub mod Small
 mod Worked

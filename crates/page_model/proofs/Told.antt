@@ -2,9 +2,9 @@
 use Rattle.std.proofs.Common.{◌≡◌, ◌∙◌, ap, ap₂, sym, refl, arith, ℕ, ◌<◌, ◌≤◌, ◌^◌, List, [], ◌∷◌, ◌++◌, length, append_assoc}
 use Rattle.std.specs.List.{flat_map, AllByRecursion}
 use Rattle.std.specs.Char.{digit_value}
-use Rattle.std.specs.Str.Parse.{AllDigits}
+use Rattle.std.specs.Str.Parse.{AllDigits, digits_value}
 use Rattle.std.specs.Fmt.{decimal}
-use Rattle.std.proofs.lemmas.Fmt.{decimal_is_IsNumeral, decimal_injective}
+use Rattle.std.proofs.lemmas.Fmt.{decimal_is_IsNumeral_wide}
 use Rattle.flow_model.specs.declared.Loc.{Loc}
 use Rattle.flow_model.specs.declared.Loc.TheVariants.{Reg, Mem}
 use Rattle.flow_model.specs.declared.SinkByte.{SinkByte}
@@ -48,15 +48,15 @@ same_digits (x ∷ xs) (y ∷ ys) c d s t hx hy hc hd e =
     (ap₂ (λ (z : ℕ) (zs : List ℕ). z ∷ zs) (heads x y (xs ++ c ∷ s) (ys ++ d ∷ t) e) r.0, r.1)
 
 -- numbers before texts that begin with no digit
-pub same_number : (m n : ℕ) (u v : List ℕ) → m < 2 ^ 64 → n < 2 ^ 64 → Stopped u → Stopped v → decimal m ++ u ≡ decimal n ++ v → (m ≡ n) × (u ≡ v)
+pub same_number : (m n : ℕ) (u v : List ℕ) → m < 10 ^ 64 → n < 10 ^ 64 → Stopped u → Stopped v → decimal m ++ u ≡ decimal n ++ v → (m ≡ n) × (u ≡ v)
 same_number m n u v hm hn su sv e =
-    let r = same_digits (decimal m) (decimal n) su.first sv.first su.rest sv.rest (decimal_is_IsNumeral m hm).0.1 (decimal_is_IsNumeral n hn).0.1 su.stop sv.stop
+    let r = same_digits (decimal m) (decimal n) su.first sv.first su.rest sv.rest (decimal_is_IsNumeral_wide m hm).0.1 (decimal_is_IsNumeral_wide n hn).0.1 su.stop sv.stop
     (ap (λ (w : List ℕ). decimal m ++ w) (sym su.parts) ∙ e ∙ ap (λ (w : List ℕ). decimal n ++ w) sv.parts) in
-    (decimal_injective m n hm hn r.0, su.parts ∙ r.1 ∙ sym sv.parts)
+    (sym (decimal_is_IsNumeral_wide m hm).1 ∙ ap (digits_value 10) r.0 ∙ (decimal_is_IsNumeral_wide n hn).1, su.parts ∙ r.1 ∙ sym sv.parts)
 
 -- a number begins with a digit
-number_begins : (n : ℕ) (u : List ℕ) (k : ℕ) (w : List ℕ) → n < 2 ^ 64 → 10 ≤ digit_value k → decimal n ++ u ≡ k ∷ w → ⊥
-number_begins n u k w hn hk e = by (decimal n) (decimal_is_IsNumeral n hn).0.0 (decimal_is_IsNumeral n hn).0.1 e
+number_begins : (n : ℕ) (u : List ℕ) (k : ℕ) (w : List ℕ) → n < 10 ^ 64 → 10 ≤ digit_value k → decimal n ++ u ≡ k ∷ w → ⊥
+number_begins n u k w hn hk e = by (decimal n) (decimal_is_IsNumeral_wide n hn).0.0 (decimal_is_IsNumeral_wide n hn).0.1 e
   where
     by : (xs : List ℕ) → 0 < length xs → AllDigits 10 xs → xs ++ u ≡ k ∷ w → ⊥
     by [] some digits f = omega arith
@@ -66,7 +66,7 @@ number_begins n u k w hn hk e = by (decimal n) (decimal_is_IsNumeral n hn).0.0 (
 joined : (a b u : List ℕ) (k : ℕ) → ((a ++ k ∷ []) ++ b) ++ u ≡ a ++ k ∷ (b ++ u)
 joined a b u k = append_assoc (a ++ k ∷ []) b u ∙ append_assoc a (k ∷ []) (b ++ u)
 
-pub same_two : (k : ℕ) (m n p q : ℕ) (u v : List ℕ) → 10 ≤ digit_value k → m < 2 ^ 64 → n < 2 ^ 64 → p < 2 ^ 64 → q < 2 ^ 64 → Stopped u → Stopped v
+pub same_two : (k : ℕ) (m n p q : ℕ) (u v : List ℕ) → 10 ≤ digit_value k → m < 10 ^ 64 → n < 10 ^ 64 → p < 10 ^ 64 → q < 10 ^ 64 → Stopped u → Stopped v
     → ((decimal m ++ k ∷ []) ++ decimal n) ++ u ≡ ((decimal p ++ k ∷ []) ++ decimal q) ++ v → (m ≡ p) × (n ≡ q) × (u ≡ v)
 same_two k m n p q u v hk hm hn hp hq su sv e =
     let r = same_number m p (k ∷ (decimal n ++ u)) (k ∷ (decimal q ++ v)) hm hp (stopped k (decimal n ++ u) hk) (stopped k (decimal q ++ v) hk)
@@ -82,7 +82,7 @@ same_range a b e f g =
     ∙ ap (λ (p : ℕ). record { channel = b.channel; from = b.from; past = p }) g
 
 abbrev pub IsSmallRange : SourceRange → Type 0
-IsSmallRange r = (r.channel < 2 ^ 64) × (r.from < 2 ^ 64) × (r.past < 2 ^ 64)
+IsSmallRange r = (r.channel < 10 ^ 64) × (r.from < 10 ^ 64) × (r.past < 10 ^ 64)
 
 -- what follows a range begins with no digit
 after_range : (rs : List SourceRange) (s : List ℕ) → Stopped (flat_map range_word rs ++ 0x0a ∷ s)
@@ -124,7 +124,7 @@ same_byte a b e f = ap₂ (λ (c o : ℕ). record { channel = c; offset = o }) e
 same_inner : (p q : InnerSink) → p.loc ≡ q.loc → p.time ≡ q.time → p ≡ q
 same_inner p q e f = ap₂ (λ (l : Loc) (t : ℕ). record { time = t; loc = l }) e f
 
-wide : (n : ℕ) → n < 2 ^ 63 → n < 2 ^ 64
+wide : (n : ℕ) → n < 2 ^ 72 → n < 10 ^ 64
 wide n h = omega arith
 
 -- a location, and what follows it

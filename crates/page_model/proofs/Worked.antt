@@ -4,17 +4,16 @@ use Rattle.std.specs.Prelude.{codes}
 use Rattle.std.specs.Fmt.{digits}
 use Rattle.hex.specs.Hex.{encode_with}
 use Rattle.base64.specs.Rfc4648.{encode_symbols}
-use Rattle.log_model.specs.declared.CallRecord.TheVariants.{Read, Write, Clock, Other}
-use Rattle.log_model.specs.declared.RunEnd.TheVariants.{Exit, Trap}
+use Rattle.log_model.specs.declared.CallRecord.TheVariants.{Read, Write, Clock}
+use Rattle.log_model.specs.declared.RunEnd.TheVariants.{Trap}
 use Rattle.log_model.specs.Logs.{Log}
 use Rattle.flow_model.specs.declared.Rule.TheVariants.{Copy}
 use Rattle.flow_model.specs.declared.Loc.{Loc}
 use Rattle.flow_model.specs.declared.Loc.TheVariants.{Reg, Mem}
 use Rattle.flow_model.specs.declared.SourceByte.{SourceByte}
-use Rattle.flow_model.specs.declared.SinkPoint.{SinkPoint}
 use Rattle.flow_model.specs.declared.SinkPoint.TheVariants.{Out, At}
 use Rattle.report_model.specs.Rows.{Row}
-use Rattle.page_model.specs.Rows.{joined_rows, ranges_text}
+use Rattle.page_model.specs.Rows.{joined_rows}
 use Rattle.page_model.specs.Data.{run_text, channel_lines, call_line, moved_text, asked_text, told_text, data_text}
 
 abbrev source : ℕ → ℕ → SourceByte

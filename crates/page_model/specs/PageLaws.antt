@@ -2,30 +2,30 @@
 use Rattle.std.specs.Prelude.{◌≡◌, ◌<◌, ◌^◌, List}
 use Rattle.std.specs.List.{AllByRecursion}
 use Rattle.isa.specs.Machine.{State}
-use Rattle.log_model.specs.Logs.{Log}
+use Rattle.log_model.specs.Logs.{Log, IsLog}
 use Rattle.flow_model.specs.declared.Loc.{Loc}
 use Rattle.flow_model.specs.declared.Loc.TheVariants.{Reg, Mem}
 use Rattle.flow_model.specs.declared.SourceByte.{SourceByte}
 use Rattle.flow_model.specs.declared.SinkPoint.{SinkPoint}
 use Rattle.flow_model.specs.declared.SinkPoint.TheVariants.{Out, At}
-use Rattle.report_model.specs.Query.{Query, Alike}
+use Rattle.report_model.specs.Query.{Query, Alike, AreLocated}
 use Rattle.report_model.specs.Rows.{Row, rows}
 use Rattle.replay_model.specs.Run.{trace}
 use Rattle.page_model.specs.Data.{Asked, data_text, page_data}
 use Rattle.page_model.specs.Page.{page_report}
 
--- ---- the numbers in rows are below 2^63, as in each report of a run
+-- ---- the numbers in rows are below 2^72
 
 abbrev pub HasSmallLoc : Loc → Type 0
-HasSmallLoc (Reg r i) = (r < 2 ^ 63) × (i < 2 ^ 63)
-HasSmallLoc (Mem a) = a < 2 ^ 63
+HasSmallLoc (Reg r i) = (r < 2 ^ 72) × (i < 2 ^ 72)
+HasSmallLoc (Mem a) = a < 2 ^ 72
 
 abbrev pub IsSmallSink : SinkPoint → Type 0
-IsSmallSink (Out b) = (b.channel < 2 ^ 63) × (b.offset < 2 ^ 63)
-IsSmallSink (At p) = HasSmallLoc p.loc × (p.time < 2 ^ 63)
+IsSmallSink (Out b) = (b.channel < 2 ^ 72) × (b.offset < 2 ^ 72)
+IsSmallSink (At p) = HasSmallLoc p.loc × (p.time < 2 ^ 72)
 
 abbrev pub IsSmallSource : SourceByte → Type 0
-IsSmallSource b = (b.channel < 2 ^ 63) × (b.offset < 2 ^ 63)
+IsSmallSource b = (b.channel < 2 ^ 72) × (b.offset < 2 ^ 72)
 
 abbrev pub IsSmallRow : Row → Type 0
 IsSmallRow r = IsSmallSink r.sink × AllByRecursion IsSmallSource r.sources
@@ -38,10 +38,15 @@ DataTellReports = (a b : Asked) (log k : Log) (rs ss : List Row)
     → AllByRecursion IsSmallRow rs → AllByRecursion IsSmallRow ss
     → data_text a log rs ≡ data_text b k ss → rs ≡ ss
 
--- so are pages that are the same: a page tells the whole report
+-- the numbers in the rows of a query over the run of a log are so small, where its points are at locations, as those of each
+-- query text are
+abbrev pub RowsAreSmall : Type 0
+RowsAreSmall = (q : Query) (state : State) (log : Log) → AreLocated q.points → IsLog log → AllByRecursion IsSmallRow (rows q (trace state log))
+
+-- so pages that are the same are of the same report: a page tells the whole report
 abbrev pub PagesTellReports : Type 0
 PagesTellReports = (q p : Query) (state other : State) (log k : Log)
-    → AllByRecursion IsSmallRow (rows q (trace state log)) → AllByRecursion IsSmallRow (rows p (trace other k))
+    → AreLocated q.points → AreLocated p.points → IsLog log → IsLog k
     → page_report q state log ≡ page_report p other k → rows q (trace state log) ≡ rows p (trace other k)
 
 -- queries that are alike have the same data

@@ -1,10 +1,15 @@
 //! Laws of the definitions: each is the contract of a function that does nothing.
 
-ghost use Rattle.page_model.specs.PageLaws.{DataTellReports, PagesTellReports, AlikeHaveSameData};
+ghost use Rattle.page_model.specs.PageLaws.{DataTellReports, RowsAreSmall, PagesTellReports, AlikeHaveSameData};
 
-/// Pages with the same data are of the same report.
+/// Pages with the same data are of the same report, where the numbers in it are small.
 pub fn data_tell_reports()
     ensures { DataTellReports }
+{}
+
+/// The numbers in the rows of a run are small.
+pub fn rows_are_small()
+    ensures { RowsAreSmall }
 {}
 
 /// Pages that are the same are of the same report: a page tells the whole report.

@@ -5,8 +5,8 @@
 //! (Page.antt).
 //!
 //! Crates above rest on this: `page_report` is a function of the query, the state that the run begins in, and its log. Proved
-//! (`laws`): pages with the same data are of the same report, so a page tells the whole report; and queries that are alike
-//! have the same data.
+//! (`laws`): pages of runs that are the same are of the same report, so a page tells the whole report; and queries that are
+//! alike have the same data.
 #![tactic(auto)]
 
 pub mod laws;

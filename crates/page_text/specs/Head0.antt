@@ -9,7 +9,7 @@ head0 =
     codes "<head>\n" ++
     codes "<meta charset=\"utf-8\">\n" ++
     codes "<meta name=\"viewport\" content=\"width=device-width, initial-scale=1\">\n" ++
-    codes "<meta http-equiv=\"Content-Security-Policy\" content=\"default-src 'none'; style-src 'sha256-1Ckqpa99RODWbupNH3abRUa6GvNmkZEydIpa2LRrdtw='; script-src 'sha256-fjty4QGDYddmjSEXFFe43Y+UL8XF6jWcX4/mvStlQw4='; base-uri 'none'; form-action 'none'\">\n" ++
+    codes "<meta http-equiv=\"Content-Security-Policy\" content=\"default-src 'none'; style-src 'sha256-AcS6iqu2zisymQNL82Sb6wgrD6AStUQzDsQHMYGuQY4='; script-src 'sha256-IvEIZvTos5tNwOGScQigy4xwlQlK1UthDVJvpZLwq5M='; base-uri 'none'; form-action 'none'\">\n" ++
     codes "<title>jet: where each output byte came from</title>\n" ++
     codes "<style>\n" ++
     codes "/* The script reads these as colors. */\n" ++
@@ -91,6 +91,9 @@ head0 =
     codes ".hex span { padding: 0 0.5ch; }\n" ++
     codes ".title { color: var(--faint); font-weight: 600; padding-left: 1ch; background: var(--raised); }\n" ++
     codes "\n" ++
+    codes "/* What is lit and told changes the layout of nothing around it, so a pointer that moves is followed at once. */\n" ++
+    codes ".frame, .pane, #told { contain: size layout; }\n" ++
+    codes "\n" ++
     codes "/* A byte's look: one class for each of its marks. */\n" ++
     codes ".line span span { border-block: 1px solid transparent; }\n" ++
     codes ".silent { color: var(--faint); }\n" ++
@@ -114,7 +117,7 @@ head0 =
     codes "  :root { color-scheme: light; }\n" ++
     codes "  #tools, .frame canvas, main button:not(.link), main label { display: none; }\n" ++
     codes "  body, main:not([hidden]), #bytes { display: block; height: auto; }\n" ++
-    codes "  #summary, #told, .scroll, .frame, .pane { height: auto; max-height: none; overflow: visible; }\n" ++
+    codes "  #summary, #told, .scroll, .frame, .pane { height: auto; max-height: none; overflow: visible; contain: none; }\n" ++
     codes "  .lines { position: static; transform: none !important; }\n" ++
     codes "  .sizer { display: none; }\n" ++
     codes "  .line, tr { break-inside: avoid; }\n" ++

@@ -27,73 +27,41 @@ tail0 =
     codes "  return bytes;\n" ++
     codes "}\n" ++
     codes "\n" ++
-    codes "/** Goes through a text. */\n" ++
-    codes "class Scanner {\n" ++
-    codes "  constructor(text) {\n" ++
-    codes "    this.text = text;\n" ++
-    codes "    this.at = 0;\n" ++
-    codes "  }\n" ++
-    codes "\n" ++
-    codes "  /** Passes over a character, if it is the next one. */\n" ++
-    codes "  takes(character) {\n" ++
-    codes "    if (this.text[this.at] !== character) return false;\n" ++
-    codes "    this.at++;\n" ++
-    codes "    return true;\n" ++
-    codes "  }\n" ++
-    codes "\n" ++
-    codes "  number() {\n" ++
-    codes "    let n = 0;\n" ++
-    codes "    for (;; this.at++) {\n" ++
-    codes "      const digit = this.text.charCodeAt(this.at) - 48;\n" ++
-    codes "      if (!(digit >= 0 && digit <= 9)) return n;\n" ++
-    codes "      n = n * 10 + digit;\n" ++
-    codes "    }\n" ++
-    codes "  }\n" ++
-    codes "\n" ++
-    codes "  /** A number, and what ends it. */\n" ++
-    codes "  numberAndNext() {\n" ++
-    codes "    const n = this.number();\n" ++
-    codes "    this.at++;\n" ++
-    codes "    return n;\n" ++
-    codes "  }\n" ++
-    codes "\n" ++
-    codes "  line() {\n" ++
-    codes "    const end = this.text.indexOf('\\n', this.at);\n" ++
-    codes "    if (end < 0) throw new Error('a line has no end');\n" ++
-    codes "    const line = this.text.slice(this.at, end);\n" ++
-    codes "    this.at = end + 1;\n" ++
-    codes "    return line;\n" ++
-    codes "  }\n" ++
-    codes "\n" ++
-    codes "  /** Ranges `c:a-b`, each after a blank, up to the line's end. */\n" ++
-    codes "  spans(places) {\n" ++
-    codes "    const spans = [];\n" ++
-    codes "    while (this.takes(' ')) {\n" ++
-    codes "      spans.push({ place: places[this.numberAndNext()], from: this.numberAndNext(), past: this.number() });\n" ++
-    codes "    }\n" ++
-    codes "    if (!this.takes('\\n')) throw new Error('a line has no end');\n" ++
-    codes "    return spans;\n" ++
-    codes "  }\n" ++
-    codes "}\n" ++
-    codes "\n" ++
-    codes "/** Reads the rows, and gives each place its runs. */\n" ++
+    codes "/** Reads rows, and gives each place its runs. */\n" ++
     codes "class RowReader {\n" ++
-    codes "  constructor(scanner, run) {\n" ++
-    codes "    this.scanner = scanner;\n" ++
-    codes "    this.run = run;\n" ++
+    codes "  constructor(inputs, outputs) {\n" ++
+    codes "    this.inputs = inputs;\n" ++
+    codes "    this.outputs = outputs;\n" ++
     codes "    this.points = new Map();\n" ++
-    codes "    this.last = null;\n" ++
+    codes "    this.rows = 0;\n" ++
     codes "  }\n" ++
     codes "\n" ++
-    codes "  /** All rows: what comes after them begins with `p`. */\n" ++
-    codes "  read() {\n" ++
-    codes "    const { scanner, run } = this;\n" ++
-    codes "    for (run.rows = 0; scanner.text[scanner.at] !== 'p'; run.rows++) {\n" ++
-    codes "      if (scanner.takes('=')) this.join(false);\n" ++
-    codes "      else if (scanner.takes('+')) this.join(true);\n" ++
-    codes "      else this.begin(...this.sink(), scanner.spans(run.inputs));\n" ++
+    codes "  read(text) {\n" ++
+    codes "    for (const [, sign, name, spans] of text.matchAll(/([=+])|([^ \\n]+)([^\\n]*)\\n/g)) {\n" ++
+    codes "      if (sign) this.join(sign === '+');\n" ++
+    codes "      else this.begin(...this.sink(name), this.spans(spans));\n" ++
+    codes "      this.rows++;\n" ++
     codes "    }\n" ++
-    codes "    run.points = [...this.points.values()];\n" ++
+    codes "  }\n" ++
+    codes "\n" ++
+    codes "  /** Ranges `c:a-b`, each after a blank. */\n" ++
+    codes "  spans(text) {\n" ++
+    codes "    return Array.from(text.matchAll(/ (\\d+):(\\d+)-(\\d+)/g),\n" ++
+    codes "      ([, number, from, past]) => ({ place: this.inputs[number], from: Number(from), past: Number(past) }));\n" ++
+    codes "  }\n" ++
+    codes "\n" ++
+    codes "  /** What a row is of: `c:o`, `m:A@T` or `r:R.L@T`. */\n" ++
+    codes "  sink(name) {\n" ++
+    codes "    const parts = name.split(/[:.@]/);\n" ++
+    codes "    if (parts[0] === 'm') return [this.point('memory', 0, parts[2]), Number(parts[1])];\n" ++
+    codes "    if (parts[0] === 'r') return [this.point('register', parts[1], parts[3]), Number(parts[2])];\n" ++
+    codes "    return [this.outputs[parts[0]], Number(parts[1])];\n" ++
+    codes "  }\n" ++
+    codes "\n" ++
+    codes "  point(kind, number, time) {\n" ++
+    codes "    const key = `${kind} ${number} ${time}`;\n" ++
+    codes "    if (!this.points.has(key)) this.points.set(key, place(kind, Number(number), Number(time)));\n" ++
+    codes "    return this.points.get(key);\n" ++
     codes "  }\n" ++
     codes "\n" ++
     codes "  begin(where, first, spans) {\n" ++
@@ -113,70 +81,50 @@ tail0 =
     codes "      this.begin(last.place, last.first + last.count, spans);\n" ++
     codes "    }\n" ++
     codes "  }\n" ++
-    codes "\n" ++
-    codes "  /** What a row is of: `c:o`, `m:A@T` or `r:R.L@T`. */\n" ++
-    codes "  sink() {\n" ++
-    codes "    const { scanner, run } = this;\n" ++
-    codes "    const kind = scanner.takes('m') ? 'memory' : scanner.takes('r') ? 'register' : 'out';\n" ++
-    codes "    if (kind === 'out') return [run.outputs[scanner.numberAndNext()], scanner.number()];\n" ++
-    codes "    scanner.takes(':');\n" ++
-    codes "    const register = kind === 'register' ? scanner.numberAndNext() : 0;\n" ++
-    codes "    const offset = scanner.numberAndNext();\n" ++
-    codes "    return [this.point(kind, register, scanner.number()), offset];\n" ++
-    codes "  }\n" ++
-    codes "\n" ++
-    codes "  point(kind, register, time) {\n" ++
-    codes "    const key = `${kind} ${register} ${time}`;\n" ++
-    codes "    if (!this.points.has(key)) this.points.set(key, place(kind, register, time));\n" ++
-    codes "    return this.points.get(key);\n" ++
-    codes "  }\n" ++
-    codes "}\n" ++
-    codes "\n" ++
-    codes "/** Reads what is told beside the rows, up to the line that counts them. */\n" ++
-    codes "function readFacts(scanner, run) {\n" ++
-    codes "  for (;;) {\n" ++
-    codes "    if (scanner.text.startsWith('sources', scanner.at)) {\n" ++
-    codes "      scanner.at += 'sources'.length;\n" ++
-    codes "      run.sources = scanner.spans(run.inputs);\n" ++
-    codes "    }\n" ++
-    codes "    const [word, ...rest] = scanner.line().split(' ');\n" ++
-    codes "    if (word === 'in' || word === 'out') {\n" ++
-    codes "      (word === 'in' ? run.inputs : run.outputs)[rest[0]].bytes = decoded(rest[1]);\n" ++
-    codes "    } else if (word === 'r' || word === 'w') {\n" ++
-    codes "      const { calls } = (word === 'r' ? run.inputs : run.outputs)[rest[0]];\n" ++
-    codes "      const first = calls.at(-1)?.past ?? 0;\n" ++
-    codes "      calls.push({ first, past: first + Number(rest[1]), time: Number(rest[2]) });\n" ++
-    codes "    } else if (word === 'end' && run.facts.end) {\n" ++
-    codes "      if (Number(rest[0]) !== run.rows) throw new Error('rows are missing');\n" ++
-    codes "      return;\n" ++
-    codes "    } else {\n" ++
-    codes "      run.facts[word] = rest.join(' ');\n" ++
-    codes "    }\n" ++
-    codes "  }\n" ++
     codes "}\n" ++
     codes "\n" ++
     codes "function read(text) {\n" ++
-    codes "  const scanner = new Scanner(text);\n" ++
-    codes "  if (scanner.line() !== 'jet page 1') throw new Error('the data is of no version that this page reads');\n" ++
-    codes "  if (scanner.line() !== 'rows') throw new Error('there are no rows');\n" ++
     codes "  const channels = (kind) => Array.from({ length: 16 }, (none, number) => place(kind, number, 0));\n" ++
-    codes "  const run = { facts: {}, inputs: channels('in'), outputs: channels('out') };\n" ++
-    codes "  new RowReader(scanner, run).read();\n" ++
-    codes "  readFacts(scanner, run);\n" ++
-    codes "  run.inputs = run.inputs.filter((p) => p.bytes.length > 0);\n" ++
-    codes "  run.outputs = run.outputs.filter((p) => p.bytes.length > 0);\n" ++
-    codes "  run.sinks = [...run.outputs, ...run.points];\n" ++
-    codes "  [...run.inputs, ...run.sinks].forEach((where, order) => {\n" ++
+    codes "  const ways = { in: channels('in'), out: channels('out') };\n" ++
+    codes "  const reader = new RowReader(ways.in, ways.out);\n" ++
+    codes "  const begin = 'jet page 1\\nrows\\n';\n" ++
+    codes "  if (!text.startsWith(begin)) throw new Error('the data is of no version that this page reads');\n" ++
+    codes "  const end = text.indexOf('p', begin.length); // rows have none, and what is told beside them begins with it\n" ++
+    codes "  reader.read(text.slice(begin.length, end));\n" ++
+    codes "\n" ++
+    codes "  const lines = text.slice(end).split('\\n').slice(0, -1);\n" ++
+    codes "  if (lines.pop() !== `end ${reader.rows}`) throw new Error('rows are missing');\n" ++
+    codes "  const facts = {};\n" ++
+    codes "  let sources;\n" ++
+    codes "  for (const line of lines) {\n" ++
+    codes "    const [word, number, ...rest] = line.split(' ');\n" ++
+    codes "    if (word === 'sources') sources = reader.spans(line);\n" ++
+    codes "    else if (word === 'in' || word === 'out') ways[word][number].bytes = decoded(rest[0]);\n" ++
+    codes "    else if (word === 'r' || word === 'w') {\n" ++
+    codes "      const { calls } = ways[word === 'r' ? 'in' : 'out'][number];\n" ++
+    codes "      const first = calls.at(-1)?.past ?? 0;\n" ++
+    codes "      calls.push({ first, past: first + Number(rest[0]), time: Number(rest[1]) });\n" ++
+    codes "    } else facts[word] = line.slice(word.length + 1);\n" ++
+    codes "  }\n" ++
+    codes "  return arranged({ ...ways, points: [...reader.points.values()], sources, facts });\n" ++
+    codes "}\n" ++
+    codes "\n" ++
+    codes "/** The channels that moved bytes, and the points, in order, with all that is known of them. */\n" ++
+    codes "function arranged({ in: received, out: written, points, sources, facts }) {\n" ++
+    codes "  const moved = (places) => places.filter((where) => where.bytes.length > 0);\n" ++
+    codes "  const [inputs, outputs] = [moved(received), moved(written)];\n" ++
+    codes "  const sinks = [...outputs, ...points];\n" ++
+    codes "  [...inputs, ...sinks].forEach((where, order) => {\n" ++
     codes "    where.order = order;\n" ++
     codes "    where.marks = new Uint8Array(where.bytes.length);\n" ++
     codes "  });\n" ++
-    codes "  return run;\n" ++
+    codes "  return { inputs, outputs, points, runs: sinks.flatMap((where) => where.runs), sources, facts };\n" ++
     codes "}\n" ++
     codes "\n" ++
     codes "// ---- Names: of bytes and ranges as jet's texts have them, of counts, and of bytes as text.\n" ++
     codes "\n" ++
-    codes "const decimal = new Intl.NumberFormat('en');\n" ++
-    codes "const many = (n, what) => `${decimal.format(n)} ${what}${n === 1 ? '' : 's'}`;\n" ++
+    codes "const decimal = new Intl.NumberFormat('en').format;\n" ++
+    codes "const many = (n, what) => `${decimal(n)} ${what}${n === 1 ? '' : 's'}`;\n" ++
     codes "\n" ++
     codes "/** The name of a byte as the report writes it. */\n" ++
     codes "function byteName(where, offset) {\n" ++
@@ -192,19 +140,24 @@ tail0 =
     codes "  return `${byteName(where, from)} to ${byteName(where, past - 1)}`;\n" ++
     codes "}\n" ++
     codes "\n" ++
-    codes "const sideName = (where) => (where.kind === 'in' ? 'Input' : where.kind === 'out' ? 'Output' : 'Point');\n" ++
+    codes "const sideName = (where) => ({ in: 'Input', out: 'Output' }[where.kind] ?? 'Point');\n" ++
     codes "\n" ++
     codes "/** Bytes as text that is safe to show and always as long as they are: each that isn't printable ASCII is a dot. */\n" ++
     codes "function shown(bytes) {\n" ++
     codes "  return Array.from(bytes, (b) => (b >= 0x20 && b <= 0x7e ? String.fromCharCode(b) : '\\u00b7')).join('');\n" ++
     codes "}\n" ++
     codes "\n" ++
-    codes "function preview({ place: where, from, past }, most = 48) {\n" ++
-    codes "  const text = shown(where.bytes.subarray(from, Math.min(past, from + most)));\n" ++
-    codes "  return past - from > most ? `${text}\\u2026` : text;\n" ++
+    codes "/** The first bytes of a span as text. */\n" ++
+    codes "function preview({ place: where, from, past }) {\n" ++
+    codes "  const text = shown(where.bytes.subarray(from, Math.min(past, from + 48)));\n" ++
+    codes "  return past - from > 48 ? `${text}\\u2026` : text;\n" ++
     codes "}\n" ++
     codes "\n" ++
     codes "// ---- Flow: what bytes came from, and what they came to.\n" ++
+    codes "\n" ++
+    codes "const byteSpan = (where, offset) => ({ place: where, from: offset, past: offset + 1 });\n" ++
+    codes "const wholeSpan = (where) => ({ place: where, from: 0, past: where.bytes.length });\n" ++
+    codes "const runSpan = (run) => ({ place: run.place, from: run.first, past: run.first + run.count });\n" ++
     codes "\n" ++
     codes "/** The span of sources that the offsets from `from` up to `past` of a run have by one of its source spans. */\n" ++
     codes "function sourceSpan(run, span, from, past) {\n" ++
@@ -233,13 +186,13 @@ tail0 =
     codes "  return out;\n" ++
     codes "}\n" ++
     codes "\n" ++
-    codes "/** The index of the last of the ascending numbers that is at most n. */\n" ++
-    codes "function lastUpTo(n, length, numberAt) {\n" ++
+    codes "/** The index of the last of the items, ascending by their numbers, whose number is at most n. */\n" ++
+    codes "function lastUpTo(n, items, numberOf = (item) => item) {\n" ++
     codes "  let low = 0;\n" ++
-    codes "  let high = length;\n" ++
+    codes "  let high = items.length;\n" ++
     codes "  while (low < high) {\n" ++
     codes "    const middle = (low + high) >> 1;\n" ++
-    codes "    if (numberAt(middle) <= n) low = middle + 1;\n" ++
+    codes "    if (numberOf(items[middle]) <= n) low = middle + 1;\n" ++
     codes "    else high = middle;\n" ++
     codes "  }\n" ++
     codes "  return low - 1;\n" ++
@@ -248,7 +201,7 @@ tail0 =
     codes "/** The runs of a place that have offsets of `from` up to `past`, with these offsets. */\n" ++
     codes "function* runsWithin(where, from, past) {\n" ++
     codes "  const { runs } = where;\n" ++
-    codes "  const start = Math.max(0, lastUpTo(from, runs.length, (k) => runs[k].first));\n" ++
+    codes "  const start = Math.max(0, lastUpTo(from, runs, (run) => run.first));\n" ++
     codes "  for (let i = start; i < runs.length && runs[i].first < past; i++) {\n" ++
     codes "    const begin = Math.max(from, runs[i].first);\n" ++
     codes "    const end = Math.min(past, runs[i].first + runs[i].count);\n" ++
@@ -256,13 +209,10 @@ tail0 =
     codes "  }\n" ++
     codes "}\n" ++
     codes "\n" ++
-    codes "const wholeSpan = (where) => ({ place: where, from: 0, past: where.bytes.length });\n" ++
-    codes "const runSpan = (run) => ({ place: run.place, from: run.first, past: run.first + run.count });\n" ++
-    codes "\n" ++
     codes "/** The bytes of the run that an offset is in; of an input the one byte. */\n" ++
     codes "function joinedSpan(where, offset) {\n" ++
     codes "  for (const { run } of runsWithin(where, offset, offset + 1)) return runSpan(run);\n" ++
-    codes "  return { place: where, from: offset, past: offset + 1 };\n" ++
+    codes "  return byteSpan(where, offset);\n" ++
     codes "}\n" ++
     codes "\n" ++
     codes "/** What the bytes of a span of outputs or points came from. */\n" ++
@@ -277,13 +227,11 @@ tail0 =
     codes "/** What the bytes of a span of inputs came to. */\n" ++
     codes "function reachOf({ place: where, from, past }) {\n" ++
     codes "  const spans = [];\n" ++
-    codes "  for (const sinks of data.sinks) {\n" ++
-    codes "    for (const run of sinks.runs) {\n" ++
-    codes "      const moved = run.moves ? run.count - 1 : 0;\n" ++
-    codes "      for (const span of run.spans) {\n" ++
-    codes "        const reaches = span.place === where && span.from < past && from < span.past + moved;\n" ++
-    codes "        if (reaches) spans.push(sinkSpan(run, span, from, past));\n" ++
-    codes "      }\n" ++
+    codes "  for (const run of data.runs) {\n" ++
+    codes "    const moved = run.moves ? run.count - 1 : 0;\n" ++
+    codes "    for (const span of run.spans) {\n" ++
+    codes "      const reaches = span.place === where && span.from < past && from < span.past + moved;\n" ++
+    codes "      if (reaches) spans.push(sinkSpan(run, span, from, past));\n" ++
     codes "    }\n" ++
     codes "  }\n" ++
     codes "  return merged(spans);\n" ++
@@ -297,12 +245,8 @@ tail0 =
     codes "function recordStarts(where, how, size) {\n" ++
     codes "  if (how === 'call') return where.calls.map((call) => call.first);\n" ++
     codes "  const starts = [0];\n" ++
-    codes "  if (how === 'line') {\n" ++
-    codes "    for (let i = where.bytes.indexOf(10); i >= 0; i = where.bytes.indexOf(10, i + 1)) starts.push(i + 1);\n" ++
-    codes "    if (starts.at(-1) === where.bytes.length) starts.pop();\n" ++
-    codes "  } else {\n" ++
-    codes "    for (let i = size; i < where.bytes.length; i += size) starts.push(i);\n" ++
-    codes "  }\n" ++
+    codes "  const next = (at) => (how === 'line' ? where.bytes.indexOf(10, at) + 1 : at + size) || Infinity;\n" ++
+    codes "  for (let at = next(0); at < where.bytes.length; at = next(at)) starts.push(at);\n" ++
     codes "  return starts;\n" ++
     codes "}\n" ++
     codes "\n" ++
@@ -312,13 +256,40 @@ tail0 =
     codes "  return lines >= where.calls.length && lines > where.bytes.length / 100 ? 'line' : 'call';\n" ++
     codes "}\n" ++
     codes "\n" ++
-    codes "const recordAt = (where, offset) => lastUpTo(offset, where.records.length, (k) => where.records[k]);\n" ++
-    codes "const recordEnd = (where, k) => (k + 1 < where.records.length ? where.records[k + 1] : where.bytes.length);\n" ++
+    codes "const recordAt = (where, offset) => lastUpTo(offset, where.records);\n" ++
+    codes "const recordEnd = (where, k) => where.records[k + 1] ?? where.bytes.length;\n" ++
     codes "const recordSpan = (where, k) => ({ place: where, from: where.records[k], past: recordEnd(where, k) });\n" ++
     codes "\n" ++
-    codes "/** The parts of a run's offsets, each within one record; where the run moves, the first source span is too. */\n" ++
-    codes "function* partsOf(run) {\n" ++
-    codes "  const end = run.first + run.count;\n" ++
-    codes "  for (let from = run.first; from < end;) {\n" ++
-    codes "    let past = Math.min(end, recordEnd(run.place, recordAt(run.place, from)));\n" ++
-    codes "    if (run.moves) {\n"
+    codes "/**\n" ++
+    codes " * The parts of a place's runs that have sources, each within one record, with its source spans. Where a run moves, the\n" ++
+    codes " * first source span is within one record too.\n" ++
+    codes " */\n" ++
+    codes "function* partsOf(where) {\n" ++
+    codes "  for (const run of where.runs) {\n" ++
+    codes "    const end = run.spans.length > 0 ? run.first + run.count : run.first;\n" ++
+    codes "    for (let from = run.first, past; from < end; from = past) {\n" ++
+    codes "      const record = recordAt(where, from);\n" ++
+    codes "      past = Math.min(end, recordEnd(where, record));\n" ++
+    codes "      if (run.moves) {\n" ++
+    codes "        const source = sourceSpan(run, run.spans[0], from, from + 1);\n" ++
+    codes "        past = Math.min(past, from + recordEnd(source.place, recordAt(source.place, source.from)) - source.from);\n" ++
+    codes "      }\n" ++
+    codes "      const sources = run.spans.map((span) => sourceSpan(run, span, from, past));\n" ++
+    codes "      yield { span: { place: where, from, past }, record, moves: run.moves, sources };\n" ++
+    codes "    }\n" ++
+    codes "  }\n" ++
+    codes "}\n" ++
+    codes "\n" ++
+    codes "/** For each record of an output channel the newest record of each input channel that reached it. */\n" ++
+    codes "function newestRecords(where) {\n" ++
+    codes "  const newest = where.records.map(() => new Map());\n" ++
+    codes "  for (const { record, sources } of partsOf(where)) {\n" ++
+    codes "    for (const source of sources) {\n" ++
+    codes "      const last = recordAt(source.place, source.past - 1);\n" ++
+    codes "      if (last > (newest[record].get(source.place) ?? -1)) newest[record].set(source.place, last);\n" ++
+    codes "    }\n" ++
+    codes "  }\n" ++
+    codes "  return newest;\n" ++
+    codes "}\n" ++
+    codes "\n" ++
+    codes "/** How many records before the own one of a written record a source span begins; 0 where its channel is one record. */\n"

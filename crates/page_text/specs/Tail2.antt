@@ -3,66 +3,35 @@ use Rattle.std.specs.Prelude.{ℕ, List, codes, ◌++◌}
 
 unfoldable pub tail2 : List ℕ
 tail2 =
-    codes "    made.append(cells('text', [...shown(bytes)]));\n" ++
-    codes "    made.span = { place: where, from, past };\n" ++
-    codes "    return made;\n" ++
-    codes "  }\n" ++
-    codes "\n" ++
-    codes "  paint(made) {\n" ++
-    codes "    if (!made.span) return;\n" ++
-    codes "    const { place: where, from } = made.span;\n" ++
-    codes "    for (const group of made.querySelectorAll('.hex, .text')) {\n" ++
-    codes "      let at = from;\n" ++
-    codes "      for (const cell of group.children) {\n" ++
-    codes "        const look = LOOKS[where.marks[at++]];\n" ++
-    codes "        if (cell.className !== look) cell.className = look;\n" ++
-    codes "      }\n" ++
-    codes "    }\n" ++
-    codes "  }\n" ++
-    codes "\n" ++
-    codes "  /** A strip of where in all lines the lit, the chosen and the foreign bytes stand. */\n" ++
-    codes "  drawMap() {\n" ++
-    codes "    const { map } = this;\n" ++
-    codes "    map.width = map.clientWidth;\n" ++
-    codes "    map.height = map.clientHeight;\n" ++
-    codes "    const pen = map.getContext('2d');\n" ++
-    codes "    const style = getComputedStyle(map);\n" ++
-    codes "    const strip = (spans, color, left, width) => {\n" ++
-    codes "      pen.fillStyle = style.getPropertyValue(color);\n" ++
-    codes "      let bottom = -1;\n" ++
-    codes "      for (const { place: where, from, past } of spans) {\n" ++
-    codes "        if (!this.places.includes(where)) continue;\n" ++
-    codes "        const top = Math.max(bottom, Math.floor((this.lineOf(where, from) / this.count) * map.height));\n" ++
-    codes "        bottom = Math.max(top + 2, Math.ceil(((this.lineOf(where, past - 1) + 1) / this.count) * map.height));\n" ++
     codes "        pen.fillRect(left, top, width, bottom - top);\n" ++
     codes "        bottom -= 1;\n" ++
     codes "      }\n" ++
     codes "    };\n" ++
-    codes "    strip(this.side === 'in' ? mixed.in : mixed.out, '--foreign', 9, 5);\n" ++
+    codes "    strip(mixed[this.side], '--foreign', 9, 5);\n" ++
     codes "    strip(linked, '--lit', 0, 9);\n" ++
     codes "    strip(chosen ? [chosen] : [], '--accent', 0, 9);\n" ++
     codes "  }\n" ++
     codes "\n" ++
     codes "  lineOf(where, offset) {\n" ++
-    codes "    return where.firstLine + 1 + lastUpTo(offset, where.starts.length, (k) => where.starts[k]);\n" ++
+    codes "    return where.firstLine + 1 + lastUpTo(offset, where.starts);\n" ++
     codes "  }\n" ++
     codes "\n" ++
     codes "  scrollTo(where, offset, toTop = false) {\n" ++
+    codes "    const { view } = this;\n" ++
     codes "    const top = (this.lineOf(where, offset) * LINE) / this.scale;\n" ++
-    codes "    const seen = this.view.scrollTop + LINE <= top && top + 2 * LINE <= this.view.scrollTop + this.view.clientHeight;\n" ++
-    codes "    if (toTop || !seen) this.view.scrollTop = toTop ? top : top - this.view.clientHeight / 3;\n" ++
+    codes "    const seen = view.scrollTop + LINE <= top && top + 2 * LINE <= view.scrollTop + view.clientHeight;\n" ++
+    codes "    if (toTop || !seen) view.scrollTop = toTop ? top : top - view.clientHeight / 3;\n" ++
     codes "  }\n" ++
     codes "\n" ++
     codes "  byteUnder(event) {\n" ++
     codes "    const cell = event.target.closest?.('.hex > span, .text > span');\n" ++
     codes "    const line = cell?.closest('.line');\n" ++
-    codes "    if (!line) return null;\n" ++
-    codes "    return { place: line.span.place, offset: line.span.from + [...cell.parentNode.children].indexOf(cell) };\n" ++
+    codes "    return line ? byteSpan(line.span.place, line.span.from + [...cell.parentNode.children].indexOf(cell)) : null;\n" ++
     codes "  }\n" ++
     codes "\n" ++
     codes "  pointed(event) {\n" ++
     codes "    const byte = this.byteUnder(event);\n" ++
-    codes "    if (event.buttons === 1 && byte && byte.place === chosen?.place) extend(byte.offset);\n" ++
+    codes "    if (event.buttons === 1 && byte && byte.place === chosen?.place) extend(byte.from);\n" ++
     codes "    else point(byte);\n" ++
     codes "  }\n" ++
     codes "\n" ++
@@ -70,11 +39,9 @@ tail2 =
     codes "    if (event.button !== 0) return;\n" ++
     codes "    const byte = this.byteUnder(event);\n" ++
     codes "    const line = event.target.closest('.line')?.span;\n" ++
-    codes "    const isRecord = line && event.target.className === 'record';\n" ++
-    codes "    if (isRecord) choose(recordSpan(line.place, recordAt(line.place, line.from)));\n" ++
-    codes "    else if (!byte) return;\n" ++
-    codes "    else if (event.shiftKey && byte.place === chosen?.place) extend(byte.offset);\n" ++
-    codes "    else choose({ place: byte.place, from: byte.offset, past: byte.offset + 1 });\n" ++
+    codes "    if (line && event.target.className === 'record') choose(recordSpan(line.place, recordAt(line.place, line.from)));\n" ++
+    codes "    else if (byte && event.shiftKey && byte.place === chosen?.place) extend(byte.from);\n" ++
+    codes "    else if (byte) choose(byte);\n" ++
     codes "  }\n" ++
     codes "\n" ++
     codes "  key(event) {\n" ++
@@ -98,25 +65,25 @@ tail2 =
     codes "  /** The offset that a key moves the cursor to, which may lie outside the channel; undefined where it moves none. */\n" ++
     codes "  moved(event, where, at) {\n" ++
     codes "    const { starts, bytes } = where;\n" ++
-    codes "    const line = Math.max(0, lastUpTo(at, starts.length, (k) => starts[k]));\n" ++
-    codes "    const end = (k) => (k + 1 < starts.length ? starts[k + 1] : bytes.length) - 1;\n" ++
+    codes "    const line = Math.max(0, lastUpTo(at, starts));\n" ++
+    codes "    const end = (k) => (starts[k + 1] ?? bytes.length) - 1;\n" ++
     codes "    const down = (n) => {\n" ++
     codes "      const next = at < 0 ? 0 : line + n;\n" ++
     codes "      if (next < 0) return -1;\n" ++
     codes "      return next < starts.length ? Math.min(starts[next] + Math.max(0, at - starts[line]), end(next)) : bytes.length;\n" ++
     codes "    };\n" ++
     codes "    const page = Math.max(1, Math.floor(this.view.clientHeight / LINE) - 2);\n" ++
-    codes "    switch (event.key) {\n" ++
-    codes "      case 'ArrowRight': return at + 1;\n" ++
-    codes "      case 'ArrowLeft': return at - 1;\n" ++
-    codes "      case 'ArrowDown': return down(1);\n" ++
-    codes "      case 'ArrowUp': return down(-1);\n" ++
-    codes "      case 'PageDown': return down(page);\n" ++
-    codes "      case 'PageUp': return down(-page);\n" ++
-    codes "      case 'Home': return event.ctrlKey ? 0 : starts[line];\n" ++
-    codes "      case 'End': return event.ctrlKey ? bytes.length - 1 : end(line);\n" ++
-    codes "      default: return undefined;\n" ++
-    codes "    }\n" ++
+    codes "    const targets = {\n" ++
+    codes "      ArrowRight: at + 1,\n" ++
+    codes "      ArrowLeft: at - 1,\n" ++
+    codes "      ArrowDown: down(1),\n" ++
+    codes "      ArrowUp: down(-1),\n" ++
+    codes "      PageDown: down(page),\n" ++
+    codes "      PageUp: down(-page),\n" ++
+    codes "      Home: event.ctrlKey ? 0 : starts[line],\n" ++
+    codes "      End: event.ctrlKey ? bytes.length - 1 : end(line),\n" ++
+    codes "    };\n" ++
+    codes "    return targets[event.key];\n" ++
     codes "  }\n" ++
     codes "\n" ++
     codes "  /** Moves the cursor to an offset of a channel, or on to the channel before or after it. */\n" ++
@@ -128,7 +95,7 @@ tail2 =
     codes "    }\n" ++
     codes "    const inside = Math.min(where.bytes.length - 1, Math.max(0, offset));\n" ++
     codes "    if (selects && where === chosen?.place) extend(inside);\n" ++
-    codes "    else choose({ place: where, from: inside, past: inside + 1 });\n" ++
+    codes "    else choose(byteSpan(where, inside));\n" ++
     codes "    this.scrollTo(where, inside);\n" ++
     codes "  }\n" ++
     codes "}\n" ++
@@ -146,10 +113,8 @@ tail2 =
     codes "\n" ++
     codes "/** Lights what the pointed byte, or else the chosen span, came from or came to, and tells of it. */\n" ++
     codes "function light() {\n" ++
-    codes "  for (const span of linked) unmark(span, LIT);\n" ++
-    codes "  const span = pointedAt ? { place: pointedAt.place, from: pointedAt.offset, past: pointedAt.offset + 1 } : chosen;\n" ++
-    codes "  linked = span ? linkedTo(span) : [];\n" ++
-    codes "  for (const other of linked) mark(other, LIT);\n" ++
+    codes "  const span = pointedAt ?? chosen;\n" ++
+    codes "  linked = moveMark(LIT, linked, span ? linkedTo(span) : []);\n" ++
     codes "  tell(span);\n" ++
     codes "  for (const pane of panes) {\n" ++
     codes "    pane.draw();\n" ++
@@ -157,30 +122,28 @@ tail2 =
     codes "  }\n" ++
     codes "}\n" ++
     codes "\n" ++
-    codes "let waiting = false;\n" ++
+    codes "let waiting = 0;\n" ++
     codes "function lightSoon() {\n" ++
-    codes "  if (waiting) return;\n" ++
-    codes "  waiting = true;\n" ++
-    codes "  requestAnimationFrame(() => {\n" ++
-    codes "    waiting = false;\n" ++
+    codes "  waiting ||= requestAnimationFrame(() => {\n" ++
+    codes "    waiting = 0;\n" ++
     codes "    light();\n" ++
     codes "  });\n" ++
     codes "}\n" ++
     codes "\n" ++
     codes "function point(byte) {\n" ++
-    codes "  if (byte?.place === pointedAt?.place && byte?.offset === pointedAt?.offset) return;\n" ++
+    codes "  if (byte?.place === pointedAt?.place && byte?.from === pointedAt?.from) return;\n" ++
     codes "  pointedAt = byte;\n" ++
     codes "  lightSoon();\n" ++
     codes "}\n" ++
     codes "\n" ++
     codes "function choose(span, at = span?.from) {\n" ++
-    codes "  if (chosen) unmark(chosen, CHOSEN | CURSOR);\n" ++
+    codes "  if (chosen) remark(chosen, CHOSEN | CURSOR, 0);\n" ++
     codes "  chosen = span;\n" ++
     codes "  pointedAt = null;\n" ++
     codes "  if (span) {\n" ++
     codes "    anchor = cursor = at;\n" ++
-    codes "    mark(span, CHOSEN);\n" ++
-    codes "    mark({ place: span.place, from: at, past: at + 1 }, CURSOR);\n" ++
+    codes "    remark(span, 0, CHOSEN);\n" ++
+    codes "    remark(byteSpan(span.place, at), 0, CURSOR);\n" ++
     codes "  }\n" ++
     codes "  lightSoon();\n" ++
     codes "}\n" ++
@@ -212,9 +175,8 @@ tail2 =
     codes "  if (spans.length === 0) return;\n" ++
     codes "  const onSide = chosen && (chosen.place.kind === 'in') === (side === 'in');\n" ++
     codes "  const from = onSide ? chosen : { place: spans[0].place, from: -1 };\n" ++
-    codes "  const before = spans.filter((s) => inOrder(s, from) < 0).length;\n" ++
-    codes "  const here = spans[before] && inOrder(spans[before], from) === 0;\n" ++
-    codes "  go(spans.at(by > 0 ? (before + (here ? 1 : 0)) % spans.length : before - 1));\n" ++
+    codes "  const next = by > 0 ? spans.find((s) => inOrder(s, from) > 0) : spans.findLast((s) => inOrder(s, from) < 0);\n" ++
+    codes "  go(next ?? spans.at(by > 0 ? 0 : -1));\n" ++
     codes "}\n" ++
     codes "\n" ++
     codes "function describe(span) {\n" ++
@@ -222,17 +184,16 @@ tail2 =
     codes "  const parts = [many(past - from, 'byte')];\n" ++
     codes "  if (where.bytes.length > 0) {\n" ++
     codes "    const record = recordAt(where, from);\n" ++
-    codes "    const begin = where.records[record];\n" ++
     codes "    parts.push(past > recordEnd(where, record) ? `records ${record} to ${recordAt(where, past - 1)}`\n" ++
-    codes "      : `${past - from === 1 ? 'byte' : 'bytes'} ${numbers(from - begin, past - begin)} of record ${record}`);\n" ++
-    codes "    parts.push(`${where.kind === 'in' ? 'read' : 'written'} at step ${decimal.format(timeOf(where, from))}`);\n" ++
+    codes "      : `${past - from === 1 ? 'byte' : 'bytes'} ${numbersInRecord(span)} of record ${record}`);\n" ++
+    codes "    parts.push(`${where.kind === 'in' ? 'read' : 'written'} at step ${decimal(timeOf(where, from))}`);\n" ++
     codes "  }\n" ++
     codes "  return parts.join(', ');\n" ++
     codes "}\n" ++
     codes "\n" ++
     codes "/** How many steps were done before a byte was read or written. */\n" ++
     codes "function timeOf(where, offset) {\n" ++
-    codes "  return where.calls[lastUpTo(offset, where.calls.length, (k) => where.calls[k].first)].time;\n" ++
+    codes "  return where.calls[lastUpTo(offset, where.calls, (call) => call.first)].time;\n" ++
     codes "}\n" ++
     codes "\n" ++
     codes "/** A query's line that asks for a span's first byte: of an input as a source, else as a sink; for all of a register. */\n" ++
@@ -242,31 +203,47 @@ tail2 =
     codes "  return `${where.kind === 'in' ? 'source' : 'sink'} ${where.number} ${from} ${from + 1}`;\n" ++
     codes "}\n" ++
     codes "\n" ++
-    codes "/** The command line that tells how a byte came there: of the first byte of a span, and the first that is lit for it. */\n" ++
+    codes "/** The first byte of some spans that is in none of the others; both are in order. */\n" ++
+    codes "function firstBeside(spans, others) {\n" ++
+    codes "  for (const { place: where, from, past } of spans) {\n" ++
+    codes "    let at = from;\n" ++
+    codes "    for (const other of others) if (other.place === where && other.from <= at) at = Math.max(at, other.past);\n" ++
+    codes "    if (at < past) return byteSpan(where, at);\n" ++
+    codes "  }\n" ++
+    codes "  return undefined;\n" ++
+    codes "}\n" ++
+    codes "\n" ++
+    codes "/**\n" ++
+    codes " * The command line that tells how a byte came there: of the first byte of a span, and the first that is lit for it. A\n" ++
+    codes " * query asks for a register whole, and of it `path` takes the first byte that lists the source: so for a byte of a\n" ++
+    codes " * register it is a source that no byte before it has, and where each has one there is no such command.\n" ++
+    codes " */\n" ++
     codes "function pathCommand(span) {\n" ++
-    codes "  const first = { place: span.place, from: span.from, past: span.from + 1 };\n" ++
-    codes "  const [other] = span.past === first.past ? linked : linkedTo(first);\n" ++
+    codes "  const { place: where, from } = span;\n" ++
+    codes "  const others = span.past === from + 1 ? linked : linkedTo(byteSpan(where, from));\n" ++
+    codes "  const other = firstBeside(others, where.kind === 'register' ? sourcesOf({ place: where, from: 0, past: from }) : []);\n" ++
     codes "  if (!other) return '';\n" ++
     codes "  const lines = [`rule ${data.facts.rule}`, queryLine(span), queryLine(other)];\n" ++
     codes "  return `printf '${lines.join('\\\\n')}\\\\n' >path.query; jet path PROG LOG path.query`;\n" ++
     codes "}\n" ++
     codes "\n" ++
+    codes "const NO_PATH = 'No query asks for the path of this byte alone: a query asks for a register whole, and bytes of it '\n" ++
+    codes "  + 'before this one have the same sources, so their path would be told.';\n" ++
+    codes "\n" ++
     codes "function pathLine(span) {\n" ++
     codes "  const command = pathCommand(span);\n" ++
-    codes "  if (command === '') return '';\n" ++
-    codes "  const onclick = () => navigator.clipboard.writeText(command);\n" ++
+    codes "  if (command === '') return span.place.kind === 'register' && linked.length > 0 ? words('div', NO_PATH) : '';\n" ++
     codes "  return element('div', {}, 'The path of its first byte: ', words('code', command), ' ',\n" ++
-    codes "    element('button', { type: 'button', textContent: 'Copy', onclick }));\n" ++
+    codes "    button('Copy', () => navigator.clipboard.writeText(command)));\n" ++
     codes "}\n" ++
     codes "\n" ++
     codes "const HINT = 'Point at a byte, or choose one or several: what it came from, or came to, lights up on the other side '\n" ++
     codes "  + 'and is listed here.';\n" ++
     codes "const MOST_TOLD = 40;\n" ++
     codes "\n" ++
-    codes "/** Whether the source of a pair is of another record than the own one of what was written. */\n" ++
-    codes "function isForeign(span, other) {\n" ++
-    codes "  const [source, sink] = span.place.kind === 'in' ? [span, other] : [other, span];\n" ++
-    codes "  return sink.place.kind === 'out' && !isOwn(sink, source);\n" ++
+    codes "/** Whether a source span and the span that it came to are of different records, by the own one of what was written. */\n" ++
+    codes "function isForeign(source, sink) {\n" ++
+    codes "  return sink.place.kind === 'out' && recordsBack(sink.place, recordAt(sink.place, sink.from), source) !== 0;\n" ++
     codes "}\n" ++
     codes "\n" ++
     codes "function tell(span) {\n" ++
@@ -274,9 +251,9 @@ tail2 =
     codes "    byId('told').replaceChildren(words('span', HINT, 'faint'));\n" ++
     codes "    return;\n" ++
     codes "  }\n" ++
+    codes "  const isSource = span.place.kind === 'in';\n" ++
     codes "  const size = linked.reduce((sum, s) => sum + s.past - s.from, 0);\n" ++
-    codes "  const verb = span.place.kind === 'in' ? 'came to' : 'came from';\n" ++
-    codes "  const foreign = new Map(linked.map((other) => [other, isForeign(span, other)]));\n" ++
+    codes "  const foreign = new Map(linked.map((other) => [other, isSource ? isForeign(span, other) : isForeign(other, span)]));\n" ++
     codes "  const told = [...linked].sort((a, b) => foreign.get(b) - foreign.get(a)).slice(0, MOST_TOLD);\n" ++
     codes "  const list = told.map((other) => element('li', {},\n" ++
     codes "    spanLink(other), ' ', words('code', preview(other)), ` ${describe(other)}`,\n" ++
@@ -284,8 +261,8 @@ tail2 =
     codes "  byId('told').replaceChildren(\n" ++
     codes "    element('div', {}, `${sideName(span.place)} `, words('strong', spanName(span), 'mono'), ' ',\n" ++
     codes "      words('code', preview(span)), ` ${describe(span)}`),\n" ++
-    codes "    words('div', size === 0 ? `${verb} nothing that is listed`\n" ++
-    codes "      : `${verb} ${many(size, 'byte')} in ${many(linked.length, 'range')}:`),\n" ++
+    codes "    words('div', `came ${isSource ? 'to' : 'from'} ${size === 0 ? 'nothing that is listed'\n" ++
+    codes "      : `${many(size, 'byte')} in ${many(linked.length, 'range')}:`}`),\n" ++
     codes "    element('ul', {}, ...list),\n" ++
     codes "    linked.length > MOST_TOLD ? `and ${many(linked.length - MOST_TOLD, 'more range')}` : '',\n" ++
     codes "    pathLine(span));\n" ++
@@ -297,4 +274,36 @@ tail2 =
     codes "  const lines = [];\n" ++
     codes "  for (let offset = chosen.from; offset < chosen.past && lines.length < 10000; offset++) {\n" ++
     codes "    const names = [byteName(chosen.place, offset)];\n" ++
-    codes "    for (const span of linkedTo({ place: chosen.place, from: offset, past: offset + 1 })) {\n"
+    codes "    for (const span of linkedTo(byteSpan(chosen.place, offset))) {\n" ++
+    codes "      for (let o = span.from; o < span.past; o++) names.push(byteName(span.place, o));\n" ++
+    codes "    }\n" ++
+    codes "    lines.push(`${names.join(' ')}\\n`);\n" ++
+    codes "  }\n" ++
+    codes "  return lines.join('');\n" ++
+    codes "}\n" ++
+    codes "\n" ++
+    codes "// ---- Search: bytes by their text or hex digits, and bytes by name.\n" ++
+    codes "\n" ++
+    codes "const MOST_FOUND = 100000;\n" ++
+    codes "\n" ++
+    codes "let found = [];\n" ++
+    codes "let searched = '';\n" ++
+    codes "let nextFound = 0;\n" ++
+    codes "\n" ++
+    codes "function findBytes(wanted) {\n" ++
+    codes "  const spans = [];\n" ++
+    codes "  if (wanted.length === 0) return spans;\n" ++
+    codes "  for (const where of [...data.inputs, ...data.outputs]) {\n" ++
+    codes "    const next = (from) => where.bytes.indexOf(wanted[0], from);\n" ++
+    codes "    for (let at = next(0); at >= 0 && spans.length < MOST_FOUND; at = next(at + 1)) {\n" ++
+    codes "      const isThere = wanted.every((b, i) => where.bytes[at + i] === b);\n" ++
+    codes "      if (isThere) spans.push({ place: where, from: at, past: at + wanted.length });\n" ++
+    codes "    }\n" ++
+    codes "  }\n" ++
+    codes "  return spans;\n" ++
+    codes "}\n" ++
+    codes "\n" ++
+    codes "/** A byte `c:o` or a range `c:a-b` of a side. */\n" ++
+    codes "function findNamed(places, name) {\n" ++
+    codes "  const [, ...parts] = /^\\s*(\\d+):(\\d+)(?:-(\\d+))?\\s*$/.exec(name) ?? [];\n" ++
+    codes "  const [number, from, past = from + 1] = parts.filter((part) => part !== undefined).map(Number);\n"

@@ -3,64 +3,24 @@ use Rattle.std.specs.Prelude.{ℕ, List, codes, ◌++◌}
 
 unfoldable pub tail3 : List ℕ
 tail3 =
-    codes "      for (let o = span.from; o < span.past; o++) names.push(byteName(span.place, o));\n" ++
-    codes "    }\n" ++
-    codes "    lines.push(`${names.join(' ')}\\n`);\n" ++
-    codes "  }\n" ++
-    codes "  return lines.join('');\n" ++
-    codes "}\n" ++
-    codes "\n" ++
-    codes "// ---- Search: bytes by their text or hex digits, and bytes by name.\n" ++
-    codes "\n" ++
-    codes "const MOST_FOUND = 100000;\n" ++
-    codes "\n" ++
-    codes "let found = [];\n" ++
-    codes "\n" ++
-    codes "function findBytes(wanted) {\n" ++
-    codes "  const spans = [];\n" ++
-    codes "  if (wanted.length === 0) return spans;\n" ++
-    codes "  for (const where of [...data.inputs, ...data.outputs]) {\n" ++
-    codes "    const next = (from) => where.bytes.indexOf(wanted[0], from);\n" ++
-    codes "    for (let at = next(0); at >= 0 && spans.length < MOST_FOUND; at = next(at + 1)) {\n" ++
-    codes "      const isThere = wanted.every((b, i) => where.bytes[at + i] === b);\n" ++
-    codes "      if (isThere) spans.push({ place: where, from: at, past: at + wanted.length });\n" ++
-    codes "    }\n" ++
-    codes "  }\n" ++
-    codes "  return spans;\n" ++
-    codes "}\n" ++
-    codes "\n" ++
-    codes "/** A byte `c:o` or a range `c:a-b` of a side. */\n" ++
-    codes "function findNamed(places, name) {\n" ++
-    codes "  const match = /^\\s*(\\d+):(\\d+)(?:-(\\d+))?\\s*$/.exec(name);\n" ++
-    codes "  const where = match && places.find((p) => p.number === Number(match[1]));\n" ++
-    codes "  const from = Number(match?.[2]);\n" ++
-    codes "  const past = Number(match?.[3] ?? from + 1);\n" ++
+    codes "  const where = places.find((p) => p.number === number);\n" ++
     codes "  return where && from < past && past <= where.bytes.length ? [{ place: where, from, past }] : [];\n" ++
     codes "}\n" ++
     codes "\n" ++
-    codes "/** The bytes that pairs of hex digits write; none where the text isn't such pairs. */\n" ++
-    codes "function hexBytes(text) {\n" ++
-    codes "  const isHex = /^(\\s*[0-9a-f]{2})*\\s*$/i.test(text);\n" ++
-    codes "  return isHex ? Array.from(text.matchAll(/[0-9a-f]{2}/gi), ([pair]) => parseInt(pair, 16)) : [];\n" ++
-    codes "}\n" ++
-    codes "\n" ++
+    codes "/** Bytes by their text, or by the pairs of hex digits that write them, or by name. */\n" ++
     codes "function wantedSpans(what, text) {\n" ++
     codes "  if (what === 'text') return findBytes([...new TextEncoder().encode(text)]);\n" ++
-    codes "  if (what === 'hex') return findBytes(hexBytes(text));\n" ++
-    codes "  return findNamed(what === 'in' ? data.inputs : data.outputs, text);\n" ++
+    codes "  if (what !== 'hex') return findNamed(what === 'in' ? data.inputs : data.outputs, text);\n" ++
+    codes "  const isHex = /^(\\s*[0-9a-f]{2})*\\s*$/i.test(text);\n" ++
+    codes "  return findBytes(isHex ? Array.from(text.matchAll(/[0-9a-f]{2}/gi), ([pair]) => parseInt(pair, 16)) : []);\n" ++
     codes "}\n" ++
-    codes "\n" ++
-    codes "let searched = '';\n" ++
-    codes "let nextFound = 0;\n" ++
     codes "\n" ++
     codes "function findNext(event) {\n" ++
     codes "  event.preventDefault();\n" ++
     codes "  const what = byId('what').value;\n" ++
     codes "  const text = byId('wanted').value;\n" ++
     codes "  if (`${what} ${text}` !== searched) {\n" ++
-    codes "    for (const span of found) unmark(span, FOUND);\n" ++
-    codes "    found = wantedSpans(what, text);\n" ++
-    codes "    for (const span of found) mark(span, FOUND);\n" ++
+    codes "    found = moveMark(FOUND, found, wantedSpans(what, text));\n" ++
     codes "    searched = `${what} ${text}`;\n" ++
     codes "    nextFound = 0;\n" ++
     codes "  }\n" ++
@@ -74,16 +34,10 @@ tail3 =
     codes "  if (found.length === 0) return 'not found';\n" ++
     codes "  const inputs = found.filter((s) => s.place.kind === 'in').length;\n" ++
     codes "  const sides = `${many(inputs, 'input')}, ${many(found.length - inputs, 'output')}`;\n" ++
-    codes "  return `${decimal.format(nextFound + 1)} of ${decimal.format(found.length)}: ${sides}`;\n" ++
+    codes "  return `${decimal(nextFound + 1)} of ${decimal(found.length)}: ${sides}`;\n" ++
     codes "}\n" ++
     codes "\n" ++
     codes "// ---- The summary: the run and the query in words, records, channels and points.\n" ++
-    codes "\n" ++
-    codes "function countWithout(where, bits) {\n" ++
-    codes "  let count = 0;\n" ++
-    codes "  for (const marks of where.marks) count += (marks & bits) === 0;\n" ++
-    codes "  return count;\n" ++
-    codes "}\n" ++
     codes "\n" ++
     codes "const RULES = {\n" ++
     codes "  copy: 'only where it is moved',\n" ++
@@ -110,12 +64,19 @@ tail3 =
     codes "  return 'was cut off at its limit of steps';\n" ++
     codes "}\n" ++
     codes "\n" ++
+    codes "const total = (list, size) => list.reduce((sum, each) => sum + size(each), 0);\n" ++
+    codes "\n" ++
+    codes "/** How many bytes of a place have none of these marks. */\n" ++
+    codes "function countWithout(where, bits) {\n" ++
+    codes "  let count = 0;\n" ++
+    codes "  for (const marks of where.marks) count += (marks & bits) === 0;\n" ++
+    codes "  return count;\n" ++
+    codes "}\n" ++
+    codes "\n" ++
     codes "function showFacts() {\n" ++
     codes "  const { facts } = data;\n" ++
-    codes "  const total = (list, size) => list.reduce((sum, each) => sum + size(each), 0);\n" ++
-    codes "  const pairsOf = (run) => run.count * total(run.spans, (s) => s.past - s.from);\n" ++
-    codes "  const pairs = total(data.sinks, (where) => total(where.runs, pairsOf));\n" ++
-    codes "  const asked = (places) => decimal.format(total(places, (where) => countWithout(where, OUTSIDE)));\n" ++
+    codes "  const pairs = total(data.runs, (run) => run.count * total(run.spans, (s) => s.past - s.from));\n" ++
+    codes "  const asked = (places) => decimal(total(places, (where) => countWithout(where, OUTSIDE)));\n" ++
     codes "  const counted = (name, what) => many(Number(facts[name]), what);\n" ++
     codes "  byId('facts').replaceChildren(\n" ++
     codes "    'By ', words('strong', `rule ${facts.rule}`), ` a byte is followed ${RULES[facts.rule]}. `,\n" ++
@@ -136,7 +97,7 @@ tail3 =
     codes "  const set = () => {\n" ++
     codes "    size.hidden = how.value !== 'size';\n" ++
     codes "    where.records = recordStarts(where, how.value, Math.max(1, Math.floor(Number(size.value)) || 1));\n" ++
-    codes "    count.textContent = `${decimal.format(where.records.length)}: `;\n" ++
+    codes "    count.textContent = `${decimal(where.records.length)}: `;\n" ++
     codes "  };\n" ++
     codes "  how.value = usualRecords(where);\n" ++
     codes "  set();\n" ++
@@ -149,25 +110,19 @@ tail3 =
     codes "\n" ++
     codes "function showChannels() {\n" ++
     codes "  const rows = [...data.inputs, ...data.outputs].map((where) => element('tr', {},\n" ++
-    codes "    element('td', {}, link(`${where.kind} ${where.number}`, () => go(wholeSpan(where)))),\n" ++
-    codes "    words('td', decimal.format(where.bytes.length), 'number'),\n" ++
-    codes "    words('td', decimal.format(countWithout(where, SILENT | OUTSIDE)), 'number'),\n" ++
+    codes "    element('td', {}, link(`${where.kind} ${where.number}`, wholeSpan(where))),\n" ++
+    codes "    words('td', decimal(where.bytes.length), 'number'),\n" ++
+    codes "    words('td', decimal(countWithout(where, SILENT | OUTSIDE)), 'number'),\n" ++
     codes "    recordChoice(where)));\n" ++
     codes "  fillTable(byId('channels'), '', ['Channel', 'Bytes', 'With flow', 'Records'], rows);\n" ++
     codes "}\n" ++
     codes "\n" ++
-    codes "function recordName(back) {\n" ++
-    codes "  if (back === 0) return 'own';\n" ++
-    codes "  return back > 0 ? `${decimal.format(back)} before` : `${decimal.format(-back)} after`;\n" ++
-    codes "}\n" ++
-    codes "\n" ++
     codes "function showRecords() {\n" ++
-    codes "  for (const span of [...mixed.in, ...mixed.out]) unmark(span, FOREIGN);\n" ++
-    codes "  const found = analyse();\n" ++
-    codes "  mixed = found.mixed;\n" ++
-    codes "  for (const span of [...mixed.in, ...mixed.out]) mark(span, FOREIGN);\n" ++
+    codes "  const flows = analyse();\n" ++
+    codes "  moveMark(FOREIGN, [...mixed.in, ...mixed.out], [...flows.mixed.in, ...flows.mixed.out]);\n" ++
+    codes "  mixed = flows.mixed;\n" ++
     codes "  showAlarm();\n" ++
-    codes "  showPatterns(found);\n" ++
+    codes "  showPatterns(flows);\n" ++
     codes "  for (const pane of panes) pane.layOut();\n" ++
     codes "  light();\n" ++
     codes "}\n" ++
@@ -182,11 +137,11 @@ tail3 =
     codes "}\n" ++
     codes "\n" ++
     codes "function showAlarm() {\n" ++
-    codes "  const counted = (places, side, words) => places.map((where) => [countRecords(where, mixed[side]), where])\n" ++
-    codes "    .filter(([n]) => n > 0).map(([n, where]) => words(n, where)).join(' and ');\n" ++
-    codes "  const written = counted(data.outputs, 'out',\n" ++
-    codes "    (n, where) => `${decimal.format(n)} of ${many(where.records.length, 'record')} of output ${where.number}`);\n" ++
-    codes "  const received = counted(data.inputs, 'in', (n, where) => `${many(n, 'record')} of input ${where.number}`);\n" ++
+    codes "  const counted = (places, spans, text) => places.map((where) => [countRecords(where, spans), where])\n" ++
+    codes "    .filter(([n]) => n > 0).map(([n, where]) => text(n, where)).join(' and ');\n" ++
+    codes "  const written = counted(data.outputs, mixed.out,\n" ++
+    codes "    (n, where) => `${decimal(n)} of ${many(where.records.length, 'record')} of output ${where.number}`);\n" ++
+    codes "  const received = counted(data.inputs, mixed.in, (n, where) => `${many(n, 'record')} of input ${where.number}`);\n" ++
     codes "  byId('alarm').className = written ? 'alarm' : '';\n" ++
     codes "  byId('alarm').textContent = written\n" ++
     codes "    ? `${written} hold bytes that came from another input record than their own: from ${received}.`\n" ++
@@ -196,16 +151,21 @@ tail3 =
     codes "\n" ++
     codes "const PATTERNS_SHOWN = 200;\n" ++
     codes "\n" ++
+    codes "function recordName(back) {\n" ++
+    codes "  if (back === 0) return 'own';\n" ++
+    codes "  return back > 0 ? `${decimal(back)} before` : `${decimal(-back)} after`;\n" ++
+    codes "}\n" ++
+    codes "\n" ++
     codes "function showPatterns({ patterns, others }) {\n" ++
-    codes "  patterns.sort((a, b) => b.isForeign - a.isForeign || inOrder(a.example, b.example));\n" ++
+    codes "  patterns.sort((a, b) => b.isForeign - a.isForeign || inOrder(a.span, b.span));\n" ++
     codes "  const sourcesText = ({ cameFrom, moves }) => cameFrom.slice(0, 4).join(', ')\n" ++
     codes "    + (cameFrom.length > 4 ? ', \\u2026' : moves ? ' one by one' : '');\n" ++
     codes "  const rows = patterns.slice(0, PATTERNS_SHOWN).map((p) => element('tr', { className: p.isForeign ? 'foreign' : '' },\n" ++
-    codes "    words('td', p.example.place.number),\n" ++
-    codes "    element('td', {}, link(numbers(p.begin, p.end), () => go(p.example))),\n" ++
+    codes "    words('td', p.span.place.number),\n" ++
+    codes "    element('td', {}, link(p.at, p.span)),\n" ++
     codes "    words('td', sourcesText(p), 'mono'),\n" ++
     codes "    words('td', [...new Set(p.back.map(recordName))].slice(0, 4).join(', ')),\n" ++
-    codes "    words('td', decimal.format(p.count), 'number')));\n" ++
+    codes "    words('td', decimal(p.count), 'number')));\n" ++
     codes "  const caption = [`${many(patterns.length, 'pattern')} of flow from record to record`, others > 0 ? ' and more' : '',\n" ++
     codes "    ', those from foreign records first', patterns.length > PATTERNS_SHOWN ? `; ${PATTERNS_SHOWN} are shown` : ''];\n" ++
     codes "  fillTable(byId('patterns'), caption.join(''), ['Out', 'bytes', 'came from', 'of the record', 'times'], rows);\n" ++
@@ -220,8 +180,8 @@ tail3 =
     codes "    + (run.moves ? ' one by one' : '') || 'nothing that is listed';\n" ++
     codes "  const rows = runs.slice(0, MOST_POINTS).map((run) => element('tr', {},\n" ++
     codes "    element('td', {}, spanLink(runSpan(run))), words('td', sourcesText(run), 'mono')));\n" ++
-    codes "  const late = Number(data.facts.points) - runs.reduce((sum, run) => sum + run.count, 0);\n" ++
-    codes "  const caption = [runs.length > MOST_POINTS ? `The first ${MOST_POINTS} of ${decimal.format(runs.length)}.` : '',\n" ++
+    codes "  const late = Number(data.facts.points) - total(runs, (run) => run.count);\n" ++
+    codes "  const caption = [runs.length > MOST_POINTS ? `The first ${MOST_POINTS} of ${decimal(runs.length)}.` : '',\n" ++
     codes "    late > 0 ? `${many(late, 'point')} lie after the run's end.` : ''];\n" ++
     codes "  fillTable(byId('points').querySelector('table'), caption.join(' '), ['Point', 'came from'], rows);\n" ++
     codes "}\n" ++

@@ -17,7 +17,7 @@ pub(crate) fn push(out: &mut Vec<u8>) -> Result<(), NoMemory>
 <head>
 <meta charset="utf-8">
 <meta name="viewport" content="width=device-width, initial-scale=1">
-<meta http-equiv="Content-Security-Policy" content="default-src 'none'; style-src 'sha256-1Ckqpa99RODWbupNH3abRUa6GvNmkZEydIpa2LRrdtw='; script-src 'sha256-fjty4QGDYddmjSEXFFe43Y+UL8XF6jWcX4/mvStlQw4='; base-uri 'none'; form-action 'none'">
+<meta http-equiv="Content-Security-Policy" content="default-src 'none'; style-src 'sha256-AcS6iqu2zisymQNL82Sb6wgrD6AStUQzDsQHMYGuQY4='; script-src 'sha256-IvEIZvTos5tNwOGScQigy4xwlQlK1UthDVJvpZLwq5M='; base-uri 'none'; form-action 'none'">
 <title>jet: where each output byte came from</title>
 <style>
 /* The script reads these as colors. */
@@ -99,6 +99,9 @@ main:not([hidden]) { display: grid; grid-template-columns: minmax(0, 4fr) minmax
 .hex span { padding: 0 0.5ch; }
 .title { color: var(--faint); font-weight: 600; padding-left: 1ch; background: var(--raised); }
 
+/* What is lit and told changes the layout of nothing around it, so a pointer that moves is followed at once. */
+.frame, .pane, #told { contain: size layout; }
+
 /* A byte's look: one class for each of its marks. */
 .line span span { border-block: 1px solid transparent; }
 .silent { color: var(--faint); }
@@ -122,7 +125,7 @@ main:not([hidden]) { display: grid; grid-template-columns: minmax(0, 4fr) minmax
   :root { color-scheme: light; }
   #tools, .frame canvas, main button:not(.link), main label { display: none; }
   body, main:not([hidden]), #bytes { display: block; height: auto; }
-  #summary, #told, .scroll, .frame, .pane { height: auto; max-height: none; overflow: visible; }
+  #summary, #told, .scroll, .frame, .pane { height: auto; max-height: none; overflow: visible; contain: none; }
   .lines { position: static; transform: none !important; }
   .sizer { display: none; }
   .line, tr { break-inside: avoid; }

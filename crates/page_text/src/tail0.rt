@@ -35,73 +35,41 @@ function decoded(base64) {
   return bytes;
 }
 
-/** Goes through a text. */
-class Scanner {
-  constructor(text) {
-    this.text = text;
-    this.at = 0;
-  }
-
-  /** Passes over a character, if it is the next one. */
-  takes(character) {
-    if (this.text[this.at] !== character) return false;
-    this.at++;
-    return true;
-  }
-
-  number() {
-    let n = 0;
-    for (;; this.at++) {
-      const digit = this.text.charCodeAt(this.at) - 48;
-      if (!(digit >= 0 && digit <= 9)) return n;
-      n = n * 10 + digit;
-    }
-  }
-
-  /** A number, and what ends it. */
-  numberAndNext() {
-    const n = this.number();
-    this.at++;
-    return n;
-  }
-
-  line() {
-    const end = this.text.indexOf('\n', this.at);
-    if (end < 0) throw new Error('a line has no end');
-    const line = this.text.slice(this.at, end);
-    this.at = end + 1;
-    return line;
-  }
-
-  /** Ranges `c:a-b`, each after a blank, up to the line's end. */
-  spans(places) {
-    const spans = [];
-    while (this.takes(' ')) {
-      spans.push({ place: places[this.numberAndNext()], from: this.numberAndNext(), past: this.number() });
-    }
-    if (!this.takes('\n')) throw new Error('a line has no end');
-    return spans;
-  }
-}
-
-/** Reads the rows, and gives each place its runs. */
+/** Reads rows, and gives each place its runs. */
 class RowReader {
-  constructor(scanner, run) {
-    this.scanner = scanner;
-    this.run = run;
+  constructor(inputs, outputs) {
+    this.inputs = inputs;
+    this.outputs = outputs;
     this.points = new Map();
-    this.last = null;
+    this.rows = 0;
   }
 
-  /** All rows: what comes after them begins with `p`. */
-  read() {
-    const { scanner, run } = this;
-    for (run.rows = 0; scanner.text[scanner.at] !== 'p'; run.rows++) {
-      if (scanner.takes('=')) this.join(false);
-      else if (scanner.takes('+')) this.join(true);
-      else this.begin(...this.sink(), scanner.spans(run.inputs));
+  read(text) {
+    for (const [, sign, name, spans] of text.matchAll(/([=+])|([^ \n]+)([^\n]*)\n/g)) {
+      if (sign) this.join(sign === '+');
+      else this.begin(...this.sink(name), this.spans(spans));
+      this.rows++;
     }
-    run.points = [...this.points.values()];
+  }
+
+  /** Ranges `c:a-b`, each after a blank. */
+  spans(text) {
+    return Array.from(text.matchAll(/ (\d+):(\d+)-(\d+)/g),
+      ([, number, from, past]) => ({ place: this.inputs[number], from: Number(from), past: Number(past) }));
+  }
+
+  /** What a row is of: `c:o`, `m:A@T` or `r:R.L@T`. */
+  sink(name) {
+    const parts = name.split(/[:.@]/);
+    if (parts[0] === 'm') return [this.point('memory', 0, parts[2]), Number(parts[1])];
+    if (parts[0] === 'r') return [this.point('register', parts[1], parts[3]), Number(parts[2])];
+    return [this.outputs[parts[0]], Number(parts[1])];
+  }
+
+  point(kind, number, time) {
+    const key = `${kind} ${number} ${time}`;
+    if (!this.points.has(key)) this.points.set(key, place(kind, Number(number), Number(time)));
+    return this.points.get(key);
   }
 
   begin(where, first, spans) {
@@ -121,70 +89,50 @@ class RowReader {
       this.begin(last.place, last.first + last.count, spans);
     }
   }
-
-  /** What a row is of: `c:o`, `m:A@T` or `r:R.L@T`. */
-  sink() {
-    const { scanner, run } = this;
-    const kind = scanner.takes('m') ? 'memory' : scanner.takes('r') ? 'register' : 'out';
-    if (kind === 'out') return [run.outputs[scanner.numberAndNext()], scanner.number()];
-    scanner.takes(':');
-    const register = kind === 'register' ? scanner.numberAndNext() : 0;
-    const offset = scanner.numberAndNext();
-    return [this.point(kind, register, scanner.number()), offset];
-  }
-
-  point(kind, register, time) {
-    const key = `${kind} ${register} ${time}`;
-    if (!this.points.has(key)) this.points.set(key, place(kind, register, time));
-    return this.points.get(key);
-  }
-}
-
-/** Reads what is told beside the rows, up to the line that counts them. */
-function readFacts(scanner, run) {
-  for (;;) {
-    if (scanner.text.startsWith('sources', scanner.at)) {
-      scanner.at += 'sources'.length;
-      run.sources = scanner.spans(run.inputs);
-    }
-    const [word, ...rest] = scanner.line().split(' ');
-    if (word === 'in' || word === 'out') {
-      (word === 'in' ? run.inputs : run.outputs)[rest[0]].bytes = decoded(rest[1]);
-    } else if (word === 'r' || word === 'w') {
-      const { calls } = (word === 'r' ? run.inputs : run.outputs)[rest[0]];
-      const first = calls.at(-1)?.past ?? 0;
-      calls.push({ first, past: first + Number(rest[1]), time: Number(rest[2]) });
-    } else if (word === 'end' && run.facts.end) {
-      if (Number(rest[0]) !== run.rows) throw new Error('rows are missing');
-      return;
-    } else {
-      run.facts[word] = rest.join(' ');
-    }
-  }
 }
 
 function read(text) {
-  const scanner = new Scanner(text);
-  if (scanner.line() !== 'jet page 1') throw new Error('the data is of no version that this page reads');
-  if (scanner.line() !== 'rows') throw new Error('there are no rows');
   const channels = (kind) => Array.from({ length: 16 }, (none, number) => place(kind, number, 0));
-  const run = { facts: {}, inputs: channels('in'), outputs: channels('out') };
-  new RowReader(scanner, run).read();
-  readFacts(scanner, run);
-  run.inputs = run.inputs.filter((p) => p.bytes.length > 0);
-  run.outputs = run.outputs.filter((p) => p.bytes.length > 0);
-  run.sinks = [...run.outputs, ...run.points];
-  [...run.inputs, ...run.sinks].forEach((where, order) => {
+  const ways = { in: channels('in'), out: channels('out') };
+  const reader = new RowReader(ways.in, ways.out);
+  const begin = 'jet page 1\nrows\n';
+  if (!text.startsWith(begin)) throw new Error('the data is of no version that this page reads');
+  const end = text.indexOf('p', begin.length); // rows have none, and what is told beside them begins with it
+  reader.read(text.slice(begin.length, end));
+
+  const lines = text.slice(end).split('\n').slice(0, -1);
+  if (lines.pop() !== `end ${reader.rows}`) throw new Error('rows are missing');
+  const facts = {};
+  let sources;
+  for (const line of lines) {
+    const [word, number, ...rest] = line.split(' ');
+    if (word === 'sources') sources = reader.spans(line);
+    else if (word === 'in' || word === 'out') ways[word][number].bytes = decoded(rest[0]);
+    else if (word === 'r' || word === 'w') {
+      const { calls } = ways[word === 'r' ? 'in' : 'out'][number];
+      const first = calls.at(-1)?.past ?? 0;
+      calls.push({ first, past: first + Number(rest[0]), time: Number(rest[1]) });
+    } else facts[word] = line.slice(word.length + 1);
+  }
+  return arranged({ ...ways, points: [...reader.points.values()], sources, facts });
+}
+
+/** The channels that moved bytes, and the points, in order, with all that is known of them. */
+function arranged({ in: received, out: written, points, sources, facts }) {
+  const moved = (places) => places.filter((where) => where.bytes.length > 0);
+  const [inputs, outputs] = [moved(received), moved(written)];
+  const sinks = [...outputs, ...points];
+  [...inputs, ...sinks].forEach((where, order) => {
     where.order = order;
     where.marks = new Uint8Array(where.bytes.length);
   });
-  return run;
+  return { inputs, outputs, points, runs: sinks.flatMap((where) => where.runs), sources, facts };
 }
 
 // ---- Names: of bytes and ranges as jet's texts have them, of counts, and of bytes as text.
 
-const decimal = new Intl.NumberFormat('en');
-const many = (n, what) => `${decimal.format(n)} ${what}${n === 1 ? '' : 's'}`;
+const decimal = new Intl.NumberFormat('en').format;
+const many = (n, what) => `${decimal(n)} ${what}${n === 1 ? '' : 's'}`;
 
 /** The name of a byte as the report writes it. */
 function byteName(where, offset) {
@@ -200,19 +148,24 @@ function spanName({ place: where, from, past }) {
   return `${byteName(where, from)} to ${byteName(where, past - 1)}`;
 }
 
-const sideName = (where) => (where.kind === 'in' ? 'Input' : where.kind === 'out' ? 'Output' : 'Point');
+const sideName = (where) => ({ in: 'Input', out: 'Output' }[where.kind] ?? 'Point');
 
 /** Bytes as text that is safe to show and always as long as they are: each that isn't printable ASCII is a dot. */
 function shown(bytes) {
   return Array.from(bytes, (b) => (b >= 0x20 && b <= 0x7e ? String.fromCharCode(b) : '\u00b7')).join('');
 }
 
-function preview({ place: where, from, past }, most = 48) {
-  const text = shown(where.bytes.subarray(from, Math.min(past, from + most)));
-  return past - from > most ? `${text}\u2026` : text;
+/** The first bytes of a span as text. */
+function preview({ place: where, from, past }) {
+  const text = shown(where.bytes.subarray(from, Math.min(past, from + 48)));
+  return past - from > 48 ? `${text}\u2026` : text;
 }
 
 // ---- Flow: what bytes came from, and what they came to.
+
+const byteSpan = (where, offset) => ({ place: where, from: offset, past: offset + 1 });
+const wholeSpan = (where) => ({ place: where, from: 0, past: where.bytes.length });
+const runSpan = (run) => ({ place: run.place, from: run.first, past: run.first + run.count });
 
 /** The span of sources that the offsets from `from` up to `past` of a run have by one of its source spans. */
 function sourceSpan(run, span, from, past) {
@@ -241,13 +194,13 @@ function merged(spans) {
   return out;
 }
 
-/** The index of the last of the ascending numbers that is at most n. */
-function lastUpTo(n, length, numberAt) {
+/** The index of the last of the items, ascending by their numbers, whose number is at most n. */
+function lastUpTo(n, items, numberOf = (item) => item) {
   let low = 0;
-  let high = length;
+  let high = items.length;
   while (low < high) {
     const middle = (low + high) >> 1;
-    if (numberAt(middle) <= n) low = middle + 1;
+    if (numberOf(items[middle]) <= n) low = middle + 1;
     else high = middle;
   }
   return low - 1;
@@ -256,7 +209,7 @@ function lastUpTo(n, length, numberAt) {
 /** The runs of a place that have offsets of `from` up to `past`, with these offsets. */
 function* runsWithin(where, from, past) {
   const { runs } = where;
-  const start = Math.max(0, lastUpTo(from, runs.length, (k) => runs[k].first));
+  const start = Math.max(0, lastUpTo(from, runs, (run) => run.first));
   for (let i = start; i < runs.length && runs[i].first < past; i++) {
     const begin = Math.max(from, runs[i].first);
     const end = Math.min(past, runs[i].first + runs[i].count);
@@ -264,13 +217,10 @@ function* runsWithin(where, from, past) {
   }
 }
 
-const wholeSpan = (where) => ({ place: where, from: 0, past: where.bytes.length });
-const runSpan = (run) => ({ place: run.place, from: run.first, past: run.first + run.count });
-
 /** The bytes of the run that an offset is in; of an input the one byte. */
 function joinedSpan(where, offset) {
   for (const { run } of runsWithin(where, offset, offset + 1)) return runSpan(run);
-  return { place: where, from: offset, past: offset + 1 };
+  return byteSpan(where, offset);
 }
 
 /** What the bytes of a span of outputs or points came from. */
@@ -285,13 +235,11 @@ function sourcesOf({ place: where, from, past }) {
 /** What the bytes of a span of inputs came to. */
 function reachOf({ place: where, from, past }) {
   const spans = [];
-  for (const sinks of data.sinks) {
-    for (const run of sinks.runs) {
-      const moved = run.moves ? run.count - 1 : 0;
-      for (const span of run.spans) {
-        const reaches = span.place === where && span.from < past && from < span.past + moved;
-        if (reaches) spans.push(sinkSpan(run, span, from, past));
-      }
+  for (const run of data.runs) {
+    const moved = run.moves ? run.count - 1 : 0;
+    for (const span of run.spans) {
+      const reaches = span.place === where && span.from < past && from < span.past + moved;
+      if (reaches) spans.push(sinkSpan(run, span, from, past));
     }
   }
   return merged(spans);
@@ -305,12 +253,8 @@ const linkedTo = (span) => (span.place.kind === 'in' ? reachOf(span) : sourcesOf
 function recordStarts(where, how, size) {
   if (how === 'call') return where.calls.map((call) => call.first);
   const starts = [0];
-  if (how === 'line') {
-    for (let i = where.bytes.indexOf(10); i >= 0; i = where.bytes.indexOf(10, i + 1)) starts.push(i + 1);
-    if (starts.at(-1) === where.bytes.length) starts.pop();
-  } else {
-    for (let i = size; i < where.bytes.length; i += size) starts.push(i);
-  }
+  const next = (at) => (how === 'line' ? where.bytes.indexOf(10, at) + 1 : at + size) || Infinity;
+  for (let at = next(0); at < where.bytes.length; at = next(at)) starts.push(at);
   return starts;
 }
 
@@ -320,16 +264,43 @@ function usualRecords(where) {
   return lines >= where.calls.length && lines > where.bytes.length / 100 ? 'line' : 'call';
 }
 
-const recordAt = (where, offset) => lastUpTo(offset, where.records.length, (k) => where.records[k]);
-const recordEnd = (where, k) => (k + 1 < where.records.length ? where.records[k + 1] : where.bytes.length);
+const recordAt = (where, offset) => lastUpTo(offset, where.records);
+const recordEnd = (where, k) => where.records[k + 1] ?? where.bytes.length;
 const recordSpan = (where, k) => ({ place: where, from: where.records[k], past: recordEnd(where, k) });
 
-/** The parts of a run's offsets, each within one record; where the run moves, the first source span is too. */
-function* partsOf(run) {
-  const end = run.first + run.count;
-  for (let from = run.first; from < end;) {
-    let past = Math.min(end, recordEnd(run.place, recordAt(run.place, from)));
-    if (run.moves) {
+/**
+ * The parts of a place's runs that have sources, each within one record, with its source spans. Where a run moves, the
+ * first source span is within one record too.
+ */
+function* partsOf(where) {
+  for (const run of where.runs) {
+    const end = run.spans.length > 0 ? run.first + run.count : run.first;
+    for (let from = run.first, past; from < end; from = past) {
+      const record = recordAt(where, from);
+      past = Math.min(end, recordEnd(where, record));
+      if (run.moves) {
+        const source = sourceSpan(run, run.spans[0], from, from + 1);
+        past = Math.min(past, from + recordEnd(source.place, recordAt(source.place, source.from)) - source.from);
+      }
+      const sources = run.spans.map((span) => sourceSpan(run, span, from, past));
+      yield { span: { place: where, from, past }, record, moves: run.moves, sources };
+    }
+  }
+}
+
+/** For each record of an output channel the newest record of each input channel that reached it. */
+function newestRecords(where) {
+  const newest = where.records.map(() => new Map());
+  for (const { record, sources } of partsOf(where)) {
+    for (const source of sources) {
+      const last = recordAt(source.place, source.past - 1);
+      if (last > (newest[record].get(source.place) ?? -1)) newest[record].set(source.place, last);
+    }
+  }
+  return newest;
+}
+
+/** How many records before the own one of a written record a source span begins; 0 where its channel is one record. */
 "#,
     )?;
     Ok(())

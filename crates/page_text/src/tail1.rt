@@ -11,46 +11,23 @@ pub(crate) fn push(out: &mut Vec<u8>) -> Result<(), NoMemory>
     ensures { OnOk result (out.new.items ≡ out.old.items ++ tail1) }
 {
     out.extend_from_slice(
-        br#"      const source = sourceSpan(run, run.spans[0], from, from + 1);
-      past = Math.min(past, from + recordEnd(source.place, recordAt(source.place, source.from)) - source.from);
-    }
-    yield { from, past };
-    from = past;
-  }
-}
-
-/** For each record of an output channel the newest record of each input channel that reached it. */
-function newestRecords(where) {
-  const newest = where.records.map(() => new Map());
-  for (const run of where.runs) {
-    if (run.spans.length === 0) continue;
-    for (const { from, past } of partsOf(run)) {
-      const known = newest[recordAt(where, from)];
-      for (const span of run.spans) {
-        const record = recordAt(span.place, sourceSpan(run, span, from, past).past - 1);
-        if (record > (known.get(span.place) ?? -1)) known.set(span.place, record);
-      }
-    }
-  }
-  return newest;
-}
-
-/** How many records before the own one of a written record a source span begins; 0 where its channel is one record. */
-function recordsBack(where, record, source) {
+        br#"function recordsBack(where, record, source) {
   if (source.place.records.length === 1) return 0;
   return (where.own[record]?.get(source.place) ?? record) - recordAt(source.place, source.from);
 }
 
-const isOwn = (sink, source) => recordsBack(sink.place, recordAt(sink.place, sink.from), source) === 0;
-
 const numbers = (from, past) => (past - from === 1 ? `${from}` : `${from}-${past}`);
 
-/** Where in its record a source span stands, as text. */
-function textInRecord({ place: where, from, past }) {
-  const record = recordAt(where, from);
-  const last = recordAt(where, past - 1);
-  const begin = where.records[record];
-  return `${where.number}: ${last > record ? `in ${last - record + 1} records` : numbers(from - begin, past - begin)}`;
+/** Where in its record a span begins and ends. */
+function numbersInRecord({ place: where, from, past }) {
+  const begin = where.records[recordAt(where, from)];
+  return numbers(from - begin, past - begin);
+}
+
+/** The same of a source span, with its channel; of one in several records how many these are. */
+function sourceText(source) {
+  const count = recordAt(source.place, source.past - 1) - recordAt(source.place, source.from) + 1;
+  return `${source.place.number}: ${count > 1 ? `in ${count} records` : numbersInRecord(source)}`;
 }
 
 const MOST_PATTERNS = 5000;
@@ -66,29 +43,19 @@ function analyse() {
   const mixed = { in: [], out: [] };
   for (const where of data.outputs) {
     where.own = newestRecords(where);
-    for (const run of where.runs) {
-      if (run.spans.length === 0) continue;
-      for (const { from, past } of partsOf(run)) {
-        const record = recordAt(where, from);
-        const sources = run.spans.map((span) => sourceSpan(run, span, from, past));
-        const back = sources.map((source) => recordsBack(where, record, source));
-        const foreign = sources.filter((source, i) => back[i] !== 0);
-        if (foreign.length > 0) mixed.out.push({ place: where, from, past });
-        mixed.in.push(...foreign);
+    for (const { span, record, moves, sources } of partsOf(where)) {
+      const back = sources.map((source) => recordsBack(where, record, source));
+      const foreign = sources.filter((source, i) => back[i] !== 0);
+      if (foreign.length > 0) mixed.out.push(span);
+      for (const source of foreign) mixed.in.push(source);
 
-        const begin = from - where.records[record];
-        const end = past - where.records[record];
-        const cameFrom = sources.slice(0, 5).map(textInRecord);
-        const key = `${where.order} ${begin} ${end} ${cameFrom} ${back}`;
-        const known = patterns.get(key);
-        if (known) known.count++;
-        else if (patterns.size === MOST_PATTERNS) others++;
-        else {
-          const example = { place: where, from, past };
-          const isForeign = foreign.length > 0;
-          patterns.set(key, { example, begin, end, moves: run.moves, cameFrom, back, isForeign, count: 1 });
-        }
-      }
+      const at = numbersInRecord(span);
+      const cameFrom = sources.slice(0, 5).map(sourceText);
+      const key = `${where.order} ${at} ${cameFrom} ${back}`;
+      const known = patterns.get(key);
+      if (known) known.count++;
+      else if (patterns.size === MOST_PATTERNS) others++;
+      else patterns.set(key, { span, at, moves, cameFrom, back, isForeign: foreign.length > 0, count: 1 });
     }
   }
   return { patterns: [...patterns.values()], others, mixed: { in: merged(mixed.in), out: merged(mixed.out) } };
@@ -100,33 +67,28 @@ const MARKS = ['silent', 'outside', 'starts', 'foreign', 'found', 'lit', 'chosen
 const [SILENT, OUTSIDE, STARTS, FOREIGN, FOUND, LIT, CHOSEN, CURSOR] = MARKS.map((name, i) => 1 << i);
 const LOOKS = Array.from({ length: 256 }, (none, bits) => MARKS.filter((name, i) => bits & (1 << i)).join(' '));
 
-function mark({ place: where, from, past }, bit) {
-  for (let i = from; i < past && i < where.marks.length; i++) where.marks[i] |= bit;
+/** Takes bits from the marks of a span's bytes, and adds others. */
+function remark({ place: where, from, past }, taken, added) {
+  const { marks } = where;
+  for (let i = from; i < past && i < marks.length; i++) marks[i] = (marks[i] & ~taken) | added;
 }
 
-function unmark({ place: where, from, past }, bit) {
-  for (let i = from; i < past && i < where.marks.length; i++) where.marks[i] &= ~bit;
+/** Takes a mark from the spans that had it, and gives it to others, which it returns. */
+function moveMark(bit, before, after) {
+  for (const span of before) remark(span, bit, 0);
+  for (const span of after) remark(span, 0, bit);
+  return after;
 }
 
 /** Marks what never changes: bytes that no one chose, that have no source or came nowhere, and where runs begin. */
 function markRows() {
-  for (const where of data.outputs) {
-    mark(wholeSpan(where), OUTSIDE);
-    for (const run of where.runs) {
-      unmark(runSpan(run), OUTSIDE);
-      if (run.spans.length === 0) mark(runSpan(run), SILENT);
-      where.marks[run.first] |= STARTS;
-    }
-  }
-  for (const where of data.inputs) mark(wholeSpan(where), OUTSIDE);
-  for (const span of data.sources) {
-    unmark(span, OUTSIDE);
-    mark(span, SILENT);
-  }
-  for (const sinks of data.sinks) {
-    for (const run of sinks.runs) {
-      for (const span of run.spans) unmark(sourceSpan(run, span, run.first, run.first + run.count), SILENT);
-    }
+  for (const where of [...data.inputs, ...data.outputs]) remark(wholeSpan(where), 0, OUTSIDE);
+  for (const span of data.sources) remark(span, OUTSIDE, SILENT);
+  for (const run of data.runs) {
+    const sinks = runSpan(run);
+    remark(sinks, OUTSIDE, run.spans.length === 0 ? SILENT : 0);
+    remark(byteSpan(run.place, run.first), 0, STARTS);
+    for (const span of run.spans) remark(sourceSpan(run, span, sinks.from, sinks.past), SILENT, 0);
   }
 }
 
@@ -139,8 +101,9 @@ function element(name, properties = {}, ...children) {
 }
 
 const words = (name, textContent, className = '') => element(name, { textContent, className });
-const link = (textContent, onclick) => element('button', { type: 'button', className: 'link', textContent, onclick });
-const spanLink = (span) => link(spanName(span), () => go(span));
+const button = (textContent, onclick) => element('button', { type: 'button', textContent, onclick });
+const link = (text, span) => Object.assign(button(text, () => go(span)), { className: 'link' });
+const spanLink = (span) => link(spanName(span), span);
 
 function fillTable(table, caption, columns, rows) {
   const head = columns.map((textContent) => element('th', { scope: 'col', textContent }));
@@ -164,26 +127,30 @@ class Pane {
     this.heading = box.querySelector('h2 span');
     this.sizer = element('div', { className: 'sizer' });
     this.lines = element('div', { className: 'lines' });
-    this.view.append(this.sizer, this.lines);
     this.made = new Map();
-    this.view.addEventListener('scroll', () => this.draw(), { passive: true });
-    this.view.addEventListener('pointermove', (event) => this.pointed(event));
-    this.view.addEventListener('pointerleave', () => point(null));
-    this.view.addEventListener('pointerdown', (event) => this.pressed(event));
-    this.view.addEventListener('dblclick', (event) => {
+    this.view.append(this.sizer, this.lines);
+    this.listen();
+  }
+
+  listen() {
+    const { view, map } = this;
+    view.onscroll = () => this.draw();
+    view.onpointermove = (event) => this.pointed(event);
+    view.onpointerleave = () => point(null);
+    view.onpointerdown = (event) => this.pressed(event);
+    view.ondblclick = (event) => {
       const byte = this.byteUnder(event);
-      if (byte) choose(joinedSpan(byte.place, byte.offset), byte.offset);
-    });
-    this.view.addEventListener('keydown', (event) => this.key(event));
-    this.view.addEventListener('copy', (event) => {
+      if (byte) choose(joinedSpan(byte.place, byte.from), byte.from);
+    };
+    view.onkeydown = (event) => this.key(event);
+    view.oncopy = (event) => {
       event.clipboardData.setData('text/plain', reportLines());
       event.preventDefault();
-    });
-    this.map.addEventListener('pointerdown', (event) => {
-      const middle = (event.offsetY / this.map.clientHeight) * this.view.scrollHeight;
-      this.view.scrollTop = middle - this.view.clientHeight / 2;
-    });
-    new ResizeObserver(() => this.layOut()).observe(this.view);
+    };
+    map.onpointerdown = (event) => {
+      view.scrollTop = (event.offsetY / map.clientHeight) * view.scrollHeight - view.clientHeight / 2;
+    };
+    new ResizeObserver(() => this.layOut()).observe(view);
   }
 
   /** How many bytes a line of the pane has room for beside so many columns: four columns each with hex, one without. */
@@ -195,44 +162,48 @@ class Pane {
     return [128, 96, 64, 48, 32, 24, 16, 8].find((n) => n * (hex ? 4 : 1) <= columns) ?? 4;
   }
 
-  /** Finds where the lines begin: after `width` bytes and, if wanted, at each record. Each channel has a title line. */
+  /** Lays the lines out, where they are not as they were, and draws. */
   layOut() {
     const hex = byId('hex').checked;
     const longest = (nameOf) => Math.max(0, ...this.places.map((where) => nameOf(where).length)) + 1;
     const record = longest((where) => `#${where.records.length}`);
     const offset = longest((where) => byteName(where, where.bytes.length));
     const width = Number(byId('width').value) || this.fitting(hex, record + offset + 4);
-    const layout = `${width} ${hex} ${byId('broken').checked} ${this.places.map((p) => p.records.length)}`;
-    const top = this.topByte();
+    const broken = byId('broken').checked;
+    const layout = `${width} ${hex} ${broken} ${this.places.map((where) => where.records.length)}`;
     if (layout !== this.layout) {
-      let count = 0;
-      for (const where of this.places) {
-        where.firstLine = count;
-        where.starts = [];
-        const bounds = byId('broken').checked ? where.records : [0];
-        for (let k = 0; k < bounds.length; k++) {
-          const end = k + 1 < bounds.length ? bounds[k + 1] : where.bytes.length;
-          for (let at = bounds[k]; at < end; at += width) where.starts.push(at);
-        }
-        count += where.starts.length + 1;
-      }
-      this.count = count;
+      const top = this.topByte();
       this.layout = layout;
+      this.cut(width, broken);
       this.made.clear();
       this.lines.replaceChildren();
       for (const [name, columns] of Object.entries({ width, record, offset })) {
         this.lines.style.setProperty(`--${name}`, columns);
       }
-      this.sizer.style.height = `${Math.min(count * LINE, TALLEST)}px`;
-      if (top) this.scrollTo(top.place, top.offset, true);
+      this.sizer.style.height = `${Math.min(this.count * LINE, TALLEST)}px`;
+      if (top) this.scrollTo(top.place, top.from, true);
     }
     this.draw();
+  }
+
+  /** Finds where the lines begin: after `width` bytes and, if wanted, at each record. Each channel has a title line. */
+  cut(width, broken) {
+    this.count = 0;
+    for (const where of this.places) {
+      where.firstLine = this.count;
+      where.starts = [];
+      const bounds = broken ? where.records : [0];
+      bounds.forEach((bound, k) => {
+        for (let at = bound; at < (bounds[k + 1] ?? where.bytes.length); at += width) where.starts.push(at);
+      });
+      this.count += where.starts.length + 1;
+    }
   }
 
   /** Where the line stands: its place, and its number there, or -1 for the title. */
   lineAt(line) {
     const where = this.places.findLast((p) => p.firstLine <= line);
-    return where && { where, at: line - where.firstLine - 1 };
+    return { where, at: line - where.firstLine - 1 };
   }
 
   /** Browsers limit an element's height, so a very long pane scrolls by more than it is moved. */
@@ -241,14 +212,16 @@ class Pane {
     return Math.max(1, (this.count * LINE - this.view.clientHeight) / room);
   }
 
+  /** The first byte of the line at the top. */
   topByte() {
     if (!this.count) return null;
     const { where, at } = this.lineAt(Math.min(this.count - 1, Math.floor((this.view.scrollTop * this.scale) / LINE)));
-    return { place: where, offset: where.starts[Math.max(0, at)] ?? 0 };
+    return byteSpan(where, where.starts[Math.max(0, at)] ?? 0);
   }
 
   draw(forPrint = false) {
     if (!this.count) return;
+    const here = this.topByte();
     const shift = this.view.scrollTop * this.scale;
     const from = Math.max(0, Math.floor(shift / LINE) - 2);
     const past = Math.min(this.count, from + (forPrint ? PRINTED : Math.ceil(this.view.clientHeight / LINE) + 5));
@@ -264,8 +237,8 @@ class Pane {
     this.made = kept;
     if (!same) this.lines.replaceChildren(...kept.values());
     this.lines.style.transform = `translateY(${from * LINE - shift + this.view.scrollTop}px)`;
-    const here = this.topByte();
-    this.heading.textContent = here ? `channel ${here.place.number}, from byte ${decimal.format(here.offset)}` : '';
+    const heading = `channel ${here.place.number}, from byte ${decimal(here.from)}`;
+    if (this.heading.textContent !== heading) this.heading.textContent = heading;
   }
 
   makeLine(line) {
@@ -283,6 +256,37 @@ class Pane {
       words('span', byteName(where, from), 'offset'));
     const cells = (className, texts) => element('span', { className }, ...texts.map((text) => words('span', text)));
     if (byId('hex').checked) made.append(cells('hex', bytes.map((b) => b.toString(16).padStart(2, '0'))));
+    made.append(cells('text', [...shown(bytes)]));
+    made.span = { place: where, from, past };
+    return made;
+  }
+
+  paint(made) {
+    if (!made.span) return;
+    const { place: where, from } = made.span;
+    for (const group of made.querySelectorAll('.hex, .text')) {
+      let at = from;
+      for (const cell of group.children) {
+        const look = LOOKS[where.marks[at++]];
+        if (cell.className !== look) cell.className = look;
+      }
+    }
+  }
+
+  /** A strip of where in all lines the lit, the chosen and the foreign bytes stand. */
+  drawMap() {
+    const { map } = this;
+    map.width = map.clientWidth;
+    map.height = map.clientHeight;
+    const pen = map.getContext('2d');
+    const style = getComputedStyle(map);
+    const strip = (spans, color, left, width) => {
+      pen.fillStyle = style.getPropertyValue(color);
+      let bottom = -1;
+      for (const { place: where, from, past } of spans) {
+        if (!this.places.includes(where)) continue;
+        const top = Math.max(bottom, Math.floor((this.lineOf(where, from) / this.count) * map.height));
+        bottom = Math.max(top + 2, Math.ceil(((this.lineOf(where, past - 1) + 1) / this.count) * map.height));
 "#,
     )?;
     Ok(())

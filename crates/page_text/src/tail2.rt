@@ -11,66 +11,35 @@ pub(crate) fn push(out: &mut Vec<u8>) -> Result<(), NoMemory>
     ensures { OnOk result (out.new.items ≡ out.old.items ++ tail2) }
 {
     out.extend_from_slice(
-        br#"    made.append(cells('text', [...shown(bytes)]));
-    made.span = { place: where, from, past };
-    return made;
-  }
-
-  paint(made) {
-    if (!made.span) return;
-    const { place: where, from } = made.span;
-    for (const group of made.querySelectorAll('.hex, .text')) {
-      let at = from;
-      for (const cell of group.children) {
-        const look = LOOKS[where.marks[at++]];
-        if (cell.className !== look) cell.className = look;
-      }
-    }
-  }
-
-  /** A strip of where in all lines the lit, the chosen and the foreign bytes stand. */
-  drawMap() {
-    const { map } = this;
-    map.width = map.clientWidth;
-    map.height = map.clientHeight;
-    const pen = map.getContext('2d');
-    const style = getComputedStyle(map);
-    const strip = (spans, color, left, width) => {
-      pen.fillStyle = style.getPropertyValue(color);
-      let bottom = -1;
-      for (const { place: where, from, past } of spans) {
-        if (!this.places.includes(where)) continue;
-        const top = Math.max(bottom, Math.floor((this.lineOf(where, from) / this.count) * map.height));
-        bottom = Math.max(top + 2, Math.ceil(((this.lineOf(where, past - 1) + 1) / this.count) * map.height));
-        pen.fillRect(left, top, width, bottom - top);
+        br#"        pen.fillRect(left, top, width, bottom - top);
         bottom -= 1;
       }
     };
-    strip(this.side === 'in' ? mixed.in : mixed.out, '--foreign', 9, 5);
+    strip(mixed[this.side], '--foreign', 9, 5);
     strip(linked, '--lit', 0, 9);
     strip(chosen ? [chosen] : [], '--accent', 0, 9);
   }
 
   lineOf(where, offset) {
-    return where.firstLine + 1 + lastUpTo(offset, where.starts.length, (k) => where.starts[k]);
+    return where.firstLine + 1 + lastUpTo(offset, where.starts);
   }
 
   scrollTo(where, offset, toTop = false) {
+    const { view } = this;
     const top = (this.lineOf(where, offset) * LINE) / this.scale;
-    const seen = this.view.scrollTop + LINE <= top && top + 2 * LINE <= this.view.scrollTop + this.view.clientHeight;
-    if (toTop || !seen) this.view.scrollTop = toTop ? top : top - this.view.clientHeight / 3;
+    const seen = view.scrollTop + LINE <= top && top + 2 * LINE <= view.scrollTop + view.clientHeight;
+    if (toTop || !seen) view.scrollTop = toTop ? top : top - view.clientHeight / 3;
   }
 
   byteUnder(event) {
     const cell = event.target.closest?.('.hex > span, .text > span');
     const line = cell?.closest('.line');
-    if (!line) return null;
-    return { place: line.span.place, offset: line.span.from + [...cell.parentNode.children].indexOf(cell) };
+    return line ? byteSpan(line.span.place, line.span.from + [...cell.parentNode.children].indexOf(cell)) : null;
   }
 
   pointed(event) {
     const byte = this.byteUnder(event);
-    if (event.buttons === 1 && byte && byte.place === chosen?.place) extend(byte.offset);
+    if (event.buttons === 1 && byte && byte.place === chosen?.place) extend(byte.from);
     else point(byte);
   }
 
@@ -78,11 +47,9 @@ pub(crate) fn push(out: &mut Vec<u8>) -> Result<(), NoMemory>
     if (event.button !== 0) return;
     const byte = this.byteUnder(event);
     const line = event.target.closest('.line')?.span;
-    const isRecord = line && event.target.className === 'record';
-    if (isRecord) choose(recordSpan(line.place, recordAt(line.place, line.from)));
-    else if (!byte) return;
-    else if (event.shiftKey && byte.place === chosen?.place) extend(byte.offset);
-    else choose({ place: byte.place, from: byte.offset, past: byte.offset + 1 });
+    if (line && event.target.className === 'record') choose(recordSpan(line.place, recordAt(line.place, line.from)));
+    else if (byte && event.shiftKey && byte.place === chosen?.place) extend(byte.from);
+    else if (byte) choose(byte);
   }
 
   key(event) {
@@ -106,25 +73,25 @@ pub(crate) fn push(out: &mut Vec<u8>) -> Result<(), NoMemory>
   /** The offset that a key moves the cursor to, which may lie outside the channel; undefined where it moves none. */
   moved(event, where, at) {
     const { starts, bytes } = where;
-    const line = Math.max(0, lastUpTo(at, starts.length, (k) => starts[k]));
-    const end = (k) => (k + 1 < starts.length ? starts[k + 1] : bytes.length) - 1;
+    const line = Math.max(0, lastUpTo(at, starts));
+    const end = (k) => (starts[k + 1] ?? bytes.length) - 1;
     const down = (n) => {
       const next = at < 0 ? 0 : line + n;
       if (next < 0) return -1;
       return next < starts.length ? Math.min(starts[next] + Math.max(0, at - starts[line]), end(next)) : bytes.length;
     };
     const page = Math.max(1, Math.floor(this.view.clientHeight / LINE) - 2);
-    switch (event.key) {
-      case 'ArrowRight': return at + 1;
-      case 'ArrowLeft': return at - 1;
-      case 'ArrowDown': return down(1);
-      case 'ArrowUp': return down(-1);
-      case 'PageDown': return down(page);
-      case 'PageUp': return down(-page);
-      case 'Home': return event.ctrlKey ? 0 : starts[line];
-      case 'End': return event.ctrlKey ? bytes.length - 1 : end(line);
-      default: return undefined;
-    }
+    const targets = {
+      ArrowRight: at + 1,
+      ArrowLeft: at - 1,
+      ArrowDown: down(1),
+      ArrowUp: down(-1),
+      PageDown: down(page),
+      PageUp: down(-page),
+      Home: event.ctrlKey ? 0 : starts[line],
+      End: event.ctrlKey ? bytes.length - 1 : end(line),
+    };
+    return targets[event.key];
   }
 
   /** Moves the cursor to an offset of a channel, or on to the channel before or after it. */
@@ -136,7 +103,7 @@ pub(crate) fn push(out: &mut Vec<u8>) -> Result<(), NoMemory>
     }
     const inside = Math.min(where.bytes.length - 1, Math.max(0, offset));
     if (selects && where === chosen?.place) extend(inside);
-    else choose({ place: where, from: inside, past: inside + 1 });
+    else choose(byteSpan(where, inside));
     this.scrollTo(where, inside);
   }
 }
@@ -154,10 +121,8 @@ let linked = [];
 
 /** Lights what the pointed byte, or else the chosen span, came from or came to, and tells of it. */
 function light() {
-  for (const span of linked) unmark(span, LIT);
-  const span = pointedAt ? { place: pointedAt.place, from: pointedAt.offset, past: pointedAt.offset + 1 } : chosen;
-  linked = span ? linkedTo(span) : [];
-  for (const other of linked) mark(other, LIT);
+  const span = pointedAt ?? chosen;
+  linked = moveMark(LIT, linked, span ? linkedTo(span) : []);
   tell(span);
   for (const pane of panes) {
     pane.draw();
@@ -165,30 +130,28 @@ function light() {
   }
 }
 
-let waiting = false;
+let waiting = 0;
 function lightSoon() {
-  if (waiting) return;
-  waiting = true;
-  requestAnimationFrame(() => {
-    waiting = false;
+  waiting ||= requestAnimationFrame(() => {
+    waiting = 0;
     light();
   });
 }
 
 function point(byte) {
-  if (byte?.place === pointedAt?.place && byte?.offset === pointedAt?.offset) return;
+  if (byte?.place === pointedAt?.place && byte?.from === pointedAt?.from) return;
   pointedAt = byte;
   lightSoon();
 }
 
 function choose(span, at = span?.from) {
-  if (chosen) unmark(chosen, CHOSEN | CURSOR);
+  if (chosen) remark(chosen, CHOSEN | CURSOR, 0);
   chosen = span;
   pointedAt = null;
   if (span) {
     anchor = cursor = at;
-    mark(span, CHOSEN);
-    mark({ place: span.place, from: at, past: at + 1 }, CURSOR);
+    remark(span, 0, CHOSEN);
+    remark(byteSpan(span.place, at), 0, CURSOR);
   }
   lightSoon();
 }
@@ -220,9 +183,8 @@ function step(by, side) {
   if (spans.length === 0) return;
   const onSide = chosen && (chosen.place.kind === 'in') === (side === 'in');
   const from = onSide ? chosen : { place: spans[0].place, from: -1 };
-  const before = spans.filter((s) => inOrder(s, from) < 0).length;
-  const here = spans[before] && inOrder(spans[before], from) === 0;
-  go(spans.at(by > 0 ? (before + (here ? 1 : 0)) % spans.length : before - 1));
+  const next = by > 0 ? spans.find((s) => inOrder(s, from) > 0) : spans.findLast((s) => inOrder(s, from) < 0);
+  go(next ?? spans.at(by > 0 ? 0 : -1));
 }
 
 function describe(span) {
@@ -230,17 +192,16 @@ function describe(span) {
   const parts = [many(past - from, 'byte')];
   if (where.bytes.length > 0) {
     const record = recordAt(where, from);
-    const begin = where.records[record];
     parts.push(past > recordEnd(where, record) ? `records ${record} to ${recordAt(where, past - 1)}`
-      : `${past - from === 1 ? 'byte' : 'bytes'} ${numbers(from - begin, past - begin)} of record ${record}`);
-    parts.push(`${where.kind === 'in' ? 'read' : 'written'} at step ${decimal.format(timeOf(where, from))}`);
+      : `${past - from === 1 ? 'byte' : 'bytes'} ${numbersInRecord(span)} of record ${record}`);
+    parts.push(`${where.kind === 'in' ? 'read' : 'written'} at step ${decimal(timeOf(where, from))}`);
   }
   return parts.join(', ');
 }
 
 /** How many steps were done before a byte was read or written. */
 function timeOf(where, offset) {
-  return where.calls[lastUpTo(offset, where.calls.length, (k) => where.calls[k].first)].time;
+  return where.calls[lastUpTo(offset, where.calls, (call) => call.first)].time;
 }
 
 /** A query's line that asks for a span's first byte: of an input as a source, else as a sink; for all of a register. */
@@ -250,31 +211,47 @@ function queryLine({ place: where, from }) {
   return `${where.kind === 'in' ? 'source' : 'sink'} ${where.number} ${from} ${from + 1}`;
 }
 
-/** The command line that tells how a byte came there: of the first byte of a span, and the first that is lit for it. */
+/** The first byte of some spans that is in none of the others; both are in order. */
+function firstBeside(spans, others) {
+  for (const { place: where, from, past } of spans) {
+    let at = from;
+    for (const other of others) if (other.place === where && other.from <= at) at = Math.max(at, other.past);
+    if (at < past) return byteSpan(where, at);
+  }
+  return undefined;
+}
+
+/**
+ * The command line that tells how a byte came there: of the first byte of a span, and the first that is lit for it. A
+ * query asks for a register whole, and of it `path` takes the first byte that lists the source: so for a byte of a
+ * register it is a source that no byte before it has, and where each has one there is no such command.
+ */
 function pathCommand(span) {
-  const first = { place: span.place, from: span.from, past: span.from + 1 };
-  const [other] = span.past === first.past ? linked : linkedTo(first);
+  const { place: where, from } = span;
+  const others = span.past === from + 1 ? linked : linkedTo(byteSpan(where, from));
+  const other = firstBeside(others, where.kind === 'register' ? sourcesOf({ place: where, from: 0, past: from }) : []);
   if (!other) return '';
   const lines = [`rule ${data.facts.rule}`, queryLine(span), queryLine(other)];
   return `printf '${lines.join('\\n')}\\n' >path.query; jet path PROG LOG path.query`;
 }
 
+const NO_PATH = 'No query asks for the path of this byte alone: a query asks for a register whole, and bytes of it '
+  + 'before this one have the same sources, so their path would be told.';
+
 function pathLine(span) {
   const command = pathCommand(span);
-  if (command === '') return '';
-  const onclick = () => navigator.clipboard.writeText(command);
+  if (command === '') return span.place.kind === 'register' && linked.length > 0 ? words('div', NO_PATH) : '';
   return element('div', {}, 'The path of its first byte: ', words('code', command), ' ',
-    element('button', { type: 'button', textContent: 'Copy', onclick }));
+    button('Copy', () => navigator.clipboard.writeText(command)));
 }
 
 const HINT = 'Point at a byte, or choose one or several: what it came from, or came to, lights up on the other side '
   + 'and is listed here.';
 const MOST_TOLD = 40;
 
-/** Whether the source of a pair is of another record than the own one of what was written. */
-function isForeign(span, other) {
-  const [source, sink] = span.place.kind === 'in' ? [span, other] : [other, span];
-  return sink.place.kind === 'out' && !isOwn(sink, source);
+/** Whether a source span and the span that it came to are of different records, by the own one of what was written. */
+function isForeign(source, sink) {
+  return sink.place.kind === 'out' && recordsBack(sink.place, recordAt(sink.place, sink.from), source) !== 0;
 }
 
 function tell(span) {
@@ -282,9 +259,9 @@ function tell(span) {
     byId('told').replaceChildren(words('span', HINT, 'faint'));
     return;
   }
+  const isSource = span.place.kind === 'in';
   const size = linked.reduce((sum, s) => sum + s.past - s.from, 0);
-  const verb = span.place.kind === 'in' ? 'came to' : 'came from';
-  const foreign = new Map(linked.map((other) => [other, isForeign(span, other)]));
+  const foreign = new Map(linked.map((other) => [other, isSource ? isForeign(span, other) : isForeign(other, span)]));
   const told = [...linked].sort((a, b) => foreign.get(b) - foreign.get(a)).slice(0, MOST_TOLD);
   const list = told.map((other) => element('li', {},
     spanLink(other), ' ', words('code', preview(other)), ` ${describe(other)}`,
@@ -292,8 +269,8 @@ function tell(span) {
   byId('told').replaceChildren(
     element('div', {}, `${sideName(span.place)} `, words('strong', spanName(span), 'mono'), ' ',
       words('code', preview(span)), ` ${describe(span)}`),
-    words('div', size === 0 ? `${verb} nothing that is listed`
-      : `${verb} ${many(size, 'byte')} in ${many(linked.length, 'range')}:`),
+    words('div', `came ${isSource ? 'to' : 'from'} ${size === 0 ? 'nothing that is listed'
+      : `${many(size, 'byte')} in ${many(linked.length, 'range')}:`}`),
     element('ul', {}, ...list),
     linked.length > MOST_TOLD ? `and ${many(linked.length - MOST_TOLD, 'more range')}` : '',
     pathLine(span));
@@ -305,7 +282,39 @@ function reportLines() {
   const lines = [];
   for (let offset = chosen.from; offset < chosen.past && lines.length < 10000; offset++) {
     const names = [byteName(chosen.place, offset)];
-    for (const span of linkedTo({ place: chosen.place, from: offset, past: offset + 1 })) {
+    for (const span of linkedTo(byteSpan(chosen.place, offset))) {
+      for (let o = span.from; o < span.past; o++) names.push(byteName(span.place, o));
+    }
+    lines.push(`${names.join(' ')}\n`);
+  }
+  return lines.join('');
+}
+
+// ---- Search: bytes by their text or hex digits, and bytes by name.
+
+const MOST_FOUND = 100000;
+
+let found = [];
+let searched = '';
+let nextFound = 0;
+
+function findBytes(wanted) {
+  const spans = [];
+  if (wanted.length === 0) return spans;
+  for (const where of [...data.inputs, ...data.outputs]) {
+    const next = (from) => where.bytes.indexOf(wanted[0], from);
+    for (let at = next(0); at >= 0 && spans.length < MOST_FOUND; at = next(at + 1)) {
+      const isThere = wanted.every((b, i) => where.bytes[at + i] === b);
+      if (isThere) spans.push({ place: where, from: at, past: at + wanted.length });
+    }
+  }
+  return spans;
+}
+
+/** A byte `c:o` or a range `c:a-b` of a side. */
+function findNamed(places, name) {
+  const [, ...parts] = /^\s*(\d+):(\d+)(?:-(\d+))?\s*$/.exec(name) ?? [];
+  const [number, from, past = from + 1] = parts.filter((part) => part !== undefined).map(Number);
 "#,
     )?;
     Ok(())

@@ -11,64 +11,24 @@ pub(crate) fn push(out: &mut Vec<u8>) -> Result<(), NoMemory>
     ensures { OnOk result (out.new.items ≡ out.old.items ++ tail3) }
 {
     out.extend_from_slice(
-        br#"      for (let o = span.from; o < span.past; o++) names.push(byteName(span.place, o));
-    }
-    lines.push(`${names.join(' ')}\n`);
-  }
-  return lines.join('');
-}
-
-// ---- Search: bytes by their text or hex digits, and bytes by name.
-
-const MOST_FOUND = 100000;
-
-let found = [];
-
-function findBytes(wanted) {
-  const spans = [];
-  if (wanted.length === 0) return spans;
-  for (const where of [...data.inputs, ...data.outputs]) {
-    const next = (from) => where.bytes.indexOf(wanted[0], from);
-    for (let at = next(0); at >= 0 && spans.length < MOST_FOUND; at = next(at + 1)) {
-      const isThere = wanted.every((b, i) => where.bytes[at + i] === b);
-      if (isThere) spans.push({ place: where, from: at, past: at + wanted.length });
-    }
-  }
-  return spans;
-}
-
-/** A byte `c:o` or a range `c:a-b` of a side. */
-function findNamed(places, name) {
-  const match = /^\s*(\d+):(\d+)(?:-(\d+))?\s*$/.exec(name);
-  const where = match && places.find((p) => p.number === Number(match[1]));
-  const from = Number(match?.[2]);
-  const past = Number(match?.[3] ?? from + 1);
+        br#"  const where = places.find((p) => p.number === number);
   return where && from < past && past <= where.bytes.length ? [{ place: where, from, past }] : [];
 }
 
-/** The bytes that pairs of hex digits write; none where the text isn't such pairs. */
-function hexBytes(text) {
-  const isHex = /^(\s*[0-9a-f]{2})*\s*$/i.test(text);
-  return isHex ? Array.from(text.matchAll(/[0-9a-f]{2}/gi), ([pair]) => parseInt(pair, 16)) : [];
-}
-
+/** Bytes by their text, or by the pairs of hex digits that write them, or by name. */
 function wantedSpans(what, text) {
   if (what === 'text') return findBytes([...new TextEncoder().encode(text)]);
-  if (what === 'hex') return findBytes(hexBytes(text));
-  return findNamed(what === 'in' ? data.inputs : data.outputs, text);
+  if (what !== 'hex') return findNamed(what === 'in' ? data.inputs : data.outputs, text);
+  const isHex = /^(\s*[0-9a-f]{2})*\s*$/i.test(text);
+  return findBytes(isHex ? Array.from(text.matchAll(/[0-9a-f]{2}/gi), ([pair]) => parseInt(pair, 16)) : []);
 }
-
-let searched = '';
-let nextFound = 0;
 
 function findNext(event) {
   event.preventDefault();
   const what = byId('what').value;
   const text = byId('wanted').value;
   if (`${what} ${text}` !== searched) {
-    for (const span of found) unmark(span, FOUND);
-    found = wantedSpans(what, text);
-    for (const span of found) mark(span, FOUND);
+    found = moveMark(FOUND, found, wantedSpans(what, text));
     searched = `${what} ${text}`;
     nextFound = 0;
   }
@@ -82,16 +42,10 @@ function matchesText() {
   if (found.length === 0) return 'not found';
   const inputs = found.filter((s) => s.place.kind === 'in').length;
   const sides = `${many(inputs, 'input')}, ${many(found.length - inputs, 'output')}`;
-  return `${decimal.format(nextFound + 1)} of ${decimal.format(found.length)}: ${sides}`;
+  return `${decimal(nextFound + 1)} of ${decimal(found.length)}: ${sides}`;
 }
 
 // ---- The summary: the run and the query in words, records, channels and points.
-
-function countWithout(where, bits) {
-  let count = 0;
-  for (const marks of where.marks) count += (marks & bits) === 0;
-  return count;
-}
 
 const RULES = {
   copy: 'only where it is moved',
@@ -118,12 +72,19 @@ function endText() {
   return 'was cut off at its limit of steps';
 }
 
+const total = (list, size) => list.reduce((sum, each) => sum + size(each), 0);
+
+/** How many bytes of a place have none of these marks. */
+function countWithout(where, bits) {
+  let count = 0;
+  for (const marks of where.marks) count += (marks & bits) === 0;
+  return count;
+}
+
 function showFacts() {
   const { facts } = data;
-  const total = (list, size) => list.reduce((sum, each) => sum + size(each), 0);
-  const pairsOf = (run) => run.count * total(run.spans, (s) => s.past - s.from);
-  const pairs = total(data.sinks, (where) => total(where.runs, pairsOf));
-  const asked = (places) => decimal.format(total(places, (where) => countWithout(where, OUTSIDE)));
+  const pairs = total(data.runs, (run) => run.count * total(run.spans, (s) => s.past - s.from));
+  const asked = (places) => decimal(total(places, (where) => countWithout(where, OUTSIDE)));
   const counted = (name, what) => many(Number(facts[name]), what);
   byId('facts').replaceChildren(
     'By ', words('strong', `rule ${facts.rule}`), ` a byte is followed ${RULES[facts.rule]}. `,
@@ -144,7 +105,7 @@ function recordChoice(where) {
   const set = () => {
     size.hidden = how.value !== 'size';
     where.records = recordStarts(where, how.value, Math.max(1, Math.floor(Number(size.value)) || 1));
-    count.textContent = `${decimal.format(where.records.length)}: `;
+    count.textContent = `${decimal(where.records.length)}: `;
   };
   how.value = usualRecords(where);
   set();
@@ -157,25 +118,19 @@ function recordChoice(where) {
 
 function showChannels() {
   const rows = [...data.inputs, ...data.outputs].map((where) => element('tr', {},
-    element('td', {}, link(`${where.kind} ${where.number}`, () => go(wholeSpan(where)))),
-    words('td', decimal.format(where.bytes.length), 'number'),
-    words('td', decimal.format(countWithout(where, SILENT | OUTSIDE)), 'number'),
+    element('td', {}, link(`${where.kind} ${where.number}`, wholeSpan(where))),
+    words('td', decimal(where.bytes.length), 'number'),
+    words('td', decimal(countWithout(where, SILENT | OUTSIDE)), 'number'),
     recordChoice(where)));
   fillTable(byId('channels'), '', ['Channel', 'Bytes', 'With flow', 'Records'], rows);
 }
 
-function recordName(back) {
-  if (back === 0) return 'own';
-  return back > 0 ? `${decimal.format(back)} before` : `${decimal.format(-back)} after`;
-}
-
 function showRecords() {
-  for (const span of [...mixed.in, ...mixed.out]) unmark(span, FOREIGN);
-  const found = analyse();
-  mixed = found.mixed;
-  for (const span of [...mixed.in, ...mixed.out]) mark(span, FOREIGN);
+  const flows = analyse();
+  moveMark(FOREIGN, [...mixed.in, ...mixed.out], [...flows.mixed.in, ...flows.mixed.out]);
+  mixed = flows.mixed;
   showAlarm();
-  showPatterns(found);
+  showPatterns(flows);
   for (const pane of panes) pane.layOut();
   light();
 }
@@ -190,11 +145,11 @@ function countRecords(where, spans) {
 }
 
 function showAlarm() {
-  const counted = (places, side, words) => places.map((where) => [countRecords(where, mixed[side]), where])
-    .filter(([n]) => n > 0).map(([n, where]) => words(n, where)).join(' and ');
-  const written = counted(data.outputs, 'out',
-    (n, where) => `${decimal.format(n)} of ${many(where.records.length, 'record')} of output ${where.number}`);
-  const received = counted(data.inputs, 'in', (n, where) => `${many(n, 'record')} of input ${where.number}`);
+  const counted = (places, spans, text) => places.map((where) => [countRecords(where, spans), where])
+    .filter(([n]) => n > 0).map(([n, where]) => text(n, where)).join(' and ');
+  const written = counted(data.outputs, mixed.out,
+    (n, where) => `${decimal(n)} of ${many(where.records.length, 'record')} of output ${where.number}`);
+  const received = counted(data.inputs, mixed.in, (n, where) => `${many(n, 'record')} of input ${where.number}`);
   byId('alarm').className = written ? 'alarm' : '';
   byId('alarm').textContent = written
     ? `${written} hold bytes that came from another input record than their own: from ${received}.`
@@ -204,16 +159,21 @@ function showAlarm() {
 
 const PATTERNS_SHOWN = 200;
 
+function recordName(back) {
+  if (back === 0) return 'own';
+  return back > 0 ? `${decimal(back)} before` : `${decimal(-back)} after`;
+}
+
 function showPatterns({ patterns, others }) {
-  patterns.sort((a, b) => b.isForeign - a.isForeign || inOrder(a.example, b.example));
+  patterns.sort((a, b) => b.isForeign - a.isForeign || inOrder(a.span, b.span));
   const sourcesText = ({ cameFrom, moves }) => cameFrom.slice(0, 4).join(', ')
     + (cameFrom.length > 4 ? ', \u2026' : moves ? ' one by one' : '');
   const rows = patterns.slice(0, PATTERNS_SHOWN).map((p) => element('tr', { className: p.isForeign ? 'foreign' : '' },
-    words('td', p.example.place.number),
-    element('td', {}, link(numbers(p.begin, p.end), () => go(p.example))),
+    words('td', p.span.place.number),
+    element('td', {}, link(p.at, p.span)),
     words('td', sourcesText(p), 'mono'),
     words('td', [...new Set(p.back.map(recordName))].slice(0, 4).join(', ')),
-    words('td', decimal.format(p.count), 'number')));
+    words('td', decimal(p.count), 'number')));
   const caption = [`${many(patterns.length, 'pattern')} of flow from record to record`, others > 0 ? ' and more' : '',
     ', those from foreign records first', patterns.length > PATTERNS_SHOWN ? `; ${PATTERNS_SHOWN} are shown` : ''];
   fillTable(byId('patterns'), caption.join(''), ['Out', 'bytes', 'came from', 'of the record', 'times'], rows);
@@ -228,8 +188,8 @@ function showPoints() {
     + (run.moves ? ' one by one' : '') || 'nothing that is listed';
   const rows = runs.slice(0, MOST_POINTS).map((run) => element('tr', {},
     element('td', {}, spanLink(runSpan(run))), words('td', sourcesText(run), 'mono')));
-  const late = Number(data.facts.points) - runs.reduce((sum, run) => sum + run.count, 0);
-  const caption = [runs.length > MOST_POINTS ? `The first ${MOST_POINTS} of ${decimal.format(runs.length)}.` : '',
+  const late = Number(data.facts.points) - total(runs, (run) => run.count);
+  const caption = [runs.length > MOST_POINTS ? `The first ${MOST_POINTS} of ${decimal(runs.length)}.` : '',
     late > 0 ? `${many(late, 'point')} lie after the run's end.` : ''];
   fillTable(byId('points').querySelector('table'), caption.join(' '), ['Point', 'came from'], rows);
 }
