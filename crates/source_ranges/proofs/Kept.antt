@@ -1,8 +1,8 @@
 -- The ranges that a set of source bytes keeps, and their bytes. Crates above cite these lemmas.
-use Rattle.std.proofs.Common.{◌≡◌, ℕ, zero, suc, ◌+◌, ◌-◌, ◌<◌, ◌≤◌, ◌^◌, Bool, true, false, ◌==◌, List, [], ◌∷◌, ◌++◌, length, get_or, take, drop, set, map, refl, sym, ap, ap₂, ◌∙◌, subst, arith}
-use Rattle.std.specs.Prelude.{if◌then◌else◌, All, Some, slice_get}
+use Rattle.std.proofs.Common.{◌≡◌, ℕ, zero, suc, ◌+◌, ◌-◌, ◌<◌, ◌≤◌, true, false, ◌==◌, List, [], ◌∷◌, ◌++◌, length, get_or, take, set, refl, sym, ap, ap₂, ◌∙◌, subst, arith}
+use Rattle.std.specs.Prelude.{All, Some, slice_get}
 use Rattle.std.specs.Option.{option_map}
-use Rattle.std.specs.List.{flat_map, range_with_len}
+use Rattle.std.specs.List.{flat_map}
 use Rattle.std.proofs.lemmas.List.{append-nil, append_assoc, length-append, set_split, set-get_or, drop_all, take_all, take_more, nil_from_length}
 use Rattle.std.proofs.lemmas.List.Concat.{flat_map-append}
 use Rattle.std.proofs.lemmas.List.FromFn.{length-map-range_with_len}
@@ -12,8 +12,8 @@ use Rattle.source_ranges.specs.declared.SourceRange.{SourceRange}
 use Rattle.sorted_set.specs.Sets.{Ascends}
 use Rattle.flow_model.specs.Orders.{source_cmp}
 use Rattle.source_ranges.specs.Kept.{IsRange, AreKept}
-use Rattle.source_ranges.specs.RangeLaws.{EndsBefore, AreApart}
-use Rattle.source_ranges.specs.Ranges.{byte_on, bytes_of, range_of, is_just_before, with_byte, ranges_of}
+use Rattle.source_ranges.specs.RangeLaws.{AreApart}
+use Rattle.source_ranges.specs.Ranges.{byte_on, bytes_of, ranges_of}
 use Rattle.source_ranges.proofs.Longest.{bytes_from, begins, ranges_hold_bytes, ranges_alone}
 
 abbrev pub range : ℕ → ℕ → ℕ → SourceRange

@@ -1,5 +1,5 @@
 -- The ranges that a set of source bytes keeps.
-use Rattle.std.specs.Prelude.{◌<◌, ◌≤◌, ◌^◌, List, [], ◌∷◌, All}
+use Rattle.std.specs.Prelude.{◌<◌, ◌≤◌, ◌^◌, List, All}
 use Rattle.std.specs.List.{flat_map}
 use Rattle.sorted_set.specs.Sets.{Ascends}
 use Rattle.flow_model.specs.Orders.{source_cmp}

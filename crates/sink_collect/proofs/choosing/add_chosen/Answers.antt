@@ -1,4 +1,4 @@
-use Rattle.std.proofs.Common.{◌≡◌, ◌+◌, ◌++◌, List, sym, ap, ◌∙◌}
+use Rattle.std.proofs.Common.{◌+◌, ◌++◌, List, sym, ap, ◌∙◌}
 use Rattle.std.specs.List.{filter}
 use Rattle.flow_model.specs.declared.SourceByte.{SourceByte}
 use Rattle.report_model.specs.Query.{has_source}

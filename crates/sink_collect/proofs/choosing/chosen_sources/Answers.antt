@@ -1,4 +1,4 @@
-use Rattle.std.proofs.Common.{◌≡◌, sym, ap, ◌∙◌, subst}
+use Rattle.std.proofs.Common.{sym, ap, ◌∙◌, subst}
 use Rattle.std.specs.List.{filter}
 use Rattle.flow_model.specs.Orders.{source_cmp}
 use Rattle.sorted_set.specs.Sets.{Ascends}

@@ -1,4 +1,4 @@
-use Rattle.std.proofs.Common.{◌≡◌, ◌++◌}
+use Rattle.std.proofs.Common.{◌++◌}
 use Rattle.std.specs.List.{flat_map}
 use Rattle.report_model.specs.Text.{source_text}
 use Rattle.source_ranges.specs.Ranges.{bytes_of}

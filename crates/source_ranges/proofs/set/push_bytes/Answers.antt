@@ -1,4 +1,4 @@
-use Rattle.std.proofs.Common.{◌≡◌, ◌+◌, ◌++◌, ◌∷◌, [], List, sym, ap, ◌∙◌, append_assoc}
+use Rattle.std.proofs.Common.{◌+◌, ◌++◌, ◌∷◌, [], List, sym, ap, ◌∙◌, append_assoc}
 use Rattle.flow_model.specs.declared.SourceByte.{SourceByte}
 use Rattle.source_ranges.specs.Ranges.{byte_on, bytes_of}
 use Rattle.source_ranges.proofs.Kept.{range, bytes-first}

@@ -1,4 +1,4 @@
-use Rattle.std.proofs.Common.{◌≡◌, ◌∙◌}
+use Rattle.std.proofs.Common.{◌∙◌}
 use Rattle.source_ranges.proofs.Kept.{all-bytes}
 use Rattle.source_ranges.proofs.set.SourceSet.bytes.Goals as goal
 

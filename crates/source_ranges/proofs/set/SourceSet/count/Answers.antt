@@ -1,4 +1,4 @@
-use Rattle.std.proofs.Common.{◌≡◌, ◌-◌, ◌^◌, ℕ, List, length, sym, ap, ◌∙◌, arith}
+use Rattle.std.proofs.Common.{◌-◌, ◌^◌, List, length, ap, ◌∙◌, arith}
 use Rattle.std.specs.Prelude.{min}
 use Rattle.flow_model.specs.declared.SourceByte.{SourceByte}
 use Rattle.source_ranges.specs.declared.SourceRange.{SourceRange}

@@ -1,8 +1,7 @@
-use Rattle.std.proofs.Common.{◌≡◌, List, sym, ap, ap₂, ◌∙◌, true, subst}
+use Rattle.std.proofs.Common.{sym, ap, ◌∙◌}
 use Rattle.std.specs.List.{flat_map}
 use Rattle.std.specs.Cmp.Lexicographic.{pointwise}
-use Rattle.flow_model.specs.declared.SourceByte.{SourceByte}
-use Rattle.source_ranges.specs.declared.SourceRange.{SourceRange}
+
 use Rattle.source_ranges.specs.Ranges.{bytes_of, ranges_of}
 use Rattle.source_ranges.proofs.Kept.{bytes-ranges}
 use Rattle.source_ranges.proofs.Alike.{alike, same_ranges, ranges_alike}

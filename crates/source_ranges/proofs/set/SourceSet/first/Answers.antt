@@ -1,4 +1,4 @@
-use Rattle.std.proofs.Common.{◌≡◌, Option, Some, List, sym, ap, ◌∙◌}
+use Rattle.std.proofs.Common.{Some, List, sym, ap, ◌∙◌}
 use Rattle.std.specs.Prelude.{slice_get}
 use Rattle.std.specs.Option.{option_map}
 use Rattle.source_ranges.specs.declared.SourceRange.{SourceRange}

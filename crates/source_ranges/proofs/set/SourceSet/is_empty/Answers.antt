@@ -1,4 +1,4 @@
-use Rattle.std.proofs.Common.{◌≡◌, ◌==◌, List, length, ap, ◌∙◌}
+use Rattle.std.proofs.Common.{◌==◌, List, length, ap, ◌∙◌}
 use Rattle.source_ranges.specs.declared.SourceRange.{SourceRange}
 use Rattle.source_ranges.proofs.Kept.{none-ranges}
 use Rattle.source_ranges.proofs.set.SourceSet.is_empty.Goals as goal

@@ -1,8 +1,7 @@
-use Rattle.std.proofs.Common.{◌≡◌, List, sym, ap, ◌∙◌}
-use Rattle.std.specs.List.{flat_map}
-use Rattle.source_ranges.specs.declared.set.Kept.{Kept}
+use Rattle.std.proofs.Common.{sym, ap, ◌∙◌}
+
 use Rattle.source_ranges.specs.Kept.{ranges_in}
-use Rattle.source_ranges.specs.Ranges.{bytes_of, ranges_of}
+use Rattle.source_ranges.specs.Ranges.{ranges_of}
 use Rattle.source_ranges.proofs.Kept.{kept-ranges}
 use Rattle.source_ranges.proofs.set.SourceSet.ranges.Goals as goal
 

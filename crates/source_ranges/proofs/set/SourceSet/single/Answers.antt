@@ -1,4 +1,4 @@
-use Rattle.std.proofs.Common.{◌≡◌, ◌∷◌, [], List, sym, ap, ◌∙◌, arith}
+use Rattle.std.proofs.Common.{◌∷◌, [], sym, ap, ◌∙◌, arith}
 use Rattle.flow_model.specs.declared.SourceByte.{SourceByte}
 use Rattle.source_ranges.specs.declared.SourceRange.{SourceRange}
 use Rattle.source_ranges.proofs.Kept.{single-byte, not-single}
