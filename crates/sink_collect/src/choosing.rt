@@ -34,11 +34,7 @@ pub fn chosen_part(alloc: Global, query: &Query, row: &SinkSet) -> Result<SinkSe
 }
 
 /// Those of the source bytes that a query chooses.
-fn chosen_sources(
-    alloc: Global,
-    query: &Query,
-    sources: &SourceSet,
-) -> Result<SourceSet, NoMemory>
+fn chosen_sources(alloc: Global, query: &Query, sources: &SourceSet) -> Result<SourceSet, NoMemory>
     ensures { IfOk result (λ chosen. chosen ≡ filter (has_source query.now) sources.now) }
 {
     sources.form();
@@ -50,11 +46,7 @@ fn chosen_sources(
 }
 
 /// Adds those of the source bytes of a range that a query chooses.
-fn add_chosen(
-    chosen: &mut JoinedRanges,
-    query: &Query,
-    range: SourceRange,
-) -> Result<(), NoMemory>
+fn add_chosen(chosen: &mut JoinedRanges, query: &Query, range: SourceRange) -> Result<(), NoMemory>
     requires { IsRange range }
     ensures { OnOk result (chosen.new ≡ chosen.old ++ filter (has_source query.now) (bytes_of range)) }
 {

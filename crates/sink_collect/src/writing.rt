@@ -83,11 +83,7 @@ fn push_row<'a>(
     push_sources_after(out, ranges, last)?;
     let end = out.len();
     out.push(b'\n')?;
-    Ok(Listed {
-        ranges,
-        start,
-        end,
-    })
+    Ok(Listed { ranges, start, end })
 }
 
 fn push_rows(out: &mut Vec<u8>, rows: &[SinkSet]) -> Result<(), NoMemory>

@@ -1,7 +1,6 @@
 use Rattle.std.proofs.Common.{sym, ap, ◌∙◌}
 use Rattle.std.specs.List.{flat_map}
 use Rattle.std.specs.Cmp.Lexicographic.{pointwise}
-
 use Rattle.source_ranges.specs.Ranges.{bytes_of, ranges_of}
 use Rattle.source_ranges.proofs.Kept.{bytes-ranges}
 use Rattle.source_ranges.proofs.Alike.{alike, same_ranges, ranges_alike}

@@ -1,5 +1,4 @@
 use Rattle.std.proofs.Common.{sym, ap, ◌∙◌}
-
 use Rattle.source_ranges.specs.Kept.{ranges_in}
 use Rattle.source_ranges.specs.Ranges.{ranges_of}
 use Rattle.source_ranges.proofs.Kept.{kept-ranges}
