@@ -2,20 +2,18 @@
 
 ghost use Rattle.std.specs.Prelude.{◌≡◌, ◌<◌, ◌-◌, Some, length, slice_get, IfOk, IfSome};
 ghost use Rattle.epoch_model.specs.Join.{answer_to, resolved as resolved_terms, rows_of};
-ghost use Rattle.flow_model.specs.Orders.{source_cmp};
 ghost use Rattle.merge_log.specs.Log.{AreSets};
-ghost use Rattle.sorted_set.specs.Sets.{Ascends};
 ghost use Rattle.local_taint.specs.Ahead.{IsAhead};
 ghost use Rattle.local_taint.specs.Summaries.{summary_of};
 ghost use Rattle.local_taint.specs.Words.{as_terms};
 
 use crate::answers::Answers;
 use crate::resolving::resolved;
-use flow_model::SourceByte;
 use local_taint::{Asked, Summary, TermsAhead};
 use merge_log::TermsReader;
 use no_memory::NoMemory;
 use sink_collect::SinkSet;
+use source_ranges::SourceSet;
 use std::alloc::Global;
 
 /// The rows of an epoch that asked this and had these answers, in the order of its sinks. It fails only where there is
@@ -61,7 +59,7 @@ fn row(
 {
     if let Some(last) = before {
         if summary.shares_terms(number) {
-            let sources = copied(alloc, last.sources())?;
+            let sources = last.sources().copied(alloc)?;
             return Ok(SinkSet::new(summary.sink(number), sources));
         }
     }
@@ -76,22 +74,13 @@ fn sources_of(
     terms: &TermsReader,
     asked: &Asked,
     answers: &Answers,
-) -> Result<Vec<SourceByte>, NoMemory>
+) -> Result<SourceSet, NoMemory>
     requires { AreSets terms.now }
-    ensures value { IfOk result (λ all. all.items ≡ resolved_terms (answer_to asked.now answers.now) (as_terms terms.now)) }
-    ensures ascending { IfOk result (λ all. Ascends source_cmp all.items) }
+    ensures { IfOk result (λ all. all ≡ resolved_terms (answer_to asked.now answers.now) (as_terms terms.now)) }
 {
     if terms.starts().is_empty() {
-        return copied(alloc, terms.sources());
+        return SourceSet::of(alloc, terms.sources());
     }
-    resolved(alloc, terms, asked, answers)
-}
-
-/// The same source bytes, in no more room than they need.
-fn copied(alloc: Global, sources: &[SourceByte]) -> Result<Vec<SourceByte>, NoMemory>
-    ensures { IfOk result (λ copy. copy.items ≡ sources.now) }
-{
-    let mut copy = Vec::with_capacity(alloc, sources.len())?;
-    copy.extend_from_slice(sources)?;
-    Ok(copy)
+    let all = resolved(alloc, terms, asked, answers)?;
+    SourceSet::of(alloc, &all)
 }

@@ -3,11 +3,12 @@
 ghost use Rattle.std.specs.Prelude.{◌≡◌, IfOk};
 
 use flow_model::{InnerSink, Loc, SinkByte, SinkPoint, SourceByte};
+use no_memory::NoMemory;
 use range_report::shown;
 use replay_log::{Log, read_log};
 use sink_collect::{Report, SinkSet, gather};
-use source_ranges::{push_range, ranges_of};
-use std::alloc::{AllocError, Global};
+use source_ranges::{SourceSet, push_range, ranges_of};
+use std::alloc::Global;
 use std::process::Abort;
 use std::test::Fail;
 
@@ -74,7 +75,7 @@ enum From {
 }
 
 /// The set of an output byte or a point.
-fn set(alloc: Global, sink: SinkPoint, from: From) -> Result<SinkSet, AllocError>
+fn set(alloc: Global, sink: SinkPoint, from: From) -> Result<SinkSet, NoMemory>
     ensures { IfOk result (λ s. s.sink ≡ sink) }
 {
     let mut sources = Vec::new(alloc);
@@ -91,7 +92,7 @@ fn set(alloc: Global, sink: SinkPoint, from: From) -> Result<SinkSet, AllocError
             offset: 0,
         })?,
     }
-    Ok(SinkSet::new(sink, sources))
+    Ok(SinkSet::new(sink, SourceSet::of(alloc, &sources)?))
 }
 
 /// The output bytes of channel 1, and the first of channel 2.

@@ -5,14 +5,16 @@ ghost use Rattle.sorted_set.specs.Sets.{Ascends};
 ghost use Rattle.flow_model.specs.Orders.{source_cmp};
 
 use flow_model::{InnerSink, Loc, SinkByte, SinkPoint, SourceByte};
+use no_memory::NoMemory;
 use query_lang::{Query, parse};
 use sink_collect::{Report, SinkSet, gather, influence_text, text, turn_round};
+use source_ranges::SourceSet;
 use std::alloc::{AllocError, Global};
 use std::process::Abort;
 use std::test::Fail;
 
 /// The set of an output byte or a point, with one source byte on each of the channels 0 and 15, or with none.
-fn set(alloc: Global, sink: SinkPoint, source: Option<u32>) -> Result<SinkSet, AllocError>
+fn set(alloc: Global, sink: SinkPoint, source: Option<u32>) -> Result<SinkSet, NoMemory>
     ensures { IfOk result (λ s. s.sink ≡ sink) }
 {
     let mut sources = Vec::new(alloc);
@@ -23,7 +25,7 @@ fn set(alloc: Global, sink: SinkPoint, source: Option<u32>) -> Result<SinkSet, A
             offset: 2,
         })?;
     }
-    Ok(SinkSet::new(sink, sources))
+    Ok(SinkSet::new(sink, SourceSet::of(alloc, &sources)?))
 }
 
 const EARLY: SinkPoint = SinkPoint::Out(SinkByte {

@@ -16,6 +16,7 @@ use replay_log::Log;
 use replayer::Job;
 use run_output::{Way, push_number, summary_text};
 use sink_collect::Report;
+use source_ranges::ranges_of;
 use std::alloc::Global;
 
 /// Appends the digest of the program, and the run's numbers.
@@ -36,7 +37,12 @@ fn push_run(alloc: Global, out: &mut Vec<u8>, job: &Job) -> Result<(), NoMemory>
 
 /// Appends what is told of a query that chooses these source bytes.
 #[tactic(auto, unfolding(page_model::specs::Data::asked_text))]
-fn push_query(out: &mut Vec<u8>, query: &Query, sources: &[SourceByte]) -> Result<(), NoMemory>
+fn push_query(
+    alloc: Global,
+    out: &mut Vec<u8>,
+    query: &Query,
+    sources: &[SourceByte],
+) -> Result<(), NoMemory>
     ensures { OnOk result (out.new.items ≡ out.old.items ++ asked_text (record {
       rule = query.now.rule;
       points = length query.now.points;
@@ -48,7 +54,8 @@ fn push_query(out: &mut Vec<u8>, query: &Query, sources: &[SourceByte]) -> Resul
     out.push(b'\n')?;
     push_number(out, b"points", query.points().len() as u64)?;
     out.extend_from_slice(b"sources")?;
-    push_ranges(out, sources)?;
+    let ranges = ranges_of(alloc, sources)?;
+    push_ranges(out, &ranges)?;
     out.push(b'\n')?;
     Ok(())
 }
@@ -71,7 +78,7 @@ fn push_told(alloc: Global, out: &mut Vec<u8>, job: &Job, query: &Query) -> Resu
 {
     let sources = sources_of(alloc, job, query)?;
     push_run(alloc, out, job)?;
-    push_query(out, query, &sources)?;
+    push_query(alloc, out, query, &sources)?;
     push_moved(alloc, out, job.log())
 }
 

@@ -1,23 +1,25 @@
 //! The rows of a report, as a page has them.
 
-ghost use Rattle.std.specs.Prelude.{◌≡◌, ◌++◌, OnOk, Some};
+ghost use Rattle.std.specs.Prelude.{◌≡◌, ◌++◌, ◌↔◌, IsTrue, OnOk, Some};
+ghost use Rattle.std.specs.List.{flat_map};
 ghost use Rattle.page_model.specs.Rows.{
-  ranges_text,
+  range_word,
   is_next_address,
   is_next,
-  is_moved as is_moved_by,
   are_moved as are_moved_by,
   goes_on as goes_on_by,
   whole_row,
   row_after,
   joined_rows,
 };
+ghost use Rattle.source_ranges.specs.Kept.{IsRange};
+ghost use Rattle.page_data.specs.Moved.{range_moved};
 
-use flow_model::{Loc, SinkPoint, SourceByte};
+use flow_model::{Loc, SinkPoint};
 use no_memory::NoMemory;
 use printed_names::push_point;
 use sink_collect::SinkSet;
-use source_ranges::{push_range, split_first_range};
+use source_ranges::{SourceRange, SourceSet, push_range};
 
 /// Whether the second location is the next address.
 fn is_next_address(first: Loc, second: Loc) -> bool
@@ -45,23 +47,28 @@ fn is_next(first: SinkPoint, second: SinkPoint) -> bool
     }
 }
 
-/// Whether the second source byte is the first, so much further on.
-fn is_moved(by: u32, first: SourceByte, second: SourceByte) -> bool
-    ensures { result ≡ is_moved_by by first second }
+/// Whether the second range is the first, so much further on.
+fn is_moved(by: u32, first: SourceRange, second: SourceRange) -> bool
+    requires first { IsRange first }
+    requires second { IsRange second }
+    ensures { IsTrue result ↔ (second ≡ range_moved by first) }
 {
+    let by = u64::from(by);
     first.channel == second.channel
-        && u64::from(first.offset) + u64::from(by) == u64::from(second.offset)
+        && first.from + by == second.from
+        && first.past + by == second.past
 }
 
-/// Whether the second source bytes are the first, each so much further on.
-fn are_moved(by: u32, before: &[SourceByte], now: &[SourceByte]) -> bool
+/// Whether the second source bytes are the first, each so much further on: whether their ranges are.
+fn are_moved(by: u32, before: &SourceSet, now: &SourceSet) -> bool
     ensures { result ≡ are_moved_by by before.now now.now }
 {
-    if before.len() != now.len() {
+    let (first, second) = (before.ranges(), now.ranges());
+    if first.len() != second.len() {
         return false;
     }
-    for i in 0..now.len() {
-        if !is_moved(by, before[i], now[i]) {
+    for i in 0..first.len() {
+        if !is_moved(by, first[i], second[i]) {
             return false;
         }
     }
@@ -75,15 +82,13 @@ fn goes_on(by: u32, before: &SinkSet, row: &SinkSet) -> bool
     is_next(before.sink(), row.sink()) && are_moved(by, before.sources(), row.sources())
 }
 
-/// Appends source bytes as ranges, each after a blank.
-pub(crate) fn push_ranges(out: &mut Vec<u8>, sources: &[SourceByte]) -> Result<(), NoMemory>
-    ensures { OnOk result (out.new.items ≡ out.old.items ++ ranges_text sources.now) }
+/// Appends ranges, each after a blank.
+pub(crate) fn push_ranges(out: &mut Vec<u8>, ranges: &[SourceRange]) -> Result<(), NoMemory>
+    ensures { OnOk result (out.new.items ≡ out.old.items ++ flat_map range_word ranges.now) }
 {
-    let mut left = sources;
-    while let Some((range, rest)) = split_first_range(left) {
+    for range in ranges {
         out.push(b' ')?;
-        push_range(out, range)?;
-        left = rest;
+        push_range(out, *range)?;
     }
     Ok(())
 }
@@ -93,7 +98,7 @@ fn push_whole(out: &mut Vec<u8>, row: &SinkSet) -> Result<(), NoMemory>
     ensures { OnOk result (out.new.items ≡ out.old.items ++ whole_row row.now) }
 {
     push_point(out, row.sink())?;
-    push_ranges(out, row.sources())?;
+    push_ranges(out, row.sources().ranges())?;
     out.push(b'\n')?;
     Ok(())
 }

@@ -12,11 +12,10 @@ pub fn first_pair(rows: &[SinkSet]) -> Option<Pair>
     ensures { result ≡ first_of_rows rows.now }
 {
     for row in rows {
-        let sources = row.sources();
-        if !sources.is_empty() {
+        if let Some(source) = row.sources().first() {
             return Some(Pair {
                 sink: row.sink(),
-                source: sources[0],
+                source,
             });
         }
     }

@@ -255,17 +255,13 @@ alike-same (x ∷ xs) (y ∷ ys) = ap (λ (b : Bool). (alike x y) && b) (alike-s
 pub same-sources : (xs ys : List SourceByte) → same_sources xs ys ≡ true → xs ≡ ys
 same-sources xs ys h = equal_sources xs ys (alike-same xs ys ∙ h)
 
--- what the derived test answers of two lists that differ, or don't
-not_true : (b : Bool) → not b ≡ true → b ≡ false
-not_true true h = sym h
-not_true false h = refl
+-- lists that differ, or don't
+pub differ : (xs ys : List SourceByte) → (xs ≡ ys → ⊥) → same_sources xs ys ≡ false
+differ xs ys other = by (same_sources xs ys) refl
+  where
+    by : (b : Bool) → same_sources xs ys ≡ b → b ≡ false
+    by true e = absurd (other (same-sources xs ys e))
+    by false e = refl
 
-not_false : (b : Bool) → not b ≡ false → b ≡ true
-not_false true h = refl
-not_false false h = sym h
-
-pub differ : (xs ys : List SourceByte) (r : Bool) → r ≡ not (pointwise alike xs ys) → r ≡ true → same_sources xs ys ≡ false
-differ xs ys r is h = sym (alike-same xs ys) ∙ not_true (pointwise alike xs ys) (sym is ∙ h)
-
-pub agree : (xs ys : List SourceByte) (r : Bool) → r ≡ not (pointwise alike xs ys) → r ≡ false → same_sources xs ys ≡ true
-agree xs ys r is h = sym (alike-same xs ys) ∙ not_false (pointwise alike xs ys) (sym is ∙ h)
+pub agree : (xs ys : List SourceByte) → xs ≡ ys → same_sources xs ys ≡ true
+agree xs ys e = ap (same_sources xs) (sym e) ∙ same_itself xs

@@ -8,13 +8,12 @@ ghost use Rattle.range_report.specs.OpenRuns.{rows_moved, rows_of, IsOpen};
 use crate::channels::{byte_at, part};
 use crate::moved::MovedBytes;
 use crate::runs::{MovedRun, Origin, Run, above};
-use flow_model::SourceByte;
 use itoa::Buffer;
 use no_memory::NoMemory;
 use printed_names::{push_point, push_quoted};
 use range_model::RunKind;
 use sink_collect::SinkSet;
-use source_ranges::{SourceRange, push_range, push_span, split_first_range};
+use source_ranges::{SourceRange, SourceSet, push_range, push_span};
 
 /// Appends a blank, a range, a blank, and the bytes that were received there.
 fn push_part(out: &mut Vec<u8>, moved: &MovedBytes<'_>, range: SourceRange) -> Result<(), NoMemory>
@@ -31,15 +30,13 @@ fn push_part(out: &mut Vec<u8>, moved: &MovedBytes<'_>, range: SourceRange) -> R
 fn push_parts(
     out: &mut Vec<u8>,
     moved: &MovedBytes<'_>,
-    sources: &[SourceByte],
+    sources: &SourceSet,
 ) -> Result<(), NoMemory>
     ensures { OnOk result
         (out.new.items ≡ out.old.items ++ ranges_part moved.now.calls.now sources.now) }
 {
-    let mut left = sources;
-    while let Some((range, rest)) = split_first_range(left) {
-        push_part(out, moved, range)?;
-        left = rest;
+    for range in sources.ranges() {
+        push_part(out, moved, *range)?;
     }
     Ok(())
 }

@@ -9,10 +9,11 @@ ghost use Rattle.range_report.specs.Steps.{IsOpenIfAny, IsTaken, lines_left, cou
 use crate::lines::{push_end, push_row, push_run};
 use crate::moved::MovedBytes;
 use crate::runs::{Run, go_on};
-use flow_model::{SinkByte, SinkPoint, SourceByte};
+use flow_model::{SinkByte, SinkPoint};
 use no_memory::NoMemory;
 use replay_log::Log;
 use sink_collect::{Report, SinkSet};
+use source_ranges::SourceSet;
 use std::alloc::Global;
 
 /// The run that is open, if one is, and how many lines were told before it.
@@ -23,7 +24,7 @@ pub struct Told<'a> {
 }
 
 /// The output byte of a row that is of one and has a source, and its source bytes.
-fn output_of(row: &SinkSet) -> Option<(SinkByte, &[SourceByte])>
+fn output_of(row: &SinkSet) -> Option<(SinkByte, &SourceSet)>
     ensures { MatchOption result ((is_output row.now.sink && has_any row.now.sources) ≡ false)
         (λ parts. ((is_output row.now.sink && has_any row.now.sources) ≡ true)
         × (row.now ≡ row_with parts.0 parts.1.now)) }

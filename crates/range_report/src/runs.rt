@@ -9,6 +9,7 @@ ghost use Rattle.range_report.specs.OpenRuns.{row, rows_of, IsOpen, GoesOn, IsOr
 ghost use Rattle.range_report.specs.Steps.{IsOpenIfAny, IsStep};
 
 use flow_model::{SinkByte, SourceByte};
+use source_ranges::SourceSet;
 
 /// Rows of neighbouring output bytes, each from one source byte: the first from this one, and so on.
 #[derive(Clone, Copy)]
@@ -24,14 +25,14 @@ pub enum Run<'a> {
     /// One row.
     One {
         byte: SinkByte,
-        sources: &'a [SourceByte],
+        sources: &'a SourceSet,
     },
     /// Two rows or more, each from one source byte.
     Moved(MovedRun),
     /// Two rows or more, each from these source bytes.
     Shared {
         first: SinkByte,
-        sources: &'a [SourceByte],
+        sources: &'a SourceSet,
         length: u64,
     },
 }
@@ -42,7 +43,7 @@ pub enum Origin<'a> {
     /// Each from one source byte.
     Moved(MovedRun),
     /// Each from these source bytes.
-    Shared(&'a [SourceByte]),
+    Shared(&'a SourceSet),
 }
 
 /// The offset that is so far above another.
@@ -65,37 +66,35 @@ fn sink_follows(byte: SinkByte, first: SinkByte, by: u64) -> bool
 }
 
 /// Whether source bytes are one alone, the next of the one that is so far above the first.
-fn source_follows(sources: &[SourceByte], first: SourceByte, by: u64) -> bool
+fn source_follows(sources: &SourceSet, first: SourceByte, by: u64) -> bool
     requires { by ≤ 2 ^ 32 }
     ensures { result ≡
         is_next_source (byte_on first.channel (first.offset + by) ∷ []) sources.now }
 {
-    match sources {
-        [source] => {
+    match sources.single() {
+        Some(source) => {
             source.channel == first.channel
                 && u64::from(source.offset) == above(first.offset, by) + 1
         }
-        _ => false,
+        None => false,
     }
 }
 
 /// The one source byte of the first of two rows, where that of the second is the next.
-fn moved_source(own: &[SourceByte], sources: &[SourceByte]) -> Option<SourceByte>
+fn moved_source(own: &SourceSet, sources: &SourceSet) -> Option<SourceByte>
     ensures { MatchOption result (is_next_source own.now sources.now ≡ false)
         (λ source. (own.now ≡ source ∷ []) × (is_next_source own.now sources.now ≡ true)) }
 {
-    match own {
-        [source] => source_follows(sources, *source, 0).then_some(*source),
-        _ => None,
-    }
+    let source = own.single()?;
+    source_follows(sources, source, 0).then_some(source)
 }
 
 /// Two rows as a run, where they are one.
 fn run_of_two<'a>(
     first: SinkByte,
-    own: &'a [SourceByte],
+    own: &'a SourceSet,
     byte: SinkByte,
-    sources: &'a [SourceByte],
+    sources: &'a SourceSet,
 ) -> Option<Run<'a>>
     ensures { GoesOn (Run.One first own.entry) (row byte sources.now) result }
 {
@@ -109,7 +108,7 @@ fn run_of_two<'a>(
             length: 2,
         }));
     }
-    if own != sources {
+    if !own.equals(sources) {
         return None;
     }
     Some(Run::Shared {
@@ -121,7 +120,7 @@ fn run_of_two<'a>(
 
 impl<'a> Run<'a> {
     /// The run with one more row, where that goes on from it.
-    pub fn with(self, byte: SinkByte, sources: &'a [SourceByte]) -> Option<Run<'a>>
+    pub fn with(self, byte: SinkByte, sources: &'a SourceSet) -> Option<Run<'a>>
         requires { IsOpen self }
         ensures { GoesOn self.entry (row byte sources.now) result }
     {
@@ -178,21 +177,21 @@ impl<'a> Run<'a> {
 }
 
 /// Where the byte of one row came from.
-fn origin_of_one(byte: SinkByte, sources: &[SourceByte]) -> Origin<'_>
+fn origin_of_one(byte: SinkByte, sources: &SourceSet) -> Origin<'_>
     ensures { IsOriginOf (row byte sources.now ∷ []) result }
 {
-    match sources {
-        [source] => Origin::Moved(MovedRun {
+    match sources.single() {
+        Some(source) => Origin::Moved(MovedRun {
             first: byte,
-            source: *source,
+            source,
             length: 1,
         }),
-        _ => Origin::Shared(sources),
+        None => Origin::Shared(sources),
     }
 }
 
 /// A moved run with one more row, where that goes on from it.
-fn moved_with<'a>(run: MovedRun, byte: SinkByte, sources: &'a [SourceByte]) -> Option<Run<'a>>
+fn moved_with<'a>(run: MovedRun, byte: SinkByte, sources: &'a SourceSet) -> Option<Run<'a>>
     requires { IsOpen (Run.Moved run) }
     ensures { GoesOn (Run.Moved run) (row byte sources.now) result }
 {
@@ -209,15 +208,15 @@ fn moved_with<'a>(run: MovedRun, byte: SinkByte, sources: &'a [SourceByte]) -> O
 /// A run of these source bytes with one more row, where that goes on from it.
 fn shared_with<'a>(
     first: SinkByte,
-    own: &'a [SourceByte],
+    own: &'a SourceSet,
     length: u64,
     byte: SinkByte,
-    sources: &'a [SourceByte],
+    sources: &'a SourceSet,
 ) -> Option<Run<'a>>
     requires { IsOpen (Run.Shared first own length) }
     ensures { GoesOn (Run.Shared first own.entry length) (row byte sources.now) result }
 {
-    if !sink_follows(byte, first, length - 1) || own != sources {
+    if !sink_follows(byte, first, length - 1) || !own.equals(sources) {
         return None;
     }
     Some(Run::Shared {
@@ -235,7 +234,7 @@ pub struct Step<'a> {
 }
 
 /// The run that is open, if one is, with one more row; or that run, done, and the row as one.
-pub fn go_on<'a>(last: Option<Run<'a>>, byte: SinkByte, sources: &'a [SourceByte]) -> Step<'a>
+pub fn go_on<'a>(last: Option<Run<'a>>, byte: SinkByte, sources: &'a SourceSet) -> Step<'a>
     requires { IsOpenIfAny last }
     ensures { IsStep last.entry (row byte sources.now) result }
 {

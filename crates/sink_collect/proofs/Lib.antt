@@ -3,3 +3,4 @@ mod Arranging
 mod Search
 mod Moving
 mod Reaching
+mod Stretches

@@ -1,15 +1,18 @@
 //! What of a row a query chooses.
 
-ghost use Rattle.std.specs.Prelude.{◌≡◌, IfOk};
+ghost use Rattle.std.specs.Prelude.{◌≡◌, ◌++◌, IfOk, OnOk};
 ghost use Rattle.std.specs.List.{filter};
 ghost use Rattle.report_model.specs.Query.{has_source, has_sink};
 ghost use Rattle.sink_collect.specs.Own.{own_part};
+ghost use Rattle.source_ranges.specs.Kept.{IsRange};
+ghost use Rattle.source_ranges.specs.Ranges.{bytes_of};
 
 use crate::sets::SinkSet;
 use flow_model::{SinkPoint, SourceByte};
 use no_memory::NoMemory;
 use query_lang::Query;
 use sorted_set::contains;
+use source_ranges::{JoinedRanges, SourceRange, SourceSet};
 use std::alloc::Global;
 
 /// Whether a query chooses an output byte or a point.
@@ -31,18 +34,34 @@ pub fn chosen_part(alloc: Global, query: &Query, row: &SinkSet) -> Result<SinkSe
 }
 
 /// Those of the source bytes that a query chooses.
-fn chosen_sources(
-    alloc: Global,
-    query: &Query,
-    sources: &[SourceByte],
-) -> Result<Vec<SourceByte>, NoMemory>
-    ensures { IfOk result (λ chosen. chosen.items ≡ filter (has_source query.now) sources.now) }
+fn chosen_sources(alloc: Global, query: &Query, sources: &SourceSet) -> Result<SourceSet, NoMemory>
+    ensures { IfOk result (λ chosen. chosen ≡ filter (has_source query.now) sources.now) }
 {
-    let mut chosen = Vec::new(alloc);
-    for source in sources {
-        if query.source_has(*source) {
-            chosen.push(*source)?;
+    sources.form();
+    let mut chosen = JoinedRanges::new(alloc);
+    for range in sources.ranges() {
+        add_chosen(&mut chosen, query, *range)?;
+    }
+    Ok(chosen.into_set())
+}
+
+/// Adds those of the source bytes of a range that a query chooses.
+fn add_chosen(chosen: &mut JoinedRanges, query: &Query, range: SourceRange) -> Result<(), NoMemory>
+    requires { IsRange range }
+    ensures { OnOk result (chosen.new ≡ chosen.old ++ filter (has_source query.now) (bytes_of range)) }
+{
+    for offset in range.from..range.past {
+        let source = SourceByte {
+            channel: range.channel,
+            offset: offset as u32,
+        };
+        if query.source_has(source) {
+            chosen.push(SourceRange {
+                from: offset,
+                past: offset + 1,
+                ..range
+            })?;
         }
     }
-    Ok(chosen)
+    Ok(())
 }

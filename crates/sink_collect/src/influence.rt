@@ -110,7 +110,7 @@ pub fn turn_round(
 {
     let mut reaches = unreached(alloc, &sources)?;
     for row in report.rows() {
-        add_row(&mut reaches, &sources, row)?;
+        add_row(alloc, &mut reaches, &sources, row)?;
     }
     Ok(Influence { reaches })
 }
@@ -128,6 +128,7 @@ fn unreached(alloc: Global, sources: &[SourceByte]) -> Result<Vec<SourceReach>, 
 
 /// Adds a row's output byte or point to each of the source bytes that the row lists.
 fn add_row(
+    alloc: Global,
     reaches: &mut [SourceReach],
     sources: &[SourceByte],
     row: &SinkSet,
@@ -136,7 +137,8 @@ fn add_row(
     requires same { map (λ r. r.source) reaches.old ≡ sources.now }
     ensures { OnOk result (reaches.new ≡ map (with_row row.now) reaches.old) }
 {
-    for source in row.sources() {
+    let listed = row.sources().bytes(alloc)?;
+    for source in &listed {
         if let Ok(place) = sources.binary_search(source) {
             reaches[place].push(row.sink())?;
         }

@@ -52,7 +52,7 @@ impl Report {
     {
         let mut count = 0u64;
         for row in self.rows.as_slice() {
-            count = count.saturating_add(row.sources().len() as u64);
+            count = count.saturating_add(row.sources().count());
         }
         count
     }

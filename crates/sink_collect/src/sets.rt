@@ -4,33 +4,29 @@ ghost use Rattle.std.specs.Prelude.{◌≡◌};
 ghost use Rattle.sorted_set.specs.Sets.{Ascends};
 ghost use Rattle.flow_model.specs.Orders.{source_cmp};
 
-use flow_model::{SinkPoint, SourceByte};
+use flow_model::SinkPoint;
+use source_ranges::SourceSet;
 use std::marker::Model;
 
 /// An output byte or a point with its source bytes, which ascend by channel and then offset, each once.
 #[derive(Drop)]
 pub struct SinkSet {
     sink: SinkPoint,
-    sources: Vec<SourceByte>,
+    sources: SourceSet,
 }
 
 impl Model for SinkSet {
     ghost use Rattle.report_model.specs.Rows.{Row};
-    ghost use Rattle.sorted_set.specs.Sets.{Ascends};
-    ghost use Rattle.flow_model.specs.Orders.{source_cmp};
 
     ghost Value = { Row };
 
-    ghost view = { λ s. record { sink = s.sink; sources = s.sources.items } };
-
-    ghost invariant = { λ s. Ascends source_cmp s.sources.items };
+    ghost view = { λ s. record { sink = s.sink; sources = s.sources } };
 }
 
 impl SinkSet {
     /// The set of an output byte or a point. It takes no memory.
-    pub fn new(sink: SinkPoint, sources: Vec<SourceByte>) -> SinkSet
-        requires { Ascends source_cmp sources.items }
-        ensures { result ≡ record { sink = sink; sources = sources.items } }
+    pub fn new(sink: SinkPoint, sources: SourceSet) -> SinkSet
+        ensures { result ≡ record { sink = sink; sources = sources } }
     {
         SinkSet { sink, sources }
     }
@@ -43,11 +39,12 @@ impl SinkSet {
     }
 
     /// Its source bytes.
-    pub fn sources(&self) -> &[SourceByte]
+    pub fn sources(&self) -> &SourceSet
         ensures value { result.now ≡ self.now.sources }
         ensures ascending { Ascends source_cmp self.now.sources }
     {
-        self.sources.as_slice()
+        self.sources.form();
+        &self.sources
     }
 }
 

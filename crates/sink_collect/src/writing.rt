@@ -1,54 +1,70 @@
 //! The texts of a report and of an influence.
 
-ghost use Rattle.std.specs.Prelude.{◌≡◌, ◌++◌, ◌∷◌, [], codes, length, take, IfOk, OnOk};
+ghost use Rattle.std.specs.Prelude.{◌≡◌, ◌++◌, ◌∷◌, [], codes, length, take, All, IfOk, OnOk};
 ghost use Rattle.std.specs.List.{flat_map};
 ghost use Rattle.std.specs.Fmt.{decimal};
 ghost use Rattle.report_model.specs.Text.{source_text, row_text, report_text};
 ghost use Rattle.report_model.specs.Influence.{sink_text, reach_text, influence_text as text_of_influence};
 ghost use Rattle.sink_collect.specs.Listed.{Lists};
+ghost use Rattle.source_ranges.specs.Kept.{IsRange};
+ghost use Rattle.source_ranges.specs.Ranges.{bytes_of};
 
 use crate::influence::{Influence, SourceReach};
 use crate::report::Report;
 use crate::sets::SinkSet;
-use flow_model::{SinkPoint, SourceByte};
+use flow_model::SinkPoint;
 use itoa::Buffer;
 use no_memory::NoMemory;
 use printed_names::{push_byte, push_point};
+use source_ranges::SourceRange;
 use std::alloc::Global;
 
-/// Appends a blank and the name of each source byte.
-fn push_sources(out: &mut Vec<u8>, sources: &[SourceByte]) -> Result<(), NoMemory>
-    ensures { OnOk result (out.new.items ≡ out.old.items ++ flat_map source_text sources.now) }
+/// Appends a blank and the name of each source byte of a range.
+fn push_names(out: &mut Vec<u8>, range: SourceRange) -> Result<(), NoMemory>
+    requires { IsRange range }
+    ensures { OnOk result (out.new.items ≡ out.old.items ++ flat_map source_text (bytes_of range)) }
 {
-    for source in sources {
+    for offset in range.from..range.past {
         out.push(b' ')?;
-        push_byte(out, source.channel, source.offset)?;
+        push_byte(out, range.channel, offset as u32)?;
     }
     Ok(())
 }
 
-/// Source bytes, and where in a text their names stand, each after a blank.
+/// Appends a blank and the name of each source byte of ranges.
+fn push_sources(out: &mut Vec<u8>, ranges: &[SourceRange]) -> Result<(), NoMemory>
+    requires { All IsRange ranges.now }
+    ensures { OnOk result (out.new.items ≡ out.old.items ++ flat_map source_text (flat_map bytes_of ranges.now)) }
+{
+    for range in ranges {
+        push_names(out, *range)?;
+    }
+    Ok(())
+}
+
+/// Ranges of source bytes, and where in a text the names of these stand, each after a blank.
 #[derive(Clone, Copy)]
 struct Listed<'a> {
-    sources: &'a [SourceByte],
+    ranges: &'a [SourceRange],
     start: usize,
     end: usize,
 }
 
-/// Appends a blank and the name of each source byte. The names of those that were listed last are copied.
+/// Appends a blank and the name of each source byte of ranges. The names of those that were listed last are copied.
 fn push_sources_after(
     out: &mut Vec<u8>,
-    sources: &[SourceByte],
+    ranges: &[SourceRange],
     last: Listed<'_>,
 ) -> Result<(), NoMemory>
-    requires { Lists out.old.items last }
-    ensures { OnOk result (out.new.items ≡ out.old.items ++ flat_map source_text sources.now) }
+    requires listed { Lists out.old.items last }
+    requires fits { All IsRange ranges.now }
+    ensures { OnOk result (out.new.items ≡ out.old.items ++ flat_map source_text (flat_map bytes_of ranges.now)) }
 {
-    if sources == last.sources {
+    if ranges == last.ranges {
         out.extend_from_within(last.start..last.end)?;
         return Ok(());
     }
-    push_sources(out, sources)
+    push_sources(out, ranges)
 }
 
 /// Appends the line of an output byte or a point, where these source bytes were listed last. Its own are so afterwards.
@@ -62,23 +78,19 @@ fn push_row<'a>(
     ensures listed { IfOk result (Lists out.new.items) }
 {
     push_point(out, set.sink())?;
-    let sources = set.sources();
+    let ranges = set.sources().ranges();
     let start = out.len();
-    push_sources_after(out, sources, last)?;
+    push_sources_after(out, ranges, last)?;
     let end = out.len();
     out.push(b'\n')?;
-    Ok(Listed {
-        sources,
-        start,
-        end,
-    })
+    Ok(Listed { ranges, start, end })
 }
 
 fn push_rows(out: &mut Vec<u8>, rows: &[SinkSet]) -> Result<(), NoMemory>
     ensures { OnOk result (out.new.items ≡ out.old.items ++ flat_map row_text rows.now) }
 {
     let mut last = Listed {
-        sources: &[],
+        ranges: &[],
         start: 0,
         end: 0,
     };

@@ -1,2 +1,4 @@
 pub mod Longest
+pub mod Kept
+pub mod Alike
 pub mod Worked

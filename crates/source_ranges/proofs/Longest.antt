@@ -46,14 +46,14 @@ alone b (r ∷ rs) apart =
     (test_false b.channel r.channel (b.offset + 1) r.from apart)
 
 -- the first range begins with the first byte
-record BeginsWith (b : SourceByte) (rs : List SourceRange) : Type 0 where
-  first : SourceRange
-  rest : List SourceRange
-  parts : rs ≡ first ∷ rest
-  channel : first.channel ≡ b.channel
-  from : first.from ≡ b.offset
+pub record BeginsWith (b : SourceByte) (rs : List SourceRange) : Type 0 where
+  pub first : SourceRange
+  pub rest : List SourceRange
+  pub parts : rs ≡ first ∷ rest
+  pub channel : first.channel ≡ b.channel
+  pub from : first.from ≡ b.offset
 
-begins : (b : SourceByte) (rs : List SourceRange) → BeginsWith b (with_byte b rs)
+pub begins : (b : SourceByte) (rs : List SourceRange) → BeginsWith b (with_byte b rs)
 begins b [] = record { first = range_of b; rest = []; parts = refl; channel = refl; from = refl }
 begins b (r ∷ rs) = by (is_just_before b r) (eqb-channel b r)
   where

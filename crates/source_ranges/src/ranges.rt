@@ -1,6 +1,7 @@
 //! The ranges of source bytes in a slice.
 
-ghost use Rattle.std.specs.Prelude.{◌≡◌, ◌+◌, ◌-◌, ◌<◌, ◌≤◌, ◌^◌, [], ◌∷◌, length, drop, IfOk, IfSome, MatchOption};
+ghost use Rattle.std.specs.Prelude.{◌≡◌, ◌+◌, ◌-◌, ◌<◌, ◌≤◌, ◌^◌, [], ◌∷◌, ◌++◌, length, drop, All, IfOk, IfSome, MatchOption, OnOk};
+ghost use Rattle.source_ranges.specs.Kept.{IsRange};
 ghost use Rattle.source_ranges.specs.Ranges.{ranges_of as ranges};
 
 use crate::SourceRange;
@@ -12,6 +13,7 @@ use std::alloc::Global;
 fn end_of_range(first: SourceByte, more: &[SourceByte]) -> u64
     ensures low { first.offset + 1 ≤ result }
     ensures high { result ≤ first.offset + 1 + length more.now }
+    ensures few { result ≤ 2 ^ 32 }
     ensures range { ranges (first ∷ more.now) ≡
         record { channel = first.channel; from = first.offset; past = result }
         ∷ ranges (drop (result - (first.offset + 1)) more.now) }
@@ -30,6 +32,7 @@ fn end_of_range(first: SourceByte, more: &[SourceByte]) -> u64
 pub fn split_first_range(sources: &[SourceByte]) -> Option<(SourceRange, &[SourceByte])>
     ensures ranges { MatchOption result (sources.now ≡ [])
         (λ parts. ranges sources.now ≡ parts.0 ∷ ranges parts.1.now) }
+    ensures range { IfSome result (λ parts. IsRange parts.0) }
     ensures shorter { IfSome result (λ parts. length parts.1.now < length sources.now) }
 {
     let (first, more) = sources.split_first()?;
@@ -43,15 +46,28 @@ pub fn split_first_range(sources: &[SourceByte]) -> Option<(SourceRange, &[Sourc
     Some((range, &more[(past - from - 1) as usize..]))
 }
 
-/// Source bytes as ranges, each as long as can be. It fails only where there is no memory.
-pub fn ranges_of(alloc: Global, sources: &[SourceByte]) -> Result<Vec<SourceRange>, NoMemory>
-    ensures { IfOk result (λ found. found.items ≡ ranges sources.now) }
+/// Appends the ranges of source bytes, each as long as can be. It fails only where there is no memory.
+pub(crate) fn push_ranges(
+    found: &mut Vec<SourceRange>,
+    sources: &[SourceByte],
+) -> Result<(), NoMemory>
+    requires { All IsRange found.old.items }
+    ensures ranges { OnOk result (found.new.items ≡ found.old.items ++ ranges sources.now) }
+    ensures fits { OnOk result (All IsRange found.new.items) }
 {
-    let mut found = Vec::new(alloc);
     let mut left = sources;
     while let Some((range, rest)) = split_first_range(left) {
         found.push(range)?;
         left = rest;
     }
+    Ok(())
+}
+
+/// Source bytes as ranges, each as long as can be. It fails only where there is no memory.
+pub fn ranges_of(alloc: Global, sources: &[SourceByte]) -> Result<Vec<SourceRange>, NoMemory>
+    ensures { IfOk result (λ found. found.items ≡ ranges sources.now) }
+{
+    let mut found = Vec::new(alloc);
+    push_ranges(&mut found, sources)?;
     Ok(found)
 }

@@ -24,4 +24,4 @@ returns-clause-row c =
     let before = answer_to c.args.asked.now c.args.answers.now in
     let make : List SourceByte → Row = λ sources. record { sink = c.sink-2.result; sources = sources } in
     row_at before (summary_of c.args.summary.now).sinks c.args.number c.sink-2.result _ c.sink-2.ensures (ap (option_map (resolved before)) c.in_ok-sink_terms_ahead.ensures.read)
-    ∙ ap Some (sym (c.new-2.ensures ∙ ap make c.in_ok-sources-2.ensures.value))
+    ∙ ap Some (sym (c.new-2.ensures ∙ ap make c.in_ok-sources-2.ensures))

@@ -10,14 +10,20 @@ use Rattle.epoch_model.specs.Join.{answer_to}
 use Rattle.answer_sets.proofs.Each.{none_in}
 use Rattle.answer_sets.proofs.sink_rows.sources_of.Goals as goal
 
-pub returns-then-is_empty-clause-value : goal.returns-then-is_empty-clause-value
-returns-then-is_empty-clause-value c =
+pub of-requires : goal.of-requires
+of-requires c = subst (Ascends source_cmp) (sym c.sources.ensures) c.requires.sources
+
+pub returns-then-is_empty : goal.returns-then-is_empty
+returns-then-is_empty c =
     let sources = c.args.terms.now.sources in
     let before = answer_to c.args.asked.now c.args.answers.now in
     let none : c.args.terms.now.starts ≡ [] = sym c.starts.ensures ∙ none_in c.starts.result.now (sym c.is_empty.ensures ∙ c.if-is_empty.true) in
     let alone = ap (λ (ls : List Loc). union source_cmp sources (union_over before ls)) none ∙ union-nil source_total sources c.requires.sources in
-    IfOk-weaker c.copied.result _ _ (λ all is. is ∙ c.sources.ensures ∙ sym alone) c.copied.ensures
+    IfOk-weaker c.of.result _ _ (λ all is. is ∙ c.sources.ensures ∙ sym alone) c.of.ensures
 
-pub returns-then-is_empty-clause-ascending : goal.returns-then-is_empty-clause-ascending
-returns-then-is_empty-clause-ascending c =
-    IfOk-weaker c.copied.result _ _ (λ all is. subst (Ascends source_cmp) (sym (is ∙ c.sources.ensures)) c.requires.sources) c.copied.ensures
+pub of-requires-2 : goal.of-requires-2
+of-requires-2 c = subst (Ascends source_cmp) (sym c.deref.ensures.value) c.in_ok-all.ensures.ascending
+
+pub returns : goal.returns
+returns c =
+    IfOk-weaker c.of-2.result _ _ (λ all is. is ∙ c.deref.ensures.value ∙ c.in_ok-all.ensures.value) c.of-2.ensures

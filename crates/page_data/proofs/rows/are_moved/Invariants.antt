@@ -1,7 +1,7 @@
-use Rattle.std.proofs.Common.{◌≡◌, drop}
-use Rattle.page_model.specs.Rows.{each_moved}
+use Rattle.std.proofs.Common.{◌≡◌, map, take}
+use Rattle.page_data.specs.Moved.{range_moved}
 use Rattle.page_data.proofs.rows.are_moved.Given as goal
 
--- whether all are moved is whether those are that are left
+-- the ranges so far are moved
 abbrev pub invariant-loop-i : goal.invariant-loop-i
-invariant-loop-i l = each_moved l.fn.by (drop l.i l.before) (drop l.i l.now) ≡ each_moved l.fn.by l.before l.now
+invariant-loop-i l = take l.i l.second ≡ map (range_moved l.by) (take l.i l.first)

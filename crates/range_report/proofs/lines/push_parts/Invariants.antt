@@ -1,11 +1,8 @@
-use Rattle.std.proofs.Common.{◌≡◌, ◌++◌, length}
-use Rattle.range_model.specs.Text.{ranges_part}
+use Rattle.std.proofs.Common.{◌≡◌, ◌++◌, take}
+use Rattle.std.specs.List.{flat_map}
+use Rattle.range_model.specs.Text.{range_part}
 use Rattle.range_report.proofs.lines.push_parts.Given as goal
 
--- what was told, and the ranges of what is left
+-- the ranges so far
 abbrev pub invariant-loop-range : goal.invariant-loop-range
-invariant-loop-range l =
-    l.out.items ++ ranges_part l.moved.calls.now l.left ≡ l.fn.out.items ++ ranges_part l.moved.calls.now l.fn.sources
-
-abbrev pub decreases-loop-range : goal.decreases-loop-range
-decreases-loop-range l = length l.left
+invariant-loop-range l = l.out.items ≡ l.fn.out.items ++ flat_map (range_part l.moved.calls.now) (take l.range-index l.range-items)

@@ -1,4 +1,4 @@
-use Rattle.std.proofs.Common.{◌≡◌, ℕ, suc, ◌+◌, ◌-◌, ◌≤◌, true, List, [], ◌∷◌, ◌++◌, sym, ap, ap₂, ◌∙◌, arith}
+use Rattle.std.proofs.Common.{◌≡◌, ℕ, suc, ◌+◌, ◌-◌, ◌≤◌, true, false, List, [], ◌∷◌, ◌++◌, sym, ap, ap₂, ◌∙◌, arith}
 use Rattle.std.proofs.lemmas.Bool.{and_left, and_right, and_from}
 use Rattle.flow_model.specs.declared.SourceByte.{SourceByte}
 use Rattle.flow_model.specs.declared.SinkByte.{SinkByte}
@@ -9,7 +9,10 @@ use Rattle.range_model.proofs.Texts.{next_sink-is}
 use Rattle.range_report.specs.OpenRuns.{row_of, row, shared_rows}
 use Rattle.range_report.proofs.Rows.{shared-test, shared-push, same-sources, differ, agree}
 use Rattle.range_report.proofs.runs.shared_with.Goals as goal
-use Rattle.range_report.proofs.runs.shared_with.Goals.{then-not-sink_follows-via-then-not-sink_follows, then-not-sink_follows-via-else-not-sink_follows+then-ne}
+use Rattle.range_report.proofs.runs.shared_with.Goals.{then-not-sink_follows-via-then-not-sink_follows, then-not-sink_follows-via-else-not-sink_follows+then-not-equals}
+
+never : false ≡ true → ⊥
+never h = cc
 
 -- the rows with the next one
 longer : (first byte : SinkByte) (own sources : List SourceByte) (n : ℕ) → 2 ≤ n
@@ -32,7 +35,8 @@ returns-then-not-sink_follows c =
     (omega (arith, c.requires.0)) (omega (arith, c.requires.0))
     ∙ elim c.then-not-sink_follows.branch [
       | then-not-sink_follows-via-then-not-sink_follows w ↦ and_left next same (sym c.sink_follows.ensures.next ∙ w.if-not-sink_follows.true)
-      | then-not-sink_follows-via-else-not-sink_follows+then-ne w ↦ and_right next same (differ c.args.own.now c.args.sources.now w.ne.result w.ne.ensures w.if-ne.true)
+      | then-not-sink_follows-via-else-not-sink_follows+then-not-equals w ↦
+          and_right next same (differ c.args.own.now c.args.sources.now (λ e. never (sym w.if-not-equals.true ∙ w.equals.ensures.1 e)))
     ]
 
 pub returns : goal.returns
@@ -41,7 +45,7 @@ returns c =
     let next = is_next_sink (Out (record { channel = first.channel; offset = first.offset + (c.args.length - 1) })) (Out c.args.byte) in
     let same = same_sources c.args.own.now c.args.sources.now in
     let goes : next ≡ true = sym c.sink_follows.ensures.next ∙ c.if-not-sink_follows.false in
-    let alike : same ≡ true = agree c.args.own.now c.args.sources.now c.ne.result c.ne.ensures c.if-ne.false in
+    let alike : same ≡ true = agree c.args.own.now c.args.sources.now (c.equals.ensures.0 c.if-not-equals.false) in
     record {
       goes_on =
           shared-test first.channel first.offset c.args.own.now c.args.length (c.args.length - 1) (row c.args.byte c.args.sources.now)

@@ -1,7 +1,8 @@
 use Rattle.std.proofs.Common.{◌≡◌, take}
-use Rattle.std.specs.List.{filter}
+use Rattle.std.specs.List.{filter, flat_map}
 use Rattle.report_model.specs.Query.{has_source}
+use Rattle.source_ranges.specs.Ranges.{bytes_of}
 use Rattle.sink_collect.proofs.choosing.chosen_sources.Given as goal
 
-abbrev pub invariant-loop-source : goal.invariant-loop-source
-invariant-loop-source l = l.chosen.items ≡ filter (has_source l.query) (take l.source-index l.sources)
+abbrev pub invariant-loop-range : goal.invariant-loop-range
+invariant-loop-range l = l.chosen ≡ filter (has_source l.query) (flat_map bytes_of (take l.range-index l.range-items))

@@ -15,14 +15,14 @@ loop-source-init c = with_none c.args.row.now.sink c.args.reaches.now
 pub loop-source-preserved : goal.loop-source-preserved
 loop-source-preserved c =
     let s = c.args.row.now.sink in
-    let items = c.sources-source-items.result.now in
+    let items = c.deref-source-items.result.now in
     let sources = c.args.sources.now in
     let old = c.args.reaches.now in
     let now = c.loop-source.reaches in
     let k = c.loop-source.source-index in
     let none : SourceByte = record { channel = 0; offset = 0 } in
-    let whole = c.sources-source-items.ensures.value in
-    let ascending = subst (Ascends source_cmp) (sym whole) c.sources-source-items.ensures.ascending in
+    let whole = c.deref-source-items.ensures.value ∙ c.in_ok-listed.ensures ∙ c.sources.ensures.value in
+    let ascending = subst (Ascends source_cmp) (sym whole) c.sources.ensures.ascending in
     let so_far : now ≡ map (with_sink s (take k items)) old = c.loop-source.invariant ∙ ap (λ (bytes : List SourceByte). map (with_sink s (take k bytes)) old) (sym whole) in
     let after : map (with_sink s (take (k + 1) items)) old ≡ map (with_sink s (take (k + 1) c.args.row.now.sources)) old =
     ap (λ (bytes : List SourceByte). map (with_sink s (take (k + 1) bytes)) old) whole in

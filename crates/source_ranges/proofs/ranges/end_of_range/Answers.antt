@@ -55,6 +55,7 @@ loop-byte-preserved c =
     let offset : c.args.first.offset + 1 + c.loop-byte.byte-index ≡ (get_or c.args.more.now c.loop-byte.byte-index none).offset =
     omega (arith, inv.past, c.from.ensures, c.if-from-past.false) in
     record {
+      few = omega (arith, inv.past, c.from.ensures, c.if-from-past.false);
       past = omega (arith, inv.past);
       front = one_more c.args.first c.args.more.now c.loop-byte.byte-index c.loop-byte-test.true (sym c.if-byte-first.false) offset inv.front;
     }

@@ -1,0 +1,54 @@
+use Rattle.std.proofs.Common.{◌≡◌, ◌++◌, [], ◌∷◌, ◌+◌, ◌-◌, List, Vec, sym, ap, subst, ◌∙◌, arith}
+use Rattle.std.specs.declared.alloc.Global.{Global}
+use Rattle.std.proofs.lemmas.List.{nil_from_length}
+use Rattle.source_ranges.specs.declared.SourceRange.{SourceRange}
+use Rattle.source_ranges.specs.Kept.{IsRange}
+use Rattle.source_ranges.specs.RangeLaws.{AreApart}
+use Rattle.source_ranges.proofs.Kept.{joined_bytes, joined_apart, pushed_apart, unchanged}
+use Rattle.source_ranges.proofs.joined.push_joined.Goals as goal
+use Rattle.source_ranges.proofs.joined.push_joined.Goals.{in-Some+else-last-range, in_default, else-last-range-via-then-last-range+else-last-range-2, else-last-range-via-else-last-range}
+
+pub returns-then-last-range-2-clause-bytes : goal.returns-then-last-range-2-clause-bytes
+returns-then-last-range-2-clause-bytes c =
+    let rs = c.args.ranges.now.items in
+    let n = c.args.ranges.now.len - 1 in
+    let l = c.in-Some.last.now in
+    let some = c.in-Some.ensures.item.3.0 in
+    let own : IsRange l = subst IsRange (sym c.in-Some.ensures.value) (c.requires.fits n l (omega (arith, some, c.args.ranges.now.ok.0))) in
+    joined_bytes rs n l c.args.range (omega (arith, some, c.args.ranges.now.ok.0)) c.in-Some.ensures.value (omega (arith, own.0))
+    (omega (arith, c.requires.range.0)) c.if-last-range.true c.if-last-range-2.true
+
+pub returns-then-last-range-2-clause-apart : goal.returns-then-last-range-2-clause-apart
+returns-then-last-range-2-clause-apart c =
+    let rs = c.args.ranges.now.items in
+    let n = c.args.ranges.now.len - 1 in
+    let l = c.in-Some.last.now in
+    let some = c.in-Some.ensures.item.3.0 in
+    let own : IsRange l = subst IsRange (sym c.in-Some.ensures.value) (c.requires.fits n l (omega (arith, some, c.args.ranges.now.ok.0))) in
+    joined_apart rs n l c.args.range (omega (arith, some, c.args.ranges.now.ok.0)) c.in-Some.ensures.value c.requires.apart
+    (omega (arith, own.0, c.requires.range.0, c.if-last-range-2.true))
+
+pub returns-clause-apart : goal.returns-clause-apart
+returns-clause-apart c =
+    let rs = c.args.ranges.now.items in
+    let n = c.args.ranges.now.len - 1 in
+    let r = c.args.range in
+    let whole : List SourceRange → Type 0 = λ ss. AreApart (ss ++ r ∷ []) in
+    subst AreApart (sym c.in_ok-push.ensures.items)
+    (elim c.match-last_mut.branch [
+      | in-Some+else-last-range w ↦
+          let l = w.in-Some.last.now in
+          let at = w.in-Some.ensures.value in
+          let some = w.in-Some.ensures.item.3.0 in
+          let pushed : (l.channel ≡ r.channel → l.past ≡ r.from → ⊥) → AreApart (rs ++ r ∷ []) =
+          λ ends. pushed_apart rs n l r (omega (arith, some, c.args.ranges.now.ok.0)) at c.requires.apart ends c.requires.range.0 in
+          elim w.else-last-range.branch [
+            | else-last-range-via-then-last-range+else-last-range-2 v ↦
+                subst whole (sym (ap (λ (z : Vec SourceRange Global). z.items) (w.ranges-is ∙ v.ranges-is) ∙ unchanged rs n l at)) (pushed (λ channel from. v.if-last-range-2.false from))
+            | else-last-range-via-else-last-range v ↦
+                subst whole (sym (ap (λ (z : Vec SourceRange Global). z.items) (w.ranges-is ∙ v.ranges-is) ∙ unchanged rs n l at)) (pushed (λ channel from. v.if-last-range.false channel))
+          ]
+      | in_default w ↦
+          let none : rs ≡ [] = nil_from_length rs (omega (arith, w.in_default.ensures.item.3)) in
+          subst whole (sym (ap (λ (z : Vec SourceRange Global). z.items) w.ranges-is ∙ none)) (c.requires.range.0, tt, tt)
+    ])
