@@ -63,6 +63,7 @@ impl SourceLabels {
         match label.kind() {
             LabelKind::Node(node) => node as Node,
             LabelKind::Start(_) => self.log.nothing(),
+            LabelKind::Run(_) => self.log.nothing(),
         }
     }
 
@@ -75,6 +76,7 @@ impl SourceLabels {
         match label.kind() {
             LabelKind::Node(node) => node > 0,
             LabelKind::Start(_) => false,
+            LabelKind::Run(_) => false,
         }
     }
 

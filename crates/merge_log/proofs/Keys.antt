@@ -11,7 +11,7 @@ use Rattle.indexmap.specs.IndexSet.{insert_key}
 use Rattle.flow_model.specs.declared.Loc.TheVariants.{Reg, Mem}
 use Rattle.merge_log.specs.contracts.nodes.EntryPartialEq.TheImpl as test
 use Rattle.merge_log.specs.declared.nodes.Entry.{Entry}
-use Rattle.merge_log.specs.declared.nodes.Entry.TheVariants.{Source, Start, Union}
+use Rattle.merge_log.specs.declared.nodes.Entry.TheVariants.{Source, Run, Start, Union}
 use Rattle.merge_log.specs.Log.{HasOperandsBefore, AreDistinct, IsLog, IsNoted, KeepsNodes, entry_at, terms, entry_terms}
 use Rattle.merge_log.proofs.Terms.{ordered_more, kept, terms_step, entry_before}
 
@@ -21,20 +21,28 @@ alike = test.eq-value.it
 
 pub alike_same : (a b : Entry) → alike a b ≡ true → a ≡ b
 alike_same (Source a) (Source b) h = grind (arith, common_steps)
+alike_same (Source a) (Run c x y) h = cc
 alike_same (Source a) (Start l) h = cc
 alike_same (Source a) (Union p q) h = cc
+alike_same (Run c x y) (Source b) h = cc
+alike_same (Run c x y) (Run d v w) h = grind (arith, common_steps)
+alike_same (Run c x y) (Start l) h = cc
+alike_same (Run c x y) (Union p q) h = cc
 alike_same (Start l) (Source b) h = cc
+alike_same (Start l) (Run c x y) h = cc
 alike_same (Start (Reg r i)) (Start (Reg s j)) h = grind (arith, common_steps)
 alike_same (Start (Reg r i)) (Start (Mem p)) h = cc
 alike_same (Start (Mem p)) (Start (Reg r i)) h = cc
 alike_same (Start (Mem p)) (Start (Mem q)) h = grind (arith, common_steps)
 alike_same (Start l) (Union p q) h = cc
 alike_same (Union p q) (Source b) h = cc
+alike_same (Union p q) (Run c x y) h = cc
 alike_same (Union p q) (Start l) h = cc
 alike_same (Union p q) (Union r s) h = grind (arith, common_steps)
 
 alike_itself : (a : Entry) → alike a a ≡ true
 alike_itself (Source a) = grind (arith, common_steps)
+alike_itself (Run c x y) = grind (arith, common_steps)
 alike_itself (Start (Reg r i)) = grind (arith, common_steps)
 alike_itself (Start (Mem p)) = grind (arith, common_steps)
 alike_itself (Union p q) = grind (arith, common_steps)

@@ -3,11 +3,11 @@
 ghost use Rattle.std.specs.Prelude.{◌≡◌, ◌<◌, ◌≤◌, [], All, Some, length, map, slice_get, OnOk};
 ghost use Rattle.merge_log.specs.Log.{IsNode, terms};
 
+use crate::finding::Found;
 use crate::masks::Masks;
 use crate::nodes::{MergeLog, Node};
 use crate::reader::TermsReader;
-use crate::spread::{ascend_all, empty_sets, walk_many};
-use crate::walk::Found;
+use crate::spread::{empty_sets, settle_all, walk_many};
 use no_memory::NoMemory;
 use std::alloc::Global;
 use std::marker::Model;
@@ -61,7 +61,7 @@ impl ManyTerms {
         masks.fit(log.size() as usize)?;
         empty_sets(self.alloc, &mut self.found, roots.len())?;
         walk_many(log, roots, &mut masks, &mut self.found)?;
-        ascend_all(&mut self.found);
+        settle_all(self.alloc, &mut self.found)?;
         self.masks = masks;
         Ok(())
     }

@@ -18,9 +18,10 @@ lane_kind r i h k =
     let n = 2 ^ 33 + 256 * r + i in
     let above : nat_lt n (2 ^ 32) ≡ false = grind arith in
     let higher : nat_lt n (2 ^ 33) ≡ false = grind arith in
+    let below : nat_lt n (2 ^ 62) ≡ true = grind arith in
     let number : n / 256 % 256 ≡ r = omega arith in
     let lane : n % 256 ≡ i = omega arith in
-    rw (above, higher) (ap₂ (λ (q j : ℕ). Start (Reg q j)) number lane)
+    rw (above, higher, below) (ap₂ (λ (q j : ℕ). Start (Reg q j)) number lane)
 
 pub start_kind : (l : Loc) → IsLocation l → kind_of (start_label l) ≡ Start l
 start_kind (Mem p) here = byte_kind p here

@@ -1,0 +1,76 @@
+//! Runs as a set of bytes.
+
+ghost use Rattle.std.specs.Prelude.{◌≡◌, ◌++◌, IfOk, OnOk};
+ghost use Rattle.std.specs.List.Sorted.{IsSorted};
+ghost use Rattle.sorted_set.specs.Sets.{Ascends, has};
+ghost use Rattle.flow_model.specs.Orders.{source_cmp};
+ghost use Rattle.flow_model.specs.declared.SourceByte.{SourceByte as Source};
+ghost use Rattle.source_runs.specs.Runs.{all_bytes, bytes_of, goes_on as runs_go_on};
+
+use crate::runs::SourceRun;
+use flow_model::SourceByte;
+use no_memory::NoMemory;
+use std::alloc::Global;
+
+/// Makes of runs in any order those of the same bytes, ascending, each byte once. It fails only where there is no memory.
+pub fn settle(alloc: Global, runs: &mut Vec<SourceRun>) -> Result<(), NoMemory>
+    ensures members { OnOk result ((b : Source) → has source_cmp b (all_bytes runs.new.items) ≡ has source_cmp b (all_bytes runs.old.items)) }
+    ensures ascending { OnOk result (Ascends source_cmp (all_bytes runs.new.items)) }
+{
+    runs.sort_unstable();
+    *runs = join_sorted(alloc, runs)?;
+    Ok(())
+}
+
+/// Of runs that ascend by channel and first offset, those that overlap or touch as one.
+fn join_sorted(alloc: Global, runs: &[SourceRun]) -> Result<Vec<SourceRun>, NoMemory>
+    requires { IsSorted SourceRun.cmp runs.now }
+    ensures members { IfOk result (λ joined. (b : Source) → has source_cmp b (all_bytes joined.items) ≡ has source_cmp b (all_bytes runs.now)) }
+    ensures ascending { IfOk result (λ joined. Ascends source_cmp (all_bytes joined.items)) }
+{
+    let mut joined = Vec::new(alloc);
+    let Some((first, more)) = runs.split_first() else {
+        return Ok(joined);
+    };
+    let mut current = *first;
+    for run in more {
+        if goes_on(current, *run) {
+            current.last = current.last.max(run.last);
+        } else {
+            joined.push(current)?;
+            current = *run;
+        }
+    }
+    joined.push(current)?;
+    Ok(joined)
+}
+
+/// Whether a run of the same channel begins inside another one, or right after it.
+fn goes_on(run: SourceRun, next: SourceRun) -> bool
+    ensures { result ≡ runs_go_on run next }
+{
+    next.channel == run.channel && next.first as u64 <= run.last as u64 + 1
+}
+
+/// Appends the bytes of runs, one run after another. It fails only where there is no memory.
+pub fn push_bytes(out: &mut Vec<SourceByte>, runs: &[SourceRun]) -> Result<(), NoMemory>
+    ensures { OnOk result (out.new.items ≡ out.old.items ++ all_bytes runs.now) }
+{
+    for run in runs {
+        push_run(out, *run)?;
+    }
+    Ok(())
+}
+
+/// Appends the bytes of a run.
+fn push_run(out: &mut Vec<SourceByte>, run: SourceRun) -> Result<(), NoMemory>
+    ensures { OnOk result (out.new.items ≡ out.old.items ++ bytes_of run) }
+{
+    for offset in run.first as u64..run.last as u64 + 1 {
+        out.push(SourceByte {
+            channel: run.channel,
+            offset: offset as u32,
+        })?;
+    }
+    Ok(())
+}
