@@ -16,12 +16,13 @@ pub record IsSourceNode (labels : SourceLabels) (n : ℕ) : Type 0 where
   pub stands : IsNode labels.log n
   pub some : 0 < n → is_some_byte (terms labels.log n).sources ≡ true
 
+-- a node as above, or a run with a byte
 abbrev pub StandsBy : SourceLabels → LabelKind → Type 0
 StandsBy labels (Node n) = IsSourceNode labels n
 StandsBy labels (Start l) = Unit {0}
-StandsBy labels (Run r) = ⊥
+StandsBy labels (Run r) = is_some_byte (bytes_of r) ≡ true
 
--- the source bytes under a node; none of what was there at the start
+-- the source bytes under a node, and those of a run; none of what was there at the start
 abbrev pub sources_by : SourceLabels → LabelKind → List SourceByte
 sources_by labels (Node n) = (terms labels.log n).sources
 sources_by labels (Start l) = []

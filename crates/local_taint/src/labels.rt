@@ -82,18 +82,24 @@ impl Nodes {
         Ok(self.label_of(node))
     }
 
-    /// The label of the run of both, where both are runs that overlap or touch.
+    /// The label of a run that has both, where no node is needed for them: both are runs that overlap or touch, or one is a run
+    /// that has all of the other.
     #[inline(always)]
-    fn joined_run(&self, left: Label, right: Label) -> Option<Label>
+    fn run_of_both(&self, left: Label, right: Label) -> Option<Label>
+        requires left { label_words.stands self.now left }
+        requires right { label_words.stands self.now right }
         ensures { IfSome result (MakesLabel label_words self.now (mean_together label_words self.now left right)) }
     {
-        let LabelKind::Run(one) = left.kind() else {
-            return None;
-        };
-        let LabelKind::Run(other) = right.kind() else {
-            return None;
-        };
-        Label::run(one.joined(other)?)
+        match (left.kind(), right.kind()) {
+            (LabelKind::Run(one), LabelKind::Run(other)) => Label::run(one.joined(other)?),
+            (LabelKind::Run(run), LabelKind::Node(node)) if self.log.is_within(node as Node, run) => {
+                Some(left)
+            }
+            (LabelKind::Node(node), LabelKind::Run(run)) if self.log.is_within(node as Node, run) => {
+                Some(right)
+            }
+            _ => None,
+        }
     }
 
     /// The label of two labels together that differ, neither of them that of nothing.
@@ -103,7 +109,7 @@ impl Nodes {
         requires right { label_words.stands self.old right }
         ensures { IfOk result (Makes label_words self.old (mean_together label_words self.old left right) self.new) }
     {
-        match self.joined_run(left, right) {
+        match self.run_of_both(left, right) {
             Some(label) => Ok(label),
             None => self.unite_nodes(left, right),
         }

@@ -10,6 +10,7 @@
 #![tactic(auto)]
 
 mod finding;
+mod hulls;
 mod many;
 mod masks;
 mod nodes;

@@ -2,9 +2,11 @@
 
 ghost use Rattle.std.specs.Prelude.{◌≡◌, ℕ, ◌+◌, ◌<◌, [], length, Some, None, ◌≤◌, ◌⊎◌, ◌↔◌, Contains, IsTrue, IfSome, IsOk, IfOk, OnErr};
 ghost use Rattle.merge_log.specs.Log.{IsLog, AreSets, IsNode, HasOperandsBefore, IsNoted, KeepsNodes, IsUnited, HasUnion, IsAbsorbed, HasAbsorbingUnion, AreApart, AreTwo, Covers, HasOperand, terms, no_terms, source_term, run_term, run_entry, start_term, entry_at, entry_terms, joined};
+ghost use Rattle.merge_log.specs.Hulls.{IsOver};
 ghost use Rattle.merge_log.specs.Walk.{leaves_of};
 ghost use Rattle.merge_log.specs.declared.nodes.Entry.TheVariants as entry;
 
+use crate::hulls::Hulls;
 use crate::reader::{Leaf, TermsReader};
 use crate::recent::RecentUnions;
 use crate::under::StartsUnder;
@@ -37,6 +39,7 @@ pub struct MergeLog {
     entries: IndexSet<Entry>,
     recent: RecentUnions,
     under: StartsUnder,
+    hulls: Hulls,
 }
 
 /// The most entries of a log: its nodes fit into 32 bits.
@@ -47,12 +50,13 @@ impl Model for MergeLog {
     ghost use Rattle.merge_log.specs.declared.nodes.Entry.{Entry};
     ghost use Rattle.merge_log.specs.Log.{IsLog};
     ghost use Rattle.merge_log.specs.Under.{AreUnder};
+    ghost use Rattle.merge_log.specs.Hulls.{AreHulls};
 
     ghost Value = { List Entry };
 
     ghost view = { λ log. log.entries.keys };
 
-    ghost invariant = { λ log. IsLog log.entries.keys × AreUnder log.entries.keys log.under.leaves.items log.under.masks.items };
+    ghost invariant = { λ log. IsLog log.entries.keys × AreUnder log.entries.keys log.under.leaves.items log.under.masks.items × AreHulls log.entries.keys log.hulls.hulls.items };
 }
 
 impl MergeLog {
@@ -64,6 +68,7 @@ impl MergeLog {
             entries: IndexSet::new(alloc),
             recent: RecentUnions::new(alloc),
             under: StartsUnder::new(alloc),
+            hulls: Hulls::new(alloc),
         }
     }
 
@@ -166,6 +171,22 @@ impl MergeLog {
         match self.recent_union(a, b) {
             Some(node) => Ok(node),
             None => self.absorb_or_make(a, b),
+        }
+    }
+
+    /// Whether a node is known to have no leaf but source bytes of this run.
+    #[inline(always)]
+    pub fn is_within(&self, node: Node, run: SourceRun) -> bool
+        requires { IsNode self.now node }
+        ensures { IsTrue result → IsOver run (terms self.now node) }
+    {
+        self.form(); // so that nodes fit into 32 bits
+        if node == 0 {
+            return true;
+        }
+        match self.hulls.hull(node as u32) {
+            Some(hull) => run.has(hull),
+            None => false,
         }
     }
 
@@ -334,6 +355,7 @@ impl MergeLog {
         if self.entries.len() < MOST_ENTRIES {
             let (index, _) = self.entries.insert_full(entry)?;
             self.under.note(index as u32 + 1, entry);
+            self.hulls.note(index as u32 + 1, entry);
             return Ok(index as u64 + 1);
         }
         match self.entries.get_index_of(&entry) {

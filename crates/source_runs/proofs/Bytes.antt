@@ -12,7 +12,7 @@ use Rattle.flow_model.specs.declared.SourceByte.{SourceByte}
 use Rattle.flow_model.specs.Orders.{source_cmp}
 use Rattle.flow_model.proofs.Orders.{source_total, source_same}
 use Rattle.source_runs.specs.declared.runs.SourceRun.{SourceRun}
-use Rattle.source_runs.specs.Runs.{byte_on, bytes_from, bytes_of}
+use Rattle.source_runs.specs.Runs.{byte_on, bytes_from, bytes_of, Has}
 
 no : {A : Type 0} → true ≡ false → A
 no e = cc
@@ -160,3 +160,11 @@ longer_has r s q same first left = have_both r s (longer r s) q split
         | inl k ↦ inr (record { channel = i.channel ∙ same; first = omega (arith, k, left); last = omega (arith, k, i.last) })
         | inr k ↦ inl (record { channel = i.channel; first = i.first; last = k })
       ]
+
+-- a run that has the ends of another one has all of it
+pub has_within : (r s : SourceRun) → Has r s → bytes_of r ≡ union source_cmp (bytes_of s) (bytes_of r)
+has_within r s h =
+    same_list source_total source_same (bytes_of r) (union source_cmp (bytes_of s) (bytes_of r)) (run_ascends r)
+    (Ascends-union source_total (bytes_of s) (bytes_of r) (run_ascends r)) (λ q. both q ∙ sym (has-union source_total (bytes_of s) (bytes_of r) q)) where
+      both : (q : SourceByte) → has source_cmp q (bytes_of r) ≡ (has source_cmp q (bytes_of s) || has source_cmp q (bytes_of r))
+      both q = have_both s r r q (λ i. inr i) (λ i. record { channel = i.channel ∙ sym h.channel; first = omega (arith, i.first, h.first); last = omega (arith, i.last, h.last) }) (λ i. i)

@@ -3,7 +3,7 @@
 ghost use Rattle.std.specs.Prelude.{◌≡◌, ◌∷◌, [], None, IfSome, IsTrue};
 ghost use Rattle.sorted_set.specs.Sets.{union};
 ghost use Rattle.flow_model.specs.Orders.{source_cmp};
-ghost use Rattle.source_runs.specs.Runs.{bytes_of, AreApart};
+ghost use Rattle.source_runs.specs.Runs.{bytes_of, AreApart, Has};
 
 use flow_model::SourceByte;
 
@@ -28,16 +28,12 @@ impl SourceRun {
         }
     }
 
-    /// The run of the bytes of both, where they are of one channel, and overlap or touch.
+    /// The least run that has the bytes of both, where they are of one channel.
     #[inline(always)]
-    pub fn joined(self, other: SourceRun) -> Option<SourceRun>
-        ensures joined { IfSome result (λ run. bytes_of run ≡ union source_cmp (bytes_of self) (bytes_of other)) }
-        ensures none { result ≡ None → AreApart self other }
+    pub fn hull(self, other: SourceRun) -> Option<SourceRun>
+        ensures { IfSome result (λ run. Has run self × Has run other) }
     {
         if self.channel != other.channel {
-            return None;
-        }
-        if other.first as u64 > self.last as u64 + 1 || self.first as u64 > other.last as u64 + 1 {
             return None;
         }
         Some(SourceRun {
@@ -45,5 +41,25 @@ impl SourceRun {
             first: self.first.min(other.first),
             last: self.last.max(other.last),
         })
+    }
+
+    /// Whether another run begins and ends inside this one.
+    #[inline(always)]
+    pub fn has(self, other: SourceRun) -> bool
+        ensures { IsTrue result → Has self other }
+    {
+        self.channel == other.channel && self.first <= other.first && other.last <= self.last
+    }
+
+    /// The run of the bytes of both, where they are of one channel, and overlap or touch.
+    #[inline(always)]
+    pub fn joined(self, other: SourceRun) -> Option<SourceRun>
+        ensures joined { IfSome result (λ run. bytes_of run ≡ union source_cmp (bytes_of self) (bytes_of other)) }
+        ensures none { result ≡ None → AreApart self other }
+    {
+        if other.first as u64 > self.last as u64 + 1 || self.first as u64 > other.last as u64 + 1 {
+            return None;
+        }
+        self.hull(other)
     }
 }

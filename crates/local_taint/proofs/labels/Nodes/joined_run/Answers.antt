@@ -1,2 +1,0 @@
-use Rattle.local_taint.proofs.Words.{both_made}
-use Rattle.local_taint.proofs.labels.Nodes.joined_run.Goals as goal
