@@ -1,9 +1,9 @@
 -- Runs that ascend, joined where they go on.
 use Rattle.std.proofs.Common.{◌≡◌, ℕ, zero, suc, ◌+◌, ◌<◌, ◌≤◌, List, [], ◌∷◌, ◌++◌, length, refl, ap, sym, ◌∙◌, subst, Bool, true, false, ◌||◌, if◌then◌else◌, arith, ◌⊎◌, inl, inr, min, max, append-nil, append_assoc, nat_cmp}
-use Rattle.std.specs.Prelude.{MatchOrdering}
+
 use Rattle.std.specs.List.{list_any}
 use Rattle.std.specs.List.Sorted.{IsSorted, IsPermutation}
-use Rattle.std.specs.Ordering.{eq_by_cmp, is_eq, is_lt, ordering_then}
+use Rattle.std.specs.Ordering.{MatchOrdering, eq_by_cmp, is_eq, is_lt, ordering_then}
 use Rattle.std.specs.Cmp.{ranked, tied_itself}
 use Rattle.std.specs.declared.cmp.Ordering.{Ordering}
 use Rattle.std.specs.declared.cmp.Ordering.TheVariants.{Less, Equal, Greater}
@@ -16,20 +16,11 @@ use Rattle.flow_model.specs.declared.SourceByte.{SourceByte}
 use Rattle.flow_model.specs.Orders.{source_cmp}
 use Rattle.flow_model.proofs.Orders.{source_total}
 use Rattle.source_runs.specs.declared.runs.SourceRun.{SourceRun}
-use Rattle.source_runs.specs.contracts.SourceRunOrd.TheImpl as of_run_order
-use Rattle.source_runs.specs.Runs.{bytes_of, all_bytes, goes_on}
+use Rattle.source_runs.specs.contracts.runs.SourceRunOrd.TheImpl as of_run_order
+use Rattle.source_runs.specs.Runs.{bytes_of, all_bytes, goes_on, IsBefore, Rise, AreRising}
 use Rattle.source_runs.proofs.Bytes.{IsOf, of_run, run_ascends, less, longer, longer_has}
 
 -- ---- runs in order
-
--- the second run doesn't begin before the first
-abbrev IsBefore : SourceRun → SourceRun → Type 0
-IsBefore r s = (r.channel < s.channel) ⊎ ((r.channel ≡ s.channel) × (r.first ≤ s.first))
-
--- each run begins no earlier than the one before it
-abbrev pub Rise : SourceRun → List SourceRun → Type 0
-Rise r [] = Unit {0}
-Rise r (s ∷ ss) = IsBefore r s × Rise s ss
 
 abbrev pub run_compared : SourceRun → SourceRun → Ordering
 run_compared = of_run_order.cmp-value.it
@@ -45,15 +36,23 @@ before r s = by (nat_cmp s.channel r.channel) (ranked s.channel r.channel (nat_c
   by Equal h Equal k e = inr (sym h, omega (arith, k))
   by Equal h Greater k e = inr (sym h, omega (arith, k))
 
-pub sorted_rise : (r : SourceRun) (rs : List SourceRun) → IsSorted run_compared (r ∷ rs) → Rise r rs
+sorted_rise : (r : SourceRun) (rs : List SourceRun) → IsSorted run_compared (r ∷ rs) → Rise r rs
 sorted_rise r [] h = tt
 sorted_rise r (s ∷ ss) h = (before r s (h 0 r (omega arith) (omega arith)), sorted_rise s ss (λ k d low high. h (suc k) d (omega arith) (omega (arith, high))))
+
+pub sorted_rising : (rs : List SourceRun) → IsSorted run_compared rs → AreRising rs
+sorted_rising [] h = tt
+sorted_rising (r ∷ rs) h = sorted_rise r rs h
 
 -- ---- joined
 
 abbrev pub joined_from : SourceRun → List SourceRun → List SourceRun
 joined_from r [] = r ∷ []
 joined_from r (s ∷ ss) = if goes_on r s then joined_from (longer r s) ss else r ∷ joined_from s ss
+
+abbrev pub joined_all : List SourceRun → List SourceRun
+joined_all [] = []
+joined_all (r ∷ rs) = joined_from r rs
 
 has-all : (q : SourceByte) (r : SourceRun) (rs : List SourceRun) → has source_cmp q (all_bytes (r ∷ rs)) ≡ (has source_cmp q (bytes_of r) || has source_cmp q (all_bytes rs))
 has-all q r rs = list_any-append (eq_by_cmp source_cmp q) (bytes_of r) (all_bytes rs)
@@ -167,3 +166,11 @@ sorted_has q rs ss p = sym (any-flat ss) ∙ sym (list_any-IsPermutation (λ r. 
   any-flat : (rs : List SourceRun) → list_any (λ r. has source_cmp q (bytes_of r)) rs ≡ has source_cmp q (all_bytes rs)
   any-flat [] = refl
   any-flat (r ∷ rs) = ap (λ (b : Bool). has source_cmp q (bytes_of r) || b) (any-flat rs) ∙ sym (has-all q r rs)
+
+pub joined_all_members : (rs : List SourceRun) → AreRising rs → (q : SourceByte) → has source_cmp q (all_bytes (joined_all rs)) ≡ has source_cmp q (all_bytes rs)
+joined_all_members [] h q = refl
+joined_all_members (r ∷ rs) h q = joined_members r rs h q
+
+pub joined_all_ascends : (rs : List SourceRun) → AreRising rs → Ascends source_cmp (all_bytes (joined_all rs))
+joined_all_ascends [] h = tt
+joined_all_ascends (r ∷ rs) h = joined_ascends r rs h

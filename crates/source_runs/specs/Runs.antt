@@ -1,5 +1,5 @@
 -- Runs of source bytes: bytes of one channel with neighbouring offsets.
-use Rattle.std.specs.Prelude.{◌≡◌, ℕ, ◌+◌, ◌-◌, ◌<◌, ◌≤◌, ◌==◌, ◌&&◌, ◌⊎◌, nat_le, Bool, List, map}
+use Rattle.std.specs.Prelude.{◌≡◌, ℕ, ◌+◌, ◌-◌, ◌<◌, ◌≤◌, ◌==◌, ◌&&◌, ◌⊎◌, min, max, nat_le, Bool, List, [], ◌∷◌, map}
 use Rattle.std.specs.List.{flat_map, range_with_len}
 use Rattle.flow_model.specs.declared.SourceByte.{SourceByte}
 use Rattle.source_runs.specs.declared.runs.SourceRun.{SourceRun}
@@ -24,6 +24,10 @@ all_bytes rs = flat_map bytes_of rs
 abbrev pub AreApart : SourceRun → SourceRun → Type 0
 AreApart r s = (r.channel ≡ s.channel → ⊥) ⊎ (r.last + 1 < s.first) ⊎ (s.last + 1 < r.first)
 
+-- the run from where the first of both begins to where the last of them ends
+abbrev pub hull : SourceRun → SourceRun → SourceRun
+hull r s = record { channel = r.channel; first = min r.first s.first; last = max r.last s.last }
+
 -- the run has the first byte and the last byte of another one, and so all of them
 pub record Has (r s : SourceRun) : Type 0 where
   pub channel : r.channel ≡ s.channel
@@ -33,3 +37,16 @@ pub record Has (r s : SourceRun) : Type 0 where
 -- the next run begins in the channel of this one, at the latest right after its last byte
 abbrev pub goes_on : SourceRun → SourceRun → Bool
 goes_on r s = (s.channel == r.channel) && nat_le s.first (r.last + 1)
+
+-- the second run doesn't begin before the first
+abbrev pub IsBefore : SourceRun → SourceRun → Type 0
+IsBefore r s = (r.channel < s.channel) ⊎ ((r.channel ≡ s.channel) × (r.first ≤ s.first))
+
+-- each run begins no earlier than the one before it
+abbrev pub Rise : SourceRun → List SourceRun → Type 0
+Rise r [] = Unit {0}
+Rise r (s ∷ ss) = IsBefore r s × Rise s ss
+
+abbrev pub AreRising : List SourceRun → Type 0
+AreRising [] = Unit {0}
+AreRising (r ∷ rs) = Rise r rs

@@ -1,11 +1,10 @@
 //! Runs as a set of bytes.
 
 ghost use Rattle.std.specs.Prelude.{◌≡◌, ◌++◌, IfOk, OnOk};
-ghost use Rattle.std.specs.List.Sorted.{IsSorted};
 ghost use Rattle.sorted_set.specs.Sets.{Ascends, has};
 ghost use Rattle.flow_model.specs.Orders.{source_cmp};
 ghost use Rattle.flow_model.specs.declared.SourceByte.{SourceByte as Source};
-ghost use Rattle.source_runs.specs.Runs.{all_bytes, bytes_of, goes_on as runs_go_on};
+ghost use Rattle.source_runs.specs.Runs.{all_bytes, bytes_of, goes_on as runs_go_on, AreRising};
 
 use crate::runs::SourceRun;
 use flow_model::SourceByte;
@@ -24,7 +23,7 @@ pub fn settle(alloc: Global, runs: &mut Vec<SourceRun>) -> Result<(), NoMemory>
 
 /// Of runs that ascend by channel and first offset, those that overlap or touch as one.
 fn join_sorted(alloc: Global, runs: &[SourceRun]) -> Result<Vec<SourceRun>, NoMemory>
-    requires { IsSorted SourceRun.cmp runs.now }
+    requires { AreRising runs.now }
     ensures members { IfOk result (λ joined. (b : Source) → has source_cmp b (all_bytes joined.items) ≡ has source_cmp b (all_bytes runs.now)) }
     ensures ascending { IfOk result (λ joined. Ascends source_cmp (all_bytes joined.items)) }
 {

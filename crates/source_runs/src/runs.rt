@@ -3,7 +3,7 @@
 ghost use Rattle.std.specs.Prelude.{◌≡◌, ◌∷◌, [], None, IfSome, IsTrue};
 ghost use Rattle.sorted_set.specs.Sets.{union};
 ghost use Rattle.flow_model.specs.Orders.{source_cmp};
-ghost use Rattle.source_runs.specs.Runs.{bytes_of, AreApart, Has};
+ghost use Rattle.source_runs.specs.Runs.{bytes_of, hull as hull_of, AreApart, Has};
 
 use flow_model::SourceByte;
 
@@ -31,7 +31,9 @@ impl SourceRun {
     /// The least run that has the bytes of both, where they are of one channel.
     #[inline(always)]
     pub fn hull(self, other: SourceRun) -> Option<SourceRun>
-        ensures { IfSome result (λ run. Has run self × Has run other) }
+        ensures hull { IfSome result (λ run. run ≡ hull_of self other) }
+        ensures channel { IfSome result (λ run. self.channel ≡ other.channel) }
+        ensures none { result ≡ None → self.channel ≡ other.channel → ⊥ }
     {
         if self.channel != other.channel {
             return None;
