@@ -15,7 +15,7 @@ use Rattle.flow_model.proofs.Orders.{source_total, source_same}
 use Rattle.source_runs.specs.declared.runs.SourceRun.{SourceRun}
 use Rattle.source_runs.specs.Runs.{byte_on, bytes_from, bytes_of, hull, Has}
 
-no : {A : Type 0} → true ≡ false → A
+pub no : {A : Type 0} → true ≡ false → A
 no e = cc
 
 same_bool : (a b : Bool) → (a ≡ true → b ≡ true) → (b ≡ true → a ≡ true) → a ≡ b

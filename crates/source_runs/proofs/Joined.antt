@@ -1,5 +1,5 @@
 -- Runs that ascend, joined where they go on.
-use Rattle.std.proofs.Common.{◌≡◌, ℕ, zero, suc, ◌+◌, ◌<◌, ◌≤◌, List, [], ◌∷◌, ◌++◌, length, refl, ap, sym, ◌∙◌, subst, Bool, true, false, ◌||◌, if◌then◌else◌, arith, ◌⊎◌, inl, inr, min, max, append-nil, append_assoc, nat_cmp}
+use Rattle.std.proofs.Common.{◌≡◌, ℕ, zero, suc, ◌+◌, ◌<◌, ◌≤◌, List, [], ◌∷◌, ◌++◌, length, refl, ap, sym, ◌∙◌, subst, Bool, true, false, ◌||◌, if◌then◌else◌, arith, slice_index_or, ◌⊎◌, inl, inr, append-nil, nat_cmp}
 
 use Rattle.std.specs.List.{list_any}
 use Rattle.std.specs.List.Sorted.{IsSorted, IsPermutation}
@@ -18,7 +18,7 @@ use Rattle.flow_model.proofs.Orders.{source_total}
 use Rattle.source_runs.specs.declared.runs.SourceRun.{SourceRun}
 use Rattle.source_runs.specs.contracts.runs.SourceRunOrd.TheImpl as of_run_order
 use Rattle.source_runs.specs.Runs.{bytes_of, all_bytes, goes_on, IsBefore, Rise, AreRising}
-use Rattle.source_runs.proofs.Bytes.{IsOf, of_run, run_ascends, less, longer, longer_has}
+use Rattle.source_runs.proofs.Bytes.{no, IsOf, of_run, run_ascends, less, longer, longer_has}
 
 -- ---- runs in order
 
@@ -38,7 +38,9 @@ before r s = by (nat_cmp s.channel r.channel) (ranked s.channel r.channel (nat_c
 
 sorted_rise : (r : SourceRun) (rs : List SourceRun) → IsSorted run_compared (r ∷ rs) → Rise r rs
 sorted_rise r [] h = tt
-sorted_rise r (s ∷ ss) h = (before r s (h 0 r (omega arith) (omega arith)), sorted_rise s ss (λ k d low high. h (suc k) d (omega arith) (omega (arith, high))))
+sorted_rise r (s ∷ ss) h = (before r s (h 0 r (omega arith) (omega arith)), sorted_rise s ss (λ k d low high.
+    let next : suc k + 1 ≡ suc (k + 1) = omega arith in
+    subst (λ (n : ℕ). is_lt (run_compared (slice_index_or (r ∷ s ∷ ss) n d) (slice_index_or (s ∷ ss) k d)) ≡ false) next (h (suc k) d (omega arith) (omega (arith, high)))))
 
 pub sorted_rising : (rs : List SourceRun) → IsSorted run_compared rs → AreRising rs
 sorted_rising [] h = tt
@@ -135,14 +137,21 @@ after_then r s y (inl b) (inr a) = inl (omega (arith, b, a.0))
 after_then r s y (inr b) (inl a) = inl (omega (arith, b.0, a))
 after_then r s y (inr b) (inr a) = inr (b.0 ∙ a.0, omega (arith, b.1, a.1))
 
+own_after : (s : SourceRun) (y : SourceByte) → has source_cmp y (bytes_of s) ≡ true → IsAfter s y
+own_after s y p = let i = of_run y s p in inr (sym i.channel, i.first)
+
+later_after : (s : SourceRun) (ss : List SourceRun) (y : SourceByte) → Rise s ss → has source_cmp y (all_bytes ss) ≡ true → IsAfter s y
+later_after s [] y h p = no (sym p)
+later_after s (t ∷ ts) y h p = after_then s t y h.0 (by (or_cases (has source_cmp y (bytes_of t)) (has source_cmp y (all_bytes ts)) (sym (has-all y t ts) ∙ p)) (later_after t ts y h.1)) where
+  by : (has source_cmp y (bytes_of t) ≡ true) ⊎ (has source_cmp y (all_bytes ts) ≡ true) → (has source_cmp y (all_bytes ts) ≡ true → IsAfter t y) → IsAfter t y
+  by (inl q) later = own_after t y q
+  by (inr q) later = later q
+
 all_after : (s : SourceRun) (ss : List SourceRun) → Rise s ss → (y : SourceByte) → has source_cmp y (all_bytes (s ∷ ss)) ≡ true → IsAfter s y
 all_after s ss h y m = elim (or_cases (has source_cmp y (bytes_of s)) (has source_cmp y (all_bytes ss)) (sym (has-all y s ss) ∙ m)) [
-  | inl p ↦ let i = of_run y s p in inr (sym i.channel, i.first)
-  | inr p ↦ later ss h p
-] where
-  later : (ss : List SourceRun) → Rise s ss → has source_cmp y (all_bytes ss) ≡ true → IsAfter s y
-  later [] h p = cc
-  later (t ∷ ts) h p = after_then s t y h.0 (all_after t ts h.1 y p)
+  | inl p ↦ own_after s y p
+  | inr p ↦ later_after s ss y h p
+]
 
 pub joined_ascends : (r : SourceRun) (ss : List SourceRun) → Rise r ss → Ascends source_cmp (all_bytes (joined_from r ss))
 joined_ascends r [] h = subst (Ascends source_cmp) (sym (append-nil (bytes_of r))) (run_ascends r)
