@@ -9,8 +9,8 @@ use Rattle.flow_model.specs.Orders.{source_cmp}
 use Rattle.source_runs.specs.declared.runs.SourceRun.{SourceRun}
 use Rattle.source_runs.specs.Runs.{bytes_of}
 use Rattle.merge_log.specs.declared.nodes.Entry.{Entry}
-use Rattle.merge_log.specs.Log.{KeepsNodes, Terms, run_term, terms, joined}
-use Rattle.merge_log.proofs.Terms.{ascend-terms, ascend-run, joined_comm, nothing_under_0}
+use Rattle.merge_log.specs.Log.{KeepsNodes, Terms, terms, joined}
+use Rattle.merge_log.proofs.Terms.{nothing_under_0}
 use Rattle.taint_shadow.specs.declared.labels.Label.{Label}
 use Rattle.taint_shadow.specs.declared.labels.LabelKind.{LabelKind}
 use Rattle.taint_shadow.specs.declared.labels.LabelKind.TheVariants.{Node, Start, Run}
@@ -84,22 +84,6 @@ both_made labels left right label r s t is_left is_right kind stands is =
     let some : is_some_byte (bytes_of r) ≡ true = subst (StandsBy labels) is_left stands in
     let made = run_made labels label t (union source_cmp (bytes_of r) (bytes_of s)) kind is (some_union (bytes_of r) (bytes_of s) some) in
     record { stands = made.stands; means = made.means ∙ sym (ap₂ (union source_cmp) (ap (sources_by labels) is_left) (ap (sources_by labels) is_right)) }
-
--- a run that has all bytes of a node
-pub run_covers : (labels : SourceLabels) (left right : Label) (r : SourceRun) (n : ℕ) → kind_of left ≡ Run r → kind_of right ≡ Node n → label_words.stands labels left
-    → run_term r ≡ joined (terms labels.log n) (run_term r) → MakesLabel label_words labels (mean_together label_words labels left right) left
-run_covers labels left right r n is_left is_right stands within = record {
-  stands = stands;
-  means = ap (sources_by labels) is_left ∙ ap sources_in (within ∙ joined_comm (terms labels.log n) (run_term r) (ascend-terms labels.log n) (ascend-run r))
-      ∙ sym (ap₂ (union source_cmp) (ap (sources_by labels) is_left) (ap (sources_by labels) is_right));
-}
-
-pub covers_run : (labels : SourceLabels) (left right : Label) (r : SourceRun) (n : ℕ) → kind_of left ≡ Node n → kind_of right ≡ Run r → label_words.stands labels right
-    → run_term r ≡ joined (terms labels.log n) (run_term r) → MakesLabel label_words labels (mean_together label_words labels left right) right
-covers_run labels left right r n is_left is_right stands within = record {
-  stands = stands;
-  means = ap (sources_by labels) is_right ∙ ap sources_in within ∙ sym (ap₂ (union source_cmp) (ap (sources_by labels) is_left) (ap (sources_by labels) is_right));
-}
 
 -- ---- unions
 

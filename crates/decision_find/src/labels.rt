@@ -104,22 +104,14 @@ impl SourceLabels {
         Ok(self.label_of(node))
     }
 
-    /// The label of a run that has both, where no node is needed for them: both are runs that overlap or touch, or one is a run
-    /// that has all of the other.
+    /// The label of the run of both, where both are runs that overlap or touch.
     #[inline(always)]
     fn run_of_both(&self, left: Label, right: Label) -> Option<Label>
-        requires left { label_words.stands self.now left }
-        requires right { label_words.stands self.now right }
+        requires { label_words.stands self.now left }
         ensures { IfSome result (MakesLabel label_words self.now (mean_together label_words self.now left right)) }
     {
         match (left.kind(), right.kind()) {
             (LabelKind::Run(one), LabelKind::Run(other)) => Label::run(one.joined(other)?),
-            (LabelKind::Run(run), LabelKind::Node(node)) if self.log.is_within(node as Node, run) => {
-                Some(left)
-            }
-            (LabelKind::Node(node), LabelKind::Run(run)) if self.log.is_within(node as Node, run) => {
-                Some(right)
-            }
             _ => None,
         }
     }

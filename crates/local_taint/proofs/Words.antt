@@ -6,8 +6,7 @@ use Rattle.flow_model.specs.Orders.{source_cmp}
 use Rattle.source_runs.specs.declared.runs.SourceRun.{SourceRun}
 use Rattle.source_runs.specs.Runs.{bytes_of}
 use Rattle.merge_log.specs.declared.nodes.Entry.{Entry}
-use Rattle.merge_log.specs.Log.{IsNode, KeepsNodes, joined, run_term, terms}
-use Rattle.merge_log.proofs.Terms.{ascend-terms, ascend-run, joined_comm}
+use Rattle.merge_log.specs.Log.{IsNode, KeepsNodes, joined, terms}
 use Rattle.taint_shadow.specs.declared.labels.Label.{Label}
 use Rattle.taint_shadow.specs.declared.labels.LabelKind.{LabelKind}
 use Rattle.taint_shadow.specs.declared.labels.LabelKind.TheVariants.{Node, Start, Run}
@@ -52,22 +51,6 @@ pub both_made : (nodes : Nodes) (left right label : Label) (r s t : SourceRun) �
 both_made nodes left right label r s t is_left is_right kind is =
     let made = run_made nodes label t (union source_cmp (bytes_of r) (bytes_of s)) kind is in
     record { stands = made.stands; means = made.means ∙ sym (ap₂ together (ap (terms_by nodes) is_left) (ap (terms_by nodes) is_right)) }
-
--- a run that has all leaves of a node
-pub run_covers : (nodes : Nodes) (left right : Label) (r : SourceRun) (n : ℕ) → kind_of left ≡ Run r → kind_of right ≡ Node n → StandsIn nodes left
-    → run_term r ≡ joined (terms nodes.log n) (run_term r) → MakesLabel label_words nodes (together (terms_in nodes left) (terms_in nodes right)) left
-run_covers nodes left right r n is_left is_right stands within = record {
-  stands = stands;
-  means = ap (terms_by nodes) is_left ∙ ap as_terms (within ∙ joined_comm (terms nodes.log n) (run_term r) (ascend-terms nodes.log n) (ascend-run r))
-      ∙ sym (ap₂ together (ap (terms_by nodes) is_left) (ap (terms_by nodes) is_right));
-}
-
-pub covers_run : (nodes : Nodes) (left right : Label) (r : SourceRun) (n : ℕ) → kind_of left ≡ Node n → kind_of right ≡ Run r → StandsIn nodes right
-    → run_term r ≡ joined (terms nodes.log n) (run_term r) → MakesLabel label_words nodes (together (terms_in nodes left) (terms_in nodes right)) right
-covers_run nodes left right r n is_left is_right stands within = record {
-  stands = stands;
-  means = ap (terms_by nodes) is_right ∙ ap as_terms within ∙ sym (ap₂ together (ap (terms_by nodes) is_left) (ap (terms_by nodes) is_right));
-}
 
 -- equal labels together, and one with the label of nothing
 pub with_itself : (nodes : Nodes) (left right : Label) → left ≡ right → StandsIn nodes left → terms_in nodes left ≡ together (terms_in nodes left) (terms_in nodes right)

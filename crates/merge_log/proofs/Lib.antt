@@ -10,4 +10,3 @@ mod Blocks
 mod Roots
 mod Bounds
 mod Noted
-mod Over

@@ -31,7 +31,7 @@ at_beyond [] x (suc k) h = refl
 at_beyond (y ∷ ys) x zero h = absurd (omega (arith, h))
 at_beyond (y ∷ ys) x (suc k) h = at_beyond ys x k (omega (arith, h))
 
-pub before_or : (i n : ℕ) → (i < n) ⊎ (i ≡ n) ⊎ (n < i)
+before_or : (i n : ℕ) → (i < n) ⊎ (i ≡ n) ⊎ (n < i)
 before_or i n = by (nat_lt i n) refl where
   by : (b : Bool) → nat_lt i n ≡ b → (i < n) ⊎ (i ≡ n) ⊎ (n < i)
   by true p = inl (grind (arith, common_steps, p))

@@ -10,7 +10,6 @@
 #![tactic(auto)]
 
 mod finding;
-mod hulls;
 mod many;
 mod masks;
 mod nodes;

@@ -2,11 +2,9 @@
 
 ghost use Rattle.std.specs.Prelude.{◌≡◌, ℕ, ◌+◌, ◌<◌, [], length, Some, None, ◌≤◌, ◌⊎◌, ◌↔◌, Contains, IsTrue, IfSome, IsOk, IfOk, OnErr};
 ghost use Rattle.merge_log.specs.Log.{IsLog, AreSets, IsNode, HasOperandsBefore, IsNoted, KeepsNodes, IsUnited, HasUnion, IsAbsorbed, HasAbsorbingUnion, AreApart, AreTwo, Covers, HasOperand, terms, no_terms, source_term, run_term, run_entry, start_term, entry_at, entry_terms, joined};
-ghost use Rattle.merge_log.specs.Hulls.{IsOver};
 ghost use Rattle.merge_log.specs.Walk.{leaves_of};
 ghost use Rattle.merge_log.specs.declared.nodes.Entry.TheVariants as entry;
 
-use crate::hulls::Hulls;
 use crate::reader::{Leaf, TermsReader};
 use crate::recent::RecentUnions;
 use crate::under::StartsUnder;
@@ -39,7 +37,6 @@ pub struct MergeLog {
     entries: IndexSet<Entry>,
     recent: RecentUnions,
     under: StartsUnder,
-    hulls: Hulls,
 }
 
 /// The most entries of a log: its nodes fit into 32 bits.
@@ -50,13 +47,12 @@ impl Model for MergeLog {
     ghost use Rattle.merge_log.specs.declared.nodes.Entry.{Entry};
     ghost use Rattle.merge_log.specs.Log.{IsLog};
     ghost use Rattle.merge_log.specs.Under.{AreUnder};
-    ghost use Rattle.merge_log.specs.Hulls.{AreHulls};
 
     ghost Value = { List Entry };
 
     ghost view = { λ log. log.entries.keys };
 
-    ghost invariant = { λ log. IsLog log.entries.keys × AreUnder log.entries.keys log.under.leaves.items log.under.masks.items × AreHulls log.entries.keys log.hulls.hulls.items };
+    ghost invariant = { λ log. IsLog log.entries.keys × AreUnder log.entries.keys log.under.leaves.items log.under.masks.items };
 }
 
 impl MergeLog {
@@ -68,7 +64,6 @@ impl MergeLog {
             entries: IndexSet::new(alloc),
             recent: RecentUnions::new(alloc),
             under: StartsUnder::new(alloc),
-            hulls: Hulls::new(alloc),
         }
     }
 
@@ -117,11 +112,18 @@ impl MergeLog {
         ensures there { Contains self.old (run_entry run) → IsOk result }
         ensures err { OnErr result (self.new ≡ self.old) }
     {
-        self.insert(Entry::Run {
+        let slot = self.recent.slot_of(run.first, run.last);
+        let node = self.recent.node(slot);
+        if self.is_leaf_of(node, run) {
+            return Ok(node as u64);
+        }
+        let node = self.insert(Entry::Run {
             channel: run.channel,
             first: run.first,
             last: run.last,
-        })
+        })?;
+        self.recent.note(slot, node as u32);
+        Ok(node)
     }
 
     /// The node of what a location has at the start.
@@ -171,22 +173,6 @@ impl MergeLog {
         match self.recent_union(a, b) {
             Some(node) => Ok(node),
             None => self.absorb_or_make(a, b),
-        }
-    }
-
-    /// Whether a node is known to have no leaf but source bytes of this run.
-    #[inline(always)]
-    pub fn is_within(&self, node: Node, run: SourceRun) -> bool
-        requires { IsNode self.now node }
-        ensures { IsTrue result → IsOver run (terms self.now node) }
-    {
-        self.form(); // so that nodes fit into 32 bits
-        if node == 0 {
-            return true;
-        }
-        match self.hulls.hull(node as u32) {
-            Some(hull) => run.has(hull),
-            None => false,
         }
     }
 
@@ -323,6 +309,24 @@ impl MergeLog {
         }
     }
 
+    /// Whether a number is the node of a run.
+    #[inline(always)]
+    fn is_leaf_of(&self, node: u32, run: SourceRun) -> bool
+        ensures { IsTrue result → entry_at self.now node ≡ Some (run_entry run) }
+    {
+        if node == 0 || node as u64 >= self.size() {
+            return false;
+        }
+        match self.entry(node) {
+            Entry::Run {
+                channel,
+                first,
+                last,
+            } => channel == run.channel && first == run.first && last == run.last,
+            Entry::Source(_) | Entry::Start(_) | Entry::Union { .. } => false,
+        }
+    }
+
     /// The node of a union, which is made unless it is there, and is noted at the slot of its operands.
     #[inline(never)]
     fn insert_union(&mut self, left: u32, right: u32) -> Result<Node, NoMemory>
@@ -355,7 +359,6 @@ impl MergeLog {
         if self.entries.len() < MOST_ENTRIES {
             let (index, _) = self.entries.insert_full(entry)?;
             self.under.note(index as u32 + 1, entry);
-            self.hulls.note(index as u32 + 1, entry);
             return Ok(index as u64 + 1);
         }
         match self.entries.get_index_of(&entry) {

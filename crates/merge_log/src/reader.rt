@@ -1,6 +1,6 @@
 //! Readers of the terms of nodes, which keep their marks from call to call.
 
-ghost use Rattle.std.specs.Prelude.{◌≡◌, ◌++◌, map, IfOk, OnOk};
+ghost use Rattle.std.specs.Prelude.{◌≡◌, ◌++◌, [], map, IfOk, OnOk};
 ghost use Rattle.merge_log.specs.Log.{IsNode, AreSets, terms, no_terms, run_term, start_term};
 ghost use Rattle.merge_log.specs.Walk.{leaves_of, terms_of};
 ghost use Rattle.merge_log.specs.declared.reader.Leaf.TheVariants as leaf;

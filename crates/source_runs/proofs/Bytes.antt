@@ -1,6 +1,5 @@
 -- The bytes of runs: their order, and which they are. Crates above cite these lemmas.
 use Rattle.std.proofs.Common.{◌≡◌, ℕ, zero, suc, ◌+◌, ◌-◌, ◌<◌, ◌≤◌, List, [], ◌∷◌, ◌++◌, map, refl, ap, ap₂, sym, ◌∙◌, subst, Bool, true, false, ◌||◌, nat_lt, arith, ◌⊎◌, inl, inr, min, max}
-use Rattle.std.specs.Prelude.{Option, Some, None, IfSome}
 use Rattle.std.specs.List.{range_with_len}
 use Rattle.std.specs.Ordering.{eq_by_cmp, is_eq}
 use Rattle.std.specs.Cmp.{nat_cmp_is, tied_itself}
@@ -13,7 +12,7 @@ use Rattle.flow_model.specs.declared.SourceByte.{SourceByte}
 use Rattle.flow_model.specs.Orders.{source_cmp}
 use Rattle.flow_model.proofs.Orders.{source_total, source_same}
 use Rattle.source_runs.specs.declared.runs.SourceRun.{SourceRun}
-use Rattle.source_runs.specs.Runs.{byte_on, bytes_from, bytes_of, hull, Has}
+use Rattle.source_runs.specs.Runs.{byte_on, bytes_from, bytes_of}
 
 pub no : {A : Type 0} → true ≡ false → A
 no e = cc
@@ -122,6 +121,10 @@ have_both r s t q split left right =
     ])
     (λ h. elim (or_cases (has source_cmp q (bytes_of r)) (has source_cmp q (bytes_of s)) h) [ inl p ↦ run_has q t (left (of_run q r p)) | inr p ↦ run_has q t (right (of_run q s p)) ])
 
+-- the run from where the first of both begins to where the last of them ends
+abbrev pub hull : SourceRun → SourceRun → SourceRun
+hull r s = record { channel = r.channel; first = min r.first s.first; last = max r.last s.last }
+
 hull_has : (r s : SourceRun) (q : SourceByte) → r.channel ≡ s.channel → s.first ≤ r.last + 1 → r.first ≤ s.last + 1
     → has source_cmp q (bytes_of (hull r s)) ≡ (has source_cmp q (bytes_of r) || has source_cmp q (bytes_of s))
 hull_has r s q same left right = have_both r s (hull r s) q split
@@ -157,23 +160,3 @@ longer_has r s q same first left = have_both r s (longer r s) q split
         | inl k ↦ inr (record { channel = i.channel ∙ same; first = omega (arith, k, left); last = omega (arith, k, i.last) })
         | inr k ↦ inl (record { channel = i.channel; first = i.first; last = k })
       ]
-
--- a run that has the ends of another one has all of it
-pub has_within : (r s : SourceRun) → Has r s → bytes_of r ≡ union source_cmp (bytes_of s) (bytes_of r)
-has_within r s h =
-    same_list source_total source_same (bytes_of r) (union source_cmp (bytes_of s) (bytes_of r)) (run_ascends r)
-    (Ascends-union source_total (bytes_of s) (bytes_of r) (run_ascends r)) (λ q. both q ∙ sym (has-union source_total (bytes_of s) (bytes_of r) q)) where
-      both : (q : SourceByte) → has source_cmp q (bytes_of r) ≡ (has source_cmp q (bytes_of s) || has source_cmp q (bytes_of r))
-      both q = have_both s r r q (λ i. inr i) (λ i. record { channel = i.channel ∙ sym h.channel; first = omega (arith, i.first, h.first); last = omega (arith, i.last, h.last) }) (λ i. i)
-
--- the hull of two runs has both
-pub hull_left : (r s : SourceRun) → Has (hull r s) r
-hull_left r s = record { channel = refl; first = omega arith; last = omega arith }
-
-pub hull_right : (r s : SourceRun) → r.channel ≡ s.channel → Has (hull r s) s
-hull_right r s same = record { channel = same; first = omega arith; last = omega arith }
-
-pub joined_hull : (o : Option SourceRun) (r s : SourceRun) → IfSome o (λ t. t ≡ hull r s) → IfSome o (λ t. r.channel ≡ s.channel) → s.first ≤ r.last + 1 → r.first ≤ s.last + 1
-    → IfSome o (λ t. bytes_of t ≡ union source_cmp (bytes_of r) (bytes_of s))
-joined_hull None r s h same left right = tt
-joined_hull (Some t) r s h same left right = ap bytes_of h ∙ hull_is r s same left right

@@ -56,7 +56,7 @@ abbrev pub joined_all : List SourceRun → List SourceRun
 joined_all [] = []
 joined_all (r ∷ rs) = joined_from r rs
 
-has-all : (q : SourceByte) (r : SourceRun) (rs : List SourceRun) → has source_cmp q (all_bytes (r ∷ rs)) ≡ (has source_cmp q (bytes_of r) || has source_cmp q (all_bytes rs))
+pub has-all : (q : SourceByte) (r : SourceRun) (rs : List SourceRun) → has source_cmp q (all_bytes (r ∷ rs)) ≡ (has source_cmp q (bytes_of r) || has source_cmp q (all_bytes rs))
 has-all q r rs = list_any-append (eq_by_cmp source_cmp q) (bytes_of r) (all_bytes rs)
 
 record GoOn (r s : SourceRun) : Type 0 where
@@ -89,7 +89,7 @@ next_has r s q b e = by b where
   by (inl k) = absurd (omega (arith, k, g.channel))
   by (inr k) = longer_has r s q k.0 k.1 g.first
 
-or_grouped : (a b c : Bool) → ((a || b) || c) ≡ (a || (b || c))
+pub or_grouped : (a b c : Bool) → ((a || b) || c) ≡ (a || (b || c))
 or_grouped true b c = refl
 or_grouped false b c = refl
 

@@ -1,5 +1,5 @@
 -- Runs of source bytes: bytes of one channel with neighbouring offsets.
-use Rattle.std.specs.Prelude.{◌≡◌, ℕ, ◌+◌, ◌-◌, ◌<◌, ◌≤◌, ◌==◌, ◌&&◌, ◌⊎◌, min, max, nat_le, Bool, List, [], ◌∷◌, map}
+use Rattle.std.specs.Prelude.{◌≡◌, ℕ, ◌+◌, ◌-◌, ◌<◌, ◌≤◌, ◌==◌, ◌&&◌, ◌⊎◌, nat_le, Bool, List, [], ◌∷◌, map}
 use Rattle.std.specs.List.{flat_map, range_with_len}
 use Rattle.flow_model.specs.declared.SourceByte.{SourceByte}
 use Rattle.source_runs.specs.declared.runs.SourceRun.{SourceRun}
@@ -23,16 +23,6 @@ all_bytes rs = flat_map bytes_of rs
 -- the runs are of two channels, or there is an offset between them
 abbrev pub AreApart : SourceRun → SourceRun → Type 0
 AreApart r s = (r.channel ≡ s.channel → ⊥) ⊎ (r.last + 1 < s.first) ⊎ (s.last + 1 < r.first)
-
--- the run from where the first of both begins to where the last of them ends
-abbrev pub hull : SourceRun → SourceRun → SourceRun
-hull r s = record { channel = r.channel; first = min r.first s.first; last = max r.last s.last }
-
--- the run has the first byte and the last byte of another one, and so all of them
-pub record Has (r s : SourceRun) : Type 0 where
-  pub channel : r.channel ≡ s.channel
-  pub first : r.first ≤ s.first
-  pub last : s.last ≤ r.last
 
 -- the next run begins in the channel of this one, at the latest right after its last byte
 abbrev pub goes_on : SourceRun → SourceRun → Bool

@@ -16,9 +16,33 @@ pub fn settle(alloc: Global, runs: &mut Vec<SourceRun>) -> Result<(), NoMemory>
     ensures members { OnOk result ((b : Source) → has source_cmp b (all_bytes runs.new.items) ≡ has source_cmp b (all_bytes runs.old.items)) }
     ensures ascending { OnOk result (Ascends source_cmp (all_bytes runs.new.items)) }
 {
-    runs.sort_unstable();
-    *runs = join_sorted(alloc, runs)?;
+    let mut joined = join_neighbours(alloc, runs)?;
+    joined.sort_unstable();
+    *runs = join_sorted(alloc, &joined)?;
     Ok(())
+}
+
+/// The runs, with each that overlaps or touches those just before it joined to them: where runs nearly ascend or descend, few are
+/// left to be sorted.
+fn join_neighbours(alloc: Global, runs: &[SourceRun]) -> Result<Vec<SourceRun>, NoMemory>
+    ensures { IfOk result (λ joined. (b : Source) → has source_cmp b (all_bytes joined.items) ≡ has source_cmp b (all_bytes runs.now)) }
+{
+    let mut joined = Vec::new(alloc);
+    let Some((first, more)) = runs.split_first() else {
+        return Ok(joined);
+    };
+    let mut current = *first;
+    for run in more {
+        match current.joined(*run) {
+            Some(both) => current = both,
+            None => {
+                joined.push(current)?;
+                current = *run;
+            }
+        }
+    }
+    joined.push(current)?;
+    Ok(joined)
 }
 
 /// Of runs that ascend by channel and first offset, those that overlap or touch as one.

@@ -2,9 +2,8 @@
 //!
 //! The definitions stand in specs/Runs.antt: the bytes of a run, and of runs.
 //!
-//! Crates above rest on this: `SourceRun::joined` is the run of the bytes of two runs, where they overlap or touch, `is_within`
-//! tells whether one run has all bytes of another, and `hull` is the least run that has those of both. `settle` makes of runs in
-//! any order the runs of their bytes, ascending, and `push_bytes` appends the bytes of runs.
+//! Crates above rest on this: `SourceRun::joined` is the run of the bytes of two runs, where they overlap or touch.
+//! `settle` makes of runs in any order the runs of their bytes, ascending, and `push_bytes` appends the bytes of runs.
 #![tactic(auto)]
 
 mod joining;

@@ -1,9 +1,9 @@
 //! A run of source bytes.
 
-ghost use Rattle.std.specs.Prelude.{◌≡◌, ◌∷◌, [], None, IfSome, IsTrue};
+ghost use Rattle.std.specs.Prelude.{◌≡◌, ◌∷◌, [], None, IfSome};
 ghost use Rattle.sorted_set.specs.Sets.{union};
 ghost use Rattle.flow_model.specs.Orders.{source_cmp};
-ghost use Rattle.source_runs.specs.Runs.{bytes_of, hull as hull_of, AreApart, Has};
+ghost use Rattle.source_runs.specs.Runs.{bytes_of, AreApart};
 
 use flow_model::SourceByte;
 
@@ -28,14 +28,16 @@ impl SourceRun {
         }
     }
 
-    /// The least run that has the bytes of both, where they are of one channel.
+    /// The run of the bytes of both, where they are of one channel, and overlap or touch.
     #[inline(always)]
-    pub fn hull(self, other: SourceRun) -> Option<SourceRun>
-        ensures hull { IfSome result (λ run. run ≡ hull_of self other) }
-        ensures channel { IfSome result (λ run. self.channel ≡ other.channel) }
-        ensures none { result ≡ None → self.channel ≡ other.channel → ⊥ }
+    pub fn joined(self, other: SourceRun) -> Option<SourceRun>
+        ensures joined { IfSome result (λ run. bytes_of run ≡ union source_cmp (bytes_of self) (bytes_of other)) }
+        ensures none { result ≡ None → AreApart self other }
     {
         if self.channel != other.channel {
+            return None;
+        }
+        if other.first as u64 > self.last as u64 + 1 || self.first as u64 > other.last as u64 + 1 {
             return None;
         }
         Some(SourceRun {
@@ -43,25 +45,5 @@ impl SourceRun {
             first: self.first.min(other.first),
             last: self.last.max(other.last),
         })
-    }
-
-    /// Whether another run begins and ends inside this one.
-    #[inline(always)]
-    pub fn has(self, other: SourceRun) -> bool
-        ensures { IsTrue result → Has self other }
-    {
-        self.channel == other.channel && self.first <= other.first && other.last <= self.last
-    }
-
-    /// The run of the bytes of both, where they are of one channel, and overlap or touch.
-    #[inline(always)]
-    pub fn joined(self, other: SourceRun) -> Option<SourceRun>
-        ensures joined { IfSome result (λ run. bytes_of run ≡ union source_cmp (bytes_of self) (bytes_of other)) }
-        ensures none { result ≡ None → AreApart self other }
-    {
-        if other.first as u64 > self.last as u64 + 1 || self.first as u64 > other.last as u64 + 1 {
-            return None;
-        }
-        self.hull(other)
     }
 }

@@ -13,7 +13,7 @@ returns-in-Source-clause-covers c =
 
 pub returns-in-Run-clause-covers : goal.returns-in-Run-clause-covers
 returns-in-Run-clause-covers c =
-    on_ok_weaker c.give-in-Run.result (λ given r root h cover. leaf_cover _ root _ c.args.node c.args.mask r _ _ _
+    on_ok_weaker c.give-in-Run.result (λ given r root h cover. leaf_cover _ root _ c.args.node c.args.mask r _ _ (Run (record { channel = c.in-Run.channel; first = c.in-Run.first; last = c.in-Run.last }))
     (run_under c.args.log.now c.args.node _ _ _ c.in-Run.ensures.at) (no_bit _ _ r _ (omega arith) c.requires.clear) (given r h) cover) c.give-in-Run.ensures.given
 
 pub returns-in-Start-clause-covers : goal.returns-in-Start-clause-covers

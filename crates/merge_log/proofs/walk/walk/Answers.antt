@@ -27,7 +27,7 @@ pub loop-next-preserved-in-Continue-branch-3 : goal.loop-next-preserved-in-Conti
 loop-next-preserved-in-Continue-branch-3 c = record {
   room = c.loop-next.invariant.room;
   walk = leaf_step _ _ _ _ _ _ _ _ _ _ c.in-Some.ensures.items c.in-Run.ensures.at
-      (leaves_added c.args.log.now c.in-Some.next _ _ _ (run_under c.args.log.now c.in-Some.next _ _ _ c.in-Run.ensures.at) c.in_ok-add-in-Run.ensures)
+      (leaves_added c.args.log.now c.in-Some.next (Run (record { channel = c.in-Run.channel; first = c.in-Run.first; last = c.in-Run.last })) _ _ (run_under c.args.log.now c.in-Some.next _ _ _ c.in-Run.ensures.at) c.in_ok-add-in-Run.ensures)
       (λ h q k. h q (ap (has_leaf q) (run_under c.args.log.now c.in-Some.next _ _ _ c.in-Run.ensures.at) ∙ k)) c.loop-next.invariant.walk;
 }
 
