@@ -2,6 +2,7 @@
 use Rattle.std.proofs.Common.{◌≡◌, ℕ, zero, suc, ◌+◌, ◌<◌, List, [], ◌∷◌, ◌++◌, length, refl, ap, sym, ◌∙◌, subst, Bool, true, false, if◌then◌else◌, cond, nat_lt, arith, slice_get, get_or, position, Contains, add-one, length-append, ◌⊎◌, inl, inr}
 use Rattle.std.specs.Prelude.{Some, None}
 use Rattle.std.specs.List.{list_any, position_or_len}
+use Rattle.std.proofs.lemmas.Bool.{or_left, or_right}
 use Rattle.std.proofs.lemmas.List.Sums.{passes_at_first}
 use Rattle.std.proofs.lemmas.Grind.{common_steps}
 use Rattle.std.proofs.lemmas.Option.{slice_get_within, slice_get-get_or, get_or_from_slice_get}
@@ -49,8 +50,8 @@ alike_itself (Union p q) = grind (arith, common_steps)
 
 any_at : (log : List Entry) (e : Entry) (k : ℕ) → slice_get log k ≡ Some e → list_any (alike e) log ≡ true
 any_at [] e k h = cc
-any_at (x ∷ log) e zero h = let same : e ≡ x = cc in grind (arith, common_steps, alike_itself e)
-any_at (x ∷ log) e (suc k) h = grind (arith, common_steps, any_at log e k h)
+any_at (x ∷ log) e zero h = let same : e ≡ x = cc in or_left (alike e x) (list_any (alike e) log) (ap (alike e) (sym same) ∙ alike_itself e)
+any_at (x ∷ log) e (suc k) h = or_right (alike e x) (list_any (alike e) log) (any_at log e k h)
 
 pub found_there : (log : List Entry) (e : Entry) → list_any (alike e) log ≡ true → Contains log e
 found_there log e h = Contains-from_any alike_same e log h

@@ -112,6 +112,7 @@ impl MergeLog {
         ensures there { Contains self.old (run_entry run) → IsOk result }
         ensures err { OnErr result (self.new ≡ self.old) }
     {
+        self.form(); // so that nodes fit into 32 bits
         let slot = self.recent.slot_of(run.first, run.last);
         let node = self.recent.node(slot);
         if self.is_leaf_of(node, run) {

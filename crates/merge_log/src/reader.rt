@@ -1,6 +1,6 @@
 //! Readers of the terms of nodes, which keep their marks from call to call.
 
-ghost use Rattle.std.specs.Prelude.{◌≡◌, ◌++◌, [], map, IfOk, OnOk};
+ghost use Rattle.std.specs.Prelude.{◌≡◌, ◌++◌, map, IfOk, OnOk};
 ghost use Rattle.merge_log.specs.Log.{IsNode, AreSets, terms, no_terms, run_term, start_term};
 ghost use Rattle.merge_log.specs.Walk.{leaves_of, terms_of};
 ghost use Rattle.merge_log.specs.declared.reader.Leaf.TheVariants as leaf;
@@ -84,7 +84,8 @@ impl TermsReader {
         ensures read { OnOk result (self.new ≡ start_term loc) }
         ensures ascending { OnOk result (AreSets self.new) }
     {
-        self.clear();
+        self.found.clear();
+        self.sources.clear();
         self.found.starts.push(loc)?;
         Ok(())
     }
@@ -94,26 +95,18 @@ impl TermsReader {
         ensures read { OnOk result (self.new ≡ run_term run) }
         ensures ascending { OnOk result (AreSets self.new) }
     {
-        self.clear();
-        push_bytes(&mut self.sources, &[run])?;
-        Ok(())
-    }
-
-    /// Lets go of what was read.
-    fn clear(&mut self)
-        ensures nothing { self.new ≡ no_terms }
-        ensures runs { self.new.found.runs.items ≡ [] }
-        ensures starts { self.new.found.starts.items ≡ [] }
-    {
         self.found.clear();
         self.sources.clear();
+        push_bytes(&mut self.sources, &[run])?;
+        Ok(())
     }
 
     /// Takes what was found otherwise for what was read.
     pub(crate) fn copy_found(&mut self, found: &Found) -> Result<(), NoMemory>
         ensures { OnOk result (self.new ≡ terms_of found.now) }
     {
-        self.clear();
+        self.found.clear();
+        self.sources.clear();
         push_bytes(&mut self.sources, &found.runs)?;
         self.found.starts.extend_from_slice(&found.starts)?;
         Ok(())
@@ -127,7 +120,8 @@ impl TermsReader {
         ensures ascending { OnOk result (AreSets self.new) }
     {
         log.form();
-        self.clear();
+        self.found.clear();
+        self.sources.clear();
         if node == 0 {
             return Ok(());
         }
