@@ -1,17 +1,12 @@
 -- What labels mean, by their kind.
-use Rattle.std.proofs.Common.{◌≡◌, ◌<◌, ◌^◌, ℕ, List, [], ◌∷◌, length, refl, ap, ap₂, sym, subst, ◌∙◌, arith}
-use Rattle.sorted_set.specs.Sets.{union}
-use Rattle.flow_model.specs.declared.SourceByte.{SourceByte}
-use Rattle.flow_model.specs.Orders.{source_cmp}
-use Rattle.source_runs.specs.declared.runs.SourceRun.{SourceRun}
-use Rattle.source_runs.specs.Runs.{bytes_of}
+use Rattle.std.proofs.Common.{◌≡◌, ◌<◌, ◌^◌, ℕ, List, refl, ap, ap₂, sym, subst, ◌∙◌, arith}
 use Rattle.merge_log.specs.declared.nodes.Entry.{Entry}
 use Rattle.merge_log.specs.Log.{IsNode, KeepsNodes, joined, terms}
 use Rattle.taint_shadow.specs.declared.labels.Label.{Label}
 use Rattle.taint_shadow.specs.declared.labels.LabelKind.{LabelKind}
 use Rattle.taint_shadow.specs.declared.labels.LabelKind.TheVariants.{Node, Start, Run}
 use Rattle.taint_shadow.specs.Labels.{MakesLabel, KeepsLabels, Makes, kind_of, node_label, nothing_label}
-use Rattle.taint_shadow.proofs.Numbers.{first_number, node_kind}
+use Rattle.taint_shadow.proofs.Numbers.{node_kind}
 use Rattle.local_taint.specs.declared.labels.Nodes.{Nodes}
 use Rattle.local_taint.specs.Words.{label_words, as_terms, terms_in, terms_by, together, StandsIn, node_or_nothing}
 use Rattle.local_taint.specs.Laws.{label_laws}
@@ -34,23 +29,6 @@ node_made nodes n label small is here =
       stands = subst (λ (o : LabelKind). IsNode nodes.log (node_or_nothing o)) (sym kind) here;
       means = ap (terms_by nodes) kind;
     }
-
--- the label of a run
-run_made : (nodes : Nodes) (label : Label) (r : SourceRun) (bs : List SourceByte) → kind_of label ≡ Run r → bytes_of r ≡ bs → MakesLabel label_words nodes (record { sources = bs; starts = [] }) label
-run_made nodes label r bs kind is = record {
-  stands = subst (λ (o : LabelKind). IsNode nodes.log (node_or_nothing o)) (sym kind) (first_number (length nodes.log));
-  means = ap (terms_by nodes) kind ∙ ap (λ (xs : List SourceByte). record { sources = xs; starts = [] }) is;
-}
-
--- that of one byte, and that of two runs
-pub byte_made : (nodes : Nodes) (label : Label) (r : SourceRun) (b : SourceByte) → kind_of label ≡ Run r → bytes_of r ≡ b ∷ [] → Makes label_words nodes (label_words.source b) nodes label
-byte_made nodes label r b kind is = record { made = run_made nodes label r (b ∷ []) kind is; keeps = λ l h. record { stands = h; means = refl } }
-
-pub both_made : (nodes : Nodes) (left right label : Label) (r s t : SourceRun) → kind_of left ≡ Run r → kind_of right ≡ Run s → kind_of label ≡ Run t
-    → bytes_of t ≡ union source_cmp (bytes_of r) (bytes_of s) → MakesLabel label_words nodes (together (terms_in nodes left) (terms_in nodes right)) label
-both_made nodes left right label r s t is_left is_right kind is =
-    let made = run_made nodes label t (union source_cmp (bytes_of r) (bytes_of s)) kind is in
-    record { stands = made.stands; means = made.means ∙ sym (ap₂ together (ap (terms_by nodes) is_left) (ap (terms_by nodes) is_right)) }
 
 -- equal labels together, and one with the label of nothing
 pub with_itself : (nodes : Nodes) (left right : Label) → left ≡ right → StandsIn nodes left → terms_in nodes left ≡ together (terms_in nodes left) (terms_in nodes right)
