@@ -1,6 +1,7 @@
 -- Labels as nodes: what a growing log keeps, and which labels have a source byte.
 use Rattle.std.proofs.Common.{◌≡◌, ℕ, zero, suc, ◌<◌, nat_lt, true, false, List, [], ◌∷◌, refl, ap, ap₂, sym, ◌∙◌, subst, arith}
 use Rattle.std.proofs.lemmas.Bool.{lt-ltb}
+use Rattle.std.proofs.lemmas.Grind.{common_steps}
 use Rattle.std.specs.declared.cmp.Ordering.{Ordering}
 use Rattle.std.specs.declared.cmp.Ordering.TheVariants.{Less, Equal, Greater}
 use Rattle.sorted_set.specs.Sets.{union, inserted, placed}
@@ -12,6 +13,7 @@ use Rattle.merge_log.specs.declared.nodes.Entry.{Entry}
 use Rattle.merge_log.specs.Log.{KeepsNodes, Terms, terms, joined}
 use Rattle.merge_log.proofs.Terms.{nothing_under_0}
 use Rattle.taint_shadow.specs.declared.labels.Label.{Label}
+use Rattle.taint_shadow.specs.contracts.labels.LabelPartialEq.TheImpl as label_test
 use Rattle.taint_shadow.specs.declared.labels.LabelKind.{LabelKind}
 use Rattle.taint_shadow.specs.declared.labels.LabelKind.TheVariants.{Node, Start, Run}
 use Rattle.taint_shadow.specs.Labels.{MakesLabel, KeepsLabels, Makes, mean_together, kind_of}
@@ -107,6 +109,10 @@ of_both a b c d left right l r n label stands node is_left first is_right second
   };
   keeps = keeps_labels a d (nodes_then a.log c.log d.log (nodes_then a.log b.log c.log first second) third);
 }
+
+-- labels that test as equal are the same
+pub same_label : (l m : Label) → label_test.eq-value.it l m ≡ true → l ≡ m
+same_label l m h = let same : l.number ≡ m.number = grind (arith, common_steps) in ap (λ (n : ℕ). record { number = n }) same
 
 -- equal labels, and one without a source byte
 module _ (labels : SourceLabels) (left right : Label) (is_left : label_words.stands labels left) (is_right : label_words.stands labels right) where

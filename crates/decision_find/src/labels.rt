@@ -123,7 +123,10 @@ impl SourceLabels {
         ensures { IfOk result (Makes label_words self.old
             (mean_together label_words self.old left right) self.new) }
     {
-        if left == right || !self.has_source(right) {
+        if left == right {
+            return Ok(left);
+        }
+        if !self.has_source(right) {
             return Ok(left);
         }
         if !self.has_source(left) {
