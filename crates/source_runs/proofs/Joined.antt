@@ -1,6 +1,5 @@
 -- Runs that ascend, joined where they go on.
 use Rattle.std.proofs.Common.{◌≡◌, ℕ, zero, suc, ◌+◌, ◌<◌, ◌≤◌, List, [], ◌∷◌, ◌++◌, length, refl, ap, sym, ◌∙◌, subst, Bool, true, false, ◌||◌, if◌then◌else◌, arith, slice_index_or, ◌⊎◌, inl, inr, append-nil, nat_cmp}
-
 use Rattle.std.specs.List.{list_any}
 use Rattle.std.specs.List.Sorted.{IsSorted, IsPermutation}
 use Rattle.std.specs.Ordering.{MatchOrdering, eq_by_cmp, is_eq, is_lt, ordering_then}
@@ -38,9 +37,12 @@ before r s = by (nat_cmp s.channel r.channel) (ranked s.channel r.channel (nat_c
 
 sorted_rise : (r : SourceRun) (rs : List SourceRun) → IsSorted run_compared (r ∷ rs) → Rise r rs
 sorted_rise r [] h = tt
-sorted_rise r (s ∷ ss) h = (before r s (h 0 r (omega arith) (omega arith)), sorted_rise s ss (λ k d low high.
-    let next : suc k + 1 ≡ suc (k + 1) = omega arith in
-    subst (λ (n : ℕ). is_lt (run_compared (slice_index_or (r ∷ s ∷ ss) n d) (slice_index_or (s ∷ ss) k d)) ≡ false) next (h (suc k) d (omega arith) (omega (arith, high)))))
+sorted_rise r (s ∷ ss) h = (
+  before r s (h 0 r (omega arith) (omega arith)),
+  sorted_rise s ss (λ k d low high.
+      let next : suc k + 1 ≡ suc (k + 1) = omega arith in
+      subst (λ (n : ℕ). is_lt (run_compared (slice_index_or (r ∷ s ∷ ss) n d) (slice_index_or (s ∷ ss) k d)) ≡ false) next (h (suc k) d (omega arith) (omega (arith, high)))),
+)
 
 pub sorted_rising : (rs : List SourceRun) → IsSorted run_compared rs → AreRising rs
 sorted_rising [] h = tt

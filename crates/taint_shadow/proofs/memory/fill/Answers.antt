@@ -22,6 +22,6 @@ loop-cell-preserved c =
       same = λ q line. ap (λ (xs : List Label). cell_or xs q) c.in_ok-push.ensures.items
           ∙ pushed_or cells c.start.result (start_label (Mem q)) (q % 64)
           (λ e. let place : first + c.loop-cell.cell ≡ q = omega (arith, e, c.loop-cell.invariant.size, line, c.requires) in
-              c.start.ensures.label ∙ ap (λ (p : ℕ). start_label (Mem p)) place)
+          c.start.ensures.label ∙ ap (λ (p : ℕ). start_label (Mem p)) place)
           ∙ c.loop-cell.invariant.same q line;
     }
