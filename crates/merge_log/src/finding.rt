@@ -58,12 +58,12 @@ impl Found {
         Ok(())
     }
 
-    /// Makes sets of the leaves: each once, ascending. When out of memory there may be others.
-    pub fn settle(&mut self, alloc: Global) -> Result<(), NoMemory>
+    /// Makes sets of the leaves: each once, ascending. Only the room of `spare` is used. When out of memory there may be others.
+    pub fn settle(&mut self, spare: &mut Vec<SourceRun>) -> Result<(), NoMemory>
         ensures members { OnOk result ((q : AnyLeaf) → has_leaf q (terms_of self.new) ≡ has_leaf q (terms_of self.old)) }
         ensures ascending { OnOk result (AreSets (terms_of self.new)) }
     {
-        settle(alloc, &mut self.runs)?;
+        settle(&mut self.runs, spare)?;
         ascend(&mut self.starts);
         Ok(())
     }

@@ -25,11 +25,11 @@ pub enum Leaf {
 /// call, so that a call takes memory only as the log has grown, and for the leaves.
 #[derive(Drop)]
 pub struct TermsReader {
-    alloc: Global,
     marks: Marks,
     stack: Vec<u32>,
     found: Found,
     sources: Vec<SourceByte>,
+    spare: Vec<SourceRun>,
 }
 
 impl Model for TermsReader {
@@ -46,11 +46,11 @@ impl TermsReader {
         ensures { result ≡ no_terms }
     {
         TermsReader {
-            alloc,
             marks: Marks::new(alloc),
             stack: Vec::new(alloc),
             found: Found::new(alloc),
             sources: Vec::new(alloc),
+            spare: Vec::new(alloc),
         }
     }
 
@@ -133,7 +133,7 @@ impl TermsReader {
             &mut self.stack,
             &mut self.found,
         )?;
-        self.found.settle(self.alloc)?;
+        self.found.settle(&mut self.spare)?;
         push_bytes(&mut self.sources, &self.found.runs)?;
         Ok(())
     }

@@ -155,13 +155,13 @@ fn empty_all(found: &mut Vec<Found>)
 }
 
 /// Makes a set of what was found of each root.
-pub fn settle_all(alloc: Global, found: &mut Vec<Found>) -> Result<(), NoMemory>
+pub fn settle_all(found: &mut Vec<Found>, spare: &mut Vec<SourceRun>) -> Result<(), NoMemory>
     ensures sets { OnOk result (length found.new.items ≡ length found.old.items) }
     ensures members { OnOk result (HaveLeavesOf found.old.items found.new.items) }
     ensures ascending { OnOk result ((r : ℕ) → AreSets (found_at found.new.items r)) }
 {
     for root in 0..found.len() {
-        found[root].settle(alloc)?;
+        found[root].settle(spare)?;
     }
     Ok(())
 }

@@ -1,6 +1,6 @@
 //! Runs as a set of bytes.
 
-ghost use Rattle.std.specs.Prelude.{◌≡◌, ◌++◌, IfOk, OnOk};
+ghost use Rattle.std.specs.Prelude.{◌≡◌, ◌++◌, [], OnOk};
 ghost use Rattle.sorted_set.specs.Sets.{Ascends, has};
 ghost use Rattle.flow_model.specs.Orders.{source_cmp};
 ghost use Rattle.flow_model.specs.declared.SourceByte.{SourceByte as Source};
@@ -9,27 +9,28 @@ ghost use Rattle.source_runs.specs.Runs.{all_bytes, bytes_of, goes_on as runs_go
 use crate::runs::SourceRun;
 use flow_model::SourceByte;
 use no_memory::NoMemory;
-use std::alloc::Global;
 
-/// Makes of runs in any order those of the same bytes, ascending, each byte once. It fails only where there is no memory.
-pub fn settle(alloc: Global, runs: &mut Vec<SourceRun>) -> Result<(), NoMemory>
+/// Makes of runs in any order those of the same bytes, ascending, each byte once. Only the room of `spare` is used. It fails only
+/// where there is no memory.
+pub fn settle(runs: &mut Vec<SourceRun>, spare: &mut Vec<SourceRun>) -> Result<(), NoMemory>
     ensures members { OnOk result ((b : Source) → has source_cmp b (all_bytes runs.new.items) ≡ has source_cmp b (all_bytes runs.old.items)) }
     ensures ascending { OnOk result (Ascends source_cmp (all_bytes runs.new.items)) }
 {
-    let mut joined = join_neighbours(alloc, runs)?;
-    joined.sort_unstable();
-    *runs = join_sorted(alloc, &joined)?;
-    Ok(())
+    spare.clear();
+    join_neighbours(runs, spare)?;
+    spare.sort_unstable();
+    runs.clear();
+    join_sorted(spare, runs)
 }
 
 /// The runs, with each that overlaps or touches those just before it joined to them: where runs nearly ascend or descend, few are
 /// left to be sorted.
-fn join_neighbours(alloc: Global, runs: &[SourceRun]) -> Result<Vec<SourceRun>, NoMemory>
-    ensures { IfOk result (λ joined. (b : Source) → has source_cmp b (all_bytes joined.items) ≡ has source_cmp b (all_bytes runs.now)) }
+fn join_neighbours(runs: &[SourceRun], joined: &mut Vec<SourceRun>) -> Result<(), NoMemory>
+    requires { joined.old.items ≡ [] }
+    ensures { OnOk result ((b : Source) → has source_cmp b (all_bytes joined.new.items) ≡ has source_cmp b (all_bytes runs.now)) }
 {
-    let mut joined = Vec::new(alloc);
     let Some((first, more)) = runs.split_first() else {
-        return Ok(joined);
+        return Ok(());
     };
     let mut current = *first;
     for run in more {
@@ -42,18 +43,18 @@ fn join_neighbours(alloc: Global, runs: &[SourceRun]) -> Result<Vec<SourceRun>, 
         }
     }
     joined.push(current)?;
-    Ok(joined)
+    Ok(())
 }
 
 /// Of runs that ascend by channel and first offset, those that overlap or touch as one.
-fn join_sorted(alloc: Global, runs: &[SourceRun]) -> Result<Vec<SourceRun>, NoMemory>
-    requires { AreRising runs.now }
-    ensures members { IfOk result (λ joined. (b : Source) → has source_cmp b (all_bytes joined.items) ≡ has source_cmp b (all_bytes runs.now)) }
-    ensures ascending { IfOk result (λ joined. Ascends source_cmp (all_bytes joined.items)) }
+fn join_sorted(runs: &[SourceRun], joined: &mut Vec<SourceRun>) -> Result<(), NoMemory>
+    requires rising { AreRising runs.now }
+    requires none { joined.old.items ≡ [] }
+    ensures members { OnOk result ((b : Source) → has source_cmp b (all_bytes joined.new.items) ≡ has source_cmp b (all_bytes runs.now)) }
+    ensures ascending { OnOk result (Ascends source_cmp (all_bytes joined.new.items)) }
 {
-    let mut joined = Vec::new(alloc);
     let Some((first, more)) = runs.split_first() else {
-        return Ok(joined);
+        return Ok(());
     };
     let mut current = *first;
     for run in more {
@@ -65,7 +66,7 @@ fn join_sorted(alloc: Global, runs: &[SourceRun]) -> Result<Vec<SourceRun>, NoMe
         }
     }
     joined.push(current)?;
-    Ok(joined)
+    Ok(())
 }
 
 /// Whether a run of the same channel begins inside another one, or right after it.

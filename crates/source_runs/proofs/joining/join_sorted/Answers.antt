@@ -18,7 +18,7 @@ all_joined c =
     ∙ c.loop-run.invariant
 
 pub returns-clause-members : goal.returns-clause-members
-returns-clause-members c b = ap (λ (rs : List SourceRun). has source_cmp b (all_bytes rs)) (all_joined c) ∙ joined_all_members c.args.runs.now c.requires b
+returns-clause-members c b = ap (λ (rs : List SourceRun). has source_cmp b (all_bytes rs)) (all_joined c) ∙ joined_all_members c.args.runs.now c.requires.rising b
 
 pub returns-clause-ascending : goal.returns-clause-ascending
-returns-clause-ascending c = subst (λ (rs : List SourceRun). Ascends source_cmp (all_bytes rs)) (sym (all_joined c)) (joined_all_ascends c.args.runs.now c.requires)
+returns-clause-ascending c = subst (λ (rs : List SourceRun). Ascends source_cmp (all_bytes rs)) (sym (all_joined c)) (joined_all_ascends c.args.runs.now c.requires.rising)
