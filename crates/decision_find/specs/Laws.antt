@@ -8,10 +8,11 @@ use Rattle.flow_model.specs.Ranges.{IsLocation}
 use Rattle.flow_model.proofs.Orders.{source_total, source_same}
 use Rattle.sorted_set.specs.Sets.{union, Ascends}
 use Rattle.sorted_set.proofs.Algebra.{Ascends-union, union_assoc, union_comm, union-nil}
+use Rattle.source_runs.proofs.Bytes.{run_ascends}
 use Rattle.merge_log.specs.Log.{Terms}
 use Rattle.merge_log.proofs.Terms.{ascend-terms, nothing_under_0, joined_itself}
 use Rattle.taint_shadow.specs.declared.labels.LabelKind.{LabelKind}
-use Rattle.taint_shadow.specs.declared.labels.LabelKind.TheVariants.{Node, Start}
+use Rattle.taint_shadow.specs.declared.labels.LabelKind.TheVariants.{Node, Start, Run}
 use Rattle.taint_shadow.specs.Labels.{MakesLabel, Laws, kind_of, start_label}
 use Rattle.taint_shadow.proofs.Numbers.{start_kind, first_number}
 use Rattle.decision_find.specs.declared.labels.SourceLabels.{SourceLabels}
@@ -20,6 +21,7 @@ use Rattle.decision_find.specs.Words.{label_words, sources_by, StandsBy}
 ascend_by : (labels : SourceLabels) (k : LabelKind) → Ascends source_cmp (sources_by labels k)
 ascend_by labels (Node n) = (ascend-terms labels.log n).sources
 ascend_by labels (Start l) = tt
+ascend_by labels (Run r) = run_ascends r
 
 started : (labels : SourceLabels) (l : Loc) → IsLocation l → MakesLabel label_words labels [] (start_label l)
 started labels l here = record {

@@ -1,7 +1,7 @@
-//! What labels mean over a whole run: nodes of a log of source bytes. What was anywhere at the start came from none.
+//! What labels mean over a whole run: runs of source bytes, and nodes of a log of them. What was anywhere at the start came from none.
 
-ghost use Rattle.std.specs.Prelude.{◌≡◌, ◌<◌, IfOk, OnOk};
-ghost use Rattle.merge_log.specs.Log.{terms, joined};
+ghost use Rattle.std.specs.Prelude.{◌≡◌, true, IfOk, IfSome, OnOk};
+ghost use Rattle.merge_log.specs.Log.{KeepsNodes, terms};
 ghost use Rattle.taint_shadow.specs.Labels.{MakesLabel, Makes, mean_together};
 ghost use Rattle.decision_model.specs.Decisions.{is_some_byte};
 ghost use Rattle.decision_find.specs.Words.{label_words, IsSourceNode};
@@ -9,6 +9,7 @@ ghost use Rattle.decision_find.specs.Words.{label_words, IsSourceNode};
 use flow_model::SourceByte;
 use merge_log::{MergeLog, Node, TermsReader};
 use no_memory::NoMemory;
+use source_runs::SourceRun;
 use std::alloc::Global;
 use std::collections::LinkedList;
 use std::marker::Model;
@@ -53,16 +54,18 @@ impl SourceLabels {
         Label::node(node as u32)
     }
 
-    /// The node of a label: the empty one of what was there at the start.
+    /// The node of a label, which is made unless it is there: the empty one of what was there at the start.
     #[inline(always)]
-    fn node_of(&self, label: Label) -> Node
-        requires { label_words.stands self.now label }
-        ensures stands { IsSourceNode self.now result }
-        ensures means { (terms self.now.log result).sources ≡ label_words.means self.now label }
+    fn node_of(&mut self, label: Label) -> Result<Node, NoMemory>
+        requires { label_words.stands self.old label }
+        ensures stands { IfOk result (IsSourceNode self.new) }
+        ensures means { IfOk result (λ n. (terms self.new.log n).sources ≡ label_words.means self.old label) }
+        ensures keeps { KeepsNodes self.old.log self.new.log }
     {
         match label.kind() {
-            LabelKind::Node(node) => node as Node,
-            LabelKind::Start(_) => self.log.nothing(),
+            LabelKind::Node(node) => Ok(node as Node),
+            LabelKind::Start(_) => Ok(self.log.nothing()),
+            LabelKind::Run(run) => self.log.leaf_run(run),
         }
     }
 
@@ -75,43 +78,64 @@ impl SourceLabels {
         match label.kind() {
             LabelKind::Node(node) => node > 0,
             LabelKind::Start(_) => false,
+            LabelKind::Run(_) => true,
         }
     }
 
-    /// The label of the union of two nodes above 0.
+    /// The label of the union of two labels' nodes, where the left one stands for a source byte.
     #[inline(never)]
-    fn unite_nodes(&mut self, one: Node, other: Node) -> Result<Label, NoMemory>
-        requires one { IsSourceNode self.old one }
-        requires other { IsSourceNode self.old other }
-        requires some { 0 < one }
-        ensures { IfOk result (Makes label_words self.old
-            (joined (terms self.old.log one) (terms self.old.log other)).sources self.new) }
+    fn unite_nodes(&mut self, left: Label, right: Label) -> Result<Label, NoMemory>
+        requires left { label_words.stands self.old left }
+        requires right { label_words.stands self.old right }
+        requires some { is_some_byte (label_words.means self.old left) ≡ true }
+        ensures { IfOk result (Makes label_words self.old (mean_together label_words self.old left right) self.new) }
     {
+        let one = self.node_of(left)?;
+        let other = self.node_of(right)?;
         let node = self.log.absorbing_union(one, other)?;
         Ok(self.label_of(node))
     }
 
-    /// The label of two together. No node is made where their nodes are one, or one of
-    /// them has no source byte.
+    /// The label of the node of one source byte.
+    fn source_node(&mut self, byte: SourceByte) -> Result<Label, NoMemory>
+        ensures { IfOk result (Makes label_words self.old (label_words.source byte) self.new) }
+    {
+        let node = self.log.leaf_source(byte)?;
+        Ok(self.label_of(node))
+    }
+
+    /// The label of the run of both, where both are runs that overlap or touch.
     #[inline(always)]
+    fn run_of_both(&self, left: Label, right: Label) -> Option<Label>
+        requires { label_words.stands self.now left }
+        ensures { IfSome result (MakesLabel label_words self.now (mean_together label_words self.now left right)) }
+    {
+        match (left.kind(), right.kind()) {
+            (LabelKind::Run(one), LabelKind::Run(other)) => Label::run(one.joined(other)?),
+            _ => None,
+        }
+    }
+
+    /// The label of two together. No node is made where they are equal, one of them has no source byte, or a run has both.
     pub(crate) fn unite_labels(&mut self, left: Label, right: Label) -> Result<Label, NoMemory>
         requires left { label_words.stands self.old left }
         requires right { label_words.stands self.old right }
         ensures { IfOk result (Makes label_words self.old
             (mean_together label_words self.old left right) self.new) }
     {
-        let one = self.node_of(left);
-        let other = self.node_of(right);
-        if one == other {
+        if left == right {
             return Ok(left);
         }
-        if other == 0 {
+        if !self.has_source(right) {
             return Ok(left);
         }
-        if one == 0 {
+        if !self.has_source(left) {
             return Ok(right);
         }
-        self.unite_nodes(one, other)
+        match self.run_of_both(left, right) {
+            Some(label) => Ok(label),
+            None => self.unite_nodes(left, right),
+        }
     }
 
     /// Reads the source bytes of a label. When out of memory, the reader may have read part of them, and can go on with any
@@ -120,7 +144,11 @@ impl SourceLabels {
         requires { label_words.stands self.now label }
         ensures { OnOk result (reader.new.sources ≡ label_words.means self.now label) }
     {
-        reader.read(&self.log, self.node_of(label))
+        match label.kind() {
+            LabelKind::Node(node) => reader.read(&self.log, node as Node),
+            LabelKind::Start(_) => reader.read(&self.log, self.log.nothing()),
+            LabelKind::Run(run) => reader.read_run(run),
+        }
     }
 }
 
@@ -135,8 +163,10 @@ impl Labels for SourceLabels {
     ghost laws = { label_laws };
 
     fn source(&mut self, byte: SourceByte) -> Result<Label, NoMemory> {
-        let node = self.log.leaf_source(byte)?;
-        Ok(self.label_of(node))
+        match Label::run(SourceRun::of_byte(byte)) {
+            Some(label) => Ok(label),
+            None => self.source_node(byte),
+        }
     }
 
     #[inline(always)]

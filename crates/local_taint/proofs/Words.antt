@@ -4,7 +4,7 @@ use Rattle.merge_log.specs.declared.nodes.Entry.{Entry}
 use Rattle.merge_log.specs.Log.{IsNode, KeepsNodes, joined, terms}
 use Rattle.taint_shadow.specs.declared.labels.Label.{Label}
 use Rattle.taint_shadow.specs.declared.labels.LabelKind.{LabelKind}
-use Rattle.taint_shadow.specs.declared.labels.LabelKind.TheVariants.{Node, Start}
+use Rattle.taint_shadow.specs.declared.labels.LabelKind.TheVariants.{Node, Start, Run}
 use Rattle.taint_shadow.specs.Labels.{MakesLabel, KeepsLabels, Makes, kind_of, node_label, nothing_label}
 use Rattle.taint_shadow.proofs.Numbers.{node_kind}
 use Rattle.local_taint.specs.declared.labels.Nodes.{Nodes}
@@ -19,6 +19,7 @@ keeps_labels old new k label h =
       by : (o : LabelKind) → IsNode old.log (node_or_nothing o) → IsNode new.log (node_or_nothing o) × (terms_by new o ≡ terms_by old o)
       by (Node n) h = (k.nodes n h, ap as_terms (k.terms n h))
       by (Start l) h = (omega arith, refl)
+      by (Run r) h = (omega arith, refl)
 
 -- the label of a node
 pub node_made : (nodes : Nodes) (n : ℕ) (label : Label) → n < 2 ^ 32 → label ≡ node_label n → IsNode nodes.log n → MakesLabel label_words nodes (as_terms (terms nodes.log n)) label

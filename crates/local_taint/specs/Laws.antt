@@ -6,9 +6,9 @@ use Rattle.flow_model.specs.declared.SourceByte.{SourceByte}
 use Rattle.flow_model.specs.Ranges.{IsLocation}
 use Rattle.epoch_model.specs.Summary.{Terms}
 use Rattle.merge_log.specs.Log.{IsNode}
-use Rattle.merge_log.proofs.Terms.{ascend-terms, ascend-joined, nothing_under_0, joined_assoc, joined_comm, joined_itself, joined_nothing}
+use Rattle.merge_log.proofs.Terms.{ascend-terms, ascend-run, ascend-joined, nothing_under_0, joined_assoc, joined_comm, joined_itself, joined_nothing}
 use Rattle.taint_shadow.specs.declared.labels.LabelKind.{LabelKind}
-use Rattle.taint_shadow.specs.declared.labels.LabelKind.TheVariants.{Node, Start}
+use Rattle.taint_shadow.specs.declared.labels.LabelKind.TheVariants.{Node, Start, Run}
 use Rattle.taint_shadow.specs.Labels.{MakesLabel, Laws, kind_of, start_label}
 use Rattle.taint_shadow.proofs.Numbers.{start_kind, first_number}
 use Rattle.local_taint.specs.declared.labels.Nodes.{Nodes}
@@ -17,6 +17,7 @@ use Rattle.local_taint.specs.Words.{label_words, as_terms, as_leaves, terms_by, 
 terms_ascend : (nodes : Nodes) (k : LabelKind) → AreTerms (terms_by nodes k)
 terms_ascend nodes (Node n) = ascend-terms nodes.log n
 terms_ascend nodes (Start l) = record { sources = tt; starts = (tt, tt) }
+terms_ascend nodes (Run r) = ascend-run r
 
 grouped : (a b c : Terms) → AreTerms b → AreTerms c → together a (together b c) ≡ together (together a b) c
 grouped a b c h k = ap as_terms (joined_assoc (as_leaves a) (as_leaves b) (as_leaves c) h k)

@@ -7,7 +7,8 @@ use Rattle.epoch_model.specs.Summary.{Terms}
 use Rattle.merge_log.specs.Log.{IsNode, AreSets, terms, Terms as Leaves}
 use Rattle.taint_shadow.specs.declared.labels.Label.{Label}
 use Rattle.taint_shadow.specs.declared.labels.LabelKind.{LabelKind}
-use Rattle.taint_shadow.specs.declared.labels.LabelKind.TheVariants.{Node, Start}
+use Rattle.source_runs.specs.Runs.{bytes_of}
+use Rattle.taint_shadow.specs.declared.labels.LabelKind.TheVariants.{Node, Start, Run}
 use Rattle.taint_shadow.specs.Labels.{LabelWords, kind_of}
 use Rattle.local_taint.specs.declared.labels.Nodes.{Nodes}
 
@@ -27,15 +28,17 @@ together a b = record { sources = union source_cmp a.sources b.sources; starts =
 abbrev pub node_or_nothing : LabelKind → ℕ
 node_or_nothing (Node n) = n
 node_or_nothing (Start l) = 0
+node_or_nothing (Run r) = 0
 
 -- the node of a label is one of the log's
 abbrev pub StandsIn : Nodes → Label → Type 0
 StandsIn nodes label = IsNode nodes.log (node_or_nothing (kind_of label))
 
--- the leaves under a node, or the location alone
+-- the leaves under a node, the location alone, or the bytes of the run
 abbrev pub terms_by : Nodes → LabelKind → Terms
 terms_by nodes (Node n) = as_terms (terms nodes.log n)
 terms_by nodes (Start l) = of_itself l
+terms_by nodes (Run r) = record { sources = bytes_of r; starts = [] }
 
 abbrev pub terms_in : Nodes → Label → Terms
 terms_in nodes label = terms_by nodes (kind_of label)

@@ -297,6 +297,7 @@ fn add_node(next: &mut Vec<Node>, label: Label) -> Result<(), NoMemory>
 {
     match label.kind() {
         LabelKind::Start(_) => Ok(()),
+        LabelKind::Run(_) => Ok(()),
         LabelKind::Node(node) => {
             if node > 0 && !next.contains(&(node as Node)) {
                 next.push(node as Node)?;

@@ -1,6 +1,6 @@
 //! What labels mean in an epoch: nodes of its log, and what locations had at its start.
 
-ghost use Rattle.std.specs.Prelude.{◌≡◌, IfOk, OnOk};
+ghost use Rattle.std.specs.Prelude.{◌≡◌, IfOk, IfSome, OnOk};
 ghost use Rattle.merge_log.specs.Log.{AreSets, IsNode, KeepsNodes, terms};
 ghost use Rattle.taint_shadow.specs.Labels.{MakesLabel, Makes, mean_together};
 ghost use Rattle.local_taint.specs.Words.{label_words, as_terms};
@@ -8,6 +8,7 @@ ghost use Rattle.local_taint.specs.Words.{label_words, as_terms};
 use flow_model::{Loc, SourceByte};
 use merge_log::{MergeLog, Node, TermsReader};
 use no_memory::NoMemory;
+use source_runs::SourceRun;
 use std::collections::LinkedList;
 use std::marker::Model;
 use taint_shadow::{Label, LabelKind, Labels};
@@ -27,8 +28,8 @@ impl Model for LabelTerms {
     ghost view = { λ t. record { sources = t.sources; starts = t.starts } };
 }
 
-/// Makes nodes, and unites them, in a log. What a location had at the start has no node until it is united with another
-/// label: most of what an epoch touches it only moves.
+/// Makes nodes, and unites them, in a log. What a location had at the start, and a run of source bytes, has no node until it is
+/// united with another label that isn't such a run beside it: most of what an epoch touches it only moves.
 #[derive(Drop)]
 pub struct Nodes {
     pub(crate) log: MergeLog,
@@ -56,6 +57,7 @@ impl Nodes {
         match label.kind() {
             LabelKind::Node(node) => Ok(node as Node),
             LabelKind::Start(loc) => self.log.leaf_symbol(loc),
+            LabelKind::Run(run) => self.log.leaf_run(run),
         }
     }
 
@@ -72,7 +74,40 @@ impl Nodes {
         Ok(self.label_of(node))
     }
 
-    /// The label of two together. No node is made where the labels are equal, or one of them came from nowhere.
+    /// The label of the node of one source byte.
+    fn source_node(&mut self, byte: SourceByte) -> Result<Label, NoMemory>
+        ensures { IfOk result (Makes label_words self.old (label_words.source byte) self.new) }
+    {
+        let node = self.log.leaf_source(byte)?;
+        Ok(self.label_of(node))
+    }
+
+    /// The label of the run of both, where both are runs that overlap or touch.
+    #[inline(always)]
+    fn run_of_both(&self, left: Label, right: Label) -> Option<Label>
+        ensures { IfSome result (MakesLabel label_words self.now (mean_together label_words self.now left right)) }
+    {
+        match (left.kind(), right.kind()) {
+            (LabelKind::Run(one), LabelKind::Run(other)) => Label::run(one.joined(other)?),
+            _ => None,
+        }
+    }
+
+    /// The label of two labels together that differ, neither of them that of nothing.
+    #[inline(never)]
+    fn unite_two(&mut self, left: Label, right: Label) -> Result<Label, NoMemory>
+        requires left { label_words.stands self.old left }
+        requires right { label_words.stands self.old right }
+        ensures { IfOk result (Makes label_words self.old (mean_together label_words self.old left right) self.new) }
+    {
+        match self.run_of_both(left, right) {
+            Some(label) => Ok(label),
+            None => self.unite_nodes(left, right),
+        }
+    }
+
+    /// The label of two together. No node is made where the labels are equal, one of them came from nowhere, or both are
+    /// runs of source bytes that overlap or touch.
     #[inline(always)]
     fn unite_labels(&mut self, left: Label, right: Label) -> Result<Label, NoMemory>
         requires left { label_words.stands self.old left }
@@ -88,7 +123,7 @@ impl Nodes {
         if left.is_nothing() {
             return Ok(right);
         }
-        self.unite_nodes(left, right)
+        self.unite_two(left, right)
     }
 
     /// Reads the terms of a label. When out of memory, the reader may have read part of them, and can go on with any label.
@@ -100,6 +135,7 @@ impl Nodes {
         match label.kind() {
             LabelKind::Node(node) => reader.read(&self.log, node as Node),
             LabelKind::Start(loc) => reader.read_start(loc),
+            LabelKind::Run(run) => reader.read_run(run),
         }
     }
 }
@@ -115,8 +151,10 @@ impl Labels for Nodes {
     ghost laws = { label_laws };
 
     fn source(&mut self, byte: SourceByte) -> Result<Label, NoMemory> {
-        let node = self.log.leaf_source(byte)?;
-        Ok(self.label_of(node))
+        match Label::run(SourceRun::of_byte(byte)) {
+            Some(label) => Ok(label),
+            None => self.source_node(byte),
+        }
     }
 
     #[inline(always)]

@@ -72,6 +72,7 @@ impl Summary {
                 reader,
             ),
             LabelKind::Start(start) => reader.read_start(start),
+            LabelKind::Run(run) => reader.read_run(run),
         }
     }
 
@@ -144,6 +145,7 @@ impl Summary {
                 reader,
             ),
             LabelKind::Start(loc) => reader.read_start(loc),
+            LabelKind::Run(run) => reader.read_run(run),
         }
     }
 }

@@ -9,14 +9,16 @@ use Rattle.std.proofs.lemmas.List.{get_or-set_other, length-set}
 use Rattle.std.proofs.lemmas.Nat.Bits.{bit_at_or, bit_at-zero, bit_at-lt, bit_at_set_same, bit_at_set_other}
 use Rattle.std.proofs.lemmas.Bool.{or_left, or_right, or_cases}
 use Rattle.merge_log.specs.declared.nodes.Entry.{Entry}
-use Rattle.merge_log.specs.declared.nodes.Entry.TheVariants.{Source, Start, Union}
+use Rattle.merge_log.specs.declared.nodes.Entry.TheVariants.{Union}
 use Rattle.merge_log.specs.declared.reader.Leaf.{Leaf}
 use Rattle.merge_log.specs.declared.reader.Leaf.TheVariants as leaf
 use Rattle.merge_log.specs.Log.{Terms, no_terms, joined, terms, HasOperandsBefore, entry_at}
 use Rattle.merge_log.specs.Walk.{has_leaf}
-use Rattle.merge_log.specs.Masks.{HasBit, IsClearFrom, IsCover, IsLeftToo, and_leaf, with_leaf}
-use Rattle.merge_log.proofs.Leaves.{same_bool, no, has-joined, has-source, has-start}
-use Rattle.merge_log.proofs.Roots.{number_case, leaf_kept}
+use Rattle.merge_log.specs.Masks.{HasBit, IsClearFrom, IsCover, IsLeftToo, with_leaves}
+use Rattle.merge_log.proofs.Leaves.{same_bool, no, has-joined, leaves_terms}
+use Rattle.merge_log.specs.declared.finding.Leaves.{Leaves}
+use Rattle.merge_log.proofs.Walking.{leaves_added}
+use Rattle.merge_log.proofs.Roots.{number_case, leaves_kept}
 use Rattle.merge_log.proofs.Terms.{terms_step, nothing_under_0}
 
 -- ---- the bits of masks
@@ -170,21 +172,12 @@ given_cover log root masks node mask r found more none either c =
       given (inl h) q t = absurd (none h)
       given (inr h) q t = elim either [ inl p ↦ p.1 q ∙ or_right (has_leaf q found) (has_leaf q (terms log node)) t | inr p ↦ absurd (p.0 h.1) ]
 
--- the node whose entry is a leaf
-abbrev pub leaf_entry : Leaf → Entry
-leaf_entry (leaf.Source b) = Source b
-leaf_entry (leaf.Start l) = Start l
-
-has-leaf-more : (q given : Leaf) (log : List Entry) (node : ℕ) (t : Terms) → entry_at log node ≡ Some (leaf_entry given)
-    → has_leaf q (and_leaf given t) ≡ (has_leaf q t || has_leaf q (terms log node))
-has-leaf-more q (leaf.Source b) log node t at = has-source q t.sources t.starts b ∙ ap (λ (u : Terms). has_leaf q t || has_leaf q u) (sym (terms_step log node (Source b) at tt))
-has-leaf-more q (leaf.Start l) log node t at = has-start q t.sources t.starts l ∙ ap (λ (u : Terms). has_leaf q t || has_leaf q u) (sym (terms_step log node (Start l) at tt))
-
-pub leaf_cover : (log : List Entry) (root : ℕ) (masks : List ℕ) (node mask r : ℕ) (found more : Terms) (given : Leaf) → entry_at log node ≡ Some (leaf_entry given) → (HasBit masks r node → ⊥)
-    → more ≡ with_leaf (bit_at mask r) given found → IsCover log root (IsLeftToo masks node mask r) found → IsCover log root (HasBit masks r) more
-leaf_cover log root masks node mask r found more given at none is = given_cover log root masks node mask r found more none (elim (number_case (bit_at mask r) 1) [
-  | inl e ↦ inl (e, λ q. ap (has_leaf q) (is ∙ ap (λ (i : ℕ). with_leaf i given found) e) ∙ has-leaf-more q given log node found at)
-  | inr e ↦ inr (e, is ∙ leaf_kept (bit_at mask r) given found e)
+-- leaves are given to a root whose bit is set
+pub leaf_cover : (log : List Entry) (root : ℕ) (masks : List ℕ) (node mask r : ℕ) (found more : Terms) (given : Leaves) → terms log node ≡ leaves_terms given → (HasBit masks r node → ⊥)
+    → more ≡ with_leaves (bit_at mask r) given found → IsCover log root (IsLeftToo masks node mask r) found → IsCover log root (HasBit masks r) more
+leaf_cover log root masks node mask r found more given under none is = given_cover log root masks node mask r found more none (elim (number_case (bit_at mask r) 1) [
+  | inl e ↦ inl (e, leaves_added log node given found more under (is ∙ ap (λ (i : ℕ). with_leaves i given found) e))
+  | inr e ↦ inr (e, is ∙ leaves_kept (bit_at mask r) given found e)
 ])
 
 pub union_cover : (log : List Entry) (root : ℕ) (masks : List ℕ) (node mask r : ℕ) (found : Terms) (a b : ℕ) → entry_at log node ≡ Some (Union a b) → HasOperandsBefore node (Union a b) → node < length masks → (HasBit masks r node → ⊥)

@@ -2,6 +2,7 @@
 use Rattle.std.proofs.Common.{◌≡◌, ℕ, zero, suc, ◌+◌, ◌<◌, List, [], ◌∷◌, ◌++◌, length, refl, ap, sym, ◌∙◌, subst, Bool, true, false, if◌then◌else◌, cond, nat_lt, arith, slice_get, get_or, position, Contains, add-one, length-append, ◌⊎◌, inl, inr}
 use Rattle.std.specs.Prelude.{Some, None}
 use Rattle.std.specs.List.{list_any, position_or_len}
+use Rattle.std.proofs.lemmas.Bool.{or_left, or_right}
 use Rattle.std.proofs.lemmas.List.Sums.{passes_at_first}
 use Rattle.std.proofs.lemmas.Grind.{common_steps}
 use Rattle.std.proofs.lemmas.Option.{slice_get_within, slice_get-get_or, get_or_from_slice_get}
@@ -11,7 +12,7 @@ use Rattle.indexmap.specs.IndexSet.{insert_key}
 use Rattle.flow_model.specs.declared.Loc.TheVariants.{Reg, Mem}
 use Rattle.merge_log.specs.contracts.nodes.EntryPartialEq.TheImpl as test
 use Rattle.merge_log.specs.declared.nodes.Entry.{Entry}
-use Rattle.merge_log.specs.declared.nodes.Entry.TheVariants.{Source, Start, Union}
+use Rattle.merge_log.specs.declared.nodes.Entry.TheVariants.{Source, Run, Start, Union}
 use Rattle.merge_log.specs.Log.{HasOperandsBefore, AreDistinct, IsLog, IsNoted, KeepsNodes, entry_at, terms, entry_terms}
 use Rattle.merge_log.proofs.Terms.{ordered_more, kept, terms_step, entry_before}
 
@@ -21,28 +22,36 @@ alike = test.eq-value.it
 
 pub alike_same : (a b : Entry) → alike a b ≡ true → a ≡ b
 alike_same (Source a) (Source b) h = grind (arith, common_steps)
+alike_same (Source a) (Run c x y) h = cc
 alike_same (Source a) (Start l) h = cc
 alike_same (Source a) (Union p q) h = cc
+alike_same (Run c x y) (Source b) h = cc
+alike_same (Run c x y) (Run d v w) h = grind (arith, common_steps)
+alike_same (Run c x y) (Start l) h = cc
+alike_same (Run c x y) (Union p q) h = cc
 alike_same (Start l) (Source b) h = cc
+alike_same (Start l) (Run c x y) h = cc
 alike_same (Start (Reg r i)) (Start (Reg s j)) h = grind (arith, common_steps)
 alike_same (Start (Reg r i)) (Start (Mem p)) h = cc
 alike_same (Start (Mem p)) (Start (Reg r i)) h = cc
 alike_same (Start (Mem p)) (Start (Mem q)) h = grind (arith, common_steps)
 alike_same (Start l) (Union p q) h = cc
 alike_same (Union p q) (Source b) h = cc
+alike_same (Union p q) (Run c x y) h = cc
 alike_same (Union p q) (Start l) h = cc
 alike_same (Union p q) (Union r s) h = grind (arith, common_steps)
 
 alike_itself : (a : Entry) → alike a a ≡ true
 alike_itself (Source a) = grind (arith, common_steps)
+alike_itself (Run c x y) = grind (arith, common_steps)
 alike_itself (Start (Reg r i)) = grind (arith, common_steps)
 alike_itself (Start (Mem p)) = grind (arith, common_steps)
 alike_itself (Union p q) = grind (arith, common_steps)
 
 any_at : (log : List Entry) (e : Entry) (k : ℕ) → slice_get log k ≡ Some e → list_any (alike e) log ≡ true
 any_at [] e k h = cc
-any_at (x ∷ log) e zero h = let same : e ≡ x = cc in grind (arith, common_steps, alike_itself e)
-any_at (x ∷ log) e (suc k) h = grind (arith, common_steps, any_at log e k h)
+any_at (x ∷ log) e zero h = let same : e ≡ x = cc in or_left (alike e x) (list_any (alike e) log) (ap (alike e) (sym same) ∙ alike_itself e)
+any_at (x ∷ log) e (suc k) h = or_right (alike e x) (list_any (alike e) log) (any_at log e k h)
 
 pub found_there : (log : List Entry) (e : Entry) → list_any (alike e) log ≡ true → Contains log e
 found_there log e h = Contains-from_any alike_same e log h

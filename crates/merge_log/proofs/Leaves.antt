@@ -10,7 +10,11 @@ use Rattle.flow_model.specs.Orders.{loc_cmp, source_cmp}
 use Rattle.flow_model.proofs.Orders.{loc_total, source_total}
 use Rattle.merge_log.specs.declared.reader.Leaf.{Leaf}
 use Rattle.merge_log.specs.declared.reader.Leaf.TheVariants as leaf
-use Rattle.merge_log.specs.Log.{Terms, joined, source_term, start_term}
+use Rattle.source_runs.specs.Runs.{bytes_of}
+use Rattle.merge_log.specs.declared.finding.Leaves.{Leaves}
+use Rattle.merge_log.specs.declared.finding.Leaves.TheVariants.{Run, Start}
+use Rattle.merge_log.specs.Log.{Terms, joined, run_term, start_term}
+use Rattle.merge_log.specs.Masks.{and_leaves}
 use Rattle.merge_log.specs.Walk.{has_leaf}
 
 -- ---- truth values
@@ -33,12 +37,14 @@ pub has-joined : (q : Leaf) (a b : Terms) → has_leaf q (joined a b) ≡ (has_l
 has-joined (leaf.Source q) a b = has-union source_total a.sources b.sources q
 has-joined (leaf.Start q) a b = has-union loc_total a.starts b.starts q
 
-pub has-source : (q : Leaf) (sources : List SourceByte) (starts : List Loc) (b : SourceByte)
-    → has_leaf q (record { sources = sources ++ b ∷ []; starts = starts }) ≡ (has_leaf q (record { sources = sources; starts = starts }) || has_leaf q (source_term b))
-has-source (leaf.Source q) sources starts b = list_any-append (eq_by_cmp source_cmp q) sources (b ∷ [])
-has-source (leaf.Start q) sources starts b = sym (or_false (has loc_cmp q starts))
+-- the terms of leaves
+abbrev pub leaves_terms : Leaves → Terms
+leaves_terms (Run r) = run_term r
+leaves_terms (Start l) = start_term l
 
-pub has-start : (q : Leaf) (sources : List SourceByte) (starts : List Loc) (l : Loc)
-    → has_leaf q (record { sources = sources; starts = starts ++ l ∷ [] }) ≡ (has_leaf q (record { sources = sources; starts = starts }) || has_leaf q (start_term l))
-has-start (leaf.Source q) sources starts l = sym (or_false (has source_cmp q sources))
-has-start (leaf.Start q) sources starts l = list_any-append (eq_by_cmp loc_cmp q) starts (l ∷ [])
+-- terms with more leaves have these too
+pub has-more : (q : Leaf) (u : Leaves) (t : Terms) → has_leaf q (and_leaves u t) ≡ (has_leaf q t || has_leaf q (leaves_terms u))
+has-more (leaf.Source q) (Run r) t = list_any-append (eq_by_cmp source_cmp q) t.sources (bytes_of r)
+has-more (leaf.Start q) (Run r) t = sym (or_false (has loc_cmp q t.starts))
+has-more (leaf.Source q) (Start l) t = sym (or_false (has source_cmp q t.sources))
+has-more (leaf.Start q) (Start l) t = list_any-append (eq_by_cmp loc_cmp q) t.starts (l ∷ [])

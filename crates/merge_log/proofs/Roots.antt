@@ -3,13 +3,20 @@ use Rattle.std.proofs.Common.{◌≡◌, ◌≢◌, ℕ, zero, suc, ◌+◌, ◌
 use Rattle.std.specs.Prelude.{slice_index_or}
 use Rattle.std.proofs.lemmas.Grind.{common_steps}
 use Rattle.std.proofs.lemmas.List.{length-set}
+use Rattle.flow_model.specs.declared.Loc.{Loc}
+use Rattle.source_runs.specs.declared.runs.SourceRun.{SourceRun}
+use Rattle.source_runs.specs.Runs.{all_bytes}
 use Rattle.merge_log.specs.declared.reader.Leaf.{Leaf}
-use Rattle.merge_log.specs.declared.walk.Found.{Found}
+use Rattle.merge_log.specs.declared.finding.Found.{Found}
+use Rattle.merge_log.specs.declared.finding.Leaves.{Leaves}
 use Rattle.merge_log.specs.Log.{Terms, AreSets, no_terms}
 use Rattle.merge_log.specs.Walk.{has_leaf, terms_of}
-use Rattle.merge_log.specs.Masks.{found_at, and_leaf, with_leaf}
+use Rattle.merge_log.specs.Masks.{found_at, and_leaves, with_leaves}
 
 -- ---- one of the sets
+
+pub empty_terms : (f : Found) → f.runs.items ≡ [] → f.starts.items ≡ [] → terms_of f ≡ no_terms
+empty_terms f h k = ap₂ (λ (rs : List SourceRun) (ls : List Loc). record { sources = all_bytes rs; starts = ls }) h k
 
 pub set_same : (fs : List Found) (i : ℕ) (f : Found) → i < length fs → found_at (slice_set fs i f) i ≡ terms_of f
 set_same [] i f h = absurd (omega arith)
@@ -118,8 +125,8 @@ ascended_all (f ∷ fs) h (suc r) = ascended_all fs (λ i l. h (suc i) (omega (a
 
 -- ---- a bit
 
-pub leaf_kept : (bit : ℕ) (q : Leaf) (t : Terms) → bit ≢ 1 → with_leaf bit q t ≡ t
-leaf_kept bit q t h = by (bit == 1) refl where
-  by : (x : Bool) → (bit == 1) ≡ x → (if x then and_leaf q t else t) ≡ t
+pub leaves_kept : (bit : ℕ) (u : Leaves) (t : Terms) → bit ≢ 1 → with_leaves bit u t ≡ t
+leaves_kept bit u t h = by (bit == 1) refl where
+  by : (x : Bool) → (bit == 1) ≡ x → (if x then and_leaves u t else t) ≡ t
   by true p = absurd (h (grind (arith, common_steps)))
   by false p = refl

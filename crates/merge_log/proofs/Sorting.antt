@@ -1,4 +1,4 @@
--- A list that was sorted, and has each member once, is a set; and what a reader has then is the terms of the node.
+-- A list that was sorted, and has each member once, is a set, and so is what was found of leaves.
 use Rattle.std.proofs.Common.{◌≡◌, ℕ, List, [], ◌∷◌, refl, ap, ap₂, sym, ◌∙◌, subst, Bool, true, false, ◌||◌, cond}
 use Rattle.std.specs.List.{dedup, dedup_from, AllByRecursion}
 use Rattle.std.specs.List.Sorted.{IsSorted, IsStrictlySortedBy, IsPermutation}
@@ -13,14 +13,12 @@ use Rattle.sorted_set.proofs.Algebra.{same_list, tied_by}
 use Rattle.flow_model.specs.Orders.{loc_cmp, source_cmp}
 use Rattle.flow_model.specs.declared.Loc.{Loc}
 use Rattle.flow_model.specs.declared.SourceByte.{SourceByte}
-use Rattle.flow_model.proofs.Derived.{source_compared, loc_compared, source_order_is, loc_order_is}
+use Rattle.flow_model.proofs.Derived.{loc_compared, loc_order_is}
 use Rattle.flow_model.proofs.Orders.{loc_total, loc_same, source_total, source_same}
-use Rattle.merge_log.specs.declared.nodes.Entry.{Entry}
 use Rattle.merge_log.specs.declared.reader.Leaf.{Leaf}
 use Rattle.merge_log.specs.declared.reader.Leaf.TheVariants as leaf
-use Rattle.merge_log.specs.Log.{Terms, AreSets, terms}
+use Rattle.merge_log.specs.Log.{Terms, AreSets}
 use Rattle.merge_log.specs.Walk.{has_leaf}
-use Rattle.merge_log.proofs.Terms.{ascend-terms, nothing_under_0}
 
 -- ---- sorted, and each once
 
@@ -66,39 +64,17 @@ pub record IsSetOf {K : Type 0} (R : K → K → Ordering) (set items : List K) 
   pub members : (x : K) → has R x set ≡ has R x items
   pub ascending : Ascends R set
 
-of_sources : (sources sources1 : List SourceByte) → IsSetOf source_compared sources1 sources → IsSetOf source_cmp sources1 sources
-of_sources sources sources1 s = subst (λ (R : SourceByte → SourceByte → Ordering). IsSetOf R sources1 sources) (sym source_order_is) s
-
 of_starts : (starts starts1 : List Loc) → IsSetOf loc_compared starts1 starts → IsSetOf loc_cmp starts1 starts
 of_starts starts starts1 l = subst (λ (R : Loc → Loc → Ordering). IsSetOf R starts1 starts) (sym loc_order_is) l
 
-pub read_sets : (sources sources1 : List SourceByte) (starts starts1 : List Loc) → IsSetOf source_compared sources1 sources → IsSetOf loc_compared starts1 starts → AreSets (record { sources = sources1; starts = starts1 })
-read_sets sources sources1 starts starts1 s l = record { sources = (of_sources sources sources1 s).ascending; starts = (of_starts starts starts1 l).ascending }
-
--- sets of what was found are the terms of the node
-pub read_terms : (log : List Entry) (n : ℕ) (sources sources1 : List SourceByte) (starts starts1 : List Loc)
-    → ((q : Leaf) → has_leaf q (record { sources = sources; starts = starts }) ≡ has_leaf q (terms log n))
-    → IsSetOf source_compared sources1 sources → IsSetOf loc_compared starts1 starts
-    → record { sources = sources1; starts = starts1 } ≡ terms log n
-read_terms log n sources sources1 starts starts1 found s l =
-    let make : List SourceByte → List Loc → Terms = λ xs ys. record { sources = xs; starts = ys } in
-    let t = of_sources sources sources1 s in
-    let m = of_starts starts starts1 l in
-    ap₂ make
-    (same_list source_total source_same sources1 (terms log n).sources t.ascending (ascend-terms log n).sources (λ q. t.members q ∙ found (leaf.Source q)))
-    (same_list loc_total loc_same starts1 (terms log n).starts m.ascending (ascend-terms log n).starts (λ q. m.members q ∙ found (leaf.Start q)))
-
--- under node 0 nothing is found
-pub read_nothing : (log : List Entry) (n : ℕ) (sources : List SourceByte) (starts : List Loc) → n ≡ 0 → sources ≡ [] → starts ≡ [] → record { sources = sources; starts = starts } ≡ terms log n
-read_nothing log n sources starts h s t =
-    let make : List SourceByte → List Loc → Terms = λ xs ys. record { sources = xs; starts = ys } in
-    ap₂ make s t ∙ sym (ap (terms log) h ∙ nothing_under_0 log)
-
 -- sets of what was found have its leaves
-pub both_members : (sources sources1 : List SourceByte) (starts starts1 : List Loc) → IsSetOf source_compared sources1 sources → IsSetOf loc_compared starts1 starts → (q : Leaf)
+pub found_members : (sources sources1 : List SourceByte) (starts starts1 : List Loc) → ((b : SourceByte) → has source_cmp b sources1 ≡ has source_cmp b sources) → IsSetOf loc_compared starts1 starts → (q : Leaf)
     → has_leaf q (record { sources = sources1; starts = starts1 }) ≡ has_leaf q (record { sources = sources; starts = starts })
-both_members sources sources1 starts starts1 s l (leaf.Source b) = (of_sources sources sources1 s).members b
-both_members sources sources1 starts starts1 s l (leaf.Start p) = (of_starts starts starts1 l).members p
+found_members sources sources1 starts starts1 s l (leaf.Source b) = s b
+found_members sources sources1 starts starts1 s l (leaf.Start p) = (of_starts starts starts1 l).members p
+
+pub found_sets : (sources : List SourceByte) (starts starts1 : List Loc) → Ascends source_cmp sources → IsSetOf loc_compared starts1 starts → AreSets (record { sources = sources; starts = starts1 })
+found_sets sources starts starts1 s l = record { sources = s; starts = (of_starts starts starts1 l).ascending }
 
 -- sets with the same leaves are the same
 pub same_terms : (a b : Terms) → AreSets a → AreSets b → ((q : Leaf) → has_leaf q a ≡ has_leaf q b) → a ≡ b

@@ -11,8 +11,10 @@ use Rattle.flow_model.proofs.Orders.{loc_total, loc_same, source_total, source_s
 use Rattle.flow_model.specs.declared.Loc.{Loc}
 use Rattle.flow_model.specs.declared.SourceByte.{SourceByte}
 use Rattle.merge_log.specs.declared.nodes.Entry.{Entry}
-use Rattle.merge_log.specs.declared.nodes.Entry.TheVariants.{Source, Start, Union}
-use Rattle.merge_log.specs.Log.{Terms, AreSets, no_terms, joined, entry_terms, with_node, terms_from, terms, HasOperandsBefore, AreOrdered, entry_at}
+use Rattle.source_runs.specs.declared.runs.SourceRun.{SourceRun}
+use Rattle.source_runs.proofs.Bytes.{run_ascends}
+use Rattle.merge_log.specs.declared.nodes.Entry.TheVariants.{Source, Run, Start, Union}
+use Rattle.merge_log.specs.Log.{Terms, AreSets, no_terms, run_term, joined, entry_terms, with_node, terms_from, terms, HasOperandsBefore, AreOrdered, entry_at}
 
 -- ---- one more node
 
@@ -52,6 +54,7 @@ kept log more n h =
 
 same_operands : (f g : ℕ → Terms) (n : ℕ) (e : Entry) → ((i : ℕ) → i < n → f i ≡ g i) → HasOperandsBefore n e → entry_terms f e ≡ entry_terms g e
 same_operands f g n (Source b) h k = refl
+same_operands f g n (Run c a b) h k = refl
 same_operands f g n (Start l) h k = refl
 same_operands f g n (Union a b) h k =
     let lower : a < n = omega arith in
@@ -109,8 +112,12 @@ ordered_more n (x ∷ es) e o b =
 pub ascend-joined : (a b : Terms) → AreSets b → AreSets (joined a b)
 ascend-joined a b h = record { sources = Ascends-union source_total a.sources b.sources h.sources; starts = Ascends-union loc_total a.starts b.starts h.starts }
 
+pub ascend-run : (r : SourceRun) → AreSets (run_term r)
+ascend-run r = record { sources = run_ascends r; starts = tt }
+
 ascend-entry : (f : ℕ → Terms) → ((i : ℕ) → AreSets (f i)) → (e : Entry) → AreSets (entry_terms f e)
 ascend-entry f h (Source b) = record { sources = (tt, tt); starts = tt }
+ascend-entry f h (Run c a b) = ascend-run (record { channel = c; first = a; last = b })
 ascend-entry f h (Start l) = record { sources = tt; starts = (tt, tt) }
 ascend-entry f h (Union a b) = ascend-joined (f a) (f b) (h b)
 

@@ -8,11 +8,15 @@ use Rattle.std.proofs.lemmas.Bool.{or_left, or_right, or_cases}
 use Rattle.flow_model.specs.declared.Loc.{Loc}
 use Rattle.flow_model.specs.declared.SourceByte.{SourceByte}
 use Rattle.merge_log.specs.declared.nodes.Entry.{Entry}
-use Rattle.merge_log.specs.declared.nodes.Entry.TheVariants.{Source, Start, Union}
+use Rattle.merge_log.specs.declared.nodes.Entry.TheVariants.{Source, Run, Start, Union}
 use Rattle.merge_log.specs.declared.reader.Leaf.{Leaf}
-use Rattle.merge_log.specs.Log.{Terms, source_term, start_term, terms, IsNode, HasOperandsBefore, AreOrdered, IsLog, entry_at}
+use Rattle.source_runs.specs.declared.runs.SourceRun.{SourceRun}
+use Rattle.source_runs.specs.Runs.{bytes_of}
+use Rattle.merge_log.specs.declared.finding.Leaves.{Leaves}
+use Rattle.merge_log.specs.Masks.{and_leaves}
+use Rattle.merge_log.specs.Log.{Terms, source_term, run_term, start_term, terms, IsNode, HasOperandsBefore, AreOrdered, IsLog, entry_at}
 use Rattle.merge_log.specs.Walk.{has_leaf, visited}
-use Rattle.merge_log.proofs.Leaves.{no, same_bool, has-joined, has-source, has-start}
+use Rattle.merge_log.proofs.Leaves.{no, same_bool, leaves_terms, has-joined, has-more}
 use Rattle.merge_log.proofs.Marks.{IsMarked, IsOn, IsVisit, cost, marked_more, marked_back, on_pushed, on_top, on_back, on_visited, visit_length, visit_marks, visit_marked, visit_cost}
 use Rattle.merge_log.proofs.Terms.{terms_step, entry_before}
 
@@ -21,6 +25,7 @@ use Rattle.merge_log.proofs.Terms.{terms_step, entry_before}
 -- what is asked of a marked node that is not on the stack: its leaf is found, and its operands are marked
 abbrev pub IsDone : List ℕ → ℕ → Terms → Entry → Type 0
 IsDone marks round found (Source b) = (q : Leaf) → has_leaf q (source_term b) ≡ true → has_leaf q found ≡ true
+IsDone marks round found (Run c a b) = (q : Leaf) → has_leaf q (run_term (record { channel = c; first = a; last = b })) ≡ true → has_leaf q found ≡ true
 IsDone marks round found (Start l) = (q : Leaf) → has_leaf q (start_term l) ≡ true → has_leaf q found ≡ true
 IsDone marks round found (Union a b) = IsMarked marks round a × IsMarked marks round b
 
@@ -50,6 +55,7 @@ entry_there log (suc i) d h k =
 
 done_more : (marks : List ℕ) (round a : ℕ) (found : Terms) (e : Entry) → a < length marks → IsDone marks round found e → IsDone (set marks a round) round found e
 done_more marks round a found (Source b) h d = d
+done_more marks round a found (Run c x y) h d = d
 done_more marks round a found (Start l) h d = d
 done_more marks round a found (Union p q) h d = (marked_more marks round a p h d.0, marked_more marks round a q h d.1)
 
@@ -124,6 +130,7 @@ closed log root round marks stack found next e at d w = record {
 
 done_found : (marks : List ℕ) (round : ℕ) (found more : Terms) (e : Entry) → ((q : Leaf) → has_leaf q found ≡ true → has_leaf q more ≡ true) → IsDone marks round found e → IsDone marks round more e
 done_found marks round found more (Source b) h d = λ q k. h q (d q k)
+done_found marks round found more (Run c x y) h d = λ q k. h q (d q k)
 done_found marks round found more (Start l) h d = λ q k. h q (d q k)
 done_found marks round found more (Union p q) h d = d
 
@@ -154,6 +161,7 @@ all_found log root round marks found o w (suc n) m h k q t = elim (w.settled m k
 ] where
   by : ((i : ℕ) → i < n → IsMarked marks round i → has_leaf q (terms log i) ≡ true → has_leaf q found ≡ true) → (e : Entry) → entry_at log m ≡ Some e → IsDone marks round found e → HasOperandsBefore m e → has_leaf q found ≡ true
   by ih (Source b) at d before = d q (sym (ap (has_leaf q) (terms_step log m (Source b) at before)) ∙ t)
+  by ih (Run c x y) at d before = d q (sym (ap (has_leaf q) (terms_step log m (Run c x y) at before)) ∙ t)
   by ih (Start l) at d before = d q (sym (ap (has_leaf q) (terms_step log m (Start l) at before)) ∙ t)
   by ih (Union x y) at d before =
       let either = or_cases (has_leaf q (terms log x)) (has_leaf q (terms log y)) (sym (has-joined q (terms log x) (terms log y)) ∙ sym (ap (has_leaf q) (terms_step log m (Union x y) at before)) ∙ t) in
@@ -186,38 +194,36 @@ under_itself log root h k = record { above_0 = h; stands = k; leaves = λ q t. t
 
 -- ---- one turn of the loop
 
-abbrev found_of : List SourceByte → List Loc → Terms
-found_of sources starts = record { sources = sources; starts = starts }
-
-pub source_step : (log : List Entry) (root round : ℕ) (marks stack rest : List ℕ) (next : ℕ) (sources more : List SourceByte) (starts : List Loc) (b : SourceByte)
-    → stack ≡ rest ++ next ∷ [] → more ≡ sources ++ b ∷ [] → entry_at log next ≡ Some (Source b)
-    → IsWalk log root round marks stack (record { sources = sources; starts = starts }) none_open
-    → IsWalk log root round marks rest (record { sources = more; starts = starts }) none_open
-source_step log root round marks stack rest next sources more starts b is put at w =
-    let p = popped log root round marks stack rest next (found_of sources starts) is w in
-    let new : Terms = source_term b in
-    let under : terms log next ≡ new = terms_step log next (Source b) at tt in
-    let has-more : (q : Leaf) → has_leaf q (found_of more starts) ≡ (has_leaf q (found_of sources starts) || has_leaf q new) = λ q. ap (λ (xs : List SourceByte). has_leaf q (found_of xs starts)) put ∙ has-source q sources starts b in
-    closed log root round marks rest (found_of more starts) next (Source b) at (λ q h. has-more q ∙ or_right (has_leaf q (found_of sources starts)) (has_leaf q new) h)
-    (found_more log root round marks rest (found_of sources starts) (found_of more starts) (λ m. m ≡ next)
-    (λ q h. has-more q ∙ or_left (has_leaf q (found_of sources starts)) (has_leaf q new) h)
-    (λ q h. elim (or_cases (has_leaf q (found_of sources starts)) (has_leaf q new) (sym (has-more q) ∙ h)) [ inl k ↦ w.within q k | inr k ↦ p.0.leaves q (ap (has_leaf q) under ∙ k) ])
+pub leaf_step : (log : List Entry) (root round : ℕ) (marks stack rest : List ℕ) (next : ℕ) (found more : Terms) (e : Entry)
+    → stack ≡ rest ++ next ∷ [] → entry_at log next ≡ Some e → ((q : Leaf) → has_leaf q more ≡ (has_leaf q found || has_leaf q (terms log next)))
+    → (((q : Leaf) → has_leaf q (terms log next) ≡ true → has_leaf q more ≡ true) → IsDone marks round more e)
+    → IsWalk log root round marks stack found none_open
+    → IsWalk log root round marks rest more none_open
+leaf_step log root round marks stack rest next found more e is at has-more done w =
+    let p = popped log root round marks stack rest next found is w in
+    closed log root round marks rest more next e at (done (λ q h. has-more q ∙ or_right (has_leaf q found) (has_leaf q (terms log next)) h))
+    (found_more log root round marks rest found more (λ m. m ≡ next)
+    (λ q h. has-more q ∙ or_left (has_leaf q found) (has_leaf q (terms log next)) h)
+    (λ q h. elim (or_cases (has_leaf q found) (has_leaf q (terms log next)) (sym (has-more q) ∙ h)) [ inl k ↦ w.within q k | inr k ↦ p.0.leaves q k ])
     p.1)
 
-pub start_step : (log : List Entry) (root round : ℕ) (marks stack rest : List ℕ) (next : ℕ) (sources : List SourceByte) (starts more : List Loc) (l : Loc)
-    → stack ≡ rest ++ next ∷ [] → more ≡ starts ++ l ∷ [] → entry_at log next ≡ Some (Start l)
-    → IsWalk log root round marks stack (record { sources = sources; starts = starts }) none_open
-    → IsWalk log root round marks rest (record { sources = sources; starts = more }) none_open
-start_step log root round marks stack rest next sources starts more l is put at w =
-    let p = popped log root round marks stack rest next (found_of sources starts) is w in
-    let new : Terms = start_term l in
-    let under : terms log next ≡ new = terms_step log next (Start l) at tt in
-    let has-more : (q : Leaf) → has_leaf q (found_of sources more) ≡ (has_leaf q (found_of sources starts) || has_leaf q new) = λ q. ap (λ (xs : List Loc). has_leaf q (found_of sources xs)) put ∙ has-start q sources starts l in
-    closed log root round marks rest (found_of sources more) next (Start l) at (λ q h. has-more q ∙ or_right (has_leaf q (found_of sources starts)) (has_leaf q new) h)
-    (found_more log root round marks rest (found_of sources starts) (found_of sources more) (λ m. m ≡ next)
-    (λ q h. has-more q ∙ or_left (has_leaf q (found_of sources starts)) (has_leaf q new) h)
-    (λ q h. elim (or_cases (has_leaf q (found_of sources starts)) (has_leaf q new) (sym (has-more q) ∙ h)) [ inl k ↦ w.within q k | inr k ↦ p.0.leaves q (ap (has_leaf q) under ∙ k) ])
-    p.1)
+-- the leaves of a node that is no union
+pub source_term_under : (log : List Entry) (n : ℕ) (b : SourceByte) → entry_at log n ≡ Some (Source b) → terms log n ≡ source_term b
+source_term_under log n b at = terms_step log n (Source b) at tt
+
+pub source_under : (log : List Entry) (n : ℕ) (b : SourceByte) (r : SourceRun) → entry_at log n ≡ Some (Source b) → bytes_of r ≡ b ∷ [] → terms log n ≡ run_term r
+source_under log n b r at is = terms_step log n (Source b) at tt ∙ ap (λ (bs : List SourceByte). record { sources = bs; starts = [] }) (sym is)
+
+pub run_under : (log : List Entry) (n c a b : ℕ) → entry_at log n ≡ Some (Run c a b) → terms log n ≡ run_term (record { channel = c; first = a; last = b })
+run_under log n c a b at = terms_step log n (Run c a b) at tt
+
+pub start_under : (log : List Entry) (n : ℕ) (l : Loc) → entry_at log n ≡ Some (Start l) → terms log n ≡ start_term l
+start_under log n l at = terms_step log n (Start l) at tt
+
+-- leaves that were added are those under the node
+pub leaves_added : (log : List Entry) (n : ℕ) (u : Leaves) (found more : Terms) → terms log n ≡ leaves_terms u → more ≡ and_leaves u found
+    → (q : Leaf) → has_leaf q more ≡ (has_leaf q found || has_leaf q (terms log n))
+leaves_added log n u found more under is q = ap (has_leaf q) is ∙ has-more q u found ∙ ap (λ (t : Terms). has_leaf q found || has_leaf q t) (sym under)
 
 -- the union that was taken is done, when both operands were visited
 pub union_step : (log : List Entry) (root round round1 round2 : ℕ) (marks marks1 marks2 stack rest stack1 stack2 : List ℕ) (next : ℕ) (found : Terms) (a b : ℕ)

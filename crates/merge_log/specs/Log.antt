@@ -6,7 +6,9 @@ use Rattle.flow_model.specs.declared.Loc.{Loc}
 use Rattle.flow_model.specs.declared.SourceByte.{SourceByte}
 use Rattle.flow_model.specs.Orders.{loc_cmp, source_cmp}
 use Rattle.merge_log.specs.declared.nodes.Entry.{Entry}
-use Rattle.merge_log.specs.declared.nodes.Entry.TheVariants.{Source, Start, Union}
+use Rattle.merge_log.specs.declared.nodes.Entry.TheVariants.{Source, Run, Start, Union}
+use Rattle.source_runs.specs.declared.runs.SourceRun.{SourceRun}
+use Rattle.source_runs.specs.Runs.{bytes_of}
 
 -- ---- the leaves under a node
 
@@ -28,6 +30,14 @@ no_terms = record { sources = []; starts = [] }
 abbrev pub source_term : SourceByte → Terms
 source_term b = record { sources = b ∷ []; starts = [] }
 
+-- the source bytes of a run
+abbrev pub run_term : SourceRun → Terms
+run_term r = record { sources = bytes_of r; starts = [] }
+
+-- the entry of a run
+abbrev pub run_entry : SourceRun → Entry
+run_entry r = Run r.channel r.first r.last
+
 -- one start location
 abbrev pub start_term : Loc → Terms
 start_term l = record { sources = []; starts = l ∷ [] }
@@ -36,9 +46,10 @@ start_term l = record { sources = []; starts = l ∷ [] }
 abbrev pub joined : Terms → Terms → Terms
 joined a b = record { sources = union source_cmp a.sources b.sources; starts = union loc_cmp a.starts b.starts }
 
--- the terms of a new node: its one leaf, or those of both operands, by the terms of the nodes before it
+-- the terms of a new node: those of its leaf, or those of both operands, by the terms of the nodes before it
 abbrev pub entry_terms : (ℕ → Terms) → Entry → Terms
 entry_terms before (Source b) = source_term b
+entry_terms before (Run c a b) = run_term (record { channel = c; first = a; last = b })
 entry_terms before (Start l) = start_term l
 entry_terms before (Union a b) = joined (before a) (before b)
 
@@ -64,6 +75,7 @@ IsNode log n = n ≤ length log
 -- the entry may be that of the node n: the operands of a union are nodes above 0 and below n, the smaller one first
 abbrev pub HasOperandsBefore : ℕ → Entry → Type 0
 HasOperandsBefore n (Source b) = Unit {0}
+HasOperandsBefore n (Run c a b) = Unit {0}
 HasOperandsBefore n (Start l) = Unit {0}
 HasOperandsBefore n (Union a b) = (0 < a) × (a < b) × (b < n)
 

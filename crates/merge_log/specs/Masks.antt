@@ -3,8 +3,10 @@ use Rattle.std.specs.Prelude.{◌≡◌, ℕ, zero, suc, ◌<◌, ◌≤◌, ◌
 use Rattle.std.specs.Int.{bit_at}
 use Rattle.merge_log.specs.declared.nodes.Entry.{Entry}
 use Rattle.merge_log.specs.declared.reader.Leaf.{Leaf}
-use Rattle.merge_log.specs.declared.reader.Leaf.TheVariants.{Source, Start}
-use Rattle.merge_log.specs.declared.walk.Found.{Found}
+use Rattle.merge_log.specs.declared.finding.Found.{Found}
+use Rattle.merge_log.specs.declared.finding.Leaves.{Leaves}
+use Rattle.merge_log.specs.declared.finding.Leaves.TheVariants.{Run, Start}
+use Rattle.source_runs.specs.Runs.{bytes_of}
 use Rattle.merge_log.specs.Log.{Terms, no_terms, terms}
 use Rattle.merge_log.specs.Walk.{has_leaf, terms_of}
 
@@ -35,18 +37,18 @@ found_at [] r = no_terms
 found_at (f ∷ fs) zero = terms_of f
 found_at (f ∷ fs) (suc r) = found_at fs r
 
--- with one leaf more
-abbrev pub and_leaf : Leaf → Terms → Terms
-and_leaf (Source b) t = record { sources = t.sources ++ b ∷ []; starts = t.starts }
-and_leaf (Start l) t = record { sources = t.sources; starts = t.starts ++ l ∷ [] }
+-- with more leaves after those that are there
+abbrev pub and_leaves : Leaves → Terms → Terms
+and_leaves (Run s) t = record { sources = t.sources ++ bytes_of s; starts = t.starts }
+and_leaves (Start l) t = record { sources = t.sources; starts = t.starts ++ l ∷ [] }
 
--- with one leaf more, where the bit is set
-abbrev pub with_leaf : ℕ → Leaf → Terms → Terms
-with_leaf bit q t = if bit == 1 then and_leaf q t else t
+-- with more leaves, where the bit is set
+abbrev pub with_leaves : ℕ → Leaves → Terms → Terms
+with_leaves bit u t = if bit == 1 then and_leaves u t else t
 
--- each root of the mask has the leaf too, and the others are as they were
-abbrev pub GivesLeaf : ℕ → Leaf → List Found → List Found → Type 0
-GivesLeaf mask q old new = (r : ℕ) → r < length old → found_at new r ≡ with_leaf (bit_at mask r) q (found_at old r)
+-- each root of the mask has the leaves too, and the others are as they were
+abbrev pub GivesLeaves : ℕ → Leaves → List Found → List Found → Type 0
+GivesLeaves mask u old new = (r : ℕ) → r < length old → found_at new r ≡ with_leaves (bit_at mask r) u (found_at old r)
 
 -- each root has the leaves that it had
 abbrev pub HaveLeavesOf : List Found → List Found → Type 0

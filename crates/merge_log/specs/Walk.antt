@@ -4,7 +4,8 @@ use Rattle.sorted_set.specs.Sets.{has}
 use Rattle.flow_model.specs.Orders.{loc_cmp, source_cmp}
 use Rattle.merge_log.specs.declared.reader.Leaf.{Leaf}
 use Rattle.merge_log.specs.declared.reader.Leaf.TheVariants.{Source, Start}
-use Rattle.merge_log.specs.declared.walk.Found.{Found}
+use Rattle.merge_log.specs.declared.finding.Found.{Found}
+use Rattle.source_runs.specs.Runs.{all_bytes}
 use Rattle.merge_log.specs.Log.{Terms}
 
 -- the leaf is one of the terms
@@ -16,9 +17,9 @@ has_leaf (Start l) t = has loc_cmp l t.starts
 abbrev pub leaves_of : Terms → List Leaf
 leaves_of t = map Source t.sources ++ map Start t.starts
 
--- what was found, as terms
+-- what was found, as terms: the bytes of the runs, one run after another
 abbrev pub terms_of : Found → Terms
-terms_of found = record { sources = found.sources.items; starts = found.starts.items }
+terms_of found = record { sources = all_bytes found.runs.items; starts = found.starts.items }
 
 -- no mark is of a later round
 abbrev pub AreAtMost : ℕ → List ℕ → Type 0

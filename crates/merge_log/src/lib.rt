@@ -9,6 +9,7 @@
 //! specs/Log.antt says which leaves are under a node.
 #![tactic(auto)]
 
+mod finding;
 mod many;
 mod masks;
 mod nodes;
@@ -18,6 +19,7 @@ mod spread;
 mod under;
 mod walk;
 
+pub use finding::ascend;
 pub use many::{MOST_ROOTS, ManyTerms};
 pub use nodes::{Entry, MergeLog, Node};
-pub use reader::{Leaf, TermsReader, ascend};
+pub use reader::{Leaf, TermsReader};

@@ -3,12 +3,13 @@
 ghost use Rattle.std.specs.Prelude.{◌≡◌, ◌<◌, ◌≤◌, [], All, Some, length, map, slice_get, OnOk};
 ghost use Rattle.merge_log.specs.Log.{IsNode, terms};
 
+use crate::finding::Found;
 use crate::masks::Masks;
 use crate::nodes::{MergeLog, Node};
 use crate::reader::TermsReader;
-use crate::spread::{ascend_all, empty_sets, walk_many};
-use crate::walk::Found;
+use crate::spread::{empty_sets, settle_all, walk_many};
 use no_memory::NoMemory;
+use source_runs::SourceRun;
 use std::alloc::Global;
 use std::marker::Model;
 use std::mem;
@@ -23,6 +24,7 @@ pub struct ManyTerms {
     alloc: Global,
     masks: Masks,
     found: Vec<Found>,
+    spare: Vec<SourceRun>,
 }
 
 impl Model for ManyTerms {
@@ -47,6 +49,7 @@ impl ManyTerms {
             alloc,
             masks: Masks::new(alloc),
             found: Vec::new(alloc),
+            spare: Vec::new(alloc),
         }
     }
 
@@ -61,7 +64,7 @@ impl ManyTerms {
         masks.fit(log.size() as usize)?;
         empty_sets(self.alloc, &mut self.found, roots.len())?;
         walk_many(log, roots, &mut masks, &mut self.found)?;
-        ascend_all(&mut self.found);
+        settle_all(&mut self.found, &mut self.spare)?;
         self.masks = masks;
         Ok(())
     }

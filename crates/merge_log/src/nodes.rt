@@ -1,7 +1,7 @@
 //! The log, and what its nodes are.
 
 ghost use Rattle.std.specs.Prelude.{◌≡◌, ℕ, ◌+◌, ◌<◌, [], length, Some, None, ◌≤◌, ◌⊎◌, ◌↔◌, Contains, IsTrue, IfSome, IsOk, IfOk, OnErr};
-ghost use Rattle.merge_log.specs.Log.{IsLog, AreSets, IsNode, HasOperandsBefore, IsNoted, KeepsNodes, IsUnited, HasUnion, IsAbsorbed, HasAbsorbingUnion, AreApart, AreTwo, Covers, HasOperand, terms, no_terms, source_term, start_term, entry_at, entry_terms, joined};
+ghost use Rattle.merge_log.specs.Log.{IsLog, AreSets, IsNode, HasOperandsBefore, IsNoted, KeepsNodes, IsUnited, HasUnion, IsAbsorbed, HasAbsorbingUnion, AreApart, AreTwo, Covers, HasOperand, terms, no_terms, source_term, run_term, run_entry, start_term, entry_at, entry_terms, joined};
 ghost use Rattle.merge_log.specs.Walk.{leaves_of};
 ghost use Rattle.merge_log.specs.declared.nodes.Entry.TheVariants as entry;
 
@@ -11,17 +11,19 @@ use crate::under::StartsUnder;
 use flow_model::{Loc, SourceByte};
 use indexmap::IndexSet;
 use no_memory::NoMemory;
+use source_runs::SourceRun;
 use std::alloc::Global;
 use std::marker::Model;
 
 /// A node of a log: 0 is the empty one, and the others count up in the order of making.
 pub type Node = u64;
 
-/// What a node is made of. The operands of a union are nodes above 0 and below the union, the smaller one
+/// What a node is made of. A run is of source bytes, with its fields as they are in [`SourceRun`]. The operands of a union are nodes above 0 and below the union, the smaller one
 /// first.
 #[derive(Clone, Copy, PartialEq, Eq, Hash)]
 pub enum Entry {
     Source(SourceByte),
+    Run { channel: u8, first: u32, last: u32 },
     Start(Loc),
     Union { left: u32, right: u32 },
 }
@@ -100,6 +102,29 @@ impl MergeLog {
         ensures err { OnErr result (self.new ≡ self.old) }
     {
         self.insert(Entry::Source(byte))
+    }
+
+    /// The node of the source bytes of a run.
+    pub fn leaf_run(&mut self, run: SourceRun) -> Result<Node, NoMemory>
+        ensures terms { IfOk result (λ n. terms self.new n ≡ run_term run) }
+        ensures noted { IfOk result (λ n. IsNoted self.old (run_entry run) self.new n) }
+        ensures kept { KeepsNodes self.old self.new }
+        ensures there { Contains self.old (run_entry run) → IsOk result }
+        ensures err { OnErr result (self.new ≡ self.old) }
+    {
+        self.form(); // so that nodes fit into 32 bits
+        let slot = self.recent.slot_of(run.first, run.last);
+        let node = self.recent.node(slot);
+        if self.is_leaf_of(node, run) {
+            return Ok(node as u64);
+        }
+        let node = self.insert(Entry::Run {
+            channel: run.channel,
+            first: run.first,
+            last: run.last,
+        })?;
+        self.recent.note(slot, node as u32);
+        Ok(node)
     }
 
     /// The node of what a location has at the start.
@@ -260,6 +285,7 @@ impl MergeLog {
     {
         match self.entry(node) {
             Entry::Source(_) => false,
+            Entry::Run { .. } => false,
             Entry::Start(_) => false,
             Entry::Union { left, right } => left == operand || right == operand,
         }
@@ -275,11 +301,30 @@ impl MergeLog {
         }
         match self.entry(node) {
             Entry::Source(_) => false,
+            Entry::Run { .. } => false,
             Entry::Start(_) => false,
             Entry::Union {
                 left: one,
                 right: other,
             } => one == left && other == right,
+        }
+    }
+
+    /// Whether a number is the node of a run.
+    #[inline(always)]
+    fn is_leaf_of(&self, node: u32, run: SourceRun) -> bool
+        ensures { IsTrue result → entry_at self.now node ≡ Some (run_entry run) }
+    {
+        if node == 0 || node as u64 >= self.size() {
+            return false;
+        }
+        match self.entry(node) {
+            Entry::Run {
+                channel,
+                first,
+                last,
+            } => channel == run.channel && first == run.first && last == run.last,
+            Entry::Source(_) | Entry::Start(_) | Entry::Union { .. } => false,
         }
     }
 

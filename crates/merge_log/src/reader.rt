@@ -1,15 +1,16 @@
 //! Readers of the terms of nodes, which keep their marks from call to call.
 
 ghost use Rattle.std.specs.Prelude.{◌≡◌, ◌++◌, map, IfOk, OnOk};
-ghost use Rattle.sorted_set.specs.Sets.{Ascends, has};
-ghost use Rattle.merge_log.specs.Log.{IsNode, AreSets, terms, no_terms, start_term};
+ghost use Rattle.merge_log.specs.Log.{IsNode, AreSets, terms, no_terms, run_term, start_term};
 ghost use Rattle.merge_log.specs.Walk.{leaves_of, terms_of};
 ghost use Rattle.merge_log.specs.declared.reader.Leaf.TheVariants as leaf;
 
+use crate::finding::Found;
 use crate::nodes::{MergeLog, Node};
-use crate::walk::{Found, Marks, walk};
+use crate::walk::{Marks, walk};
 use flow_model::{Loc, SourceByte};
 use no_memory::NoMemory;
+use source_runs::{SourceRun, push_bytes};
 use std::alloc::Global;
 use std::marker::Model;
 
@@ -27,15 +28,16 @@ pub struct TermsReader {
     marks: Marks,
     stack: Vec<u32>,
     found: Found,
+    sources: Vec<SourceByte>,
+    spare: Vec<SourceRun>,
 }
 
 impl Model for TermsReader {
     ghost use Rattle.merge_log.specs.Log.{Terms};
-    ghost use Rattle.merge_log.specs.Walk.{terms_of};
 
     ghost Value = { Terms };
 
-    ghost view = { λ r. terms_of r.found };
+    ghost view = { λ r. record { sources = r.sources.items; starts = r.found.starts.items } };
 }
 
 impl TermsReader {
@@ -46,10 +48,9 @@ impl TermsReader {
         TermsReader {
             marks: Marks::new(alloc),
             stack: Vec::new(alloc),
-            found: Found {
-                sources: Vec::new(alloc),
-                starts: Vec::new(alloc),
-            },
+            found: Found::new(alloc),
+            sources: Vec::new(alloc),
+            spare: Vec::new(alloc),
         }
     }
 
@@ -57,7 +58,7 @@ impl TermsReader {
     pub fn sources(&self) -> &[SourceByte]
         ensures { result.now ≡ self.now.sources }
     {
-        &self.found.sources
+        &self.sources
     }
 
     /// The start locations of the node that was read last, ascending.
@@ -83,9 +84,20 @@ impl TermsReader {
         ensures read { OnOk result (self.new ≡ start_term loc) }
         ensures ascending { OnOk result (AreSets self.new) }
     {
-        self.found.sources.clear();
-        self.found.starts.clear();
+        self.found.clear();
+        self.sources.clear();
         self.found.starts.push(loc)?;
+        Ok(())
+    }
+
+    /// Reads the source bytes of a run, as if from a node that is its leaf.
+    pub fn read_run(&mut self, run: SourceRun) -> Result<(), NoMemory>
+        ensures read { OnOk result (self.new ≡ run_term run) }
+        ensures ascending { OnOk result (AreSets self.new) }
+    {
+        self.found.clear();
+        self.sources.clear();
+        push_bytes(&mut self.sources, &[run])?;
         Ok(())
     }
 
@@ -93,9 +105,9 @@ impl TermsReader {
     pub(crate) fn copy_found(&mut self, found: &Found) -> Result<(), NoMemory>
         ensures { OnOk result (self.new ≡ terms_of found.now) }
     {
-        self.found.sources.clear();
-        self.found.starts.clear();
-        self.found.sources.extend_from_slice(&found.sources)?;
+        self.found.clear();
+        self.sources.clear();
+        push_bytes(&mut self.sources, &found.runs)?;
         self.found.starts.extend_from_slice(&found.starts)?;
         Ok(())
     }
@@ -108,8 +120,8 @@ impl TermsReader {
         ensures ascending { OnOk result (AreSets self.new) }
     {
         log.form();
-        self.found.sources.clear();
-        self.found.starts.clear();
+        self.found.clear();
+        self.sources.clear();
         if node == 0 {
             return Ok(());
         }
@@ -121,8 +133,8 @@ impl TermsReader {
             &mut self.stack,
             &mut self.found,
         )?;
-        ascend(&mut self.found.sources);
-        ascend(&mut self.found.starts);
+        self.found.settle(&mut self.spare)?;
+        push_bytes(&mut self.sources, &self.found.runs)?;
         Ok(())
     }
 }
@@ -145,13 +157,4 @@ fn push_starts(starts: &[Loc], leaves: &mut Vec<Leaf>) -> Result<(), NoMemory>
         leaves.push(Leaf::Start(*loc))?;
     }
     Ok(())
-}
-
-/// Makes a set of a list: its members ascending, each once.
-pub fn ascend<T: Ord + Copy>(items: &mut Vec<T>)
-    ensures members { (x : T) → has T.cmp x items.new.items ≡ has T.cmp x items.old.items }
-    ensures ascending { Ascends T.cmp items.new.items }
-{
-    items.sort_unstable();
-    items.dedup();
 }

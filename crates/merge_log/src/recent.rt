@@ -1,9 +1,9 @@
-//! The nodes of unions that were asked for lately, so that most of them need no search of the log.
+//! The nodes of unions and runs that were asked for lately, so that most of them need no search of the log.
 
 use std::alloc::Global;
 
 /// For each slot the node that was noted there last, or 0. A pair of operands has one slot, which it shares with other
-/// pairs, so whoever is given a node here has to see in the log what it is made of.
+/// pairs and with runs, so whoever is given a node here has to see in the log what it is made of.
 #[derive(Drop)]
 pub struct RecentUnions {
     slots: Vec<u32>,
@@ -23,7 +23,7 @@ impl RecentUnions {
         }
     }
 
-    /// The slot of two operands.
+    /// The slot of two operands, or of the first and the last offset of a run.
     #[inline(always)]
     pub fn slot_of(&self, left: u32, right: u32) -> usize {
         let pair = (left as u64) << 32 | right as u64;

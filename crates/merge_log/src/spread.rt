@@ -3,15 +3,13 @@
 ghost use Rattle.std.specs.Prelude.{◌≡◌, ℕ, ◌+◌, ◌<◌, ◌≤◌, All, length, slice_index, OnOk};
 ghost use Rattle.std.specs.Int.{bit_at};
 ghost use Rattle.merge_log.specs.Log.{AreSets, IsNode, no_terms};
-ghost use Rattle.merge_log.specs.Walk.{has_leaf, terms_of};
-ghost use Rattle.merge_log.specs.Masks.{HasBit, IsClearFrom, AreFound, GivesLeaf, HaveLeavesOf, KeepCovers, found_at, with_leaf};
-ghost use Rattle.merge_log.specs.declared.reader.Leaf.{Leaf as AnyLeaf};
+ghost use Rattle.merge_log.specs.Masks.{HasBit, IsClearFrom, AreFound, GivesLeaves, HaveLeavesOf, KeepCovers, found_at};
 
+use crate::finding::{Found, Leaves};
 use crate::masks::Masks;
 use crate::nodes::{Entry, MergeLog, Node};
-use crate::reader::{Leaf, ascend};
-use crate::walk::Found;
 use no_memory::NoMemory;
+use source_runs::SourceRun;
 use std::alloc::Global;
 
 /// Finds the leaves under each root, by one visit to each node under any of them: from the last node down, so that a
@@ -84,8 +82,21 @@ fn spread(
     ensures covers { OnOk result (KeepCovers log.now node mask masks.old.masks.items found.old.items masks.new.masks.items found.new.items) }
 {
     match log.entry(node) {
-        Entry::Source(byte) => give(found, mask, Leaf::Source(byte)),
-        Entry::Start(loc) => give(found, mask, Leaf::Start(loc)),
+        Entry::Source(byte) => give(found, mask, Leaves::Run(SourceRun::of_byte(byte))),
+        Entry::Run {
+            channel,
+            first,
+            last,
+        } => give(
+            found,
+            mask,
+            Leaves::Run(SourceRun {
+                channel,
+                first,
+                last,
+            }),
+        ),
+        Entry::Start(loc) => give(found, mask, Leaves::Start(loc)),
         Entry::Union { left, right } => {
             masks.add(left, mask);
             masks.add(right, mask);
@@ -106,27 +117,17 @@ fn bounds(mask: u64) -> (usize, usize)
     )
 }
 
-/// Adds a leaf to what was found of the roots of a mask.
-fn give(found: &mut Vec<Found>, mask: u64, leaf: Leaf) -> Result<(), NoMemory>
+/// Adds leaves to what was found of the roots of a mask.
+fn give(found: &mut Vec<Found>, mask: u64, leaves: Leaves) -> Result<(), NoMemory>
     requires { length found.old.items ≤ 64 }
     ensures sets { length found.new.items ≡ length found.old.items }
-    ensures given { OnOk result (GivesLeaf mask leaf found.old.items found.new.items) }
+    ensures given { OnOk result (GivesLeaves mask leaves found.old.items found.new.items) }
 {
     let (first, past) = bounds(mask);
     for root in first..past.min(found.len()) {
         if (mask >> root) & 1 == 1 {
-            add_leaf(&mut found[root], leaf)?;
+            found[root].add(leaves)?;
         }
-    }
-    Ok(())
-}
-
-fn add_leaf(set: &mut Found, leaf: Leaf) -> Result<(), NoMemory>
-    ensures { OnOk result (terms_of set.new ≡ with_leaf 1 leaf (terms_of set.old)) }
-{
-    match leaf {
-        Leaf::Source(byte) => set.sources.push(byte)?,
-        Leaf::Start(loc) => set.starts.push(loc)?,
     }
     Ok(())
 }
@@ -139,10 +140,7 @@ pub fn empty_sets(alloc: Global, found: &mut Vec<Found>, count: usize) -> Result
     found.truncate(count);
     empty_all(found);
     for _ in found.len()..count {
-        found.push(Found {
-            sources: Vec::new(alloc),
-            starts: Vec::new(alloc),
-        })?;
+        found.push(Found::new(alloc))?;
     }
     Ok(())
 }
@@ -152,32 +150,18 @@ fn empty_all(found: &mut Vec<Found>)
     ensures empty { (r : ℕ) → found_at found.new.items r ≡ no_terms }
 {
     for root in 0..found.len() {
-        empty(&mut found[root]);
+        found[root].clear();
     }
-}
-
-fn empty(set: &mut Found)
-    ensures { terms_of set.new ≡ no_terms }
-{
-    set.sources.clear();
-    set.starts.clear();
 }
 
 /// Makes a set of what was found of each root.
-pub fn ascend_all(found: &mut Vec<Found>)
-    ensures sets { length found.new.items ≡ length found.old.items }
-    ensures members { HaveLeavesOf found.old.items found.new.items }
-    ensures ascending { (r : ℕ) → AreSets (found_at found.new.items r) }
+pub fn settle_all(found: &mut Vec<Found>, spare: &mut Vec<SourceRun>) -> Result<(), NoMemory>
+    ensures sets { OnOk result (length found.new.items ≡ length found.old.items) }
+    ensures members { OnOk result (HaveLeavesOf found.old.items found.new.items) }
+    ensures ascending { OnOk result ((r : ℕ) → AreSets (found_at found.new.items r)) }
 {
     for root in 0..found.len() {
-        ascend_both(&mut found[root]);
+        found[root].settle(spare)?;
     }
-}
-
-fn ascend_both(set: &mut Found)
-    ensures members { (q : AnyLeaf) → has_leaf q (terms_of set.new) ≡ has_leaf q (terms_of set.old) }
-    ensures ascending { AreSets (terms_of set.new) }
-{
-    ascend(&mut set.sources);
-    ascend(&mut set.starts);
+    Ok(())
 }

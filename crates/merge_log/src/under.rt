@@ -61,6 +61,7 @@ impl StartsUnder {
         }
         let mask = match entry {
             Entry::Source(_) => 0,
+            Entry::Run { .. } => 0,
             Entry::Start(_) => self.add_leaf(node),
             Entry::Union { left, right } => self.mask(left) | self.mask(right),
         };

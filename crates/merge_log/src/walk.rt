@@ -5,9 +5,10 @@ ghost use Rattle.merge_log.specs.Log.{IsNode, terms};
 ghost use Rattle.merge_log.specs.Walk.{AreAtMost, has_leaf, terms_of, visited};
 ghost use Rattle.merge_log.specs.declared.reader.Leaf.{Leaf as AnyLeaf};
 
+use crate::finding::{Found, Leaves};
 use crate::nodes::{Entry, MergeLog};
-use flow_model::{Loc, SourceByte};
 use no_memory::NoMemory;
+use source_runs::SourceRun;
 use std::alloc::Global;
 
 /// For each node the number of the round that reached it last, or 0.
@@ -59,13 +60,6 @@ impl Marks {
     }
 }
 
-/// The leaves that a walk found.
-#[derive(Drop)]
-pub struct Found {
-    pub sources: Vec<SourceByte>,
-    pub starts: Vec<Loc>,
-}
-
 /// Finds the leaves under a node, each node of which is visited once. The marks are those of a round that
 /// has begun for the whole log. Only the room of `stack` is used.
 pub fn walk(
@@ -79,7 +73,7 @@ pub fn walk(
     requires stands { IsNode log.now root }
     requires room { length log.now < length marks.old.last.items }
     requires unmarked { (m : ℕ) → slice_index marks.old.last.items m ≢ marks.old.round }
-    requires sources { found.old.sources.items ≡ [] }
+    requires runs { found.old.runs.items ≡ [] }
     requires starts { found.old.starts.items ≡ [] }
     ensures found { OnOk result ((q : AnyLeaf) → has_leaf q (terms_of found.new) ≡ has_leaf q (terms log.now root)) }
 {
@@ -88,8 +82,17 @@ pub fn walk(
     visit(root, marks, stack)?;
     while let Some(next) = stack.pop() {
         match log.entry(next) {
-            Entry::Source(byte) => found.sources.push(byte)?,
-            Entry::Start(loc) => found.starts.push(loc)?,
+            Entry::Source(byte) => found.add(Leaves::Run(SourceRun::of_byte(byte)))?,
+            Entry::Run {
+                channel,
+                first,
+                last,
+            } => found.add(Leaves::Run(SourceRun {
+                channel,
+                first,
+                last,
+            }))?,
+            Entry::Start(loc) => found.add(Leaves::Start(loc))?,
             Entry::Union { left, right } => {
                 visit(left, marks, stack)?;
                 visit(right, marks, stack)?;

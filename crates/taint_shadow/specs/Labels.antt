@@ -1,14 +1,16 @@
 -- Labels, and what they stand for.
-use Rattle.std.specs.Prelude.{◌≡◌, ℕ, ◌+◌, ◌-◌, ◌*◌, ◌/◌, ◌%◌, ◌^◌, nat_lt, if◌then◌else◌}
+use Rattle.std.specs.Prelude.{◌≡◌, ℕ, ◌+◌, ◌-◌, ◌*◌, ◌/◌, ◌%◌, ◌^◌, ◌<◌, nat_lt, if◌then◌else◌}
 use Rattle.flow_model.specs.declared.Loc.{Loc}
 use Rattle.flow_model.specs.declared.Loc.TheVariants.{Reg, Mem}
 use Rattle.flow_model.specs.declared.SourceByte.{SourceByte}
 use Rattle.flow_model.specs.Ranges.{IsLocation}
 use Rattle.taint_shadow.specs.declared.labels.Label.{Label}
 use Rattle.taint_shadow.specs.declared.labels.LabelKind.{LabelKind}
-use Rattle.taint_shadow.specs.declared.labels.LabelKind.TheVariants.{Node, Start}
+use Rattle.source_runs.specs.declared.runs.SourceRun.{SourceRun}
+use Rattle.taint_shadow.specs.declared.labels.LabelKind.TheVariants.{Node, Start, Run}
 
--- ---- labels as numbers: nodes lie below 2^32, then come the bytes of memory at the start, and then the lanes of registers
+-- ---- labels as numbers: nodes lie below 2^32, then come the bytes of memory at the start, then the lanes of registers, and from
+-- 2^62 on the runs of source bytes
 
 abbrev pub node_label : ℕ → Label
 node_label n = record { number = n }
@@ -22,11 +24,22 @@ abbrev pub start_label : Loc → Label
 start_label (Mem p) = record { number = 2 ^ 32 + p }
 start_label (Reg r i) = record { number = 2 ^ 33 + 256 * r + i }
 
+-- the channel and the offsets of a run are small enough for a label's number
+pub record FitsLabel (r : SourceRun) : Type 0 where
+  pub channel : r.channel < 2 ^ 4
+  pub first : r.first < 2 ^ 29
+  pub last : r.last < 2 ^ 29
+
+-- the run of a number: its channel, its first offset and its last one
+abbrev pub run_of : ℕ → SourceRun
+run_of n = record { channel = n / 2 ^ 58 % 2 ^ 4; first = n / 2 ^ 29 % 2 ^ 29; last = n % 2 ^ 29 }
+
 abbrev pub kind_of : Label → LabelKind
 kind_of l =
     if nat_lt l.number (2 ^ 32) then Node l.number
     else if nat_lt l.number (2 ^ 33) then Start (Mem (l.number - 2 ^ 32))
-    else Start (Reg (l.number / 256 % 256) (l.number % 256))
+    else if nat_lt l.number (2 ^ 62) then Start (Reg (l.number / 256 % 256) (l.number % 256))
+    else Run (run_of l.number)
 
 -- ---- meanings
 

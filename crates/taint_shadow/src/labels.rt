@@ -1,12 +1,13 @@
 //! Labels of locations, and what makes and unites them.
 
-ghost use Rattle.std.specs.Prelude.{◌≡◌, IfOk, IsTrue};
+ghost use Rattle.std.specs.Prelude.{◌≡◌, None, IfOk, IfSome, IsTrue};
 ghost use Rattle.flow_model.specs.declared.Loc.{Loc as Location};
 ghost use Rattle.flow_model.specs.declared.SourceByte.{SourceByte as Source};
-ghost use Rattle.taint_shadow.specs.Labels.{LabelWords, Laws, Makes, mean_together, nothing_label, node_label, start_label, kind_of};
+ghost use Rattle.taint_shadow.specs.Labels.{LabelWords, Laws, Makes, mean_together, nothing_label, node_label, start_label, kind_of, FitsLabel};
 
 use flow_model::{Loc, SourceByte};
 use no_memory::NoMemory;
+use source_runs::SourceRun;
 
 /// The number of the label of what the byte at place 0 had at the start; those of nodes lie below it.
 const FIRST_BYTE: u64 = 0x1_0000_0000;
@@ -14,7 +15,16 @@ const FIRST_BYTE: u64 = 0x1_0000_0000;
 /// The number of the label of what lane 0 of register 0 had at the start; those of bytes lie below it.
 const FIRST_LANE: u64 = 0x2_0000_0000;
 
-/// What a location is labelled with: a node, or what some location had at the start, as one number.
+/// The number of the label of the first byte of channel 0, from which those of runs count on; those of lanes lie below it.
+const FIRST_RUN: u64 = 1 << 62;
+
+/// The offsets of runs that have labels lie below this number.
+const PAST_OFFSETS: u64 = 1 << 29;
+
+/// The channels of runs that have labels lie below this number.
+const PAST_CHANNELS: u64 = 1 << 4;
+
+/// What a location is labelled with: a node, what some location had at the start, or a run of source bytes, as one number.
 #[derive(Clone, Copy, PartialEq, Eq)]
 pub struct Label {
     number: u64,
@@ -27,6 +37,8 @@ pub enum LabelKind {
     Node(u32),
     /// What a location had at the start.
     Start(Loc),
+    /// Source bytes of one channel, one after another.
+    Run(SourceRun),
 }
 
 impl Label {
@@ -61,6 +73,26 @@ impl Label {
         Label { number }
     }
 
+    /// The label of a run of source bytes: `None` where its channel or its last offset is too large for a label's number.
+    #[inline(always)]
+    pub fn run(run: SourceRun) -> Option<Label>
+        ensures kind { IfSome result (λ label. kind_of label ≡ LabelKind.Run run) }
+        ensures none { result ≡ None → FitsLabel run → ⊥ }
+    {
+        if run.channel as u64 >= PAST_CHANNELS
+            || run.first as u64 >= PAST_OFFSETS
+            || run.last as u64 >= PAST_OFFSETS
+        {
+            return None;
+        }
+        Some(Label {
+            number: FIRST_RUN
+                + run.channel as u64 * (PAST_OFFSETS * PAST_OFFSETS)
+                + run.first as u64 * PAST_OFFSETS
+                + run.last as u64,
+        })
+    }
+
     /// What the label is.
     #[inline(always)]
     pub fn kind(self) -> LabelKind
@@ -74,9 +106,16 @@ impl Label {
                 place: (self.number - FIRST_BYTE) as u32,
             });
         }
-        LabelKind::Start(Loc::Reg {
-            number: (self.number / 256 % 256) as u8,
-            lane: (self.number % 256) as u8,
+        if self.number < FIRST_RUN {
+            return LabelKind::Start(Loc::Reg {
+                number: (self.number / 256 % 256) as u8,
+                lane: (self.number % 256) as u8,
+            });
+        }
+        LabelKind::Run(SourceRun {
+            channel: (self.number / (PAST_OFFSETS * PAST_OFFSETS) % PAST_CHANNELS) as u8,
+            first: (self.number / PAST_OFFSETS % PAST_OFFSETS) as u32,
+            last: (self.number % PAST_OFFSETS) as u32,
         })
     }
 

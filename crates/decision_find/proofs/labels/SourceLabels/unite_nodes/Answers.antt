@@ -1,16 +1,28 @@
+use Rattle.std.proofs.Common.{◌≡◌, true, ap, ◌∙◌}
+use Rattle.merge_log.specs.Log.{Terms, terms}
+use Rattle.decision_model.specs.Decisions.{is_some_byte}
 use Rattle.decision_find.specs.declared.labels.SourceLabels.{SourceLabels}
-use Rattle.decision_find.proofs.Nodes.{joined_stands, joined_made}
+use Rattle.decision_find.proofs.Nodes.{keeps_labels, joined_stands, of_both}
 use Rattle.decision_find.proofs.labels.SourceLabels.unite_nodes.Goals as goal
+
+pub node_of-requires-2 : goal.node_of-requires-2
+node_of-requires-2 c = (keeps_labels c.args.self.now c.node_of.new.self c.node_of.ensures.keeps c.args.right c.requires.right).stands
+
+pub absorbing_union-requires-clause-left : goal.absorbing_union-requires-clause-left
+absorbing_union-requires-clause-left c = c.node_of-2.ensures.keeps.nodes c.in_ok-one.one c.in_ok-one.ensures.stands.stands
 
 pub label_of-requires : goal.label_of-requires
 label_of-requires c =
+    let made : SourceLabels = c.node_of-2.new.self in
     let new : SourceLabels = record { log = c.absorbing_union.new.self } in
+    let some : is_some_byte (terms made.log c.in_ok-one.one).sources ≡ true =
+    ap is_some_byte (ap (λ (t : Terms). t.sources) (c.node_of-2.ensures.keeps.terms c.in_ok-one.one c.in_ok-one.ensures.stands.stands) ∙ c.in_ok-one.ensures.means) ∙ c.requires.some in
     record {
       stands = c.in_ok-node.ensures.absorbed.stands;
-      some = λ h. joined_stands c.args.self.now new c.args.one c.args.other c.in_ok-node.node c.requires.one c.requires.some c.in_ok-node.ensures.terms;
+      some = λ h. joined_stands made new c.in_ok-one.one c.in_ok-other.other c.in_ok-node.node some c.in_ok-node.ensures.terms;
     }
 
 pub returns : goal.returns
 returns c =
-    let new : SourceLabels = record { log = c.absorbing_union.new.self } in
-    joined_made c.args.self.now new c.args.one c.args.other c.in_ok-node.node c.label_of.result c.in_ok-node.ensures.kept c.in_ok-node.ensures.terms c.label_of.ensures
+    of_both c.args.self.now c.node_of.new.self c.node_of-2.new.self (record { log = c.absorbing_union.new.self }) c.args.left c.args.right c.in_ok-one.one c.in_ok-other.other c.in_ok-node.node c.label_of.result
+    c.requires.right c.in_ok-one.ensures.stands c.in_ok-one.ensures.means c.node_of.ensures.keeps c.in_ok-other.ensures.means c.node_of-2.ensures.keeps c.in_ok-node.ensures.terms c.absorbing_union.ensures.kept c.label_of.ensures

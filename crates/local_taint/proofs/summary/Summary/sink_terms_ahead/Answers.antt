@@ -20,3 +20,9 @@ returns-in-Start-clause-read c =
     let e = c.args.self.now in
     on_ok_weaker c.read_start.result
     (λ read. sink_read e c.args.number c.index.result.now _ c.requires.inside c.index.ensures (ap as_terms read ∙ ap (terms_by e.nodes) (sym c.in-Start.is ∙ c.kind.ensures))) c.read_start.ensures.read
+
+pub returns-in-Run-clause-read : goal.returns-in-Run-clause-read
+returns-in-Run-clause-read c =
+    let e = c.args.self.now in
+    on_ok_weaker c.read_run.result
+    (λ read. sink_read e c.args.number c.index.result.now _ c.requires.inside c.index.ensures (ap as_terms read ∙ ap (terms_by e.nodes) (sym c.in-Run.is ∙ c.kind.ensures))) c.read_run.ensures.read

@@ -1,17 +1,25 @@
-use Rattle.flow_model.proofs.Derived.{source_compared, loc_compared}
-use Rattle.merge_log.proofs.Sorting.{IsSetOf, read_terms, read_sets, read_nothing}
+use Rattle.std.proofs.Common.{◌≡◌, ◌++◌, ap, ap₂, sym, ◌∙◌, subst, List}
+use Rattle.flow_model.specs.declared.Loc.{Loc}
+use Rattle.flow_model.specs.declared.SourceByte.{SourceByte}
+use Rattle.source_runs.specs.declared.runs.SourceRun.{SourceRun}
+use Rattle.source_runs.specs.Runs.{all_bytes}
+use Rattle.merge_log.specs.Log.{Terms, AreSets, terms}
+use Rattle.merge_log.specs.Walk.{terms_of}
+use Rattle.merge_log.proofs.Terms.{ascend-terms, nothing_under_0}
+use Rattle.merge_log.proofs.Sorting.{same_terms}
 use Rattle.merge_log.proofs.reader.TermsReader.read.Goals as goal
 
 pub returns-then-node-eq0-clause-read : goal.returns-then-node-eq0-clause-read
-returns-then-node-eq0-clause-read c = read_nothing c.args.log.now c.args.node _ _ c.if-node-eq0.true c.clear.ensures.items c.clear-2.ensures.items
+returns-then-node-eq0-clause-read c =
+    ap₂ (λ (bs : List SourceByte) (ls : List Loc). record { sources = bs; starts = ls }) c.clear-2.ensures.items c.clear.ensures.starts
+    ∙ sym (ap (terms c.args.log.now) c.if-node-eq0.true ∙ nothing_under_0 c.args.log.now)
 
 pub returns : goal.returns
 returns c =
-    let sources : IsSetOf source_compared c.ascend.new.items.items c.walk.new.found.sources.items = record { members = c.ascend.ensures.members; ascending = c.ascend.ensures.ascending } in
-    let starts : IsSetOf loc_compared c.ascend-2.new.items.items c.walk.new.found.starts.items = record { members = c.ascend-2.ensures.members; ascending = c.ascend-2.ensures.ascending } in
-    record {
-      read =
-          read_terms c.args.log.now c.args.node c.walk.new.found.sources.items c.ascend.new.items.items c.walk.new.found.starts.items c.ascend-2.new.items.items
-          c.in_ok-walk.ensures.found sources starts;
-      ascending = read_sets c.walk.new.found.sources.items c.ascend.new.items.items c.walk.new.found.starts.items c.ascend-2.new.items.items sources starts;
-    }
+    let log = c.args.log.now in
+    let node = c.args.node in
+    let settled = terms_of c.settle.new.self in
+    let is : settled ≡ terms log node = same_terms settled (terms log node) c.in_ok-settle.ensures.ascending (ascend-terms log node) (λ q. c.in_ok-settle.ensures.members q ∙ c.in_ok-walk.ensures.found q) in
+    let bytes = c.in_ok-push_bytes.ensures ∙ ap₂ (λ (bs : List SourceByte) (rs : List SourceRun). bs ++ all_bytes rs) c.clear-2.ensures.items c.deref.ensures.value in
+    let read = ap (λ (bs : List SourceByte). record { sources = bs; starts = settled.starts }) bytes ∙ is in
+    record { read = read; ascending = subst AreSets (sym read) (ascend-terms log node) }

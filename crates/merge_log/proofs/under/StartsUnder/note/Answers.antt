@@ -5,7 +5,7 @@ use Rattle.std.specs.Int.RustNames.{bit_or}
 use Rattle.merge_log.specs.Under.{AreUnder, IsUnder}
 use Rattle.merge_log.proofs.Noted.{entry_stands, leaf_noted, mask_pushed, nothing_noted, union_under}
 use Rattle.merge_log.proofs.under.StartsUnder.note.Goals as goal
-use Rattle.merge_log.proofs.under.StartsUnder.note.Goals.{in-Source, in-Start, in-Union}
+use Rattle.merge_log.proofs.under.StartsUnder.note.Goals.{in-Source, in-Run, in-Start, in-Union}
 
 pub returns : goal.returns
 returns c = λ log order at under.
@@ -14,6 +14,9 @@ returns c = λ log order at under.
     subst (AreUnder log c.match-entry.self.leaves.items) (sym c.in-Ok.ensures.items)
     (elim c.match-entry.branch [
       | in-Source w ↦
+          subst (λ n. AreUnder log n.leaves.items (n.masks.items ++ c.match-entry.mask ∷ [])) (sym w.self-is)
+          (nothing_noted log s.leaves.items s.masks.items c.match-entry.mask w.mask-is under)
+      | in-Run w ↦
           subst (λ n. AreUnder log n.leaves.items (n.masks.items ++ c.match-entry.mask ∷ [])) (sym w.self-is)
           (nothing_noted log s.leaves.items s.masks.items c.match-entry.mask w.mask-is under)
       | in-Start w ↦

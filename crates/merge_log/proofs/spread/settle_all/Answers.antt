@@ -1,7 +1,7 @@
 use Rattle.std.proofs.Common.{arith, ap, ◌∙◌, ◌<◌, length}
 use Rattle.merge_log.specs.Walk.{has_leaf}
 use Rattle.merge_log.proofs.Roots.{AreAscended, ascended_next, ascended_all, found_lent}
-use Rattle.merge_log.proofs.spread.ascend_all.Goals as goal
+use Rattle.merge_log.proofs.spread.settle_all.Goals as goal
 
 pub loop-root-preserved : goal.loop-root-preserved
 loop-root-preserved c =
@@ -9,7 +9,7 @@ loop-root-preserved c =
     let within : c.loop-root.root < length now = omega (arith, c.loop-root-test.true, c.len-root-end.ensures, c.loop-root.invariant.sets) in
     let before : AreAscended c.args.found.now.items now c.loop-root.root = record { sets = c.loop-root.invariant.sets; members = c.loop-root.invariant.members; ascending = c.loop-root.invariant.ascending } in
     let lent = found_lent now c.loop-root.root c.index_mut.result.now within c.index_mut.ensures.value in
-    let next = ascended_next c.args.found.now.items now c.loop-root.root c.ascend_both.new.set within before (λ q. c.ascend_both.ensures.members q ∙ ap (has_leaf q) lent) c.ascend_both.ensures.ascending in
+    let next = ascended_next c.args.found.now.items now c.loop-root.root c.settle.new.self within before (λ q. c.in_ok-settle.ensures.members q ∙ ap (has_leaf q) lent) c.in_ok-settle.ensures.ascending in
     record { sets = next.sets; members = next.members; ascending = next.ascending }
 
 pub returns-clause-ascending : goal.returns-clause-ascending

@@ -3,7 +3,7 @@ use Rattle.merge_log.specs.Log.{AreSets}
 use Rattle.merge_log.specs.Walk.{has_leaf}
 use Rattle.merge_log.specs.Masks.{found_at}
 use Rattle.merge_log.specs.declared.reader.Leaf.{Leaf}
-use Rattle.merge_log.proofs.spread.ascend_all.Given as goal
+use Rattle.merge_log.proofs.spread.settle_all.Given as goal
 
 abbrev pub invariant-loop-root : goal.invariant-loop-root
 invariant-loop-root l = record {

@@ -1,6 +1,6 @@
 use Rattle.std.proofs.lemmas.List.Filters.{dedup_is}
 use Rattle.merge_log.proofs.Sorting.{has-sorted, Ascends-dedup}
-use Rattle.merge_log.proofs.reader.ascend.Goals as goal
+use Rattle.merge_log.proofs.finding.ascend.Goals as goal
 
 pub returns-clause-members : goal.returns-clause-members
 returns-clause-members g c x = has-sorted g.met.T.Ord.total _ g.met.T.Ord.matches_eq x _ _ _ c.sort_unstable.ensures.permutation (dedup_is _ _ _ c.dedup.ensures.filtered)

@@ -1,0 +1,187 @@
+-- Runs that ascend, joined where they go on.
+use Rattle.std.proofs.Common.{◌≡◌, ℕ, zero, suc, ◌+◌, ◌<◌, ◌≤◌, List, [], ◌∷◌, ◌++◌, length, refl, ap, sym, ◌∙◌, subst, Bool, true, false, ◌||◌, if◌then◌else◌, arith, slice_index_or, ◌⊎◌, inl, inr, append-nil, nat_cmp}
+use Rattle.std.specs.List.{list_any}
+use Rattle.std.specs.List.Sorted.{IsSorted, IsPermutation}
+use Rattle.std.specs.Ordering.{MatchOrdering, eq_by_cmp, is_eq, is_lt, ordering_then}
+use Rattle.std.specs.Cmp.{ranked, tied_itself}
+use Rattle.std.specs.declared.cmp.Ordering.{Ordering}
+use Rattle.std.specs.declared.cmp.Ordering.TheVariants.{Less, Equal, Greater}
+use Rattle.std.proofs.lemmas.Bool.{or_left, or_right, or_cases}
+use Rattle.std.proofs.lemmas.Bool.Decides.{nat_tests}
+use Rattle.std.proofs.lemmas.List.Folds.{list_any-append}
+use Rattle.std.proofs.lemmas.List.Sorted.{list_any-IsPermutation}
+use Rattle.sorted_set.specs.Sets.{has, IsBelow, Ascends}
+use Rattle.flow_model.specs.declared.SourceByte.{SourceByte}
+use Rattle.flow_model.specs.Orders.{source_cmp}
+use Rattle.flow_model.proofs.Orders.{source_total}
+use Rattle.source_runs.specs.declared.runs.SourceRun.{SourceRun}
+use Rattle.source_runs.specs.contracts.runs.SourceRunOrd.TheImpl as of_run_order
+use Rattle.source_runs.specs.Runs.{bytes_of, all_bytes, goes_on, IsBefore, Rise, AreRising}
+use Rattle.source_runs.proofs.Bytes.{no, IsOf, of_run, run_ascends, less, longer, longer_has}
+
+-- ---- runs in order
+
+abbrev pub run_compared : SourceRun → SourceRun → Ordering
+run_compared = of_run_order.cmp-value.it
+
+before : (r s : SourceRun) → is_lt (run_compared s r) ≡ false → IsBefore r s
+before r s = by (nat_cmp s.channel r.channel) (ranked s.channel r.channel (nat_cmp s.channel r.channel) refl) (nat_cmp s.first r.first) (ranked s.first r.first (nat_cmp s.first r.first) refl) where
+  by : (o : Ordering) → MatchOrdering o (s.channel < r.channel) (s.channel ≡ r.channel) (r.channel < s.channel)
+      → (p : Ordering) → MatchOrdering p (s.first < r.first) (s.first ≡ r.first) (r.first < s.first)
+      → is_lt (ordering_then o (ordering_then p (nat_cmp s.last r.last))) ≡ false → IsBefore r s
+  by Less h p k e = cc
+  by Greater h p k e = inl h
+  by Equal h Less k e = cc
+  by Equal h Equal k e = inr (sym h, omega (arith, k))
+  by Equal h Greater k e = inr (sym h, omega (arith, k))
+
+sorted_rise : (r : SourceRun) (rs : List SourceRun) → IsSorted run_compared (r ∷ rs) → Rise r rs
+sorted_rise r [] h = tt
+sorted_rise r (s ∷ ss) h = (
+  before r s (h 0 r (omega arith) (omega arith)),
+  sorted_rise s ss (λ k d low high.
+      let next : suc k + 1 ≡ suc (k + 1) = omega arith in
+      subst (λ (n : ℕ). is_lt (run_compared (slice_index_or (r ∷ s ∷ ss) n d) (slice_index_or (s ∷ ss) k d)) ≡ false) next (h (suc k) d (omega arith) (omega (arith, high)))),
+)
+
+pub sorted_rising : (rs : List SourceRun) → IsSorted run_compared rs → AreRising rs
+sorted_rising [] h = tt
+sorted_rising (r ∷ rs) h = sorted_rise r rs h
+
+-- ---- joined
+
+abbrev pub joined_from : SourceRun → List SourceRun → List SourceRun
+joined_from r [] = r ∷ []
+joined_from r (s ∷ ss) = if goes_on r s then joined_from (longer r s) ss else r ∷ joined_from s ss
+
+abbrev pub joined_all : List SourceRun → List SourceRun
+joined_all [] = []
+joined_all (r ∷ rs) = joined_from r rs
+
+pub has-all : (q : SourceByte) (r : SourceRun) (rs : List SourceRun) → has source_cmp q (all_bytes (r ∷ rs)) ≡ (has source_cmp q (bytes_of r) || has source_cmp q (all_bytes rs))
+has-all q r rs = list_any-append (eq_by_cmp source_cmp q) (bytes_of r) (all_bytes rs)
+
+record GoOn (r s : SourceRun) : Type 0 where
+  channel : s.channel ≡ r.channel
+  first : s.first ≤ r.last + 1
+
+go_on : (r s : SourceRun) → goes_on r s ≡ true → GoOn r s
+go_on r s e = record { channel = grind (arith, nat_tests); first = grind (arith, nat_tests) }
+
+stop : (r s : SourceRun) → goes_on r s ≡ false → r.channel ≡ s.channel → r.last + 1 < s.first
+stop r s e same = grind (arith, nat_tests)
+
+rise_longer : (r s : SourceRun) (ss : List SourceRun) → IsBefore r s → goes_on r s ≡ true → Rise s ss → Rise (longer r s) ss
+rise_longer r s [] b e h = tt
+rise_longer r s (t ∷ ts) b e h = (by b h.0, h.1) where
+  g : GoOn r s
+  g = go_on r s e
+
+  by : IsBefore r s → IsBefore s t → IsBefore (longer r s) t
+  by (inl k) c = absurd (omega (arith, k, g.channel))
+  by (inr k) (inl c) = inl (omega (arith, c, k.0))
+  by (inr k) (inr c) = inr (k.0 ∙ c.0, omega (arith, k.1, c.1))
+
+next_has : (r s : SourceRun) (q : SourceByte) → IsBefore r s → goes_on r s ≡ true → has source_cmp q (bytes_of (longer r s)) ≡ (has source_cmp q (bytes_of r) || has source_cmp q (bytes_of s))
+next_has r s q b e = by b where
+  g : GoOn r s
+  g = go_on r s e
+
+  by : IsBefore r s → has source_cmp q (bytes_of (longer r s)) ≡ (has source_cmp q (bytes_of r) || has source_cmp q (bytes_of s))
+  by (inl k) = absurd (omega (arith, k, g.channel))
+  by (inr k) = longer_has r s q k.0 k.1 g.first
+
+pub or_grouped : (a b c : Bool) → ((a || b) || c) ≡ (a || (b || c))
+or_grouped true b c = refl
+or_grouped false b c = refl
+
+pub joined_members : (r : SourceRun) (ss : List SourceRun) → Rise r ss → (q : SourceByte) → has source_cmp q (all_bytes (joined_from r ss)) ≡ has source_cmp q (all_bytes (r ∷ ss))
+joined_members r [] h q = refl
+joined_members r (s ∷ ss) h q = by (goes_on r s) refl (joined_members (longer r s) ss) (joined_members s ss h.1) where
+  by : (b : Bool) → goes_on r s ≡ b
+      → (Rise (longer r s) ss → (q : SourceByte) → has source_cmp q (all_bytes (joined_from (longer r s) ss)) ≡ has source_cmp q (all_bytes (longer r s ∷ ss)))
+      → ((q : SourceByte) → has source_cmp q (all_bytes (joined_from s ss)) ≡ has source_cmp q (all_bytes (s ∷ ss)))
+      → has source_cmp q (all_bytes (if b then joined_from (longer r s) ss else r ∷ joined_from s ss)) ≡ has source_cmp q (all_bytes (r ∷ s ∷ ss))
+  by true e on off =
+      on (rise_longer r s ss h.0 e h.1) q ∙ has-all q (longer r s) ss ∙ ap (λ (b : Bool). b || has source_cmp q (all_bytes ss)) (next_has r s q h.0 e)
+      ∙ or_grouped (has source_cmp q (bytes_of r)) (has source_cmp q (bytes_of s)) (has source_cmp q (all_bytes ss))
+      ∙ ap (λ (b : Bool). has source_cmp q (bytes_of r) || b) (sym (has-all q s ss)) ∙ sym (has-all q r (s ∷ ss))
+  by false e on off = has-all q r (joined_from s ss) ∙ ap (λ (b : Bool). has source_cmp q (bytes_of r) || b) (off q) ∙ sym (has-all q r (s ∷ ss))
+
+-- ---- ascending
+
+itself : (x : SourceByte) → eq_by_cmp source_cmp x x ≡ true
+itself x = ap is_eq (tied_itself source_total x)
+
+below_each : (x : SourceByte) (ys : List SourceByte) → ((y : SourceByte) → has source_cmp y ys ≡ true → source_cmp x y ≡ Less) → IsBelow source_cmp x ys
+below_each x [] h = tt
+below_each x (y ∷ ys) h = (h y (or_left (eq_by_cmp source_cmp y y) (has source_cmp y ys) (itself y)), below_each x ys (λ z k. h z (or_right (eq_by_cmp source_cmp z y) (has source_cmp z ys) k)))
+
+below_append : (x : SourceByte) (xs ys : List SourceByte) → IsBelow source_cmp x xs → IsBelow source_cmp x ys → IsBelow source_cmp x (xs ++ ys)
+below_append x [] ys h k = k
+below_append x (y ∷ xs) ys h k = (h.0, below_append x xs ys h.1 k)
+
+ascends_append : (xs ys : List SourceByte) → Ascends source_cmp xs → Ascends source_cmp ys
+    → ((x y : SourceByte) → has source_cmp x xs ≡ true → has source_cmp y ys ≡ true → source_cmp x y ≡ Less) → Ascends source_cmp (xs ++ ys)
+ascends_append [] ys h k below = k
+ascends_append (x ∷ xs) ys h k below = (
+  below_append x xs ys h.0 (below_each x ys (λ y m. below x y (or_left (eq_by_cmp source_cmp x x) (has source_cmp x xs) (itself x)) m)),
+  ascends_append xs ys h.1 k (λ z y l m. below z y (or_right (eq_by_cmp source_cmp z x) (has source_cmp z xs) l) m),
+)
+
+-- a byte that doesn't come before the run
+abbrev IsAfter : SourceRun → SourceByte → Type 0
+IsAfter s y = (s.channel < y.channel) ⊎ ((s.channel ≡ y.channel) × (s.first ≤ y.offset))
+
+after_then : (r s : SourceRun) (y : SourceByte) → IsBefore r s → IsAfter s y → IsAfter r y
+after_then r s y (inl b) (inl a) = inl (omega (arith, b, a))
+after_then r s y (inl b) (inr a) = inl (omega (arith, b, a.0))
+after_then r s y (inr b) (inl a) = inl (omega (arith, b.0, a))
+after_then r s y (inr b) (inr a) = inr (b.0 ∙ a.0, omega (arith, b.1, a.1))
+
+own_after : (s : SourceRun) (y : SourceByte) → has source_cmp y (bytes_of s) ≡ true → IsAfter s y
+own_after s y p = let i = of_run y s p in inr (sym i.channel, i.first)
+
+later_after : (s : SourceRun) (ss : List SourceRun) (y : SourceByte) → Rise s ss → has source_cmp y (all_bytes ss) ≡ true → IsAfter s y
+later_after s [] y h p = no (sym p)
+later_after s (t ∷ ts) y h p = after_then s t y h.0 (by (or_cases (has source_cmp y (bytes_of t)) (has source_cmp y (all_bytes ts)) (sym (has-all y t ts) ∙ p)) (later_after t ts y h.1)) where
+  by : (has source_cmp y (bytes_of t) ≡ true) ⊎ (has source_cmp y (all_bytes ts) ≡ true) → (has source_cmp y (all_bytes ts) ≡ true → IsAfter t y) → IsAfter t y
+  by (inl q) later = own_after t y q
+  by (inr q) later = later q
+
+all_after : (s : SourceRun) (ss : List SourceRun) → Rise s ss → (y : SourceByte) → has source_cmp y (all_bytes (s ∷ ss)) ≡ true → IsAfter s y
+all_after s ss h y m = elim (or_cases (has source_cmp y (bytes_of s)) (has source_cmp y (all_bytes ss)) (sym (has-all y s ss) ∙ m)) [
+  | inl p ↦ own_after s y p
+  | inr p ↦ later_after s ss y h p
+]
+
+pub joined_ascends : (r : SourceRun) (ss : List SourceRun) → Rise r ss → Ascends source_cmp (all_bytes (joined_from r ss))
+joined_ascends r [] h = subst (Ascends source_cmp) (sym (append-nil (bytes_of r))) (run_ascends r)
+joined_ascends r (s ∷ ss) h = by (goes_on r s) refl (joined_ascends (longer r s) ss) (joined_ascends s ss h.1) where
+  first_less : (x y : SourceByte) → IsOf x r → IsBefore r s → IsAfter s y → goes_on r s ≡ false → (x.channel < y.channel) ⊎ ((x.channel ≡ y.channel) × (x.offset < y.offset))
+  first_less x y i (inl b) (inl a) e = inl (omega (arith, i.channel, b, a))
+  first_less x y i (inl b) (inr a) e = inl (omega (arith, i.channel, b, a.0))
+  first_less x y i (inr b) (inl a) e = inl (omega (arith, i.channel, b.0, a))
+  first_less x y i (inr b) (inr a) e = inr (i.channel ∙ b.0 ∙ a.0, let apart = stop r s e b.0 in omega (arith, i.last, apart, a.1))
+
+  by : (b : Bool) → goes_on r s ≡ b → (Rise (longer r s) ss → Ascends source_cmp (all_bytes (joined_from (longer r s) ss))) → Ascends source_cmp (all_bytes (joined_from s ss))
+      → Ascends source_cmp (all_bytes (if b then joined_from (longer r s) ss else r ∷ joined_from s ss))
+  by true e on off = on (rise_longer r s ss h.0 e h.1)
+  by false e on off = ascends_append (bytes_of r) (all_bytes (joined_from s ss)) (run_ascends r) off
+      (λ x y l m. less x y (first_less x y (of_run x r l) h.0 (all_after s ss h.1 y (sym (joined_members s ss h.1 y) ∙ m)) e))
+
+-- ---- sorted and joined
+
+pub sorted_has : (q : SourceByte) (rs ss : List SourceRun) → IsPermutation rs ss → has source_cmp q (all_bytes ss) ≡ has source_cmp q (all_bytes rs)
+sorted_has q rs ss p = sym (any-flat ss) ∙ sym (list_any-IsPermutation (λ r. has source_cmp q (bytes_of r)) rs ss p) ∙ any-flat rs where
+  any-flat : (rs : List SourceRun) → list_any (λ r. has source_cmp q (bytes_of r)) rs ≡ has source_cmp q (all_bytes rs)
+  any-flat [] = refl
+  any-flat (r ∷ rs) = ap (λ (b : Bool). has source_cmp q (bytes_of r) || b) (any-flat rs) ∙ sym (has-all q r rs)
+
+pub joined_all_members : (rs : List SourceRun) → AreRising rs → (q : SourceByte) → has source_cmp q (all_bytes (joined_all rs)) ≡ has source_cmp q (all_bytes rs)
+joined_all_members [] h q = refl
+joined_all_members (r ∷ rs) h q = joined_members r rs h q
+
+pub joined_all_ascends : (rs : List SourceRun) → AreRising rs → Ascends source_cmp (all_bytes (joined_all rs))
+joined_all_ascends [] h = tt
+joined_all_ascends (r ∷ rs) h = joined_ascends r rs h

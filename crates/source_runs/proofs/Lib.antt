@@ -1,0 +1,3 @@
+pub mod Bytes
+mod Joined
+mod Neighbours

@@ -1,0 +1,100 @@
+//! Runs as a set of bytes.
+
+ghost use Rattle.std.specs.Prelude.{◌≡◌, ◌++◌, [], OnOk};
+ghost use Rattle.sorted_set.specs.Sets.{Ascends, has};
+ghost use Rattle.flow_model.specs.Orders.{source_cmp};
+ghost use Rattle.flow_model.specs.declared.SourceByte.{SourceByte as Source};
+ghost use Rattle.source_runs.specs.Runs.{all_bytes, bytes_of, goes_on as runs_go_on, AreRising};
+
+use crate::runs::SourceRun;
+use flow_model::SourceByte;
+use no_memory::NoMemory;
+
+/// Makes of runs in any order those of the same bytes, ascending, each byte once. Only the room of `spare` is used. It fails only
+/// where there is no memory.
+pub fn settle(runs: &mut Vec<SourceRun>, spare: &mut Vec<SourceRun>) -> Result<(), NoMemory>
+    ensures members { OnOk result ((b : Source) → has source_cmp b (all_bytes runs.new.items) ≡ has source_cmp b (all_bytes runs.old.items)) }
+    ensures ascending { OnOk result (Ascends source_cmp (all_bytes runs.new.items)) }
+{
+    spare.clear();
+    join_neighbours(runs, spare)?;
+    spare.sort_unstable();
+    runs.clear();
+    join_sorted(spare, runs)
+}
+
+/// The runs, with each that overlaps or touches those just before it joined to them: where runs nearly ascend or descend, few are
+/// left to be sorted.
+fn join_neighbours(runs: &[SourceRun], joined: &mut Vec<SourceRun>) -> Result<(), NoMemory>
+    requires { joined.old.items ≡ [] }
+    ensures { OnOk result ((b : Source) → has source_cmp b (all_bytes joined.new.items) ≡ has source_cmp b (all_bytes runs.now)) }
+{
+    let Some((first, more)) = runs.split_first() else {
+        return Ok(());
+    };
+    let mut current = *first;
+    for run in more {
+        match current.joined(*run) {
+            Some(both) => current = both,
+            None => {
+                joined.push(current)?;
+                current = *run;
+            }
+        }
+    }
+    joined.push(current)?;
+    Ok(())
+}
+
+/// Of runs that ascend by channel and first offset, those that overlap or touch as one.
+fn join_sorted(runs: &[SourceRun], joined: &mut Vec<SourceRun>) -> Result<(), NoMemory>
+    requires rising { AreRising runs.now }
+    requires none { joined.old.items ≡ [] }
+    ensures members { OnOk result ((b : Source) → has source_cmp b (all_bytes joined.new.items) ≡ has source_cmp b (all_bytes runs.now)) }
+    ensures ascending { OnOk result (Ascends source_cmp (all_bytes joined.new.items)) }
+{
+    let Some((first, more)) = runs.split_first() else {
+        return Ok(());
+    };
+    let mut current = *first;
+    for run in more {
+        if goes_on(current, *run) {
+            current.last = current.last.max(run.last);
+        } else {
+            joined.push(current)?;
+            current = *run;
+        }
+    }
+    joined.push(current)?;
+    Ok(())
+}
+
+/// Whether a run of the same channel begins inside another one, or right after it.
+fn goes_on(run: SourceRun, next: SourceRun) -> bool
+    ensures { result ≡ runs_go_on run next }
+{
+    next.channel == run.channel && next.first as u64 <= run.last as u64 + 1
+}
+
+/// Appends the bytes of runs, one run after another. It fails only where there is no memory.
+pub fn push_bytes(out: &mut Vec<SourceByte>, runs: &[SourceRun]) -> Result<(), NoMemory>
+    ensures { OnOk result (out.new.items ≡ out.old.items ++ all_bytes runs.now) }
+{
+    for run in runs {
+        push_run(out, *run)?;
+    }
+    Ok(())
+}
+
+/// Appends the bytes of a run.
+fn push_run(out: &mut Vec<SourceByte>, run: SourceRun) -> Result<(), NoMemory>
+    ensures { OnOk result (out.new.items ≡ out.old.items ++ bytes_of run) }
+{
+    for offset in run.first as u64..run.last as u64 + 1 {
+        out.push(SourceByte {
+            channel: run.channel,
+            offset: offset as u32,
+        })?;
+    }
+    Ok(())
+}
