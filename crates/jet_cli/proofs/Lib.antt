@@ -6,3 +6,4 @@ mod Recording
 mod Refused
 mod Reporting
 mod Benching
+mod Cutting

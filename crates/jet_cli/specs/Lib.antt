@@ -1,5 +1,6 @@
 pub mod Targets
 pub mod Answers
+pub mod Parts
 pub mod Bench
 pub mod Outside
 pub mod Keeping

@@ -11,7 +11,7 @@ ghost use Rattle.jet_cli.specs.Answers.{IsWorkOf, workload_length};
 ghost use Rattle.jet_cli.specs.Bench.{IsWorkloadJob, asked_in_all};
 
 use crate::engine::Engine;
-use crate::rows::cuts_of;
+use crate::parts::cuts_of;
 use crate::work::fitted;
 use epoch_cut::Cuts;
 use jet_refusal::Refusal;

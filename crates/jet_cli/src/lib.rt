@@ -17,10 +17,10 @@ mod delivery;
 mod ending;
 mod engine;
 mod influence;
+mod parts;
 mod path;
 mod record;
 mod reports;
-mod rows;
 mod work;
 
 pub use command::obey;

@@ -1,84 +1,21 @@
-//! Reports: of one query, also as a page, and of several by one analysis of the run.
+//! The reports of several queries, by one analysis of the run.
 ghost use Rattle.std.specs.Prelude.{◌≡◌, ◌≤◌, ◌++◌, List, Err, length, IfOk, IfErr, OnOk};
 ghost use Rattle.sorted_set.specs.Sets.{Ascends};
 ghost use Rattle.flow_model.specs.Orders.{inner_cmp};
 ghost use Rattle.flow_model.specs.declared.StepSeen.{StepSeen as Step};
 ghost use Rattle.report_model.specs.Query.{Query as Choice};
 ghost use Rattle.report_model.specs.Rows.{rows};
-ghost use Rattle.jet_model.specs.Report.{report_of, reports_of as reports_by};
-ghost use Rattle.jet_words.specs.Commands.{IsPipeline};
+ghost use Rattle.jet_model.specs.Report.{reports_of as reports_by};
 ghost use Rattle.jet_model.specs.Answer.{rules_check};
 ghost use Rattle.jet_files.specs.Outcome.{IsWork};
-ghost use Rattle.replayer.specs.Jobs.{trace_of};
-ghost use Rattle.run_query.specs.Preparing.{IsPrepared};
-ghost use Rattle.range_model.specs.Text.{ranges_report};
-ghost use Rattle.page_model.specs.Page.{page_report};
 ghost use Rattle.jet_cli.specs.Answers.{IsUnion, numbered_text};
 
-use crate::engine::Engine;
-use crate::rows::rows_of;
 use itoa::Buffer;
 use jet_refusal::Refusal;
-use jet_words::Pipeline;
 use no_memory::NoMemory;
-use outer_io::Gate;
-use page_data::page;
 use query_lang::{Query, together};
-use range_report::shown;
-use replayer::Job;
-use run_query::Prepared;
 use sink_collect::{Report, text};
 use std::alloc::Global;
-use std::sync::Wait;
-use std::thread::Threads;
-
-/// The text of a query's report.
-pub fn report_text<R: Threads + Wait + Sync, G: Gate>(
-    engine: &Engine<R, G>,
-    job: &Job,
-    query: &Query,
-    prepared: Prepared,
-    pipeline: Pipeline,
-) -> Result<Vec<u8>, NoMemory>
-    requires prepared { IsPrepared query.now job.now prepared }
-    requires pipeline { IsPipeline pipeline }
-    ensures { IfOk result (λ text. text.items ≡ report_of query.now (trace_of job.now)) }
-{
-    let report = rows_of(engine, job, query, prepared, pipeline)?;
-    text(engine.alloc, &report)
-}
-
-/// The text of a query's report in ranges, with the bytes on both sides.
-pub fn ranges_text<R: Threads + Wait + Sync, G: Gate>(
-    engine: &Engine<R, G>,
-    job: &Job,
-    query: &Query,
-    prepared: Prepared,
-    pipeline: Pipeline,
-) -> Result<Vec<u8>, NoMemory>
-    requires prepared { IsPrepared query.now job.now prepared }
-    requires pipeline { IsPipeline pipeline }
-    ensures { IfOk result (λ text. text.items ≡ ranges_report job.now.log (rows query.now (trace_of job.now))) }
-{
-    let report = rows_of(engine, job, query, prepared, pipeline)?;
-    shown(engine.alloc, &report, job.log())
-}
-
-/// The page of a query.
-pub fn page_text<R: Threads + Wait + Sync, G: Gate>(
-    engine: &Engine<R, G>,
-    job: &Job,
-    query: &Query,
-    prepared: Prepared,
-    pipeline: Pipeline,
-) -> Result<Vec<u8>, NoMemory>
-    requires prepared { IsPrepared query.now job.now prepared }
-    requires pipeline { IsPipeline pipeline }
-    ensures { IfOk result (λ text. text.items ≡ page_report query.now job.now.start job.now.log) }
-{
-    let report = rows_of(engine, job, query, prepared, pipeline)?;
-    page(engine.alloc, job, query, &report)
-}
 
 /// One query that chooses what any of several does. It gives up with `Rules`, where their rules differ, or is out of memory.
 pub fn union_of(alloc: Global, queries: &[Query]) -> Result<Query, Refusal>
@@ -114,7 +51,7 @@ fn push_report(
 }
 
 /// The reports of several queries, one after another, by the rows of one that asks for what any of them does.
-fn own_reports(alloc: Global, all: &Report, queries: &[Query]) -> Result<Vec<u8>, NoMemory>
+pub fn own_reports(alloc: Global, all: &Report, queries: &[Query]) -> Result<Vec<u8>, NoMemory>
     requires { length queries.now ≤ 16 }
     ensures { IfOk result (λ text. (union : Choice) (trace : List Step)
         → IsUnion queries.now union → all.now ≡ rows union trace → text.items ≡ reports_by queries.now trace) }
@@ -126,23 +63,4 @@ fn own_reports(alloc: Global, all: &Report, queries: &[Query]) -> Result<Vec<u8>
         push_report(alloc, &mut out, number, all, query)?;
     }
     Ok(out)
-}
-
-/// The reports of several queries, one after another: the rows of all are found at once.
-pub fn reports_of<R: Threads + Wait + Sync, G: Gate>(
-    engine: &Engine<R, G>,
-    job: &Job,
-    union: &Query,
-    queries: &[Query],
-    prepared: Prepared,
-    pipeline: Pipeline,
-) -> Result<Vec<u8>, NoMemory>
-    requires union { IsUnion queries.now union.now }
-    requires few { length queries.now ≤ 16 }
-    requires prepared { IsPrepared union.now job.now prepared }
-    requires pipeline { IsPipeline pipeline }
-    ensures { IfOk result (λ text. text.items ≡ reports_by queries.now (trace_of job.now)) }
-{
-    let all = rows_of(engine, job, union, prepared, pipeline)?;
-    own_reports(engine.alloc, &all, queries)
 }

@@ -3,7 +3,8 @@
 ghost use Rattle.std.specs.Prelude.{◌≡◌, ◌≤◌, None, Ok, Err, length, IfOk, IfErr, OnOk};
 ghost use Rattle.elf_model.specs.Image.{image as image_of_file};
 ghost use Rattle.replayer.specs.Checks.{IsChecked};
-ghost use Rattle.run_query.specs.Preparing.{IsPrepared};
+ghost use Rattle.replayer.specs.Jobs.{trace_of};
+ghost use Rattle.report_model.specs.Rows.{rows};
 ghost use Rattle.jet_words.specs.Commands.{IsPipeline};
 ghost use Rattle.jet_model.specs.Answer.{fitting_start, told_check, text_answer};
 ghost use Rattle.jet_files.specs.Outcome.{IsWork, seen_by, bytes_of};
@@ -13,9 +14,9 @@ ghost use Rattle.jet_cli.specs.Answers.{conversion_of, decisions_by};
 
 use crate::engine::Engine;
 use crate::influence::influence_of;
+use crate::parts::part_for;
 use crate::path::path_text;
-use crate::reports::{page_text, ranges_text, report_text, reports_of, union_of};
-use crate::rows::cuts_by;
+use crate::reports::{own_reports, union_of};
 use call_list::calls_text;
 use call_stack::stack_text;
 use decision_find::decisions;
@@ -25,12 +26,15 @@ use jet_refusal::Refusal;
 use jet_words::{Listing, Pipeline, Product};
 use no_memory::NoMemory;
 use outer_io::Gate;
+use page_data::page;
 use page_model::laws::alike_have_same_data;
 use query_lang::Query;
+use range_report::shown;
 use replay_log::{Log, write_log};
 use replayer::Job;
 use run_output::{input_on, output_on, summary_text};
-use run_query::{Prepared, check_for};
+use run_query::check_and_query;
+use sink_collect::{Report, text};
 use std::alloc::Global;
 use std::sync::Wait;
 use std::thread::Threads;
@@ -65,27 +69,38 @@ fn fitted_run(alloc: Global, run: Run) -> Result<Job, Refusal>
     fitted(alloc, &bytes, image, log)
 }
 
-/// A run whose log fits its program, with what the query needs of it: both come of one replay. The misfits of the log come
-/// first, and then `TooManyEpochs`, where a length is told.
-fn prepared_run<R: Threads + Wait + Sync, G: Gate>(
+/// A run whose log fits its program, and the rows of the query over it. The misfits of the log come first, and then
+/// `TooManyEpochs`, where a length is told.
+fn analysed_run<R: Threads + Wait + Sync, G: Gate>(
     engine: &Engine<R, G>,
     run: Run,
     query: &Query,
     pipeline: Pipeline,
-) -> Result<(Job, Prepared), Refusal>
+) -> Result<(Job, Report), Refusal>
     requires image { image_of_file run.program.bytes.items ≡ Ok run.program.image }
     requires pipeline { IsPipeline pipeline }
     ensures checked { IfOk result (λ r. IsChecked run.program.bytes.items run.program.image run.log r.0) }
     ensures few { OnOk result (told_check pipeline.epoch run.log ≡ Ok tt) }
-    ensures prepared { IfOk result (λ r. IsPrepared query.now r.0 r.1) }
+    ensures report { IfOk result (λ r. r.1 ≡ rows query.now (trace_of r.0)) }
     ensures err { IfErr result (λ r. IsWork (fits_and_is_cut pipeline.epoch (run_of run)) (Err r)) }
 {
     let Run { program, log } = run;
     let Program { bytes, image } = program;
-    match cuts_by(&log, pipeline) {
-        Ok(cuts) => {
-            let prepared = check_for(engine.alloc, engine.gate, &bytes, image, log, query, cuts)?;
-            Ok(prepared)
+    match part_for(&log, query, pipeline) {
+        Ok(part) => {
+            let found = check_and_query(
+                engine.rt,
+                engine.alloc,
+                engine.gate,
+                &bytes,
+                image,
+                log,
+                query,
+                part,
+                pipeline.workers,
+                pipeline.link,
+            )?;
+            Ok(found)
         }
         Err(refusal) => {
             let _job = fitted(engine.alloc, &bytes, image, log)?;
@@ -95,24 +110,22 @@ fn prepared_run<R: Threads + Wait + Sync, G: Gate>(
 }
 
 /// What is told of the rows of a query. It gives up with NoMemory alone.
-fn told<R: Threads + Wait + Sync, G: Gate>(
-    engine: &Engine<R, G>,
+fn told(
+    alloc: Global,
     job: &Job,
     query: &Query,
-    prepared: Prepared,
+    report: &Report,
     telling: Telling,
-    pipeline: Pipeline,
 ) -> Result<Vec<u8>, NoMemory>
-    requires prepared { IsPrepared query.now job.now prepared }
-    requires pipeline { IsPipeline pipeline }
-    ensures { IfOk result (λ text. text.items ≡ telling_text telling query.now job.now.start job.now.log) }
+    requires { report.now ≡ rows query.now (trace_of job.now) }
+    ensures { IfOk result (λ told. told.items ≡ telling_text telling query.now job.now.start job.now.log) }
 {
     match telling {
-        Telling::Listed(Listing::BySink) => report_text(engine, job, query, prepared, pipeline),
-        Telling::Listed(Listing::BySource) => influence_of(engine, job, query, prepared, pipeline),
-        Telling::Listed(Listing::ByPath) => path_text(engine, job, query, prepared, pipeline),
-        Telling::Listed(Listing::ByRange) => ranges_text(engine, job, query, prepared, pipeline),
-        Telling::Page => page_text(engine, job, query, prepared, pipeline),
+        Telling::Listed(Listing::BySink) => text(alloc, report),
+        Telling::Listed(Listing::BySource) => influence_of(alloc, job, query, report),
+        Telling::Listed(Listing::ByPath) => path_text(alloc, job, query, report),
+        Telling::Listed(Listing::ByRange) => shown(alloc, report, job.log()),
+        Telling::Page => page(alloc, job, query, report),
     }
 }
 
@@ -128,9 +141,9 @@ pub fn tell<R: Threads + Wait + Sync, G: Gate>(
     requires pipeline { IsPipeline pipeline }
     ensures { IsWorkOf (IsGivenAlike (telling_text telling) pipeline.epoch (run_of run) query.now) (seen_by bytes_of result) }
 {
-    let (job, prepared) = prepared_run(engine, run, query, pipeline)?;
+    let (job, report) = analysed_run(engine, run, query, pipeline)?;
     alike_have_same_data();
-    let text = told(engine, &job, query, prepared, telling, pipeline)?;
+    let text = told(engine.alloc, &job, query, &report, telling)?;
     Ok(text)
 }
 
@@ -159,8 +172,8 @@ pub fn reports<R: Threads + Wait + Sync, G: Gate>(
     ensures { IsWorkOf (AreGivenAlike pipeline.epoch (run_of run) queries.now) (seen_by bytes_of result) }
 {
     let union = union_of(engine.alloc, queries)?;
-    let (job, prepared) = prepared_run(engine, run, &union, pipeline)?;
-    let text = reports_of(engine, &job, &union, queries, prepared, pipeline)?;
+    let (_job, all) = analysed_run(engine, run, &union, pipeline)?;
+    let text = own_reports(engine.alloc, &all, queries)?;
     Ok(text)
 }
 

@@ -20,7 +20,7 @@ at_most d q length h = by (cases_lt q d) where
   by (inr few) = few
 
 -- a run of no more than q times the length
-few_of_length : (n length q : ℕ) → 1 ≤ length → 1 ≤ q → n ≤ q * length → epoch_count n length ≤ q
+pub few_of_length : (n length q : ℕ) → 1 ≤ length → 1 ≤ q → n ≤ q * length → epoch_count n length ≤ q
 few_of_length n length q some one within =
     let ceil = div_ceil_times n length some in
     let few = at_most (div_ceil n length) q length (omega (arith, ceil.1, within)) in

@@ -20,7 +20,7 @@ mod writing;
 
 pub use fault::LogFault;
 pub use header::HEADER_LENGTH;
-pub use lengths::{end_length, share};
+pub use lengths::{end_length, share, text_length};
 pub use log_model::{CallRecord, Data, FaultInLog, LogKind, RunEnd};
 pub use logs::Log;
 pub use reading::read_log;

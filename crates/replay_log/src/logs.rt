@@ -86,6 +86,13 @@ impl Log {
         self.records.as_slice()
     }
 
+    /// The guest calls, taken out of the log. It takes no memory.
+    pub fn into_records(self) -> Vec<CallRecord>
+        ensures { result.items ≡ self.records }
+    {
+        self.records
+    }
+
     /// How the run ended.
     pub fn end(&self) -> RunEnd
         ensures { result ≡ self.now.end }

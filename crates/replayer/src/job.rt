@@ -1,13 +1,15 @@
 //! A program and a log that fits it.
 
-ghost use Rattle.std.specs.Prelude.{◌≡◌, ◌≤◌, length, IfOk, OnOk, IfErr, Ok};
+ghost use Rattle.std.specs.Prelude.{◌≡◌, ◌≤◌, length, IfOk, OnOk, IfErr, Ok, Some, None};
 ghost use Rattle.elf_model.specs.Image.{image as image_of_file};
+ghost use Rattle.elf_model.specs.Window.{start_of};
 ghost use Rattle.log_model.specs.Logs.{steps};
 ghost use Rattle.log_model.specs.Moved.{received, received_by};
+ghost use Rattle.replay_model.specs.Comparison.{divergence};
 ghost use Rattle.replay_model.specs.Summary.{calls, bytes_read, bytes_written};
 ghost use Rattle.rv_machine.specs.Hart.{running};
 ghost use Rattle.no_memory.specs.Faults.{IsCausedBy};
-ghost use Rattle.replayer.specs.Jobs.{IsJob};
+ghost use Rattle.replayer.specs.Jobs.{IsJob, begun};
 ghost use Rattle.replayer.specs.Checks.{IsChecked, IsMisfit};
 
 use crate::check::first_divergence;
@@ -154,6 +156,25 @@ impl Job {
         let machine = self.machine(alloc)?;
         first_divergence(machine, &self.log, watcher);
         Ok(())
+    }
+
+    /// The image and the log, of which [`Job::whole`] makes the job again. It takes no memory.
+    pub fn apart(self) -> (Image, Log)
+        ensures begins { start_of result.0 self.log.pages ≡ Some self.start }
+        ensures log { result.1 ≡ self.log }
+    {
+        (self.image, self.log)
+    }
+
+    /// The job of an image and a log where nothing differs: no run is replayed. It takes no memory.
+    pub fn whole(image: Image, log: Log) -> Job
+        requires begins { start_of image log.pages ≡ Some (begun (start_of image log.pages)) }
+        requires agrees { divergence (begun (start_of image log.pages)) log ≡ None }
+        ensures { result ≡ record { start = begun (start_of image log.pages); log = log } }
+    {
+        log.form();
+        let _size = log.size();
+        Job { image, log }
     }
 
     /// The log.

@@ -1,2 +1,3 @@
 pub mod Crossings
 pub mod Preparing
+pub mod Parts

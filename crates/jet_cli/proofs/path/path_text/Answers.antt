@@ -16,7 +16,7 @@ located law start log q None points e = tt
 located law start log q (Some pair) points e = law start log q pair points e
 
 pub answer-requires : goal.answer-requires
-answer-requires g c = record {
+answer-requires c = record {
   located = located c.first_pairs_are_located.ensures c.args.job.now.start c.args.job.now.log c.args.query.now c.first_pair-pair.result c.points-points.ensures.located
-      (sym (c.first_pair-pair.ensures ∙ ap first_pair (c.rows.ensures ∙ c.in_ok-report.ensures)));
+      (sym (c.first_pair-pair.ensures ∙ ap first_pair (c.rows.ensures ∙ c.requires)));
 }

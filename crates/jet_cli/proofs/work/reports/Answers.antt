@@ -1,4 +1,5 @@
 use Rattle.std.proofs.Common.{rules, Err}
+use Rattle.replayer.specs.Jobs.{trace_of}
 use Rattle.jet_files.specs.Views.{run_of}
 use Rattle.jet_cli.specs.Answers.{IsWorkOf, AreGivenAlike}
 use Rattle.jet_cli.proofs.Working.{rules-stop, reports-stop, reports-give}
@@ -10,12 +11,13 @@ returns-in_err-union g c =
     rules-stop c.args.pipeline.epoch (run_of c.args.run) c.args.queries.now c.in_err-union.field-0.0 c.in_err-union.ensures.err in
     search rules
 
-pub returns-in_err-job : goal.returns-in_err-job
-returns-in_err-job g c =
-    let refused : IsWorkOf (AreGivenAlike c.args.pipeline.epoch (run_of c.args.run) c.args.queries.now) (Err c.in_err-job.field-0.0) =
-    reports-stop c.args.pipeline.epoch (run_of c.args.run) c.args.queries.now c.in_err-job.field-0.0 c.in_ok-union.ensures.ok.one_rule c.in_err-job.ensures.err in
+pub returns-in_err-_job : goal.returns-in_err-_job
+returns-in_err-_job g c =
+    let refused : IsWorkOf (AreGivenAlike c.args.pipeline.epoch (run_of c.args.run) c.args.queries.now) (Err c.in_err-_job.field-0.0) =
+    reports-stop c.args.pipeline.epoch (run_of c.args.run) c.args.queries.now c.in_err-_job.field-0.0 c.in_ok-union.ensures.ok.one_rule c.in_err-_job.ensures.err in
     search rules
 
 pub returns : goal.returns
 returns g c =
-    reports-give c.args.pipeline.epoch (run_of c.args.run) c.args.queries.now c.in_ok-job.job c.in_ok-text.text.items c.in_ok-union.ensures.ok.one_rule c.in_ok-job.ensures.checked c.in_ok-job.ensures.few c.in_ok-text.ensures
+    reports-give c.args.pipeline.epoch (run_of c.args.run) c.args.queries.now c.in_ok-_job._job c.in_ok-text.text.items c.in_ok-union.ensures.ok.one_rule c.in_ok-_job.ensures.checked c.in_ok-_job.ensures.few
+    (c.in_ok-text.ensures c.in_ok-union.union (trace_of c.in_ok-_job._job) c.in_ok-union.ensures.ok c.in_ok-_job.ensures.report)

@@ -1,30 +1,24 @@
-//! The rows of a query over a run that is cut into epochs.
+//! How much of a run is analysed for a query, and where it is cut into epochs.
 ghost use Rattle.std.specs.Prelude.{◌≡◌, ◌≤◌, IfOk};
 ghost use Rattle.log_model.specs.Logs.{steps};
-ghost use Rattle.report_model.specs.Rows.{rows};
-ghost use Rattle.replayer.specs.Jobs.{trace_of};
-ghost use Rattle.epoch_model.specs.ByLength.{cut_times};
+ghost use Rattle.epoch_model.specs.ByLength.{epoch_count, cut_times};
 ghost use Rattle.epoch_model.specs.Cutting.{IsCutting};
 ghost use Rattle.jet_words.specs.Commands.{IsPipeline};
 ghost use Rattle.jet_model.specs.Lengths.{epoch_length, cuts_by};
 ghost use Rattle.jet_model.specs.Answer.{epochs_check, told_check};
 ghost use Rattle.jet_files.specs.Outcome.{IsWork, seen_by};
-ghost use Rattle.run_query.specs.Preparing.{IsPrepared};
+ghost use Rattle.run_query.specs.Parts.{IsEnough};
+ghost use Rattle.jet_cli.specs.Parts.{part_by};
 
-use crate::engine::Engine;
 use epoch_cut::laws::cut_times_are_cutting;
 use epoch_cut::{CutFault, Cuts, cuts};
 use jet_refusal::Refusal;
 use jet_words::Pipeline;
-use no_memory::NoMemory;
-use outer_io::Gate;
 use query_lang::Query;
+use query_need::needed_steps;
 use replay_log::Log;
-use replayer::{Job, steps_of};
-use run_query::{Prepared, query_prepared};
-use sink_collect::Report;
-use std::sync::Wait;
-use std::thread::Threads;
+use replayer::steps_of;
+use run_query::Part;
 
 /// An epoch has at least so many steps, but for the last one, unless the words tell its length.
 const LEAST_LENGTH: u64 = 262144;
@@ -57,7 +51,7 @@ pub fn cuts_of(log: &Log, epoch: u64) -> Result<Cuts, Refusal>
 
 /// The cuts of a log's run into epochs, as the words tell their length, or as there are workers. It gives up with
 /// `TooManyEpochs`, where a length is told.
-pub fn cuts_by(log: &Log, pipeline: Pipeline) -> Result<Cuts, Refusal>
+fn cuts_by(log: &Log, pipeline: Pipeline) -> Result<Cuts, Refusal>
     requires { IsPipeline pipeline }
     ensures times { IfOk result (λ cuts. cuts ≡ cuts_by pipeline.epoch pipeline.workers (steps log.now)) }
     ensures check { IsWork (told_check pipeline.epoch log.now) (seen_by (λ cuts. tt) result) }
@@ -67,27 +61,38 @@ pub fn cuts_by(log: &Log, pipeline: Pipeline) -> Result<Cuts, Refusal>
     cuts_of(log, length)
 }
 
-/// The rows of a query over the run, of what was prepared for it. It gives up with NoMemory alone.
-pub fn rows_of<R: Threads + Wait + Sync, G: Gate>(
-    engine: &Engine<R, G>,
-    job: &Job,
-    query: &Query,
-    prepared: Prepared,
-    pipeline: Pipeline,
-) -> Result<Report, NoMemory>
-    requires prepared { IsPrepared query.now job.now prepared }
+/// The cuts of so many first steps of a run into epochs, as the words tell their length, or as there are workers.
+fn cuts_of_beginning(beginning: u64, pipeline: Pipeline) -> Cuts
     requires pipeline { IsPipeline pipeline }
-    ensures { IfOk result (λ report. report ≡ rows query.now (trace_of job.now)) }
+    requires few { epoch_count beginning (epoch_length pipeline.epoch pipeline.workers beginning) ≤ 4096 }
+    ensures times { result ≡ cuts_by pipeline.epoch pipeline.workers beginning }
+    ensures cutting { IsCutting beginning result }
 {
-    let (report, _, _) = query_prepared(
-        engine.rt,
-        engine.alloc,
-        engine.gate,
-        job,
-        query,
-        prepared,
-        pipeline.workers,
-        pipeline.link,
-    )?;
-    Ok(report)
+    cut_times_are_cutting();
+    let length = epoch_length(pipeline.epoch, pipeline.workers, beginning);
+    match cuts(beginning, length) {
+        Ok(cuts) => cuts,
+        Err(CutFault::TooMany(_)) => unreachable!(),
+    }
+}
+
+/// What of a log's run is analysed for a query: the whole run, where its rows need half of the steps, since the replay that
+/// checks the log can then serve the query too; else the steps alone that they need. It gives up with `TooManyEpochs`, where
+/// a length is told by which the whole run has too many.
+pub fn part_for(log: &Log, query: &Query, pipeline: Pipeline) -> Result<Part, Refusal>
+    requires { IsPipeline pipeline }
+    ensures part { IfOk result (λ part. part ≡ part_by pipeline.epoch pipeline.workers query.now log.now) }
+    ensures check { IsWork (told_check pipeline.epoch log.now) (seen_by (λ part. tt) result) }
+    ensures enough { IfOk result (IsEnough query.now log.now) }
+{
+    let whole = cuts_by(log, pipeline)?;
+    let needed = needed_steps(log, query);
+    if needed >= steps_of(log) / 2 {
+        return Ok(Part::Whole(whole));
+    }
+    let cuts = cuts_of_beginning(needed, pipeline);
+    Ok(Part::Beginning {
+        steps: needed,
+        cuts,
+    })
 }

@@ -7,7 +7,7 @@ use Rattle.jet_model.specs.Lengths.{epoch_length}
 use Rattle.jet_model.specs.Answer.{epochs_check}
 use Rattle.jet_model.proofs.Lengths.{untold-checked}
 use Rattle.jet_files.specs.Outcome.{IsWork, seen_by}
-use Rattle.jet_cli.proofs.rows.cuts_by.Goals as goal
+use Rattle.jet_cli.proofs.parts.cuts_by.Goals as goal
 
 pub returns-clause-times : goal.returns-clause-times
 returns-clause-times c =

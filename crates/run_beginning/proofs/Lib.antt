@@ -1,0 +1,4 @@
+mod Fronts
+mod Sizes
+mod Moments
+mod Rows

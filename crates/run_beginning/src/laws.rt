@@ -1,0 +1,21 @@
+//! Laws of the definitions: each is the contract of a function that does nothing.
+
+ghost use Rattle.run_beginning.specs.BeginningLaws.{BeginningAgrees, BeginningOfTrace, BeginningHasRows};
+
+use query_need::laws::log_tells_need;
+use report_model::laws::rows_of_beginning;
+
+/// Where nothing differs between a run and its log, nothing differs between the run and a beginning of the log, and the
+/// steps of the beginning are the first of the run.
+pub fn beginning_fits()
+    ensures agrees { BeginningAgrees }
+    ensures steps { BeginningOfTrace }
+{}
+
+/// A beginning of such a run that has as many steps as a query needs has the query's rows over the run.
+pub fn beginning_has_rows()
+    ensures { BeginningHasRows }
+{
+    log_tells_need();
+    rows_of_beginning();
+}
