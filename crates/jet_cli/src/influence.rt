@@ -2,8 +2,7 @@
 ghost use Rattle.std.specs.Prelude.{◌≡◌, ◌++◌, ◌<◌, map, IfOk, OnOk};
 ghost use Rattle.std.specs.List.{filter, range_with_len};
 ghost use Rattle.report_model.specs.Query.{has_source};
-ghost use Rattle.report_model.specs.Influence.{chosen_sources, turned, influence_text as text_of_influence};
-ghost use Rattle.jet_model.specs.Report.{influence_of as influence_text_of};
+ghost use Rattle.report_model.specs.Influence.{chosen_sources, turned, influence};
 ghost use Rattle.replayer.specs.Jobs.{trace_of};
 ghost use Rattle.jet_model.specs.Sources.{sources_on};
 ghost use Rattle.jet_words.specs.Commands.{IsPipeline};
@@ -18,7 +17,7 @@ use outer_io::Gate;
 use query_lang::Query;
 use replayer::Job;
 use run_query::Prepared;
-use sink_collect::{Report, influence_text, turn_round};
+use sink_collect::{Influence, Report, turn_round};
 use std::alloc::Global;
 use std::sync::Wait;
 use std::thread::Threads;
@@ -61,33 +60,31 @@ fn sources_of(alloc: Global, job: &Job, query: &Query) -> Result<Vec<SourceByte>
     Ok(sources)
 }
 
-/// The text of a report turned round: of the source bytes that the query chooses.
-fn turned_text(
+/// A report turned round: of the source bytes that the query chooses.
+fn turned_report(
     alloc: Global,
     job: &Job,
     query: &Query,
     report: &Report,
-) -> Result<Vec<u8>, NoMemory>
-    ensures { IfOk result (λ text.
-        text.items ≡ text_of_influence (turned report.now (chosen_sources query.now (trace_of job.now)))) }
+) -> Result<Influence, NoMemory>
+    ensures { IfOk result (λ influence. influence ≡ turned report.now (chosen_sources query.now (trace_of job.now))) }
 {
     let sources = sources_of(alloc, job, query)?;
-    let influence = turn_round(alloc, report, sources)?;
-    influence_text(alloc, &influence)
+    turn_round(alloc, report, sources)
 }
 
-/// The text of the influence of the source bytes that a query chooses.
+/// The influence of the source bytes that a query chooses.
 pub fn influence_of<R: Threads + Wait + Sync, G: Gate>(
     engine: &Engine<R, G>,
     job: &Job,
     query: &Query,
     prepared: Prepared,
     pipeline: Pipeline,
-) -> Result<Vec<u8>, NoMemory>
+) -> Result<Influence, NoMemory>
     requires prepared { IsPrepared query.now job.now prepared }
     requires pipeline { IsPipeline pipeline }
-    ensures { IfOk result (λ text. text.items ≡ influence_text_of query.now (trace_of job.now)) }
+    ensures { IfOk result (λ reaches. reaches ≡ influence query.now (trace_of job.now)) }
 {
     let report = rows_of(engine, job, query, prepared, pipeline)?;
-    turned_text(engine.alloc, job, query, &report)
+    turned_report(engine.alloc, job, query, &report)
 }

@@ -18,6 +18,7 @@ mod ending;
 mod engine;
 mod influence;
 mod path;
+mod pieces;
 mod record;
 mod reports;
 mod rows;

@@ -1,11 +1,11 @@
-//! Reports: of one query, also as a page, and of several by one analysis of the run.
-ghost use Rattle.std.specs.Prelude.{◌≡◌, ◌≤◌, ◌++◌, List, Err, length, IfOk, IfErr, OnOk};
+//! Reports: of one query in ranges and as a page, and the rows of several by one analysis of the run.
+ghost use Rattle.std.specs.Prelude.{◌≡◌, ◌≤◌, List, Err, length, map, IfOk, IfErr};
 ghost use Rattle.sorted_set.specs.Sets.{Ascends};
 ghost use Rattle.flow_model.specs.Orders.{inner_cmp};
 ghost use Rattle.flow_model.specs.declared.StepSeen.{StepSeen as Step};
 ghost use Rattle.report_model.specs.Query.{Query as Choice};
 ghost use Rattle.report_model.specs.Rows.{rows};
-ghost use Rattle.jet_model.specs.Report.{report_of, reports_of as reports_by};
+ghost use Rattle.report_model.specs.Together.{only};
 ghost use Rattle.jet_words.specs.Commands.{IsPipeline};
 ghost use Rattle.jet_model.specs.Answer.{rules_check};
 ghost use Rattle.jet_files.specs.Outcome.{IsWork};
@@ -13,11 +13,10 @@ ghost use Rattle.replayer.specs.Jobs.{trace_of};
 ghost use Rattle.run_query.specs.Preparing.{IsPrepared};
 ghost use Rattle.range_model.specs.Text.{ranges_report};
 ghost use Rattle.page_model.specs.Page.{page_report};
-ghost use Rattle.jet_cli.specs.Answers.{IsUnion, numbered_text};
+ghost use Rattle.jet_cli.specs.Answers.{IsUnion};
 
 use crate::engine::Engine;
 use crate::rows::rows_of;
-use itoa::Buffer;
 use jet_refusal::Refusal;
 use jet_words::Pipeline;
 use no_memory::NoMemory;
@@ -27,26 +26,10 @@ use query_lang::{Query, together};
 use range_report::shown;
 use replayer::Job;
 use run_query::Prepared;
-use sink_collect::{Report, text};
+use sink_collect::Report;
 use std::alloc::Global;
 use std::sync::Wait;
 use std::thread::Threads;
-
-/// The text of a query's report.
-pub fn report_text<R: Threads + Wait + Sync, G: Gate>(
-    engine: &Engine<R, G>,
-    job: &Job,
-    query: &Query,
-    prepared: Prepared,
-    pipeline: Pipeline,
-) -> Result<Vec<u8>, NoMemory>
-    requires prepared { IsPrepared query.now job.now prepared }
-    requires pipeline { IsPipeline pipeline }
-    ensures { IfOk result (λ text. text.items ≡ report_of query.now (trace_of job.now)) }
-{
-    let report = rows_of(engine, job, query, prepared, pipeline)?;
-    text(engine.alloc, &report)
-}
 
 /// The text of a query's report in ranges, with the bytes on both sides.
 pub fn ranges_text<R: Threads + Wait + Sync, G: Gate>(
@@ -91,44 +74,30 @@ pub fn union_of(alloc: Global, queries: &[Query]) -> Result<Query, Refusal>
     Ok(union)
 }
 
-/// Appends `query I` and the report of one of the queries, by the rows of all.
-fn push_report(
-    alloc: Global,
-    out: &mut Vec<u8>,
-    number: u32,
-    all: &Report,
-    query: &Query,
-) -> Result<(), NoMemory>
-    ensures text { OnOk result (out.new.items ≡ out.old.items ++ numbered_text number query.now all.now) }
+/// What one of the queries chooses of the rows of all.
+fn own_part(alloc: Global, all: &Report, query: &Query) -> Result<Report, NoMemory>
+    ensures rows { IfOk result (λ part. part ≡ only query.now all.now) }
     ensures points { Ascends inner_cmp query.now.points }
 {
     // The contract of `points` says that they ascend.
     let _points = query.points();
-    let mut buffer = Buffer::new();
-    out.extend_from_slice(b"query ")?;
-    out.extend_from_slice(buffer.format(number).as_bytes())?;
-    out.push(b'\n')?;
-    let report = all.only(alloc, query)?;
-    out.extend_from_slice(&text(alloc, &report)?)?;
-    Ok(())
+    all.only(alloc, query)
 }
 
-/// The reports of several queries, one after another, by the rows of one that asks for what any of them does.
-fn own_reports(alloc: Global, all: &Report, queries: &[Query]) -> Result<Vec<u8>, NoMemory>
-    requires { length queries.now ≤ 16 }
-    ensures { IfOk result (λ text. (union : Choice) (trace : List Step)
-        → IsUnion queries.now union → all.now ≡ rows union trace → text.items ≡ reports_by queries.now trace) }
+/// The rows of several queries, by those of one that asks for what any of them does.
+fn own_parts(alloc: Global, all: &Report, queries: &[Query]) -> Result<Vec<Report>, NoMemory>
+    ensures { IfOk result (λ parts. (union : Choice) (trace : List Step)
+        → IsUnion queries.now union → all.now ≡ rows union trace → parts.items ≡ map (λ q. rows q trace) queries.now) }
 {
-    let mut out = Vec::new(alloc);
-    let mut number = 0;
+    let mut parts = Vec::with_capacity(alloc, queries.len())?;
     for query in queries {
-        number += 1;
-        push_report(alloc, &mut out, number, all, query)?;
+        parts.push(own_part(alloc, all, query)?)?;
     }
-    Ok(out)
+    Ok(parts)
 }
 
-/// The reports of several queries, one after another: the rows of all are found at once.
+/// The rows of several queries: those of all are found at once. They are there before any is written, so that writing takes
+/// no memory.
 pub fn reports_of<R: Threads + Wait + Sync, G: Gate>(
     engine: &Engine<R, G>,
     job: &Job,
@@ -136,13 +105,12 @@ pub fn reports_of<R: Threads + Wait + Sync, G: Gate>(
     queries: &[Query],
     prepared: Prepared,
     pipeline: Pipeline,
-) -> Result<Vec<u8>, NoMemory>
+) -> Result<Vec<Report>, NoMemory>
     requires union { IsUnion queries.now union.now }
-    requires few { length queries.now ≤ 16 }
     requires prepared { IsPrepared union.now job.now prepared }
     requires pipeline { IsPipeline pipeline }
-    ensures { IfOk result (λ text. text.items ≡ reports_by queries.now (trace_of job.now)) }
+    ensures { IfOk result (λ parts. parts.items ≡ map (λ q. rows q (trace_of job.now)) queries.now) }
 {
     let all = rows_of(engine, job, union, prepared, pipeline)?;
-    own_reports(engine.alloc, &all, queries)
+    own_parts(engine.alloc, &all, queries)
 }

@@ -1,5 +1,5 @@
-//! The work over a program and a log that were read: the log is fitted to its program, the run is replayed, and a text is
-//! made of it.
+//! The work over a program and a log that were read: the log is fitted to its program, the run is replayed, and a text, or
+//! what a text is made of, is found.
 ghost use Rattle.std.specs.Prelude.{◌≡◌, ◌≤◌, None, Ok, Err, length, IfOk, IfErr, OnOk};
 ghost use Rattle.elf_model.specs.Image.{image as image_of_file};
 ghost use Rattle.replayer.specs.Checks.{IsChecked};
@@ -9,13 +9,15 @@ ghost use Rattle.jet_model.specs.Answer.{fitting_start, told_check, text_answer}
 ghost use Rattle.jet_files.specs.Outcome.{IsWork, seen_by, bytes_of};
 ghost use Rattle.jet_files.specs.Views.{run_of};
 ghost use Rattle.jet_cli.specs.Answers.{IsWorkOf, IsGivenAlike, AreGivenAlike, fits_and_is_cut, telling_text, made_by};
-ghost use Rattle.jet_cli.specs.Answers.{conversion_of, decisions_by};
+ghost use Rattle.jet_cli.specs.Answers.{conversion_of, decisions_by, IsPageWhole};
+ghost use Rattle.jet_cli.specs.Texts.{text_of};
 
 use crate::engine::Engine;
 use crate::influence::influence_of;
 use crate::path::path_text;
-use crate::reports::{page_text, ranges_text, report_text, reports_of, union_of};
-use crate::rows::cuts_by;
+use crate::pieces::Answer;
+use crate::reports::{page_text, ranges_text, reports_of, union_of};
+use crate::rows::{cuts_by, rows_of};
 use call_list::calls_text;
 use call_stack::stack_text;
 use decision_find::decisions;
@@ -102,17 +104,33 @@ fn told<R: Threads + Wait + Sync, G: Gate>(
     prepared: Prepared,
     telling: Telling,
     pipeline: Pipeline,
-) -> Result<Vec<u8>, NoMemory>
+) -> Result<Answer, NoMemory>
     requires prepared { IsPrepared query.now job.now prepared }
     requires pipeline { IsPipeline pipeline }
-    ensures { IfOk result (λ text. text.items ≡ telling_text telling query.now job.now.start job.now.log) }
+    ensures text { IfOk result (λ answer. text_of answer ≡ telling_text telling query.now job.now.start job.now.log) }
+    ensures whole { IfOk result (IsPageWhole telling) }
 {
     match telling {
-        Telling::Listed(Listing::BySink) => report_text(engine, job, query, prepared, pipeline),
-        Telling::Listed(Listing::BySource) => influence_of(engine, job, query, prepared, pipeline),
-        Telling::Listed(Listing::ByPath) => path_text(engine, job, query, prepared, pipeline),
-        Telling::Listed(Listing::ByRange) => ranges_text(engine, job, query, prepared, pipeline),
-        Telling::Page => page_text(engine, job, query, prepared, pipeline),
+        Telling::Listed(Listing::BySink) => {
+            let rows = rows_of(engine, job, query, prepared, pipeline)?;
+            Ok(Answer::Rows(rows))
+        }
+        Telling::Listed(Listing::BySource) => {
+            let influence = influence_of(engine, job, query, prepared, pipeline)?;
+            Ok(Answer::Turned(influence))
+        }
+        Telling::Listed(Listing::ByPath) => {
+            let text = path_text(engine, job, query, prepared, pipeline)?;
+            Ok(Answer::Whole(text))
+        }
+        Telling::Listed(Listing::ByRange) => {
+            let text = ranges_text(engine, job, query, prepared, pipeline)?;
+            Ok(Answer::Whole(text))
+        }
+        Telling::Page => {
+            let text = page_text(engine, job, query, prepared, pipeline)?;
+            Ok(Answer::Whole(text))
+        }
     }
 }
 
@@ -123,15 +141,16 @@ pub fn tell<R: Threads + Wait + Sync, G: Gate>(
     query: &Query,
     telling: Telling,
     pipeline: Pipeline,
-) -> Result<Vec<u8>, Refusal>
+) -> Result<Answer, Refusal>
     requires image { image_of_file run.program.bytes.items ≡ Ok run.program.image }
     requires pipeline { IsPipeline pipeline }
-    ensures { IsWorkOf (IsGivenAlike (telling_text telling) pipeline.epoch (run_of run) query.now) (seen_by bytes_of result) }
+    ensures answer { IsWorkOf (IsGivenAlike (telling_text telling) pipeline.epoch (run_of run) query.now) (seen_by text_of result) }
+    ensures whole { IfOk result (IsPageWhole telling) }
 {
     let (job, prepared) = prepared_run(engine, run, query, pipeline)?;
     alike_have_same_data();
-    let text = told(engine, &job, query, prepared, telling, pipeline)?;
-    Ok(text)
+    let answer = told(engine, &job, query, prepared, telling, pipeline)?;
+    Ok(answer)
 }
 
 /// Where a source byte of a query could turn the run, for each query that this one stands for.
@@ -151,17 +170,17 @@ pub fn reports<R: Threads + Wait + Sync, G: Gate>(
     run: Run,
     queries: &[Query],
     pipeline: Pipeline,
-) -> Result<Vec<u8>, Refusal>
+) -> Result<Answer, Refusal>
     requires image { image_of_file run.program.bytes.items ≡ Ok run.program.image }
     requires some { 1 ≤ length queries.now }
     requires few { length queries.now ≤ 16 }
     requires pipeline { IsPipeline pipeline }
-    ensures { IsWorkOf (AreGivenAlike pipeline.epoch (run_of run) queries.now) (seen_by bytes_of result) }
+    ensures { IsWorkOf (AreGivenAlike pipeline.epoch (run_of run) queries.now) (seen_by text_of result) }
 {
     let union = union_of(engine.alloc, queries)?;
     let (job, prepared) = prepared_run(engine, run, &union, pipeline)?;
-    let text = reports_of(engine, &job, &union, queries, prepared, pipeline)?;
-    Ok(text)
+    let reports = reports_of(engine, &job, &union, queries, prepared, pipeline)?;
+    Ok(Answer::Several(reports))
 }
 
 /// The text that is made of a run without a query. It gives up with NoMemory alone.

@@ -1,6 +1,9 @@
-use Rattle.std.proofs.Common.{rules, Err}
+use Rattle.std.proofs.Common.{rules, ap, ◌∙◌, Err}
+use Rattle.replayer.specs.Jobs.{trace_of}
 use Rattle.jet_files.specs.Views.{run_of}
 use Rattle.jet_cli.specs.Answers.{IsWorkOf, AreGivenAlike}
+use Rattle.jet_cli.specs.Texts.{reports_text}
+use Rattle.jet_cli.proofs.Reporting.{rows-reports}
 use Rattle.jet_cli.proofs.Working.{rules-stop, reports-stop, reports-give}
 use Rattle.jet_cli.proofs.work.reports.Goals as goal
 
@@ -18,4 +21,6 @@ returns-in_err-job g c =
 
 pub returns : goal.returns
 returns g c =
-    reports-give c.args.pipeline.epoch (run_of c.args.run) c.args.queries.now c.in_ok-job.job c.in_ok-text.text.items c.in_ok-union.ensures.ok.one_rule c.in_ok-job.ensures.checked c.in_ok-job.ensures.few c.in_ok-text.ensures
+    let job = c.in_ok-job.job in
+    reports-give c.args.pipeline.epoch (run_of c.args.run) c.args.queries.now job (reports_text 1 c.in_ok-reports.reports.items) c.in_ok-union.ensures.ok.one_rule c.in_ok-job.ensures.checked c.in_ok-job.ensures.few
+    (ap (reports_text 1) c.in_ok-reports.ensures ∙ rows-reports 1 c.args.queries.now (trace_of job))
