@@ -3,6 +3,7 @@ use Rattle.std.proofs.Common.{◌≡◌, ◌∙◌, ap, ap₂, sym, refl, subst,
 use Rattle.std.specs.Prelude.{Contains}
 use Rattle.std.proofs.lemmas.List.{take_more, length-take, map-append}
 use Rattle.std.proofs.lemmas.List.Elements.{All-contains, Contains-get_or}
+use Rattle.outer_io.specs.Pieces.{Putting, Laws}
 use Rattle.sorted_set.specs.Sets.{Ascends}
 use Rattle.flow_model.specs.declared.StepSeen.{StepSeen}
 use Rattle.flow_model.specs.Orders.{inner_cmp}
@@ -73,3 +74,15 @@ reports_left parts i = (
   reports_text (1 + length (take i parts)) (drop i parts),
   sym (reports-front 1 (take i parts) (drop i parts)) ∙ ap (reports_text 1) (take-append-drop i parts),
 )
+
+-- the reports are put, or a part of them
+module _ {S : Type 0} (putting : Putting S) (laws : Laws putting) (parts : List (List Row)) (i number : ℕ) (rs : List Row) (s t u : S) (inside : i < length parts) (is : rs ≡ get_or parts i rs) (n : number ≡ i + 1)
+    (done : putting.whole s (reports_text 1 (take i parts)) t) where
+  pub puts-report : putting.whole t (numbered_rows number rs) u → putting.whole s (reports_text 1 (take (i + 1) parts)) u
+  puts-report p = subst (λ (text : List ℕ). putting.whole s text u) (next_report parts i number rs inside is n) (laws.whole_then s t u (reports_text 1 (take i parts)) (numbered_rows number rs) done p)
+
+  pub puts-some_report : putting.part t (numbered_rows number rs) u → putting.part s (reports_text 1 parts) u
+  puts-some_report p =
+      let left = reports_left parts (i + 1) in
+      subst (λ (text : List ℕ). putting.part s text u) (ap (λ (w : List ℕ). w ++ left.0) (next_report parts i number rs inside is n) ∙ left.1)
+      (laws.part_first s u (reports_text 1 (take i parts) ++ numbered_rows number rs) left.0 (laws.part_then s t u (reports_text 1 (take i parts)) (numbered_rows number rs) done p))

@@ -1,5 +1,5 @@
 //! What a command gives: its files are read one after another, and a text, or what it is made of, comes of them.
-ghost use Rattle.std.specs.Prelude.{◌≡◌, ◌≤◌, ◌∷◌, [], length, map, is_ok, None, IfOk, IfErr};
+ghost use Rattle.std.specs.Prelude.{◌≡◌, ◌≤◌, ◌∷◌, [], length, map, is_ok, None, Err, IfOk, IfErr};
 ghost use Rattle.outer_io.specs.Reads.{Reads};
 ghost use Rattle.jet_model.specs.Answer.{query_answer, queries_answer, run_answer, convert_answer};
 ghost use Rattle.jet_words.specs.Commands.{plain_command, IsPipeline, IsInRange};
@@ -116,7 +116,10 @@ fn convert<S: Store>(
 
 /// A text that was made, as an answer.
 fn as_answer(made: Result<Vec<u8>, Refusal>) -> Result<Answer, Refusal>
-    ensures { result ≡ seen_by Answer.Whole made }
+    ensures same { seen_by text_of result ≡ seen_by bytes_of made }
+    ensures ends { is_ok result ≡ is_ok made }
+    ensures refusal { IfErr result (λ refusal. made ≡ Err refusal) }
+    ensures whole { IfOk result IsWhole }
 {
     match made {
         Ok(text) => Ok(Answer::Whole(text)),
