@@ -1,13 +1,15 @@
-//! Rows as text: in order, turned round, and of what a query chooses.
+//! Rows as text: in order, turned round, and of what a query chooses; the text in pieces.
 
 ghost use Rattle.std.specs.Prelude.{◌≡◌, IfOk};
+ghost use Rattle.report_model.specs.Text.{report_text};
 ghost use Rattle.sorted_set.specs.Sets.{Ascends};
 ghost use Rattle.flow_model.specs.Orders.{source_cmp};
 
 use flow_model::{InnerSink, Loc, SinkByte, SinkPoint, SourceByte};
 use no_memory::NoMemory;
+use outer_io::{Buffer, InPieces, MemorySink, Pieces, write_in_pieces};
 use query_lang::{Query, parse};
-use sink_collect::{Report, SinkSet, gather, influence_text, text, turn_round};
+use sink_collect::{Report, SinkSet, gather, influence_text, put_text, text, turn_round};
 use source_ranges::SourceSet;
 use std::alloc::{AllocError, Global};
 use std::process::Abort;
@@ -143,4 +145,57 @@ fn a_query_has_its_own_rows(rt: HostRuntime) -> Result<(), Fail> {
     )?;
     let lines = "1:70000 0:7\n2:9\nm:65792@6 0:7\nend 3\n";
     assert_only(&rt, alloc, &report, &query, lines)
+}
+
+/// A report, of which the text is put in pieces.
+#[derive(Drop)]
+struct Lines {
+    report: Report,
+}
+
+impl InPieces for Lines {
+    ghost text = { λ l. report_text l.report };
+
+    fn put_to<P: Pieces>(&self, place: &mut P) -> Result<(), P::Fault> {
+        put_text(place, &self.report)
+    }
+}
+
+/// How many bytes a buffer holds: none, less than a name, less than a line, and the whole text.
+const ROOMS: &[usize] = &[0, 1, 3, 16, 31, 4096];
+
+/// Through a buffer of this room, to a sink that takes seven bytes a call and fails at this one, the text is written up to there.
+fn assert_pieces(
+    rt: &impl Abort,
+    alloc: Global,
+    lines: &Lines,
+    room: usize,
+    failing: u64,
+) -> Result<(), Fail> {
+    let whole = text(alloc, &lines.report)?;
+    let failing = [failing].as_slice().to_vec(alloc)?;
+    let mut sink = MemorySink::new(alloc, failing, 7, 4096)?;
+    let buffer = Buffer::new(alloc, room)?;
+    let written = write_in_pieces(&mut sink, buffer, lines);
+    if written.is_ok() {
+        assert_eq!(rt; sink.bytes(), whole.as_slice());
+    } else {
+        assert!(rt; sink.bytes().len() < whole.len());
+        assert!(rt; whole.as_slice().starts_with(sink.bytes()));
+    }
+    Ok(())
+}
+
+#[test]
+fn a_text_is_written_in_pieces(rt: HostRuntime) -> Result<(), Fail> {
+    let alloc = rt.alloc();
+    let lines = Lines {
+        report: report(alloc)?,
+    };
+    for room in ROOMS {
+        for failing in 0..40 {
+            assert_pieces(&rt, alloc, &lines, *room, failing)?;
+        }
+    }
+    Ok(())
 }

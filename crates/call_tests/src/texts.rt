@@ -1,9 +1,9 @@
 //! Names and instructions as text.
 
-use flow_model::{InnerSink, Loc, SinkByte, SinkPoint};
+use flow_model::{InnerSink, Loc, SinkByte, SinkPoint, SourceByte};
 use instruction_text::push_instruction;
 use no_memory::NoMemory;
-use printed_names::{push_byte, push_location, push_pc, push_point};
+use printed_names::{SourceName, push_byte, push_location, push_pc, push_point};
 use rv_decode::decode;
 use std::process::Abort;
 use std::test::Fail;
@@ -75,5 +75,39 @@ fn names_are_those_of_reports(rt: HostRuntime) -> Result<(), Fail> {
         out.as_slice(),
         b"15:4294967295 r:31.3 m:65792 r:31.3@6 1:0 0x80010a0c".as_slice()
     );
+    Ok(())
+}
+
+/// Source bytes, one after another, and their names.
+const BYTES: &[(u8, u32, &str)] = &[
+    (0, 8, " 0:8"),
+    (0, 9, " 0:9"),
+    (0, 10, " 0:10"),
+    (0, 11, " 0:11"),
+    (0, 13, " 0:13"),
+    (0, 13, " 0:13"),
+    (0, 12, " 0:12"),
+    (1, 13, " 1:13"),
+    (1, 99, " 1:99"),
+    (1, 100, " 1:100"),
+    (1, 101, " 1:101"),
+    (15, 102, " 15:102"),
+    (15, 4294967294, " 15:4294967294"),
+    (15, 4294967295, " 15:4294967295"),
+    (15, 0, " 15:0"),
+    (15, 1, " 15:1"),
+];
+
+#[test]
+fn a_name_goes_to_the_next_byte(rt: HostRuntime) -> Result<(), Fail> {
+    let mut name = SourceName::new(SourceByte {
+        channel: 0,
+        offset: 7,
+    });
+    assert_eq!(rt; name.as_bytes(), b" 0:7".as_slice());
+    for &(channel, offset, text) in BYTES {
+        name.go_to(SourceByte { channel, offset });
+        assert_eq!(rt; name.as_bytes(), text.as_bytes());
+    }
     Ok(())
 }

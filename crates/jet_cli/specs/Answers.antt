@@ -1,6 +1,5 @@
 -- What the files of a command come to: the text that it writes, or the refusal.
-use Rattle.std.specs.Prelude.{◌≡◌, ℕ, List, [], ◌∷◌, ◌++◌, codes, Option, None, unwrap_or, Result, Ok, Err}
-use Rattle.std.specs.Fmt.{decimal}
+use Rattle.std.specs.Prelude.{◌≡◌, ℕ, List, Option, None, unwrap_or, Result, Ok, Err}
 use Rattle.outer_io.specs.Files.{Text}
 use Rattle.outer_io.specs.Tells.{Tells, Gains}
 use Rattle.isa.specs.Machine.{State}
@@ -13,9 +12,8 @@ use Rattle.jet_words.specs.declared.command.Product.TheVariants.{Numbers, Calls,
 use Rattle.jet_words.specs.declared.command.Pipeline.{Pipeline}
 use Rattle.jet_refusal.specs.declared.refusal.Refusal.{Refusal}
 use Rattle.report_model.specs.Query.{Query, Alike}
-use Rattle.report_model.specs.Rows.{Row, rows}
-use Rattle.report_model.specs.Text.{report_text}
-use Rattle.report_model.specs.Together.{only, together, first_other_rule}
+use Rattle.report_model.specs.Rows.{rows}
+use Rattle.report_model.specs.Together.{together, first_other_rule}
 use Rattle.replay_model.specs.Run.{trace}
 use Rattle.jet_model.specs.Outcomes.{and_then}
 use Rattle.jet_model.specs.Contents.{Contents, Names, Run}
@@ -33,6 +31,8 @@ use Rattle.run_output.specs.Input.{input}
 use Rattle.run_output.specs.Output.{output}
 use Rattle.call_list.specs.Calls.{calls_text}
 use Rattle.call_stack.specs.Stack.{stack_text}
+use Rattle.jet_cli.specs.Texts.{IsWhole}
+use Rattle.jet_cli.specs.declared.pieces.Answer.{Answer}
 use Rattle.jet_cli.specs.declared.work.Telling.{Telling}
 use Rattle.jet_cli.specs.declared.work.Telling.TheVariants.{Listed, Page}
 
@@ -73,6 +73,11 @@ given_by ByRange q start log = ranges_report log (rows q (trace start log))
 abbrev pub telling_text : Telling → Query → State → Log → List ℕ
 telling_text (Listed listing) = given_by listing
 telling_text Page = page_report
+
+-- the page is told as a text that is there
+abbrev pub IsPageWhole : Telling → Answer → Type 0
+IsPageWhole (Listed listing) answer = Unit {0}
+IsPageWhole Page answer = IsWhole answer
 
 -- where a source byte of a query could turn a run, as text
 abbrev pub decisions_by : Query → State → Log → List ℕ
@@ -134,7 +139,3 @@ AreGivenAlike told run kept answer = (qs : List Query) → AskAlike kept qs → 
 pub record IsUnion (queries : List Query) (union : Query) : Type 0 where
   pub alike : Alike union (together queries)
   pub one_rule : first_other_rule queries ≡ None
-
--- `query I` and the report of a query, by rows that are not all its own
-abbrev pub numbered_text : ℕ → Query → List Row → List ℕ
-numbered_text number q rows = codes "query " ++ decimal number ++ 0x0a ∷ [] ++ report_text (only q rows)

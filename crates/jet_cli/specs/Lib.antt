@@ -1,4 +1,5 @@
 pub mod Targets
+pub mod Texts
 pub mod Answers
 pub mod Parts
 pub mod Bench

@@ -1,15 +1,17 @@
-//! What a command gives: its files are read one after another, and a text is made of them.
-ghost use Rattle.std.specs.Prelude.{◌≡◌, ◌≤◌, ◌∷◌, [], length, map, is_ok, None, IfErr};
+//! What a command gives: its files are read one after another, and a text, or what it is made of, comes of them.
+ghost use Rattle.std.specs.Prelude.{◌≡◌, ◌≤◌, ◌∷◌, [], length, map, is_ok, None, Err, IfOk, IfErr};
 ghost use Rattle.outer_io.specs.Reads.{Reads};
 ghost use Rattle.jet_model.specs.Answer.{query_answer, queries_answer, run_answer, convert_answer};
 ghost use Rattle.jet_words.specs.Commands.{plain_command, IsPipeline, IsInRange};
 ghost use Rattle.jet_files.specs.Outcome.{Comes, Follows, seen_by, bytes_of};
-ghost use Rattle.jet_cli.specs.Targets.{sources_of, IfUntimed};
-ghost use Rattle.jet_cli.specs.Answers.{IsAnswer, telling_text, decisions_by, made_by, named};
+ghost use Rattle.jet_cli.specs.Targets.{sources_of, target_of, IfFile, IfUntimed};
+ghost use Rattle.jet_cli.specs.Texts.{text_of, IsWhole};
+ghost use Rattle.jet_cli.specs.Answers.{IsAnswer, IsPageWhole, telling_text, decisions_by, made_by, named};
 ghost use Rattle.jet_cli.specs.Ending.{IsUnasked};
 
 use crate::bench::bench;
 use crate::engine::Engine;
+use crate::pieces::Answer;
 use crate::record::{Limits, record};
 use crate::work::{Telling, conversion, decide, make, reports, tell};
 use jet_files::{open_queries, open_query, open_run};
@@ -29,11 +31,12 @@ fn analysis<R: Threads + Wait + Sync, S: Store, G: Gate>(
     query: &str,
     telling: Telling,
     pipeline: Pipeline,
-) -> Result<Vec<u8>, Refusal>
+) -> Result<Answer, Refusal>
     requires { IsPipeline pipeline }
     ensures answer { Comes
         (λ file. query_answer (telling_text telling) pipeline.epoch file (named program.now log.now query.now))
-        (S.shown store.old) (S.shown store.new) (seen_by bytes_of result) }
+        (S.shown store.old) (S.shown store.new) (seen_by text_of result) }
+    ensures whole { IfOk result (IsPageWhole telling) }
     ensures reads { Reads (program.now ∷ log.now ∷ query.now ∷ []) (is_ok result) (S.shown store.old) (S.shown store.new) }
 {
     let run = open_run(engine.alloc, store, program, log)?;
@@ -66,13 +69,13 @@ fn queries<R: Threads + Wait + Sync, S: Store, G: Gate>(
     log: &str,
     names: &[&str],
     pipeline: Pipeline,
-) -> Result<Vec<u8>, Refusal>
+) -> Result<Answer, Refusal>
     requires some { 1 ≤ length names.now }
     requires few { length names.now ≤ 16 }
     requires pipeline { IsPipeline pipeline }
     ensures answer { Comes
         (λ file. queries_answer pipeline.epoch file program.now log.now (map (λ name. name.now) names.now))
-        (S.shown store.old) (S.shown store.new) (seen_by bytes_of result) }
+        (S.shown store.old) (S.shown store.new) (seen_by text_of result) }
     ensures reads { Reads (program.now ∷ log.now ∷ map (λ name. name.now) names.now) (is_ok result) (S.shown store.old) (S.shown store.new) }
 {
     let run = open_run(engine.alloc, store, program, log)?;
@@ -111,17 +114,31 @@ fn convert<S: Store>(
     conversion(alloc, run)
 }
 
-/// The text of a command, which `deliver` writes.
+/// A text that was made, as an answer.
+fn as_answer(made: Result<Vec<u8>, Refusal>) -> Result<Answer, Refusal>
+    ensures same { seen_by text_of result ≡ seen_by bytes_of made }
+    ensures ends { is_ok result ≡ is_ok made }
+    ensures refusal { IfErr result (λ refusal. made ≡ Err refusal) }
+    ensures whole { IfOk result IsWhole }
+{
+    match made {
+        Ok(text) => Ok(Answer::Whole(text)),
+        Err(refusal) => Err(refusal),
+    }
+}
+
+/// What a command gives, which `deliver` writes. What is written into a file is a text that is there.
 #[tactic(auto, using(crate::proofs::KeepingLemmas::unasked))]
 pub fn answer<R: Threads + Wait + Sync, S: Store, K: Clock, G: Gate>(
     engine: &Engine<R, G>,
     store: &mut S,
     clock: &mut K,
     command: &Command,
-) -> Result<Vec<u8>, Refusal>
+) -> Result<Answer, Refusal>
     requires ranges { IsInRange (plain_command command.now) }
     ensures answer { Follows (IsAnswer (plain_command command.now) (K.answers clock.old) (K.answers clock.new))
-        (S.shown store.old) (S.shown store.new) (seen_by bytes_of result) }
+        (S.shown store.old) (S.shown store.new) (seen_by text_of result) }
+    ensures whole { IfOk result (λ answer. IfFile (target_of (plain_command command.now)) (IsWhole answer)) }
     ensures reads { Reads (sources_of (plain_command command.now)) (is_ok result) (S.shown store.old) (S.shown store.new) }
     ensures clock { IfUntimed (plain_command command.now) (clock.new ≡ clock.old) }
     ensures unasked { IfErr result (IsUnasked (K.answers clock.old) (K.answers clock.new)) }
@@ -142,12 +159,12 @@ pub fn answer<R: Threads + Wait + Sync, S: Store, K: Clock, G: Gate>(
             product,
             program,
             log,
-        } => run_product(alloc, store, program, log, *product),
+        } => as_answer(run_product(alloc, store, program, log, *product)),
         Command::Decisions {
             program,
             log,
             query,
-        } => decisions(alloc, store, program, log, query),
+        } => as_answer(decisions(alloc, store, program, log, query)),
         Command::Page {
             program,
             log,
@@ -168,9 +185,9 @@ pub fn answer<R: Threads + Wait + Sync, S: Store, K: Clock, G: Gate>(
                 piece: *piece,
                 steps: *steps,
             };
-            record(alloc, store, clock, program, inputs, limits)
+            as_answer(record(alloc, store, clock, program, inputs, limits))
         }
-        Command::Convert { program, log, .. } => convert(alloc, store, program, log),
+        Command::Convert { program, log, .. } => as_answer(convert(alloc, store, program, log)),
         Command::Queries {
             program,
             log,
@@ -181,6 +198,6 @@ pub fn answer<R: Threads + Wait + Sync, S: Store, K: Clock, G: Gate>(
             seed,
             steps,
             pipeline,
-        } => bench(engine, *seed, *steps, *pipeline),
+        } => as_answer(bench(engine, *seed, *steps, *pipeline)),
     }
 }

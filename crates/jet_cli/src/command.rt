@@ -15,12 +15,17 @@ use crate::engine::Engine;
 use jet_refusal::Refusal;
 use jet_words::{Command, read_words};
 use no_memory::Fault;
-use outer_io::{Clock, Gate, Sink, Store, WriteFault};
+use outer_io::{Buffer, Clock, Gate, Sink, Store, WriteFault};
 use std::alloc::Global;
 use std::sync::Wait;
 use std::thread::Threads;
 
-/// Does what a command stands for: makes its text of its files, and writes it.
+/// How many bytes of a text are written at once.
+const PIECE: usize = 65536;
+
+/// Does what a command stands for: makes its text of its files, and writes it. The buffer for it is there before anything is
+/// read, so nothing is refused while a text is written.
+#[tactic(auto, using(crate::proofs::KeepingLemmas::keeps, crate::proofs::KeepingLemmas::unasked))]
 fn carry_out<R: Threads + Wait + Sync, S: Store, O: Sink, K: Clock, G: Gate>(
     engine: &Engine<R, G>,
     command: &Command,
@@ -41,8 +46,9 @@ fn carry_out<R: Threads + Wait + Sync, S: Store, O: Sink, K: Clock, G: Gate>(
     ensures clock { IfUntimed (plain_command command.now) (clock.new ≡ clock.old) }
     ensures unasked { IfErr result (IsUnasked (K.answers clock.old) (K.answers clock.new)) }
 {
-    let text = answer(engine, store, clock, command)?;
-    match deliver(store, out, command, &text) {
+    let buffer = Buffer::new(engine.alloc, PIECE)?;
+    let given = answer(engine, store, clock, command)?;
+    match deliver(store, out, command, &given, buffer) {
         Ok(()) => Ok(()),
         Err(WriteFault) => Err(Refusal::WriteFault),
     }

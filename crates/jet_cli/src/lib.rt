@@ -19,6 +19,7 @@ mod engine;
 mod influence;
 mod parts;
 mod path;
+mod pieces;
 mod record;
 mod reports;
 mod work;

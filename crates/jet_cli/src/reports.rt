@@ -1,20 +1,19 @@
-//! The reports of several queries, by one analysis of the run.
-ghost use Rattle.std.specs.Prelude.{◌≡◌, ◌≤◌, ◌++◌, List, Err, length, IfOk, IfErr, OnOk};
+//! The rows of several queries, by one analysis of the run.
+ghost use Rattle.std.specs.Prelude.{◌≡◌, ◌≤◌, List, Err, length, map, IfOk, IfErr};
 ghost use Rattle.sorted_set.specs.Sets.{Ascends};
 ghost use Rattle.flow_model.specs.Orders.{inner_cmp};
 ghost use Rattle.flow_model.specs.declared.StepSeen.{StepSeen as Step};
 ghost use Rattle.report_model.specs.Query.{Query as Choice};
 ghost use Rattle.report_model.specs.Rows.{rows};
-ghost use Rattle.jet_model.specs.Report.{reports_of as reports_by};
+ghost use Rattle.report_model.specs.Together.{only};
 ghost use Rattle.jet_model.specs.Answer.{rules_check};
 ghost use Rattle.jet_files.specs.Outcome.{IsWork};
-ghost use Rattle.jet_cli.specs.Answers.{IsUnion, numbered_text};
+ghost use Rattle.jet_cli.specs.Answers.{IsUnion};
 
-use itoa::Buffer;
 use jet_refusal::Refusal;
 use no_memory::NoMemory;
 use query_lang::{Query, together};
-use sink_collect::{Report, text};
+use sink_collect::Report;
 use std::alloc::Global;
 
 /// One query that chooses what any of several does. It gives up with `Rules`, where their rules differ, or is out of memory.
@@ -28,39 +27,25 @@ pub fn union_of(alloc: Global, queries: &[Query]) -> Result<Query, Refusal>
     Ok(union)
 }
 
-/// Appends `query I` and the report of one of the queries, by the rows of all.
-fn push_report(
-    alloc: Global,
-    out: &mut Vec<u8>,
-    number: u32,
-    all: &Report,
-    query: &Query,
-) -> Result<(), NoMemory>
-    ensures text { OnOk result (out.new.items ≡ out.old.items ++ numbered_text number query.now all.now) }
+/// What one of the queries chooses of the rows of all.
+fn own_part(alloc: Global, all: &Report, query: &Query) -> Result<Report, NoMemory>
+    ensures rows { IfOk result (λ part. part ≡ only query.now all.now) }
     ensures points { Ascends inner_cmp query.now.points }
 {
     // The contract of `points` says that they ascend.
     let _points = query.points();
-    let mut buffer = Buffer::new();
-    out.extend_from_slice(b"query ")?;
-    out.extend_from_slice(buffer.format(number).as_bytes())?;
-    out.push(b'\n')?;
-    let report = all.only(alloc, query)?;
-    out.extend_from_slice(&text(alloc, &report)?)?;
-    Ok(())
+    all.only(alloc, query)
 }
 
-/// The reports of several queries, one after another, by the rows of one that asks for what any of them does.
-pub fn own_reports(alloc: Global, all: &Report, queries: &[Query]) -> Result<Vec<u8>, NoMemory>
-    requires { length queries.now ≤ 16 }
-    ensures { IfOk result (λ text. (union : Choice) (trace : List Step)
-        → IsUnion queries.now union → all.now ≡ rows union trace → text.items ≡ reports_by queries.now trace) }
+/// The rows of several queries, by those of one that asks for what any of them does. They are there before any is written, so
+/// that writing takes no memory.
+pub fn own_parts(alloc: Global, all: &Report, queries: &[Query]) -> Result<Vec<Report>, NoMemory>
+    ensures { IfOk result (λ parts. (union : Choice) (trace : List Step)
+        → IsUnion queries.now union → all.now ≡ rows union trace → parts.items ≡ map (λ q. rows q trace) queries.now) }
 {
-    let mut out = Vec::new(alloc);
-    let mut number = 0;
+    let mut parts = Vec::with_capacity(alloc, queries.len())?;
     for query in queries {
-        number += 1;
-        push_report(alloc, &mut out, number, all, query)?;
+        parts.push(own_part(alloc, all, query)?)?;
     }
-    Ok(out)
+    Ok(parts)
 }

@@ -1,5 +1,5 @@
-//! The work over a program and a log that were read: the log is fitted to its program, the run is replayed, and a text is
-//! made of it.
+//! The work over a program and a log that were read: the log is fitted to its program, the run is replayed, and a text, or
+//! what a text is made of, is found.
 ghost use Rattle.std.specs.Prelude.{◌≡◌, ◌≤◌, None, Ok, Err, length, IfOk, IfErr, OnOk};
 ghost use Rattle.elf_model.specs.Image.{image as image_of_file};
 ghost use Rattle.replayer.specs.Checks.{IsChecked};
@@ -10,13 +10,15 @@ ghost use Rattle.jet_model.specs.Answer.{fitting_start, told_check, text_answer}
 ghost use Rattle.jet_files.specs.Outcome.{IsWork, seen_by, bytes_of};
 ghost use Rattle.jet_files.specs.Views.{run_of};
 ghost use Rattle.jet_cli.specs.Answers.{IsWorkOf, IsGivenAlike, AreGivenAlike, fits_and_is_cut, telling_text, made_by};
-ghost use Rattle.jet_cli.specs.Answers.{conversion_of, decisions_by};
+ghost use Rattle.jet_cli.specs.Answers.{conversion_of, decisions_by, IsPageWhole};
+ghost use Rattle.jet_cli.specs.Texts.{text_of};
 
 use crate::engine::Engine;
 use crate::influence::influence_of;
 use crate::parts::part_for;
 use crate::path::path_text;
-use crate::reports::{own_reports, union_of};
+use crate::pieces::Answer;
+use crate::reports::{own_parts, union_of};
 use call_list::calls_text;
 use call_stack::stack_text;
 use decision_find::decisions;
@@ -34,7 +36,7 @@ use replay_log::{Log, write_log};
 use replayer::Job;
 use run_output::{input_on, output_on, summary_text};
 use run_query::check_and_query;
-use sink_collect::{Report, text};
+use sink_collect::Report;
 use std::alloc::Global;
 use std::sync::Wait;
 use std::thread::Threads;
@@ -114,18 +116,31 @@ fn told(
     alloc: Global,
     job: &Job,
     query: &Query,
-    report: &Report,
+    report: Report,
     telling: Telling,
-) -> Result<Vec<u8>, NoMemory>
-    requires { report.now ≡ rows query.now (trace_of job.now) }
-    ensures { IfOk result (λ told. told.items ≡ telling_text telling query.now job.now.start job.now.log) }
+) -> Result<Answer, NoMemory>
+    requires { report ≡ rows query.now (trace_of job.now) }
+    ensures text { IfOk result (λ answer. text_of answer ≡ telling_text telling query.now job.now.start job.now.log) }
+    ensures whole { IfOk result (IsPageWhole telling) }
 {
     match telling {
-        Telling::Listed(Listing::BySink) => text(alloc, report),
-        Telling::Listed(Listing::BySource) => influence_of(alloc, job, query, report),
-        Telling::Listed(Listing::ByPath) => path_text(alloc, job, query, report),
-        Telling::Listed(Listing::ByRange) => shown(alloc, report, job.log()),
-        Telling::Page => page(alloc, job, query, report),
+        Telling::Listed(Listing::BySink) => Ok(Answer::Rows(report)),
+        Telling::Listed(Listing::BySource) => {
+            let influence = influence_of(alloc, job, query, &report)?;
+            Ok(Answer::Turned(influence))
+        }
+        Telling::Listed(Listing::ByPath) => {
+            let text = path_text(alloc, job, query, &report)?;
+            Ok(Answer::Whole(text))
+        }
+        Telling::Listed(Listing::ByRange) => {
+            let text = shown(alloc, &report, job.log())?;
+            Ok(Answer::Whole(text))
+        }
+        Telling::Page => {
+            let text = page(alloc, job, query, &report)?;
+            Ok(Answer::Whole(text))
+        }
     }
 }
 
@@ -136,15 +151,16 @@ pub fn tell<R: Threads + Wait + Sync, G: Gate>(
     query: &Query,
     telling: Telling,
     pipeline: Pipeline,
-) -> Result<Vec<u8>, Refusal>
+) -> Result<Answer, Refusal>
     requires image { image_of_file run.program.bytes.items ≡ Ok run.program.image }
     requires pipeline { IsPipeline pipeline }
-    ensures { IsWorkOf (IsGivenAlike (telling_text telling) pipeline.epoch (run_of run) query.now) (seen_by bytes_of result) }
+    ensures answer { IsWorkOf (IsGivenAlike (telling_text telling) pipeline.epoch (run_of run) query.now) (seen_by text_of result) }
+    ensures whole { IfOk result (IsPageWhole telling) }
 {
     let (job, report) = analysed_run(engine, run, query, pipeline)?;
     alike_have_same_data();
-    let text = told(engine.alloc, &job, query, &report, telling)?;
-    Ok(text)
+    let answer = told(engine.alloc, &job, query, report, telling)?;
+    Ok(answer)
 }
 
 /// Where a source byte of a query could turn the run, for each query that this one stands for.
@@ -164,17 +180,17 @@ pub fn reports<R: Threads + Wait + Sync, G: Gate>(
     run: Run,
     queries: &[Query],
     pipeline: Pipeline,
-) -> Result<Vec<u8>, Refusal>
+) -> Result<Answer, Refusal>
     requires image { image_of_file run.program.bytes.items ≡ Ok run.program.image }
     requires some { 1 ≤ length queries.now }
     requires few { length queries.now ≤ 16 }
     requires pipeline { IsPipeline pipeline }
-    ensures { IsWorkOf (AreGivenAlike pipeline.epoch (run_of run) queries.now) (seen_by bytes_of result) }
+    ensures { IsWorkOf (AreGivenAlike pipeline.epoch (run_of run) queries.now) (seen_by text_of result) }
 {
     let union = union_of(engine.alloc, queries)?;
     let (_job, all) = analysed_run(engine, run, &union, pipeline)?;
-    let text = own_reports(engine.alloc, &all, queries)?;
-    Ok(text)
+    let reports = own_parts(engine.alloc, &all, queries)?;
+    Ok(Answer::Several(reports))
 }
 
 /// The text that is made of a run without a query. It gives up with NoMemory alone.

@@ -1,5 +1,5 @@
 -- Bytes in a buffer, and the room for more.
-use Rattle.std.specs.Prelude.{ℕ, ◌-◌, List, ◌++◌, length}
+use Rattle.std.specs.Prelude.{ℕ, ◌+◌, ◌-◌, List, [], ◌++◌, length}
 
 pub record Buffered : Type 0 where
   pub bytes : List ℕ
@@ -8,3 +8,7 @@ pub record Buffered : Type 0 where
 -- with this piece at the end
 abbrev pub after_push : List ℕ → Buffered → Buffered
 after_push piece buffer = record { bytes = buffer.bytes ++ piece; room = buffer.room - length piece }
+
+-- with no bytes
+abbrev pub emptied : Buffered → Buffered
+emptied buffer = record { bytes = []; room = buffer.room + length buffer.bytes }

@@ -16,3 +16,6 @@ pub mod SureStores
 pub mod MemorySinks
 pub mod ListClock
 pub mod Machine
+pub mod TellsLaws
+pub mod Pieces
+pub mod Passing

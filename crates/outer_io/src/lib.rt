@@ -15,9 +15,12 @@
 //! reserve their room when they are made, so their calls take no memory. [`FileStore`], [`OutSink`] and
 //! [`MachineClock`] are the machine's. They are trusted, and tell nothing.
 //!
-//! Crates above rest on this: the traits' clauses, which hold of every form; `read_whole`, `write_whole` and
-//! `write_file` take and put all bytes, or say why not, with their causes; what each call of a form in memory answers,
-//! and the room left; `laws`: a sure store and output stay told while no call wants more than the room.
+//! A text that is made a piece at a time ([`InPieces`]) goes to any place that takes [`Pieces`]: to the end of a vector, or
+//! by [`write_in_pieces`] through a [`Buffer`] to a sink, which takes no memory.
+//!
+//! Crates above rest on this: the traits' clauses, which hold of every form; `read_whole`, `write_whole`,
+//! `write_in_pieces` and `write_file` take and put all bytes, or say why not, with their causes; what each call of a form
+//! in memory answers, and the room left; `laws`: a sure store and output stay told while no call wants more than the room.
 #![tactic(auto)]
 
 mod clock;
@@ -26,6 +29,7 @@ mod gate;
 pub mod laws;
 mod machine;
 mod memory;
+mod pieces;
 mod replacing;
 mod sink;
 mod store;
@@ -34,7 +38,8 @@ mod whole;
 pub use clock::Clock;
 pub use gate::{Gate, OpenGate};
 pub use machine::{FileStore, MachineClock, OutSink};
-pub use memory::{ListClock, MemoryFile, MemorySink, MemoryStore, SureSink, SureStore};
+pub use memory::{Buffer, ListClock, MemoryFile, MemorySink, MemoryStore, SureSink, SureStore};
+pub use pieces::{InPieces, Pieces, write_in_pieces};
 pub use replacing::may_replace;
 pub use sink::Sink;
 pub use store::{Failed, Store};

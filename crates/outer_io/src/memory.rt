@@ -11,6 +11,7 @@ mod store;
 mod sure_sink;
 mod sure_store;
 
+pub use buffer::Buffer;
 pub use clock::ListClock;
 pub use file::MemoryFile;
 pub use sink::MemorySink;

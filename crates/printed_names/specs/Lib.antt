@@ -1,3 +1,4 @@
 pub mod Places
 pub mod Quoted
 pub mod Lines
+pub mod Next

@@ -1,7 +1,8 @@
 //! The names that texts print of bytes, locations, points and places in the code, and bytes as a quoted text.
 //!
-//! Crates above rest on this: each function appends what the definitions give (`report_model`'s names, and `pc_text`,
-//! `quoted_text` and `lines_end` here), and fails only where there is no memory.
+//! Crates above rest on this: each function that appends gives what the definitions say (`report_model`'s names, and
+//! `pc_text`, `quoted_text` and `lines_end` here), and fails only where there is no memory. A [`Name`] is such a name by
+//! itself, and a [`SourceName`] that of one source byte after another: they take no memory.
 #![tactic(auto)]
 
 ghost use Rattle.std.specs.Prelude.{◌≡◌, ◌++◌, OnOk};
@@ -9,65 +10,43 @@ ghost use Rattle.report_model.specs.Text.{name_text, loc_text, point_text};
 ghost use Rattle.printed_names.specs.Places.{pc_text};
 ghost use Rattle.printed_names.specs.Lines.{lines_end};
 
+mod name;
 mod quoted;
+mod source_name;
 
 use flow_model::{Loc, SinkPoint};
 use itoa::Buffer;
+pub use name::{Name, byte_name, location_name, point_name, wide_byte_name};
 use no_memory::NoMemory;
 pub use quoted::push_quoted;
+pub use source_name::SourceName;
 
 /// Appends `c:o`, the byte of offset o on channel c.
 pub fn push_byte(out: &mut Vec<u8>, channel: u8, offset: u32) -> Result<(), NoMemory>
     ensures { OnOk result (out.new.items ≡ out.old.items ++ name_text channel offset) }
 {
-    push_wide_byte(out, u32::from(channel), u64::from(offset))
+    Ok(out.extend_from_slice(byte_name(channel, offset).as_bytes())?)
 }
 
 /// The same, of whatever channel and offset.
 pub fn push_wide_byte(out: &mut Vec<u8>, channel: u32, offset: u64) -> Result<(), NoMemory>
     ensures { OnOk result (out.new.items ≡ out.old.items ++ name_text channel offset) }
 {
-    let mut buffer = Buffer::new();
-    out.extend_from_slice(buffer.format(channel).as_bytes())?;
-    out.push(b':')?;
-    out.extend_from_slice(buffer.format(offset).as_bytes())?;
-    Ok(())
+    Ok(out.extend_from_slice(wide_byte_name(channel, offset).as_bytes())?)
 }
 
 /// Appends `r:R.i` of lane i of register R, `m:A` of address A.
 pub fn push_location(out: &mut Vec<u8>, loc: Loc) -> Result<(), NoMemory>
     ensures { OnOk result (out.new.items ≡ out.old.items ++ loc_text loc) }
 {
-    let mut buffer = Buffer::new();
-    match loc {
-        Loc::Reg { number, lane } => {
-            out.extend_from_slice(b"r:")?;
-            out.extend_from_slice(buffer.format(number).as_bytes())?;
-            out.push(b'.')?;
-            out.extend_from_slice(buffer.format(lane).as_bytes())?;
-        }
-        Loc::Mem { place } => {
-            out.extend_from_slice(b"m:")?;
-            out.extend_from_slice(buffer.format(place).as_bytes())?;
-        }
-    }
-    Ok(())
+    Ok(out.extend_from_slice(location_name(loc).as_bytes())?)
 }
 
 /// Appends `c:o` of an output byte; the location and `@T` of a point at time T.
 pub fn push_point(out: &mut Vec<u8>, point: SinkPoint) -> Result<(), NoMemory>
     ensures { OnOk result (out.new.items ≡ out.old.items ++ point_text point) }
 {
-    match point {
-        SinkPoint::Out(byte) => push_byte(out, byte.channel, byte.offset),
-        SinkPoint::At(inner) => {
-            let mut buffer = Buffer::new();
-            push_location(out, inner.loc)?;
-            out.push(b'@')?;
-            out.extend_from_slice(buffer.format(inner.time).as_bytes())?;
-            Ok(())
-        }
-    }
+    Ok(out.extend_from_slice(point_name(point).as_bytes())?)
 }
 
 /// Appends a pc: `0x` and eight hexadecimal digits in lower case.

@@ -4,3 +4,4 @@ mod Search
 mod Moving
 mod Reaching
 mod Stretches
+mod Putting

@@ -28,12 +28,3 @@ module _ (p : SourceByte → Bool) (old whole : List SourceByte) (c o past : ℕ
 
   pub one_passed : p (byte_on c o) ≡ false → old ++ filter p (bytes_of (range c (o + 1) past)) ≡ whole
   one_passed passed = ap (λ (bs : List SourceByte). old ++ bs) (sym (first_filtered false passed)) ∙ inv
-
--- the names of the bytes
-pub one_named : (old mid new whole : List ℕ) (c o past : ℕ) → o < past → old ++ flat_map source_text (bytes_of (range c o past)) ≡ whole
-    → mid ≡ old ++ 32 ∷ [] → new ≡ mid ++ name_text c o → new ++ flat_map source_text (bytes_of (range c (o + 1) past)) ≡ whole
-one_named old mid new whole c o past some inv blank name =
-    let rest = flat_map source_text (bytes_of (range c (o + 1) past)) in
-    ap (λ (text : List ℕ). text ++ rest) (name ∙ ap (λ (text : List ℕ). text ++ name_text c o) blank)
-    ∙ append_assoc (old ++ 32 ∷ []) (name_text c o) rest ∙ append_assoc old (32 ∷ []) (name_text c o ++ rest)
-    ∙ ap (λ (text : List ℕ). old ++ text) (sym (ap (flat_map source_text) (bytes-first c o past some))) ∙ inv

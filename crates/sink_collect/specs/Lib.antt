@@ -2,4 +2,3 @@ pub mod Distinct
 pub mod Pairs
 pub mod Reaching
 pub mod Own
-pub mod Listed

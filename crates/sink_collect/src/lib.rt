@@ -1,9 +1,9 @@
 //! What a taint replay collects: the source bytes of each output byte and of each point inside the run; the report of
 //! them, and the same turned round.
 //!
-//! Crates above rest on this: `gather` is the rows by output byte and point, `text` their text; `only` those that a
-//! query chooses; `turn_round` the rows turned round, `influence_text` their text; `lines` and `pairs` are counts of
-//! them.
+//! Crates above rest on this: `gather` is the rows by output byte and point, `put_text` puts their text in pieces, and `text`
+//! is the same whole; `only` those that a query chooses; `turn_round` the rows turned round, `put_influence` and
+//! `influence_text` their text; `lines` and `pairs` are counts of them.
 #![tactic(auto)]
 
 mod choosing;
@@ -16,4 +16,4 @@ mod writing;
 pub use influence::{Influence, SourceReach, turn_round};
 pub use report::{Report, gather};
 pub use sets::{SinkSet, SinkSets};
-pub use writing::{influence_text, text};
+pub use writing::{influence_text, put_influence, put_numbered, put_text, text};

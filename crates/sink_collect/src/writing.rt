@@ -1,163 +1,165 @@
 //! The texts of a report and of an influence.
 
-ghost use Rattle.std.specs.Prelude.{◌≡◌, ◌++◌, ◌∷◌, [], codes, length, take, All, IfOk, OnOk};
+ghost use Rattle.std.specs.Prelude.{◌≡◌, ◌++◌, ◌∷◌, [], All, IfOk};
 ghost use Rattle.std.specs.List.{flat_map};
 ghost use Rattle.std.specs.Fmt.{decimal};
-ghost use Rattle.report_model.specs.Text.{source_text, row_text, report_text};
-ghost use Rattle.report_model.specs.Influence.{sink_text, reach_text, influence_text as text_of_influence};
-ghost use Rattle.sink_collect.specs.Listed.{Lists};
+ghost use Rattle.outer_io.specs.Pieces.{Puts};
 ghost use Rattle.source_ranges.specs.Kept.{IsRange};
 ghost use Rattle.source_ranges.specs.Ranges.{bytes_of};
+ghost use Rattle.report_model.specs.Text.{source_text, row_text, report_text};
+ghost use Rattle.report_model.specs.Influence.{sink_text, reach_text, influence_text as text_of_influence};
 
 use crate::influence::{Influence, SourceReach};
 use crate::report::Report;
 use crate::sets::SinkSet;
-use flow_model::SinkPoint;
+use flow_model::{SinkPoint, SourceByte};
 use itoa::Buffer;
 use no_memory::NoMemory;
-use printed_names::{push_byte, push_point};
+use outer_io::Pieces;
+use printed_names::{SourceName, byte_name, point_name};
 use source_ranges::SourceRange;
 use std::alloc::Global;
 
-/// Appends a blank and the name of each source byte of a range.
-fn push_names(out: &mut Vec<u8>, range: SourceRange) -> Result<(), NoMemory>
+/// Puts a blank and the name of a source byte, which takes the place of another's.
+fn put_source<P: Pieces>(
+    place: &mut P,
+    name: &mut SourceName,
+    source: &SourceByte,
+) -> Result<(), P::Fault>
+    ensures { Puts P.putting place.old (source_text source.now) place.new result }
+{
+    name.go_to(*source);
+    place.put(name.as_bytes())
+}
+
+/// Puts a blank and the name of each source byte of a range.
+fn put_range<P: Pieces>(
+    place: &mut P,
+    name: &mut SourceName,
+    range: SourceRange,
+) -> Result<(), P::Fault>
     requires { IsRange range }
-    ensures { OnOk result (out.new.items ≡ out.old.items ++ flat_map source_text (bytes_of range)) }
+    ensures { Puts P.putting place.old (flat_map source_text (bytes_of range)) place.new result }
 {
     for offset in range.from..range.past {
-        out.push(b' ')?;
-        push_byte(out, range.channel, offset as u32)?;
+        let source = SourceByte {
+            channel: range.channel,
+            offset: offset as u32,
+        };
+        put_source(place, name, &source)?;
     }
     Ok(())
 }
 
-/// Appends a blank and the name of each source byte of ranges.
-fn push_sources(out: &mut Vec<u8>, ranges: &[SourceRange]) -> Result<(), NoMemory>
+/// Puts a blank and the name of each source byte of ranges.
+fn put_ranges<P: Pieces>(place: &mut P, ranges: &[SourceRange]) -> Result<(), P::Fault>
     requires { All IsRange ranges.now }
-    ensures { OnOk result (out.new.items ≡ out.old.items ++ flat_map source_text (flat_map bytes_of ranges.now)) }
+    ensures { Puts P.putting place.old (flat_map source_text (flat_map bytes_of ranges.now)) place.new result }
 {
+    let mut name = SourceName::new(SourceByte {
+        channel: 0,
+        offset: 0,
+    });
     for range in ranges {
-        push_names(out, *range)?;
+        put_range(place, &mut name, *range)?;
     }
     Ok(())
 }
 
-/// Ranges of source bytes, and where in a text the names of these stand, each after a blank.
-#[derive(Clone, Copy)]
-struct Listed<'a> {
-    ranges: &'a [SourceRange],
-    start: usize,
-    end: usize,
+/// Puts the line of an output byte or a point.
+fn put_row<P: Pieces>(place: &mut P, row: &SinkSet) -> Result<(), P::Fault>
+    ensures { Puts P.putting place.old (row_text row.now) place.new result }
+{
+    place.put(point_name(row.sink()).as_bytes())?;
+    put_ranges(place, row.sources().ranges())?;
+    place.put(b"\n")
 }
 
-/// Appends a blank and the name of each source byte of ranges. The names of those that were listed last are copied.
-fn push_sources_after(
-    out: &mut Vec<u8>,
-    ranges: &[SourceRange],
-    last: Listed<'_>,
-) -> Result<(), NoMemory>
-    requires listed { Lists out.old.items last }
-    requires fits { All IsRange ranges.now }
-    ensures { OnOk result (out.new.items ≡ out.old.items ++ flat_map source_text (flat_map bytes_of ranges.now)) }
+fn put_rows<P: Pieces>(place: &mut P, rows: &[SinkSet]) -> Result<(), P::Fault>
+    ensures { Puts P.putting place.old (flat_map row_text rows.now) place.new result }
 {
-    if ranges == last.ranges {
-        out.extend_from_within(last.start..last.end)?;
-        return Ok(());
-    }
-    push_sources(out, ranges)
-}
-
-/// Appends the line of an output byte or a point, where these source bytes were listed last. Its own are so afterwards.
-fn push_row<'a>(
-    out: &mut Vec<u8>,
-    set: &'a SinkSet,
-    last: Listed<'a>,
-) -> Result<Listed<'a>, NoMemory>
-    requires { Lists out.old.items last }
-    ensures line { OnOk result (out.new.items ≡ out.old.items ++ row_text set.now) }
-    ensures listed { IfOk result (Lists out.new.items) }
-{
-    push_point(out, set.sink())?;
-    let ranges = set.sources().ranges();
-    let start = out.len();
-    push_sources_after(out, ranges, last)?;
-    let end = out.len();
-    out.push(b'\n')?;
-    Ok(Listed { ranges, start, end })
-}
-
-fn push_rows(out: &mut Vec<u8>, rows: &[SinkSet]) -> Result<(), NoMemory>
-    ensures { OnOk result (out.new.items ≡ out.old.items ++ flat_map row_text rows.now) }
-{
-    let mut last = Listed {
-        ranges: &[],
-        start: 0,
-        end: 0,
-    };
     for row in rows {
-        last = push_row(out, row, last)?;
+        put_row(place, row)?;
     }
     Ok(())
 }
 
-/// Appends a blank and the name of each output byte and point.
-fn push_sinks(out: &mut Vec<u8>, sinks: &[SinkPoint]) -> Result<(), NoMemory>
-    ensures { OnOk result (out.new.items ≡ out.old.items ++ flat_map sink_text sinks.now) }
+/// Puts a blank and the name of an output byte or a point.
+fn put_sink<P: Pieces>(place: &mut P, sink: &SinkPoint) -> Result<(), P::Fault>
+    ensures { Puts P.putting place.old (sink_text sink.now) place.new result }
+{
+    place.put(b" ")?;
+    place.put(point_name(*sink).as_bytes())
+}
+
+fn put_sinks<P: Pieces>(place: &mut P, sinks: &[SinkPoint]) -> Result<(), P::Fault>
+    ensures { Puts P.putting place.old (flat_map sink_text sinks.now) place.new result }
 {
     for sink in sinks {
-        out.push(b' ')?;
-        push_point(out, *sink)?;
+        put_sink(place, sink)?;
     }
     Ok(())
 }
 
-/// Appends the line of a source byte.
-fn push_reach(out: &mut Vec<u8>, reach: &SourceReach) -> Result<(), NoMemory>
-    ensures { OnOk result (out.new.items ≡ out.old.items ++ reach_text reach.now) }
+/// Puts the line of a source byte.
+fn put_reach<P: Pieces>(place: &mut P, reach: &SourceReach) -> Result<(), P::Fault>
+    ensures { Puts P.putting place.old (reach_text reach.now) place.new result }
 {
     let source = reach.source();
-    push_byte(out, source.channel, source.offset)?;
-    push_sinks(out, reach.sinks())?;
-    out.push(b'\n')?;
-    Ok(())
+    place.put(byte_name(source.channel, source.offset).as_bytes())?;
+    put_sinks(place, reach.sinks())?;
+    place.put(b"\n")
 }
 
-fn push_reaches(out: &mut Vec<u8>, reaches: &[SourceReach]) -> Result<(), NoMemory>
-    ensures { OnOk result (out.new.items ≡ out.old.items ++ flat_map reach_text reaches.now) }
+fn put_reaches<P: Pieces>(place: &mut P, reaches: &[SourceReach]) -> Result<(), P::Fault>
+    ensures { Puts P.putting place.old (flat_map reach_text reaches.now) place.new result }
 {
     for reach in reaches {
-        push_reach(out, reach)?;
+        put_reach(place, reach)?;
     }
     Ok(())
 }
 
-/// Appends `end N`.
-fn push_end(out: &mut Vec<u8>, lines: u64) -> Result<(), NoMemory>
-    ensures { OnOk result (out.new.items ≡ out.old.items ++ codes "end " ++ decimal lines ++ 0x0a ∷ []) }
+/// Puts a line of a word, which ends in a blank, and a number.
+pub fn put_numbered<P: Pieces>(place: &mut P, word: &[u8], number: u64) -> Result<(), P::Fault>
+    ensures { Puts P.putting place.old (word.now ++ decimal number ++ 0x0a ∷ []) place.new result }
 {
     let mut buffer = Buffer::new();
-    out.extend_from_slice(b"end ")?;
-    out.extend_from_slice(buffer.format(lines).as_bytes())?;
-    out.push(b'\n')?;
-    Ok(())
+    place.put(word)?;
+    place.put(buffer.format(number).as_bytes())?;
+    place.put(b"\n")
 }
 
-/// The text of a report: a line for each row, and then `end N`. It fails only where there is no memory.
+/// Puts the text of a report: a line for each row, and then `end N`.
+pub fn put_text<P: Pieces>(place: &mut P, report: &Report) -> Result<(), P::Fault>
+    ensures { Puts P.putting place.old (report_text report.now) place.new result }
+{
+    put_rows(place, report.rows())?;
+    put_numbered(place, b"end ", report.lines())
+}
+
+/// Puts the text of an influence: a line for each source byte, and then `end N`.
+pub fn put_influence<P: Pieces>(place: &mut P, influence: &Influence) -> Result<(), P::Fault>
+    ensures { Puts P.putting place.old (text_of_influence influence.now) place.new result }
+{
+    put_reaches(place, influence.reaches())?;
+    put_numbered(place, b"end ", influence.lines())
+}
+
+/// The text of a report, whole. It fails only where there is no memory.
 pub fn text(alloc: Global, report: &Report) -> Result<Vec<u8>, NoMemory>
     ensures { IfOk result (λ text. text.items ≡ report_text report.now) }
 {
     let mut out = Vec::new(alloc);
-    push_rows(&mut out, report.rows())?;
-    push_end(&mut out, report.lines())?;
+    put_text(&mut out, report)?;
     Ok(out)
 }
 
-/// The text of an influence: a line for each source byte, and then `end N`. It fails only where there is no memory.
+/// The text of an influence, whole. It fails only where there is no memory.
 pub fn influence_text(alloc: Global, influence: &Influence) -> Result<Vec<u8>, NoMemory>
     ensures { IfOk result (λ text. text.items ≡ text_of_influence influence.now) }
 {
     let mut out = Vec::new(alloc);
-    push_reaches(&mut out, influence.reaches())?;
-    push_end(&mut out, influence.lines())?;
+    put_influence(&mut out, influence)?;
     Ok(out)
 }

@@ -1,7 +1,7 @@
 //! A buffer that keeps its room.
 
 ghost use Rattle.std.specs.Prelude.{◌≡◌, ◌≤◌, [], length, IfOk};
-ghost use Rattle.outer_io.specs.Buffered.{after_push};
+ghost use Rattle.outer_io.specs.Buffered.{after_push, emptied};
 
 use std::alloc::{AllocError, Global};
 use std::marker::Model;
@@ -44,6 +44,14 @@ impl Buffer {
             unreachable!();
         };
         self.room -= piece.len();
+    }
+
+    /// Drops the bytes.
+    pub fn clear(&mut self)
+        ensures { self.new ≡ emptied self.old }
+    {
+        self.room += self.bytes.len();
+        self.bytes.clear();
     }
 
     /// How many bytes more there is room for.

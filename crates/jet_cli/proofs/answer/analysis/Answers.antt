@@ -2,8 +2,9 @@ use Rattle.std.proofs.Common.{rules, [], ◌∷◌, Err}
 use Rattle.std.proofs.lemmas.Result.{err_from_is_err_and}
 use Rattle.outer_io.proofs.ReadsLemmas.{reads-then, reads-stops, reads-less}
 use Rattle.jet_model.specs.Answer.{query_answer}
-use Rattle.jet_files.specs.Outcome.{Comes, seen_by, bytes_of}
+use Rattle.jet_files.specs.Outcome.{Comes, seen_by}
 use Rattle.jet_files.specs.Views.{run_of}
+use Rattle.jet_cli.specs.Texts.{text_of}
 use Rattle.jet_cli.specs.Answers.{telling_text, named}
 use Rattle.jet_cli.proofs.Working.{run-refused, query-refused, query-given}
 use Rattle.jet_cli.proofs.answer.analysis.Goals as goal
@@ -35,7 +36,7 @@ pub returns-clause-answer : goal.returns-clause-answer
 returns-clause-answer g c =
     let a = c.args in
     query-given (telling_text a.telling) a.pipeline.epoch a.program.now a.log.now a.query.now (run_of c.in_ok-run.run') (g.S.Store.shown a.store.now) (g.S.Store.shown c.open_run.new.store) (g.S.Store.shown c.open_query.new.store)
-    c.in_ok-run.ensures.outcome c.in_ok-run.ensures.reads c.open_query.ensures.reads c.in_ok-query.query c.in_ok-query.ensures.outcome (seen_by bytes_of c.tell.result) c.tell.ensures
+    c.in_ok-run.ensures.outcome c.in_ok-run.ensures.reads c.open_query.ensures.reads c.in_ok-query.query c.in_ok-query.ensures.outcome (seen_by text_of c.tell.result) c.tell.ensures.answer
 
 pub returns-clause-reads : goal.returns-clause-reads
 returns-clause-reads g c = reads-less _ (reads-then c.in_ok-run.ensures.reads c.open_query.ensures.reads)

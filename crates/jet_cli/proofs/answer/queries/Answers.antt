@@ -5,9 +5,10 @@ use Rattle.report_model.specs.Query.{Query}
 use Rattle.jet_model.specs.Outcomes.{and_then}
 use Rattle.jet_model.specs.Contents.{Contents, run_at, queries_at}
 use Rattle.jet_model.specs.Answer.{queries_answer}
-use Rattle.jet_files.specs.Outcome.{AskAlike, Comes, seen_by, bytes_of}
+use Rattle.jet_files.specs.Outcome.{AskAlike, Comes, seen_by}
 use Rattle.jet_files.specs.Views.{run_of}
 use Rattle.jet_files.proofs.Composing.{comes-stops}
+use Rattle.jet_cli.specs.Texts.{text_of}
 use Rattle.jet_cli.specs.Answers.{several_answer, IsWorkOf, AreGivenAlike}
 use Rattle.jet_cli.proofs.Working.{after_run, kept-refused, kept-given}
 use Rattle.jet_cli.proofs.answer.queries.Goals as goal
@@ -47,8 +48,8 @@ returns-clause-answer g c =
     let kept : List Query = c.in_ok-queries.queries.items in
     after_run a.program.now a.log.now (λ file. queries_at file names) (several_answer a.pipeline.epoch) (run_of c.in_ok-run.run') (g.S.Store.shown a.store.now) (g.S.Store.shown c.open_run.new.store) (g.S.Store.shown c.open_queries.new.store)
     c.in_ok-run.ensures.outcome c.in_ok-run.ensures.reads c.in_ok-queries.ensures.reads
-    (seen_by bytes_of c.reports.result) (kept-given AskAlike (λ file. queries_at file names) (several_answer a.pipeline.epoch (run_of c.in_ok-run.run')) (g.S.Store.shown c.open_run.new.store) (g.S.Store.shown c.open_queries.new.store) kept c.in_ok-queries.ensures.outcome (seen_by bytes_of c.reports.result)
-    (subst (λ (qs : List Query). IsWorkOf (AreGivenAlike a.pipeline.epoch (run_of c.in_ok-run.run') qs) (seen_by bytes_of c.reports.result)) c.deref.ensures.value c.reports.ensures))
+    (seen_by text_of c.reports.result) (kept-given AskAlike (λ file. queries_at file names) (several_answer a.pipeline.epoch (run_of c.in_ok-run.run')) (g.S.Store.shown c.open_run.new.store) (g.S.Store.shown c.open_queries.new.store) kept c.in_ok-queries.ensures.outcome (seen_by text_of c.reports.result)
+    (subst (λ (qs : List Query). IsWorkOf (AreGivenAlike a.pipeline.epoch (run_of c.in_ok-run.run') qs) (seen_by text_of c.reports.result)) c.deref.ensures.value c.reports.ensures))
 
 pub returns-clause-reads : goal.returns-clause-reads
 returns-clause-reads g c = reads-less _ (reads-then c.in_ok-run.ensures.reads c.in_ok-queries.ensures.reads)

@@ -1,7 +1,9 @@
-use Rattle.std.proofs.Common.{rules, Err}
+use Rattle.std.proofs.Common.{rules, ap, ◌∙◌, Err}
 use Rattle.replayer.specs.Jobs.{trace_of}
 use Rattle.jet_files.specs.Views.{run_of}
 use Rattle.jet_cli.specs.Answers.{IsWorkOf, AreGivenAlike}
+use Rattle.jet_cli.specs.Texts.{reports_text}
+use Rattle.jet_cli.proofs.Reporting.{rows-reports}
 use Rattle.jet_cli.proofs.Working.{rules-stop, reports-stop, reports-give}
 use Rattle.jet_cli.proofs.work.reports.Goals as goal
 
@@ -19,5 +21,5 @@ returns-in_err-_job g c =
 
 pub returns : goal.returns
 returns g c =
-    reports-give c.args.pipeline.epoch (run_of c.args.run) c.args.queries.now c.in_ok-_job._job c.in_ok-text.text.items c.in_ok-union.ensures.ok.one_rule c.in_ok-_job.ensures.checked c.in_ok-_job.ensures.few
-    (c.in_ok-text.ensures c.in_ok-union.union (trace_of c.in_ok-_job._job) c.in_ok-union.ensures.ok c.in_ok-_job.ensures.report)
+    reports-give c.args.pipeline.epoch (run_of c.args.run) c.args.queries.now c.in_ok-_job._job (reports_text 1 c.in_ok-reports.reports.items) c.in_ok-union.ensures.ok.one_rule c.in_ok-_job.ensures.checked c.in_ok-_job.ensures.few
+    (ap (reports_text 1) (c.in_ok-reports.ensures c.in_ok-union.union (trace_of c.in_ok-_job._job) c.in_ok-union.ensures.ok c.in_ok-_job.ensures.report) ∙ rows-reports 1 c.args.queries.now (trace_of c.in_ok-_job._job))

@@ -1,0 +1,68 @@
+//! The names of source bytes, one after another.
+
+ghost use Rattle.std.specs.Prelude.{◌≡◌, ◌+◌, ◌%◌, ◌^◌, ◌<◌, IsTrue};
+ghost use Rattle.report_model.specs.Text.{source_text};
+ghost use Rattle.printed_names.specs.Next.{IsNextDigit};
+
+use crate::name::Name;
+use flow_model::SourceByte;
+use std::marker::Model;
+
+/// A source byte with its name, as it stands in a row: after a blank. It takes no memory.
+#[derive(Drop)]
+pub struct SourceName {
+    source: SourceByte,
+    text: Name,
+}
+
+impl Model for SourceName {
+    ghost use Rattle.std.specs.Prelude.{◌≡◌, ◌<◌, ◌^◌};
+    ghost use Rattle.flow_model.specs.declared.SourceByte.{SourceByte};
+    ghost use Rattle.report_model.specs.Text.{source_text};
+
+    ghost Value = { SourceByte };
+
+    ghost view = { λ n. n.source };
+
+    ghost invariant = { λ n. (n.text ≡ source_text n.source) × (n.source.offset < 2 ^ 32) };
+}
+
+/// Whether the name of a source byte is that of another but for the last digit.
+fn differs_in_last_digit(next: SourceByte, last: SourceByte) -> bool
+    ensures { IsTrue result → IsNextDigit last next }
+{
+    next.channel == last.channel && next.offset % 10 != 0 && next.offset - 1 == last.offset
+}
+
+impl SourceName {
+    /// The name of a source byte.
+    pub fn new(source: SourceByte) -> SourceName
+        ensures { result ≡ source }
+    {
+        let mut text = Name::new();
+        text.push(b" ");
+        text.push_number(source.channel);
+        text.push(b":");
+        text.push_number(source.offset);
+        SourceName { source, text }
+    }
+
+    /// Goes to another source byte. Where that is the next one, mostly the last digit alone is written.
+    pub fn go_to(&mut self, source: SourceByte)
+        ensures { self.new ≡ source }
+    {
+        if differs_in_last_digit(source, self.source) {
+            self.text.set_last(b'0' + (source.offset % 10) as u8);
+            self.source = source;
+        } else {
+            *self = SourceName::new(source);
+        }
+    }
+
+    /// The blank and the name.
+    pub fn as_bytes(&self) -> &[u8]
+        ensures { result.now ≡ source_text self.now }
+    {
+        self.text.as_bytes()
+    }
+}

@@ -1,7 +1,0 @@
-use Rattle.std.proofs.Common.{◌≡◌, ◌++◌, take}
-use Rattle.std.specs.List.{flat_map}
-use Rattle.report_model.specs.Influence.{reach_text}
-use Rattle.sink_collect.proofs.writing.push_reaches.Given as goal
-
-abbrev pub invariant-loop-reach : goal.invariant-loop-reach
-invariant-loop-reach l = l.out.items ≡ l.fn.out.items ++ flat_map reach_text (take l.reach-index l.reaches)
