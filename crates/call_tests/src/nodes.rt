@@ -5,6 +5,7 @@ ghost use Rattle.merge_log.specs.Log.{IsNode};
 
 use flow_model::{Loc, SourceByte};
 use merge_log::{Leaf, ManyTerms, MergeLog, Node, TermsReader};
+use source_runs::SourceRun;
 use std::alloc::Global;
 use std::process::Abort;
 use std::test::Fail;
@@ -12,6 +13,7 @@ use std::test::Fail;
 /// How a node is asked for.
 enum Asked {
     Source(SourceByte),
+    Run(SourceRun),
     Start(Loc),
     Union(Node, Node),
     Absorbing(Node, Node),
@@ -28,6 +30,16 @@ const FIRST: SourceByte = SourceByte {
 const THIRD: SourceByte = SourceByte {
     channel: 0,
     offset: 3,
+};
+
+const SECOND: SourceByte = SourceByte {
+    channel: 0,
+    offset: 2,
+};
+
+const FOURTH: SourceByte = SourceByte {
+    channel: 0,
+    offset: 4,
 };
 
 const X5: Loc = Loc::Reg { number: 5, lane: 0 };
@@ -60,6 +72,38 @@ const ABSORBING_CASES: [Case; 5] = [
     (Asked::Absorbing(2, 1), 4, BOTH),
 ];
 
+const UP_TO_3: SourceRun = SourceRun {
+    channel: 0,
+    first: 1,
+    last: 3,
+};
+
+const FROM_3: SourceRun = SourceRun {
+    channel: 0,
+    first: 3,
+    last: 4,
+};
+
+/// Or then in that log, where nodes are runs. Runs that overlap, and a byte of them, are read once.
+const RUN_CASES: [Case; 5] = [
+    (Asked::Run(UP_TO_3), 5, FIRST_THREE),
+    (Asked::Run(FROM_3), 6, LAST_TWO),
+    (Asked::Union(5, 6), 7, FIRST_FOUR),
+    (Asked::Union(7, 1), 8, FIRST_FOUR),
+    (Asked::Run(UP_TO_3), 5, FIRST_THREE),
+];
+
+const FIRST_THREE: &[Leaf] = &[Leaf::Source(FIRST), Leaf::Source(SECOND), Leaf::Source(THIRD)];
+
+const LAST_TWO: &[Leaf] = &[Leaf::Source(THIRD), Leaf::Source(FOURTH)];
+
+const FIRST_FOUR: &[Leaf] = &[
+    Leaf::Source(FIRST),
+    Leaf::Source(SECOND),
+    Leaf::Source(THIRD),
+    Leaf::Source(FOURTH),
+];
+
 const BOTH: &[Leaf] = &[Leaf::Source(FIRST), Leaf::Source(THIRD)];
 
 const ALL: &[Leaf] = &[Leaf::Source(FIRST), Leaf::Source(THIRD), Leaf::Start(X5)];
@@ -71,6 +115,7 @@ fn node_of(log: &mut MergeLog, asked: &Asked) -> Result<Node, Fail>
     let size = log.size();
     match *asked {
         Asked::Source(byte) => Ok(log.leaf_source(byte)?),
+        Asked::Run(run) => Ok(log.leaf_run(run)?),
         Asked::Start(loc) => Ok(log.leaf_symbol(loc)?),
         Asked::Union(a, b) if a < size && b < size => Ok(log.union(a, b)?),
         Asked::Absorbing(a, b) if a < size && b < size => Ok(log.absorbing_union(a, b)?),
@@ -109,6 +154,21 @@ fn equal_nodes_are_one(rt: HostRuntime) -> Result<(), Fail> {
 fn a_union_absorbs_its_operands(rt: HostRuntime) -> Result<(), Fail> {
     let log = log_of(&rt, rt.alloc(), &ABSORBING_CASES)?;
     assert_eq!(rt; log.size(), 6);
+    Ok(())
+}
+
+#[test]
+fn runs_are_read_as_their_bytes(rt: HostRuntime) -> Result<(), Fail> {
+    let log = log_of(&rt, rt.alloc(), &RUN_CASES)?;
+    assert_eq!(rt; log.size(), 9);
+    for case in &RUN_CASES {
+        let (_, node, leaves) = case;
+        let found = leaves_between(rt.alloc(), &log, 6, *node, 4)?;
+        assert_eq!(rt; found.as_slice(), *leaves);
+    }
+    let mut reader = TermsReader::new(rt.alloc());
+    reader.read_run(FROM_3)?;
+    assert_eq!(rt; reader.sources(), &[THIRD, FOURTH]);
     Ok(())
 }
 
