@@ -9,6 +9,7 @@ mod epochs;
 mod gates;
 mod guests;
 mod influence;
+mod narrow;
 mod outside;
 mod pages;
 mod path;

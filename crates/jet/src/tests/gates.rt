@@ -82,34 +82,68 @@ const COUNT_DOWN: [Instr; 5] = code![
     ecall(),
 ];
 
-/// A store of the files of that run.
-fn counted(alloc: Global) -> Result<MemoryStore, AllocError> {
+/// A store of the files of that run, and this query.
+fn counted(alloc: Global, query: &str) -> Result<MemoryStore, AllocError> {
     let program = program(alloc, &COUNT_DOWN)?;
     let mut records = Vec::new(alloc);
     records.push(5)?;
     push_words(&mut records, [262146, 0].as_slice())?;
     let log = log(alloc, &program, 1, 0, &records)?;
-    let files = files(alloc, &program, &log, COPY.as_bytes())?;
+    let files = files(alloc, &program, &log, query.as_bytes())?;
     MemoryStore::new(alloc, files, Vec::new(alloc), 65536, 0)
 }
 
-/// Queries over that run, and how many epochs enter the gate. Unless their length is told there is one for each worker,
-/// of 262,144 steps at least.
-const SHARES: &[(Line, u32)] = &[
-    (
-        &["jet", "query", "prog", "log", "query", "--workers", "1"],
-        1,
-    ),
-    (QUERY, 2),
+/// A point at that run's end, and the report.
+const AT_THE_END: (&str, &str) = (
+    "rule copy\nsource all\nsink mem 0 1 at 262147\n",
+    "m:0@262147\nend 1\n",
+);
+
+/// The last point before its half.
+const BEFORE_THE_HALF: (&str, &str) = (
+    "rule copy\nsource all\nsink mem 0 1 at 131072\n",
+    "m:0@131072\nend 1\n",
+);
+
+/// A point in its first steps.
+const EARLY: (&str, &str) = (
+    "rule copy\nsource all\nsink mem 0 1 at 9\n",
+    "m:0@9\nend 1\n",
+);
+
+const BY_ONE: Line = &["jet", "query", "prog", "log", "query", "--workers", "1"];
+
+const BY_EIGHTHS: Line = &[
+    "jet",
+    "query",
+    "prog",
+    "log",
+    "query",
+    "--epoch",
+    "32769",
+    "--workers",
+    "2",
+];
+
+/// Queries over that run with their reports, and how many epochs enter the gate. Unless their length is told there is one
+/// for each worker, of 262,144 steps at least. Where fewer than half of the steps are needed, these alone are cut.
+const SHARES: &[(Line, (&str, &str), u32)] = &[
+    (BY_ONE, AT_THE_END, 1),
+    (QUERY, AT_THE_END, 2),
+    (BY_EIGHTHS, AT_THE_END, 8),
+    (QUERY, EARLY, 1),
+    (BY_EIGHTHS, EARLY, 1),
+    (BY_EIGHTHS, BEFORE_THE_HALF, 4),
+    (BY_EIGHTHS, (COPY, "end 0\n"), 1),
 ];
 
 #[test]
-fn a_run_has_an_epoch_for_each_worker(rt: HostRuntime) {
+fn what_is_analysed_has_an_epoch_for_each_worker(rt: HostRuntime) {
     let alloc = rt.alloc();
-    for &(line, epochs) in SHARES {
+    for &(line, (query, report), epochs) in SHARES {
         let gate = CountingGate::new(alloc, epochs).expect(&rt, "memory");
-        let store = counted(alloc).expect(&rt, "memory");
-        assert_report(&rt, line, store, "end 0\n", &gate);
+        let store = counted(alloc, query).expect(&rt, "memory");
+        assert_report(&rt, line, store, report, &gate);
         assert!(rt; gate.is_entered_by_each_once());
     }
 }
