@@ -5,7 +5,7 @@ ghost use Rattle.merge_log.specs.Log.{IsNode};
 
 use flow_model::{Loc, SourceByte};
 use merge_log::{Leaf, ManyTerms, MergeLog, Node, TermsReader};
-use source_runs::SourceRun;
+use source_runs::{SourceRun, settle};
 use std::alloc::Global;
 use std::process::Abort;
 use std::test::Fail;
@@ -84,6 +84,24 @@ const FROM_3: SourceRun = SourceRun {
     last: 4,
 };
 
+const UP_TO_4: SourceRun = SourceRun {
+    channel: 0,
+    first: 1,
+    last: 4,
+};
+
+const LATER: SourceRun = SourceRun {
+    channel: 0,
+    first: 6,
+    last: 6,
+};
+
+const OTHER_CHANNEL: SourceRun = SourceRun {
+    channel: 1,
+    first: 7,
+    last: 9,
+};
+
 /// Or then in that log, where nodes are runs. Runs that overlap, and a byte of them, are read once.
 const RUN_CASES: [Case; 5] = [
     (Asked::Run(UP_TO_3), 5, FIRST_THREE),
@@ -93,7 +111,11 @@ const RUN_CASES: [Case; 5] = [
     (Asked::Run(UP_TO_3), 5, FIRST_THREE),
 ];
 
-const FIRST_THREE: &[Leaf] = &[Leaf::Source(FIRST), Leaf::Source(SECOND), Leaf::Source(THIRD)];
+const FIRST_THREE: &[Leaf] = &[
+    Leaf::Source(FIRST),
+    Leaf::Source(SECOND),
+    Leaf::Source(THIRD),
+];
 
 const LAST_TWO: &[Leaf] = &[Leaf::Source(THIRD), Leaf::Source(FOURTH)];
 
@@ -168,7 +190,19 @@ fn runs_are_read_as_their_bytes(rt: HostRuntime) -> Result<(), Fail> {
     }
     let mut reader = TermsReader::new(rt.alloc());
     reader.read_run(FROM_3)?;
-    assert_eq!(rt; reader.sources(), &[THIRD, FOURTH]);
+    assert_eq!(rt; reader.sources(), [THIRD, FOURTH].as_slice());
+    Ok(())
+}
+
+#[test]
+fn runs_settle_to_those_of_their_bytes(rt: HostRuntime) -> Result<(), Fail> {
+    let alloc = rt.alloc();
+    let mut runs = Vec::new(alloc);
+    for run in [LATER, FROM_3, OTHER_CHANNEL, UP_TO_3] {
+        runs.push(run)?;
+    }
+    settle(&mut runs, &mut Vec::new(alloc))?;
+    assert_eq!(rt; runs.as_slice(), [UP_TO_4, LATER, OTHER_CHANNEL].as_slice());
     Ok(())
 }
 
