@@ -26,6 +26,8 @@ mod ranges;
 #[cfg(test)]
 mod reports;
 #[cfg(test)]
+mod runs;
+#[cfg(test)]
 mod sets;
 #[cfg(test)]
 mod texts;

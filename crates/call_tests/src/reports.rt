@@ -9,7 +9,10 @@ use flow_model::{InnerSink, Loc, SinkByte, SinkPoint, SourceByte};
 use no_memory::NoMemory;
 use outer_io::{Buffer, InPieces, MemorySink, Pieces, write_in_pieces};
 use query_lang::{Query, parse};
-use sink_collect::{Report, SinkSet, gather, influence_text, put_text, text, turn_round};
+use sink_collect::{
+    Report, SinkSet, gather, influence_text, put_influence, put_numbered, put_text, text,
+    turn_round,
+};
 use source_ranges::SourceSet;
 use std::alloc::{AllocError, Global};
 use std::process::Abort;
@@ -119,6 +122,21 @@ fn rows_are_turned_round(rt: HostRuntime) -> Result<(), Fail> {
     assert_eq!(rt;
         lines.as_slice(),
         b"0:7 1:70000 m:65792@6\n0:8\n15:2 1:70000 2:10 m:65792@6\nend 3\n".as_slice()
+    );
+    Ok(())
+}
+
+#[test]
+fn an_influence_is_put_at_the_end_of_a_text(rt: HostRuntime) -> Result<(), Fail> {
+    let alloc = rt.alloc();
+    let report = report(alloc)?;
+    let influence = turn_round(alloc, &report, sources(alloc)?)?;
+    let mut out = Vec::new(alloc);
+    put_numbered(&mut out, b"query ", 4294967296)?;
+    put_influence(&mut out, &influence)?;
+    assert_eq!(rt;
+        out.as_slice(),
+        b"query 4294967296\n0:7 1:70000 m:65792@6\n0:8\n15:2 1:70000 2:10 m:65792@6\nend 3\n".as_slice()
     );
     Ok(())
 }
