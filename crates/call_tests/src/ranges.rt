@@ -50,6 +50,18 @@ fn ranges_are_as_long_as_can_be(rt: HostRuntime) {
     );
 }
 
+#[test]
+fn a_set_keeps_its_source_bytes(rt: HostRuntime) {
+    let set = SourceSet::of(rt.alloc(), &BYTES).expect(&rt, "memory");
+    let copy = set.copied(rt.alloc()).expect(&rt, "memory");
+    assert!(rt; copy.equals(&set));
+    assert!(rt; copy.count() == 5);
+    assert!(rt; copy.first() == Some(BYTES[0]));
+    assert!(rt; copy.single().is_none());
+    let bytes = copy.bytes(rt.alloc()).expect(&rt, "memory");
+    assert!(rt; bytes.as_slice() == BYTES.as_slice());
+}
+
 /// A log in version 1, of a program whose digest is zero: "Ab1,Ab2" is read on channel 0 in two reads and "xyz" on channel
 /// 3, and "Ab3 x" is written on channel 1 in two writes and "b" on channel 2.
 const LOG: &[u8] = b"JETLOG1\n\0\0\0\0\0\0\0\0\0\0\0\0\0\0\0\0\0\0\0\0\0\0\0\0\0\0\0\0\0\0\0\0\
