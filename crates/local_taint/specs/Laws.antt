@@ -1,8 +1,7 @@
 -- What labels mean is united as sets are.
-use Rattle.std.specs.Prelude.{◌≡◌, List, length}
+use Rattle.std.specs.Prelude.{◌≡◌, length}
 use Rattle.std.proofs.Common.{ap, sym, subst}
 use Rattle.flow_model.specs.declared.Loc.{Loc}
-use Rattle.flow_model.specs.declared.SourceByte.{SourceByte}
 use Rattle.flow_model.specs.Ranges.{IsLocation}
 use Rattle.epoch_model.specs.Summary.{Terms}
 use Rattle.merge_log.specs.Log.{IsNode}

@@ -1,6 +1,5 @@
 -- The bytes of runs: their order, and which they are. Crates above cite these lemmas.
-use Rattle.std.proofs.Common.{◌≡◌, ℕ, zero, suc, ◌+◌, ◌-◌, ◌<◌, ◌≤◌, List, [], ◌∷◌, ◌++◌, map, refl, ap, ap₂, sym, ◌∙◌, subst, Bool, true, false, ◌||◌, nat_lt, arith, ◌⊎◌, inl, inr, min, max}
-use Rattle.std.specs.List.{range_with_len}
+use Rattle.std.proofs.Common.{◌≡◌, ℕ, zero, suc, ◌+◌, ◌-◌, ◌<◌, ◌≤◌, [], ◌∷◌, refl, ap, ap₂, sym, ◌∙◌, subst, Bool, true, false, ◌||◌, nat_lt, arith, ◌⊎◌, inl, inr, min, max}
 use Rattle.std.specs.Ordering.{eq_by_cmp, is_eq}
 use Rattle.std.specs.Cmp.{nat_cmp_is, tied_itself}
 use Rattle.std.specs.declared.cmp.Ordering.TheVariants.{Less, Equal}

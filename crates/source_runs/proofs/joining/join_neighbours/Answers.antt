@@ -1,4 +1,4 @@
-use Rattle.std.proofs.Common.{◌≡◌, ◌+◌, ◌∷◌, List, sym, subst, get_or, drop}
+use Rattle.std.proofs.Common.{◌+◌, ◌∷◌, List, sym, subst, get_or, drop}
 use Rattle.std.proofs.lemmas.List.{drop_more}
 use Rattle.source_runs.specs.declared.runs.SourceRun.{SourceRun}
 use Rattle.source_runs.proofs.Neighbours.{AreJoined, joined_both, joined_pushed}

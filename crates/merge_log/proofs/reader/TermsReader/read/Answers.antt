@@ -3,7 +3,7 @@ use Rattle.flow_model.specs.declared.Loc.{Loc}
 use Rattle.flow_model.specs.declared.SourceByte.{SourceByte}
 use Rattle.source_runs.specs.declared.runs.SourceRun.{SourceRun}
 use Rattle.source_runs.specs.Runs.{all_bytes}
-use Rattle.merge_log.specs.Log.{Terms, AreSets, terms}
+use Rattle.merge_log.specs.Log.{AreSets, terms}
 use Rattle.merge_log.specs.Walk.{terms_of}
 use Rattle.merge_log.proofs.Terms.{ascend-terms, nothing_under_0}
 use Rattle.merge_log.proofs.Sorting.{same_terms}
