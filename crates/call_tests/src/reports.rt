@@ -8,7 +8,10 @@ ghost use Rattle.flow_model.specs.Orders.{source_cmp};
 use flow_model::{InnerSink, Loc, SinkByte, SinkPoint, SourceByte};
 use outer_io::{Buffer, InPieces, MemorySink, Pieces, write_in_pieces};
 use query_lang::{Query, parse};
-use sink_collect::{Report, SinkSet, gather, influence_text, put_text, text, turn_round};
+use sink_collect::{
+    Report, SinkSet, gather, influence_text, put_influence, put_numbered, put_text, text,
+    turn_round,
+};
 use std::alloc::{AllocError, Global};
 use std::process::Abort;
 use std::test::Fail;
@@ -117,6 +120,13 @@ fn rows_are_turned_round(rt: HostRuntime) -> Result<(), Fail> {
     assert_eq!(rt;
         lines.as_slice(),
         b"0:7 1:70000 m:65792@6\n0:8\n15:2 1:70000 2:10 m:65792@6\nend 3\n".as_slice()
+    );
+    let mut out = Vec::new(alloc);
+    put_numbered(&mut out, b"query ", 16)?;
+    put_influence(&mut out, &influence)?;
+    assert_eq!(rt;
+        out.as_slice(),
+        b"query 16\n0:7 1:70000 m:65792@6\n0:8\n15:2 1:70000 2:10 m:65792@6\nend 3\n".as_slice()
     );
     Ok(())
 }
