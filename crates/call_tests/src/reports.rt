@@ -123,20 +123,12 @@ fn rows_are_turned_round(rt: HostRuntime) -> Result<(), Fail> {
         lines.as_slice(),
         b"0:7 1:70000 m:65792@6\n0:8\n15:2 1:70000 2:10 m:65792@6\nend 3\n".as_slice()
     );
-    Ok(())
-}
-
-#[test]
-fn an_influence_is_put_at_the_end_of_a_text(rt: HostRuntime) -> Result<(), Fail> {
-    let alloc = rt.alloc();
-    let report = report(alloc)?;
-    let influence = turn_round(alloc, &report, sources(alloc)?)?;
     let mut out = Vec::new(alloc);
-    put_numbered(&mut out, b"query ", 4294967296)?;
+    put_numbered(&mut out, b"query ", 16)?;
     put_influence(&mut out, &influence)?;
     assert_eq!(rt;
         out.as_slice(),
-        b"query 4294967296\n0:7 1:70000 m:65792@6\n0:8\n15:2 1:70000 2:10 m:65792@6\nend 3\n".as_slice()
+        b"query 16\n0:7 1:70000 m:65792@6\n0:8\n15:2 1:70000 2:10 m:65792@6\nend 3\n".as_slice()
     );
     Ok(())
 }
