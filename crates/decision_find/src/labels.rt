@@ -1,4 +1,5 @@
-//! What labels mean over a whole run: runs of source bytes, and nodes of a log of them. What was anywhere at the start came from none.
+//! What labels mean over a whole run: runs of source bytes, and nodes of a log of them. What was anywhere at the start came
+//! from none.
 
 ghost use Rattle.std.specs.Prelude.{◌≡◌, true, IfOk, IfSome, OnOk};
 ghost use Rattle.merge_log.specs.Log.{KeepsNodes, terms};

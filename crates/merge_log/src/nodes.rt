@@ -18,8 +18,8 @@ use std::marker::Model;
 /// A node of a log: 0 is the empty one, and the others count up in the order of making.
 pub type Node = u64;
 
-/// What a node is made of. A run is of source bytes, with its fields as they are in [`SourceRun`]. The operands of a union are nodes above 0 and below the union, the smaller one
-/// first.
+/// What a node is made of. A run is of source bytes, with its fields as they are in [`SourceRun`]. The operands of a union
+/// are nodes above 0 and below the union, the smaller one first.
 #[derive(Clone, Copy, PartialEq, Eq, Hash)]
 pub enum Entry {
     Source(SourceByte),
