@@ -1,5 +1,9 @@
-use Rattle.std.proofs.Common.{rules, sym}
+use Rattle.std.proofs.Common.{rules, ◌≡◌, ◌∙◌, ap, sym, subst, true}
 use Rattle.std.specs.Prelude.{Some}
+use Rattle.sorted_set.specs.Sets.{is_within}
+use Rattle.flow_model.specs.Orders.{loc_cmp}
+use Rattle.epoch_model.specs.Summary.{Terms}
+use Rattle.stream_model.specs.Streams.{places_needed}
 use Rattle.local_taint.specs.Words.{as_terms}
 use Rattle.pass_parts.specs.declared.requests.Request.{Request}
 use Rattle.pass_parts.specs.Known.{known}
@@ -12,7 +16,13 @@ pub returns-then-share_end_terms-clause-asked : goal.returns-then-share_end_term
 returns-then-share_end_terms-clause-asked c =
     let e = known (Some c.args.summary.now) in
     let alike : Request = record { loc = c.args.loc; needed_first = c.in-Some.last.now.needed_first } in
-    let counted : IsCounted c.args.asked.now e alike = search rules in
+    let last : IsCounted c.args.asked.now e c.in-Some.last.now = search rules in
+    let same : e.ends c.in-Some.last.now.loc ≡ e.ends c.args.loc = c.share_end_terms.ensures c.if-share_end_terms.true in
+    let counted : IsCounted c.args.asked.now e alike = record {
+      within = subst (λ (t : Terms). is_within loc_cmp t.starts c.args.asked.now ≡ true) same last.within;
+      count = last.count ∙ ap (λ (t : Terms). places_needed c.args.asked.now t.starts) same;
+    }
+    in
     sym (all_asked c.args.asked.now (e.ends c.args.loc).starts counted.within)
 
 pub returns-clause-counted : goal.returns-clause-counted
