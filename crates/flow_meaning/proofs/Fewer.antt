@@ -1,7 +1,7 @@
 -- What determines a lane, where the compute table lists more.
-use Rattle.std.proofs.Common.{◌≡◌, ℕ, zero, suc, ◌+◌, ◌-◌, ◌*◌, ◌/◌, ◌^◌, ◌%◌, ◌<◌, ◌⊎◌, inl, inr, Bool, true, false, List, [], ◌∷◌, ◌++◌, refl, arith, ap, ap₂, sym, subst, ◌∙◌, ℤ, pos, negsuc, ltb-true, ltb-false}
+use Rattle.std.proofs.Common.{◌≡◌, ℕ, zero, suc, ◌+◌, ◌-◌, ◌*◌, ◌/◌, ◌^◌, ◌%◌, ◌<◌, ◌⊎◌, inl, inr, Bool, true, false, List, ◌++◌, refl, arith, ap, ap₂, sym, subst, ◌∙◌, ℤ, pos, negsuc, ltb-true, ltb-false}
 use Rattle.std.specs.Prelude.{◌==◌, nat_lt, if◌then◌else◌}
-use Rattle.std.specs.List.{AllByRecursion, flat_map, range_with_len}
+use Rattle.std.specs.List.{flat_map, range_with_len}
 use Rattle.std.proofs.lemmas.Bool.{cases_eq}
 use Rattle.std.specs.Int.{int_shr}
 use Rattle.std.proofs.Math.Nat.{div-div-eq-div-mul, div-le_self, mul_comm}
@@ -12,10 +12,7 @@ use Rattle.flow_model.specs.Flow.{lane, lanes}
 use Rattle.flow_meaning.specs.Content.{content, lane_of, AgreeAt, IsSound}
 use Rattle.flow_meaning.specs.FewerLaws.{lanes_up_to, lanes_from, OfSum, OfDifference, OfProduct, OfImmediate, OfLeftShift, OfRightShift, OfSignedShift, OfQuotient, FewerDetermine}
 use Rattle.flow_meaning.proofs.Operands.{word_agrees, lane_agrees}
-
-both_parts : {X : Type 0} (Q : X → Type 0) (xs ys : List X) → AllByRecursion Q (xs ++ ys) → AllByRecursion Q xs × AllByRecursion Q ys
-both_parts Q [] ys h = (tt, h)
-both_parts Q (x ∷ xs) ys h = let rest = both_parts Q xs ys h.1 in ((h.0, rest.0), rest.1)
+use Rattle.flow_meaning.proofs.Sets.{both_parts}
 
 -- ---- the lanes up to one, and from one on, as a number
 

@@ -19,6 +19,7 @@ mod Transferred
 pub mod After
 pub mod Runs
 pub mod Rows
+mod Moved
 pub mod Beginning
 mod Matters
 mod Worked

@@ -84,14 +84,14 @@ module _ (Q : Sink → Type 0) where
   all_sinks q s log points outputs = all_from q (steps log) 0 (start s log) (λ t h. all_due (steps log) t (omega arith) q.points points)
       (λ j h. let same : j ≡ 0 + j = omega arith in subst (λ (t : ℕ). AllByRecursion Q (sinks_of_step t (step_of (moment_at s log j)).call)) same (all_of_step j (step_of (moment_at s log j)).call (outputs j h)))
 
-all_rows : (Q : Row → Type 0) (q : Query) (trace : List StepSeen) → AllByRecursion (λ x. Q (row q trace x)) (chosen_sinks q trace) → All Q (rows q trace)
+pub all_rows : (Q : Row → Type 0) (q : Query) (trace : List StepSeen) → AllByRecursion (λ x. Q (row q trace x)) (chosen_sinks q trace) → All Q (rows q trace)
 all_rows Q q trace h = All-from_recursion Q (rows q trace) (All-set_of row_cmp Q (rows_as_written q trace) (made (chosen_sinks q trace) h))
   where
     made : (xs : List Sink) → AllByRecursion (λ x. Q (row q trace x)) xs → AllByRecursion Q (map (row q trace) xs)
     made [] h = tt
     made (x ∷ xs) h = (h.0, made xs h.1)
 
-each_point : (Q : InnerSink → Type 0) → ((p : InnerSink) → Q p) → (ps : List InnerSink) → AllByRecursion Q ps
+pub each_point : (Q : InnerSink → Type 0) → ((p : InnerSink) → Q p) → (ps : List InnerSink) → AllByRecursion Q ps
 each_point Q f [] = tt
 each_point Q f (p ∷ ps) = (f p, each_point Q f ps)
 

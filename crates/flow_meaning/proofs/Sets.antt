@@ -1,5 +1,5 @@
 -- What is among a union, and what is true of each of one.
-use Rattle.std.proofs.Common.{◌≡◌, Bool, true, false, List, [], ◌∷◌, refl, ap, sym, ◌∙◌, subst}
+use Rattle.std.proofs.Common.{◌≡◌, Bool, true, false, List, [], ◌∷◌, ◌++◌, refl, ap, sym, ◌∙◌, subst}
 use Rattle.std.specs.Prelude.{◌||◌}
 use Rattle.std.specs.FinMap.{IsAntisymmetric}
 use Rattle.std.specs.Ordering.{eq_by_cmp}
@@ -42,6 +42,10 @@ union_over-all Q before (l ∷ m ∷ ls) h =
 pub all-gives : {X : Type 0} (P Q : X → Type 0) → ((x : X) → P x → Q x) → (xs : List X) → AllByRecursion P xs → AllByRecursion Q xs
 all-gives P Q f [] h = tt
 all-gives P Q f (x ∷ xs) h = (f x h.0, all-gives P Q f xs h.1)
+
+pub both_parts : {X : Type 0} (Q : X → Type 0) (xs ys : List X) → AllByRecursion Q (xs ++ ys) → AllByRecursion Q xs × AllByRecursion Q ys
+both_parts Q [] ys h = (tt, h)
+both_parts Q (x ∷ xs) ys h = let rest = both_parts Q xs ys h.1 in ((h.0, rest.0), rest.1)
 
 -- ---- among a union
 

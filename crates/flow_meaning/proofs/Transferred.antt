@@ -1,8 +1,8 @@
 -- Which bytes of a log a call moves: those after the bytes that the records before it moved on its channel.
-use Rattle.std.proofs.Common.{◌≡◌, ℕ, zero, suc, ◌+◌, ◌^◌, ◌<◌, ◌≤◌, Bool, true, List, [], ◌∷◌, ◌++◌, length, get_or, None, refl, arith, ap, sym, ◌∙◌, ℤ, pos, get_or-append-add, ltb-true, mod-eq_of_lt}
+use Rattle.std.proofs.Common.{◌≡◌, ℕ, zero, suc, ◌+◌, ◌^◌, ◌<◌, ◌≤◌, Bool, true, List, [], ◌∷◌, ◌++◌, length, get_or, None, refl, arith, ap, sym, ◌∙◌, ℤ, pos, get_or-append-add, ltb-true, mod-eq_of_lt, subst}
 use Rattle.std.specs.Prelude.{◌==◌, if◌then◌else◌}
 use Rattle.std.proofs.lemmas.Bool.{eq-eqb}
-use Rattle.std.proofs.lemmas.List.{get_or_append_left}
+use Rattle.std.proofs.lemmas.List.{get_or_append_left, length-append}
 use Rattle.isa.specs.declared.CallKind.TheVariants as kind
 use Rattle.isa.specs.Machine.{State, reg, bytes_at, wrap}
 use Rattle.isa.specs.Calls.{channel_of, buffer_of, refusal_of}
@@ -79,13 +79,19 @@ written_content s inputs at args kept bytes rs i sound a h =
     place : (b a : ℕ) → b ≡ a → a + length bytes ≤ s.base + length s.memory → s.base + length s.memory ≤ 2 ^ 32 → wrap (b + i) ≡ a + i
     place b a e g f = let same : b + i ≡ a + i = ap (λ (n : ℕ). n + i) e in ap wrap same ∙ mod-eq_of_lt (omega arith)
 
+-- the bytes that a log writes on the channel of a write: those of the records before it, its own, and those of later ones
+written_parts : (log : Log) (m : Moment) (at : ℕ) (args : List ℕ) (kept : ℤ) (bytes : List ℕ) (rs : List CallRecord) → m.done ++ Write at args kept bytes ∷ rs ≡ log.records
+    → written (channel_of args) log.records ≡ written (channel_of args) m.done ++ (bytes ++ written (channel_of args) rs)
+written_parts log m at args kept bytes rs all =
+    let c = channel_of args in
+    ap (written c) (sym all) ∙ written-append c m.done (Write at args kept bytes ∷ rs) ∙ ap (λ (xs : List ℕ). written c m.done ++ (xs ++ written c rs)) (own_channel c bytes)
+
 -- and is the log's byte of that name
 pub written_given : (log : Log) (inputs t : ℕ) (m : Moment) (s : State) (left : List CallRecord) (i : ℕ) → IsSound s → m.done ++ left ≡ log.records → IsAnswered s inputs left → (call_seen m left).kind ≡ kind.Write → i < (call_seen m left).length
     → content s (sink_at t (call_seen m left) i).loc ≡ byte_at_sink s log (sink_at t (call_seen m left) i).name
 written_given log inputs t m s (Write at args result bytes ∷ rs) i sound all a k g =
     let c = channel_of args in
-    let whole : written c log.records ≡ written c m.done ++ (bytes ++ written c rs) =
-    ap (written c) (sym all) ∙ written-append c m.done (Write at args result bytes ∷ rs) ∙ ap (λ (xs : List ℕ). written c m.done ++ (xs ++ written c rs)) (own_channel c bytes) in
+    let whole = written_parts log m at args result bytes rs all in
     written_content s inputs at args result bytes rs i sound a g
     ∙ sym (ap (λ (o : ℕ). get_or (written c log.records) (o + i) 0) (transfer_offset kind.Write args (written c m.done) (length bytes) (omega arith))
     ∙ middle (written c m.done) bytes (written c rs) (written c log.records) i whole g)
@@ -105,3 +111,18 @@ written_given log inputs t m s (Other at number ∷ rs) i sound all a k g = absu
   where
     other : kind.Other ≡ kind.Write → ⊥
     other k = cc
+
+-- whose offset is below the number of bytes that the log writes on its channel
+pub written_within : (log : Log) (m : Moment) (left : List CallRecord) (i : ℕ) → m.done ++ left ≡ log.records → (call_seen m left).kind ≡ kind.Write → i < (call_seen m left).length
+    → (call_seen m left).offset + i < length (written (call_seen m left).channel log.records)
+written_within log m (Write at args result bytes ∷ rs) i all k g =
+    let c = channel_of args in
+    let before = written c m.done in
+    let whole : length (written c log.records) ≡ length before + length (bytes ++ written c rs) =
+    ap length (written_parts log m at args result bytes rs all) ∙ length-append before (bytes ++ written c rs) in
+    let inside : length before + i < length (written c log.records) = omega (arith, whole, length-append bytes (written c rs), g) in
+    subst (λ (o : ℕ). o + i < length (written c log.records)) (sym (transfer_offset kind.Write args before (length bytes) (omega arith))) inside
+written_within log m [] i all k g = let other : kind.Exit ≡ kind.Write = k in cc
+written_within log m (Read at args result bytes ∷ rs) i all k g = let other : kind.Read ≡ kind.Write = k in cc
+written_within log m (Clock at value ∷ rs) i all k g = let other : kind.Clock ≡ kind.Write = k in cc
+written_within log m (Other at number ∷ rs) i all k g = let other : kind.Other ≡ kind.Write = k in cc

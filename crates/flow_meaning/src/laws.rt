@@ -4,6 +4,7 @@ ghost use Rattle.flow_model.specs.declared.Rule.TheVariants.{Copy, Keep, Compute
 ghost use Rattle.flow_meaning.specs.StepLaws.{StaysSound, MovesAreSingle, MovesKeepContent, DeterminedBy, ReceivedIsThere, FlowsWithin};
 ghost use Rattle.flow_meaning.specs.FewerLaws.{FewerDetermine};
 ghost use Rattle.flow_meaning.specs.RunLaws.{FitsMakesRun, CopiedContents, CopiedRows, DeterminedContents, DeterminedRows, SamePathSameTrace, OriginsWithin};
+ghost use Rattle.flow_meaning.specs.MovedLaws.{RowsAreOfMovedBytes};
 
 /// A step leaves a sound state sound: 32 registers of words, of which the first is 0, and a window of bytes.
 pub fn steps_stay_sound()
@@ -39,6 +40,12 @@ pub fn rules_nest()
 /// A log that fits a program of bytes makes a run that these laws speak of.
 pub fn fits_makes_run()
     ensures { FitsMakesRun }
+{}
+
+/// Rows are of moved bytes, by every rule: the calls of the run wrote a row's output byte, and received each of its
+/// sources.
+pub fn rows_are_of_moved_bytes()
+    ensures { RowsAreOfMovedBytes }
 {}
 
 /// Copied bytes are the bytes: under copy, and under keep, each location has at most one origin at each time, and where

@@ -1,1 +1,3 @@
 mod Unchanged
+mod Moved
+mod Worked
