@@ -16,7 +16,7 @@ use Rattle.flow_model.specs.Orders.{source_cmp}
 use Rattle.flow_model.proofs.Orders.{source_total}
 use Rattle.source_runs.specs.declared.runs.SourceRun.{SourceRun}
 use Rattle.source_runs.specs.contracts.runs.SourceRunOrd.TheImpl as of_run_order
-use Rattle.source_runs.specs.Runs.{bytes_of, all_bytes, goes_on, IsBefore, Rise, AreRising}
+use Rattle.source_runs.specs.Runs.{bytes_of, all_bytes, goes_on, IsBefore, Rise, AreRising, Stop, AreLongest}
 use Rattle.source_runs.proofs.Bytes.{no, IsOf, of_run, run_ascends, less, longer, longer_has}
 
 -- ---- runs in order
@@ -170,6 +170,23 @@ joined_ascends r (s ∷ ss) h = by (goes_on r s) refl (joined_ascends (longer r 
   by false e on off = ascends_append (bytes_of r) (all_bytes (joined_from s ss)) (run_ascends r) off
       (λ x y l m. less x y (first_less x y (of_run x r l) h.0 (all_after s ss h.1 y (sym (joined_members s ss h.1 y) ∙ m)) e))
 
+-- ---- as long as can be
+
+stops : (q r : SourceRun) (ss : List SourceRun) → goes_on q r ≡ false → Stop q (joined_from r ss)
+stops q r [] h = (h, tt)
+stops q r (s ∷ ss) h = by (goes_on r s) refl (stops q (longer r s) ss h) (stops r s ss) where
+  by : (b : Bool) → goes_on r s ≡ b → Stop q (joined_from (longer r s) ss) → (goes_on r s ≡ false → Stop r (joined_from s ss))
+      → Stop q (if b then joined_from (longer r s) ss else r ∷ joined_from s ss)
+  by true e on off = on
+  by false e on off = (h, off e)
+
+joined_longest : (r : SourceRun) (ss : List SourceRun) → AreLongest (joined_from r ss)
+joined_longest r [] = tt
+joined_longest r (s ∷ ss) = by (goes_on r s) refl (joined_longest (longer r s) ss) where
+  by : (b : Bool) → goes_on r s ≡ b → AreLongest (joined_from (longer r s) ss) → AreLongest (if b then joined_from (longer r s) ss else r ∷ joined_from s ss)
+  by true e on = on
+  by false e on = stops r s ss e
+
 -- ---- sorted and joined
 
 pub sorted_has : (q : SourceByte) (rs ss : List SourceRun) → IsPermutation rs ss → has source_cmp q (all_bytes ss) ≡ has source_cmp q (all_bytes rs)
@@ -185,3 +202,7 @@ joined_all_members (r ∷ rs) h q = joined_members r rs h q
 pub joined_all_ascends : (rs : List SourceRun) → AreRising rs → Ascends source_cmp (all_bytes (joined_all rs))
 joined_all_ascends [] h = tt
 joined_all_ascends (r ∷ rs) h = joined_ascends r rs h
+
+pub joined_all_longest : (rs : List SourceRun) → AreLongest (joined_all rs)
+joined_all_longest [] = tt
+joined_all_longest (r ∷ rs) = joined_longest r rs

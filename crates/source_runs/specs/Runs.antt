@@ -1,5 +1,5 @@
 -- Runs of source bytes: bytes of one channel with neighbouring offsets.
-use Rattle.std.specs.Prelude.{◌≡◌, ℕ, ◌+◌, ◌-◌, ◌<◌, ◌≤◌, ◌==◌, ◌&&◌, ◌⊎◌, nat_le, Bool, List, [], ◌∷◌, map}
+use Rattle.std.specs.Prelude.{◌≡◌, ℕ, ◌+◌, ◌-◌, ◌<◌, ◌≤◌, ◌==◌, ◌&&◌, ◌⊎◌, nat_le, Bool, false, List, [], ◌∷◌, map}
 use Rattle.std.specs.List.{flat_map, range_with_len}
 use Rattle.flow_model.specs.declared.SourceByte.{SourceByte}
 use Rattle.source_runs.specs.declared.runs.SourceRun.{SourceRun}
@@ -40,3 +40,12 @@ Rise r (s ∷ ss) = IsBefore r s × Rise s ss
 abbrev pub AreRising : List SourceRun → Type 0
 AreRising [] = Unit {0}
 AreRising (r ∷ rs) = Rise r rs
+
+-- no run goes on from the one before it
+abbrev pub Stop : SourceRun → List SourceRun → Type 0
+Stop r [] = Unit {0}
+Stop r (s ∷ ss) = (goes_on r s ≡ false) × Stop s ss
+
+abbrev pub AreLongest : List SourceRun → Type 0
+AreLongest [] = Unit {0}
+AreLongest (r ∷ rs) = Stop r rs

@@ -4,17 +4,18 @@ ghost use Rattle.std.specs.Prelude.{◌≡◌, ◌++◌, [], OnOk};
 ghost use Rattle.sorted_set.specs.Sets.{Ascends, has};
 ghost use Rattle.flow_model.specs.Orders.{source_cmp};
 ghost use Rattle.flow_model.specs.declared.SourceByte.{SourceByte as Source};
-ghost use Rattle.source_runs.specs.Runs.{all_bytes, bytes_of, goes_on as runs_go_on, AreRising};
+ghost use Rattle.source_runs.specs.Runs.{all_bytes, bytes_of, goes_on as runs_go_on, AreLongest, AreRising};
 
 use crate::runs::SourceRun;
 use flow_model::SourceByte;
 use no_memory::NoMemory;
 
-/// Makes of runs in any order those of the same bytes, ascending, each byte once. Only the room of `spare` is used. It fails only
-/// where there is no memory.
+/// Makes of runs in any order those of the same bytes, ascending, each byte once, and each run as long as can be. Only the room
+/// of `spare` is used. It fails only where there is no memory.
 pub fn settle(runs: &mut Vec<SourceRun>, spare: &mut Vec<SourceRun>) -> Result<(), NoMemory>
     ensures members { OnOk result ((b : Source) → has source_cmp b (all_bytes runs.new.items) ≡ has source_cmp b (all_bytes runs.old.items)) }
     ensures ascending { OnOk result (Ascends source_cmp (all_bytes runs.new.items)) }
+    ensures longest { OnOk result (AreLongest runs.new.items) }
 {
     spare.clear();
     join_neighbours(runs, spare)?;
@@ -52,6 +53,7 @@ fn join_sorted(runs: &[SourceRun], joined: &mut Vec<SourceRun>) -> Result<(), No
     requires none { joined.old.items ≡ [] }
     ensures members { OnOk result ((b : Source) → has source_cmp b (all_bytes joined.new.items) ≡ has source_cmp b (all_bytes runs.now)) }
     ensures ascending { OnOk result (Ascends source_cmp (all_bytes joined.new.items)) }
+    ensures longest { OnOk result (AreLongest joined.new.items) }
 {
     let Some((first, more)) = runs.split_first() else {
         return Ok(());

@@ -3,8 +3,8 @@ use Rattle.std.proofs.lemmas.List.{drop_all}
 use Rattle.sorted_set.specs.Sets.{Ascends, has}
 use Rattle.flow_model.specs.Orders.{source_cmp}
 use Rattle.source_runs.specs.declared.runs.SourceRun.{SourceRun}
-use Rattle.source_runs.specs.Runs.{all_bytes}
-use Rattle.source_runs.proofs.Joined.{joined_from, joined_all, joined_all_members, joined_all_ascends}
+use Rattle.source_runs.specs.Runs.{all_bytes, AreLongest}
+use Rattle.source_runs.proofs.Joined.{joined_from, joined_all, joined_all_members, joined_all_ascends, joined_all_longest}
 use Rattle.source_runs.proofs.joining.join_sorted.Goals as goal
 use Rattle.source_runs.proofs.joining.join_sorted.Goals.{In_ok-push-2}
 
@@ -22,3 +22,6 @@ returns-clause-members c b = ap (λ (rs : List SourceRun). has source_cmp b (all
 
 pub returns-clause-ascending : goal.returns-clause-ascending
 returns-clause-ascending c = subst (λ (rs : List SourceRun). Ascends source_cmp (all_bytes rs)) (sym (all_joined c)) (joined_all_ascends c.args.runs.now c.requires.rising)
+
+pub returns-clause-longest : goal.returns-clause-longest
+returns-clause-longest c = subst AreLongest (sym (all_joined c)) (joined_all_longest c.args.runs.now)
