@@ -33,7 +33,7 @@ last_digit n small not_ten = by (nat_lt n 10) refl where
         after = decimal_step (n + 1) (omega arith) small ∙ ap (λ (t : ℕ). decimal t ++ (48 + (n + 1) % 10) ∷ []) tens;
       }
 
-regroup : (channel : ℕ) (front last : List ℕ) → codes " " ++ (decimal channel ++ codes ":" ++ (front ++ last)) ≡ (codes " " ++ (decimal channel ++ codes ":" ++ front)) ++ last
+pub regroup : (channel : ℕ) (front last : List ℕ) → codes " " ++ (decimal channel ++ codes ":" ++ (front ++ last)) ≡ (codes " " ++ (decimal channel ++ codes ":" ++ front)) ++ last
 regroup channel front last =
     let head : List ℕ = decimal channel ++ codes ":" in
     ap (λ (t : List ℕ). codes " " ++ t) (sym (append_assoc head front last)) ∙ sym (append_assoc (codes " ") (head ++ front) last)

@@ -2,3 +2,4 @@ pub mod Places
 pub mod Quoted
 pub mod Lines
 pub mod Next
+pub mod Tens

@@ -56,17 +56,6 @@ impl Name {
         let mut buffer = Buffer::new();
         self.push(buffer.format(number).as_bytes());
     }
-
-    /// Another last byte in place of the one there is.
-    pub(crate) fn set_last(&mut self, byte: u8)
-        requires { 0 < length self.old }
-        ensures { (front : List ℕ) (last : ℕ) → self.old ≡ front ++ last ∷ [] → self.new ≡ front ++ byte ∷ [] }
-    {
-        // Its contract says that there is room for it.
-        let _length = self.bytes.len();
-        let _ = self.bytes.pop();
-        self.bytes.push(byte);
-    }
 }
 
 /// `c:o`, the byte of offset o on channel c.
