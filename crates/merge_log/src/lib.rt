@@ -3,9 +3,9 @@
 //!
 //! Crates above rest on this: `leaf_source`, `leaf_symbol` and `union` give the one node of what they ask for, keep
 //! every node and its leaves, and when refused change nothing; `terms` and `TermsReader::read` give exactly the leaves
-//! under a node, each once, and `ManyTerms::read` those of up to 64 nodes. With `absorbing_union`, by which the analysis
-//! unites, a union with one of its operands is that union itself, and so it is with a start location that is noted as
-//! under it.
+//! under a node, each once, and `ManyTerms::read` those of up to 64 nodes; a reader gives source bytes as runs. With
+//! `absorbing_union`, by which the analysis unites, a union with one of its operands is that union itself, and so it is
+//! with a start location that is noted as under it.
 //! specs/Log.antt says which leaves are under a node.
 #![tactic(auto)]
 

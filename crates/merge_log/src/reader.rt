@@ -1,6 +1,7 @@
 //! Readers of the terms of nodes, which keep their marks from call to call.
 
 ghost use Rattle.std.specs.Prelude.{◌≡◌, ◌++◌, map, IfOk, OnOk};
+ghost use Rattle.source_runs.specs.Runs.{all_bytes};
 ghost use Rattle.merge_log.specs.Log.{IsNode, AreSets, terms, no_terms, run_term, start_term};
 ghost use Rattle.merge_log.specs.Walk.{leaves_of, terms_of};
 ghost use Rattle.merge_log.specs.declared.reader.Leaf.TheVariants as leaf;
@@ -21,23 +22,23 @@ pub enum Leaf {
     Start(Loc),
 }
 
-/// Reads the terms of the nodes of logs, one node after another. It keeps a mark for each node from call to
-/// call, so that a call takes memory only as the log has grown, and for the leaves.
+/// Reads the terms of the nodes of logs, one node after another: source bytes as runs. It keeps a mark for each node
+/// from call to call, so that a call takes memory only as the log has grown, and for the runs and start locations.
 #[derive(Drop)]
 pub struct TermsReader {
     marks: Marks,
     stack: Vec<u32>,
     found: Found,
-    sources: Vec<SourceByte>,
     spare: Vec<SourceRun>,
 }
 
 impl Model for TermsReader {
     ghost use Rattle.merge_log.specs.Log.{Terms};
+    ghost use Rattle.merge_log.specs.Walk.{terms_of};
 
     ghost Value = { Terms };
 
-    ghost view = { λ r. record { sources = r.sources.items; starts = r.found.starts.items } };
+    ghost view = { λ r. terms_of r.found };
 }
 
 impl TermsReader {
@@ -49,16 +50,15 @@ impl TermsReader {
             marks: Marks::new(alloc),
             stack: Vec::new(alloc),
             found: Found::new(alloc),
-            sources: Vec::new(alloc),
             spare: Vec::new(alloc),
         }
     }
 
-    /// The source bytes of the node that was read last, ascending.
-    pub fn sources(&self) -> &[SourceByte]
-        ensures { result.now ≡ self.now.sources }
+    /// The source bytes of the node that was read last, ascending, as runs.
+    pub fn runs(&self) -> &[SourceRun]
+        ensures { all_bytes result.now ≡ self.now.sources }
     {
-        &self.sources
+        &self.found.runs
     }
 
     /// The start locations of the node that was read last, ascending.
@@ -73,8 +73,10 @@ impl TermsReader {
     pub fn leaves(&self, alloc: Global) -> Result<Vec<Leaf>, NoMemory>
         ensures { IfOk result (λ all. all.items ≡ leaves_of self.now) }
     {
+        let mut sources = Vec::new(alloc);
+        push_bytes(&mut sources, self.runs())?;
         let mut leaves = Vec::new(alloc);
-        push_sources(self.sources(), &mut leaves)?;
+        push_sources(&sources, &mut leaves)?;
         push_starts(self.starts(), &mut leaves)?;
         Ok(leaves)
     }
@@ -85,7 +87,6 @@ impl TermsReader {
         ensures ascending { OnOk result (AreSets self.new) }
     {
         self.found.clear();
-        self.sources.clear();
         self.found.starts.push(loc)?;
         Ok(())
     }
@@ -96,8 +97,7 @@ impl TermsReader {
         ensures ascending { OnOk result (AreSets self.new) }
     {
         self.found.clear();
-        self.sources.clear();
-        push_bytes(&mut self.sources, &[run])?;
+        self.found.runs.push(run)?;
         Ok(())
     }
 
@@ -106,8 +106,7 @@ impl TermsReader {
         ensures { OnOk result (self.new ≡ terms_of found.now) }
     {
         self.found.clear();
-        self.sources.clear();
-        push_bytes(&mut self.sources, &found.runs)?;
+        self.found.runs.extend_from_slice(&found.runs)?;
         self.found.starts.extend_from_slice(&found.starts)?;
         Ok(())
     }
@@ -121,7 +120,6 @@ impl TermsReader {
     {
         log.form();
         self.found.clear();
-        self.sources.clear();
         if node == 0 {
             return Ok(());
         }
@@ -134,7 +132,6 @@ impl TermsReader {
             &mut self.found,
         )?;
         self.found.settle(&mut self.spare)?;
-        push_bytes(&mut self.sources, &self.found.runs)?;
         Ok(())
     }
 }

@@ -6,11 +6,14 @@ use Rattle.std.specs.List.{flat_map}
 use Rattle.std.proofs.lemmas.List.{append-nil, append_assoc, length-append, set_split, set-get_or, drop_all, take_all, take_more, nil_from_length}
 use Rattle.std.proofs.lemmas.List.Concat.{flat_map-append}
 use Rattle.std.proofs.lemmas.List.FromFn.{length-map-range_with_len}
+use Rattle.std.proofs.lemmas.List.Elements.{All-nil, All-cons}
 use Rattle.std.proofs.lemmas.Bool.Decides.{nat_tests}
 use Rattle.flow_model.specs.declared.SourceByte.{SourceByte}
 use Rattle.source_ranges.specs.declared.SourceRange.{SourceRange}
 use Rattle.sorted_set.specs.Sets.{Ascends}
 use Rattle.flow_model.specs.Orders.{source_cmp}
+use Rattle.source_runs.specs.declared.runs.SourceRun.{SourceRun}
+use Rattle.source_runs.proofs.Bytes.{run_ascends}
 use Rattle.source_ranges.specs.Kept.{IsRange, AreKept}
 use Rattle.source_ranges.specs.RangeLaws.{AreApart}
 use Rattle.source_ranges.specs.Ranges.{byte_on, bytes_of, ranges_of}
@@ -127,6 +130,21 @@ kept-of bs rs e ascends fits = record {
   apart = subst AreApart (sym e) (ranges_hold_bytes bs).apart;
   ascending = subst (Ascends source_cmp) (sym (ap (flat_map bytes_of) e ∙ bytes-ranges bs)) ascends;
   fits = fits;
+}
+
+-- a range has the bytes of a run
+range_ascends : (r : SourceRange) → r.from < r.past → Ascends source_cmp (bytes_of r)
+range_ascends r some =
+    let run : SourceRun = record { channel = r.channel; first = r.from; last = r.past - 1 } in
+    let count : r.past - 1 + 1 - r.from ≡ r.past - r.from = omega (arith, some) in
+    subst (λ (n : ℕ). Ascends source_cmp (bytes_from r.channel r.from n)) count (run_ascends run)
+
+-- one range alone
+pub kept-one : (r : SourceRange) → IsRange r → AreKept (r ∷ [])
+kept-one r fits = record {
+  apart = (fits.0, tt, tt);
+  ascending = subst (Ascends source_cmp) (sym (append-nil (bytes_of r))) (range_ascends r fits.0);
+  fits = All-cons IsRange r [] fits (All-nil IsRange);
 }
 
 pub unchanged : (rs : List SourceRange) (n : ℕ) (l : SourceRange) → l ≡ get_or rs n l → set rs n l ≡ rs

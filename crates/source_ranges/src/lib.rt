@@ -4,7 +4,8 @@
 //! can be, and a range's name.
 //!
 //! Crates above rest on this: `ranges_of` is the ranges, `split_first_range` the first of them and the bytes that are
-//! left, which takes no memory, `push_range` appends a range's name; a `SourceSet` is a set that is kept as its ranges.
+//! left, which takes no memory, `push_range` appends a range's name; a `SourceSet` is a set that is kept as its ranges,
+//! and `SourceSet::of_runs` makes one of runs with no list of their bytes.
 //! Proved (`laws`): the bytes of the ranges are, in order, the bytes that they are of; no range is empty, and none
 //! begins where the one before it ends; and these ranges alone are so.
 #![tactic(auto)]
@@ -12,6 +13,7 @@
 mod joined;
 pub mod laws;
 mod ranges;
+mod runs;
 mod set;
 mod writing;
 

@@ -63,14 +63,22 @@ impl SourceSet {
             return Ok(SourceSet::new(alloc));
         };
         if rest.is_empty() {
-            return Ok(SourceSet {
-                kept: Kept::One([first]),
-            });
+            return Ok(SourceSet::of_range(first));
         }
         let mut ranges = Vec::new(alloc);
         ranges.push(first)?;
         push_ranges(&mut ranges, rest)?;
         Ok(SourceSet::of_ranges(ranges))
+    }
+
+    /// The set of the bytes of a range.
+    pub(crate) fn of_range(range: SourceRange) -> SourceSet
+        requires { IsRange range }
+        ensures { result ≡ bytes_of range }
+    {
+        SourceSet {
+            kept: Kept::One([range]),
+        }
     }
 
     /// The set of the bytes of ranges. It takes no more room than these need.
@@ -79,9 +87,7 @@ impl SourceSet {
         ensures { result ≡ flat_map bytes_of ranges.items }
     {
         if let [range] = ranges.as_slice() {
-            return SourceSet {
-                kept: Kept::One([*range]),
-            };
+            return SourceSet::of_range(*range);
         }
         ranges.shrink_to_fit();
         SourceSet {

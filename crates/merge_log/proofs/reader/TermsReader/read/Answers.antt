@@ -1,6 +1,5 @@
-use Rattle.std.proofs.Common.{◌≡◌, ◌++◌, ap, ap₂, sym, ◌∙◌, subst, List}
+use Rattle.std.proofs.Common.{◌≡◌, ap, ap₂, sym, ◌∙◌, subst, List}
 use Rattle.flow_model.specs.declared.Loc.{Loc}
-use Rattle.flow_model.specs.declared.SourceByte.{SourceByte}
 use Rattle.source_runs.specs.declared.runs.SourceRun.{SourceRun}
 use Rattle.source_runs.specs.Runs.{all_bytes}
 use Rattle.merge_log.specs.Log.{AreSets, terms}
@@ -11,7 +10,7 @@ use Rattle.merge_log.proofs.reader.TermsReader.read.Goals as goal
 
 pub returns-then-node-eq0-clause-read : goal.returns-then-node-eq0-clause-read
 returns-then-node-eq0-clause-read c =
-    ap₂ (λ (bs : List SourceByte) (ls : List Loc). record { sources = bs; starts = ls }) c.clear-2.ensures.items c.clear.ensures.starts
+    ap₂ (λ (rs : List SourceRun) (ls : List Loc). record { sources = all_bytes rs; starts = ls }) c.clear.ensures.runs c.clear.ensures.starts
     ∙ sym (ap (terms c.args.log.now) c.if-node-eq0.true ∙ nothing_under_0 c.args.log.now)
 
 pub returns : goal.returns
@@ -19,7 +18,5 @@ returns c =
     let log = c.args.log.now in
     let node = c.args.node in
     let settled = terms_of c.settle.new.self in
-    let is : settled ≡ terms log node = same_terms settled (terms log node) c.in_ok-settle.ensures.ascending (ascend-terms log node) (λ q. c.in_ok-settle.ensures.members q ∙ c.in_ok-walk.ensures.found q) in
-    let bytes = c.in_ok-push_bytes.ensures ∙ ap₂ (λ (bs : List SourceByte) (rs : List SourceRun). bs ++ all_bytes rs) c.clear-2.ensures.items c.deref.ensures.value in
-    let read = ap (λ (bs : List SourceByte). record { sources = bs; starts = settled.starts }) bytes ∙ is in
+    let read : settled ≡ terms log node = same_terms settled (terms log node) c.in_ok-settle.ensures.ascending (ascend-terms log node) (λ q. c.in_ok-settle.ensures.members q ∙ c.in_ok-walk.ensures.found q) in
     record { read = read; ascending = subst AreSets (sym read) (ascend-terms log node) }

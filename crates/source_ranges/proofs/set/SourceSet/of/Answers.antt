@@ -1,9 +1,7 @@
-use Rattle.std.proofs.Common.{◌≡◌, ◌++◌, [], ◌∷◌, List, sym, ap, ◌∙◌}
+use Rattle.std.proofs.Common.{◌≡◌, ◌++◌, [], ◌∷◌, List, sym, ap, ◌∙◌, append-nil}
 use Rattle.std.specs.List.{flat_map}
-use Rattle.std.proofs.lemmas.List.Elements.{All-nil, All-cons}
 use Rattle.flow_model.specs.declared.SourceByte.{SourceByte}
 use Rattle.source_ranges.specs.declared.SourceRange.{SourceRange}
-use Rattle.source_ranges.specs.Kept.{IsRange}
 use Rattle.source_ranges.specs.Ranges.{bytes_of, ranges_of}
 use Rattle.source_ranges.proofs.Kept.{bytes-ranges, kept-of, no-bytes}
 use Rattle.source_ranges.proofs.set.SourceSet.of.Goals as goal
@@ -18,17 +16,13 @@ together : (bs rest : List SourceByte) (first : SourceRange) (none one all : Lis
 together bs rest first none one all e n o a =
     a ∙ ap (λ (rs : List SourceRange). rs ++ ranges_of rest) (o ∙ ap (λ (rs : List SourceRange). rs ++ first ∷ []) n) ∙ sym e
 
-pub invariant_of-result : goal.invariant_of-result
-invariant_of-result c =
-    let rest = c.in-Some.rest.now in
-    kept-of c.args.sources.now (c.in-Some.first ∷ [])
-    (alone c.args.sources.now rest c.in-Some.first c.in-Some.ensures.ranges (no-bytes rest (sym c.is_empty.ensures ∙ c.if-is_empty.true)))
-    c.requires (All-cons IsRange c.in-Some.first [] c.in-Some.ensures.range (All-nil IsRange))
-
 pub returns-then-is_empty : goal.returns-then-is_empty
 returns-then-is_empty c =
     let rest = c.in-Some.rest.now in
-    ap (flat_map bytes_of) (alone c.args.sources.now rest c.in-Some.first c.in-Some.ensures.ranges (no-bytes rest (sym c.is_empty.ensures ∙ c.if-is_empty.true)))
+    let first = c.in-Some.first in
+    c.of_range.ensures
+    ∙ sym (append-nil (bytes_of first))
+    ∙ ap (flat_map bytes_of) (alone c.args.sources.now rest first c.in-Some.ensures.ranges (no-bytes rest (sym c.is_empty.ensures ∙ c.if-is_empty.true)))
     ∙ bytes-ranges c.args.sources.now
 
 pub of_ranges-requires : goal.of_ranges-requires
