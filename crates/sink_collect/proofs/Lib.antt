@@ -1,7 +1,9 @@
 pub mod Alike
 mod Arranging
-mod Search
 mod Moving
+mod Order
+mod Cuts
 mod Reaching
 mod Stretches
 mod Putting
+mod Lines

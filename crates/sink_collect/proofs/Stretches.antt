@@ -1,8 +1,7 @@
 -- Loops over the offsets of a range: one offset more.
 use Rattle.std.proofs.Common.{◌≡◌, ℕ, ◌+◌, ◌<◌, Bool, true, false, cond, List, [], ◌∷◌, ◌++◌, sym, ap, ◌∙◌, arith, append_assoc}
-use Rattle.std.specs.List.{filter, flat_map}
+use Rattle.std.specs.List.{filter}
 use Rattle.flow_model.specs.declared.SourceByte.{SourceByte}
-use Rattle.report_model.specs.Text.{name_text, source_text}
 use Rattle.source_ranges.specs.Ranges.{byte_on, bytes_of}
 use Rattle.source_ranges.proofs.Kept.{range, bytes-first, bytes-none}
 

@@ -1,4 +1,5 @@
 pub mod Distinct
 pub mod Pairs
+pub mod Places
 pub mod Reaching
 pub mod Own

@@ -1,10 +1,9 @@
 //! What of a row a query chooses.
 
-ghost use Rattle.std.specs.Prelude.{◌≡◌, ◌++◌, IfOk, OnOk};
+ghost use Rattle.std.specs.Prelude.{◌≡◌, ◌≤◌, ◌^◌, ◌++◌, IfOk, OnOk};
 ghost use Rattle.std.specs.List.{filter};
 ghost use Rattle.report_model.specs.Query.{has_source, has_sink};
 ghost use Rattle.sink_collect.specs.Own.{own_part};
-ghost use Rattle.source_ranges.specs.Kept.{IsRange};
 ghost use Rattle.source_ranges.specs.Ranges.{bytes_of};
 
 use crate::sets::SinkSet;
@@ -45,9 +44,14 @@ fn chosen_sources(alloc: Global, query: &Query, sources: &SourceSet) -> Result<S
     Ok(chosen.into_set())
 }
 
-/// Adds those of the source bytes of a range that a query chooses.
-fn add_chosen(chosen: &mut JoinedRanges, query: &Query, range: SourceRange) -> Result<(), NoMemory>
-    requires { IsRange range }
+/// Adds those of the source bytes of a range, which may have none, that a query chooses. It fails only where there is
+/// no memory.
+pub fn add_chosen(
+    chosen: &mut JoinedRanges,
+    query: &Query,
+    range: SourceRange,
+) -> Result<(), NoMemory>
+    requires { range.past ≤ 2 ^ 32 }
     ensures { OnOk result (chosen.new ≡ chosen.old ++ filter (has_source query.now) (bytes_of range)) }
 {
     for offset in range.from..range.past {

@@ -1,6 +1,6 @@
 //! The texts of a report and of an influence.
 
-ghost use Rattle.std.specs.Prelude.{◌≡◌, ◌++◌, ◌∷◌, [], All, IfOk};
+ghost use Rattle.std.specs.Prelude.{◌≡◌, ◌+◌, ◌<◌, ◌≤◌, ◌*◌, ◌^◌, ◌++◌, ◌∷◌, [], All, IfOk};
 ghost use Rattle.std.specs.List.{flat_map};
 ghost use Rattle.std.specs.Fmt.{decimal};
 ghost use Rattle.outer_io.specs.Pieces.{Puts};
@@ -8,78 +8,105 @@ ghost use Rattle.source_ranges.specs.Kept.{IsRange};
 ghost use Rattle.source_ranges.specs.Ranges.{bytes_of};
 ghost use Rattle.report_model.specs.Text.{source_text, row_text, report_text};
 ghost use Rattle.report_model.specs.Influence.{sink_text, reach_text, influence_text as text_of_influence};
+ghost use Rattle.sink_collect.specs.Reaching.{reach_of, reaches_in, line_of};
 
-use crate::influence::{Influence, SourceReach};
+use crate::influence::{Influence, RangeReach};
 use crate::report::Report;
 use crate::sets::SinkSet;
 use flow_model::{SinkPoint, SourceByte};
 use itoa::Buffer;
 use no_memory::NoMemory;
 use outer_io::Pieces;
-use printed_names::{SourceName, byte_name, point_name};
+use printed_names::{MOST_NAMES, Names, byte_name, point_name};
 use source_ranges::SourceRange;
 use std::alloc::Global;
 
-/// Puts a blank and the name of a source byte, which takes the place of another's.
-fn put_source<P: Pieces>(
-    place: &mut P,
-    name: &mut SourceName,
-    source: &SourceByte,
-) -> Result<(), P::Fault>
-    ensures { Puts P.putting place.old (source_text source.now) place.new result }
+/// Puts a blank and the name of each source byte of a range which has a few or none, as one piece.
+fn put_few<P: Pieces>(place: &mut P, names: &mut Names, range: SourceRange) -> Result<(), P::Fault>
+    requires { (range.from ≤ range.past) × (range.past ≤ range.from + MOST_NAMES) × (range.past ≤ 2 ^ 32) }
+    ensures { Puts P.putting place.old (flat_map source_text (bytes_of range)) place.new result }
 {
-    name.go_to(*source);
-    place.put(name.as_bytes())
+    names.write(range.channel, range.from, range.past);
+    place.put(names.as_bytes())
+}
+
+/// Puts a blank and the name of each source byte of a channel whose offset is one of some tens, and one more digit: ten
+/// names are one piece.
+fn put_tens<P: Pieces>(
+    place: &mut P,
+    names: &mut Names,
+    channel: u8,
+    from: u64,
+    past: u64,
+) -> Result<(), P::Fault>
+    requires { (0 < from) × (from ≤ past) × (10 * past ≤ 2 ^ 32) }
+    ensures { Puts P.putting place.old (flat_map source_text (bytes_of (record { channel = channel; from = 10 * from; past = 10 * past }))) place.new result }
+{
+    for tens in from..past {
+        names.write_ten(channel, tens as u32);
+        place.put(names.as_bytes())?;
+    }
+    Ok(())
 }
 
 /// Puts a blank and the name of each source byte of a range.
 fn put_range<P: Pieces>(
     place: &mut P,
-    name: &mut SourceName,
+    names: &mut Names,
     range: SourceRange,
 ) -> Result<(), P::Fault>
     requires { IsRange range }
     ensures { Puts P.putting place.old (flat_map source_text (bytes_of range)) place.new result }
 {
-    for offset in range.from..range.past {
-        let source = SourceByte {
-            channel: range.channel,
-            offset: offset as u32,
-        };
-        put_source(place, name, &source)?;
+    if range.past - range.from <= MOST_NAMES {
+        return put_few(place, names, range);
     }
-    Ok(())
+    // The tens that lie in the range whole. Offsets of one digit have no tens.
+    let from = range.from.div_ceil(10).max(1);
+    let past = range.past / 10;
+    let before = SourceRange {
+        past: 10 * from,
+        ..range
+    };
+    let after = SourceRange {
+        from: 10 * past,
+        ..range
+    };
+    put_few(place, names, before)?;
+    put_tens(place, names, range.channel, from, past)?;
+    put_few(place, names, after)
 }
 
 /// Puts a blank and the name of each source byte of ranges.
-fn put_ranges<P: Pieces>(place: &mut P, ranges: &[SourceRange]) -> Result<(), P::Fault>
+fn put_ranges<P: Pieces>(
+    place: &mut P,
+    names: &mut Names,
+    ranges: &[SourceRange],
+) -> Result<(), P::Fault>
     requires { All IsRange ranges.now }
     ensures { Puts P.putting place.old (flat_map source_text (flat_map bytes_of ranges.now)) place.new result }
 {
-    let mut name = SourceName::new(SourceByte {
-        channel: 0,
-        offset: 0,
-    });
     for range in ranges {
-        put_range(place, &mut name, *range)?;
+        put_range(place, names, *range)?;
     }
     Ok(())
 }
 
 /// Puts the line of an output byte or a point.
-fn put_row<P: Pieces>(place: &mut P, row: &SinkSet) -> Result<(), P::Fault>
+fn put_row<P: Pieces>(place: &mut P, names: &mut Names, row: &SinkSet) -> Result<(), P::Fault>
     ensures { Puts P.putting place.old (row_text row.now) place.new result }
 {
     place.put(point_name(row.sink()).as_bytes())?;
-    put_ranges(place, row.sources().ranges())?;
+    put_ranges(place, names, row.sources().ranges())?;
     place.put(b"\n")
 }
 
 fn put_rows<P: Pieces>(place: &mut P, rows: &[SinkSet]) -> Result<(), P::Fault>
     ensures { Puts P.putting place.old (flat_map row_text rows.now) place.new result }
 {
+    let mut names = Names::new();
     for row in rows {
-        put_row(place, row)?;
+        put_row(place, &mut names, row)?;
     }
     Ok(())
 }
@@ -101,21 +128,44 @@ fn put_sinks<P: Pieces>(place: &mut P, sinks: &[SinkPoint]) -> Result<(), P::Fau
     Ok(())
 }
 
-/// Puts the line of a source byte.
-fn put_reach<P: Pieces>(place: &mut P, reach: &SourceReach) -> Result<(), P::Fault>
-    ensures { Puts P.putting place.old (reach_text reach.now) place.new result }
+/// Puts the line of a source byte that came to these output bytes and points.
+fn put_reach<P: Pieces>(
+    place: &mut P,
+    source: SourceByte,
+    sinks: &[SinkPoint],
+) -> Result<(), P::Fault>
+    ensures { Puts P.putting place.old (reach_text (reach_of sinks.now source)) place.new result }
 {
-    let source = reach.source();
     place.put(byte_name(source.channel, source.offset).as_bytes())?;
-    put_sinks(place, reach.sinks())?;
+    put_sinks(place, sinks)?;
     place.put(b"\n")
 }
 
-fn put_reaches<P: Pieces>(place: &mut P, reaches: &[SourceReach]) -> Result<(), P::Fault>
-    ensures { Puts P.putting place.old (flat_map reach_text reaches.now) place.new result }
+/// Puts a line for each source byte of a range that came to these output bytes and points.
+fn put_range_reach<P: Pieces>(
+    place: &mut P,
+    range: SourceRange,
+    sinks: &[SinkPoint],
+) -> Result<(), P::Fault>
+    requires { IsRange range }
+    ensures { Puts P.putting place.old (flat_map (line_of sinks.now) (bytes_of range)) place.new result }
+{
+    for offset in range.from..range.past {
+        let source = SourceByte {
+            channel: range.channel,
+            offset: offset as u32,
+        };
+        put_reach(place, source, sinks)?;
+    }
+    Ok(())
+}
+
+fn put_reaches<P: Pieces>(place: &mut P, reaches: &[RangeReach]) -> Result<(), P::Fault>
+    requires { All (λ r. IsRange r.range) reaches.now }
+    ensures { Puts P.putting place.old (flat_map reach_text (flat_map reaches_in reaches.now)) place.new result }
 {
     for reach in reaches {
-        put_reach(place, reach)?;
+        put_range_reach(place, reach.range(), reach.sinks())?;
     }
     Ok(())
 }
@@ -142,7 +192,7 @@ pub fn put_text<P: Pieces>(place: &mut P, report: &Report) -> Result<(), P::Faul
 pub fn put_influence<P: Pieces>(place: &mut P, influence: &Influence) -> Result<(), P::Fault>
     ensures { Puts P.putting place.old (text_of_influence influence.now) place.new result }
 {
-    put_reaches(place, influence.reaches())?;
+    put_reaches(place, influence.ranges())?;
     put_numbered(place, b"end ", influence.lines())
 }
 

@@ -1,42 +1,53 @@
-use Rattle.std.proofs.Common.{◌≡◌, ◌+◌, List, map, take, get_or, ap, sym, ◌∙◌, subst}
+use Rattle.std.proofs.Common.{◌≡◌, ◌∙◌, ap, sym, subst, List, map, take, get_or}
+use Rattle.std.specs.Prelude.{All}
+use Rattle.std.specs.List.{flat_map}
+use Rattle.std.proofs.lemmas.List.{take_all}
 use Rattle.flow_model.specs.declared.SinkPoint.{SinkPoint}
 use Rattle.flow_model.specs.declared.SourceByte.{SourceByte}
 use Rattle.flow_model.specs.Orders.{source_cmp}
 use Rattle.sorted_set.specs.Sets.{Ascends}
-use Rattle.sink_collect.specs.Reaching.{with_sink}
-use Rattle.sink_collect.proofs.Reaching.{added, with_none, step_found, step_passed}
-use Rattle.sink_collect.proofs.Search.{not_found, found_there}
+use Rattle.source_ranges.specs.declared.SourceRange.{SourceRange}
+use Rattle.source_ranges.specs.Kept.{IsRange}
+use Rattle.source_ranges.specs.Ranges.{bytes_of}
+use Rattle.source_ranges.proofs.Kept.{bytes-ranges}
+use Rattle.sink_collect.specs.Places.{start_of}
+use Rattle.sink_collect.specs.Reaching.{Stretch, with_sink}
+use Rattle.sink_collect.proofs.Reaching.{with_none, starts_kept, fits_kept, one_more_range}
 use Rattle.sink_collect.proofs.influence.add_row.Goals as goal
-use Rattle.sink_collect.proofs.influence.add_row.Goals.{in-Ok+in_ok-push, in_default}
 
-pub loop-source-init : goal.loop-source-init
-loop-source-init c = with_none c.args.row.now.sink c.args.reaches.now
+abbrev none : SourceRange
+none = record { channel = 0; from = 0; past = 0 }
 
-pub loop-source-preserved : goal.loop-source-preserved
-loop-source-preserved c =
+pub loop-range-init : goal.loop-range-init
+loop-range-init c = with_none c.args.row.now.sink c.args.reaches.now
+
+pub add_range-requires-clause-starts : goal.add_range-requires-clause-starts
+add_range-requires-clause-starts c =
+    let so_far = flat_map bytes_of (take c.loop-range.range-index c.ranges-range-items.result.now) in
+    ap (map (λ (r : Stretch). start_of r.range)) c.loop-range.invariant ∙ starts_kept c.args.row.now.sink so_far c.args.reaches.now ∙ c.requires.starts
+
+pub add_range-requires-clause-fits : goal.add_range-requires-clause-fits
+add_range-requires-clause-fits c =
+    let so_far = flat_map bytes_of (take c.loop-range.range-index c.ranges-range-items.result.now) in
+    subst (λ (rs : List Stretch). All (λ r. IsRange r.range) rs) (sym c.loop-range.invariant) (fits_kept c.args.row.now.sink so_far c.args.reaches.now c.requires.fits)
+
+pub loop-range-preserved : goal.loop-range-preserved
+loop-range-preserved c =
     let s = c.args.row.now.sink in
-    let items = c.deref-source-items.result.now in
-    let sources = c.args.sources.now in
-    let old = c.args.reaches.now in
-    let now = c.loop-source.reaches in
-    let k = c.loop-source.source-index in
-    let none : SourceByte = record { channel = 0; offset = 0 } in
-    let whole = c.deref-source-items.ensures.value ∙ c.in_ok-listed.ensures ∙ c.sources.ensures.value in
-    let ascending = subst (Ascends source_cmp) (sym whole) c.sources.ensures.ascending in
-    let so_far : now ≡ map (with_sink s (take k items)) old = c.loop-source.invariant ∙ ap (λ (bytes : List SourceByte). map (with_sink s (take k bytes)) old) (sym whole) in
-    let after : map (with_sink s (take (k + 1) items)) old ≡ map (with_sink s (take (k + 1) c.args.row.now.sources)) old =
-    ap (λ (bytes : List SourceByte). map (with_sink s (take (k + 1) bytes)) old) whole in
-    elim c.match-binary_search.branch [
-      | in-Ok+in_ok-push w ↦
-          let e = w.index-reaches-place.result in
-          w.reaches-is
-          ∙ step_found s items sources old now k none c.loop-source-test.true c.requires.same so_far w.in-Ok.place e ascending c.requires.ascending w.in-Ok.ensures.bound
-          (found_there sources _ w.in-Ok.place w.in-Ok.ensures.ok) w.push.new.self
-          (w.in_ok-push.ensures ∙ ap (λ (x : SinkPoint). added x (get_or now w.in-Ok.place e)) w.sink.ensures)
-          ∙ after
-      | in_default w ↦
-          w.reaches-is
-          ∙ step_passed s items sources old now k none c.loop-source-test.true c.requires.same so_far
-          (not_found sources _ w.in_default.field-0 c.requires.ascending w.in_default.ensures.position)
-          ∙ after
-    ]
+    let items = c.ranges-range-items.result.now in
+    let k = c.loop-range.range-index in
+    let now = c.loop-range.reaches in
+    let whole : flat_map bytes_of items ≡ c.args.row.now.sources =
+    ap (flat_map bytes_of) c.ranges-range-items.ensures.value ∙ bytes-ranges c.sources.result.now ∙ c.sources.ensures.value in
+    one_more_range s items k none c.args.reaches.now now c.add_range.new.reaches c.loop-range-test.true
+    (subst (Ascends source_cmp) (sym whole) c.sources.ensures.ascending) c.loop-range.invariant
+    (c.in_ok-add_range.ensures ∙ ap (λ (x : SinkPoint). map (with_sink x (bytes_of (get_or items k none))) now) c.sink.ensures)
+
+pub returns : goal.returns
+returns c =
+    let items = c.ranges-range-items.result.now in
+    let whole : flat_map bytes_of items ≡ c.args.row.now.sources =
+    ap (flat_map bytes_of) c.ranges-range-items.ensures.value ∙ bytes-ranges c.sources.result.now ∙ c.sources.ensures.value in
+    c.loop-range.invariant
+    ∙ ap (λ (bs : List SourceByte). map (with_sink c.args.row.now.sink bs) c.args.reaches.now)
+    (ap (flat_map bytes_of) (take_all c.loop-range.range-index items c.loop-range-test.false) ∙ whole)

@@ -1,6 +1,8 @@
 use Rattle.std.proofs.Common.{◌≡◌, map, take}
+use Rattle.std.specs.List.{flat_map}
+use Rattle.source_ranges.specs.Ranges.{bytes_of}
 use Rattle.sink_collect.specs.Reaching.{with_sink}
 use Rattle.sink_collect.proofs.influence.add_row.Given as goal
 
-abbrev pub invariant-loop-source : goal.invariant-loop-source
-invariant-loop-source l = l.reaches ≡ map (with_sink l.row.sink (take l.source-index l.row.sources)) l.initial.reaches
+abbrev pub invariant-loop-range : goal.invariant-loop-range
+invariant-loop-range l = l.reaches ≡ map (with_sink l.row.sink (flat_map bytes_of (take l.range-index l.range-items))) l.initial.reaches

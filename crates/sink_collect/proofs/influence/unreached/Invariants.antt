@@ -1,6 +1,6 @@
 use Rattle.std.proofs.Common.{◌≡◌, [], take}
-use Rattle.report_model.specs.Influence.{turned}
+use Rattle.sink_collect.specs.Reaching.{stretches}
 use Rattle.sink_collect.proofs.influence.unreached.Given as goal
 
-abbrev pub invariant-loop-source : goal.invariant-loop-source
-invariant-loop-source l = l.reaches.items ≡ turned [] (take l.source-index l.sources)
+abbrev pub invariant-loop-range : goal.invariant-loop-range
+invariant-loop-range l = l.reaches.items ≡ stretches [] (take l.range-index l.ranges)

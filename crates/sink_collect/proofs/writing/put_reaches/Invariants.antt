@@ -1,7 +1,7 @@
 use Rattle.std.proofs.Common.{take}
 use Rattle.std.specs.List.{flat_map}
-use Rattle.report_model.specs.Influence.{reach_text}
+use Rattle.sink_collect.proofs.Lines.{lines_of}
 use Rattle.sink_collect.proofs.writing.put_reaches.Given as goal
 
 abbrev pub invariant-loop-reach : goal.invariant-loop-reach
-invariant-loop-reach g l = g.P.Pieces.putting.whole l.initial.place (flat_map reach_text (take l.reach-index l.reaches)) l.place
+invariant-loop-reach g l = g.P.Pieces.putting.whole l.initial.place (flat_map lines_of (take l.reach-index l.reaches)) l.place
