@@ -7,7 +7,6 @@ ghost use Rattle.page_model.specs.Data.{run_text, moved_text, asked, asked_text,
 use crate::calls::push_calls;
 use crate::channels::push_channels;
 use crate::rows::{push_ranges, push_rows};
-use flow_model::SourceByte;
 use jet_refusal::rule_name;
 use no_memory::NoMemory;
 use query_lang::Query;
@@ -16,7 +15,7 @@ use replay_log::Log;
 use replayer::Job;
 use run_output::{Way, push_number, summary_text};
 use sink_collect::Report;
-use source_ranges::ranges_of;
+use source_ranges::SourceSet;
 use std::alloc::Global;
 
 /// Appends the digest of the program, and the run's numbers.
@@ -37,12 +36,7 @@ fn push_run(alloc: Global, out: &mut Vec<u8>, job: &Job) -> Result<(), NoMemory>
 
 /// Appends what is told of a query that chooses these source bytes.
 #[tactic(auto, unfolding(page_model::specs::Data::asked_text))]
-fn push_query(
-    alloc: Global,
-    out: &mut Vec<u8>,
-    query: &Query,
-    sources: &[SourceByte],
-) -> Result<(), NoMemory>
+fn push_query(out: &mut Vec<u8>, query: &Query, sources: &SourceSet) -> Result<(), NoMemory>
     ensures { OnOk result (out.new.items ≡ out.old.items ++ asked_text (record {
       rule = query.now.rule;
       points = length query.now.points;
@@ -54,8 +48,7 @@ fn push_query(
     out.push(b'\n')?;
     push_number(out, b"points", query.points().len() as u64)?;
     out.extend_from_slice(b"sources")?;
-    let ranges = ranges_of(alloc, sources)?;
-    push_ranges(out, &ranges)?;
+    push_ranges(out, sources.ranges())?;
     out.push(b'\n')?;
     Ok(())
 }
@@ -78,7 +71,7 @@ fn push_told(alloc: Global, out: &mut Vec<u8>, job: &Job, query: &Query) -> Resu
 {
     let sources = sources_of(alloc, job, query)?;
     push_run(alloc, out, job)?;
-    push_query(alloc, out, query, &sources)?;
+    push_query(out, query, &sources)?;
     push_moved(alloc, out, job.log())
 }
 

@@ -7,4 +7,4 @@ use Rattle.query_sources.proofs.sources.sources_of.Given as goal
 
 -- those of the first channels are added
 abbrev pub invariant-loop-channel : goal.invariant-loop-channel
-invariant-loop-channel l = l.sources.items ≡ filter (has_source l.query) (flat_map (λ c. sources_on c (length (received c l.job.log.records))) (range_with_len 0 l.channel))
+invariant-loop-channel l = l.sources ≡ filter (has_source l.query) (flat_map (λ c. sources_on c (length (received c l.job.log.records))) (range_with_len 0 l.channel))
