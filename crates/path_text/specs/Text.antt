@@ -8,6 +8,7 @@ use Rattle.report_model.specs.Text.{name_text, loc_text, point_text}
 use Rattle.path_text.specs.declared.writing.Stop.{Stop}
 use Rattle.path_text.specs.declared.writing.End.{End}
 use Rattle.instruction_text.specs.Assembly.{instruction_text}
+use Rattle.printed_names.specs.Lines.{lines_end}
 use Rattle.printed_names.specs.Places.{pc_text}
 
 -- a step's number and the pc at it
@@ -35,9 +36,6 @@ end_word (At p) = codes "point"
 
 abbrev pub end_line : End → List ℕ
 end_line e = end_word e.name ++ step_text e.number e.pc ++ loc_text e.loc ++ codes " " ++ point_text e.name ++ 0x0a ∷ []
-
-abbrev pub lines_end : ℕ → List ℕ
-lines_end n = codes "end " ++ decimal n ++ 0x0a ∷ []
 
 -- where there is no path
 abbrev pub no_path_text : List ℕ

@@ -1,14 +1,14 @@
 //! The lines of a path.
 
 ghost use Rattle.std.specs.Prelude.{◌≡◌, ◌<◌, ◌^◌, ◌++◌, length, IfOk, OnOk};
-ghost use Rattle.path_text.specs.Text.{step_text, read_line, hop_line, hop_lines, end_line, lines_end, no_path_text, path_text};
+ghost use Rattle.path_text.specs.Text.{step_text, read_line, hop_line, hop_lines, end_line, no_path_text, path_text};
 
 use flow_model::{Loc, SinkPoint, SourceByte};
 use instruction_text::push_instruction;
 use isa::Instr;
 use itoa::Buffer;
 use no_memory::NoMemory;
-use printed_names::{push_byte, push_location, push_pc, push_point};
+use printed_names::{push_byte, push_lines_end, push_location, push_pc, push_point};
 use std::alloc::Global;
 
 /// A stop of a path: the step in which the content arrived, by how many were done before it, the pc before it, its instruction,
@@ -97,17 +97,6 @@ fn push_end(out: &mut Vec<u8>, end: &End) -> Result<(), NoMemory>
     Ok(())
 }
 
-/// Appends `end N`.
-fn push_count(out: &mut Vec<u8>, lines: u64) -> Result<(), NoMemory>
-    ensures { OnOk result (out.new.items ≡ out.old.items ++ lines_end lines) }
-{
-    let mut buffer = Buffer::new();
-    out.extend_from_slice(b"end ")?;
-    out.extend_from_slice(buffer.format(lines).as_bytes())?;
-    out.push(b'\n')?;
-    Ok(())
-}
-
 /// Appends the lines of a path that has stops, of which there is one at least.
 fn push_lines(
     out: &mut Vec<u8>,
@@ -122,7 +111,7 @@ fn push_lines(
     push_read(out, source, &stops[0])?;
     push_hops(out, stops)?;
     push_end(out, end)?;
-    push_count(out, stops.len() as u64 + 1)
+    push_lines_end(out, stops.len() as u64 + 1)
 }
 
 /// The text of a path of a source byte by its stops, in the order of the run, and its end. It fails only where there is no
@@ -149,6 +138,6 @@ pub fn text_of_none(alloc: Global) -> Result<Vec<u8>, NoMemory>
     ensures { IfOk result (λ text. text.items ≡ no_path_text) }
 {
     let mut out = Vec::new(alloc);
-    push_count(&mut out, 0)?;
+    push_lines_end(&mut out, 0)?;
     Ok(out)
 }
