@@ -22,12 +22,12 @@ use Rattle.decision_model.specs.declared.Place.{Place}
 use Rattle.decision_model.specs.Decisions.{Decision}
 use Rattle.decision_model.specs.Places.{place_cmp, place_of, places, is_at, decided_there, sources_of}
 use Rattle.decision_model.proofs.Orders.{place_total, place_same, place_compared, place_order_is}
-use Rattle.decision_find.specs.declared.labels.SourceLabels.{SourceLabels}
+use Rattle.source_labels.specs.declared.labels.SourceLabels.{SourceLabels}
 use Rattle.decision_find.specs.declared.looks.Look.{Look}
 use Rattle.decision_find.specs.declared.groups.Group.{Group}
 use Rattle.decision_find.specs.declared.groups.Groups.{Groups}
-use Rattle.decision_find.specs.Words.{label_words}
-use Rattle.decision_find.specs.Laws.{label_laws}
+use Rattle.source_labels.specs.Words.{label_words}
+use Rattle.source_labels.specs.Laws.{label_laws}
 use Rattle.decision_find.specs.Groups.{IsGroup, IsGroupOf, AreGroups, HaveLabels, Joins, Grows}
 use Rattle.decision_find.specs.Looks.{decision_of}
 

@@ -1,65 +1,33 @@
 -- A step that is followed: its look is noted, and the labels are turned.
-use Rattle.std.proofs.Common.{◌≡◌, ℕ, zero, suc, ◌+◌, Bool, true, false, List, [], ◌∷◌, ◌++◌, refl, ap, ap₂, sym, ◌∙◌, subst, add-one, append_assoc, append-nil, if◌then◌else◌}
-use Rattle.std.specs.Prelude.{Option, Some, None}
+use Rattle.std.proofs.Common.{◌≡◌, ℕ, zero, suc, ◌+◌, List, [], ◌++◌, refl, ap, ap₂, sym, ◌∙◌, subst, add-one, append_assoc, append-nil}
+use Rattle.std.specs.Prelude.{Option}
 use Rattle.isa.specs.declared.Instr.{Instr}
 use Rattle.isa.specs.Machine.{fetch}
 use Rattle.log_model.specs.Logs.{steps}
 use Rattle.flow_model.specs.declared.Loc.{Loc}
 use Rattle.flow_model.specs.declared.Rule.{Rule}
-use Rattle.flow_model.specs.declared.SourceByte.{SourceByte}
 use Rattle.flow_model.specs.declared.StepSeen.{StepSeen}
-use Rattle.flow_model.specs.declared.CallSeen.{CallSeen}
-use Rattle.flow_model.specs.Flow.{cleared, flow, origins_by, is_received, from_instruction_or}
-use Rattle.flow_model.specs.Orders.{source_cmp}
-use Rattle.flow_model.specs.Origins.{Policy, union_over, introduced, byte_at, fresh_by, after_step, step_at, origins}
-use Rattle.sorted_set.specs.Sets.{union}
+use Rattle.flow_model.specs.Origins.{Policy, origins}
 use Rattle.report_model.specs.Query.{Query, has_source}
 use Rattle.replay_model.specs.Run.{Moment, start, advance, moment_after}
 use Rattle.replayer.specs.Jobs.{Job, trace_of}
 use Rattle.taint_shadow.specs.declared.places.Places.{Places}
 use Rattle.taint_shadow.specs.Labels.{start_label}
 use Rattle.taint_shadow.specs.Places.{AreKept}
-use Rattle.taint_shadow.specs.Steps.{Holds, united_over, introduced as brought_in, after}
+use Rattle.taint_shadow.specs.Steps.{Holds, after}
 use Rattle.taint_shadow.proofs.Meaning.{holds_kept}
 use Rattle.decision_model.specs.Decides.{deciding_rule}
 use Rattle.decision_model.specs.Decisions.{Decision, decisions, decided_at, decided_from, moments_seen, instr_of, fetched_from}
 use Rattle.decision_find.specs.declared.looks.Look.{Look}
 use Rattle.decision_find.specs.declared.tracking.Tracking.{Tracking}
-use Rattle.decision_find.specs.Words.{label_words}
-use Rattle.decision_find.specs.Laws.{label_laws}
+use Rattle.source_labels.specs.Words.{label_words}
+use Rattle.source_labels.specs.Laws.{label_laws}
+use Rattle.source_labels.proofs.Origins.{origins_later}
 use Rattle.decision_find.specs.Looks.{IsLookAt, look_at_step, looked_at, listed}
 use Rattle.decision_find.specs.Groups.{AreGroups, HaveLabels}
 use Rattle.decision_find.specs.Following.{IsSound, IsTracked, IsStepOf, IsTurned, Notes, HasDecisions, deciding_policy, moment_of}
 use Rattle.decision_find.proofs.Counted.{groups_kept}
 use Rattle.decision_find.proofs.Looking.{looks_at_step}
-
--- ---- the origins after a step
-
-over_is : (f : Loc → List SourceByte) (ls : List Loc) → united_over label_words f ls ≡ union_over f ls
-over_is f [] = refl
-over_is f (l ∷ []) = refl
-over_is f (l ∷ m ∷ ls) = ap (union source_cmp (f l)) (over_is f (m ∷ ls))
-
-alone : (b : Bool) (s : SourceByte) → (if b then label_words.source s else label_words.nothing) ≡ union source_cmp (if b then s ∷ [] else []) []
-alone true s = refl
-alone false s = refl
-
-by_call : (policy : Policy) (f : Loc → List SourceByte) (b : SourceByte) (ls : List Loc) (o : Bool)
-    → (if o then brought_in label_words policy b else united_over label_words f (if o then [] else ls))
-    ≡ union source_cmp (if o then introduced policy b else []) (union_over f (if o then [] else ls))
-by_call policy f b ls true = alone (policy.introduces b) b
-by_call policy f b ls false = over_is f ls
-
-after_is : (policy : Policy) (step : StepSeen) (call : Option CallSeen) (f : Loc → List SourceByte) (l : Loc)
-    → after label_words policy step call f l ≡ union source_cmp (fresh_by policy call l) (union_over f (from_instruction_or policy.rule step call l))
-after_is policy step None f l = over_is f (origins_by (flow policy.rule step.instr step.place) l)
-after_is policy step (Some call) f l = by_call policy f (byte_at call l) (origins_by (cleared call.kind) l) (is_received call l)
-
-origins_later : (policy : Policy) (trace : List StepSeen) (t : ℕ) (step : StepSeen) (l : Loc) → step_at trace t ≡ Some step
-    → after label_words policy step step.call (origins policy trace t) l ≡ origins policy trace (t + 1) l
-origins_later policy trace t step l at =
-    after_is policy step step.call (origins policy trace t) l ∙ ap (λ (o : Option StepSeen). after_step policy o (origins policy trace t) l) (sym at)
-    ∙ ap (λ (k : ℕ). origins policy trace k l) (sym (add-one t))
 
 -- ---- the decisions of one moment more
 

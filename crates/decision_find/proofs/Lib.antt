@@ -1,5 +1,4 @@
 mod Looking
-mod Nodes
 mod Counted
 mod Noted
 mod Followed

@@ -1,22 +1,23 @@
 -- The decisions that are noted, one location after another.
-use Rattle.std.proofs.Common.{◌≡◌, Bool, true, false, cond, List, [], ◌∷◌, ◌++◌, map, refl, ap, sym, ◌∙◌, subst, append_assoc, append-nil}
+use Rattle.std.proofs.Common.{◌≡◌, ◌<◌, Bool, true, cond, List, [], ◌∷◌, ◌++◌, map, length, refl, ap, sym, ◌∙◌, subst, append_assoc, append-nil, arith}
 use Rattle.std.specs.List.{filter}
 use Rattle.std.proofs.lemmas.List.{map-append}
 use Rattle.std.proofs.lemmas.List.Elements.{filter-append}
 use Rattle.flow_model.specs.declared.Loc.{Loc}
 use Rattle.flow_model.specs.declared.SourceByte.{SourceByte}
 use Rattle.flow_model.specs.Ranges.{IsLocation}
+use Rattle.taint_shadow.specs.declared.labels.Label.{Label}
 use Rattle.taint_shadow.specs.declared.places.Places.{Places}
 use Rattle.taint_shadow.specs.Labels.{KeepsLabels}
 use Rattle.taint_shadow.specs.Places.{kept}
 use Rattle.taint_shadow.specs.Steps.{AreStanding, Holds}
 use Rattle.taint_shadow.proofs.Meaning.{keeps_itself, keeps_then, holds_kept, standing_kept}
 use Rattle.decision_model.specs.Decisions.{Decision, is_some_byte}
-use Rattle.decision_find.specs.declared.labels.SourceLabels.{SourceLabels}
+use Rattle.source_labels.specs.declared.labels.SourceLabels.{SourceLabels}
 use Rattle.decision_find.specs.declared.groups.Groups.{Groups}
 use Rattle.decision_find.specs.declared.looks.Look.{Look}
 use Rattle.decision_find.specs.declared.tracking.Tracking.{Tracking}
-use Rattle.decision_find.specs.Words.{label_words}
+use Rattle.source_labels.specs.Words.{label_words}
 use Rattle.decision_find.specs.Looks.{decision_of, listed}
 use Rattle.decision_find.specs.Groups.{AreGroups, HaveLabels}
 use Rattle.decision_find.specs.Following.{IsSound, Notes}
@@ -57,32 +58,26 @@ sound_after look ls a b sound h groups =
 
 -- ---- one location
 
+some_is : (bs : List SourceByte) → 0 < length bs → is_some_byte bs ≡ true
+some_is [] h = absurd (omega (arith, h))
+some_is (b ∷ bs) h = refl
+
 module _ (look : Look) (t : Tracking) (loc : Loc) (here : IsLocation loc) where
   listed_if : (f : Loc → List SourceByte) (b : Bool) → is_some_byte (f loc) ≡ b → listed look f (loc ∷ []) ≡ cond b (decision_of look f loc ∷ []) []
   listed_if f b e = ap (λ (x : Bool). cond x (decision_of look f loc ∷ []) []) e
 
-  -- it has no source byte, so nothing is noted
-  pub none_noted : is_some_byte (label_words.means t.labels (kept t.places loc)) ≡ false → Notes look (loc ∷ []) t t
-  none_noted e = record {
-    keeps = keeps_itself label_words t.labels;
-    rest = refl;
-    groups = λ f ds holds h.
-        let none : listed look f (loc ∷ []) ≡ [] = listed_if f false (ap is_some_byte (sym (holds.at loc here)) ∙ e) in
-        subst (λ (xs : List Decision). AreGroups t.labels xs t.groups) (sym (ap (λ (xs : List Decision). ds ++ xs) none ∙ append-nil ds)) h;
-  }
-
-  -- it has one, and its decision was counted
-  pub one_noted : (labels : SourceLabels) (groups : Groups) → is_some_byte (label_words.means t.labels (kept t.places loc)) ≡ true → KeepsLabels label_words t.labels labels
-      → ((ds : List Decision) → AreGroups t.labels ds t.groups
-      → AreGroups labels (ds ++ decision_of look (λ l. label_words.means t.labels (kept t.places loc)) loc ∷ []) groups)
+  -- its label has a source byte, and its decision was counted
+  pub one_noted : (label : Label) → label ≡ kept t.places loc → 0 < length (label_words.means t.labels label) → (labels : SourceLabels) (groups : Groups)
+      → KeepsLabels label_words t.labels labels
+      → ((ds : List Decision) → AreGroups t.labels ds t.groups → AreGroups labels (ds ++ decision_of look (λ l. label_words.means t.labels label) loc ∷ []) groups)
       → Notes look (loc ∷ []) t (record t { labels = labels; groups = groups })
-  one_noted labels groups e k added = record {
+  one_noted label is some labels groups k added = record {
     keeps = k;
     rest = refl;
     groups = λ f ds holds h.
-        let means : label_words.means t.labels (kept t.places loc) ≡ f loc = holds.at loc here in
-        let one : listed look f (loc ∷ []) ≡ decision_of look f loc ∷ [] = listed_if f true (ap is_some_byte (sym means) ∙ e) in
-        let same : decision_of look (λ l. label_words.means t.labels (kept t.places loc)) loc ≡ decision_of look f loc =
+        let means : label_words.means t.labels label ≡ f loc = ap (label_words.means t.labels) is ∙ holds.at loc here in
+        let one : listed look f (loc ∷ []) ≡ decision_of look f loc ∷ [] = listed_if f true (ap is_some_byte (sym means) ∙ some_is (label_words.means t.labels label) some) in
+        let same : decision_of look (λ l. label_words.means t.labels label) loc ≡ decision_of look f loc =
         ap (λ (bs : List SourceByte). decision_of look (λ l. bs) loc) means in
         subst (λ (xs : List Decision). AreGroups labels xs groups) (ap (λ (d : Decision). ds ++ d ∷ []) same ∙ ap (λ (xs : List Decision). ds ++ xs) (sym one)) (added ds h);
   }

@@ -15,10 +15,10 @@ use Rattle.decision_model.specs.Decisions.{Decision}
 use Rattle.decision_model.specs.Places.{place_cmp, places, decided_there}
 use Rattle.decision_model.specs.Text.{line_text, place_line, decisions_text}
 use Rattle.decision_model.proofs.Orders.{place_total, place_compared, place_order_is}
-use Rattle.decision_find.specs.declared.labels.SourceLabels.{SourceLabels}
+use Rattle.source_labels.specs.declared.labels.SourceLabels.{SourceLabels}
 use Rattle.decision_find.specs.declared.groups.Group.{Group}
 use Rattle.decision_find.specs.declared.groups.Groups.{Groups}
-use Rattle.decision_find.specs.Words.{label_words}
+use Rattle.source_labels.specs.Words.{label_words}
 use Rattle.decision_find.specs.Groups.{IsGroup, AreGroups}
 use Rattle.decision_find.proofs.Counted.{found_at}
 

@@ -15,7 +15,7 @@ use Rattle.decision_model.specs.Decisions.{Decision, decided_from}
 use Rattle.decision_model.specs.Text.{deciding_query, decided_by}
 use Rattle.decision_find.specs.declared.looks.Look.{Look}
 use Rattle.decision_find.specs.declared.tracking.Tracking.{Tracking}
-use Rattle.decision_find.specs.Words.{label_words}
+use Rattle.source_labels.specs.Words.{label_words}
 use Rattle.decision_find.specs.Looks.{listed}
 use Rattle.decision_find.specs.Groups.{AreGroups, HaveLabels}
 

@@ -6,11 +6,11 @@ use Rattle.taint_shadow.specs.Labels.{KeepsLabels, MakesLabel, mean_together}
 use Rattle.decision_model.specs.declared.Place.{Place}
 use Rattle.decision_model.specs.Decisions.{Decision}
 use Rattle.decision_model.specs.Places.{place_cmp, places, decided_there, sources_of}
-use Rattle.decision_find.specs.declared.labels.SourceLabels.{SourceLabels}
+use Rattle.source_labels.specs.declared.labels.SourceLabels.{SourceLabels}
 use Rattle.decision_find.specs.declared.looks.Look.{Look}
 use Rattle.decision_find.specs.declared.groups.Group.{Group}
 use Rattle.decision_find.specs.declared.groups.Groups.{Groups}
-use Rattle.decision_find.specs.Words.{label_words}
+use Rattle.source_labels.specs.Words.{label_words}
 
 -- the group of the decision d and of those after it: the instruction and the time of the first, how many they are, and a
 -- label of their source bytes

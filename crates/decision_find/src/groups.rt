@@ -5,20 +5,20 @@ ghost use Rattle.std.specs.BTreeMap.{get};
 ghost use Rattle.decision_model.specs.Decisions.{Decision};
 ghost use Rattle.decision_model.specs.Places.{place_cmp};
 ghost use Rattle.taint_shadow.specs.Labels.{KeepsLabels};
-ghost use Rattle.decision_find.specs.Words.{label_words};
+ghost use Rattle.source_labels.specs.declared.labels.SourceLabels.{SourceLabels as AnyLabels};
+ghost use Rattle.source_labels.specs.Words.{label_words};
 ghost use Rattle.decision_find.specs.Looks.{decision_of};
 ghost use Rattle.decision_find.specs.Groups.{AreGroups, HaveLabels, Joins, Grows};
-ghost use Rattle.decision_find.specs.declared.labels.SourceLabels.{SourceLabels as AnyLabels};
 
-use crate::labels::SourceLabels;
 use crate::looks::Look;
 use decision_model::Place;
 use flow_model::Loc;
 use isa::Instr;
 use no_memory::NoMemory;
+use source_labels::SourceLabels;
 use std::alloc::Global;
 use std::collections::BTreeMap;
-use taint_shadow::Label;
+use taint_shadow::{Label, Labels};
 
 /// The decisions of one place: the instruction at the first of them, how many they are, the time of the first, and a label
 /// of all their source bytes.
@@ -58,7 +58,7 @@ impl Group {
         let Some(count) = self.count.checked_add(1) else {
             return Err(NoMemory::past_count());
         };
-        let label = labels.unite_labels(self.label, label)?;
+        let label = labels.unite(self.label, label)?;
         Ok(Group {
             count,
             label,

@@ -7,7 +7,6 @@
 
 mod finding;
 mod groups;
-mod labels;
 mod looks;
 mod tracking;
 mod writing;

@@ -8,12 +8,12 @@ ghost use Rattle.decision_find.specs.Looks.{looked_at, HasFitting};
 ghost use Rattle.decision_find.specs.Following.{IsSound, IsTracked, Notes, IsTurned, Follows};
 
 use crate::groups::Groups;
-use crate::labels::SourceLabels;
 use crate::looks::Look;
 use decision_rule::{deciding_rule, decisions_of};
 use flow_model::{Loc, Rule, StepSeen};
 use no_memory::NoMemory;
 use query_lang::Query;
+use source_labels::SourceLabels;
 use std::alloc::Global;
 use taint_shadow::{Places, plain_step};
 

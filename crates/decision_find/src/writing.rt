@@ -2,21 +2,23 @@
 
 ghost use Rattle.std.specs.Prelude.{◌≡◌, ◌++◌, List, IfOk, OnOk};
 ghost use Rattle.decision_model.specs.Decisions.{Decision};
+ghost use Rattle.source_labels.specs.Words.{label_words};
 ghost use Rattle.decision_model.specs.Text.{mnemonic_text, ranges_text, place_text, line_text, decisions_text};
 ghost use Rattle.decision_find.specs.Groups.{AreGroups, HaveLabels};
 
 use crate::groups::Group;
 use crate::tracking::Tracking;
 use decision_model::Place;
-use flow_model::SourceByte;
 use instruction_text::mnemonic;
 use isa::Instr;
 use itoa::Buffer;
 use merge_log::TermsReader;
 use no_memory::NoMemory;
 use printed_names::{push_lines_end, push_location, push_pc};
-use source_ranges::{push_range, split_first_range};
+use source_labels::SourceLabels;
+use source_ranges::{SourceSet, push_range};
 use std::alloc::Global;
+use taint_shadow::Label;
 
 /// The text of the decisions of a run: a line for each place, and `end N`.
 pub(crate) fn text(alloc: Global, tracking: &Tracking) -> Result<Vec<u8>, NoMemory>
@@ -27,11 +29,25 @@ pub(crate) fn text(alloc: Global, tracking: &Tracking) -> Result<Vec<u8>, NoMemo
     let mut reader = TermsReader::new(alloc);
     let mut out = Vec::new(alloc);
     for (place, group) in &tracking.groups.by_place {
-        tracking.labels.read(group.label, &mut reader)?;
-        push_line(&mut out, *place, group, reader.sources())?;
+        let sources = sources_of(alloc, &tracking.labels, group.label, &mut reader)?;
+        push_line(&mut out, *place, group, &sources)?;
     }
     push_lines_end(&mut out, tracking.groups.by_place.len() as u64)?;
     Ok(out)
+}
+
+/// The source bytes of a label.
+fn sources_of(
+    alloc: Global,
+    labels: &SourceLabels,
+    label: Label,
+    reader: &mut TermsReader,
+) -> Result<SourceSet, NoMemory>
+    requires { label_words.stands labels.now label }
+    ensures { IfOk result (λ sources. sources ≡ label_words.means labels.now label) }
+{
+    labels.read(label, reader)?;
+    SourceSet::of_runs(alloc, reader.runs())
 }
 
 /// Appends the line of a place, whose decisions have these source bytes.
@@ -39,7 +55,7 @@ fn push_line(
     out: &mut Vec<u8>,
     place: Place,
     group: &Group,
-    sources: &[SourceByte],
+    sources: &SourceSet,
 ) -> Result<(), NoMemory>
     ensures { OnOk result (out.new.items ≡ out.old.items
         ++ line_text place group.now.instr group.now.count group.now.first sources.now) }
@@ -78,14 +94,12 @@ fn push_mnemonic(out: &mut Vec<u8>, instr: &Option<Instr>) -> Result<(), NoMemor
 }
 
 /// Appends the ranges of source bytes, each after a blank.
-fn push_ranges(out: &mut Vec<u8>, sources: &[SourceByte]) -> Result<(), NoMemory>
+fn push_ranges(out: &mut Vec<u8>, sources: &SourceSet) -> Result<(), NoMemory>
     ensures { OnOk result (out.new.items ≡ out.old.items ++ ranges_text sources.now) }
 {
-    let mut left = sources;
-    while let Some((range, rest)) = split_first_range(left) {
+    for range in sources.ranges() {
         out.push(b' ')?;
-        push_range(out, range)?;
-        left = rest;
+        push_range(out, *range)?;
     }
     Ok(())
 }

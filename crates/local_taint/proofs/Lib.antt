@@ -1,8 +1,6 @@
 mod Words
-mod Notes
-mod Steps
-mod Between
-mod Following
+mod Named
+mod Terms
 mod Alike
 pub mod Range
 mod Held

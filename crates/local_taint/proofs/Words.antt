@@ -7,8 +7,9 @@ use Rattle.taint_shadow.specs.declared.labels.LabelKind.{LabelKind}
 use Rattle.taint_shadow.specs.declared.labels.LabelKind.TheVariants.{Node, Start, Run}
 use Rattle.taint_shadow.specs.Labels.{MakesLabel, KeepsLabels, Makes, kind_of, node_label, nothing_label}
 use Rattle.taint_shadow.proofs.Numbers.{node_kind}
+use Rattle.terms_ahead.specs.Ahead.{node_or_nothing}
 use Rattle.local_taint.specs.declared.labels.Nodes.{Nodes}
-use Rattle.local_taint.specs.Words.{label_words, as_terms, terms_in, terms_by, together, StandsIn, node_or_nothing}
+use Rattle.local_taint.specs.Words.{label_words, as_terms, terms_in, terms_by, together, StandsIn}
 use Rattle.local_taint.specs.Laws.{label_laws}
 
 -- where the log keeps its nodes, labels are kept

@@ -10,8 +10,9 @@ use Rattle.taint_shadow.specs.declared.labels.LabelKind.{LabelKind}
 use Rattle.taint_shadow.specs.declared.labels.LabelKind.TheVariants.{Node, Start, Run}
 use Rattle.taint_shadow.specs.Labels.{MakesLabel, Laws, kind_of, start_label}
 use Rattle.taint_shadow.proofs.Numbers.{start_kind, first_number}
+use Rattle.terms_ahead.specs.Ahead.{node_or_nothing}
 use Rattle.local_taint.specs.declared.labels.Nodes.{Nodes}
-use Rattle.local_taint.specs.Words.{label_words, as_terms, as_leaves, terms_by, together, AreTerms, node_or_nothing}
+use Rattle.local_taint.specs.Words.{label_words, as_terms, as_leaves, terms_by, together, AreTerms}
 
 terms_ascend : (nodes : Nodes) (k : LabelKind) → AreTerms (terms_by nodes k)
 terms_ascend nodes (Node n) = ascend-terms nodes.log n

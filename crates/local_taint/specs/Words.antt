@@ -1,15 +1,16 @@
 -- The labels of an epoch's locations, in the words of epochs.
-use Rattle.std.specs.Prelude.{ℕ, [], ◌∷◌}
+use Rattle.std.specs.Prelude.{[], ◌∷◌}
 use Rattle.flow_model.specs.declared.Loc.{Loc}
 use Rattle.flow_model.specs.Orders.{loc_cmp, source_cmp}
 use Rattle.sorted_set.specs.Sets.{union}
 use Rattle.epoch_model.specs.Summary.{Terms}
-use Rattle.merge_log.specs.Log.{IsNode, AreSets, terms, Terms as Leaves}
+use Rattle.merge_log.specs.Log.{AreSets, terms, Terms as Leaves}
 use Rattle.taint_shadow.specs.declared.labels.Label.{Label}
 use Rattle.taint_shadow.specs.declared.labels.LabelKind.{LabelKind}
 use Rattle.source_runs.specs.Runs.{bytes_of}
 use Rattle.taint_shadow.specs.declared.labels.LabelKind.TheVariants.{Node, Start, Run}
 use Rattle.taint_shadow.specs.Labels.{LabelWords, kind_of}
+use Rattle.terms_ahead.specs.Ahead.{HasNodeIn}
 use Rattle.local_taint.specs.declared.labels.Nodes.{Nodes}
 
 -- the leaves under a node as the terms of a content
@@ -24,15 +25,9 @@ of_itself l = record { sources = []; starts = l ∷ [] }
 abbrev pub together : Terms → Terms → Terms
 together a b = record { sources = union source_cmp a.sources b.sources; starts = union loc_cmp a.starts b.starts }
 
--- the node of a label: the empty one, where it has none
-abbrev pub node_or_nothing : LabelKind → ℕ
-node_or_nothing (Node n) = n
-node_or_nothing (Start l) = 0
-node_or_nothing (Run r) = 0
-
 -- the node of a label is one of the log's
 abbrev pub StandsIn : Nodes → Label → Type 0
-StandsIn nodes label = IsNode nodes.log (node_or_nothing (kind_of label))
+StandsIn nodes label = HasNodeIn nodes.log label
 
 -- the leaves under a node, the location alone, or the bytes of the run
 abbrev pub terms_by : Nodes → LabelKind → Terms

@@ -5,16 +5,19 @@ ghost use Rattle.log_model.specs.Logs.{steps};
 ghost use Rattle.epoch_model.specs.Summary.{IsSummary};
 ghost use Rattle.replayer.specs.Jobs.{trace_of};
 ghost use Rattle.replayer.specs.Nexts.{ArePlain};
-ghost use Rattle.local_taint.specs.Following.{IsSound, Follows, TracksFrom};
+ghost use Rattle.taint_tracking.specs.Following.{IsSound, Follows, due_of};
+ghost use Rattle.local_taint.specs.Words.{label_words};
+ghost use Rattle.local_taint.specs.Following.{TracksFrom};
 ghost use Rattle.local_taint.specs.Summaries.{number_of, summary_of, AreInRange};
 
+use crate::labels::Nodes;
 use crate::summary::Summary;
-use crate::tracking::Tracking;
 use epoch_cut::EpochTicket;
 use no_memory::NoMemory;
 use query_lang::Query;
 use replayer::{Cursor, Next};
 use std::alloc::Global;
+use taint_tracking::Tracking;
 
 /// The summary of the ticket's epoch, over the steps of a run, which are found to be in range. The cursor stands at the
 /// epoch's first step, and the epoch ends with the run at the latest.
@@ -48,13 +51,17 @@ pub fn analyse_from(
     ensures job { OnOk result (cursor.new.job ≡ cursor.old.job) }
 {
     let (first, past_last) = (ticket.first(), ticket.past_last());
-    let mut tracking = Tracking::begin(alloc, query, first)?;
+    let mut tracking = Tracking::begin(alloc, Nodes::new(alloc), query, first)?;
     follow(cursor, past_last, &mut tracking)?;
-    Ok(tracking.summary(ticket.number()))
+    Ok(Summary::of_tracked(ticket.number(), tracking.into_parts()))
 }
 
 /// Follows the steps of an epoch that begins where the cursor stands, up to, and without, `past_last`.
-fn follow(cursor: &mut Cursor, past_last: u64, tracking: &mut Tracking) -> Result<(), NoMemory>
+fn follow(
+    cursor: &mut Cursor,
+    past_last: u64,
+    tracking: &mut Tracking<Nodes>,
+) -> Result<(), NoMemory>
     requires ends { past_last ≤ steps cursor.old.job.log }
     requires tracked { TracksFrom cursor.old 0 tracking.old tracking.old }
     ensures tracked { OnOk result (TracksFrom cursor.old (past_last - cursor.old.time) tracking.old tracking.new) }
@@ -84,14 +91,18 @@ fn quiet_until(call: u64, due_after: u64, past_last: u64) -> u64
 }
 
 /// Follows the steps up to a time, each of which is a plain one, and after each of which no point is due.
-fn follow_plain(cursor: &mut Cursor, until: u64, tracking: &mut Tracking) -> Result<(), NoMemory>
+fn follow_plain(
+    cursor: &mut Cursor,
+    until: u64,
+    tracking: &mut Tracking<Nodes>,
+) -> Result<(), NoMemory>
     requires later { cursor.old.time ≤ until }
     requires plain { ArePlain cursor.old.job cursor.old.time until }
-    requires quiet { until ≤ tracking.old.due_after }
-    requires sound { IsSound tracking.old }
+    requires quiet { until ≤ due_of tracking.old }
+    requires sound { IsSound label_words tracking.old }
     ensures moved { OnOk result (cursor.new ≡ record { job = cursor.old.job; time = until }) }
-    ensures sound { OnOk result (IsSound tracking.new) }
-    ensures followed { OnOk result (Follows (trace_of cursor.old.job) cursor.old.time until tracking.old tracking.new) }
+    ensures sound { OnOk result (IsSound label_words tracking.new) }
+    ensures followed { OnOk result (Follows label_words (trace_of cursor.old.job) cursor.old.time until tracking.old tracking.new) }
 {
     let rule = tracking.rule();
     for time in cursor.time()..until {

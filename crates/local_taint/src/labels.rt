@@ -9,6 +9,7 @@ use flow_model::{Loc, SourceByte};
 use merge_log::{MergeLog, Node, TermsReader};
 use no_memory::NoMemory;
 use source_runs::SourceRun;
+use std::alloc::Global;
 use std::collections::LinkedList;
 use std::marker::Model;
 use taint_shadow::{Label, LabelKind, Labels};
@@ -36,6 +37,13 @@ pub struct Nodes {
 }
 
 impl Nodes {
+    /// No node but the empty one. It takes no memory.
+    pub(crate) fn new(alloc: Global) -> Nodes {
+        Nodes {
+            log: MergeLog::new(alloc),
+        }
+    }
+
     /// The label of a node.
     #[inline(always)]
     fn label_of(&self, node: Node) -> Label

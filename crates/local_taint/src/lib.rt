@@ -2,25 +2,18 @@
 //!
 //! Crates above rest on this: `analyse` and `analyse_from`, over any cursor at an epoch's first step, give the summary
 //! of the epoch: for each location at its end, and each of its chosen output bytes and points, the source bytes read in
-//! it and the start locations that it came from. `Watching` is told of each step of a run while its log is checked, and
-//! gives the summary of the run as one epoch. `Summary::end_terms`, `sink` and `sink_terms` read it, and so do
+//! it and the start locations that it came from. `Summary::end_terms`, `sink` and `sink_terms` read it, and so do
 //! `end_terms_ahead` and `sink_terms_ahead`, which read the terms of many by one walk and hold them in a `TermsAhead`.
 //! Where `shares_terms` answers yes, a sink has the terms of the one before it, and where `share_end_terms` does, two
 //! locations have the same terms.
 #![tactic(auto)]
 
-mod ahead;
 mod analysis;
 mod asked;
 mod labels;
-mod points;
-mod sinks;
 mod summary;
-mod tracking;
-mod watching;
 
-pub use ahead::TermsAhead;
 pub use analysis::{analyse, analyse_from};
 pub use asked::Asked;
 pub use summary::Summary;
-pub use watching::Watching;
+pub use terms_ahead::TermsAhead;

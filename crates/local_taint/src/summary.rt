@@ -5,15 +5,15 @@ ghost use Rattle.flow_model.specs.Ranges.{IsLocation};
 ghost use Rattle.merge_log.specs.Log.{AreSets};
 ghost use Rattle.taint_shadow.specs.Steps.{AreStanding};
 ghost use Rattle.local_taint.specs.Words.{label_words, as_terms};
-ghost use Rattle.local_taint.specs.Sinks.{AreNamed};
+ghost use Rattle.taint_tracking.specs.Sinks.{AreLabelled};
 
-use crate::ahead::TermsAhead;
 use crate::labels::Nodes;
-use crate::sinks::SinkLabel;
 use flow_model::{Loc, SinkPoint};
 use merge_log::{Node, TermsReader};
 use no_memory::NoMemory;
 use taint_shadow::{LabelKind, Places};
+use taint_tracking::{SinkLabel, Tracked};
+use terms_ahead::TermsAhead;
 
 /// What the analysis of an epoch found: the terms of each location at the epoch's end, and the epoch's sinks with their
 /// terms, in the order of the run. A location that the epoch doesn't touch takes no room.
@@ -24,12 +24,28 @@ pub struct Summary {
     pub(crate) places: Places,
     pub(crate) sinks: Vec<SinkLabel>,
     ghost standing: { AreStanding label_words nodes places },
-    ghost named: { AreNamed nodes sinks.items },
+    ghost labelled: { AreLabelled label_words nodes sinks.items },
 }
 
 impl Summary {
     ghost use Rattle.local_taint.specs.Summaries.{number_of, summary_of, names_of, terms_of};
+    ghost use Rattle.local_taint.specs.Following.{IsSummaryOf};
     ghost use Rattle.local_taint.specs.Ahead.{IsAhead};
+
+    /// The summary of the epoch of this number, of what was tracked of all its steps.
+    pub(crate) fn of_tracked(number: u32, tracked: Tracked<Nodes>) -> Summary
+        requires standing { AreStanding label_words tracked.labels tracked.places }
+        requires labelled { AreLabelled label_words tracked.labels tracked.sinks.items }
+        ensures number { number_of result ≡ number }
+        ensures summary { IsSummaryOf tracked result }
+    {
+        Summary {
+            number,
+            nodes: tracked.labels,
+            places: tracked.places,
+            sinks: tracked.sinks,
+        }
+    }
 
     /// The number of the epoch: 0 for the first.
     pub fn number(&self) -> u32
@@ -65,7 +81,7 @@ impl Summary {
         let label = self.places.get(loc);
         match label.kind() {
             LabelKind::Node(node) => ahead.read_end(
-                &self.nodes,
+                &self.nodes.log,
                 node as Node,
                 &self.places,
                 loc,
@@ -138,7 +154,7 @@ impl Summary {
         let label = self.sinks[number].label;
         match label.kind() {
             LabelKind::Node(node) => ahead.read_sink(
-                &self.nodes,
+                &self.nodes.log,
                 node as Node,
                 &self.sinks,
                 number,

@@ -1,7 +1,7 @@
 -- What a pass knows of its epoch, which tells whether it is whole.
 use Rattle.std.specs.Prelude.{Bool, true, false, Option, Some, None}
 use Rattle.std.specs.Option.{ForSome}
-use Rattle.local_taint.specs.declared.ahead.TermsAhead.{TermsAhead}
+use Rattle.terms_ahead.specs.declared.ahead.TermsAhead.{TermsAhead}
 use Rattle.local_taint.specs.declared.summary.Summary.{Summary}
 use Rattle.local_taint.specs.Ahead.{IsAhead}
 use Rattle.pass_parts.specs.declared.knowledge.Knowledge.{Knowledge}

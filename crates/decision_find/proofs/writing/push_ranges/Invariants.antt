@@ -1,9 +1,8 @@
-use Rattle.std.proofs.Common.{◌≡◌, ◌++◌, length}
-use Rattle.decision_model.specs.Text.{ranges_text}
+use Rattle.std.proofs.Common.{◌≡◌, ◌++◌, take, codes}
+use Rattle.std.specs.List.{flat_map}
+use Rattle.source_ranges.specs.Ranges.{range_text}
 use Rattle.decision_find.proofs.writing.push_ranges.Given as goal
 
+-- the ranges so far
 abbrev pub invariant-loop-range : goal.invariant-loop-range
-invariant-loop-range l = l.out.items ++ ranges_text l.left ≡ l.initial.out.items ++ ranges_text l.sources
-
-abbrev pub decreases-loop-range : goal.decreases-loop-range
-decreases-loop-range l = length l.left
+invariant-loop-range l = l.out.items ≡ l.fn.out.items ++ flat_map (λ r. codes " " ++ range_text r) (take l.range-index l.range-items)

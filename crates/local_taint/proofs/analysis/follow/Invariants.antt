@@ -1,13 +1,14 @@
 use Rattle.std.proofs.Common.{◌≡◌, ◌-◌, ◌≤◌}
 use Rattle.replayer.specs.Jobs.{trace_of}
-use Rattle.local_taint.specs.Following.{IsTracked}
+use Rattle.taint_tracking.specs.Following.{query_of}
+use Rattle.local_taint.specs.Following.{AreFollowed}
 use Rattle.local_taint.proofs.analysis.follow.Given as goal
 
 abbrev pub invariant-loop-cursor : goal.invariant-loop-cursor
 invariant-loop-cursor l = let job = l.initial.cursor.job in let start = l.initial.cursor.time in record {
   same_job : l.cursor.job ≡ job;
   within : l.cursor.time - start ≤ l.past_last - start;
-  here : IsTracked l.initial.tracking.query.now (trace_of job) start l.cursor.time l.tracking;
+  here : AreFollowed (query_of l.initial.tracking) (trace_of job) start l.cursor.time l.tracking;
 }
 
 abbrev pub decreases-loop-cursor : goal.decreases-loop-cursor

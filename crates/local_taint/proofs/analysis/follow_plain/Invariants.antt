@@ -1,6 +1,7 @@
 use Rattle.std.proofs.Common.{◌≡◌, ◌≤◌}
 use Rattle.replayer.specs.Jobs.{trace_of}
-use Rattle.local_taint.specs.Following.{IsSound, Follows}
+use Rattle.taint_tracking.specs.Following.{IsSound, Follows, query_of, due_of}
+use Rattle.local_taint.specs.Words.{label_words}
 use Rattle.local_taint.proofs.analysis.follow_plain.Given as goal
 
 abbrev pub invariant-loop-time : goal.invariant-loop-time
@@ -8,8 +9,8 @@ invariant-loop-time l = let job = l.initial.cursor.job in let start = l.initial.
   begun : start ≤ l.time;
   within : l.time ≤ l.until;
   cursor : l.cursor ≡ record { job = job; time = l.time };
-  sound : IsSound l.tracking;
-  query : l.tracking.query ≡ l.initial.tracking.query;
-  quiet : l.until ≤ l.tracking.due_after;
-  followed : Follows (trace_of job) start l.time l.initial.tracking l.tracking;
+  sound : IsSound label_words l.tracking;
+  query : query_of l.tracking ≡ query_of l.initial.tracking;
+  quiet : l.until ≤ due_of l.tracking;
+  followed : Follows label_words (trace_of job) start l.time l.initial.tracking l.tracking;
 }

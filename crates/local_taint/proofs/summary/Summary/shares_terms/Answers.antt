@@ -1,6 +1,6 @@
 use Rattle.std.proofs.Common.{arith, sym, ◌∙◌}
 use Rattle.local_taint.proofs.Alike.{same_label}
-use Rattle.local_taint.proofs.Notes.{same_terms}
+use Rattle.local_taint.proofs.Named.{same_terms}
 use Rattle.local_taint.proofs.summary.Summary.shares_terms.Goals as goal
 
 pub returns-then-number-gt0-clause-shared : goal.returns-then-number-gt0-clause-shared

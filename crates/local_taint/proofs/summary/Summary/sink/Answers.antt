@@ -1,4 +1,4 @@
-use Rattle.local_taint.proofs.Notes.{nth}
+use Rattle.local_taint.proofs.Named.{nth}
 use Rattle.local_taint.proofs.summary.Summary.sink.Goals as goal
 
 pub returns : goal.returns

@@ -1,0 +1,4 @@
+mod Notes
+mod Between
+mod Steps
+mod Following

@@ -1,0 +1,4 @@
+pub mod Courses
+pub mod Sinks
+pub mod Following
+pub mod Watched

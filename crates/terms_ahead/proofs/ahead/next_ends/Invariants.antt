@@ -1,0 +1,6 @@
+use Rattle.flow_model.specs.Ranges.{IsLocation}
+use Rattle.terms_ahead.specs.Ahead.{AreNext}
+use Rattle.terms_ahead.proofs.ahead.next_ends.Given as goal
+
+abbrev pub invariant-loop : goal.invariant-loop
+invariant-loop l = AreNext l.log l.node l.next.items × IsLocation l.here

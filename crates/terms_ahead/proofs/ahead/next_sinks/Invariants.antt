@@ -1,0 +1,5 @@
+use Rattle.terms_ahead.specs.Ahead.{AreNext}
+use Rattle.terms_ahead.proofs.ahead.next_sinks.Given as goal
+
+abbrev pub invariant-loop-number : goal.invariant-loop-number
+invariant-loop-number l = AreNext l.log l.node l.next.items
