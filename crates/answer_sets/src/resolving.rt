@@ -1,9 +1,11 @@
 //! Terms, resolved by the answers to what their epoch asked.
 
-ghost use Rattle.std.specs.Prelude.{◌≡◌, ◌||◌, [], true, get_or, All, IfOk, IsTrue, OnOk};
+ghost use Rattle.std.specs.Prelude.{◌≡◌, ◌||◌, [], true, get_or, All, IfOk, IfSome, IsTrue, OnOk};
 ghost use Rattle.sorted_set.specs.Sets.{Ascends, has};
 ghost use Rattle.flow_model.specs.Orders.{source_cmp};
 ghost use Rattle.flow_model.specs.declared.SourceByte.{SourceByte as Source};
+ghost use Rattle.source_runs.specs.Runs.{all_bytes};
+ghost use Rattle.merge_log.specs.Log.{AreSets, start_term};
 ghost use Rattle.epoch_model.specs.Join.{answer_to, resolved as resolved_terms};
 ghost use Rattle.local_taint.specs.Words.{as_terms};
 ghost use Rattle.answer_sets.specs.Gathered.{is_at_one_of, AreGathered};
@@ -14,12 +16,13 @@ use local_taint::Asked;
 use merge_log::{TermsReader, ascend};
 use no_memory::NoMemory;
 use sorted_set::{is_subset, merged};
+use source_runs::{SourceRun, push_bytes};
 use std::alloc::Global;
 use std::marker::Model;
 use std::mem;
 
-/// The source bytes of the terms that were read last, ascending, where this was asked and these are the answers. It
-/// fails only where there is no memory.
+/// The source bytes of the terms that were read last, which are sets, ascending, where this was asked and these are the
+/// answers. It fails only where there is no memory.
 ///
 /// However many start locations have the same answer, it has room for few more than six times the source bytes of the
 /// result at once, and the result takes no more than it needs.
@@ -29,18 +32,42 @@ pub fn resolved(
     asked: &Asked,
     answers: &Answers,
 ) -> Result<Vec<SourceByte>, NoMemory>
+    requires { AreSets terms.now }
     ensures value { IfOk result (λ all. all.items ≡ resolved_terms (answer_to asked.now answers.now) (as_terms terms.now)) }
     ensures ascending { IfOk result (λ all. Ascends source_cmp all.items) }
 {
     answers.form();
-    let mut gathered = Gathered::new(alloc);
-    gathered.add(terms.sources())?;
+    if let Some(loc) = only_start(terms) {
+        return Ok(answer(asked, answers, loc).to_vec(alloc)?);
+    }
+    let mut gathered = Gathered::of_runs(alloc, terms.runs())?;
     let mut large = Vec::new(alloc);
     for loc in terms.starts() {
         add_answer(&mut gathered, asked, answers, *loc, &mut large)?;
     }
     let all = gathered.into_set()?;
     Ok(all)
+}
+
+/// The start location of terms that are this one alone.
+pub(crate) fn only_start(terms: &TermsReader) -> Option<Loc>
+    ensures { IfSome result (λ loc. terms.now ≡ start_term loc) }
+{
+    match (terms.runs(), terms.starts()) {
+        ([], [loc]) => Some(*loc),
+        _ => None,
+    }
+}
+
+/// The answer to a location; no source byte where it wasn't asked.
+pub(crate) fn answer<'a>(asked: &Asked, answers: &'a Answers, loc: Loc) -> &'a [SourceByte]
+    ensures { result.now ≡ answer_to asked.now answers.now loc }
+{
+    asked.form();
+    match asked.place_of(loc) {
+        Some(place) => answers.get(place),
+        None => &[],
+    }
 }
 
 /// Of so many large answers it is remembered that they were added.
@@ -113,14 +140,18 @@ impl Model for Gathered {
 }
 
 impl Gathered {
-    fn new(alloc: Global) -> Gathered
-        ensures { result ≡ [] }
+    /// The bytes of runs, which ascend.
+    fn of_runs(alloc: Global, runs: &[SourceRun]) -> Result<Gathered, NoMemory>
+        requires { Ascends source_cmp (all_bytes runs.now) }
+        ensures { IfOk result (λ gathered. gathered ≡ all_bytes runs.now) }
     {
-        Gathered {
+        let mut merged = Vec::new(alloc);
+        push_bytes(&mut merged, runs)?;
+        Ok(Gathered {
             alloc,
-            merged: Vec::new(alloc),
+            merged,
             waiting: Vec::new(alloc),
-        }
+        })
     }
 
     /// Adds the source bytes of a set. A large one is within the rest more often than not, and then takes no room.
@@ -167,7 +198,9 @@ impl Gathered {
     {
         let mut waiting = self.waiting;
         if waiting.is_empty() {
-            return Ok(self.merged);
+            let mut set = self.merged;
+            set.shrink_to_fit();
+            return Ok(set);
         }
         ascend(&mut waiting);
         let mut all = merged(self.alloc, &self.merged, &waiting)?;

@@ -8,7 +8,7 @@ ghost use Rattle.local_taint.specs.Summaries.{summary_of};
 ghost use Rattle.local_taint.specs.Words.{as_terms};
 
 use crate::answers::Answers;
-use crate::resolving::resolved;
+use crate::resolving::{answer, only_start, resolved};
 use local_taint::{Asked, Summary, TermsAhead};
 use merge_log::TermsReader;
 use no_memory::NoMemory;
@@ -68,7 +68,7 @@ fn row(
     Ok(SinkSet::new(summary.sink(number), sources))
 }
 
-/// The source bytes of terms, which are sets: those of the terms alone, where no start location is among these.
+/// The source bytes of terms, which are sets: their runs alone, or the answer to one location, where that is all.
 fn sources_of(
     alloc: Global,
     terms: &TermsReader,
@@ -79,7 +79,11 @@ fn sources_of(
     ensures { IfOk result (λ all. all ≡ resolved_terms (answer_to asked.now answers.now) (as_terms terms.now)) }
 {
     if terms.starts().is_empty() {
-        return SourceSet::of(alloc, terms.sources());
+        return SourceSet::of_runs(alloc, terms.runs());
+    }
+    answers.form();
+    if let Some(loc) = only_start(terms) {
+        return SourceSet::of(alloc, answer(asked, answers, loc));
     }
     let all = resolved(alloc, terms, asked, answers)?;
     SourceSet::of(alloc, &all)

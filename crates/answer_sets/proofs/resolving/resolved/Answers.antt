@@ -1,11 +1,27 @@
-use Rattle.std.proofs.Common.{ap, List, ◌∙◌}
+use Rattle.std.proofs.Common.{ap, sym, subst, List, ◌∙◌}
 use Rattle.std.proofs.lemmas.List.{take_all}
+use Rattle.sorted_set.specs.Sets.{Ascends}
 use Rattle.flow_model.specs.declared.Loc.{Loc}
-use Rattle.epoch_model.specs.Join.{answer_to}
+use Rattle.flow_model.specs.Orders.{source_cmp}
+use Rattle.merge_log.specs.Log.{Terms as Leaves}
+use Rattle.epoch_model.specs.Join.{answer_to, resolved}
 use Rattle.local_taint.specs.Words.{as_terms}
 use Rattle.answer_sets.proofs.Members.{among, resolved_is}
 use Rattle.answer_sets.proofs.Finding.{ascends_answer}
 use Rattle.answer_sets.proofs.resolving.resolved.Goals as goal
+
+pub returns-in-Some-clause-value : goal.returns-in-Some-clause-value
+returns-in-Some-clause-value c =
+    c.in_ok-to_vec.ensures.items_if_clones_equal (λ x y e. e) ∙ c.answer.ensures
+    ∙ ap (λ (t : Leaves). resolved (answer_to c.args.asked.now c.args.answers.now) (as_terms t)) (sym c.in-Some.ensures)
+
+pub returns-in-Some-clause-ascending : goal.returns-in-Some-clause-ascending
+returns-in-Some-clause-ascending c =
+    subst (Ascends source_cmp) (sym (c.in_ok-to_vec.ensures.items_if_clones_equal (λ x y e. e) ∙ c.answer.ensures))
+    (ascends_answer c.args.asked.now c.args.answers.now c.form.ensures c.in-Some.loc)
+
+pub of_runs-requires : goal.of_runs-requires
+of_runs-requires c = subst (Ascends source_cmp) (sym c.runs.ensures) c.requires.sources
 
 pub returns-clause-value : goal.returns-clause-value
 returns-clause-value c =

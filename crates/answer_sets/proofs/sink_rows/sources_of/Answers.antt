@@ -6,12 +6,15 @@ use Rattle.flow_model.specs.Origins.{union_over}
 use Rattle.flow_model.proofs.Orders.{source_total}
 use Rattle.sorted_set.specs.Sets.{Ascends, union}
 use Rattle.sorted_set.proofs.Algebra.{union-nil}
-use Rattle.epoch_model.specs.Join.{answer_to}
+use Rattle.merge_log.specs.Log.{Terms as Leaves}
+use Rattle.epoch_model.specs.Join.{answer_to, resolved}
+use Rattle.local_taint.specs.Words.{as_terms}
 use Rattle.answer_sets.proofs.Each.{none_in}
+use Rattle.answer_sets.proofs.Finding.{ascends_answer}
 use Rattle.answer_sets.proofs.sink_rows.sources_of.Goals as goal
 
-pub of-requires : goal.of-requires
-of-requires c = subst (Ascends source_cmp) (sym c.sources.ensures) c.requires.sources
+pub of_runs-requires : goal.of_runs-requires
+of_runs-requires c = subst (Ascends source_cmp) (sym c.runs.ensures) c.requires.sources
 
 pub returns-then-is_empty : goal.returns-then-is_empty
 returns-then-is_empty c =
@@ -19,7 +22,16 @@ returns-then-is_empty c =
     let before = answer_to c.args.asked.now c.args.answers.now in
     let none : c.args.terms.now.starts ≡ [] = sym c.starts.ensures ∙ none_in c.starts.result.now (sym c.is_empty.ensures ∙ c.if-is_empty.true) in
     let alone = ap (λ (ls : List Loc). union source_cmp sources (union_over before ls)) none ∙ union-nil source_total sources c.requires.sources in
-    IfOk-weaker c.of.result _ _ (λ all is. is ∙ c.sources.ensures ∙ sym alone) c.of.ensures
+    IfOk-weaker c.of_runs.result _ _ (λ all is. is ∙ c.runs.ensures ∙ sym alone) c.of_runs.ensures
+
+pub of-requires : goal.of-requires
+of-requires c =
+    subst (Ascends source_cmp) (sym c.answer.ensures) (ascends_answer c.args.asked.now c.args.answers.now c.form.ensures c.in-Some.loc)
+
+pub returns-in-Some : goal.returns-in-Some
+returns-in-Some c =
+    let before = answer_to c.args.asked.now c.args.answers.now in
+    IfOk-weaker c.of.result _ _ (λ all is. is ∙ c.answer.ensures ∙ ap (λ (t : Leaves). resolved before (as_terms t)) (sym c.in-Some.ensures)) c.of.ensures
 
 pub of-requires-2 : goal.of-requires-2
 of-requires-2 c = subst (Ascends source_cmp) (sym c.deref.ensures.value) c.in_ok-all.ensures.ascending

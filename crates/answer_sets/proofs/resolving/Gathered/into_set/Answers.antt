@@ -14,10 +14,10 @@ returns-clause-members c = rw (← c.self.view_is) (λ b.
     let merged = c.self.inside.merged.items in
     let waiting = c.self.inside.waiting.items in
     let set = c.deref-2.result.now in
-    let is = c.shrink_to_fit.ensures.items ∙ c.in_ok-all.ensures ∙ ap (λ (xs : List SourceByte). union compared xs set) c.deref.ensures.value in
-    merged_has merged set c.shrink_to_fit.new.self.items is b
+    let is = c.shrink_to_fit-2.ensures.items ∙ c.in_ok-all.ensures ∙ ap (λ (xs : List SourceByte). union compared xs set) c.deref.ensures.value in
+    merged_has merged set c.shrink_to_fit-2.new.self.items is b
     ∙ ap (λ o. has source_cmp b merged || o) (members_by set waiting (λ x. ap (has compared x) c.deref-2.ensures.value ∙ c.ascend.ensures.members x) b)
     ∙ sym (has-both merged waiting b))
 
 pub returns-clause-ascending : goal.returns-clause-ascending
-returns-clause-ascending c = merged_ascends c.deref.result.now c.deref-2.result.now c.shrink_to_fit.new.self.items (c.shrink_to_fit.ensures.items ∙ c.in_ok-all.ensures) (rw c.deref-2.ensures.value (ascends_by _ c.ascend.ensures.ascending))
+returns-clause-ascending c = merged_ascends c.deref.result.now c.deref-2.result.now c.shrink_to_fit-2.new.self.items (c.shrink_to_fit-2.ensures.items ∙ c.in_ok-all.ensures) (rw c.deref-2.ensures.value (ascends_by _ c.ascend.ensures.ascending))
