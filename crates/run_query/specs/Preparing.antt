@@ -5,7 +5,7 @@ use Rattle.report_model.specs.Query.{Query}
 use Rattle.epoch_model.specs.Cutting.{IsCutting}
 use Rattle.replayer.specs.Jobs.{Job}
 use Rattle.checkpoints.specs.Taking.{TakerAt, HasTaken}
-use Rattle.seq_taint.specs.Runs.{IsSummaryOfRun}
+use Rattle.seq_taint.specs.Runs.{AreSinksOfRun}
 use Rattle.run_query.specs.declared.prepared.Prepared.{Prepared}
 use Rattle.run_query.specs.declared.prepared.Found.{Found}
 use Rattle.run_query.specs.declared.prepared.Found.TheVariants.{Whole, Parts}
@@ -19,9 +19,9 @@ pub record AreTakenFor (cuts : List ℕ) (job : Job) (taker : TakerAt) : Type 0 
   pub cuts_are : taker.cuts ≡ cuts
   pub taken : HasTaken job (steps job.log) taker
 
--- this was found of the job's run for the query: of one epoch its summary, of several where each begins
+-- this was found of the job's run for the query: of one epoch its sinks, of several where each begins
 abbrev pub IsFoundOf : Query → Job → List ℕ → Found → Type 0
-IsFoundOf q job cuts (Whole summary) = (length cuts ≡ 1) × IsSummaryOfRun q job summary
+IsFoundOf q job cuts (Whole sinks) = (length cuts ≡ 1) × AreSinksOfRun q job sinks
 IsFoundOf q job cuts (Parts taker) = AreTakenFor cuts job taker
 
 -- the job's run is cut so, and this was found of it for the query

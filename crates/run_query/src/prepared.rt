@@ -6,17 +6,17 @@ ghost use Rattle.elf_model.specs.Image.{image as image_of_file};
 ghost use Rattle.epoch_model.specs.Cutting.{IsCutting};
 ghost use Rattle.no_memory.specs.Faults.{IsCausedBy};
 ghost use Rattle.replayer.specs.Checks.{IsChecked, IsMisfit};
-ghost use Rattle.seq_taint.specs.Runs.{IsSummaryOfRun};
+ghost use Rattle.seq_taint.specs.Runs.{AreSinksOfRun};
 ghost use Rattle.run_query.specs.Preparing.{AreTakenFor, IsPrepared, cuts_of};
 
 use checkpoints::CheckpointTaker;
 use elf_image::Image;
 use epoch_cut::Cuts;
-use local_taint::{Summary, Watching};
 use outer_io::Gate;
 use query_lang::Query;
 use replay_log::Log;
 use replayer::{CheckFault, Job};
+use seq_taint::{LabelledSinks, watching};
 use std::alloc::Global;
 
 /// Where a run is cut into epochs, and what was found of them for a query while the run's log was checked.
@@ -29,8 +29,8 @@ pub struct Prepared {
 /// What was found of the epochs of a run.
 #[derive(Drop)]
 pub(crate) enum Found {
-    /// Of one epoch its summary.
-    Whole(Summary),
+    /// Of one epoch its sinks.
+    Whole(LabelledSinks),
     /// Of several epochs where each begins.
     Parts(CheckpointTaker),
 }
@@ -57,8 +57,8 @@ pub fn check_for<G: Gate>(
 {
     if cuts.count() == 1 {
         gate.enter(0);
-        let (job, summary) = check_whole(alloc, program, image, log, query)?;
-        let found = Found::Whole(summary);
+        let (job, sinks) = check_whole(alloc, program, image, log, query)?;
+        let found = Found::Whole(sinks);
         return Ok((job, Prepared { cuts, found }));
     }
     let (job, taker) = check_parts(alloc, program, image, log, &cuts)?;
@@ -66,23 +66,23 @@ pub fn check_for<G: Gate>(
     Ok((job, Prepared { cuts, found }))
 }
 
-/// The log checked, and the summary of the run as one epoch.
+/// The log checked, and the sinks of the run.
 fn check_whole(
     alloc: Global,
     program: &[u8],
     image: Image,
     log: Log,
     query: &Query,
-) -> Result<(Job, Summary), CheckFault>
+) -> Result<(Job, LabelledSinks), CheckFault>
     requires { image_of_file program.now ≡ Ok image }
     ensures checked { IfOk result (λ r. IsChecked program.now image log r.0) }
-    ensures summary { IfOk result (λ r. IsSummaryOfRun query.now r.0 r.1) }
+    ensures sinks { IfOk result (λ r. AreSinksOfRun query.now r.0 r.1) }
     ensures fault { IfErr result (IsCausedBy (IsMisfit program.now image log)) }
 {
-    let mut watching = Watching::new(alloc, query)?;
+    let mut watching = watching(alloc, query)?;
     let job = Job::check_watched(alloc, program, image, log, &mut watching)?;
-    let summary = watching.finish()?;
-    Ok((job, summary))
+    let sinks = LabelledSinks::of(watching)?;
+    Ok((job, sinks))
 }
 
 /// The log checked, and the checkpoints at the cuts of the run taken.

@@ -19,7 +19,7 @@ use no_memory::NoMemory;
 use outer_io::Gate;
 use query_lang::Query;
 use replayer::Job;
-use seq_taint::{rows_of_run, sequential};
+use seq_taint::sequential;
 use sink_collect::Report;
 use std::alloc::Global;
 use std::sync::Wait;
@@ -87,8 +87,8 @@ pub fn query_prepared<G: Gate, R: Threads + Wait + Sync>(
 {
     let Prepared { cuts, found } = prepared;
     let checkpoints = match found {
-        Found::Whole(summary) => {
-            let sets = rows_of_run(alloc, job, query, &summary)?;
+        Found::Whole(sinks) => {
+            let sets = sinks.rows(alloc)?;
             return answer_of_one(alloc, job, query, sets);
         }
         Found::Parts(taker) => taker.finish(job)?,

@@ -1,10 +1,9 @@
--- A run as one epoch.
-use Rattle.log_model.specs.Logs.{steps}
+-- The rows of a run's sinks.
+use Rattle.std.specs.Prelude.{◌≡◌, List}
 use Rattle.report_model.specs.Query.{Query}
+use Rattle.report_model.specs.Rows.{Row, rows_as_written}
 use Rattle.replayer.specs.Jobs.{Job, trace_of}
-use Rattle.local_taint.specs.declared.summary.Summary.{Summary}
-use Rattle.local_taint.specs.Watched.{IsFound}
 
--- it is the summary of all steps of the job's run, each of which is in range
-abbrev pub IsSummaryOfRun : Query → Job → Summary → Type 0
-IsSummaryOfRun q job e = IsFound q (trace_of job) (steps job.log) e
+-- these are the sinks of a job's run: their rows are the rows of the run, in its order
+abbrev pub AreSinksOfRun : Query → Job → List Row → Type 0
+AreSinksOfRun q job rows = rows ≡ rows_as_written q (trace_of job)

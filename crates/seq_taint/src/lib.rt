@@ -1,24 +1,30 @@
-//! The rows of a whole run, in the order of the run: the run is one epoch, which asks nothing of any other.
+//! The rows of a whole run, in the order of the run: the run is one epoch, which asks nothing of any other. Its
+//! locations are labelled with source bytes alone: what stood anywhere at the run's start came from none.
 //!
 //! Crates above rest on this: `sequential` is the rows in the order of the run, each output byte and each point once.
-//! `summary_of_run` is the summary of all steps of the run, and `rows_of_run` the rows that such a summary comes to.
+//! `watching` watches a run for them, also while its log is checked; `LabelledSinks::of` is then the sinks of the run,
+//! each with a label, and `LabelledSinks::rows` are their rows.
 #![tactic(auto)]
+
+mod labelled;
+mod reading;
 
 ghost use Rattle.std.specs.Prelude.{◌≡◌, IfOk};
 ghost use Rattle.replayer.specs.Jobs.{trace_of};
 ghost use Rattle.report_model.specs.Rows.{rows_as_written};
 ghost use Rattle.sink_collect.specs.Distinct.{AreDistinct};
-ghost use Rattle.seq_taint.specs.Runs.{IsSummaryOfRun};
+ghost use Rattle.source_labels.specs.Words.{label_words};
+ghost use Rattle.taint_tracking.specs.Watched.{HasBegun};
 
-use answer_sets::{Answers, rows};
 use distinct_rows::rows_are_distinct;
-use local_taint::{Asked, Summary, Watching};
-use merge_log::TermsReader;
+pub use labelled::LabelledSinks;
 use no_memory::NoMemory;
 use query_lang::Query;
 use replayer::Job;
 use sink_collect::SinkSet;
+use source_labels::SourceLabels;
 use std::alloc::Global;
+use taint_tracking::Watching;
 
 /// The output bytes of a run and the points inside it that the query asks for, each with the source bytes that it came
 /// from, in the order of the run: at each time the points, and then the bytes that the next step writes.
@@ -29,37 +35,15 @@ pub fn sequential(alloc: Global, job: &Job, query: &Query) -> Result<Vec<SinkSet
     ensures distinct { IfOk result (λ sets. AreDistinct sets.items) }
 {
     rows_are_distinct(job, query);
-    let summary = summary_of_run(alloc, job, query)?;
-    rows_of_run(alloc, job, query, &summary)
-}
-
-/// The summary of a run as one epoch, in one replay. It gives up with NoMemory alone.
-pub fn summary_of_run(alloc: Global, job: &Job, query: &Query) -> Result<Summary, NoMemory>
-    ensures { IfOk result (IsSummaryOfRun query.now job.now) }
-{
-    let mut watching = Watching::new(alloc, query)?;
+    let mut watching = watching(alloc, query)?;
     job.watch(alloc, &mut watching)?;
-    watching.finish()
+    let sinks = LabelledSinks::of(watching)?;
+    sinks.rows(alloc)
 }
 
-/// The rows of a run, of its summary as one epoch. It gives up with NoMemory alone.
-pub fn rows_of_run(
-    alloc: Global,
-    job: &Job,
-    query: &Query,
-    summary: &Summary,
-) -> Result<Vec<SinkSet>, NoMemory>
-    requires { IsSummaryOfRun query.now job.now summary.now }
-    ensures { IfOk result (λ sets. sets.items ≡ rows_as_written query.now (trace_of job.now)) }
+/// What watches a run from its first step on for the sinks of a query. It gives up with NoMemory alone.
+pub fn watching<'q>(alloc: Global, query: &'q Query) -> Result<Watching<'q, SourceLabels>, NoMemory>
+    ensures { IfOk result (HasBegun label_words query.now) }
 {
-    // The contract of this says that the points are at locations.
-    let _points = query.points();
-    let mut reader = TermsReader::new(alloc);
-    rows(
-        alloc,
-        &mut reader,
-        summary,
-        &Asked::new(alloc),
-        &Answers::new(alloc),
-    )
+    Watching::new(alloc, SourceLabels::new(alloc), query)
 }

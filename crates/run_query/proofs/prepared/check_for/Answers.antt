@@ -12,7 +12,7 @@ returns-then-count-eq1-clause-prepared g c =
     let one : length c.args.cuts ≡ 1 = omega (arith, c.count.ensures.is, c.if-count-eq1.true) in
     record {
       cutting = cutting_kept c.args.log c.in_ok-job.job.log c.args.cuts c.in_ok-job.ensures.checked.same_log c.requires.cuts;
-      found_of = (one, c.in_ok-job.ensures.summary);
+      found_of = (one, c.in_ok-job.ensures.sinks);
     }
 
 pub returns-clause-prepared : goal.returns-clause-prepared
