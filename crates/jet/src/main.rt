@@ -9,8 +9,8 @@ ghost use Rattle.std.specs.Prelude.{◌≤◌, length};
 mod tests;
 
 use jet_call::jet;
-use jet_cli::conclude;
 use jet_refusal::Refusal;
+use jet_work::conclude;
 use no_memory::NoMemory;
 use outer_io::{FileStore, MachineClock, OpenGate, OutSink};
 use page_text::mark as page_mark;

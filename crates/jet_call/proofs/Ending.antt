@@ -17,11 +17,11 @@ use Rattle.jet_model.proofs.Headline.{answer-is_given, given-is_answer, reports-
 use Rattle.page_model.specs.Page.{page_report}
 use Rattle.workload_model.proofs.Outcomes.{one_answer as one_bench_answer, answer-is_lines, lines-are_answer}
 use Rattle.jet_files.specs.Outcome.{Found}
-use Rattle.jet_cli.specs.Targets.{Target, ToOutput, ToFile, target_of}
-use Rattle.jet_cli.specs.Answers.{IsAnswer, given_by, decisions_by, made_by, named, limits_of, workload_length}
-use Rattle.jet_cli.specs.Outside.{Change, Told, IsUndisturbed}
-use Rattle.jet_cli.specs.Writing.{FailsToWrite}
-use Rattle.jet_cli.specs.Ending.{IsText, WritesWhole, WritesPart, Ends, IsUnasked, causes_of, status_after}
+use Rattle.jet_work.specs.Targets.{Target, ToOutput, ToFile, target_of}
+use Rattle.jet_work.specs.Answers.{IsAnswer, given_by, decisions_by, made_by, named, limits_of, workload_length}
+use Rattle.jet_work.specs.Outside.{Change, Told, IsUndisturbed}
+use Rattle.jet_work.specs.Writing.{FailsToWrite}
+use Rattle.jet_work.specs.Ending.{IsText, WritesWhole, WritesPart, Ends, IsUnasked, causes_of, status_after}
 use Rattle.jet_call.specs.Statuses.{IsWanted, IsDone, IsDoneInPart, IsRefused, IsHeard, IsDecided, AreWithinLimits, IsComplete}
 use Rattle.jet_call.proofs.Refusals.{status_of-range, of_any_cause, of_write_fault}
 

@@ -12,10 +12,10 @@ use Rattle.jet_model.specs.Contents.{Contents}
 use Rattle.jet_model.specs.Headline.{IsGivenByQuery, AreReportsOf, IsGivenBy, IsConversionOf, IsRecordingOf, IsShort, AreShort, AreAllShort, HasFewEpochs, HasFewIfTold}
 use Rattle.page_model.specs.Page.{page_report}
 use Rattle.workload_model.specs.Answer.{IsBenchOf}
-use Rattle.jet_cli.specs.Answers.{IsAnswer, Hears, given_by, decisions_by, made_by, named, limits_of, workload_length}
-use Rattle.jet_cli.specs.Targets.{Unless, plan_of}
-use Rattle.jet_cli.specs.Outside.{Change, Told, IsUndisturbed}
-use Rattle.jet_cli.specs.Ending.{WritesWhole, WritesPart, IsUnasked, causes_of, status_after}
+use Rattle.jet_work.specs.Answers.{IsAnswer, Hears, given_by, decisions_by, made_by, named, limits_of, workload_length}
+use Rattle.jet_work.specs.Targets.{Unless, plan_of}
+use Rattle.jet_work.specs.Outside.{Change, Told, IsUndisturbed}
+use Rattle.jet_work.specs.Ending.{WritesWhole, WritesPart, IsUnasked, causes_of, status_after}
 
 -- the program ends with 0, or with one of 2 to 11
 abbrev pub IsStatus : ℕ → Type 0

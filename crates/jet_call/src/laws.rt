@@ -2,7 +2,7 @@
 
 ghost use Rattle.std.specs.Prelude.{ℕ, List, Option};
 ghost use Rattle.outer_io.specs.SureStores.{StaysWithinRoom};
-ghost use Rattle.jet_cli.specs.Outside.{IsUndisturbed, change};
+ghost use Rattle.jet_work.specs.Outside.{IsUndisturbed, change};
 
 use outer_io::{Sink, Store, SureSink, SureStore};
 

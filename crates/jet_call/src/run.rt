@@ -2,13 +2,14 @@
 ghost use Rattle.std.specs.Prelude.{◌≡◌, ◌⊎◌, ◌≤◌, false, map, string_bytes};
 ghost use Rattle.clap.specs.Words.{takes};
 ghost use Rattle.jet_words.specs.CommandLine.{jet_app};
-ghost use Rattle.jet_cli.specs.Targets.{command_in, target_in, files_of, IfFile, IfUntimedIn};
-ghost use Rattle.jet_cli.specs.Outside.{change};
-ghost use Rattle.jet_cli.specs.Keeping.{OpensAll, OpensFirst, KeepsAll, KeepsBut};
-ghost use Rattle.jet_cli.specs.Ending.{IsUnwritten, Says};
+ghost use Rattle.jet_work.specs.Targets.{command_in, target_in, files_of, IfFile, IfUntimedIn};
+ghost use Rattle.jet_work.specs.Outside.{change};
+ghost use Rattle.jet_work.specs.Keeping.{OpensAll, OpensFirst, KeepsAll, KeepsBut};
+ghost use Rattle.jet_work.specs.Ending.{IsUnwritten, Says};
 ghost use Rattle.jet_call.specs.Statuses.{IsStatus, IsDone, IsDoneInPart, IsRefused, IsDecided, IsComplete};
 
-use jet_cli::{conclude, obey};
+use jet_cli::obey;
+use jet_work::conclude;
 use outer_io::{Clock, Gate, Sink, Store};
 use std::sync::Wait;
 use std::thread::Threads;

@@ -47,9 +47,9 @@ use Rattle.no_memory.specs.Faults.{IsCausedBy}
 use Rattle.jet_refusal.specs.Faults.{unrecorded_refusal, IsRefusalOf}
 use Rattle.order_gateway.specs.Recordings.{IsTooLong, IsCause}
 use Rattle.jet_files.specs.Outcome.{Found, Follows, IsWork, by_reading}
-use Rattle.jet_cli.specs.Answers.{IsWorkOf}
+use Rattle.jet_work.specs.Answers.{IsWorkOf}
 use Rattle.jet_cli.specs.Bench.{IsWorkloadJob, asked_in_all}
-use Rattle.jet_cli.proofs.Fitting.{fitting_start-ok}
+use Rattle.jet_work.proofs.Fitting.{fitting_start-ok}
 
 -- ---- the guest's run begins
 

@@ -1,24 +1,22 @@
 //! What a command gives: its files are read one after another, and a text, or what it is made of, comes of them.
-ghost use Rattle.std.specs.Prelude.{◌≡◌, ◌≤◌, ◌∷◌, [], length, map, is_ok, None, Err, IfOk, IfErr};
+ghost use Rattle.std.specs.Prelude.{◌≡◌, ◌≤◌, ◌∷◌, [], length, map, is_ok, Err, IfOk, IfErr};
 ghost use Rattle.outer_io.specs.Reads.{Reads};
-ghost use Rattle.jet_model.specs.Answer.{query_answer, queries_answer, run_answer, convert_answer};
+ghost use Rattle.jet_model.specs.Answer.{query_answer, queries_answer};
 ghost use Rattle.jet_words.specs.Commands.{plain_command, IsPipeline, IsInRange};
 ghost use Rattle.jet_files.specs.Outcome.{Comes, Follows, seen_by, bytes_of};
-ghost use Rattle.jet_cli.specs.Targets.{sources_of, target_of, IfFile, IfUntimed};
-ghost use Rattle.jet_cli.specs.Texts.{text_of, IsWhole};
-ghost use Rattle.jet_cli.specs.Answers.{IsAnswer, IsPageWhole, telling_text, decisions_by, made_by, named};
-ghost use Rattle.jet_cli.specs.Ending.{IsUnasked};
+ghost use Rattle.jet_work.specs.Targets.{sources_of, target_of, IfFile, IfUntimed};
+ghost use Rattle.jet_work.specs.Texts.{text_of, IsWhole};
+ghost use Rattle.jet_work.specs.Answers.{IsAnswer, IsPageWhole, telling_text, named};
+ghost use Rattle.jet_work.specs.Ending.{IsUnasked};
 
 use crate::bench::bench;
 use crate::engine::Engine;
-use crate::pieces::Answer;
-use crate::record::{Limits, record};
-use crate::work::{Telling, conversion, decide, make, reports, tell};
+use crate::work::{reports, tell};
 use jet_files::{open_queries, open_query, open_run};
 use jet_refusal::Refusal;
-use jet_words::{Command, Pipeline, Product};
+use jet_words::{Command, Pipeline};
+use jet_work::{Answer, Limits, Telling, convert, decisions, record, run_product};
 use outer_io::{Clock, Gate, Store};
-use std::alloc::Global;
 use std::sync::Wait;
 use std::thread::Threads;
 
@@ -44,23 +42,6 @@ fn analysis<R: Threads + Wait + Sync, S: Store, G: Gate>(
     tell(engine, run, &query, telling, pipeline)
 }
 
-/// Where a source byte of a query could turn a run.
-fn decisions<S: Store>(
-    alloc: Global,
-    store: &mut S,
-    program: &str,
-    log: &str,
-    query: &str,
-) -> Result<Vec<u8>, Refusal>
-    ensures answer { Comes (λ file. query_answer decisions_by None file (named program.now log.now query.now))
-        (S.shown store.old) (S.shown store.new) (seen_by bytes_of result) }
-    ensures reads { Reads (program.now ∷ log.now ∷ query.now ∷ []) (is_ok result) (S.shown store.old) (S.shown store.new) }
-{
-    let run = open_run(alloc, store, program, log)?;
-    let query = open_query(alloc, store, query)?;
-    decide(alloc, run, &query)
-}
-
 /// The reports of several queries.
 fn queries<R: Threads + Wait + Sync, S: Store, G: Gate>(
     engine: &Engine<R, G>,
@@ -83,37 +64,6 @@ fn queries<R: Threads + Wait + Sync, S: Store, G: Gate>(
     reports(engine, run, &queries, pipeline)
 }
 
-/// What is made of a run without a query.
-fn run_product<S: Store>(
-    alloc: Global,
-    store: &mut S,
-    program: &str,
-    log: &str,
-    product: Product,
-) -> Result<Vec<u8>, Refusal>
-    ensures answer { Comes (λ file. run_answer file program.now log.now (made_by product))
-        (S.shown store.old) (S.shown store.new) (seen_by bytes_of result) }
-    ensures reads { Reads (program.now ∷ log.now ∷ []) (is_ok result) (S.shown store.old) (S.shown store.new) }
-{
-    let run = open_run(alloc, store, program, log)?;
-    make(alloc, run, product)
-}
-
-/// The log of a run in version 2.
-fn convert<S: Store>(
-    alloc: Global,
-    store: &mut S,
-    program: &str,
-    log: &str,
-) -> Result<Vec<u8>, Refusal>
-    ensures answer { Comes (λ file. convert_answer file program.now log.now)
-        (S.shown store.old) (S.shown store.new) (seen_by bytes_of result) }
-    ensures reads { Reads (program.now ∷ log.now ∷ []) (is_ok result) (S.shown store.old) (S.shown store.new) }
-{
-    let run = open_run(alloc, store, program, log)?;
-    conversion(alloc, run)
-}
-
 /// A text that was made, as an answer.
 fn as_answer(made: Result<Vec<u8>, Refusal>) -> Result<Answer, Refusal>
     ensures same { seen_by text_of result ≡ seen_by bytes_of made }
@@ -128,7 +78,7 @@ fn as_answer(made: Result<Vec<u8>, Refusal>) -> Result<Answer, Refusal>
 }
 
 /// What a command gives, which `deliver` writes. What is written into a file is a text that is there.
-#[tactic(auto, using(crate::proofs::KeepingLemmas::unasked))]
+#[tactic(auto, using(jet_work::proofs::KeepingLemmas::unasked))]
 pub fn answer<R: Threads + Wait + Sync, S: Store, K: Clock, G: Gate>(
     engine: &Engine<R, G>,
     store: &mut S,

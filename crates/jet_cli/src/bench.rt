@@ -7,15 +7,15 @@ ghost use Rattle.workload_model.specs.Lines.{numbers_of, bench_text};
 ghost use Rattle.workload_model.specs.Answer.{IsBenchAnswer};
 ghost use Rattle.jet_words.specs.Commands.{IsPipeline};
 ghost use Rattle.jet_files.specs.Outcome.{seen_by, bytes_of};
-ghost use Rattle.jet_cli.specs.Answers.{IsWorkOf, workload_length};
+ghost use Rattle.jet_work.specs.Answers.{IsWorkOf, workload_length};
 ghost use Rattle.jet_cli.specs.Bench.{IsWorkloadJob, asked_in_all};
 
 use crate::engine::Engine;
 use crate::parts::cuts_of;
-use crate::work::fitted;
 use epoch_cut::Cuts;
 use jet_refusal::Refusal;
 use jet_words::Pipeline;
+use jet_work::fitted;
 use no_memory::NoMemory;
 use order_gateway::{MOST_STEPS, Numbers, Recording, query, recorded, text_of};
 use outer_io::Gate;

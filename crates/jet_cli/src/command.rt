@@ -4,16 +4,16 @@ ghost use Rattle.clap.specs.Words.{takes};
 ghost use Rattle.jet_refusal.specs.Faults.{IsOutOfMemory};
 ghost use Rattle.jet_words.specs.CommandLine.{jet_app};
 ghost use Rattle.jet_words.specs.Commands.{plain_command, IsInRange};
-ghost use Rattle.jet_cli.specs.Targets.{command_in, target_of, target_in, files_of, IfFile, IfUntimed, IfUntimedIn};
-ghost use Rattle.jet_cli.specs.Outside.{change};
-ghost use Rattle.jet_cli.specs.Keeping.{OpensAll, OpensFirst, KeepsAll, KeepsBut};
-ghost use Rattle.jet_cli.specs.Ending.{Ends, IsUnasked, IsUnwritten, status_after};
+ghost use Rattle.jet_work.specs.Targets.{command_in, target_of, target_in, files_of, IfFile, IfUntimed, IfUntimedIn};
+ghost use Rattle.jet_work.specs.Outside.{change};
+ghost use Rattle.jet_work.specs.Keeping.{OpensAll, OpensFirst, KeepsAll, KeepsBut};
+ghost use Rattle.jet_work.specs.Ending.{Ends, IsUnasked, IsUnwritten, status_after};
 
 use crate::answer::answer;
-use crate::delivery::deliver;
 use crate::engine::Engine;
 use jet_refusal::Refusal;
 use jet_words::{Command, read_words};
+use jet_work::deliver;
 use no_memory::Fault;
 use outer_io::{Buffer, Clock, Gate, Sink, Store, WriteFault};
 use std::alloc::Global;
@@ -25,7 +25,7 @@ const PIECE: usize = 65536;
 
 /// Does what a command stands for: makes its text of its files, and writes it. The buffer for it is there before anything is
 /// read, so nothing is refused while a text is written.
-#[tactic(auto, using(crate::proofs::KeepingLemmas::keeps, crate::proofs::KeepingLemmas::unasked))]
+#[tactic(auto, using(jet_work::proofs::KeepingLemmas::keeps, jet_work::proofs::KeepingLemmas::unasked))]
 fn carry_out<R: Threads + Wait + Sync, S: Store, O: Sink, K: Clock, G: Gate>(
     engine: &Engine<R, G>,
     command: &Command,
@@ -57,7 +57,7 @@ fn carry_out<R: Threads + Wait + Sync, S: Store, O: Sink, K: Clock, G: Gate>(
 /// Does what the words stand for, of which the first is the program's name. It gives up with `Usage`, where they stand
 /// for no command; with what the files are refused for, `ReadFault` or `WriteFault`, where the store or the output fails,
 /// or it is out of memory. Epochs are analysed in threads; the gate is told of each.
-#[tactic(auto, using(crate::proofs::KeepingLemmas::keeps, crate::proofs::KeepingLemmas::unasked))]
+#[tactic(auto, using(jet_work::proofs::KeepingLemmas::keeps, jet_work::proofs::KeepingLemmas::unasked))]
 pub fn obey<R: Threads + Wait + Sync, S: Store, O: Sink, K: Clock, G: Gate>(
     rt: &R,
     alloc: Global,

@@ -1,75 +1,30 @@
-//! The work over a program and a log that were read: the log is fitted to its program, the run is replayed, and a text, or
-//! what a text is made of, is found.
-ghost use Rattle.std.specs.Prelude.{◌≡◌, ◌≤◌, None, Ok, Err, length, IfOk, IfErr, OnOk};
+//! The analysis of a run, of a program and a log that were read, and what is told of its rows.
+ghost use Rattle.std.specs.Prelude.{◌≡◌, ◌≤◌, Ok, Err, length, IfOk, IfErr, OnOk};
 ghost use Rattle.elf_model.specs.Image.{image as image_of_file};
 ghost use Rattle.replayer.specs.Checks.{IsChecked};
 ghost use Rattle.replayer.specs.Jobs.{trace_of};
 ghost use Rattle.report_model.specs.Rows.{rows};
 ghost use Rattle.jet_words.specs.Commands.{IsPipeline};
-ghost use Rattle.jet_model.specs.Answer.{fitting_start, told_check, text_answer};
-ghost use Rattle.jet_files.specs.Outcome.{IsWork, seen_by, bytes_of};
+ghost use Rattle.jet_model.specs.Answer.{told_check};
+ghost use Rattle.jet_files.specs.Outcome.{IsWork, seen_by};
 ghost use Rattle.jet_files.specs.Views.{run_of};
-ghost use Rattle.jet_cli.specs.Answers.{IsWorkOf, IsGivenAlike, AreGivenAlike, fits_and_is_cut, telling_text, made_by};
-ghost use Rattle.jet_cli.specs.Answers.{conversion_of, decisions_by, IsPageWhole};
-ghost use Rattle.jet_cli.specs.Texts.{text_of};
+ghost use Rattle.jet_work.specs.Answers.{IsWorkOf, IsGivenAlike, AreGivenAlike, fits_and_is_cut, telling_text, IsPageWhole};
+ghost use Rattle.jet_work.specs.Texts.{text_of};
 
 use crate::engine::Engine;
-use crate::influence::influence_of;
 use crate::parts::part_for;
-use crate::path::path_text;
-use crate::pieces::Answer;
-use crate::reports::{own_parts, union_of};
-use call_list::calls_text;
-use call_stack::stack_text;
-use decision_find::decisions;
-use elf_image::Image;
-use jet_files::{LONGEST_FILE, Program, Run};
+use jet_files::{Program, Run};
 use jet_refusal::Refusal;
-use jet_words::{Listing, Pipeline, Product};
-use no_memory::NoMemory;
+use jet_words::Pipeline;
+use jet_work::{Answer, Telling, fitted, own_parts, told, union_of};
 use outer_io::Gate;
-use page_data::page;
 use page_model::laws::alike_have_same_data;
 use query_lang::Query;
-use range_report::shown;
-use replay_log::{Log, write_log};
 use replayer::Job;
-use run_output::{input_on, output_on, summary_text};
 use run_query::check_and_query;
 use sink_collect::Report;
-use std::alloc::Global;
 use std::sync::Wait;
 use std::thread::Threads;
-
-/// What is told of the rows of a query.
-#[derive(Clone, Copy)]
-pub enum Telling {
-    /// A text to read, line by line.
-    Listed(Listing),
-    /// The page of the query.
-    Page,
-}
-
-/// The log fitted to its program.
-pub fn fitted(alloc: Global, program: &[u8], image: Image, log: Log) -> Result<Job, Refusal>
-    requires image { image_of_file program.now ≡ Ok image }
-    ensures ok { IfOk result (λ job. IsChecked program.now image log job) }
-    ensures err { IfErr result (λ r. IsWork (fitting_start (record { bytes = program.now; image = image }) log) (Err r)) }
-{
-    let job = Job::check(alloc, program, image, log)?;
-    Ok(job)
-}
-
-/// A run whose log fits its program.
-fn fitted_run(alloc: Global, run: Run) -> Result<Job, Refusal>
-    requires image { image_of_file run.program.bytes.items ≡ Ok run.program.image }
-    ensures ok { IfOk result (λ job. IsChecked run.program.bytes.items run.program.image run.log job) }
-    ensures err { IfErr result (λ r. IsWork (fitting_start (run_of run).program run.log) (Err r)) }
-{
-    let Run { program, log } = run;
-    let Program { bytes, image } = program;
-    fitted(alloc, &bytes, image, log)
-}
 
 /// A run whose log fits its program, and the rows of the query over it. The misfits of the log come first, and then
 /// `TooManyEpochs`, where a length is told.
@@ -111,39 +66,6 @@ fn analysed_run<R: Threads + Wait + Sync, G: Gate>(
     }
 }
 
-/// What is told of the rows of a query. It gives up with NoMemory alone.
-fn told(
-    alloc: Global,
-    job: &Job,
-    query: &Query,
-    report: Report,
-    telling: Telling,
-) -> Result<Answer, NoMemory>
-    requires { report ≡ rows query.now (trace_of job.now) }
-    ensures text { IfOk result (λ answer. text_of answer ≡ telling_text telling query.now job.now.start job.now.log) }
-    ensures whole { IfOk result (IsPageWhole telling) }
-{
-    match telling {
-        Telling::Listed(Listing::BySink) => Ok(Answer::Rows(report)),
-        Telling::Listed(Listing::BySource) => {
-            let influence = influence_of(alloc, job, query, &report)?;
-            Ok(Answer::Turned(influence))
-        }
-        Telling::Listed(Listing::ByPath) => {
-            let text = path_text(alloc, job, query, &report)?;
-            Ok(Answer::Whole(text))
-        }
-        Telling::Listed(Listing::ByRange) => {
-            let text = shown(alloc, &report, job.log())?;
-            Ok(Answer::Whole(text))
-        }
-        Telling::Page => {
-            let text = page(alloc, job, query, &report)?;
-            Ok(Answer::Whole(text))
-        }
-    }
-}
-
 /// What is told of the rows of a query over the run, for each query that this one stands for.
 pub fn tell<R: Threads + Wait + Sync, G: Gate>(
     engine: &Engine<R, G>,
@@ -161,16 +83,6 @@ pub fn tell<R: Threads + Wait + Sync, G: Gate>(
     alike_have_same_data();
     let answer = told(engine.alloc, &job, query, report, telling)?;
     Ok(answer)
-}
-
-/// Where a source byte of a query could turn the run, for each query that this one stands for.
-pub fn decide(alloc: Global, run: Run, query: &Query) -> Result<Vec<u8>, Refusal>
-    requires image { image_of_file run.program.bytes.items ≡ Ok run.program.image }
-    ensures { IsWorkOf (IsGivenAlike decisions_by None (run_of run) query.now) (seen_by bytes_of result) }
-{
-    let job = fitted_run(alloc, run)?;
-    let text = decisions(alloc, &job, query)?;
-    Ok(text)
 }
 
 /// The reports of several queries over the run, for all queries that these stand for. The rules are compared first; then
@@ -191,43 +103,4 @@ pub fn reports<R: Threads + Wait + Sync, G: Gate>(
     let (_job, all) = analysed_run(engine, run, &union, pipeline)?;
     let reports = own_parts(engine.alloc, &all, queries)?;
     Ok(Answer::Several(reports))
-}
-
-/// The text that is made of a run without a query. It gives up with NoMemory alone.
-fn made(alloc: Global, job: &Job, product: Product) -> Result<Vec<u8>, NoMemory>
-    ensures { IfOk result (λ text. text.items ≡ made_by product job.now.start job.now.log) }
-{
-    match product {
-        Product::Numbers => summary_text(alloc, &job.summary()),
-        Product::Calls => calls_text(alloc, job.log()),
-        Product::Input(channel) => input_on(alloc, job.log().records(), channel),
-        Product::Output(channel) => output_on(alloc, job.log().records(), channel),
-        Product::Stack(time) => stack_text(alloc, job, time),
-    }
-}
-
-/// What is made of the run without a query.
-pub fn make(alloc: Global, run: Run, product: Product) -> Result<Vec<u8>, Refusal>
-    requires image { image_of_file run.program.bytes.items ≡ Ok run.program.image }
-    ensures { IsWork (text_answer (run_of run) (made_by product)) (seen_by bytes_of result) }
-{
-    let job = fitted_run(alloc, run)?;
-    let text = made(alloc, &job, product)?;
-    Ok(text)
-}
-
-/// The log of the run in version 2. It gives up with `LogTooLong`, where that has more than 2^26 bytes.
-pub fn conversion(alloc: Global, run: Run) -> Result<Vec<u8>, Refusal>
-    requires image { image_of_file run.program.bytes.items ≡ Ok run.program.image }
-    ensures { IsWork (conversion_of (run_of run)) (seen_by bytes_of result) }
-{
-    let job = fitted_run(alloc, run)?;
-    job.form();
-    let log = job.log();
-    let size = log.size();
-    if size > LONGEST_FILE as u64 {
-        return Err(Refusal::LogTooLong(size));
-    }
-    let text = write_log(alloc, log)?;
-    Ok(text)
 }

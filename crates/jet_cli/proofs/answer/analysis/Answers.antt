@@ -4,9 +4,9 @@ use Rattle.outer_io.proofs.ReadsLemmas.{reads-then, reads-stops, reads-less}
 use Rattle.jet_model.specs.Answer.{query_answer}
 use Rattle.jet_files.specs.Outcome.{Comes, seen_by}
 use Rattle.jet_files.specs.Views.{run_of}
-use Rattle.jet_cli.specs.Texts.{text_of}
-use Rattle.jet_cli.specs.Answers.{telling_text, named}
-use Rattle.jet_cli.proofs.Working.{run-refused, query-refused, query-given}
+use Rattle.jet_work.specs.Texts.{text_of}
+use Rattle.jet_work.specs.Answers.{telling_text, named}
+use Rattle.jet_work.proofs.Working.{run-refused, query-refused, query-given}
 use Rattle.jet_cli.proofs.answer.analysis.Goals as goal
 
 pub returns-in_err-run-clause-answer : goal.returns-in_err-run-clause-answer

@@ -1,7 +1,7 @@
 use Rattle.std.proofs.Common.{rules, subst, map, is_ok, List, [], ℕ, Bor}
 use Rattle.jet_words.specs.Commands.{RecordOf, ProductOf, BenchOf}
 use Rattle.jet_files.specs.Outcome.{Follows, seen_by, bytes_of}
-use Rattle.jet_cli.specs.Answers.{IsRecording, IsAnswer, limits_of, workload_length}
+use Rattle.jet_work.specs.Answers.{IsRecording, IsAnswer, limits_of, workload_length}
 use Rattle.workload_model.specs.Answer.{IsBenchAnswer}
 use Rattle.outer_io.specs.Reads.{Reads}
 use Rattle.outer_io.proofs.ReadsLemmas.{reads-none, reads-less}

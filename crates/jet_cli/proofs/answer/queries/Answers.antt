@@ -8,9 +8,9 @@ use Rattle.jet_model.specs.Answer.{queries_answer}
 use Rattle.jet_files.specs.Outcome.{AskAlike, Comes, seen_by}
 use Rattle.jet_files.specs.Views.{run_of}
 use Rattle.jet_files.proofs.Composing.{comes-stops}
-use Rattle.jet_cli.specs.Texts.{text_of}
-use Rattle.jet_cli.specs.Answers.{several_answer, IsWorkOf, AreGivenAlike}
-use Rattle.jet_cli.proofs.Working.{after_run, kept-refused, kept-given}
+use Rattle.jet_work.specs.Texts.{text_of}
+use Rattle.jet_work.specs.Answers.{several_answer, IsWorkOf, AreGivenAlike}
+use Rattle.jet_work.proofs.Working.{after_run, kept-refused, kept-given}
 use Rattle.jet_cli.proofs.answer.queries.Goals as goal
 
 pub returns-in_err-run-clause-answer : goal.returns-in_err-run-clause-answer

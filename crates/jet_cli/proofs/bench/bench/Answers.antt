@@ -5,7 +5,7 @@ use Rattle.epoch_model.specs.ByLength.{cut_times}
 use Rattle.jet_model.specs.Answer.{epochs_check}
 use Rattle.jet_files.specs.Outcome.{IsWork}
 use Rattle.workload_model.specs.Answer.{IsBenchAnswer}
-use Rattle.jet_cli.specs.Answers.{IsWorkOf, workload_length}
+use Rattle.jet_work.specs.Answers.{IsWorkOf, workload_length}
 use Rattle.jet_cli.proofs.Benching.{cuts-stop, lines-give}
 use Rattle.jet_cli.proofs.bench.bench.Goals as goal
 

@@ -1,11 +1,11 @@
 use Rattle.std.proofs.Common.{rules, List, ℕ, Some}
 use Rattle.jet_words.specs.Commands.{plain_command}
 use Rattle.jet_refusal.specs.Causes.{IsOwedTo}
-use Rattle.jet_cli.specs.Targets.{target_of}
-use Rattle.jet_cli.specs.Texts.{text_of}
-use Rattle.jet_cli.specs.Ending.{causes_of}
-use Rattle.jet_cli.proofs.KeepingLemmas.{keeps-then}
-use Rattle.jet_cli.proofs.Delivered.{between, not_answered, delivered, not_delivered}
+use Rattle.jet_work.specs.Targets.{target_of}
+use Rattle.jet_work.specs.Texts.{text_of}
+use Rattle.jet_work.specs.Ending.{causes_of}
+use Rattle.jet_work.proofs.KeepingLemmas.{keeps-then}
+use Rattle.jet_work.proofs.Delivered.{between, not_answered, delivered, not_delivered}
 use Rattle.jet_cli.proofs.command.carry_out.Goals as goal
 
 pub returns-in_err-given-clause-ends : goal.returns-in_err-given-clause-ends

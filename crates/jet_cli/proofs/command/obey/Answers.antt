@@ -1,5 +1,5 @@
-use Rattle.jet_cli.specs.Targets.{command_in}
-use Rattle.jet_cli.proofs.Delivered.{no_command}
+use Rattle.jet_work.specs.Targets.{command_in}
+use Rattle.jet_work.proofs.Delivered.{no_command}
 use Rattle.jet_cli.proofs.command.obey.Goals as goal
 
 pub returns-in-Err-At-clause-ends : goal.returns-in-Err-At-clause-ends

@@ -1,10 +1,10 @@
 use Rattle.std.proofs.Common.{rules, ap, ◌∙◌, Err}
 use Rattle.replayer.specs.Jobs.{trace_of}
 use Rattle.jet_files.specs.Views.{run_of}
-use Rattle.jet_cli.specs.Answers.{IsWorkOf, AreGivenAlike}
-use Rattle.jet_cli.specs.Texts.{reports_text}
-use Rattle.jet_cli.proofs.Reporting.{rows-reports}
-use Rattle.jet_cli.proofs.Working.{rules-stop, reports-stop, reports-give}
+use Rattle.jet_work.specs.Answers.{IsWorkOf, AreGivenAlike}
+use Rattle.jet_work.specs.Texts.{reports_text}
+use Rattle.jet_work.proofs.Reporting.{rows-reports}
+use Rattle.jet_work.proofs.Working.{rules-stop, reports-stop, reports-give}
 use Rattle.jet_cli.proofs.work.reports.Goals as goal
 
 pub returns-in_err-union : goal.returns-in_err-union

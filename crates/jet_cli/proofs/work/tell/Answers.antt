@@ -1,8 +1,8 @@
 use Rattle.std.proofs.Common.{rules, Err}
 use Rattle.jet_files.specs.Views.{run_of}
-use Rattle.jet_cli.specs.Answers.{IsWorkOf, IsGivenAlike, telling_text}
-use Rattle.jet_cli.specs.Texts.{text_of}
-use Rattle.jet_cli.proofs.Working.{given-stops, given-gives, same_telling}
+use Rattle.jet_work.specs.Answers.{IsWorkOf, IsGivenAlike, telling_text}
+use Rattle.jet_work.specs.Texts.{text_of}
+use Rattle.jet_work.proofs.Working.{given-stops, given-gives, same_telling}
 use Rattle.jet_cli.proofs.work.tell.Goals as goal
 
 pub returns-in_err-job-clause-answer : goal.returns-in_err-job-clause-answer

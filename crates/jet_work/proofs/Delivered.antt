@@ -1,0 +1,71 @@
+-- From the answer of a command's files, and the delivery of its text, to the end of the command.
+use Rattle.std.proofs.Common.{◌≡◌, ◌∙◌, sym, subst, ℕ, ◌≤◌, inl, inr, List, Option, Some, None, Ok, Err}
+use Rattle.outer_io.specs.Faults.{Rose}
+use Rattle.outer_io.specs.Shown.{StoreShown, SinkShown}
+use Rattle.outer_io.specs.Tells.{Tells}
+use Rattle.outer_io.specs.Files.{Files, Text, KeepsFiles}
+use Rattle.outer_io.specs.WriteFile.{PutsPart}
+use Rattle.outer_io.proofs.TellsLemmas.{tells-then, tells-both, rose-earlier}
+use Rattle.jet_words.specs.Commands.{CommandOf}
+use Rattle.jet_refusal.specs.declared.refusal.Refusal.{Refusal}
+use Rattle.jet_refusal.specs.declared.refusal.Refusal.TheVariants as refusal
+use Rattle.jet_refusal.specs.Causes.{IsOwedTo}
+use Rattle.jet_refusal.proofs.Causes.{IsOwedTo-map}
+use Rattle.jet_files.specs.Outcome.{Found, Follows, by_reading}
+use Rattle.jet_work.specs.Targets.{Target, ToOutput, ToFile, target_of}
+use Rattle.jet_work.specs.Answers.{IsAnswer}
+use Rattle.jet_work.specs.Outside.{Change}
+use Rattle.jet_work.specs.Writing.{Delivers, DeliversPart, FailsToWrite}
+use Rattle.jet_work.specs.Ending.{IsText, WritesWhole, WritesPart, IsDelivered, causes_of}
+
+-- words that stand for no command
+pub no_command : (command : Option CommandOf) (change : Change) → command ≡ None → IsOwedTo (causes_of command change refusal.Usage) refusal.Usage
+no_command command change none = subst (λ (o : Option CommandOf). IsOwedTo (causes_of o change refusal.Usage) refusal.Usage) (sym none) tt
+
+delivers-earlier : (target : Target) (text : List ℕ) (o n : SinkShown) (x y z : Files) → Delivers target o n text y z → Delivers target o n text x z
+delivers-earlier ToOutput text o n x y z d = d
+delivers-earlier (ToFile name) text o n x y z d = d
+
+puts-earlier : (name : Text) (text : List ℕ) (x y z : Files) → KeepsFiles x y → PutsPart name text y z → PutsPart name text x z
+puts-earlier name text x y z keeps (inl p) = inl (p.0 ∙ keeps.writing, p.1 ∙ keeps.put)
+puts-earlier name text x y z keeps (inr p) = inr p
+
+part-earlier : (target : Target) (text : List ℕ) (o n : SinkShown) (x y z : Files) → KeepsFiles x y → DeliversPart target o n text y z → DeliversPart target o n text x z
+part-earlier ToOutput text o n x y z keeps d = d
+part-earlier (ToFile name) text o n x y z keeps d = puts-earlier name text x y z keeps d
+
+fails-earlier : (target : Target) (f g h : StoreShown) (o n : SinkShown) → f.faults ≤ g.faults → g.faults ≤ h.faults → FailsToWrite target g h o n → FailsToWrite target f h o n
+fails-earlier ToOutput f g h o n up down rose = rose
+fails-earlier (ToFile name) f g h o n up down rose = rose-earlier f.faults g.faults h.faults up rose down
+
+-- the store shows `f`, then `g` once the files were read, and `h` at the end; the output and the clock show one thing before and
+-- one after
+module _ (command : CommandOf) (f g h : StoreShown) (o n : SinkShown) (heard heard_after : Option (List ℕ)) where
+  abbrev pub between : Change
+  between = record { before = record { store = f; output = o; heard = heard }; after = record { store = h; output = n; heard = heard_after } }
+
+  -- the files are refused
+  pub not_answered : (r : Refusal) → Follows (IsAnswer command heard heard_after) f h (Err r) → IsOwedTo (causes_of (Some command) between r) r
+  not_answered r = IsOwedTo-map (by_reading (Tells f.files h.files (Found (λ file. IsAnswer command heard heard_after file (Err r)))) (Rose f.faults h.faults))
+      (causes_of (Some command) between r) (λ p. p) (λ p. p) (λ p. p) (λ p. absurd p) r
+
+  module _ (text : List ℕ) (answer : Follows (IsAnswer command heard heard_after) f g (Ok text)) (keeps : Tells f.files g.files KeepsFiles) where
+    abbrev Read : Files → Files → Type 0
+    Read x y = Found (λ file. IsAnswer command heard heard_after file (Ok text)) x y × KeepsFiles x y
+
+    was_read : Tells f.files g.files Read
+    was_read = tells-both f.files g.files (Found (λ file. IsAnswer command heard heard_after file (Ok text))) KeepsFiles answer keeps
+
+    -- the text was written
+    pub delivered : Tells g.files h.files (Delivers (target_of command) o n text) → IsDelivered (Some command) between
+    delivered = tells-then f.files g.files h.files Read (Delivers (target_of command) o n text) (WritesWhole command between (IsText command between))
+        (λ x y z p d. record { text = text; is_wanted = p.0.found; delivered = delivers-earlier (target_of command) text o n x y z d }) was_read
+
+    -- it was not written whole
+    pub not_delivered : Tells g.files h.files (DeliversPart (target_of command) o n text) → FailsToWrite (target_of command) g h o n
+        → f.faults ≤ g.faults → g.faults ≤ h.faults → IsOwedTo (causes_of (Some command) between refusal.WriteFault) refusal.WriteFault
+    not_delivered part failed up down = (
+      fails-earlier (target_of command) f g h o n up down failed,
+      tells-then f.files g.files h.files Read (DeliversPart (target_of command) o n text) (WritesPart command between (IsText command between))
+          (λ x y z p d. record { text = text; is_wanted = p.0.found; delivered = part-earlier (target_of command) text o n x y z p.1 d }) was_read part,
+    )

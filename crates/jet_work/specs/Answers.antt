@@ -1,0 +1,141 @@
+-- What the files of a command come to: the text that it writes, or the refusal.
+use Rattle.std.specs.Prelude.{◌≡◌, ℕ, List, Option, None, unwrap_or, Result, Ok, Err}
+use Rattle.outer_io.specs.Files.{Text}
+use Rattle.outer_io.specs.Tells.{Tells, Gains}
+use Rattle.isa.specs.Machine.{State}
+use Rattle.log_model.specs.Logs.{Log}
+use Rattle.jet_words.specs.Commands.{CommandOf, AnalysisOf, ProductOf, DecisionsOf, PageOf, RecordOf, ConvertOf, QueriesOf, BenchOf}
+use Rattle.jet_words.specs.declared.command.Listing.{Listing}
+use Rattle.jet_words.specs.declared.command.Listing.TheVariants.{BySink, BySource, ByPath, ByRange}
+use Rattle.jet_words.specs.declared.command.Product.{Product}
+use Rattle.jet_words.specs.declared.command.Product.TheVariants.{Numbers, Calls, Input, Output, Stack}
+use Rattle.jet_words.specs.declared.command.Pipeline.{Pipeline}
+use Rattle.jet_refusal.specs.declared.refusal.Refusal.{Refusal}
+use Rattle.report_model.specs.Query.{Query, Alike}
+use Rattle.report_model.specs.Rows.{rows}
+use Rattle.report_model.specs.Together.{together, first_other_rule}
+use Rattle.replay_model.specs.Run.{trace}
+use Rattle.jet_model.specs.Outcomes.{and_then}
+use Rattle.jet_model.specs.Contents.{Contents, Names, Run}
+use Rattle.jet_model.specs.Report.{over_trace, report_of, influence_of, reports_of}
+use Rattle.path_find.specs.Answer.{path_report}
+use Rattle.range_model.specs.Text.{ranges_report}
+use Rattle.decision_model.specs.Text.{decisions_report}
+use Rattle.page_model.specs.Page.{page_report}
+use Rattle.jet_model.specs.Answer.{Limits, Source, IsCaptureAnswer, IsRecordAnswer, analysed_answer, query_answer, rules_check, queries_answer, fitting_start, told_check, limited_text, run_answer, convert_answer}
+use Rattle.workload_model.specs.Answer.{IsBenchAnswer}
+use Rattle.jet_refusal.specs.Causes.{IsOwedTo}
+use Rattle.jet_files.specs.Outcome.{by_reading, AskAlike}
+use Rattle.run_output.specs.Summary.{summary_text}
+use Rattle.run_output.specs.Input.{input}
+use Rattle.run_output.specs.Output.{output}
+use Rattle.call_list.specs.Calls.{calls_text}
+use Rattle.call_stack.specs.Stack.{stack_text}
+use Rattle.jet_work.specs.Texts.{IsWhole}
+use Rattle.jet_work.specs.declared.pieces.Answer.{Answer}
+use Rattle.jet_work.specs.declared.work.Telling.{Telling}
+use Rattle.jet_work.specs.declared.work.Telling.TheVariants.{Listed, Page}
+
+abbrev pub named : Text → Text → Text → Names
+named program log query = record { program = program; log = log; query = query }
+
+abbrev pub limits_of : ℕ → ℕ → ℕ → Limits
+limits_of pages piece steps = record { pages = pages; piece = piece; steps = steps }
+
+-- the clock gave some answers, of which this holds; `heard` and `heard_after` are what it told before and after
+pub record Hears (heard heard_after : Option (List ℕ)) (of_answers : List ℕ → Type 0) : Type 0 where
+  pub answers : List ℕ
+  pub gained : Tells heard heard_after (Gains answers)
+  pub holds : of_answers answers
+
+-- a run that is captured comes to this answer
+abbrev pub IsCapture : Source → Limits → Option (List ℕ) → Option (List ℕ) → Result (List ℕ) Refusal → Type 0
+IsCapture source limits heard heard_after answer = Hears heard heard_after (λ answers. IsCaptureAnswer source limits answers answer)
+
+-- the same of a program and inputs that are read
+abbrev pub IsRecording : Text → List Text → Limits → Option (List ℕ) → Option (List ℕ) → Contents → Result (List ℕ) Refusal → Type 0
+IsRecording program inputs limits heard heard_after file answer =
+    Hears heard heard_after (λ answers. IsRecordAnswer file program inputs limits answers answer)
+
+-- the length of the epochs of the workload's run
+abbrev pub workload_length : Pipeline → ℕ
+workload_length pipeline = unwrap_or pipeline.epoch 4096
+
+-- the text that a query gives of a run: its report, a line for each sink; its influence, a line for each source byte; the path
+-- of the first source byte that its report lists; or the report in ranges
+abbrev pub given_by : Listing → Query → State → Log → List ℕ
+given_by BySink q start log = report_of q (trace start log)
+given_by BySource q start log = influence_of q (trace start log)
+given_by ByPath q start log = path_report start log q
+given_by ByRange q start log = ranges_report log (rows q (trace start log))
+
+-- what is told of the rows of a query: one of these texts, or the page
+abbrev pub telling_text : Telling → Query → State → Log → List ℕ
+telling_text (Listed listing) = given_by listing
+telling_text Page = page_report
+
+-- the page is told as a text that is there
+abbrev pub IsPageWhole : Telling → Answer → Type 0
+IsPageWhole (Listed listing) answer = Unit {0}
+IsPageWhole Page answer = IsWhole answer
+
+-- where a source byte of a query could turn a run, as text
+abbrev pub decisions_by : Query → State → Log → List ℕ
+decisions_by q start log = decisions_report start log q
+
+-- the text that is made of a run without a query: its numbers, its calls, what it read or wrote on a channel, or
+-- the calls in progress at a time
+abbrev pub made_by : Product → State → Log → List ℕ
+made_by Numbers start log = summary_text log
+made_by Calls start log = calls_text log
+made_by (Input channel) start log = input channel log
+made_by (Output channel) start log = output channel log
+made_by (Stack time) start log = stack_text start log time
+
+-- the log of a run in version 2, if it fits its program
+abbrev pub conversion_of : Run → Result (List ℕ) Refusal
+conversion_of run = and_then (fitting_start run.program run.log) (λ start. limited_text run.log)
+
+-- the content of the files comes to this answer
+abbrev pub IsAnswer : CommandOf → Option (List ℕ) → Option (List ℕ) → Contents → Result (List ℕ) Refusal → Type 0
+IsAnswer (AnalysisOf listing program log query pipeline) heard heard_after file answer =
+    query_answer (given_by listing) pipeline.epoch file (named program log query) ≡ answer
+IsAnswer (ProductOf product program log) heard heard_after file answer = run_answer file program log (made_by product) ≡ answer
+IsAnswer (DecisionsOf program log query) heard heard_after file answer =
+    query_answer decisions_by None file (named program log query) ≡ answer
+IsAnswer (PageOf program log query page pipeline) heard heard_after file answer =
+    query_answer page_report pipeline.epoch file (named program log query) ≡ answer
+IsAnswer (RecordOf program log inputs pages piece steps) heard heard_after file answer =
+    IsRecording program inputs (limits_of pages piece steps) heard heard_after file answer
+IsAnswer (ConvertOf program log new) heard heard_after file answer = convert_answer file program log ≡ answer
+IsAnswer (QueriesOf program log queries pipeline) heard heard_after file answer =
+    queries_answer pipeline.epoch file program log queries ≡ answer
+IsAnswer (BenchOf seed steps pipeline) heard heard_after file answer = IsBenchAnswer seed steps (workload_length pipeline) answer
+
+-- the outcome of work that reads no file is so, or memory is out
+abbrev pub IsWorkOf : {A : Type 0} → (Result A Refusal → Type 0) → Result A Refusal → Type 0
+IsWorkOf is_answer (Ok x) = is_answer (Ok x)
+IsWorkOf is_answer (Err r) = IsOwedTo (by_reading (is_answer (Err r)) ⊥) r
+
+-- ---- work for a query that is kept
+
+-- the log fits its program, and then its run has few epochs of the length that is told
+abbrev pub fits_and_is_cut : Option ℕ → Run → Result (Unit {0}) Refusal
+fits_and_is_cut told run = and_then (fitting_start run.program run.log) (λ start. told_check told run.log)
+
+-- the answer is what every query gives that asks alike
+abbrev pub IsGivenAlike : (Query → State → Log → List ℕ) → Option ℕ → Run → Query → Result (List ℕ) Refusal → Type 0
+IsGivenAlike given told run kept answer = (q : Query) → Alike kept q → analysed_answer told run (given q) ≡ answer
+
+-- the reports of several queries, whose rules are compared first
+abbrev pub several_answer : Option ℕ → Run → List Query → Result (List ℕ) Refusal
+several_answer told run qs = and_then (rules_check qs) (λ same. analysed_answer told run (over_trace (reports_of qs)))
+
+-- the answer is what all queries give that ask alike
+abbrev pub AreGivenAlike : Option ℕ → Run → List Query → Result (List ℕ) Refusal → Type 0
+AreGivenAlike told run kept answer = (qs : List Query) → AskAlike kept qs → several_answer told run qs ≡ answer
+
+-- several queries have one rule, and this one asks for what any of them does
+pub record IsUnion (queries : List Query) (union : Query) : Type 0 where
+  pub alike : Alike union (together queries)
+  pub one_rule : first_other_rule queries ≡ None
