@@ -190,7 +190,12 @@ fn runs_are_read_as_their_bytes(rt: HostRuntime) -> Result<(), Fail> {
     }
     let mut reader = TermsReader::new(rt.alloc());
     reader.read_run(FROM_3)?;
-    assert_eq!(rt; reader.sources(), [THIRD, FOURTH].as_slice());
+    let leaves = reader.leaves(rt.alloc())?;
+    assert_eq!(rt;
+        leaves.as_slice(),
+        [Leaf::Source(THIRD), Leaf::Source(FOURTH)].as_slice()
+    );
+    assert_eq!(rt; reader.runs(), [FROM_3].as_slice());
     Ok(())
 }
 

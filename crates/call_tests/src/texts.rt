@@ -3,7 +3,7 @@
 use flow_model::{InnerSink, Loc, SinkByte, SinkPoint, SourceByte};
 use instruction_text::push_instruction;
 use no_memory::NoMemory;
-use printed_names::{SourceName, push_byte, push_location, push_pc, push_point};
+use printed_names::{Names, SourceName, push_byte, push_location, push_pc, push_point};
 use rv_decode::decode;
 use std::process::Abort;
 use std::test::Fail;
@@ -108,6 +108,33 @@ fn a_name_goes_to_the_next_byte(rt: HostRuntime) -> Result<(), Fail> {
     for &(channel, offset, text) in BYTES {
         name.go_to(SourceByte { channel, offset });
         assert_eq!(rt; name.as_bytes(), text.as_bytes());
+    }
+    Ok(())
+}
+
+/// Tens of offsets, and the names of their ten source bytes.
+const TENS: &[(u8, u32, &str)] = &[
+    (0, 1, " 0:10 0:11 0:12 0:13 0:14 0:15 0:16 0:17 0:18 0:19"),
+    (0, 9, " 0:90 0:91 0:92 0:93 0:94 0:95 0:96 0:97 0:98 0:99"),
+    (
+        0,
+        10,
+        " 0:100 0:101 0:102 0:103 0:104 0:105 0:106 0:107 0:108 0:109",
+    ),
+    (
+        255,
+        429496728,
+        " 255:4294967280 255:4294967281 255:4294967282 255:4294967283 255:4294967284 255:4294967285 255:4294967286 255:4294967287 255:4294967288 255:4294967289",
+    ),
+    (7, 2, " 7:20 7:21 7:22 7:23 7:24 7:25 7:26 7:27 7:28 7:29"),
+];
+
+#[test]
+fn ten_names_are_written_at_once(rt: HostRuntime) -> Result<(), Fail> {
+    let mut names = Names::new();
+    for &(channel, offset, text) in TENS {
+        names.write_ten(channel, offset);
+        assert_eq!(rt; names.as_bytes(), text.as_bytes());
     }
     Ok(())
 }

@@ -5,14 +5,18 @@ ghost use Rattle.flow_model.specs.Ranges.{IsLocation};
 ghost use Rattle.local_taint.specs.Summaries.{summary_of};
 
 use crate::guests::{call_and_exit, copy_four, copy_in_two, copy_many, cut_off, trap};
+use answer_sets::{Answers, rows};
 use checkpoints::Checkpoints;
 use epoch_cut::cuts;
 use epoch_cut::laws::cut_times_are_cutting;
 use flow_model::{Loc, SinkByte, SinkPoint, SourceByte};
-use local_taint::{Summary, TermsAhead, Watching, analyse};
+use local_taint::{Asked, Summary, TermsAhead, analyse};
 use merge_log::TermsReader;
 use query_lang::{Query, parse};
 use replayer::{Cursor, Job, Next};
+use seq_taint::sequential;
+use sink_collect::SinkSet;
+use source_runs::SourceRun;
 use std::alloc::Global;
 use std::process::Abort;
 
@@ -46,13 +50,14 @@ fn epochs_begin_at_their_checkpoints(rt: HostRuntime) {
 /// The first of the buffer's bytes.
 const BUFFER: u32 = 0x1_0100;
 
-/// What an epoch's summary has for some locations at its end: their source bytes, and their start locations.
-const ENDS: [(Loc, &[SourceByte], &[Loc]); 2] = [
+/// What an epoch's summary has for some locations at its end: runs of source bytes, and start locations.
+const ENDS: [(Loc, &[SourceRun], &[Loc]); 2] = [
     (
         Loc::Mem { place: BUFFER },
-        &[SourceByte {
+        &[SourceRun {
             channel: 0,
-            offset: 0,
+            first: 0,
+            last: 0,
         }],
         &[],
     ),
@@ -64,8 +69,8 @@ const ENDS: [(Loc, &[SourceByte], &[Loc]); 2] = [
 ];
 
 /// The reader has read these.
-fn assert_read(rt: &impl Abort, reader: &TermsReader, sources: &[SourceByte], starts: &[Loc]) {
-    assert!(rt; reader.sources() == sources);
+fn assert_read(rt: &impl Abort, reader: &TermsReader, runs: &[SourceRun], starts: &[Loc]) {
+    assert!(rt; reader.runs() == runs);
     assert!(rt; reader.starts() == starts);
 }
 
@@ -78,7 +83,7 @@ fn assert_sink(
     offset: u32,
 ) {
     let byte = SinkByte { channel: 1, offset };
-    let source = SourceByte { channel: 0, offset };
+    let source = SourceRun::of_byte(SourceByte { channel: 0, offset });
     let at = offset as usize;
     assert!(rt; at < summary.sink_count());
     assert!(rt; summary.sink(at) == SinkPoint::Out(byte));
@@ -99,9 +104,9 @@ fn assert_summary(rt: &impl Abort, alloc: Global, summary: &Summary) {
     for offset in 0..4 {
         assert_sink(rt, alloc, summary, &mut reader, offset);
     }
-    for (loc, sources, starts) in ENDS {
+    for (loc, runs, starts) in ENDS {
         summary.end_terms(&mut reader, loc).expect(rt, "memory");
-        assert_read(rt, &reader, sources, starts);
+        assert_read(rt, &reader, runs, starts);
     }
 }
 
@@ -128,56 +133,30 @@ fn analysed(rt: &impl Abort, alloc: Global, job: &Job, query: &Query) -> Summary
     analyse(alloc, ticket, cursor, query).expect(rt, "memory")
 }
 
-/// The summary of the same run, which a watcher of its steps finds.
-fn watched(rt: &impl Abort, alloc: Global, job: &Job, query: &Query) -> Summary {
-    let mut watching = Watching::new(alloc, query).expect(rt, "memory");
-    job.watch(alloc, &mut watching).expect(rt, "memory");
-    watching.finish().expect(rt, "memory")
+/// The rows that the analysis of that epoch comes to, which asks nothing.
+fn rows_of_one(rt: &impl Abort, alloc: Global, job: &Job, query: &Query) -> Vec<SinkSet> {
+    let summary = analysed(rt, alloc, job, query);
+    let (asked, answers) = (Asked::new(alloc), Answers::new(alloc));
+    let mut reader = TermsReader::new(alloc);
+    rows(alloc, &mut reader, &summary, &asked, &answers).expect(rt, "memory")
 }
 
-/// Two readers have read the same terms.
-fn assert_same_terms(rt: &impl Abort, one: &TermsReader, other: &TermsReader) {
-    assert!(rt; one.sources() == other.sources());
-    assert!(rt; one.starts() == other.starts());
+/// Two rows are of one sink, and have the same source bytes.
+fn assert_same_row(rt: &impl Abort, one: &SinkSet, other: &SinkSet) {
+    assert!(rt; one.sink() == other.sink());
+    assert!(rt; one.sources().equals(other.sources()));
 }
 
-/// Two summaries have the same sinks, with the same terms.
-fn assert_same_sinks(rt: &impl Abort, alloc: Global, one: &Summary, other: &Summary) {
-    assert!(rt; one.sink_count() == other.sink_count());
-    let (mut left, mut right) = (TermsReader::new(alloc), TermsReader::new(alloc));
-    for number in 0..one.sink_count() {
-        assert!(rt; one.sink(number) == other.sink(number));
-        one.sink_terms(&mut left, number).expect(rt, "memory");
-        other.sink_terms(&mut right, number).expect(rt, "memory");
-        assert_same_terms(rt, &left, &right);
-    }
-}
-
-/// A location has the same terms at the ends of two epochs.
-fn assert_same_end(rt: &impl Abort, alloc: Global, one: &Summary, other: &Summary, loc: Loc)
-    requires { IsLocation loc }
-{
-    let (mut left, mut right) = (TermsReader::new(alloc), TermsReader::new(alloc));
-    one.end_terms(&mut left, loc).expect(rt, "memory");
-    other.end_terms(&mut right, loc).expect(rt, "memory");
-    assert_same_terms(rt, &left, &right);
-}
-
-/// A watcher of this run's steps finds what the analysis of its one epoch finds: so many sinks.
-fn assert_watched(rt: &impl Abort, alloc: Global, job: &Job, query: &[u8], sinks: usize) {
+/// A watcher of this run's steps comes to the rows that the analysis of its one epoch comes to: so many.
+fn assert_watched(rt: &impl Abort, alloc: Global, job: &Job, query: &[u8], count: usize) {
     assert!(rt; query.len() <= 4096);
     let query = parse(alloc, query).expect(rt, "a query");
-    let one = analysed(rt, alloc, job, &query);
-    let other = watched(rt, alloc, job, &query);
-    assert!(rt; other.number() == 0);
-    assert!(rt; other.sink_count() == sinks);
-    assert_same_sinks(rt, alloc, &one, &other);
-    for number in 0..32 {
-        assert_same_end(rt, alloc, &one, &other, Loc::Reg { number, lane: 0 });
-    }
-    for offset in 0..8 {
-        let place = BUFFER + offset;
-        assert_same_end(rt, alloc, &one, &other, Loc::Mem { place });
+    let one = rows_of_one(rt, alloc, job, &query);
+    let other = sequential(alloc, job, &query).expect(rt, "memory");
+    assert!(rt; one.len() == count);
+    assert!(rt; other.len() == count);
+    for number in 0..count {
+        assert_same_row(rt, &one[number], &other[number]);
     }
 }
 
@@ -188,7 +167,7 @@ const POINTS: &[u8] =
 sink reg 10 at 5\nsink reg 10 at 6\nsink mem 65792 4 at 6\nsink mem 65792 4 at 12\nsink reg 12 at 40\n";
 
 #[test]
-fn a_watcher_finds_what_the_analysis_of_one_epoch_finds(rt: HostRuntime) {
+fn a_watcher_comes_to_the_rows_of_one_epoch(rt: HostRuntime) {
     let alloc = rt.alloc();
     assert_watched(&rt, alloc, &copy_four(&rt, alloc), POINTS, 32);
     assert_watched(&rt, alloc, &copy_in_two(&rt, alloc), POINTS, 33);

@@ -58,8 +58,7 @@ fn chosen_bytes_that_were_received_are_sources(rt: HostRuntime) {
     let text = b"rule copy\nsource 0 1 3\nsource 1\nsource 0 2 9\n";
     let wanted = query_of(&rt, alloc, text.as_slice());
     let sources = sources_of(alloc, &job, &wanted).expect(&rt, "memory");
-    assert!(rt; sources.len() == 3);
-    for (i, source) in sources.iter().enumerate() {
-        assert!(rt; source.channel == 0 && source.offset as usize == i + 1);
-    }
+    let ranges = sources.ranges();
+    assert!(rt; ranges.len() == 1);
+    assert!(rt; ranges[0].channel == 0 && ranges[0].from == 1 && ranges[0].past == 4);
 }
