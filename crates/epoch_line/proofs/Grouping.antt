@@ -2,10 +2,11 @@
 use Rattle.std.proofs.Common.{◌≡◌, ℕ, ◌+◌, List, [], ◌∷◌, ◌++◌, map, length, length-append, reverse, refl, sym, subst, subst₂, ap, ap₂, ◌∙◌, append_assoc, append-nil, arith}
 use Rattle.std.specs.Prelude.{All}
 use Rattle.std.specs.List.{AllZip, range_with_len}
-use Rattle.std.proofs.lemmas.List.Elements.{All-nil, All-append, All-head, All-tail}
+use Rattle.std.proofs.lemmas.List.Elements.{All-nil, All-cons, All-append, All-head, All-tail, length_all_zip}
 use Rattle.run_board.specs.Tasks.{AreNumbered}
 use Rattle.run_board.proofs.FillOrder.{numbered_push}
 use Rattle.epoch_node.specs.Nodes.{NodeView, IsLedFrom}
+use Rattle.epoch_node.proofs.Led.{done_stays}
 use Rattle.epoch_line.specs.Groups.{GroupView, number_of, IsNodeDone, IsGroupEnded, IsGroupLedFrom, nodes_of}
 use Rattle.epoch_line.proofs.Lists.{all_zip_append}
 
@@ -26,6 +27,17 @@ same_numbers [] [] h = refl
 same_numbers [] (o ∷ old) h = absurd h
 same_numbers (n ∷ new) [] h = absurd h
 same_numbers (n ∷ new) (o ∷ old) h = ap₂ (λ (k : ℕ) (ks : List ℕ). k ∷ ks) (ap (λ i. i.epoch.number) h.0.given) (same_numbers new old h.1)
+
+pub stay_numbered : (new old : List NodeView) → AllZip IsLedFrom new old → AreNumbered number_of old → AreNumbered number_of new
+stay_numbered new old led numbers = same_numbers new old led ∙ numbers ∙ ap (range_with_len 0) (sym (length_all_zip IsLedFrom new old led))
+
+-- what is led from a node that is done is done
+pub stay_done : (new old : List NodeView) → AllZip IsLedFrom new old → All IsNodeDone old → All IsNodeDone new
+stay_done [] [] h a = a
+stay_done [] (o ∷ old) h a = absurd h
+stay_done (n ∷ new) [] h a = absurd h
+stay_done (n ∷ new) (o ∷ old) h a =
+    All-cons IsNodeDone n new (done_stays n o h.0 (All-head IsNodeDone o old a)) (stay_done new old h.1 (All-tail IsNodeDone o old a))
 
 -- ---- one group more
 

@@ -1,23 +1,16 @@
 -- A line of nodes that are done: they are done as the streams say, so they have the rows of the run, and their events are
 -- as many.
-use Rattle.std.proofs.Common.{◌≡◌, ℕ, zero, suc, ◌+◌, ◌-◌, ◌<◌, ◌≤◌, Some, None, List, [], ◌∷◌, ◌++◌, map, length, get_or, refl, sym, ap, ap₂, ◌∙◌, subst, arith, Bool, true, false}
-use Rattle.std.specs.Prelude.{Option, is_none, All, nat_lt}
+use Rattle.std.proofs.Common.{◌≡◌, ℕ, suc, ◌-◌, Some, None, List, [], ◌∷◌, ◌++◌, map, length, refl, sym, ap, ap₂, ◌∙◌, subst, arith, Bool, true, false}
+use Rattle.std.specs.Prelude.{Option, is_none}
 use Rattle.std.specs.List.{AllByRecursion, flat_map, sum_by}
-use Rattle.std.proofs.lemmas.Bool.{ltb-true, ltb-false}
 use Rattle.std.proofs.lemmas.List.Sums.{sum_by-cons}
 use Rattle.flow_model.specs.declared.Loc.{Loc}
-use Rattle.flow_model.specs.declared.StepSeen.{StepSeen}
-use Rattle.flow_model.specs.Origins.{step_at}
-use Rattle.flow_model.specs.Ranges.{IsInRange}
 use Rattle.flow_rule.specs.declared.Message.{Message}
 use Rattle.flow_rule.specs.declared.Message.TheVariants.{Ask, Byte, Close, End}
 use Rattle.report_model.specs.Rows.{Row}
-use Rattle.log_model.specs.Logs.{steps}
-use Rattle.replayer.specs.Jobs.{Job, trace_of}
+use Rattle.replayer.specs.Jobs.{trace_of}
 use Rattle.sink_collect.specs.Pairs.{capped}
-use Rattle.replay_model.specs.Run.{start}
-use Rattle.replay_model.proofs.Offsets.{length-steps_from}
-use Rattle.epoch_model.specs.Cutting.{Epoch, RisesTo, IsCutting, epochs}
+use Rattle.epoch_model.specs.Cutting.{Epoch, IsCutting, epochs}
 use Rattle.epoch_model.specs.Summary.{AreSummaries}
 use Rattle.epoch_cut.specs.Numbered.{NumberedEpoch, numbered}
 use Rattle.local_taint.specs.Summaries.{AreInRange}

@@ -78,13 +78,14 @@ pub fn collect<'a, G>(alloc: Global, mut nodes: Vec<Node<'a, G>>) -> Result<Coll
     let mut ask_out: Option<Producer<Message>> = None;
     let mut answer_in: Option<Consumer<Message>> = None;
     while let Some(node) = nodes.pop() {
+        let finished = node.finish()?;
         let Finished {
             number: _,
             sets: own,
             asked: requests,
             events: moved,
             ends,
-        } = node.finish();
+        } = finished;
         let Ok(own) = own else {
             return Err(NoMemory::past_count());
         };

@@ -8,16 +8,17 @@
 //!
 //! First all workers analyse the epochs, each of which is a task of a board. Then one worker gives the nodes their turns,
 //! with groups of neighbours for tasks. A message passes only from a node to its neighbour. In a turn of a group it
-//! passes the whole group, in both directions, so that runs of many epochs need few rounds of the board.
+//! passes the whole group, in both directions, so that runs of many epochs need few rounds of the board. At last all
+//! workers make the rows, each those of the epochs that it takes.
 #![tactic(auto)]
 
-mod analysis;
 mod answers;
 mod collecting;
 mod ends;
 mod group;
 pub mod laws;
 mod layout;
+mod own_work;
 mod splitting;
 mod turning;
 mod working;

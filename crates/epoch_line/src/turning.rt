@@ -1,4 +1,4 @@
-//! The work of the board over nodes: their epochs are analysed, and they have their turns, in groups.
+//! The work of the board over nodes: their epochs are analysed, they have their turns, in groups, and their rows are made.
 
 ghost use Rattle.std.specs.Prelude.{◌≡◌, ◌≤◌, All, IfOk, length, map};
 ghost use Rattle.std.specs.List.{AllZip};
@@ -6,7 +6,7 @@ ghost use Rattle.run_board.specs.Tasks.{AreNumbered};
 ghost use Rattle.epoch_node.specs.Nodes.{HasBegun, IsLedFrom};
 ghost use Rattle.epoch_line.specs.Groups.{number_of, AreOfOneJob, IsNodeDone};
 
-use crate::analysis::Analysis;
+use crate::own_work::OwnWork;
 use crate::splitting::{join, split};
 use epoch_node::Node;
 use no_memory::NoMemory;
@@ -19,21 +19,24 @@ use std::thread::Threads;
 /// How many nodes a group has at most.
 const MOST_NODES: usize = 64;
 
-/// An analysis for each of these nodes. It gives up with NoMemory alone.
-fn analyses<'a, G>(alloc: Global, nodes: Vec<Node<'a, G>>) -> Result<Vec<Analysis<'a, G>>, NoMemory>
+/// The own work of each of these nodes. It gives up with NoMemory alone.
+fn into_tasks<'a, G>(
+    alloc: Global,
+    nodes: Vec<Node<'a, G>>,
+) -> Result<Vec<OwnWork<'a, G>>, NoMemory>
     ensures { IfOk result (λ tasks. tasks.items ≡ nodes.entry.items) }
 {
     let mut tasks = Vec::with_capacity(alloc, nodes.len())?;
     for node in nodes {
-        tasks.push(Analysis::new(node))?;
+        tasks.push(OwnWork::new(node))?;
     }
     Ok(tasks)
 }
 
-/// The nodes of these analyses. It gives up with NoMemory alone.
+/// The nodes whose own work this is. It gives up with NoMemory alone.
 fn into_nodes<'a, G>(
     alloc: Global,
-    tasks: Vec<Analysis<'a, G>>,
+    tasks: Vec<OwnWork<'a, G>>,
 ) -> Result<Vec<Node<'a, G>>, NoMemory>
     ensures { IfOk result (λ nodes. nodes.items ≡ tasks.entry.items) }
 {
@@ -44,9 +47,10 @@ fn into_nodes<'a, G>(
     Ok(nodes)
 }
 
-/// Lets each of 1 to 4096 nodes begin, whose numbers are 0, 1, 2 and so on, by `workers`, 1 to 64 of them: it enters the
-/// gate, and its epoch is analysed. It gives up with NoMemory alone.
-fn analyse_all<'a, G: Gate, R: Threads + Wait + Sync>(
+/// Lets each of 1 to 4096 nodes, whose numbers are 0, 1, 2 and so on, do its own work, by `workers`, 1 to 64 of them: one
+/// that hasn't begun enters the gate, and its epoch is analysed; of one that is done the rows are made. It gives up with
+/// NoMemory alone.
+fn work_apart<'a, G: Gate, R: Threads + Wait + Sync>(
     rt: &R,
     alloc: Global,
     nodes: Vec<Node<'a, G>>,
@@ -55,10 +59,10 @@ fn analyse_all<'a, G: Gate, R: Threads + Wait + Sync>(
     requires numbers { AreNumbered number_of nodes.items }
     requires count { (1 ≤ length nodes.items) × (length nodes.items ≤ 4096) }
     requires workers { (1 ≤ workers) × (workers ≤ 64) }
-    ensures begun { IfOk result (λ begun. All HasBegun begun.items) }
-    ensures led { IfOk result (λ begun. AllZip IsLedFrom begun.items nodes.entry.items) }
+    ensures begun { IfOk result (λ worked. All HasBegun worked.items) }
+    ensures led { IfOk result (λ worked. AllZip IsLedFrom worked.items nodes.entry.items) }
 {
-    let board = Board::new(alloc, analyses(alloc, nodes)?)?;
+    let board = Board::new(alloc, into_tasks(alloc, nodes)?)?;
     let done = board.work(rt, alloc, workers)?;
     into_nodes(alloc, done)
 }
@@ -86,8 +90,9 @@ fn turn_all<'a, G: Gate, R: Threads + Wait + Sync>(
 /// 64 of them. It answers them in order of number, each led from the one handed in with that number. It gives up with
 /// NoMemory alone.
 ///
-/// All workers analyse the epochs, which need nothing of each other. What nodes then ask and answer goes from one to
-/// the next, so one worker gives all of them their turns: a second one would wait for the first.
+/// All workers analyse the epochs, which need nothing of each other, and at last make their rows. What nodes ask and answer
+/// in between goes from one to the next, so one worker gives all of them their turns: a second one would wait for the
+/// first.
 pub(crate) fn work_in_groups<'a, G: Gate, R: Threads + Wait + Sync>(
     rt: &R,
     alloc: Global,
@@ -107,6 +112,7 @@ pub(crate) fn work_in_groups<'a, G: Gate, R: Threads + Wait + Sync>(
     if workers == 1 {
         return turn_all(rt, alloc, nodes);
     }
-    let begun = analyse_all(rt, alloc, nodes, workers)?;
-    turn_all(rt, alloc, begun)
+    let begun = work_apart(rt, alloc, nodes, workers)?;
+    let done = turn_all(rt, alloc, begun)?;
+    work_apart(rt, alloc, done, workers)
 }

@@ -1,4 +1,5 @@
--- What is true of nodes that turns led on: who is broken stays broken, and the count of events doesn't fall.
+-- What is true of nodes that turns led on: who is broken stays broken, who is done stays done, and the count of events
+-- doesn't fall.
 use Rattle.std.proofs.Common.{◌≡◌, ◌⊎◌, inl, inr, ℕ, ◌-◌, ◌^◌, ◌<◌, ◌≤◌, List, [], ◌∷◌, refl, ap, sym, ◌∙◌, Bool, true, false, arith}
 use Rattle.std.specs.Prelude.{Option}
 use Rattle.std.proofs.lemmas.Bool.{cases_lt}
@@ -15,7 +16,7 @@ use Rattle.epoch_node.specs.declared.stage.Phase.{Phase}
 use Rattle.epoch_node.specs.declared.stage.Phase.TheVariants as phase
 use Rattle.epoch_node.specs.Cores.{Given, StageView, Fresh, Asking, Answering, Done, Between, phase_of, whole_at}
 use Rattle.epoch_node.specs.Events.{settled_by, answered_by, Steps, counted, one_more}
-use Rattle.epoch_node.specs.Nodes.{NodeView, Progress, progress_of, HasEvents, HasMoved, IsLedFrom, BrokenStays}
+use Rattle.epoch_node.specs.Nodes.{NodeView, Progress, progress_of, HasEvents, HasMoved, IsLedFrom, BrokenStays, DoneStays}
 
 -- ---- what events keep
 
@@ -45,6 +46,22 @@ broken_stays new old led broken = by (whole_at new.core.stage) refl where
   by : (whole : Bool) → whole_at new.core.stage ≡ whole → whole_at new.core.stage ≡ false
   by true w = no (sym (whole_at_first (progress_of old) (progress_of new) led.came.0 led.came.1 w) ∙ broken)
   by false w = w
+
+-- a core that is done stays as it is
+done_after : (i : Given) (s next : StageView) (got sent got' sent' : Option (List Message)) (answer : Turn) → Steps i s got sent next got' sent' answer → phase_of s ≡ phase.Done → phase_of next ≡ phase.Done
+done_after i (Fresh t) next got sent got' sent' answer x d = cc
+done_after i (Asking v) next got sent got' sent' answer x d = cc
+done_after i (Answering f) next got sent got' sent' answer x d = cc
+done_after i (Done f) next got sent got' sent' answer x d = ap phase_of x.is
+done_after i Between next got sent got' sent' answer x d = absurd x
+
+done_at_last : (old new : Progress) (between : List Progress) → HasEvents old between new → phase_of old.core.stage ≡ phase.Done → phase_of new.core.stage ≡ phase.Done
+done_at_last old new [] h d = ap (λ (p : Progress). phase_of p.core.stage) h ∙ d
+done_at_last old new (next ∷ later) h d =
+    done_at_last next new later h.1 (done_after old.core.given old.core.stage next.core.stage _ _ _ _ h.0.answer h.0.event.steps d)
+
+pub done_stays : DoneStays
+done_stays new old led done = done_at_last (progress_of old) (progress_of new) led.came.0 led.came.1 done
 
 -- after an event the core has begun
 pub begun_by : (i : Given) (s next : StageView) (got sent got' sent' : Option (List Message)) (answer : Turn) → Steps i s got sent next got' sent' answer → ¬ (phase_of next ≡ phase.Fresh)

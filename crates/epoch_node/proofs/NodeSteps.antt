@@ -94,6 +94,13 @@ module _ (c d : CoreView) (e : Ends) (inlet : Option (Consuming Message)) (outle
         came = (after ∷ [], (event, refl));
       }
 
+  pub asks_keep : (phase_of c.stage ≡ phase.Fresh) ⊎ (phase_of c.stage ≡ phase.Asking)
+      → IsEvent c (went consumer_end producer_end e.ask_in e.ask_out) d (went consumer_end producer_end inlet outlet) answer
+      → KeepsCore c (told_by e) → KeepsCore d (told_by (record e { ask_in = inlet; ask_out = outlet }))
+  asks_keep h x k =
+      let are = are_asks c.stage (told_by e) h in
+      subst (KeepsCore d) (are.told (through consumer_end inlet) (through producer_end outlet)) (x.keeps (told_by e) are.got are.sent k)
+
   -- after one on those of the answers
   pub answers_lead : phase_of c.stage ≡ phase.Answering
       → IsEvent c (went consumer_end producer_end e.answer_in e.answer_out) d (went consumer_end producer_end inlet outlet) answer
@@ -118,6 +125,13 @@ module _ (c d : CoreView) (e : Ends) (inlet : Option (Consuming Message)) (outle
         };
         came = (after ∷ [], (event, refl));
       }
+
+  pub answers_keep : phase_of c.stage ≡ phase.Answering
+      → IsEvent c (went consumer_end producer_end e.answer_in e.answer_out) d (went consumer_end producer_end inlet outlet) answer
+      → KeepsCore c (told_by e) → KeepsCore d (told_by (record e { answer_in = inlet; answer_out = outlet }))
+  answers_keep h x k =
+      let are = are_answers c.stage (told_by e) h in
+      subst (KeepsCore d) (are.told (through consumer_end inlet) (through producer_end outlet)) (x.keeps (told_by e) are.got are.sent k)
 
 -- ---- what is sent
 

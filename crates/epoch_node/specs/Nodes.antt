@@ -151,6 +151,14 @@ led_trans a b c f g = record {
 abbrev pub BrokenStays : Type 0
 BrokenStays = (new old : NodeView) → IsLedFrom new old → IsBroken old → IsBroken new
 
+-- its last End is sent
+abbrev pub IsDone : NodeView → Type 0
+IsDone n = phase_of n.core.stage ≡ Done
+
+-- what is led from a node that is done is done
+abbrev pub DoneStays : Type 0
+DoneStays = (new old : NodeView) → IsLedFrom new old → IsDone old → IsDone new
+
 -- ---- a turn in which no event moved
 
 -- the one link that the event needs refused

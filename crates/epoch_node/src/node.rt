@@ -11,6 +11,7 @@ use crate::ends::Ends;
 use crate::node_core::{Broken, Core};
 use crate::stage::Phase;
 use local_taint::Asked;
+use no_memory::NoMemory;
 use outer_io::Gate;
 use replayer::Cursor;
 use run_board::{Numbered, Task, Turn};
@@ -161,28 +162,36 @@ impl<'a, G> Node<'a, G> {
         }
     }
 
-    /// What is left of a node that is done.
-    pub fn finish(self) -> Finished
+    /// Makes the rows of its epoch's sinks, if they are due in a node that is done. Contracts don't tell rows that are due
+    /// from rows that are made. Where a growth is refused, they stay due.
+    pub fn make_rows(&mut self)
+        ensures { self.new ≡ self.old }
+    {
+        self.core.make_rows();
+    }
+
+    /// What is left of a node that is done. Rows that are due are made, which gives up with NoMemory alone.
+    pub fn finish(self) -> Result<Finished, NoMemory>
         requires { phase_of self.core.stage ≡ Phase.Done }
-        ensures number { result.number ≡ self.entry.core.given.epoch.number }
-        ensures events { result.events ≡ self.entry.core.events }
-        ensures ends { result.ends ≡ self.entry.ends }
-        ensures asked { result.asked ≡ asked_at self.entry.core.stage }
-        ensures whole { is_ok result.sets ≡ whole_at self.entry.core.stage }
-        ensures done { IfOk result.sets (λ rows. HasDone self.entry.core.given (told_by self.entry.ends) result.asked rows) }
-        ensures counted { IfOk result.sets (λ rows. HasCounted self.entry.core.given (told_by self.entry.ends) result.asked rows
-            result.events) }
+        ensures number { IfOk result (λ f. f.number ≡ self.entry.core.given.epoch.number) }
+        ensures events { IfOk result (λ f. f.events ≡ self.entry.core.events) }
+        ensures ends { IfOk result (λ f. f.ends ≡ self.entry.ends) }
+        ensures asked { IfOk result (λ f. f.asked ≡ asked_at self.entry.core.stage) }
+        ensures whole { IfOk result (λ f. is_ok f.sets ≡ whole_at self.entry.core.stage) }
+        ensures done { IfOk result (λ f. IfOk f.sets (λ rows. HasDone self.entry.core.given (told_by self.entry.ends) f.asked rows)) }
+        ensures counted { IfOk result (λ f. IfOk f.sets (λ rows. HasCounted self.entry.core.given (told_by self.entry.ends) f.asked rows
+            f.events)) }
     {
         let Node { core, ends } = self;
         let number = core.number();
-        let (sets, asked, events) = core.into_result();
-        Finished {
+        let (sets, asked, events) = core.into_result()?;
+        Ok(Finished {
             number,
             sets,
             asked,
             events,
             ends,
-        }
+        })
     }
 }
 

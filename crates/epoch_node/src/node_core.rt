@@ -211,29 +211,37 @@ impl<'a, G> Core<'a, G> {
         }
     }
 
-    /// The rows of the epoch's sinks, unless the core is broken, what it asked, and how many events moved. It takes no
-    /// memory.
-    pub fn into_result(self) -> (Result<SinkSets, Broken>, Asked, u64)
+    /// Makes the rows of the epoch's sinks, if they are due in a core that is done. It needs nothing of other nodes, and
+    /// where a growth is refused they stay due.
+    pub fn make_rows(&mut self)
+        ensures { core_of self.new ≡ core_of self.old }
+    {
+        self.stage.make_rows();
+    }
+
+    /// The rows of the epoch's sinks, unless the core is broken, what it asked, and how many events moved. Rows that are
+    /// due are made, which gives up with NoMemory alone.
+    pub fn into_result(self) -> Result<(Result<SinkSets, Broken>, Asked, u64), NoMemory>
         requires { phase_of (core_of self).stage ≡ Phase.Done }
-        ensures whole { is_ok result.0 ≡ whole_at (core_of self.entry).stage }
-        ensures asked { result.1 ≡ asked_at (core_of self.entry).stage }
-        ensures events { result.2 ≡ (core_of self.entry).events }
+        ensures whole { IfOk result (λ r. is_ok r.0 ≡ whole_at (core_of self.entry).stage) }
+        ensures asked { IfOk result (λ r. r.1 ≡ asked_at (core_of self.entry).stage) }
+        ensures events { IfOk result (λ r. r.2 ≡ (core_of self.entry).events) }
         ensures done { (w : Told) → KeepsCore (core_of self.entry) w
-            → IfOk result.0 (λ rows. HasDone (core_of self.entry).given w result.1 rows) }
+            → IfOk result (λ r. IfOk r.0 (λ rows. HasDone (core_of self.entry).given w r.1 rows)) }
         ensures counted { (w : Told) → KeepsCore (core_of self.entry) w
-            → IfOk result.0 (λ rows. HasCounted (core_of self.entry).given w result.1 rows result.2) }
+            → IfOk result (λ r. IfOk r.0 (λ rows. HasCounted (core_of self.entry).given w r.1 rows r.2)) }
     {
         let alloc = self.alloc;
         let events = self.events;
         let Some(fore) = Box::into_inner(self.stage).into_done() else {
-            return (Err(Broken), Asked::new(alloc), events);
+            return Ok((Err(Broken), Asked::new(alloc), events));
         };
         let whole = fore.whole();
         let (sets, asked) = fore.into_sets();
         if !whole {
-            return (Err(Broken), asked, events);
+            return Ok((Err(Broken), asked, events));
         }
-        (Ok(sets), asked, events)
+        Ok((Ok(sets?), asked, events))
     }
 }
 

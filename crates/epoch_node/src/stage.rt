@@ -75,6 +75,16 @@ impl Stage {
         }
     }
 
+    /// Makes the rows of the epoch's sinks, if they are due in a node that is done.
+    pub(crate) fn make_rows(&mut self)
+        ensures { stage_of self.new ≡ stage_of self.old }
+    {
+        match self {
+            Stage::Fresh(_) | Stage::Asking(_) | Stage::Answering(_) | Stage::Between => {}
+            Stage::Done(fore) => fore.make_rows(),
+        }
+    }
+
     /// The pass forwards of a node that is done.
     pub(crate) fn into_done(self) -> Option<Fore>
         ensures done { IfSome result (λ fore. stage_of self ≡ view.Done (fore_of fore)) }

@@ -37,7 +37,7 @@ pub(crate) fn collect<'a, G>(alloc: Global, line: Line<'a, G>) -> Result<Collect
     let mut asked = Vec::new(alloc);
     let mut events = 0u64;
     for core in line.cores {
-        let (own, requests, moved) = core.into_result();
+        let (own, requests, moved) = core.into_result()?;
         let Ok(own) = own else {
             return Err(NoMemory::past_count());
         };

@@ -18,6 +18,7 @@ use Rattle.pass_parts.specs.Knowing.{is_whole, summary_in}
 use Rattle.pass_parts.specs.Events.{Events, Happened}
 use Rattle.forward_pass.specs.declared.state.Fore.{Fore}
 use Rattle.forward_pass.specs.Came.{Came, CameFrom}
+use Rattle.forward_pass.specs.Rows.{rows_by, rows_in}
 
 pub record ForeView : Type 0 where
   pub summary : Option Summary
@@ -39,7 +40,7 @@ fore_of f = record {
   left = drop f.answered f.requests.items;
   sending = f.sending.left;
   came = f.received;
-  rows = f.rows;
+  rows = rows_in f.rows (rows_by (summary_in f.epoch) f.asked f.received.answers);
   whole = is_whole f.epoch;
   over = f.over;
 }

@@ -1,4 +1,5 @@
 pub mod Came
 pub mod Rest
+pub mod Rows
 pub mod Forward
 pub mod Steps

@@ -14,9 +14,10 @@ ghost use Rattle.forward_pass.specs.Forward.{fore_of, new_fore, known_by, ForeKe
 ghost use Rattle.forward_pass.specs.Steps.{HasBuilt, HasResolved, Builds, Resolves, Sends, Takes, IsNextFore};
 
 use crate::received::Received;
+use crate::rows::{SinkRows, make_rows};
 use crate::sending::Sending;
 use crate::state::Fore;
-use answer_sets::{Answers, resolved, rows};
+use answer_sets::{Answers, resolved};
 use epoch_link::{Inlet, Outlet};
 use flow_rule::{Loc, Message, SourceByte};
 use local_taint::{Asked, Summary, TermsAhead};
@@ -27,6 +28,7 @@ use pass_parts::{
 };
 use sink_collect::SinkSets;
 use std::alloc::Global;
+use std::mem;
 
 /// The answer to a location, where this was asked and these answers came. It gives up with NoMemory alone.
 fn answer_for(
@@ -96,7 +98,7 @@ impl Fore {
             sending: Sending::nothing(alloc),
             last: None,
             received: Received::new(alloc, first),
-            rows: None,
+            rows: SinkRows::Unresolved,
             reader: TermsReader::new(alloc),
             ahead: TermsAhead::new(alloc),
             over: false,
@@ -110,14 +112,44 @@ impl Fore {
         self.epoch.is_whole()
     }
 
-    /// The rows of the epoch's sinks, none if they were not resolved, and what was asked. It takes no memory.
-    pub fn into_sets(self) -> (SinkSets, Asked)
-        ensures rows { result.0 ≡ rows_or_none (fore_of self).rows }
+    /// Makes the rows of the epoch's sinks, if they are due, which needs nothing of other nodes. Contracts don't tell rows that
+    /// are due from rows that are made. Where a growth is refused, they stay due.
+    pub fn make_rows(&mut self)
+        ensures { fore_of self.new ≡ fore_of self.old }
+    {
+        if !self.rows.are_due() {
+            return;
+        }
+        let alloc = *self.requests.allocator();
+        let answers = self.received.answers();
+        let made = make_rows(alloc, &mut self.reader, &self.epoch, &self.asked, answers);
+        if let Ok(rows) = made {
+            drop(mem::replace(&mut self.rows, SinkRows::Made(rows)));
+        }
+    }
+
+    /// The rows of the epoch's sinks, none if they were not resolved, and what was asked. Rows that are due are made, which
+    /// fails only where there is no memory.
+    pub fn into_sets(self) -> (Result<SinkSets, NoMemory>, Asked)
+        ensures rows { IfOk result.0 (λ sets. sets ≡ rows_or_none (fore_of self).rows) }
         ensures asked { result.1 ≡ (fore_of self).asked }
     {
-        let alloc = *self.requests.allocator();
-        let nothing = SinkSets::from_vec(Vec::new(alloc));
-        (self.rows.unwrap_or(nothing), self.asked)
+        let Fore {
+            epoch,
+            asked,
+            requests,
+            received,
+            rows,
+            mut reader,
+            ..
+        } = self;
+        let alloc = *requests.allocator();
+        let sets = match rows {
+            SinkRows::Unresolved => Ok(SinkSets::from_vec(Vec::new(alloc))),
+            SinkRows::Due => make_rows(alloc, &mut reader, &epoch, &asked, received.answers()),
+            SinkRows::Made(sets) => Ok(sets),
+        };
+        (sets, asked)
     }
 
     /// The next event. NotYet only where the one link that it needs refused in this call, and then nothing else
@@ -240,32 +272,27 @@ impl Fore {
         true
     }
 
-    /// Resolves the sinks, if no request is left and the End came. Where a growth is refused, the pass is broken.
+    /// Resolves the sinks, if no request is left and the End came: their rows are due.
     fn resolve(&mut self) -> bool
         ensures none { result ≡ false → (fore_of self.new ≡ fore_of self.old) × HasResolved (fore_of self.old) }
         ensures resolved { result ≡ true → Resolves (fore_of self.old) (fore_of self.new) }
     {
-        let Knowledge::Whole(summary) = &self.epoch else {
+        if !self.epoch.is_whole() {
             return false;
-        };
+        }
         if self.answered < self.requests.len() {
             return false;
         }
-        if !self.received.ended() || self.rows.is_some() {
+        if !self.received.ended() || self.rows.are_resolved() {
             return false;
         }
-        let alloc = *self.requests.allocator();
-        let answers = self.received.answers();
-        let Ok(rows) = rows(alloc, &mut self.reader, summary, &self.asked, answers) else {
-            self.epoch.give_up();
-            return true;
-        };
-        self.rows = Some(SinkSets::from_vec(rows));
+        drop(mem::replace(&mut self.rows, SinkRows::Due));
         true
     }
 
     /// Takes a message. Where a growth is refused, or an End isn't whole, the pass is broken.
     fn take(&mut self, message: Message)
+        requires { (fore_of self.old).came.is_ended ≡ false }
         ensures { Takes message (fore_of self.old) (fore_of self.new) }
     {
         self.last = None;

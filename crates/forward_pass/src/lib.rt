@@ -9,6 +9,7 @@
 mod fore;
 mod inserting;
 mod received;
+mod rows;
 mod sending;
 mod state;
 

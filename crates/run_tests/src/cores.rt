@@ -199,7 +199,7 @@ fn assert_sent(rt: &impl Abort, link: Option<ListLink<Message>>, messages: Optio
 /// The core is done, with what it asked and whether it is whole.
 fn assert_done(rt: &impl Abort, core: Core<'_, OpenGate>, case: &Case) {
     assert!(rt; core.phase() == Phase::Done);
-    let (sets, asked, _events) = core.into_result();
+    let (sets, asked, _events) = core.into_result().expect(rt, "memory");
     assert!(rt; asked.locations() == case.asked);
     match sets {
         Ok(sets) => assert!(rt; case.whole && sets.into_vec().is_empty()),

@@ -19,8 +19,8 @@ use Rattle.epoch_line.proofs.Whole.{done_lines_come}
 use Rattle.epoch_line.proofs.Popping.{Finished, views, node_of, nodes, popped, all_at, all_done, flat_mapped, links_are, one_more, done_line, capped_more}
 use Rattle.epoch_line.proofs.collecting.collect.Goals as goal
 
-pub finish-own-requires : goal.finish-own-requires
-finish-own-requires g c =
+pub finish-requires : goal.finish-requires
+finish-requires g c =
     let i = c.loop-node.invariant in
     let n = c.in-Some.node in
     let rest = c.pop.new.self.items in
@@ -35,7 +35,7 @@ close_link-requires g c =
     let run = c.requires.led.0 in
     let e = popped c.args.nodes.items c.loop-node.nodes.items rest (views i.done) n i.split c.in-Some.ensures.items in
     let p = part run _ (epochs_of run) rest (n ∷ views i.done) (subst (IsLine run _ (epochs_of run)) e (run_line run c.args.nodes.items c.requires.led.1)) in
-    subst (λ (x : Ends). IsOneLink c.loop-node.ask_out x.ask_in) (sym c.finish-own.ensures.ends) (links_are run n i.done c.loop-node.ask_out c.loop-node.answer_in p i.faces).0
+    subst (λ (x : Ends). IsOneLink c.loop-node.ask_out x.ask_in) (sym c.in_ok-finished.ensures.ends) (links_are run n i.done c.loop-node.ask_out c.loop-node.answer_in p i.faces).0
 
 pub close_link-requires-in-Some : goal.close_link-requires-in-Some
 close_link-requires-in-Some g c =
@@ -45,17 +45,17 @@ close_link-requires-in-Some g c =
     let run = c.requires.led.0 in
     let e = popped c.args.nodes.items c.loop-node.nodes.items rest (views i.done) n i.split c.in-Some.ensures.items in
     let p = part run _ (epochs_of run) rest (n ∷ views i.done) (subst (IsLine run _ (epochs_of run)) e (run_line run c.args.nodes.items c.requires.led.1)) in
-    subst (λ (x : Ends). IsOneLink x.answer_out c.loop-node.answer_in) (sym c.finish-own.ensures.ends) (links_are run n i.done c.loop-node.ask_out c.loop-node.answer_in p i.faces).1
+    subst (λ (x : Ends). IsOneLink x.answer_out c.loop-node.answer_in) (sym c.in_ok-finished.ensures.ends) (links_are run n i.done c.loop-node.ask_out c.loop-node.answer_in p i.faces).1
 
 pub loop-node-preserved : goal.loop-node-preserved
 loop-node-preserved g c =
     let i = c.loop-node.invariant in
     let n = c.in-Some.node in
     let rest = c.pop.new.self.items in
-    let finished = c.finish-own.ensures in
+    let finished = c.in_ok-finished.ensures in
     let e = popped c.args.nodes.items c.loop-node.nodes.items rest (views i.done) n i.split c.in-Some.ensures.items in
-    let has = subst (λ r. IfOk r (λ rows. HasDone n.core.given (told_by n.ends) c.finish-own.result.asked rows)) c.in-Ok.is finished.done in
-    let counted = subst (λ r. IfOk r (λ rows. HasCounted n.core.given (told_by n.ends) c.finish-own.result.asked rows c.finish-own.result.events)) c.in-Ok.is finished.counted in
+    let has = subst (λ r. IfOk r (λ rows. HasDone n.core.given (told_by n.ends) c.in_ok-finished.finished.asked rows)) c.in-Ok.is finished.done in
+    let counted = subst (λ r. IfOk r (λ rows. HasCounted n.core.given (told_by n.ends) c.in_ok-finished.finished.asked rows c.in_ok-finished.finished.events)) c.in-Ok.is finished.counted in
     let f : Finished = record {
       view = n;
       rows = c.in-Ok.own;

@@ -28,8 +28,8 @@ loop-core-init g c = record {
   events = refl;
 }
 
-pub into_result-own-requires : goal.into_result-own-requires
-into_result-own-requires g c =
+pub into_result-requires : goal.into_result-requires
+into_result-requires g c =
     let i = c.loop-core.invariant in
     let rest = into_iter_items c.next.new.self in
     let split = ap (λ cs. i.front ++ map (core_of {G = g.row.G.Denot}) cs) (sym c.in-Some.ensures.steps.0) ∙ i.split in
@@ -41,12 +41,11 @@ loop-core-preserved g c =
     let core = core_of {G = g.row.G.Denot} c.in-Some.core in
     let rest = map (core_of {G = g.row.G.Denot}) (into_iter_items c.next.new.self) in
     let plan = c.requires.line.0 in
-    let result = c.into_result-own.result in
     let split = ap (λ cs. i.front ++ map (core_of {G = g.row.G.Denot}) cs) (sym c.in-Some.ensures.steps.0) ∙ i.split in
     let next = next_core plan true (epochs_of plan.run) i.done i.front core rest c.args.line.joints.items (subst (λ cs. Stand plan true (epochs_of plan.run) cs c.args.line.joints.items) (sym split) c.requires.line.1.stand) i.are in
-    let has = subst (λ r. IfOk r (λ rows. HasDone core.given next.told result.1 rows)) c.in-Ok.is (c.into_result-own.ensures.done next.told next.keeps) in
-    let counted = subst (λ r. IfOk r (λ rows. HasCounted core.given next.told result.1 rows result.2)) c.in-Ok.is (c.into_result-own.ensures.counted next.told next.keeps) in
-    let n : DoneNode = record { given = core.given; told = next.told; asked = result.1; rows = c.in-Ok.own; events = result.2; done = has; counted = counted } in
+    let has = subst (λ r. IfOk r (λ rows. HasDone core.given next.told c.in_ok-own.requests rows)) c.in-Ok.is (c.in_ok-own.ensures.done next.told next.keeps) in
+    let counted = subst (λ r. IfOk r (λ rows. HasCounted core.given next.told c.in_ok-own.requests rows c.in_ok-own.moved)) c.in-Ok.is (c.in_ok-own.ensures.counted next.told next.keeps) in
+    let n : DoneNode = record { given = core.given; told = next.told; asked = c.in_ok-own.requests; rows = c.in-Ok.own; events = c.in_ok-own.moved; done = has; counted = counted } in
     record {
       front = i.front ++ core ∷ [];
       done = i.done ++ n ∷ [];

@@ -6,5 +6,5 @@ use Rattle.epoch_node.proofs.node.Node.finish.Goals as goal
 
 pub returns-clause-counted : goal.returns-clause-counted
 returns-clause-counted g c =
-    let r = c.into_result-sets.result in
-    subst (λ (v : NodeView). IfOk r.0 (λ rows. HasCounted v.core.given (told_by v.ends) r.1 rows r.2)) c.self.view_is (c.into_result-sets.ensures.counted (told_by c.self.inside.ends) c.self.invariant)
+    let r = c.in_ok-sets in
+    subst (λ (v : NodeView). IfOk r.sets (λ rows. HasCounted v.core.given (told_by v.ends) r.asked rows r.events)) c.self.view_is (r.ensures.counted (told_by c.self.inside.ends) c.self.invariant)

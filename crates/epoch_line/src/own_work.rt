@@ -1,4 +1,4 @@
-//! The analysis of a node's epoch, as a task of the board.
+//! What a node does by itself, as a task of the board.
 
 ghost use Rattle.std.specs.Prelude.{◌≡◌};
 
@@ -7,38 +7,39 @@ use outer_io::Gate;
 use run_board::{Numbered, Task, Turn};
 use std::marker::Model;
 
-/// A node whose epoch is to be analysed, which takes one turn. Contracts see the node.
+/// A node by itself, which takes one turn: its epoch is analysed, unless it has begun, or its rows are made, once it is
+/// done. Contracts see the node.
 #[derive(Drop)]
-pub struct Analysis<'a, G> {
+pub struct OwnWork<'a, G> {
     node: Node<'a, G>,
 }
 
-impl<'a, G> Model for Analysis<'a, G> {
+impl<'a, G> Model for OwnWork<'a, G> {
     ghost use Rattle.epoch_node.specs.Nodes.{NodeView};
 
     ghost Value = { NodeView };
 
-    ghost view = { λ a. a.node };
+    ghost view = { λ w. w.node };
 }
 
-impl<'a, G> Analysis<'a, G> {
-    /// The analysis of this node's epoch.
-    pub(crate) fn new(node: Node<'a, G>) -> Analysis<'a, G>
+impl<'a, G> OwnWork<'a, G> {
+    /// This node's own work.
+    pub(crate) fn new(node: Node<'a, G>) -> OwnWork<'a, G>
         ensures { result ≡ node.entry }
     {
-        Analysis { node }
+        OwnWork { node }
     }
 
     /// The node.
     pub(crate) fn into_node(self) -> Node<'a, G>
         ensures { result ≡ self.entry }
     {
-        let Analysis { node } = self;
+        let OwnWork { node } = self;
         node
     }
 }
 
-impl<'a, G: Gate> Numbered for Analysis<'a, G> {
+impl<'a, G: Gate> Numbered for OwnWork<'a, G> {
     ghost use Rattle.epoch_node.specs.Nodes.{IsLedFrom, HasBegun};
     ghost use Rattle.epoch_line.specs.Groups.{number_of};
 
@@ -53,13 +54,14 @@ impl<'a, G: Gate> Numbered for Analysis<'a, G> {
     }
 }
 
-impl<'a, G: Gate> Task for Analysis<'a, G> {
+impl<'a, G: Gate> Task for OwnWork<'a, G> {
     ghost use Rattle.std.specs.Prelude.{◌≡◌};
     ghost use Rattle.run_board.specs.Turns.{AnswersEnded};
     ghost use Rattle.epoch_node.specs.Nodes.{IsLedFrom, HasBegun, led_refl, led_trans};
     ghost use Rattle.epoch_line.specs.Groups.{number_of};
 
-    /// The node begins: it enters the gate, and its epoch is analysed. One that has begun is left as it is.
+    /// The node begins: it enters the gate, and its epoch is analysed. One that has begun does not; if it is done, its rows
+    /// are made.
     fn turn(&mut self) -> Turn
         ensures led { IsLedFrom self.new self.old }
         ensures number { number_of self.new ≡ number_of self.old }
@@ -69,6 +71,7 @@ impl<'a, G: Gate> Task for Analysis<'a, G> {
             self.node.gate().enter(self.node.number());
         }
         self.node.begin();
+        self.node.make_rows();
         Turn::Done
     }
 
