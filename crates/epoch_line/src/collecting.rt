@@ -1,6 +1,6 @@
 //! What nodes that are done come to.
 
-ghost use Rattle.std.specs.Prelude.{◌≡◌, All, IfOk, drop, reverse};
+ghost use Rattle.std.specs.Prelude.{◌≡◌, All, IfOk, OnOk, drop, reverse};
 ghost use Rattle.std.specs.List.{flat_map};
 ghost use Rattle.replayer.specs.Jobs.{trace_of};
 ghost use Rattle.report_model.specs.Rows.{rows_as_written};
@@ -8,6 +8,7 @@ ghost use Rattle.sink_collect.specs.Pairs.{capped};
 ghost use Rattle.epoch_line.specs.Groups.{IsNodeDone};
 ghost use Rattle.epoch_line.specs.Layouts.{CutRun, IsRunOf};
 ghost use Rattle.epoch_line.specs.Lines.{IsOneLink, HasDelivered};
+ghost use Rattle.epoch_line.specs.Gathering.{HasNothing, HasTaken};
 ghost use Rattle.stream_model.specs.Work.{asked_at, run_work};
 
 use epoch_link::{Consumer, Producer, close};
@@ -17,6 +18,7 @@ use local_taint::Asked;
 use no_memory::NoMemory;
 use sink_collect::{SinkSet, SinkSets};
 use std::alloc::Global;
+use std::mem;
 
 /// What the nodes of a run come to.
 #[derive(Drop)]
@@ -63,21 +65,44 @@ fn back_to_front<T: Drop>(mut items: Vec<T>) -> Vec<T>
     items
 }
 
-/// The rows of a run, what its nodes asked, and how many of their events moved, of nodes that are done, and led one by one
-/// from those of one layout. It closes their links. It gives up with NoMemory alone, also where a node is broken.
-pub fn collect<'a, G>(alloc: Global, mut nodes: Vec<Node<'a, G>>) -> Result<Collected, NoMemory>
-    requires done { All IsNodeDone nodes.items }
-    requires led { (run : CutRun) × IsRunOf run nodes.items }
-    ensures rows { (run : CutRun) → IsRunOf run nodes.entry.items → IfOk result (λ all. all.sets ≡ rows_as_written run.query (trace_of run.job)) }
-    ensures crossed { (run : CutRun) → IsRunOf run nodes.entry.items → IfOk result (λ all. all.crossed.items ≡ asked_at run.query (trace_of run.job) run.cuts) }
-    ensures events { (run : CutRun) → IsRunOf run nodes.entry.items → IfOk result (λ all. all.events ≡ capped (run_work run.query (trace_of run.job) run.cuts)) }
-{
-    let mut sets = Vec::with_capacity(alloc, nodes.len())?;
-    let mut asked = Vec::with_capacity(alloc, nodes.len())?;
-    let mut events = 0u64;
-    let mut ask_out: Option<Producer<Message>> = None;
-    let mut answer_in: Option<Consumer<Message>> = None;
-    while let Some(node) = nodes.pop() {
+/// What is gathered of nodes that are done, from the last to the first.
+#[derive(Drop)]
+pub struct Gathering {
+    /// The rows of each node.
+    pub sets: Vec<SinkSets>,
+    /// What each asked.
+    pub asked: Vec<Asked>,
+    /// How many events of them moved, or 2^64 - 1 where they are more.
+    pub events: u64,
+    /// The ends that the last of them has of the links to the node before it.
+    pub ask_out: Option<Producer<Message>>,
+    pub answer_in: Option<Consumer<Message>>,
+}
+
+impl Gathering {
+    /// Nothing, with room for so many nodes. It gives up with NoMemory alone.
+    fn new(alloc: Global, count: usize) -> Result<Gathering, NoMemory>
+        ensures { IfOk result HasNothing }
+    {
+        let sets = Vec::with_capacity(alloc, count)?;
+        let asked = Vec::with_capacity(alloc, count)?;
+        Ok(Gathering {
+            sets,
+            asked,
+            events: 0,
+            ask_out: None,
+            answer_in: None,
+        })
+    }
+
+    /// Takes in the node before those that were taken in, and closes the two links between them. It gives up with NoMemory
+    /// alone, also where the node is broken.
+    fn take<'a, G>(&mut self, node: Node<'a, G>) -> Result<(), NoMemory>
+        requires done { IsNodeDone node }
+        requires ask { IsOneLink self.old.ask_out node.ends.ask_in }
+        requires answer { IsOneLink node.ends.answer_out self.old.answer_in }
+        ensures { OnOk result (HasTaken node.entry self.old self.new) }
+    {
         let finished = node.finish()?;
         let Finished {
             number: _,
@@ -89,14 +114,37 @@ pub fn collect<'a, G>(alloc: Global, mut nodes: Vec<Node<'a, G>>) -> Result<Coll
         let Ok(own) = own else {
             return Err(NoMemory::past_count());
         };
-        sets.push(own)?;
-        asked.push(requests)?;
-        events = events.saturating_add(moved);
-        close_link(ask_out, ends.ask_in);
-        close_link(ends.answer_out, answer_in);
-        ask_out = ends.ask_out;
-        answer_in = ends.answer_in;
+        self.sets.push(own)?;
+        self.asked.push(requests)?;
+        self.events = self.events.saturating_add(moved);
+        close_link(mem::replace(&mut self.ask_out, ends.ask_out), ends.ask_in);
+        close_link(
+            ends.answer_out,
+            mem::replace(&mut self.answer_in, ends.answer_in),
+        );
+        Ok(())
     }
+}
+
+/// The rows of a run, what its nodes asked, and how many of their events moved, of nodes that are done, and led one by one
+/// from those of one layout. It closes their links. It gives up with NoMemory alone, also where a node is broken.
+pub fn collect<'a, G>(alloc: Global, mut nodes: Vec<Node<'a, G>>) -> Result<Collected, NoMemory>
+    requires done { All IsNodeDone nodes.items }
+    requires led { (run : CutRun) × IsRunOf run nodes.items }
+    ensures rows { (run : CutRun) → IsRunOf run nodes.entry.items → IfOk result (λ all. all.sets ≡ rows_as_written run.query (trace_of run.job)) }
+    ensures crossed { (run : CutRun) → IsRunOf run nodes.entry.items → IfOk result (λ all. all.crossed.items ≡ asked_at run.query (trace_of run.job) run.cuts) }
+    ensures events { (run : CutRun) → IsRunOf run nodes.entry.items → IfOk result (λ all. all.events ≡ capped (run_work run.query (trace_of run.job) run.cuts)) }
+{
+    let mut gathering = Gathering::new(alloc, nodes.len())?;
+    while let Some(node) = nodes.pop() {
+        gathering.take(node)?;
+    }
+    let Gathering {
+        sets,
+        asked,
+        events,
+        ..
+    } = gathering;
     let sets = in_order(alloc, sets)?;
     // The first node asks nothing.
     let crossed = back_to_front(asked);

@@ -10,11 +10,11 @@ abbrev pub invariant-loop-node : goal.invariant-loop-node
 invariant-loop-node g l = record {
   done : List Finished;
   split : l.fn.nodes.items ≡ l.nodes.items ++ views done;
-  faces : Faces done l.ask_out l.answer_in;
+  faces : Faces done l.gathering.ask_out l.gathering.answer_in;
   closed : AreClosed done;
-  sets : l.sets.items ≡ reverse (map (λ (d : DoneNode). d.rows) (nodes done));
-  asked : l.asked.items ≡ reverse (map (λ (d : DoneNode). d.asked) (nodes done));
-  events : l.events ≡ capped (sum_by (λ (d : DoneNode). d.events) (nodes done));
+  sets : l.gathering.sets.items ≡ reverse (map (λ (d : DoneNode). d.rows) (nodes done));
+  asked : l.gathering.asked.items ≡ reverse (map (λ (d : DoneNode). d.asked) (nodes done));
+  events : l.gathering.events ≡ capped (sum_by (λ (d : DoneNode). d.events) (nodes done));
 }
 
 abbrev pub decreases-loop-node : goal.decreases-loop-node
