@@ -69,7 +69,7 @@ pub enum Rule {
 
 /// A step of a trace: its number, counted from 0, the instruction, the effective address of a load or a
 /// store (0 otherwise), and the guest call, where the step was one.
-#[derive(Clone, Copy, PartialEq, Eq)]
+#[derive(Clone, Copy)]
 pub struct StepSeen {
     pub number: u64,
     pub instr: Instr,

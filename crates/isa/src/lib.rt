@@ -17,7 +17,7 @@ pub mod laws;
 /// Registers are below 32. Immediates are sign-extended, as they are added or compared; those of
 /// LUI and AUIPC have twelve zero bits at the bottom. Shift amounts are below 32. FENCE keeps the
 /// 22 bits that it ignores: bits 31 to 15 of the word above bits 11 to 7.
-#[derive(Clone, Copy, PartialEq, Eq)]
+#[derive(Clone, Copy)]
 pub enum Instr {
     Lui { rd: u8, imm: i32 },
     Auipc { rd: u8, imm: i32 },

@@ -26,7 +26,7 @@ pub struct Cursor<'a> {
 }
 
 /// What a cursor gives next.
-#[derive(Clone, Copy, PartialEq, Eq)]
+#[derive(Clone, Copy)]
 pub enum Next {
     /// The next step of the run.
     Step(StepSeen),

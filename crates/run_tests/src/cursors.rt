@@ -5,20 +5,32 @@ ghost use Rattle.std.specs.Prelude.{◌≡◌};
 use crate::guests::copy_in_two;
 use crate::runs::cuts_of;
 use checkpoints::Checkpoints;
+use isa::Instr;
 use replayer::{Cursor, CursorState, Job, Next};
+use rv_decode::encode;
 use std::alloc::Global;
 use std::process::Abort;
+
+/// The word of an instruction that a run made.
+fn word_of(rt: &impl Abort, instr: &Instr) -> u32 {
+    assert!(rt; instr.fits());
+    encode(instr)
+}
 
 /// Both go on alike to the run's end, which comes after so many steps.
 fn assert_alike(rt: &impl Abort, first: &mut Cursor<'_>, second: &mut Cursor<'_>, steps: u64) {
     for _ in 0..steps {
-        let step = first.next();
-        assert!(rt; matches!(step, Next::Step(_)));
-        assert!(rt; step == second.next());
+        let (Next::Step(one), Next::Step(other)) = (first.next(), second.next()) else {
+            rt.abort()
+        };
+        assert!(rt; one.number == other.number && one.place == other.place);
+        assert!(rt; one.call == other.call);
+        assert_eq!(rt; word_of(rt, &one.instr), word_of(rt, &other.instr));
     }
-    let end = first.next();
-    assert!(rt; matches!(end, Next::End(_)));
-    assert!(rt; end == second.next());
+    let (Next::End(one), Next::End(other)) = (first.next(), second.next()) else {
+        rt.abort()
+    };
+    assert!(rt; one == other);
 }
 
 /// The cursor of a job's state that was taken apart and put together.

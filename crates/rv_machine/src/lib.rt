@@ -24,7 +24,7 @@ pub use saved::{MachineState, Rest};
 pub type MachineFault = Fault<SmallWindow>;
 
 /// What a step came to.
-#[derive(Clone, Copy, PartialEq, Eq)]
+#[derive(Clone, Copy)]
 pub enum Stepped {
     /// The instruction retired. `place` is the effective address of a load or a store, and 0 for others.
     Plain { instr: Instr, place: u32 },
