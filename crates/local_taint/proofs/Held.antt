@@ -2,7 +2,7 @@
 use Rattle.std.proofs.Common.{◌≡◌, ℕ, ◌<◌, length, slice_get, get_or, ap, sym, ◌∙◌}
 use Rattle.std.specs.Prelude.{Some}
 use Rattle.epoch_model.specs.Summary.{Terms}
-use Rattle.taint_tracking.specs.declared.sinks.SinkLabel.{SinkLabel}
+use Rattle.taint_shadow.specs.declared.labels.SinkLabel.{SinkLabel}
 use Rattle.local_taint.specs.declared.summary.Summary.{Summary}
 use Rattle.local_taint.specs.Words.{label_words}
 use Rattle.local_taint.specs.Summaries.{summary_of, terms_of}

@@ -3,7 +3,7 @@ use Rattle.std.specs.Prelude.{ℕ, List, map}
 use Rattle.flow_model.specs.declared.SinkPoint.{SinkPoint}
 use Rattle.epoch_model.specs.Summary.{Terms, SinkTerms, Summary as EpochSummary}
 use Rattle.taint_shadow.specs.Steps.{meaning_at}
-use Rattle.taint_tracking.specs.declared.sinks.SinkLabel.{SinkLabel}
+use Rattle.taint_shadow.specs.declared.labels.SinkLabel.{SinkLabel}
 use Rattle.local_taint.specs.declared.labels.Nodes.{Nodes}
 use Rattle.local_taint.specs.declared.summary.Summary.{Summary}
 use Rattle.local_taint.specs.Words.{label_words}

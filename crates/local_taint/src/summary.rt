@@ -11,8 +11,8 @@ use crate::labels::Nodes;
 use flow_model::{Loc, SinkPoint};
 use merge_log::{Node, TermsReader};
 use no_memory::NoMemory;
-use taint_shadow::{LabelKind, Places};
-use taint_tracking::{SinkLabel, Tracked};
+use taint_shadow::{LabelKind, Places, SinkLabel};
+use taint_tracking::Tracked;
 use terms_ahead::TermsAhead;
 
 /// What the analysis of an epoch found: the terms of each location at the epoch's end, and the epoch's sinks with their

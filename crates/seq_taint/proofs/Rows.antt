@@ -12,7 +12,7 @@ use Rattle.taint_shadow.specs.declared.labels.Label.{Label}
 use Rattle.taint_shadow.specs.declared.labels.LabelKind.{LabelKind}
 use Rattle.taint_shadow.specs.declared.labels.LabelKind.TheVariants.{Node, Start, Run}
 use Rattle.taint_shadow.specs.Labels.{kind_of}
-use Rattle.taint_tracking.specs.declared.sinks.SinkLabel.{SinkLabel}
+use Rattle.taint_shadow.specs.declared.labels.SinkLabel.{SinkLabel}
 use Rattle.taint_tracking.specs.Sinks.{AreLabelled}
 use Rattle.terms_ahead.specs.Ahead.{HaveNodesIn, node_or_nothing}
 use Rattle.source_labels.specs.declared.labels.SourceLabels.{SourceLabels}

@@ -13,7 +13,7 @@ use Rattle.replay_model.proofs.Offsets.{length-steps_from}
 use Rattle.replayer.specs.Jobs.{Job, trace_of}
 use Rattle.epoch_model.specs.Stretch.{sinks_of_epoch}
 use Rattle.epoch_model.proofs.Sinks.{sinks-all}
-use Rattle.taint_tracking.specs.declared.sinks.SinkLabel.{SinkLabel}
+use Rattle.taint_shadow.specs.declared.labels.SinkLabel.{SinkLabel}
 use Rattle.taint_tracking.specs.Courses.{IsCourse}
 use Rattle.taint_tracking.specs.Sinks.{labelled, meant}
 use Rattle.source_labels.specs.declared.labels.SourceLabels.{SourceLabels}

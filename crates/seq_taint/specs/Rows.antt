@@ -2,7 +2,7 @@
 use Rattle.report_model.specs.Rows.{Row}
 use Rattle.source_labels.specs.declared.labels.SourceLabels.{SourceLabels}
 use Rattle.source_labels.specs.Words.{label_words}
-use Rattle.taint_tracking.specs.declared.sinks.SinkLabel.{SinkLabel}
+use Rattle.taint_shadow.specs.declared.labels.SinkLabel.{SinkLabel}
 
 -- a sink with the source bytes of its label
 abbrev pub row_by : SourceLabels → SinkLabel → Row

@@ -14,7 +14,8 @@ use sink_collect::SinkSet;
 use source_labels::SourceLabels;
 use std::alloc::Global;
 use std::marker::Model;
-use taint_tracking::{SinkLabel, Watching};
+use taint_shadow::SinkLabel;
+use taint_tracking::Watching;
 
 /// The sinks of a run, in its order, each with a label of the source bytes that it came from. Contracts see the rows
 /// that they come to.

@@ -12,8 +12,7 @@ use sink_collect::SinkSet;
 use source_labels::SourceLabels;
 use source_ranges::SourceSet;
 use std::alloc::Global;
-use taint_shadow::{Label, LabelKind};
-use taint_tracking::SinkLabel;
+use taint_shadow::{Label, LabelKind, SinkLabel};
 use terms_ahead::TermsAhead;
 
 /// The rows of sinks, in their order. It fails only where there is no memory.

@@ -5,7 +5,7 @@ ghost use Rattle.flow_model.specs.declared.Loc.{Loc as Location};
 ghost use Rattle.flow_model.specs.declared.SourceByte.{SourceByte as Source};
 ghost use Rattle.taint_shadow.specs.Labels.{LabelWords, Laws, Makes, mean_together, nothing_label, node_label, start_label, kind_of, FitsLabel};
 
-use flow_model::{Loc, SourceByte};
+use flow_model::{Loc, SinkPoint, SourceByte};
 use no_memory::NoMemory;
 use source_runs::SourceRun;
 
@@ -28,6 +28,13 @@ const PAST_CHANNELS: u64 = 1 << 4;
 #[derive(Clone, Copy, PartialEq, Eq)]
 pub struct Label {
     number: u64,
+}
+
+/// An output byte or a point, with the label of what it came from.
+#[derive(Clone, Copy)]
+pub struct SinkLabel {
+    pub name: SinkPoint,
+    pub label: Label,
 }
 
 /// What a label is.

@@ -14,6 +14,6 @@ mod places;
 mod shapes;
 mod steps;
 
-pub use labels::{Label, LabelKind, Labels};
+pub use labels::{Label, LabelKind, Labels, SinkLabel};
 pub use places::Places;
 pub use steps::{plain_step, step};

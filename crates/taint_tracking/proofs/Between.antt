@@ -21,7 +21,7 @@ use Rattle.epoch_model.specs.Stretch.{points_at_start, sinks_at_step, sinks_betw
 use Rattle.taint_shadow.specs.declared.places.Places.{Places}
 use Rattle.taint_shadow.specs.Labels.{LabelWords, KeepsLabels}
 use Rattle.taint_shadow.specs.Steps.{AreStanding, Holds}
-use Rattle.taint_tracking.specs.declared.sinks.SinkLabel.{SinkLabel}
+use Rattle.taint_shadow.specs.declared.labels.SinkLabel.{SinkLabel}
 use Rattle.taint_tracking.specs.Sinks.{Notes, chosen, meant, labelled, AreLabelled, sinks_at}
 use Rattle.taint_tracking.proofs.Notes.{AreHere, noted_stand, noted_rows, meaning_kept}
 

@@ -20,7 +20,7 @@ use Rattle.sorted_set.specs.Sets.{Ascends}
 use Rattle.epoch_model.specs.Stretch.{sinks_of_epoch}
 use Rattle.taint_shadow.specs.Labels.{LabelWords, KeepsLabels}
 use Rattle.taint_shadow.specs.Steps.{Holds, after, turned as turned_by}
-use Rattle.taint_tracking.specs.declared.sinks.SinkLabel.{SinkLabel}
+use Rattle.taint_shadow.specs.declared.labels.SinkLabel.{SinkLabel}
 use Rattle.taint_tracking.specs.declared.tracking.Tracking.{Tracking}
 use Rattle.taint_tracking.specs.Courses.{IsCourse}
 use Rattle.taint_tracking.specs.Sinks.{Notes, chosen, meant, labelled, sinks_at}

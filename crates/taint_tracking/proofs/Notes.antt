@@ -18,7 +18,7 @@ use Rattle.taint_shadow.specs.declared.places.Places.{Places}
 use Rattle.taint_shadow.specs.Labels.{LabelWords, KeepsLabels}
 use Rattle.taint_shadow.specs.Places.{kept}
 use Rattle.taint_shadow.specs.Steps.{AreStanding, Holds}
-use Rattle.taint_tracking.specs.declared.sinks.SinkLabel.{SinkLabel}
+use Rattle.taint_shadow.specs.declared.labels.SinkLabel.{SinkLabel}
 use Rattle.taint_tracking.specs.Sinks.{noted, Notes, chosen, meant, labelled, AreLabelled}
 
 -- ---- noting

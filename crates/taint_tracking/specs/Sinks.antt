@@ -9,7 +9,7 @@ use Rattle.report_model.specs.Rows.{Sink, point_sink, at_time}
 use Rattle.taint_shadow.specs.declared.places.Places.{Places}
 use Rattle.taint_shadow.specs.Labels.{LabelWords}
 use Rattle.taint_shadow.specs.Places.{kept}
-use Rattle.taint_tracking.specs.declared.sinks.SinkLabel.{SinkLabel}
+use Rattle.taint_shadow.specs.declared.labels.SinkLabel.{SinkLabel}
 
 -- those of the sinks that the query chooses
 abbrev pub chosen : Query → List Sink → List Sink

@@ -12,6 +12,5 @@ mod sinks;
 mod tracking;
 mod watching;
 
-pub use sinks::SinkLabel;
 pub use tracking::{Tracked, Tracking};
 pub use watching::Watching;

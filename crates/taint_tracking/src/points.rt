@@ -9,11 +9,10 @@ ghost use Rattle.report_model.specs.Rows.{point_sink, from_time};
 ghost use Rattle.sorted_set.specs.Sets.{Ascends};
 ghost use Rattle.taint_tracking.specs.Sinks.{Notes, sinks_at};
 
-use crate::sinks::SinkLabel;
 use flow_model::{InnerSink, SinkPoint};
 use no_memory::NoMemory;
 use query_lang::Query;
-use taint_shadow::Places;
+use taint_shadow::{Places, SinkLabel};
 
 /// Notes the points at the beginning of an epoch that belong to it, which are those at time 0, and gives those after
 /// its beginning.

@@ -11,14 +11,7 @@ use flow_model::{CallSeen, Loc, SinkByte, SinkPoint, StepSeen};
 use isa::CallKind;
 use no_memory::NoMemory;
 use query_lang::Query;
-use taint_shadow::{Label, Places};
-
-/// An output byte or a point, with the label of what it came from.
-#[derive(Clone, Copy)]
-pub struct SinkLabel {
-    pub name: SinkPoint,
-    pub label: Label,
-}
+use taint_shadow::{Places, SinkLabel};
 
 /// Notes those bytes that a step writes and the query chooses, in the order of writing. What is kept for locations is
 /// that before the step.

@@ -7,13 +7,13 @@ ghost use Rattle.replayer.specs.Nexts.{seen_at};
 ghost use Rattle.taint_tracking.specs.Following.{IsSound, IsBegun, FollowsStep, FollowsQuiet, IsNotPassed, IsTurned, NotesDue, query_of, due_of, parts, number_before as number_of_first};
 
 use crate::points::{collect_due, collect_first};
-use crate::sinks::{SinkLabel, collect};
+use crate::sinks::collect;
 use flow_model::{InnerSink, Rule, StepSeen};
 use no_memory::NoMemory;
 use query_lang::Query;
 use replayer::PlainStep;
 use std::alloc::Global;
-use taint_shadow::{Labels, Places};
+use taint_shadow::{Labels, Places, SinkLabel};
 
 /// The taint tracking of an epoch after some of its steps: the label of each location, the sinks so far, each with its label,
 /// and the points that are left.

@@ -5,12 +5,12 @@ use Rattle.flow_model.specs.Ranges.{IsLocation}
 use Rattle.taint_shadow.specs.declared.labels.Label.{Label}
 use Rattle.taint_shadow.specs.declared.labels.LabelKind.{LabelKind}
 use Rattle.taint_shadow.specs.declared.labels.LabelKind.TheVariants.{Node, Start, Run}
+use Rattle.taint_shadow.specs.declared.labels.SinkLabel.{SinkLabel}
 use Rattle.taint_shadow.specs.declared.places.Places.{Places}
 use Rattle.taint_shadow.specs.Labels.{kind_of}
 use Rattle.taint_shadow.specs.Places.{kept}
 use Rattle.merge_log.specs.declared.nodes.Entry.{Entry}
 use Rattle.merge_log.specs.Log.{IsNode, terms}
-use Rattle.taint_tracking.specs.declared.sinks.SinkLabel.{SinkLabel}
 use Rattle.terms_ahead.specs.declared.ahead.TermsAhead.{TermsAhead}
 
 -- what was read ahead is of the log: it is good for no other

@@ -13,8 +13,7 @@ use no_memory::NoMemory;
 use source_runs::SourceRun;
 use std::alloc::Global;
 use std::mem;
-use taint_shadow::{Label, LabelKind, Places};
-use taint_tracking::SinkLabel;
+use taint_shadow::{Label, LabelKind, Places, SinkLabel};
 
 /// The terms of sinks, or of locations, whose labels are nodes of one log, that were read by one walk, ahead of their use:
 /// neighbours have most of what is under their nodes in common.
