@@ -5,9 +5,9 @@ use Rattle.std.specs.List.{AllZip, range_with_len}
 use Rattle.std.proofs.lemmas.List.Elements.{All-nil, All-cons, All-append, All-head, All-tail, length_all_zip}
 use Rattle.run_board.specs.Tasks.{AreNumbered}
 use Rattle.run_board.proofs.FillOrder.{numbered_push}
-use Rattle.epoch_node.specs.Nodes.{NodeView, IsLedFrom}
+use Rattle.epoch_node.specs.Nodes.{NodeView, IsLedFrom, IsDone}
 use Rattle.epoch_node.proofs.Led.{done_stays}
-use Rattle.epoch_line.specs.Groups.{GroupView, number_of, IsNodeDone, IsGroupEnded, IsGroupLedFrom, nodes_of}
+use Rattle.epoch_line.specs.Groups.{GroupView, number_of, IsGroupEnded, IsGroupLedFrom, nodes_of}
 use Rattle.epoch_line.proofs.Lists.{all_zip_append}
 
 pub nodes_led : (new old : List GroupView) → AllZip IsGroupLedFrom new old → AllZip IsLedFrom (nodes_of new) (nodes_of old)
@@ -16,10 +16,10 @@ nodes_led [] (o ∷ old) h = absurd h
 nodes_led (n ∷ new) [] h = absurd h
 nodes_led (n ∷ new) (o ∷ old) h = all_zip_append IsLedFrom (nodes_of new) (nodes_of old) n.nodes o.nodes (nodes_led new old h.1) h.0.nodes
 
-pub nodes_ended : (groups : List GroupView) → All IsGroupEnded groups → All IsNodeDone (nodes_of groups)
-nodes_ended [] h = All-nil IsNodeDone
+pub nodes_ended : (groups : List GroupView) → All IsGroupEnded groups → All IsDone (nodes_of groups)
+nodes_ended [] h = All-nil IsDone
 nodes_ended (g ∷ gs) h =
-    All-append IsNodeDone (nodes_of gs) g.nodes (nodes_ended gs (All-tail IsGroupEnded g gs h)) (All-head IsGroupEnded g gs h)
+    All-append IsDone (nodes_of gs) g.nodes (nodes_ended gs (All-tail IsGroupEnded g gs h)) (All-head IsGroupEnded g gs h)
 
 -- what is led from a node has its number
 pub same_numbers : (new old : List NodeView) → AllZip IsLedFrom new old → map number_of new ≡ map number_of old
@@ -32,12 +32,12 @@ pub stay_numbered : (new old : List NodeView) → AllZip IsLedFrom new old → A
 stay_numbered new old led numbers = same_numbers new old led ∙ numbers ∙ ap (range_with_len 0) (sym (length_all_zip IsLedFrom new old led))
 
 -- what is led from a node that is done is done
-pub stay_done : (new old : List NodeView) → AllZip IsLedFrom new old → All IsNodeDone old → All IsNodeDone new
+pub stay_done : (new old : List NodeView) → AllZip IsLedFrom new old → All IsDone old → All IsDone new
 stay_done [] [] h a = a
 stay_done [] (o ∷ old) h a = absurd h
 stay_done (n ∷ new) [] h a = absurd h
 stay_done (n ∷ new) (o ∷ old) h a =
-    All-cons IsNodeDone n new (done_stays n o h.0 (All-head IsNodeDone o old a)) (stay_done new old h.1 (All-tail IsNodeDone o old a))
+    All-cons IsDone n new (done_stays n o h.0 (All-head IsDone o old a)) (stay_done new old h.1 (All-tail IsDone o old a))
 
 -- ---- one group more
 
@@ -78,5 +78,5 @@ pub led_at_last : (nodes start : List NodeView) (new board old : List GroupView)
 led_at_last nodes start new board old is led same split =
     subst₂ (AllZip IsLedFrom) (sym is) (ap nodes_of same ∙ split) (nodes_led new board led)
 
-pub ended_at_last : (nodes : List NodeView) (new : List GroupView) → nodes ≡ nodes_of new → All IsGroupEnded new → All IsNodeDone nodes
-ended_at_last nodes new is ended = subst (All IsNodeDone) (sym is) (nodes_ended new ended)
+pub ended_at_last : (nodes : List NodeView) (new : List GroupView) → nodes ≡ nodes_of new → All IsGroupEnded new → All IsDone nodes
+ended_at_last nodes new is ended = subst (All IsDone) (sym is) (nodes_ended new ended)

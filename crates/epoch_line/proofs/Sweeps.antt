@@ -9,22 +9,22 @@ use Rattle.run_board.specs.declared.task.Turn.TheVariants.{Moved, NotYet, Done}
 use Rattle.run_board.specs.Turns.{AnswersEnded}
 use Rattle.epoch_node.specs.Cores.{phase_of}
 use Rattle.epoch_node.specs.Events.{WhenMoved, WhenNotYet}
-use Rattle.epoch_node.specs.Nodes.{NodeView, Progress, HasMoved, IsLedFrom, HasWaited}
+use Rattle.epoch_node.specs.Nodes.{NodeView, Progress, HasMoved, IsLedFrom, HasWaited, IsDone}
 use Rattle.epoch_node.proofs.Led.{moved_then, then_moved}
 use Rattle.epoch_line.specs.Answers.{together, after_both}
-use Rattle.epoch_line.specs.Groups.{IsNodeDone, SomeMoved, HasRested, all_led_trans}
+use Rattle.epoch_line.specs.Groups.{SomeMoved, HasRested, all_led_trans}
 use Rattle.epoch_line.proofs.Lists.{all_front, all_last, all_reverse, all_back, all_zip_reverse, AnyZip, any_before, any_last, any_reverse, any_in_zip}
 
 -- one turn more
 pub together_ended : (others one : Turn) (ns : List NodeView) (n : NodeView)
-    → AnswersEnded others (All IsNodeDone ns) → AnswersEnded one (IsNodeDone n) → AnswersEnded (together others one) (All IsNodeDone (ns ++ n ∷ []))
-together_ended Moved one ns n h k = λ all. h (all_front IsNodeDone ns (n ∷ []) all)
-together_ended NotYet Moved ns n h k = λ all. h (all_front IsNodeDone ns (n ∷ []) all)
-together_ended NotYet NotYet ns n h k = λ all. h (all_front IsNodeDone ns (n ∷ []) all)
-together_ended NotYet Done ns n h k = λ all. h (all_front IsNodeDone ns (n ∷ []) all)
-together_ended Done Moved ns n h k = λ all. k (all_last IsNodeDone ns n all)
-together_ended Done NotYet ns n h k = λ all. k (all_last IsNodeDone ns n all)
-together_ended Done Done ns n h k = All-push IsNodeDone ns n h k
+    → AnswersEnded others (All IsDone ns) → AnswersEnded one (IsDone n) → AnswersEnded (together others one) (All IsDone (ns ++ n ∷ []))
+together_ended Moved one ns n h k = λ all. h (all_front IsDone ns (n ∷ []) all)
+together_ended NotYet Moved ns n h k = λ all. h (all_front IsDone ns (n ∷ []) all)
+together_ended NotYet NotYet ns n h k = λ all. h (all_front IsDone ns (n ∷ []) all)
+together_ended NotYet Done ns n h k = λ all. h (all_front IsDone ns (n ∷ []) all)
+together_ended Done Moved ns n h k = λ all. k (all_last IsDone ns n all)
+together_ended Done NotYet ns n h k = λ all. k (all_last IsDone ns n all)
+together_ended Done Done ns n h k = All-push IsDone ns n h k
 
 -- the answer of two sweeps says what the second left
 pub both_ended : (first second : Turn) (ended : Type 0) → AnswersEnded second ended → AnswersEnded (after_both first second) ended
@@ -35,10 +35,10 @@ both_ended NotYet second ended h = h
 both_ended Done second ended h = h
 
 -- whether all are done is the same from the last to the first
-pub ended_reverse : (answer : Turn) (ns : List NodeView) → AnswersEnded answer (All IsNodeDone ns) → AnswersEnded answer (All IsNodeDone (reverse ns))
-ended_reverse Moved ns h = λ all. h (all_back IsNodeDone ns all)
-ended_reverse NotYet ns h = λ all. h (all_back IsNodeDone ns all)
-ended_reverse Done ns h = all_reverse IsNodeDone ns h
+pub ended_reverse : (answer : Turn) (ns : List NodeView) → AnswersEnded answer (All IsDone ns) → AnswersEnded answer (All IsDone (reverse ns))
+ended_reverse Moved ns h = λ all. h (all_back IsDone ns all)
+ended_reverse NotYet ns h = λ all. h (all_back IsDone ns all)
+ended_reverse Done ns h = all_reverse IsDone ns h
 
 -- ---- turns in which no node moved
 
@@ -48,7 +48,7 @@ UnlessMoved NotYet P = P
 UnlessMoved Done P = P
 
 -- what a node's turn says of it
-pub rested : (turn : Turn) (new old : NodeView) → AnswersEnded turn (IsNodeDone new) → WhenNotYet turn (HasWaited new old) → UnlessMoved turn (HasRested new old)
+pub rested : (turn : Turn) (new old : NodeView) → AnswersEnded turn (IsDone new) → WhenNotYet turn (HasWaited new old) → UnlessMoved turn (HasRested new old)
 rested Moved new old d w = tt
 rested NotYet new old d w = inr w.still
 rested Done new old d w = inl d
@@ -159,7 +159,7 @@ pub record IsSweep (nodes from onto : List NodeView) (answer : Turn) : Type 0 wh
   pub starts : List NodeView
   pub split : starts ++ reverse from ≡ nodes
   pub led : AllZip IsLedFrom onto starts
-  pub ended : AnswersEnded answer (All IsNodeDone onto)
+  pub ended : AnswersEnded answer (All IsDone onto)
   pub moved : WhenMoved answer (AnyZip HasMoved onto starts)
   pub rested : UnlessMoved answer (AllZip HasRested onto starts)
 
@@ -169,19 +169,19 @@ sweep_begins nodes from onto e none = record {
   starts = [];
   split = e;
   led = subst (λ ns. AllZip IsLedFrom ns []) (sym none) tt;
-  ended = subst (All IsNodeDone) (sym none) (All-nil IsNodeDone);
+  ended = subst (All IsDone) (sym none) (All-nil IsDone);
   moved = tt;
   rested = subst (λ ns. AllZip HasRested ns []) (sym none) tt;
 }
 
 -- the node on top has its turn
 pub sweep_on : (nodes from onto : List NodeView) (answer turn : Turn) (rest onto' : List NodeView) (answer' : Turn) (old new : NodeView) → IsSweep nodes from onto answer
-    → from ≡ rest ++ old ∷ [] → IsLedFrom new old → AnswersEnded turn (IsNodeDone new) → WhenMoved turn (HasMoved new old) → WhenNotYet turn (HasWaited new old) → onto' ≡ onto ++ new ∷ [] → answer' ≡ together answer turn → IsSweep nodes rest onto' answer'
+    → from ≡ rest ++ old ∷ [] → IsLedFrom new old → AnswersEnded turn (IsDone new) → WhenMoved turn (HasMoved new old) → WhenNotYet turn (HasWaited new old) → onto' ≡ onto ++ new ∷ [] → answer' ≡ together answer turn → IsSweep nodes rest onto' answer'
 sweep_on nodes from onto answer turn rest onto' answer' old new s e led ended moved waited onto_is answer_is = record {
   starts = s.starts ++ old ∷ [];
   split = append_assoc s.starts (old ∷ []) (reverse rest) ∙ ap (λ ns. s.starts ++ ns) (sym (reverse-append rest (old ∷ [])) ∙ ap reverse (sym e)) ∙ s.split;
   led = subst (λ ns. AllZip IsLedFrom ns (s.starts ++ old ∷ [])) (sym onto_is) (AllZip-push IsLedFrom onto s.starts new old s.led led);
-  ended = subst₂ (λ (a : Turn) (ns : List NodeView). AnswersEnded a (All IsNodeDone ns)) (sym answer_is) (sym onto_is) (together_ended answer turn onto new s.ended ended);
+  ended = subst₂ (λ (a : Turn) (ns : List NodeView). AnswersEnded a (All IsDone ns)) (sym answer_is) (sym onto_is) (together_ended answer turn onto new s.ended ended);
   moved =
       subst₂ (λ (a : Turn) (ns : List NodeView). WhenMoved a (AnyZip HasMoved ns (s.starts ++ old ∷ []))) (sym answer_is) (sym onto_is)
       (together_moved answer turn onto s.starts new old (length_all_zip IsLedFrom onto s.starts s.led) s.moved moved);

@@ -3,9 +3,7 @@ use Rattle.std.specs.Prelude.{◌≡◌, ◌⊎◌, ℕ, List, [], ◌∷◌, �
 use mathlib.Core.Path.{◌∙◌}
 use Rattle.std.specs.List.{All, AllZip}
 use Rattle.replayer.specs.Jobs.{Job}
-use Rattle.epoch_node.specs.declared.stage.Phase.TheVariants.{Done}
-use Rattle.epoch_node.specs.Cores.{phase_of}
-use Rattle.epoch_node.specs.Nodes.{NodeView, HasMoved, IsStill, IsBroken, IsLedFrom, led_refl, led_trans}
+use Rattle.epoch_node.specs.Nodes.{NodeView, HasMoved, IsDone, IsStill, IsBroken, IsLedFrom, led_refl, led_trans}
 
 -- the number of a group on the board, and its nodes from the first to the last
 pub record GroupView : Type 0 where
@@ -15,12 +13,9 @@ pub record GroupView : Type 0 where
 abbrev pub number_of : NodeView → ℕ
 number_of n = n.core.given.epoch.number
 
-abbrev pub IsNodeDone : NodeView → Type 0
-IsNodeDone n = phase_of n.core.stage ≡ Done
-
 -- all nodes are done
 abbrev pub IsGroupEnded : GroupView → Type 0
-IsGroupEnded g = All IsNodeDone g.nodes
+IsGroupEnded g = All IsDone g.nodes
 
 -- the checkpoints that the nodes were given are all of one job
 abbrev pub AreOfJob : Job → List NodeView → Type 0
@@ -38,7 +33,7 @@ nodes_of (g ∷ gs) = nodes_of gs ++ g.nodes
 
 -- it is done, or nothing happened to it
 abbrev pub HasRested : NodeView → NodeView → Type 0
-HasRested new old = IsNodeDone new ⊎ IsStill new old
+HasRested new old = IsDone new ⊎ IsStill new old
 
 -- some node moved
 abbrev pub SomeMoved : List NodeView → List NodeView → Type 0

@@ -5,7 +5,7 @@ ghost use Rattle.std.specs.List.{flat_map};
 ghost use Rattle.replayer.specs.Jobs.{trace_of};
 ghost use Rattle.report_model.specs.Rows.{rows_as_written};
 ghost use Rattle.sink_collect.specs.Pairs.{capped};
-ghost use Rattle.epoch_line.specs.Groups.{IsNodeDone};
+ghost use Rattle.epoch_node.specs.Nodes.{IsDone};
 ghost use Rattle.epoch_line.specs.Layouts.{CutRun, IsRunOf};
 ghost use Rattle.epoch_line.specs.Lines.{IsOneLink, HasDelivered};
 ghost use Rattle.epoch_line.specs.Gathering.{HasNothing, HasTaken};
@@ -74,8 +74,9 @@ pub struct Gathering {
     pub asked: Vec<Asked>,
     /// How many events of them moved, or 2^64 - 1 where they are more.
     pub events: u64,
-    /// The ends that the last of them has of the links to the node before it.
+    /// The end of the link through which the last of them asks the node before it.
     pub ask_out: Option<Producer<Message>>,
+    /// The end of the link through which it gets the answers.
     pub answer_in: Option<Consumer<Message>>,
 }
 
@@ -98,7 +99,7 @@ impl Gathering {
     /// Takes in the node before those that were taken in, and closes the two links between them. It gives up with NoMemory
     /// alone, also where the node is broken.
     fn take<'a, G>(&mut self, node: Node<'a, G>) -> Result<(), NoMemory>
-        requires done { IsNodeDone node }
+        requires done { IsDone node }
         requires ask { IsOneLink self.old.ask_out node.ends.ask_in }
         requires answer { IsOneLink node.ends.answer_out self.old.answer_in }
         ensures { OnOk result (HasTaken node.entry self.old self.new) }
@@ -129,7 +130,7 @@ impl Gathering {
 /// The rows of a run, what its nodes asked, and how many of their events moved, of nodes that are done, and led one by one
 /// from those of one layout. It closes their links. It gives up with NoMemory alone, also where a node is broken.
 pub fn collect<'a, G>(alloc: Global, mut nodes: Vec<Node<'a, G>>) -> Result<Collected, NoMemory>
-    requires done { All IsNodeDone nodes.items }
+    requires done { All IsDone nodes.items }
     requires led { (run : CutRun) × IsRunOf run nodes.items }
     ensures rows { (run : CutRun) → IsRunOf run nodes.entry.items → IfOk result (λ all. all.sets ≡ rows_as_written run.query (trace_of run.job)) }
     ensures crossed { (run : CutRun) → IsRunOf run nodes.entry.items → IfOk result (λ all. all.crossed.items ≡ asked_at run.query (trace_of run.job) run.cuts) }

@@ -3,8 +3,8 @@
 ghost use Rattle.std.specs.Prelude.{◌≡◌, ◌≤◌, All, IfOk, length, map};
 ghost use Rattle.std.specs.List.{AllZip};
 ghost use Rattle.run_board.specs.Tasks.{AreNumbered};
-ghost use Rattle.epoch_node.specs.Nodes.{HasBegun, IsLedFrom};
-ghost use Rattle.epoch_line.specs.Groups.{number_of, AreOfOneJob, IsNodeDone};
+ghost use Rattle.epoch_node.specs.Nodes.{HasBegun, IsLedFrom, IsDone};
+ghost use Rattle.epoch_line.specs.Groups.{number_of, AreOfOneJob};
 
 use crate::own_work::OwnWork;
 use crate::splitting::{join, split};
@@ -77,7 +77,7 @@ fn turn_all<'a, G: Gate, R: Threads + Wait + Sync>(
 ) -> Result<Vec<Node<'a, G>>, NoMemory>
     requires count { (1 ≤ length nodes.items) × (length nodes.items ≤ 4096) }
     requires one_job { AreOfOneJob nodes.items }
-    ensures ended { IfOk result (λ done. All IsNodeDone done.items) }
+    ensures ended { IfOk result (λ done. All IsDone done.items) }
     ensures led { IfOk result (λ done. AllZip IsLedFrom done.items nodes.entry.items) }
 {
     let groups = split(alloc, nodes, MOST_NODES)?;
@@ -104,7 +104,7 @@ pub(crate) fn work_in_groups<'a, G: Gate, R: Threads + Wait + Sync>(
     requires one_job { AreOfOneJob nodes.items }
     requires workers { (1 ≤ workers) × (workers ≤ 64) }
     ensures order { IfOk result (λ done. map number_of done.items ≡ map number_of nodes.entry.items) }
-    ensures ended { IfOk result (λ done. All IsNodeDone done.items) }
+    ensures ended { IfOk result (λ done. All IsDone done.items) }
     ensures led { IfOk result (λ done. AllZip IsLedFrom done.items nodes.entry.items) }
 {
     // More workers than nodes would find nothing to do.

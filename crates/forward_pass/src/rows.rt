@@ -1,7 +1,6 @@
 //! The rows of an epoch's sinks.
 
-ghost use Rattle.std.specs.Prelude.{◌≡◌, true, false, is_none, [], IfOk, IfSome, IfNone, Some, None};
-ghost use Rattle.std.specs.Prelude.{List};
+ghost use Rattle.std.specs.Prelude.{◌≡◌, true, false, is_none, [], List, IfOk, IfSome, IfNone, Some, None};
 ghost use Rattle.report_model.specs.Rows.{Row};
 ghost use Rattle.pass_parts.specs.Knowing.{summary_in};
 ghost use Rattle.forward_pass.specs.Rows.{is_due, rows_by, rows_in};

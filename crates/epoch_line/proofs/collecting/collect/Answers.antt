@@ -6,7 +6,7 @@ use Rattle.std.proofs.lemmas.List.Sums.{sum_by-cons}
 use Rattle.flow_model.specs.declared.Loc.{Loc}
 use Rattle.report_model.specs.Rows.{Row}
 use Rattle.epoch_node.specs.Cores.{asked_at}
-use Rattle.epoch_line.specs.Groups.{IsNodeDone}
+use Rattle.epoch_node.specs.Nodes.{IsDone}
 use Rattle.epoch_line.specs.Layouts.{epochs_of}
 use Rattle.epoch_line.specs.DoneLines.{DoneNode}
 use Rattle.epoch_line.proofs.Lines.{IsLine, run_line, part}
@@ -34,7 +34,7 @@ take-requires-clause-done g c =
     let n = c.in-Some.node in
     let rest = c.pop.new.self.items in
     let e = popped c.args.nodes.items c.loop-node.nodes.items rest (views i.done) n i.split c.in-Some.ensures.items in
-    all_at IsNodeDone rest n (views i.done) (subst (All IsNodeDone) e c.requires.done)
+    all_at IsDone rest n (views i.done) (subst (All IsDone) e c.requires.done)
 
 pub take-requires-clause-ask : goal.take-requires-clause-ask
 take-requires-clause-ask g c =

@@ -4,8 +4,8 @@ use Rattle.std.specs.List.{AllZip}
 use Rattle.run_board.specs.declared.task.Turn.{Turn}
 use Rattle.run_board.specs.Turns.{AnswersEnded}
 use Rattle.epoch_node.specs.Events.{WhenMoved, WhenNotYet}
-use Rattle.epoch_node.specs.Nodes.{NodeView, HasMoved, IsLedFrom, HasWaited}
-use Rattle.epoch_line.specs.Groups.{GroupView, IsNodeDone, SomeMoved, HasRested}
+use Rattle.epoch_node.specs.Nodes.{NodeView, HasMoved, IsLedFrom, HasWaited, IsDone}
+use Rattle.epoch_line.specs.Groups.{GroupView, SomeMoved, HasRested}
 use Rattle.epoch_line.proofs.Layouts.{no_items}
 use Rattle.epoch_line.proofs.Jobs.{may_take, goes_on, led_of_one_job}
 use Rattle.epoch_line.proofs.Sweeps.{sweep_on, sweep_ends, sweep_moves, sweep_rests, led_both, both_ended, both_moved, both_rested, ended_reverse}
@@ -21,7 +21,7 @@ loop-node-preserved g c =
     let pushed = c.push_reserved.ensures in
     let taken = c.take_cursor-cursor.ensures in
     let led : IsLedFrom c.take_cursor-cursor.new.self c.in-Some.node = subst₂ IsLedFrom (sym taken.same) c.hand_cursor.ensures c.turn.ensures.led in
-    let ended = subst (λ (n : NodeView). AnswersEnded c.turn.result (IsNodeDone n)) (sym taken.same) c.turn.ensures.done in
+    let ended = subst (λ (n : NodeView). AnswersEnded c.turn.result (IsDone n)) (sym taken.same) c.turn.ensures.done in
     let moved = subst₂ (λ (m n : NodeView). WhenMoved c.turn.result (HasMoved m n)) (sym taken.same) c.hand_cursor.ensures c.turn.ensures.moved in
     let waited = subst₂ (λ (m n : NodeView). WhenNotYet c.turn.result (HasWaited m n)) (sym taken.same) c.hand_cursor.ensures c.turn.ensures.not_yet in
     record {
@@ -72,7 +72,7 @@ returns-clause-led g c =
 pub returns-clause-done : goal.returns-clause-done
 returns-clause-done g c =
     let new : List NodeView = c.loop-node-2.left.items in
-    subst (λ (a : Turn). AnswersEnded a (All IsNodeDone (reverse new))) (sym c.after_both.ensures)
+    subst (λ (a : Turn). AnswersEnded a (All IsDone (reverse new))) (sym c.after_both.ensures)
     (both_ended c.loop-node.up c.loop-node-2.down _ (ended_reverse c.loop-node-2.down new c.loop-node-2.invariant.sweep.ended))
 
 pub returns-clause-moved : goal.returns-clause-moved
