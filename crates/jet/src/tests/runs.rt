@@ -3,8 +3,8 @@
 use super::guests::{COPY_CODE, COPY_FOUR};
 use super::refusals::CHANGED_LOGS;
 use super::{
-    BASE, COPY, Ending, Entry, Line, NO_INSTRUCTION, Patch, QUERY, TIME, assert_command, log_of,
-    log_with, patched, program, program_of,
+    BASE, BY_STEPS, COPY, Ending, Entry, Line, NO_INSTRUCTION, Patch, QUERY, TIME, assert_command,
+    log_of, log_with, patched, program, program_of,
 };
 use guest_assembler::{Instr, code};
 use std::process::Abort;
@@ -36,10 +36,10 @@ pub const PATH: Line = &["jet", "path", "prog", "log", "query"];
 
 pub const PAGE: Line = &["jet", "page", "prog", "log", "query", "page"];
 
-/// The commands over a log.
-pub const READERS: [Line; 13] = [
+/// The commands over a log, and a query in many epochs.
+pub const READERS: [Line; 14] = [
     QUERY, REPLAY, OUTPUT, CONVERT, INFLUENCE, QUERIES, PATH, PAGE, CALLS, INPUT, STACK, SHOW,
-    DECISIONS,
+    DECISIONS, BY_STEPS,
 ];
 
 /// The numbers of the four-byte copy.
