@@ -1,5 +1,5 @@
 -- The source bytes that are gathered from terms and answers. Crates above cite these lemmas.
-use Rattle.std.proofs.Common.{◌≡◌, ℕ, ◌+◌, ◌<◌, List, length, take, get_or, ap, sym, subst, ◌∙◌, Bool, ◌||◌}
+use Rattle.std.proofs.Common.{◌≡◌, ℕ, ◌+◌, ◌<◌, List, [], length, take, get_or, refl, ap, sym, subst, ◌∙◌, Bool, true, false, ◌||◌}
 use Rattle.std.specs.List.{list_any}
 use Rattle.std.specs.Ordering.{eq_by_cmp}
 use Rattle.std.specs.declared.cmp.Ordering.{Ordering}
@@ -42,6 +42,13 @@ ascends_in xs a = subst (λ (R : Order). Ascends R xs) (sym order_is) a
 -- the source byte is one of these, or of those that some of the locations have
 abbrev pub among : (Loc → List SourceByte) → List SourceByte → List Loc → SourceByte → Bool
 among before sources starts b = has source_cmp b sources || list_any (λ l. has source_cmp b (before l)) starts
+
+-- with no location
+pub among_none : (before : Loc → List SourceByte) (sources : List SourceByte) (b : SourceByte) → has source_cmp b sources ≡ among before sources [] b
+among_none before sources b = by (has source_cmp b sources) where
+  by : (c : Bool) → c ≡ (c || false)
+  by true = refl
+  by false = refl
 
 -- with one more location
 pub among_more : (before : Loc → List SourceByte) (sources : List SourceByte) (starts : List Loc) (b : SourceByte) (i : ℕ) (d : Loc) → i < length starts

@@ -20,7 +20,7 @@ use Rattle.record_model.proofs.Calls.{CanBe, can_be, none_is, Moves, read_form, 
 use Rattle.rv_machine.specs.Hart.{Hart, running}
 use Rattle.call_record.specs.Sources.{contents, IsSource}
 use Rattle.call_record.specs.Tapes.{Adds}
-use Rattle.call_record.specs.Steps.{Point, point_of, IsSafe, WaitsFor, due_record, Keeps, Records}
+use Rattle.call_record.specs.Steps.{Point, point_of, IsSafe, IsCalled, WaitsFor, due_record, Keeps, Records}
 use Rattle.call_record.specs.declared.source.Source.{Source}
 use Rattle.call_record.specs.declared.tape.Tape.{Tape}
 use Rattle.call_record.specs.declared.recorder.Recorder.{Recorder}
@@ -302,6 +302,10 @@ clock_records source t p value after early fits k keeps = record {
   values_are = refl;
   keeps = keeps;
 }
+
+-- the call that the machine made waits, and is of its kind
+pub waits_for : {hart : Hart} {call : Call} {k : CallKind} → IsCalled hart call → call.kind ≡ k → WaitsFor hart call k
+waits_for h e = record { waits = h.waits; call_is = h.call_is; kind_is = sym (ap (λ (x : Call). x.kind) h.call_is) ∙ e }
 
 pub other_records : (source : Source) (t : ℕ) (p : Point) (number : ℕ) (after : Recorder) → t < 2 ^ 40 → number < 2 ^ 32
     → (call_of p.state).kind ≡ kind.Other → number ≡ reg p.state 17 → Keeps (Other t number) p after

@@ -1,5 +1,6 @@
 -- A recording so far, as it goes on step by step.
-use Rattle.std.proofs.Common.{◌≡◌, ℕ, zero, suc, ◌+◌, ◌-◌, ◌*◌, ◌^◌, ◌<◌, ◌≤◌, ◌⊎◌, inl, inr, false, List, [], ◌∷◌, ◌++◌, length, get_or, replicate, Option, Some, None, refl, arith, ap, sym, ◌∙◌, subst, append-nil}
+use Rattle.std.proofs.Common.{◌≡◌, ℕ, zero, suc, ◌+◌, ◌-◌, ◌*◌, ◌^◌, ◌<◌, ◌≤◌, ◌⊎◌, inl, inr, false, List, [], ◌∷◌, ◌++◌, length, get_or, replicate, Option, Some, None, Result, Ok, Err, refl, arith, ap, sym, ◌∙◌, subst, append-nil}
+use Rattle.std.specs.Result.{OnErr}
 use Rattle.std.specs.List.{sum_by}
 use Rattle.std.proofs.lemmas.List.{length-map}
 use Rattle.std.proofs.lemmas.List.Sums.{sum_by-append, sum_by-cons}
@@ -28,7 +29,7 @@ use Rattle.outer_io.specs.Tells.{Tells, Gains}
 use Rattle.outer_io.proofs.TellsLemmas.{tells-gains, tells-gains-none}
 use Rattle.call_record.specs.Sources.{contents}
 use Rattle.call_record.specs.Tapes.{Holds, Adds}
-use Rattle.call_record.specs.Steps.{Point, point_of, IsSafe, due_record, IsPlain, IsCall, GoesOn, Stops}
+use Rattle.call_record.specs.Steps.{Point, point_of, IsSafe, due_record, IsPlain, IsCall, GoesOn, Stops, Gained}
 use Rattle.call_record.specs.Runs.{IsFresh, IsRunOf, IsWhole}
 use Rattle.call_record.specs.declared.source.Source.{Source}
 use Rattle.call_record.specs.declared.tape.Tape.{Tape}
@@ -53,6 +54,11 @@ pub record IsSoFar (start : State) (source : Source) (told : Option (List ℕ)) 
 pub tells_none : (told : Option (List ℕ)) → Tells told told (Gains [])
 tells_none None = tt
 tells_none (Some answers) = sym (append-nil answers)
+
+-- a call that failed, and did not ask the clock
+pub gained_none : {T E : Type 0} (result : Result T E) (told : Option (List ℕ)) → OnErr result (Gained told told)
+gained_none (Ok answer) told = tt
+gained_none (Err error) told = record { values = []; gained = tells_none told }
 
 zeros : (n c : ℕ) → get_or {A = ℕ} (replicate {A = ℕ} n 0) c 0 ≡ 0
 zeros zero c = refl

@@ -2,15 +2,44 @@
 use Rattle.std.proofs.Common.{◌≡◌, ℕ, zero, suc, ◌+◌, ◌-◌, ◌<◌, ◌≤◌, ◌⊎◌, inl, inr, Bool, List, [], ◌∷◌, ◌++◌, length, map, take, get_or, refl, arith, ap, sym, ◌∙◌, subst, length-append}
 use Rattle.std.specs.List.{All}
 use Rattle.std.proofs.lemmas.Bool.{cases_lt}
-use Rattle.std.proofs.lemmas.List.{get_or_append_left, get_or_push, get_or_default, map_push}
+use Rattle.std.proofs.lemmas.List.{get_or_append_left, get_or_push, get_or_default, map_push, length-map}
 use Rattle.replayer.specs.Jobs.{Job}
-use Rattle.replayer.specs.Saved.{RestOfCursor}
+use Rattle.replayer.specs.Saved.{RestOfCursor, rest_of, put_together}
 use Rattle.checkpoints.specs.Pages.{changed, IsHeld, ArePagesOf, IsExtended}
 use Rattle.checkpoints.specs.Touched.{AreOthersSame, AreOthersHeld}
-use Rattle.checkpoints.specs.Points.{CheckpointAt, time_of, window_at, last_window, changed_after, held_at, last_numbers, IsCheckpoint, AreCheckpoints}
+use Rattle.checkpoints.specs.Points.{CheckpointAt, CheckpointsAt, time_of, window_at, last_window, changed_after, held_at, last_numbers, IsCheckpoint, AreCheckpoints}
 use Rattle.checkpoints.proofs.Splitting.{changed_none, pages_later}
 
+-- ---- one of the checkpoints
+
+-- the number of an epoch is that of a checkpoint
+pub index_below : (job : Job) (points : List CheckpointAt) (at : CheckpointsAt) (k : ℕ) → record { job = job; times = map time_of points } ≡ at → k < length at.times → k < length points
+index_below job points at k e below =
+    let times : length (map time_of points) ≡ length at.times = ap (λ (p : CheckpointsAt). length p.times) e in
+    omega (arith, below, times, length-map points time_of)
+
+pub checkpoint_at : (job : Job) (pages : List (List ℕ)) (points : List CheckpointAt) (k : ℕ) (point there : CheckpointAt)
+    → AreCheckpoints job pages points → k < length points → there ≡ get_or points k there → point ≡ there → IsCheckpoint job pages point
+checkpoint_at job pages points k point there are below is e = subst (IsCheckpoint job pages) (sym is ∙ sym e) (are.each k there below)
+
+-- the numbers of a window's pages are such
+pub numbers_below : (pages : List (List ℕ)) (numbers window : List ℕ) → ArePagesOf pages numbers window → All (λ number. number < length pages) numbers
+numbers_below pages numbers window are k d h = subst (λ (n : ℕ). n < length pages) (sym (get_or_default numbers k d 0 h)) (are.each k h).below
+
+-- the bytes of a checkpoint's pages, and all else of it, are the cursor that was saved
+module _ (job : Job) (pages : List (List ℕ)) (point : CheckpointAt) (is : IsCheckpoint job pages point) (bytes : List ℕ) (joined : (window : List ℕ) → ArePagesOf pages point.numbers window → bytes ≡ window) where
+  pub size_again : length bytes ≡ point.rest.machine.size
+  size_again = ap length (joined is.saved.machine.memory is.paged) ∙ sym (ap (λ (r : RestOfCursor). r.machine.size) is.rest)
+
+  pub saved_again : put_together bytes point.rest ≡ is.saved
+  saved_again =
+      ap (λ (r : RestOfCursor). put_together bytes r) is.rest
+      ∙ ap (λ (b : List ℕ). put_together b (rest_of is.saved)) (joined is.saved.machine.memory is.paged)
+
 -- ---- the last checkpoint
+
+pub one_longer : (before after : List CheckpointAt) (point : CheckpointAt) → after ≡ before ++ point ∷ [] → length after ≡ length before + 1
+one_longer before after point e = omega (arith, ap length e, length-append before (point ∷ []))
 
 pub last_window_is : (job : Job) (before ts : List ℕ) (n : ℕ) → n < length ts → last_window job before (take (suc n) ts) ≡ window_at job (get_or ts n 0)
 last_window_is job before [] n h = absurd (omega (arith, h))

@@ -1,5 +1,5 @@
 -- Windows of memory, page by page.
-use Rattle.std.proofs.Common.{◌≡◌, ℕ, zero, suc, ◌+◌, ◌-◌, ◌*◌, ◌<◌, ◌≤◌, ◌⊎◌, inl, inr, min, Bool, List, [], ◌∷◌, ◌++◌, length, take, drop, get_or, refl, arith, ap, sym, ◌∙◌, length-take, length-drop, length-append, append_assoc, subst}
+use Rattle.std.proofs.Common.{◌≡◌, ℕ, zero, suc, ◌+◌, ◌-◌, ◌*◌, ◌<◌, ◌≤◌, ◌⊎◌, inl, inr, min, Bool, List, [], ◌∷◌, ◌++◌, length, take, drop, get_or, refl, arith, ap, sym, ◌∙◌, length-take, length-drop, length-append, append-nil, append_assoc, subst}
 use Rattle.std.specs.Prelude.{if◌then◌else◌}
 use Rattle.std.specs.List.{All}
 use Rattle.std.proofs.lemmas.Cmp.{nat_list_eq_equiv}
@@ -37,6 +37,10 @@ pub page_cut : (window : List ℕ) (k past : ℕ) → past ≡ min (length windo
 page_cut window k past e =
     let size : past - k * 4096 ≡ min 4096 (length (drop (k * 4096) window)) = omega (arith, e, length-drop (k * 4096) window) in
     ap (λ n. take n (drop (k * 4096) window)) size ∙ take_min 4096 (drop (k * 4096) window)
+
+-- a loop over all places has seen as many as there are pages
+pub all_places : (window : List ℕ) (count place : ℕ) → count ≡ page_count window → count ≤ place → place ≤ count → place ≡ page_count window
+all_places window count place e past below = omega arith
 
 pub nonempty : (window : List ℕ) (k : ℕ) → k < page_count window → 0 < length (page window k)
 nonempty window k h = let c = div_ceil_times (length window) 4096 (omega arith) in omega (arith, h, c.1, length-take 4096 (drop (k * 4096) window), length-drop (k * 4096) window)
@@ -82,6 +86,9 @@ pages_later before after numbers window more are = record {
   count = are.count;
   each = λ k h. held_later before after (get_or numbers k 0) (page window k) more (are.each k h);
 }
+
+pub extended_none : (pages : List (List ℕ)) → IsExtended pages pages
+extended_none pages = record { more = []; is = sym (append-nil pages) }
 
 pub extended_twice : (a b c : List (List ℕ)) → IsExtended a b → IsExtended b c → IsExtended a c
 extended_twice a b c first second = record {

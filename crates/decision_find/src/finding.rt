@@ -22,23 +22,53 @@ pub fn decisions(alloc: Global, job: &Job, query: &Query) -> Result<Vec<u8>, NoM
     ensures { IfOk result (λ text. text.items ≡ decisions_report job.now.start job.now.log query.now) }
 {
     let tracking = follow(alloc, job, query)?;
-    text(alloc, &tracking)
+    let told = text(alloc, &tracking);
+    drop(tracking);
+    told
 }
 
 /// Follows all steps of a job's run, and looks once more where it traps.
 fn follow<'q>(alloc: Global, job: &Job, query: &'q Query) -> Result<Tracking<'q>, NoMemory>
     ensures { IfOk result (HasDecisions query.now job.now) }
 {
-    job.form();
-    let mut cursor = Cursor::start(alloc, job)?;
     let mut tracking = Tracking::begin(alloc, query)?;
+    match follow_all(alloc, job, &mut tracking) {
+        Ok(()) => Ok(tracking),
+        Err(error) => {
+            drop(tracking);
+            Err(error)
+        }
+    }
+}
+
+/// The same with a tracking that has not begun.
+fn follow_all(alloc: Global, job: &Job, tracking: &mut Tracking) -> Result<(), NoMemory>
+    requires { IsTracked tracking.old.query.now job.now 0 tracking.old }
+    ensures { OnOk result (HasDecisions tracking.old.query.now job.now tracking.new) }
+{
+    let mut cursor = Cursor::start(alloc, job)?;
+    let followed = follow_from_start(job, &mut cursor, tracking);
+    drop(cursor);
+    followed
+}
+
+/// The same with a cursor at the start of the run.
+fn follow_from_start(
+    job: &Job,
+    cursor: &mut Cursor,
+    tracking: &mut Tracking,
+) -> Result<(), NoMemory>
+    requires begun { cursor.old ≡ record { job = job.now; time = 0 } }
+    requires tracked { IsTracked tracking.old.query.now job.now 0 tracking.old }
+    ensures { OnOk result (HasDecisions tracking.old.query.now job.now tracking.new) }
+{
+    job.form();
     let mut pc = cursor.pc();
     while let Next::Step(step) = cursor.next() {
         tracking.step(pc, &step)?;
         pc = cursor.pc();
     }
-    look_at_end(job, &cursor, &mut tracking)?;
-    Ok(tracking)
+    look_at_end(job, cursor, tracking)
 }
 
 /// Where all steps of a run are followed, and it traps, looks at the instruction that traps.

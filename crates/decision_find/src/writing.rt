@@ -29,11 +29,36 @@ pub(crate) fn text(alloc: Global, tracking: &Tracking) -> Result<Vec<u8>, NoMemo
     let mut reader = TermsReader::new(alloc);
     let mut out = Vec::new(alloc);
     for (place, group) in &tracking.groups.by_place {
-        let sources = sources_of(alloc, &tracking.labels, group.label, &mut reader)?;
-        push_line(&mut out, *place, group, &sources)?;
+        push_group(
+            alloc,
+            &mut out,
+            &tracking.labels,
+            *place,
+            group,
+            &mut reader,
+        )?;
     }
     push_lines_end(&mut out, tracking.groups.by_place.len() as u64)?;
     Ok(out)
+}
+
+/// Appends the line of a place.
+fn push_group(
+    alloc: Global,
+    out: &mut Vec<u8>,
+    labels: &SourceLabels,
+    place: Place,
+    group: &Group,
+    reader: &mut TermsReader,
+) -> Result<(), NoMemory>
+    requires { label_words.stands labels.now group.now.label }
+    ensures { OnOk result (out.new.items ≡ out.old.items
+        ++ line_text place group.now.instr group.now.count group.now.first (label_words.means labels.now group.now.label)) }
+{
+    let sources = sources_of(alloc, labels, group.label, reader)?;
+    let pushed = push_line(out, place, group, &sources);
+    drop(sources);
+    pushed
 }
 
 /// The source bytes of a label.

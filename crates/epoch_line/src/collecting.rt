@@ -12,7 +12,7 @@ ghost use Rattle.epoch_line.specs.Gathering.{HasNothing, HasTaken};
 ghost use Rattle.stream_model.specs.Work.{asked_at, run_work};
 
 use epoch_link::{Consumer, Producer, close};
-use epoch_node::{Finished, Node};
+use epoch_node::{Ends, Finished, Node};
 use flow_rule::Message;
 use local_taint::Asked;
 use no_memory::NoMemory;
@@ -112,18 +112,30 @@ impl Gathering {
             events: moved,
             ends,
         } = finished;
+        self.close_links(ends);
+        self.events = self.events.saturating_add(moved);
         let Ok(own) = own else {
             return Err(NoMemory::past_count());
         };
         self.sets.push(own)?;
         self.asked.push(requests)?;
-        self.events = self.events.saturating_add(moved);
+        Ok(())
+    }
+
+    /// Closes the two links between the nodes that were taken in and the node with these ends, and keeps its ends of the
+    /// links to the node before it.
+    fn close_links(&mut self, ends: Ends)
+        requires ask { IsOneLink self.old.ask_out ends.ask_in }
+        requires answer { IsOneLink ends.answer_out self.old.answer_in }
+        ensures after { self.new ≡ record self.old { ask_out = ends.ask_out; answer_in = ends.answer_in } }
+        ensures asks { HasDelivered self.old.ask_out ends.ask_in }
+        ensures answers { HasDelivered ends.answer_out self.old.answer_in }
+    {
         close_link(mem::replace(&mut self.ask_out, ends.ask_out), ends.ask_in);
         close_link(
             ends.answer_out,
             mem::replace(&mut self.answer_in, ends.answer_in),
         );
-        Ok(())
     }
 }
 

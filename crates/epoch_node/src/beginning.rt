@@ -30,9 +30,16 @@ fn summarize(
     ensures same { start.new ≡ start.old }
 {
     let mut cursor = start.start(alloc, ticket.number())?;
-    let summary = analyse_from(alloc, ticket, &mut cursor, query)?;
-    start.put_back(cursor);
-    Ok(summary)
+    match analyse_from(alloc, ticket, &mut cursor, query) {
+        Ok(summary) => {
+            start.put_back(cursor);
+            Ok(summary)
+        }
+        Err(no_memory) => {
+            drop(cursor);
+            Err(no_memory)
+        }
+    }
 }
 
 /// The pass backwards of the ticket's epoch. Where a growth is refused, the pass has no summary, and is broken.

@@ -36,10 +36,20 @@ pub struct Finished {
 }
 
 /// An epoch's node. Contracts see its core and its ends.
-#[derive(Drop)]
 pub struct Node<'a, G> {
     core: Core<'a, G>,
     ends: Ends,
+}
+
+// Written out: where a value that has one is let go, a derived drop is proved anew, with all that is below it.
+impl<'a, G> Drop for Node<'a, G> {
+    /// Lets its core and its ends go.
+    fn drop(self) {
+        let Node {
+            core: _core,
+            ends: _ends,
+        } = self;
+    }
 }
 
 impl<'a, G> Model for Node<'a, G> {

@@ -31,7 +31,6 @@ use thiserror::Error;
 pub struct Broken;
 
 /// What a node is without its ends: its epoch, and how far it has come.
-#[derive(Drop)]
 pub struct Core<'a, G> {
     alloc: Global,
     // It may have a cursor, which is large, and a node is moved often.
@@ -49,6 +48,26 @@ pub struct Core<'a, G> {
     events: u64,
     // The passes are large too.
     stage: Box<Stage>,
+}
+
+// Written out: where a value that has one is let go, a derived drop is proved anew, with all that is below it.
+impl<'a, G> Drop for Core<'a, G> {
+    /// Lets its cursor and its passes go.
+    fn drop(self) {
+        let Core {
+            alloc: _,
+            start: _start,
+            query: _,
+            gate: _,
+            number: _,
+            first_step: _,
+            past_last: _,
+            first: _,
+            last: _,
+            events: _,
+            stage: _stage,
+        } = self;
+    }
 }
 
 impl<'a, G> Core<'a, G> {
@@ -231,9 +250,20 @@ impl<'a, G> Core<'a, G> {
         ensures counted { (w : Told) → KeepsCore (core_of self.entry) w
             → IfOk result (λ r. IfOk r.0 (λ rows. HasCounted (core_of self.entry).given w r.1 rows r.2)) }
     {
-        let alloc = self.alloc;
-        let events = self.events;
-        let Some(fore) = Box::into_inner(self.stage).into_done() else {
+        let Core {
+            alloc,
+            start: _start,
+            query: _,
+            gate: _,
+            number: _,
+            first_step: _,
+            past_last: _,
+            first: _,
+            last: _,
+            events,
+            stage,
+        } = self;
+        let Some(fore) = Box::into_inner(stage).into_done() else {
             return Ok((Err(Broken), Asked::new(alloc), events));
         };
         let whole = fore.whole();

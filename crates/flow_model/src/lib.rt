@@ -32,7 +32,7 @@ pub struct SourceByte {
 
 /// The byte of this offset among all bytes that a run wrote on a channel, counted from 0. The order is
 /// by channel and then offset.
-#[derive(Clone, Copy, Debug, PartialEq, Eq, PartialOrd, Ord, Hash)]
+#[derive(Clone, Copy, Debug, PartialEq, Eq, PartialOrd, Ord)]
 pub struct SinkByte {
     pub channel: u8,
     pub offset: u32,
@@ -80,7 +80,7 @@ pub struct StepSeen {
 /// A guest call of a trace. Of a read or a write, `channel` and `place` are the first two arguments,
 /// `length` is the number of bytes moved, and `offset` the channel's offset of the first of them; the
 /// last two are 0 where none is moved. All four are 0 for the other kinds.
-#[derive(Clone, Copy, Debug, PartialEq, Eq)]
+#[derive(Clone, Copy, PartialEq, Eq)]
 pub struct CallSeen {
     pub kind: CallKind,
     pub channel: u32,

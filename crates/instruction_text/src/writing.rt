@@ -21,53 +21,91 @@ pub fn push_instruction(out: &mut Vec<u8>, instr: &Instr) -> Result<(), NoMemory
 fn push_operands(out: &mut Vec<u8>, operands: Operands) -> Result<(), NoMemory>
     ensures { OnOk result (out.new.items ≡ out.old.items ++ operands_text operands) }
 {
-    let mut buffer = Buffer::new();
     match operands {
         Operands::Nothing => Ok(()),
-        Operands::Registers { rd, rs1, rs2 } => {
-            push_registers(out, rd, rs1)?;
-            push_separator(out)?;
-            push_register(out, rs2)
-        }
-        Operands::Immediate { rd, rs1, imm } => {
-            push_registers(out, rd, rs1)?;
-            push_separator(out)?;
-            out.extend_from_slice(buffer.format(imm).as_bytes())?;
-            Ok(())
-        }
-        Operands::Amount { rd, rs1, amount } => {
-            push_registers(out, rd, rs1)?;
-            push_separator(out)?;
-            out.extend_from_slice(buffer.format(amount).as_bytes())?;
-            Ok(())
-        }
+        Operands::Registers { rd, rs1, rs2 } => push_three_registers(out, rd, rs1, rs2),
+        Operands::Immediate { rd, rs1, imm } => push_immediate(out, rd, rs1, imm),
+        Operands::Amount { rd, rs1, amount } => push_amount(out, rd, rs1, amount),
         Operands::Address {
             register,
             base,
             imm,
-        } => {
-            push_first(out, register)?;
-            out.extend_from_slice(buffer.format(imm).as_bytes())?;
-            out.push(b'(')?;
-            push_register(out, base)?;
-            out.push(b')')?;
-            Ok(())
-        }
-        Operands::Branch { rs1, rs2, distance } => {
-            push_registers(out, rs1, rs2)?;
-            push_separator(out)?;
-            push_distance(out, distance)
-        }
-        Operands::Upper { rd, imm } => {
-            push_first(out, rd)?;
-            out.extend_from_slice(buffer.format(imm.cast_unsigned() / 4096).as_bytes())?;
-            Ok(())
-        }
-        Operands::Jump { rd, distance } => {
-            push_first(out, rd)?;
-            push_distance(out, distance)
-        }
+        } => push_address(out, register, base, imm),
+        Operands::Branch { rs1, rs2, distance } => push_branch(out, rs1, rs2, distance),
+        Operands::Upper { rd, imm } => push_upper(out, rd, imm),
+        Operands::Jump { rd, distance } => push_jump(out, rd, distance),
     }
+}
+
+/// Appends the operands of an operation on two registers.
+fn push_three_registers(out: &mut Vec<u8>, rd: u8, rs1: u8, rs2: u8) -> Result<(), NoMemory>
+    ensures { OnOk result (out.new.items ≡ out.old.items ++ operands_text (Operands.Registers rd rs1 rs2)) }
+{
+    push_registers(out, rd, rs1)?;
+    push_separator(out)?;
+    push_register(out, rs2)
+}
+
+/// Appends the operands of an operation on a register and an immediate.
+fn push_immediate(out: &mut Vec<u8>, rd: u8, rs1: u8, imm: i32) -> Result<(), NoMemory>
+    ensures { OnOk result (out.new.items ≡ out.old.items ++ operands_text (Operands.Immediate rd rs1 imm)) }
+{
+    let mut buffer = Buffer::new();
+    push_registers(out, rd, rs1)?;
+    push_separator(out)?;
+    out.extend_from_slice(buffer.format(imm).as_bytes())?;
+    Ok(())
+}
+
+/// Appends the operands of a shift by an amount.
+fn push_amount(out: &mut Vec<u8>, rd: u8, rs1: u8, amount: u8) -> Result<(), NoMemory>
+    ensures { OnOk result (out.new.items ≡ out.old.items ++ operands_text (Operands.Amount rd rs1 amount)) }
+{
+    let mut buffer = Buffer::new();
+    push_registers(out, rd, rs1)?;
+    push_separator(out)?;
+    out.extend_from_slice(buffer.format(amount).as_bytes())?;
+    Ok(())
+}
+
+/// Appends a register, and an address by its base and its distance from there.
+fn push_address(out: &mut Vec<u8>, register: u8, base: u8, imm: i32) -> Result<(), NoMemory>
+    ensures { OnOk result (out.new.items ≡ out.old.items ++ operands_text (Operands.Address register base imm)) }
+{
+    let mut buffer = Buffer::new();
+    push_first(out, register)?;
+    out.extend_from_slice(buffer.format(imm).as_bytes())?;
+    out.push(b'(')?;
+    push_register(out, base)?;
+    out.push(b')')?;
+    Ok(())
+}
+
+/// Appends the operands of a branch.
+fn push_branch(out: &mut Vec<u8>, rs1: u8, rs2: u8, distance: i32) -> Result<(), NoMemory>
+    ensures { OnOk result (out.new.items ≡ out.old.items ++ operands_text (Operands.Branch rs1 rs2 distance)) }
+{
+    push_registers(out, rs1, rs2)?;
+    push_separator(out)?;
+    push_distance(out, distance)
+}
+
+/// Appends a register and the upper 20 bits of an immediate.
+fn push_upper(out: &mut Vec<u8>, rd: u8, imm: i32) -> Result<(), NoMemory>
+    ensures { OnOk result (out.new.items ≡ out.old.items ++ operands_text (Operands.Upper rd imm)) }
+{
+    let mut buffer = Buffer::new();
+    push_first(out, rd)?;
+    out.extend_from_slice(buffer.format(imm.cast_unsigned() / 4096).as_bytes())?;
+    Ok(())
+}
+
+/// Appends the operands of a jump.
+fn push_jump(out: &mut Vec<u8>, rd: u8, distance: i32) -> Result<(), NoMemory>
+    ensures { OnOk result (out.new.items ≡ out.old.items ++ operands_text (Operands.Jump rd distance)) }
+{
+    push_first(out, rd)?;
+    push_distance(out, distance)
 }
 
 /// Appends a blank, a register, and what stands before the next operand.

@@ -3,3 +3,4 @@ pub mod Encodings
 pub mod Machine
 pub mod Calls
 pub mod ZeroRegister
+pub mod Operands

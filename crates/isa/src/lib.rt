@@ -109,7 +109,7 @@ pub enum Effect {
 }
 
 /// The guest calls, by what the execution environment does.
-#[derive(Clone, Copy, Debug, PartialEq, Eq)]
+#[derive(Clone, Copy, PartialEq, Eq)]
 pub enum CallKind {
     /// Number 63: read(channel, address, length).
     Read,
@@ -124,7 +124,7 @@ pub enum CallKind {
 }
 
 /// A guest call: its kind, its number (x17) and its arguments (x10, x11 and x12).
-#[derive(Clone, Copy, Debug, PartialEq, Eq)]
+#[derive(Clone, Copy, PartialEq, Eq)]
 pub struct Call {
     pub kind: CallKind,
     pub number: u32,

@@ -1,10 +1,21 @@
--- Subcommands that were made, one after another.
+-- Commands that were made: with one more argument, and with one more subcommand.
 use Rattle.std.proofs.Common.{◌≡◌, ◌∙◌, ap₂, Result, Ok, Err, IfOk, IsOkAnd}
-use Rattle.clap.specs.Words.{App, app_of, with_subcommand}
+use Rattle.clap.specs.Words.{App, Rule, app_of, with_rule, with_subcommand}
 use Rattle.clap.specs.declared.builder.Command.{Command}
+use Rattle.jet_words.specs.Made.{IsMade}
 
--- a subcommand that was made is that of its definition, and so is the command that got it
-pub with_one : {E : Type 0} (made : Result Command E) (command before own its : App) → before ≡ own → IfOk made (λ s. app_of s ≡ its)
-    → IsOkAnd made (λ s. command ≡ with_subcommand before (app_of s).top) → command ≡ with_subcommand own its.top
-with_one (Ok s) command before own its same is got = got ∙ ap₂ (λ (a b : App). with_subcommand a b.top) same is
-with_one (Err e) command before own its same is got = absurd got
+-- with one more argument
+pub more_rule : {E : Type 0} (made result : Result Command E) (given rule : Rule) (app : App) → IsMade made app → given ≡ rule
+    → IfOk result (λ c. IsOkAnd made (λ m. app_of c ≡ with_rule (app_of m) given)) → IsMade result (with_rule app rule)
+more_rule (Ok m) (Ok c) given rule app is same got = got ∙ ap₂ with_rule is same
+more_rule (Err e) (Ok c) given rule app is same got = absurd got
+more_rule made (Err e) given rule app is same got = tt
+
+-- with one more subcommand
+pub more_subcommand : {E : Type 0} (command made result : Result Command E) (app its : App) → IsMade command app → IsMade made its
+    → IfOk result (λ c. IsOkAnd command (λ b. IsOkAnd made (λ s. app_of c ≡ with_subcommand (app_of b) (app_of s).top)))
+    → IsMade result (with_subcommand app its.top)
+more_subcommand (Ok b) (Ok s) (Ok c) app its is same got = got ∙ ap₂ (λ (x y : App). with_subcommand x y.top) is same
+more_subcommand (Ok b) (Err e) (Ok c) app its is same got = absurd got
+more_subcommand (Err e) made (Ok c) app its is same got = absurd got
+more_subcommand command made (Err e) app its is same got = tt

@@ -10,6 +10,7 @@ ghost use Rattle.jet_words.specs.Commands.{listing_by, product_by, other_by};
 ghost use Rattle.jet_words.specs.Commands.{pipeline_of, analysis_of, product_of as product_of_rows};
 ghost use Rattle.jet_words.specs.Commands.{decisions_of, page_of, record_of, convert_of, queries_of, bench_of};
 ghost use Rattle.jet_words.specs.Numbers.{HasPipelineNumbers, HasNumbers};
+ghost use Rattle.jet_words.specs.Rest.{rest_by};
 
 use crate::command::{Command, Listing, Pipeline, Product};
 use crate::command_line::command_line;
@@ -176,6 +177,26 @@ fn product_of(name: &str, matches: &ArgMatches<'_>) -> Option<Product>
     }
 }
 
+// The command of those that come last. The error is out of memory.
+fn rest_of<'a>(
+    alloc: Global,
+    name: &str,
+    matches: &ArgMatches<'a>,
+) -> Result<Option<Command<'a>>, AllocError>
+    requires { HasNumbers (name.now, rows_of (found_of matches.now)) }
+    ensures { IfOk result (λ c. option_map plain_command c ≡ rest_by name.now (rows_of (found_of matches.now))) }
+{
+    if name == "convert" {
+        Ok(Some(read_convert(matches)))
+    } else if name == "queries" {
+        Ok(Some(read_queries(alloc, matches)?))
+    } else if name == "bench" {
+        Ok(Some(read_bench(matches)))
+    } else {
+        Ok(None)
+    }
+}
+
 // The command of any other. The error is out of memory.
 fn other_of<'a>(
     alloc: Global,
@@ -191,14 +212,8 @@ fn other_of<'a>(
         Ok(Some(read_page(matches)))
     } else if name == "record" {
         Ok(Some(read_record(alloc, matches)?))
-    } else if name == "convert" {
-        Ok(Some(read_convert(matches)))
-    } else if name == "queries" {
-        Ok(Some(read_queries(alloc, matches)?))
-    } else if name == "bench" {
-        Ok(Some(read_bench(matches)))
     } else {
-        Ok(None)
+        rest_of(alloc, name, matches)
     }
 }
 
@@ -249,8 +264,9 @@ pub fn read_words<'a>(alloc: Global, words: &'a [String]) -> Result<Command<'a>,
     ensures nothing { IfErr result (IsCausedBy (λ _. command_of (map string_bytes words.entry.now) ≡ None)) }
 {
     let matches = parse_words(alloc, words)?;
-    let command = command_by_subcommand(alloc, &matches)?;
-    match command {
+    let command = command_by_subcommand(alloc, &matches);
+    drop(matches);
+    match command? {
         Some(command) => Ok(command),
         None => unreachable!(),
     }

@@ -1,7 +1,9 @@
 //! Readers of the terms of many nodes at once.
 
-ghost use Rattle.std.specs.Prelude.{◌≡◌, ◌<◌, ◌≤◌, [], All, Some, length, map, slice_get, OnOk};
-ghost use Rattle.merge_log.specs.Log.{IsNode, terms};
+ghost use Rattle.std.specs.Prelude.{◌≡◌, ◌<◌, ◌≤◌, ℕ, [], All, Some, length, map, slice_get, OnOk};
+ghost use Rattle.merge_log.specs.Log.{IsNode, no_terms, terms};
+ghost use Rattle.merge_log.specs.Masks.{IsClearFrom, found_at};
+ghost use Rattle.merge_log.specs.Walk.{terms_of};
 
 use crate::finding::Found;
 use crate::masks::Masks;
@@ -60,12 +62,10 @@ impl ManyTerms {
         requires stand { All (IsNode log.now) roots.now }
         ensures { OnOk result (self.new ≡ map (terms log.now) roots.now) }
     {
-        let mut masks = mem::replace(&mut self.masks, Masks::new(self.alloc));
-        masks.fit(log.size() as usize)?;
         empty_sets(self.alloc, &mut self.found, roots.len())?;
-        walk_many(log, roots, &mut masks, &mut self.found)?;
-        settle_all(&mut self.found, &mut self.spare)?;
-        self.masks = masks;
+        let mut masks = mem::replace(&mut self.masks, Masks::new(self.alloc));
+        find_all(log, roots, &mut masks, &mut self.found, &mut self.spare)?;
+        drop(mem::replace(&mut self.masks, masks));
         Ok(())
     }
 
@@ -76,4 +76,26 @@ impl ManyTerms {
     {
         reader.copy_found(&self.found[number])
     }
+}
+
+/// Finds the leaves of nodes of a log, of each as sets. Nothing was found before, and only the room of `spare` is used.
+fn find_all(
+    log: &MergeLog,
+    roots: &[Node],
+    masks: &mut Masks,
+    found: &mut Vec<Found>,
+    spare: &mut Vec<SourceRun>,
+) -> Result<(), NoMemory>
+    requires few { length roots.now ≤ 64 }
+    requires stand { All (IsNode log.now) roots.now }
+    requires clear { IsClearFrom masks.old.masks.items 0 }
+    requires sets { length found.old.items ≡ length roots.now }
+    requires empty { (r : ℕ) → found_at found.old.items r ≡ no_terms }
+    ensures clear { OnOk result (IsClearFrom masks.new.masks.items 0) }
+    ensures found { OnOk result (map terms_of found.new.items ≡ map (terms log.now) roots.now) }
+{
+    masks.fit(log.size() as usize)?;
+    walk_many(log, roots, masks, found)?;
+    settle_all(found, spare)?;
+    Ok(())
 }

@@ -1,12 +1,23 @@
 //! The calls that moved bytes.
 
-ghost use Rattle.std.specs.Prelude.{◌≡◌, ◌++◌, OnOk};
+ghost use Rattle.std.specs.Prelude.{◌≡◌, ◌++◌, ◌∷◌, [], OnOk};
+ghost use Rattle.std.specs.Fmt.{decimal};
 ghost use Rattle.std.specs.List.{flat_map};
 ghost use Rattle.page_model.specs.Data.{moved_line, call_line};
 
 use itoa::Buffer;
 use log_model::{CallRecord, Data};
 use no_memory::NoMemory;
+
+/// Appends a number, and a byte after it.
+pub(crate) fn push_decimal(out: &mut Vec<u8>, number: u64, after: u8) -> Result<(), NoMemory>
+    ensures { OnOk result (out.new.items ≡ out.old.items ++ decimal number ++ after ∷ []) }
+{
+    let mut buffer = Buffer::new();
+    out.extend_from_slice(buffer.format(number).as_bytes())?;
+    out.push(after)?;
+    Ok(())
+}
 
 /// Appends the line of a call on this channel, if it moved bytes.
 fn push_moved(
@@ -21,15 +32,10 @@ fn push_moved(
     if bytes.len() == 0 {
         return Ok(());
     }
-    let mut buffer = Buffer::new();
     out.extend_from_slice(word)?;
-    out.extend_from_slice(buffer.format(channel).as_bytes())?;
-    out.push(b' ')?;
-    out.extend_from_slice(buffer.format(bytes.len()).as_bytes())?;
-    out.push(b' ')?;
-    out.extend_from_slice(buffer.format(at).as_bytes())?;
-    out.push(b'\n')?;
-    Ok(())
+    push_decimal(out, channel as u64, b' ')?;
+    push_decimal(out, bytes.len() as u64, b' ')?;
+    push_decimal(out, at, b'\n')
 }
 
 /// Appends the line of a call, if it has one.

@@ -1,11 +1,13 @@
 //! The bytes of channels, in base64.
 
 ghost use Rattle.std.specs.Prelude.{◌≡◌, ◌++◌, IfOk, OnOk};
+ghost use Rattle.base64.specs.Engines.{standard};
+ghost use Rattle.base64.specs.GeneralPurpose.{encode_of};
 ghost use Rattle.run_output.specs.Ways.{moved};
 ghost use Rattle.page_model.specs.Data.{way_word, channel_line, channel_lines};
 
+use crate::calls::push_decimal;
 use base64::engine::general_purpose::STANDARD;
-use itoa::Buffer;
 use log_model::CallRecord;
 use no_memory::NoMemory;
 use replay_log::Log;
@@ -40,6 +42,15 @@ fn bytes_on(
     }
 }
 
+/// Appends bytes in base64.
+fn push_encoded(alloc: Global, out: &mut Vec<u8>, bytes: &[u8]) -> Result<(), NoMemory>
+    ensures { OnOk result (out.new.items ≡ out.old.items ++ encode_of standard bytes.now) }
+{
+    let text = STANDARD.encode(alloc, bytes)?;
+    out.extend_from_slice(text.as_bytes())?;
+    Ok(())
+}
+
 /// Appends the line of a channel with these bytes.
 fn push_channel(
     alloc: Global,
@@ -50,12 +61,9 @@ fn push_channel(
 ) -> Result<(), NoMemory>
     ensures { OnOk result (out.new.items ≡ out.old.items ++ channel_line way channel bytes.now) }
 {
-    let mut buffer = Buffer::new();
     out.extend_from_slice(way_word(way))?;
-    out.extend_from_slice(buffer.format(channel).as_bytes())?;
-    out.push(b' ')?;
-    let text = STANDARD.encode(alloc, bytes)?;
-    out.extend_from_slice(text.as_bytes())?;
+    push_decimal(out, channel as u64, b' ')?;
+    push_encoded(alloc, out, bytes)?;
     out.push(b'\n')?;
     Ok(())
 }

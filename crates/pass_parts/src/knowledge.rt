@@ -7,12 +7,19 @@ ghost use Rattle.pass_parts.specs.Knowing.{is_whole, summary_in};
 use local_taint::Summary;
 
 /// What a pass knows of its epoch.
-#[derive(Drop)]
 pub enum Knowledge {
     /// The pass is whole, and has the summary.
     Whole(Summary),
     /// The pass is broken. A summary that it had is used no more.
     Broken(Option<Summary>),
+}
+
+// Written out: where a value that has one is let go, a derived drop is proved anew, with all that is below it.
+impl Drop for Knowledge {
+    /// Lets the summary go, if there was one.
+    fn drop(self) {
+        let _summary = self.into_summary();
+    }
 }
 
 impl Knowledge {

@@ -1,3 +1,4 @@
 pub mod Channels
 pub mod OpenRuns
 pub mod Steps
+pub mod Whole

@@ -5,6 +5,7 @@ ghost use Rattle.range_model.specs.Runs.{is_output, has_any, output_rows, point_
 ghost use Rattle.range_model.specs.Text.{run_lines, point_lines, ranges_report};
 ghost use Rattle.range_report.specs.OpenRuns.{row as row_with};
 ghost use Rattle.range_report.specs.Steps.{IsOpenIfAny, IsTaken, lines_left, count_left};
+ghost use Rattle.range_report.specs.Whole.{report_lines};
 
 use crate::lines::{push_end, push_row, push_run};
 use crate::moved::MovedBytes;
@@ -142,6 +143,24 @@ fn count_without(rows: &[SinkSet]) -> u64
     count
 }
 
+/// Appends all lines of a report in runs.
+fn push_lines(out: &mut Vec<u8>, moved: &MovedBytes<'_>, rows: &[SinkSet]) -> Result<(), NoMemory>
+    ensures { OnOk result (out.new.items ≡ out.old.items ++ report_lines moved.now.calls.now rows.now) }
+{
+    let runs = push_runs(out, moved, rows)?;
+    let points = push_points(out, moved, rows)?;
+    push_end(out, runs + points, count_without(rows))
+}
+
+/// The text of a report in runs, of these rows and the bytes that the calls moved.
+fn text_of(alloc: Global, moved: &MovedBytes<'_>, rows: &[SinkSet]) -> Result<Vec<u8>, NoMemory>
+    ensures { IfOk result (λ text. text.items ≡ report_lines moved.now.calls.now rows.now) }
+{
+    let mut out = Vec::new(alloc);
+    push_lines(&mut out, moved, rows)?;
+    Ok(out)
+}
+
 /// The text of a report in runs, of a run with this log: a line `C:A-B TEXT KIND` for each run of output bytes, with
 /// a blank and `c:a-b TEXT` for each range of its source bytes; a line `NAME <` likewise for each point that has a
 /// source; and last `end N WITHOUT`, the number of lines and that of the rows without a source. It fails only where
@@ -150,10 +169,7 @@ pub fn shown(alloc: Global, report: &Report, log: &Log) -> Result<Vec<u8>, NoMem
     ensures { IfOk result (λ text. text.items ≡ ranges_report log.now report.now) }
 {
     let moved = MovedBytes::new(alloc, log.records())?;
-    let rows = report.rows();
-    let mut out = Vec::new(alloc);
-    let runs = push_runs(&mut out, &moved, rows)?;
-    let points = push_points(&mut out, &moved, rows)?;
-    push_end(&mut out, runs + points, count_without(rows))?;
-    Ok(out)
+    let told = text_of(alloc, &moved, report.rows());
+    drop(moved);
+    told
 }

@@ -1,16 +1,42 @@
 -- The record at the front by its tag.
-use Rattle.std.proofs.Common.{◌≡◌, ℕ, ◌^◌, ◌<◌, List, ℤ, to_z, of_z, SFits, refl, ap, ◌∙◌, rules}
+use Rattle.std.proofs.Common.{◌≡◌, ℕ, ◌+◌, ◌-◌, ◌^◌, ◌<◌, ◌≤◌, List, length, false, ℤ, to_z, of_z, SFits, refl, sym, ap, subst, ◌∙◌, rules, arith}
 use Rattle.std.specs.Int.{w32, cast_signed}
 use Rattle.std.proofs.lemmas.Int.{ints, to_z-of_z}
+use Rattle.std.proofs.lemmas.List.{length-drop}
 use Rattle.format_model.specs.Fields.{word_at}
 use Rattle.log_model.specs.declared.Version.{Version}
 use Rattle.log_model.specs.declared.Version.TheVariants.{One, Two}
 use Rattle.log_model.specs.declared.CallRecord.TheVariants.{Read, Write, Clock, Other}
 use Rattle.log_model.specs.declared.RunEnd.TheVariants.{Exit, Trap, Limit}
 use Rattle.log_model.specs.declared.Item.TheVariants.{Call, End}
-use Rattle.log_model.specs.Faults.{tag_of, step_of, fields_of, long_at}
+use Rattle.log_model.specs.Faults.{tag_of, step_length, step_of, fields_of, fields_length, are_bytes_wrong, long_at}
 use Rattle.log_model.specs.Reading.{arguments_of, result_of, data_of, read_bytes, item_of}
-use Rattle.replay_log.specs.Records.{bytes_read}
+use Rattle.log_model.proofs.Faults.{no_fault}
+use Rattle.replay_log.specs.declared.tags.Tag.{Tag}
+use Rattle.replay_log.specs.declared.tags.Tag.TheVariants.{Read as IsRead}
+use Rattle.replay_log.specs.declared.record_parts.RecordParts.{RecordParts}
+use Rattle.replay_log.specs.Tags.{number}
+use Rattle.replay_log.specs.Records.{ArePartsOf, bytes_read}
+
+-- the fields of a record of this kind are all there
+pub are_there : {v : Version} {least : ℕ} {left : List (List ℕ)} {rest : List ℕ} {parts : RecordParts} → ArePartsOf v least left rest parts
+    → (tag : Tag) → parts.tag ≡ tag → (n : ℕ) → n ≤ fields_length (number tag) → n ≤ length parts.fields.now
+are_there {v} {least} {left} {rest} {parts} is tag e n few =
+    let same : number tag ≡ tag_of rest = sym (ap number e) ∙ is.tag in
+    let enough : n ≤ fields_length (tag_of rest) = subst (λ (k : ℕ). n ≤ fields_length k) same few in
+    by (step_length v) (fields_length (tag_of rest)) (length rest) (length parts.fields.now) enough is.fixed (ap length is.fields ∙ length-drop (1 + step_length v) rest)
+  where
+    by : (step fixed whole long : ℕ) → n ≤ fixed → 1 + step + fixed ≤ whole → long ≡ whole - (1 + step) → n ≤ long
+    by step fixed whole long a b c = omega arith
+
+-- a read takes no more than is left on its channel
+pub is_left : {v : Version} {least : ℕ} {left : List (List ℕ)} {rest : List ℕ} {parts : RecordParts} → ArePartsOf v least left rest parts
+    → parts.tag ≡ IsRead → are_bytes_wrong v 1 left parts.fields.now ≡ false
+is_left {v} {least} {left} {rest} {parts} is e =
+    let same : tag_of rest ≡ 1 = sym is.tag ∙ ap number e in
+    let known = (no_fault v least left rest is.none).bytes in
+    let here = subst (λ (k : ℕ). are_bytes_wrong v k left (fields_of v rest) ≡ false) same known in
+    subst (λ (fields : List ℕ). are_bytes_wrong v 1 left fields ≡ false) (sym is.fields) here
 
 -- the step number and the fields of a record
 pub record IsTaken (v : Version) (rest : List ℕ) (t at : ℕ) (fields : List ℕ) : Type 0 where

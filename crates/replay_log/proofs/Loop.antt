@@ -31,6 +31,10 @@ pub record IsReadTo (v : Version) (size : ℕ) (all : Result Body (LogKind × �
 pub item_after : (v : Version) (least : ℕ) (left : List (List ℕ)) (rest : List ℕ) (item : Item) (after : List ℕ) (kept : List (List ℕ)) → IsFirst v least left rest item after kept → length after < length rest
 item_after v least left rest item after kept t = let bounds = item_length-bounds v least left rest t.none in omega (arith, bounds, ap length t.leaves, length-drop (item_length v rest) rest)
 
+-- what is after the record at the front is within the bytes too
+pub still_within : (v : Version) (size least : ℕ) (left : List (List ℕ)) (rest : List ℕ) (item : Item) (after : List ℕ) (kept : List (List ℕ)) → length rest ≤ size → IsFirst v least left rest item after kept → length after ≤ size
+still_within v size least left rest item after kept within t = let shorter = item_after v least left rest item after kept t in omega (arith, within, shorter)
+
 -- the offset of what is after the record at the front
 next_offset : (v : Version) (size least : ℕ) (left : List (List ℕ)) (rest after : List ℕ) (item : Item) (kept : List (List ℕ)) → length rest ≤ size → IsFirst v least left rest item after kept
     → size - length rest + item_length v rest ≡ size - length after

@@ -32,6 +32,21 @@ number_most Exit = omega arith
 number_most Trap = omega arith
 number_most Limit = omega arith
 
+-- the fields are all there, where the fixed part of the record is
+pub fields_there : (v : Version) (rest : List ℕ) (t fixed : ℕ) (fields : List ℕ) → fixed ≡ fixed_length v t → fixed ≤ length rest → fields ≡ fields_of v rest → fields_length t ≤ length fields
+fields_there v rest t fixed fields e long f =
+    by (step_length v) (fields_length t) fixed (length rest) (length fields) e long (ap length f ∙ length-drop (1 + step_length v) rest)
+  where
+    by : (step least fixed whole here : ℕ) → fixed ≡ 1 + step + least → fixed ≤ whole → here ≡ whole - (1 + step) → least ≤ here
+    by step least fixed whole here a b c = omega arith
+
+-- the step number is there, where the fixed part of the record is
+pub step_there : (v : Version) (rest : List ℕ) (t fixed : ℕ) → fixed ≡ fixed_length v t → fixed ≤ length rest → 1 + step_length v ≤ length rest
+step_there v rest t fixed e long = by (step_length v) (fields_length t) fixed (length rest) e long
+  where
+    by : (step least fixed whole : ℕ) → fixed ≡ 1 + step + least → fixed ≤ whole → 1 + step ≤ whole
+    by step least fixed whole a b = omega arith
+
 -- the record begins well: its tag, its step number and its length are right
 pub record IsBegun (v : Version) (least : ℕ) (rest : List ℕ) (tag : Tag) (at : ℕ) (fields : List ℕ) : Type 0 where
   pub tag_is : number tag ≡ tag_of rest

@@ -1,25 +1,26 @@
 //! A query over a whole run.
 
-ghost use Rattle.std.specs.Prelude.{◌≡◌, ◌≤◌, IfOk};
+ghost use Rattle.std.specs.Prelude.{◌≡◌, ◌≤◌, ℕ, List, length, IfOk};
 ghost use Rattle.log_model.specs.Logs.{steps};
 ghost use Rattle.report_model.specs.Rows.{rows};
 ghost use Rattle.epoch_model.specs.Cutting.{IsCutting};
 ghost use Rattle.stream_model.specs.Work.{run_work};
 ghost use Rattle.replayer.specs.Jobs.{trace_of};
+ghost use Rattle.seq_taint.specs.Runs.{AreSinksOfRun};
 ghost use Rattle.sink_collect.specs.Pairs.{capped};
 ghost use Rattle.run_query.specs.Crossings.{crossed};
-ghost use Rattle.run_query.specs.Preparing.{IsPrepared, cuts_of};
+ghost use Rattle.run_query.specs.Preparing.{AreTakenFor, IsPrepared, cuts_of};
 
 use crate::answer::{answer_of_line, answer_of_one};
 use crate::crossed::Crossed;
 use crate::prepared::{Found, Prepared};
-use checkpoints::Checkpoints;
+use checkpoints::{CheckpointTaker, Checkpoints};
 use epoch_cut::Cuts;
 use no_memory::NoMemory;
 use outer_io::Gate;
 use query_lang::Query;
 use replayer::Job;
-use seq_taint::sequential;
+use seq_taint::{LabelledSinks, sequential};
 use sink_collect::Report;
 use std::alloc::Global;
 use std::sync::Wait;
@@ -86,14 +87,55 @@ pub fn query_prepared<G: Gate, R: Threads + Wait + Sync>(
     ensures events { IfOk result (λ r. r.2 ≡ capped (run_work query.now (trace_of job.now) (cuts_of prepared))) }
 {
     let Prepared { cuts, found } = prepared;
-    let checkpoints = match found {
+    match found {
         Found::Whole(sinks) => {
-            let sets = sinks.rows(alloc)?;
-            return answer_of_one(alloc, job, query, sets);
+            drop(cuts);
+            answer_of_sinks(alloc, job, query, sinks)
         }
-        Found::Parts(taker) => taker.finish(job)?,
-    };
-    answer_of_line(
+        Found::Parts(taker) => {
+            answer_of_taken(rt, alloc, gate, job, taker, query, cuts, workers, capacity)
+        }
+    }
+}
+
+/// The answer of a run that is one epoch, of its sinks.
+fn answer_of_sinks(
+    alloc: Global,
+    job: &Job,
+    query: &Query,
+    sinks: LabelledSinks,
+) -> Result<(Report, Vec<Crossed>, u64), NoMemory>
+    requires { AreSinksOfRun query.now job.now sinks }
+    ensures report { IfOk result (λ r. r.0 ≡ rows query.now (trace_of job.now)) }
+    ensures crossed { (cuts : List ℕ) → length cuts ≡ 1 → IfOk result (λ r. r.1.items ≡ crossed query.now (trace_of job.now) cuts) }
+    ensures events { (cuts : List ℕ) → length cuts ≡ 1 → IfOk result (λ r. r.2 ≡ capped (run_work query.now (trace_of job.now) cuts)) }
+{
+    let sets = sinks.rows(alloc)?;
+    answer_of_one(alloc, job, query, sets)
+}
+
+/// The answer of a run of several epochs, of the checkpoints that were taken where each begins.
+fn answer_of_taken<G: Gate, R: Threads + Wait + Sync>(
+    rt: &R,
+    alloc: Global,
+    gate: &G,
+    job: &Job,
+    taker: CheckpointTaker,
+    query: &Query,
+    cuts: Cuts,
+    workers: u32,
+    capacity: u32,
+) -> Result<(Report, Vec<Crossed>, u64), NoMemory>
+    requires cuts { IsCutting (steps job.now.log) cuts }
+    requires taken { AreTakenFor cuts job.now taker }
+    requires workers { (1 ≤ workers) × (workers ≤ 64) }
+    requires capacity { (1 ≤ capacity) × (capacity ≤ 65536) }
+    ensures report { IfOk result (λ r. r.0 ≡ rows query.now (trace_of job.now)) }
+    ensures crossed { IfOk result (λ r. r.1.items ≡ crossed query.now (trace_of job.now) cuts) }
+    ensures events { IfOk result (λ r. r.2 ≡ capped (run_work query.now (trace_of job.now) cuts)) }
+{
+    let checkpoints = taker.finish(job)?;
+    let answer = answer_of_line(
         rt,
         alloc,
         gate,
@@ -103,5 +145,7 @@ pub fn query_prepared<G: Gate, R: Threads + Wait + Sync>(
         cuts,
         workers,
         capacity,
-    )
+    );
+    drop(checkpoints);
+    answer
 }

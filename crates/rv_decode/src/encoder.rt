@@ -2,7 +2,7 @@
 
 ghost use Rattle.std.specs.Prelude.{◌≡◌, ℕ, ◌+◌, ◌*◌, ◌/◌, ◌%◌, ◌^◌, ◌<◌, ◌≤◌, Some};
 ghost use Rattle.isa.specs.Words.{field, instruction_of};
-ghost use Rattle.isa.specs.Encodings.{Fits, encoding, low, fields, i_form, s_form, b_form, u_form, j_form, r_form};
+ghost use Rattle.isa.specs.Encodings.{Fits, FitsThree, FitsSmallImmediate, FitsBranch, encoding, low, fields, i_form, s_form, b_form, u_form, j_form, r_form};
 
 use crate::fields::{
     ALTERNATE, AUIPC, BRANCH, JAL, JALR, LOAD, LUI, MISC_MEM, MULDIV, OP, OP_IMM, STORE, bits,
@@ -35,21 +35,25 @@ fn fields_word(opcode: u8, rd: u8, funct3: u8, rs1: u8, rs2: u8, funct7: u8) -> 
 }
 
 fn r_word(funct3: u8, rd: u8, rs1: u8, rs2: u8, funct7: u8) -> u32
-    requires funct3_fits { funct3 < 8 }
-    requires rd_fits { rd < 32 }
-    requires rs1_fits { rs1 < 32 }
-    requires rs2_fits { rs2 < 32 }
-    requires funct7_fits { funct7 < 128 }
+    requires functs_fit { (funct3 < 8) × (funct7 < 128) }
+    requires registers_fit { FitsThree rd rs1 rs2 }
     ensures { result ≡ r_form funct3 rd rs1 rs2 funct7 }
 {
     fields_word(OP, rd, funct3, rs1, rs2, funct7)
 }
 
+/// A shift by an immediate has its amount in place of a second register.
+fn shift_word(funct3: u8, rd: u8, rs1: u8, amount: u8, funct7: u8) -> u32
+    requires functs_fit { (funct3 < 8) × (funct7 < 128) }
+    requires operands_fit { FitsThree rd rs1 amount }
+    ensures { result ≡ fields 0b0010011 rd funct3 rs1 amount funct7 }
+{
+    fields_word(OP_IMM, rd, funct3, rs1, amount, funct7)
+}
+
 fn i_word(opcode: u8, funct3: u8, rd: u8, rs1: u8, imm: i32) -> u32
-    requires opcode_fits { opcode < 128 }
-    requires funct3_fits { funct3 < 8 }
-    requires rd_fits { rd < 32 }
-    requires rs1_fits { rs1 < 32 }
+    requires codes_fit { (opcode < 128) × (funct3 < 8) }
+    requires operands_fit { FitsSmallImmediate rd rs1 imm }
     ensures { result ≡ i_form opcode funct3 rd rs1 imm }
 {
     fields_word(opcode, rd, funct3, rs1, 0, 0) + (low_bits(imm, 12) << 20)
@@ -57,8 +61,7 @@ fn i_word(opcode: u8, funct3: u8, rd: u8, rs1: u8, imm: i32) -> u32
 
 fn s_word(funct3: u8, rs1: u8, rs2: u8, imm: i32) -> u32
     requires funct3_fits { funct3 < 8 }
-    requires rs1_fits { rs1 < 32 }
-    requires rs2_fits { rs2 < 32 }
+    requires operands_fit { FitsSmallImmediate rs1 rs2 imm }
     ensures { result ≡ s_form funct3 rs1 rs2 imm }
 {
     let value = low_bits(imm, 12);
@@ -74,8 +77,7 @@ fn s_word(funct3: u8, rs1: u8, rs2: u8, imm: i32) -> u32
 
 fn b_word(funct3: u8, rs1: u8, rs2: u8, imm: i32) -> u32
     requires funct3_fits { funct3 < 8 }
-    requires rs1_fits { rs1 < 32 }
-    requires rs2_fits { rs2 < 32 }
+    requires operands_fit { FitsBranch rs1 rs2 imm }
     ensures { result ≡ b_form funct3 rs1 rs2 imm }
 {
     let value = low_bits(imm, 13);
@@ -142,9 +144,9 @@ fn word_of(instr: &Instr) -> u32
         Instr::Xori { rd, rs1, imm } => i_word(OP_IMM, 4, rd, rs1, imm),
         Instr::Ori { rd, rs1, imm } => i_word(OP_IMM, 6, rd, rs1, imm),
         Instr::Andi { rd, rs1, imm } => i_word(OP_IMM, 7, rd, rs1, imm),
-        Instr::Slli { rd, rs1, amount } => fields_word(OP_IMM, rd, 1, rs1, amount, 0),
-        Instr::Srli { rd, rs1, amount } => fields_word(OP_IMM, rd, 5, rs1, amount, 0),
-        Instr::Srai { rd, rs1, amount } => fields_word(OP_IMM, rd, 5, rs1, amount, ALTERNATE),
+        Instr::Slli { rd, rs1, amount } => shift_word(1, rd, rs1, amount, 0),
+        Instr::Srli { rd, rs1, amount } => shift_word(5, rd, rs1, amount, 0),
+        Instr::Srai { rd, rs1, amount } => shift_word(5, rd, rs1, amount, ALTERNATE),
         Instr::Add { rd, rs1, rs2 } => r_word(0, rd, rs1, rs2, 0),
         Instr::Sub { rd, rs1, rs2 } => r_word(0, rd, rs1, rs2, ALTERNATE),
         Instr::Sll { rd, rs1, rs2 } => r_word(1, rd, rs1, rs2, 0),

@@ -1,6 +1,6 @@
 //! Sets in slices.
 
-ghost use Rattle.std.specs.Prelude.{◌≡◌, IfOk};
+ghost use Rattle.std.specs.Prelude.{◌≡◌, ◌++◌, IfOk};
 ghost use Rattle.sorted_set.specs.Sets.{union, has, is_within, Ascends};
 
 use std::alloc::{AllocError, Global};
@@ -16,6 +16,17 @@ pub fn merged<T: Ord + Copy>(alloc: Global, left: &[T], right: &[T]) -> Result<V
     ensures { IfOk result (λ all. all.items ≡ union T.cmp left.now right.now) }
 {
     let mut all = Vec::with_capacity(alloc, left.len().saturating_add(right.len()))?;
+    push_union(&mut all, left, right)?;
+    Ok(all)
+}
+
+/// Appends the union of two sets, by one pass over both.
+#[inline(always)]
+fn push_union<T: Ord + Copy>(all: &mut Vec<T>, left: &[T], right: &[T]) -> Result<(), AllocError>
+    requires left { Ascends T.cmp left.now }
+    requires right { Ascends T.cmp right.now }
+    ensures { IfOk result (λ done. all.new.items ≡ all.old.items ++ union T.cmp left.now right.now) }
+{
     let (mut i, mut j) = (0, 0);
     while i < left.len() && j < right.len() {
         match left[i].cmp(&right[j]) {
@@ -36,7 +47,7 @@ pub fn merged<T: Ord + Copy>(alloc: Global, left: &[T], right: &[T]) -> Result<V
     }
     all.extend_from_slice(&left[i..])?;
     all.extend_from_slice(&right[j..])?;
-    Ok(all)
+    Ok(())
 }
 
 /// Whether each member of the first set is a member of the second, by one pass over the second.

@@ -1,6 +1,6 @@
 //! Ranges of source bytes that are added one after another.
 
-ghost use Rattle.std.specs.Prelude.{◌≡◌, ◌++◌, [], All, OnOk};
+ghost use Rattle.std.specs.Prelude.{◌≡◌, ◌++◌, [], ◌∷◌, false, All, IsTrue, OnOk};
 ghost use Rattle.std.specs.List.{flat_map};
 ghost use Rattle.sorted_set.specs.Sets.{Ascends};
 ghost use Rattle.flow_model.specs.Orders.{source_cmp};
@@ -71,12 +71,29 @@ fn push_joined(ranges: &mut Vec<SourceRange>, range: SourceRange) -> Result<(), 
     ensures apart { AreApart ranges.new.items }
     ensures fits { All IsRange ranges.new.items }
 {
-    if let Some(last) = ranges.last_mut() {
-        if last.channel == range.channel && last.past == range.from {
-            last.past = range.past;
-            return Ok(());
-        }
+    if join_last(ranges, range) {
+        return Ok(());
     }
     ranges.push(range)?;
     Ok(())
+}
+
+/// Adds the bytes of a range to the last of others, where it goes on from that one. It answers whether it does.
+fn join_last(ranges: &mut Vec<SourceRange>, range: SourceRange) -> bool
+    requires range { IsRange range }
+    requires apart { AreApart ranges.old.items }
+    requires fits { All IsRange ranges.old.items }
+    ensures bytes { IsTrue result → flat_map bytes_of ranges.new.items ≡ flat_map bytes_of ranges.old.items ++ bytes_of range }
+    ensures apart { IsTrue result → AreApart ranges.new.items }
+    ensures fits { IsTrue result → All IsRange ranges.new.items }
+    ensures kept { result ≡ false → ranges.new.items ≡ ranges.old.items }
+    ensures pushed { result ≡ false → AreApart (ranges.old.items ++ range ∷ []) }
+{
+    if let Some(last) = ranges.last_mut() {
+        if last.channel == range.channel && last.past == range.from {
+            last.past = range.past;
+            return true;
+        }
+    }
+    false
 }

@@ -1,6 +1,7 @@
 //! The names of ranges.
 
 ghost use Rattle.std.specs.Prelude.{◌≡◌, ◌++◌, OnOk};
+ghost use Rattle.std.specs.Fmt.{decimal};
 ghost use Rattle.source_ranges.specs.Ranges.{span_text, range_text};
 
 use crate::SourceRange;
@@ -12,12 +13,19 @@ use no_memory::NoMemory;
 pub fn push_span(out: &mut Vec<u8>, channel: u8, from: u64, past: u64) -> Result<(), NoMemory>
     ensures { OnOk result (out.new.items ≡ out.old.items ++ span_text channel from past) }
 {
-    let mut buffer = Buffer::new();
-    out.extend_from_slice(buffer.format(channel).as_bytes())?;
+    push_number(out, u64::from(channel))?;
     out.push(b':')?;
-    out.extend_from_slice(buffer.format(from).as_bytes())?;
+    push_number(out, from)?;
     out.push(b'-')?;
-    out.extend_from_slice(buffer.format(past).as_bytes())?;
+    push_number(out, past)
+}
+
+/// Appends a number in plain decimal.
+fn push_number(out: &mut Vec<u8>, number: u64) -> Result<(), NoMemory>
+    ensures { OnOk result (out.new.items ≡ out.old.items ++ decimal number) }
+{
+    let mut buffer = Buffer::new();
+    out.extend_from_slice(buffer.format(number).as_bytes())?;
     Ok(())
 }
 

@@ -1,5 +1,5 @@
 -- Runs that ascend, joined where they go on.
-use Rattle.std.proofs.Common.{◌≡◌, ℕ, suc, ◌+◌, ◌<◌, ◌≤◌, List, [], ◌∷◌, ◌++◌, refl, ap, sym, ◌∙◌, subst, Bool, true, false, ◌||◌, if◌then◌else◌, arith, slice_index_or, ◌⊎◌, inl, inr, append-nil, nat_cmp}
+use Rattle.std.proofs.Common.{◌≡◌, ℕ, suc, ◌+◌, ◌<◌, ◌≤◌, List, [], ◌∷◌, ◌++◌, refl, ap, sym, ◌∙◌, subst, Bool, true, false, ◌||◌, if◌then◌else◌, arith, slice_index_or, ◌⊎◌, inl, inr, append-nil, append_assoc, nat_cmp}
 use Rattle.std.specs.List.{list_any}
 use Rattle.std.specs.List.Sorted.{IsSorted, IsPermutation}
 use Rattle.std.specs.Ordering.{MatchOrdering, eq_by_cmp, is_eq, is_lt, ordering_then}
@@ -57,6 +57,15 @@ joined_from r (s ∷ ss) = if goes_on r s then joined_from (longer r s) ss else 
 abbrev pub joined_all : List SourceRun → List SourceRun
 joined_all [] = []
 joined_all (r ∷ rs) = joined_from r rs
+
+-- the next run goes on from the current one
+pub next_joined : (joined : List SourceRun) (r s : SourceRun) (ss all : List SourceRun) → goes_on r s ≡ true → joined ++ joined_from r (s ∷ ss) ≡ all → joined ++ joined_from (longer r s) ss ≡ all
+next_joined joined r s ss all e h = ap (λ (b : Bool). joined ++ (if b then joined_from (longer r s) ss else r ∷ joined_from s ss)) (sym e) ∙ h
+
+-- the next run doesn't go on from the current one
+pub next_apart : (joined : List SourceRun) (r s : SourceRun) (ss all : List SourceRun) → goes_on r s ≡ false → joined ++ joined_from r (s ∷ ss) ≡ all → (joined ++ r ∷ []) ++ joined_from s ss ≡ all
+next_apart joined r s ss all e h =
+    append_assoc joined (r ∷ []) (joined_from s ss) ∙ ap (λ (b : Bool). joined ++ (if b then joined_from (longer r s) ss else r ∷ joined_from s ss)) (sym e) ∙ h
 
 pub has-all : (q : SourceByte) (r : SourceRun) (rs : List SourceRun) → has source_cmp q (all_bytes (r ∷ rs)) ≡ (has source_cmp q (bytes_of r) || has source_cmp q (all_bytes rs))
 has-all q r rs = list_any-append (eq_by_cmp source_cmp q) (bytes_of r) (all_bytes rs)

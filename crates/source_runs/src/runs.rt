@@ -8,7 +8,7 @@ ghost use Rattle.source_runs.specs.Runs.{bytes_of, AreApart};
 use flow_model::SourceByte;
 
 /// The source bytes of a channel from the offset `first` on, up to and with `last`: none where `last` is below `first`.
-#[derive(Clone, Copy, Debug, PartialEq, Eq, PartialOrd, Ord, Hash)]
+#[derive(Clone, Copy, Debug, PartialEq, Eq, PartialOrd, Ord)]
 pub struct SourceRun {
     pub channel: u8,
     pub first: u32,

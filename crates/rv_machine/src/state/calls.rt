@@ -1,7 +1,7 @@
 //! Guest calls: what a call is, whether it is refused, and the state after it.
 
-ghost use Rattle.std.specs.Prelude.{◌≡◌, ℕ, ◌+◌, ◌<◌, length, IsTrue};
-ghost use Rattle.isa.specs.Machine.{in_window, reg, call_of, kind_of};
+ghost use Rattle.std.specs.Prelude.{◌≡◌, ℕ, ◌+◌, ◌-◌, ◌<◌, length, IsTrue};
+ghost use Rattle.isa.specs.Machine.{in_window, reg, call_of, kind_of, overwritten};
 ghost use Rattle.isa.specs.Calls.{refusal_of, refusal, after_read, after_write, after_clock, after_other};
 
 use super::HartState;
@@ -74,10 +74,18 @@ impl HartState {
         requires { 0 < length bytes.now → IsTrue (in_window self.old (reg self.old 11) (length bytes.now)) }
         ensures { self.new ≡ after_read self.old (reg self.old 11) outcome bytes.now }
     {
-        if !bytes.is_empty() {
-            self.store(self.registers[11], bytes);
-        }
+        self.store_if_any(self.registers[11], bytes);
         self.set(10, outcome.cast_unsigned());
+    }
+
+    /// Bytes go to memory from an address on, which counts only where there are some.
+    fn store_if_any(&mut self, address: u32, bytes: &[u8])
+        requires { 0 < length bytes.now → IsTrue (in_window self.old address (length bytes.now)) }
+        ensures { self.new ≡ record self.old { memory = overwritten self.old.memory (address - self.old.base) bytes.now } }
+    {
+        if !bytes.is_empty() {
+            self.store(address, bytes);
+        }
     }
 
     pub fn after_write(&mut self, outcome: i32)

@@ -67,6 +67,15 @@ impl HartState {
         ensures is { result ≡ effect_of self.now instr.now }
         ensures small { IsSmall result }
     {
+        self.effect(instr)
+    }
+
+    /// The same, instruction by instruction.
+    #[inline(always)]
+    fn effect(&self, instr: &Instr) -> Effect
+        requires { Fits instr.now }
+        ensures { result ≡ effect_of self.now instr.now }
+    {
         match *instr {
             Instr::Lui { rd, imm } => set(rd, imm.cast_unsigned()),
             Instr::Auipc { rd, imm } => set(rd, self.relative(imm)),

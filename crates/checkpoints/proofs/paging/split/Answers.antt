@@ -2,7 +2,7 @@ use Rattle.std.proofs.Common.{rules, ◌≡◌, ℕ, ◌+◌, ◌<◌, suc, List
 use Rattle.std.specs.List.{All}
 use Rattle.checkpoints.specs.Pages.{page, changed_among, differs, IsHeld}
 use Rattle.checkpoints.specs.Touched.{AreOthersHeld, IsHeldUntouched}
-use Rattle.checkpoints.proofs.Splitting.{page_cut, before_is, next_is_held, held_later, extended_twice, pages_later, below_more}
+use Rattle.checkpoints.proofs.Splitting.{page_cut, before_is, next_is_held, held_later, extended_none, extended_twice, pages_later, below_later, below_more, nonempty, all_places}
 use Rattle.checkpoints.proofs.paging.split.Goals as goal
 
 pub returns-in_err-push-clause-extended : goal.returns-in_err-push-clause-extended
@@ -34,3 +34,45 @@ loop-place-preserved c =
           let all : length c.number_at.new.pages ≡ length c.args.pages.now + changed_among (suc place) window bytes = omega (arith, c.in_ok-number.ensures.count (subst (IsHeldUntouched c.is_touched.result c.loop-place.pages before place) (sym cut) (untouched others)), so_far.count window others are, one) in
           all ∙ ap (λ (n : ℕ). length c.args.pages.now + changed_among n window bytes) (sym (add-one place));
     }
+
+pub loop-place-init : goal.loop-place-init
+loop-place-init c =
+    let none = ap length c.in_ok-numbers.ensures.items in
+    record {
+      long = none;
+      below = λ k d h. absurd (omega (arith, h, none));
+      extended = extended_none c.args.pages.now;
+      each = λ others k h. absurd (omega (arith, h));
+      count = λ window others are. omega arith;
+    }
+
+pub number_at-requires-clause-held : goal.number_at-requires-clause-held
+number_at-requires-clause-held c = below_later c.args.pages.now c.loop-place.pages c.args.before.now c.loop-place.invariant.extended c.requires.held
+
+pub number_at-requires-clause-some : goal.number_at-requires-clause-some
+number_at-requires-clause-some c =
+    let bytes = c.args.bytes.now in
+    let place = c.loop-place.place in
+    let below = subst (λ (n : ℕ). place < n) c.div_ceil-count.ensures c.loop-place-test.true in
+    subst (λ (bytes : List ℕ). 0 < length bytes) (sym (page_cut bytes place c.min-past.result c.min-past.ensures)) (nonempty bytes place below)
+
+pub returns-in_err-number-clause-extended : goal.returns-in_err-number-clause-extended
+returns-in_err-number-clause-extended c = extended_twice c.args.pages.now c.loop-place.pages c.number_at.new.pages c.loop-place.invariant.extended c.number_at.ensures.extended
+
+pub returns-clause-below : goal.returns-clause-below
+returns-clause-below c = c.loop-place.invariant.below
+
+pub returns-clause-paged : goal.returns-clause-paged
+returns-clause-paged c others =
+    let so_far = c.loop-place.invariant in
+    let all = all_places c.args.bytes.now c.div_ceil-count.result c.loop-place.place c.div_ceil-count.ensures c.loop-place-test.false c.loop-place.auto.place-end in
+    record { count = so_far.long ∙ all; each = λ k h. so_far.each others k (subst (λ (n : ℕ). k < n) so_far.long h) }
+
+pub returns-clause-extended : goal.returns-clause-extended
+returns-clause-extended c = c.loop-place.invariant.extended
+
+pub returns-clause-count : goal.returns-clause-count
+returns-clause-count c window others are =
+    let bytes = c.args.bytes.now in
+    let all = all_places bytes c.div_ceil-count.result c.loop-place.place c.div_ceil-count.ensures c.loop-place-test.false c.loop-place.auto.place-end in
+    c.loop-place.invariant.count window others are ∙ ap (λ (n : ℕ). length c.args.pages.now + changed_among n window bytes) all

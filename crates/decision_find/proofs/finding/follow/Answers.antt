@@ -1,16 +1,13 @@
-use Rattle.std.proofs.Common.{◌≡◌, ℕ, ap, sym, ◌∙◌, subst, arith}
-use Rattle.replayer.specs.Jobs.{Job}
-use Rattle.decision_find.specs.Following.{IsTracked, moment_of}
+use Rattle.std.proofs.Common.{sym, subst}
+use Rattle.report_model.specs.Query.{Query}
+use Rattle.decision_find.specs.Following.{IsTracked, HasDecisions}
 use Rattle.decision_find.proofs.finding.follow.Goals as goal
 
-pub loop-step-init : goal.loop-step-init
-loop-step-init c =
-    let begun = c.in_ok-cursor.ensures in
-    let first : c.in_ok-cursor.cursor.time ≡ 0 = ap (λ k. k.time) begun in
-    let job : c.in_ok-cursor.cursor.job ≡ c.args.job.now = ap (λ k. k.job) begun in
-    record {
-      job = job;
-      below = omega (arith, first);
-      pc = c.pc-pc.ensures ∙ ap (λ (j : Job). (moment_of j c.in_ok-cursor.cursor.time).state.pc) job;
-      tracked = subst (λ (n : ℕ). IsTracked c.args.query.now c.args.job.now n c.in_ok-tracking.tracking) (sym first) (c.in_ok-tracking.ensures c.args.job.now);
-    }
+pub follow_all-requires : goal.follow_all-requires
+follow_all-requires c =
+    let tracked = c.in_ok-tracking.ensures c.args.job.now in
+    subst (λ (q : Query). IsTracked q c.args.job.now 0 c.in_ok-tracking.tracking) (sym tracked.query) tracked
+
+pub returns-in-Ok : goal.returns-in-Ok
+returns-in-Ok c =
+    subst (λ (q : Query). HasDecisions q c.args.job.now c.follow_all.new.tracking) (c.in_ok-tracking.ensures c.args.job.now).query c.in-Ok.ensures

@@ -7,8 +7,8 @@ use Rattle.decision_find.proofs.Counted.{found_at}
 use Rattle.decision_find.proofs.Written.{compared_total, lines_of, text_is}
 use Rattle.decision_find.proofs.writing.text.Goals as goal
 
-pub sources_of-requires : goal.sources_of-requires
-sources_of-requires c =
+pub push_group-requires : goal.push_group-requires
+push_group-requires c =
     let groups = c.args.tracking.now.groups.by_place in
     let gives = c.into_iter-place-iterator.ensures.into_iter_gives in
     let turn = btree_map_turn deref_pair c.loop-place.yielded c.into_iter-place-iterator.result c.loop-place.place-iterator c.next.new.self c.next.result

@@ -1,17 +1,25 @@
-use Rattle.std.proofs.Common.{refl}
-use Rattle.std.proofs.lemmas.Result.{IfOk-weaker}
-use Rattle.clap.specs.Words.{app_of}
-use Rattle.jet_words.proofs.Made.{with_one}
+use Rattle.jet_words.proofs.Made.{more_subcommand}
 use Rattle.jet_words.proofs.command_line.with_products.Goals as goal
 
+pub and_made-command-requires : goal.and_made-command-requires
+and_made-command-requires c = c.program_and_log.ensures.globals
+
+pub and_made-command-requires-2 : goal.and_made-command-requires-2
+and_made-command-requires-2 c = c.program_and_log-2.ensures.globals
+
+pub and_made-command-requires-3 : goal.and_made-command-requires-3
+and_made-command-requires-3 c = c.channel_command.ensures.globals
+
+pub and_made-command-requires-4 : goal.and_made-command-requires-4
+and_made-command-requires-4 c = c.channel_command-2.ensures.globals
+
+pub and_made-requires : goal.and_made-requires
+and_made-requires c = c.stack_command.ensures.globals
+
 pub returns : goal.returns
-returns c = IfOk-weaker c.with_made-5.result _ _ (λ m h. with_one c.stack_command.result _ _ _ _
-    (with_one c.channel_command-2.result _ _ _ _
-    (with_one c.channel_command.result _ _ _ _
-    (with_one c.program_and_log-2.result _ _ _ _
-    (with_one c.program_and_log.result _ _ (app_of c.args.command) _ refl c.program_and_log.ensures.app c.in_ok-command.ensures)
-    c.program_and_log-2.ensures.app c.in_ok-command-2.ensures)
-    c.channel_command.ensures.app c.in_ok-command-3.ensures)
-    c.channel_command-2.ensures.app c.in_ok-command-4.ensures)
-    c.stack_command.ensures.app h)
-    c.with_made-5.ensures
+returns c = λ app is. more_subcommand _ _ _ _ _ (more_subcommand _ _ _ _ _ (more_subcommand _ _ _ _ _ (more_subcommand _ _ _ _ _ (more_subcommand _ _ _ _ _ is
+    c.program_and_log.ensures.app c.and_made-command.ensures)
+    c.program_and_log-2.ensures.app c.and_made-command-2.ensures)
+    c.channel_command.ensures.app c.and_made-command-3.ensures)
+    c.channel_command-2.ensures.app c.and_made-command-4.ensures)
+    c.stack_command.ensures.app c.and_made.ensures

@@ -10,8 +10,8 @@ numbers : (named : Option (Text × List Row)) → IsSomeAnd named IsSound → If
 numbers None sound = tt
 numbers (Some p) sound = sound.numbers
 
-pub command_by_subcommand-requires : goal.command_by_subcommand-requires
-command_by_subcommand-requires c =
+pub command_by_subcommand-command-requires : goal.command_by_subcommand-command-requires
+command_by_subcommand-command-requires c =
     let words : List Text = map string_bytes c.args.words.now in
     subst (λ (o : Option (Text × List Row)). IfSome o HasNumbers) (sym c.in_ok-matches.ensures.subcommand) (numbers _ (taken_sound words c.in_ok-matches.ensures.taken))
 

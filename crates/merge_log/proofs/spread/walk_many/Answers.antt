@@ -1,8 +1,36 @@
-use Rattle.std.proofs.Common.{arith, ◌≡◌, ◌<◌, ◌∙◌, ℕ, ap, sym, subst, List, length, slice_index, slice_set}
+use Rattle.std.proofs.Common.{arith, refl, ◌≡◌, ◌<◌, ◌≤◌, ◌∙◌, ℕ, ap, sym, subst, List, length, slice_index, slice_set}
 use Rattle.std.proofs.lemmas.List.{length-set}
 use Rattle.merge_log.specs.Masks.{HasBit, IsClearFrom, IsCover, IsLeftToo, found_at}
-use Rattle.merge_log.proofs.Covering.{clear_taken, nothing_cover, taken_cover}
+use Rattle.merge_log.proofs.Covering.{clear_taken, cover_ends, first_cover, no_bit, nothing_cover, taken_cover}
 use Rattle.merge_log.proofs.spread.walk_many.Goals as goal
+
+pub loop-node-init : goal.loop-node-init
+loop-node-init c =
+    let log = c.args.log.now in
+    let masks = c.add_roots-past.new.masks.masks.items in
+    record {
+      below = c.add_roots-past.ensures.past;
+      room = subst (λ (n : ℕ). length log < n) (sym c.add_roots-past.ensures.room) c.requires.room;
+      clear = c.add_roots-past.ensures.above;
+      sets = c.requires.sets;
+      covers = λ r h. first_cover log (slice_index c.args.roots.now r) masks r (found_at c.args.found.now.items r) (c.requires.empty r) (c.add_roots-past.ensures.only r) (c.add_roots-past.ensures.all r h);
+    }
+
+pub spread-requires-clause-clear : goal.spread-requires-clause-clear
+spread-requires-clause-clear c =
+    let masks = c.last_below.new.self.masks.items in
+    let node = c.in-Some.node in
+    let node_in : node < length masks = omega (arith, ap length c.in-Some.ensures.kept, c.in-Some.ensures.below, c.loop-node.invariant.below, c.loop-node.invariant.room) in
+    subst (λ (ms : List ℕ). IsClearFrom ms node) (sym c.take-mask.ensures.taken) (clear_taken masks node node_in c.in-Some.ensures.last)
+
+pub spread-requires-clause-few : goal.spread-requires-clause-few
+spread-requires-clause-few c = subst (λ (n : ℕ). n ≤ 64) (sym c.loop-node.invariant.sets) c.requires.few
+
+pub returns-clause-found : goal.returns-clause-found
+returns-clause-found c r q h =
+    let masks = c.loop-node.masks.masks.items in
+    let none : IsClearFrom masks 0 = subst (λ (ms : List ℕ). IsClearFrom ms 0) c.in_default.ensures.kept (c.in_default.ensures.none refl) in
+    cover_ends c.args.log.now (slice_index c.args.roots.now r) (HasBit masks r) (found_at c.loop-node.found.items r) (λ m k. no_bit masks 0 r m (omega arith) none k) (c.loop-node.invariant.covers r h) q
 
 pub loop-node-preserved-in-Continue-1 : goal.loop-node-preserved-in-Continue-1
 loop-node-preserved-in-Continue-1 c =

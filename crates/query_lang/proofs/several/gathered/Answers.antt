@@ -1,8 +1,11 @@
+use Rattle.std.proofs.Common.{List, ◌++◌, length, arith, ap}
+use Rattle.std.specs.List.{flat_map}
 use Rattle.std.proofs.lemmas.Result.{IfOk-weaker}
-use Rattle.report_model.specs.Query.{Alike}
+use Rattle.flow_model.specs.declared.InnerSink.{InnerSink}
+use Rattle.report_model.specs.Query.{Query, Alike}
 use Rattle.report_model.specs.Together.{together}
-use Rattle.query_lang.specs.Drafts.{query_by}
-use Rattle.query_lang.proofs.GatherLemmas.{all_gathered}
+use Rattle.query_lang.specs.Drafts.{choices_in, query_by}
+use Rattle.query_lang.proofs.GatherLemmas.{none_yet, chosen_on, points_on, located_on, all_gathered}
 use Rattle.query_lang.proofs.several.gathered.Goals as goal
 
 pub returns : goal.returns
@@ -11,3 +14,33 @@ returns c =
     let points = before.points.items in
     IfOk-weaker c.of.result (λ q. Alike q (query_by c.args.rule before.sources before.sinks points)) (λ q. Alike q (together c.args.queries.now))
     (λ q a. all_gathered c.args.queries.now before.query-index c.args.rule before.sources before.sinks points q c.loop-query-test.false c.requires before.invariant.sources before.invariant.sinks before.invariant.points a) c.of.ensures
+
+pub loop-query-init : goal.loop-query-init
+loop-query-init c =
+    let queries = c.args.queries.now in
+    let none = c.new-points.ensures.items in
+    record {
+      sources = none_yet _ (flat_map (λ (q : Query). q.sources) queries) c.new-sources.ensures;
+      sinks = none_yet _ (flat_map (λ (q : Query). q.sinks) queries) c.new-sinks.ensures;
+      points = ap (λ (xs : List InnerSink). xs ++ flat_map (λ (q : Query). q.points) queries) none;
+      located = λ k d below. absurd (omega (arith, below, ap length none));
+    }
+
+pub loop-query-preserved : goal.loop-query-preserved
+loop-query-preserved c =
+    let queries = c.args.queries.now in
+    let before = c.loop-query in
+    let i = before.query-index in
+    let query = c.query-item.result in
+    let new = c.add_to.new in
+    let added = c.in_ok-add_to.ensures in
+    let so_far = before.invariant in
+    record {
+      sources = chosen_on (λ q. q.sources) queries i query (choices_in before.sources) (choices_in new.sources) c.loop-query-test.true c.query-item.is added.sources so_far.sources;
+      sinks = chosen_on (λ q. q.sinks) queries i query (choices_in before.sinks) (choices_in new.sinks) c.loop-query-test.true c.query-item.is added.sinks so_far.sinks;
+      points = points_on queries i query before.points.items new.points.items c.loop-query-test.true c.query-item.is added.points so_far.points;
+      located = located_on before.points.items query.points new.points.items added.points so_far.located added.located;
+    }
+
+pub of-requires : goal.of-requires
+of-requires c = c.loop-query.invariant.located

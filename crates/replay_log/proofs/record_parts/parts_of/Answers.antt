@@ -1,7 +1,28 @@
 use Rattle.std.proofs.Common.{◌≡◌, ℕ, ◌-◌, ◌<◌, ◌≤◌, ◌++◌, length, drop, sym, ap, subst, ◌∙◌, arith}
 use Rattle.std.proofs.lemmas.List.{take_rest, length-drop}
-use Rattle.replay_log.proofs.RecordParts.{IsBegun, cut_parts, are_parts, result_fault, bytes_fault, short_fault}
+use Rattle.replay_log.specs.Tags.{number}
+use Rattle.replay_log.proofs.RecordParts.{fields_there, step_there, IsBegun, cut_parts, are_parts, result_fault, bytes_fault, short_fault}
 use Rattle.replay_log.proofs.record_parts.parts_of.Goals as goal
+
+pub step_of-at-requires : goal.step_of-at-requires
+step_of-at-requires c =
+    step_there c.args.version c.args.rest.now (number c.in-Some-of.tag) _ c.fixed_length-fixed.ensures c.if-rest-fixed.false
+
+pub fields_of-fields-requires : goal.fields_of-fields-requires
+fields_of-fields-requires c =
+    step_there c.args.version c.args.rest.now (number c.in-Some-of.tag) _ c.fixed_length-fixed.ensures c.if-rest-fixed.false
+
+pub is_outcome_wrong-requires : goal.is_outcome_wrong-requires
+is_outcome_wrong-requires c =
+    fields_there c.args.version c.args.rest.now (number c.in-Some-of.tag) _ _ c.fixed_length-fixed.ensures c.if-rest-fixed.false c.fields_of-fields.ensures
+
+pub are_bytes_wrong-requires : goal.are_bytes_wrong-requires
+are_bytes_wrong-requires c =
+    fields_there c.args.version c.args.rest.now (number c.in-Some-of.tag) _ _ c.fixed_length-fixed.ensures c.if-rest-fixed.false c.fields_of-fields.ensures
+
+pub length_of_data-length-requires : goal.length_of_data-length-requires
+length_of_data-length-requires c =
+    fields_there c.args.version c.args.rest.now (number c.in-Some-of.tag) _ _ c.fixed_length-fixed.ensures c.if-rest-fixed.false c.fields_of-fields.ensures
 
 pub returns-then-is_outcome_wrong-clause-fault : goal.returns-then-is_outcome_wrong-clause-fault
 returns-then-is_outcome_wrong-clause-fault c =

@@ -1,12 +1,42 @@
-use Rattle.std.proofs.Common.{◌≡◌, ◌++◌, List, ap, sym, ◌∙◌, subst, arith}
-use Rattle.std.proofs.lemmas.List.{drop_all}
+use Rattle.std.proofs.Common.{◌≡◌, ℕ, ◌+◌, ◌++◌, ◌∷◌, List, ap, sym, ◌∙◌, subst, get_or, drop, arith}
+use Rattle.std.proofs.lemmas.List.{drop_all, drop_more}
 use Rattle.sorted_set.specs.Sets.{Ascends, has}
 use Rattle.flow_model.specs.Orders.{source_cmp}
 use Rattle.source_runs.specs.declared.runs.SourceRun.{SourceRun}
 use Rattle.source_runs.specs.Runs.{all_bytes, AreLongest}
-use Rattle.source_runs.proofs.Joined.{joined_from, joined_all, joined_all_members, joined_all_ascends, joined_all_longest}
+use Rattle.source_runs.proofs.Joined.{joined_from, joined_all, next_joined, next_apart, joined_all_members, joined_all_ascends, joined_all_longest}
 use Rattle.source_runs.proofs.joining.join_sorted.Goals as goal
-use Rattle.source_runs.proofs.joining.join_sorted.Goals.{In_ok-push-2}
+use Rattle.source_runs.proofs.joining.join_sorted.Goals.{In_ok-push-2, then-goes_on, else-goes_on+in_ok-push}
+
+abbrev none : SourceRun
+none = record { channel = 0; first = 0; last = 0 }
+
+pub loop-run-init : goal.loop-run-init
+loop-run-init c =
+    ap (λ (rs : List SourceRun). rs ++ joined_from c.in-Some.first.now c.in-Some.more.now) c.requires.none
+    ∙ ap joined_all (sym c.in-Some.ensures.cases.0)
+
+pub loop-run-preserved : goal.loop-run-preserved
+loop-run-preserved c =
+    let more = c.in-Some.more.now in
+    let index = c.loop-run.run-index in
+    let joined = c.loop-run.joined.items in
+    let current = c.loop-run.current in
+    let run = get_or more index none in
+    let rest = drop (index + 1) more in
+    let all = joined_all c.args.runs.now in
+    let before : joined ++ joined_from current (run ∷ rest) ≡ all =
+    ap (λ (rs : List SourceRun). joined ++ joined_from current rs) (sym (drop_more more index none c.loop-run-test.true)) ∙ c.loop-run.invariant in
+    elim c.if-goes_on.branch [
+      | then-goes_on w ↦
+          rw (w.joined-is, w.current-is)
+          (ap (λ (last : ℕ). joined ++ joined_from (record { channel = current.channel; first = current.first; last = last }) rest) w.max.ensures
+          ∙ next_joined joined current run rest all (sym c.goes_on.ensures ∙ w.if-goes_on.true) before)
+      | else-goes_on+in_ok-push w ↦
+          rw (w.joined-is, w.current-is)
+          (ap (λ (rs : List SourceRun). rs ++ joined_from run rest) w.in_ok-push.ensures.items
+          ∙ next_apart joined current run rest all (sym c.goes_on.ensures ∙ w.if-goes_on.false) before)
+    ]
 
 -- with the last run pushed, all are joined
 all_joined : (c : In_ok-push-2) → c.push-2.new.self.items ≡ joined_all c.args.runs.now

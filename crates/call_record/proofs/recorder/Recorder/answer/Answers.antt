@@ -1,8 +1,8 @@
 use Rattle.std.proofs.Common.{rules, arith, ◌<◌, ◌^◌, inr, [], ap, sym, ◌∙◌}
 use Rattle.isa.specs.declared.Call.{Call}
 use Rattle.call_record.specs.Steps.{point_of}
-use Rattle.call_record.proofs.Calls.{other_records}
-use Rattle.call_record.proofs.SoFar.{tells_none}
+use Rattle.call_record.proofs.Calls.{waits_for, other_records}
+use Rattle.call_record.proofs.SoFar.{tells_none, gained_none}
 use Rattle.call_record.proofs.recorder.Recorder.answer.Goals as goal
 
 pub returns-in_ok-other-in-Other-clause-ok : goal.returns-in_ok-other-in-Other-clause-ok
@@ -20,3 +20,42 @@ returns-in_ok-other-in-Other-clause-ok g c =
             c.in_ok-other-in-Other.ensures;
       });
     }
+
+pub read-requires : goal.read-requires
+read-requires g c = record {
+  waits = waits_for c.requires.called c.in-Read.is;
+  source = c.requires.source;
+  safe = c.requires.safe;
+  early = c.requires.early;
+}
+
+pub returns-in_ok-read-in-Read-clause-ok : goal.returns-in_ok-read-in-Read-clause-ok
+returns-in_ok-read-in-Read-clause-ok g c = record {
+  values = [];
+  gained = tells_none (g.K.Clock.answers c.args.clock.now);
+  step = inr (record { called = c.requires.called.called; records = c.in_ok-read-in-Read.ensures });
+}
+
+pub write-requires : goal.write-requires
+write-requires g c = record {
+  waits = waits_for c.requires.called c.in-Write.is;
+  source = c.requires.source;
+  safe = c.requires.safe;
+  early = c.requires.early;
+}
+
+pub returns-in_ok-write-in-Write-clause-ok : goal.returns-in_ok-write-in-Write-clause-ok
+returns-in_ok-write-in-Write-clause-ok g c = record {
+  values = [];
+  gained = tells_none (g.K.Clock.answers c.args.clock.now);
+  step = inr (record { called = c.requires.called.called; records = c.in_ok-write-in-Write.ensures });
+}
+
+pub returns-in_err-read-in-Read-clause-gained : goal.returns-in_err-read-in-Read-clause-gained
+returns-in_err-read-in-Read-clause-gained g c = gained_none c.from_residual.result (g.K.Clock.answers c.args.clock.now)
+
+pub returns-in_err-write-in-Write-clause-gained : goal.returns-in_err-write-in-Write-clause-gained
+returns-in_err-write-in-Write-clause-gained g c = gained_none c.from_residual-in_err-write-in-Write.result (g.K.Clock.answers c.args.clock.now)
+
+pub returns-in_err-other-in-Other-clause-gained : goal.returns-in_err-other-in-Other-clause-gained
+returns-in_err-other-in-Other-clause-gained g c = gained_none c.from_residual-in_err-other-in-Other.result (g.K.Clock.answers c.args.clock.now)

@@ -1,11 +1,14 @@
-use Rattle.std.proofs.Common.{◌≡◌, ◌<◌, Some, length, map, arith, ap, sym, ◌∙◌}
+use Rattle.std.proofs.Common.{◌≡◌, ℕ, ◌<◌, List, Some, length, map, arith, ap, sym, ◌∙◌, subst}
+use Rattle.std.specs.List.{All}
 use Rattle.std.specs.Prelude.{slice_get}
 use Rattle.std.proofs.lemmas.List.{length-map}
 use Rattle.std.specs.Option.{option_map}
 use Rattle.std.proofs.lemmas.Option.{slice_get-map, slice_get-get_or}
 use Rattle.replayer.specs.Positions.{CursorAt}
-use Rattle.replayer.specs.Saved.{SavedCursor}
+use Rattle.replayer.specs.Saved.{SavedCursor, IsOfJob}
+use Rattle.checkpoints.specs.Pages.{ArePagesOf}
 use Rattle.checkpoints.specs.Points.{CheckpointsAt, CheckpointAt, time_of}
+use Rattle.checkpoints.proofs.Holding.{index_below, checkpoint_at, numbers_below, size_again, saved_again}
 use Rattle.checkpoints.proofs.checkpoints.Checkpoints.start.Goals as goal
 
 pub returns-clause-time : goal.returns-clause-time
@@ -20,3 +23,43 @@ returns-clause-time c =
     ∙ ap (λ (p : CheckpointAt). Some (time_of p)) (sym c.index-point.ensures ∙ sym c.point.view_is)
     ∙ ap (λ (s : SavedCursor). Some s.counters.time) (sym c.whole.ensures)
     ∙ ap (λ (p : CursorAt). Some p.time) (sym c.from-cursor.ensures ∙ sym c.keep_decoded.ensures)
+
+pub join-requires : goal.join-requires
+join-requires c =
+    let fields = c.point.inside in
+    let point : CheckpointAt = record { numbers = fields.numbers.items; rest = fields.rest } in
+    let pages = c.self.inside.pages in
+    let points = c.self.inside.points.items in
+    let job = c.self.inside.job.now in
+    let below = index_below job points c.args.self.now c.args.k c.self.view_is c.requires in
+    let here = checkpoint_at job pages points c.args.k point c.index-point.result.now c.self.invariant below c.index-point.ensures c.point.view_is in
+    subst (All (λ (number : ℕ). number < length pages)) (sym c.as_slice.ensures.value) (numbers_below pages point.numbers here.saved.machine.memory here.paged)
+
+pub whole-requires : goal.whole-requires
+whole-requires c =
+    let fields = c.point.inside in
+    let point : CheckpointAt = record { numbers = fields.numbers.items; rest = fields.rest } in
+    let pages = c.self.inside.pages in
+    let points = c.self.inside.points.items in
+    let job = c.self.inside.job.now in
+    let below = index_below job points c.args.self.now c.args.k c.self.view_is c.requires in
+    let here = checkpoint_at job pages points c.args.k point c.index-point.result.now c.self.invariant below c.index-point.ensures c.point.view_is in
+    size_again job pages point here c.in_ok-bytes.bytes.items
+    (λ window are. c.in_ok-bytes.ensures window (subst (λ (numbers : List ℕ). ArePagesOf pages numbers window) (sym c.as_slice.ensures.value) are))
+
+pub from-cursor-requires : goal.from-cursor-requires
+from-cursor-requires c =
+    let fields = c.point.inside in
+    let point : CheckpointAt = record { numbers = fields.numbers.items; rest = fields.rest } in
+    let pages = c.self.inside.pages in
+    let points = c.self.inside.points.items in
+    let job = c.self.inside.job.now in
+    let below = index_below job points c.args.self.now c.args.k c.self.view_is c.requires in
+    let here = checkpoint_at job pages points c.args.k point c.index-point.result.now c.self.invariant below c.index-point.ensures c.point.view_is in
+    let again = saved_again job pages point here c.in_ok-bytes.bytes.items
+    (λ window are. c.in_ok-bytes.ensures window (subst (λ (numbers : List ℕ). ArePagesOf pages numbers window) (sym c.as_slice.ensures.value) are)) in
+    subst (IsOfJob job) (sym (c.whole.ensures ∙ again)) here.of_job
+
+pub returns-clause-job : goal.returns-clause-job
+returns-clause-job c =
+    ap (λ (p : CursorAt). p.job) (c.in_ok-keep_decoded.ensures ∙ c.from-cursor.ensures) ∙ ap (λ (p : CheckpointsAt). p.job) c.self.view_is

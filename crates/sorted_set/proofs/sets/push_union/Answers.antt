@@ -1,8 +1,8 @@
 use Rattle.std.proofs.Common.{arith, ap, ap₂, ◌∙◌, ◌++◌, List}
 use Rattle.std.proofs.lemmas.List.{take_rest}
 use Rattle.sorted_set.proofs.Places.{left_pushed, both_pushed, right_pushed, rest_of_left, rest_of_right}
-use Rattle.sorted_set.proofs.sets.merged.Goals as goal
-use Rattle.sorted_set.proofs.sets.merged.Goals.{then-loop-i-test+else-j-right, else-loop-i-test}
+use Rattle.sorted_set.proofs.sets.push_union.Goals as goal
+use Rattle.sorted_set.proofs.sets.push_union.Goals.{then-loop-i-test+else-j-right, else-loop-i-test}
 
 pub loop-i-preserved-in-Less : goal.loop-i-preserved-in-Less
 loop-i-preserved-in-Less g c = record {

@@ -1,0 +1,19 @@
+use Rattle.jet_words.proofs.Made.{more_rule}
+use Rattle.jet_words.proofs.command_line.and_pipeline.Goals as goal
+
+pub and_argument-command-requires : goal.and_argument-command-requires
+and_argument-command-requires c = record { arg = c.optional_number.ensures.local; command = c.requires }
+
+pub and_argument-command-requires-2 : goal.and_argument-command-requires-2
+and_argument-command-requires-2 c = record { arg = c.number_option.ensures.local; command = c.and_argument-command.ensures.globals }
+
+pub and_argument-requires : goal.and_argument-requires
+and_argument-requires c = record { arg = c.number_option-2.ensures.local; command = c.and_argument-command-2.ensures.globals }
+
+pub returns : goal.returns
+returns c = record {
+  app = λ app is. more_rule _ _ _ _ _ (more_rule _ _ _ _ _ (more_rule _ _ _ _ _ is c.optional_number.ensures.rule c.and_argument-command.ensures.app)
+      c.number_option.ensures.rule c.and_argument-command-2.ensures.app)
+      c.number_option-2.ensures.rule c.and_argument.ensures.app;
+  globals = c.and_argument.ensures.globals;
+}

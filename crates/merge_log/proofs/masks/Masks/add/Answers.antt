@@ -1,0 +1,28 @@
+use Rattle.std.proofs.Common.{ℕ, ap, arith}
+use Rattle.std.specs.Int.RustNames.{bit_or}
+use Rattle.std.proofs.Math.ListN.{set}
+use Rattle.std.proofs.lemmas.List.{get_or_read}
+use Rattle.merge_log.proofs.Blocks.{block_in, block_marked, below_marked}
+use Rattle.merge_log.proofs.masks.Masks.add.Goals as goal
+
+pub index_mut-requires : goal.index_mut-requires
+index_mut-requires c = omega (arith, c.requires, c.args.self.now.masks.ok.0)
+
+pub index_mut-requires-2 : goal.index_mut-requires-2
+index_mut-requires-2 c =
+    let s = c.args.self.now in
+    omega (arith, block_in s.masks.items s.blocks.items c.args.node s.marked c.requires, s.blocks.ok.0)
+
+pub invariant_of-self : goal.invariant_of-self
+invariant_of-self c =
+    let s = c.args.self.now in
+    record {
+      marked = block_marked s.masks.items s.blocks.items c.args.node _ s.marked c.requires;
+      below = below_marked s.masks.items s.first c.args.node _ c.min-self.result s.below c.min-self.ensures;
+    }
+
+pub returns : goal.returns
+returns c =
+    let s = c.args.self.now in
+    let node = c.args.node in
+    ap (λ (mask : ℕ). set s.masks.items node (bit_or mask c.args.mask)) (get_or_read s.masks.items node c.index_mut.result.now c.requires c.index_mut.ensures.value 0)
