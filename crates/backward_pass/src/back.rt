@@ -18,7 +18,6 @@ use std::alloc::Global;
 /// It is broken where there is no summary, once it was refused memory, and once a broken End came. Then it asks
 /// nothing more, takes what comes, and ends, not whole. Only an event that walks a sink or takes a request takes
 /// memory, and only while it is whole.
-#[derive(Drop)]
 pub struct Back {
     alloc: Global,
     epoch: Knowledge,
@@ -40,6 +39,14 @@ pub struct Back {
     // The End was sent.
     over: bool,
     ghost of_epoch: { IsOfEpoch epoch ahead },
+}
+
+// Written out: where a value that has one is let go, a derived drop is proved anew, with all that is below it.
+impl Drop for Back {
+    /// Lets all its parts go.
+    fn drop(self) {
+        let (_summary, _asked, _requests) = self.into_parts();
+    }
 }
 
 impl Back {
@@ -79,7 +86,21 @@ impl Back {
         ensures { (result.0 ≡ (back_of self).summary) × (result.1 ≡ (back_of self).asked)
             × (result.2.items ≡ (back_of self).requests) }
     {
-        (self.epoch.into_summary(), self.asked, self.requests)
+        let Back {
+            alloc: _,
+            epoch,
+            first: _,
+            last: _,
+            reader: _reader,
+            ahead: _ahead,
+            walked: _,
+            asked,
+            pushed: _,
+            requests,
+            heard: _,
+            over: _,
+        } = self;
+        (epoch.into_summary(), asked, requests)
     }
 
     /// The pass breaks, and forgets what it asked.

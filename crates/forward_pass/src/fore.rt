@@ -4,7 +4,7 @@ ghost use Rattle.std.specs.Prelude.{◌≡◌, [], Option, List, true, false, So
 ghost use Rattle.flow_model.specs.declared.Loc.{Loc};
 ghost use Rattle.flow_rule.specs.declared.Message.{Message};
 ghost use Rattle.epoch_model.specs.Join.{answer_to, resolved as resolved_terms};
-ghost use Rattle.stream_model.specs.Passes.{is_whole_message, rows_or_none};
+ghost use Rattle.stream_model.specs.Passes.{is_whole_message};
 ghost use Rattle.local_taint.specs.Ahead.{IsAhead};
 ghost use Rattle.pass_parts.specs.Ends.{IsEndFrom, Seen, fresh_end};
 ghost use Rattle.pass_parts.specs.Events.{IsEventOver, HasWaited};
@@ -26,7 +26,6 @@ use no_memory::NoMemory;
 use pass_parts::{
     Knowledge, Next, PassTurn, Requests, pop_message, push_message, read_end_terms, share_end_terms,
 };
-use sink_collect::SinkSets;
 use std::alloc::Global;
 use std::mem;
 
@@ -126,30 +125,6 @@ impl Fore {
         if let Ok(rows) = made {
             drop(mem::replace(&mut self.rows, SinkRows::Made(rows)));
         }
-    }
-
-    /// The rows of the epoch's sinks, none if they were not resolved, and what was asked. Rows that are due are made, which
-    /// fails only where there is no memory.
-    pub fn into_sets(self) -> (Result<SinkSets, NoMemory>, Asked)
-        ensures rows { IfOk result.0 (λ sets. sets ≡ rows_or_none (fore_of self).rows) }
-        ensures asked { result.1 ≡ (fore_of self).asked }
-    {
-        let Fore {
-            epoch,
-            asked,
-            requests,
-            received,
-            rows,
-            mut reader,
-            ..
-        } = self;
-        let alloc = *requests.allocator();
-        let sets = match rows {
-            SinkRows::Unresolved => Ok(SinkSets::from_vec(Vec::new(alloc))),
-            SinkRows::Due => make_rows(alloc, &mut reader, &epoch, &asked, received.answers()),
-            SinkRows::Made(sets) => Ok(sets),
-        };
-        (sets, asked)
     }
 
     /// The next event. NotYet only where the one link that it needs refused in this call, and then nothing else
