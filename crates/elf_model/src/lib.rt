@@ -6,60 +6,42 @@
 
 pub mod laws;
 
-use std::error;
-use std::fmt::{self, Display, Formatter, Write};
 use thiserror::Error;
 
 /// Why a file is no image: the first of these ten faults that holds, in this order.
-#[derive(Clone, Copy, Debug, PartialEq, Eq)]
+#[derive(Clone, Copy, Debug, PartialEq, Eq, Error)]
 pub enum ImageKind {
     /// The file has fewer than the 52 bytes of an ELF header.
+    #[error("the file is shorter than an ELF header")]
     Short,
     /// `e_ident` doesn't begin with 7f 45 4c 46.
+    #[error("the file doesn't begin as an ELF file")]
     Magic,
     /// The class isn't ELFCLASS32, the data isn't ELFDATA2LSB, or the version isn't EV_CURRENT.
+    #[error("the file isn't ELF32, little-endian, of version 1")]
     Class,
     /// `e_type` isn't ET_EXEC.
+    #[error("the file is no executable")]
     Kind,
     /// `e_machine` isn't 243, RISC-V.
+    #[error("the machine isn't RISC-V")]
     Machine,
     /// `e_version`, `e_ehsize`, `e_phentsize` or the program header table is wrong.
+    #[error("the ELF header is wrong")]
     Header,
     /// There is a PT_DYNAMIC or PT_INTERP entry.
+    #[error("the file is dynamically linked")]
     Dynamic,
     /// A loaded segment doesn't lie in the file, in the address space, or above the one before it.
+    #[error("a loaded segment is wrong")]
     Segment,
     /// No segment is loaded.
+    #[error("no segment is loaded")]
     NoSegment,
     /// `e_entry` isn't a multiple of 4, or lies in no loaded segment.
+    #[error("the entry point is wrong")]
     Entry,
 }
-
-impl ImageKind {
-    /// What the fault says of the file.
-    fn text(&self) -> &'static str {
-        match self {
-            ImageKind::Short => "the file is shorter than an ELF header",
-            ImageKind::Magic => "the file doesn't begin as an ELF file",
-            ImageKind::Class => "the file isn't ELF32, little-endian, of version 1",
-            ImageKind::Kind => "the file is no executable",
-            ImageKind::Machine => "the machine isn't RISC-V",
-            ImageKind::Header => "the ELF header is wrong",
-            ImageKind::Dynamic => "the file is dynamically linked",
-            ImageKind::Segment => "a loaded segment is wrong",
-            ImageKind::NoSegment => "no segment is loaded",
-            ImageKind::Entry => "the entry point is wrong",
-        }
-    }
-}
-
-impl Display for ImageKind {
-    fn fmt<W: Write>(&self, f: &mut Formatter<W>) -> fmt::Result {
-        f.write_str(self.text())
-    }
-}
-
-impl error::Error for ImageKind {}
 
 /// A window of so many pages of 4096 bytes can't hold an image: it would end past 2^32, or a segment ends past it.
 #[derive(Clone, Copy, Debug, Error)]
