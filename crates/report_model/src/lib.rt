@@ -12,58 +12,40 @@
 pub mod laws;
 
 use flow_model::Rule;
-use std::error;
-use std::fmt::{self, Display, Formatter, Write};
 use thiserror::Error;
 
 /// The faults of a query's text. In a line the first that holds, in this order; NoRule comes after all
 /// lines.
-#[derive(Clone, Copy, Debug, PartialEq, Eq)]
+#[derive(Clone, Copy, Debug, PartialEq, Eq, Error)]
 pub enum QueryKind {
     /// A byte other than tab and 0x20 to 0x7e, outside a comment.
+    #[error("a byte that no line may have")]
     BadByte,
     /// The first word is none of `rule`, `source` and `sink`; or a rule's name is no rule; or the word before the time of a
     /// `sink mem` or `sink reg` line is not `at`.
+    #[error("an unknown word")]
     Word,
     /// Too few or too many words.
+    #[error("too few or too many words")]
     Count,
     /// A word that stands for a number is none: 1 to 10 decimal digits, at most 4294967295; or a time: 1 to 13 decimal
     /// digits, at most 1099511627776.
+    #[error("a word that is no number")]
     Number,
     /// A channel above 15.
+    #[error("a channel above 15")]
     Channel,
     /// A range that ends before it begins. Of `sink mem`, no bytes, more than 65536 of them, or some past address
     /// 2^32 - 1; of `sink reg`, register 0 or one above 31.
+    #[error("a range or a register out of bounds")]
     Range,
     /// A second `rule` line.
+    #[error("a second rule")]
     SecondRule,
     /// No `rule` line.
+    #[error("no rule")]
     NoRule,
 }
-
-impl QueryKind {
-    /// What the fault says of the text.
-    fn text(&self) -> &'static str {
-        match self {
-            QueryKind::BadByte => "a byte that no line may have",
-            QueryKind::Word => "an unknown word",
-            QueryKind::Count => "too few or too many words",
-            QueryKind::Number => "a word that is no number",
-            QueryKind::Channel => "a channel above 15",
-            QueryKind::Range => "a range or a register out of bounds",
-            QueryKind::SecondRule => "a second rule",
-            QueryKind::NoRule => "no rule",
-        }
-    }
-}
-
-impl Display for QueryKind {
-    fn fmt<W: Write>(&self, f: &mut Formatter<W>) -> fmt::Result {
-        f.write_str(self.text())
-    }
-}
-
-impl error::Error for QueryKind {}
 
 /// Why a text is no query: its first faulty line, counted from 1, and that line's first fault. Line 0 stands for the whole
 /// text.
