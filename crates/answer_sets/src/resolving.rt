@@ -33,7 +33,8 @@ pub fn resolved(
     answers: &Answers,
 ) -> Result<Vec<SourceByte>, NoMemory>
     requires { AreSets terms.now }
-    ensures value { IfOk result (λ all. all.items ≡ resolved_terms (answer_to asked.now answers.now) (as_terms terms.now)) }
+    ensures value { IfOk result (λ all.
+        all.items ≡ resolved_terms (answer_to asked.now answers.now) (as_terms terms.now)) }
     ensures ascending { IfOk result (λ all. Ascends source_cmp all.items) }
 {
     answers.form();
@@ -84,7 +85,9 @@ fn add_answer(
 ) -> Result<(), NoMemory>
     requires ascending { All (Ascends source_cmp) answers.now }
     requires large { AreGathered answers.now large.old.items gathered.old }
-    ensures added { OnOk result ((b : Source) → has source_cmp b gathered.new ≡ (has source_cmp b gathered.old || has source_cmp b (answer_to asked.now answers.now loc))) }
+    ensures added { OnOk result
+        ((b : Source) → has source_cmp b gathered.new
+        ≡ (has source_cmp b gathered.old || has source_cmp b (answer_to asked.now answers.now loc))) }
     ensures large { OnOk result (AreGathered answers.now large.new.items gathered.new) }
 {
     asked.form();
@@ -107,7 +110,8 @@ fn add_answer(
 
 /// Whether the answer at a place is kept as one set with one of those at some places.
 fn share_one(answers: &Answers, places: &[usize], place: usize) -> bool
-    ensures { IsTrue result → (b : Source) → has source_cmp b (get_or answers.now place []) ≡ true → is_at_one_of answers.now places.now b ≡ true }
+    ensures { IsTrue result → (b : Source) → has source_cmp b (get_or answers.now place []) ≡ true
+        → is_at_one_of answers.now places.now b ≡ true }
 {
     for other in places {
         if answers.share_set(*other, place) {
@@ -157,7 +161,8 @@ impl Gathered {
     /// Adds the source bytes of a set. A large one is within the rest more often than not, and then takes no room.
     fn add_set(&mut self, set: &[SourceByte]) -> Result<(), NoMemory>
         requires { Ascends source_cmp set.now }
-        ensures { OnOk result ((b : Source) → has source_cmp b self.new ≡ (has source_cmp b self.old || has source_cmp b set.now)) }
+        ensures { OnOk result
+            ((b : Source) → has source_cmp b self.new ≡ (has source_cmp b self.old || has source_cmp b set.now)) }
     {
         if set.len() < LARGE || set.len() < self.merged.len() / 2 {
             return self.add(set);
@@ -170,7 +175,8 @@ impl Gathered {
 
     /// Lets source bytes wait, and merges all that wait where they are many.
     fn add(&mut self, bytes: &[SourceByte]) -> Result<(), NoMemory>
-        ensures { OnOk result ((b : Source) → has source_cmp b self.new ≡ (has source_cmp b self.old || has source_cmp b bytes.now)) }
+        ensures { OnOk result
+            ((b : Source) → has source_cmp b self.new ≡ (has source_cmp b self.old || has source_cmp b bytes.now)) }
     {
         self.waiting.extend_from_slice(bytes)?;
         if self.waiting.len() <= self.merged.len().max(LARGE) {
@@ -184,7 +190,8 @@ impl Gathered {
     /// Merges the source bytes of a set with the rest.
     fn merge(&mut self, set: &[SourceByte]) -> Result<(), NoMemory>
         requires { Ascends source_cmp set.now }
-        ensures { OnOk result ((b : Source) → has source_cmp b self.new ≡ (has source_cmp b self.old || has source_cmp b set.now)) }
+        ensures { OnOk result
+            ((b : Source) → has source_cmp b self.new ≡ (has source_cmp b self.old || has source_cmp b set.now)) }
     {
         self.merged = merged(self.alloc, &self.merged, set)?;
         self.merged.shrink_to_fit();

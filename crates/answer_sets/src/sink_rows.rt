@@ -53,9 +53,11 @@ fn row(
 ) -> Result<SinkSet, NoMemory>
     requires inside { number < length (summary_of summary.now).sinks }
     requires ahead { IsAhead summary.now ahead.old }
-    requires before { IfSome before (λ last. slice_get (rows_of (summary_of summary.now) (answer_to asked.now answers.now)) (number - 1) ≡ Some last.now) }
+    requires before { IfSome before (λ last.
+        slice_get (rows_of (summary_of summary.now) (answer_to asked.now answers.now)) (number - 1) ≡ Some last.now) }
     ensures ahead { IsAhead summary.now ahead.new }
-    ensures row { IfOk result (λ row. slice_get (rows_of (summary_of summary.now) (answer_to asked.now answers.now)) number ≡ Some row) }
+    ensures row { IfOk result (λ row.
+        slice_get (rows_of (summary_of summary.now) (answer_to asked.now answers.now)) number ≡ Some row) }
 {
     if let Some(last) = before {
         if summary.shares_terms(number) {

@@ -107,7 +107,8 @@ pub(crate) fn add_request(
     requires counted { first ≡ false → AreCounted asked.old (known (Some summary.now)) requests.old.items }
     ensures ahead { IsAhead summary.now ahead.new }
     ensures asked { OnOk result (asked.new ≡ asked_more first asked.old ((known (Some summary.now)).ends loc).starts) }
-    ensures noted { OnOk result (IsRequested first asked.new (known (Some summary.now)) loc requests.old.items requests.new.items) }
+    ensures noted { OnOk result
+        (IsRequested first asked.new (known (Some summary.now)) loc requests.old.items requests.new.items) }
 {
     let mut needed_first = 0;
     if !first {

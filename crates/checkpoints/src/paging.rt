@@ -25,7 +25,8 @@ fn keep(
     requires some { 0 < length page.now }
     ensures held { IfOk result (λ number. IsHeld pages.new number page.now) }
     ensures extended { IsExtended pages.old pages.new }
-    ensures count { IfOk result (λ _. length pages.new ≡ length pages.old + differs (page_before pages.old before.now place) page.now) }
+    ensures count { IfOk result (λ _.
+        length pages.new ≡ length pages.old + differs (page_before pages.old before.now place) page.now) }
 {
     if place < before.len() {
         let number = before[place];
@@ -49,7 +50,8 @@ fn number_at(
     requires held { All (λ number. number < length pages.old) before.now }
     requires some { 0 < length page.now }
     ensures below { IfOk result (λ number. number < length pages.new) }
-    ensures held { IfOk result (λ number. IsHeldUntouched is_touched pages.old before.now place page.now → IsHeld pages.new number page.now) }
+    ensures held { IfOk result (λ number.
+        IsHeldUntouched is_touched pages.old before.now place page.now → IsHeld pages.new number page.now) }
     ensures extended { IsExtended pages.old pages.new }
     ensures count { IfOk result (λ _. IsOneKept is_touched pages.old before.now place pages.new page.now) }
 {
@@ -71,7 +73,8 @@ pub fn split(
 ) -> Result<Vec<u32>, NoMemory>
     requires held { All (λ number. number < length pages.old) before.now }
     ensures below { IfOk result (λ numbers. All (λ number. number < length pages.new) numbers.items) }
-    ensures paged { IfOk result (λ numbers. AreOthersHeld touched.now.flags pages.old before.now bytes.now → ArePagesOf pages.new numbers.items bytes.now) }
+    ensures paged { IfOk result (λ numbers.
+        AreOthersHeld touched.now.flags pages.old before.now bytes.now → ArePagesOf pages.new numbers.items bytes.now) }
     ensures extended { IsExtended pages.old pages.new }
     ensures count { IfOk result (λ _. AreChangedKept touched.now.flags pages.old before.now pages.new bytes.now) }
 {
@@ -90,7 +93,8 @@ pub fn split(
 /// The window that has the pages of these numbers. It gives up with NoMemory alone.
 pub fn join(alloc: Global, pages: &Pages, numbers: &[u32]) -> Result<Vec<u8>, NoMemory>
     requires { All (λ number. number < length pages.now) numbers.now }
-    ensures { IfOk result (λ bytes. (window : List ℕ) → ArePagesOf pages.now numbers.now window → bytes.items ≡ window) }
+    ensures { IfOk result (λ bytes.
+        (window : List ℕ) → ArePagesOf pages.now numbers.now window → bytes.items ≡ window) }
 {
     let mut bytes = Vec::with_capacity(alloc, numbers.len().saturating_mul(PAGE_SIZE))?;
     for &number in numbers {

@@ -86,7 +86,8 @@ fn mark(flags: &mut Vec<bool>, first: u32, size: u32)
 impl Touched {
     /// Each page of a window of so many bytes. It gives up with NoMemory alone.
     pub fn all(alloc: Global, base: u32, size: usize) -> Result<Touched, NoMemory>
-        ensures { IfOk result (λ touched. touched ≡ record { base = base; flags = replicate (div_ceil size 4096) true }) }
+        ensures { IfOk result (λ touched.
+            touched ≡ record { base = base; flags = replicate (div_ceil size 4096) true }) }
     {
         let flags = vec![in alloc; true; size.div_ceil(PAGE_SIZE)]?;
         Ok(Touched { base, flags })

@@ -14,8 +14,10 @@ use std::alloc::AllocError;
 fn try_parse<'a>(command: Command<'a>, words: &'a [String]) -> Result<ArgMatches<'a>, Error>
     requires { is_plain_command (app_of command) ≡ true }
     ensures taken { OnOk result (takes (app_of command.entry) (map string_bytes words.entry.now) ≡ true) }
-    ensures memory { IfErr result (λ e. takes (app_of command.entry) (map string_bytes words.entry.now) ≡ true → kind_of e ≡ ErrorKind.OutOfMemory) }
-    ensures subcommand { IfOk result (λ m. subcommand_rows_of m ≡ subcommand_of (app_of command.entry) (map string_bytes words.entry.now)) }
+    ensures memory { IfErr result (λ e.
+        takes (app_of command.entry) (map string_bytes words.entry.now) ≡ true → kind_of e ≡ ErrorKind.OutOfMemory) }
+    ensures subcommand { IfOk result (λ m.
+        subcommand_rows_of m ≡ subcommand_of (app_of command.entry) (map string_bytes words.entry.now)) }
 {
     command.try_get_matches_from(words)
 }
@@ -25,8 +27,10 @@ fn try_parse<'a>(command: Command<'a>, words: &'a [String]) -> Result<ArgMatches
 pub fn parse<'a>(command: Command<'a>, words: &'a [String]) -> Result<ArgMatches<'a>, WordsFault>
     requires { is_plain_command (app_of command) ≡ true }
     ensures taken { OnOk result (takes (app_of command.entry) (map string_bytes words.entry.now) ≡ true) }
-    ensures usage { IfErr result (IsCausedBy (λ _. takes (app_of command.entry) (map string_bytes words.entry.now) ≡ false)) }
-    ensures subcommand { IfOk result (λ m. subcommand_rows_of m ≡ subcommand_of (app_of command.entry) (map string_bytes words.entry.now)) }
+    ensures usage { IfErr result
+        (IsCausedBy (λ _. takes (app_of command.entry) (map string_bytes words.entry.now) ≡ false)) }
+    ensures subcommand { IfOk result (λ m.
+        subcommand_rows_of m ≡ subcommand_of (app_of command.entry) (map string_bytes words.entry.now)) }
 {
     match try_parse(command, words) {
         Ok(matches) => Ok(matches),

@@ -20,7 +20,8 @@ pub fn read_values<'a>(
     matches: &ArgMatches<'a>,
     id: &str,
 ) -> Result<Vec<&'a str>, AllocError>
-    ensures { IfOk result (λ values. map (λ s. s.now) values.items ≡ values_of id.now (rows_of (found_of matches.now))) }
+    ensures { IfOk result (λ values.
+        map (λ s. s.now) values.items ≡ values_of id.now (rows_of (found_of matches.now))) }
 {
     match matches.get_strs(id) {
         Some(values) => Vec::from_slice(alloc, values),

@@ -53,7 +53,8 @@ fn push_group(
 ) -> Result<(), NoMemory>
     requires { label_words.stands labels.now group.now.label }
     ensures { OnOk result (out.new.items ≡ out.old.items
-        ++ line_text place group.now.instr group.now.count group.now.first (label_words.means labels.now group.now.label)) }
+        ++ line_text place group.now.instr group.now.count group.now.first
+        (label_words.means labels.now group.now.label)) }
 {
     let sources = sources_of(alloc, labels, group.label, reader)?;
     let pushed = push_line(out, place, group, &sources);

@@ -24,7 +24,8 @@ pub fn cuts(steps: u64, length: u64) -> Result<Cuts, CutFault>
     requires { 1 ≤ length }
     ensures cut { IfOk result (λ cuts. cuts ≡ cut_times steps length) }
     ensures few { IfOk result (λ _. epoch_count steps length ≤ MOST_EPOCHS) }
-    ensures many { IfErr result (λ fault. (fault ≡ CutFault.TooMany (epoch_count steps length)) × (MOST_EPOCHS < epoch_count steps length)) }
+    ensures many { IfErr result (λ fault.
+        (fault ≡ CutFault.TooMany (epoch_count steps length)) × (MOST_EPOCHS < epoch_count steps length)) }
 {
     let count = epoch_count(steps, length);
     if count > MOST_EPOCHS {

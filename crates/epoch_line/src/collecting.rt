@@ -144,9 +144,12 @@ impl Gathering {
 pub fn collect<'a, G>(alloc: Global, mut nodes: Vec<Node<'a, G>>) -> Result<Collected, NoMemory>
     requires done { All IsDone nodes.items }
     requires led { (run : CutRun) × IsRunOf run nodes.items }
-    ensures rows { (run : CutRun) → IsRunOf run nodes.entry.items → IfOk result (λ all. all.sets ≡ rows_as_written run.query (trace_of run.job)) }
-    ensures crossed { (run : CutRun) → IsRunOf run nodes.entry.items → IfOk result (λ all. all.crossed.items ≡ asked_at run.query (trace_of run.job) run.cuts) }
-    ensures events { (run : CutRun) → IsRunOf run nodes.entry.items → IfOk result (λ all. all.events ≡ capped (run_work run.query (trace_of run.job) run.cuts)) }
+    ensures rows { (run : CutRun) → IsRunOf run nodes.entry.items
+        → IfOk result (λ all. all.sets ≡ rows_as_written run.query (trace_of run.job)) }
+    ensures crossed { (run : CutRun) → IsRunOf run nodes.entry.items
+        → IfOk result (λ all. all.crossed.items ≡ asked_at run.query (trace_of run.job) run.cuts) }
+    ensures events { (run : CutRun) → IsRunOf run nodes.entry.items
+        → IfOk result (λ all. all.events ≡ capped (run_work run.query (trace_of run.job) run.cuts)) }
 {
     let mut gathering = Gathering::new(alloc, nodes.len())?;
     while let Some(node) = nodes.pop() {

@@ -27,7 +27,8 @@ pub struct After {
 /// NoMemory alone.
 pub(crate) fn join_two(alloc: Global, capacity: u32) -> Result<(After, Before), NoMemory>
     requires { (1 ≤ capacity) × (capacity ≤ 65536) }
-    ensures { IfOk result (λ ends. (links : Links) × (ends.0 ≡ after_end capacity links) × (ends.1 ≡ before_end capacity links)) }
+    ensures { IfOk result (λ ends.
+        (links : Links) × (ends.0 ≡ after_end capacity links) × (ends.1 ≡ before_end capacity links)) }
 {
     let (ask_out, ask_in) = ring(alloc, capacity)?;
     let (answer_out, answer_in) = ring(alloc, capacity)?;

@@ -30,7 +30,15 @@ fn make_node<'a, G>(
     requires starts { CanStart checkpoints.now ticket }
     requires before { IfSome before IsNewBefore }
     requires after { IfSome after IsNewAfter }
-    ensures { IfOk result (λ node. node ≡ new_node (record { points = checkpoints.now; query = query.now; epoch = ticket; first = is_none before; last = is_none after }) (ends_of before after)) }
+    ensures { IfOk result (λ node.
+        node ≡ new_node
+        (record {
+          points = checkpoints.now;
+          query = query.now;
+          epoch = ticket;
+          first = is_none before;
+          last = is_none after;
+        }) (ends_of before after)) }
 {
     let first = before.is_none();
     let last = after.is_none();
@@ -51,7 +59,8 @@ pub fn lay_out<'a, G>(
     requires times { checkpoints.now.times ≡ beginnings cuts }
     requires cuts { IsCutting (steps checkpoints.now.job.log) cuts }
     requires capacity { (1 ≤ capacity) × (capacity ≤ 65536) }
-    ensures { IfOk result (λ nodes. IsLayout capacity (record { job = checkpoints.now.job; query = query.now; cuts = cuts }) nodes.items) }
+    ensures { IfOk result (λ nodes.
+        IsLayout capacity (record { job = checkpoints.now.job; query = query.now; cuts = cuts }) nodes.items) }
 {
     // The contract of this says that the points are at locations.
     let _points = query.points();

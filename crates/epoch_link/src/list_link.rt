@@ -136,8 +136,12 @@ impl<T> ListLink<T> {
 
     /// Sends the item, or hands it back exactly where the link holds as many items as its capacity.
     pub fn push(&mut self, item: T) -> Pushed<T>
-        ensures done { OnDone result ((held_count self.old < self.old.capacity) × (self.new ≡ record self.old { sent = self.old.sent ++ item ∷ [] })) }
-        ensures full { OnFull result ((held_count self.old ≡ self.old.capacity) × (self.new ≡ record self.old { push_refusals = self.new.push_refusals })) }
+        ensures done { OnDone result
+            ((held_count self.old < self.old.capacity)
+            × (self.new ≡ record self.old { sent = self.old.sent ++ item ∷ [] })) }
+        ensures full { OnFull result
+            ((held_count self.old ≡ self.old.capacity)
+            × (self.new ≡ record self.old { push_refusals = self.new.push_refusals })) }
         ensures back { IfFull result (λ back. back ≡ item) }
         ensures later { self.old.push_refusals ≤ self.new.push_refusals }
         ensures counted { OnFull result (Rose self.old.push_refusals self.new.push_refusals) }
@@ -155,8 +159,10 @@ impl<T> ListLink<T> {
 
     /// Takes the item that was sent first, or answers Empty exactly where the link holds none.
     pub fn pop(&mut self) -> Popped<T>
-        ensures item { IfItem result (λ x. (0 < held_count self.old) × (self.new ≡ record self.old { got = self.old.got ++ x ∷ [] })) }
-        ensures empty { OnEmpty result ((held_count self.old ≡ 0) × (self.new ≡ record self.old { pop_refusals = self.new.pop_refusals })) }
+        ensures item { IfItem result (λ x.
+            (0 < held_count self.old) × (self.new ≡ record self.old { got = self.old.got ++ x ∷ [] })) }
+        ensures empty { OnEmpty result
+            ((held_count self.old ≡ 0) × (self.new ≡ record self.old { pop_refusals = self.new.pop_refusals })) }
         ensures later { self.old.pop_refusals ≤ self.new.pop_refusals }
         ensures counted { OnEmpty result (Rose self.old.pop_refusals self.new.pop_refusals) }
         ensures delivered { Delivered self.new.sent self.new.got self.new.capacity }

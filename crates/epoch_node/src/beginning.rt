@@ -52,7 +52,13 @@ pub(crate) fn begin(
     last: bool,
 ) -> Back
     requires { CanStart start.old ticket }
-    ensures begun { IsBegun (record { points = start.old; query = query.now; epoch = ticket; first = first; last = last }) (back_of result) }
+    ensures begun { IsBegun (record {
+      points = start.old;
+      query = query.now;
+      epoch = ticket;
+      first = first;
+      last = last;
+    }) (back_of result) }
     ensures same { start.new ≡ start.old }
 {
     let summary = summarize(alloc, ticket, start, query).ok();

@@ -188,8 +188,10 @@ impl<'a, G> Node<'a, G> {
         ensures ends { IfOk result (λ f. f.ends ≡ self.entry.ends) }
         ensures asked { IfOk result (λ f. f.asked ≡ asked_at self.entry.core.stage) }
         ensures whole { IfOk result (λ f. is_ok f.sets ≡ whole_at self.entry.core.stage) }
-        ensures done { IfOk result (λ f. IfOk f.sets (λ rows. HasDone self.entry.core.given (told_by self.entry.ends) f.asked rows)) }
-        ensures counted { IfOk result (λ f. IfOk f.sets (λ rows. HasCounted self.entry.core.given (told_by self.entry.ends) f.asked rows
+        ensures done { IfOk result (λ f.
+            IfOk f.sets (λ rows. HasDone self.entry.core.given (told_by self.entry.ends) f.asked rows)) }
+        ensures counted { IfOk result (λ f.
+            IfOk f.sets (λ rows. HasCounted self.entry.core.given (told_by self.entry.ends) f.asked rows
             f.events)) }
     {
         let Node { core, ends } = self;

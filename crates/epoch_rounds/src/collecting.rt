@@ -29,9 +29,12 @@ fn without_first<T: Drop>(mut items: Vec<T>) -> Vec<T>
 pub(crate) fn collect<'a, G>(alloc: Global, line: Line<'a, G>) -> Result<Collected, NoMemory>
     requires done { AreDone (map core_of line.cores.items) }
     requires line { (plan : Plan) × IsLineOf plan (map core_of line.cores.items) line.joints.items }
-    ensures rows { (plan : Plan) → IsLineOf plan (map core_of line.entry.cores.items) line.entry.joints.items → IfOk result (λ all. all.sets ≡ rows_as_written plan.run.query (trace_of plan.run.job)) }
-    ensures crossed { (plan : Plan) → IsLineOf plan (map core_of line.entry.cores.items) line.entry.joints.items → IfOk result (λ all. all.crossed.items ≡ asked_at plan.run.query (trace_of plan.run.job) plan.run.cuts) }
-    ensures events { (plan : Plan) → IsLineOf plan (map core_of line.entry.cores.items) line.entry.joints.items → IfOk result (λ all. all.events ≡ capped (run_work plan.run.query (trace_of plan.run.job) plan.run.cuts)) }
+    ensures rows { (plan : Plan) → IsLineOf plan (map core_of line.entry.cores.items) line.entry.joints.items
+        → IfOk result (λ all. all.sets ≡ rows_as_written plan.run.query (trace_of plan.run.job)) }
+    ensures crossed { (plan : Plan) → IsLineOf plan (map core_of line.entry.cores.items) line.entry.joints.items
+        → IfOk result (λ all. all.crossed.items ≡ asked_at plan.run.query (trace_of plan.run.job) plan.run.cuts) }
+    ensures events { (plan : Plan) → IsLineOf plan (map core_of line.entry.cores.items) line.entry.joints.items
+        → IfOk result (λ all. all.events ≡ capped (run_work plan.run.query (trace_of plan.run.job) plan.run.cuts)) }
 {
     let mut sets: Vec<SinkSet> = Vec::new(alloc);
     let mut asked = Vec::new(alloc);

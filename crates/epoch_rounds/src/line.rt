@@ -35,7 +35,10 @@ pub(crate) fn lay_out<'a, G>(
     requires times { checkpoints.now.times ≡ beginnings cuts }
     requires cuts { IsCutting (steps checkpoints.now.job.log) cuts }
     requires capacity { (1 ≤ capacity) × (capacity ≤ 65536) }
-    ensures { IfOk result (λ line. IsLaidOut (record { run = record { job = checkpoints.now.job; query = query.now; cuts = cuts }; capacity = capacity }) (map core_of line.cores.items) line.joints.items) }
+    ensures { IfOk result (λ line.
+        IsLaidOut
+        (record { run = record { job = checkpoints.now.job; query = query.now; cuts = cuts }; capacity = capacity })
+        (map core_of line.cores.items) line.joints.items) }
 {
     // The contract of this says that the points are at locations.
     let _points = query.points();

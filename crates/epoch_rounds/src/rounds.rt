@@ -28,13 +28,22 @@ use std::alloc::Global;
 /// done, less work is left after it. It gives up with NoMemory alone.
 fn round<'a, G: Gate>(alloc: Global, line: Line<'a, G>) -> Result<Line<'a, G>, NoMemory>
     requires { (plan : Plan) × IsLineOf plan (map core_of line.cores.items) line.joints.items }
-    ensures line { IfOk result (λ new. (plan : Plan) → IsLineOf plan (map core_of line.entry.cores.items) line.entry.joints.items → IsLineOf plan (map core_of new.cores.items) new.joints.items) }
-    ensures begun { IfOk result (λ new. (plan : Plan) → IsLaidOut plan (map core_of line.entry.cores.items) line.entry.joints.items → AreParts (map core_of new.cores.items) new.joints.items) }
-    ensures parts { IfOk result (λ new. (plan : Plan) → IsLineOf plan (map core_of line.entry.cores.items) line.entry.joints.items → AreParts (map core_of line.entry.cores.items) line.entry.joints.items
+    ensures line { IfOk result (λ new.
+        (plan : Plan) → IsLineOf plan (map core_of line.entry.cores.items) line.entry.joints.items
+        → IsLineOf plan (map core_of new.cores.items) new.joints.items) }
+    ensures begun { IfOk result (λ new.
+        (plan : Plan) → IsLaidOut plan (map core_of line.entry.cores.items) line.entry.joints.items
         → AreParts (map core_of new.cores.items) new.joints.items) }
-    ensures less { IfOk result (λ new. (plan : Plan) → IsLineOf plan (map core_of line.entry.cores.items) line.entry.joints.items → AreParts (map core_of line.entry.cores.items) line.entry.joints.items
+    ensures parts { IfOk result (λ new.
+        (plan : Plan) → IsLineOf plan (map core_of line.entry.cores.items) line.entry.joints.items
+        → AreParts (map core_of line.entry.cores.items) line.entry.joints.items
+        → AreParts (map core_of new.cores.items) new.joints.items) }
+    ensures less { IfOk result (λ new.
+        (plan : Plan) → IsLineOf plan (map core_of line.entry.cores.items) line.entry.joints.items
+        → AreParts (map core_of line.entry.cores.items) line.entry.joints.items
         → ¬ AreDone (map core_of line.entry.cores.items)
-        → work_left (map core_of new.cores.items) new.joints.items < work_left (map core_of line.entry.cores.items) line.entry.joints.items) }
+        → work_left (map core_of new.cores.items) new.joints.items
+        < work_left (map core_of line.entry.cores.items) line.entry.joints.items) }
 {
     let Line { cores, mut joints } = line;
     let mut turned = Vec::with_capacity(alloc, cores.len())?;

@@ -19,7 +19,8 @@ fn turn_in_phase<'a, G: Gate>(
     behind: &mut Joint,
 ) -> Turn
     requires { KeepsCore (core_of core.old) (told_between before.old behind.old) }
-    ensures { TurnsIn (core_of core.old).stage (core_of core.old) (core_of core.new) before.old behind.old before.new behind.new result }
+    ensures { TurnsIn (core_of core.old).stage (core_of core.old)
+        (core_of core.new) before.old behind.old before.new behind.new result }
 {
     match core.phase() {
         Phase::Fresh => core.event(&mut behind.ask, &mut before.ask),
@@ -43,7 +44,8 @@ fn turn_between<'a, G: Gate>(core: &mut Core<'a, G>, before: &mut Joint, behind:
 /// One event of a core, on the links at its place of a line and at the next.
 pub(crate) fn turn_at<'a, G: Gate>(core: &mut Core<'a, G>, joints: &mut Vec<Joint>, place: usize)
     requires inside { place + 1 < length joints.old.items }
-    requires keeps { KeepsCore (core_of core.old) (told_between (joint_at joints.old.items place) (joint_at joints.old.items (place + 1))) }
+    requires keeps { KeepsCore (core_of core.old)
+        (told_between (joint_at joints.old.items place) (joint_at joints.old.items (place + 1))) }
     ensures { TurnsOne (core_of core.old) joints.old.items place (core_of core.new) joints.new.items }
 {
     let mut before = mem::replace(&mut joints[place], Joint::none());

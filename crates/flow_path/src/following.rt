@@ -27,7 +27,8 @@ pub(crate) fn follow_instruction(
 ) -> Result<(), NoMemory>
     requires fits { Fits instr.now }
     requires standing { AreStanding nodes.old carriers.old }
-    ensures { OnOk result (Carries nodes.old carriers.old number (flow_of rule instr.now place) nodes.new carriers.new) }
+    ensures { OnOk result
+        (Carries nodes.old carriers.old number (flow_of rule instr.now place) nodes.new carriers.new) }
 {
     if is_apart(carriers, shape_of(instr, place, rule)) {
         return Ok(());
@@ -47,7 +48,8 @@ fn carry_by_instruction(
 ) -> Result<(), NoMemory>
     requires fits { Fits instr.now }
     requires standing { AreStanding nodes.old carriers.old }
-    ensures { OnOk result (Carries nodes.old carriers.old number (flow_of rule instr.now place) nodes.new carriers.new) }
+    ensures { OnOk result
+        (Carries nodes.old carriers.old number (flow_of rule instr.now place) nodes.new carriers.new) }
 {
     carry(nodes, carriers, number, &flow(instr, place, rule))
 }

@@ -44,7 +44,8 @@ pub(crate) fn is_apart(carriers: &Carriers, shape: Shape) -> bool
 fn are_apart(carriers: &Carriers, one: u8, two: u8, three: u8) -> bool
     requires { (one < 32) × (two < 32) × (three < 32) }
     ensures { IsTrue result → (i : ℕ)
-        → HasNothing carriers.now (Reg one i) × HasNothing carriers.now (Reg two i) × HasNothing carriers.now (Reg three i) }
+        → HasNothing carriers.now (Reg one i) × HasNothing carriers.now (Reg two i)
+        × HasNothing carriers.now (Reg three i) }
 {
     carriers.has_no_lane(one) && carriers.has_no_lane(two) && carriers.has_no_lane(three)
 }

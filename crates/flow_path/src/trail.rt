@@ -45,7 +45,8 @@ impl Trail {
     pub fn follow(&mut self, step: &StepSeen) -> Result<(), NoMemory>
         requires in_range { IsInRange step.now }
         requires trail { IsTrail self.old }
-        ensures { OnOk result ((rule : RuleOfFlow) (s : Source) (trace : List Step) → step_at trace step.now.number ≡ Some step.now
+        ensures { OnOk result
+            ((rule : RuleOfFlow) (s : Source) (trace : List Step) → step_at trace step.now.number ≡ Some step.now
             → IsAfter rule s trace step.now.number self.old → IsAfter rule s trace (step.now.number + 1) self.new) }
     {
         match &step.call {
@@ -71,7 +72,8 @@ impl Trail {
     pub fn path(&self, alloc: Global, loc: Loc) -> Result<Option<Vec<Arrival>>, NoMemory>
         requires location { IsLocation loc }
         requires trail { IsTrail self.now }
-        ensures { IfOk result (λ p. (rule : RuleOfFlow) (s : Source) (trace : List Step) (t : ℕ) → IsAfter rule s trace t self.now
+        ensures { IfOk result (λ p.
+            (rule : RuleOfFlow) (s : Source) (trace : List Step) (t : ℕ) → IsAfter rule s trace t self.now
             → option_map (λ v. v.items) p ≡ path rule s trace t loc) }
     {
         self.nodes.path(alloc, self.carriers.get(loc))

@@ -41,7 +41,8 @@ fn answer_for(
 ) -> Result<Vec<SourceByte>, NoMemory>
     requires { IsAhead summary.now ahead.old }
     ensures ahead { IsAhead summary.now ahead.new }
-    ensures value { IfOk result (λ set. set.items ≡ resolved_terms (answer_to asked.now answers.now) ((known (Some summary.now)).ends loc)) }
+    ensures value { IfOk result (λ set.
+        set.items ≡ resolved_terms (answer_to asked.now answers.now) ((known (Some summary.now)).ends loc)) }
 {
     read_end_terms(summary, ahead, reader, loc)?;
     resolved(alloc, reader, asked, answers)
@@ -50,7 +51,8 @@ fn answer_for(
 /// Whether a location has the terms of the one whose answer was built last. The lanes of a register, and the bytes of a
 /// word, often do.
 fn shares_last(summary: &Summary, last: Option<Loc>, loc: Loc) -> bool
-    ensures { IsTrue result → (l : Loc) × (last ≡ Some l) × ((known (Some summary.now)).ends l ≡ (known (Some summary.now)).ends loc) }
+    ensures { IsTrue result
+        → (l : Loc) × (last ≡ Some l) × ((known (Some summary.now)).ends l ≡ (known (Some summary.now)).ends loc) }
 {
     match last {
         Some(last) => share_end_terms(summary, last, loc),
@@ -87,7 +89,8 @@ impl Fore {
         requires counted { whole ≡ true → first ≡ false → AreCounted asked (known summary) requests.items }
         ensures made { fore_of result ≡ new_fore summary asked requests.items whole first }
         ensures keeps { ForeKeeps (fore_of result) (fresh_end first) (fresh_end last) }
-        ensures reached { ForeReached first (locations requests.items) whole (fore_of result) (fresh_end first) (fresh_end last) }
+        ensures reached { ForeReached first (locations requests.items) whole (fore_of result) (fresh_end first)
+            (fresh_end last) }
     {
         Fore {
             epoch: Knowledge::new(summary, whole),

@@ -119,7 +119,8 @@ fn push_first(out: &mut Vec<u8>, register: u8) -> Result<(), NoMemory>
 
 /// Appends a blank and two registers.
 fn push_registers(out: &mut Vec<u8>, first: u8, second: u8) -> Result<(), NoMemory>
-    ensures { OnOk result (out.new.items ≡ out.old.items ++ codes " " ++ register_text first ++ codes ", " ++ register_text second) }
+    ensures { OnOk result
+        (out.new.items ≡ out.old.items ++ codes " " ++ register_text first ++ codes ", " ++ register_text second) }
 {
     push_first(out, first)?;
     push_register(out, second)

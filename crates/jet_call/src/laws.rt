@@ -13,8 +13,10 @@ pub fn sure_is_undisturbed(
     out: &SureSink,
     out_after: &SureSink,
 )
-    ensures { (heard heard_after : Option (List ℕ)) → StaysWithinRoom store.now → StaysWithinRoom store_after.now → IsUndisturbed
-        (change ⟦<SureStore as Store>⟧.shown ⟦<SureSink as Sink>⟧.shown (λ heard. heard) store.now out.now heard store_after.now out_after.now heard_after) }
+    ensures { (heard heard_after : Option (List ℕ)) → StaysWithinRoom store.now → StaysWithinRoom store_after.now
+        → IsUndisturbed
+        (change ⟦<SureStore as Store>⟧.shown ⟦<SureSink as Sink>⟧.shown
+        (λ heard. heard) store.now out.now heard store_after.now out_after.now heard_after) }
 {
     let _ = store;
     let _ = store_after;

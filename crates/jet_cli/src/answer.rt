@@ -35,7 +35,8 @@ fn analysis<R: Threads + Wait + Sync, S: Store, G: Gate>(
         (λ file. query_answer (telling_text telling) pipeline.epoch file (named program.now log.now query.now))
         (S.shown store.old) (S.shown store.new) (seen_by text_of result) }
     ensures whole { IfOk result (IsPageWhole telling) }
-    ensures reads { Reads (program.now ∷ log.now ∷ query.now ∷ []) (is_ok result) (S.shown store.old) (S.shown store.new) }
+    ensures reads { Reads (program.now ∷ log.now ∷ query.now ∷ []) (is_ok result) (S.shown store.old)
+        (S.shown store.new) }
 {
     let run = open_run(engine.alloc, store, program, log)?;
     let query = open_query(engine.alloc, store, query)?;
@@ -57,7 +58,8 @@ fn queries<R: Threads + Wait + Sync, S: Store, G: Gate>(
     ensures answer { Comes
         (λ file. queries_answer pipeline.epoch file program.now log.now (map (λ name. name.now) names.now))
         (S.shown store.old) (S.shown store.new) (seen_by text_of result) }
-    ensures reads { Reads (program.now ∷ log.now ∷ map (λ name. name.now) names.now) (is_ok result) (S.shown store.old) (S.shown store.new) }
+    ensures reads { Reads (program.now ∷ log.now ∷ map (λ name. name.now) names.now) (is_ok result) (S.shown store.old)
+        (S.shown store.new) }
 {
     let run = open_run(engine.alloc, store, program, log)?;
     let queries = open_queries(engine.alloc, store, names)?;
@@ -89,7 +91,8 @@ pub fn answer<R: Threads + Wait + Sync, S: Store, K: Clock, G: Gate>(
     ensures answer { Follows (IsAnswer (plain_command command.now) (K.answers clock.old) (K.answers clock.new))
         (S.shown store.old) (S.shown store.new) (seen_by text_of result) }
     ensures whole { IfOk result (λ answer. IfFile (target_of (plain_command command.now)) (IsWhole answer)) }
-    ensures reads { Reads (sources_of (plain_command command.now)) (is_ok result) (S.shown store.old) (S.shown store.new) }
+    ensures reads { Reads (sources_of (plain_command command.now)) (is_ok result) (S.shown store.old)
+        (S.shown store.new) }
     ensures clock { IfUntimed (plain_command command.now) (clock.new ≡ clock.old) }
     ensures unasked { IfErr result (IsUnasked (K.answers clock.old) (K.answers clock.new)) }
 {

@@ -76,7 +76,8 @@ pub fn tell<R: Threads + Wait + Sync, G: Gate>(
 ) -> Result<Answer, Refusal>
     requires image { image_of_file run.program.bytes.items ≡ Ok run.program.image }
     requires pipeline { IsPipeline pipeline }
-    ensures answer { IsWorkOf (IsGivenAlike (telling_text telling) pipeline.epoch (run_of run) query.now) (seen_by text_of result) }
+    ensures answer { IsWorkOf (IsGivenAlike (telling_text telling) pipeline.epoch (run_of run) query.now)
+        (seen_by text_of result) }
     ensures whole { IfOk result (IsPageWhole telling) }
 {
     let (job, report) = analysed_run(engine, run, query, pipeline)?;

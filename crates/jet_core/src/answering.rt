@@ -25,7 +25,8 @@ pub fn answer_requests(
     requests: &Asked,
 ) -> Result<Answers, NoMemory>
     requires { All IsLocation requests.now }
-    ensures { IfOk result (λ given. given ≡ answers_of (summary_of summary.now) (answer_to asked.now answers.now) requests.now) }
+    ensures { IfOk result (λ given.
+        given ≡ answers_of (summary_of summary.now) (answer_to asked.now answers.now) requests.now) }
 {
     let mut given = Answers::new(alloc);
     for place in 0..requests.count() {
@@ -45,7 +46,8 @@ fn answer(
     answers: &Answers,
 ) -> Result<Vec<SourceByte>, NoMemory>
     requires { IsLocation loc }
-    ensures value { IfOk result (λ all. all.items ≡ resolved_terms (answer_to asked.now answers.now) ((summary_of summary.now).ends loc)) }
+    ensures value { IfOk result (λ all.
+        all.items ≡ resolved_terms (answer_to asked.now answers.now) ((summary_of summary.now).ends loc)) }
     ensures ascending { IfOk result (λ all. Ascends source_cmp all.items) }
 {
     summary.end_terms(reader, loc)?;

@@ -17,7 +17,8 @@ pub fn open_inputs<S: Store>(
     store: &mut S,
     names: &[&str],
 ) -> Result<Vec<Vec<u8>>, Refusal>
-    ensures outcome { Comes (λ file. inputs_at file (map (λ name. name.now) names.now)) (S.shown store.old) (S.shown store.new) (seen_by inputs_of result) }
+    ensures outcome { Comes (λ file. inputs_at file (map (λ name. name.now) names.now)) (S.shown store.old)
+        (S.shown store.new) (seen_by inputs_of result) }
     ensures many { IfOk result (λ inputs. length inputs.items ≡ length names.now) }
     ensures short { IfOk result (λ inputs. All (λ v. length v.items ≤ 2 ^ 26) inputs.items) }
     ensures reads { Reads (map (λ name. name.now) names.now) (is_ok result) (S.shown store.old) (S.shown store.new) }

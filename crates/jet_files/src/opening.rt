@@ -38,7 +38,8 @@ fn log_of(alloc: Global, bytes: &[u8]) -> Result<Log, Refusal>
 
 /// Reads a program. It gives up as `read_file` does, or with `Image`, the first fault of a file that is none.
 pub fn open_program<S: Store>(alloc: Global, store: &mut S, name: &str) -> Result<Program, Refusal>
-    ensures outcome { Comes (λ file. program_at file name.now) (S.shown store.old) (S.shown store.new) (seen_by program_of result) }
+    ensures outcome { Comes (λ file. program_at file name.now) (S.shown store.old) (S.shown store.new)
+        (seen_by program_of result) }
     ensures loads { IfOk result (λ p. image_of_file p.bytes.items ≡ Ok p.image) }
     ensures short { IfOk result (λ p. length p.bytes.items ≤ 2 ^ 26) }
     ensures reads { Reads (name.now ∷ []) true (S.shown store.old) (S.shown store.new) }
@@ -64,7 +65,8 @@ pub fn open_run<S: Store>(
     program: &str,
     log: &str,
 ) -> Result<Run, Refusal>
-    ensures outcome { Comes (λ file. run_at file program.now log.now) (S.shown store.old) (S.shown store.new) (seen_by run_of result) }
+    ensures outcome { Comes (λ file. run_at file program.now log.now) (S.shown store.old) (S.shown store.new)
+        (seen_by run_of result) }
     ensures loads { IfOk result (λ run. image_of_file run.program.bytes.items ≡ Ok run.program.image) }
     ensures short { IfOk result (λ run. length run.program.bytes.items ≤ 2 ^ 26) }
     ensures reads { Reads (program.now ∷ log.now ∷ []) (is_ok result) (S.shown store.old) (S.shown store.new) }
@@ -76,7 +78,8 @@ pub fn open_run<S: Store>(
 
 /// Reads a query. It gives up as `read_file` does, or with `Query`, the first fault of a text that is none.
 pub fn open_query<S: Store>(alloc: Global, store: &mut S, name: &str) -> Result<Query, Refusal>
-    ensures outcome { Follows (λ file kept. AreAlike kept (query_at file name.now)) (S.shown store.old) (S.shown store.new) result }
+    ensures outcome { Follows (λ file kept. AreAlike kept (query_at file name.now)) (S.shown store.old)
+        (S.shown store.new) result }
     ensures reads { Reads (name.now ∷ []) true (S.shown store.old) (S.shown store.new) }
 {
     let bytes = read_file(alloc, store, name)?;

@@ -34,7 +34,8 @@ fn open_numbered<S: Store>(
     number: u32,
     name: &str,
 ) -> Result<Query, Refusal>
-    ensures outcome { Follows (λ file kept. AreAlike kept (numbered_query_at file number name.now)) (S.shown store.old) (S.shown store.new) result }
+    ensures outcome { Follows (λ file kept. AreAlike kept (numbered_query_at file number name.now)) (S.shown store.old)
+        (S.shown store.new) result }
     ensures reads { Reads (name.now ∷ []) true (S.shown store.old) (S.shown store.new) }
 {
     let bytes = read_file(alloc, store, name)?;
@@ -52,7 +53,8 @@ pub fn open_queries<S: Store>(
     names: &[&str],
 ) -> Result<Vec<Query>, Refusal>
     requires few { length names.now ≤ 16 }
-    ensures outcome { Follows (λ file kept. AreAllAlike kept (queries_at file (map (λ name. name.now) names.now))) (S.shown store.old) (S.shown store.new) (seen_by queries_of result) }
+    ensures outcome { Follows (λ file kept. AreAllAlike kept (queries_at file (map (λ name. name.now) names.now)))
+        (S.shown store.old) (S.shown store.new) (seen_by queries_of result) }
     ensures many { IfOk result (λ queries. length queries.items ≡ length names.now) }
     ensures reads { Reads (map (λ name. name.now) names.now) (is_ok result) (S.shown store.old) (S.shown store.new) }
 {

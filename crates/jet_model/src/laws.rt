@@ -88,21 +88,26 @@ pub fn given_is_convert_answer()
 /// A fitting log in version 2, where it has at most 2^26 bytes, is read as the same log.
 pub fn given_is_conversion()
     ensures { (file : Contents) (program log text : List ℕ)
-        → IsGivenBy file program log (λ start. log_text Two) text → length text ≤ 2 ^ 26 → IsConversionOf file program log text }
+        → IsGivenBy file program log (λ start. log_text Two) text → length text ≤ 2 ^ 26
+        → IsConversionOf file program log text }
 {}
 
 /// Where a program, inputs and the clock's answers come to a text, it is the log of the program's run.
 pub fn record_answer_is_recording()
-    ensures { (file : Contents) (program : List ℕ) (inputs : List (List ℕ)) (limits : Limits) (answers : List ℕ) (text : List ℕ)
-        → IsRecordAnswer file program inputs limits answers (Ok text) → IsRecordingOf file program inputs limits answers text }
+    ensures { (file : Contents) (program : List ℕ) (inputs : List (List ℕ)) (limits : Limits) (answers : List ℕ)
+        (text : List ℕ)
+        → IsRecordAnswer file program inputs limits answers (Ok text)
+        → IsRecordingOf file program inputs limits answers text }
 {}
 
 /// A program, inputs and the clock's answers come to the log of the run, where neither it nor a file has more than 2^26
 /// bytes.
 pub fn recording_is_record_answer()
-    ensures { (file : Contents) (program : List ℕ) (inputs : List (List ℕ)) (limits : Limits) (answers : List ℕ) (text : List ℕ)
+    ensures { (file : Contents) (program : List ℕ) (inputs : List (List ℕ)) (limits : Limits) (answers : List ℕ)
+        (text : List ℕ)
         → IsShort (file program) → AreAllShort file inputs → length text ≤ 2 ^ 26
-        → IsRecordingOf file program inputs limits answers text → IsRecordAnswer file program inputs limits answers (Ok text) }
+        → IsRecordingOf file program inputs limits answers text
+        → IsRecordAnswer file program inputs limits answers (Ok text) }
 {}
 
 /// A recording of at most 2^26 bytes is read as the log of its run, which fits the program.
@@ -121,11 +126,14 @@ pub fn sources_are_received()
 /// A program, at most 16 inputs and limits in range come to an answer, whatever the clock answers.
 pub fn a_record_answer()
     ensures { (file : Contents) (program : List ℕ) (inputs : List (List ℕ)) (limits : Limits) (clock : ℕ → ℕ)
-        → HoldsBytes file → length inputs ≤ 16 → AreInRange limits → ((k : ℕ) → clock k < 2 ^ 64) → RecordAnswer file program inputs limits clock }
+        → HoldsBytes file → length inputs ≤ 16 → AreInRange limits → ((k : ℕ) → clock k < 2 ^ 64)
+        → RecordAnswer file program inputs limits clock }
 {}
 
 /// A program, inputs and the clock's answers come to at most one answer. (Other answers are values of functions.)
 pub fn one_record_answer()
-    ensures { (file : Contents) (program : List ℕ) (inputs : List (List ℕ)) (limits : Limits) (answers : List ℕ) (a b : Result (List ℕ) Refusal)
-        → IsRecordAnswer file program inputs limits answers a → IsRecordAnswer file program inputs limits answers b → a ≡ b }
+    ensures { (file : Contents) (program : List ℕ) (inputs : List (List ℕ)) (limits : Limits) (answers : List ℕ)
+        (a b : Result (List ℕ) Refusal)
+        → IsRecordAnswer file program inputs limits answers a → IsRecordAnswer file program inputs limits answers b
+        → a ≡ b }
 {}

@@ -24,7 +24,8 @@ use std::alloc::{AllocError, Global};
 fn parse_words<'a>(alloc: Global, words: &'a [String]) -> Result<ArgMatches<'a>, WordsFault>
     ensures taken { OnOk result (takes jet_app (map string_bytes words.entry.now) ≡ true) }
     ensures usage { IfErr result (IsCausedBy (λ _. takes jet_app (map string_bytes words.entry.now) ≡ false)) }
-    ensures subcommand { IfOk result (λ m. subcommand_rows_of m ≡ subcommand_of jet_app (map string_bytes words.entry.now)) }
+    ensures subcommand { IfOk result (λ m.
+        subcommand_rows_of m ≡ subcommand_of jet_app (map string_bytes words.entry.now)) }
 {
     let line = command_line(alloc)?;
     parse(line, words)
@@ -241,7 +242,8 @@ fn command_by_subcommand<'a>(
     matches: &ArgMatches<'a>,
 ) -> Result<Option<Command<'a>>, AllocError>
     requires { IfSome (subcommand_rows_of matches.now) HasNumbers }
-    ensures { IfOk result (λ c. option_map plain_command c ≡ option_and_then command_by (subcommand_rows_of matches.now)) }
+    ensures { IfOk result (λ c.
+        option_map plain_command c ≡ option_and_then command_by (subcommand_rows_of matches.now)) }
 {
     match matches.subcommand() {
         Some((name, matches)) => command_by_name(alloc, name, matches),

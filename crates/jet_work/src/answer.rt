@@ -22,7 +22,8 @@ pub fn decisions<S: Store>(
 ) -> Result<Vec<u8>, Refusal>
     ensures answer { Comes (λ file. query_answer decisions_by None file (named program.now log.now query.now))
         (S.shown store.old) (S.shown store.new) (seen_by bytes_of result) }
-    ensures reads { Reads (program.now ∷ log.now ∷ query.now ∷ []) (is_ok result) (S.shown store.old) (S.shown store.new) }
+    ensures reads { Reads (program.now ∷ log.now ∷ query.now ∷ []) (is_ok result) (S.shown store.old)
+        (S.shown store.new) }
 {
     let run = open_run(alloc, store, program, log)?;
     let query = open_query(alloc, store, query)?;

@@ -26,11 +26,13 @@ pub fn deliver<S: Store, O: Sink>(
     ensures whole { OnOk result (Tells (S.shown store.old).files (S.shown store.new).files
         (Delivers (target_of (plain_command command.now)) (O.shown out.old) (O.shown out.new) (text_of answer.now))) }
     ensures part { OnErr result (Tells (S.shown store.old).files (S.shown store.new).files
-        (DeliversPart (target_of (plain_command command.now)) (O.shown out.old) (O.shown out.new) (text_of answer.now))) }
+        (DeliversPart (target_of (plain_command command.now)) (O.shown out.old) (O.shown out.new)
+        (text_of answer.now))) }
     ensures fault { OnErr result (FailsToWrite (target_of (plain_command command.now))
         (S.shown store.old) (S.shown store.new) (O.shown out.old) (O.shown out.new)) }
     ensures keeps { KeepsBut (target_of (plain_command command.now)) (S.shown store.old) (S.shown store.new) }
-    ensures opened { OpensAll (written_in (target_of (plain_command command.now))) (S.shown store.old) (S.shown store.new) }
+    ensures opened { OpensAll (written_in (target_of (plain_command command.now))) (S.shown store.old)
+        (S.shown store.new) }
     ensures aside { IfFile (target_of (plain_command command.now)) (out.new ≡ out.old) }
     ensures later { (S.shown store.old).faults ≤ (S.shown store.new).faults }
 {

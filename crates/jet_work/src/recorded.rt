@@ -42,7 +42,8 @@ fn log_text<K: Clock>(
     requires few { length inputs.now ≤ 16 }
     requires short { All (λ v. length v.items ≤ 2 ^ 26) inputs.now }
     ensures answer { IsWorkOf (IsCapture (record { program = program_of program.now; inputs = contents inputs.now })
-        (limits_of limits.pages limits.piece limits.steps) (K.answers clock.old) (K.answers clock.new)) (seen_by bytes_of result) }
+        (limits_of limits.pages limits.piece limits.steps) (K.answers clock.old) (K.answers clock.new))
+        (seen_by bytes_of result) }
     ensures unasked { IfErr result (IsUnasked (K.answers clock.old) (K.answers clock.new)) }
 {
     let Limits {
@@ -79,9 +80,11 @@ pub fn record<S: Store, K: Clock>(
     requires most { limits.pages ≤ 4096 }
     requires steps { limits.steps ≤ 2 ^ 40 }
     requires few { length inputs.now ≤ 16 }
-    ensures answer { Follows (IsRecording program.now (map (λ name. name.now) inputs.now) (limits_of limits.pages limits.piece limits.steps)
+    ensures answer { Follows (IsRecording program.now (map (λ name. name.now) inputs.now)
+        (limits_of limits.pages limits.piece limits.steps)
         (K.answers clock.old) (K.answers clock.new)) (S.shown store.old) (S.shown store.new) (seen_by bytes_of result) }
-    ensures reads { Reads (program.now ∷ map (λ name. name.now) inputs.now) (is_ok result) (S.shown store.old) (S.shown store.new) }
+    ensures reads { Reads (program.now ∷ map (λ name. name.now) inputs.now) (is_ok result) (S.shown store.old)
+        (S.shown store.new) }
     ensures unasked { IfErr result (IsUnasked (K.answers clock.old) (K.answers clock.new)) }
 {
     let program = open_program(alloc, store, program)?;

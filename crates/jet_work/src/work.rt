@@ -45,7 +45,8 @@ pub enum Telling {
 pub fn fitted(alloc: Global, program: &[u8], image: Image, log: Log) -> Result<Job, Refusal>
     requires image { image_of_file program.now ≡ Ok image }
     ensures ok { IfOk result (λ job. IsChecked program.now image log job) }
-    ensures err { IfErr result (λ r. IsWork (fitting_start (record { bytes = program.now; image = image }) log) (Err r)) }
+    ensures err { IfErr result (λ r.
+        IsWork (fitting_start (record { bytes = program.now; image = image }) log) (Err r)) }
 {
     let job = Job::check(alloc, program, image, log)?;
     Ok(job)

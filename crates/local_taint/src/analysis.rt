@@ -29,9 +29,11 @@ pub fn analyse(
 ) -> Result<Summary, NoMemory>
     requires begins { cursor.time ≡ ticket.first }
     requires ends { ticket.past_last ≤ steps cursor.job.log }
-    ensures summary { IfOk result (λ e. IsSummary query.now (trace_of cursor.entry.job) ticket.first (ticket.past_last - ticket.first) (summary_of e)) }
+    ensures summary { IfOk result (λ e.
+        IsSummary query.now (trace_of cursor.entry.job) ticket.first (ticket.past_last - ticket.first) (summary_of e)) }
     ensures number { IfOk result (λ e. number_of e ≡ ticket.number) }
-    ensures in_range { OnOk result (AreInRange (trace_of cursor.entry.job) ticket.first (ticket.past_last - ticket.first)) }
+    ensures in_range { OnOk result
+        (AreInRange (trace_of cursor.entry.job) ticket.first (ticket.past_last - ticket.first)) }
 {
     analyse_from(alloc, ticket, &mut cursor, query)
 }
@@ -45,9 +47,11 @@ pub fn analyse_from(
 ) -> Result<Summary, NoMemory>
     requires begins { cursor.old.time ≡ ticket.first }
     requires ends { ticket.past_last ≤ steps cursor.old.job.log }
-    ensures summary { IfOk result (λ e. IsSummary query.now (trace_of cursor.old.job) ticket.first (ticket.past_last - ticket.first) (summary_of e)) }
+    ensures summary { IfOk result (λ e.
+        IsSummary query.now (trace_of cursor.old.job) ticket.first (ticket.past_last - ticket.first) (summary_of e)) }
     ensures number { IfOk result (λ e. number_of e ≡ ticket.number) }
-    ensures in_range { OnOk result (AreInRange (trace_of cursor.old.job) ticket.first (ticket.past_last - ticket.first)) }
+    ensures in_range { OnOk result
+        (AreInRange (trace_of cursor.old.job) ticket.first (ticket.past_last - ticket.first)) }
     ensures job { OnOk result (cursor.new.job ≡ cursor.old.job) }
 {
     let (first, past_last) = (ticket.first(), ticket.past_last());
@@ -102,7 +106,8 @@ fn follow_plain(
     requires sound { IsSound label_words tracking.old }
     ensures moved { OnOk result (cursor.new ≡ record { job = cursor.old.job; time = until }) }
     ensures sound { OnOk result (IsSound label_words tracking.new) }
-    ensures followed { OnOk result (Follows label_words (trace_of cursor.old.job) cursor.old.time until tracking.old tracking.new) }
+    ensures followed { OnOk result
+        (Follows label_words (trace_of cursor.old.job) cursor.old.time until tracking.old tracking.new) }
 {
     let rule = tracking.rule();
     for time in cursor.time()..until {

@@ -122,7 +122,8 @@ impl Summary {
     pub fn shares_terms(&self, number: usize) -> bool
         requires { number < length (summary_of self.now).sinks }
         ensures not_first { IsTrue result → 0 < number }
-        ensures shared { IsTrue result → slice_get (terms_of self.now) number ≡ slice_get (terms_of self.now) (number - 1) }
+        ensures shared { IsTrue result
+            → slice_get (terms_of self.now) number ≡ slice_get (terms_of self.now) (number - 1) }
     {
         number > 0 && self.sinks[number].label == self.sinks[number - 1].label
     }

@@ -60,7 +60,8 @@ impl Found {
 
     /// Makes sets of the leaves: each once, ascending. Only the room of `spare` is used. When out of memory there may be others.
     pub fn settle(&mut self, spare: &mut Vec<SourceRun>) -> Result<(), NoMemory>
-        ensures members { OnOk result ((q : AnyLeaf) → has_leaf q (terms_of self.new) ≡ has_leaf q (terms_of self.old)) }
+        ensures members { OnOk result
+            ((q : AnyLeaf) → has_leaf q (terms_of self.new) ≡ has_leaf q (terms_of self.old)) }
         ensures ascending { OnOk result (AreSets (terms_of self.new)) }
     {
         settle(&mut self.runs, spare)?;

@@ -52,7 +52,8 @@ impl Masks {
     #[inline(always)]
     pub fn add(&mut self, node: u32, mask: u64)
         requires { node < length self.old.masks.items }
-        ensures { self.new.masks.items ≡ slice_set self.old.masks.items node (bit_or (slice_index self.old.masks.items node) mask) }
+        ensures { self.new.masks.items
+            ≡ slice_set self.old.masks.items node (bit_or (slice_index self.old.masks.items node) mask) }
     {
         self.masks[node as usize] |= mask;
         self.blocks[node as usize / BLOCK] = true;

@@ -79,7 +79,8 @@ fn spread(
     ensures room { length masks.new.masks.items ≡ length masks.old.masks.items }
     ensures clear { IsClearFrom masks.new.masks.items node }
     ensures sets { length found.new.items ≡ length found.old.items }
-    ensures covers { OnOk result (KeepCovers log.now node mask masks.old.masks.items found.old.items masks.new.masks.items found.new.items) }
+    ensures covers { OnOk result
+        (KeepCovers log.now node mask masks.old.masks.items found.old.items masks.new.masks.items found.new.items) }
 {
     match log.entry(node) {
         Entry::Source(byte) => give(found, mask, Leaves::Run(SourceRun::of_byte(byte))),

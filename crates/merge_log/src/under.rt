@@ -37,7 +37,8 @@ impl StartsUnder {
     pub fn has(&self, node: u32, leaf: u32) -> bool
         requires node { 0 < node }
         requires leaf { 0 < leaf }
-        ensures { IsTrue result → (log : List AnyEntry) → AreUnder log self.now.leaves.items self.now.masks.items → Covers log node leaf }
+        ensures { IsTrue result → (log : List AnyEntry) → AreUnder log self.now.leaves.items self.now.masks.items
+            → Covers log node leaf }
     {
         let bit = self.mask(leaf).trailing_zeros() as usize;
         if bit >= MOST_LEAVES || bit >= self.leaves.len() {
@@ -54,7 +55,8 @@ impl StartsUnder {
         requires node { 0 < node }
         requires operands { HasOperandsBefore node entry }
         ensures { (log : List AnyEntry) → AreOrdered 1 log → entry_at log node ≡ Some entry
-            → AreUnder log self.old.leaves.items self.old.masks.items → AreUnder log self.new.leaves.items self.new.masks.items }
+            → AreUnder log self.old.leaves.items self.old.masks.items
+            → AreUnder log self.new.leaves.items self.new.masks.items }
     {
         if self.masks.len() + 1 != node as usize {
             return;

@@ -14,14 +14,20 @@ use crate::store::Store;
 /// A sure store tells its files while it stays within its room, and it does where there is room for what a call asks. It
 /// never fails.
 pub fn sure_store_stays_within_room(store: &SureStore)
-    ensures tells { StaysWithinRoom store.now → (⟦<SureStore as Store>⟧.shown store.now).files ≡ Some (sure_files_of store.now.held) }
+    ensures tells { StaysWithinRoom store.now
+        → (⟦<SureStore as Store>⟧.shown store.now).files ≡ Some (sure_files_of store.now.held) }
     ensures faults { (⟦<SureStore as Store>⟧.shown store.now).faults ≡ 0 }
-    ensures begin_read { StaysWithinRoom store.now → (name : Text) → IsTrue (name_fits name) → StaysWithinRoom (sure_begin_read name store.now).1 }
+    ensures begin_read { StaysWithinRoom store.now → (name : Text) → IsTrue (name_fits name)
+        → StaysWithinRoom (sure_begin_read name store.now).1 }
     ensures read { StaysWithinRoom store.now → (room : ℕ) → StaysWithinRoom (sure_read room store.now).1 }
-    ensures create { StaysWithinRoom store.now → (name : Text) → IsTrue (name_fits name) → StaysWithinRoom (sure_create name store.now).1 }
-    ensures put { StaysWithinRoom store.now → (piece : List ℕ) → IsTrue (put_fits piece store.now.held) → StaysWithinRoom (sure_put piece store.now).1 }
-    ensures finish { StaysWithinRoom store.now → IsTrue (file_fits store.now.held) → StaysWithinRoom (sure_finish store.now).1 }
-    ensures names { IsSome store.now.opened.names → (name : Text) → IsTrue (has_room_for name store.now.opened) → IsSome (after_note name store.now.opened).names }
+    ensures create { StaysWithinRoom store.now → (name : Text) → IsTrue (name_fits name)
+        → StaysWithinRoom (sure_create name store.now).1 }
+    ensures put { StaysWithinRoom store.now → (piece : List ℕ) → IsTrue (put_fits piece store.now.held)
+        → StaysWithinRoom (sure_put piece store.now).1 }
+    ensures finish { StaysWithinRoom store.now → IsTrue (file_fits store.now.held)
+        → StaysWithinRoom (sure_finish store.now).1 }
+    ensures names { IsSome store.now.opened.names → (name : Text) → IsTrue (has_room_for name store.now.opened)
+        → IsSome (after_note name store.now.opened).names }
 {
     let _ = store;
 }
@@ -29,9 +35,11 @@ pub fn sure_store_stays_within_room(store: &SureStore)
 /// A sure sink tells what was written while it stays within its room, and it does where there is room for a piece. It never
 /// fails.
 pub fn sure_sink_stays_within_room(sink: &SureSink)
-    ensures tells { SinkStaysWithinRoom sink.now → (⟦<SureSink as Sink>⟧.shown sink.now).written ≡ Some sink.now.buffer.bytes }
+    ensures tells { SinkStaysWithinRoom sink.now
+        → (⟦<SureSink as Sink>⟧.shown sink.now).written ≡ Some sink.now.buffer.bytes }
     ensures faults { (⟦<SureSink as Sink>⟧.shown sink.now).faults ≡ 0 }
-    ensures put { SinkStaysWithinRoom sink.now → (piece : List ℕ) → length piece ≤ sink.now.buffer.room → SinkStaysWithinRoom (sure_write piece sink.now).1 }
+    ensures put { SinkStaysWithinRoom sink.now → (piece : List ℕ) → length piece ≤ sink.now.buffer.room
+        → SinkStaysWithinRoom (sure_write piece sink.now).1 }
 {
     let _ = sink;
 }

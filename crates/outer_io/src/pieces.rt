@@ -114,8 +114,11 @@ fn put_through<O: Sink, X: InPieces>(
     requires { pieces.old.buffer.bytes ≡ [] }
     ensures same_reference { pieces.new.sink.ghost_name ≡ pieces.old.sink.ghost_name }
     ensures cause { HasCause (O.shown pieces.old.sink.now).faults (O.shown pieces.new.sink.now).faults result }
-    ensures ok { OnOk result (Tells (O.shown pieces.old.sink.now).written (O.shown pieces.new.sink.now).written (Gains (X.text text.now))) }
-    ensures err { OnErr result (Tells (O.shown pieces.old.sink.now).written (O.shown pieces.new.sink.now).written (GainsPrefix (X.text text.now))) }
+    ensures ok { OnOk result
+        (Tells (O.shown pieces.old.sink.now).written (O.shown pieces.new.sink.now).written (Gains (X.text text.now))) }
+    ensures err { OnErr result
+        (Tells (O.shown pieces.old.sink.now).written (O.shown pieces.new.sink.now).written
+        (GainsPrefix (X.text text.now))) }
 {
     text.put_to(pieces)?;
     pieces.flush()
@@ -132,7 +135,8 @@ pub fn write_in_pieces<O: Sink, X: InPieces>(
 ) -> Result<(), WriteFault>
     ensures cause { HasCause (O.shown sink.old).faults (O.shown sink.new).faults result }
     ensures ok { OnOk result (Tells (O.shown sink.old).written (O.shown sink.new).written (Gains (X.text text.now))) }
-    ensures err { OnErr result (Tells (O.shown sink.old).written (O.shown sink.new).written (GainsPrefix (X.text text.now))) }
+    ensures err { OnErr result
+        (Tells (O.shown sink.old).written (O.shown sink.new).written (GainsPrefix (X.text text.now))) }
 {
     let mut buffer = buffer;
     buffer.clear();

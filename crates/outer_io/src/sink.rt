@@ -23,7 +23,8 @@ pub trait Sink {
         ensures cause { HasCause (shown self.old).faults (shown self.new).faults result }
         ensures count { IfOk result (λ n. n ≤ length piece.now) }
         ensures some { IfOk result (λ n. 0 < length piece.now → 0 < n) }
-        ensures ok { IfOk result (λ n. Tells (shown self.old).written (shown self.new).written (Gains (take n piece.now))) }
+        ensures ok { IfOk result (λ n.
+            Tells (shown self.old).written (shown self.new).written (Gains (take n piece.now))) }
         ensures err { OnErr result (Tells (shown self.old).written (shown self.new).written (Gains [])) }
         ensures gives { put_gives self.old piece.now (result_ok result) self.new };
 

@@ -67,7 +67,8 @@ pub trait Store {
         ensures created { is_created self.new ≡ is_created self.old }
         ensures opened { Tells (shown self.old).opened (shown self.new).opened (Gains []) }
         ensures count { IfOk result (λ n. n ≤ length into.old) }
-        ensures ok { IfOk result (λ n. Tells (shown self.old).files (shown self.new).files (Takes (length into.old) (take n into.new))) }
+        ensures ok { IfOk result (λ n.
+            Tells (shown self.old).files (shown self.new).files (Takes (length into.old) (take n into.new))) }
         ensures err { OnErr result (Tells (shown self.old).files (shown self.new).files TakesNone) }
         ensures gives { read_gives self.old (length into.old) (result_ok result) self.new };
 

@@ -53,7 +53,8 @@ pub fn read_whole<S: Store>(
 ) -> Result<Vec<u8>, ReadWhole>
     requires { max ≤ 2 ^ 26 }
     ensures short { IfOk result (λ bytes. vec_len bytes ≤ max) }
-    ensures content { IfOk result (λ bytes. Tells (S.shown store.old).files (S.shown store.new).files (HasContent name.now bytes.items)) }
+    ensures content { IfOk result (λ bytes.
+        Tells (S.shown store.old).files (S.shown store.new).files (HasContent name.now bytes.items)) }
     ensures cause { IfErr result (IsCausedBy (ReadCause name.now max (S.shown store.old) (S.shown store.new))) }
     ensures most { Tells (S.shown store.old).files (S.shown store.new).files (TakesAtMost name.now (max + 1)) }
     ensures pieces { ComesByReads S.begin_read_gives S.read_gives name.now 65536 store.old store.new }
@@ -123,8 +124,10 @@ fn put_whole<S: Store>(store: &mut S, bytes: &[u8]) -> Result<(), WriteFault>
 /// It fails where the store failed; its count of faults then rose, or stands at 2^64 - 1, the file may
 /// be anything, and what was put is a prefix of the bytes.
 pub fn write_file<S: Store>(store: &mut S, name: &str, bytes: &[u8]) -> Result<(), WriteFault>
-    ensures whole { OnOk result (Tells (S.shown store.old).files (S.shown store.new).files (IsWritten name.now bytes.now)) }
-    ensures part { OnErr result (Tells (S.shown store.old).files (S.shown store.new).files (PutsPart name.now bytes.now)) }
+    ensures whole { OnOk result
+        (Tells (S.shown store.old).files (S.shown store.new).files (IsWritten name.now bytes.now)) }
+    ensures part { OnErr result
+        (Tells (S.shown store.old).files (S.shown store.new).files (PutsPart name.now bytes.now)) }
     ensures fault { OnErr result (Rose (S.shown store.old).faults (S.shown store.new).faults) }
     ensures others { Tells (S.shown store.old).files (S.shown store.new).files (KeepsOtherFiles name.now) }
     ensures opened { Tells (S.shown store.old).opened (S.shown store.new).opened (Gains (name.now ∷ [])) }

@@ -39,7 +39,8 @@ fn path_here(
 ) -> Result<Option<Found>, NoMemory>
     requires location { IsLocation loc }
     requires trail { IsTrail trail.now }
-    ensures path { IfOk result (λ f. (rule : RuleOfFlow) (s : Source) (trace : List Step) → IsAfter rule s trace time trail.now
+    ensures path { IfOk result (λ f.
+        (rule : RuleOfFlow) (s : Source) (trace : List Step) → IsAfter rule s trace time trail.now
         → shown_found f ≡ ended_in (record { name = name; time = time; loc = loc }) (path rule s trace time loc)) }
     ensures time { IfOk result (λ f. IfSome f (λ x. x.time ≡ time)) }
 {

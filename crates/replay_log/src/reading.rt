@@ -51,8 +51,10 @@ fn records_of(
     bytes: &[u8],
 ) -> Result<(Vec<CallRecord>, RunEnd), LogFault>
     requires { length bytes.now < size }
-    ensures ok { IfOk result (λ x. body_of version size 0 (size - length bytes.now) left.old bytes.now ≡ Ok (x.0.items, x.1)) }
-    ensures fault { IfErr result (IsCausedBy (IsFaultOf (body_of version size 0 (size - length bytes.now) left.old bytes.now))) }
+    ensures ok { IfOk result (λ x.
+        body_of version size 0 (size - length bytes.now) left.old bytes.now ≡ Ok (x.0.items, x.1)) }
+    ensures fault { IfErr result
+        (IsCausedBy (IsFaultOf (body_of version size 0 (size - length bytes.now) left.old bytes.now))) }
 {
     let mut records = Vec::new(alloc);
     let mut least = 0;

@@ -19,7 +19,8 @@ pub fn none_where_all_agrees()
 /// There is a divergence exactly where something differs up to the time of the end, and it is the first
 /// that does.
 pub fn divergence_is_first()
-    ensures { (start : State) (log : Log) (d : Difference) → (divergence start log ≡ Some d) ↔ IsFirstDifference start log d }
+    ensures { (start : State) (log : Log) (d : Difference) → (divergence start log ≡ Some d)
+        ↔ IsFirstDifference start log d }
 {}
 
 /// What a divergence tells differs.
@@ -30,7 +31,8 @@ pub fn divergence_differs()
 /// Where nothing differs, the offset of a read or a write that moves bytes is how many bytes the steps
 /// before it read, or wrote, on its channel.
 pub fn offsets_count()
-    ensures { (start : State) (log : Log) → IsLog log → divergence start log ≡ None → OffsetsCount (trace start log) log.records }
+    ensures { (start : State) (log : Log) → IsLog log → divergence start log ≡ None
+        → OffsetsCount (trace start log) log.records }
 {}
 
 /// No two writes of a run have an output byte in common.

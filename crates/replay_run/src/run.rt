@@ -74,7 +74,13 @@ fn simple_call(kind: CallKind) -> CallSeen
 /// A read or a write that moves bytes, with the offset of the first.
 fn transfer(kind: CallKind, args: &[u32; 3], offset: u32, length: usize) -> CallSeen
     requires { length < 2 ^ 32 }
-    ensures { result ≡ record { kind = kind; channel = slice_index args.now 0; place = slice_index args.now 1; offset = offset; length = length } }
+    ensures { result ≡ record {
+      kind = kind;
+      channel = slice_index args.now 0;
+      place = slice_index args.now 1;
+      offset = offset;
+      length = length;
+    } }
 {
     CallSeen {
         kind,
@@ -236,7 +242,10 @@ impl<'a> Run<'a> {
         requires due { IsDue self.old.log.inputs self.old.moment self.old.moment.left }
         requires time { self.old.moment.time < 2 ^ 41 }
         ensures seen { result ≡ call_seen self.old.moment self.old.moment.left }
-        ensures after { self.new ≡ record self.old { moment = after_call self.old.moment self.old.moment.left; waits = false } }
+        ensures after { self.new ≡ record self.old {
+          moment = after_call self.old.moment self.old.moment.left;
+          waits = false;
+        } }
     {
         let left = self.left();
         self.time += 1;

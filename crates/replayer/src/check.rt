@@ -115,7 +115,8 @@ pub(crate) fn first_divergence<W: Watcher>(
 ) -> Option<Divergence>
     requires { machine.waits ≡ false }
     ensures first { result ≡ divergence machine.state log.now }
-    ensures seen { result ≡ None → W.seen watcher.old watcher.new (record { start = machine.state; log = log.now }) (steps log.now) }
+    ensures seen { result ≡ None
+        → W.seen watcher.old watcher.new (record { start = machine.state; log = log.now }) (steps log.now) }
 {
     let last = time_of_end(log.end());
     let mut run = Run::start(machine, log);

@@ -186,7 +186,13 @@ impl Job {
 
     /// What the log says of the run, in numbers.
     pub fn summary(&self) -> ReplaySummary
-        ensures { result ≡ record { steps = steps self.now.log; calls = calls self.now.log; read = bytes_read self.now.log; written = bytes_written self.now.log; end = self.now.log.end } }
+        ensures { result ≡ record {
+          steps = steps self.now.log;
+          calls = calls self.now.log;
+          read = bytes_read self.now.log;
+          written = bytes_written self.now.log;
+          end = self.now.log.end;
+        } }
     {
         let records = self.log.records();
         let mut read = 0;

@@ -70,7 +70,8 @@ fn turn_at_once<T: Task, R: Threads + Wait + Sync>(
         threads,
         &|_: usize, worker: &mut Worker<T>|
             requires { IsReady T.words (ruled_capacity queue.now) (IsPassOf queue.now) worker.now }
-            ensures { IsReady T.words (ruled_capacity queue.entry.now) (IsPassOf queue.entry.now) worker.new × Follows worker.old worker.new }
+            ensures { IsReady T.words (ruled_capacity queue.entry.now) (IsPassOf queue.entry.now) worker.new
+                × Follows worker.old worker.new }
         { turn_until_empty(rt, queue, worker) },
     );
 }
@@ -84,7 +85,8 @@ fn turn_pool<T: Task, R: Threads + Wait + Sync>(
     requires some { 0 < vec_len pool.old }
     requires ready { All (IsReady T.words (ruled_capacity queue.now) (IsPassOf queue.now)) pool.old.items }
     ensures ready { All (IsReady T.words (ruled_capacity queue.now) (IsPassOf queue.now)) pool.new.items }
-    ensures starts { (starts : List T) → All (KnowsStarts starts) pool.old.items → All (KnowsStarts starts) pool.new.items }
+    ensures starts { (starts : List T) → All (KnowsStarts starts) pool.old.items
+        → All (KnowsStarts starts) pool.new.items }
     ensures shares { shares_of pool.new.items ≡ shares_of pool.old.items }
     ensures count { vec_len pool.new ≡ vec_len pool.old }
 {

@@ -54,8 +54,10 @@ pub(crate) fn answer_of_one(
 ) -> Result<(Report, Vec<Crossed>, u64), NoMemory>
     requires { sets.items ≡ rows_as_written query.now (trace_of job.now) }
     ensures report { IfOk result (λ r. r.0 ≡ rows query.now (trace_of job.now)) }
-    ensures crossed { (cuts : List ℕ) → length cuts ≡ 1 → IfOk result (λ r. r.1.items ≡ crossed query.now (trace_of job.now) cuts) }
-    ensures events { (cuts : List ℕ) → length cuts ≡ 1 → IfOk result (λ r. r.2 ≡ capped (run_work query.now (trace_of job.now) cuts)) }
+    ensures crossed { (cuts : List ℕ) → length cuts ≡ 1
+        → IfOk result (λ r. r.1.items ≡ crossed query.now (trace_of job.now) cuts) }
+    ensures events { (cuts : List ℕ) → length cuts ≡ 1
+        → IfOk result (λ r. r.2 ≡ capped (run_work query.now (trace_of job.now) cuts)) }
 {
     let events = (sets.len() as u64).saturating_add(4);
     let collected = Collected {

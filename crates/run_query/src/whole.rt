@@ -107,8 +107,10 @@ fn answer_of_sinks(
 ) -> Result<(Report, Vec<Crossed>, u64), NoMemory>
     requires { AreSinksOfRun query.now job.now sinks }
     ensures report { IfOk result (λ r. r.0 ≡ rows query.now (trace_of job.now)) }
-    ensures crossed { (cuts : List ℕ) → length cuts ≡ 1 → IfOk result (λ r. r.1.items ≡ crossed query.now (trace_of job.now) cuts) }
-    ensures events { (cuts : List ℕ) → length cuts ≡ 1 → IfOk result (λ r. r.2 ≡ capped (run_work query.now (trace_of job.now) cuts)) }
+    ensures crossed { (cuts : List ℕ) → length cuts ≡ 1
+        → IfOk result (λ r. r.1.items ≡ crossed query.now (trace_of job.now) cuts) }
+    ensures events { (cuts : List ℕ) → length cuts ≡ 1
+        → IfOk result (λ r. r.2 ≡ capped (run_work query.now (trace_of job.now) cuts)) }
 {
     let sets = sinks.rows(alloc)?;
     answer_of_one(alloc, job, query, sets)

@@ -54,7 +54,8 @@ impl Machine {
         requires some { 1 ≤ pages }
         requires most { pages ≤ 4096 }
         ensures starts { IfOk result (λ m. (start_of image.now pages ≡ Some m.state) × (m.waits ≡ false)) }
-        ensures small { IfErr result (IsCausedBy (λ window. (window.pages ≡ pages) × (start_of image.now pages ≡ None))) }
+        ensures small { IfErr result
+            (IsCausedBy (λ window. (window.pages ≡ pages) × (start_of image.now pages ≡ None))) }
         ensures window { start_of image.now pages ≡ None → result ≡ Err (At (record { pages = pages })) }
     {
         let state = HartState::start(alloc, image, pages)?;

@@ -47,7 +47,8 @@ fn push_pieces(
     requires range { IsRange range }
     requires ascending { IsStrictlyIncreasing cuts.now }
     requires uncut { All (IsUncut cuts.now) pieces.old.items }
-    ensures bytes { OnOk result (flat_map bytes_of pieces.new.items ≡ flat_map bytes_of pieces.old.items ++ bytes_of range) }
+    ensures bytes { OnOk result
+        (flat_map bytes_of pieces.new.items ≡ flat_map bytes_of pieces.old.items ++ bytes_of range) }
     ensures uncut { OnOk result (All (IsUncut cuts.now) pieces.new.items) }
 {
     let channel = place_of(range.channel, 0);

@@ -85,7 +85,8 @@ pub fn gather(alloc: Global, sets: Vec<SinkSet>) -> Result<Report, NoMemory>
 
 /// Sorts sets, which are those of a report in some order, by their output bytes and points.
 fn sort(alloc: Global, sets: &mut [SinkSet]) -> Result<(), NoMemory>
-    ensures { OnOk result ((all : List Row) → AreDistinct all → IsPermutation all sets.old → sets.new ≡ set_of row_cmp all) }
+    ensures { OnOk result
+        ((all : List Row) → AreDistinct all → IsPermutation all sets.old → sets.new ≡ set_of row_cmp all) }
 {
     sets.sort_by_key(alloc, |set| set.sink())?;
     Ok(())

@@ -40,7 +40,9 @@ fn put_tens<P: Pieces>(
     past: u64,
 ) -> Result<(), P::Fault>
     requires { (0 < from) × (from ≤ past) × (10 * past ≤ 2 ^ 32) }
-    ensures { Puts P.putting place.old (flat_map source_text (bytes_of (record { channel = channel; from = 10 * from; past = 10 * past }))) place.new result }
+    ensures { Puts P.putting place.old
+        (flat_map source_text
+        (bytes_of (record { channel = channel; from = 10 * from; past = 10 * past }))) place.new result }
 {
     for tens in from..past {
         names.write_ten(channel, tens as u32);

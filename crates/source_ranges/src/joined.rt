@@ -67,7 +67,8 @@ fn push_joined(ranges: &mut Vec<SourceRange>, range: SourceRange) -> Result<(), 
     requires range { IsRange range }
     requires apart { AreApart ranges.old.items }
     requires fits { All IsRange ranges.old.items }
-    ensures bytes { OnOk result (flat_map bytes_of ranges.new.items ≡ flat_map bytes_of ranges.old.items ++ bytes_of range) }
+    ensures bytes { OnOk result
+        (flat_map bytes_of ranges.new.items ≡ flat_map bytes_of ranges.old.items ++ bytes_of range) }
     ensures apart { AreApart ranges.new.items }
     ensures fits { All IsRange ranges.new.items }
 {
@@ -83,7 +84,8 @@ fn join_last(ranges: &mut Vec<SourceRange>, range: SourceRange) -> bool
     requires range { IsRange range }
     requires apart { AreApart ranges.old.items }
     requires fits { All IsRange ranges.old.items }
-    ensures bytes { IsTrue result → flat_map bytes_of ranges.new.items ≡ flat_map bytes_of ranges.old.items ++ bytes_of range }
+    ensures bytes { IsTrue result
+        → flat_map bytes_of ranges.new.items ≡ flat_map bytes_of ranges.old.items ++ bytes_of range }
     ensures apart { IsTrue result → AreApart ranges.new.items }
     ensures fits { IsTrue result → All IsRange ranges.new.items }
     ensures kept { result ≡ false → ranges.new.items ≡ ranges.old.items }

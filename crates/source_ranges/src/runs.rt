@@ -62,7 +62,8 @@ fn push_run(joined: &mut JoinedRanges, run: SourceRun) -> Result<(), NoMemory>
 
 /// The range of a run's bytes; none where it has no byte.
 fn range_of(run: SourceRun) -> Option<SourceRange>
-    ensures { MatchOption result (bytes_of_run run ≡ []) (λ range. IsRange range × (bytes_of range ≡ bytes_of_run run)) }
+    ensures { MatchOption result (bytes_of_run run ≡ []) (λ range.
+        IsRange range × (bytes_of range ≡ bytes_of_run run)) }
 {
     if run.last < run.first {
         return None;

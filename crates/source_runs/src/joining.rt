@@ -13,7 +13,8 @@ use no_memory::NoMemory;
 /// Makes of runs in any order those of the same bytes, ascending, each byte once, and each run as long as can be. Only the room
 /// of `spare` is used. It fails only where there is no memory.
 pub fn settle(runs: &mut Vec<SourceRun>, spare: &mut Vec<SourceRun>) -> Result<(), NoMemory>
-    ensures members { OnOk result ((b : Source) → has source_cmp b (all_bytes runs.new.items) ≡ has source_cmp b (all_bytes runs.old.items)) }
+    ensures members { OnOk result
+        ((b : Source) → has source_cmp b (all_bytes runs.new.items) ≡ has source_cmp b (all_bytes runs.old.items)) }
     ensures ascending { OnOk result (Ascends source_cmp (all_bytes runs.new.items)) }
     ensures longest { OnOk result (AreLongest runs.new.items) }
 {
@@ -28,7 +29,8 @@ pub fn settle(runs: &mut Vec<SourceRun>, spare: &mut Vec<SourceRun>) -> Result<(
 /// left to be sorted.
 fn join_neighbours(runs: &[SourceRun], joined: &mut Vec<SourceRun>) -> Result<(), NoMemory>
     requires { joined.old.items ≡ [] }
-    ensures { OnOk result ((b : Source) → has source_cmp b (all_bytes joined.new.items) ≡ has source_cmp b (all_bytes runs.now)) }
+    ensures { OnOk result
+        ((b : Source) → has source_cmp b (all_bytes joined.new.items) ≡ has source_cmp b (all_bytes runs.now)) }
 {
     let Some((first, more)) = runs.split_first() else {
         return Ok(());
@@ -51,7 +53,8 @@ fn join_neighbours(runs: &[SourceRun], joined: &mut Vec<SourceRun>) -> Result<()
 fn join_sorted(runs: &[SourceRun], joined: &mut Vec<SourceRun>) -> Result<(), NoMemory>
     requires rising { AreRising runs.now }
     requires none { joined.old.items ≡ [] }
-    ensures members { OnOk result ((b : Source) → has source_cmp b (all_bytes joined.new.items) ≡ has source_cmp b (all_bytes runs.now)) }
+    ensures members { OnOk result
+        ((b : Source) → has source_cmp b (all_bytes joined.new.items) ≡ has source_cmp b (all_bytes runs.now)) }
     ensures ascending { OnOk result (Ascends source_cmp (all_bytes joined.new.items)) }
     ensures longest { OnOk result (AreLongest joined.new.items) }
 {

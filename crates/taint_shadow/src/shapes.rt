@@ -73,7 +73,8 @@ fn mix_each<A: Labels>(
 ) -> Result<(), NoMemory>
     requires registers { (rd < 32) × (rs1 < 32) × (rs2 < 32) }
     requires standing { AreStanding A.words labels.old places.old }
-    ensures { OnOk result (Turns A.words labels.old places.old labels.new places.new (Shape.Mixed Mixing.EachLane rd rs1 rs2)) }
+    ensures { OnOk result
+        (Turns A.words labels.old places.old labels.new places.new (Shape.Mixed Mixing.EachLane rd rs1 rs2)) }
 {
     let lanes = lane_labels(labels, places, rs1, rs2)?;
     places.set_lanes(rd, lanes);
@@ -90,7 +91,8 @@ fn mix_all<A: Labels>(
 ) -> Result<(), NoMemory>
     requires registers { (rd < 32) × (rs1 < 32) × (rs2 < 32) }
     requires standing { AreStanding A.words labels.old places.old }
-    ensures { OnOk result (Turns A.words labels.old places.old labels.new places.new (Shape.Mixed Mixing.AllLanes rd rs1 rs2)) }
+    ensures { OnOk result
+        (Turns A.words labels.old places.old labels.new places.new (Shape.Mixed Mixing.AllLanes rd rs1 rs2)) }
 {
     let label = all_label(labels, places, rs1, rs2)?;
     places.set_lanes(rd, Lanes::alike(label));
@@ -107,7 +109,8 @@ fn shift<A: Labels>(
 ) -> Result<(), NoMemory>
     requires registers { (rd < 32) × (rs1 < 32) × (rs2 < 32) }
     requires standing { AreStanding A.words labels.old places.old }
-    ensures { OnOk result (Turns A.words labels.old places.old labels.new places.new (Shape.Mixed Mixing.ShiftedLanes rd rs1 rs2)) }
+    ensures { OnOk result
+        (Turns A.words labels.old places.old labels.new places.new (Shape.Mixed Mixing.ShiftedLanes rd rs1 rs2)) }
 {
     let label = shifted_label(labels, places, rs1, rs2)?;
     places.set_lanes(rd, Lanes::alike(label));
@@ -124,7 +127,8 @@ fn compare<A: Labels>(
 ) -> Result<(), NoMemory>
     requires registers { (rd < 32) × (rs1 < 32) × (rs2 < 32) }
     requires standing { AreStanding A.words labels.old places.old }
-    ensures { OnOk result (Turns A.words labels.old places.old labels.new places.new (Shape.Mixed Mixing.FirstLane rd rs1 rs2)) }
+    ensures { OnOk result
+        (Turns A.words labels.old places.old labels.new places.new (Shape.Mixed Mixing.FirstLane rd rs1 rs2)) }
 {
     let label = all_label(labels, places, rs1, rs2)?;
     places.set_lanes(rd, Lanes::alike(label).extended(1, false));
@@ -207,7 +211,8 @@ fn load<A: Labels>(
     requires registers { (rd < 32) × (base < 32) }
     requires size { (1 ≤ size) × (size ≤ 4) }
     requires standing { AreStanding A.words labels.old places.old }
-    ensures { OnOk result (Turns A.words labels.old places.old labels.new places.new (Shape.Load rd base place size fills)) }
+    ensures { OnOk result
+        (Turns A.words labels.old places.old labels.new places.new (Shape.Load rd base place size fills)) }
 {
     let lanes = add_base(labels, places, base, size, places.word(place))?;
     places.put_lanes(rd, lanes.extended(size, fills));

@@ -37,7 +37,8 @@ fn receive<A: Labels>(
 ) -> Result<(), NoMemory>
     requires in_range { IsCallInRange (Some call.now) }
     requires standing { AreStanding A.words labels.old places.old }
-    ensures { OnOk result (AfterRead A.words (policy_of query.now) call.now labels.old places.old labels.new places.new) }
+    ensures { OnOk result
+        (AfterRead A.words (policy_of query.now) call.now labels.old places.old labels.new places.new) }
 {
     for i in 0..call.length {
         let byte = SourceByte {
@@ -87,7 +88,8 @@ fn turn_by_call<A: Labels>(
 ) -> Result<(), NoMemory>
     requires in_range { IsCallInRange (Some call.now) }
     requires standing { AreStanding A.words labels.old places.old }
-    ensures { OnOk result (AfterCall A.words (policy_of query.now) call.now labels.old places.old labels.new places.new) }
+    ensures { OnOk result
+        (AfterCall A.words (policy_of query.now) call.now labels.old places.old labels.new places.new) }
 {
     clear_result(labels, places, call.kind)?;
     match call.kind {
@@ -130,7 +132,8 @@ pub fn step<A: Labels>(
 ) -> Result<(), NoMemory>
     requires in_range { IsInRange step.now }
     requires standing { AreStanding A.words labels.old places.old }
-    ensures { OnOk result (AfterStep A.words (policy_of query.now) step.now labels.old places.old labels.new places.new) }
+    ensures { OnOk result
+        (AfterStep A.words (policy_of query.now) step.now labels.old places.old labels.new places.new) }
 {
     match &step.call {
         None => plain_step(labels, places, &step.instr, step.place, query.rule()),

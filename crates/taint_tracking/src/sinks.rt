@@ -23,7 +23,9 @@ pub fn collect(
     sinks: &mut Vec<SinkLabel>,
 ) -> Result<(), NoMemory>
     requires { IsInRange step.now }
-    ensures { OnOk result ((t : ℕ) → Notes places.now (chosen query.now (sinks_of_step t step.now.call)) sinks.old.items sinks.new.items) }
+    ensures { OnOk result
+        ((t : ℕ) → Notes places.now
+        (chosen query.now (sinks_of_step t step.now.call)) sinks.old.items sinks.new.items) }
 {
     let Some(call) = &step.call else {
         return Ok(());
@@ -42,7 +44,10 @@ fn collect_written(
     sinks: &mut Vec<SinkLabel>,
 ) -> Result<(), NoMemory>
     requires { IsCallInRange (Some call.now) }
-    ensures { OnOk result ((t : ℕ) → Notes places.now (chosen query.now (map (sink_at t call.now) (range_with_len 0 call.now.length))) sinks.old.items sinks.new.items) }
+    ensures { OnOk result
+        ((t : ℕ) → Notes places.now
+        (chosen query.now
+        (map (sink_at t call.now) (range_with_len 0 call.now.length))) sinks.old.items sinks.new.items) }
 {
     for i in 0..call.length {
         let sink = SinkByte {
@@ -66,7 +71,9 @@ fn collect_byte(
     sinks: &mut Vec<SinkLabel>,
 ) -> Result<(), NoMemory>
     requires { IsLocation loc }
-    ensures { OnOk result ((t : ℕ) → Notes places.now (chosen query.now (record { name = Out sink; time = t; loc = loc } ∷ [])) sinks.old.items sinks.new.items) }
+    ensures { OnOk result
+        ((t : ℕ) → Notes places.now
+        (chosen query.now (record { name = Out sink; time = t; loc = loc } ∷ [])) sinks.old.items sinks.new.items) }
 {
     if !query.sink_has(sink) {
         return Ok(());

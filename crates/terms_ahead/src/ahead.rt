@@ -301,7 +301,9 @@ fn next_ends(
 
 /// Adds the node of a label, where it has one with terms that isn't there.
 fn add_node(next: &mut Vec<Node>, label: Label) -> Result<(), NoMemory>
-    ensures { OnOk result ((next.new.items ≡ next.old.items) ⊎ (next.new.items ≡ next.old.items ++ node_or_nothing (kind_of label) ∷ [])) }
+    ensures { OnOk result
+        ((next.new.items ≡ next.old.items)
+        ⊎ (next.new.items ≡ next.old.items ++ node_or_nothing (kind_of label) ∷ [])) }
 {
     match label.kind() {
         LabelKind::Start(_) => Ok(()),

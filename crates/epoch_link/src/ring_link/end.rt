@@ -26,9 +26,11 @@ impl<T: Drop> End<T> {
     // An end through which nothing went.
     pub fn new(table: Arc<RingTable<T>, Global>, seat: RingSeat<T>, capacity: usize) -> End<T>
         requires seated { seat.table_id ≡ (arc_value table).shared.table_id }
-        requires sized { (seat.table_id.words ≡ 2) × (seat.table_id.slots ≡ capacity) × ((arc_value table).shared.key ≡ capacity) }
+        requires sized { (seat.table_id.words ≡ 2) × (seat.table_id.slots ≡ capacity)
+            × ((arc_value table).shared.key ≡ capacity) }
         requires inside { (0 < capacity) × (capacity ≤ 65536) }
-        ensures { (result.seat ≡ seat) × (result.capacity ≡ capacity) × (result.count ≡ 0) × (result.slot ≡ 0) × (result.refusals ≡ 0) }
+        ensures { (result.seat ≡ seat) × (result.capacity ≡ capacity) × (result.count ≡ 0) × (result.slot ≡ 0)
+            × (result.refusals ≡ 0) }
     {
         End {
             table,

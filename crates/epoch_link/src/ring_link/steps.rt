@@ -13,8 +13,10 @@ impl<T: Drop> End<T> {
     // The producer's look at the head. It takes the next slot, unless the ring is full.
     pub fn load_head(&mut self) -> u64
         requires { AtPush self.old.seat.me self.old.capacity self.old.count self.old.slot false }
-        ensures full { distance self.old.count result ≡ self.old.capacity → self.new.seat.me ≡ (seen_head self.old.seat.me.0 result false, []) }
-        ensures room { distance self.old.count result ≢ self.old.capacity → self.new.seat.me ≡ (seen_head self.old.seat.me.0 result true, (self.old.slot, None) ∷ []) }
+        ensures full { distance self.old.count result ≡ self.old.capacity
+            → self.new.seat.me ≡ (seen_head self.old.seat.me.0 result false, []) }
+        ensures room { distance self.old.count result ≢ self.old.capacity
+            → self.new.seat.me ≡ (seen_head self.old.seat.me.0 result true, (self.old.slot, None) ∷ []) }
         ensures same { IsSameEnd self.old self.new }
         ensures place { IsSamePlace self.old self.new }
     {
@@ -25,8 +27,11 @@ impl<T: Drop> End<T> {
     pub fn load_tail(&mut self) -> u64
         requires { AtPop self.old.seat.me self.old.capacity self.old.count self.old.slot None }
         ensures empty { result ≡ self.old.count → self.new.seat.me ≡ (seen_tail self.old.seat.me.0 result None, []) }
-        ensures found { result ≢ self.old.count → (x : T) × (self.new.seat.me ≡ (seen_tail self.old.seat.me.0 result (Some x), (self.old.slot, Some x) ∷ [])) }
-        ensures remains { self.old.seat.me.0.produces ≡ true → Remains self.old.capacity self.old.seat.me.0 self.new.seat.me.0.next }
+        ensures found { result ≢ self.old.count
+            → (x : T) ×
+            (self.new.seat.me ≡ (seen_tail self.old.seat.me.0 result (Some x), (self.old.slot, Some x) ∷ [])) }
+        ensures remains { self.old.seat.me.0.produces ≡ true
+            → Remains self.old.capacity self.old.seat.me.0 self.new.seat.me.0.next }
         ensures same { IsSameEnd self.old self.new }
         ensures place { IsSamePlace self.old self.new }
     {
@@ -37,7 +42,8 @@ impl<T: Drop> End<T> {
     fn advance(&mut self)
         ensures count { self.new.count ≡ word_of (self.old.count + 1) }
         ensures slot { self.new.slot ≡ (self.old.slot + 1) % self.old.capacity }
-        ensures same { (self.new.seat ≡ self.old.seat) × (self.new.table ≡ self.old.table) × (self.new.capacity ≡ self.old.capacity) × (self.new.refusals ≡ self.old.refusals) }
+        ensures same { (self.new.seat ≡ self.old.seat) × (self.new.table ≡ self.old.table)
+            × (self.new.capacity ≡ self.old.capacity) × (self.new.refusals ≡ self.old.refusals) }
     {
         self.count = self.count.wrapping_add(1);
         self.slot = if self.slot + 1 == self.capacity {
@@ -50,7 +56,8 @@ impl<T: Drop> End<T> {
     // The producer puts the item into the slot that it has out, and stores the tail.
     pub fn send(&mut self, item: T)
         requires { AtPush self.old.seat.me self.old.capacity self.old.count self.old.slot true }
-        ensures sent { self.new.seat.me ≡ (record self.old.seat.me.0 { sent = self.old.seat.me.0.sent ++ item ∷ []; lends = false }, []) }
+        ensures sent { self.new.seat.me
+            ≡ (record self.old.seat.me.0 { sent = self.old.seat.me.0.sent ++ item ∷ []; lends = false }, []) }
         ensures ready { AtPush self.new.seat.me self.new.capacity self.new.count self.new.slot false }
         ensures same { IsSameEnd self.old self.new }
     {
@@ -65,7 +72,8 @@ impl<T: Drop> End<T> {
     pub fn receive(&mut self) -> T
         requires { (x : T) × AtPop self.old.seat.me self.old.capacity self.old.count self.old.slot (Some x) }
         ensures item { self.old.seat.me.0.next ≡ Some result }
-        ensures got { self.new.seat.me ≡ (record self.old.seat.me.0 { got = self.old.seat.me.0.got ++ result ∷ []; next = None }, []) }
+        ensures got { self.new.seat.me
+            ≡ (record self.old.seat.me.0 { got = self.old.seat.me.0.got ++ result ∷ []; next = None }, []) }
         ensures ready { AtPop self.new.seat.me self.new.capacity self.new.count self.new.slot None }
         ensures same { IsSameEnd self.old self.new }
     {

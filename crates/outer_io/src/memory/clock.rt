@@ -48,7 +48,8 @@ impl Clock for ListClock {
         ensures told { Tells (told_answers self.old) (told_answers self.new) (Gains (result ∷ [])) }
         ensures answer { result ≡ answer_of self.old.list self.old.answered }
         ensures list { self.new.list ≡ self.old.list }
-        ensures next { self.old.answered < 2 ^ 64 - 1 → self.new ≡ record self.old { answered = self.old.answered + 1 } }
+        ensures next { self.old.answered < 2 ^ 64 - 1
+            → self.new ≡ record self.old { answered = self.old.answered + 1 } }
     {
         let answer = answer_at(&self.list, self.answered);
         if self.answered == u64::MAX {

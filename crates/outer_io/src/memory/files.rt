@@ -76,7 +76,8 @@ fn longest_of(files: &[MemoryFile], least: usize) -> usize
 
 // The content of the first file of this name.
 fn content<'a>(files: &'a [MemoryFile], name: &str) -> Option<&'a [u8]>
-    ensures { MatchOption result (content_of (entries_of files.now) name.now ≡ None) (λ bytes. content_of (entries_of files.now) name.now ≡ Some bytes.now) }
+    ensures { MatchOption result (content_of (entries_of files.now) name.now ≡ None) (λ bytes.
+        content_of (entries_of files.now) name.now ≡ Some bytes.now) }
 {
     for file in files {
         if file.name.as_str() == name {

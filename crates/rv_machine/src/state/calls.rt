@@ -81,7 +81,10 @@ impl HartState {
     /// Bytes go to memory from an address on, which counts only where there are some.
     fn store_if_any(&mut self, address: u32, bytes: &[u8])
         requires { 0 < length bytes.now → IsTrue (in_window self.old address (length bytes.now)) }
-        ensures { self.new ≡ record self.old { memory = overwritten self.old.memory (address - self.old.base) bytes.now } }
+        ensures { self.new ≡ record self.old {
+          memory = overwritten self.old.memory
+              (address - self.old.base) bytes.now;
+        } }
     {
         if !bytes.is_empty() {
             self.store(address, bytes);

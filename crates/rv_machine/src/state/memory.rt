@@ -77,7 +77,10 @@ impl HartState {
     /// Bytes go to memory from an address on.
     pub fn store(&mut self, address: u32, bytes: &[u8])
         requires { IsTrue (in_window self.old address (length bytes.now)) }
-        ensures { self.new ≡ record self.old { memory = overwritten self.old.memory (address - self.old.base) bytes.now } }
+        ensures { self.new ≡ record self.old {
+          memory = overwritten self.old.memory
+              (address - self.old.base) bytes.now;
+        } }
     {
         let start = (address - self.base) as usize;
         self.memory[start..start + bytes.len()].copy_from_slice(bytes);
@@ -87,7 +90,10 @@ impl HartState {
     pub fn store_low(&mut self, address: u32, value: u32, size: u8)
         requires inside { IsTrue (in_window self.old address size) }
         requires sizes { (size ≡ 1) ⊎ (size ≡ 2) ⊎ (size ≡ 4) }
-        ensures { self.new ≡ record self.old { memory = overwritten self.old.memory (address - self.old.base) (low_bytes size value) } }
+        ensures { self.new ≡ record self.old {
+          memory = overwritten self.old.memory (address - self.old.base)
+              (low_bytes size value);
+        } }
     {
         let bytes = value.to_le_bytes();
         match size {

@@ -57,7 +57,8 @@ impl HartState {
         requires some { 1 ≤ pages }
         requires most { pages ≤ 4096 }
         ensures starts { IfOk result (λ s. start_of image.now pages ≡ Some s) }
-        ensures small { IfErr result (IsCausedBy (λ window. (window.pages ≡ pages) × (start_of image.now pages ≡ None))) }
+        ensures small { IfErr result
+            (IsCausedBy (λ window. (window.pages ≡ pages) × (start_of image.now pages ≡ None))) }
         ensures window { start_of image.now pages ≡ None → result ≡ Err (At (record { pages = pages })) }
     {
         if !can_hold(image, pages) {
