@@ -1,6 +1,6 @@
 //! `jet` answers, of a recorded run, from which input bytes each output byte came.
 //!
-//! What each status says is told by the contract of `jet_call::jet`.
+//! What each status says is told by the contract of `jet_cli::jet`.
 #![tactic(auto)]
 
 ghost use Rattle.std.specs.Prelude.{◌≤◌, length};
@@ -8,7 +8,7 @@ ghost use Rattle.std.specs.Prelude.{◌≤◌, length};
 #[cfg(test)]
 mod tests;
 
-use jet_call::jet;
+use jet_cli::jet;
 use jet_refusal::Refusal;
 use jet_work::conclude;
 use no_memory::NoMemory;

@@ -25,7 +25,7 @@ use guests::{
     ADD_WORDS, COPY_FOUR, Guest, LESS_THAN, LOAD_SIGNED, LOAD_UNSIGNED, LOOK_UP, MASK_AND_SHIFT,
     MULTIPLY_WORDS, OVERWRITE, UNALIGNED, XOR_WORDS,
 };
-use jet_call::jet;
+use jet_cli::jet;
 use outer_io::{Gate, ListClock, MemoryFile, MemorySink, MemoryStore, OpenGate, Sink, Store};
 use sha2::{Digest, Sha256};
 use std::alloc::{AllocError, Global};

@@ -1,2 +1,4 @@
 mod Benching
 mod Cutting
+mod Refusals
+mod Ending

@@ -1,6 +1,6 @@
 use Rattle.std.proofs.Common.{ap, refl, arith, Some, None, is_some, if◌then◌else◌}
 use Rattle.outer_io.specs.Held.{sure_files_of}
-use Rattle.jet_call.proofs.laws.sure_is_undisturbed.Goals as goal
+use Rattle.jet_cli.proofs.laws.sure_is_undisturbed.Goals as goal
 
 pub returns : goal.returns
 returns c = λ heard heard_after before after. record {

@@ -2,10 +2,10 @@ use Rattle.std.proofs.Common.{◌∙◌, ap, sym, subst, inl, inr, ℕ, ◌≡�
 use Rattle.jet_work.specs.Targets.{command_in}
 use Rattle.jet_work.specs.Outside.{Change, change}
 use Rattle.jet_work.specs.Ending.{Says, status_after}
-use Rattle.jet_call.specs.Statuses.{IsStatus}
-use Rattle.jet_call.proofs.Ending as ending
-use Rattle.jet_call.proofs.Refusals.{status_after-is_status, usage}
-use Rattle.jet_call.proofs.run.jet.Goals as goal
+use Rattle.jet_cli.specs.Statuses.{IsStatus}
+use Rattle.jet_cli.proofs.Ending as ending
+use Rattle.jet_cli.proofs.Refusals.{status_after-is_status, usage}
+use Rattle.jet_cli.proofs.run.jet.Goals as goal
 
 pub returns-clause-status : goal.returns-clause-status
 returns-clause-status g c = subst IsStatus (sym c.conclude.ensures.status) (status_after-is_status c.obey-outcome.result)

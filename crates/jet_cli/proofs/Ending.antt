@@ -22,8 +22,8 @@ use Rattle.jet_work.specs.Answers.{IsAnswer, given_by, decisions_by, made_by, na
 use Rattle.jet_work.specs.Outside.{Change, Told, IsUndisturbed}
 use Rattle.jet_work.specs.Writing.{FailsToWrite}
 use Rattle.jet_work.specs.Ending.{IsText, WritesWhole, WritesPart, Ends, IsUnasked, causes_of, status_after}
-use Rattle.jet_call.specs.Statuses.{IsWanted, IsDone, IsDoneInPart, IsRefused, IsHeard, IsDecided, AreWithinLimits, IsComplete}
-use Rattle.jet_call.proofs.Refusals.{status_of-range, of_any_cause, of_write_fault}
+use Rattle.jet_cli.specs.Statuses.{IsWanted, IsDone, IsDoneInPart, IsRefused, IsHeard, IsDecided, AreWithinLimits, IsComplete}
+use Rattle.jet_cli.proofs.Refusals.{status_of-range, of_any_cause, of_write_fault}
 
 -- ---- what the files come to, and what the words want
 

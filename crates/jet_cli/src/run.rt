@@ -6,9 +6,9 @@ ghost use Rattle.jet_work.specs.Targets.{command_in, target_in, files_of, IfFile
 ghost use Rattle.jet_work.specs.Outside.{change};
 ghost use Rattle.jet_work.specs.Keeping.{OpensAll, OpensFirst, KeepsAll, KeepsBut};
 ghost use Rattle.jet_work.specs.Ending.{IsUnwritten, Says};
-ghost use Rattle.jet_call.specs.Statuses.{IsStatus, IsDone, IsDoneInPart, IsRefused, IsDecided, IsComplete};
+ghost use Rattle.jet_cli.specs.Statuses.{IsStatus, IsDone, IsDoneInPart, IsRefused, IsDecided, IsComplete};
 
-use jet_cli::obey;
+use crate::command::obey;
 use jet_work::conclude;
 use outer_io::{Clock, Gate, Sink, Store};
 use std::sync::Wait;
