@@ -1,8 +1,8 @@
 -- A taker of checkpoints, step after step.
 use Rattle.std.proofs.Common.{◌≡◌, ◌≢◌, ℕ, suc, ◌+◌, ◌-◌, ◌<◌, ◌≤◌, ◌⊎◌, inl, inr, Bool, true, false, List, [], ◌∷◌, ◌++◌, length, take, get_or, refl, arith, ap, sym, ◌∙◌, subst}
-use Rattle.std.specs.Prelude.{replicate, ◌||◌}
+use Rattle.std.specs.Prelude.{replicate}
 use Rattle.std.proofs.lemmas.Bool.{cases_lt}
-use Rattle.std.proofs.lemmas.List.{take_more, map_push, get_or_past}
+use Rattle.std.proofs.lemmas.List.{take_more, map_push}
 use Rattle.log_model.specs.Logs.{steps}
 use Rattle.flow_model.specs.declared.StepSeen.{StepSeen}
 use Rattle.epoch_model.specs.Cutting.{IsCutting}
@@ -12,7 +12,7 @@ use Rattle.replayer.specs.Saved.{RestOfCursor, IsOfJob, put_together}
 use Rattle.replayer.specs.Watching.{IsMadeOf}
 use Rattle.checkpoints.specs.declared.touched.Span.{Span}
 use Rattle.checkpoints.specs.Pages.{page, changed, ArePagesOf, IsExtended}
-use Rattle.checkpoints.specs.Touched.{TouchedAt, written, is_touched, has_byte, AreMarked, AreAllTouched, AreOthersSame, AreOthersHeld}
+use Rattle.checkpoints.specs.Touched.{TouchedAt, written, AreMarked, AreAllTouched, AreOthersSame, AreOthersHeld}
 use Rattle.checkpoints.specs.Points.{CheckpointAt, time_of, window_at, last_window, last_numbers, beginnings, IsCheckpoint, AreOfWindow}
 use Rattle.checkpoints.specs.Taking.{TakenAt, AreTaken, TakerAt, times_taken, IsTakenBefore, IsTakenTo}
 use Rattle.checkpoints.proofs.Holding.{last_window_is, memory_is, others_held, with_one}
@@ -89,16 +89,6 @@ module _ (job : Job) (t : ℕ) (w : TakerAt) (before : IsTakenBefore job t w) wh
       }
 
 -- ---- a step
-
--- where no page is told from another nothing is noted
-pub none_told : (touched : TouchedAt) → touched.flags ≡ [] → (first size : ℕ) → AreMarked touched.flags first size touched.flags
-none_told touched none first size = subst (λ (flags : List Bool). AreMarked flags first size flags) (sym none) (record { count = refl; each = λ place. all place })
-  where
-    all : (place : ℕ) → is_touched [] place ≡ (is_touched [] place || has_byte first size place)
-    all place = past place ∙ sym (ap (λ (b : Bool). b || has_byte first size place) (past place))
-      where
-        past : (k : ℕ) → is_touched [] k ≡ true
-        past k = get_or_past [] k true (omega arith)
 
 module _ (job : Job) (is : IsJob job) (s : StepSeen) (after : RunAt) (made : IsMadeOf job s after) (w : TakerAt) (to : IsTakenTo job s.number w) (touched : TouchedAt) (bytes : Span) (own : bytes ≡ written s)
     (base : touched.base ≡ w.touched.base) (marked : AreMarked w.touched.flags (bytes.place - w.touched.base) bytes.size touched.flags) where

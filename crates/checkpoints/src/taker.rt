@@ -1,6 +1,6 @@
 //! A watcher that takes checkpoints.
 
-ghost use Rattle.std.specs.Prelude.{◌≡◌, ◌+◌, [], false, IfOk};
+ghost use Rattle.std.specs.Prelude.{◌≡◌, ◌+◌, false, IfOk};
 ghost use Rattle.log_model.specs.Logs.{steps};
 ghost use Rattle.flow_model.specs.declared.StepSeen.{StepSeen as Step};
 ghost use Rattle.epoch_model.specs.Cutting.{IsCutting};
@@ -94,17 +94,6 @@ impl CheckpointTaker {
         }
     }
 
-    /// Takes a checkpoint if one is due where the run stands after a step, where nothing is noted.
-    #[inline(always)]
-    fn take_if_due(&mut self, after: &Stand<'_, '_>)
-        requires { self.old.touched.flags ≡ [] }
-        ensures { (step : Step) → IsToldOf HasSeen step after.now self.old self.new }
-    {
-        if after.time() == self.next {
-            self.take_here(after);
-        }
-    }
-
     /// The pages that may have been written where a run begins whose window begins at `base` and has so many bytes: all of
     /// them. What is written later is noted where epochs are short; where they are long, a step would pay more for it than
     /// a cut does that compares all pages. It gives up with NoMemory alone.
@@ -152,11 +141,7 @@ impl Watcher for CheckpointTaker {
 
     #[inline(always)]
     fn plain(&mut self, _time: u64, step: PlainStep, after: &Stand<'_, '_>) {
-        if self.touched.tells_pages() {
-            self.note(stored(step.instr, step.place), after);
-        } else {
-            self.take_if_due(after);
-        }
+        self.note(stored(step.instr, step.place), after);
     }
 
     fn step(&mut self, step: &StepSeen, after: &Stand<'_, '_>) {

@@ -103,14 +103,6 @@ impl Touched {
         }
     }
 
-    /// Whether what is noted tells pages from each other.
-    #[inline(always)]
-    pub fn tells_pages(&self) -> bool
-        ensures { result ≡ false → self.now.flags ≡ [] }
-    {
-        !self.flags.is_empty()
-    }
-
     /// Whether the page at a place may have been written. So may one past the last.
     pub fn is_touched(&self, place: usize) -> bool
         ensures { result ≡ is_touched self.now.flags place }
@@ -128,7 +120,7 @@ impl Touched {
         ensures flags { AreMarked self.old.flags (bytes.place - self.old.base) bytes.size self.new.flags }
     {
         let Span { place, size } = bytes;
-        if size > 0 {
+        if !self.flags.is_empty() && size > 0 {
             mark(&mut self.flags, place.saturating_sub(self.base), size);
         }
     }
