@@ -2,7 +2,7 @@
 use Rattle.std.proofs.Common.{◌≡◌, ◌≢◌, ℕ, suc, ◌+◌, ◌-◌, ◌<◌, ◌≤◌, ◌⊎◌, inl, inr, Bool, true, false, List, [], ◌∷◌, ◌++◌, length, take, get_or, refl, arith, ap, sym, ◌∙◌, subst}
 use Rattle.std.specs.Prelude.{replicate}
 use Rattle.std.proofs.lemmas.Bool.{cases_lt}
-use Rattle.std.proofs.lemmas.List.{take_more, map_push}
+use Rattle.std.proofs.lemmas.List.{take_more, length-replicate, map_push}
 use Rattle.log_model.specs.Logs.{steps}
 use Rattle.flow_model.specs.declared.StepSeen.{StepSeen}
 use Rattle.epoch_model.specs.Cutting.{IsCutting}
@@ -82,7 +82,10 @@ module _ (job : Job) (t : ℕ) (w : TakerAt) (before : IsTakenBefore job t w) wh
           taken = subst (λ (ts : List ℕ). AreTaken job ts new) more taken;
           few = omega (arith, count, below);
           next = next_is ∙ ap (λ (n : ℕ). get_or times n 0) (sym count);
-          flags = ap (λ (x : TouchedAt). x.base) clear ∙ before.flags;
+          flags = record {
+            base = ap (λ (x : TouchedAt). x.base) clear ∙ before.flags.base;
+            count = ap (λ (x : TouchedAt). length x.flags) clear ∙ length-replicate (length w.touched.flags) false ∙ before.flags.count;
+          };
           others = λ place untouched. ap (λ (window : List ℕ). page window place) (sym last);
         };
         later = λ h. let rises = begins_later (steps job.log) w.cuts cutting k (omega (arith, h, count)) in omega (arith, rises, due, next_is);
@@ -102,7 +105,7 @@ module _ (job : Job) (is : IsJob job) (s : StepSeen) (after : RunAt) (made : IsM
         taken = to.before.taken;
         few = to.before.few;
         next = to.before.next;
-        flags = base ∙ flags;
+        flags = record { base = base ∙ flags.base; count = marked.count ∙ flags.count };
         others = others_noted job is s.number s (omega arith) made.step (last_window job [] (times_taken w)) w.touched touched bytes own flags marked to.before.others;
       }
 

@@ -60,7 +60,7 @@ module _ (job : Job) (is : IsJob job) (t : ℕ) (step : StepSeen) (below : t < s
       let bytes = written step in
       let changes = changed_by job t step is below at in
       let neither = no_either (is_touched old.flags place) (has_byte (bytes.place - old.base) bytes.size place) (sym untouched ∙ marked.each place) in
-      let base : old.base ≡ (state_at job t).base = are ∙ sym (same_base job t is (omega arith)) in
+      let base : old.base ≡ (state_at job t).base = are.base ∙ sym (same_base job t is (omega arith)) in
       let none : has_byte (bytes.place - (state_at job t).base) bytes.size place ≡ false = subst (λ (b : ℕ). has_byte (bytes.place - b) bytes.size place ≡ false) base neither.1 in
       page_kept (state_at job t) (state_at job (suc t)) bytes changes place none ∙ same place neither.0
 

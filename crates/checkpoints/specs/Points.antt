@@ -50,9 +50,10 @@ abbrev pub last_window : Job → List ℕ → List ℕ → List ℕ
 last_window job before [] = before
 last_window job before (t ∷ ts) = last_window job (window_at job t) ts
 
--- the flags are of a window from the job's lowest address on
-abbrev pub AreOfWindow : Job → TouchedAt → Type 0
-AreOfWindow job touched = touched.base ≡ job.start.base
+-- the flags are those of the pages of the job's window
+pub record AreOfWindow (job : Job) (touched : TouchedAt) : Type 0 where
+  pub base : touched.base ≡ job.start.base
+  pub count : length touched.flags ≡ page_count job.start.memory
 
 -- ---- what is true of checkpoints
 

@@ -5,12 +5,11 @@ ghost use Rattle.log_model.specs.Logs.{steps};
 ghost use Rattle.flow_model.specs.declared.StepSeen.{StepSeen as Step};
 ghost use Rattle.epoch_model.specs.Cutting.{IsCutting};
 ghost use Rattle.replayer.specs.Watching.{IsToldOf};
-ghost use Rattle.checkpoints.specs.Touched.{written, AreAllTouched};
+ghost use Rattle.checkpoints.specs.Touched.{written};
 ghost use Rattle.checkpoints.specs.Points.{beginnings};
 ghost use Rattle.checkpoints.specs.Taking.{IsDueTaken, HasTaken, HasSeen};
 
 use crate::checkpoints::Checkpoints;
-use crate::paging::PAGE_SIZE;
 use crate::taken::Taken;
 use crate::touched::{Span, Touched, stored, written};
 use epoch_cut::Cuts;
@@ -19,9 +18,6 @@ use no_memory::NoMemory;
 use replayer::{Job, PlainStep, Stand, Watcher};
 use std::alloc::Global;
 use std::marker::Model;
-
-/// To note what is written costs so many steps about as much as one page more that a cut compares.
-const STEPS_FOR_A_PAGE: u64 = 32;
 
 /// A watcher that takes a checkpoint at the beginning of each epoch. So the replay that checks a log takes the checkpoints.
 #[derive(Drop)]
@@ -58,7 +54,7 @@ impl CheckpointTaker {
             alloc,
             cuts: times,
             next: 0,
-            touched: Touched::every(alloc, 0),
+            touched: Touched::none(alloc),
             taken: Taken::none(alloc),
             fault: None,
         })
@@ -94,19 +90,6 @@ impl CheckpointTaker {
         }
     }
 
-    /// The pages that may have been written where a run begins whose window begins at `base` and has so many bytes: all of
-    /// them. What is written later is noted where epochs are short; where they are long, a step would pay more for it than
-    /// a cut does that compares all pages. It gives up with NoMemory alone.
-    fn touched_at_start(&self, base: u32, size: usize) -> Result<Touched, NoMemory>
-        ensures { IfOk result (λ touched. (touched.base ≡ base) × AreAllTouched touched.flags) }
-    {
-        let length = self.cuts.first().copied().unwrap_or(0);
-        if length / STEPS_FOR_A_PAGE > size.div_ceil(PAGE_SIZE) as u64 {
-            return Ok(Touched::every(self.alloc, base));
-        }
-        Touched::all(self.alloc, base, size)
-    }
-
     /// The checkpoints of the job whose run was watched. It gives up with NoMemory alone: where memory ran out meanwhile.
     pub fn finish<'a>(self, job: &'a Job) -> Result<Checkpoints<'a>, NoMemory>
         requires cutting { IsCutting (steps job.now.log) self.cuts }
@@ -130,7 +113,7 @@ impl Watcher for CheckpointTaker {
         self.next = 0;
         self.taken = Taken::none(self.alloc);
         let (window, rest) = at.parts();
-        match self.touched_at_start(rest.base(), window.len()) {
+        match Touched::all(self.alloc, rest.base(), window.len()) {
             Ok(touched) => {
                 self.touched = touched;
                 self.take_here(at);

@@ -1,6 +1,6 @@
 //! The pages that the steps since the last checkpoint may have written.
 
-ghost use Rattle.std.specs.Prelude.{◌≡◌, ◌-◌, ◌<◌, true, false, [], length, replicate, IfOk};
+ghost use Rattle.std.specs.Prelude.{◌≡◌, ◌-◌, ◌<◌, true, false, length, replicate, IfOk};
 ghost use Rattle.std.specs.Int.{div_ceil};
 ghost use Rattle.checkpoints.specs.Touched.{span, stored_size, written, is_touched, AreMarked};
 
@@ -93,12 +93,10 @@ impl Touched {
         Ok(Touched { base, flags })
     }
 
-    /// Each page of a window from this address on, whatever is noted: none is told from another.
-    pub fn every(alloc: Global, base: u32) -> Touched
-        ensures { result ≡ record { base = base; flags = [] } }
-    {
+    /// No page.
+    pub fn none(alloc: Global) -> Touched {
         Touched {
-            base,
+            base: 0,
             flags: Vec::new(alloc),
         }
     }
@@ -114,13 +112,12 @@ impl Touched {
     }
 
     /// Notes the pages that have some of these bytes, which a step writes.
-    #[inline(always)]
     pub fn note(&mut self, bytes: Span)
         ensures base { self.new.base ≡ self.old.base }
         ensures flags { AreMarked self.old.flags (bytes.place - self.old.base) bytes.size self.new.flags }
     {
         let Span { place, size } = bytes;
-        if !self.flags.is_empty() && size > 0 {
+        if size > 0 {
             mark(&mut self.flags, place.saturating_sub(self.base), size);
         }
     }
