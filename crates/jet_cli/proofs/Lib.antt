@@ -1,4 +1,6 @@
+mod Answering
 mod Benching
+mod Carrying
 mod Cutting
 mod Refusals
 mod Ending
