@@ -1,5 +1,5 @@
 -- Refusals by their status.
-use Rattle.std.proofs.Common.{◌≡◌, ap, refl, arith, ◌≤◌, ◌⊎◌, inl, inr, Result, Ok, Err}
+use Rattle.std.proofs.Common.{◌≡◌, ap, refl, arith, ◌≤◌, inl, inr, Result, Ok, Err}
 use Rattle.jet_refusal.specs.declared.refusal.Refusal.{Refusal}
 use Rattle.jet_refusal.specs.declared.refusal.Refusal.TheVariants as refusal
 use Rattle.jet_refusal.specs.Refusals.{status_of}

@@ -1,7 +1,6 @@
 -- What each status of the program says. `command` is what the words stand for, and `change` is what the store, the output and the
 -- clock show before the call and after it.
-use Rattle.std.specs.Prelude.{◌≡◌, ◌⊎◌, ◌≤◌, ◌^◌, ℕ, List, length, not, Option, Some, None, IsSome, Result, Ok}
-use Rattle.outer_io.specs.Files.{Files}
+use Rattle.std.specs.Prelude.{◌≡◌, ◌⊎◌, ◌≤◌, ◌^◌, ℕ, List, length, not, Option, Some, None, IsSome, Result}
 use Rattle.jet_words.specs.Commands.{CommandOf, AnalysisOf, ProductOf, DecisionsOf, PageOf, RecordOf, ConvertOf, QueriesOf, BenchOf}
 use Rattle.log_model.specs.declared.Version.TheVariants.{Two}
 use Rattle.log_model.specs.Logs.{log_text}

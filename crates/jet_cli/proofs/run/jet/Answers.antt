@@ -1,7 +1,7 @@
-use Rattle.std.proofs.Common.{◌∙◌, ap, sym, subst, inl, inr, ℕ, ◌≡◌, ◌⊎◌}
+use Rattle.std.proofs.Common.{◌∙◌, sym, subst}
 use Rattle.jet_work.specs.Targets.{command_in}
-use Rattle.jet_work.specs.Outside.{Change, change}
-use Rattle.jet_work.specs.Ending.{Says, status_after}
+use Rattle.jet_work.specs.Outside.{change}
+use Rattle.jet_work.specs.Ending.{Says}
 use Rattle.jet_cli.specs.Statuses.{IsStatus}
 use Rattle.jet_cli.proofs.Ending as ending
 use Rattle.jet_cli.proofs.Refusals.{status_after-is_status, usage}
