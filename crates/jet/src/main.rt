@@ -5,9 +5,6 @@
 
 ghost use Rattle.std.specs.Prelude.{◌≤◌, length};
 
-#[cfg(test)]
-mod tests;
-
 use jet_cli::jet;
 use jet_refusal::Refusal;
 use jet_work::conclude;
