@@ -8,8 +8,8 @@ use Rattle.flow_model.specs.declared.Loc.{Loc}
 use Rattle.flow_model.specs.declared.SourceByte.{SourceByte}
 use Rattle.flow_model.specs.Orders.{loc_cmp, source_cmp}
 use Rattle.flow_model.proofs.Orders.{loc_same}
-use Rattle.sorted_set.specs.Sets.{Ascends, has}
-use Rattle.sorted_set.proofs.Algebra.{tied_by}
+use Rattle.lists.specs.Sets.{Ascends, has}
+use Rattle.lists.proofs.Algebra.{tied_by}
 use Rattle.epoch_model.specs.Join.{answer_to}
 use Rattle.epoch_model.proofs.Adding.{loc_itself}
 

@@ -5,8 +5,8 @@ use Rattle.std.proofs.lemmas.List.Folds.{list_any-append}
 use Rattle.flow_model.specs.declared.SourceByte.{SourceByte}
 use Rattle.flow_model.specs.Orders.{source_cmp}
 use Rattle.flow_model.proofs.Orders.{source_total}
-use Rattle.sorted_set.specs.Sets.{Ascends, has, union, is_within}
-use Rattle.sorted_set.proofs.Algebra.{Ascends-union, has-union, union-within}
+use Rattle.lists.specs.Sets.{Ascends, has, union, is_within}
+use Rattle.lists.proofs.Algebra.{Ascends-union, has-union, union-within}
 use Rattle.epoch_model.proofs.AnyOf.{or_grouped}
 use Rattle.answer_sets.proofs.Members.{compared, order_is, members_by}
 

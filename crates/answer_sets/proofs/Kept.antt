@@ -6,7 +6,7 @@ use Rattle.std.proofs.lemmas.List.{map-append, get_or_append_left, get_or_push, 
 use Rattle.std.proofs.lemmas.List.Elements.{recursion_from_All, All-push}
 use Rattle.flow_model.specs.declared.SourceByte.{SourceByte}
 use Rattle.flow_model.specs.Orders.{source_cmp}
-use Rattle.sorted_set.specs.Sets.{Ascends}
+use Rattle.lists.specs.Sets.{Ascends}
 use Rattle.answer_sets.specs.Kept.{AreKept, answers_in}
 
 module _ (sets : List (List SourceByte)) (set : List SourceByte) where

@@ -11,8 +11,8 @@ use Rattle.flow_model.specs.Origins.{union_over}
 use Rattle.flow_model.proofs.Orders.{source_total, source_same}
 use Rattle.flow_model.proofs.Derived.{source_compared, source_order_is}
 use Rattle.flow_model.proofs.Origins.{Ascends-union_over}
-use Rattle.sorted_set.specs.Sets.{Ascends, has}
-use Rattle.sorted_set.proofs.Algebra.{Ascends-union, has-union, same_list}
+use Rattle.lists.specs.Sets.{Ascends, has}
+use Rattle.lists.proofs.Algebra.{Ascends-union, has-union, same_list}
 use Rattle.epoch_model.specs.Summary.{Terms}
 use Rattle.epoch_model.specs.Join.{resolved}
 use Rattle.epoch_model.proofs.AnyOf.{any_union_over, or_grouped}

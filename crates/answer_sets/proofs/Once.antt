@@ -2,7 +2,7 @@
 use Rattle.std.proofs.Common.{◌≡◌, ℕ, List, [], refl, ap, sym, ◌∙◌, Bool, true, false, ◌||◌}
 use Rattle.flow_model.specs.declared.SourceByte.{SourceByte}
 use Rattle.flow_model.specs.Orders.{source_cmp}
-use Rattle.sorted_set.specs.Sets.{has}
+use Rattle.lists.specs.Sets.{has}
 use Rattle.answer_sets.specs.Gathered.{is_at_one_of, AreGathered}
 
 nothing_more : (a c : Bool) → (c ≡ true → a ≡ true) → a ≡ (a || c)

@@ -1,7 +1,7 @@
 -- Answers that were gathered.
 use Rattle.std.specs.Prelude.{◌≡◌, ℕ, Bool, true, List, [], get_or}
 use Rattle.std.specs.List.{list_any}
-use Rattle.sorted_set.specs.Sets.{has}
+use Rattle.lists.specs.Sets.{has}
 use Rattle.flow_model.specs.Orders.{source_cmp}
 use Rattle.flow_model.specs.declared.SourceByte.{SourceByte}
 

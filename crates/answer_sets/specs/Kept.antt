@@ -1,6 +1,6 @@
 -- Answers whose sets are kept once where they are equal.
 use Rattle.std.specs.Prelude.{ℕ, ◌<◌, List, [], length, map, get_or, All}
-use Rattle.sorted_set.specs.Sets.{Ascends}
+use Rattle.lists.specs.Sets.{Ascends}
 use Rattle.flow_model.specs.Orders.{source_cmp}
 use Rattle.flow_model.specs.declared.SourceByte.{SourceByte}
 

@@ -1,7 +1,7 @@
 //! Terms, resolved by the answers to what their epoch asked.
 
 ghost use Rattle.std.specs.Prelude.{◌≡◌, ◌||◌, [], true, get_or, All, IfOk, IfSome, IsTrue, OnOk};
-ghost use Rattle.sorted_set.specs.Sets.{Ascends, has};
+ghost use Rattle.lists.specs.Sets.{Ascends, has};
 ghost use Rattle.flow_model.specs.Orders.{source_cmp};
 ghost use Rattle.flow_model.specs.declared.SourceByte.{SourceByte as Source};
 ghost use Rattle.source_runs.specs.Runs.{all_bytes};
@@ -12,10 +12,10 @@ ghost use Rattle.answer_sets.specs.Gathered.{is_at_one_of, AreGathered};
 
 use crate::answers::{Answers, LARGE};
 use flow_model::{Loc, SourceByte};
+use lists::{is_subset, merged};
 use local_taint::Asked;
 use merge_log::{TermsReader, ascend};
 use no_memory::NoMemory;
-use sorted_set::{is_subset, merged};
 use source_runs::{SourceRun, push_bytes};
 use std::alloc::Global;
 use std::marker::Model;
@@ -132,7 +132,7 @@ struct Gathered {
 
 impl Model for Gathered {
     ghost use Rattle.std.specs.Prelude.{List, ◌++◌};
-    ghost use Rattle.sorted_set.specs.Sets.{Ascends};
+    ghost use Rattle.lists.specs.Sets.{Ascends};
     ghost use Rattle.flow_model.specs.Orders.{source_cmp};
     ghost use Rattle.flow_model.specs.declared.SourceByte.{SourceByte};
 

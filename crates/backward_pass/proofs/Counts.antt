@@ -5,7 +5,7 @@ use Rattle.std.specs.List.{AllByRecursion}
 use Rattle.std.proofs.lemmas.List.{append_cancel_right, take-append-drop}
 use Rattle.std.proofs.lemmas.List.Elements.{recursion_from_All, All-push, All-weaker}
 use Rattle.flow_model.specs.declared.Loc.{Loc}
-use Rattle.sorted_set.specs.Sets.{is_within}
+use Rattle.lists.specs.Sets.{is_within}
 use Rattle.flow_model.specs.Orders.{loc_cmp}
 use Rattle.epoch_model.specs.Summary.{Summary, SinkTerms, Terms}
 use Rattle.epoch_model.specs.Crossing.{added_all}

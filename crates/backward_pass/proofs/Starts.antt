@@ -6,7 +6,7 @@ use Rattle.std.proofs.Math.Seq.{take-suc}
 use Rattle.std.proofs.lemmas.Bool.{and_parts, and_from}
 use Rattle.std.proofs.lemmas.List.Folds.{list_any-append}
 use Rattle.flow_model.specs.declared.Loc.{Loc}
-use Rattle.sorted_set.specs.Sets.{has, is_within}
+use Rattle.lists.specs.Sets.{has, is_within}
 use Rattle.flow_model.specs.Orders.{loc_cmp}
 use Rattle.epoch_model.specs.Crossing.{added, added_all}
 use Rattle.std.specs.Cmp.{tied_itself}

@@ -2,7 +2,7 @@
 use Rattle.std.specs.Prelude.{◌≡◌, ◌⊎◌, ℕ, ◌+◌, ◌^◌, ◌<◌, drop, ◌&&◌, Bool, true, false, Option, is_none, is_some, IfNone, List, [], ◌∷◌, ◌++◌, All}
 use Rattle.flow_model.specs.declared.Loc.{Loc}
 use Rattle.flow_model.specs.Orders.{loc_cmp}
-use Rattle.sorted_set.specs.Sets.{is_within}
+use Rattle.lists.specs.Sets.{is_within}
 use Rattle.flow_rule.specs.declared.Message.{Message}
 use Rattle.flow_rule.specs.declared.Message.TheVariants.{Ask, Byte, Close, End}
 use Rattle.epoch_model.specs.Summary.{Summary as EpochSummary, SinkTerms}

@@ -2,7 +2,7 @@
 
 ghost use Rattle.std.specs.Prelude.{◌≡◌, IfOk};
 ghost use Rattle.report_model.specs.Text.{report_text};
-ghost use Rattle.sorted_set.specs.Sets.{Ascends};
+ghost use Rattle.lists.specs.Sets.{Ascends};
 ghost use Rattle.flow_model.specs.Orders.{source_cmp};
 
 use flow_model::{InnerSink, Loc, SinkByte, SinkPoint, SourceByte};

@@ -1,6 +1,6 @@
 //! Sets of numbers, against what is written out.
 
-use sorted_set::{contains, is_subset, merged};
+use lists::{contains, is_subset, merged};
 use std::test::Fail;
 
 #[test]

@@ -10,8 +10,8 @@ use Rattle.std.specs.declared.cmp.Ordering.TheVariants.{Less, Equal, Greater}
 use Rattle.std.proofs.lemmas.List.{map-append}
 use Rattle.std.proofs.lemmas.List.Elements.{filter-append}
 use Rattle.std.proofs.lemmas.List.Folds.{list_any-append}
-use Rattle.sorted_set.specs.Sets.{union, inserted, placed, set_of, has, Ascends}
-use Rattle.sorted_set.proofs.Algebra.{tied_by, less_turned, greater_turned, has-inserted, has-set_of, Ascends-inserted, Ascends-set_of, Ascends-union, same_list, union_assoc, union-nil}
+use Rattle.lists.specs.Sets.{union, inserted, placed, set_of, has, Ascends}
+use Rattle.lists.proofs.Algebra.{tied_by, less_turned, greater_turned, has-inserted, has-set_of, Ascends-inserted, Ascends-set_of, Ascends-union, same_list, union_assoc, union-nil}
 use Rattle.flow_model.specs.declared.Loc.{Loc}
 use Rattle.flow_model.specs.Orders.{source_cmp}
 use Rattle.flow_model.proofs.Orders.{source_total, source_same}

@@ -4,7 +4,7 @@ use Rattle.std.specs.List.{filter}
 use Rattle.std.specs.Ordering.{nat_cmp, eq_by_cmp}
 use Rattle.std.specs.Cmp.Lexicographic.{slice_cmp}
 use Rattle.std.specs.declared.cmp.Ordering.{Ordering}
-use Rattle.sorted_set.specs.Sets.{union, set_of}
+use Rattle.lists.specs.Sets.{union, set_of}
 use Rattle.flow_model.specs.declared.SourceByte.{SourceByte}
 use Rattle.flow_model.specs.Orders.{loc_key, source_cmp}
 use Rattle.decision_model.specs.declared.Place.{Place}

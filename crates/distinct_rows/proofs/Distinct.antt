@@ -14,8 +14,8 @@ use Rattle.flow_model.specs.declared.InnerSink.{InnerSink}
 use Rattle.flow_model.specs.declared.SinkPoint.TheVariants.{Out, At}
 use Rattle.flow_model.specs.Orders.{inner_cmp}
 use Rattle.flow_model.proofs.Orders.{inner_total}
-use Rattle.sorted_set.specs.Sets.{IsBelow, Ascends}
-use Rattle.sorted_set.proofs.Filters.{Ascends-filter}
+use Rattle.lists.specs.Sets.{IsBelow, Ascends}
+use Rattle.lists.proofs.Filters.{Ascends-filter}
 use Rattle.replay_model.specs.Offsets.{call_at, AreWritesApart}
 use Rattle.report_model.specs.Query.{Query, has_sink}
 use Rattle.report_model.specs.Rows.{Sink, row, sink_at, point_sink, points_at, sinks_of_call, sinks_of_step, sinks_from, rows_as_written, at_time}

@@ -4,8 +4,8 @@ use Rattle.std.specs.Str.{bytes_eq}
 use Rattle.elf_model.specs.declared.ImageKind.{ImageKind}
 use Rattle.elf_model.specs.declared.ImageKind.TheVariants.{Header}
 use Rattle.elf_model.specs.Image.{e_type, e_machine, faults, image, unless_faulty, is_any_segment_wrong, loaded_headers}
-use Rattle.format_model.specs.FirstTrue.{first_true}
-use Rattle.format_model.proofs.FirstTrue.{first_true-none, first_true-some, second_false}
+use Rattle.lists.specs.FirstTrue.{first_true}
+use Rattle.lists.proofs.FirstTrue.{first_true-none, first_true-some, second_false}
 use Rattle.elf_image.specs.Faults.{header_faults, is_header_wrong, table_faults}
 
 -- where the tests before it are false, the last test of the header decides

@@ -1,7 +1,7 @@
 //! The numbers of two and of four bytes in a file, little-endian (gABI, "Data Representation").
 
 ghost use Rattle.std.specs.Prelude.{◌≡◌, ◌+◌, ◌≤◌, length};
-ghost use Rattle.format_model.specs.Fields.{half_at, word_at};
+ghost use Rattle.lists.specs.Fields.{half_at, word_at};
 
 pub fn half_at(bytes: &[u8], at: usize) -> u16
     requires { at + 2 ≤ length bytes.now }

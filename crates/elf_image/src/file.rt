@@ -3,7 +3,7 @@
 ghost use Rattle.std.specs.Prelude.{◌≡◌, ◌≤◌, ◌==◌, length, map, take, drop, false, IfOk, IfErr, OnOk, Some, None};
 ghost use Rattle.std.specs.List.{list_any};
 ghost use Rattle.elf_model.specs.Image.{e_entry, holds_address, is_any_segment_wrong, is_dynamic, is_table_wrong, loaded_headers, program_headers, segment};
-ghost use Rattle.format_model.specs.FirstTrue.{first_true};
+ghost use Rattle.lists.specs.FirstTrue.{first_true};
 ghost use Rattle.elf_image.specs.Faults.{header_faults, is_header_wrong, table_faults};
 ghost use Rattle.elf_image.specs.Layout.{IsInFile};
 

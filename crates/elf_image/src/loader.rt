@@ -1,7 +1,7 @@
 //! From the bytes of a file to its image.
 
 ghost use Rattle.std.specs.Prelude.{◌≡◌, IfOk, IfErr, OnOk, Ok, Err, None};
-ghost use Rattle.format_model.specs.FirstTrue.{first_true};
+ghost use Rattle.lists.specs.FirstTrue.{first_true};
 ghost use Rattle.elf_model.specs.Image.{image};
 ghost use Rattle.no_memory.specs.Faults.{IsCausedBy};
 ghost use Rattle.elf_image.specs.Faults.{header_faults, table_faults};

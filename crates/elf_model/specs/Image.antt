@@ -5,8 +5,8 @@ use Rattle.std.specs.List.{filter, list_any, range_with_len}
 use Rattle.std.specs.Str.{bytes_eq}
 use Rattle.elf_model.specs.declared.ImageKind.{ImageKind}
 use Rattle.elf_model.specs.declared.ImageKind.TheVariants.{Short, Magic, Class, Kind, Machine, Header, Dynamic, Segment, NoSegment, Entry}
-use Rattle.format_model.specs.Fields.{half_at, word_at}
-use Rattle.format_model.specs.FirstTrue.{first_true}
+use Rattle.lists.specs.Fields.{half_at, word_at}
+use Rattle.lists.specs.FirstTrue.{first_true}
 
 -- the fields of the ELF header: an Elf32_Half has two bytes, an Elf32_Word, Elf32_Addr or Elf32_Off has four
 abbrev pub e_type : List ℕ → ℕ

@@ -8,7 +8,7 @@ use Rattle.std.specs.declared.cmp.Ordering.TheVariants.{Less, Equal, Greater}
 use Rattle.std.proofs.lemmas.List.Folds.{list_any-append}
 use Rattle.flow_model.specs.declared.Loc.{Loc}
 use Rattle.flow_model.specs.declared.SourceByte.{SourceByte}
-use Rattle.sorted_set.specs.Sets.{union, has}
+use Rattle.lists.specs.Sets.{union, has}
 use Rattle.flow_model.specs.Orders.{loc_cmp, source_cmp}
 use Rattle.flow_model.specs.Origins.{union_over}
 use Rattle.std.proofs.lemmas.Grind.{common_steps}
@@ -16,7 +16,7 @@ use Rattle.std.proofs.lemmas.Bool.{or_parts, or_right}
 use Rattle.flow_model.specs.declared.Loc.TheVariants.{Reg, Mem}
 use Rattle.flow_model.specs.Flow.{loc_eq}
 use Rattle.flow_model.proofs.Orders.{loc_total, loc_same}
-use Rattle.sorted_set.proofs.Algebra.{tied_by}
+use Rattle.lists.proofs.Algebra.{tied_by}
 use Rattle.epoch_model.specs.Crossing.{added, added_all}
 use Rattle.epoch_model.specs.Join.{answer_to}
 use Rattle.epoch_model.proofs.AnyOf.{or_grouped, or_false}

@@ -8,7 +8,7 @@ use Rattle.std.specs.declared.cmp.Ordering.TheVariants.{Less, Equal, Greater}
 use Rattle.std.proofs.lemmas.List.Folds.{list_any-append}
 use Rattle.flow_model.specs.declared.Loc.{Loc}
 use Rattle.flow_model.specs.declared.SourceByte.{SourceByte}
-use Rattle.sorted_set.specs.Sets.{union, inserted, placed}
+use Rattle.lists.specs.Sets.{union, inserted, placed}
 use Rattle.flow_model.specs.Origins.{union_over}
 use Rattle.flow_model.proofs.Orders.{loc_same, source_same}
 use Rattle.epoch_model.specs.Stretch.{locations_over}

@@ -7,11 +7,11 @@ use Rattle.flow_model.specs.declared.Loc.{Loc}
 use Rattle.flow_model.specs.declared.Rule.{Rule}
 use Rattle.flow_model.specs.declared.SourceByte.{SourceByte}
 use Rattle.flow_model.specs.declared.StepSeen.{StepSeen}
-use Rattle.sorted_set.specs.Sets.{union, Ascends}
+use Rattle.lists.specs.Sets.{union, Ascends}
 use Rattle.flow_model.specs.Orders.{source_cmp, loc_cmp}
 use Rattle.flow_model.specs.Flow.{from}
 use Rattle.flow_model.specs.Origins.{Policy, origins, fresh, union_over, after_step, step_at}
-use Rattle.sorted_set.proofs.Algebra.{Ascends-union, same_list}
+use Rattle.lists.proofs.Algebra.{Ascends-union, same_list}
 use Rattle.flow_model.proofs.Orders.{loc_total, loc_same, source_total, source_same}
 use Rattle.flow_model.proofs.Origins.{Ascends-union_over, Ascends-origins}
 use Rattle.epoch_model.specs.Stretch.{locations_over, from_step, fresh_step, past, born}

@@ -8,7 +8,7 @@ use Rattle.flow_model.specs.declared.Loc.{Loc}
 use Rattle.flow_model.specs.declared.InnerSink.{InnerSink}
 use Rattle.flow_model.specs.declared.SourceByte.{SourceByte}
 use Rattle.flow_model.specs.declared.StepSeen.{StepSeen}
-use Rattle.sorted_set.specs.Sets.{union, has}
+use Rattle.lists.specs.Sets.{union, has}
 use Rattle.flow_model.specs.Orders.{source_cmp, loc_cmp}
 use Rattle.flow_model.specs.Origins.{Policy, origins}
 use Rattle.flow_model.specs.Ranges.{IsLocation, IsInRange}

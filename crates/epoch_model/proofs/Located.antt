@@ -8,7 +8,7 @@ use Rattle.flow_model.specs.Orders.{loc_cmp}
 use Rattle.flow_model.specs.Origins.{step_at}
 use Rattle.flow_model.specs.Ranges.{IsLocation, AreLocations, IsInRange}
 use Rattle.flow_model.proofs.Located.{of_step}
-use Rattle.sorted_set.proofs.Algebra.{All-union}
+use Rattle.lists.proofs.Algebra.{All-union}
 use Rattle.epoch_model.specs.Stretch.{locations_over, from_step, past}
 
 each_location : (ls : List Loc) → AreLocations ls → AllByRecursion IsLocation ls

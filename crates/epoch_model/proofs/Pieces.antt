@@ -5,7 +5,7 @@ use Rattle.flow_model.specs.declared.Loc.{Loc}
 use Rattle.flow_model.specs.declared.Rule.{Rule}
 use Rattle.flow_model.specs.declared.SourceByte.{SourceByte}
 use Rattle.flow_model.specs.declared.StepSeen.{StepSeen}
-use Rattle.sorted_set.specs.Sets.{union}
+use Rattle.lists.specs.Sets.{union}
 use Rattle.flow_model.specs.Orders.{source_cmp, loc_cmp}
 use Rattle.flow_model.specs.Origins.{Policy, origins, union_over, after_step, step_at}
 use Rattle.epoch_model.specs.Stretch.{locations_over, from_step, fresh_step, past, born}

@@ -3,7 +3,7 @@ use Rattle.std.specs.Prelude.{ℕ, ◌-◌, if◌then◌else◌, List, [], ◌�
 use Rattle.std.specs.List.{flat_map}
 use Rattle.flow_model.specs.declared.Loc.{Loc}
 use Rattle.flow_model.specs.declared.StepSeen.{StepSeen}
-use Rattle.sorted_set.specs.Sets.{union, has}
+use Rattle.lists.specs.Sets.{union, has}
 use Rattle.flow_model.specs.Orders.{loc_cmp}
 use Rattle.flow_model.specs.Origins.{Policy}
 use Rattle.report_model.specs.Query.{Query, policy_of}

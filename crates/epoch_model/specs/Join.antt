@@ -3,7 +3,7 @@ use Rattle.std.specs.Prelude.{if◌then◌else◌, List, [], ◌∷◌, ◌++◌
 use Rattle.std.specs.Ordering.{is_eq}
 use Rattle.flow_model.specs.declared.Loc.{Loc}
 use Rattle.flow_model.specs.declared.SourceByte.{SourceByte}
-use Rattle.sorted_set.specs.Sets.{union}
+use Rattle.lists.specs.Sets.{union}
 use Rattle.flow_model.specs.Orders.{loc_cmp, source_cmp}
 use Rattle.flow_model.specs.Origins.{union_over}
 use Rattle.report_model.specs.Rows.{Row}

@@ -5,7 +5,7 @@ use Rattle.std.specs.List.{IsDistinct}
 use Rattle.std.specs.Ordering.{eq_by_cmp}
 use Rattle.flow_model.specs.declared.Loc.{Loc}
 use Rattle.flow_model.specs.declared.StepSeen.{StepSeen}
-use Rattle.sorted_set.specs.Sets.{has}
+use Rattle.lists.specs.Sets.{has}
 use Rattle.flow_model.specs.Orders.{loc_cmp}
 use Rattle.flow_model.specs.Ranges.{IsLocation, IsInRange}
 use Rattle.report_model.specs.Query.{Query, AreLocated}

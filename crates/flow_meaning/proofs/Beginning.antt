@@ -6,7 +6,7 @@ use Rattle.std.proofs.lemmas.Bool.{and_parts, cases_lt, or_parts}
 use Rattle.std.proofs.lemmas.List.{get_or_past, length-replicate}
 use Rattle.isa.specs.Machine.{State, overwritten}
 use Rattle.elf_model.specs.declared.ImageKind.{ImageKind}
-use Rattle.format_model.specs.FirstTrue.{first_true}
+use Rattle.lists.specs.FirstTrue.{first_true}
 use Rattle.elf_model.specs.Image.{Image, LoadedSegment, ProgramHeader, e_entry, image, image_of, unless_faulty, faults, segment, lowest, loaded_headers, is_segment_wrong, is_any_segment_wrong}
 use Rattle.elf_model.specs.Window.{start_of, start_with, start_in, can_hold, laid_out}
 use Rattle.replay_model.specs.Fits.{start_in_image}

@@ -6,7 +6,7 @@ use Rattle.isa.specs.declared.CallKind.{CallKind}
 use Rattle.isa.specs.declared.CallKind.TheVariants as kind
 use Rattle.isa.specs.Machine.{State}
 use Rattle.log_model.specs.Logs.{Log, steps}
-use Rattle.sorted_set.proofs.Algebra.{All-set_of}
+use Rattle.lists.proofs.Algebra.{All-set_of}
 use Rattle.flow_model.specs.declared.Rule.{Rule}
 use Rattle.flow_model.specs.declared.InnerSink.{InnerSink}
 use Rattle.flow_model.specs.declared.SourceByte.{SourceByte}

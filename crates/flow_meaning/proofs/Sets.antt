@@ -7,8 +7,8 @@ use Rattle.std.specs.List.{AllByRecursion, list_any}
 use Rattle.std.specs.declared.cmp.Ordering.{Ordering}
 use Rattle.std.specs.declared.cmp.Ordering.TheVariants.{Less, Equal, Greater}
 use Rattle.std.proofs.lemmas.List.Folds.{list_any_at, Any-from_list_any}
-use Rattle.sorted_set.specs.Sets.{union, inserted, placed, has}
-use Rattle.sorted_set.proofs.Algebra.{has-union, has-Contains, Contains-has}
+use Rattle.lists.specs.Sets.{union, inserted, placed, has}
+use Rattle.lists.proofs.Algebra.{has-union, has-Contains, Contains-has}
 use Rattle.flow_model.specs.declared.Loc.{Loc}
 use Rattle.flow_model.specs.declared.SourceByte.{SourceByte}
 use Rattle.flow_model.specs.Orders.{source_cmp, loc_cmp}

@@ -16,12 +16,12 @@ use Rattle.flow_model.specs.declared.Loc.{Loc}
 use Rattle.flow_model.specs.declared.Loc.TheVariants.{Reg, Mem}
 use Rattle.flow_model.specs.declared.Rule.{Rule}
 use Rattle.flow_model.specs.declared.Rule.TheVariants.{Copy, Keep, Compute, Index}
-use Rattle.sorted_set.specs.Sets.{Ascends}
+use Rattle.lists.specs.Sets.{Ascends}
 use Rattle.flow_model.specs.Orders.{loc_cmp}
 use Rattle.isa.specs.Machine.{wrap}
 use Rattle.flow_model.specs.Flow.{Target, lane, lanes, to_register, nothing, computed, kept_or_computed, with_base, in_first_lane, byte_of, loaded_byte, signed_load, moved_or, each_lane, all_lanes, shifted_lanes, immediate_byte, unchanged_lanes, left_lanes, right_lanes, flow, cleared}
 use Rattle.flow_model.specs.OriginLaws.{FlowAscends, ClearedAscends}
-use Rattle.sorted_set.proofs.Algebra.{Ascends-union}
+use Rattle.lists.proofs.Algebra.{Ascends-union}
 use Rattle.flow_model.proofs.Orders.{loc_total}
 
 -- origins that ascend, lane by lane or byte by byte

@@ -14,7 +14,7 @@ use Rattle.flow_model.specs.declared.Loc.{Loc}
 use Rattle.flow_model.specs.declared.Loc.TheVariants.{Reg, Mem}
 use Rattle.flow_model.specs.declared.Rule.{Rule}
 use Rattle.flow_model.specs.declared.Rule.TheVariants.{Copy, Keep, Compute, Index}
-use Rattle.sorted_set.specs.Sets.{union, inserted, placed}
+use Rattle.lists.specs.Sets.{union, inserted, placed}
 use Rattle.flow_model.specs.Orders.{loc_cmp}
 use Rattle.isa.specs.Machine.{wrap}
 use Rattle.flow_model.specs.Flow.{Target, lane, lanes, to_register, nothing, computed, kept_or_computed, with_base, in_first_lane, byte_of, loaded_byte, signed_load, moved_or, each_lane, immediate_byte, unchanged_lanes, left_lanes, right_lanes, flow, cleared, origins_by, loc_eq, is_received, from_call, from_instruction_or}

@@ -6,8 +6,8 @@ use Rattle.std.proofs.lemmas.List.Folds.{list_any_at, Any-from_list_any}
 use Rattle.flow_model.specs.declared.Loc.{Loc}
 use Rattle.flow_model.specs.declared.SourceByte.{SourceByte}
 use Rattle.flow_model.specs.declared.StepSeen.{StepSeen}
-use Rattle.sorted_set.specs.Sets.{has}
-use Rattle.sorted_set.proofs.Algebra.{has-union, has-Contains, Contains-has}
+use Rattle.lists.specs.Sets.{has}
+use Rattle.lists.proofs.Algebra.{has-union, has-Contains, Contains-has}
 use Rattle.flow_model.specs.Orders.{source_cmp}
 use Rattle.flow_model.specs.Flow.{from}
 use Rattle.flow_model.specs.Origins.{Policy, origins, fresh, union_over, after_step}

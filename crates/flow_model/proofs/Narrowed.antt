@@ -8,8 +8,8 @@ use Rattle.flow_model.specs.declared.Rule.{Rule}
 use Rattle.flow_model.specs.declared.SourceByte.{SourceByte}
 use Rattle.flow_model.specs.declared.StepSeen.{StepSeen}
 use Rattle.flow_model.specs.declared.CallSeen.{CallSeen}
-use Rattle.sorted_set.specs.Sets.{union, Ascends}
-use Rattle.sorted_set.proofs.Filters.{IsAlikeWhereTied, filter-union}
+use Rattle.lists.specs.Sets.{union, Ascends}
+use Rattle.lists.proofs.Filters.{IsAlikeWhereTied, filter-union}
 use Rattle.flow_model.specs.Orders.{source_cmp}
 use Rattle.flow_model.specs.Flow.{from, is_received}
 use Rattle.flow_model.specs.Origins.{Policy, origins, introduced, fresh, fresh_by, byte_at, union_over, after_step, step_at}

@@ -4,11 +4,11 @@ use Rattle.std.specs.Prelude.{Option, Some, None}
 use Rattle.flow_model.specs.declared.Loc.{Loc}
 use Rattle.flow_model.specs.declared.SourceByte.{SourceByte}
 use Rattle.flow_model.specs.declared.StepSeen.{StepSeen}
-use Rattle.sorted_set.specs.Sets.{Ascends}
+use Rattle.lists.specs.Sets.{Ascends}
 use Rattle.flow_model.specs.Orders.{source_cmp}
 use Rattle.flow_model.specs.Flow.{from}
 use Rattle.flow_model.specs.Origins.{Policy, origins, fresh, union_over, after_step, step_at}
-use Rattle.sorted_set.proofs.Algebra.{Ascends-union}
+use Rattle.lists.proofs.Algebra.{Ascends-union}
 use Rattle.flow_model.proofs.Orders.{source_total}
 
 pub Ascends-union_over : (before : Loc → List SourceByte) → ((l : Loc) → Ascends source_cmp (before l)) → (ls : List Loc) → Ascends source_cmp (union_over before ls)

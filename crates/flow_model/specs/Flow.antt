@@ -15,7 +15,7 @@ use Rattle.flow_model.specs.declared.Rule.{Rule}
 use Rattle.flow_model.specs.declared.Rule.TheVariants.{Copy, Keep, Compute, Index}
 use Rattle.flow_model.specs.declared.StepSeen.{StepSeen}
 use Rattle.flow_model.specs.declared.CallSeen.{CallSeen}
-use Rattle.sorted_set.specs.Sets.{union}
+use Rattle.lists.specs.Sets.{union}
 use Rattle.flow_model.specs.Orders.{loc_cmp}
 
 -- a target, with the locations whose content flows into it

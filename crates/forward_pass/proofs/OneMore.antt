@@ -10,13 +10,13 @@ use Rattle.std.proofs.lemmas.Bool.{cases_lt}
 use Rattle.std.proofs.lemmas.List.{take_all, drop_all}
 use Rattle.std.proofs.lemmas.List.Folds.{list_any_at}
 use Rattle.std.proofs.lemmas.Option.{slice_get-get_or}
-use Rattle.sorted_set.specs.Sets.{inserted, placed, Ascends}
-use Rattle.sorted_set.proofs.Algebra.{less_turned, greater_turned, Ascends-at, inserted_member, Ascends-inserted}
+use Rattle.lists.specs.Sets.{inserted, placed, Ascends}
+use Rattle.lists.proofs.Algebra.{less_turned, greater_turned, Ascends-at, inserted_member, Ascends-inserted}
 use Rattle.no_memory.specs.declared.NoMemory.{NoMemory}
 use Rattle.flow_model.specs.declared.SourceByte.{SourceByte}
 use Rattle.flow_model.specs.Orders.{source_cmp}
 use Rattle.flow_model.proofs.Orders.{source_total}
-use Rattle.sorted_set.proofs.Places.{rising}
+use Rattle.lists.proofs.Places.{rising}
 use Rattle.answer_sets.proofs.Members.{compared, order_is}
 
 module _ {K : Type 0} {R : K → K → Ordering} (o : IsTotalOrder R) where

@@ -3,7 +3,7 @@ use Rattle.std.specs.Prelude.{◌≡◌, nat_le, ◌||◌, Bool, true, false, Li
 use Rattle.flow_model.specs.declared.Loc.{Loc}
 use Rattle.flow_model.specs.declared.SourceByte.{SourceByte}
 use Rattle.flow_model.specs.Orders.{source_cmp}
-use Rattle.sorted_set.specs.Sets.{inserted}
+use Rattle.lists.specs.Sets.{inserted}
 use Rattle.flow_rule.specs.declared.Message.{Message}
 use Rattle.flow_rule.specs.declared.Message.TheVariants.{Ask, Byte, Close, End}
 use Rattle.epoch_model.specs.Join.{answer_to}

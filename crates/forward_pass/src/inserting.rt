@@ -1,7 +1,7 @@
 //! Sets that grow by one member.
 
 ghost use Rattle.std.specs.Prelude.{◌≡◌, ◌∷◌, ◌++◌, [], true, OnOk, OnErr};
-ghost use Rattle.sorted_set.specs.Sets.{Ascends, inserted};
+ghost use Rattle.lists.specs.Sets.{Ascends, inserted};
 
 use no_memory::NoMemory;
 use std::cmp::Ordering;

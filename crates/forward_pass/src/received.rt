@@ -23,7 +23,7 @@ pub(crate) struct Received {
 }
 
 impl Model for Received {
-    ghost use Rattle.sorted_set.specs.Sets.{Ascends};
+    ghost use Rattle.lists.specs.Sets.{Ascends};
     ghost use Rattle.flow_model.specs.Orders.{source_cmp};
     ghost use Rattle.forward_pass.specs.Came.{Came};
 

@@ -1,7 +1,7 @@
 //! The answers of an epoch.
 
 ghost use Rattle.std.specs.Prelude.{◌≡◌, All, IfOk};
-ghost use Rattle.sorted_set.specs.Sets.{Ascends};
+ghost use Rattle.lists.specs.Sets.{Ascends};
 ghost use Rattle.flow_model.specs.Orders.{source_cmp};
 ghost use Rattle.flow_model.specs.Ranges.{IsLocation};
 ghost use Rattle.epoch_model.specs.Join.{answer_to, resolved as resolved_terms, answers_of};

@@ -16,9 +16,9 @@ use Rattle.flow_model.specs.declared.CallSeen.{CallSeen}
 use Rattle.flow_model.specs.Origins.{step_at}
 use Rattle.flow_model.specs.Orders.{source_cmp}
 use Rattle.flow_model.proofs.Orders.{source_total, source_same}
-use Rattle.sorted_set.specs.Sets.{set_of, has, IsBelow, Ascends}
-use Rattle.sorted_set.proofs.Algebra.{Ascends-set_of, has-set_of, has-Contains, Contains-has, same_list}
-use Rattle.sorted_set.proofs.Filters.{filter-set_of}
+use Rattle.lists.specs.Sets.{set_of, has, IsBelow, Ascends}
+use Rattle.lists.proofs.Algebra.{Ascends-set_of, has-set_of, has-Contains, Contains-has, same_list}
+use Rattle.lists.proofs.Filters.{filter-set_of}
 use Rattle.log_model.specs.Logs.{Log, IsLog}
 use Rattle.log_model.specs.Moved.{received}
 use Rattle.report_model.specs.Query.{Query, has_source}

@@ -1,6 +1,6 @@
 //! The rows of several queries, by one analysis of the run.
 ghost use Rattle.std.specs.Prelude.{◌≡◌, ◌≤◌, List, Err, length, map, IfOk, IfErr};
-ghost use Rattle.sorted_set.specs.Sets.{Ascends};
+ghost use Rattle.lists.specs.Sets.{Ascends};
 ghost use Rattle.flow_model.specs.Orders.{inner_cmp};
 ghost use Rattle.flow_model.specs.declared.StepSeen.{StepSeen as Step};
 ghost use Rattle.report_model.specs.Query.{Query as Choice};

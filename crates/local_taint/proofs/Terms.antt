@@ -7,7 +7,7 @@ use Rattle.flow_model.specs.declared.SinkPoint.{SinkPoint}
 use Rattle.flow_model.specs.declared.SourceByte.{SourceByte}
 use Rattle.flow_model.specs.declared.StepSeen.{StepSeen}
 use Rattle.flow_model.specs.declared.CallSeen.{CallSeen}
-use Rattle.sorted_set.specs.Sets.{union}
+use Rattle.lists.specs.Sets.{union}
 use Rattle.flow_model.specs.Orders.{source_cmp}
 use Rattle.flow_model.specs.Flow.{cleared, origins_by, is_received, from_instruction_or}
 use Rattle.flow_model.specs.Origins.{Policy, union_over, introduced, byte_at, fresh_by, step_at}

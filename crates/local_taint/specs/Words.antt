@@ -2,7 +2,7 @@
 use Rattle.std.specs.Prelude.{[], ◌∷◌}
 use Rattle.flow_model.specs.declared.Loc.{Loc}
 use Rattle.flow_model.specs.Orders.{loc_cmp, source_cmp}
-use Rattle.sorted_set.specs.Sets.{union}
+use Rattle.lists.specs.Sets.{union}
 use Rattle.epoch_model.specs.Summary.{Terms}
 use Rattle.merge_log.specs.Log.{AreSets, terms, Terms as Leaves}
 use Rattle.taint_shadow.specs.declared.labels.Label.{Label}

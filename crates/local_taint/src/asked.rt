@@ -4,7 +4,7 @@ ghost use Rattle.std.specs.Prelude.{◌≡◌, ◌<◌, [], length, slice_get, S
 ghost use Rattle.std.specs.List.{IsDistinct};
 ghost use Rattle.std.specs.Ordering.{eq_by_cmp};
 ghost use Rattle.flow_model.specs.Orders.{loc_cmp};
-ghost use Rattle.sorted_set.specs.Sets.{has};
+ghost use Rattle.lists.specs.Sets.{has};
 ghost use Rattle.epoch_model.specs.Crossing.{added};
 
 use flow_model::Loc;

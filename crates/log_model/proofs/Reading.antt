@@ -2,7 +2,7 @@
 use Rattle.std.proofs.Common.{◌≡◌, ℕ, zero, suc, ◌+◌, ◌-◌, ◌<◌, ◌≤◌, true, false, List, [], ◌∷◌, ◌++◌, length, take, drop, Option, Some, None, Result, Ok, Err, refl, sym, ap, ap₂, ◌∙◌, append_assoc, arith}
 use Rattle.std.specs.List.{flat_map, AllByRecursion}
 use Rattle.std.proofs.lemmas.List.{append-nil, drop_at, nil_from_length, length-append, length-drop}
-use Rattle.format_model.specs.Fields.{word_at}
+use Rattle.lists.specs.Fields.{word_at}
 use Rattle.log_model.specs.declared.Version.{Version}
 use Rattle.log_model.specs.declared.Version.TheVariants.{One, Two}
 use Rattle.log_model.specs.declared.CallRecord.{CallRecord}

@@ -2,8 +2,8 @@
 use Rattle.std.specs.Prelude.{◌≡◌, ℕ, ◌+◌, ◌-◌, ◌^◌, ◌<◌, ◌≤◌, ◌==◌, nat_eq, nat_lt, nat_le, Bool, true, false, not, ◌&&◌, ◌||◌, if◌then◌else◌, List, [], ◌∷◌, ◌++◌, length, get_or, take, drop, Option, Some, None, is_none, slice_index}
 use Rattle.std.specs.List.{flat_map, list_any, AllByRecursion, starts_with}
 use Rattle.std.specs.Int.{w64, from_le_bytes}
-use Rattle.format_model.specs.Fields.{word_at}
-use Rattle.format_model.specs.FirstTrue.{first_true}
+use Rattle.lists.specs.Fields.{word_at}
+use Rattle.lists.specs.FirstTrue.{first_true}
 use Rattle.log_model.specs.declared.Version.{Version}
 use Rattle.log_model.specs.declared.Version.TheVariants.{One, Two}
 use Rattle.log_model.specs.declared.CallRecord.{CallRecord}

@@ -1,7 +1,7 @@
 -- Bytes read as a log, from the front: the log that they are a text of, or their first fault and its offset.
 use Rattle.std.specs.Prelude.{ℕ, suc, zero, ◌+◌, ◌-◌, ◌==◌, if◌then◌else◌, List, [], ◌∷◌, length, get_or, set, take, drop, Option, Some, None, Result, Ok, Err, ℤ, slice_index}
 use Rattle.std.specs.Int.{w32, cast_signed}
-use Rattle.format_model.specs.Fields.{word_at}
+use Rattle.lists.specs.Fields.{word_at}
 use Rattle.log_model.specs.declared.Version.{Version}
 use Rattle.log_model.specs.declared.Version.TheVariants.{One, Two}
 use Rattle.log_model.specs.declared.CallRecord.{CallRecord}

@@ -2,8 +2,8 @@
 use Rattle.std.proofs.Common.{◌≡◌, [], ◌∷◌, refl, sym, Bool, true, false, ◌||◌}
 use Rattle.std.specs.Ordering.{eq_by_cmp}
 use Rattle.std.proofs.lemmas.List.Folds.{list_any-append}
-use Rattle.sorted_set.specs.Sets.{has}
-use Rattle.sorted_set.proofs.Algebra.{has-union}
+use Rattle.lists.specs.Sets.{has}
+use Rattle.lists.proofs.Algebra.{has-union}
 use Rattle.flow_model.specs.Orders.{loc_cmp, source_cmp}
 use Rattle.flow_model.proofs.Orders.{loc_total, source_total}
 use Rattle.merge_log.specs.declared.reader.Leaf.{Leaf}

@@ -8,8 +8,8 @@ use Rattle.std.specs.declared.cmp.Ordering.{Ordering}
 use Rattle.std.specs.declared.cmp.Ordering.TheVariants.{Less}
 use Rattle.std.proofs.lemmas.List.Kept.{IsStrictlySortedBy-dedup}
 use Rattle.std.proofs.lemmas.List.Sorted.{list_any-IsPermutation}
-use Rattle.sorted_set.specs.Sets.{Ascends, IsBelow, has}
-use Rattle.sorted_set.proofs.Algebra.{same_list, tied_by}
+use Rattle.lists.specs.Sets.{Ascends, IsBelow, has}
+use Rattle.lists.proofs.Algebra.{same_list, tied_by}
 use Rattle.flow_model.specs.Orders.{loc_cmp, source_cmp}
 use Rattle.flow_model.specs.declared.Loc.{Loc}
 use Rattle.flow_model.specs.declared.SourceByte.{SourceByte}

@@ -5,8 +5,8 @@ use Rattle.std.proofs.lemmas.Grind.{common_steps}
 use Rattle.std.specs.Cmp.{IsTotalOrder}
 use Rattle.std.specs.FinMap.{IsAntisymmetric}
 use Rattle.std.specs.declared.cmp.Ordering.{Ordering}
-use Rattle.sorted_set.specs.Sets.{union, Ascends, has}
-use Rattle.sorted_set.proofs.Algebra.{Ascends-union, same_list, union_assoc, union_comm, union-nil, has-union}
+use Rattle.lists.specs.Sets.{union, Ascends, has}
+use Rattle.lists.proofs.Algebra.{Ascends-union, same_list, union_assoc, union_comm, union-nil, has-union}
 use Rattle.flow_model.proofs.Orders.{loc_total, loc_same, source_total, source_same}
 use Rattle.flow_model.specs.declared.Loc.{Loc}
 use Rattle.flow_model.specs.declared.SourceByte.{SourceByte}

@@ -1,7 +1,7 @@
 -- The nodes of a merge log, as the list of their entries in the order of making, and the leaves under each of them.
 -- Node 0 is the empty one and has no entry; the entry of index k is node k + 1.
 use Rattle.std.specs.Prelude.{◌≡◌, ℕ, zero, suc, ◌<◌, ◌≤◌, ◌^◌, ◌==◌, if◌then◌else◌, List, [], ◌∷◌, ◌++◌, length, Option, Some, None, slice_get, nat_lt, Contains, ◌⊎◌}
-use Rattle.sorted_set.specs.Sets.{union, Ascends}
+use Rattle.lists.specs.Sets.{union, Ascends}
 use Rattle.flow_model.specs.declared.Loc.{Loc}
 use Rattle.flow_model.specs.declared.SourceByte.{SourceByte}
 use Rattle.flow_model.specs.Orders.{loc_cmp, source_cmp}

@@ -1,7 +1,7 @@
 //! What a walk finds: runs of source bytes, and start locations.
 
 ghost use Rattle.std.specs.Prelude.{◌≡◌, [], OnOk};
-ghost use Rattle.sorted_set.specs.Sets.{Ascends, has};
+ghost use Rattle.lists.specs.Sets.{Ascends, has};
 ghost use Rattle.merge_log.specs.Log.{AreSets};
 ghost use Rattle.merge_log.specs.Masks.{and_leaves};
 ghost use Rattle.merge_log.specs.Walk.{has_leaf, terms_of};

@@ -26,7 +26,7 @@ use Rattle.flow_model.specs.Ranges.{IsLocation}
 use Rattle.flow_model.specs.Origins.{Policy, byte_at, step_at, origins}
 use Rattle.flow_model.specs.OriginLaws.{WasRead}
 use Rattle.flow_model.proofs.OriginsRead.{origins_were_read}
-use Rattle.sorted_set.proofs.Algebra.{All-set_of}
+use Rattle.lists.proofs.Algebra.{All-set_of}
 use Rattle.replay_model.specs.Run.{Moment, start, advance, after_outcome, after_call, transfer, call_seen, plain_step, step_by, step_of, steps_from, trace}
 use Rattle.replay_model.proofs.Offsets.{length-steps_from, steps_within}
 use Rattle.replay_model.proofs.Sizes.{received_of_below, written_of_below, moved_below_each}

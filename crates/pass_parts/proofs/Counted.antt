@@ -4,7 +4,7 @@ use Rattle.std.specs.Ordering.{eq_by_cmp}
 use Rattle.std.proofs.lemmas.Bool.{and_parts, and_from}
 use Rattle.std.proofs.lemmas.List.Folds.{list_any-append}
 use Rattle.flow_model.specs.declared.Loc.{Loc}
-use Rattle.sorted_set.specs.Sets.{has, is_within}
+use Rattle.lists.specs.Sets.{has, is_within}
 use Rattle.flow_model.specs.Orders.{loc_cmp}
 use Rattle.stream_model.specs.Streams.{is_ended, answers_in}
 use Rattle.stream_model.proofs.Counting.{places_stay, resolvable_by_count}

@@ -1,7 +1,7 @@
 -- What the next epoch asks for, and how much must be answered first.
 use Rattle.std.specs.Prelude.{◌≡◌, true, List, map, All}
 use Rattle.flow_model.specs.declared.Loc.{Loc}
-use Rattle.sorted_set.specs.Sets.{is_within}
+use Rattle.lists.specs.Sets.{is_within}
 use Rattle.flow_model.specs.Orders.{loc_cmp}
 use Rattle.epoch_model.specs.Summary.{Summary}
 use Rattle.stream_model.specs.Streams.{places_needed}

@@ -4,7 +4,7 @@ use Rattle.std.specs.Prelude.{Some, None}
 use Rattle.std.specs.List.{find, range_with_len}
 use Rattle.std.specs.Ordering.{is_eq}
 use Rattle.std.specs.Cmp.{tied_itself}
-use Rattle.sorted_set.proofs.Algebra.{tied_by}
+use Rattle.lists.proofs.Algebra.{tied_by}
 use Rattle.isa.specs.Machine.{wrap}
 use Rattle.flow_model.specs.declared.Loc.TheVariants.{Mem}
 use Rattle.flow_model.specs.declared.SinkByte.{SinkByte}

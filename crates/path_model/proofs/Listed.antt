@@ -7,7 +7,7 @@ use Rattle.std.specs.Cmp.{tied_itself}
 use Rattle.std.proofs.lemmas.Bool.Decides.{nat_tests}
 use Rattle.std.proofs.lemmas.List.Elements.{All-contains}
 use Rattle.std.proofs.lemmas.List.Folds.{Any-from_list_any, list_any-from_Any}
-use Rattle.sorted_set.proofs.Algebra.{tied_by, has-Contains, Contains-has}
+use Rattle.lists.proofs.Algebra.{tied_by, has-Contains, Contains-has}
 use Rattle.flow_model.specs.declared.InnerSink.{InnerSink}
 use Rattle.flow_model.specs.declared.SinkByte.{SinkByte}
 use Rattle.flow_model.specs.declared.SinkPoint.{SinkPoint}

@@ -4,8 +4,8 @@ use Rattle.std.specs.Prelude.{Option, Some, None, is_some, ◌&&◌, Contains}
 use Rattle.std.specs.List.{find}
 use Rattle.std.specs.Option.{option_or}
 use Rattle.std.specs.Ordering.{eq_by_cmp}
-use Rattle.sorted_set.specs.Sets.{has}
-use Rattle.sorted_set.proofs.Algebra.{tied_by}
+use Rattle.lists.specs.Sets.{has}
+use Rattle.lists.proofs.Algebra.{tied_by}
 use Rattle.flow_model.specs.declared.Loc.{Loc}
 use Rattle.flow_model.specs.declared.Rule.{Rule}
 use Rattle.flow_model.specs.declared.SourceByte.{SourceByte}

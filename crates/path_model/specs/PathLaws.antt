@@ -5,7 +5,7 @@ use Rattle.flow_model.specs.declared.Loc.{Loc}
 use Rattle.flow_model.specs.declared.Rule.{Rule}
 use Rattle.flow_model.specs.declared.SourceByte.{SourceByte}
 use Rattle.flow_model.specs.declared.StepSeen.{StepSeen}
-use Rattle.sorted_set.specs.Sets.{has}
+use Rattle.lists.specs.Sets.{has}
 use Rattle.flow_model.specs.Orders.{source_cmp}
 use Rattle.flow_model.specs.Flow.{from}
 use Rattle.flow_model.specs.Origins.{Policy, origins, step_at}

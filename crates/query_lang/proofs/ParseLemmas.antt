@@ -4,7 +4,7 @@ use Rattle.std.specs.Prelude.{Option, Some, None, Err, map, is_some, ◌||◌, �
 use Rattle.std.specs.List.{flat_map}
 use Rattle.std.proofs.lemmas.List.{append_assoc, append-nil}
 use Rattle.std.proofs.lemmas.List.Folds.{list_any-append}
-use Rattle.sorted_set.specs.Sets.{set_of}
+use Rattle.lists.specs.Sets.{set_of}
 use Rattle.flow_model.specs.declared.InnerSink.{InnerSink}
 use Rattle.flow_model.specs.Orders.{inner_cmp}
 use Rattle.report_model.specs.declared.QueryKind.{QueryKind}

@@ -14,8 +14,8 @@ use Rattle.std.proofs.lemmas.List.FromFn.{map-range_with_len_more}
 use Rattle.std.proofs.lemmas.List.Kept.{IsStrictlySortedBy-dedup, Contains-dedup, Contains-from_dedup}
 use Rattle.std.proofs.lemmas.List.Sorted.{list_any-IsPermutation}
 use Rattle.std.proofs.lemmas.Map.Views.{tells_apart}
-use Rattle.sorted_set.specs.Sets.{set_of, has, IsBelow, Ascends}
-use Rattle.sorted_set.proofs.Algebra.{same_list, has-set_of, Ascends-set_of, has-Contains, Contains-has}
+use Rattle.lists.specs.Sets.{set_of, has, IsBelow, Ascends}
+use Rattle.lists.proofs.Algebra.{same_list, has-set_of, Ascends-set_of, has-Contains, Contains-has}
 use Rattle.flow_model.specs.declared.InnerSink.{InnerSink}
 use Rattle.flow_model.specs.declared.Loc.TheVariants.{Mem}
 use Rattle.report_model.specs.Grammar.{byte_point, points_of_memory}

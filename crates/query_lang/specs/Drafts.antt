@@ -1,6 +1,6 @@
 -- What the lines of a text come to, one after the other.
 use Rattle.std.specs.Prelude.{◌≡◌, ℕ, ◌||◌, is_some, List, ◌∷◌, ◌++◌, Option, Some, None, Result}
-use Rattle.sorted_set.specs.Sets.{set_of}
+use Rattle.lists.specs.Sets.{set_of}
 use Rattle.flow_model.specs.declared.InnerSink.{InnerSink}
 use Rattle.flow_model.specs.declared.Rule.{Rule}
 use Rattle.flow_model.specs.Orders.{inner_cmp}

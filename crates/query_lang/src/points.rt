@@ -1,7 +1,7 @@
 //! Points inside a run.
 
 ghost use Rattle.std.specs.Prelude.{◌≡◌, ◌+◌, ◌-◌, ◌++◌, OnOk};
-ghost use Rattle.sorted_set.specs.Sets.{set_of};
+ghost use Rattle.lists.specs.Sets.{set_of};
 ghost use Rattle.flow_model.specs.Orders.{inner_cmp};
 ghost use Rattle.report_model.specs.Grammar.{points_of_memory, points_of_register};
 ghost use Rattle.query_lang.specs.Statements.{points_shown};

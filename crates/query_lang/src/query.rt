@@ -1,7 +1,7 @@
 //! Queries.
 
 ghost use Rattle.std.specs.Prelude.{◌≡◌, ◌++◌, IfOk, OnOk};
-ghost use Rattle.sorted_set.specs.Sets.{Ascends};
+ghost use Rattle.lists.specs.Sets.{Ascends};
 ghost use Rattle.flow_model.specs.Orders.{inner_cmp};
 ghost use Rattle.flow_model.specs.declared.SinkPoint.TheVariants.{Out};
 ghost use Rattle.report_model.specs.Query.{Alike, AreLocated, has_source, has_sink};
@@ -25,7 +25,7 @@ pub struct Query {
 }
 
 impl Model for Query {
-    ghost use Rattle.sorted_set.specs.Sets.{Ascends};
+    ghost use Rattle.lists.specs.Sets.{Ascends};
     ghost use Rattle.flow_model.specs.Orders.{inner_cmp};
     ghost use Rattle.report_model.specs.Query.{Query as Meaning, AreLocated};
 

@@ -2,7 +2,7 @@
 use Rattle.std.proofs.Common.{◌≡◌, ℕ, ◌<◌, ◌≤◌, ◌⊎◌, true, false, List, length, Option, Some, None, Err, refl, sym, subst, ◌∙◌, arith, inl, inr}
 use Rattle.std.specs.Prelude.{nat_lt, ◌==◌}
 use Rattle.std.proofs.lemmas.Bool.{lt-ltb, le-ltb, ne_eqb, or_right, or_from}
-use Rattle.format_model.specs.Fields.{word_at}
+use Rattle.lists.specs.Fields.{word_at}
 use Rattle.log_model.specs.declared.Version.{Version}
 use Rattle.log_model.specs.declared.LogKind.TheVariants.{Magic, Header}
 use Rattle.log_model.specs.Faults.{version_of, are_pages_wrong, header_fault}

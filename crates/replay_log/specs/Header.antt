@@ -1,6 +1,6 @@
 -- What the parts of reading give: the header, the channels, and what is after them.
 use Rattle.std.specs.Prelude.{◌≡◌, ℕ, ◌≤◌, List, false, length, take, drop, Some, None, Result}
-use Rattle.format_model.specs.Fields.{word_at}
+use Rattle.lists.specs.Fields.{word_at}
 use Rattle.log_model.specs.declared.Version.{Version}
 use Rattle.log_model.specs.declared.Version.TheVariants.{One, Two}
 use Rattle.log_model.specs.declared.LogKind.{LogKind}

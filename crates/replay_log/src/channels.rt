@@ -1,7 +1,7 @@
 //! The channels of a log of version 2: all that was read on each, which reads take from the front.
 
 ghost use Rattle.std.specs.Prelude.{◌≡◌, ◌+◌, ◌≤◌, ◌∷◌, [], ◌++◌, true, length, get_or, set, drop, Ok, OnOk, IfOk, IfErr, IfSome, IfNone};
-ghost use Rattle.format_model.specs.Fields.{word_at};
+ghost use Rattle.lists.specs.Fields.{word_at};
 ghost use Rattle.log_model.specs.Faults.{are_left, is_channel_cut};
 ghost use Rattle.no_memory.specs.Faults.{IsCausedBy};
 ghost use Rattle.replay_log.specs.Answers.{IsFaultOf};

@@ -1,7 +1,7 @@
 //! Reading logs.
 
 ghost use Rattle.std.specs.Prelude.{◌≡◌, ◌+◌, ◌≤◌, ◌^◌, ◌<◌, ◌-◌, length, Ok, IfOk, IfErr};
-ghost use Rattle.format_model.specs.Fields.{word_at};
+ghost use Rattle.lists.specs.Fields.{word_at};
 ghost use Rattle.log_model.specs.Logs.{at_of};
 ghost use Rattle.log_model.specs.Reading.{body_of, log_of};
 ghost use Rattle.no_memory.specs.Faults.{IsCausedBy};

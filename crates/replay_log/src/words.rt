@@ -1,7 +1,7 @@
 //! The numbers of four and of eight bytes in a log, little-endian.
 
 ghost use Rattle.std.specs.Prelude.{◌≡◌, ◌+◌, ◌≤◌, length};
-ghost use Rattle.format_model.specs.Fields.{word_at};
+ghost use Rattle.lists.specs.Fields.{word_at};
 ghost use Rattle.log_model.specs.Faults.{long_at};
 
 /// The number of four bytes at a place.

@@ -15,9 +15,9 @@ use Rattle.std.proofs.lemmas.List.Sorted.{IsPartitionedBy-leb}
 use Rattle.flow_model.specs.declared.InnerSink.{InnerSink}
 use Rattle.flow_model.specs.Orders.{inner_cmp, loc_cmp}
 use Rattle.flow_model.proofs.Orders.{inner_total}
-use Rattle.sorted_set.specs.Sets.{IsBelow, Ascends}
-use Rattle.sorted_set.proofs.Algebra.{Ascends-drop}
-use Rattle.sorted_set.proofs.Filters.{Ascends-filter}
+use Rattle.lists.specs.Sets.{IsBelow, Ascends}
+use Rattle.lists.proofs.Algebra.{Ascends-drop}
+use Rattle.lists.proofs.Filters.{Ascends-filter}
 use Rattle.report_model.specs.Rows.{point_sink, at_time, from_time}
 
 same_time : (a b : ℕ) → a ≡ b → nat_eq a b ≡ true

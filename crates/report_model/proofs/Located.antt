@@ -5,13 +5,13 @@ use Rattle.std.specs.Str.{bytes_eq}
 use Rattle.std.specs.List.{range_with_len, flat_map, list_any, AllByRecursion}
 use Rattle.std.proofs.lemmas.Bool.{ltb-false}
 use Rattle.std.proofs.lemmas.List.Elements.{recursion_from_All, All-from_recursion}
-use Rattle.format_model.specs.FirstTrue.{first_true}
+use Rattle.lists.specs.FirstTrue.{first_true}
 use Rattle.flow_model.specs.declared.InnerSink.{InnerSink}
 use Rattle.flow_model.specs.declared.Rule.{Rule}
 use Rattle.flow_model.specs.Orders.{inner_cmp}
 use Rattle.flow_model.specs.Ranges.{IsLocation}
-use Rattle.sorted_set.specs.Sets.{set_of}
-use Rattle.sorted_set.proofs.Algebra.{All-set_of}
+use Rattle.lists.specs.Sets.{set_of}
+use Rattle.lists.proofs.Algebra.{All-set_of}
 use Rattle.report_model.specs.declared.QueryKind.{QueryKind}
 use Rattle.report_model.specs.declared.QueryKind.TheVariants.{BadByte, Word, Count, Number, Range}
 use Rattle.report_model.specs.Query.{Query, Choice, AreLocated}

@@ -12,7 +12,7 @@ use Rattle.flow_model.specs.declared.SinkPoint.TheVariants.{Out, At}
 use Rattle.flow_model.specs.declared.StepSeen.{StepSeen}
 use Rattle.flow_model.specs.declared.CallSeen.{CallSeen}
 use Rattle.flow_model.specs.Origins.{Policy, step_at, after_step, origins}
-use Rattle.sorted_set.specs.Sets.{set_of}
+use Rattle.lists.specs.Sets.{set_of}
 use Rattle.report_model.specs.Query.{Query, has_sink, policy_of}
 use Rattle.report_model.specs.Rows.{Sink, Row, sink_at, sinks_of_call, sinks_of_step, point_sink, at_time, points_at, sinks_from, chosen_sinks, row, row_cmp}
 use Rattle.report_model.specs.Needed.{greatest, steps_for, steps_for_sink, RowsOfBeginning, OrderOfBeginning, NeededAreMade}

@@ -16,9 +16,9 @@ use Rattle.flow_model.specs.declared.StepSeen.{StepSeen}
 use Rattle.flow_model.specs.Orders.{inner_cmp}
 use Rattle.flow_model.proofs.Orders.{inner_total, inner_same, point_same}
 use Rattle.flow_model.proofs.Narrowed.{narrowed-origins}
-use Rattle.sorted_set.specs.Sets.{set_of, has, Ascends}
-use Rattle.sorted_set.proofs.Algebra.{Ascends-set_of, has-set_of, same_list}
-use Rattle.sorted_set.proofs.Filters.{IsAlikeWhereTied, Ascends-filter, has-filter, filter-set_of, map-set_of}
+use Rattle.lists.specs.Sets.{set_of, has, Ascends}
+use Rattle.lists.proofs.Algebra.{Ascends-set_of, has-set_of, same_list}
+use Rattle.lists.proofs.Filters.{IsAlikeWhereTied, Ascends-filter, has-filter, filter-set_of, map-set_of}
 use Rattle.report_model.specs.declared.QueryKind.{QueryKind}
 use Rattle.report_model.specs.Query.{Query, has_source, has_sink, policy_of}
 use Rattle.report_model.specs.Grammar.{query_of, read_lines, first_fault, unless, points_in}

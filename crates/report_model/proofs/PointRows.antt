@@ -15,7 +15,7 @@ use Rattle.flow_model.specs.declared.SourceByte.{SourceByte}
 use Rattle.flow_model.specs.declared.StepSeen.{StepSeen}
 use Rattle.flow_model.specs.declared.CallSeen.{CallSeen}
 use Rattle.flow_model.proofs.Orders.{point_same}
-use Rattle.sorted_set.proofs.Algebra.{has-set_of, has-Contains, All-set_of, tied_by}
+use Rattle.lists.proofs.Algebra.{has-set_of, has-Contains, All-set_of, tied_by}
 use Rattle.report_model.specs.Query.{Query, has_sink}
 use Rattle.report_model.specs.Rows.{Sink, Row, row, rows, rows_as_written, point_sink, points_at, sink_at, sinks_of_call, sinks_of_step, sinks_from, chosen_sinks, row_cmp}
 use Rattle.report_model.specs.RowLaws.{sources_at, PointHasRow, IsRowOfPoint, RowIsOfPoint, PointsHaveRows}

@@ -8,9 +8,9 @@ use Rattle.flow_model.specs.declared.StepSeen.{StepSeen}
 use Rattle.flow_model.specs.declared.SinkPoint.{SinkPoint}
 use Rattle.flow_model.specs.declared.SinkPoint.TheVariants.{Out, At}
 use Rattle.flow_model.specs.Orders.{inner_cmp}
-use Rattle.sorted_set.specs.Sets.{set_of, has, Ascends}
+use Rattle.lists.specs.Sets.{set_of, has, Ascends}
 use Rattle.flow_model.specs.Origins.{Policy, origins}
-use Rattle.sorted_set.proofs.Algebra.{Ascends-set_of, has-set_of, has-Contains, All-set_of}
+use Rattle.lists.proofs.Algebra.{Ascends-set_of, has-set_of, has-Contains, All-set_of}
 use Rattle.flow_model.proofs.Orders.{inner_total, point_total}
 use Rattle.report_model.specs.Query.{Query, Alike, has_sink}
 use Rattle.report_model.specs.RowLaws.{has_row}

@@ -19,8 +19,8 @@ use Rattle.flow_model.specs.OriginLaws.{WasRead}
 use Rattle.flow_model.specs.Orders.{source_cmp}
 use Rattle.flow_model.proofs.Orders.{source_total, source_same}
 use Rattle.flow_model.proofs.OriginsRead.{origins_were_read}
-use Rattle.sorted_set.specs.Sets.{has}
-use Rattle.sorted_set.proofs.Algebra.{has-set_of, has-Contains, Contains-has}
+use Rattle.lists.specs.Sets.{has}
+use Rattle.lists.proofs.Algebra.{has-set_of, has-Contains, Contains-has}
 use Rattle.report_model.specs.Query.{Query, has_source, has_sink, policy_of}
 use Rattle.report_model.specs.Rows.{Sink, Row, row, rows, rows_as_written, chosen_sinks}
 use Rattle.report_model.specs.Influence.{source_at, sources_of_call, sources_of_step, sources_of, chosen_sources, Reach, reached, influence}

@@ -3,8 +3,8 @@ use Rattle.std.specs.Prelude.{ℕ, ◌+◌, ◌==◌, nat_lt, nat_le, Bool, fals
 use Rattle.std.specs.List.{filter, flat_map, list_any, range_with_len, slice_split}
 use Rattle.std.specs.Str.{bytes_eq, all_ascii_digits}
 use Rattle.std.specs.Str.Parse.{digits_value}
-use Rattle.format_model.specs.FirstTrue.{first_true}
-use Rattle.sorted_set.specs.Sets.{set_of}
+use Rattle.lists.specs.FirstTrue.{first_true}
+use Rattle.lists.specs.Sets.{set_of}
 use Rattle.flow_model.specs.declared.InnerSink.{InnerSink}
 use Rattle.flow_model.specs.declared.Loc.TheVariants.{Reg, Mem}
 use Rattle.flow_model.specs.declared.Rule.{Rule}

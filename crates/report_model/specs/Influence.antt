@@ -8,7 +8,7 @@ use Rattle.flow_model.specs.declared.SourceByte.{SourceByte}
 use Rattle.flow_model.specs.declared.SinkPoint.{SinkPoint}
 use Rattle.flow_model.specs.declared.StepSeen.{StepSeen}
 use Rattle.flow_model.specs.declared.CallSeen.{CallSeen}
-use Rattle.sorted_set.specs.Sets.{set_of, has}
+use Rattle.lists.specs.Sets.{set_of, has}
 use Rattle.flow_model.specs.Orders.{source_cmp}
 use Rattle.report_model.specs.Query.{Query, has_source}
 use Rattle.report_model.specs.Rows.{Row, rows}

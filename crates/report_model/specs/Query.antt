@@ -9,7 +9,7 @@ use Rattle.flow_model.specs.declared.SinkPoint.TheVariants.{Out, At}
 use Rattle.flow_model.specs.Orders.{inner_cmp}
 use Rattle.flow_model.specs.Origins.{Policy}
 use Rattle.flow_model.specs.Ranges.{IsLocation}
-use Rattle.sorted_set.specs.Sets.{has}
+use Rattle.lists.specs.Sets.{has}
 
 -- the offsets from one up to another, and without it; all of them where none are named
 pub record Offsets : Type 0 where

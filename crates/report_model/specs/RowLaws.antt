@@ -7,7 +7,7 @@ use Rattle.flow_model.specs.declared.InnerSink.{InnerSink}
 use Rattle.flow_model.specs.declared.SinkPoint.{SinkPoint}
 use Rattle.flow_model.specs.declared.SinkPoint.TheVariants.{At}
 use Rattle.flow_model.specs.declared.StepSeen.{StepSeen}
-use Rattle.sorted_set.specs.Sets.{Ascends}
+use Rattle.lists.specs.Sets.{Ascends}
 use Rattle.flow_model.specs.Orders.{point_cmp}
 use Rattle.flow_model.specs.Origins.{origins}
 use Rattle.report_model.specs.Query.{Query, Alike, has_sink, policy_of}

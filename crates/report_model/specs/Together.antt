@@ -5,7 +5,7 @@ use Rattle.flow_model.specs.declared.InnerSink.{InnerSink}
 use Rattle.flow_model.specs.declared.Rule.{Rule}
 use Rattle.flow_model.specs.declared.Rule.TheVariants.{Copy, Keep, Compute, Index}
 use Rattle.flow_model.specs.Orders.{inner_cmp}
-use Rattle.sorted_set.specs.Sets.{set_of, has}
+use Rattle.lists.specs.Sets.{set_of, has}
 use Rattle.report_model.specs.Query.{Query, chooses, has_source, has_sink}
 use Rattle.report_model.specs.Rows.{Row}
 

@@ -1,7 +1,7 @@
 -- What is always true of several queries taken together.
 use Rattle.std.specs.Prelude.{◌≡◌, ℕ, List, None, Ok, All}
 use Rattle.flow_model.specs.declared.StepSeen.{StepSeen}
-use Rattle.sorted_set.specs.Sets.{Ascends}
+use Rattle.lists.specs.Sets.{Ascends}
 use Rattle.flow_model.specs.Orders.{inner_cmp}
 use Rattle.report_model.specs.Query.{Query}
 use Rattle.report_model.specs.Grammar.{query}

@@ -6,8 +6,8 @@ use Rattle.std.specs.Cmp.{IsTotalOrder, on_total}
 use Rattle.std.specs.Ordering.{eq_by_cmp, is_eq, is_lt}
 use Rattle.std.specs.declared.cmp.Ordering.{Ordering}
 use Rattle.std.specs.declared.cmp.Ordering.TheVariants.{Less, Equal, Greater}
-use Rattle.sorted_set.specs.Sets.{set_of}
-use Rattle.sorted_set.proofs.Sorting.{sorted-is_set_of}
+use Rattle.lists.specs.Sets.{set_of}
+use Rattle.lists.proofs.Sorting.{sorted-is_set_of}
 use Rattle.flow_model.proofs.Orders.{point_total, point_same}
 use Rattle.flow_model.proofs.Derived.{point_alike, point_compared}
 use Rattle.report_model.specs.Rows.{Row, row_cmp}

@@ -18,8 +18,8 @@ use Rattle.std.proofs.lemmas.List.Sorted.{IsNonDecreasingBy-from_all_adjacent, I
 use Rattle.flow_model.specs.declared.SourceByte.{SourceByte}
 use Rattle.flow_model.specs.Orders.{source_cmp}
 use Rattle.flow_model.proofs.Orders.{source_total, source_same}
-use Rattle.sorted_set.specs.Sets.{has, Ascends}
-use Rattle.sorted_set.proofs.Algebra.{Ascends-at, Contains-has}
+use Rattle.lists.specs.Sets.{has, Ascends}
+use Rattle.lists.proofs.Algebra.{Ascends-at, Contains-has}
 use Rattle.source_ranges.specs.declared.SourceRange.{SourceRange}
 use Rattle.source_ranges.specs.Kept.{IsRange}
 use Rattle.source_ranges.specs.Ranges.{byte_on, bytes_of}

@@ -15,7 +15,7 @@ use Rattle.std.proofs.lemmas.List.FromFn.{get_or-map-range_with_len}
 use Rattle.flow_model.specs.declared.SinkPoint.{SinkPoint}
 use Rattle.flow_model.specs.declared.SourceByte.{SourceByte}
 use Rattle.flow_model.specs.Orders.{source_cmp}
-use Rattle.sorted_set.specs.Sets.{has, Ascends}
+use Rattle.lists.specs.Sets.{has, Ascends}
 use Rattle.report_model.specs.Rows.{Row}
 use Rattle.report_model.specs.Influence.{Reach, reached, turned}
 use Rattle.source_ranges.specs.declared.SourceRange.{SourceRange}

@@ -4,7 +4,7 @@ use Rattle.std.specs.List.{flat_map}
 use Rattle.flow_model.specs.declared.SinkPoint.{SinkPoint}
 use Rattle.flow_model.specs.declared.SourceByte.{SourceByte}
 use Rattle.flow_model.specs.Orders.{source_cmp}
-use Rattle.sorted_set.specs.Sets.{has}
+use Rattle.lists.specs.Sets.{has}
 use Rattle.report_model.specs.Rows.{Row}
 use Rattle.report_model.specs.Influence.{Reach, reached, reach_text}
 use Rattle.source_ranges.specs.declared.SourceRange.{SourceRange}

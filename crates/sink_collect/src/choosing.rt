@@ -8,9 +8,9 @@ ghost use Rattle.source_ranges.specs.Ranges.{bytes_of};
 
 use crate::sets::SinkSet;
 use flow_model::{SinkPoint, SourceByte};
+use lists::contains;
 use no_memory::NoMemory;
 use query_lang::Query;
-use sorted_set::contains;
 use source_ranges::{JoinedRanges, SourceRange, SourceSet};
 use std::alloc::Global;
 

@@ -3,7 +3,7 @@
 ghost use Rattle.std.specs.Prelude.{◌≡◌, [], ◌∷◌, ◌++◌, length, map, All, IfOk, OnOk};
 ghost use Rattle.std.specs.List.{flat_map};
 ghost use Rattle.std.specs.List.Sorted.{IsNonDecreasing};
-ghost use Rattle.sorted_set.specs.Sets.{Ascends};
+ghost use Rattle.lists.specs.Sets.{Ascends};
 ghost use Rattle.flow_model.specs.Orders.{source_cmp};
 ghost use Rattle.report_model.specs.Influence.{turned};
 ghost use Rattle.source_ranges.specs.Kept.{IsRange};

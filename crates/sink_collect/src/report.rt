@@ -1,7 +1,7 @@
 //! A report: the sets of a replay in the order of their output bytes and points.
 
 ghost use Rattle.std.specs.Prelude.{◌≡◌, List, length, IfOk, IsPermutation, OnOk};
-ghost use Rattle.sorted_set.specs.Sets.{set_of};
+ghost use Rattle.lists.specs.Sets.{set_of};
 ghost use Rattle.report_model.specs.Rows.{Row, row_cmp};
 ghost use Rattle.report_model.specs.Together.{only};
 ghost use Rattle.sink_collect.specs.Distinct.{AreDistinct};

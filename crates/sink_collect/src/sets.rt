@@ -1,7 +1,7 @@
 //! The source bytes of one output byte or point inside a run, and lists of those.
 
 ghost use Rattle.std.specs.Prelude.{◌≡◌};
-ghost use Rattle.sorted_set.specs.Sets.{Ascends};
+ghost use Rattle.lists.specs.Sets.{Ascends};
 ghost use Rattle.flow_model.specs.Orders.{source_cmp};
 
 use flow_model::SinkPoint;

@@ -8,7 +8,7 @@ use Rattle.flow_model.specs.declared.CallSeen.{CallSeen}
 use Rattle.flow_model.specs.Flow.{cleared, flow, origins_by, is_received, from_instruction_or}
 use Rattle.flow_model.specs.Orders.{source_cmp}
 use Rattle.flow_model.specs.Origins.{Policy, union_over, introduced, byte_at, fresh_by, after_step, step_at, origins}
-use Rattle.sorted_set.specs.Sets.{union}
+use Rattle.lists.specs.Sets.{union}
 use Rattle.taint_shadow.specs.Steps.{united_over, introduced as brought_in, after}
 use Rattle.source_labels.specs.Words.{label_words}
 

@@ -6,8 +6,8 @@ use Rattle.flow_model.specs.declared.SourceByte.{SourceByte}
 use Rattle.flow_model.specs.Orders.{source_cmp}
 use Rattle.flow_model.specs.Ranges.{IsLocation}
 use Rattle.flow_model.proofs.Orders.{source_total, source_same}
-use Rattle.sorted_set.specs.Sets.{union, Ascends}
-use Rattle.sorted_set.proofs.Algebra.{Ascends-union, union_assoc, union_comm, union-nil}
+use Rattle.lists.specs.Sets.{union, Ascends}
+use Rattle.lists.proofs.Algebra.{Ascends-union, union_assoc, union_comm, union-nil}
 use Rattle.source_runs.proofs.Bytes.{run_ascends}
 use Rattle.merge_log.specs.declared.nodes.Entry.{Entry}
 use Rattle.merge_log.specs.Log.{Terms}

@@ -1,6 +1,6 @@
 -- The labels of a run's locations, as sets of source bytes.
 use Rattle.std.specs.Prelude.{ℕ, ◌<◌, List, [], ◌∷◌, length}
-use Rattle.sorted_set.specs.Sets.{union, Ascends}
+use Rattle.lists.specs.Sets.{union, Ascends}
 use Rattle.flow_model.specs.declared.SourceByte.{SourceByte}
 use Rattle.flow_model.specs.Orders.{source_cmp}
 use Rattle.merge_log.specs.declared.nodes.Entry.{Entry}

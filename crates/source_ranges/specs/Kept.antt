@@ -1,7 +1,7 @@
 -- The ranges that a set of source bytes keeps.
 use Rattle.std.specs.Prelude.{◌<◌, ◌≤◌, ◌^◌, List, All}
 use Rattle.std.specs.List.{flat_map}
-use Rattle.sorted_set.specs.Sets.{Ascends}
+use Rattle.lists.specs.Sets.{Ascends}
 use Rattle.flow_model.specs.Orders.{source_cmp}
 use Rattle.source_ranges.specs.declared.SourceRange.{SourceRange}
 use Rattle.source_ranges.specs.declared.set.Kept.{Kept}

@@ -1,7 +1,7 @@
 //! Runs of source bytes as ranges, and as a set.
 
 ghost use Rattle.std.specs.Prelude.{◌≡◌, ◌++◌, [], IfOk, MatchOption, OnOk};
-ghost use Rattle.sorted_set.specs.Sets.{Ascends};
+ghost use Rattle.lists.specs.Sets.{Ascends};
 ghost use Rattle.flow_model.specs.Orders.{source_cmp};
 ghost use Rattle.source_runs.specs.Runs.{all_bytes, bytes_of as bytes_of_run};
 ghost use Rattle.source_ranges.specs.Kept.{IsRange};

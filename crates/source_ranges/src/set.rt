@@ -1,7 +1,7 @@
 //! Sets of source bytes, kept as ranges.
 
 ghost use Rattle.std.specs.Prelude.{◌≡◌, ◌==◌, ◌↔◌, ◌-◌, ◌^◌, ◌<◌, [], ◌∷◌, ◌++◌, length, min, slice_get, All, IfOk, IsTrue, MatchOption, OnOk};
-ghost use Rattle.sorted_set.specs.Sets.{Ascends};
+ghost use Rattle.lists.specs.Sets.{Ascends};
 ghost use Rattle.flow_model.specs.Orders.{source_cmp};
 ghost use Rattle.source_ranges.specs.Ranges.{byte_on, bytes_of, ranges_of as ranges};
 ghost use Rattle.std.specs.List.{flat_map};

@@ -5,8 +5,8 @@ use Rattle.std.specs.Cmp.{nat_cmp_is, tied_itself}
 use Rattle.std.specs.declared.cmp.Ordering.TheVariants.{Less, Equal}
 use Rattle.std.proofs.lemmas.Grind.{common_steps}
 use Rattle.std.proofs.lemmas.Bool.{or_left, or_right, or_cases}
-use Rattle.sorted_set.specs.Sets.{union, has, IsBelow, Ascends}
-use Rattle.sorted_set.proofs.Algebra.{Ascends-union, has-union, same_list, tied_by}
+use Rattle.lists.specs.Sets.{union, has, IsBelow, Ascends}
+use Rattle.lists.proofs.Algebra.{Ascends-union, has-union, same_list, tied_by}
 use Rattle.flow_model.specs.declared.SourceByte.{SourceByte}
 use Rattle.flow_model.specs.Orders.{source_cmp}
 use Rattle.flow_model.proofs.Orders.{source_total, source_same}

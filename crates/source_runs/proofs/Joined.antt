@@ -10,7 +10,7 @@ use Rattle.std.proofs.lemmas.Bool.{or_left, or_right, or_cases}
 use Rattle.std.proofs.lemmas.Bool.Decides.{nat_tests}
 use Rattle.std.proofs.lemmas.List.Folds.{list_any-append}
 use Rattle.std.proofs.lemmas.List.Sorted.{list_any-IsPermutation}
-use Rattle.sorted_set.specs.Sets.{has, IsBelow, Ascends}
+use Rattle.lists.specs.Sets.{has, IsBelow, Ascends}
 use Rattle.flow_model.specs.declared.SourceByte.{SourceByte}
 use Rattle.flow_model.specs.Orders.{source_cmp}
 use Rattle.flow_model.proofs.Orders.{source_total}

@@ -1,7 +1,7 @@
 -- Runs that are joined to those before them, where they overlap or touch.
 use Rattle.std.proofs.Common.{◌≡◌, List, [], ◌∷◌, ◌++◌, refl, ap, sym, ◌∙◌, Bool, true, false, ◌||◌}
-use Rattle.sorted_set.specs.Sets.{union, has}
-use Rattle.sorted_set.proofs.Algebra.{has-union}
+use Rattle.lists.specs.Sets.{union, has}
+use Rattle.lists.proofs.Algebra.{has-union}
 use Rattle.flow_model.specs.declared.SourceByte.{SourceByte}
 use Rattle.flow_model.specs.Orders.{source_cmp}
 use Rattle.flow_model.proofs.Orders.{source_total}

@@ -1,7 +1,7 @@
 //! Runs as a set of bytes.
 
 ghost use Rattle.std.specs.Prelude.{◌≡◌, ◌++◌, [], OnOk};
-ghost use Rattle.sorted_set.specs.Sets.{Ascends, has};
+ghost use Rattle.lists.specs.Sets.{Ascends, has};
 ghost use Rattle.flow_model.specs.Orders.{source_cmp};
 ghost use Rattle.flow_model.specs.declared.SourceByte.{SourceByte as Source};
 ghost use Rattle.source_runs.specs.Runs.{all_bytes, bytes_of, goes_on as runs_go_on, AreLongest, AreRising};

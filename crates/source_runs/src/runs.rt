@@ -1,7 +1,7 @@
 //! A run of source bytes.
 
 ghost use Rattle.std.specs.Prelude.{◌≡◌, ◌∷◌, [], None, IfSome};
-ghost use Rattle.sorted_set.specs.Sets.{union};
+ghost use Rattle.lists.specs.Sets.{union};
 ghost use Rattle.flow_model.specs.Orders.{source_cmp};
 ghost use Rattle.source_runs.specs.Runs.{bytes_of, AreApart};
 

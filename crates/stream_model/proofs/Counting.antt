@@ -6,7 +6,7 @@ use Rattle.std.specs.Ordering.{eq_by_cmp}
 use Rattle.std.proofs.lemmas.Bool.{and_parts}
 use Rattle.flow_model.specs.declared.Loc.{Loc}
 use Rattle.flow_model.specs.declared.SourceByte.{SourceByte}
-use Rattle.sorted_set.specs.Sets.{has, is_within}
+use Rattle.lists.specs.Sets.{has, is_within}
 use Rattle.flow_model.specs.Orders.{loc_cmp}
 use Rattle.stream_model.specs.Streams.{is_ended, answers_in, is_answered, places_up_to, places_needed}
 use Rattle.stream_model.specs.StreamLaws.{ResolvableByCount, PlacesStay}

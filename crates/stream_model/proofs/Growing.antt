@@ -7,7 +7,7 @@ use Rattle.std.proofs.lemmas.Bool.{and_parts, and_from, or_right}
 use Rattle.flow_model.specs.declared.Loc.{Loc}
 use Rattle.flow_model.specs.declared.SourceByte.{SourceByte}
 use Rattle.std.specs.Ordering.{eq_by_cmp}
-use Rattle.sorted_set.specs.Sets.{inserted, union, has, Ascends}
+use Rattle.lists.specs.Sets.{inserted, union, has, Ascends}
 use Rattle.flow_model.specs.Orders.{loc_cmp, source_cmp}
 use Rattle.flow_model.specs.Origins.{union_over}
 use Rattle.flow_rule.specs.declared.Message.{Message}
@@ -17,7 +17,7 @@ use Rattle.epoch_model.specs.Crossing.{added, added_all, wanted, asked_by}
 use Rattle.epoch_model.specs.Join.{answer_to, resolved}
 use Rattle.stream_model.specs.Streams.{is_ended, requests, answers_in, heard, is_answered, is_resolvable, end_if, asks_for, answer, then_if, answers_for}
 use Rattle.stream_model.specs.StreamLaws.{IsPrefix, AsksGrow, AnswersGrow, EndsLast, NothingIsLeft, AsksEndLast, AnswersEndLast, HeardAscends}
-use Rattle.sorted_set.proofs.Algebra.{Ascends-inserted}
+use Rattle.lists.proofs.Algebra.{Ascends-inserted}
 use Rattle.flow_model.proofs.Orders.{source_total}
 use Rattle.epoch_model.proofs.Adding.{union_over_same}
 

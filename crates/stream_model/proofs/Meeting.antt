@@ -12,7 +12,7 @@ use Rattle.flow_model.specs.declared.Loc.{Loc}
 use Rattle.flow_model.specs.declared.InnerSink.{InnerSink}
 use Rattle.flow_model.specs.declared.SourceByte.{SourceByte}
 use Rattle.flow_model.specs.declared.StepSeen.{StepSeen}
-use Rattle.sorted_set.specs.Sets.{inserted, placed, has, IsBelow, Ascends}
+use Rattle.lists.specs.Sets.{inserted, placed, has, IsBelow, Ascends}
 use Rattle.flow_model.specs.Orders.{loc_cmp, source_cmp}
 use Rattle.flow_model.specs.Origins.{origins}
 use Rattle.flow_model.specs.Ranges.{IsLocation, IsInRange}
@@ -20,7 +20,7 @@ use Rattle.flow_rule.specs.declared.Message.{Message}
 use Rattle.flow_rule.specs.declared.Message.TheVariants.{Ask, Byte, Close, End}
 use Rattle.report_model.specs.Query.{Query, AreLocated, policy_of}
 use Rattle.report_model.specs.Rows.{Sink, Row, row}
-use Rattle.sorted_set.proofs.Algebra.{tied_by, less_turned}
+use Rattle.lists.proofs.Algebra.{tied_by, less_turned}
 use Rattle.flow_model.proofs.Orders.{loc_same, source_total}
 use Rattle.flow_model.proofs.Origins.{Ascends-origins}
 use Rattle.epoch_model.specs.Stretch.{points_at_start, sinks_between, sinks_of_epoch}

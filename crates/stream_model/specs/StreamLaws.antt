@@ -13,7 +13,7 @@ use Rattle.flow_rule.specs.declared.Message.{Message}
 use Rattle.flow_rule.specs.declared.Message.TheVariants.{Ask, Byte, Close, End}
 use Rattle.report_model.specs.Query.{Query, AreLocated, policy_of}
 use Rattle.report_model.specs.Rows.{row, rows_as_written}
-use Rattle.sorted_set.specs.Sets.{Ascends, has, is_within}
+use Rattle.lists.specs.Sets.{Ascends, has, is_within}
 use Rattle.epoch_model.specs.Stretch.{sinks_of_epoch}
 use Rattle.epoch_model.specs.Cutting.{IsCutting}
 use Rattle.epoch_model.specs.Summary.{Summary, Terms, AreSummaries}

@@ -9,7 +9,7 @@ use Rattle.flow_model.specs.declared.Rule.TheVariants.{Index}
 use Rattle.isa.specs.Machine.{wrap}
 use Rattle.flow_model.specs.Flow.{lane, lanes, all_lanes, byte_of, with_base, in_first_lane}
 use Rattle.flow_model.specs.Orders.{loc_cmp}
-use Rattle.sorted_set.specs.Sets.{union}
+use Rattle.lists.specs.Sets.{union}
 use Rattle.flow_rule.specs.declared.shape.Mixing.{Mixing}
 use Rattle.flow_rule.specs.declared.shape.Mixing.TheVariants.{EachLane, AllLanes, ShiftedLanes, FirstLane}
 use Rattle.flow_rule.specs.declared.shuffle.Shuffle.{Shuffle}

@@ -9,8 +9,8 @@ use Rattle.flow_model.specs.Flow.{lane, lanes}
 use Rattle.flow_model.specs.Orders.{loc_cmp}
 use Rattle.flow_model.specs.Ranges.{IsLocation}
 use Rattle.flow_model.proofs.Orders.{loc_same}
-use Rattle.sorted_set.specs.Sets.{union, inserted, placed}
-use Rattle.sorted_set.proofs.Algebra.{All-union}
+use Rattle.lists.specs.Sets.{union, inserted, placed}
+use Rattle.lists.proofs.Algebra.{All-union}
 use Rattle.taint_shadow.specs.declared.labels.Label.{Label}
 use Rattle.taint_shadow.specs.declared.lanes.Lanes.{Lanes}
 use Rattle.taint_shadow.specs.declared.places.Places.{Places}

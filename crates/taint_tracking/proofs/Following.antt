@@ -16,7 +16,7 @@ use Rattle.report_model.specs.Rows.{point_sink, sinks_of_step, from_time}
 use Rattle.report_model.proofs.Due.{AreAfter, after_due, due_are, later_are, due_now, later_now, left_in_time}
 use Rattle.replayer.specs.declared.cursor.PlainStep.{PlainStep}
 use Rattle.replayer.specs.Nexts.{seen_at}
-use Rattle.sorted_set.specs.Sets.{Ascends}
+use Rattle.lists.specs.Sets.{Ascends}
 use Rattle.epoch_model.specs.Stretch.{sinks_of_epoch}
 use Rattle.taint_shadow.specs.Labels.{LabelWords, KeepsLabels}
 use Rattle.taint_shadow.specs.Steps.{Holds, after, turned as turned_by}

@@ -9,7 +9,7 @@ use Rattle.flow_model.specs.Origins.{step_at}
 use Rattle.flow_model.specs.Ranges.{IsInRange}
 use Rattle.report_model.specs.Query.{Query, AreLocated, policy_of}
 use Rattle.report_model.specs.Rows.{from_time}
-use Rattle.sorted_set.specs.Sets.{Ascends}
+use Rattle.lists.specs.Sets.{Ascends}
 use Rattle.epoch_model.specs.Stretch.{sinks_of_epoch}
 use Rattle.replayer.specs.declared.cursor.PlainStep.{PlainStep}
 use Rattle.replayer.specs.Nexts.{seen_at}

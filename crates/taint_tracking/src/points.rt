@@ -6,7 +6,7 @@ ghost use Rattle.flow_model.specs.Ranges.{IsLocation};
 ghost use Rattle.epoch_model.specs.Stretch.{points_at_start};
 ghost use Rattle.report_model.specs.Query.{AreLocated};
 ghost use Rattle.report_model.specs.Rows.{point_sink, from_time};
-ghost use Rattle.sorted_set.specs.Sets.{Ascends};
+ghost use Rattle.lists.specs.Sets.{Ascends};
 ghost use Rattle.taint_tracking.specs.Sinks.{Notes, sinks_at};
 
 use flow_model::{InnerSink, SinkPoint};

@@ -10,7 +10,7 @@ use Rattle.flow_model.specs.declared.SinkPoint.TheVariants.{Out, At}
 use Rattle.flow_model.specs.declared.StepSeen.{StepSeen}
 use Rattle.flow_model.specs.Orders.{inner_cmp}
 use Rattle.flow_model.specs.Origins.{Policy, step_at}
-use Rattle.sorted_set.specs.Sets.{has}
+use Rattle.lists.specs.Sets.{has}
 use Rattle.report_model.specs.Query.{Query, Alike, has_sink, policy_of}
 use Rattle.report_model.specs.Rows.{Sink, Row, row, rows, rows_as_written, point_sink, points_at, sinks_of_step, sinks_from}
 use Rattle.report_model.specs.Text.{report_text}

@@ -1,6 +1,6 @@
 use Rattle.std.proofs.Common.{◌≡◌, ℕ, Bool, true, false, ◌||◌, ap, sym, subst, List, get_or, ◌∙◌}
 use Rattle.std.proofs.lemmas.List.{take_all}
-use Rattle.sorted_set.specs.Sets.{Ascends, has}
+use Rattle.lists.specs.Sets.{Ascends, has}
 use Rattle.flow_model.specs.declared.Loc.{Loc}
 use Rattle.flow_model.specs.declared.Loc.TheVariants.{Reg}
 use Rattle.flow_model.specs.Orders.{source_cmp}

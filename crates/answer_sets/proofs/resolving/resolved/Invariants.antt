@@ -1,5 +1,5 @@
 use Rattle.std.proofs.Common.{◌≡◌, take}
-use Rattle.sorted_set.specs.Sets.{has}
+use Rattle.lists.specs.Sets.{has}
 use Rattle.flow_model.specs.Orders.{source_cmp}
 use Rattle.flow_model.specs.declared.SourceByte.{SourceByte}
 use Rattle.epoch_model.specs.Join.{answer_to}

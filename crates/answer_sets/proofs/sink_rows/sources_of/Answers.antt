@@ -4,8 +4,8 @@ use Rattle.flow_model.specs.declared.Loc.{Loc}
 use Rattle.flow_model.specs.Orders.{source_cmp}
 use Rattle.flow_model.specs.Origins.{union_over}
 use Rattle.flow_model.proofs.Orders.{source_total}
-use Rattle.sorted_set.specs.Sets.{Ascends, union}
-use Rattle.sorted_set.proofs.Algebra.{union-nil}
+use Rattle.lists.specs.Sets.{Ascends, union}
+use Rattle.lists.proofs.Algebra.{union-nil}
 use Rattle.merge_log.specs.Log.{Terms as Leaves}
 use Rattle.epoch_model.specs.Join.{answer_to, resolved}
 use Rattle.local_taint.specs.Words.{as_terms}

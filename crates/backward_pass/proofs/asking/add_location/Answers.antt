@@ -1,6 +1,6 @@
 use Rattle.std.proofs.Common.{rules, ◌≡◌, ◌∙◌, ap, sym, subst, true}
 use Rattle.std.specs.Prelude.{Some}
-use Rattle.sorted_set.specs.Sets.{is_within}
+use Rattle.lists.specs.Sets.{is_within}
 use Rattle.flow_model.specs.Orders.{loc_cmp}
 use Rattle.epoch_model.specs.Summary.{Terms}
 use Rattle.stream_model.specs.Streams.{places_needed}

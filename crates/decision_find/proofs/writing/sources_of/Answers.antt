@@ -1,5 +1,5 @@
 use Rattle.std.proofs.Common.{◌∙◌, sym, subst}
-use Rattle.sorted_set.specs.Sets.{Ascends}
+use Rattle.lists.specs.Sets.{Ascends}
 use Rattle.flow_model.specs.Orders.{source_cmp}
 use Rattle.std.proofs.lemmas.Result.{IfOk-weaker}
 use Rattle.source_labels.specs.Laws.{label_laws}

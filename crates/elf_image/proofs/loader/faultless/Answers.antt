@@ -1,6 +1,6 @@
 use Rattle.std.proofs.Common.{ap, sym, ◌∙◌}
 use Rattle.std.proofs.lemmas.Result.{err_from_is_err_and}
-use Rattle.format_model.specs.FirstTrue.{first_true}
+use Rattle.lists.specs.FirstTrue.{first_true}
 use Rattle.elf_image.specs.Faults.{table_faults}
 use Rattle.elf_image.proofs.FaultLemmas.{header_fault, table_fault}
 use Rattle.elf_image.proofs.loader.faultless.Goals as goal

@@ -1,7 +1,7 @@
 use Rattle.std.proofs.Common.{◌∙◌, ap, sym, subst, List, [], map}
 use Rattle.std.specs.Prelude.{◌≡◌, All, IfOk}
 use Rattle.report_model.specs.Rows.{Row, row_cmp}
-use Rattle.sorted_set.specs.Sets.{set_of}
+use Rattle.lists.specs.Sets.{set_of}
 use Rattle.epoch_cut.specs.Numbered.{NumberedEpoch}
 use Rattle.checkpoints.specs.Points.{CheckpointsAt, beginnings}
 use Rattle.sink_collect.specs.Distinct.{AreDistinct}

@@ -6,8 +6,8 @@ use Rattle.flow_model.specs.Orders.{source_cmp}
 use Rattle.flow_model.proofs.Orders.{source_total}
 use Rattle.log_model.specs.Logs.{Log}
 use Rattle.log_model.specs.Moved.{received}
-use Rattle.sorted_set.specs.Sets.{Ascends}
-use Rattle.sorted_set.proofs.Algebra.{Ascends-set_of}
+use Rattle.lists.specs.Sets.{Ascends}
+use Rattle.lists.proofs.Algebra.{Ascends-set_of}
 use Rattle.replayer.specs.Jobs.{trace_of}
 use Rattle.report_model.specs.Query.{Query, has_source}
 use Rattle.report_model.specs.Influence.{chosen_sources, sources_of as sources_in}

@@ -1,8 +1,8 @@
 use Rattle.std.proofs.Common.{sym, ap, ◌∙◌, subst}
 use Rattle.std.specs.List.{filter}
 use Rattle.flow_model.specs.Orders.{source_cmp}
-use Rattle.sorted_set.specs.Sets.{Ascends}
-use Rattle.sorted_set.proofs.Filters.{Ascends-filter}
+use Rattle.lists.specs.Sets.{Ascends}
+use Rattle.lists.proofs.Filters.{Ascends-filter}
 use Rattle.report_model.specs.Query.{has_source}
 use Rattle.source_ranges.proofs.Kept.{all-bytes}
 use Rattle.sink_collect.proofs.choosing.chosen_sources.Goals as goal

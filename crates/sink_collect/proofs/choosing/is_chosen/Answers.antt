@@ -3,7 +3,7 @@ use Rattle.std.specs.declared.cmp.Ordering.{Ordering}
 use Rattle.flow_model.specs.declared.InnerSink.{InnerSink}
 use Rattle.flow_model.specs.Orders.{inner_cmp}
 use Rattle.flow_model.proofs.Derived.{inner_order_is}
-use Rattle.sorted_set.specs.Sets.{Ascends, has}
+use Rattle.lists.specs.Sets.{Ascends, has}
 use Rattle.report_model.specs.Query.{has_sink}
 use Rattle.sink_collect.proofs.choosing.is_chosen.Goals as goal
 

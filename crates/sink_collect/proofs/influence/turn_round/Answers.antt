@@ -7,7 +7,7 @@ use Rattle.std.proofs.lemmas.List.{length-map, take_all, take_more}
 use Rattle.std.proofs.lemmas.List.Elements.{All-weaker}
 use Rattle.flow_model.specs.declared.SourceByte.{SourceByte}
 use Rattle.flow_model.specs.Orders.{source_cmp}
-use Rattle.sorted_set.specs.Sets.{Ascends}
+use Rattle.lists.specs.Sets.{Ascends}
 use Rattle.report_model.specs.Rows.{Row}
 use Rattle.report_model.specs.Influence.{reached, turned}
 use Rattle.source_ranges.specs.declared.SourceRange.{SourceRange}

@@ -2,7 +2,7 @@ use Rattle.std.proofs.Common.{◌≡◌, ◌++◌, ◌||◌, [], ap, ◌∙◌, 
 use Rattle.std.proofs.lemmas.Result.{on_ok_weaker}
 use Rattle.flow_model.specs.declared.SourceByte.{SourceByte}
 use Rattle.flow_model.specs.Orders.{source_cmp}
-use Rattle.sorted_set.specs.Sets.{has}
+use Rattle.lists.specs.Sets.{has}
 use Rattle.answer_sets.proofs.Members.{ascends_by, compared}
 use Rattle.answer_sets.proofs.Gathering.{waiting_more, none_waits}
 use Rattle.answer_sets.proofs.resolving.Gathered.add.Goals as goal

@@ -1,6 +1,6 @@
 use Rattle.std.proofs.Common.{ap, sym, ◌∙◌, List}
 use Rattle.flow_model.specs.declared.SourceByte.{SourceByte}
-use Rattle.sorted_set.specs.Sets.{is_within}
+use Rattle.lists.specs.Sets.{is_within}
 use Rattle.answer_sets.proofs.Members.{ascends_in, compared}
 use Rattle.answer_sets.proofs.Gathering.{within_more}
 use Rattle.answer_sets.proofs.resolving.Gathered.add_set.Goals as goal

@@ -1,7 +1,7 @@
 use Rattle.std.proofs.Common.{List, ap, sym, ◌∙◌, ◌||◌}
 use Rattle.flow_model.specs.declared.SourceByte.{SourceByte}
 use Rattle.flow_model.specs.Orders.{source_cmp}
-use Rattle.sorted_set.specs.Sets.{has, union}
+use Rattle.lists.specs.Sets.{has, union}
 use Rattle.answer_sets.proofs.Members.{ascends_in, ascends_by, members_by, compared}
 use Rattle.answer_sets.proofs.Gathering.{merged_ascends, merged_has, has-both}
 use Rattle.answer_sets.proofs.resolving.Gathered.into_set.Goals as goal

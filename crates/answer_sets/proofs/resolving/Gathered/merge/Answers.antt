@@ -1,6 +1,6 @@
 use Rattle.std.proofs.Common.{ap, ◌∙◌, List}
 use Rattle.flow_model.specs.declared.SourceByte.{SourceByte}
-use Rattle.sorted_set.specs.Sets.{union}
+use Rattle.lists.specs.Sets.{union}
 use Rattle.answer_sets.proofs.Members.{ascends_in, compared}
 use Rattle.answer_sets.proofs.Gathering.{merged_ascends, merged_more}
 use Rattle.answer_sets.proofs.resolving.Gathered.merge.Goals as goal

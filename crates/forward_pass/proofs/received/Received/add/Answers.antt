@@ -1,6 +1,6 @@
 use Rattle.std.proofs.Common.{subst, sym}
 use Rattle.std.specs.declared.cmp.Ordering.{Ordering}
-use Rattle.sorted_set.specs.Sets.{Ascends}
+use Rattle.lists.specs.Sets.{Ascends}
 use Rattle.flow_model.specs.declared.SourceByte.{SourceByte}
 use Rattle.answer_sets.proofs.Members.{order_is}
 use Rattle.forward_pass.proofs.OneMore.{ascends_after}

@@ -1,6 +1,6 @@
 use Rattle.std.proofs.Common.{subst, sym, List}
-use Rattle.sorted_set.specs.Sets.{Ascends}
-use Rattle.sorted_set.proofs.Algebra.{Ascends-set_of}
+use Rattle.lists.specs.Sets.{Ascends}
+use Rattle.lists.proofs.Algebra.{Ascends-set_of}
 use Rattle.flow_model.specs.declared.InnerSink.{InnerSink}
 use Rattle.flow_model.specs.Orders.{inner_cmp}
 use Rattle.flow_model.proofs.Orders.{inner_total}

@@ -1,0 +1,5 @@
+pub mod Algebra
+pub mod Places
+pub mod Sorting
+pub mod Filters
+pub mod FirstTrue

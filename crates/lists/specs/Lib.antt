@@ -1,0 +1,4 @@
+pub mod Sets
+pub mod SetLaws
+pub mod Fields
+pub mod FirstTrue

@@ -1,4 +1,0 @@
-pub mod Algebra
-pub mod Places
-pub mod Sorting
-pub mod Filters

@@ -1,5 +1,0 @@
-use Rattle.sorted_set.proofs.Algebra.{same_list}
-use Rattle.sorted_set.proofs.laws.sets_have_one_list.Goals as goal
-
-pub returns : goal.returns
-returns g c = λ R o same. same_list o same
