@@ -13,7 +13,7 @@ use Rattle.sink_collect.specs.Pairs.{capped}
 use Rattle.epoch_model.specs.Cutting.{Epoch, IsCutting, epochs}
 use Rattle.epoch_model.specs.Summary.{AreSummaries}
 use Rattle.epoch_cut.specs.Numbered.{NumberedEpoch, numbered}
-use Rattle.local_taint.specs.Summaries.{AreInRange}
+use Rattle.local_taint.specs.Following.{AreInRange}
 use Rattle.local_taint.proofs.Range.{all_in_range, trace_long}
 use Rattle.pass_parts.specs.Ends.{got_by, sent_by, EndsWhole}
 use Rattle.stream_model.specs.Streams.{is_ended, requests, Node, IsDone, AreDone, AreAllDone, summaries}

@@ -13,7 +13,7 @@ use checkpoints::{Checkpoints, StartPoint};
 use epoch_cut::EpochTicket;
 use epoch_link::{Inlet, Outlet};
 use flow_rule::Message;
-use local_taint::Asked;
+use epoch_summary::Asked;
 use no_memory::NoMemory;
 use outer_io::Gate;
 use pass_parts::PassTurn;

@@ -11,7 +11,7 @@ use crate::received::Received;
 use crate::rows::{SinkRows, make_rows};
 use crate::sending::Sending;
 use flow_rule::Loc;
-use local_taint::{Asked, TermsAhead};
+use epoch_summary::{Asked, TermsAhead};
 use merge_log::TermsReader;
 use no_memory::NoMemory;
 use pass_parts::{Knowledge, Requests};

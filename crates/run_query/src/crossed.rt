@@ -4,7 +4,7 @@ ghost use Rattle.std.specs.Prelude.{◌≡◌, ◌<◌, ◌^◌, length, IfOk};
 ghost use Rattle.run_query.specs.Crossings.{numbered};
 
 use flow_model::Loc;
-use local_taint::Asked;
+use epoch_summary::Asked;
 use no_memory::NoMemory;
 use std::alloc::Global;
 use std::marker::Model;
