@@ -1,9 +1,9 @@
 //! The ends of links, by neighbour.
 
-ghost use Rattle.std.specs.Prelude.{◌≡◌, ◌≤◌, IfOk};
+ghost use Rattle.std.specs.Prelude.{◌≡◌, IfOk};
 ghost use Rattle.epoch_line.specs.Layouts.{Links, before_end, after_end, ends_of};
 
-use epoch_link::{Consumer, Producer, ring};
+use epoch_link::{Capacity, Consumer, Producer, ring};
 use epoch_node::Ends;
 use flow_rule::Message;
 use no_memory::NoMemory;
@@ -25,8 +25,7 @@ pub struct After {
 
 /// The ends of two new links between neighbours: those of the node before, and those of the node behind. It gives up with
 /// NoMemory alone.
-pub(crate) fn join_two(alloc: Global, capacity: u32) -> Result<(After, Before), NoMemory>
-    requires { (1 ≤ capacity) × (capacity ≤ 65536) }
+pub(crate) fn join_two(alloc: Global, capacity: Capacity) -> Result<(After, Before), NoMemory>
     ensures { IfOk result (λ ends.
         (links : Links) × (ends.0 ≡ after_end capacity links) × (ends.1 ≡ before_end capacity links)) }
 {

@@ -1,6 +1,6 @@
 //! New nodes, joined by new links.
 
-ghost use Rattle.std.specs.Prelude.{◌≡◌, ◌≤◌, IfOk, IfSome, is_none};
+ghost use Rattle.std.specs.Prelude.{◌≡◌, IfOk, IfSome, is_none};
 ghost use Rattle.log_model.specs.Logs.{steps};
 ghost use Rattle.epoch_model.specs.Cutting.{IsCutting};
 ghost use Rattle.checkpoints.specs.Points.{beginnings};
@@ -11,6 +11,7 @@ ghost use Rattle.epoch_line.specs.Layouts.{ends_of, IsNewBefore, IsNewAfter, IsL
 use crate::ends::{After, Before, gather_ends, join_two};
 use checkpoints::Checkpoints;
 use epoch_cut::{Cuts, EpochTicket};
+use epoch_link::Capacity;
 use epoch_node::{Core, Node};
 use no_memory::NoMemory;
 use query_lang::Query;
@@ -47,18 +48,17 @@ fn make_node<'a, G>(
 }
 
 /// A fresh node for each epoch of a run that is cut, in order, and two new links between neighbours, each of which holds at
-/// most `capacity` messages, 1 to 65536. It gives up with NoMemory alone.
+/// most `capacity` messages. It gives up with NoMemory alone.
 pub fn lay_out<'a, G>(
     alloc: Global,
     checkpoints: &'a Checkpoints<'a>,
     query: &'a Query,
     gate: &'a G,
     cuts: Cuts,
-    capacity: u32,
+    capacity: Capacity,
 ) -> Result<Vec<Node<'a, G>>, NoMemory>
     requires times { checkpoints.now.times ≡ beginnings cuts }
     requires cuts { IsCutting (steps checkpoints.now.job.log) cuts }
-    requires capacity { (1 ≤ capacity) × (capacity ≤ 65536) }
     ensures { IfOk result (λ nodes.
         IsLayout capacity (record { job = checkpoints.now.job; query = query.now; cuts = cuts }) nodes.items) }
 {
