@@ -11,8 +11,8 @@ ghost use Rattle.epoch_summary.specs.Words.{as_terms};
 ghost use Rattle.answer_sets.specs.Gathered.{is_at_one_of, AreGathered};
 
 use crate::answers::{Answers, LARGE};
-use flow_model::{Loc, SourceByte};
 use epoch_summary::Asked;
+use flow_model::{Loc, SourceByte};
 use merge_log::{TermsReader, ascend};
 use no_memory::NoMemory;
 use sorted_set::{is_subset, merged};

@@ -10,8 +10,8 @@ ghost use Rattle.pass_parts.specs.Known.{known};
 ghost use Rattle.pass_parts.specs.Requests.{IsCounted, AreCounted};
 ghost use Rattle.backward_pass.specs.Backward.{AreAsked, IsWalked, IsRequested};
 
-use flow_rule::Loc;
 use epoch_summary::{Asked, Summary, TermsAhead};
+use flow_rule::Loc;
 use merge_log::TermsReader;
 use no_memory::NoMemory;
 use pass_parts::{Request, Requests, read_end_terms, share_end_terms};

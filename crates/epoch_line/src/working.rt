@@ -9,12 +9,11 @@ ghost use Rattle.checkpoints.specs.Points.{beginnings};
 ghost use Rattle.sink_collect.specs.Pairs.{capped};
 ghost use Rattle.stream_model.specs.Work.{asked_at, run_work};
 
-use crate::collecting::{Collected, collect};
-use crate::layout::lay_out;
-use crate::turning::work_in_groups;
 use checkpoints::Checkpoints;
 use epoch_cut::Cuts;
+use epoch_layout::{Collected, collect, lay_out};
 use epoch_link::Capacity;
+use epoch_turns::work_in_groups;
 use no_memory::NoMemory;
 use outer_io::Gate;
 use query_lang::Query;

@@ -18,7 +18,7 @@ use crate::line::{Line, lay_out};
 use crate::turning::turn_at;
 use checkpoints::Checkpoints;
 use epoch_cut::Cuts;
-use epoch_line::Collected;
+use epoch_layout::Collected;
 use epoch_link::Capacity;
 use no_memory::NoMemory;
 use outer_io::Gate;

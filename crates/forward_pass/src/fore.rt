@@ -19,8 +19,8 @@ use crate::sending::Sending;
 use crate::state::Fore;
 use answer_sets::{Answers, resolved};
 use epoch_link::{Inlet, Outlet};
-use flow_rule::{Loc, Message, SourceByte};
 use epoch_summary::{Asked, Summary, TermsAhead};
+use flow_rule::{Loc, Message, SourceByte};
 use merge_log::TermsReader;
 use no_memory::NoMemory;
 use pass_parts::{

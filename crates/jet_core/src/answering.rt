@@ -8,8 +8,8 @@ ghost use Rattle.epoch_model.specs.Join.{answer_to, resolved as resolved_terms, 
 ghost use Rattle.epoch_summary.specs.Summaries.{summary_of};
 
 use answer_sets::{Answers, resolved};
-use flow_model::{Loc, SourceByte};
 use epoch_summary::{Asked, Summary};
+use flow_model::{Loc, SourceByte};
 use merge_log::TermsReader;
 use no_memory::NoMemory;
 use std::alloc::Global;

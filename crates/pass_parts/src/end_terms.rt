@@ -6,8 +6,8 @@ ghost use Rattle.epoch_summary.specs.Ahead.{IsAhead};
 ghost use Rattle.epoch_summary.specs.Words.{as_terms};
 ghost use Rattle.pass_parts.specs.Known.{is_location, known};
 
-use flow_rule::Loc;
 use epoch_summary::{Summary, TermsAhead};
+use flow_rule::Loc;
 use merge_log::TermsReader;
 use no_memory::NoMemory;
 

@@ -3,8 +3,8 @@
 ghost use Rattle.std.specs.Prelude.{◌≡◌, ◌<◌, ◌^◌, length, IfOk};
 ghost use Rattle.run_query.specs.Crossings.{numbered};
 
-use flow_model::Loc;
 use epoch_summary::Asked;
+use flow_model::Loc;
 use no_memory::NoMemory;
 use std::alloc::Global;
 use std::marker::Model;
