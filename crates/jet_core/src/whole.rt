@@ -7,7 +7,7 @@ ghost use Rattle.epoch_model.specs.Cutting.{IsCutting};
 ghost use Rattle.stream_model.specs.Work.{run_work};
 ghost use Rattle.replayer.specs.Jobs.{trace_of};
 ghost use Rattle.sink_collect.specs.Pairs.{capped};
-ghost use Rattle.run_query.specs.Crossings.{crossed};
+ghost use Rattle.query_parts.specs.Crossings.{crossed};
 
 use crate::analysing::found_at_once;
 use crate::asking::crossings;

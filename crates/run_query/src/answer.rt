@@ -8,9 +8,8 @@ ghost use Rattle.stream_model.specs.Work.{run_work};
 ghost use Rattle.replayer.specs.Jobs.{trace_of};
 ghost use Rattle.checkpoints.specs.Points.{beginnings};
 ghost use Rattle.sink_collect.specs.Pairs.{capped};
-ghost use Rattle.run_query.specs.Crossings.{crossed, numbered};
+ghost use Rattle.query_parts.specs.Crossings.{crossed, numbered};
 
-use crate::crossed::{Crossed, number};
 use checkpoints::Checkpoints;
 use distinct_rows::rows_are_distinct;
 use epoch_cut::Cuts;
@@ -19,6 +18,7 @@ use epoch_link::Capacity;
 use no_memory::NoMemory;
 use outer_io::Gate;
 use query_lang::Query;
+use query_parts::{Crossed, number};
 use replayer::Job;
 use sink_collect::{Report, SinkSet, SinkSets, gather};
 use std::alloc::Global;

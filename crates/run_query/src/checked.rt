@@ -6,16 +6,15 @@ ghost use Rattle.report_model.specs.Rows.{rows};
 ghost use Rattle.no_memory.specs.Faults.{IsCausedBy};
 ghost use Rattle.replayer.specs.Checks.{IsChecked, IsMisfit};
 ghost use Rattle.replayer.specs.Jobs.{trace_of};
-ghost use Rattle.run_query.specs.Parts.{IsEnough};
+ghost use Rattle.query_parts.specs.Parts.{IsEnough};
 
 use crate::beginning::query_beginning;
-use crate::part::Part;
-use crate::prepared::check_for;
 use crate::whole::query_prepared;
 use elf_image::Image;
 use epoch_link::Capacity;
 use outer_io::Gate;
 use query_lang::Query;
+use query_parts::{Part, check_for};
 use replay_log::Log;
 use replayer::{CheckFault, Job};
 use sink_collect::Report;

@@ -8,18 +8,17 @@ ghost use Rattle.stream_model.specs.Work.{run_work};
 ghost use Rattle.replayer.specs.Jobs.{trace_of};
 ghost use Rattle.seq_taint.specs.Runs.{AreSinksOfRun};
 ghost use Rattle.sink_collect.specs.Pairs.{capped};
-ghost use Rattle.run_query.specs.Crossings.{crossed};
-ghost use Rattle.run_query.specs.Preparing.{AreTakenFor, IsPrepared, cuts_of};
+ghost use Rattle.query_parts.specs.Crossings.{crossed};
+ghost use Rattle.query_parts.specs.Preparing.{AreTakenFor, IsPrepared, cuts_of};
 
 use crate::answer::{answer_of_line, answer_of_one};
-use crate::crossed::Crossed;
-use crate::prepared::{Found, Prepared};
 use checkpoints::{CheckpointTaker, Checkpoints};
 use epoch_cut::Cuts;
 use epoch_link::Capacity;
 use no_memory::NoMemory;
 use outer_io::Gate;
 use query_lang::Query;
+use query_parts::{Crossed, Found, Prepared};
 use replayer::Job;
 use seq_taint::{LabelledSinks, sequential};
 use sink_collect::Report;
@@ -68,7 +67,7 @@ pub fn query<G: Gate, R: Threads + Wait + Sync>(
     )
 }
 
-/// The same as [`query`], of what [`crate::check_for`] prepared for the query while the log was checked.
+/// The same as [`query`], of what [`query_parts::check_for`] prepared for the query while the log was checked.
 pub fn query_prepared<G: Gate, R: Threads + Wait + Sync>(
     rt: &R,
     alloc: Global,

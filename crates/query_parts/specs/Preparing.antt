@@ -6,9 +6,9 @@ use Rattle.epoch_model.specs.Cutting.{IsCutting}
 use Rattle.replayer.specs.Jobs.{Job}
 use Rattle.checkpoints.specs.Taking.{TakerAt, HasTaken}
 use Rattle.seq_taint.specs.Runs.{AreSinksOfRun}
-use Rattle.run_query.specs.declared.prepared.Prepared.{Prepared}
-use Rattle.run_query.specs.declared.prepared.Found.{Found}
-use Rattle.run_query.specs.declared.prepared.Found.TheVariants.{Whole, Parts}
+use Rattle.query_parts.specs.declared.prepared.Prepared.{Prepared}
+use Rattle.query_parts.specs.declared.prepared.Found.{Found}
+use Rattle.query_parts.specs.declared.prepared.Found.TheVariants.{Whole, Parts}
 
 -- where the run is cut
 abbrev pub cuts_of : Prepared → List ℕ

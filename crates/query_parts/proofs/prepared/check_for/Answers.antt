@@ -1,7 +1,7 @@
 use Rattle.std.proofs.Common.{◌≡◌, ℕ, List, length, arith, sym, subst}
 use Rattle.log_model.specs.Logs.{Log, steps}
 use Rattle.epoch_model.specs.Cutting.{IsCutting}
-use Rattle.run_query.proofs.prepared.check_for.Goals as goal
+use Rattle.query_parts.proofs.prepared.check_for.Goals as goal
 
 -- the job's log is the one that was cut
 cutting_kept : (log kept : Log) (cuts : List ℕ) → kept ≡ log → IsCutting (steps log) cuts → IsCutting (steps kept) cuts

@@ -1,4 +1,4 @@
-use Rattle.run_query.proofs.prepared.check_whole.Goals as goal
+use Rattle.query_parts.proofs.prepared.check_whole.Goals as goal
 
 pub returns-clause-sinks : goal.returns-clause-sinks
 returns-clause-sinks c =

@@ -7,7 +7,7 @@ ghost use Rattle.epoch_model.specs.Cutting.{IsCutting};
 ghost use Rattle.no_memory.specs.Faults.{IsCausedBy};
 ghost use Rattle.replayer.specs.Checks.{IsChecked, IsMisfit};
 ghost use Rattle.seq_taint.specs.Runs.{AreSinksOfRun};
-ghost use Rattle.run_query.specs.Preparing.{AreTakenFor, IsPrepared, cuts_of};
+ghost use Rattle.query_parts.specs.Preparing.{AreTakenFor, IsPrepared, cuts_of};
 
 use checkpoints::CheckpointTaker;
 use elf_image::Image;
@@ -22,13 +22,13 @@ use std::alloc::Global;
 /// Where a run is cut into epochs, and what was found of them for a query while the run's log was checked.
 #[derive(Drop)]
 pub struct Prepared {
-    pub(crate) cuts: Cuts,
-    pub(crate) found: Found,
+    pub cuts: Cuts,
+    pub found: Found,
 }
 
 /// What was found of the epochs of a run.
 #[derive(Drop)]
-pub(crate) enum Found {
+pub enum Found {
     /// Of one epoch its sinks.
     Whole(LabelledSinks),
     /// Of several epochs where each begins.

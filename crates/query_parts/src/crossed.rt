@@ -1,7 +1,7 @@
 //! What epochs asked at a cut.
 
 ghost use Rattle.std.specs.Prelude.{◌≡◌, ◌<◌, ◌^◌, length, IfOk};
-ghost use Rattle.run_query.specs.Crossings.{numbered};
+ghost use Rattle.query_parts.specs.Crossings.{numbered};
 
 use epoch_summary::Asked;
 use flow_model::Loc;
@@ -19,7 +19,7 @@ pub struct Crossed {
 }
 
 impl Model for Crossed {
-    ghost use Rattle.run_query.specs.Crossings.{CrossedAt};
+    ghost use Rattle.query_parts.specs.Crossings.{CrossedAt};
 
     ghost Value = { CrossedAt };
 
@@ -43,7 +43,7 @@ impl Crossed {
 }
 
 /// What was asked at the cuts, from the first to the last, numbered from 1. It gives up with NoMemory alone.
-pub(crate) fn number(alloc: Global, crossings: Vec<Asked>) -> Result<Vec<Crossed>, NoMemory>
+pub fn number(alloc: Global, crossings: Vec<Asked>) -> Result<Vec<Crossed>, NoMemory>
     requires { length crossings.items < 2 ^ 32 }
     ensures { IfOk result (λ crossed. crossed.items ≡ numbered 1 crossings.items) }
 {
