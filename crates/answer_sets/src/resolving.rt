@@ -7,13 +7,13 @@ ghost use Rattle.flow_model.specs.declared.SourceByte.{SourceByte as Source};
 ghost use Rattle.source_runs.specs.Runs.{all_bytes};
 ghost use Rattle.merge_log.specs.Log.{AreSets, start_term};
 ghost use Rattle.epoch_model.specs.Join.{answer_to, resolved as resolved_terms};
-ghost use Rattle.local_taint.specs.Words.{as_terms};
+ghost use Rattle.epoch_summary.specs.Words.{as_terms};
 ghost use Rattle.answer_sets.specs.Gathered.{is_at_one_of, AreGathered};
 
 use crate::answers::{Answers, LARGE};
+use epoch_summary::Asked;
 use flow_model::{Loc, SourceByte};
 use lists::{is_subset, merged};
-use local_taint::Asked;
 use merge_log::{TermsReader, ascend};
 use no_memory::NoMemory;
 use source_runs::{SourceRun, push_bytes};

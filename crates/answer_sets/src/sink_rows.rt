@@ -3,13 +3,13 @@
 ghost use Rattle.std.specs.Prelude.{◌≡◌, ◌<◌, ◌-◌, Some, length, slice_get, IfOk, IfSome};
 ghost use Rattle.epoch_model.specs.Join.{answer_to, resolved as resolved_terms, rows_of};
 ghost use Rattle.merge_log.specs.Log.{AreSets};
-ghost use Rattle.local_taint.specs.Ahead.{IsAhead};
-ghost use Rattle.local_taint.specs.Summaries.{summary_of};
-ghost use Rattle.local_taint.specs.Words.{as_terms};
+ghost use Rattle.epoch_summary.specs.Ahead.{IsAhead};
+ghost use Rattle.epoch_summary.specs.Summaries.{summary_of};
+ghost use Rattle.epoch_summary.specs.Words.{as_terms};
 
 use crate::answers::Answers;
 use crate::resolving::{answer, only_start, resolved};
-use local_taint::{Asked, Summary, TermsAhead};
+use epoch_summary::{Asked, Summary, TermsAhead};
 use merge_log::TermsReader;
 use no_memory::NoMemory;
 use sink_collect::SinkSet;

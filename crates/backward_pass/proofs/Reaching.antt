@@ -3,7 +3,7 @@ use Rattle.std.proofs.Common.{◌≡◌, List, [], ◌∷◌, ◌++◌, refl, ap
 use Rattle.std.specs.Prelude.{Option, Some, None, is_none}
 use Rattle.flow_rule.specs.declared.Message.{Message}
 use Rattle.epoch_model.specs.Summary.{Summary as EpochSummary}
-use Rattle.local_taint.specs.declared.summary.Summary.{Summary}
+use Rattle.epoch_summary.specs.declared.summary.Summary.{Summary}
 use Rattle.stream_model.specs.Streams.{is_ended}
 use Rattle.stream_model.specs.Passes.{Asking, Links, asking_event, asking_after, asking_by, broken_asking, drop_ask, end_asks}
 use Rattle.stream_model.specs.PassLaws.{AsksSent}

@@ -6,7 +6,7 @@ use Rattle.lists.specs.Sets.{is_within}
 use Rattle.flow_rule.specs.declared.Message.{Message}
 use Rattle.flow_rule.specs.declared.Message.TheVariants.{Ask, Byte, Close, End}
 use Rattle.epoch_model.specs.Summary.{Summary as EpochSummary, SinkTerms}
-use Rattle.local_taint.specs.declared.summary.Summary.{Summary}
+use Rattle.epoch_summary.specs.declared.summary.Summary.{Summary}
 use Rattle.stream_model.specs.Streams.{is_ended, requests}
 use Rattle.stream_model.specs.Passes.{Links, Asking, asking_event, asking_after, asked_more, asked_if}
 use Rattle.stream_model.specs.PassLaws.{AsksSent}

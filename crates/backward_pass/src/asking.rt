@@ -4,14 +4,14 @@ ghost use Rattle.std.specs.Prelude.{◌≡◌, ◌<◌, length, take, Some, fals
 ghost use Rattle.epoch_model.specs.Crossing.{added, added_all};
 ghost use Rattle.stream_model.specs.Streams.{places_up_to, places_needed};
 ghost use Rattle.stream_model.specs.Passes.{asked_more};
-ghost use Rattle.local_taint.specs.Ahead.{IsAhead};
-ghost use Rattle.local_taint.specs.Summaries.{summary_of};
+ghost use Rattle.epoch_summary.specs.Ahead.{IsAhead};
+ghost use Rattle.epoch_summary.specs.Summaries.{summary_of};
 ghost use Rattle.pass_parts.specs.Known.{known};
 ghost use Rattle.pass_parts.specs.Requests.{IsCounted, AreCounted};
 ghost use Rattle.backward_pass.specs.Backward.{AreAsked, IsWalked, IsRequested};
 
+use epoch_summary::{Asked, Summary, TermsAhead};
 use flow_rule::Loc;
-use local_taint::{Asked, Summary, TermsAhead};
 use merge_log::TermsReader;
 use no_memory::NoMemory;
 use pass_parts::{Request, Requests, read_end_terms, share_end_terms};

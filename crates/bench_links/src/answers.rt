@@ -1,7 +1,7 @@
 //! What the ends of a link answer, call by call.
 ghost use Rattle.std.specs.Prelude.{◌≡◌};
 
-use epoch_link::{Inlet, ListLink, Outlet, close, ring};
+use epoch_link::{Capacity, Inlet, ListLink, Outlet, close, ring};
 use std::alloc::{AllocError, Global};
 use std::io;
 
@@ -38,7 +38,7 @@ fn pop<I: Inlet<u32>>(rt: &impl Print, inlet: &mut I) -> io::Result<()>
 
 /// The answers of a link within one thread.
 pub fn of_list_link(rt: &impl Print, alloc: Global) -> io::Result<()> {
-    let Ok(mut link) = ListLink::new(alloc, 2) else {
+    let Ok(mut link) = ListLink::new(alloc, Capacity::of(2)) else {
         return Err(AllocError.into());
     };
     for call in &CALLS {
@@ -52,7 +52,7 @@ pub fn of_list_link(rt: &impl Print, alloc: Global) -> io::Result<()> {
 
 /// The answers of a ring, and what is left in it when its ends are closed.
 pub fn of_ring(rt: &impl Print, alloc: Global) -> io::Result<()> {
-    let Ok((mut producer, mut consumer)) = ring(alloc, 2) else {
+    let Ok((mut producer, mut consumer)) = ring(alloc, Capacity::of(2)) else {
         return Err(AllocError.into());
     };
     for call in &CALLS {

@@ -10,6 +10,7 @@ mod ends;
 mod numbers;
 
 use ends::{Locked, Sends, Takes};
+use epoch_link::Capacity;
 use rtrb::RingBuffer;
 use std::alloc::{AllocError, Global};
 use std::collections::VecDeque;
@@ -72,7 +73,7 @@ fn pass<R: Threads + Clock, S: Sends + Send + Drop, T: Takes + Send + Drop>(
 }
 
 fn over_ring<R: Threads + Clock>(rt: &R, alloc: Global) -> io::Result<(u64, Duration)> {
-    let Ok((producer, consumer)) = epoch_link::ring(alloc, CAPACITY) else {
+    let Ok((producer, consumer)) = epoch_link::ring(alloc, Capacity::of(CAPACITY)) else {
         return Err(AllocError.into());
     };
     pass(rt, producer, consumer)
@@ -96,10 +97,10 @@ fn main(rt: HostRuntime) -> io::Result<()> {
     let alloc = rt.alloc();
     answers::of_list_link(&rt, alloc)?;
     answers::of_ring(&rt, alloc)?;
-    numbers::pass(&rt, alloc, 3, 10_000, 10_000)?;
-    numbers::pass(&rt, alloc, 16, 10_000, 9_990)?;
-    numbers::pass(&rt, alloc, 1, 1_000, 1_000)?;
-    numbers::pass(&rt, alloc, 65_536, 100_000, 40_000)?;
+    numbers::pass(&rt, alloc, Capacity::of(3), 10_000, 10_000)?;
+    numbers::pass(&rt, alloc, Capacity::of(16), 10_000, 9_990)?;
+    numbers::pass(&rt, alloc, Capacity::of(1), 1_000, 1_000)?;
+    numbers::pass(&rt, alloc, Capacity::of(65_536), 100_000, 40_000)?;
     let mut rounds = 1u32;
     if let Some(word) = env::args(&rt)?.nth(1) {
         rounds = word.as_str().parse().unwrap_or(1);

@@ -1,7 +1,7 @@
 //! Numbers that one thread sends over a ring and another takes, and those that are left when the ends are closed.
-ghost use Rattle.std.specs.Prelude.{◌≡◌, ◌≤◌};
+ghost use Rattle.std.specs.Prelude.{◌≡◌};
 
-use epoch_link::{Consumer, Left, Popped, Producer, Pushed, close, ring};
+use epoch_link::{Capacity, Consumer, Left, Popped, Producer, Pushed, close, ring};
 use std::alloc::{AllocError, Global};
 use std::thread::Threads;
 use std::{io, thread};
@@ -64,12 +64,10 @@ fn left_in_order(mut left: Left<u32>, first: u32, count: u32) -> u32 {
 pub fn pass<R: Threads + Print>(
     rt: &R,
     alloc: Global,
-    capacity: u32,
+    capacity: Capacity,
     count: u32,
     taken: u32,
-) -> io::Result<()>
-    requires { (1 ≤ capacity) × (capacity ≤ 65536) }
-{
+) -> io::Result<()> {
     let Ok((producer, consumer)) = ring(alloc, capacity) else {
         return Err(AllocError.into());
     };
@@ -83,5 +81,8 @@ pub fn pass<R: Threads + Print>(
         { take_numbers(consumer, taken) },
     );
     let left = left_in_order(close(producer, consumer), taken, count);
-    println!(rt; "ring of {capacity}: {sent} sent, {got} came in order, {left} left in order")
+    println!(rt;
+        "ring of {}: {sent} sent, {got} came in order, {left} left in order",
+        capacity.get()
+    )
 }

@@ -7,9 +7,9 @@ use Rattle.epoch_model.specs.Cutting.{epochs}
 use Rattle.epoch_cut.specs.Numbered.{NumberedEpoch, numbered}
 use Rattle.run_board.specs.Tasks.{AreNumbered}
 use Rattle.epoch_node.specs.Nodes.{NodeView, IsLedFrom}
-use Rattle.epoch_line.specs.Groups.{AreOfJob, AreOfOneJob}
-use Rattle.epoch_line.specs.Layouts.{CutRun, epochs_of, Links, node_between, laid_out, IsLayout, IsRunOf}
-use Rattle.epoch_line.proofs.Tickets.{length-numbered}
+use Rattle.epoch_turns.specs.Groups.{AreOfJob, AreOfOneJob}
+use Rattle.epoch_layout.specs.Layouts.{CutRun, epochs_of, Links, node_between, laid_out, IsLayout, IsRunOf}
+use Rattle.epoch_layout.proofs.Tickets.{length-numbered}
 
 module _ (capacity : ℕ) (run : CutRun) where
   length_laid : (b : Option Links) (es : List NumberedEpoch) (ls : List Links) → length ls + 1 ≡ length es → length (laid_out capacity run b es ls) ≡ length es

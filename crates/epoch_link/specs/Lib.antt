@@ -1,3 +1,4 @@
+pub mod Capacity
 pub mod Link
 pub mod ListLink
 pub mod Words

@@ -56,5 +56,4 @@ module _ {T : Type 0} where
     pub one_word : table.words ≡ 1
     pub in_order : view.sent ≡ view.got ++ items
     pub fits : length items ≤ capacity
-    pub in_range : (1 ≤ capacity) × (capacity ≤ 65536)
     pub has_room : capacity ≤ room

@@ -6,11 +6,13 @@
 //! message is delivered, and just one seat has each part.
 #![tactic(auto)]
 
+mod capacity;
 pub mod laws;
 mod link;
 mod list_link;
 mod ring_link;
 
+pub use capacity::{Capacity, MOST_ITEMS};
 pub use link::{Inlet, Outlet, Popped, Pushed};
 pub use list_link::ListLink;
 pub use ring_link::{Consumer, Left, Producer, close, ring};

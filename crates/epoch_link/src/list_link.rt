@@ -1,9 +1,11 @@
 //! Both ends of a link on one thread.
 ghost use Rattle.std.specs.Prelude.{◌≡◌, ◌<◌, ◌≤◌, [], ◌∷◌, ◌++◌, length, false, true, IfOk};
 ghost use Rattle.std.specs.VecDeque.{deque_capacity};
+ghost use Rattle.epoch_link.specs.Capacity.{IsCapacity};
 ghost use Rattle.epoch_link.specs.Link.{OnDone, OnFull, IfFull, OnItem, IfItem, OnEmpty, Rose, Delivered};
 ghost use Rattle.epoch_link.specs.ListLink.{told, new_link, held_count};
 
+use crate::capacity::Capacity;
 use crate::link::{Inlet, Outlet, Popped, Pushed};
 use atomic_table::{Play, Seat, Table, TableRule};
 use no_memory::NoMemory;
@@ -81,7 +83,7 @@ pub struct ListLink<T> {
     table: ListTable<T>,
     seat: ListSeat<T>,
     items: VecDeque<T>,
-    capacity: u32,
+    capacity: Capacity,
     push_refusals: u64,
     pop_refusals: u64,
 }
@@ -105,12 +107,11 @@ impl<T> Model for ListLink<T> {
 }
 
 impl<T: Drop> ListLink<T> {
-    /// A new link that holds at most `capacity` items, 1 to 65,536.
-    pub fn new(alloc: Global, capacity: u32) -> Result<ListLink<T>, NoMemory>
-        requires { (1 ≤ capacity) × (capacity ≤ 65536) }
+    /// A new link that holds at most `capacity` items.
+    pub fn new(alloc: Global, capacity: Capacity) -> Result<ListLink<T>, NoMemory>
         ensures { IfOk result (λ l. l ≡ new_link l.link capacity) }
     {
-        let items = VecDeque::with_capacity(alloc, capacity as usize)?;
+        let items = VecDeque::with_capacity(alloc, capacity.get() as usize)?;
         let (table, seat) = Table::of_words(alloc, &[0], &())?;
         Ok(ListLink {
             table,
@@ -126,12 +127,12 @@ impl<T: Drop> ListLink<T> {
 impl<T> ListLink<T> {
     /// What is true of each link, which code over the traits may need: it does nothing.
     ///
-    /// What was got is a prefix of what was sent, and the link holds the rest, which is at most its capacity, 1 to 65,536.
+    /// What was got is a prefix of what was sent, and the link holds the rest, which is at most its capacity.
     pub fn form(&self)
         ensures delivered { Delivered self.now.sent self.now.got self.now.capacity }
-        ensures capacity { (1 ≤ self.now.capacity) × (self.now.capacity ≤ 65536) }
+        ensures capacity { IsCapacity self.now.capacity }
     {
-        let _ = &self.table;
+        let _ = self.capacity.get();
     }
 
     /// Sends the item, or hands it back exactly where the link holds as many items as its capacity.
@@ -147,7 +148,7 @@ impl<T> ListLink<T> {
         ensures counted { OnFull result (Rose self.old.push_refusals self.new.push_refusals) }
         ensures delivered { Delivered self.new.sent self.new.got self.new.capacity }
     {
-        if self.items.len() == self.capacity as usize {
+        if self.items.len() == self.capacity.get() as usize {
             look::<T, Brand>(&self.table, &mut self.seat, &[], &[]);
             self.push_refusals = self.push_refusals.saturating_add(1);
             return Pushed::Full(item);

@@ -5,7 +5,7 @@ use Rattle.epoch_link.specs.Link.{EndView}
 use Rattle.flow_model.specs.declared.Loc.{Loc}
 use Rattle.flow_rule.specs.declared.Message.{Message}
 use Rattle.report_model.specs.Rows.{Row}
-use Rattle.local_taint.specs.declared.summary.Summary.{Summary}
+use Rattle.epoch_summary.specs.declared.summary.Summary.{Summary}
 use Rattle.epoch_model.specs.Join.{rows_of}
 use Rattle.stream_model.specs.Streams.{is_ended, requests, heard, asked_of, asks_for, answers_for}
 use Rattle.stream_model.specs.StreamLaws.{IsPrefix}

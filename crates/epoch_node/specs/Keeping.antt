@@ -6,8 +6,8 @@ use Rattle.flow_rule.specs.declared.Message.{Message}
 use Rattle.replayer.specs.Jobs.{trace_of}
 use Rattle.epoch_model.specs.Summary.{Summary as EpochSummary, IsSummary}
 use Rattle.epoch_cut.specs.Numbered.{NumberedEpoch}
-use Rattle.local_taint.specs.declared.summary.Summary.{Summary}
-use Rattle.local_taint.specs.Summaries.{AreInRange}
+use Rattle.epoch_summary.specs.declared.summary.Summary.{Summary}
+use Rattle.local_taint.specs.Following.{AreInRange}
 use Rattle.report_model.specs.Query.{Query}
 use Rattle.report_model.specs.Rows.{Row}
 use Rattle.sink_collect.specs.Pairs.{capped}

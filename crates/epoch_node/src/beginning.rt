@@ -3,7 +3,7 @@
 ghost use Rattle.std.specs.Prelude.{◌≡◌, ◌≤◌, Some, slice_get, IfOk, is_some, true};
 ghost use Rattle.log_model.specs.Logs.{steps};
 ghost use Rattle.replayer.specs.Jobs.{trace_of};
-ghost use Rattle.local_taint.specs.Summaries.{summary_of};
+ghost use Rattle.epoch_summary.specs.Summaries.{summary_of};
 ghost use Rattle.pass_parts.specs.Ends.{fresh_end};
 ghost use Rattle.pass_parts.specs.Known.{known};
 ghost use Rattle.backward_pass.specs.Backward.{back_of, new_back, Keeps, Reached};
@@ -13,7 +13,8 @@ ghost use Rattle.epoch_node.specs.Keeping.{IsFound, IsBegun};
 use backward_pass::Back;
 use checkpoints::StartPoint;
 use epoch_cut::EpochTicket;
-use local_taint::{Summary, analyse_from};
+use epoch_summary::Summary;
+use local_taint::analyse_from;
 use no_memory::NoMemory;
 use query_lang::Query;
 use std::alloc::Global;

@@ -10,7 +10,7 @@ ghost use Rattle.epoch_node.specs.Nodes.{told_by, new_node, HasBegun, IsLedFrom,
 use crate::ends::Ends;
 use crate::node_core::{Broken, Core};
 use crate::stage::Phase;
-use local_taint::Asked;
+use epoch_summary::Asked;
 use no_memory::NoMemory;
 use outer_io::Gate;
 use replayer::Cursor;

@@ -10,8 +10,8 @@ use Rattle.pass_parts.specs.Ends.{fresh_end}
 use Rattle.epoch_node.specs.Cores.{Given, StageView, Fresh, Asking, Answering, Done, Between, CoreView, CanStart, new_core}
 use Rattle.epoch_node.specs.Keeping.{fresh_told, HasLinks}
 use Rattle.epoch_node.specs.Events.{Steps}
-use Rattle.epoch_line.specs.Layouts.{CutRun, points_of, epochs_of, given_at}
-use Rattle.epoch_line.proofs.Tickets.{all_can_start}
+use Rattle.epoch_layout.specs.Layouts.{CutRun, points_of, epochs_of, given_at}
+use Rattle.epoch_layout.proofs.Tickets.{all_can_start}
 use Rattle.epoch_rounds.specs.declared.joints.Joint.{Joint}
 use Rattle.epoch_rounds.specs.Joints.{no_joint, IsNewJoint, got_on, sent_on, told_between}
 use Rattle.epoch_rounds.specs.Turns.{TurnsIn, TurnsBetween, TurnsAt}

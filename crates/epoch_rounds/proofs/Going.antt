@@ -9,7 +9,7 @@ use Rattle.stream_model.proofs.NeverStill.{AllDone, Moves, goes_on}
 use Rattle.epoch_node.specs.declared.stage.Phase.TheVariants as phase
 use Rattle.epoch_node.specs.Cores.{Given, StageView, Fresh, Asking, Answering, Done, Between, CoreView, phase_of}
 use Rattle.epoch_node.specs.Keeping.{AtStage}
-use Rattle.epoch_line.specs.Layouts.{epochs_of}
+use Rattle.epoch_layout.specs.Layouts.{epochs_of}
 use Rattle.epoch_rounds.specs.declared.joints.Joint.{Joint}
 use Rattle.epoch_rounds.specs.Joints.{Link, got_on, sent_on, told_between}
 use Rattle.epoch_rounds.specs.Turns.{TurnsAt}

@@ -6,7 +6,7 @@ use Rattle.std.proofs.lemmas.Grind.{common_steps}
 use Rattle.checkpoints.specs.Points.{CheckpointsAt, beginnings}
 use Rattle.epoch_cut.specs.Numbered.{NumberedEpoch}
 use Rattle.epoch_node.specs.Cores.{CoreView, new_core}
-use Rattle.epoch_line.specs.Layouts.{CutRun, given_at}
+use Rattle.epoch_layout.specs.Layouts.{CutRun, given_at}
 use Rattle.epoch_rounds.specs.declared.joints.Joint.{Joint}
 use Rattle.epoch_rounds.specs.Joints.{no_joint, IsNewJoint}
 use Rattle.epoch_rounds.specs.Lines.{is_last, new_cores}

@@ -16,7 +16,7 @@ use Rattle.pass_parts.specs.Ends.{got_by, sent_by, fresh_end}
 use Rattle.pass_parts.specs.Turns.{Waits}
 use Rattle.epoch_node.specs.Cores.{Given, StageView, Fresh, Asking, Answering, Done, Between, CoreView}
 use Rattle.epoch_node.specs.Keeping.{Told, AtStage}
-use Rattle.epoch_line.specs.Layouts.{given_at}
+use Rattle.epoch_layout.specs.Layouts.{given_at}
 use Rattle.epoch_rounds.specs.declared.joints.Joint.{Joint}
 use Rattle.epoch_rounds.specs.Joints.{Link, got_on, sent_on, told_between}
 use Rattle.epoch_rounds.specs.Turns.{IsPopRefused, IsPushRefused}

@@ -7,8 +7,8 @@ use Rattle.epoch_cut.specs.Numbered.{NumberedEpoch}
 use Rattle.epoch_node.specs.Cores.{Given, CoreView}
 use Rattle.epoch_node.specs.Keeping.{Told, HasLinks, KeepsCore}
 use Rattle.epoch_node.specs.Events.{IsMore}
-use Rattle.epoch_line.specs.Layouts.{given_at}
-use Rattle.epoch_line.specs.DoneLines.{DoneNode, IsPlaced, AreTold, IsDoneLine}
+use Rattle.epoch_layout.specs.Layouts.{given_at}
+use Rattle.epoch_layout.specs.DoneLines.{DoneNode, IsPlaced, AreTold, IsDoneLine}
 use Rattle.epoch_rounds.specs.declared.joints.Joint.{Joint}
 use Rattle.epoch_rounds.specs.Joints.{Link, got_on, sent_on, told_between}
 use Rattle.epoch_rounds.specs.Lines.{Plan, IsLinkOf, StandsBetween, Stand}

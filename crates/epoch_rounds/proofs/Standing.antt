@@ -8,7 +8,7 @@ use Rattle.forward_pass.specs.Forward.{ForeView}
 use Rattle.epoch_node.specs.Cores.{Given, StageView, Fresh, Asking, Answering, Done, Between, CoreView}
 use Rattle.epoch_node.specs.Keeping.{Told, AtStage, KeepsCore}
 use Rattle.epoch_node.specs.Events.{got_at, sent_at, told_at, answered_by, Steps}
-use Rattle.epoch_line.specs.Layouts.{given_at}
+use Rattle.epoch_layout.specs.Layouts.{given_at}
 use Rattle.epoch_rounds.specs.declared.joints.Joint.{Joint}
 use Rattle.epoch_rounds.specs.Joints.{Link, got_on, sent_on, IsSound, told_between}
 use Rattle.epoch_rounds.specs.Turns.{IsInletFrom, IsOutletFrom, TurnsOn, TurnsAsking, TurnsAnswering, Stays, TurnsIn, TurnsBetween, KeepsAt, TurnsAt}

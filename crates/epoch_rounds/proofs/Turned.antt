@@ -15,7 +15,7 @@ use Rattle.forward_pass.specs.Forward.{ForeView, known_by, fore_state}
 use Rattle.epoch_node.specs.Cores.{Given, StageView, Fresh, Asking, Answering, Done, Between, CoreView}
 use Rattle.epoch_node.specs.Keeping.{Told, HasLinks, AtStage}
 use Rattle.epoch_node.specs.Events.{Went, WhenNotYet, WaitsAt, settled_by, answered_by, Steps}
-use Rattle.epoch_line.specs.Layouts.{given_at}
+use Rattle.epoch_layout.specs.Layouts.{given_at}
 use Rattle.epoch_rounds.specs.declared.joints.Joint.{Joint}
 use Rattle.epoch_rounds.specs.Joints.{Link, got_on, sent_on, told_between}
 use Rattle.epoch_rounds.specs.Turns.{went_on, IsPopRefused, IsPushRefused, TurnsOn, TurnsAsking, TurnsAnswering, Stays, TurnsIn, TurnsBetween, TurnsAt}

@@ -11,7 +11,7 @@ use Rattle.pass_parts.specs.Ends.{got_by, sent_by}
 use Rattle.epoch_node.specs.declared.stage.Phase.TheVariants as phase
 use Rattle.epoch_node.specs.Cores.{Given, StageView, Fresh, Asking, Answering, Done, Between, CoreView, phase_of, new_core}
 use Rattle.epoch_node.specs.Keeping.{Told, KeepsCore}
-use Rattle.epoch_line.specs.Layouts.{CutRun, epochs_of, given_at}
+use Rattle.epoch_layout.specs.Layouts.{CutRun, epochs_of, given_at}
 use Rattle.epoch_rounds.specs.declared.joints.Joint.{Joint}
 use Rattle.epoch_rounds.specs.Joints.{Link, no_joint, IsNewJoint, told_between}
 

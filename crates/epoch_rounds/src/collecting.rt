@@ -9,7 +9,7 @@ ghost use Rattle.epoch_node.specs.Cores.{core_of};
 ghost use Rattle.epoch_rounds.specs.Lines.{Plan, IsLineOf, AreDone};
 
 use crate::line::Line;
-use epoch_line::Collected;
+use epoch_layout::Collected;
 use no_memory::NoMemory;
 use sink_collect::{SinkSet, SinkSets};
 use std::alloc::Global;

@@ -1,9 +1,9 @@
 //! The links between neighbours.
 
-ghost use Rattle.std.specs.Prelude.{◌≡◌, ◌≤◌, IfOk};
+ghost use Rattle.std.specs.Prelude.{◌≡◌, IfOk};
 ghost use Rattle.epoch_rounds.specs.Joints.{no_joint, IsNewJoint, IsSound};
 
-use epoch_link::ListLink;
+use epoch_link::{Capacity, ListLink};
 use flow_rule::Message;
 use no_memory::NoMemory;
 use std::alloc::Global;
@@ -37,9 +37,8 @@ impl Joint {
         }
     }
 
-    /// Two new links, each of which holds at most `capacity` messages, 1 to 65536. It gives up with NoMemory alone.
-    pub(crate) fn new(alloc: Global, capacity: u32) -> Result<Joint, NoMemory>
-        requires { (1 ≤ capacity) × (capacity ≤ 65536) }
+    /// Two new links, each of which holds at most `capacity` messages. It gives up with NoMemory alone.
+    pub(crate) fn new(alloc: Global, capacity: Capacity) -> Result<Joint, NoMemory>
         ensures { IfOk result (IsNewJoint capacity) }
     {
         let ask = ListLink::new(alloc, capacity)?;

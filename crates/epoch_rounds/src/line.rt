@@ -1,6 +1,6 @@
 //! The cores of a run, and the links between them.
 
-ghost use Rattle.std.specs.Prelude.{◌≡◌, ◌≤◌, IfOk, All, map, true, false};
+ghost use Rattle.std.specs.Prelude.{◌≡◌, IfOk, All, map, true, false};
 ghost use Rattle.log_model.specs.Logs.{steps};
 ghost use Rattle.epoch_model.specs.Cutting.{IsCutting};
 ghost use Rattle.checkpoints.specs.Points.{beginnings};
@@ -10,6 +10,7 @@ ghost use Rattle.epoch_rounds.specs.Lines.{IsLaidOut, AreDone};
 use crate::joints::Joint;
 use checkpoints::Checkpoints;
 use epoch_cut::Cuts;
+use epoch_link::Capacity;
 use epoch_node::{Core, Phase};
 use no_memory::NoMemory;
 use query_lang::Query;
@@ -23,18 +24,17 @@ pub struct Line<'a, G> {
 }
 
 /// A core for each epoch of a run that is cut, and new links between neighbours, each of which holds at most `capacity`
-/// messages, 1 to 65536. It gives up with NoMemory alone.
+/// messages. It gives up with NoMemory alone.
 pub(crate) fn lay_out<'a, G>(
     alloc: Global,
     checkpoints: &'a Checkpoints<'a>,
     query: &'a Query,
     gate: &'a G,
     cuts: Cuts,
-    capacity: u32,
+    capacity: Capacity,
 ) -> Result<Line<'a, G>, NoMemory>
     requires times { checkpoints.now.times ≡ beginnings cuts }
     requires cuts { IsCutting (steps checkpoints.now.job.log) cuts }
-    requires capacity { (1 ≤ capacity) × (capacity ≤ 65536) }
     ensures { IfOk result (λ line.
         IsLaidOut
         (record { run = record { job = checkpoints.now.job; query = query.now; cuts = cuts }; capacity = capacity })

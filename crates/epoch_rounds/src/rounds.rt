@@ -1,6 +1,6 @@
 //! A run's cores, turned one after another until all are done.
 
-ghost use Rattle.std.specs.Prelude.{◌≡◌, ◌≤◌, ◌<◌, IfOk, map};
+ghost use Rattle.std.specs.Prelude.{◌≡◌, ◌<◌, IfOk, map};
 ghost use Rattle.log_model.specs.Logs.{steps};
 ghost use Rattle.report_model.specs.Rows.{rows_as_written};
 ghost use Rattle.epoch_model.specs.Cutting.{IsCutting};
@@ -18,7 +18,8 @@ use crate::line::{Line, lay_out};
 use crate::turning::turn_at;
 use checkpoints::Checkpoints;
 use epoch_cut::Cuts;
-use epoch_line::Collected;
+use epoch_layout::Collected;
+use epoch_link::Capacity;
 use no_memory::NoMemory;
 use outer_io::Gate;
 use query_lang::Query;
@@ -59,18 +60,17 @@ fn round<'a, G: Gate>(alloc: Global, line: Line<'a, G>) -> Result<Line<'a, G>, N
 
 /// The rows of a run that is cut, what crosses its inner cuts, and how many events moved: by a core for each epoch, which
 /// have their events in turn, from the first to the last, again and again, on this thread alone. Each link holds at most
-/// `capacity` messages, 1 to 65536. Each core enters the gate as it begins. It gives up with NoMemory alone.
+/// `capacity` messages. Each core enters the gate as it begins. It gives up with NoMemory alone.
 pub fn round_robin<G: Gate>(
     alloc: Global,
     gate: &G,
     checkpoints: &Checkpoints<'_>,
     query: &Query,
     cuts: Cuts,
-    capacity: u32,
+    capacity: Capacity,
 ) -> Result<Collected, NoMemory>
     requires times { checkpoints.now.times ≡ beginnings cuts }
     requires cuts { IsCutting (steps checkpoints.now.job.log) cuts }
-    requires capacity { (1 ≤ capacity) × (capacity ≤ 65536) }
     ensures rows { IfOk result (λ all. all.sets ≡ rows_as_written query.now (trace_of checkpoints.now.job)) }
     ensures crossed { IfOk result (λ all. all.crossed.items ≡ asked_at query.now (trace_of checkpoints.now.job) cuts) }
     ensures events { IfOk result (λ all. all.events ≡ capped (run_work query.now (trace_of checkpoints.now.job) cuts)) }

@@ -6,7 +6,7 @@ use Rattle.flow_model.specs.declared.Loc.{Loc}
 use Rattle.flow_model.specs.Orders.{loc_cmp}
 use Rattle.flow_rule.specs.declared.Message.{Message}
 use Rattle.epoch_model.specs.Summary.{Summary as EpochSummary}
-use Rattle.local_taint.specs.declared.summary.Summary.{Summary}
+use Rattle.epoch_summary.specs.declared.summary.Summary.{Summary}
 use Rattle.stream_model.specs.Streams.{is_ended, heard}
 use Rattle.stream_model.specs.Passes.{Answering, Links, answering_event, answering_start, answering_after}
 use Rattle.stream_model.specs.PassLaws.{AnswersSent}

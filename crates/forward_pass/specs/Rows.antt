@@ -4,7 +4,7 @@ use Rattle.flow_model.specs.declared.Loc.{Loc}
 use Rattle.flow_model.specs.declared.SourceByte.{SourceByte}
 use Rattle.report_model.specs.Rows.{Row}
 use Rattle.epoch_model.specs.Join.{answer_to, rows_of}
-use Rattle.local_taint.specs.declared.summary.Summary.{Summary}
+use Rattle.epoch_summary.specs.declared.summary.Summary.{Summary}
 use Rattle.pass_parts.specs.Known.{known}
 use Rattle.forward_pass.specs.declared.rows.SinkRows.{SinkRows}
 use Rattle.forward_pass.specs.declared.rows.SinkRows.TheVariants.{Unresolved, Due, Made}

@@ -5,7 +5,7 @@ ghost use Rattle.flow_model.specs.declared.Loc.{Loc};
 ghost use Rattle.flow_rule.specs.declared.Message.{Message};
 ghost use Rattle.epoch_model.specs.Join.{answer_to, resolved as resolved_terms};
 ghost use Rattle.stream_model.specs.Passes.{is_whole_message};
-ghost use Rattle.local_taint.specs.Ahead.{IsAhead};
+ghost use Rattle.epoch_summary.specs.Ahead.{IsAhead};
 ghost use Rattle.pass_parts.specs.Ends.{IsEndFrom, Seen, fresh_end};
 ghost use Rattle.pass_parts.specs.Events.{IsEventOver, HasWaited};
 ghost use Rattle.pass_parts.specs.Known.{known};
@@ -19,8 +19,8 @@ use crate::sending::Sending;
 use crate::state::Fore;
 use answer_sets::{Answers, resolved};
 use epoch_link::{Inlet, Outlet};
+use epoch_summary::{Asked, Summary, TermsAhead};
 use flow_rule::{Loc, Message, SourceByte};
-use local_taint::{Asked, Summary, TermsAhead};
 use merge_log::TermsReader;
 use no_memory::NoMemory;
 use pass_parts::{

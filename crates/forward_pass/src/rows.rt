@@ -6,7 +6,7 @@ ghost use Rattle.pass_parts.specs.Knowing.{summary_in};
 ghost use Rattle.forward_pass.specs.Rows.{is_due, rows_by, rows_in};
 
 use answer_sets::{Answers, rows};
-use local_taint::{Asked, Summary};
+use epoch_summary::{Asked, Summary};
 use merge_log::TermsReader;
 use no_memory::NoMemory;
 use pass_parts::Knowledge;

@@ -24,7 +24,7 @@ use Rattle.outer_io.specs.Shown.{StoreShown}
 use Rattle.replayer.specs.Jobs.{Job, trace_of}
 use Rattle.replayer.specs.Checks.{IsChecked}
 use Rattle.sink_collect.specs.Pairs.{pairs}
-use Rattle.run_query.specs.Crossings.{CrossedAt, numbered, crossed}
+use Rattle.query_parts.specs.Crossings.{CrossedAt, numbered, crossed}
 use Rattle.jet_refusal.specs.declared.refusal.Refusal.{Refusal}
 use Rattle.jet_refusal.specs.declared.refusal.Refusal.TheVariants as refusal
 use Rattle.jet_refusal.specs.Causes.{IsOwedTo}

@@ -13,6 +13,7 @@ ghost use Rattle.jet_cli.specs.Bench.{IsWorkloadJob, asked_in_all};
 use crate::engine::Engine;
 use crate::parts::cuts_of;
 use epoch_cut::Cuts;
+use epoch_link::Capacity;
 use jet_refusal::Refusal;
 use jet_words::Pipeline;
 use jet_work::fitted;
@@ -20,8 +21,8 @@ use no_memory::NoMemory;
 use order_gateway::{MOST_STEPS, Numbers, Recording, query, recorded, text_of};
 use outer_io::Gate;
 use query_lang::Query;
+use query_parts::Crossed;
 use replayer::Job;
-use run_query::Crossed;
 use sha2::{Digest, Sha256};
 use sink_collect::text;
 use std::alloc::Global;
@@ -78,7 +79,7 @@ fn numbers<R: Threads + Wait + Sync, G: Gate>(
         query,
         cuts,
         pipeline.workers,
-        pipeline.link,
+        Capacity::of(pipeline.link),
     )?;
     let text = text(engine.alloc, &report)?;
     Ok(Numbers {

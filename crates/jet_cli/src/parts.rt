@@ -7,7 +7,7 @@ ghost use Rattle.jet_words.specs.Commands.{IsPipeline};
 ghost use Rattle.jet_model.specs.Lengths.{epoch_length, cuts_by};
 ghost use Rattle.jet_model.specs.Answer.{epochs_check, told_check};
 ghost use Rattle.jet_files.specs.Outcome.{IsWork, seen_by};
-ghost use Rattle.run_query.specs.Parts.{IsEnough};
+ghost use Rattle.query_parts.specs.Parts.{IsEnough};
 ghost use Rattle.jet_cli.specs.Parts.{part_by};
 
 use epoch_cut::laws::cut_times_are_cutting;
@@ -16,9 +16,9 @@ use jet_refusal::Refusal;
 use jet_words::Pipeline;
 use query_lang::Query;
 use query_need::needed_steps;
+use query_parts::Part;
 use replay_log::Log;
 use replayer::steps_of;
-use run_query::Part;
 
 /// An epoch has at least so many steps, but for the last one, unless the words tell its length.
 const LEAST_LENGTH: u64 = 262144;

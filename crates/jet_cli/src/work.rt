@@ -13,6 +13,7 @@ ghost use Rattle.jet_work.specs.Texts.{text_of};
 
 use crate::engine::Engine;
 use crate::parts::part_for;
+use epoch_link::Capacity;
 use jet_files::{Program, Run};
 use jet_refusal::Refusal;
 use jet_words::Pipeline;
@@ -55,7 +56,7 @@ fn analysed_run<R: Threads + Wait + Sync, G: Gate>(
                 query,
                 part,
                 pipeline.workers,
-                pipeline.link,
+                Capacity::of(pipeline.link),
             )?;
             Ok(found)
         }

@@ -17,8 +17,9 @@ use Rattle.epoch_model.specs.Summary.{AreSummaries}
 use Rattle.epoch_model.proofs.Asking.{rises_up}
 use Rattle.epoch_cut.specs.Numbered.{numbered}
 use Rattle.checkpoints.specs.Points.{beginnings}
-use Rattle.local_taint.specs.declared.summary.Summary.{Summary}
-use Rattle.local_taint.specs.Summaries.{AreInRange, summary_of}
+use Rattle.epoch_summary.specs.declared.summary.Summary.{Summary}
+use Rattle.epoch_summary.specs.Summaries.{summary_of}
+use Rattle.local_taint.specs.Following.{AreInRange}
 use Rattle.local_taint.proofs.Range.{all_in_range}
 use Rattle.jet_core.specs.Tickets.{BeginsAt, AreFound}
 

@@ -11,8 +11,8 @@ use Rattle.epoch_cut.specs.Numbered.{NumberedEpoch, numbered}
 use Rattle.checkpoints.specs.Points.{CheckpointsAt, beginnings}
 use Rattle.log_model.specs.Logs.{steps}
 use Rattle.replayer.specs.Jobs.{Job, trace_of}
-use Rattle.local_taint.specs.declared.summary.Summary.{Summary as Found}
-use Rattle.local_taint.specs.Summaries.{summary_of}
+use Rattle.epoch_summary.specs.declared.summary.Summary.{Summary as Found}
+use Rattle.epoch_summary.specs.Summaries.{summary_of}
 use Rattle.jet_core.specs.Asking.{AreOfOneTrace}
 use Rattle.jet_core.specs.Tickets.{AreFound}
 use Rattle.local_taint.proofs.Range.{trace_long}

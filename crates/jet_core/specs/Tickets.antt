@@ -7,8 +7,9 @@ use Rattle.report_model.specs.Query.{Query}
 use Rattle.epoch_model.specs.Summary.{IsSummary}
 use Rattle.epoch_cut.specs.Numbered.{NumberedEpoch}
 use Rattle.checkpoints.specs.Points.{CheckpointsAt}
-use Rattle.local_taint.specs.declared.summary.Summary.{Summary}
-use Rattle.local_taint.specs.Summaries.{summary_of, AreInRange}
+use Rattle.epoch_summary.specs.declared.summary.Summary.{Summary}
+use Rattle.epoch_summary.specs.Summaries.{summary_of}
+use Rattle.local_taint.specs.Following.{AreInRange}
 
 -- the epoch begins at the checkpoint of its number, and ends with the run at the latest
 pub record BeginsAt (points : CheckpointsAt) (epoch : NumberedEpoch) : Type 0 where

@@ -6,7 +6,8 @@ ghost use Rattle.jet_core.specs.Tickets.{BeginsAt, IsFound, AreFound};
 
 use checkpoints::Checkpoints;
 use epoch_cut::EpochTicket;
-use local_taint::{Summary, analyse};
+use epoch_summary::Summary;
+use local_taint::analyse;
 use no_memory::NoMemory;
 use query_lang::Query;
 use rayon::prelude::*;

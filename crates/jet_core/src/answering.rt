@@ -5,11 +5,11 @@ ghost use Rattle.lists.specs.Sets.{Ascends};
 ghost use Rattle.flow_model.specs.Orders.{source_cmp};
 ghost use Rattle.flow_model.specs.Ranges.{IsLocation};
 ghost use Rattle.epoch_model.specs.Join.{answer_to, resolved as resolved_terms, answers_of};
-ghost use Rattle.local_taint.specs.Summaries.{summary_of};
+ghost use Rattle.epoch_summary.specs.Summaries.{summary_of};
 
 use answer_sets::{Answers, resolved};
+use epoch_summary::{Asked, Summary};
 use flow_model::{Loc, SourceByte};
-use local_taint::{Asked, Summary};
 use merge_log::TermsReader;
 use no_memory::NoMemory;
 use std::alloc::Global;

@@ -3,10 +3,10 @@
 ghost use Rattle.std.specs.Prelude.{◌≡◌, map, All, IfOk, OnOk};
 ghost use Rattle.flow_model.specs.Ranges.{IsLocation};
 ghost use Rattle.epoch_model.specs.Crossing.{added_all, asked_by};
-ghost use Rattle.local_taint.specs.Summaries.{summary_of};
+ghost use Rattle.epoch_summary.specs.Summaries.{summary_of};
 ghost use Rattle.jet_core.specs.Asking.{AreOfOneTrace, crossings_back, sink_starts, end_starts};
 
-use local_taint::{Asked, Summary};
+use epoch_summary::{Asked, Summary};
 use merge_log::TermsReader;
 use no_memory::NoMemory;
 use std::alloc::Global;

@@ -4,12 +4,12 @@ ghost use Rattle.std.specs.Prelude.{◌≡◌, [], List, map, IfOk};
 ghost use Rattle.epoch_model.specs.Crossing.{crossing};
 ghost use Rattle.epoch_model.specs.Join.{joined};
 ghost use Rattle.epoch_model.specs.Summary.{Summary as Epoch};
-ghost use Rattle.local_taint.specs.Summaries.{summary_of};
+ghost use Rattle.epoch_summary.specs.Summaries.{summary_of};
 ghost use Rattle.jet_core.specs.Asking.{AreOfOneTrace, asked_back, crossings_back};
 
 use crate::answering::answer_requests;
 use answer_sets::{Answers, rows};
-use local_taint::{Asked, Summary};
+use epoch_summary::{Asked, Summary};
 use merge_log::TermsReader;
 use no_memory::NoMemory;
 use sink_collect::{SinkSet, SinkSets};

@@ -1,13 +1,13 @@
 //! A query over a whole run, on one thread and by lists.
 
-ghost use Rattle.std.specs.Prelude.{◌≡◌, ◌≤◌, IfOk};
+ghost use Rattle.std.specs.Prelude.{◌≡◌, IfOk};
 ghost use Rattle.log_model.specs.Logs.{steps};
 ghost use Rattle.report_model.specs.Rows.{rows};
 ghost use Rattle.epoch_model.specs.Cutting.{IsCutting};
 ghost use Rattle.stream_model.specs.Work.{run_work};
 ghost use Rattle.replayer.specs.Jobs.{trace_of};
 ghost use Rattle.sink_collect.specs.Pairs.{capped};
-ghost use Rattle.run_query.specs.Crossings.{crossed};
+ghost use Rattle.query_parts.specs.Crossings.{crossed};
 
 use crate::analysing::found_at_once;
 use crate::asking::crossings;
@@ -15,6 +15,7 @@ use crate::joining::join;
 use checkpoints::Checkpoints;
 use distinct_rows::rows_are_distinct;
 use epoch_cut::Cuts;
+use epoch_link::Capacity;
 use no_memory::NoMemory;
 use outer_io::Gate;
 use query_lang::Query;
@@ -27,17 +28,16 @@ use std::thread::Threads;
 /// The same as [`run_query::query`], on this thread alone: the nodes' cores have their events in turn, again and again.
 /// It never waits, and returns whatever growths are refused. It gives up with NoMemory alone.
 ///
-/// `capacity`, of messages on a link, is 1 to 65536.
+/// Each link holds at most `capacity` messages.
 pub fn round_robin<G: Gate>(
     alloc: Global,
     gate: &G,
     job: &Job,
     query: &Query,
     cuts: Cuts,
-    capacity: u32,
+    capacity: Capacity,
 ) -> Result<(Report, Vec<Crossed>, u64), NoMemory>
     requires cuts { IsCutting (steps job.now.log) cuts }
-    requires capacity { (1 ≤ capacity) × (capacity ≤ 65536) }
     ensures report { IfOk result (λ r. r.0 ≡ rows query.now (trace_of job.now)) }
     ensures crossed { IfOk result (λ r. r.1.items ≡ crossed query.now (trace_of job.now) cuts) }
     ensures events { IfOk result (λ r. r.2 ≡ capped (run_work query.now (trace_of job.now) cuts)) }

@@ -1,6 +1,2 @@
-mod Words
-mod Named
 mod Terms
-mod Alike
 pub mod Range
-mod Held

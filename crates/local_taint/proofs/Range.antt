@@ -11,7 +11,7 @@ use Rattle.replay_model.specs.Run.{start}
 use Rattle.replay_model.proofs.Offsets.{length-steps_from}
 use Rattle.replayer.specs.Jobs.{Job, trace_of}
 use Rattle.epoch_model.specs.Cutting.{Epoch, RisesTo, IsCutting, epochs}
-use Rattle.local_taint.specs.Summaries.{AreInRange}
+use Rattle.local_taint.specs.Following.{AreInRange}
 
 -- a run has as many steps as its log says
 pub trace_long : (job : Job) → length (trace_of job) ≡ steps job.log

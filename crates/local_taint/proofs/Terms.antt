@@ -19,9 +19,9 @@ use Rattle.taint_tracking.specs.declared.tracking.Tracked.{Tracked}
 use Rattle.taint_tracking.specs.Courses.{IsCourse}
 use Rattle.taint_tracking.specs.Sinks.{labelled, meant}
 use Rattle.taint_tracking.specs.Following.{IsOfEpoch}
-use Rattle.local_taint.specs.declared.labels.Nodes.{Nodes}
-use Rattle.local_taint.specs.Words.{label_words, together}
-use Rattle.local_taint.specs.Summaries.{named}
+use Rattle.epoch_summary.specs.declared.labels.Nodes.{Nodes}
+use Rattle.epoch_summary.specs.Words.{label_words, together}
+use Rattle.epoch_summary.specs.Summaries.{named}
 use Rattle.local_taint.specs.Following.{terms_from}
 
 -- ---- what flows into a location

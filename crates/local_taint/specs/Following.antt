@@ -10,10 +10,12 @@ use Rattle.replayer.specs.Positions.{CursorAt}
 use Rattle.taint_tracking.specs.declared.tracking.Tracked.{Tracked}
 use Rattle.taint_tracking.specs.declared.tracking.Tracking.{Tracking}
 use Rattle.taint_tracking.specs.Following.{IsTracked, IsOfEpoch, query_of}
-use Rattle.local_taint.specs.declared.labels.Nodes.{Nodes}
-use Rattle.local_taint.specs.declared.summary.Summary.{Summary}
-use Rattle.local_taint.specs.Words.{label_words}
-use Rattle.local_taint.specs.Summaries.{summary_of}
+use Rattle.epoch_summary.specs.declared.labels.Nodes.{Nodes}
+use Rattle.epoch_summary.specs.declared.summary.Summary.{Summary}
+use Rattle.epoch_summary.specs.Words.{label_words}
+use Rattle.epoch_summary.specs.Summaries.{summary_of}
+-- each of the n steps from time s on is in range
+pub use Rattle.taint_tracking.specs.Following.{AreInRange}
 
 -- the terms of each location at each time, over the steps from the first one's time on
 abbrev pub terms_from : Policy → List StepSeen → ℕ → ℕ → Loc → Terms

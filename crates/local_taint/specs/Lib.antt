@@ -1,5 +1,1 @@
-pub mod Words
-pub mod Laws
-pub mod Summaries
 pub mod Following
-pub mod Ahead

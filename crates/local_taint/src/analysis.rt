@@ -5,19 +5,20 @@ ghost use Rattle.log_model.specs.Logs.{steps};
 ghost use Rattle.epoch_model.specs.Summary.{IsSummary};
 ghost use Rattle.replayer.specs.Jobs.{trace_of};
 ghost use Rattle.replayer.specs.Nexts.{ArePlain};
+ghost use Rattle.taint_shadow.specs.Steps.{AreStanding};
+ghost use Rattle.taint_tracking.specs.Sinks.{AreLabelled};
 ghost use Rattle.taint_tracking.specs.Following.{IsSound, Follows, due_of};
-ghost use Rattle.local_taint.specs.Words.{label_words};
-ghost use Rattle.local_taint.specs.Following.{TracksFrom};
-ghost use Rattle.local_taint.specs.Summaries.{number_of, summary_of, AreInRange};
+ghost use Rattle.epoch_summary.specs.Words.{label_words};
+ghost use Rattle.epoch_summary.specs.Summaries.{number_of, summary_of};
+ghost use Rattle.local_taint.specs.Following.{TracksFrom, IsSummaryOf, AreInRange};
 
-use crate::labels::Nodes;
-use crate::summary::Summary;
 use epoch_cut::EpochTicket;
+use epoch_summary::{Nodes, Summary};
 use no_memory::NoMemory;
 use query_lang::Query;
 use replayer::{Cursor, Next};
 use std::alloc::Global;
-use taint_tracking::Tracking;
+use taint_tracking::{Tracked, Tracking};
 
 /// The summary of the ticket's epoch, over the steps of a run, which are found to be in range. The cursor stands at the
 /// epoch's first step, and the epoch ends with the run at the latest.
@@ -57,7 +58,22 @@ pub fn analyse_from(
     let (first, past_last) = (ticket.first(), ticket.past_last());
     let mut tracking = Tracking::begin(alloc, Nodes::new(alloc), query, first)?;
     follow(cursor, past_last, &mut tracking)?;
-    Ok(Summary::of_tracked(ticket.number(), tracking.into_parts()))
+    Ok(summarize(ticket.number(), tracking.into_parts()))
+}
+
+/// The summary of the epoch of this number, of what was tracked of all its steps.
+fn summarize(number: u32, tracked: Tracked<Nodes>) -> Summary
+    requires standing { AreStanding label_words tracked.labels tracked.places }
+    requires labelled { AreLabelled label_words tracked.labels tracked.sinks.items }
+    ensures number { number_of result ≡ number }
+    ensures summary { IsSummaryOf tracked result }
+{
+    let Tracked {
+        labels,
+        places,
+        sinks,
+    } = tracked;
+    Summary::new(number, labels, places, sinks)
 }
 
 /// Follows the steps of an epoch that begins where the cursor stands, up to, and without, `past_last`.

@@ -4,7 +4,7 @@ use Rattle.flow_model.specs.declared.Loc.{Loc}
 use Rattle.flow_model.specs.declared.Loc.TheVariants.{Reg, Mem}
 use Rattle.flow_model.specs.Ranges.{IsLocation}
 use Rattle.epoch_model.specs.Summary.{Summary}
-use Rattle.local_taint.specs.Words.{of_itself}
+use Rattle.epoch_summary.specs.Words.{of_itself}
 use Rattle.pass_parts.specs.Known.{is_location, located}
 use Rattle.pass_parts.specs.PartLaws.{KnownIsSummary}
 

@@ -2,8 +2,8 @@
 use Rattle.std.specs.Prelude.{Bool, true, false, Option, Some, None}
 use Rattle.std.specs.Option.{ForSome}
 use Rattle.terms_ahead.specs.declared.ahead.TermsAhead.{TermsAhead}
-use Rattle.local_taint.specs.declared.summary.Summary.{Summary}
-use Rattle.local_taint.specs.Ahead.{IsAhead}
+use Rattle.epoch_summary.specs.declared.summary.Summary.{Summary}
+use Rattle.epoch_summary.specs.Ahead.{IsAhead}
 use Rattle.pass_parts.specs.declared.knowledge.Knowledge.{Knowledge}
 use Rattle.pass_parts.specs.declared.knowledge.Knowledge.TheVariants.{Whole, Broken}
 

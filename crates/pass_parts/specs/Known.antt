@@ -3,9 +3,9 @@ use Rattle.std.specs.Prelude.{Bool, true, ◌&&◌, nat_lt, if◌then◌else◌,
 use Rattle.flow_model.specs.declared.Loc.{Loc}
 use Rattle.flow_model.specs.declared.Loc.TheVariants.{Reg, Mem}
 use Rattle.epoch_model.specs.Summary.{Summary as EpochSummary}
-use Rattle.local_taint.specs.declared.summary.Summary.{Summary}
-use Rattle.local_taint.specs.Summaries.{summary_of}
-use Rattle.local_taint.specs.Words.{of_itself}
+use Rattle.epoch_summary.specs.declared.summary.Summary.{Summary}
+use Rattle.epoch_summary.specs.Summaries.{summary_of}
+use Rattle.epoch_summary.specs.Words.{of_itself}
 
 -- a lane that a register has, or an address
 abbrev pub is_location : Loc → Bool

@@ -2,12 +2,12 @@
 
 ghost use Rattle.std.specs.Prelude.{◌≡◌, IsTrue, Some, OnOk};
 ghost use Rattle.merge_log.specs.Log.{AreSets};
-ghost use Rattle.local_taint.specs.Ahead.{IsAhead};
-ghost use Rattle.local_taint.specs.Words.{as_terms};
+ghost use Rattle.epoch_summary.specs.Ahead.{IsAhead};
+ghost use Rattle.epoch_summary.specs.Words.{as_terms};
 ghost use Rattle.pass_parts.specs.Known.{is_location, known};
 
+use epoch_summary::{Summary, TermsAhead};
 use flow_rule::Loc;
-use local_taint::{Summary, TermsAhead};
 use merge_log::TermsReader;
 use no_memory::NoMemory;
 

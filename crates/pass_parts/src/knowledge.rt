@@ -4,7 +4,7 @@ ghost use Rattle.std.specs.Prelude.{◌≡◌, ◌&&◌, is_some};
 ghost use Rattle.pass_parts.specs.declared.knowledge.Knowledge.TheVariants.{Broken};
 ghost use Rattle.pass_parts.specs.Knowing.{is_whole, summary_in};
 
-use local_taint::Summary;
+use epoch_summary::Summary;
 
 /// What a pass knows of its epoch.
 pub enum Knowledge {

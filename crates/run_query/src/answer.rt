@@ -1,6 +1,6 @@
 //! The answer of a query, of what was found of its run.
 
-ghost use Rattle.std.specs.Prelude.{◌≡◌, ◌<◌, ◌≤◌, ◌^◌, ℕ, List, length, IfOk};
+ghost use Rattle.std.specs.Prelude.{◌≡◌, ◌<◌, ◌^◌, ℕ, List, length, IfOk};
 ghost use Rattle.log_model.specs.Logs.{steps};
 ghost use Rattle.report_model.specs.Rows.{rows, rows_as_written};
 ghost use Rattle.epoch_model.specs.Cutting.{IsCutting};
@@ -8,16 +8,17 @@ ghost use Rattle.stream_model.specs.Work.{run_work};
 ghost use Rattle.replayer.specs.Jobs.{trace_of};
 ghost use Rattle.checkpoints.specs.Points.{beginnings};
 ghost use Rattle.sink_collect.specs.Pairs.{capped};
-ghost use Rattle.run_query.specs.Crossings.{crossed, numbered};
+ghost use Rattle.query_parts.specs.Crossings.{crossed, numbered};
 
-use crate::crossed::{Crossed, number};
 use checkpoints::Checkpoints;
 use distinct_rows::rows_are_distinct;
 use epoch_cut::Cuts;
 use epoch_line::{Collected, work};
+use epoch_link::Capacity;
 use no_memory::NoMemory;
 use outer_io::Gate;
 use query_lang::Query;
+use query_parts::{Crossed, number};
 use replayer::Job;
 use sink_collect::{Report, SinkSet, SinkSets, gather};
 use std::alloc::Global;
@@ -79,12 +80,11 @@ pub(crate) fn answer_of_line<G: Gate, R: Threads + Wait + Sync>(
     query: &Query,
     cuts: Cuts,
     workers: u32,
-    capacity: u32,
+    capacity: Capacity,
 ) -> Result<(Report, Vec<Crossed>, u64), NoMemory>
     requires cuts { IsCutting (steps job.now.log) cuts }
     requires checkpoints { checkpoints.now ≡ record { job = job.now; times = beginnings cuts } }
     requires workers { (1 ≤ workers) × (workers ≤ 64) }
-    requires capacity { (1 ≤ capacity) × (capacity ≤ 65536) }
     ensures report { IfOk result (λ r. r.0 ≡ rows query.now (trace_of job.now)) }
     ensures crossed { IfOk result (λ r. r.1.items ≡ crossed query.now (trace_of job.now) cuts) }
     ensures events { IfOk result (λ r. r.2 ≡ capped (run_work query.now (trace_of job.now) cuts)) }

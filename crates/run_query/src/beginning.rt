@@ -1,12 +1,13 @@
 //! A query over the first steps of a run, which has the rows of the whole.
 
-ghost use Rattle.std.specs.Prelude.{◌≡◌, ◌≤◌, IfOk};
+ghost use Rattle.std.specs.Prelude.{◌≡◌, IfOk};
 ghost use Rattle.report_model.specs.Rows.{rows};
 ghost use Rattle.replayer.specs.Jobs.{trace_of};
-ghost use Rattle.run_query.specs.Parts.{AreEnough};
+ghost use Rattle.query_parts.specs.Parts.{AreEnough};
 
 use crate::whole;
 use epoch_cut::Cuts;
+use epoch_link::Capacity;
 use no_memory::NoMemory;
 use outer_io::Gate;
 use query_lang::Query;
@@ -21,7 +22,7 @@ use std::thread::Threads;
 /// The job, and the report of a query over its run, of which the first `steps` steps alone are analysed: no later step
 /// changes a row. They are cut into epochs, each of which enters the gate. It gives up with NoMemory alone.
 ///
-/// `workers` is 1 to 64, and `capacity`, of messages on a link, 1 to 65536.
+/// `workers` is 1 to 64. Each link holds at most `capacity` messages.
 pub(crate) fn query_beginning<G: Gate, R: Threads + Wait + Sync>(
     rt: &R,
     alloc: Global,
@@ -31,11 +32,10 @@ pub(crate) fn query_beginning<G: Gate, R: Threads + Wait + Sync>(
     steps: u64,
     cuts: Cuts,
     workers: u32,
-    capacity: u32,
+    capacity: Capacity,
 ) -> Result<(Job, Report), NoMemory>
     requires enough { AreEnough query.now job.log steps cuts }
     requires workers { (1 ≤ workers) × (workers ≤ 64) }
-    requires capacity { (1 ≤ capacity) × (capacity ≤ 65536) }
     ensures job { IfOk result (λ r. r.0 ≡ job) }
     ensures report { IfOk result (λ r. r.1 ≡ rows query.now (trace_of job)) }
 {

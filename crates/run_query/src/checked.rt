@@ -1,20 +1,20 @@
 //! A log checked, and a query over its run.
 
-ghost use Rattle.std.specs.Prelude.{◌≡◌, ◌≤◌, IfOk, IfErr, Ok};
+ghost use Rattle.std.specs.Prelude.{◌≡◌, IfOk, IfErr, Ok};
 ghost use Rattle.elf_model.specs.Image.{image as image_of_file};
 ghost use Rattle.report_model.specs.Rows.{rows};
 ghost use Rattle.no_memory.specs.Faults.{IsCausedBy};
 ghost use Rattle.replayer.specs.Checks.{IsChecked, IsMisfit};
 ghost use Rattle.replayer.specs.Jobs.{trace_of};
-ghost use Rattle.run_query.specs.Parts.{IsEnough};
+ghost use Rattle.query_parts.specs.Parts.{IsEnough};
 
 use crate::beginning::query_beginning;
-use crate::part::Part;
-use crate::prepared::check_for;
 use crate::whole::query_prepared;
 use elf_image::Image;
+use epoch_link::Capacity;
 use outer_io::Gate;
 use query_lang::Query;
+use query_parts::{Part, check_for};
 use replay_log::Log;
 use replayer::{CheckFault, Job};
 use sink_collect::Report;
@@ -26,8 +26,8 @@ use std::thread::Threads;
 /// over the run, of which this part is analysed. Of the whole run that is found in the replay that checks the log. Each
 /// epoch enters the gate as its analysis begins.
 ///
-/// The fault is that of [`Job::check`]: the first misfit that holds, or out of memory. `workers` is 1 to 64, and
-/// `capacity`, of messages on a link, 1 to 65536.
+/// The fault is that of [`Job::check`]: the first misfit that holds, or out of memory. `workers` is 1 to 64. Each
+/// link holds at most `capacity` messages.
 pub fn check_and_query<G: Gate, R: Threads + Wait + Sync>(
     rt: &R,
     alloc: Global,
@@ -38,12 +38,11 @@ pub fn check_and_query<G: Gate, R: Threads + Wait + Sync>(
     query: &Query,
     part: Part,
     workers: u32,
-    capacity: u32,
+    capacity: Capacity,
 ) -> Result<(Job, Report), CheckFault>
     requires image { image_of_file program.now ≡ Ok image }
     requires enough { IsEnough query.now log part }
     requires workers { (1 ≤ workers) × (workers ≤ 64) }
-    requires capacity { (1 ≤ capacity) × (capacity ≤ 65536) }
     ensures checked { IfOk result (λ r. IsChecked program.now image log r.0) }
     ensures report { IfOk result (λ r. r.1 ≡ rows query.now (trace_of r.0)) }
     ensures fault { IfErr result (IsCausedBy (IsMisfit program.now image log)) }

@@ -10,14 +10,9 @@
 mod answer;
 mod beginning;
 mod checked;
-mod crossed;
-mod part;
-mod prepared;
 mod whole;
 
 pub use answer::answer_with;
 pub use checked::check_and_query;
-pub use crossed::Crossed;
-pub use part::Part;
-pub use prepared::{Prepared, check_for};
+pub use query_parts::{Crossed, Part, Prepared, check_for};
 pub use whole::{query, query_prepared};

@@ -1,6 +1,6 @@
 //! A query over a whole run.
 
-ghost use Rattle.std.specs.Prelude.{◌≡◌, ◌≤◌, ℕ, List, length, IfOk};
+ghost use Rattle.std.specs.Prelude.{◌≡◌, ℕ, List, length, IfOk};
 ghost use Rattle.log_model.specs.Logs.{steps};
 ghost use Rattle.report_model.specs.Rows.{rows};
 ghost use Rattle.epoch_model.specs.Cutting.{IsCutting};
@@ -8,17 +8,17 @@ ghost use Rattle.stream_model.specs.Work.{run_work};
 ghost use Rattle.replayer.specs.Jobs.{trace_of};
 ghost use Rattle.seq_taint.specs.Runs.{AreSinksOfRun};
 ghost use Rattle.sink_collect.specs.Pairs.{capped};
-ghost use Rattle.run_query.specs.Crossings.{crossed};
-ghost use Rattle.run_query.specs.Preparing.{AreTakenFor, IsPrepared, cuts_of};
+ghost use Rattle.query_parts.specs.Crossings.{crossed};
+ghost use Rattle.query_parts.specs.Preparing.{AreTakenFor, IsPrepared, cuts_of};
 
 use crate::answer::{answer_of_line, answer_of_one};
-use crate::crossed::Crossed;
-use crate::prepared::{Found, Prepared};
 use checkpoints::{CheckpointTaker, Checkpoints};
 use epoch_cut::Cuts;
+use epoch_link::Capacity;
 use no_memory::NoMemory;
 use outer_io::Gate;
 use query_lang::Query;
+use query_parts::{Crossed, Found, Prepared};
 use replayer::Job;
 use seq_taint::{LabelledSinks, sequential};
 use sink_collect::Report;
@@ -31,7 +31,7 @@ use std::thread::Threads;
 /// it by itself and is joined to its neighbours by two links; the workers analyse the epochs, and then one gives the nodes
 /// their turns. Each epoch enters the gate as its analysis begins. It gives up with NoMemory alone.
 ///
-/// `workers` is 1 to 64, and `capacity`, of messages on a link, 1 to 65536.
+/// `workers` is 1 to 64. Each link holds at most `capacity` messages.
 pub fn query<G: Gate, R: Threads + Wait + Sync>(
     rt: &R,
     alloc: Global,
@@ -40,11 +40,10 @@ pub fn query<G: Gate, R: Threads + Wait + Sync>(
     query: &Query,
     cuts: Cuts,
     workers: u32,
-    capacity: u32,
+    capacity: Capacity,
 ) -> Result<(Report, Vec<Crossed>, u64), NoMemory>
     requires cuts { IsCutting (steps job.now.log) cuts }
     requires workers { (1 ≤ workers) × (workers ≤ 64) }
-    requires capacity { (1 ≤ capacity) × (capacity ≤ 65536) }
     ensures report { IfOk result (λ r. r.0 ≡ rows query.now (trace_of job.now)) }
     ensures crossed { IfOk result (λ r. r.1.items ≡ crossed query.now (trace_of job.now) cuts) }
     ensures events { IfOk result (λ r. r.2 ≡ capped (run_work query.now (trace_of job.now) cuts)) }
@@ -68,7 +67,7 @@ pub fn query<G: Gate, R: Threads + Wait + Sync>(
     )
 }
 
-/// The same as [`query`], of what [`crate::check_for`] prepared for the query while the log was checked.
+/// The same as [`query`], of what [`query_parts::check_for`] prepared for the query while the log was checked.
 pub fn query_prepared<G: Gate, R: Threads + Wait + Sync>(
     rt: &R,
     alloc: Global,
@@ -77,11 +76,10 @@ pub fn query_prepared<G: Gate, R: Threads + Wait + Sync>(
     query: &Query,
     prepared: Prepared,
     workers: u32,
-    capacity: u32,
+    capacity: Capacity,
 ) -> Result<(Report, Vec<Crossed>, u64), NoMemory>
     requires prepared { IsPrepared query.now job.now prepared }
     requires workers { (1 ≤ workers) × (workers ≤ 64) }
-    requires capacity { (1 ≤ capacity) × (capacity ≤ 65536) }
     ensures report { IfOk result (λ r. r.0 ≡ rows query.now (trace_of job.now)) }
     ensures crossed { IfOk result (λ r. r.1.items ≡ crossed query.now (trace_of job.now) (cuts_of prepared)) }
     ensures events { IfOk result (λ r. r.2 ≡ capped (run_work query.now (trace_of job.now) (cuts_of prepared))) }
@@ -126,12 +124,11 @@ fn answer_of_taken<G: Gate, R: Threads + Wait + Sync>(
     query: &Query,
     cuts: Cuts,
     workers: u32,
-    capacity: u32,
+    capacity: Capacity,
 ) -> Result<(Report, Vec<Crossed>, u64), NoMemory>
     requires cuts { IsCutting (steps job.now.log) cuts }
     requires taken { AreTakenFor cuts job.now taker }
     requires workers { (1 ≤ workers) × (workers ≤ 64) }
-    requires capacity { (1 ≤ capacity) × (capacity ≤ 65536) }
     ensures report { IfOk result (λ r. r.0 ≡ rows query.now (trace_of job.now)) }
     ensures crossed { IfOk result (λ r. r.1.items ≡ crossed query.now (trace_of job.now) cuts) }
     ensures events { IfOk result (λ r. r.2 ≡ capped (run_work query.now (trace_of job.now) cuts)) }

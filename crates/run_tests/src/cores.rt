@@ -10,7 +10,7 @@ use crate::guests::copy_four;
 use crate::runs::{COPY, cuts_of, query_of};
 use checkpoints::Checkpoints;
 use epoch_cut::{Cuts, EpochTicket};
-use epoch_link::{ListLink, Popped, Pushed};
+use epoch_link::{Capacity, ListLink, Popped, Pushed};
 use epoch_node::{Broken, Core, OpenGate, Phase};
 use flow_model::{Loc, SourceByte};
 use flow_rule::Message;
@@ -28,7 +28,7 @@ fn inlet(rt: &impl Abort, alloc: Global, messages: Option<&[Message]>) -> Option
     ensures { option_map (λ l. l.got) result ≡ fresh_end (is_none messages.entry) }
 {
     let messages = messages?;
-    let mut link = ListLink::new(alloc, CAPACITY).expect(rt, "memory");
+    let mut link = ListLink::new(alloc, Capacity::of(CAPACITY)).expect(rt, "memory");
     for &message in messages {
         let Pushed::Done = link.push(message) else {
             rt.abort()
@@ -44,7 +44,7 @@ fn outlet(rt: &impl Abort, alloc: Global, alone: bool) -> Option<ListLink<Messag
     if alone {
         return None;
     }
-    Some(ListLink::new(alloc, CAPACITY).expect(rt, "memory"))
+    Some(ListLink::new(alloc, Capacity::of(CAPACITY)).expect(rt, "memory"))
 }
 
 /// The links of a core. Contracts see what it got and sent.

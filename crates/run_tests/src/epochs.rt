@@ -2,15 +2,16 @@
 
 ghost use Rattle.std.specs.Prelude.{◌≡◌, ◌≤◌, ◌<◌, length};
 ghost use Rattle.flow_model.specs.Ranges.{IsLocation};
-ghost use Rattle.local_taint.specs.Summaries.{summary_of};
+ghost use Rattle.epoch_summary.specs.Summaries.{summary_of};
 
 use crate::guests::{call_and_exit, copy_four, copy_in_two, copy_many, cut_off, trap};
 use answer_sets::{Answers, rows};
 use checkpoints::Checkpoints;
 use epoch_cut::cuts;
 use epoch_cut::laws::cut_times_are_cutting;
+use epoch_summary::{Asked, Summary, TermsAhead};
 use flow_model::{Loc, SinkByte, SinkPoint, SourceByte};
-use local_taint::{Asked, Summary, TermsAhead, analyse};
+use local_taint::analyse;
 use merge_log::TermsReader;
 use query_lang::{Query, parse};
 use replayer::{Cursor, Job, Next};

@@ -11,6 +11,7 @@ use crate::guests::{ROUND, copy_four, copy_in_two, copy_many, count_down, fill, 
 use checkpoints::Checkpoints;
 use epoch_cut::laws::cut_times_are_cutting;
 use epoch_cut::{Cuts, cuts};
+use epoch_link::Capacity;
 use flow_model::{Loc, SinkByte, SinkPoint, SourceByte};
 use jet_core::{Crossed, joined, query, round_robin};
 use outer_io::{Gate, OpenGate};
@@ -72,8 +73,7 @@ fn answer_of<G: Gate, R: Threads + Wait + Abort + Sync>(
     let Line { workers, capacity } = line;
     assert!(rt; 1 <= workers);
     assert!(rt; workers <= 64);
-    assert!(rt; 1 <= capacity);
-    assert!(rt; capacity <= 65536);
+    let capacity = Capacity::new(capacity).expect(rt, "a capacity");
     let cuts = cuts_of(rt, job, length);
     let found = query(rt, alloc, gate, job, wanted, cuts, workers, capacity);
     let (report, crossed, events) = found.expect(rt, "memory");
@@ -94,8 +94,7 @@ fn answer_by_rounds<G: Gate>(
     length: u64,
     capacity: u32,
 ) -> Answer {
-    assert!(rt; 1 <= capacity);
-    assert!(rt; capacity <= 65536);
+    let capacity = Capacity::new(capacity).expect(rt, "a capacity");
     let cuts = cuts_of(rt, job, length);
     let found = round_robin(alloc, gate, job, wanted, cuts, capacity);
     let (report, crossed, events) = found.expect(rt, "memory");

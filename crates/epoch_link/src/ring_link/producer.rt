@@ -46,7 +46,7 @@ impl<T: Drop> Producer<T> {
         ensures back { IfFull result (λ back. back ≡ item) }
     {
         let head = self.end.load_head();
-        if self.end.count.wrapping_sub(head) == self.end.capacity as u64 {
+        if self.end.count.wrapping_sub(head) == self.end.capacity.get() as u64 {
             self.end.refusals = self.end.refusals.saturating_add(1);
             return Pushed::Full(item);
         }

@@ -46,7 +46,7 @@ impl<T: Drop> End<T> {
             × (self.new.capacity ≡ self.old.capacity) × (self.new.refusals ≡ self.old.refusals) }
     {
         self.count = self.count.wrapping_add(1);
-        self.slot = if self.slot + 1 == self.capacity {
+        self.slot = if self.slot + 1 == self.capacity.get() as usize {
             0
         } else {
             self.slot + 1

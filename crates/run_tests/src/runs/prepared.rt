@@ -4,6 +4,7 @@ use super::{ALONE, Answer, COPY, Line, answer_by_rounds, query_of, sequential_re
 use crate::guests::{Recorded, copy_four, copy_four_recorded};
 use epoch_cut::cuts;
 use epoch_cut::laws::cut_times_are_cutting;
+use epoch_link::Capacity;
 use outer_io::{Gate, OpenGate};
 use query_lang::Query;
 use replayer::steps_of;
@@ -30,6 +31,7 @@ fn answer_prepared<G: Gate, R: Threads + Wait + Abort + Sync>(
     let checked = check_for(alloc, gate, &file, image, log, wanted, cuts);
     let (job, prepared) = checked.expect(rt, "a log that fits");
     let Line { workers, capacity } = ALONE;
+    let capacity = Capacity::of(capacity);
     let found = query_prepared(rt, alloc, gate, &job, wanted, prepared, workers, capacity);
     let (report, crossed, events) = found.expect(rt, "memory");
     Answer {

@@ -6,7 +6,7 @@ use Rattle.flow_model.specs.declared.Loc.TheVariants.{Reg}
 use Rattle.flow_model.specs.Orders.{source_cmp}
 use Rattle.merge_log.specs.Log.{Terms as Leaves}
 use Rattle.epoch_model.specs.Join.{answer_to, resolved}
-use Rattle.local_taint.specs.Words.{as_terms}
+use Rattle.epoch_summary.specs.Words.{as_terms}
 use Rattle.answer_sets.specs.Gathered.{is_at_one_of}
 use Rattle.answer_sets.proofs.Members.{among, among_none, among_more, resolved_is}
 use Rattle.answer_sets.proofs.Finding.{ascends_answer}

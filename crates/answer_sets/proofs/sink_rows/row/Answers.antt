@@ -4,7 +4,7 @@ use Rattle.std.specs.Option.{option_map}
 use Rattle.flow_model.specs.declared.SourceByte.{SourceByte}
 use Rattle.report_model.specs.Rows.{Row}
 use Rattle.epoch_model.specs.Join.{answer_to, resolved, rows_of}
-use Rattle.local_taint.specs.Summaries.{summary_of}
+use Rattle.epoch_summary.specs.Summaries.{summary_of}
 use Rattle.answer_sets.proofs.Each.{row_at, row_again}
 use Rattle.answer_sets.proofs.sink_rows.row.Goals as goal
 

@@ -2,7 +2,7 @@ use Rattle.std.proofs.Common.{List, [], ◌∷◌, ◌++◌, ap, sym, ◌∙◌,
 use Rattle.std.proofs.lemmas.List.{length-map}
 use Rattle.report_model.specs.Rows.{Row}
 use Rattle.epoch_model.specs.Join.{answer_to, resolved_row, rows_of}
-use Rattle.local_taint.specs.Summaries.{summary_of}
+use Rattle.epoch_summary.specs.Summaries.{summary_of}
 use Rattle.answer_sets.proofs.Each.{take_next, row_before}
 use Rattle.answer_sets.proofs.sink_rows.rows.Goals as goal
 

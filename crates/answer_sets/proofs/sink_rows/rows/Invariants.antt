@@ -1,7 +1,7 @@
 use Rattle.std.proofs.Common.{◌≡◌, take}
 use Rattle.epoch_model.specs.Join.{answer_to, rows_of}
-use Rattle.local_taint.specs.Ahead.{IsAhead}
-use Rattle.local_taint.specs.Summaries.{summary_of}
+use Rattle.epoch_summary.specs.Ahead.{IsAhead}
+use Rattle.epoch_summary.specs.Summaries.{summary_of}
 use Rattle.answer_sets.proofs.sink_rows.rows.Given as goal
 
 abbrev pub invariant-loop-number : goal.invariant-loop-number

@@ -8,7 +8,7 @@ use Rattle.lists.specs.Sets.{Ascends, union}
 use Rattle.lists.proofs.Algebra.{union-nil}
 use Rattle.merge_log.specs.Log.{Terms as Leaves}
 use Rattle.epoch_model.specs.Join.{answer_to, resolved}
-use Rattle.local_taint.specs.Words.{as_terms}
+use Rattle.epoch_summary.specs.Words.{as_terms}
 use Rattle.answer_sets.proofs.Each.{none_in}
 use Rattle.answer_sets.proofs.Finding.{ascends_answer}
 use Rattle.answer_sets.proofs.sink_rows.sources_of.Goals as goal

@@ -4,7 +4,7 @@ use Rattle.lists.specs.Sets.{is_within}
 use Rattle.flow_model.specs.Orders.{loc_cmp}
 use Rattle.epoch_model.specs.Summary.{Terms}
 use Rattle.stream_model.specs.Streams.{places_needed}
-use Rattle.local_taint.specs.Words.{as_terms}
+use Rattle.epoch_summary.specs.Words.{as_terms}
 use Rattle.pass_parts.specs.declared.requests.Request.{Request}
 use Rattle.pass_parts.specs.Known.{known}
 use Rattle.pass_parts.specs.Requests.{IsCounted}

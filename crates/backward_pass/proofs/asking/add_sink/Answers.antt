@@ -1,7 +1,7 @@
 use Rattle.std.proofs.Common.{ap, sym, subst, ◌∙◌}
 use Rattle.epoch_model.specs.Crossing.{added_all}
 use Rattle.stream_model.specs.Passes.{asked_more}
-use Rattle.local_taint.specs.Summaries.{summary_of}
+use Rattle.epoch_summary.specs.Summaries.{summary_of}
 use Rattle.backward_pass.specs.Backward.{IsWalked}
 use Rattle.backward_pass.proofs.Counts.{shared_sink}
 use Rattle.backward_pass.proofs.Lists.{next_behind, sink_behind}

@@ -1,5 +1,5 @@
 use Rattle.std.proofs.Common.{arith}
-use Rattle.epoch_line.specs.Layouts.{CutRun}
+use Rattle.epoch_layout.specs.Layouts.{CutRun}
 use Rattle.epoch_line.proofs.Numbers.{layout_length, layout_numbers, layout_job, run_of}
 use Rattle.epoch_line.proofs.working.work.Goals as goal
 

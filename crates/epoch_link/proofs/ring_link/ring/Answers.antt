@@ -3,7 +3,7 @@ use Rattle.epoch_link.proofs.Seats.{starts, splits}
 use Rattle.epoch_link.proofs.ring_link.ring.Goals as goal
 
 pub vacant-requires : goal.vacant-requires
-vacant-requires g c = starts c.args.capacity (omega (arith, c.requires.0)) c.requires.1
+vacant-requires g c = starts c.get-slots.result (omega (arith, c.get-slots.ensures.range.0)) c.get-slots.ensures.range.1
 
 pub split_seat-other-requires : goal.split_seat-other-requires
 split_seat-other-requires g c =

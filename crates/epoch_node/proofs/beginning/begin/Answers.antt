@@ -3,8 +3,8 @@ use Rattle.std.specs.Prelude.{Result, Ok, Err, IfOk}
 use Rattle.std.specs.Result.{result_ok}
 use Rattle.no_memory.specs.declared.NoMemory.{NoMemory}
 use Rattle.replayer.specs.Jobs.{trace_of}
-use Rattle.local_taint.specs.declared.summary.Summary.{Summary}
-use Rattle.local_taint.specs.Summaries.{summary_of}
+use Rattle.epoch_summary.specs.declared.summary.Summary.{Summary}
+use Rattle.epoch_summary.specs.Summaries.{summary_of}
 use Rattle.pass_parts.proofs.Known.{known_is_summary}
 use Rattle.backward_pass.specs.Backward.{new_back}
 use Rattle.epoch_node.specs.Cores.{Given}

@@ -1,7 +1,8 @@
 use Rattle.std.proofs.Common.{◌-◌, subst}
 use Rattle.replayer.specs.Jobs.{Job, trace_of}
 use Rattle.epoch_model.specs.Summary.{IsSummary}
-use Rattle.local_taint.specs.Summaries.{summary_of, AreInRange}
+use Rattle.epoch_summary.specs.Summaries.{summary_of}
+use Rattle.local_taint.specs.Following.{AreInRange}
 use Rattle.epoch_node.proofs.beginning.summarize.Goals as goal
 
 pub returns-in-Ok-clause-found : goal.returns-in-Ok-clause-found

@@ -6,11 +6,11 @@ use Rattle.flow_model.specs.declared.Loc.{Loc}
 use Rattle.report_model.specs.Rows.{Row}
 use Rattle.epoch_node.specs.Cores.{core_of}
 use Rattle.epoch_node.specs.Keeping.{HasDone, HasCounted}
-use Rattle.epoch_line.specs.Layouts.{epochs_of}
-use Rattle.epoch_line.specs.DoneLines.{DoneNode}
-use Rattle.epoch_line.proofs.Layouts.{no_items}
-use Rattle.epoch_line.proofs.Whole.{done_lines_come}
-use Rattle.epoch_line.proofs.Popping.{capped_more}
+use Rattle.epoch_layout.specs.Layouts.{epochs_of}
+use Rattle.epoch_layout.specs.DoneLines.{DoneNode}
+use Rattle.epoch_layout.proofs.Layouts.{no_items}
+use Rattle.epoch_layout.proofs.Whole.{done_lines_come}
+use Rattle.epoch_layout.proofs.Popping.{capped_more}
 use Rattle.epoch_rounds.specs.Lines.{AreDone, Stand}
 use Rattle.epoch_rounds.proofs.Placing.{map_push}
 use Rattle.epoch_rounds.proofs.Doing.{done_each}

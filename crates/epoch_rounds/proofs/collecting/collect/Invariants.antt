@@ -3,7 +3,7 @@ use Rattle.std.specs.List.{flat_map, sum_by}
 use Rattle.std.specs.Vec.Iter.{into_iter_items}
 use Rattle.sink_collect.specs.Pairs.{capped}
 use Rattle.epoch_node.specs.Cores.{CoreView, core_of}
-use Rattle.epoch_line.specs.DoneLines.{DoneNode}
+use Rattle.epoch_layout.specs.DoneLines.{DoneNode}
 use Rattle.epoch_rounds.proofs.Nodes.{AreNodesOf}
 use Rattle.epoch_rounds.proofs.collecting.collect.Given as goal
 

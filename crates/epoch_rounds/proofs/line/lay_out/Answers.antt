@@ -4,9 +4,9 @@ use Rattle.std.specs.Vec.Iter.{into_iter_items}
 use Rattle.epoch_cut.specs.Numbered.{NumberedEpoch}
 use Rattle.checkpoints.specs.Points.{beginnings}
 use Rattle.epoch_node.specs.Cores.{CoreView, CanStart, core_of}
-use Rattle.epoch_line.specs.Layouts.{CutRun, points_of}
-use Rattle.epoch_line.proofs.Tickets.{all_can_start, some_epoch, length-numbered}
-use Rattle.epoch_line.proofs.Layouts.{can_start, at_place, no_items}
+use Rattle.epoch_layout.specs.Layouts.{CutRun, points_of}
+use Rattle.epoch_layout.proofs.Tickets.{all_can_start, some_epoch, length-numbered}
+use Rattle.epoch_layout.proofs.Layouts.{can_start, at_place, no_items}
 use Rattle.epoch_rounds.specs.declared.joints.Joint.{Joint}
 use Rattle.epoch_rounds.specs.Lines.{new_cores}
 use Rattle.epoch_rounds.proofs.Placing.{map_push, map_length}

@@ -1,7 +1,7 @@
 use Rattle.std.proofs.Common.{map}
 use Rattle.std.specs.Vec.Iter.{into_iter_items}
 use Rattle.epoch_node.specs.Cores.{core_of}
-use Rattle.epoch_line.specs.Layouts.{CutRun, epochs_of}
+use Rattle.epoch_layout.specs.Layouts.{CutRun, epochs_of}
 use Rattle.epoch_rounds.proofs.Laying.{IsGrowing}
 use Rattle.epoch_rounds.proofs.line.lay_out.Given as goal
 

@@ -1,8 +1,8 @@
 use Rattle.std.proofs.Common.{◌≡◌, ℕ, suc, ◌+◌, List, [], ◌∷◌, ◌++◌, map, length, length-append, append_assoc, append-nil, true, ap, ap₂, sym, subst, subst₂, ◌∙◌, arith}
 use Rattle.std.specs.Vec.Iter.{into_iter_items}
 use Rattle.epoch_node.specs.Cores.{CoreView, core_of}
-use Rattle.epoch_line.specs.Layouts.{epochs_of}
-use Rattle.epoch_line.proofs.Layouts.{no_items}
+use Rattle.epoch_layout.specs.Layouts.{epochs_of}
+use Rattle.epoch_layout.proofs.Layouts.{no_items}
 use Rattle.epoch_rounds.specs.Turns.{KeepsAt}
 use Rattle.epoch_rounds.specs.Lines.{IsLineOf}
 use Rattle.epoch_rounds.proofs.Placing.{map_push, map_length, turns_count, keeps_next, turns_next}

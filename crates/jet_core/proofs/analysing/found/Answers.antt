@@ -1,7 +1,8 @@
 use Rattle.std.proofs.Common.{◌-◌, subst}
 use Rattle.replayer.specs.Jobs.{Job, trace_of}
 use Rattle.epoch_model.specs.Summary.{IsSummary}
-use Rattle.local_taint.specs.Summaries.{summary_of, AreInRange}
+use Rattle.epoch_summary.specs.Summaries.{summary_of}
+use Rattle.local_taint.specs.Following.{AreInRange}
 use Rattle.jet_core.proofs.analysing.found.Goals as goal
 
 pub returns : goal.returns

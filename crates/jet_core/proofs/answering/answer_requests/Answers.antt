@@ -1,7 +1,7 @@
 use Rattle.std.proofs.Common.{List, [], ◌∷◌, ◌++◌, ap₂, sym, ◌∙◌}
 use Rattle.flow_model.specs.declared.SourceByte.{SourceByte}
 use Rattle.epoch_model.specs.Join.{answer_to}
-use Rattle.local_taint.specs.Summaries.{summary_of}
+use Rattle.epoch_summary.specs.Summaries.{summary_of}
 use Rattle.jet_core.proofs.Each.{answers_next}
 use Rattle.jet_core.proofs.answering.answer_requests.Goals as goal
 

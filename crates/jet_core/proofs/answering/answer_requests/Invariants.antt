@@ -1,6 +1,6 @@
 use Rattle.std.proofs.Common.{◌≡◌, take}
 use Rattle.epoch_model.specs.Join.{answer_to, answers_of}
-use Rattle.local_taint.specs.Summaries.{summary_of}
+use Rattle.epoch_summary.specs.Summaries.{summary_of}
 use Rattle.jet_core.proofs.answering.answer_requests.Given as goal
 
 abbrev pub invariant-loop-place : goal.invariant-loop-place

@@ -1,6 +1,6 @@
 use Rattle.std.proofs.Common.{ap, ◌∙◌}
 use Rattle.epoch_model.specs.Crossing.{added_all}
-use Rattle.local_taint.specs.Summaries.{summary_of}
+use Rattle.epoch_summary.specs.Summaries.{summary_of}
 use Rattle.jet_core.proofs.More.{flat_added}
 use Rattle.jet_core.proofs.asking.add_requests.Goals as goal
 

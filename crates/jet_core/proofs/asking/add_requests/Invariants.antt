@@ -1,6 +1,6 @@
 use Rattle.std.proofs.Common.{◌≡◌, take}
 use Rattle.epoch_model.specs.Crossing.{added_all}
-use Rattle.local_taint.specs.Summaries.{summary_of}
+use Rattle.epoch_summary.specs.Summaries.{summary_of}
 use Rattle.jet_core.specs.Asking.{end_starts}
 use Rattle.jet_core.proofs.asking.add_requests.Given as goal
 

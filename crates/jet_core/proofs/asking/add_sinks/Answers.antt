@@ -1,6 +1,6 @@
 use Rattle.std.proofs.Common.{arith}
-use Rattle.local_taint.specs.Summaries.{summary_of, terms_of}
-use Rattle.local_taint.specs.Words.{as_terms}
+use Rattle.epoch_summary.specs.Summaries.{summary_of, terms_of}
+use Rattle.epoch_summary.specs.Words.{as_terms}
 use Rattle.jet_core.proofs.More.{flat_added, all_sinks}
 use Rattle.jet_core.proofs.asking.add_sinks.Goals as goal
 

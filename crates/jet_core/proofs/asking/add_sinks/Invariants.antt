@@ -1,7 +1,7 @@
 use Rattle.std.proofs.Common.{◌≡◌, take}
 use Rattle.std.specs.List.{flat_map}
 use Rattle.epoch_model.specs.Crossing.{added_all}
-use Rattle.local_taint.specs.Summaries.{terms_of}
+use Rattle.epoch_summary.specs.Summaries.{terms_of}
 use Rattle.jet_core.proofs.asking.add_sinks.Given as goal
 
 abbrev pub invariant-loop-number : goal.invariant-loop-number

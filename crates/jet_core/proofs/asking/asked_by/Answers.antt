@@ -1,4 +1,4 @@
-use Rattle.local_taint.specs.Summaries.{summary_of}
+use Rattle.epoch_summary.specs.Summaries.{summary_of}
 use Rattle.jet_core.specs.Asking.{sink_starts, end_starts}
 use Rattle.jet_core.proofs.More.{both_added}
 use Rattle.jet_core.proofs.asking.asked_by.Goals as goal

@@ -1,6 +1,6 @@
 use Rattle.std.proofs.Common.{◌+◌, ◌-◌, length, map, drop, sym, subst, ◌∙◌, arith, All}
 use Rattle.flow_model.specs.Ranges.{IsLocation}
-use Rattle.local_taint.specs.Summaries.{summary_of}
+use Rattle.epoch_summary.specs.Summaries.{summary_of}
 use Rattle.jet_core.proofs.Back.{latest, asks_locations, one_epoch_more}
 use Rattle.jet_core.proofs.asking.crossings.Goals as goal
 

@@ -1,5 +1,5 @@
 use Rattle.std.proofs.Common.{◌≡◌, ◌+◌, ◌-◌, ◌≤◌, length, map, drop}
-use Rattle.local_taint.specs.Summaries.{summary_of}
+use Rattle.epoch_summary.specs.Summaries.{summary_of}
 use Rattle.jet_core.specs.Asking.{asked_back}
 use Rattle.jet_core.proofs.asking.crossings.Given as goal
 

@@ -1,7 +1,7 @@
 use Rattle.std.proofs.Common.{◌+◌, ◌++◌, map, drop, sym, subst, ◌∙◌, ap, All}
 use Rattle.flow_model.specs.Ranges.{IsLocation}
 use Rattle.epoch_model.specs.Join.{joined}
-use Rattle.local_taint.specs.Summaries.{summary_of}
+use Rattle.epoch_summary.specs.Summaries.{summary_of}
 use Rattle.jet_core.proofs.Back.{asks_locations}
 use Rattle.jet_core.proofs.Cuts.{cuts_at, joined_more}
 use Rattle.jet_core.proofs.joining.join.Goals as goal

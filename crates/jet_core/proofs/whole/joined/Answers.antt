@@ -5,8 +5,8 @@ use Rattle.lists.specs.Sets.{set_of}
 use Rattle.epoch_cut.specs.Numbered.{NumberedEpoch}
 use Rattle.checkpoints.specs.Points.{CheckpointsAt, beginnings}
 use Rattle.sink_collect.specs.Distinct.{AreDistinct}
-use Rattle.local_taint.specs.declared.summary.Summary.{Summary}
-use Rattle.local_taint.specs.Summaries.{summary_of}
+use Rattle.epoch_summary.specs.declared.summary.Summary.{Summary}
+use Rattle.epoch_summary.specs.Summaries.{summary_of}
 use Rattle.epoch_model.specs.Join.{joined}
 use Rattle.jet_core.specs.Asking.{AreOfOneTrace}
 use Rattle.jet_core.specs.Tickets.{BeginsAt}

@@ -1,5 +1,5 @@
 use Rattle.std.proofs.Common.{◌≡◌, ap, arith}
-use Rattle.run_query.specs.Crossings.{numbered}
+use Rattle.query_parts.specs.Crossings.{numbered}
 use Rattle.run_query.proofs.Collected.{cutting_of_job, rows_of_job, few_asked, asked_of_job, events_of_job}
 use Rattle.jet_core.proofs.whole.round_robin.Goals as goal
 

@@ -5,7 +5,7 @@ use Rattle.replayer.specs.Jobs.{Job, trace_of}
 use Rattle.replayer.specs.Positions.{CursorAt}
 use Rattle.report_model.specs.Query.{policy_of}
 use Rattle.taint_tracking.specs.Following.{Follows, query_of}
-use Rattle.local_taint.specs.Words.{label_words}
+use Rattle.epoch_summary.specs.Words.{label_words}
 use Rattle.local_taint.specs.Following.{AreFollowed}
 use Rattle.local_taint.proofs.Terms.{terms_course}
 use Rattle.local_taint.proofs.analysis.follow.Goals as goal

@@ -1,7 +1,7 @@
 use Rattle.std.proofs.Common.{◌≡◌, ◌≤◌}
 use Rattle.replayer.specs.Jobs.{trace_of}
 use Rattle.taint_tracking.specs.Following.{IsSound, Follows, query_of, due_of}
-use Rattle.local_taint.specs.Words.{label_words}
+use Rattle.epoch_summary.specs.Words.{label_words}
 use Rattle.local_taint.proofs.analysis.follow_plain.Given as goal
 
 abbrev pub invariant-loop-time : goal.invariant-loop-time

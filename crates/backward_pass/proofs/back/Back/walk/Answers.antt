@@ -1,5 +1,5 @@
 use Rattle.std.proofs.Common.{◌+◌, true, take, drop, ap, subst, ◌∙◌, arith}
-use Rattle.local_taint.specs.Summaries.{summary_of}
+use Rattle.epoch_summary.specs.Summaries.{summary_of}
 use Rattle.pass_parts.specs.Known.{known}
 use Rattle.pass_parts.specs.Knowing.{is_whole, summary_in}
 use Rattle.backward_pass.specs.Backward.{AreAsked}

@@ -1,0 +1,5 @@
+pub mod Tickets
+pub mod Layouts
+mod Lines
+pub mod Whole
+pub mod Popping

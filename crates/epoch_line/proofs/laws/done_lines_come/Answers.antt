@@ -1,5 +1,0 @@
-use Rattle.epoch_line.proofs.Whole.{done_lines_come}
-use Rattle.epoch_line.proofs.laws.done_lines_come.Goals as goal
-
-pub returns : goal.returns
-returns c = done_lines_come

@@ -1,5 +1,0 @@
-use Rattle.epoch_line.proofs.Jobs.{taken_of_one_job}
-use Rattle.epoch_line.proofs.splitting.take_group.Goals as goal
-
-pub new-requires-clause-one_job : goal.new-requires-clause-one_job
-new-requires-clause-one_job g c = taken_of_one_job _ c.loop.nodes.items c.loop.stack.items c.requires.one_job c.loop.invariant.split

@@ -1,0 +1,4 @@
+mod Words
+mod Named
+mod Alike
+mod Held

@@ -1,0 +1,37 @@
+-- What the analysis of an epoch found.
+use Rattle.std.specs.Prelude.{ℕ, List, map}
+use Rattle.flow_model.specs.declared.SinkPoint.{SinkPoint}
+use Rattle.epoch_model.specs.Summary.{Terms, SinkTerms, Summary as EpochSummary}
+use Rattle.taint_shadow.specs.Steps.{meaning_at}
+use Rattle.taint_shadow.specs.declared.labels.SinkLabel.{SinkLabel}
+use Rattle.taint_shadow.specs.declared.places.Places.{Places}
+use Rattle.epoch_summary.specs.declared.labels.Nodes.{Nodes}
+use Rattle.epoch_summary.specs.declared.summary.Summary.{Summary}
+use Rattle.epoch_summary.specs.Words.{label_words}
+
+-- the number of its epoch
+abbrev pub number_of : Summary → ℕ
+number_of e = e.number
+
+-- a sink with the terms of its label
+abbrev pub named : Nodes → SinkLabel → SinkTerms
+named nodes k = record { name = k.name; terms = label_words.means nodes k.label }
+
+-- the terms of each location and of each sink: those of the labels that are kept
+abbrev pub summary_by : Nodes → Places → List SinkLabel → EpochSummary
+summary_by nodes places sinks = record {
+  ends = λ l. meaning_at label_words nodes places l;
+  sinks = map (named nodes) sinks;
+}
+
+-- the terms of each location at the epoch's end, and of each of its sinks
+abbrev pub summary_of : Summary → EpochSummary
+summary_of e = summary_by e.nodes e.places e.sinks.items
+
+-- the names of its sinks, in the order of the run
+abbrev pub names_of : Summary → List SinkPoint
+names_of e = map (λ k. k.name) (summary_of e).sinks
+
+-- the terms of its sinks, in the same order
+abbrev pub terms_of : Summary → List Terms
+terms_of e = map (λ k. k.terms) (summary_of e).sinks

@@ -1,0 +1,4 @@
+mod Lists
+mod Sweeps
+mod Jobs
+mod Grouping

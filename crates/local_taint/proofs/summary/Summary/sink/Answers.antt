@@ -1,7 +1,0 @@
-use Rattle.local_taint.proofs.Named.{nth}
-use Rattle.local_taint.proofs.summary.Summary.sink.Goals as goal
-
-pub returns : goal.returns
-returns c =
-    let e = c.args.self.now in
-    nth (λ k. k.name) e.nodes e.sinks.items c.args.number c.index.result.now c.requires c.index.ensures

@@ -1,8 +1,0 @@
--- Terms that are read ahead of their use.
-use Rattle.terms_ahead.specs.declared.ahead.TermsAhead.{TermsAhead}
-use Rattle.terms_ahead.specs.Ahead.{IsOfLog}
-use Rattle.local_taint.specs.declared.summary.Summary.{Summary}
-
--- what was read ahead is of the summary: it is good for no other
-abbrev pub IsAhead : Summary → TermsAhead → Type 0
-IsAhead e ahead = IsOfLog e.nodes.log ahead

@@ -1,0 +1,6 @@
+use Rattle.query_parts.proofs.prepared.check_whole.Goals as goal
+
+pub returns-clause-sinks : goal.returns-clause-sinks
+returns-clause-sinks c =
+    let query = c.args.query.now in
+    c.in_ok-sinks.ensures query c.in_ok-job.job (c.in_ok-job.ensures.seen query c.in_ok-watching.ensures)

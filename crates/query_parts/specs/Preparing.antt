@@ -1,0 +1,30 @@
+-- What is prepared for a query over a run that is cut.
+use Rattle.std.specs.Prelude.{◌≡◌, ℕ, List, length}
+use Rattle.log_model.specs.Logs.{steps}
+use Rattle.report_model.specs.Query.{Query}
+use Rattle.epoch_model.specs.Cutting.{IsCutting}
+use Rattle.replayer.specs.Jobs.{Job}
+use Rattle.checkpoints.specs.Taking.{TakerAt, HasTaken}
+use Rattle.seq_taint.specs.Runs.{AreSinksOfRun}
+use Rattle.query_parts.specs.declared.prepared.Prepared.{Prepared}
+use Rattle.query_parts.specs.declared.prepared.Found.{Found}
+use Rattle.query_parts.specs.declared.prepared.Found.TheVariants.{Whole, Parts}
+
+-- where the run is cut
+abbrev pub cuts_of : Prepared → List ℕ
+cuts_of p = p.cuts
+
+-- the checkpoints of the job's run are taken at these cuts
+pub record AreTakenFor (cuts : List ℕ) (job : Job) (taker : TakerAt) : Type 0 where
+  pub cuts_are : taker.cuts ≡ cuts
+  pub taken : HasTaken job (steps job.log) taker
+
+-- this was found of the job's run for the query: of one epoch its sinks, of several where each begins
+abbrev pub IsFoundOf : Query → Job → List ℕ → Found → Type 0
+IsFoundOf q job cuts (Whole sinks) = (length cuts ≡ 1) × AreSinksOfRun q job sinks
+IsFoundOf q job cuts (Parts taker) = AreTakenFor cuts job taker
+
+-- the job's run is cut so, and this was found of it for the query
+pub record IsPrepared (q : Query) (job : Job) (p : Prepared) : Type 0 where
+  pub cutting : IsCutting (steps job.log) p.cuts
+  pub found_of : IsFoundOf q job p.cuts p.found
