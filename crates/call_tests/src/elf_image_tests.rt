@@ -2,9 +2,8 @@
 
 use elf_image::{ImageKind, load};
 use no_memory::Fault;
-use std::alloc::{AllocError, Global};
+use std::alloc::Global;
 use std::process::Abort;
-use std::test::Fail;
 
 /// A file of one segment at 0x10000, which copies four bytes from channel 0 to channel 1: 13 words
 /// of ELF header, 8 of program header, 12 of instructions.
@@ -38,14 +37,12 @@ const P_FILESZ: usize = 17;
 const P_MEMSZ: usize = 18;
 
 /// The file with some words changed, and words put in before the instructions.
-fn changed(
-    alloc: Global,
-    changes: &[(usize, u32)],
-    entries: &[u32],
-) -> Result<Vec<u8>, AllocError> {
-    let mut words = Vec::from_slice(alloc, &COPY_FOUR[..21])?;
-    words.extend_from_slice(entries)?;
-    words.extend_from_slice(&COPY_FOUR[21..])?;
+fn changed(rt: &impl Abort, alloc: Global, changes: &[(usize, u32)], entries: &[u32]) -> Vec<u8> {
+    let mut words = Vec::from_slice(alloc, &COPY_FOUR[..21]).expect(rt, "memory");
+    words.extend_from_slice(entries).expect(rt, "memory");
+    words
+        .extend_from_slice(&COPY_FOUR[21..])
+        .expect(rt, "memory");
     for &(at, word) in changes {
         if let Some(field) = words.get_mut(at) {
             *field = word;
@@ -53,9 +50,10 @@ fn changed(
     }
     let mut file = Vec::new(alloc);
     for word in &words {
-        file.extend_from_slice(&word.to_le_bytes())?;
+        file.extend_from_slice(&word.to_le_bytes())
+            .expect(rt, "memory");
     }
-    Ok(file)
+    file
 }
 
 /// The first fault of a file, if it isn't loaded.
@@ -74,16 +72,20 @@ fn assert_fault(
     changes: &[(usize, u32)],
     entries: &[u32],
     want: Option<ImageKind>,
-) -> Result<(), AllocError> {
-    let file = changed(alloc, changes, entries)?;
+) {
+    let file = changed(rt, alloc, changes, entries);
     assert_eq!(rt; fault_of(rt, alloc, &file), want);
-    Ok(())
 }
 
 #[test]
-fn a_sound_file_is_loaded(rt: HostRuntime) -> Result<(), Fail> {
-    let file = changed(rt.alloc(), &[(P_VADDR, 0x20ff0), (ENTRY, 0x20ff4)], &[])?;
-    let image = load(rt.alloc(), &file)?;
+fn a_sound_file_is_loaded(rt: HostRuntime) {
+    let file = changed(
+        &rt,
+        rt.alloc(),
+        &[(P_VADDR, 0x20ff0), (ENTRY, 0x20ff4)],
+        &[],
+    );
+    let image = load(rt.alloc(), &file).expect(&rt, "an image");
     assert_eq!(rt; image.base(), 0x20000);
     assert_eq!(rt; image.entry(), 0x20ff4);
     let segments = image.segments();
@@ -92,12 +94,11 @@ fn a_sound_file_is_loaded(rt: HostRuntime) -> Result<(), Fail> {
     assert_eq!(rt; segments[0].size(), 48);
     assert_eq!(rt; file.len(), 132);
     assert_eq!(rt; segments[0].bytes(), &file[84..]);
-    Ok(())
 }
 
 #[test]
-fn each_prefix_has_its_fault(rt: HostRuntime) -> Result<(), Fail> {
-    let file = changed(rt.alloc(), &[], &[])?;
+fn each_prefix_has_its_fault(rt: HostRuntime) {
+    let file = changed(&rt, rt.alloc(), &[], &[]);
     assert_eq!(rt; file.len(), 132);
     for length in 0..133 {
         let want = match length {
@@ -112,11 +113,10 @@ fn each_prefix_has_its_fault(rt: HostRuntime) -> Result<(), Fail> {
             "at {length}"
         );
     }
-    Ok(())
 }
 
 #[test]
-fn each_changed_word_has_its_fault(rt: HostRuntime) -> Result<(), Fail> {
+fn each_changed_word_has_its_fault(rt: HostRuntime) {
     let cases = [
         (0, 0x464c4500, Some(ImageKind::Magic)),
         (1, 0x00010102, Some(ImageKind::Class)),
@@ -142,13 +142,12 @@ fn each_changed_word_has_its_fault(rt: HostRuntime) -> Result<(), Fail> {
         (ENTRY, 0x10030, Some(ImageKind::Entry)),
     ];
     for (at, word, want) in cases {
-        assert_fault(&rt, rt.alloc(), &[(at, word)], &[], want)?;
+        assert_fault(&rt, rt.alloc(), &[(at, word)], &[], want);
     }
-    Ok(())
 }
 
 #[test]
-fn a_second_entry_counts_as_the_first(rt: HostRuntime) -> Result<(), Fail> {
+fn a_second_entry_counts_as_the_first(rt: HostRuntime) {
     let cases = [
         (48, [0x70000003, 0, 0, 0, 0, 0, 0, 0], None),
         (48, [2, 0, 0, 0, 0, 0, 0, 0], Some(ImageKind::Dynamic)),
@@ -161,24 +160,22 @@ fn a_second_entry_counts_as_the_first(rt: HostRuntime) -> Result<(), Fail> {
     ];
     for (size, second, want) in cases {
         let changes = [(PHNUM, 2), (P_OFFSET, 116), (P_MEMSZ, size)];
-        assert_fault(&rt, rt.alloc(), &changes, &second, want)?;
+        assert_fault(&rt, rt.alloc(), &changes, &second, want);
     }
-    Ok(())
 }
 
 /// A file of a segment of 70,000 bytes, each of which is loaded.
 #[test]
-fn a_long_file_is_loaded(rt: HostRuntime) -> Result<(), Fail> {
+fn a_long_file_is_loaded(rt: HostRuntime) {
     let alloc = rt.alloc();
-    let mut file = changed(alloc, &[(P_FILESZ, 70_000), (P_MEMSZ, 70_000)], &[])?;
+    let mut file = changed(&rt, alloc, &[(P_FILESZ, 70_000), (P_MEMSZ, 70_000)], &[]);
     for i in file.len()..84 + 70_000 {
-        file.push((i % 251) as u8)?;
+        file.push((i % 251) as u8).expect(&rt, "memory");
     }
     assert_eq!(rt; file.len(), 70_084);
-    let image = load(alloc, &file)?;
+    let image = load(alloc, &file).expect(&rt, "an image");
     let segments = image.segments();
     assert_eq!(rt; segments.len(), 1);
     assert_eq!(rt; segments[0].size(), 70_000);
     assert!(rt; segments[0].bytes() == &file[84..]);
-    Ok(())
 }

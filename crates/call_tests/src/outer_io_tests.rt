@@ -5,8 +5,8 @@ mod disk;
 use disk::{Disk, Told};
 use no_memory::Fault;
 use outer_io::*;
-use std::alloc::{AllocError, Global};
-use std::test::Fail;
+use std::alloc::Global;
+use std::process::Abort;
 use std::time::Duration;
 use std::{fs, io};
 
@@ -17,19 +17,20 @@ const NEVER: u64 = 99;
 const MARK: &[u8] = b"MARK";
 
 /// One file of five bytes.
-fn files(alloc: Global) -> Result<Vec<MemoryFile>, AllocError> {
+fn files(rt: &impl Abort, alloc: Global) -> Vec<MemoryFile> {
     let mut files = Vec::new(alloc);
-    files.push(MemoryFile {
-        name: String::from_str(alloc, "a")?,
-        bytes: "abcde".as_bytes().to_vec(alloc)?,
-    })?;
-    Ok(files)
+    let file = MemoryFile {
+        name: String::from_str(alloc, "a").expect(rt, "memory"),
+        bytes: "abcde".as_bytes().to_vec(alloc).expect(rt, "memory"),
+    };
+    files.push(file).expect(rt, "memory");
+    files
 }
 
 /// That file, moved two bytes at a time, where the call of this number fails.
-fn memory(alloc: Global, failing: u64) -> Result<MemoryStore, AllocError> {
-    let failing = [failing].as_slice().to_vec(alloc)?;
-    MemoryStore::new(alloc, files(alloc)?, failing, 2, 5)
+fn memory(rt: &impl Abort, alloc: Global, failing: u64) -> MemoryStore {
+    let failing = [failing].as_slice().to_vec(alloc).expect(rt, "memory");
+    MemoryStore::new(alloc, files(rt, alloc), failing, 2, 5).expect(rt, "memory")
 }
 
 /// The text of the file, or why it is not read whole.
@@ -43,72 +44,66 @@ fn is_read<S: Store>(alloc: Global, store: &mut S, name: &str, max: u16, want: &
 }
 
 /// Whether the file is read so where the call of this number fails.
-fn is_read_in_memory(
-    alloc: Global,
-    failing: u64,
-    max: u16,
-    want: &str,
-) -> Result<bool, AllocError> {
-    Ok(is_read(alloc, &mut memory(alloc, failing)?, "a", max, want))
+fn is_read_in_memory(rt: &impl Abort, alloc: Global, failing: u64, max: u16, want: &str) -> bool {
+    is_read(alloc, &mut memory(rt, alloc, failing), "a", max, want)
 }
 
 /// Whether the file has this content after it was written, where the call of this number fails.
-fn is_written(alloc: Global, failing: u64, want: &str) -> Result<bool, AllocError> {
-    let mut store = memory(alloc, failing)?;
+fn is_written(rt: &impl Abort, alloc: Global, failing: u64, want: &str) -> bool {
+    let mut store = memory(rt, alloc, failing);
     let written = write_file(&mut store, "a", b"vwxyz");
-    Ok(written.is_ok() == (failing == NEVER) && is_read(alloc, &mut store, "a", 5, want))
+    written.is_ok() == (failing == NEVER) && is_read(alloc, &mut store, "a", 5, want)
 }
 
 #[test]
-fn files_in_memory(rt: HostRuntime) -> Result<(), Fail> {
+fn files_in_memory(rt: HostRuntime) {
     for (failing, max, want) in [
         (NEVER, 5, "abcde"),
         (NEVER, 4, "too long"),
         (2, 5, "read fault"),
     ] {
         assert!(rt;
-            is_read_in_memory(rt.alloc(), failing, max, want)?,
+            is_read_in_memory(&rt, rt.alloc(), failing, max, want),
             "{want}"
         );
     }
     for (failing, want) in [(NEVER, "vwxyz"), (2, "abcde"), (4, "abcde")] {
-        assert!(rt; is_written(rt.alloc(), failing, want)?, "call {failing}");
+        assert!(rt;
+            is_written(&rt, rt.alloc(), failing, want),
+            "call {failing}"
+        );
     }
-    Ok(())
 }
 
 /// Whether so much of a text is written, ten bytes a put, where the put of this number fails.
-fn is_text_written(alloc: Global, failing: u64, want: &str) -> Result<bool, AllocError> {
-    let failing = [failing].as_slice().to_vec(alloc)?;
-    let mut sink = MemorySink::new(alloc, failing, 10, 16)?;
+fn is_text_written(rt: &impl Abort, alloc: Global, failing: u64, want: &str) -> bool {
+    let failing = [failing].as_slice().to_vec(alloc).expect(rt, "memory");
+    let mut sink = MemorySink::new(alloc, failing, 10, 16).expect(rt, "memory");
     let written = write_whole(&mut sink, b"1:0 0:0\n1:1 0:1\n");
-    Ok(written.is_ok() == (want.len() == 16) && sink.bytes() == want.as_bytes())
+    written.is_ok() == (want.len() == 16) && sink.bytes() == want.as_bytes()
 }
 
 /// Whether a sure store and a sure sink take a text.
-fn are_sure(alloc: Global, text: &str) -> Result<bool, AllocError> {
-    let mut store = SureStore::new(alloc, files(alloc)?, 3)?;
-    let mut sink = SureSink::new(alloc, 3)?;
+fn are_sure(rt: &impl Abort, alloc: Global, text: &str) -> bool {
+    let mut store = SureStore::new(alloc, files(rt, alloc), 3).expect(rt, "memory");
+    let mut sink = SureSink::new(alloc, 3).expect(rt, "memory");
     let written = write_file(&mut store, "c", text.as_bytes());
     let shown = write_whole(&mut sink, text.as_bytes());
-    Ok(
-        written.is_ok()
-            && shown.is_ok()
-            && is_read(alloc, &mut store, "c", 5, text)
-            && sink.bytes() == text.as_bytes(),
-    )
+    written.is_ok()
+        && shown.is_ok()
+        && is_read(alloc, &mut store, "c", 5, text)
+        && sink.bytes() == text.as_bytes()
 }
 
 #[test]
-fn texts_in_memory(rt: HostRuntime) -> Result<(), Fail> {
+fn texts_in_memory(rt: HostRuntime) {
     for (failing, want) in [(NEVER, "1:0 0:0\n1:1 0:1\n"), (1, "1:0 0:0\n1:")] {
         assert!(rt;
-            is_text_written(rt.alloc(), failing, want)?,
+            is_text_written(&rt, rt.alloc(), failing, want),
             "put {failing}"
         );
     }
-    assert!(rt; are_sure(rt.alloc(), "xyz")?);
-    Ok(())
+    assert!(rt; are_sure(&rt, rt.alloc(), "xyz"));
 }
 
 /// Whether the machine's files are read and written so: one is made, read and too long, another is missing, and a
@@ -125,14 +120,13 @@ fn are_files(rt: HostRuntime) -> bool {
 }
 
 #[test]
-fn files_and_clock_of_the_machine(rt: HostRuntime) -> Result<(), Fail> {
+fn files_and_clock_of_the_machine(rt: HostRuntime) {
     assert!(rt; are_files(rt));
-    let mut reader = OutSink::new(fs::open(&rt, "made")?);
+    let mut reader = OutSink::new(fs::open(&rt, "made").expect(&rt, "a file"));
     assert!(rt; write_whole(&mut reader, b"xyz").is_err());
-    fs::remove_file(&rt, "made")?;
-    let mut clock = ListClock::new(rt.alloc(), [5].as_slice())?;
+    fs::remove_file(&rt, "made").expect(&rt, "a file");
+    let mut clock = ListClock::new(rt.alloc(), [5].as_slice()).expect(&rt, "memory");
     assert!(rt; clock.now() == 5);
-    Ok(())
 }
 
 /// A writer that has room for less than is written.
@@ -217,15 +211,14 @@ fn goes_out(room: &mut [u8], text: &[u8]) -> bool {
 
 /// A text that is longer than most pieces goes out, each byte to its place.
 #[test]
-fn a_long_text_goes_out(rt: HostRuntime) -> Result<(), Fail> {
+fn a_long_text_goes_out(rt: HostRuntime) {
     let mut text = Vec::new(rt.alloc());
     for i in 0..70_000u32 {
-        text.push((i % 251) as u8)?;
+        text.push((i % 251) as u8).expect(&rt, "memory");
     }
-    let mut room = vec![in rt.alloc(); 0u8; 70_000]?;
+    let mut room = vec![in rt.alloc(); 0u8; 70_000].expect(&rt, "memory");
     assert!(rt; goes_out(&mut room, &text));
     assert!(rt; room.as_slice() == text.as_slice());
-    Ok(())
 }
 
 /// A clock that stands still, or can't be read.

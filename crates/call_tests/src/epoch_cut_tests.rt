@@ -4,21 +4,23 @@ ghost use Rattle.std.specs.Prelude.{◌≤◌};
 
 use epoch_cut::{CutFault, cuts};
 use std::alloc::Global;
-use std::test::Fail;
+use std::process::Abort;
 
 /// A run of so many steps.
 const LONG: u64 = 1 << 40;
 
 /// The number of each epoch, and the times before its first and after its last step.
-fn epochs(alloc: Global, steps: u64, length: u64) -> Result<Vec<(u32, u64, u64)>, Fail>
+fn epochs(rt: &impl Abort, alloc: Global, steps: u64, length: u64) -> Vec<(u32, u64, u64)>
     requires { 1 ≤ length }
 {
-    let tickets = cuts(steps, length)?.tickets(alloc)?;
+    let cuts = cuts(steps, length).expect(rt, "few epochs");
+    let tickets = cuts.tickets(alloc).expect(rt, "memory");
     let mut epochs = Vec::new(alloc);
     for ticket in &tickets {
-        epochs.push((ticket.number(), ticket.first(), ticket.past_last()))?;
+        let epoch = (ticket.number(), ticket.first(), ticket.past_last());
+        epochs.push(epoch).expect(rt, "memory");
     }
-    Ok(epochs)
+    epochs
 }
 
 /// How many epochs there are, or would be.
@@ -32,17 +34,16 @@ fn count(steps: u64, length: u64) -> Result<u32, u64>
 }
 
 #[test]
-fn epochs_are_as_long_as_said(rt: HostRuntime) -> Result<(), Fail> {
+fn epochs_are_as_long_as_said(rt: HostRuntime) {
     let alloc = rt.alloc();
-    assert_eq!(rt; epochs(alloc, 0, 6)?.as_slice(), [(0, 0, 0)].as_slice());
-    assert_eq!(rt; epochs(alloc, 1, 6)?.as_slice(), [(0, 0, 1)].as_slice());
+    assert_eq!(rt; epochs(&rt, alloc, 0, 6).as_slice(), [(0, 0, 0)].as_slice());
+    assert_eq!(rt; epochs(&rt, alloc, 1, 6).as_slice(), [(0, 0, 1)].as_slice());
     assert_eq!(rt;
-        epochs(alloc, 12, 6)?.as_slice(),
+        epochs(&rt, alloc, 12, 6).as_slice(),
         [(0, 0, 6), (1, 6, 12)].as_slice()
     );
     let uneven = [(0, 0, 7), (1, 7, 14), (2, 14, 18)];
-    assert_eq!(rt; epochs(alloc, 18, 7)?.as_slice(), uneven.as_slice());
-    Ok(())
+    assert_eq!(rt; epochs(&rt, alloc, 18, 7).as_slice(), uneven.as_slice());
 }
 
 #[test]

@@ -1,81 +1,46 @@
-//! Names and instructions as text.
+//! Names, and bytes in quotes.
 
 use flow_model::{InnerSink, Loc, SinkByte, SinkPoint, SourceByte};
-use instruction_text::push_instruction;
-use no_memory::NoMemory;
-use printed_names::{Names, SourceName, push_byte, push_location, push_pc, push_point};
-use rv_decode::decode;
+use printed_names::{
+    Names, SourceName, push_byte, push_lines_end, push_location, push_pc, push_point, push_quoted,
+    push_wide_byte,
+};
 use std::process::Abort;
-use std::test::Fail;
-
-/// Words as LLVM's assembler writes them, and the lines that they are of; it takes a distance as a number, as `16`.
-const LINES: [(u32, &str); 17] = [
-    (0x0005_2283, "lw x5, 0(x10)"),
-    (0xfff2_8293, "addi x5, x5, -1"),
-    (0xffff_f537, "lui x10, 1048575"),
-    (0x0062_8863, "beq x5, x6, .+16"),
-    (0xff9f_f0ef, "jal x1, .-8"),
-    (0x0000_8067, "jalr x0, 0(x1)"),
-    (0x0082_9293, "slli x5, x5, 8"),
-    (0x41f3_d393, "srai x7, x7, 31"),
-    (0xfff1_0a23, "sb x31, -12(x2)"),
-    (0x7ff5_ce03, "lbu x28, 2047(x11)"),
-    (0x0231_20b3, "mulhsu x1, x2, x3"),
-    (0x0040_31b3, "sltu x3, x0, x4"),
-    (0xfe20_fee3, "bgeu x1, x2, .-4"),
-    (0x0000_1197, "auipc x3, 1"),
-    (0x0ff0_000f, "fence"),
-    (0x0000_0073, "ecall"),
-    (0x0010_0073, "ebreak"),
-];
-
-#[test]
-fn each_word_is_a_line_of_the_assembler(rt: HostRuntime) -> Result<(), Fail> {
-    for (word, line) in LINES {
-        let mut out = Vec::new(rt.alloc());
-        let Some(instr) = decode(word) else {
-            rt.abort()
-        };
-        push_instruction(&mut out, &instr)?;
-        assert_eq!(rt; out.as_slice(), line.as_bytes());
-    }
-    Ok(())
-}
 
 /// An output byte, a lane, an address, a point and a pc, a blank after each.
-fn push_names(out: &mut Vec<u8>) -> Result<(), NoMemory> {
+fn push_names(rt: &impl Abort, out: &mut Vec<u8>) {
     let loc = Loc::Reg {
         number: 31,
         lane: 3,
     };
-    push_byte(out, 15, 4294967295)?;
-    out.push(b' ')?;
-    push_location(out, loc)?;
-    out.push(b' ')?;
-    push_location(out, Loc::Mem { place: 65792 })?;
-    out.push(b' ')?;
-    push_point(out, SinkPoint::At(InnerSink { time: 6, loc }))?;
-    out.push(b' ')?;
+    push_byte(out, 15, 4294967295).expect(rt, "memory");
+    out.push(b' ').expect(rt, "memory");
+    push_location(out, loc).expect(rt, "memory");
+    out.push(b' ').expect(rt, "memory");
+    push_location(out, Loc::Mem { place: 65792 }).expect(rt, "memory");
+    out.push(b' ').expect(rt, "memory");
+    push_point(out, SinkPoint::At(InnerSink { time: 6, loc })).expect(rt, "memory");
+    out.push(b' ').expect(rt, "memory");
     push_point(
         out,
         SinkPoint::Out(SinkByte {
             channel: 1,
             offset: 0,
         }),
-    )?;
-    out.push(b' ')?;
-    push_pc(out, 0x8001_0a0c)
+    )
+    .expect(rt, "memory");
+    out.push(b' ').expect(rt, "memory");
+    push_pc(out, 0x8001_0a0c).expect(rt, "memory");
 }
 
 #[test]
-fn names_are_those_of_reports(rt: HostRuntime) -> Result<(), Fail> {
+fn names_are_those_of_reports(rt: HostRuntime) {
     let mut out = Vec::new(rt.alloc());
-    push_names(&mut out)?;
+    push_names(&rt, &mut out);
     assert_eq!(rt;
         out.as_slice(),
         b"15:4294967295 r:31.3 m:65792 r:31.3@6 1:0 0x80010a0c".as_slice()
     );
-    Ok(())
 }
 
 /// Source bytes, one after another, and their names.
@@ -99,7 +64,7 @@ const BYTES: &[(u8, u32, &str)] = &[
 ];
 
 #[test]
-fn a_name_goes_to_the_next_byte(rt: HostRuntime) -> Result<(), Fail> {
+fn a_name_goes_to_the_next_byte(rt: HostRuntime) {
     let mut name = SourceName::new(SourceByte {
         channel: 0,
         offset: 7,
@@ -109,7 +74,6 @@ fn a_name_goes_to_the_next_byte(rt: HostRuntime) -> Result<(), Fail> {
         name.go_to(SourceByte { channel, offset });
         assert_eq!(rt; name.as_bytes(), text.as_bytes());
     }
-    Ok(())
 }
 
 /// Tens of offsets, and the names of their ten source bytes.
@@ -130,11 +94,43 @@ const TENS: &[(u8, u32, &str)] = &[
 ];
 
 #[test]
-fn ten_names_are_written_at_once(rt: HostRuntime) -> Result<(), Fail> {
+fn ten_names_are_written_at_once(rt: HostRuntime) {
     let mut names = Names::new();
     for &(channel, offset, text) in TENS {
         names.write_ten(channel, offset);
         assert_eq!(rt; names.as_bytes(), text.as_bytes());
     }
-    Ok(())
+}
+
+/// Bytes, and their quoted texts.
+const QUOTED: [(&[u8], &str); 5] = [
+    (b"", "\"\""),
+    (b" !~C00027", "\" !~C00027\""),
+    (b"\0\x1f\x7f\xff\"\\", "\"\\x00\\x1f\\x7f\\xff\\x22\\x5c\""),
+    (b"abcdefghijklmnopqrstuvwx", "\"abcdefghijklmnopqrstuvwx\""),
+    (
+        b"abcdefghijklmnopqrstuvwxy",
+        "\"abcdefghijklmnopqrstuvwx\"..",
+    ),
+];
+
+#[test]
+fn bytes_are_quoted(rt: HostRuntime) {
+    for (bytes, text) in QUOTED {
+        let mut out = Vec::new(rt.alloc());
+        push_quoted(&mut out, bytes).expect(&rt, "memory");
+        assert_eq!(rt; out.as_slice(), text.as_bytes());
+    }
+}
+
+#[test]
+fn a_byte_of_any_channel_has_a_name(rt: HostRuntime) {
+    let mut out = Vec::new(rt.alloc());
+    push_wide_byte(&mut out, 4294967295, 18446744073709551615).expect(&rt, "memory");
+    out.push(b'\n').expect(&rt, "memory");
+    push_lines_end(&mut out, 1).expect(&rt, "memory");
+    assert_eq!(rt;
+        out.as_slice(),
+        b"4294967295:18446744073709551615\nend 1\n".as_slice()
+    );
 }

@@ -1,15 +1,12 @@
-//! What logs say of the calls of their runs, as text, and the bytes that were moved on a channel.
+//! What logs say of the calls of their runs, as text.
 
 use call_list::calls_text;
-use log_model::CallRecord;
-use printed_names::{push_lines_end, push_quoted, push_wide_byte};
 use replay_log::{Log, read_log};
-use run_output::{input_on, output_on};
 use std::alloc::Global;
 use std::process::Abort;
 
 /// A log in version 1, which begins here with the window's pages, of a program whose digest is zero.
-fn log_of(rt: &impl Abort, alloc: Global, parts: &[u8]) -> Log {
+pub fn log_of(rt: &impl Abort, alloc: Global, parts: &[u8]) -> Log {
     let mut bytes = Vec::new(alloc);
     bytes.extend_from_slice(b"JETLOG1\n").expect(rt, "memory");
     bytes.extend_from_slice(&[0; 32]).expect(rt, "memory");
@@ -20,7 +17,7 @@ fn log_of(rt: &impl Abort, alloc: Global, parts: &[u8]) -> Log {
 
 /// Two channels are read, one of them up to its end; a read of a buffer outside the window and a write on a channel that
 /// isn't there are refused; two writes, the clock, another call, and an exit.
-const ALL_CALLS: &[u8] = b"\x01\0\0\0\x02\0\0\0\
+pub const ALL_CALLS: &[u8] = b"\x01\0\0\0\x02\0\0\0\
     \x01\x05\0\0\0\0\0\0\0\0\x01\x01\0\x1e\0\0\0\x1a\0\0\0ABCDEFGHIJKLMNOPQRSTUVWXYZ\
     \x01\x09\0\0\0\x01\0\0\0\0\x02\x01\0\x08\0\0\0\x02\0\0\0\"\\\
     \x01\x0b\0\0\0\0\0\0\0\0\x10\0\0\x04\0\0\0\xf2\xff\xff\xff\
@@ -71,69 +68,4 @@ fn each_call_is_a_line(rt: HostRuntime) {
         let told = calls_text(rt.alloc(), &log).expect(&rt, "memory");
         assert_eq!(rt; told.as_slice(), text.as_bytes());
     }
-}
-
-/// What was read on a channel, and what was written on it.
-fn assert_moved(
-    rt: &impl Abort,
-    alloc: Global,
-    calls: &[CallRecord],
-    channel: u32,
-    read: &[u8],
-    written: &[u8],
-) {
-    let input = input_on(alloc, calls, channel).expect(rt, "memory");
-    assert_eq!(rt; input.as_slice(), read);
-    let output = output_on(alloc, calls, channel).expect(rt, "memory");
-    assert_eq!(rt; output.as_slice(), written);
-}
-
-#[test]
-fn what_was_read_is_apart_from_what_was_written(rt: HostRuntime) {
-    let alloc = rt.alloc();
-    let log = log_of(&rt, alloc, ALL_CALLS);
-    assert_moved(
-        &rt,
-        alloc,
-        log.records(),
-        0,
-        b"ABCDEFGHIJKLMNOPQRSTUVWXYZ",
-        b"",
-    );
-    assert_moved(&rt, alloc, log.records(), 1, b"\"\\", b"");
-    assert_moved(&rt, alloc, log.records(), 2, b"", b"");
-    assert_moved(&rt, alloc, log.records(), 15, b"", b"ABC\n");
-}
-
-/// Bytes, and their quoted texts.
-const QUOTED: [(&[u8], &str); 5] = [
-    (b"", "\"\""),
-    (b" !~C00027", "\" !~C00027\""),
-    (b"\0\x1f\x7f\xff\"\\", "\"\\x00\\x1f\\x7f\\xff\\x22\\x5c\""),
-    (b"abcdefghijklmnopqrstuvwx", "\"abcdefghijklmnopqrstuvwx\""),
-    (
-        b"abcdefghijklmnopqrstuvwxy",
-        "\"abcdefghijklmnopqrstuvwx\"..",
-    ),
-];
-
-#[test]
-fn bytes_are_quoted(rt: HostRuntime) {
-    for (bytes, text) in QUOTED {
-        let mut out = Vec::new(rt.alloc());
-        push_quoted(&mut out, bytes).expect(&rt, "memory");
-        assert_eq!(rt; out.as_slice(), text.as_bytes());
-    }
-}
-
-#[test]
-fn a_byte_of_any_channel_has_a_name(rt: HostRuntime) {
-    let mut out = Vec::new(rt.alloc());
-    push_wide_byte(&mut out, 4294967295, 18446744073709551615).expect(&rt, "memory");
-    out.push(b'\n').expect(&rt, "memory");
-    push_lines_end(&mut out, 1).expect(&rt, "memory");
-    assert_eq!(rt;
-        out.as_slice(),
-        b"4294967295:18446744073709551615\nend 1\n".as_slice()
-    );
 }

@@ -1,24 +1,20 @@
 //! Small programs, and what their steps come to. Expected values are typed from the manual's text.
 
-ghost use Rattle.std.specs.Prelude.{◌≡◌, false, IfOk};
+ghost use Rattle.std.specs.Prelude.{◌≡◌, false};
 
 use elf_image::load;
 use guest_assembler::{code, program};
 use rv_machine::{Call, CallKind, Instr, Machine, MachineState, Stepped};
 use std::alloc::Global;
 use std::process::Abort;
-use std::test::Fail;
 
 /// A machine at the first of these instructions, at 0x10000, with a window of one page.
-fn machine_of(alloc: Global, code: &[Instr]) -> Result<Machine, Fail>
-    ensures { IfOk result (λ m. m.waits ≡ false) }
+fn machine_of(rt: &impl Abort, alloc: Global, code: &[Instr]) -> Machine
+    ensures { result.waits ≡ false }
 {
-    let file = program(alloc, code)?;
-    let image = load(alloc, file.as_slice())?;
-    match Machine::new(alloc, &image, 1) {
-        Ok(machine) => Ok(machine),
-        Err(fault) => Err(fault)?,
-    }
+    let file = program(alloc, code).expect(rt, "memory");
+    let image = load(alloc, file.as_slice()).expect(rt, "an image");
+    Machine::new(alloc, &image, 1).expect(rt, "a window of one page")
 }
 
 /// Makes plain steps.
@@ -34,10 +30,10 @@ fn run(rt: &impl Abort, machine: &mut Machine, steps: u32)
 }
 
 /// What comes after so many plain steps.
-fn step_after(rt: &impl Abort, alloc: Global, code: &[Instr], plain: u32) -> Result<Stepped, Fail> {
-    let mut machine = machine_of(alloc, code)?;
+fn step_after(rt: &impl Abort, alloc: Global, code: &[Instr], plain: u32) -> Stepped {
+    let mut machine = machine_of(rt, alloc, code);
     run(rt, &mut machine, plain);
-    Ok(machine.step())
+    machine.step()
 }
 
 /// The call that a step came to, if it was one.
@@ -60,7 +56,7 @@ fn other_call(args: [u32; 3]) -> Call {
 
 /// Programs, how many plain steps they make, and what is in x10, x11 and x12 at the call that comes then.
 #[test]
-fn programs_leave_their_results(rt: HostRuntime) -> Result<(), Fail> {
+fn programs_leave_their_results(rt: HostRuntime) {
     let cases: [(&[Instr], u32, [u32; 3]); 6] = [
         (&code![addi(x10, x2, 0), ecall()], 1, [0x1_0ff0, 0, 0]),
         (
@@ -108,15 +104,14 @@ fn programs_leave_their_results(rt: HostRuntime) -> Result<(), Fail> {
         ),
     ];
     for (code, plain, args) in cases {
-        let stepped = step_after(&rt, rt.alloc(), code, plain)?;
+        let stepped = step_after(&rt, rt.alloc(), code, plain);
         assert!(rt; called(stepped) == Some(other_call(args)));
     }
-    Ok(())
 }
 
 /// Programs, how many plain steps they make, and the kind and the pc of the trap that comes then.
 #[test]
-fn programs_trap(rt: HostRuntime) -> Result<(), Fail> {
+fn programs_trap(rt: HostRuntime) {
     let cases: [(&[Instr], u32, u32, u32); 7] = [
         (&code![jalr(x0, 2(x2))], 0, 0, 0x1_0000),
         (&code![beq(x0, x0, 6)], 0, 0, 0x1_0000),
@@ -130,14 +125,13 @@ fn programs_trap(rt: HostRuntime) -> Result<(), Fail> {
         let Stepped::Trapped {
             kind: seen_kind,
             pc: seen_pc,
-        } = step_after(&rt, rt.alloc(), code, plain)?
+        } = step_after(&rt, rt.alloc(), code, plain)
         else {
             rt.abort()
         };
         assert_eq!(rt; seen_kind, kind);
         assert_eq!(rt; seen_pc, pc);
     }
-    Ok(())
 }
 
 /// A machine made of another one's state, which was taken apart and put together.
@@ -153,7 +147,7 @@ fn again(rt: &impl Abort, alloc: Global, machine: &Machine) -> Machine
 /// A machine whose state is taken out and put back goes on alike: what it has in memory and in registers is there. So does
 /// one that keeps what it decoded.
 #[test]
-fn a_saved_machine_goes_on_alike(rt: HostRuntime) -> Result<(), Fail> {
+fn a_saved_machine_goes_on_alike(rt: HostRuntime) {
     let code = code![
         auipc(x5, 0),
         li(x6, 42),
@@ -163,16 +157,15 @@ fn a_saved_machine_goes_on_alike(rt: HostRuntime) -> Result<(), Fail> {
         ecall()
     ];
     for steps in 0..6 {
-        let mut machine = machine_of(rt.alloc(), &code)?;
+        let mut machine = machine_of(&rt, rt.alloc(), &code);
         run(&rt, &mut machine, steps);
         let mut machine = again(&rt, rt.alloc(), &machine);
         if steps % 2 == 1 {
-            machine.keep_decoded(rt.alloc())?;
+            machine.keep_decoded(rt.alloc()).expect(&rt, "memory");
         }
         run(&rt, &mut machine, 5 - steps);
         assert!(rt; called(machine.step()) == Some(other_call([42, 43, 0])));
     }
-    Ok(())
 }
 
 /// An instruction of x5 and x6 that sets x10.
@@ -183,7 +176,7 @@ macro_rules! of_two {
 /// Instructions after what sets their operands, and what is in x10 then ("Multiplication Operations", and the
 /// table of "Division Operations").
 #[test]
-fn products_and_quotients(rt: HostRuntime) -> Result<(), Fail> {
+fn products_and_quotients(rt: HostRuntime) {
     const LEAST: u32 = 0x8000_0000;
     const ALL: u32 = 0xffff_ffff;
     let [seven, zero, less_seven, two] = code![li(x5, 7), li(x6, 0), li(x5, -7), li(x6, 2)];
@@ -204,8 +197,7 @@ fn products_and_quotients(rt: HostRuntime) -> Result<(), Fail> {
     ];
     for ([first, second, instr], value) in cases {
         let code = [first, second, instr, Instr::Ecall];
-        let stepped = step_after(&rt, rt.alloc(), &code, 3)?;
+        let stepped = step_after(&rt, rt.alloc(), &code, 3);
         assert!(rt; called(stepped) == Some(other_call([value, 0, 0])));
     }
-    Ok(())
 }

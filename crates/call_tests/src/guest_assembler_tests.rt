@@ -1,7 +1,6 @@
 //! Each name stands for its instruction, in a file of the form that loaders take.
 
 use guest_assembler::{code, program};
-use std::test::Fail;
 
 /// Words as LLVM's assembler writes them, of the instructions in `each_name_is_its_instruction`.
 const WORDS: [u32; 54] = [
@@ -62,7 +61,7 @@ const WORDS: [u32; 54] = [
 ];
 
 #[test]
-fn each_name_is_its_instruction(rt: HostRuntime) -> Result<(), Fail> {
+fn each_name_is_its_instruction(rt: HostRuntime) {
     let code = code![
         lui(x1, -2147483648),
         lui(x10, -4096),
@@ -119,7 +118,7 @@ fn each_name_is_its_instruction(rt: HostRuntime) -> Result<(), Fail> {
         fence(),
         li(x17, 93)
     ];
-    let file = program(rt.alloc(), &code)?;
+    let file = program(rt.alloc(), &code).expect(&rt, "memory");
     assert_eq!(rt; file.len(), 84 + 4 * WORDS.len());
     for (index, word) in WORDS.iter().enumerate() {
         let at = 84 + 4 * index;
@@ -129,18 +128,16 @@ fn each_name_is_its_instruction(rt: HostRuntime) -> Result<(), Fail> {
             "at {index}"
         );
     }
-    Ok(())
 }
 
 /// The fields of the headers that the size is in, and the word of an instruction that has none.
 #[test]
-fn a_program_has_its_size_and_no_word_for_what_does_not_fit(rt: HostRuntime) -> Result<(), Fail> {
-    let file = program(rt.alloc(), &code![ecall(), li(x1, 2048), ecall()])?;
+fn a_program_has_its_size_and_no_word_for_what_does_not_fit(rt: HostRuntime) {
+    let file = program(rt.alloc(), &code![ecall(), li(x1, 2048), ecall()]).expect(&rt, "memory");
     assert_eq!(rt; file.len(), 96);
     assert_eq!(rt; &file[68..76], [12, 0, 0, 0, 12, 0, 0, 0].as_slice());
     assert_eq!(rt;
         &file[84..],
         [0x73, 0, 0, 0, 0, 0, 0, 0, 0x73, 0, 0, 0].as_slice()
     );
-    Ok(())
 }

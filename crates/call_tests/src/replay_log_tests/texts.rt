@@ -54,3 +54,20 @@ pub const TOO_LATE_CALL: [u8; 17] = [3, 0, 0, 0, 0, 0, 1, 0, 0, 2, 0, 0, 0, 1, 0
 pub const LATE_LIMIT: [u8; 9] = [7, 0, 0, 0, 0, 0, 1, 0, 0];
 
 pub const TOO_LATE_LIMIT: [u8; 9] = [7, 1, 0, 0, 0, 0, 1, 0, 0];
+
+/// What stands after the channel in the log of version 2.
+pub const AFTER_CHANNEL: [u8; 67] = [
+    1, 5, 0, 0, 0, 0, 0, 0, 0, 0, 0, 0, 0, 0, 1, 1, 0, 4, 0, 0, 0, 4, 0, 0, 0, //
+    2, 8, 0, 0, 0, 0, 0, 0, 0, 1, 0, 0, 0, 0, 1, 1, 0, 4, 0, 0, 0, 4, 0, 0, 0, 0x41, 0x42, 0x43,
+    0x44, //
+    5, 0x0b, 0, 0, 0, 0, 0, 0, 0, 0, 0, 0, 0,
+];
+
+/// A log in version 2 without inputs, of a program whose digest is 32 times 7: a call of number 42 at step 4, and a limit.
+pub const OTHER: [u8; 70] = [
+    74, 69, 84, 76, 79, 71, 50, 10, //
+    7, 7, 7, 7, 7, 7, 7, 7, 7, 7, 7, 7, 7, 7, 7, 7, 7, 7, 7, 7, 7, 7, 7, 7, 7, 7, 7, 7, 7, 7, 7, 7, //
+    1, 0, 0, 0, 0, 0, 0, 0, //
+    4, 4, 0, 0, 0, 0, 0, 0, 0, 42, 0, 0, 0, //
+    7, 9, 0, 0, 0, 0, 0, 0, 0,
+];

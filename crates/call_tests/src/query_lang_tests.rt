@@ -7,7 +7,6 @@ use query_lang::{
 };
 use std::alloc::Global;
 use std::process::Abort;
-use std::test::Fail;
 
 /// Texts, and the line and the kind of their first fault.
 const FAULTS: [(&[u8], u32, QueryKind); 20] = [
@@ -166,13 +165,14 @@ fn has_its_points(query: &Query) -> bool {
 }
 
 #[test]
-fn two_queries_together_choose_what_either_does(rt: HostRuntime) -> Result<(), Fail> {
+fn two_queries_together_choose_what_either_does(rt: HostRuntime) {
     let query = of_two(
         &rt,
         rt.alloc(),
         b"rule copy\nsource 0 1 2\nsink 1\nsink mem 65792 2 at 6",
         b"rule copy\nsource 0 4 6\nsink 15 0 1\nsink mem 65793 1 at 6\nsink reg 1 at 5",
-    )?;
+    )
+    .expect(&rt, "one rule");
     assert!(rt; query.rule() == Rule::Copy);
     assert!(rt; has_its_points(&query));
     assert!(rt;
@@ -182,7 +182,6 @@ fn two_queries_together_choose_what_either_does(rt: HostRuntime) -> Result<(), F
             [(1, 0), (1, 9), (1, 4294967295), (15, 0)].as_slice()
         )
     );
-    Ok(())
 }
 
 #[test]

@@ -1,14 +1,13 @@
 //! The nodes of a small log: which node each call gives, and the leaves under it.
 
-ghost use Rattle.std.specs.Prelude.{◌≡◌, IfOk};
 ghost use Rattle.merge_log.specs.Log.{IsNode};
 
+use crate::source_runs_tests::{FROM_3, UP_TO_3};
 use flow_model::{Loc, SourceByte};
 use merge_log::{Leaf, ManyTerms, MergeLog, Node, TermsReader};
-use source_runs::{SourceRun, settle};
+use source_runs::SourceRun;
 use std::alloc::Global;
 use std::process::Abort;
-use std::test::Fail;
 
 /// How a node is asked for.
 enum Asked {
@@ -72,36 +71,6 @@ const ABSORBING_CASES: [Case; 5] = [
     (Asked::Absorbing(2, 1), 4, BOTH),
 ];
 
-const UP_TO_3: SourceRun = SourceRun {
-    channel: 0,
-    first: 1,
-    last: 3,
-};
-
-const FROM_3: SourceRun = SourceRun {
-    channel: 0,
-    first: 3,
-    last: 4,
-};
-
-const UP_TO_4: SourceRun = SourceRun {
-    channel: 0,
-    first: 1,
-    last: 4,
-};
-
-const LATER: SourceRun = SourceRun {
-    channel: 0,
-    first: 6,
-    last: 6,
-};
-
-const OTHER_CHANNEL: SourceRun = SourceRun {
-    channel: 1,
-    first: 7,
-    last: 9,
-};
-
 /// Or then in that log, where nodes are runs. Runs that overlap, and a byte of them, are read once.
 const RUN_CASES: [Case; 5] = [
     (Asked::Run(UP_TO_3), 5, FIRST_THREE),
@@ -131,124 +100,110 @@ const BOTH: &[Leaf] = &[Leaf::Source(FIRST), Leaf::Source(THIRD)];
 const ALL: &[Leaf] = &[Leaf::Source(FIRST), Leaf::Source(THIRD), Leaf::Start(X5)];
 
 /// The node that is asked for, or the empty node where an operand isn't there.
-fn node_of(log: &mut MergeLog, asked: &Asked) -> Result<Node, Fail>
-    ensures { IfOk result (IsNode log.new) }
+fn node_of(rt: &impl Abort, log: &mut MergeLog, asked: &Asked) -> Node
+    ensures { IsNode log.new result }
 {
     let size = log.size();
-    match *asked {
-        Asked::Source(byte) => Ok(log.leaf_source(byte)?),
-        Asked::Run(run) => Ok(log.leaf_run(run)?),
-        Asked::Start(loc) => Ok(log.leaf_symbol(loc)?),
-        Asked::Union(a, b) if a < size && b < size => Ok(log.union(a, b)?),
-        Asked::Absorbing(a, b) if a < size && b < size => Ok(log.absorbing_union(a, b)?),
+    let node = match *asked {
+        Asked::Source(byte) => log.leaf_source(byte),
+        Asked::Run(run) => log.leaf_run(run),
+        Asked::Start(loc) => log.leaf_symbol(loc),
+        Asked::Union(a, b) if a < size && b < size => log.union(a, b),
+        Asked::Absorbing(a, b) if a < size && b < size => log.absorbing_union(a, b),
         Asked::Union(..) | Asked::Absorbing(..) => Ok(0),
-    }
+    };
+    node.expect(rt, "memory")
 }
 
 /// Compares a node, and the leaves under it, with what is written out.
-fn compare(rt: &impl Abort, alloc: Global, log: &mut MergeLog, case: &Case) -> Result<(), Fail> {
+fn compare(rt: &impl Abort, alloc: Global, log: &mut MergeLog, case: &Case) {
     let (asked, want, leaves) = case;
-    let node = node_of(log, asked)?;
+    let node = node_of(rt, log, asked);
     assert_eq!(rt; node, *want);
-    let found = log.terms(alloc, node)?;
+    let found = log.terms(alloc, node).expect(rt, "memory");
     assert_eq!(rt; found.as_slice(), *leaves);
-    Ok(())
 }
 
 /// The log of the first cases and then of these, in turn.
-fn log_of(rt: &impl Abort, alloc: Global, cases: &[Case]) -> Result<MergeLog, Fail> {
+fn log_of(rt: &impl Abort, alloc: Global, cases: &[Case]) -> MergeLog {
     let mut log = MergeLog::new(alloc);
     for case in FIRST_CASES.iter().chain(cases) {
-        compare(rt, alloc, &mut log, case)?;
+        compare(rt, alloc, &mut log, case);
     }
-    assert_eq!(rt; log.terms(alloc, 0)?.len(), 0);
-    Ok(log)
+    let none = log.terms(alloc, 0).expect(rt, "memory");
+    assert_eq!(rt; none.len(), 0);
+    log
 }
 
 #[test]
-fn equal_nodes_are_one(rt: HostRuntime) -> Result<(), Fail> {
-    let log = log_of(&rt, rt.alloc(), &UNION_CASES)?;
+fn equal_nodes_are_one(rt: HostRuntime) {
+    let log = log_of(&rt, rt.alloc(), &UNION_CASES);
     assert_eq!(rt; log.size(), 7);
-    Ok(())
 }
 
 #[test]
-fn a_union_absorbs_its_operands(rt: HostRuntime) -> Result<(), Fail> {
-    let log = log_of(&rt, rt.alloc(), &ABSORBING_CASES)?;
+fn a_union_absorbs_its_operands(rt: HostRuntime) {
+    let log = log_of(&rt, rt.alloc(), &ABSORBING_CASES);
     assert_eq!(rt; log.size(), 6);
-    Ok(())
 }
 
 #[test]
-fn runs_are_read_as_their_bytes(rt: HostRuntime) -> Result<(), Fail> {
-    let log = log_of(&rt, rt.alloc(), &RUN_CASES)?;
+fn runs_are_read_as_their_bytes(rt: HostRuntime) {
+    let log = log_of(&rt, rt.alloc(), &RUN_CASES);
     assert_eq!(rt; log.size(), 9);
     for case in &RUN_CASES {
         let (_, node, leaves) = case;
-        let found = leaves_between(rt.alloc(), &log, 6, *node, 4)?;
+        let found = leaves_between(&rt, rt.alloc(), &log, 6, *node, 4);
         assert_eq!(rt; found.as_slice(), *leaves);
     }
     let mut reader = TermsReader::new(rt.alloc());
-    reader.read_run(FROM_3)?;
-    let leaves = reader.leaves(rt.alloc())?;
+    reader.read_run(FROM_3).expect(&rt, "memory");
+    let leaves = reader.leaves(rt.alloc()).expect(&rt, "memory");
     assert_eq!(rt;
         leaves.as_slice(),
         [Leaf::Source(THIRD), Leaf::Source(FOURTH)].as_slice()
     );
     assert_eq!(rt; reader.runs(), [FROM_3].as_slice());
-    Ok(())
-}
-
-#[test]
-fn runs_settle_to_those_of_their_bytes(rt: HostRuntime) -> Result<(), Fail> {
-    let alloc = rt.alloc();
-    let mut runs = Vec::new(alloc);
-    for run in [LATER, FROM_3, OTHER_CHANNEL, UP_TO_3] {
-        runs.push(run)?;
-    }
-    settle(&mut runs, &mut Vec::new(alloc))?;
-    assert_eq!(rt; runs.as_slice(), [UP_TO_4, LATER, OTHER_CHANNEL].as_slice());
-    Ok(())
 }
 
 /// A log of 70,000 source bytes has a node for each, in their order.
 #[test]
-fn a_long_log_has_its_nodes(rt: HostRuntime) -> Result<(), Fail> {
+fn a_long_log_has_its_nodes(rt: HostRuntime) {
     let alloc = rt.alloc();
     let mut log = MergeLog::new(alloc);
     for offset in 0..70_000 {
         let byte = SourceByte { channel: 0, offset };
-        assert_eq!(rt; log.leaf_source(byte)?, u64::from(offset) + 1);
+        let leaf = log.leaf_source(byte).expect(&rt, "memory");
+        assert_eq!(rt; leaf, u64::from(offset) + 1);
     }
     assert_eq!(rt; log.size(), 70_001);
-    Ok(())
 }
 
 /// The leaves of a node, which one walk reads with two other nodes.
 fn leaves_between(
+    rt: &impl Abort,
     alloc: Global,
     log: &MergeLog,
     before: Node,
     node: Node,
     after: Node,
-) -> Result<Vec<Leaf>, Fail> {
+) -> Vec<Leaf> {
     let size = log.size();
     let mut reader = TermsReader::new(alloc);
     if before < size && node < size && after < size {
         let mut many = ManyTerms::new(alloc);
-        many.read(log, &[before, node, after])?;
-        many.copy(1, &mut reader)?;
+        many.read(log, &[before, node, after]).expect(rt, "memory");
+        many.copy(1, &mut reader).expect(rt, "memory");
     }
-    Ok(reader.leaves(alloc)?)
+    reader.leaves(alloc).expect(rt, "memory")
 }
 
 #[test]
-fn one_walk_reads_several_nodes(rt: HostRuntime) -> Result<(), Fail> {
-    let log = log_of(&rt, rt.alloc(), &UNION_CASES)?;
+fn one_walk_reads_several_nodes(rt: HostRuntime) {
+    let log = log_of(&rt, rt.alloc(), &UNION_CASES);
     for case in FIRST_CASES.iter().chain(&UNION_CASES) {
         let (_, node, leaves) = case;
-        let found = leaves_between(rt.alloc(), &log, 6, *node, 4)?;
+        let found = leaves_between(&rt, rt.alloc(), &log, 6, *node, 4);
         assert_eq!(rt; found.as_slice(), *leaves);
     }
-    Ok(())
 }

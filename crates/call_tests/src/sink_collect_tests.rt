@@ -1,12 +1,9 @@
 //! Rows as text: in order, turned round, and of what a query chooses; the text in pieces.
 
-ghost use Rattle.std.specs.Prelude.{◌≡◌, IfOk};
+ghost use Rattle.std.specs.Prelude.{◌≡◌};
 ghost use Rattle.report_model.specs.Text.{report_text};
-ghost use Rattle.sorted_set.specs.Sets.{Ascends};
-ghost use Rattle.flow_model.specs.Orders.{source_cmp};
 
 use flow_model::{InnerSink, Loc, SinkByte, SinkPoint, SourceByte};
-use no_memory::NoMemory;
 use outer_io::{Buffer, InPieces, MemorySink, Pieces, write_in_pieces};
 use query_lang::{Query, parse};
 use sink_collect::{
@@ -14,23 +11,22 @@ use sink_collect::{
     turn_round,
 };
 use source_ranges::SourceSet;
-use std::alloc::{AllocError, Global};
+use std::alloc::Global;
 use std::process::Abort;
-use std::test::Fail;
 
 /// The set of an output byte or a point, with one source byte on each of the channels 0 and 15, or with none.
-fn set(alloc: Global, sink: SinkPoint, source: Option<u32>) -> Result<SinkSet, NoMemory>
-    ensures { IfOk result (λ s. s.sink ≡ sink) }
+fn set(rt: &impl Abort, alloc: Global, sink: SinkPoint, source: Option<u32>) -> SinkSet
+    ensures { result.sink ≡ sink }
 {
-    let mut sources = Vec::new(alloc);
-    if let Some(offset) = source {
-        sources.push(SourceByte { channel: 0, offset })?;
-        sources.push(SourceByte {
-            channel: 15,
-            offset: 2,
-        })?;
-    }
-    Ok(SinkSet::new(sink, SourceSet::of(alloc, &sources)?))
+    let last = SourceByte {
+        channel: 15,
+        offset: 2,
+    };
+    let sources = match source {
+        Some(offset) => SourceSet::of(alloc, &[SourceByte { channel: 0, offset }, last]),
+        None => SourceSet::of(alloc, &[]),
+    };
+    SinkSet::new(sink, sources.expect(rt, "memory"))
 }
 
 const EARLY: SinkPoint = SinkPoint::Out(SinkByte {
@@ -64,103 +60,90 @@ const PLACE: SinkPoint = SinkPoint::At(InnerSink {
 });
 
 /// The report of five sets that come in another order.
-fn report(alloc: Global) -> Result<Report, Fail> {
-    let mut sets = Vec::new(alloc);
-    sets.push(set(alloc, PLACE, Some(7))?)?;
-    sets.push(set(alloc, TENTH, Some(4294967295))?)?;
-    sets.push(set(alloc, LANE, None)?)?;
-    sets.push(set(alloc, NINTH, None)?)?;
-    sets.push(set(alloc, EARLY, Some(7))?)?;
-    Ok(gather(alloc, sets)?)
+fn report(rt: &impl Abort, alloc: Global) -> Report {
+    let sets = vec![in alloc;
+        set(rt, alloc, PLACE, Some(7)),
+        set(rt, alloc, TENTH, Some(4294967295)),
+        set(rt, alloc, LANE, None),
+        set(rt, alloc, NINTH, None),
+        set(rt, alloc, EARLY, Some(7)),
+    ];
+    gather(alloc, sets.expect(rt, "memory")).expect(rt, "memory")
 }
 
 /// The report has this text.
-fn assert_text(rt: &impl Abort, alloc: Global, report: &Report, lines: &str) -> Result<(), Fail> {
-    let written = text(alloc, report)?;
+fn assert_text(rt: &impl Abort, alloc: Global, report: &Report, lines: &str) {
+    let written = text(alloc, report).expect(rt, "memory");
     assert_eq!(rt; written.as_slice(), lines.as_bytes());
-    Ok(())
 }
 
 /// The output bytes come first, by channel and then offset.
 #[test]
-fn rows_come_in_their_order(rt: HostRuntime) -> Result<(), Fail> {
-    let report = report(rt.alloc())?;
+fn rows_come_in_their_order(rt: HostRuntime) {
+    let report = report(&rt, rt.alloc());
     assert_eq!(rt; report.lines(), 5);
     assert_eq!(rt; report.pairs(), 6);
     let lines =
         "1:70000 0:7 15:2\n2:9\n2:10 0:4294967295 15:2\nr:10.3@6\nm:65792@6 0:7 15:2\nend 5\n";
-    assert_text(&rt, rt.alloc(), &report, lines)
+    assert_text(&rt, rt.alloc(), &report, lines);
 }
 
-/// The bytes 7 and 8 of channel 0, and byte 2 of channel 15.
-fn sources(alloc: Global) -> Result<Vec<SourceByte>, AllocError>
-    ensures { IfOk result (λ sources. Ascends source_cmp sources.items) }
-{
-    let mut sources = Vec::new(alloc);
-    sources.push(SourceByte {
-        channel: 0,
-        offset: 7,
-    })?;
-    sources.push(SourceByte {
-        channel: 0,
-        offset: 8,
-    })?;
-    sources.push(SourceByte {
-        channel: 15,
-        offset: 2,
-    })?;
-    Ok(sources)
-}
-
-/// The same as a set: two ranges, of which the rows cut the first.
-fn chosen(alloc: Global) -> Result<SourceSet, NoMemory> {
-    let bytes = sources(alloc)?;
-    SourceSet::of(alloc, &bytes)
+/// The bytes 7 and 8 of channel 0, and byte 2 of channel 15: two ranges, of which the rows cut the first.
+fn chosen(rt: &impl Abort, alloc: Global) -> SourceSet {
+    let bytes = [
+        SourceByte {
+            channel: 0,
+            offset: 7,
+        },
+        SourceByte {
+            channel: 0,
+            offset: 8,
+        },
+        SourceByte {
+            channel: 15,
+            offset: 2,
+        },
+    ];
+    SourceSet::of(alloc, &bytes).expect(rt, "memory")
 }
 
 #[test]
-fn rows_are_turned_round(rt: HostRuntime) -> Result<(), Fail> {
+fn rows_are_turned_round(rt: HostRuntime) {
     let alloc = rt.alloc();
-    let report = report(alloc)?;
-    let influence = turn_round(alloc, &report, &chosen(alloc)?)?;
+    let report = report(&rt, alloc);
+    let influence = turn_round(alloc, &report, &chosen(&rt, alloc)).expect(&rt, "memory");
     assert_eq!(rt; influence.lines(), 3);
-    let lines = influence_text(alloc, &influence)?;
+    let lines = influence_text(alloc, &influence).expect(&rt, "memory");
     assert_eq!(rt;
         lines.as_slice(),
         b"0:7 1:70000 m:65792@6\n0:8\n15:2 1:70000 2:10 m:65792@6\nend 3\n".as_slice()
     );
     let mut out = Vec::new(alloc);
-    put_numbered(&mut out, b"query ", 16)?;
-    put_influence(&mut out, &influence)?;
+    put_numbered(&mut out, b"query ", 16).expect(&rt, "memory");
+    put_influence(&mut out, &influence).expect(&rt, "memory");
     assert_eq!(rt;
         out.as_slice(),
         b"query 16\n0:7 1:70000 m:65792@6\n0:8\n15:2 1:70000 2:10 m:65792@6\nend 3\n".as_slice()
     );
-    Ok(())
 }
 
 /// What a query chooses of the report has this text.
-fn assert_only(
-    rt: &impl Abort,
-    alloc: Global,
-    report: &Report,
-    query: &Query,
-    lines: &str,
-) -> Result<(), Fail> {
-    let chosen = report.only(alloc, query)?;
-    assert_text(rt, alloc, &chosen, lines)
+fn assert_only(rt: &impl Abort, alloc: Global, report: &Report, query: &Query, lines: &str) {
+    let chosen = report.only(alloc, query).expect(rt, "memory");
+    assert_text(rt, alloc, &chosen, lines);
 }
 
 #[test]
-fn a_query_has_its_own_rows(rt: HostRuntime) -> Result<(), Fail> {
+fn a_query_has_its_own_rows(rt: HostRuntime) {
     let alloc = rt.alloc();
-    let report = report(alloc)?;
+    let report = report(&rt, alloc);
     let query = parse(
         alloc,
         b"rule copy\nsource 0\nsink 1\nsink 2 0 10\nsink mem 65792 2 at 6\n",
-    )?;
+    )
+    .expect(&rt, "a query");
     let lines = "1:70000 0:7\n2:9\nm:65792@6 0:7\nend 3\n";
-    assert_only(&rt, alloc, &report, &query, lines)
+    assert_only(&rt, alloc, &report, &query, lines);
 }
 
 /// A report, of which the text is put in pieces.
@@ -181,17 +164,11 @@ impl InPieces for Lines {
 const ROOMS: &[usize] = &[0, 1, 3, 16, 31, 4096];
 
 /// Through a buffer of this room, to a sink that takes seven bytes a call and fails at this one, the text is written up to there.
-fn assert_pieces(
-    rt: &impl Abort,
-    alloc: Global,
-    lines: &Lines,
-    room: usize,
-    failing: u64,
-) -> Result<(), Fail> {
-    let whole = text(alloc, &lines.report)?;
-    let failing = [failing].as_slice().to_vec(alloc)?;
-    let mut sink = MemorySink::new(alloc, failing, 7, 4096)?;
-    let buffer = Buffer::new(alloc, room)?;
+fn assert_pieces(rt: &impl Abort, alloc: Global, lines: &Lines, room: usize, failing: u64) {
+    let whole = text(alloc, &lines.report).expect(rt, "memory");
+    let failing = [failing].as_slice().to_vec(alloc).expect(rt, "memory");
+    let mut sink = MemorySink::new(alloc, failing, 7, 4096).expect(rt, "memory");
+    let buffer = Buffer::new(alloc, room).expect(rt, "memory");
     let written = write_in_pieces(&mut sink, buffer, lines);
     if written.is_ok() {
         assert_eq!(rt; sink.bytes(), whole.as_slice());
@@ -199,19 +176,17 @@ fn assert_pieces(
         assert!(rt; sink.bytes().len() < whole.len());
         assert!(rt; whole.as_slice().starts_with(sink.bytes()));
     }
-    Ok(())
 }
 
 #[test]
-fn a_text_is_written_in_pieces(rt: HostRuntime) -> Result<(), Fail> {
+fn a_text_is_written_in_pieces(rt: HostRuntime) {
     let alloc = rt.alloc();
     let lines = Lines {
-        report: report(alloc)?,
+        report: report(&rt, alloc),
     };
     for room in ROOMS {
         for failing in 0..40 {
-            assert_pieces(&rt, alloc, &lines, *room, failing)?;
+            assert_pieces(&rt, alloc, &lines, *room, failing);
         }
     }
-    Ok(())
 }
