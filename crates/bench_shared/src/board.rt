@@ -1,19 +1,16 @@
 //! What a turn at a board costs, beside a plain loop over the same tasks.
 //!
 //! Standard output counts the turns taken, first at boards of three tasks and at one with the most tasks and workers,
-//! which are not timed. The times go to standard error.
-#![tactic(auto)]
+//! which are not timed.
 
 ghost use Rattle.std.specs.Prelude.{◌≤◌};
 
-mod countdown;
-mod runs;
-
+use crate::runs;
 use run_board::{MOST_TASKS, MOST_WORKERS, Numbered};
 use std::alloc::Global;
 use std::sync::Wait;
 use std::thread::Threads;
-use std::time::Instant;
+use std::time::{Clock, Instant};
 
 /// How many tasks each timed run has.
 const TASKS: u32 = 1000;
@@ -40,7 +37,7 @@ fn tell_three(
 }
 
 /// Three tasks with one worker and with four, and then the most tasks with the most workers.
-fn untimed(rt: &(impl Print + Threads + Wait + Sync), alloc: Global) -> anyhow::Result<()> {
+pub fn untimed(rt: &(impl Print + Threads + Wait + Sync), alloc: Global) -> anyhow::Result<()> {
     tell_three(rt, alloc, 1)?;
     tell_three(rt, alloc, 4)?;
     let turns = runs::board(rt, alloc, MOST_TASKS as u32, 20, MOST_WORKERS)?;
@@ -49,18 +46,19 @@ fn untimed(rt: &(impl Print + Threads + Wait + Sync), alloc: Global) -> anyhow::
 }
 
 /// Runs the loop and then the board, each over the same tasks.
-fn main(rt: HostRuntime) -> anyhow::Result<()> {
-    let alloc = rt.alloc();
-    untimed(&rt, alloc)?;
-    let start = Instant::now(&rt)?;
+pub fn timed<R: Print + Eprint + Threads + Clock + Wait + Sync>(
+    rt: &R,
+    alloc: Global,
+) -> anyhow::Result<()> {
+    let start = Instant::now(rt)?;
     let turns = runs::plain_loop(alloc, TASKS, TURNS)?;
-    let took = start.elapsed(&rt)?.as_nanos();
+    let took = start.elapsed(rt)?.as_nanos();
     println!(rt; "loop: {turns} turns")?;
     eprintln!(rt; "loop: {} ns", took)?;
     for workers in WORKERS {
-        let start = Instant::now(&rt)?;
-        let turns = runs::board(&rt, alloc, TASKS, TURNS, workers)?;
-        let took = start.elapsed(&rt)?.as_nanos();
+        let start = Instant::now(rt)?;
+        let turns = runs::board(rt, alloc, TASKS, TURNS, workers)?;
+        let took = start.elapsed(rt)?.as_nanos();
         println!(rt; "board, {workers} workers: {turns} turns")?;
         eprintln!(rt; "board, {} workers: {} ns", workers, took)?;
     }

@@ -1,22 +1,17 @@
 //! How fast two threads pass messages: over the ring of `epoch_link`, over `rtrb`, and through a queue under a lock.
 //!
 //! Standard output tells what a link within one thread and a ring answer, which numbers come over rings of other
-//! capacities and are left in them, and then how many messages came in order;
-//! standard error tells how long they took. An argument is the number of rounds, of which the fastest counts.
-#![tactic(auto)]
+//! capacities and are left in them, and then how many messages came in order.
 
-mod answers;
-mod ends;
-mod numbers;
-
-use ends::{Locked, Sends, Takes};
+use crate::ends::{Locked, Sends, Takes};
+use crate::{answers, numbers};
 use rtrb::RingBuffer;
 use std::alloc::{AllocError, Global};
 use std::collections::VecDeque;
 use std::sync::{Mutex, Wait};
 use std::thread::Threads;
 use std::time::{Clock, Duration, Instant};
-use std::{env, io, thread};
+use std::{io, thread};
 
 const MESSAGES: u64 = 1_000_000;
 
@@ -92,24 +87,28 @@ fn under_lock<R: Threads + Clock + Wait + Sync>(
     pass(rt, Locked { rt, queue }, Locked { rt, queue })
 }
 
-fn main(rt: HostRuntime) -> io::Result<()> {
-    let alloc = rt.alloc();
-    answers::of_list_link(&rt, alloc)?;
-    answers::of_ring(&rt, alloc)?;
-    numbers::pass(&rt, alloc, 3, 10_000, 10_000)?;
-    numbers::pass(&rt, alloc, 16, 10_000, 9_990)?;
-    numbers::pass(&rt, alloc, 1, 1_000, 1_000)?;
-    numbers::pass(&rt, alloc, 65_536, 100_000, 40_000)?;
-    let mut rounds = 1u32;
-    if let Some(word) = env::args(&rt)?.nth(1) {
-        rounds = word.as_str().parse().unwrap_or(1);
-    }
+/// Answers and numbers, which aren't timed.
+pub fn untimed(rt: &(impl Print + Threads), alloc: Global) -> io::Result<()> {
+    answers::of_list_link(rt, alloc)?;
+    answers::of_ring(rt, alloc)?;
+    numbers::pass(rt, alloc, 3, 10_000, 10_000)?;
+    numbers::pass(rt, alloc, 16, 10_000, 9_990)?;
+    numbers::pass(rt, alloc, 1, 1_000, 1_000)?;
+    numbers::pass(rt, alloc, 65_536, 100_000, 40_000)
+}
+
+/// Passes all messages in each of the three ways, in so many rounds.
+pub fn timed<R: Print + Eprint + Threads + Clock + Wait + Sync>(
+    rt: &R,
+    alloc: Global,
+    rounds: u32,
+) -> io::Result<()> {
     let mut fastest = [Duration::MAX; 3];
     for _ in 0..rounds {
         let passed = [
-            over_ring(&rt, alloc)?,
-            over_rtrb(&rt, alloc)?,
-            under_lock(&rt, alloc)?,
+            over_ring(rt, alloc)?,
+            over_rtrb(rt, alloc)?,
+            under_lock(rt, alloc)?,
         ];
         for (best, (in_order, took)) in fastest.iter_mut().zip(&passed) {
             println!(rt; "{in_order} messages in order")?;

@@ -1,7 +1,7 @@
 use Rattle.std.proofs.Common.{◌∙◌, ap, map, arith}
-use Rattle.bench_board.specs.declared.countdown.Countdown.{Countdown}
+use Rattle.bench_shared.specs.declared.countdown.Countdown.{Countdown}
 use Rattle.run_board.proofs.FillOrder.{numbered_push}
-use Rattle.bench_board.proofs.runs.tasks.Goals as goal
+use Rattle.bench_shared.proofs.runs.tasks.Goals as goal
 
 pub loop-number-preserved : goal.loop-number-preserved
 loop-number-preserved c =

@@ -1,7 +1,7 @@
 use Rattle.std.proofs.Common.{◌≡◌, map, length}
 use Rattle.std.specs.List.{range_with_len}
-use Rattle.bench_board.specs.declared.countdown.Countdown.{Countdown}
-use Rattle.bench_board.proofs.runs.tasks.Given as goal
+use Rattle.bench_shared.specs.declared.countdown.Countdown.{Countdown}
+use Rattle.bench_shared.proofs.runs.tasks.Given as goal
 
 abbrev pub invariant-loop-number : goal.invariant-loop-number
 invariant-loop-number l = record {
