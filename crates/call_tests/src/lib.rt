@@ -4,32 +4,40 @@
 #![tactic(auto)]
 
 #[cfg(test)]
-mod assembly;
+mod call_list_tests;
 #[cfg(test)]
-mod calls;
+mod elf_image_tests;
 #[cfg(test)]
-mod cuts;
+mod epoch_cut_tests;
 #[cfg(test)]
-mod flows;
+mod flow_rule_tests;
 #[cfg(test)]
-mod images;
+mod guest_assembler_tests;
 #[cfg(test)]
-mod machine;
+mod instruction_text_tests;
 #[cfg(test)]
-mod nodes;
+mod merge_log_tests;
 #[cfg(test)]
-mod outside;
+mod outer_io_tests;
 #[cfg(test)]
-mod queries;
+mod printed_names_tests;
 #[cfg(test)]
-mod ranges;
+mod query_lang_tests;
 #[cfg(test)]
-mod reports;
+mod range_report_tests;
 #[cfg(test)]
-mod runs;
+mod replay_log_tests;
 #[cfg(test)]
-mod sets;
+mod run_output_tests;
 #[cfg(test)]
-mod texts;
+mod rv_decode_tests;
 #[cfg(test)]
-mod words;
+mod rv_machine_tests;
+#[cfg(test)]
+mod sink_collect_tests;
+#[cfg(test)]
+mod lists_tests;
+#[cfg(test)]
+mod source_ranges_tests;
+#[cfg(test)]
+mod source_runs_tests;

@@ -1,0 +1,149 @@
+//! Reports in runs with the bytes on both sides.
+
+ghost use Rattle.std.specs.Prelude.{◌≡◌};
+
+use crate::source_ranges_tests::BYTES;
+use flow_model::{InnerSink, Loc, SinkByte, SinkPoint, SourceByte};
+use range_report::shown;
+use replay_log::{Log, read_log};
+use sink_collect::{Report, SinkSet, gather};
+use source_ranges::SourceSet;
+use std::alloc::Global;
+use std::process::Abort;
+
+/// A log in version 1, of a program whose digest is zero: "Ab1,Ab2" is read on channel 0 in two reads and "xyz" on channel
+/// 3, and "Ab3 x" is written on channel 1 in two writes and "b" on channel 2.
+const LOG: &[u8] = b"JETLOG1\n\0\0\0\0\0\0\0\0\0\0\0\0\0\0\0\0\0\0\0\0\0\0\0\0\0\0\0\0\0\0\0\0\
+    \x01\0\0\0\x04\0\0\0\
+    \x01\x05\0\0\0\0\0\0\0\0\x01\x01\0\x04\0\0\0\x04\0\0\0Ab1,\
+    \x01\x09\0\0\0\x03\0\0\0\0\x02\x01\0\x08\0\0\0\x03\0\0\0xyz\
+    \x01\x0b\0\0\0\0\0\0\0\0\x01\x01\0\x04\0\0\0\x03\0\0\0Ab2\
+    \x02\x13\0\0\0\x01\0\0\0\0\x01\x01\0\x02\0\0\0\x02\0\0\0Ab\
+    \x02\x15\0\0\0\x02\0\0\0\0\x02\x01\0\x01\0\0\0\x01\0\0\0b\
+    \x02\x17\0\0\0\x01\0\0\0\0\x01\x01\0\x03\0\0\0\x03\0\0\03 x\
+    \x05\x19\0\0\0\x2c\x01\0\0";
+
+/// The first byte of channel 3.
+const OTHER: SourceByte = SourceByte {
+    channel: 3,
+    offset: 0,
+};
+
+/// Where a row came from.
+#[derive(Clone, Copy)]
+enum From {
+    Nothing,
+    /// The byte of this offset of channel 0.
+    One(u32),
+    /// Offsets 2, 3 and 6 of channel 0.
+    Three,
+    /// That of channel 3.
+    Other,
+}
+
+/// The source bytes that a row came from.
+fn sources(rt: &impl Abort, alloc: Global, from: From) -> SourceSet {
+    let set = match from {
+        From::Nothing => SourceSet::of(alloc, &[]),
+        From::One(offset) => SourceSet::of(alloc, &[SourceByte { channel: 0, offset }]),
+        From::Three => SourceSet::of(alloc, &BYTES[..3]),
+        From::Other => SourceSet::of(alloc, &[OTHER]),
+    };
+    set.expect(rt, "memory")
+}
+
+/// The set of an output byte or a point.
+fn set(rt: &impl Abort, alloc: Global, sink: SinkPoint, from: From) -> SinkSet
+    ensures { result.sink ≡ sink }
+{
+    SinkSet::new(sink, sources(rt, alloc, from))
+}
+
+/// The output bytes of channel 1, and the first of channel 2.
+const OUT: [SinkPoint; 6] = [
+    SinkPoint::Out(SinkByte {
+        channel: 1,
+        offset: 0,
+    }),
+    SinkPoint::Out(SinkByte {
+        channel: 1,
+        offset: 1,
+    }),
+    SinkPoint::Out(SinkByte {
+        channel: 1,
+        offset: 2,
+    }),
+    SinkPoint::Out(SinkByte {
+        channel: 1,
+        offset: 3,
+    }),
+    SinkPoint::Out(SinkByte {
+        channel: 1,
+        offset: 4,
+    }),
+    SinkPoint::Out(SinkByte {
+        channel: 2,
+        offset: 0,
+    }),
+];
+
+/// The last byte of x10 after six steps.
+const LANE: SinkPoint = SinkPoint::At(InnerSink {
+    time: 6,
+    loc: Loc::Reg {
+        number: 10,
+        lane: 3,
+    },
+});
+
+/// A byte of memory at the same time.
+const PLACE: SinkPoint = SinkPoint::At(InnerSink {
+    time: 6,
+    loc: Loc::Mem { place: 65792 },
+});
+
+/// Moved bytes, one from three, one without a source, one from another channel, one on another channel, and points.
+fn all_kinds(rt: &impl Abort, alloc: Global) -> Report {
+    let sets = vec![in alloc;
+        set(rt, alloc, OUT[0], From::One(4)),
+        set(rt, alloc, OUT[1], From::One(5)),
+        set(rt, alloc, OUT[2], From::Three),
+        set(rt, alloc, OUT[3], From::Nothing),
+        set(rt, alloc, OUT[4], From::Other),
+        set(rt, alloc, OUT[5], From::One(5)),
+        set(rt, alloc, LANE, From::Three),
+        set(rt, alloc, PLACE, From::Nothing),
+    ];
+    gather(alloc, sets.expect(rt, "memory")).expect(rt, "memory")
+}
+
+/// Two bytes from the same three, and one that was changed on the way.
+fn shared_and_changed(rt: &impl Abort, alloc: Global) -> Report {
+    let sets = vec![in alloc;
+        set(rt, alloc, OUT[0], From::Three),
+        set(rt, alloc, OUT[1], From::Three),
+        set(rt, alloc, OUT[2], From::One(6)),
+    ];
+    gather(alloc, sets.expect(rt, "memory")).expect(rt, "memory")
+}
+
+/// A report in runs has this text.
+fn assert_shown(rt: &impl Abort, alloc: Global, log: &Log, report: &Report, lines: &str) {
+    let text = shown(alloc, report, log).expect(rt, "memory");
+    assert_eq!(rt; text.as_slice(), lines.as_bytes());
+}
+
+#[test]
+fn rows_are_told_in_runs(rt: HostRuntime) {
+    let alloc = rt.alloc();
+    let log = read_log(alloc, LOG).expect(&rt, "a log");
+    let lines = "1:0-2 \"Ab\" = 0:4-6 \"Ab\"\n\
+        1:2-3 \"3\" < 0:2-4 \"1,\" 0:6-7 \"2\"\n\
+        1:4-5 \"x\" = 3:0-1 \"x\"\n\
+        2:0-1 \"b\" = 0:5-6 \"b\"\n\
+        r:10.3@6 < 0:2-4 \"1,\" 0:6-7 \"2\"\n\
+        end 5 2\n";
+    assert_shown(&rt, alloc, &log, &all_kinds(&rt, alloc), lines);
+    let lines = "1:0-2 \"Ab\" < 0:2-4 \"1,\" 0:6-7 \"2\"\n1:2-3 \"3\" ~ 0:6-7 \"2\"\nend 2 0\n";
+    assert_shown(&rt, alloc, &log, &shared_and_changed(&rt, alloc), lines);
+}

@@ -1,0 +1,192 @@
+//! Rows as text: in order, turned round, and of what a query chooses; the text in pieces.
+
+ghost use Rattle.std.specs.Prelude.{◌≡◌};
+ghost use Rattle.report_model.specs.Text.{report_text};
+
+use flow_model::{InnerSink, Loc, SinkByte, SinkPoint, SourceByte};
+use outer_io::{Buffer, InPieces, MemorySink, Pieces, write_in_pieces};
+use query_lang::{Query, parse};
+use sink_collect::{
+    Report, SinkSet, gather, influence_text, put_influence, put_numbered, put_text, text,
+    turn_round,
+};
+use source_ranges::SourceSet;
+use std::alloc::Global;
+use std::process::Abort;
+
+/// The set of an output byte or a point, with one source byte on each of the channels 0 and 15, or with none.
+fn set(rt: &impl Abort, alloc: Global, sink: SinkPoint, source: Option<u32>) -> SinkSet
+    ensures { result.sink ≡ sink }
+{
+    let last = SourceByte {
+        channel: 15,
+        offset: 2,
+    };
+    let sources = match source {
+        Some(offset) => SourceSet::of(alloc, &[SourceByte { channel: 0, offset }, last]),
+        None => SourceSet::of(alloc, &[]),
+    };
+    SinkSet::new(sink, sources.expect(rt, "memory"))
+}
+
+const EARLY: SinkPoint = SinkPoint::Out(SinkByte {
+    channel: 1,
+    offset: 70000,
+});
+
+const NINTH: SinkPoint = SinkPoint::Out(SinkByte {
+    channel: 2,
+    offset: 9,
+});
+
+const TENTH: SinkPoint = SinkPoint::Out(SinkByte {
+    channel: 2,
+    offset: 10,
+});
+
+/// The last byte of x10 after six steps.
+const LANE: SinkPoint = SinkPoint::At(InnerSink {
+    time: 6,
+    loc: Loc::Reg {
+        number: 10,
+        lane: 3,
+    },
+});
+
+/// A byte of memory at the same time.
+const PLACE: SinkPoint = SinkPoint::At(InnerSink {
+    time: 6,
+    loc: Loc::Mem { place: 65792 },
+});
+
+/// The report of five sets that come in another order.
+fn report(rt: &impl Abort, alloc: Global) -> Report {
+    let sets = vec![in alloc;
+        set(rt, alloc, PLACE, Some(7)),
+        set(rt, alloc, TENTH, Some(4294967295)),
+        set(rt, alloc, LANE, None),
+        set(rt, alloc, NINTH, None),
+        set(rt, alloc, EARLY, Some(7)),
+    ];
+    gather(alloc, sets.expect(rt, "memory")).expect(rt, "memory")
+}
+
+/// The report has this text.
+fn assert_text(rt: &impl Abort, alloc: Global, report: &Report, lines: &str) {
+    let written = text(alloc, report).expect(rt, "memory");
+    assert_eq!(rt; written.as_slice(), lines.as_bytes());
+}
+
+/// The output bytes come first, by channel and then offset.
+#[test]
+fn rows_come_in_their_order(rt: HostRuntime) {
+    let report = report(&rt, rt.alloc());
+    assert_eq!(rt; report.lines(), 5);
+    assert_eq!(rt; report.pairs(), 6);
+    let lines =
+        "1:70000 0:7 15:2\n2:9\n2:10 0:4294967295 15:2\nr:10.3@6\nm:65792@6 0:7 15:2\nend 5\n";
+    assert_text(&rt, rt.alloc(), &report, lines);
+}
+
+/// The bytes 7 and 8 of channel 0, and byte 2 of channel 15: two ranges, of which the rows cut the first.
+fn chosen(rt: &impl Abort, alloc: Global) -> SourceSet {
+    let bytes = [
+        SourceByte {
+            channel: 0,
+            offset: 7,
+        },
+        SourceByte {
+            channel: 0,
+            offset: 8,
+        },
+        SourceByte {
+            channel: 15,
+            offset: 2,
+        },
+    ];
+    SourceSet::of(alloc, &bytes).expect(rt, "memory")
+}
+
+#[test]
+fn rows_are_turned_round(rt: HostRuntime) {
+    let alloc = rt.alloc();
+    let report = report(&rt, alloc);
+    let influence = turn_round(alloc, &report, &chosen(&rt, alloc)).expect(&rt, "memory");
+    assert_eq!(rt; influence.lines(), 3);
+    let lines = influence_text(alloc, &influence).expect(&rt, "memory");
+    assert_eq!(rt;
+        lines.as_slice(),
+        b"0:7 1:70000 m:65792@6\n0:8\n15:2 1:70000 2:10 m:65792@6\nend 3\n".as_slice()
+    );
+    let mut out = Vec::new(alloc);
+    put_numbered(&mut out, b"query ", 16).expect(&rt, "memory");
+    put_influence(&mut out, &influence).expect(&rt, "memory");
+    assert_eq!(rt;
+        out.as_slice(),
+        b"query 16\n0:7 1:70000 m:65792@6\n0:8\n15:2 1:70000 2:10 m:65792@6\nend 3\n".as_slice()
+    );
+}
+
+/// What a query chooses of the report has this text.
+fn assert_only(rt: &impl Abort, alloc: Global, report: &Report, query: &Query, lines: &str) {
+    let chosen = report.only(alloc, query).expect(rt, "memory");
+    assert_text(rt, alloc, &chosen, lines);
+}
+
+#[test]
+fn a_query_has_its_own_rows(rt: HostRuntime) {
+    let alloc = rt.alloc();
+    let report = report(&rt, alloc);
+    let query = parse(
+        alloc,
+        b"rule copy\nsource 0\nsink 1\nsink 2 0 10\nsink mem 65792 2 at 6\n",
+    )
+    .expect(&rt, "a query");
+    let lines = "1:70000 0:7\n2:9\nm:65792@6 0:7\nend 3\n";
+    assert_only(&rt, alloc, &report, &query, lines);
+}
+
+/// A report, of which the text is put in pieces.
+#[derive(Drop)]
+struct Lines {
+    report: Report,
+}
+
+impl InPieces for Lines {
+    ghost text = { λ l. report_text l.report };
+
+    fn put_to<P: Pieces>(&self, place: &mut P) -> Result<(), P::Fault> {
+        put_text(place, &self.report)
+    }
+}
+
+/// How many bytes a buffer holds: none, less than a name, less than a line, and the whole text.
+const ROOMS: &[usize] = &[0, 1, 3, 16, 31, 4096];
+
+/// Through a buffer of this room, to a sink that takes seven bytes a call and fails at this one, the text is written up to there.
+fn assert_pieces(rt: &impl Abort, alloc: Global, lines: &Lines, room: usize, failing: u64) {
+    let whole = text(alloc, &lines.report).expect(rt, "memory");
+    let failing = [failing].as_slice().to_vec(alloc).expect(rt, "memory");
+    let mut sink = MemorySink::new(alloc, failing, 7, 4096).expect(rt, "memory");
+    let buffer = Buffer::new(alloc, room).expect(rt, "memory");
+    let written = write_in_pieces(&mut sink, buffer, lines);
+    if written.is_ok() {
+        assert_eq!(rt; sink.bytes(), whole.as_slice());
+    } else {
+        assert!(rt; sink.bytes().len() < whole.len());
+        assert!(rt; whole.as_slice().starts_with(sink.bytes()));
+    }
+}
+
+#[test]
+fn a_text_is_written_in_pieces(rt: HostRuntime) {
+    let alloc = rt.alloc();
+    let lines = Lines {
+        report: report(&rt, alloc),
+    };
+    for room in ROOMS {
+        for failing in 0..40 {
+            assert_pieces(&rt, alloc, &lines, *room, failing);
+        }
+    }
+}

@@ -1,0 +1,75 @@
+//! Runs of source bytes.
+
+use flow_model::SourceByte;
+use source_runs::{SourceRun, settle};
+use std::alloc::Global;
+use std::process::Abort;
+
+/// Channels and offsets of bytes, in no order: 4 to 6 and 9 of channel 0, some of them twice, and 7 of channel 1.
+const BYTES: &[(u8, u32)] = &[(0, 6), (1, 7), (0, 4), (0, 9), (0, 5), (0, 4), (1, 7)];
+
+/// The runs of these bytes, each of one byte.
+fn runs(rt: &impl Abort, alloc: Global, bytes: &[(u8, u32)]) -> Vec<SourceRun> {
+    let mut runs = Vec::new(alloc);
+    for (channel, offset) in bytes {
+        let byte = SourceByte {
+            channel: *channel,
+            offset: *offset,
+        };
+        runs.push(SourceRun::of_byte(byte)).expect(rt, "memory");
+    }
+    runs
+}
+
+#[test]
+fn runs_in_any_order_are_a_set(rt: HostRuntime) {
+    let alloc = rt.alloc();
+    let mut spare = Vec::new(alloc);
+    let mut all = runs(&rt, alloc, BYTES);
+    settle(&mut all, &mut spare).expect(&rt, "memory");
+    let mut sorted = runs(&rt, alloc, &[(0, 4), (0, 5), (0, 6), (0, 9), (1, 7)]);
+    settle(&mut sorted, &mut spare).expect(&rt, "memory");
+    assert_eq!(rt; all.len(), 3);
+    assert!(rt; all.as_slice() == sorted.as_slice());
+}
+
+pub const UP_TO_3: SourceRun = SourceRun {
+    channel: 0,
+    first: 1,
+    last: 3,
+};
+
+pub const FROM_3: SourceRun = SourceRun {
+    channel: 0,
+    first: 3,
+    last: 4,
+};
+
+const UP_TO_4: SourceRun = SourceRun {
+    channel: 0,
+    first: 1,
+    last: 4,
+};
+
+const LATER: SourceRun = SourceRun {
+    channel: 0,
+    first: 6,
+    last: 6,
+};
+
+const OTHER_CHANNEL: SourceRun = SourceRun {
+    channel: 1,
+    first: 7,
+    last: 9,
+};
+
+#[test]
+fn runs_settle_to_those_of_their_bytes(rt: HostRuntime) {
+    let alloc = rt.alloc();
+    let mut runs = Vec::new(alloc);
+    for run in [LATER, FROM_3, OTHER_CHANNEL, UP_TO_3] {
+        runs.push(run).expect(&rt, "memory");
+    }
+    settle(&mut runs, &mut Vec::new(alloc)).expect(&rt, "memory");
+    assert_eq!(rt; runs.as_slice(), [UP_TO_4, LATER, OTHER_CHANNEL].as_slice());
+}
