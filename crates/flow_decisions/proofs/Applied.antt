@@ -24,7 +24,7 @@ use Rattle.flow_meaning.proofs.Never.{no}
 use Rattle.decision_model.specs.Decisions.{Decision}
 use Rattle.decision_model.specs.Text.{decided_by}
 use Rattle.flow_decisions.specs.DecisionLaws.{NoneDiffers, IsUndecided, AreAlikeBut}
-use Rattle.flow_decisions.specs.Recordings.{AreSettingsAlike}
+use Rattle.flow_decisions.specs.Recordings.{AreSettingsAlike, AreAnswersAlike}
 use Rattle.flow_decisions.proofs.Worked.{all_below, a_transfer, all, byte_in, doubling_start, doubled, first_doubled, second_doubled}
 use Rattle.flow_decisions.proofs.Both.{path_is_same, contents_are_same}
 use Rattle.flow_decisions.proofs.Recordings.{recordings_are_alike}
@@ -175,5 +175,14 @@ unfolding first_recorded
 nothing_decided = refl
 
 alike : AreAlikeBut compute_query second_byte first_recorded.fits.start (copied 0x42) (copied 0x58)
-alike = recordings_are_alike (setting 0x42) (setting 0x58) [] (copied 0x42) (copied 0x58) second_byte settings_alike (all_below 256 copy_four refl) first_recorded second_recorded compute_query refl
+alike = recordings_are_alike (setting 0x42) (setting 0x58) [] [] (copied 0x42) (copied 0x58) second_byte settings_alike (all_below 256 copy_four refl) tt first_recorded second_recorded compute_query refl
     (λ z e. no e) (subst (λ (ds : List Decision). All (λ d. NoneDiffers second_byte d.sources) ds) (sym nothing_decided) (All-from_recursion (λ (d : Decision). NoneDiffers second_byte d.sources) [] tt))
+
+-- ---- the clock
+
+-- a recording may ask it more often than the other
+asked_once_more : AreAnswersAlike (5 ∷ []) (5 ∷ 7 ∷ [])
+asked_once_more = (refl, tt)
+
+answered_otherwise : AreAnswersAlike (5 ∷ 7 ∷ []) (5 ∷ 8 ∷ []) → ⊥
+answered_otherwise h = omega (arith, h.1.0)

@@ -29,7 +29,7 @@ use Rattle.flow_meaning.proofs.Done.{done_at}
 use Rattle.flow_meaning.proofs.Steps.{Does, Plain, Calls, does}
 use Rattle.flow_decisions.specs.Environments.{BytesAlike, SameAnswers}
 use Rattle.flow_decisions.specs.DecisionLaws.{AreRuns}
-use Rattle.flow_decisions.specs.Recordings.{AreSettingsAlike, RecordingsAreAlike}
+use Rattle.flow_decisions.specs.Recordings.{AreSettingsAlike, AreAnswersAlike, RecordingsAreAlike}
 use Rattle.flow_decisions.proofs.Windows.{SameWindow, window_at}
 use Rattle.flow_decisions.proofs.Alike.{left_after}
 use Rattle.flow_decisions.proofs.Together.{moved_by}
@@ -192,7 +192,7 @@ module _ (differs : SourceByte → Bool) (x y : Setting) (alike : AreSettingsAli
       let rest = bytes_compared 0 bytes (bytes_at state (reg state 11) (length bytes)) in
       (first_agrees compared rest (rest_agrees (arguments state args) (compared ∷ rest) lawful)).0
 
-  answers_from : (rs qs before others : List CallRecord) → AreLawful a_inputs s rs → AreLawful b_inputs s qs → AllReadNext x.inputs x.piece before rs → AllReadNext y.inputs y.piece others qs → clock_values rs ≡ clock_values qs → AsMuch before others → SameAnswers differs before rs qs
+  answers_from : (rs qs before others : List CallRecord) → AreLawful a_inputs s rs → AreLawful b_inputs s qs → AllReadNext x.inputs x.piece before rs → AllReadNext y.inputs y.piece others qs → AreAnswersAlike (clock_values rs) (clock_values qs) → AsMuch before others → SameAnswers differs before rs qs
   answers_from [] qs before others la lb na nb clock much = tt
   answers_from (r ∷ rs) [] before others la lb na nb clock much = tt
   answers_from (Read at args result bytes ∷ rs) (Read at1 args1 result1 bytes1 ∷ qs) before others la lb na nb clock much = λ asks.
@@ -223,13 +223,11 @@ module _ (differs : SourceByte → Bool) (x y : Setting) (alike : AreSettingsAli
             (as_much_after before others (Write at args result bytes) (Write at1 args1 result1 bytes1) much
             (λ c. kept_as_much (channel_of args == c) [] [] refl ∙ ap (λ (xs : List ℕ). length (kept_if (channel_of xs == c) [])) asks.1)),
       )
-  answers_from (Clock at value ∷ rs) (Clock at1 value1 ∷ qs) before others la lb na nb clock much = λ asks.
-      let first : value ≡ value1 = cc in
-      let rest : clock_values rs ≡ clock_values qs = cc in (
-        first,
-        answers_from rs qs (before ++ Clock at value ∷ []) (others ++ Clock at1 value1 ∷ []) la.1 lb.1 na.1 nb.1 rest
-            (as_much_after before others (Clock at value) (Clock at1 value1) much (λ c. refl)),
-      )
+  answers_from (Clock at value ∷ rs) (Clock at1 value1 ∷ qs) before others la lb na nb clock much = λ asks. (
+    clock.0,
+    answers_from rs qs (before ++ Clock at value ∷ []) (others ++ Clock at1 value1 ∷ []) la.1 lb.1 na.1 nb.1 clock.1
+        (as_much_after before others (Clock at value) (Clock at1 value1) much (λ c. refl)),
+  )
   answers_from (Other at number ∷ rs) (Other at1 number1 ∷ qs) before others la lb na nb clock much = λ asks. (
     tt,
     answers_from rs qs (before ++ Other at number ∷ []) (others ++ Other at1 number1 ∷ []) la.1 lb.1 na.1 nb.1 clock
@@ -254,7 +252,7 @@ program_fits : (p r : List ℕ) (log : Log) → p ≡ r → Fits r log → Fits 
 program_fits p r log e f = subst (λ (w : List ℕ). Fits w log) (sym e) f
 
 pub recordings_are_alike : RecordingsAreAlike
-recordings_are_alike x y answers a b differs alike bytes first second q is chosen none =
+recordings_are_alike x y answers others a b differs alike bytes clock first second q is chosen none =
     let fits_too = program_fits x.program y.program b alike.program second.fits in
     let pages = first.has_pages ∙ alike.pages ∙ sym second.has_pages in
     let runs : AreRuns x.program a b = record { bytes = bytes; first = first.is_log; second = second.is_log; fits = first.fits; fits_too = fits_too; pages = pages } in
@@ -262,5 +260,6 @@ recordings_are_alike x y answers a b differs alike bytes first second q is chose
     let run_a = fits_makes_run x.program a bytes first.is_log first.fits in
     let run_b : IsRun b s = subst (IsRun b) (begins_alike x.program a b runs) (fits_makes_run x.program b bytes second.is_log fits_too) in
     let inputs : a.inputs ≡ b.inputs = first.has_channels ∙ alike.channels ∙ sym second.has_channels in
-    let same = answers_from differs x y alike s a.inputs b.inputs inputs a.records b.records [] [] (all_lawful a s run_a) (all_lawful b s run_b) first.reads_inputs second.reads_inputs (first.has_answers ∙ sym second.has_answers) (λ c. refl) in
+    let heard : AreAnswersAlike (clock_values a.records) (clock_values b.records) = rw (first.has_answers, second.has_answers) clock in
+    let same = answers_from differs x y alike s a.inputs b.inputs inputs a.records b.records [] [] (all_lawful a s run_a) (all_lawful b s run_b) first.reads_inputs second.reads_inputs heard (λ c. refl) in
     no_influence x.program a b runs q differs is chosen none same x.steps first.ends_within (subst (λ (n : ℕ). EndsWithin n b.end) (sym alike.steps) second.ends_within)

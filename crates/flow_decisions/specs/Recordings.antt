@@ -1,5 +1,5 @@
 -- Two recordings of one program, over inputs that differ at some bytes.
-use Rattle.std.specs.Prelude.{◌≡◌, ℕ, Bool, false, List, length, slice_index, All}
+use Rattle.std.specs.Prelude.{◌≡◌, ℕ, Bool, false, List, [], ◌∷◌, length, slice_index, All}
 use Rattle.log_model.specs.Logs.{Log, IsBytes}
 use Rattle.flow_model.specs.declared.Rule.TheVariants.{Compute}
 use Rattle.flow_model.specs.declared.SourceByte.{SourceByte}
@@ -20,13 +20,19 @@ pub record AreSettingsAlike (differs : SourceByte → Bool) (x y : Setting) : Ty
   pub piece : x.piece ≡ y.piece
   pub steps : x.steps ≡ y.steps
 
--- a program is recorded twice, and the clock gave the same answers. Where none of the decisions that a query lists of the
--- first run comes from an input byte that differs, and the query chooses all that differs, the runs are the same but for
--- the rows that, by the rule of decisions, list such a byte
+-- two lists of the clock's answers are alike as far as both go
+abbrev pub AreAnswersAlike : List ℕ → List ℕ → Type 0
+AreAnswersAlike [] others = Unit {0}
+AreAnswersAlike (v ∷ vs) [] = Unit {0}
+AreAnswersAlike (v ∷ vs) (w ∷ ws) = (v ≡ w) × AreAnswersAlike vs ws
+
+-- a program is recorded twice, and the clock answers the same as far as both ask it. Where none of the decisions that a query
+-- lists of the first run comes from an input byte that differs, and the query chooses all that differs, the runs are the same
+-- but for the rows that, by the rule of decisions, list such a byte
 abbrev pub RecordingsAreAlike : Type 0
-RecordingsAreAlike = (x y : Setting) (answers : List ℕ) (a b : Log) (differs : SourceByte → Bool)
-    → AreSettingsAlike differs x y → IsBytes x.program
-    → (recorded : IsRecorded x answers a) → IsRecorded y answers b → (q : Query) → deciding_rule q.rule ≡ Compute
+RecordingsAreAlike = (x y : Setting) (answers others : List ℕ) (a b : Log) (differs : SourceByte → Bool)
+    → AreSettingsAlike differs x y → IsBytes x.program → AreAnswersAlike answers others
+    → (recorded : IsRecorded x answers a) → IsRecorded y others b → (q : Query) → deciding_rule q.rule ≡ Compute
     → ((z : SourceByte) → has_source q z ≡ false → differs z ≡ false)
     → All (λ d. NoneDiffers differs d.sources) (decided_by q recorded.fits.start a)
     → AreAlikeBut (deciding_query q) differs recorded.fits.start a b
