@@ -16,6 +16,8 @@ mod guest_assembler_tests;
 #[cfg(test)]
 mod instruction_text_tests;
 #[cfg(test)]
+mod lists_tests;
+#[cfg(test)]
 mod merge_log_tests;
 #[cfg(test)]
 mod outer_io_tests;
@@ -35,8 +37,6 @@ mod rv_decode_tests;
 mod rv_machine_tests;
 #[cfg(test)]
 mod sink_collect_tests;
-#[cfg(test)]
-mod lists_tests;
 #[cfg(test)]
 mod source_ranges_tests;
 #[cfg(test)]
