@@ -1,5 +1,5 @@
 -- Rows, one by one.
-use Rattle.std.proofs.Common.{◌≡◌, ℕ, zero, suc, ◌+◌, ◌-◌, ◌<◌, List, [], ◌∷◌, ◌++◌, map, take, length, get_or, slice_get, ◌==◌, true, Bor, refl, ap, ap₂, sym, arith, ◌∙◌}
+use Rattle.std.proofs.Common.{◌≡◌, ℕ, zero, suc, ◌-◌, ◌<◌, List, [], ◌∷◌, map, take, length, get_or, slice_get, ◌==◌, true, Bor, refl, ap, ap₂, sym, arith, ◌∙◌}
 use Rattle.std.specs.Prelude.{Option, Some, None, IfSome}
 use Rattle.std.specs.Option.{option_copied, option_map}
 use Rattle.std.proofs.lemmas.Grind.{common_steps}
@@ -16,13 +16,6 @@ use Rattle.epoch_model.specs.Join.{resolved, resolved_row}
 pub none_in : {X : Type 0} (xs : List X) → (length xs == 0) ≡ true → xs ≡ []
 none_in [] e = refl
 none_in (x ∷ xs) e = absurd (grind (arith, common_steps))
-
-pub take_next : {X : Type 0} (xs : List X) (i : ℕ) (x : X) → slice_get xs i ≡ Some x → take (i + 1) xs ≡ take i xs ++ x ∷ []
-take_next [] i x e = cc
-take_next (y ∷ ys) zero x e = let same : y ≡ x = cc in ap (λ z. z ∷ []) same
-take_next (y ∷ ys) (suc i) x e =
-    let n : suc i + 1 ≡ suc (i + 1) = omega arith in
-    ap (λ (k : ℕ). take k (y ∷ ys)) n ∙ ap (λ zs. y ∷ zs) (take_next ys i x e)
 
 -- the row of a sink, by its name and the source bytes of its terms
 pub row_at : (before : Loc → List SourceByte) (ks : List SinkTerms) (i : ℕ) (p : SinkPoint) (sources : List SourceByte)

@@ -4,14 +4,15 @@ use Rattle.std.specs.List.{AllByRecursion, IsDistinct, All}
 use Rattle.std.specs.Ordering.{eq_by_cmp}
 use Rattle.std.proofs.lemmas.Map.Keys.{IsDistinct-head, IsDistinct-tail}
 use Rattle.std.proofs.lemmas.List.Elements.{recursion_from_All}
+use Rattle.std.proofs.lemmas.Cmp.{eq_by_cmp_equiv}
 use Rattle.flow_model.specs.declared.Loc.{Loc}
 use Rattle.flow_model.specs.declared.SourceByte.{SourceByte}
 use Rattle.flow_model.specs.Orders.{loc_cmp, source_cmp}
-use Rattle.flow_model.proofs.Orders.{loc_same}
+use Rattle.flow_model.proofs.Orders.{loc_same, loc_total}
 use Rattle.lists.specs.Sets.{Ascends, has}
 use Rattle.lists.proofs.Algebra.{tied_by}
 use Rattle.epoch_model.specs.Join.{answer_to}
-use Rattle.epoch_model.proofs.Adding.{loc_itself}
+use Rattle.epoch_model.proofs.Adding.{Ascends-answer}
 
 pub all_at : (P : Loc → Type 0) (ls : List Loc) (i : ℕ) (l : Loc) → AllByRecursion P ls → slice_get ls i ≡ Some l → P l
 all_at P [] i l a e = cc
@@ -34,7 +35,7 @@ answer_at [] answers i l d e = cc
 answer_at (m ∷ ms) [] i l d e = refl
 answer_at (m ∷ ms) (a ∷ rest) zero l d e =
     let same : m ≡ l = cc in
-    ap (λ (b : Bool). cond b a (answer_to ms rest l)) (subst (λ (k : Loc). eq_by_cmp loc_cmp l k ≡ true) (sym same) (loc_itself l))
+    ap (λ (b : Bool). cond b a (answer_to ms rest l)) (subst (λ (k : Loc). eq_by_cmp loc_cmp l k ≡ true) (sym same) ((eq_by_cmp_equiv loc_total).refl l))
 answer_at (m ∷ ms) (a ∷ rest) (suc i) l d e =
     by (all_at (λ k. eq_by_cmp loc_cmp m k ≡ false) ms i l (IsDistinct-head (eq_by_cmp loc_cmp) m ms d) e) (eq_by_cmp loc_cmp l m) refl
     (answer_at ms rest i l (IsDistinct-tail (eq_by_cmp loc_cmp) m ms d) e) where
@@ -42,17 +43,9 @@ answer_at (m ∷ ms) (a ∷ rest) (suc i) l d e =
       by apart true same ih =
           let alike : l ≡ m = loc_same l m (tied_by (loc_cmp l m) same) in
           let clash : eq_by_cmp loc_cmp m m ≡ false = subst (λ (k : Loc). eq_by_cmp loc_cmp m k ≡ false) alike apart in
-          let itself = loc_itself m in
+          let itself = (eq_by_cmp_equiv loc_total).refl m in
           cc
       by apart false other ih = ih
-
-Ascends-answer : (asked : List Loc) (answers : List (List SourceByte)) (l : Loc) → AllByRecursion (Ascends source_cmp) answers → Ascends source_cmp (answer_to asked answers l)
-Ascends-answer [] answers l h = tt
-Ascends-answer (m ∷ ms) [] l h = tt
-Ascends-answer (m ∷ ms) (a ∷ rest) l h = by (Ascends-answer ms rest l h.1) (eq_by_cmp loc_cmp l m) where
-  by : Ascends source_cmp (answer_to ms rest l) → (b : Bool) → Ascends source_cmp (cond b a (answer_to ms rest l))
-  by ih true = h.0
-  by ih false = ih
 
 -- where all answers ascend, each does
 pub ascends_answer : (asked : List Loc) (answers : List (List SourceByte)) → All (Ascends source_cmp) answers → (l : Loc) → Ascends source_cmp (answer_to asked answers l)

@@ -2,12 +2,12 @@
 use Rattle.std.proofs.Common.{◌≡◌, List, [], ◌++◌, refl, ap, sym, subst, ◌∙◌, Bool, true, false, ◌||◌}
 use Rattle.std.specs.Ordering.{eq_by_cmp}
 use Rattle.std.proofs.lemmas.List.Folds.{list_any-append}
+use Rattle.std.proofs.Math.Bool.{or_assoc}
 use Rattle.flow_model.specs.declared.SourceByte.{SourceByte}
 use Rattle.flow_model.specs.Orders.{source_cmp}
 use Rattle.flow_model.proofs.Orders.{source_total}
 use Rattle.lists.specs.Sets.{Ascends, has, union, is_within}
 use Rattle.lists.proofs.Algebra.{Ascends-union, has-union, union-within}
-use Rattle.epoch_model.proofs.AnyOf.{or_grouped}
 use Rattle.answer_sets.proofs.Members.{compared, order_is, members_by}
 
 or_swapped : (a b c : Bool) → ((a || b) || c) ≡ ((a || c) || b)
@@ -63,7 +63,7 @@ pub waiting_more : (merged waiting bytes : List SourceByte) (b : SourceByte)
 waiting_more merged waiting bytes b =
     has-both merged (waiting ++ bytes) b
     ∙ ap (λ (c : Bool). has source_cmp b merged || c) (has-both waiting bytes b)
-    ∙ or_grouped (has source_cmp b merged) (has source_cmp b waiting) (has source_cmp b bytes)
+    ∙ sym (or_assoc (has source_cmp b merged) (has source_cmp b waiting) (has source_cmp b bytes))
     ∙ ap (λ (c : Bool). c || has source_cmp b bytes) (sym (has-both merged waiting b))
 
 -- nothing waits any more

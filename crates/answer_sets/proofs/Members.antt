@@ -4,6 +4,7 @@ use Rattle.std.specs.List.{list_any}
 use Rattle.std.specs.Ordering.{eq_by_cmp}
 use Rattle.std.specs.declared.cmp.Ordering.{Ordering}
 use Rattle.std.proofs.lemmas.List.Folds.{list_any_more}
+use Rattle.std.proofs.Math.Bool.{or_assoc}
 use Rattle.flow_model.specs.declared.Loc.{Loc}
 use Rattle.flow_model.specs.declared.SourceByte.{SourceByte}
 use Rattle.flow_model.specs.Orders.{source_cmp}
@@ -15,7 +16,7 @@ use Rattle.lists.specs.Sets.{Ascends, has}
 use Rattle.lists.proofs.Algebra.{Ascends-union, has-union, same_list}
 use Rattle.epoch_model.specs.Summary.{Terms}
 use Rattle.epoch_model.specs.Join.{resolved}
-use Rattle.epoch_model.proofs.AnyOf.{any_union_over, or_grouped}
+use Rattle.epoch_model.proofs.AnyOf.{any_union_over}
 
 -- ---- the order in which the code compares source bytes
 
@@ -55,7 +56,7 @@ pub among_more : (before : Loc → List SourceByte) (sources : List SourceByte) 
     → among before sources (take (i + 1) starts) b ≡ (among before sources (take i starts) b || has source_cmp b (before (get_or starts i d)))
 among_more before sources starts b i d h =
     ap (λ (c : Bool). has source_cmp b sources || c) (list_any_more (λ l. has source_cmp b (before l)) starts i d h)
-    ∙ or_grouped (has source_cmp b sources) (list_any (λ l. has source_cmp b (before l)) (take i starts)) (has source_cmp b (before (get_or starts i d)))
+    ∙ sym (or_assoc (has source_cmp b sources) (list_any (λ l. has source_cmp b (before l)) (take i starts)) (has source_cmp b (before (get_or starts i d))))
 
 has-resolved : (before : Loc → List SourceByte) (t : Terms) (b : SourceByte) → has source_cmp b (resolved before t) ≡ among before t.sources t.starts b
 has-resolved before t b =

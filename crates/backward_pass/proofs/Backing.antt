@@ -3,6 +3,7 @@ use Rattle.std.proofs.Common.{◌≡◌, inl, inr, ℕ, zero, suc, ◌+◌, ◌^
 use Rattle.std.specs.Prelude.{Option, Some, None, IfNone}
 use Rattle.std.proofs.lemmas.List.{map-append}
 use Rattle.std.proofs.lemmas.List.Elements.{All-push}
+use Rattle.lists.proofs.Tests.{true-false}
 use Rattle.flow_model.specs.declared.Loc.{Loc}
 use Rattle.flow_rule.specs.declared.Message.{Message}
 use Rattle.flow_rule.specs.declared.Message.TheVariants.{Ask, Byte, Close, End}
@@ -13,7 +14,6 @@ use Rattle.stream_model.specs.Schedules.{begun, whole_asking_need, asking_need_b
 use Rattle.stream_model.specs.Schedules as need
 use Rattle.stream_model.proofs.Growing.{requests_more}
 use Rattle.stream_model.proofs.Moving.{ended_after}
-use Rattle.stream_model.proofs.Passing.{no}
 use Rattle.pass_parts.specs.declared.pass_turn.PassTurn.TheVariants.{Moved, NotYet, Over}
 use Rattle.pass_parts.specs.declared.requests.Request.{Request}
 use Rattle.pass_parts.specs.Ends.{with, got_by, unsent, sent_by}
@@ -37,10 +37,10 @@ nothing_asked false asked = refl
 -- the first node asks nothing more
 still_silent : (first : Bool) (asked ls more : List Loc) → (first ≡ true → asked ≡ []) → more ≡ asked_more first asked ls → first ≡ true → more ≡ []
 still_silent true asked ls more h e t = e ∙ h t
-still_silent false asked ls more h e t = no (sym t)
+still_silent false asked ls more h e t = true-false (sym t)
 
 broken_fits : (v : BackView) → v.whole ≡ false → v.asked ≡ [] → IsFit v
-broken_fits v w a = record { known = λ t. no (sym t ∙ w); silent = λ _. a; forgets = λ _. a; walked = λ t _. no (sym t ∙ w); counted = λ t _. no (sym t ∙ w) }
+broken_fits v w a = record { known = λ t. true-false (sym t ∙ w); silent = λ _. a; forgets = λ _. a; walked = λ t _. true-false (sym t ∙ w); counted = λ t _. true-false (sym t ∙ w) }
 
 -- ---- the model's event, by cases
 
@@ -125,14 +125,14 @@ module _ (v : BackView) (got sent : Option (List Message)) (k : Keeps v got sent
   } where
     by : (got : Option (List Message)) → is_ended (got_by got) ≡ false → later ≡ with m got
         → state new later sent ≡ asking_event v.first (knows v) (links_of true (Some m) refused) (state v got sent)
-    by None h e = no h
+    by None h e = true-false h
     by (Some got) h e =
         ap (λ (g : Option (List Message)). state new g sent) e ∙ took got (sent_by new.over new.whole sent)
         ∙ ap (λ (ms : List Message). pop_by v.whole refused v.first (knows v) (asking_of v got ms) (Some m)) (sent_same new.over v.over new.whole v.whole (o ∙ r.running) r.running sent)
         ∙ sym (at_pop v (links_of true (Some m) refused) got (sent_by v.over v.whole sent) r.running r.idle v.whole refl h)
 
     kept : (got : Option (List Message)) → Keeps v got sent → is_ended (got_by got) ≡ false → later ≡ with m got → Keeps new later sent
-    kept None k h e = no h
+    kept None k h e = true-false h
     kept (Some got) k h e = subst (λ g. Keeps new g sent) (sym e) (keeps got h k)
 
   -- one for which nothing is asked, and that breaks nothing
@@ -170,8 +170,8 @@ module _ (v : BackView) (got sent : Option (List Message)) (k : Keeps v got sent
         fits = broken_fits _ refl refl;
         heard = ends ∙ sym (ended_after got (m ∷ []) h);
         alone = k.alone;
-        requested = λ t. no (sym t);
-        ends = λ t _. no (sym t);
+        requested = λ t. true-false (sym t);
+        ends = λ t _. true-false (sym t);
       })
 
   noted_next : (later : Option (List Message)) (l : Loc) (rs : List Request) → IsAtRest backwards IsQuiet false v → later ≡ with (Ask l) got → v.whole ≡ true
@@ -187,7 +187,7 @@ module _ (v : BackView) (got sent : Option (List Message)) (k : Keeps v got sent
         fits = record {
           known = k.fits.known;
           silent = still_silent v.first v.asked _ asked k.fits.silent refl;
-          forgets = λ t. no (sym w ∙ t);
+          forgets = λ t. true-false (sym w ∙ t);
           walked = λ t other. asked_then v.asked asked (knows v).sinks v.left (kept_asked v.first v.asked _ asked other refl) (k.fits.walked w other);
           counted = λ t other.
               subst (AreCounted asked (knows v)) (sym n.added)
@@ -199,7 +199,7 @@ module _ (v : BackView) (got sent : Option (List Message)) (k : Keeps v got sent
         requested = λ t.
             ap locations n.added ∙ map-append (λ (q : Request). q.loc) v.requests (n.request ∷ [])
             ∙ ap₂ (λ (ls : List Loc) (q : Loc). ls ++ q ∷ []) (k.requested w) n.is ∙ sym (requests_more got (Ask l ∷ []) h);
-        ends = λ t h. no (sym h ∙ r.ended);
+        ends = λ t h. true-false (sym h ∙ r.ended);
       })
 
   same_next : (new : BackView) (later : Option (List Message)) (m : Message) → IsAtRest backwards IsQuiet false v → later ≡ with m got → new ≡ v
@@ -207,7 +207,7 @@ module _ (v : BackView) (got sent : Option (List Message)) (k : Keeps v got sent
       → IsEvent backwards v got sent new later sent Moved
   same_next new later m r e t quiet unended =
       subst (λ n. IsEvent backwards v got sent n later sent Moved) (sym t)
-      (other_next v.heard later m r e quiet (r.ended ∙ sym unended) (λ h. no (sym h ∙ r.ended)))
+      (other_next v.heard later m r e quiet (r.ended ∙ sym unended) (λ h. true-false (sym h ∙ r.ended)))
 
   took_next : (new : BackView) (later : Option (List Message)) (m : Message) → IsAtRest backwards IsQuiet false v → later ≡ with m got → Takes m v new
       → IsEvent backwards v got sent new later sent Moved
@@ -217,7 +217,7 @@ module _ (v : BackView) (got sent : Option (List Message)) (k : Keeps v got sent
         (breaking_next true false t.1.requests later (Ask l) r e (λ got sent. ap (λ (b : Bool). pop_by b true v.first (knows v) (asking_of v got sent) (Some (Ask l))) t.0) refl)
     by false f = noted_next later l t.1.requests r e t.0
         (subst (λ ls. IsRequested v.first ls (knows v) l v.requests t.1.requests) (ap (λ (n : BackView). n.asked) (t.1.is ∙ ap (λ (b : Bool). with_request b v l t.1.requests) f)) (t.1.noted f))
-  took_next new later (Ask l) r e (inr t) = same_next new later (Ask l) r e t.1 (λ w. no (sym w ∙ t.0)) refl
+  took_next new later (Ask l) r e (inr t) = same_next new later (Ask l) r e t.1 (λ w. true-false (sym w ∙ t.0)) refl
   took_next new later (Byte b) r e t = same_next new later (Byte b) r e t (λ w. (refl, refl, refl)) refl
   took_next new later (Close l) r e t = same_next new later (Close l) r e t (λ w. (refl, refl, refl)) refl
   took_next new later (End true) r e t = subst (λ n. IsEvent backwards v got sent n later sent Moved) (sym t) (other_next true later (End true) r e (λ w. (refl, refl, refl)) refl (λ _. refl))
@@ -249,8 +249,8 @@ module _ (v : BackView) (got sent : Option (List Message)) (k : Keeps v got sent
         fits = broken_fits _ refl refl;
         heard = k.heard;
         alone = k.alone;
-        requested = λ t. no (sym t);
-        ends = λ t _. no (sym t);
+        requested = λ t. true-false (sym t);
+        ends = λ t _. true-false (sym t);
       };
       same = record { summary = refl; first = refl; last = refl };
       over = tt;
@@ -263,7 +263,7 @@ module _ (v : BackView) (got sent : Option (List Message)) (k : Keeps v got sent
         fits = record {
           known = k.fits.known;
           silent = still_silent v.first v.asked _ _ k.fits.silent refl;
-          forgets = λ t. no (sym w.whole ∙ t);
+          forgets = λ t. true-false (sym w.whole ∙ t);
           walked = λ t other. walked_then v.first v.asked (knows v).sinks v.left w.left w.sink other w.next (k.fits.walked w.whole other);
           counted = λ t other. counted_more v.asked _ (knows v) v.requests (kept_asked v.first v.asked _ _ other refl) (k.fits.counted w.whole other);
         };

@@ -6,6 +6,7 @@ use Rattle.std.proofs.lemmas.List.{append_cancel_right, take-append-drop}
 use Rattle.std.proofs.lemmas.List.Elements.{recursion_from_All, All-push, All-weaker}
 use Rattle.flow_model.specs.declared.Loc.{Loc}
 use Rattle.lists.specs.Sets.{is_within}
+use Rattle.lists.proofs.Tests.{true-false}
 use Rattle.flow_model.specs.Orders.{loc_cmp}
 use Rattle.epoch_model.specs.Summary.{Summary, SinkTerms, Terms}
 use Rattle.epoch_model.specs.Crossing.{added_all}
@@ -13,7 +14,6 @@ use Rattle.stream_model.specs.Passes.{asked_more}
 use Rattle.stream_model.specs.Streams.{places_needed}
 use Rattle.stream_model.specs.StreamLaws.{IsPrefix}
 use Rattle.stream_model.proofs.Growing.{added_all_keeps}
-use Rattle.stream_model.proofs.Passing.{no}
 use Rattle.pass_parts.specs.declared.requests.Request.{Request}
 use Rattle.pass_parts.specs.Requests.{IsCounted, AreCounted}
 use Rattle.pass_parts.proofs.Counted.{within_more, counts_stay}
@@ -25,11 +25,11 @@ use Rattle.backward_pass.proofs.Lists.{sink_behind}
 
 -- where it is not the first node, what was asked stays, and what is asked for is asked then
 pub kept_asked : (first : Bool) (asked ls more : List Loc) → first ≡ false → more ≡ asked_more first asked ls → IsPrefix asked more
-kept_asked true asked ls more t e = no t
+kept_asked true asked ls more t e = true-false t
 kept_asked false asked ls more t e = let kept = added_all_keeps asked ls in (kept.0, kept.1 ∙ sym e)
 
 within_asked : (first : Bool) (asked ls : List Loc) → first ≡ false → is_within loc_cmp ls (asked_more first asked ls) ≡ true
-within_asked true asked ls t = no t
+within_asked true asked ls t = true-false t
 within_asked false asked ls t = within_added asked ls
 
 -- ---- sinks

@@ -1,5 +1,5 @@
 -- Items of lists by number.
-use Rattle.std.proofs.Common.{◌≡◌, ℕ, zero, suc, ◌+◌, ◌<◌, ◌≤◌, List, [], ◌∷◌, map, length, drop, refl, ap, ◌∙◌, sym, arith, slice_get, Some}
+use Rattle.std.proofs.Common.{◌≡◌, ℕ, zero, suc, ◌+◌, ◌≤◌, List, [], ◌∷◌, map, length, drop, refl, ap, ◌∙◌, sym, arith, slice_get, Some}
 use Rattle.epoch_model.specs.Summary.{SinkTerms, Terms}
 
 pub none_behind : {X : Type 0} (xs : List X) (i : ℕ) → length xs ≤ i → drop i xs ≡ []
@@ -7,14 +7,6 @@ none_behind [] zero h = refl
 none_behind [] (suc i) h = refl
 none_behind (x ∷ xs) zero h = absurd (omega arith)
 none_behind (x ∷ xs) (suc i) h = none_behind xs i (omega arith)
-
-pub next_behind : {X : Type 0} (xs : List X) (i : ℕ) → i < length xs → (x : X) × (drop i xs ≡ x ∷ drop (i + 1) xs)
-next_behind [] i h = absurd (omega arith)
-next_behind (x ∷ xs) zero h = (x, refl)
-next_behind (x ∷ xs) (suc i) h =
-    let later : suc i + 1 ≡ suc (i + 1) = omega arith in
-    let next = next_behind xs i (omega arith) in
-    (next.0, next.1 ∙ ap (λ (j : ℕ). next.0 ∷ drop j (x ∷ xs)) (sym later))
 
 pub item_behind : {X : Type 0} (xs : List X) (i : ℕ) (x : X) → slice_get xs i ≡ Some x → drop i xs ≡ x ∷ drop (i + 1) xs
 item_behind [] i x is = cc

@@ -1,6 +1,7 @@
 -- From the beginning of the pass on. Crates above cite these lemmas.
 use Rattle.std.proofs.Common.{◌≡◌, List, [], ◌∷◌, ◌++◌, refl, ap, ap₂, sym, ◌∙◌, Bool, true, false, subst}
 use Rattle.std.specs.Prelude.{Option, Some, None, is_none}
+use Rattle.lists.proofs.Tests.{true-false}
 use Rattle.flow_rule.specs.declared.Message.{Message}
 use Rattle.epoch_model.specs.Summary.{Summary as EpochSummary}
 use Rattle.epoch_summary.specs.declared.summary.Summary.{Summary}
@@ -8,7 +9,7 @@ use Rattle.stream_model.specs.Streams.{is_ended}
 use Rattle.stream_model.specs.Passes.{Asking, Links, asking_event, asking_after, asking_by, broken_asking, drop_ask, end_asks}
 use Rattle.stream_model.specs.PassLaws.{AsksSent}
 use Rattle.stream_model.specs.Schedules.{begun}
-use Rattle.stream_model.proofs.Passing.{no, asking_sends}
+use Rattle.stream_model.proofs.Passing.{asking_sends}
 use Rattle.pass_parts.specs.declared.pass_turn.PassTurn.{PassTurn}
 use Rattle.pass_parts.specs.Ends.{fresh_end}
 use Rattle.pass_parts.specs.Known.{known}
@@ -51,7 +52,7 @@ reached_next old new got sent got' sent' turn h same r =
 pub sends_for : (v : BackView) (got sent : Option (List Message)) → Reached v got sent → SendsFor v got sent
 sends_for v got sent r = λ w. by w v.summary refl where
   by : v.whole ≡ true → (s : Option Summary) → v.summary ≡ s → AsksSent v.first (knows v) (state v got sent)
-  by w None is = no (sym w ∙ ap (λ (a : Asking). a.is_whole) r.is ∙ after_broken v.first (knows v) r.schedule (begins v) (ap (λ s. (begun (is_none s) v.last (knows v)).is_whole) is))
+  by w None is = true-false (sym w ∙ ap (λ (a : Asking). a.is_whole) r.is ∙ after_broken v.first (knows v) r.schedule (begins v) (ap (λ s. (begun (is_none s) v.last (knows v)).is_whole) is))
   by w (Some s) is =
       let same = r.is ∙ ap (λ s. asking_after v.first (knows v) r.schedule (begun (is_none s) v.last (knows v))) is in
       subst (AsksSent v.first (knows v)) (sym same) (asking_sends v.first v.last (knows v) r.schedule (sym (ap (λ (a : Asking). a.is_whole) same) ∙ w))

@@ -1,7 +1,7 @@
 -- Start locations that are asked, and their places.
 use Rattle.std.proofs.Common.{◌≡◌, ℕ, zero, suc, ◌+◌, ◌<◌, max, List, [], ◌∷◌, ◌++◌, length, take, get_or, refl, ap, ap₂, sym, ◌∙◌, Bool, true, false, ◌||◌, cond, arith, slice_get, Some}
 use Rattle.std.specs.List.{AllByRecursion, IsDistinct}
-use Rattle.std.specs.Ordering.{eq_by_cmp, is_eq, ordering_reverse}
+use Rattle.std.specs.Ordering.{eq_by_cmp}
 use Rattle.std.proofs.Math.Seq.{take-suc}
 use Rattle.std.proofs.lemmas.Bool.{and_parts, and_from}
 use Rattle.std.proofs.lemmas.List.Folds.{list_any-append}
@@ -9,27 +9,14 @@ use Rattle.flow_model.specs.declared.Loc.{Loc}
 use Rattle.lists.specs.Sets.{has, is_within}
 use Rattle.flow_model.specs.Orders.{loc_cmp}
 use Rattle.epoch_model.specs.Crossing.{added, added_all}
-use Rattle.std.specs.Cmp.{tied_itself}
-use Rattle.std.specs.declared.cmp.Ordering.{Ordering}
-use Rattle.std.specs.declared.cmp.Ordering.TheVariants.{Less, Equal, Greater}
+use Rattle.std.proofs.lemmas.Cmp.{eq_by_cmp_equiv}
 use Rattle.flow_model.proofs.Orders.{loc_total}
-use Rattle.epoch_model.proofs.Adding.{any_added_all}
+use Rattle.epoch_model.proofs.Adding.{any_added_all, added_all-append}
 use Rattle.stream_model.specs.Streams.{places_up_to, places_needed}
-use Rattle.stream_model.proofs.Growing.{added_all-append, added_all_keeps}
+use Rattle.stream_model.proofs.Growing.{added_all_keeps}
 use Rattle.stream_model.proofs.Counting.{places_stay}
 
 -- ---- the place of one location
-
-loc_itself : (l : Loc) → eq_by_cmp loc_cmp l l ≡ true
-loc_itself l = ap is_eq (tied_itself loc_total l)
-
-is_eq_turned : (r : Ordering) → is_eq (ordering_reverse r) ≡ is_eq r
-is_eq_turned Less = refl
-is_eq_turned Equal = refl
-is_eq_turned Greater = refl
-
-loc_eq_turned : (l m : Loc) → eq_by_cmp loc_cmp m l ≡ eq_by_cmp loc_cmp l m
-loc_eq_turned l m = ap is_eq (loc_total.antisymm m l) ∙ is_eq_turned (loc_cmp l m)
 
 -- where each is asked once, a location stands at one place alone
 pub place_is : (asked : List Loc) (l : Loc) (i : ℕ) → IsDistinct (eq_by_cmp loc_cmp) asked → slice_get asked i ≡ Some l → places_up_to asked l ≡ i + 1
@@ -37,7 +24,7 @@ unfolding IsDistinct
 place_is [] l i d is = cc
 place_is (m ∷ ms) l zero d is =
     let same : m ≡ l = cc in
-    ap (λ (k : Loc). cond (eq_by_cmp loc_cmp l k) 1 (1 + places_up_to ms l)) same ∙ ap (λ (b : Bool). cond b 1 (1 + places_up_to ms l)) (loc_itself l)
+    ap (λ (k : Loc). cond (eq_by_cmp loc_cmp l k) 1 (1 + places_up_to ms l)) same ∙ ap (λ (b : Bool). cond b 1 (1 + places_up_to ms l)) ((eq_by_cmp_equiv loc_total).refl l)
 place_is (m ∷ ms) l (suc i) d is =
     let rest = place_is ms l i d.1 is in
     ap (λ (b : Bool). cond b 1 (1 + places_up_to ms l)) (other ms i d.0 is) ∙ omega (arith, rest)
@@ -46,7 +33,7 @@ place_is (m ∷ ms) l (suc i) d is =
     other [] i a is = cc
     other (k ∷ ls) zero a is =
         let same : k ≡ l = cc in
-        loc_eq_turned m l ∙ ap (eq_by_cmp loc_cmp m) (sym same) ∙ a.0
+        (eq_by_cmp_equiv loc_total).symm l m ∙ ap (eq_by_cmp loc_cmp m) (sym same) ∙ a.0
     other (k ∷ ls) (suc i) a is = other ls i a.1 is
 
 -- ---- several locations
@@ -71,7 +58,7 @@ within_added asked (l ∷ ls) =
     either false b e = e
 
     own : has loc_cmp l (added asked l) ≡ true
-    own = any_added_all (eq_by_cmp loc_cmp l) asked (l ∷ []) ∙ either (has loc_cmp l asked) _ (ap (λ (b : Bool). b || false) (loc_itself l))
+    own = any_added_all (eq_by_cmp loc_cmp l) asked (l ∷ []) ∙ either (has loc_cmp l asked) _ (ap (λ (b : Bool). b || false) ((eq_by_cmp_equiv loc_total).refl l))
 
 -- those that are all asked change nothing
 pub all_asked : (asked ls : List Loc) → is_within loc_cmp ls asked ≡ true → added_all asked ls ≡ asked

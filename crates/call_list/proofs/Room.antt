@@ -1,9 +1,9 @@
 -- The bytes that a log's calls moved can be counted in 64 bits.
-use Rattle.std.proofs.Common.{◌≡◌, ℕ, zero, suc, ◌+◌, ◌^◌, ◌<◌, ◌≤◌, Bool, true, false, List, [], ◌∷◌, length, take, get_or, refl, ap, ◌∙◌, arith, length-take}
-use Rattle.std.specs.Prelude.{if◌then◌else◌, ◌==◌, ℤ}
+use Rattle.std.proofs.Common.{◌≡◌, ℕ, zero, suc, ◌+◌, ◌^◌, ◌<◌, ◌≤◌, Bool, true, false, List, [], ◌∷◌, length, take, get_or, ap, ◌∙◌, arith, length-take}
+use Rattle.std.specs.Prelude.{if◌then◌else◌, ℤ}
 use Rattle.std.specs.List.{AllByRecursion}
-use Rattle.std.proofs.lemmas.Bool.{eq-eqb}
 use Rattle.std.proofs.lemmas.List.{take_more}
+use Rattle.lists.proofs.Numbers.{if-itself}
 use Rattle.isa.specs.Calls.{channel_of}
 use Rattle.log_model.specs.declared.Version.TheVariants.{Two}
 use Rattle.log_model.specs.declared.CallRecord.{CallRecord}
@@ -42,19 +42,16 @@ room_at log way c i d is small h =
 
 -- ---- room for the bytes of one call
 
-on_its_channel : (c : ℕ) (bytes : List ℕ) → (if c == c then bytes else []) ≡ bytes
-on_its_channel c bytes = ap (λ (b : Bool). if b then bytes else []) (eq-eqb c c refl)
-
 pub room_to_read : (counts : ByteCounts) (call : CallRecord) (at : ℕ) (args : List ℕ) (result : ℤ) (bytes : List ℕ) → HasRoom counts call → call ≡ Read at args result bytes
     → count_of counts Received (channel_of args) + length bytes < 2 ^ 64
 room_to_read counts call at args result bytes room is =
-    let own : moved_by Received (channel_of args) call ≡ bytes = ap (moved_by Received (channel_of args)) is ∙ on_its_channel (channel_of args) bytes in
+    let own : moved_by Received (channel_of args) call ≡ bytes = ap (moved_by Received (channel_of args)) is ∙ if-itself (channel_of args) bytes [] in
     omega (arith, room.each Received (channel_of args), ap length own)
 
 pub room_to_write : (counts : ByteCounts) (call : CallRecord) (at : ℕ) (args : List ℕ) (result : ℤ) (bytes : List ℕ) → HasRoom counts call → call ≡ Write at args result bytes
     → count_of counts Written (channel_of args) + length bytes < 2 ^ 64
 room_to_write counts call at args result bytes room is =
-    let own : moved_by Written (channel_of args) call ≡ bytes = ap (moved_by Written (channel_of args)) is ∙ on_its_channel (channel_of args) bytes in
+    let own : moved_by Written (channel_of args) call ≡ bytes = ap (moved_by Written (channel_of args)) is ∙ if-itself (channel_of args) bytes [] in
     omega (arith, room.each Written (channel_of args), ap length own)
 
 -- there is room for the bytes of each call of a log, after those before it

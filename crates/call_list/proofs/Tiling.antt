@@ -1,8 +1,9 @@
 -- The pieces of a channel are the bytes that were moved on it.
-use Rattle.std.proofs.Common.{◌≡◌, ℕ, ◌+◌, ◌==◌, Bool, true, false, ◌⊎◌, inl, inr, List, [], ◌∷◌, ◌++◌, length, refl, ap, sym, ◌∙◌, subst, arith, add-zero}
+use Rattle.std.proofs.Common.{◌≡◌, ℕ, ◌+◌, ◌==◌, Bool, true, false, ◌⊎◌, inl, inr, List, [], ◌∷◌, ◌++◌, length, refl, ap, sym, ◌∙◌, subst, add-zero}
 use Rattle.std.specs.Prelude.{if◌then◌else◌, pos, negsuc}
 use Rattle.std.specs.List.{flat_map, AllByRecursion}
 use Rattle.std.proofs.lemmas.Bool.{eqb-true}
+use Rattle.std.proofs.lemmas.List.{nil_from_length}
 use Rattle.isa.specs.Calls.{channel_of}
 use Rattle.log_model.specs.declared.CallRecord.{CallRecord}
 use Rattle.log_model.specs.declared.CallRecord.TheVariants.{Read, Write, Clock, Other}
@@ -29,14 +30,10 @@ nothing : (b : Bool) (bytes : List ℕ) → bytes ≡ [] → (if b then bytes el
 nothing true bytes e = e
 nothing false bytes e = refl
 
-empty : (bytes : List ℕ) → length bytes ≡ 0 → bytes ≡ []
-empty [] e = refl
-empty (b ∷ bytes) e = absurd (omega (arith, e))
-
 piece_is : (way : Way) (c : ℕ) (done : List CallRecord) (r : CallRecord) → IsRecord r
     → IsPieceOf (piece_on way c (line_of (counts_of done) r)) (counts_of done way c) (moved_by way c r)
 piece_is Received c done (Read at args (pos n) bytes) is = on_channel Received c done at args bytes (channel_of args == c) refl
-piece_is Received c done (Read at args (negsuc n) bytes) is = inl (refl, nothing (channel_of args == c) bytes (empty bytes is.1.whole))
+piece_is Received c done (Read at args (negsuc n) bytes) is = inl (refl, nothing (channel_of args == c) bytes (nil_from_length bytes is.1.whole))
 piece_is Received c done (Write at args (pos n) bytes) is = inl (refl, nothing (channel_of args == c) [] refl)
 piece_is Received c done (Write at args (negsuc n) bytes) is = inl (refl, nothing (channel_of args == c) [] refl)
 piece_is Received c done (Clock at value) is = inl (refl, refl)
@@ -44,7 +41,7 @@ piece_is Received c done (Other at number) is = inl (refl, refl)
 piece_is Written c done (Read at args (pos n) bytes) is = inl (refl, nothing (channel_of args == c) [] refl)
 piece_is Written c done (Read at args (negsuc n) bytes) is = inl (refl, nothing (channel_of args == c) [] refl)
 piece_is Written c done (Write at args (pos n) bytes) is = on_channel Written c done at args bytes (channel_of args == c) refl
-piece_is Written c done (Write at args (negsuc n) bytes) is = inl (refl, nothing (channel_of args == c) bytes (empty bytes is.1.whole))
+piece_is Written c done (Write at args (negsuc n) bytes) is = inl (refl, nothing (channel_of args == c) bytes (nil_from_length bytes is.1.whole))
 piece_is Written c done (Clock at value) is = inl (refl, refl)
 piece_is Written c done (Other at number) is = inl (refl, refl)
 

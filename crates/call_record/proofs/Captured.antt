@@ -28,11 +28,11 @@ use Rattle.call_record.specs.declared.source.Source.{Source}
 use Rattle.call_record.specs.declared.tape.Tape.{Tape}
 use Rattle.record_model.specs.declared.Unrecorded.{Unrecorded}
 use Rattle.record_model.specs.declared.Unrecorded.TheVariants.{Window, LogTooLong}
+use Rattle.record_model.proofs.Found.{sha256_bytes}
 use Rattle.no_memory.specs.declared.Fault.{Fault}
 use Rattle.no_memory.specs.declared.Fault.TheVariants.{At, NoMemory}
 use Rattle.no_memory.specs.Faults.{IsCausedBy}
 use Rattle.call_record.proofs.Counts.{capped_is, capped_add}
-use Rattle.call_record.proofs.Digests.{digest_fits}
 use Rattle.replay_model.proofs.Received.{fitting_is_held}
 
 -- ---- the inputs
@@ -71,7 +71,7 @@ whole_form program im pages source s steps end records begins run = record {
   pages = (begins.some, begins.most);
   inputs = begins.few;
   digest = length-sha256 program;
-  digest_bytes = digest_fits program;
+  digest_bytes = sha256_bytes program;
   records = run.form;
   end = run.end_form;
   rise = run.rise;

@@ -3,5 +3,4 @@ mod Counts
 mod Shares
 mod Calls
 mod SoFar
-mod Digests
 mod Captured

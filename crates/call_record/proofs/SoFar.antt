@@ -7,6 +7,7 @@ use Rattle.std.proofs.lemmas.List.Sums.{sum_by-append, sum_by-cons}
 use Rattle.std.proofs.lemmas.Bool.{cases_lt}
 use Rattle.isa.specs.Machine.{State, reg, call_of, overwritten}
 use Rattle.isa.specs.Calls.{buffer_of}
+use Rattle.isa.proofs.Window.{length-overwritten, window_start}
 use Rattle.log_model.specs.declared.CallRecord.{CallRecord}
 use Rattle.log_model.specs.declared.CallRecord.TheVariants.{Read, Write, Clock, Other}
 use Rattle.log_model.specs.declared.RunEnd.{RunEnd}
@@ -35,7 +36,7 @@ use Rattle.call_record.specs.declared.source.Source.{Source}
 use Rattle.call_record.specs.declared.tape.Tape.{Tape}
 use Rattle.call_record.specs.declared.recorder.Recorder.{Recorder}
 use Rattle.call_record.proofs.Counts.{capped_small, capped_add}
-use Rattle.call_record.proofs.Windows.{overwritten_length, overwritten_none, window_start, step_keeps}
+use Rattle.call_record.proofs.Windows.{overwritten_none, step_keeps}
 
 -- the first t steps of a run that begins in a state are recorded
 pub record IsSoFar (start : State) (source : Source) (told : Option (List ℕ)) (t : ℕ) (r : Recorder)
@@ -119,7 +120,7 @@ read_window : (s : State) (place : ℕ) (bytes : List ℕ)
 read_window s place bytes held (inl some) =
     let above = (held some).0 in
     let below = (held some).1 in
-    overwritten_length s.memory (place - s.base) bytes (omega arith)
+    length-overwritten s.memory (place - s.base) bytes (omega arith)
 read_window s place bytes held (inr none) = overwritten_none s.memory (place - s.base) bytes (omega arith)
 
 window_after : (inputs : List (List ℕ)) (piece : ℕ) (before : List CallRecord) (t : ℕ) (s : State) (r : CallRecord)

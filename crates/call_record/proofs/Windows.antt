@@ -1,29 +1,22 @@
 -- The window keeps its size.
 use Rattle.std.proofs.Common.{◌≡◌, ℕ, ◌+◌, ◌-◌, ◌*◌, ◌^◌, ◌≤◌, nat_le, Bool, true, false, List, [], ◌∷◌, ◌++◌, length, take, drop, replicate, Some, None, refl, arith, ap, sym, ◌∙◌, length-append, length-take, length-drop}
-use Rattle.std.specs.Prelude.{if◌then◌else◌, IsTrue}
+use Rattle.std.specs.Prelude.{if◌then◌else◌}
 use Rattle.std.specs.Int.{w32, to_le_bytes}
 use Rattle.std.specs.List.{AllByRecursion, list_all}
 use Rattle.std.proofs.lemmas.Bool.{leb-true, and_parts}
 use Rattle.std.proofs.lemmas.List.{length-replicate}
 use Rattle.std.proofs.lemmas.List.Elements.{recursion_from_All}
+use Rattle.std.proofs.lemmas.Option.{same_Some}
 use Rattle.isa.specs.declared.Effect.{Effect}
 use Rattle.isa.specs.declared.Effect.TheVariants.{SetRegister, Jump, Branch, Load, Store, MoveOn, EnvironmentCall, Breakpoint}
 use Rattle.isa.specs.Machine.{State, Retired, next, Fetch, Fetched, OutsideWindow, Illegal, fetch, outcome_of, execute, effect_of, landed, jumped, branched, loaded, stored, low_bytes, overwritten, in_window, is_aligned, moved_on, moved_on_with}
+use Rattle.isa.proofs.Window.{length-overwritten}
 use Rattle.elf_model.specs.Image.{Image, LoadedSegment}
 use Rattle.elf_model.specs.Window.{can_hold, laid_out, start_of, start_with, start_in}
 use Rattle.elf_image.specs.Layout.{IsLaidOut}
 use Rattle.rv_machine.specs.Start.{HasRoom}
 use Rattle.rv_machine.proofs.Placing.{have_room}
 use Rattle.replay_model.proofs.Transfers.{window_end}
-
-pub overwritten_length : (memory : List ℕ) (i : ℕ) (bytes : List ℕ) → i + length bytes ≤ length memory
-    → length (overwritten memory i bytes) ≡ length memory
-overwritten_length memory i bytes h =
-    let front = length-take i memory in
-    let rest = length-drop (i + length bytes) memory in
-    let first = length-append (take i memory) bytes in
-    let all = length-append (take i memory ++ bytes) (drop (i + length bytes) memory) in
-    omega arith
 
 pub overwritten_none : (memory : List ℕ) (i : ℕ) (bytes : List ℕ) → length bytes ≡ 0
     → length (overwritten memory i bytes) ≡ length memory
@@ -33,10 +26,6 @@ overwritten_none memory i bytes h =
     let first = length-append (take i memory) bytes in
     let all = length-append (take i memory ++ bytes) (drop (i + length bytes) memory) in
     omega arith
-
-pub window_start : (s : State) (place n : ℕ) → IsTrue (in_window s place n) → s.base ≤ place
-window_start s place n w = leb-true s.base place
-    (and_parts (nat_le s.base place) (nat_le (place + n) (s.base + length s.memory)) w).0
 
 -- ---- a step
 
@@ -72,7 +61,7 @@ store_keeps s after true address n v w e =
     (nat_le (address + n) (s.base + length s.memory)) w).0 in
     let few = low_short n v in
     let there : length (overwritten s.memory (address - s.base) (low_bytes n v))
-    ≡ length s.memory = overwritten_length s.memory (address - s.base) (low_bytes n v) (omega arith) in
+    ≡ length s.memory = length-overwritten s.memory (address - s.base) (low_bytes n v) (omega arith) in
     kept s after _ e ∙ there
   where
     kept : (s after x : State) → Retired x ≡ Retired after → length after.memory ≡ length x.memory
@@ -109,10 +98,7 @@ laid_length base n memory (s ∷ ss) e all =
     let above = all.0.above_base in
     let below = all.0.below_end in
     laid_length base n (overwritten memory (s.place - base) s.bytes) ss
-    (overwritten_length memory (s.place - base) s.bytes (omega arith) ∙ e) all.1
-
-state_is : (s after : State) → Some s ≡ Some after → s ≡ after
-state_is s after e = cc
+    (length-overwritten memory (s.place - base) s.bytes (omega arith) ∙ e) all.1
 
 start_by : (im : Image) (pages : ℕ) (s : State) (b : Bool) → IsLaidOut im → can_hold im pages ≡ b
     → start_with im pages (if b then Some (laid_out im.base (replicate (pages * 4096) 0) im.segments) else None) ≡ Some
@@ -123,7 +109,7 @@ start_by im pages s true laid holds e =
     (list_all (λ (x : LoadedSegment). nat_le (x.place + x.size) past) im.segments) holds).1 in
     let room = have_room im.base past im.segments laid.placed ends in
     let memory = laid_out im.base (replicate (pages * 4096) 0) im.segments in
-    memory_same (start_in im pages memory) s (state_is (start_in im pages memory) s e)
+    memory_same (start_in im pages memory) s (same_Some (start_in im pages memory) s e)
     ∙ laid_length im.base (pages * 4096) (replicate (pages * 4096) 0) im.segments (length-replicate (pages * 4096) 0)
     (recursion_from_All (HasRoom im.base past) im.segments room)
 start_by im pages s false laid holds e = cc

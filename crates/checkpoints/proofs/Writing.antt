@@ -1,8 +1,7 @@
 -- What a step of a run changes of the window.
-use Rattle.std.proofs.Common.{◌≡◌, ℕ, zero, suc, ◌+◌, ◌-◌, ◌<◌, ◌≤◌, ◌⊎◌, inl, inr, Bool, true, false, List, [], ◌∷◌, ◌++◌, length, get_or, take, drop, Some, None, refl, arith, ap, sym, ◌∙◌, subst, length-append, length-take, length-drop, length-take-le, get_or-take, get_or-drop, append-nil, take-append-drop, leb-true}
-use Rattle.std.specs.Prelude.{nat_le}
+use Rattle.std.proofs.Common.{◌≡◌, ℕ, zero, suc, ◌+◌, ◌-◌, ◌<◌, ◌≤◌, ◌⊎◌, inl, inr, Bool, true, false, List, [], ◌∷◌, ◌++◌, length, get_or, take, drop, Some, None, refl, arith, ap, sym, ◌∙◌, subst, length-append, length-take, length-drop, length-take-le, get_or-take, get_or-drop}
 use Rattle.std.specs.Int.{w32, to_le_bytes}
-use Rattle.std.proofs.lemmas.Bool.{and_parts, cases_lt}
+use Rattle.std.proofs.lemmas.Bool.{cases_lt}
 use Rattle.std.proofs.lemmas.List.{get_or_append_left, get_or-append_right, nil_from_length}
 use Rattle.isa.specs.declared.Instr.{Instr}
 use Rattle.isa.specs.declared.Instr.TheVariants.{Lui, Auipc, Jal, Jalr, Beq, Bne, Blt, Bge, Bltu, Bgeu, Lb, Lh, Lw, Lbu, Lhu, Sb, Sh, Sw, Addi, Slti, Sltiu, Xori, Ori, Andi, Slli, Srli, Srai, Add, Sub, Sll, Slt, Sltu, Xor, Srl, Sra, Or, And, Mul, Mulh, Mulhsu, Mulhu, Div, Divu, Rem, Remu, Fence, Ecall, Ebreak}
@@ -11,6 +10,7 @@ use Rattle.isa.specs.declared.Effect.TheVariants.{SetRegister, Jump, Branch, Loa
 use Rattle.isa.specs.declared.Call.{Call}
 use Rattle.isa.specs.Machine.{State, Outcome, Retired, Called, Trapped, next, reg, outcome_of, Fetch, Fetched, OutsideWindow, Illegal, fetch, execute, effect_of, address_of, in_window, overwritten, low_bytes, landed, branched, loaded, stored, is_aligned, jumped, moved_on}
 use Rattle.isa.specs.Calls.{buffer_of}
+use Rattle.isa.proofs.Window.{overwritten-nil, holds_by, Holds}
 use Rattle.log_model.specs.declared.CallRecord.{CallRecord}
 use Rattle.log_model.specs.declared.CallRecord.TheVariants.{Read, Write, Clock, Other}
 use Rattle.log_model.specs.Logs.{Log, IsRecord, at_of, end_at, steps}
@@ -27,16 +27,6 @@ use Rattle.checkpoints.specs.declared.touched.Span.{Span}
 use Rattle.checkpoints.specs.Touched.{span, stored_size, written}
 
 -- ---- bytes put into a window
-
--- where n bytes from an address on are in a window
-pub record Holds (base size a n : ℕ) : Type 0 where
-  pub above : base ≤ a
-  pub below : a + n ≤ base + size
-
-holds_by : (s : State) (a n : ℕ) → in_window s a n ≡ true → Holds s.base (length s.memory) a n
-holds_by s a n e =
-    let both = and_parts (nat_le s.base a) (nat_le (a + n) (s.base + length s.memory)) e in
-    record { above = leb-true s.base a both.0; below = leb-true (a + n) (s.base + length s.memory) both.1 }
 
 module _ (mem : List ℕ) (j : ℕ) (bs : List ℕ) (h : j + length bs ≤ length mem) where
   over_front : length (take j mem ++ bs) ≡ j + length bs
@@ -59,11 +49,6 @@ module _ (mem : List ℕ) (j : ℕ) (bs : List ℕ) (h : j + length bs ≤ lengt
 
   over_length : length (overwritten mem j bs) ≡ length mem
   over_length = omega (arith, h, over_front, length-append (take j mem ++ bs) (drop (j + length bs) mem), length-drop (j + length bs) mem)
-
-over_nothing : (mem : List ℕ) (j : ℕ) → overwritten mem j [] ≡ mem
-over_nothing mem j =
-    let same : j + 0 ≡ j = omega arith in
-    ap (λ (xs : List ℕ). xs ++ drop (j + 0) mem) (append-nil (take j mem)) ∙ ap (λ (n : ℕ). take j mem ++ drop n mem) same ∙ take-append-drop j mem
 
 -- ---- what is changed
 
@@ -103,7 +88,7 @@ put s t a n bytes few h base memory = by (cases_lt 0 n)
     by (inl some) = put_some s t a n bytes few (h some) some base memory
     by (inr none) =
         let nothing : bytes ≡ [] = nil_from_length bytes (omega arith) in
-        same_memory s t a n (omega arith) base (memory ∙ ap (overwritten s.memory (a - s.base)) nothing ∙ over_nothing s.memory (a - s.base))
+        same_memory s t a n (omega arith) base (memory ∙ ap (overwritten s.memory (a - s.base)) nothing ∙ overwritten-nil s.memory (a - s.base))
 
 -- ---- instructions
 

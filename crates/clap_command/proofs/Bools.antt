@@ -4,10 +4,6 @@ use Rattle.std.proofs.Common.{◌≡◌, refl, true, false, Bool, not, ◌&&◌,
 pub and_true : (a b : Bool) → a ≡ true → b ≡ true → (a && b) ≡ true
 and_true a b p q = rw (p, q) refl
 
-pub each_true : (a b : Bool) → (a && b) ≡ true → (a ≡ true) × (b ≡ true)
-each_true true b e = (refl, e)
-each_true false b e = cc
-
 pub left_true : (a b : Bool) → a ≡ true → (a || b) ≡ true
 left_true a b e = rw e refl
 

@@ -5,6 +5,7 @@ use Rattle.std.specs.List.{list_all, list_any, find, fold}
 use Rattle.std.specs.Option.{option_map_or}
 use Rattle.std.specs.Str.{bytes_eq, chars}
 use Rattle.std.proofs.lemmas.Slice.Eq.{bytes_eq-Decides}
+use Rattle.std.proofs.lemmas.Bool.{and_parts}
 use Rattle.clap.specs.declared.builder.ArgAction.{ArgAction}
 use Rattle.clap.specs.declared.builder.ArgAction.TheVariants.{Set, Append, SetTrue, SetFalse, Count, Help, HelpShort, HelpLong, Version}
 use Rattle.clap.specs.declared.builder.value_parser.Reading.{Reading}
@@ -17,7 +18,7 @@ use Rattle.clap.specs.Walk.{Held, Names, Outcome, Row, Rule, Step, Text, Waiting
 use Rattle.clap.specs.Simple.{Shape}
 use Rattle.clap.specs.Takes.{action_passes, bundle_passes, bundle_step_passes, flag_word_passes, flags_pass, level_passes, long_passes, option_passes, other_passes, positional_passes, react_passes, settle_passes, short_passes, step_passes, use_passes, walk_passes, word_passes}
 use Rattle.clap_command.specs.Plain.{fits_values, is_plain_action, is_plain_rule, no_values}
-use Rattle.clap_command.proofs.Bools.{and_true, each_true, left_true, right_true}
+use Rattle.clap_command.proofs.Bools.{and_true, left_true, right_true}
 
 -- ---- what is kept
 
@@ -49,7 +50,7 @@ Each Q (a ∷ c) = Q a × Each Q c
 each_kept : (P : Row → Bool) (c : List Rule) → ((r : Row) → row_fits c r ≡ true → P r ≡ true) → list_all is_plain_rule c ≡ true → Each (Kept P) c
 each_kept P [] keeps all = tt
 each_kept P (a ∷ c) keeps all =
-    let p = each_true _ _ all in (
+    let p = and_parts _ _ all in (
       record {
         plain = p.0;
         keeps = λ r same fit. keeps r (left_true (bytes_eq a.id r.id && fits a r.values r.reading) _ (and_true _ _ same fit));
@@ -78,7 +79,7 @@ same_reading Falsey = refl
 
 all_kept_more : (P : Row → Bool) (rows : List Row) (r : Row) → list_all P rows ≡ true → P r ≡ true → list_all P (rows ++ r ∷ []) ≡ true
 all_kept_more P [] r all one = and_true _ _ one refl
-all_kept_more P (x ∷ rows) r all one = let p = each_true _ _ all in and_true _ _ p.0 (all_kept_more P rows r p.1 one)
+all_kept_more P (x ∷ rows) r all one = let p = and_parts _ _ all in and_true _ _ p.0 (all_kept_more P rows r p.1 one)
 
 -- a row of an id that has none joins at the end
 pub at_new_row : (id : Text) (change : Row → List Row) (missing : List Row) (rows : List Row) → has_row id rows ≡ false → at_row id change missing rows ≡ rows ++ missing
@@ -118,7 +119,7 @@ used_kept_as : (P : Row → Bool) (x : ArgAction) (again : Bool) (a : Rule) (val
     → is_plain_action x ≡ true → nat_le (unwrap_or_range a.range).start_inclusive (length values) ≡ true → nat_le (length values) (most_values a) ≡ true
     → action_passes x again a values rows ≡ true → list_all P rows ≡ true → list_all P (used_as x a.id (reading_by a) values rows) ≡ true
 used_kept_as P Set again a values rows kept off action least most pass all =
-    let p = each_true _ _ pass in
+    let p = and_parts _ _ pass in
     let none = not_again (has_row a.id rows) again off p.0 in
     ap (λ rest. list_all P (with_values a.id (reading_by a) CommandLine values rest)) (without_none a.id rows none)
     ∙ new_row_kept P a CommandLine values rows kept none (and_true _ _ least (and_true _ _ most p.1)) all
@@ -134,10 +135,10 @@ used_kept_as P Version again a values rows kept off action least most pass all =
 used_kept : (P : Row → Bool) (again : Bool) (a : Rule) (values : List Text) (rows : List Row) → Kept P a → again ≡ false
     → use_passes again a values rows ≡ true → list_all P rows ≡ true → list_all P (used a values rows) ≡ true
 used_kept P again a values rows kept off pass all =
-    let plain = each_true _ _ kept.plain in
-    let none = same_values a.missing values a refl (each_true _ _ plain.1).0 in
-    let p = each_true _ _ pass in
-    let q = each_true _ _ p.1 in
+    let plain = and_parts _ _ kept.plain in
+    let none = same_values a.missing values a refl (and_parts _ _ plain.1).0 in
+    let p = and_parts _ _ pass in
+    let q = and_parts _ _ p.1 in
     ap (λ vs. list_all P (used_as (action_of a) a.id (reading_by a) vs rows)) none
     ∙ used_kept_as P (action_of a) again a values rows kept off plain.0 p.0 q.0
     (ap (λ vs. action_passes (action_of a) again a vs rows) (sym none) ∙ q.1) all
@@ -162,7 +163,7 @@ module _ (P : Row → Bool) (c : List Rule) (each : Each (Kept P) c) (again : Bo
   reacted_kept : (a : Rule) (values : List Text) (h : Held) → Kept P a → react_passes c again a values h ≡ true → list_all P h.rows ≡ true
       → list_all P (reacted c a values h).rows ≡ true
   reacted_kept a values h kept pass all =
-      let p = each_true _ _ pass in used_kept P again a values (settled c h).rows kept off p.1 (settled_kept h p.0 all)
+      let p = and_parts _ _ pass in used_kept P again a values (settled c h).rows kept off p.1 (settled_kept h p.0 all)
 
   option_kept : (a : Rule) (v : Option Text) (h : Held) → Kept P a → option_passes c again a v h ≡ true → list_all P h.rows ≡ true
       → list_all P (option_met c a v h).0.rows ≡ true
@@ -192,7 +193,7 @@ module _ (P : Row → Bool) (c : List Rule) (each : Each (Kept P) c) (again : Bo
       (elim (takes_values a) as (λ b. (if b then option_passes c again a (attached_value rest) h else (react_passes c again a [] h && np (reacted c a [] h))) ≡ true
       → list_all P (if b then option_met c a (attached_value rest) h else nm (reacted c a [] h)).0.rows ≡ true) [
         | true ↦ λ q. option_kept a (attached_value rest) h (known a refl) q all
-        | false ↦ λ q. let p = each_true _ _ q in more (reacted c a [] h) p.1 (reacted_kept a [] h (known a refl) p.0 all)
+        | false ↦ λ q. let p = and_parts _ _ q in more (reacted c a [] h) p.1 (reacted_kept a [] h (known a refl) p.0 all)
       ]) pass
 
   bundle_step_kept : (x : Option ℕ) (flags : Text) (skip : ℕ) (so_far : Outcome) (h : Held) (np : Text → ℕ → Held → Bool) (nm : Text → ℕ → Outcome → Held → Held × Outcome)
@@ -280,7 +281,7 @@ module _ (P : Row → Bool) (s : Shape) (names : Names) (each : Each (Kept P) s.
       → list_all P w.held.rows ≡ true → list_all P (walked_from s.rules names stop w word).held.rows ≡ true
   turn_kept (Some p) w word pass all = all
   turn_kept None w word pass all =
-      let p = each_true _ _ pass in
+      let p = and_parts _ _ pass in
       let met = word_met s.rules names w.is_trailing w.waiting w.position word w.held in
       step_kept word w met.0 met.1 p.1 (word_kept w.is_trailing w.waiting w.position word w.held p.0 all)
 
@@ -289,7 +290,7 @@ module _ (P : Row → Bool) (s : Shape) (names : Names) (each : Each (Kept P) s.
   unfolding walked walk_passes
   walk_kept w [] pass all = all
   walk_kept w (word ∷ rest) pass all =
-      let p = each_true _ _ pass in walk_kept (walked s.rules names w word) rest p.1 (turn_kept w.stopped w word p.0 all)
+      let p = and_parts _ _ pass in walk_kept (walked s.rules names w word) rest p.1 (turn_kept w.stopped w word p.0 all)
 
 -- ---- the rows at the end
 
@@ -300,7 +301,7 @@ default_kept P a (v ∷ vs) rows kept none fit all = new_row_kept P a DefaultVal
 
 with_default_kept : (P : Row → Bool) (a : Rule) (rows : List Row) → Kept P a → list_all P rows ≡ true → list_all P (with_default rows a) ≡ true
 with_default_kept P a rows kept all =
-    let fit = (each_true _ _ (each_true _ _ kept.plain).1).1 in
+    let fit = (and_parts _ _ (and_parts _ _ kept.plain).1).1 in
     (elim (has_row a.id rows) as (λ b. has_row a.id rows ≡ b → list_all P (if b then rows else default_rows a.id (reading_by a) a.defaults rows) ≡ true) [
       | true ↦ λ has. all
       | false ↦ λ none. default_kept P a a.defaults rows kept none fit all
@@ -316,8 +317,8 @@ pub rows_fit : (s : Shape) (words : List Text) (has : Bool) → list_all is_plai
 rows_fit s words has sound off e =
     let each = each_kept (row_fits s.rules) s.rules (λ r fit. fit) sound in
     let end = (walk s.rules [] nothing_held words).held in
-    let p = each_true _ _ e in
-    let q = each_true _ _ p.1 in
+    let p = and_parts _ _ e in
+    let q = and_parts _ _ p.1 in
     defaults_kept (row_fits s.rules) s.rules _ each
     (settled_kept (row_fits s.rules) s.rules each s.args_override_self off end q.0
     (walk_kept (row_fits s.rules) s [] each off (walk_from nothing_held) words p.0 refl))

@@ -3,11 +3,12 @@ use Rattle.std.proofs.Common.{◌≡◌, ap, refl, true, false, Bool, not, ◌&&
 use Rattle.std.specs.List.{fold}
 use Rattle.std.specs.Option.{option_map_or}
 use Rattle.std.specs.Str.{bytes_eq}
+use Rattle.std.proofs.lemmas.Bool.{and_parts}
 use Rattle.clap.specs.Lexer.{long_of, short_of}
 use Rattle.clap.specs.Walk.{Held, Names, Outcome, Rule, Step, Text, Waiting, Walk, done, waits, plain, refused, idle, option, positional, value, next, trailing, subcommand, after_flag, after_step, arg_by_index, long_or_other, plain_word, short_or_plain, subcommand_met, subcommand_or_other, to_positional, walked, walked_from, word_met}
 use Rattle.clap.specs.Simple.{Shape}
 use Rattle.clap.specs.Takes.{other_passes, step_passes, walk_passes, word_passes}
-use Rattle.clap_command.proofs.Bools.{each_true, or_false}
+use Rattle.clap_command.proofs.Bools.{or_false}
 
 -- a walk that stopped, stopped at another word than `help`
 abbrev pub no_help : Option (Text × List Text) → Bool
@@ -71,14 +72,14 @@ after_turn : (s : Shape) (names : Names) (stop : Option (Text × List Text)) (w 
     (is_some stop || (word_passes s names w.is_trailing w.waiting word w.held && step_passes s w.position met.0 met.1)) ≡ true)
     → no_help stop ≡ true → no_help w.stopped ≡ true → no_help (walked_from s.rules names stop w word).stopped ≡ true
 after_turn s names (Some p) w word d e here n = here
-after_turn s names None w word d e here n = after_word s names w.is_trailing word w d (each_true _ _ e).0 n
+after_turn s names None w word d e here n = after_word s names w.is_trailing word w d (and_parts _ _ e).0 n
 
 after_words : (s : Shape) (names : Names) (w : Walk) (words : List Text) → s.disable_help_subcommand ≡ false → walk_passes s names w words ≡ true
     → no_help w.stopped ≡ true → no_help (fold (walked s.rules names) w words).stopped ≡ true
 unfolding walked walk_passes
 after_words s names w [] d e n = n
 after_words s names w (word ∷ rest) d e n =
-    let p = each_true _ _ e in after_words s names (walked s.rules names w word) rest d p.1 (after_turn s names w.stopped w word d p.0 n n)
+    let p = and_parts _ _ e in after_words s names (walked s.rules names w word) rest d p.1 (after_turn s names w.stopped w word d p.0 n n)
 
 pub help-refused : (s : Shape) (names : Names) (w : Walk) (words : List Text) → s.disable_help_subcommand ≡ false → w.stopped ≡ None → walk_passes s names w words ≡ true
     → no_help (fold (walked s.rules names) w words).stopped ≡ true

@@ -5,6 +5,7 @@ use Rattle.std.specs.List.{list_all, list_any, find}
 use Rattle.std.specs.Option.{option_map_or}
 use Rattle.std.specs.Str.{bytes_eq, chars}
 use Rattle.std.proofs.lemmas.Bool.Decides.{nat_tests}
+use Rattle.std.proofs.lemmas.Bool.{and_parts, or_parts}
 use Rattle.clap.specs.declared.error.ErrorKind.{ErrorKind}
 use Rattle.clap.specs.declared.builder.ArgAction.{ArgAction}
 use Rattle.clap.specs.declared.builder.ArgAction.TheVariants.{Set, Append, SetTrue, SetFalse, Count, Help, HelpShort, HelpLong, Version}
@@ -16,7 +17,7 @@ use Rattle.clap.specs.Takes.{value_passes, values_pass, count_passes, set_passes
 use Rattle.clap.specs.Kinds.{Kinds, or_else, range_kinds, value_kinds, check_kinds}
 use Rattle.clap.specs.Faults.{values_fault, count_fault, set_fault, action_fault, use_fault, settle_fault, react_fault, option_fault, long_fault, short_fault, bundle_step_fault, flags_fault, bundle_fault, flag_word_fault, other_fault, word_fault, positional_fault, stray_fault, step_fault, turn_fault, walk_fault, level_fault, entered_fault, built_fault, fault_of, is_simple_and_free}
 use Rattle.clap_command.specs.Plain.{is_sound, is_plain_command}
-use Rattle.clap_command.proofs.Bools.{and_true, each_true}
+use Rattle.clap_command.proofs.Bools.{and_true}
 
 both_nil : (a b : Kinds) → or_else a b ≡ [] → (a ≡ []) × (b ≡ [])
 both_nil [] b e = (refl, e)
@@ -180,10 +181,6 @@ args_given : (free any all : Bool) → (any ≡ false → all ≡ true) → (not
 args_given true any all f e = refl
 args_given false any all f e = f e
 
-first_of_or : (a b : Bool) → (a || b) ≡ false → (a ≡ false) × (b ≡ false)
-first_of_or true b e = cc
-first_of_or false b e = (refl, e)
-
 is_there : (required given : Bool) → (required && not given) ≡ false → (not required || given) ≡ true
 is_there true true e = refl
 is_there true false e = cc
@@ -193,7 +190,7 @@ all_there : (rules : List Rule) (rows : List Row) → list_any (λ a. a.required
     → list_all (λ a. not a.required || is_given a.id rows) rules ≡ true
 all_there [] rows e = refl
 all_there (a ∷ rules) rows e =
-    let p = first_of_or (a.required && not (is_given a.id rows)) _ e in
+    let p = or_parts (a.required && not (is_given a.id rows)) _ e in
     and_true _ _ (is_there a.required (is_given a.id rows) p.0) (all_there rules rows p.1)
 
 level_ok : (s : Shape) (names : Names) (h : Held) (words : List Text) (has : Bool) (below : Kinds) → is_sound s ≡ true → level_fault s names h words has below ≡ []
@@ -206,7 +203,7 @@ level_ok s names h words has below sound e =
     let t = both_nil _ _ b.1 in
     let d = both_nil _ _ t.1 in
     let n = none_of _ _ _ d.1 in
-    let o = each_true _ _ sound in (
+    let o = and_parts _ _ sound in (
       b.0,
       and_true _ _ (walk_ok s names (walk_from h) words w.0) (and_true _ _ (settle_ok s.rules s.args_override_self end t.0) (and_true _ _ o.0
           (and_true _ _ (help_given has s.arg_required_else_help _ n.0) (and_true _ _ (subcommand_given has s.subcommand_required n.1) (and_true _ _ o.1
@@ -217,7 +214,7 @@ found_ok : (p : Shape → Bool) (subs : List Shape) (f : Shape → Kinds) (g : S
     → list_all is_sound subs ≡ true → option_map_or f (find p subs) [] ≡ [] → option_map_or g (find p subs) true ≡ true
 found_ok p [] f g h sound e = refl
 found_ok p (s ∷ subs) f g h sound e =
-    let o = each_true _ _ sound in
+    let o = and_parts _ _ sound in
     (elim (p s) as (λ b. option_map_or f (if b then Some s else find p subs) [] ≡ [] → option_map_or g (if b then Some s else find p subs) true ≡ true) [
       | true ↦ λ q. h s o.0 q
       | false ↦ λ q. found_ok p subs f g h o.1 q
@@ -235,7 +232,7 @@ built_ok a h words top subs e =
 -- Words that have no fault are taken.
 pub takes_of_no_fault : (a : App) (words : List Text) → is_plain_command a ≡ true → fault_of a words ≡ [] → takes a words ≡ true
 takes_of_no_fault a words plain e =
-    let p = each_true (is_simple_and_free a) _ plain in
-    let q = each_true (is_sound (built a).top) _ p.1 in
-    let r = each_true (list_all is_sound (built a).subs) _ q.1 in
-    and_true (is_simple a) _ (each_true (is_simple a) _ p.0).0 (built_ok (built a) nothing_held (argument_words a words) q.0 r.0 e)
+    let p = and_parts (is_simple_and_free a) _ plain in
+    let q = and_parts (is_sound (built a).top) _ p.1 in
+    let r = and_parts (list_all is_sound (built a).subs) _ q.1 in
+    and_true (is_simple a) _ (and_parts (is_simple a) _ p.0).0 (built_ok (built a) nothing_held (argument_words a words) q.0 r.0 e)

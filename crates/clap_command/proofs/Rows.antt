@@ -7,6 +7,7 @@ use Rattle.std.specs.Option.{option_map_or}
 use Rattle.std.specs.Str.{bytes_eq}
 use Rattle.std.proofs.lemmas.Bool.Decides.{nat_tests}
 use Rattle.std.proofs.lemmas.Slice.Eq.{bytes_eq-Decides}
+use Rattle.std.proofs.lemmas.Bool.{and_parts}
 use Rattle.clap.specs.Words.{IsUnsignedIn, Row, Text, one_of, read_as}
 use Rattle.clap.specs.Facts.{explicit_source, parser_of_value, unwrap_or_range}
 use Rattle.clap.specs.Values.{reading_of}
@@ -21,7 +22,7 @@ use Rattle.clap.specs.declared.parser.matches.ValueSource.TheVariants.{DefaultVa
 use Rattle.clap.proofs.ValueTestLemmas.{accepts-Accepts}
 use Rattle.clap_command.specs.Values.{numeral_of, number_in, number_of, optional_number_of, values_of}
 use Rattle.clap_command.specs.Plain.{is_plain_subcommand, no_values}
-use Rattle.clap_command.proofs.Bools.{each_true, is_false, left_true, or_false, right_true}
+use Rattle.clap_command.proofs.Bools.{is_false, left_true, or_false, right_true}
 use Rattle.clap_command.proofs.Fit.{at_new_row, fits, reads_as_written, row_fits, rows_fit, text_is_itself}
 
 -- ---- which rows are there
@@ -77,7 +78,7 @@ defaulted : (id : Text) (d : List Rule) (rows : List Row) → list_any (has_defa
 defaulted id [] rows e = cc
 defaulted id (a ∷ d) rows e =
     (elim (has_default id a) as (λ b. has_default id a ≡ b → (b || list_any (has_default id) d) ≡ true → has_row id (fold with_default (with_default rows a) d) ≡ true) [
-      | true ↦ λ is q. let p = each_true _ _ is in all_stay id d _ (comes id a rows ((bytes_eq-Decides a.id id).0 p.0) (is_false _ p.1))
+      | true ↦ λ is q. let p = and_parts _ _ is in all_stay id d _ (comes id a rows ((bytes_eq-Decides a.id id).0 p.0) (is_false _ p.1))
       | false ↦ λ is q. defaulted id d (with_default rows a) q
     ]) refl e
 
@@ -104,7 +105,7 @@ of_found : (c : List Rule) (id : Text) (Q : List Text → Reading → Type 0) (R
     → (rows : List Row) → (has_row id rows ≡ false → R None) → list_all (row_fits c) rows ≡ true → R (find (λ r. bytes_eq r.id id) rows)
 of_found c id Q R of some [] none all = none refl
 of_found c id Q R of some (r ∷ rows) none all =
-    let p = each_true _ _ all in
+    let p = and_parts _ _ all in
     (elim (bytes_eq r.id id) as (λ b. bytes_eq r.id id ≡ b → ((b || has_row id rows) ≡ false → R None) → R (if b then Some r else find (λ r. bytes_eq r.id id) rows)) [
       | true ↦ λ same n. some r (of_row c id Q of r same p.0)
       | false ↦ λ same n. of_found c id Q R of some rows n p.1
@@ -129,12 +130,12 @@ as_written Falsey v Q e q = cc
 numeral : (a : Rule) (least most : ℕ) (values : List Text) (how : Reading) → (unwrap_or_range a.range).start_inclusive ≡ 1
     → a.parser ≡ Some (Unsigned least most) → fits a values how ≡ true → IsUnsignedIn least most (read_text values how)
 numeral a least most [] how one parser e =
-    let p = each_true _ _ (each_true _ _ e).0 in
+    let p = and_parts _ _ (and_parts _ _ e).0 in
     let bad : nat_le 1 0 ≡ true = subst (λ n. nat_le n 0 ≡ true) one p.0 in cc
 numeral a least most (v ∷ vs) how one parser e =
-    let p = each_true _ _ e in
-    let q = each_true _ _ (each_true _ _ p.0).1 in
-    let first : accepts a.ignore_case (parser_of_value a.parser) v ≡ true = (each_true _ _ q.1).0 in
+    let p = and_parts _ _ e in
+    let q = and_parts _ _ (and_parts _ _ p.0).1 in
+    let first : accepts a.ignore_case (parser_of_value a.parser) v ≡ true = (and_parts _ _ q.1).0 in
     let taken : accepts a.ignore_case (Unsigned least most) v ≡ true = ap (λ r. accepts a.ignore_case (parser_of_value r) v) (sym parser) ∙ first in
     let plain : (reads_as_written how || not (reads_as_written (reading_of (parser_of_value a.parser)))) ≡ true = p.1 in
     as_written how v (IsUnsignedIn least most)
@@ -175,12 +176,12 @@ below n most e = grind (arith, nat_tests)
 
 fits_most : (a : Rule) (values : List Text) (how : Reading) (most : ℕ) → most_values a ≡ most → fits a values how ≡ true → length values ≤ most
 fits_most a values how most is e =
-    let p : nat_le (length values) (most_values a) ≡ true = (each_true _ _ (each_true _ _ (each_true _ _ e).0).1).0 in
+    let p : nat_le (length values) (most_values a) ≡ true = (and_parts _ _ (and_parts _ _ (and_parts _ _ e).0).1).0 in
     below (length values) most (subst (λ n. nat_le (length values) n ≡ true) is p)
 
 fits_least : (a : Rule) (values : List Text) (how : Reading) (least : ℕ) → (unwrap_or_range a.range).start_inclusive ≡ least → fits a values how ≡ true → least ≤ length values
 fits_least a values how least is e =
-    let p : nat_le (unwrap_or_range a.range).start_inclusive (length values) ≡ true = (each_true _ _ (each_true _ _ e).0).0 in
+    let p : nat_le (unwrap_or_range a.range).start_inclusive (length values) ≡ true = (and_parts _ _ (and_parts _ _ e).0).0 in
     below least (length values) (subst (λ n. nat_le n (length values) ≡ true) is p)
 
 -- ---- what is required
@@ -188,8 +189,8 @@ fits_least a values how least is e =
 valid_level : (s : Shape) (words : List Text) → level_passes s [] nothing_held words false ≡ true → is_valid s (rows_after s.rules [] words) false ≡ true
 valid_level s words e =
     let end = (walk s.rules [] nothing_held words).held in
-    (each_true (list_all default_passes s.rules) _ (each_true (settle_passes s.rules s.args_override_self end) _
-    (each_true (walk_passes s [] (walk_from nothing_held) words) _ e).1).1).1
+    (and_parts (list_all default_passes s.rules) _ (and_parts (settle_passes s.rules s.args_override_self end) _
+    (and_parts (walk_passes s [] (walk_from nothing_held) words) _ e).1).1).1
 
 or_other : (a b : Bool) → ((a && false) || b) ≡ true → b ≡ true
 or_other true b e = e
@@ -198,8 +199,8 @@ or_other false b e = e
 -- what is required was given
 all_given : (s : Shape) (rows : List Row) → is_valid s rows false ≡ true → list_all (λ a. not a.required || is_given a.id rows) s.rules ≡ true
 all_given s rows e =
-    or_other s.subcommand_negates_reqs _ (each_true (list_all (λ a. a.is_free) s.rules) _ (each_true (not s.subcommand_required || false) _
-    (each_true (not s.arg_required_else_help || (false || list_any (λ r. explicit_source r.source) rows)) _ e).1).1).1
+    or_other s.subcommand_negates_reqs _ (and_parts (list_all (λ a. a.is_free) s.rules) _ (and_parts (not s.subcommand_required || false) _
+    (and_parts (not s.arg_required_else_help || (false || list_any (λ r. explicit_source r.source) rows)) _ e).1).1).1
 
 abbrev requires : Text → Rule → Bool
 requires id a = bytes_eq a.id id && a.required
@@ -208,10 +209,10 @@ required_given : (id : Text) (c : List Rule) (rows : List Row) → list_any (req
     → is_given id rows ≡ true
 required_given id [] rows any all = cc
 required_given id (a ∷ c) rows any all =
-    let p = each_true _ _ all in
+    let p = and_parts _ _ all in
     (elim (requires id a) as (λ b. requires id a ≡ b → (b || list_any (requires id) c) ≡ true → is_given id rows ≡ true) [
       | true ↦ λ is q.
-          let r = each_true _ _ is in
+          let r = and_parts _ _ is in
           let given : is_given a.id rows ≡ true = ap (λ x. not x || is_given a.id rows) (sym r.1) ∙ p.0 in
           ap (λ t. is_given t rows) (sym ((bytes_eq-Decides a.id id).0 r.0)) ∙ given
       | false ↦ λ is q. required_given id c rows q p.1
@@ -264,7 +265,7 @@ module _ (s : Shape) (words : List Text) (plain : is_plain_subcommand s ≡ true
   rows = rows_after s.rules [] words
 
   all_fit : list_all (row_fits s.rules) rows ≡ true
-  all_fit = let p = each_true _ _ plain in rows_fit s words false p.0 (is_false _ p.1) passes
+  all_fit = let p = and_parts _ _ plain in rows_fit s words false p.0 (is_false _ p.1) passes
 
   -- an argument that has to be there has a row
   has_required : (id : Text) (a : Rule) → Only s.rules id a → a.required ≡ true → has_row id rows ≡ true

@@ -5,13 +5,14 @@ use Rattle.std.specs.List.{find, list_all}
 use Rattle.std.specs.Option.{option_map_or}
 use Rattle.std.specs.Str.{bytes_eq}
 use Rattle.std.proofs.lemmas.Slice.Eq.{bytes_eq-Decides}
+use Rattle.std.proofs.lemmas.Bool.{and_parts}
 use Rattle.clap.specs.Words.{Row, Text, takes, subcommand_of}
 use Rattle.clap.specs.Walk.{Names, Held, answers_to, finished, nothing_held, walk, walk_from}
 use Rattle.clap.specs.Simple.{App, Shape, argument_words, built, built_leaf, entered, help_shape, is_simple, label_of, names_of, rows_at}
 use Rattle.clap.specs.Faults.{is_simple_and_free}
 use Rattle.clap.specs.Takes.{default_passes, entered_passes, is_valid, level_passes, settle_passes, walk_passes}
 use Rattle.clap_command.specs.Plain.{is_plain_command, is_sound}
-use Rattle.clap_command.proofs.Bools.{each_true, is_false, or_false}
+use Rattle.clap_command.proofs.Bools.{is_false, or_false}
 use Rattle.clap_command.proofs.HelpRefused.{no_help, help-refused}
 
 -- what the subcommand leaves of any words that it takes: its name and the rows of its arguments
@@ -59,8 +60,8 @@ has_subcommand : (s : Shape) (names : Names) (h : Held) (words : List Text) (has
     → level_passes s names h words has ≡ true → has ≡ true
 has_subcommand s names h words has required e =
     let end = (walk s.rules names h words).held in
-    let valid : is_valid s (finished s.rules end) has ≡ true = (each_true (list_all default_passes s.rules) _ (each_true (settle_passes s.rules s.args_override_self end) _ (each_true (walk_passes s names (walk_from h) words) _ e).1).1).1 in
-    let there : (not s.subcommand_required || has) ≡ true = (each_true _ _ (each_true _ _ valid).1).0 in
+    let valid : is_valid s (finished s.rules end) has ≡ true = (and_parts (list_all default_passes s.rules) _ (and_parts (settle_passes s.rules s.args_override_self end) _ (and_parts (walk_passes s names (walk_from h) words) _ e).1).1).1 in
+    let there : (not s.subcommand_required || has) ≡ true = (and_parts _ _ (and_parts _ _ valid).1).0 in
     subst (λ b. (not b || has) ≡ true) required there
 
 -- what holds of each subcommand holds of the one that the words name, where they are taken
@@ -70,9 +71,9 @@ at_subcommand Q a words plain each e =
     let b = built a in
     let given = argument_words a words in
     let stop = (walk b.top.rules (names_of b) nothing_held given).stopped in
-    let p = each_true (entered_passes b stop) _ (each_true (is_simple a) _ e).1 in
-    let q = each_true (list_all is_sound b.subs) _ (each_true (is_sound b.top) _ (each_true (is_simple_and_free a) _ plain).1).1 in
-    let r = each_true b.top.subcommand_required _ q.1 in
-    let walks : walk_passes b.top (names_of b) (walk_from nothing_held) given ≡ true = (each_true _ _ p.1).0 in
+    let p = and_parts (entered_passes b stop) _ (and_parts (is_simple a) _ e).1 in
+    let q = and_parts (list_all is_sound b.subs) _ (and_parts (is_sound b.top) _ (and_parts (is_simple_and_free a) _ plain).1).1 in
+    let r = and_parts b.top.subcommand_required _ q.1 in
+    let walks : walk_passes b.top (names_of b) (walk_from nothing_held) given ≡ true = (and_parts _ _ p.1).0 in
     entered_at Q b stop (help-refused b.top (names_of b) (walk_from nothing_held) given (is_false _ r.1) refl walks) each p.0
     (has_subcommand b.top (names_of b) nothing_held given _ r.0 p.1)

@@ -1,5 +1,5 @@
 -- What a look decides by are locations.
-use Rattle.std.proofs.Common.{ℕ, zero, suc, ◌<◌, List, [], ◌∷◌, ◌++◌, length, get_or, arith}
+use Rattle.std.proofs.Common.{ℕ, ◌<◌, List, [], ◌∷◌, ◌++◌, arith}
 use Rattle.isa.specs.declared.CallKind.{CallKind}
 use Rattle.isa.specs.declared.CallKind.TheVariants as kind
 use Rattle.isa.specs.declared.Instr.{Instr}
@@ -9,7 +9,8 @@ use Rattle.flow_model.specs.declared.Loc.{Loc}
 use Rattle.flow_model.specs.declared.Rule.{Rule}
 use Rattle.flow_model.specs.declared.Rule.TheVariants.{Copy, Keep, Compute, Index}
 use Rattle.flow_model.specs.Flow.{lanes, all_lanes}
-use Rattle.flow_model.specs.Ranges.{IsLocation, AreLocations}
+use Rattle.flow_model.specs.Ranges.{AreLocations}
+use Rattle.flow_model.proofs.Located.{in-lanes}
 use Rattle.taint_shadow.proofs.Meaning.{AreHere, lanes_here, union_here}
 use Rattle.decision_model.specs.Decides.{base_of_load, used, asked, decides}
 use Rattle.decision_model.specs.Decisions.{fetched_from}
@@ -22,41 +23,33 @@ both : (ls ms : List Loc) → AreLocations ls → AreLocations ms → AreLocatio
 both [] ms h k = k
 both (l ∷ ls) ms h k = (h.0, both ls ms h.1 k)
 
-pub located_at : (ls : List Loc) (i : ℕ) (d : Loc) → AreLocations ls → i < length ls → IsLocation (get_or ls i d)
-located_at [] i d h k = absurd (omega arith)
-located_at (l ∷ ls) zero d h k = h.0
-located_at (l ∷ ls) (suc i) d h k = located_at ls i d h.1 (omega arith)
-
-in_lanes : (r : ℕ) → r < 32 → AreLocations (lanes r)
-in_lanes r h = located (lanes r) (lanes_here r h)
-
 in_all_lanes : (a b : ℕ) → a < 32 → b < 32 → AreLocations (all_lanes a b 0)
 in_all_lanes a b h k = located (all_lanes a b 0) (union_here (lanes a) (lanes b) (lanes_here a h) (lanes_here b k))
 
 in_base : (rule : Rule) (a : ℕ) → a < 32 → AreLocations (base_of_load rule a)
-in_base Copy a h = in_lanes a h
-in_base Keep a h = in_lanes a h
-in_base Compute a h = in_lanes a h
+in_base Copy a h = in-lanes a h
+in_base Keep a h = in-lanes a h
+in_base Compute a h = in-lanes a h
 in_base Index a h = tt
 
 arguments : AreLocations (lanes 10 ++ lanes 11 ++ lanes 12)
-arguments = both (lanes 10) (lanes 11 ++ lanes 12) (in_lanes 10 (omega arith)) (both (lanes 11) (lanes 12) (in_lanes 11 (omega arith)) (in_lanes 12 (omega arith)))
+arguments = both (lanes 10) (lanes 11 ++ lanes 12) (in-lanes 10 (omega arith)) (both (lanes 11) (lanes 12) (in-lanes 11 (omega arith)) (in-lanes 12 (omega arith)))
 
 in_used : (k : CallKind) → AreLocations (used k)
 in_used kind.Read = arguments
 in_used kind.Write = arguments
 in_used kind.Clock = tt
 in_used kind.Other = tt
-in_used kind.Exit = in_lanes 10 (omega arith)
+in_used kind.Exit = in-lanes 10 (omega arith)
 
 in_call : (k : CallKind) → AreLocations (asked k)
-in_call k = both (used k) (lanes 17) (in_used k) (in_lanes 17 (omega arith))
+in_call k = both (used k) (lanes 17) (in_used k) (in-lanes 17 (omega arith))
 
 pub decides_located : (rule : Rule) (kind : CallKind) (i : Instr) → Fits i → AreLocations (decides rule kind i)
 decides_located rule kind (Lui d imm) h = tt
 decides_located rule kind (Auipc d imm) h = tt
 decides_located rule kind (Jal d imm) h = tt
-decides_located rule kind (Jalr d a imm) h = in_lanes a h.1
+decides_located rule kind (Jalr d a imm) h = in-lanes a h.1
 decides_located rule kind (Beq a b imm) h = in_all_lanes a b h.0 h.1
 decides_located rule kind (Bne a b imm) h = in_all_lanes a b h.0 h.1
 decides_located rule kind (Blt a b imm) h = in_all_lanes a b h.0 h.1
@@ -68,9 +61,9 @@ decides_located rule kind (Lh d a imm) h = in_base rule a h.1
 decides_located rule kind (Lw d a imm) h = in_base rule a h.1
 decides_located rule kind (Lbu d a imm) h = in_base rule a h.1
 decides_located rule kind (Lhu d a imm) h = in_base rule a h.1
-decides_located rule kind (Sb a b imm) h = in_lanes a h.0
-decides_located rule kind (Sh a b imm) h = in_lanes a h.0
-decides_located rule kind (Sw a b imm) h = in_lanes a h.0
+decides_located rule kind (Sb a b imm) h = in-lanes a h.0
+decides_located rule kind (Sh a b imm) h = in-lanes a h.0
+decides_located rule kind (Sw a b imm) h = in-lanes a h.0
 decides_located rule kind (Addi d a imm) h = tt
 decides_located rule kind (Slti d a imm) h = tt
 decides_located rule kind (Sltiu d a imm) h = tt

@@ -1,14 +1,13 @@
 -- The order of places is total, only the same tie, and the derived order is the definition's. Crates above cite these lemmas.
-use Rattle.std.proofs.Common.{◌≡◌, ℕ, List, ap, ap₂, nat_cmp, sym, ◌∙◌}
+use Rattle.std.proofs.Common.{◌≡◌, ℕ, ap, ap₂, nat_cmp}
 use Rattle.std.specs.Ordering.{ordering_then}
-use Rattle.std.specs.Cmp.{IsTotalOrder, on_total, tied_itself}
-use Rattle.std.specs.Cmp.Lexicographic.{slice_cmp, nat_list_cmp_total}
-use Rattle.std.specs.FinMap.{IsAntisymmetric, nat_cmp-IsAntisymmetric, slice_cmp-IsAntisymmetric}
+use Rattle.std.specs.Cmp.{IsTotalOrder, on_total}
+use Rattle.std.specs.Cmp.Lexicographic.{nat_list_cmp_total}
+use Rattle.std.specs.FinMap.{IsAntisymmetric}
 use Rattle.std.specs.declared.cmp.Ordering.{Ordering}
-use Rattle.std.specs.declared.cmp.Ordering.TheVariants.{Equal}
 use Rattle.flow_model.specs.declared.Loc.{Loc}
 use Rattle.flow_model.specs.Orders.{loc_key}
-use Rattle.flow_model.proofs.Orders.{loc_same}
+use Rattle.flow_model.proofs.Orders.{same_lists, same_loc}
 use Rattle.flow_model.proofs.Derived.{loc_order_is}
 use Rattle.decision_model.specs.declared.Place.{Place}
 use Rattle.decision_model.specs.contracts.PlaceOrd.TheImpl as of_place
@@ -16,15 +15,6 @@ use Rattle.decision_model.specs.Places.{place_key, place_cmp}
 
 pub place_total : IsTotalOrder place_cmp
 place_total = on_total place_key nat_list_cmp_total
-
-same_lists : (xs ys : List ℕ) → slice_cmp nat_cmp xs ys ≡ Equal → xs ≡ ys
-same_lists = slice_cmp-IsAntisymmetric nat_cmp-IsAntisymmetric
-
-same_loc : (a b : Loc) → loc_key a ≡ loc_key b → a ≡ b
-same_loc a b e = loc_same a b (ap (slice_cmp nat_cmp (loc_key a)) (sym e) ∙ itself (loc_key a))
-  where
-    itself : (xs : List ℕ) → slice_cmp nat_cmp xs xs ≡ Equal
-    itself xs = tied_itself nat_list_cmp_total xs
 
 same_place : (a b : Place) → place_key a ≡ place_key b → a ≡ b
 same_place a b e =

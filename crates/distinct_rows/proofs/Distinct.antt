@@ -16,6 +16,7 @@ use Rattle.flow_model.specs.Orders.{inner_cmp}
 use Rattle.flow_model.proofs.Orders.{inner_total}
 use Rattle.lists.specs.Sets.{IsBelow, Ascends}
 use Rattle.lists.proofs.Filters.{Ascends-filter}
+use Rattle.lists.proofs.Lists.{all-append}
 use Rattle.replay_model.specs.Offsets.{call_at, AreWritesApart}
 use Rattle.report_model.specs.Query.{Query, has_sink}
 use Rattle.report_model.specs.Rows.{Sink, row, sink_at, point_sink, points_at, sinks_of_call, sinks_of_step, sinks_from, rows_as_written, at_time}
@@ -36,10 +37,6 @@ IsAbove c o s = (b : SinkByte) → s.name ≡ Out b → c ≡ b.channel → o �
 -- a point is later than t
 abbrev IsLater : ℕ → Sink → Type 0
 IsLater t s = (p : InnerSink) → s.name ≡ At p → t < p.time
-
-all-append : {X : Type 0} (P : X → Type 0) (xs ys : List X) → AllByRecursion P xs → AllByRecursion P ys → AllByRecursion P (xs ++ ys)
-all-append P [] ys a b = b
-all-append P (x ∷ xs) ys a b = (a.0, all-append P xs ys a.1 b)
 
 -- a test keeps some of those of which P holds
 all-kept : {X : Type 0} (P : X → Type 0) (t : X → Bool) (xs : List X) → AllByRecursion P xs → AllByRecursion P (filter t xs)

@@ -1,9 +1,10 @@
 -- The loaded entries of a file where none is wrong.
-use Rattle.std.proofs.Common.{◌*◌, ◌/◌, ◌%◌, refl, ◌≡◌, ℕ, ◌+◌, ◌^◌, ◌≤◌, Bool, false, ◌||◌, List, [], ◌∷◌, map, arith}
+use Rattle.std.proofs.Common.{◌*◌, ◌/◌, ◌%◌, refl, ◌≡◌, ℕ, ◌+◌, ◌^◌, ◌≤◌, false, List, [], ◌∷◌, map, arith}
 use Rattle.std.proofs.lemmas.Bool.Decides.{nat_tests}
 use Rattle.std.proofs.lemmas.List.Elements.{All-nil, All-cons}
 use Rattle.std.proofs.lemmas.List.{length-take}
 use Rattle.std.specs.List.{All}
+use Rattle.std.proofs.lemmas.Bool.{or_parts}
 use Rattle.elf_model.specs.Image.{ProgramHeader, is_segment_wrong, is_any_segment_wrong, segment}
 use Rattle.elf_image.specs.Layout.{AscendFrom, IsInFile, IsLaidOut, IsPlaced, based}
 
@@ -12,10 +13,6 @@ abbrev pub AreInFile : ℕ → List ProgramHeader → Type 0
 AreInFile n [] = Unit {0}
 AreInFile n (h ∷ hs) = IsInFile n h × AreInFile n hs
 
--- neither test of a disjunction that is false is true
-both_false : (a b : Bool) → (a || b) ≡ false → (a ≡ false) × (b ≡ false)
-both_false a b e = grind (arith, nat_tests)
-
 -- an entry that isn't wrong lies in the file
 in_file : (n e : ℕ) (h : ProgramHeader) → is_segment_wrong n e h ≡ false → IsInFile n h
 in_file n e h right = grind (arith, nat_tests)
@@ -23,7 +20,7 @@ in_file n e h right = grind (arith, nat_tests)
 -- no entry past the file, where none is wrong
 pub are_in_file : (n e : ℕ) (hs : List ProgramHeader) → is_any_segment_wrong n e hs ≡ false → AreInFile n hs
 are_in_file n e [] right = tt
-are_in_file n e (h ∷ hs) right = let both = both_false (is_segment_wrong n e h) (is_any_segment_wrong n (h.p_vaddr + h.p_memsz) hs) right in
+are_in_file n e (h ∷ hs) right = let both = or_parts (is_segment_wrong n e h) (is_any_segment_wrong n (h.p_vaddr + h.p_memsz) hs) right in
     (in_file n e h both.0, are_in_file n (h.p_vaddr + h.p_memsz) hs both.1)
 
 -- an entry that isn't wrong begins above the end before it, has room for its bytes, and ends in the address space
@@ -33,7 +30,7 @@ right_segment n e h right = (grind (arith, nat_tests), grind (arith, nat_tests),
 -- entries that aren't wrong make segments that ascend
 pub ascending : (file : List ℕ) (n e : ℕ) (hs : List ProgramHeader) → is_any_segment_wrong n e hs ≡ false → AscendFrom e (map (segment file) hs)
 ascending file n e [] right = tt
-ascending file n e (h ∷ hs) right = let both = both_false (is_segment_wrong n e h) (is_any_segment_wrong n (h.p_vaddr + h.p_memsz) hs) right in
+ascending file n e (h ∷ hs) right = let both = or_parts (is_segment_wrong n e h) (is_any_segment_wrong n (h.p_vaddr + h.p_memsz) hs) right in
     ((right_segment n e h both.0).0, ascending file n (h.p_vaddr + h.p_memsz) hs both.1)
 
 -- such an entry makes a segment that is placed above any base below it
@@ -45,7 +42,7 @@ placed_one file n e base h below right = let facts = right_segment n e h right i
 pub placed : (file : List ℕ) (n e base : ℕ) (hs : List ProgramHeader) → base ≤ e → is_any_segment_wrong n e hs ≡ false → All (IsPlaced base) (map (segment file) hs)
 placed file n e base [] below right = All-nil (IsPlaced base)
 placed file n e base (h ∷ hs) below right =
-    let both = both_false (is_segment_wrong n e h) (is_any_segment_wrong n (h.p_vaddr + h.p_memsz) hs) right in
+    let both = or_parts (is_segment_wrong n e h) (is_any_segment_wrong n (h.p_vaddr + h.p_memsz) hs) right in
     let facts = right_segment n e h both.0 in
     All-cons (IsPlaced base) _ _ (placed_one file n e base h (omega arith) both.0) (placed file n (h.p_vaddr + h.p_memsz) base hs (omega arith) both.1)
 
@@ -57,7 +54,7 @@ page_aligned a = omega arith
 pub laid_out : (file : List ℕ) (n entry : ℕ) (hs : List ProgramHeader) → is_any_segment_wrong n 0 hs ≡ false → IsLaidOut (based entry (map (segment file) hs))
 laid_out file n entry [] right = record { page_aligned = refl; placed = All-nil _; ascending = tt }
 laid_out file n entry (h ∷ hs) right =
-    let both = both_false (is_segment_wrong n 0 h) (is_any_segment_wrong n (h.p_vaddr + h.p_memsz) hs) right in
+    let both = or_parts (is_segment_wrong n 0 h) (is_any_segment_wrong n (h.p_vaddr + h.p_memsz) hs) right in
     let below : h.p_vaddr / 4096 * 4096 ≤ h.p_vaddr = omega arith in
     record {
       page_aligned = page_aligned h.p_vaddr;

@@ -1,2 +1,2 @@
 mod CutTimes
-mod Numbered
+pub mod Numbered

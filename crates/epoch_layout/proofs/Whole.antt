@@ -6,7 +6,7 @@ use Rattle.std.specs.List.{AllByRecursion, flat_map, sum_by}
 use Rattle.std.proofs.lemmas.List.Sums.{sum_by-cons}
 use Rattle.flow_model.specs.declared.Loc.{Loc}
 use Rattle.flow_rule.specs.declared.Message.{Message}
-use Rattle.flow_rule.specs.declared.Message.TheVariants.{Ask, Byte, Close, End}
+use Rattle.flow_rule.specs.declared.Message.TheVariants.{End}
 use Rattle.report_model.specs.Rows.{Row}
 use Rattle.replayer.specs.Jobs.{trace_of}
 use Rattle.sink_collect.specs.Pairs.{capped}
@@ -16,7 +16,8 @@ use Rattle.epoch_cut.specs.Numbered.{NumberedEpoch, numbered}
 use Rattle.local_taint.specs.Following.{AreInRange}
 use Rattle.local_taint.proofs.Range.{all_in_range, trace_long}
 use Rattle.pass_parts.specs.Ends.{got_by, sent_by, EndsWhole}
-use Rattle.stream_model.specs.Streams.{is_ended, requests, Node, IsDone, AreDone, AreAllDone, summaries}
+use Rattle.pass_parts.proofs.Whole.{ended_whole}
+use Rattle.stream_model.specs.Streams.{requests, Node, IsDone, AreDone, AreAllDone, summaries}
 use Rattle.stream_model.specs.StreamLaws.{EndsLast, LinksCarry}
 use Rattle.stream_model.specs.Work.{node_work, work_in_all, asked_at, EndsBehind, EndsOutside}
 use Rattle.stream_model.proofs.Growing.{asks_end_last, answers_end_last}
@@ -36,15 +37,6 @@ abbrev pub streams : List DoneNode → List Node
 streams ds = map stream_of ds
 
 -- ---- a link at the end
-
-ended_whole : (ms : List Message) → EndsWhole ms → is_ended ms ≡ true
-ended_whole ms e = ap is_ended e.1 ∙ by e.0 where
-  by : (front : List Message) → is_ended (front ++ End true ∷ []) ≡ true
-  by [] = refl
-  by (Ask l ∷ ms) = by ms
-  by (Byte b ∷ ms) = by ms
-  by (Close l ∷ ms) = by ms
-  by (End whole ∷ ms) = refl
 
 -- who got the End got all that was sent
 closed : (got sent : Option (List Message)) → IsMore got sent → is_none got ≡ false → EndsLast (sent_by true true sent) → EndsWhole (got_by got) → got_by got ≡ sent_by true true sent

@@ -5,11 +5,11 @@ use Rattle.std.specs.List.{AllZip, range_with_len}
 use Rattle.std.proofs.lemmas.List.Elements.{All-nil, All-cons}
 use Rattle.epoch_model.specs.Cutting.{epochs}
 use Rattle.epoch_cut.specs.Numbered.{NumberedEpoch, numbered}
+use Rattle.epoch_cut.proofs.Numbered.{length-numbered}
 use Rattle.run_board.specs.Tasks.{AreNumbered}
 use Rattle.epoch_node.specs.Nodes.{NodeView, IsLedFrom}
 use Rattle.epoch_turns.specs.Groups.{AreOfJob, AreOfOneJob}
 use Rattle.epoch_layout.specs.Layouts.{CutRun, epochs_of, Links, node_between, laid_out, IsLayout, IsRunOf}
-use Rattle.epoch_layout.proofs.Tickets.{length-numbered}
 
 module _ (capacity : ℕ) (run : CutRun) where
   length_laid : (b : Option Links) (es : List NumberedEpoch) (ls : List Links) → length ls + 1 ≡ length es → length (laid_out capacity run b es ls) ≡ length es

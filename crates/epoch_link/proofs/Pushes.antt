@@ -6,6 +6,7 @@ use mathlib.Core.Logic.{dite}
 use native.Mathlib.Decide.{ℕ_discrete, dec_le}
 use lib.ListN.{get_elem?}
 use Rattle.std.proofs.lemmas.Option.{none-some}
+use Rattle.std.proofs.lemmas.Bool.{false≢true}
 use Rattle.atomic_table.specs.Table.{State, Me, step, keeps, takes, gives, Allows}
 use Rattle.atomic_table.proofs.Lists.{at_set, set_here, set_else}
 use Rattle.epoch_link.specs.declared.ring_link.view.View.{View}
@@ -16,9 +17,6 @@ use Rattle.epoch_link.proofs.Items.{item-append, item-last, item-past, front, di
 abbrev IsFalse : Bool → Type 0
 IsFalse true = ⊥
 IsFalse false = Unit {0}
-
-pub false-true : false ≡ true → ⊥
-false-true e = subst IsFalse e tt
 
 pub lt_of_le_ne : (a b : ℕ) → a ≤ b → a ≢ b → a < b
 lt_of_le_ne a b h ne = dite (dec_le b a) (λ g. absurd (ne (omega arith))) (λ g. lt_of_not-le g)
@@ -70,7 +68,7 @@ module _ {T : Type 0} where
   -- where the producer has no slot out and the ring is not full, the next slot is at home and holds nothing
   free : (n : ℕ) (s : State (Option T) (View T)) (r : Ring n s) → r.lends ≡ false → length r.delivered.held < n → get_elem? s.homes (length r.sent % n) ≡ some (some None)
   free n s r idle room = let l = long n s r in
-      r.at_home (length r.sent) (omega arith) (omega arith) (λ _ f. false-true (sym idle ∙ f))
+      r.at_home (length r.sent) (omega arith) (omega arith) (λ _ f. false≢true (sym idle ∙ f))
       (λ x e f. none-some x (sym (item-past r.delivered.held 0 (omega arith)) ∙ r.first x f))
       ∙ ap (λ (o : Option T). some (some o)) (item-past r.sent (length r.sent) (omega arith))
 
@@ -170,7 +168,7 @@ module _ {T : Type 0} where
               ∙ set_here s.homes k (some (Some x)) (omega arith) ∙ ap (λ (o : Option T). some (some o)) (sym (item-last r.sent x p (sym e))))
               (λ ne. set_else s.homes k (p % n) (some (Some x)) (λ e. ne (one_slot (length r.got) n p (length r.sent) lo hi (omega arith) (omega arith) (e ∙ k_is)))
               ∙ r.at_home p lo hi (λ e _. ne e) not_next ∙ ap (λ (o : Option T). some (some o)) (item_sent r.sent x p ne));
-          room = λ f. absurd (false-true f);
+          room = λ f. absurd (false≢true f);
           first = λ u f. let e = r.first u f in let fr = front r.delivered.held u e in item-append r.delivered.held (x ∷ []) 0 (omega (arith, ap length fr.1)) ∙ e;
           seats = seats_pushed s.views r.producer r.consumer id r.sent sent' r.lends false r.got r.next v w r.seats at mine (ap (λ (a : List T). a ++ x ∷ []) me_is.1) refl refl refl refl;
           has_producer = keeps_producer s.views r.producer id v w at refl r.has_producer;

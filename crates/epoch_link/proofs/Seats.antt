@@ -4,11 +4,12 @@ use Rattle.std.proofs.lemmas.List.{length-map, length-replicate}
 use mathlib.Core.Option.{some, some-injective, some-ne-none}
 use lib.ListN.{get_elem?}
 use Rattle.std.proofs.lemmas.Option.{none-some}
+use Rattle.std.proofs.lemmas.Bool.{false≢true}
 use Rattle.atomic_table.specs.Table.{State, opening, Splits, Joins}
 use Rattle.atomic_table.proofs.Lists.{at_set, set_here, set_else, at_longer, at_last}
 use Rattle.epoch_link.specs.declared.ring_link.view.View.{View}
 use Rattle.epoch_link.specs.Ring.{Produces, Consumes, Seats, HasProducer, HasConsumer, Ring, opening_view, producers_part, consumers_part, joined, spent_view}
-use Rattle.epoch_link.proofs.Pushes.{false-true, is_there, keeps_producer}
+use Rattle.epoch_link.proofs.Pushes.{is_there, keeps_producer}
 
 at_end : {A : Type 0} (l : List A) (a b : A) (j : ℕ) → get_elem? (l ++ a ∷ []) j ≡ some b → (get_elem? l j ≡ some b) ⊎ ((j ≡ length l) × (a ≡ b))
 at_end [] a b zero e = inr (refl, some-injective a b e)
@@ -43,7 +44,7 @@ module _ {T : Type 0} where
     head_is = refl;
     delivered = record { held = []; in_order = refl; fits = omega arith };
     at_home = λ p lo hi _ _. vacant_at n (p % n) (mod-lt p pos);
-    room = λ f. absurd (false-true f);
+    room = λ f. absurd (false≢true f);
     first = λ x f. absurd (none-some x f);
     seats = first_seat;
     has_producer = (opening_view, refl, refl);
@@ -80,10 +81,10 @@ module _ {T : Type 0} where
       let Good : ℕ → View T → Type 0 = λ j z. (z.produces ≡ true → Produces z j r.producer r.sent r.lends) × (z.consumes ≡ true → Consumes z j (length vs) r.got r.next) in
       reseated n s r r.producer (length vs) (vs ++ consumers_part v ∷ []) (λ j u here. ⊎_elim
       (λ old. ⊎_elim
-      (λ t. subst (Good j) t.1 ((λ _. (t.0 ∙ pm.0, pm.1, pm.2)), (λ f. absurd (false-true f))))
+      (λ t. subst (Good j) t.1 ((λ _. (t.0 ∙ pm.0, pm.1, pm.2)), (λ f. absurd (false≢true f))))
       (λ t. ((λ f. absurd (t.0 (((r.seats j u t.1).0 f).0 ∙ sym pm.0))), (λ f. absurd (t.0 (((r.seats j u t.1).1 f).0 ∙ sym cm.0)))))
       (at_set s.views id j (producers_part v) u old))
-      (λ t. subst (Good j) t.1 ((λ f. absurd (false-true f)), (λ _. (t.0, cm.1, cm.2))))
+      (λ t. subst (Good j) t.1 ((λ f. absurd (false≢true f)), (λ _. (t.0, cm.1, cm.2))))
       (at_end vs (consumers_part v) u j here))
       (still_produces (keeps_producer s.views r.producer id v (producers_part v) at refl r.has_producer))
       (consumers_part v, at_last vs (consumers_part v) (length vs) refl, c)
@@ -97,7 +98,7 @@ module _ {T : Type 0} where
       let Good : ℕ → View T → Type 0 = λ j z. (z.produces ≡ true → Produces z j r.producer r.sent r.lends) × (z.consumes ≡ true → Consumes z j id r.got r.next) in
       let both_there : get_elem? (set vs other spent_view) id ≡ some (joined v w) = set_else vs other id spent_view (λ e. two (sym e)) ∙ set_here s.views id (joined v w) (is_there s.views id v at) in
       reseated n s r r.producer id (set vs other spent_view) (λ j u here. ⊎_elim
-      (λ t. subst (Good j) t.1 ((λ f. absurd (false-true f)), (λ f. absurd (false-true f))))
+      (λ t. subst (Good j) t.1 ((λ f. absurd (false≢true f)), (λ f. absurd (false≢true f))))
       (λ o. ⊎_elim
       (λ t. subst (Good j) t.1 ((λ _. (t.0 ∙ pm.0, pm.1, pm.2)), (λ _. (t.0, cm.1, cm.2))))
       (λ t. ((λ f. absurd (t.0 (((r.seats j u t.1).0 f).0 ∙ sym pm.0))), (λ f. absurd (o.0 (((r.seats j u t.1).1 f).0 ∙ sym cm.0)))))

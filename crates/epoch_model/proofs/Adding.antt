@@ -1,48 +1,35 @@
 -- Lists to which each location is added once, and answers that stand in their order. Crates above cite these lemmas.
 use Rattle.std.proofs.Common.{◌≡◌, List, [], ◌∷◌, ◌++◌, map, refl, ap, ap₂, sym, subst, ◌∙◌, Bool, true, false, ◌||◌, cond, arith}
 use Rattle.std.specs.List.{list_any, AllByRecursion, IsDistinct}
-use Rattle.std.specs.Cmp.{tied_itself}
-use Rattle.std.specs.Ordering.{eq_by_cmp, is_eq, ordering_reverse}
-use Rattle.std.specs.declared.cmp.Ordering.{Ordering}
-use Rattle.std.specs.declared.cmp.Ordering.TheVariants.{Less, Equal, Greater}
+use Rattle.std.specs.Ordering.{eq_by_cmp}
 use Rattle.std.proofs.lemmas.List.Folds.{list_any-append}
 use Rattle.flow_model.specs.declared.Loc.{Loc}
 use Rattle.flow_model.specs.declared.SourceByte.{SourceByte}
-use Rattle.lists.specs.Sets.{union, has}
+use Rattle.lists.specs.Sets.{union, has, Ascends}
 use Rattle.flow_model.specs.Orders.{loc_cmp, source_cmp}
 use Rattle.flow_model.specs.Origins.{union_over}
 use Rattle.std.proofs.lemmas.Grind.{common_steps}
 use Rattle.std.proofs.lemmas.Bool.{or_parts, or_right}
+use Rattle.std.proofs.Math.Bool.{or-false, or_assoc}
+use Rattle.std.proofs.lemmas.Cmp.{eq_by_cmp_equiv}
 use Rattle.flow_model.specs.declared.Loc.TheVariants.{Reg, Mem}
 use Rattle.flow_model.specs.Flow.{loc_eq}
 use Rattle.flow_model.proofs.Orders.{loc_total, loc_same}
 use Rattle.lists.proofs.Algebra.{tied_by}
+use Rattle.lists.proofs.Lists.{all-append}
 use Rattle.epoch_model.specs.Crossing.{added, added_all}
 use Rattle.epoch_model.specs.Join.{answer_to}
-use Rattle.epoch_model.proofs.AnyOf.{or_grouped, or_false}
-use Rattle.epoch_model.proofs.Lists.{all-append}
 
 -- ---- equal locations
 
 loc_is : (l m : Loc) → eq_by_cmp loc_cmp l m ≡ true → l ≡ m
 loc_is l m e = loc_same l m (tied_by (loc_cmp l m) e)
 
-pub loc_itself : (l : Loc) → eq_by_cmp loc_cmp l l ≡ true
-loc_itself l = ap is_eq (tied_itself loc_total l)
-
-is_eq_turned : (r : Ordering) → is_eq (ordering_reverse r) ≡ is_eq r
-is_eq_turned Less = refl
-is_eq_turned Equal = refl
-is_eq_turned Greater = refl
-
-loc_eq_turned : (l m : Loc) → eq_by_cmp loc_cmp m l ≡ eq_by_cmp loc_cmp l m
-loc_eq_turned l m = ap is_eq (loc_total.antisymm m l) ∙ is_eq_turned (loc_cmp l m)
-
 -- ---- adding
 
 kept_test : (a b : Bool) → ((a || b) || a) ≡ (a || b)
 kept_test true b = refl
-kept_test false b = or_false b
+kept_test false b = or-false b
 
 -- a test that one of the locations passes is passed in the list
 any_with : (f : Loc → Bool) (l : Loc) (ls : List Loc) → has loc_cmp l ls ≡ true → (list_any f ls || f l) ≡ list_any f ls
@@ -50,17 +37,17 @@ any_with f l [] e = cc
 any_with f l (m ∷ ms) e = by (any_with f l ms) (eq_by_cmp loc_cmp l m) refl e where
   by : (has loc_cmp l ms ≡ true → (list_any f ms || f l) ≡ list_any f ms) → (b : Bool) → eq_by_cmp loc_cmp l m ≡ b → (b || has loc_cmp l ms) ≡ true → ((f m || list_any f ms) || f l) ≡ (f m || list_any f ms)
   by ih true same h = subst (λ (k : Loc). ((f m || list_any f ms) || f k) ≡ (f m || list_any f ms)) (sym (loc_is l m same)) (kept_test (f m) (list_any f ms))
-  by ih false other h = sym (or_grouped (f m) (list_any f ms) (f l)) ∙ ap (λ (b : Bool). f m || b) (ih h)
+  by ih false other h = or_assoc (f m) (list_any f ms) (f l) ∙ ap (λ (b : Bool). f m || b) (ih h)
 
 any_added : (f : Loc → Bool) (asked : List Loc) (l : Loc) → list_any f (added asked l) ≡ (list_any f asked || f l)
 any_added f asked l = by (has loc_cmp l asked) refl where
   by : (b : Bool) → has loc_cmp l asked ≡ b → list_any f (cond b asked (asked ++ l ∷ [])) ≡ (list_any f asked || f l)
   by true e = sym (any_with f l asked e)
-  by false e = list_any-append f asked (l ∷ []) ∙ ap (λ (b : Bool). list_any f asked || b) (or_false (f l))
+  by false e = list_any-append f asked (l ∷ []) ∙ ap (λ (b : Bool). list_any f asked || b) (or-false (f l))
 
 pub any_added_all : (f : Loc → Bool) (asked ls : List Loc) → list_any f (added_all asked ls) ≡ (list_any f asked || list_any f ls)
-any_added_all f asked [] = sym (or_false (list_any f asked))
-any_added_all f asked (l ∷ ls) = any_added_all f (added asked l) ls ∙ ap (λ (b : Bool). b || list_any f ls) (any_added f asked l) ∙ sym (or_grouped (list_any f asked) (f l) (list_any f ls))
+any_added_all f asked [] = sym (or-false (list_any f asked))
+any_added_all f asked (l ∷ ls) = any_added_all f (added asked l) ls ∙ ap (λ (b : Bool). b || list_any f ls) (any_added f asked l) ∙ or_assoc (list_any f asked) (f l) (list_any f ls)
 
 -- what holds of each location of both lists
 module _ (P : Loc → Type 0) where
@@ -85,7 +72,7 @@ unfolding IsDistinct
 once_more [] l e a = (tt, tt)
 once_more (m ∷ ms) l e a =
     let parts = or_parts (eq_by_cmp loc_cmp l m) (has loc_cmp l ms) e in
-    (all-append (λ k. eq_by_cmp loc_cmp m k ≡ false) ms (l ∷ []) a.0 (loc_eq_turned l m ∙ parts.0, tt), once_more ms l parts.1 a.1)
+    (all-append (λ k. eq_by_cmp loc_cmp m k ≡ false) ms (l ∷ []) a.0 ((eq_by_cmp_equiv loc_total).symm m l ∙ parts.0, tt), once_more ms l parts.1 a.1)
 
 once_added : (asked : List Loc) (l : Loc) → IsDistinct (eq_by_cmp loc_cmp) asked → IsDistinct (eq_by_cmp loc_cmp) (added asked l)
 once_added asked l a = by (has loc_cmp l asked) refl where
@@ -110,7 +97,7 @@ answer_is f (m ∷ ms) l e = by (answer_is f ms l) (eq_by_cmp loc_cmp l m) refl 
 -- what holds of each location that the list has holds of all in it
 pub all_had : (P : Loc → Type 0) (ls : List Loc) → ((l : Loc) → has loc_cmp l ls ≡ true → P l) → AllByRecursion P ls
 all_had P [] h = tt
-all_had P (l ∷ ls) h = (h l (ap (λ (b : Bool). b || has loc_cmp l ls) (loc_itself l)), all_had P ls (λ k e. h k (or_right (eq_by_cmp loc_cmp k l) (has loc_cmp k ls) e)))
+all_had P (l ∷ ls) h = (h l (ap (λ (b : Bool). b || has loc_cmp l ls) ((eq_by_cmp_equiv loc_total).refl l)), all_had P ls (λ k e. h k (or_right (eq_by_cmp loc_cmp k l) (has loc_cmp k ls) e)))
 
 -- the union is the same where both give the same at each location
 pub union_over_same : (f g : Loc → List SourceByte) (ls : List Loc) → AllByRecursion (λ l. f l ≡ g l) ls → union_over f ls ≡ union_over g ls
@@ -125,3 +112,17 @@ test_alike (Reg r i) (Reg q j) = grind (arith, common_steps)
 test_alike (Reg r i) (Mem p) = refl
 test_alike (Mem p) (Reg r i) = refl
 test_alike (Mem p) (Mem q) = grind (arith, common_steps)
+
+-- ---- some locations, and then some more; an answer among answers
+
+pub added_all-append : (asked xs ys : List Loc) → added_all asked (xs ++ ys) ≡ added_all (added_all asked xs) ys
+added_all-append asked [] ys = refl
+added_all-append asked (x ∷ xs) ys = added_all-append (added asked x) xs ys
+
+pub Ascends-answer : (asked : List Loc) (answers : List (List SourceByte)) (l : Loc) → AllByRecursion (Ascends source_cmp) answers → Ascends source_cmp (answer_to asked answers l)
+Ascends-answer [] answers l a = tt
+Ascends-answer (m ∷ asked) [] l a = tt
+Ascends-answer (m ∷ asked) (x ∷ xs) l a = by (Ascends-answer asked xs l a.1) (eq_by_cmp loc_cmp l m) where
+  by : Ascends source_cmp (answer_to asked xs l) → (b : Bool) → Ascends source_cmp (cond b x (answer_to asked xs l))
+  by ih true = a.0
+  by ih false = ih

@@ -4,6 +4,7 @@ use Rattle.std.specs.List.{list_any, flat_map, AllByRecursion}
 use Rattle.std.specs.Ordering.{eq_by_cmp}
 use Rattle.std.proofs.lemmas.List.Folds.{list_any-append}
 use Rattle.std.proofs.lemmas.List.Elements.{recursion_from_All, All-from_recursion}
+use Rattle.lists.proofs.Lists.{all-append, all-weaken, all-map}
 use Rattle.flow_model.specs.declared.Loc.{Loc}
 use Rattle.flow_model.specs.declared.InnerSink.{InnerSink}
 use Rattle.flow_model.specs.declared.StepSeen.{StepSeen}
@@ -20,7 +21,7 @@ use Rattle.epoch_model.specs.Crossing.{added_all, wanted, asked_by, crossing, cr
 use Rattle.epoch_model.specs.JoinLaws.{AsksWhatIsNeeded, AsksLocations, AsksByCuts, AsksOnce, DefinedAreSummaries}
 use Rattle.epoch_model.proofs.AnyOf.{any_flat, any_union}
 use Rattle.epoch_model.proofs.Composing.{any_past}
-use Rattle.epoch_model.proofs.Lists.{all-append, all-weaker, all-flat, all-map, any_agreeing, flat_agreeing}
+use Rattle.epoch_model.proofs.Lists.{all-flat, any_agreeing, flat_agreeing}
 use Rattle.epoch_model.proofs.Located.{located-past}
 use Rattle.epoch_model.proofs.Adding.{any_added_all, all-added_all, none_distinct, once_added_all}
 use Rattle.epoch_model.proofs.Sinks.{IsPlaced, sinks-split, sinks-later, placed-between, placed-of_epoch}
@@ -64,12 +65,12 @@ module _ (q : Query) (trace : List StepSeen) (steps : AllByRecursion IsInRange t
   located-wanted s n e requests i a =
       let policy = policy_of q in
       let sinks = sinks_of_epoch q trace s n in
-      let of_sinks = all-weaker (IsPlaced q s) (λ (k : Sink). AllByRecursion IsLocation (sink_terms policy trace s k).terms.starts) (λ (k : Sink) at. located-past policy.rule trace s (k.time - s) k.loc steps at.1) sinks (placed-of_epoch q points trace s n) in
+      let of_sinks = all-weaken (IsPlaced q s) (λ (k : Sink). AllByRecursion IsLocation (sink_terms policy trace s k).terms.starts) (λ (k : Sink) at. located-past policy.rule trace s (k.time - s) k.loc steps at.1) sinks (placed-of_epoch q points trace s n) in
       let mapped = all-map (λ (k : SinkTerms). AllByRecursion IsLocation k.terms.starts) (sink_terms policy trace s) sinks of_sinks in
       all-append IsLocation (flat_map (λ k. k.terms.starts) e.sinks) (flat_map (λ l. (e.ends l).starts) requests)
       (all-flat IsLocation (λ k. k.terms.starts) e.sinks (subst (AllByRecursion (λ (k : SinkTerms). AllByRecursion IsLocation k.terms.starts)) (sym i.sinks) mapped))
       (all-flat IsLocation (λ l. (e.ends l).starts) requests
-      (all-weaker IsLocation (λ (l : Loc). AllByRecursion IsLocation (e.ends l).starts) (λ l h. subst (λ (t : Terms). AllByRecursion IsLocation t.starts) (sym (i.ends l h)) (located-past policy.rule trace s n l steps h)) requests a))
+      (all-weaken IsLocation (λ (l : Loc). AllByRecursion IsLocation (e.ends l).starts) (λ l h. subst (λ (t : Terms). AllByRecursion IsLocation t.starts) (sym (i.ends l h)) (located-past policy.rule trace s n l steps h)) requests a))
 
   pub located-crossing : (s : ℕ) (cs : List ℕ) (es : List Summary) → AreSummaries q trace s cs es → AllByRecursion IsLocation (crossing es)
   located-crossing s cs [] a = tt
@@ -79,7 +80,7 @@ module _ (q : Query) (trace : List StepSeen) (steps : AllByRecursion IsInRange t
   -- the start locations of asked locations are those of the definitions
   starts_are : (s n : ℕ) (e : Summary) (requests : List Loc) → IsSummary q trace s n e → AllByRecursion IsLocation requests
       → AllByRecursion (λ l. (e.ends l).starts ≡ past (policy_of q).rule trace s n l) requests
-  starts_are s n e requests i = all-weaker IsLocation (λ l. (e.ends l).starts ≡ past (policy_of q).rule trace s n l) (λ l h. ap (λ (t : Terms). t.starts) (i.ends l h)) requests
+  starts_are s n e requests i = all-weaken IsLocation (λ l. (e.ends l).starts ≡ past (policy_of q).rule trace s n l) (λ l h. ap (λ (t : Terms). t.starts) (i.ends l h)) requests
 
   -- ---- they are those that are needed
 
@@ -105,7 +106,7 @@ module _ (q : Query) (trace : List StepSeen) (steps : AllByRecursion IsInRange t
       ∙ ap₂ (λ (a b : Bool). a || b)
       (ap (list_any (λ k. list_any f k.terms.starts)) ((a.0).sinks ∙ ap (map (sink_terms policy trace s)) (sinks-later q trace s (c - s) pos))
       ∙ any_map _ (sink_terms policy trace s) (sinks_between q trace s (c - s)))
-      (any_agreeing _ early (crossing es) (all-weaker _ (λ (l : Loc). list_any f (e.ends l).starts ≡ early l) (λ l same. ap (list_any f) same) (crossing es) starts)
+      (any_agreeing _ early (crossing es) (all-weaken _ (λ (l : Loc). list_any f (e.ends l).starts ≡ early l) (λ l same. ap (list_any f) same) (crossing es) starts)
       ∙ any_crossing early c cs t es (omega (arith, h.0)) h.1 a.1
       ∙ all_flow f s c low (sinks_between q trace c (t - c)) (placed-between q points trace c (t - c)))
       ∙ sym (ap (list_any (flows_in policy trace f s)) (sinks-split q trace s c t low (rises_up c cs t h.1))

@@ -3,6 +3,7 @@ use Rattle.std.proofs.Common.{◌≡◌, ℕ, zero, suc, ◌+◌, List, [], ◌�
 use Rattle.std.specs.Prelude.{Option, Some, None}
 use Rattle.std.specs.List.{list_any}
 use Rattle.std.specs.Ordering.{eq_by_cmp}
+use Rattle.std.proofs.Math.Bool.{or-false, or_assoc}
 use Rattle.flow_model.specs.declared.Loc.{Loc}
 use Rattle.flow_model.specs.declared.Rule.{Rule}
 use Rattle.flow_model.specs.declared.SourceByte.{SourceByte}
@@ -12,11 +13,12 @@ use Rattle.flow_model.specs.Orders.{source_cmp, loc_cmp}
 use Rattle.flow_model.specs.Flow.{from}
 use Rattle.flow_model.specs.Origins.{Policy, origins, fresh, union_over, after_step, step_at}
 use Rattle.lists.proofs.Algebra.{Ascends-union, same_list}
+use Rattle.lists.proofs.Lists.{list_any-same}
 use Rattle.flow_model.proofs.Orders.{loc_total, loc_same, source_total, source_same}
 use Rattle.flow_model.proofs.Origins.{Ascends-union_over, Ascends-origins}
 use Rattle.epoch_model.specs.Stretch.{locations_over, from_step, fresh_step, past, born}
 use Rattle.epoch_model.specs.StretchLaws.{OriginsCompose, PastComposes}
-use Rattle.epoch_model.proofs.AnyOf.{or_false, or_grouped, any_either, any_same, any_union, any_union_over, any_locations_over}
+use Rattle.epoch_model.proofs.AnyOf.{any_either, any_union, any_union_over, any_locations_over}
 
 -- ---- past
 
@@ -35,7 +37,7 @@ pub any_past : (f : Loc → Bool) (rule : Rule) (trace : List StepSeen) (r m n :
     → list_any f (past rule trace r (m + n) l) ≡ list_any (λ k. list_any f (past rule trace r m k)) (past rule trace (r + m) n l)
 any_past f rule trace r m zero l =
     let none : m + 0 ≡ m = omega arith in
-    ap (λ (i : ℕ). list_any f (past rule trace r i l)) none ∙ sym (or_false (list_any f (past rule trace r m l)))
+    ap (λ (i : ℕ). list_any f (past rule trace r i l)) none ∙ sym (or-false (list_any f (past rule trace r m l)))
 any_past f rule trace r m (suc n) l =
     let later : m + suc n ≡ suc (m + n) = omega arith in
     let place : r + (m + n) ≡ (r + m) + n = omega arith in
@@ -43,7 +45,7 @@ any_past f rule trace r m (suc n) l =
     ap (λ (i : ℕ). list_any f (past rule trace r i l)) later
     ∙ ap (λ (t : ℕ). list_any f (locations_over (past rule trace r (m + n)) (from_step rule (step_at trace t) l))) place
     ∙ any_locations_over f (past rule trace r (m + n)) before
-    ∙ any_same _ _ (any_past f rule trace r m n) before
+    ∙ list_any-same _ _ (any_past f rule trace r m n) before
     ∙ sym (any_locations_over (λ k. list_any f (past rule trace r m k)) (past rule trace (r + m) n) before)
 
 pub past_composes : PastComposes
@@ -58,7 +60,7 @@ any_origins : (f : SourceByte → Bool) (policy : Policy) (trace : List StepSeen
     → list_any f (origins policy trace (s + n) l) ≡ (list_any f (born policy trace s n l) || list_any (λ k. list_any f (origins policy trace s k)) (past policy.rule trace s n l))
 any_origins f policy trace s zero l =
     let none : s + 0 ≡ s = omega arith in
-    ap (λ (t : ℕ). list_any f (origins policy trace t l)) none ∙ sym (or_false (list_any f (origins policy trace s l)))
+    ap (λ (t : ℕ). list_any f (origins policy trace t l)) none ∙ sym (or-false (list_any f (origins policy trace s l)))
 any_origins f policy trace s (suc n) l =
     let later : s + suc n ≡ suc (s + n) = omega arith in
     ap (λ (t : ℕ). list_any f (origins policy trace t l)) later ∙ by (any_origins f policy trace s n) (step_at trace (s + n)) where
@@ -77,8 +79,8 @@ any_origins f policy trace s (suc n) l =
           let old = list_any (λ k. list_any f (born policy trace s n k)) before in
           let older = list_any (λ k. list_any at_start (past policy.rule trace s n k)) before in
           any_union source_same f (fresh policy step l) (union_over (origins policy trace (s + n)) before)
-          ∙ ap (λ (b : Bool). new || b) (any_union_over f (origins policy trace (s + n)) before ∙ any_same _ _ ih before ∙ any_either _ _ before)
-          ∙ or_grouped new old older
+          ∙ ap (λ (b : Bool). new || b) (any_union_over f (origins policy trace (s + n)) before ∙ list_any-same _ _ ih before ∙ any_either _ _ before)
+          ∙ sym (or_assoc new old older)
           ∙ sym (ap₂ (λ (a b : Bool). a || b)
           (any_union source_same f (fresh policy step l) (union_over (born policy trace s n) before) ∙ ap (λ (b : Bool). new || b) (any_union_over f (born policy trace s n) before))
           (any_locations_over at_start (past policy.rule trace s n) before))

@@ -8,3 +8,4 @@ pub mod Joining
 mod Lists
 mod Located
 mod Worked
+pub mod Cutting

@@ -3,6 +3,7 @@ use Rattle.std.proofs.Common.{◌≡◌, ℕ, zero, suc, ◌+◌, ◌-◌, ◌<�
 use Rattle.std.specs.Prelude.{Option, Some, None}
 use Rattle.std.specs.List.{filter, range_with_len, AllByRecursion}
 use Rattle.std.proofs.lemmas.Bool.{eqb-true}
+use Rattle.lists.proofs.Lists.{all-append, all-weaken, all-filter, all-map}
 use Rattle.isa.specs.declared.CallKind.{CallKind}
 use Rattle.isa.specs.declared.CallKind.TheVariants as kind
 use Rattle.flow_model.specs.declared.InnerSink.{InnerSink}
@@ -13,7 +14,6 @@ use Rattle.flow_model.specs.Ranges.{IsLocation}
 use Rattle.report_model.specs.Query.{Query, has_sink}
 use Rattle.report_model.specs.Rows.{Sink, sink_at, sinks_of_call, sinks_of_step, point_sink, points_at, sinks_from, chosen_sinks}
 use Rattle.epoch_model.specs.Stretch.{sinks_at_step, sinks_between, points_at_start, sinks_of_epoch}
-use Rattle.epoch_model.proofs.Lists.{all-append, all-weaker, all-filter, all-map}
 
 module _ (q : Query) where
   -- ---- stretches
@@ -95,13 +95,13 @@ module _ (q : Query) where
   module _ (located : AllByRecursion (λ p. IsLocation p.loc) q.points) where
     placed-points : (s t : ℕ) → s ≤ t → AllByRecursion (IsPlaced s) (points_at q t)
     placed-points s t h = all-map (IsPlaced s) point_sink (filter (λ p. p.time == t) q.points)
-        (all-weaker _ (λ (p : InnerSink). IsPlaced s (point_sink p)) (λ (p : InnerSink) at. let now = eqb-true p.time t at.0 in (omega (arith, h, now), at.1)) (filter (λ p. p.time == t) q.points)
+        (all-weaken _ (λ (p : InnerSink). IsPlaced s (point_sink p)) (λ (p : InnerSink) at. let now = eqb-true p.time t at.0 in (omega (arith, h, now), at.1)) (filter (λ p. p.time == t) q.points)
         (all-filter (λ (p : InnerSink). IsLocation p.loc) (λ p. p.time == t) q.points located))
 
     placed-at_step : (s t : ℕ) → s ≤ t → (step : Option StepSeen) → AllByRecursion (IsPlaced s) (sinks_at_step q t step)
     placed-at_step s t h None = tt
     placed-at_step s t h (Some step) = all-append (IsPlaced s) (filter (λ k. has_sink q k.name) (sinks_of_step t step.call)) (points_at q (t + 1))
-        (all-weaker _ (IsPlaced s) (λ (k : Sink) at. at.1) _ (all-filter (IsPlaced s) (λ k. has_sink q k.name) (sinks_of_step t step.call) (placed-step s t step.call h)))
+        (all-weaken _ (IsPlaced s) (λ (k : Sink) at. at.1) _ (all-filter (IsPlaced s) (λ k. has_sink q k.name) (sinks_of_step t step.call) (placed-step s t step.call h)))
         (placed-points s (t + 1) (omega (arith, h)))
 
     -- the sinks of a stretch, and of an epoch, are at locations at its start or later

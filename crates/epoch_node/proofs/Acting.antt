@@ -1,6 +1,7 @@
 -- What the parts of an event keep.
 use Rattle.std.proofs.Common.{◌≡◌, inl, inr, List, [], ◌∷◌, ◌++◌, append-nil, refl, ap, ap₂, sym, subst, ◌∙◌, Bool, true, false}
 use Rattle.std.specs.Prelude.{Option, Some, None, is_none}
+use Rattle.lists.proofs.Tests.{true-false}
 use Rattle.epoch_link.specs.Link.{EndView}
 use Rattle.flow_model.specs.declared.Loc.{Loc}
 use Rattle.flow_rule.specs.declared.Message.{Message}
@@ -13,7 +14,7 @@ use Rattle.stream_model.specs.Passes.{Answering as AnsweringState, answering_sta
 use Rattle.stream_model.specs.PassLaws.{AsksSent, AnswersSent}
 use Rattle.stream_model.specs.Schedules.{begun}
 use Rattle.stream_model.proofs.Moving.{sent_part, IsGot, AskMoved, asking_moves, AnswerMoved, answering_moves}
-use Rattle.stream_model.proofs.Passing.{no, begun_whole}
+use Rattle.stream_model.proofs.Passing.{begun_whole}
 use Rattle.pass_parts.specs.declared.pass_turn.PassTurn.{PassTurn}
 use Rattle.pass_parts.specs.Ends.{through, IsEndFrom, got_by, sent_by, fresh_end}
 use Rattle.pass_parts.specs.Known.{known}
@@ -43,19 +44,19 @@ more_still old new e = subst (IsMore old) (sym e) (more_same old)
 
 more_got : {next : Option Message} (old new : Option (List Message)) → is_none new ≡ is_none old → IsGot next (got_by old) (got_by new) → IsMore old new
 more_got None None n g = tt
-more_got None (Some new) n g = no (sym n)
-more_got (Some old) None n g = no n
+more_got None (Some new) n g = true-false (sym n)
+more_got (Some old) None n g = true-false n
 more_got (Some old) (Some new) n (inl e) = more_still (Some old) (Some new) (ap Some e)
 more_got (Some old) (Some new) n (inr g) = (g.0 ∷ [], sym g.2)
 
 more_sent : (o w p x : Bool) (old new : Option (List Message)) → is_none new ≡ is_none old → IsPrefix (sent_by o w old) (sent_by p x new) → IsMore old new
 more_sent o w p x None None n g = tt
-more_sent o w p x None (Some new) n g = no (sym n)
-more_sent o w p x (Some old) None n g = no n
+more_sent o w p x None (Some new) n g = true-false (sym n)
+more_sent o w p x (Some old) None n g = true-false n
 more_sent o w p x (Some old) (Some new) n g = g
 
 pub unsent_yet : (o w b : Bool) → o ≡ false → sent_by o w (fresh_end b) ≡ []
-unsent_yet true w b e = no e
+unsent_yet true w b e = true-false e
 unsent_yet false w true e = refl
 unsent_yet false w false e = refl
 
@@ -83,9 +84,9 @@ begun_asking i v b = record {
   reached = b.reached;
   sends = λ _. record {
     part = λ _. (asks_for (knows v) (got_by (fresh_end i.last)), ap (λ ms. ms ++ asks_for (knows v) (got_by (fresh_end i.last))) unsent);
-    whole = λ o. no (sym o ∙ running);
-    asked = λ o. no (sym o ∙ running);
-    ended = λ o. no (sym o ∙ running);
+    whole = λ o. true-false (sym o ∙ running);
+    asked = λ o. true-false (sym o ∙ running);
+    ended = λ o. true-false (sym o ∙ running);
   };
   unended = ap is_ended unsent;
   answers_got = refl;
@@ -137,7 +138,7 @@ module _ (i : Given) (v : BackView) (w : Told) (a : IsAsking i v w) (next : Stag
   } where
     none : (g : Option (List Message)) → is_none g ≡ true → g ≡ None
     none None e = refl
-    none (Some g) e = no (sym e)
+    none (Some g) e = true-false (sym e)
 
   -- ---- the pass forwards begins
 
@@ -157,12 +158,12 @@ module _ (i : Given) (v : BackView) (w : Told) (a : IsAsking i v w) (next : Stag
     reached = subst (λ g. ForeReached i.first noted x.back.whole f g w.answers_sent) (sym a.answers_got) (subst (ForeReached i.first noted x.back.whole f (fresh_end i.first)) (sym a.answers_sent) s.reached);
     sends = λ _. record {
       part = (answers_for (known_by f) f.asked noted (got_by w.answers_got), ap (λ ms. ms ++ answers_for (known_by f) f.asked noted (got_by w.answers_got)) unsent);
-      whole = λ t. no (sym t ∙ running);
-      rows = λ t. no (sym t ∙ running);
-      ended = λ t. no (sym t ∙ running);
+      whole = λ t. true-false (sym t ∙ running);
+      rows = λ t. true-false (sym t ∙ running);
+      ended = λ t. true-false (sym t ∙ running);
     };
     unended = λ _. (ap is_ended unsent, ap (λ f. is_ended f.sending) s.new);
-    ended = λ t. no (sym t ∙ running);
+    ended = λ t. true-false (sym t ∙ running);
   } where
     noted : List Loc
     noted = locations (requests_if x.back.whole x.back.requests)

@@ -1,6 +1,7 @@
 -- The events of a core are those of nodes.
 use Rattle.std.proofs.Common.{◌≡◌, List, [], ◌∷◌, ◌++◌, refl, ap, ap₂, sym, subst, subst₂, ◌∙◌, Bool, true, false}
 use Rattle.std.specs.Prelude.{Option, Some, None, is_none}
+use Rattle.lists.proofs.Tests.{true-false}
 use Rattle.flow_model.specs.declared.Loc.{Loc}
 use Rattle.flow_rule.specs.declared.Message.{Message}
 use Rattle.flow_rule.specs.declared.Message.TheVariants.{End}
@@ -9,7 +10,7 @@ use Rattle.run_board.specs.declared.task.Turn.{Turn}
 use Rattle.stream_model.specs.Streams.{is_ended, requests}
 use Rattle.stream_model.specs.Passes.{Links, Asking as AskingState, got_at_start, drop_ask, end_asks, broken_asking, asking_by, asking_event, Answering as AnsweringState, drop_answer, end_answers, broken_answering, answering_by, answering_event, answering_start}
 use Rattle.stream_model.specs.Schedules.{Phase, Fresh as NotBegun, Asks, Answers, begun, settled_by}
-use Rattle.stream_model.proofs.Passing.{no, begun_whole}
+use Rattle.stream_model.proofs.Passing.{begun_whole}
 use Rattle.pass_parts.specs.Ends.{got_by, sent_by, fresh_end}
 use Rattle.pass_parts.specs.Requests.{locations}
 use Rattle.backward_pass.specs.Backward.{BackView, knows, state}
@@ -35,10 +36,10 @@ module _ (links : Links) (a b : AskingState) (h : IsAlikeAsking a b) (w : a.is_w
   broken_alike false = by links.next where
     by : (next : Option Message) → IsAlikeAsking (drop_ask a next) (drop_ask b next)
     by None = h
-    by (Some m) = record { got = ap (λ ms. ms ++ m ∷ []) h.got; sent = h.sent; whole = h.whole; over = h.over; same = λ t. no (sym t ∙ w) }
+    by (Some m) = record { got = ap (λ ms. ms ++ m ∷ []) h.got; sent = h.sent; whole = h.whole; over = h.over; same = λ t. true-false (sym t ∙ w) }
   broken_alike true = by links.has_room where
     by : (room : Bool) → IsAlikeAsking (end_asks room a) (end_asks room b)
-    by true = record { got = h.got; sent = ap₂ (λ ms b. ms ++ End b ∷ []) h.sent h.whole; whole = h.whole; over = refl; same = λ t. no (sym t ∙ w) }
+    by true = record { got = h.got; sent = ap₂ (λ ms b. ms ++ End b ∷ []) h.sent h.whole; whole = h.whole; over = refl; same = λ t. true-false (sym t ∙ w) }
     by false = h
 
   broken_event : (first other : Bool) (e d : EpochSummary) (over : Bool) → a.is_over ≡ over → IsAlikeAsking (asking_event first e links a) (asking_event other d links b)
@@ -65,10 +66,10 @@ module _ (links : Links) (f g : AnsweringState) (h : IsAlikeAnswering f g) (w : 
   broken_answering_alike false = by links.next where
     by : (next : Option Message) → IsAlikeAnswering (drop_answer f next) (drop_answer g next)
     by None = h
-    by (Some m) = record { got = ap (λ ms. ms ++ m ∷ []) h.got; sent = h.sent; whole = h.whole; over = h.over; same = λ t. no (sym t ∙ w) }
+    by (Some m) = record { got = ap (λ ms. ms ++ m ∷ []) h.got; sent = h.sent; whole = h.whole; over = h.over; same = λ t. true-false (sym t ∙ w) }
   broken_answering_alike true = by links.has_room where
     by : (room : Bool) → IsAlikeAnswering (end_answers room f) (end_answers room g)
-    by true = record { got = h.got; sent = ap₂ (λ ms b. ms ++ End b ∷ []) h.sent h.whole; whole = h.whole; over = refl; same = λ t. no (sym t ∙ w) }
+    by true = record { got = h.got; sent = ap₂ (λ ms b. ms ++ End b ∷ []) h.sent h.whole; whole = h.whole; over = refl; same = λ t. true-false (sym t ∙ w) }
     by false = h
 
   broken_answer : (e d : EpochSummary) (asked other : List Loc) (over : Bool) → f.is_over ≡ over → IsAlikeAnswering (answering_event e asked links f) (answering_event d other links g)
@@ -91,7 +92,7 @@ answering_alike e d asked other links f g h k l = by f.is_whole refl where
 
 begun_alike : (refused last : Bool) (e : EpochSummary) (v : BackView) (got sent : Option (List Message)) → state v got sent ≡ begun refused last (knows v) → (v.whole ≡ true → e ≡ knows v)
     → IsAlikeAsking (begun refused last e) (state v got sent)
-begun_alike true last e v got sent is k = subst (IsAlikeAsking (begun true last e)) (sym is) (record { got = refl; sent = refl; whole = refl; over = refl; same = λ t. no (sym t) })
+begun_alike true last e v got sent is k = subst (IsAlikeAsking (begun true last e)) (sym is) (record { got = refl; sent = refl; whole = refl; over = refl; same = λ t. true-false (sym t) })
 begun_alike false last e v got sent is k =
     subst (IsAlikeAsking (begun false last e)) (sym is) (same_asking _ _ (ap (begun false last) (k (ap (λ (a : AskingState). a.is_whole) is))))
 

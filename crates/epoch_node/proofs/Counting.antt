@@ -2,6 +2,7 @@
 use Rattle.std.proofs.Common.{◌≡◌, ℕ, ◌+◌, List, [], ◌∷◌, length, refl, ap, ap₂, sym, subst, subst₂, ◌∙◌, Bool, true, false, arith}
 use Rattle.std.specs.Prelude.{Option, Some, None, is_none, is_some}
 use Rattle.std.proofs.lemmas.List.{length-map}
+use Rattle.lists.proofs.Tests.{true-false}
 use Rattle.flow_model.specs.declared.Loc.{Loc}
 use Rattle.flow_rule.specs.declared.Message.{Message}
 use Rattle.report_model.specs.Rows.{Row}
@@ -13,7 +14,7 @@ use Rattle.stream_model.specs.Passes.{Asking as AskingState, got_at_start, askin
 use Rattle.stream_model.specs.Work.{many_got, node_work}
 use Rattle.stream_model.specs.Schedules.{is_met, begun, asking_need, answering_need}
 use Rattle.stream_model.specs.ScheduleLaws.{one_if}
-use Rattle.stream_model.proofs.Passing.{no, AskingHolds, asking_starts, asking_after_holds, answering_starts, answering_after_holds, begun_whole}
+use Rattle.stream_model.proofs.Passing.{AskingHolds, asking_starts, asking_after_holds, answering_starts, answering_after_holds, begun_whole}
 use Rattle.stream_model.proofs.Moves.{freed, AskCount, count_asking, whole_asking_before, AnswerCount, count_answering, asking_moves_on, answering_moves_on, asking_moves_over, answering_moves_over}
 use Rattle.pass_parts.specs.declared.pass_turn.PassTurn.{PassTurn}
 use Rattle.pass_parts.specs.declared.pass_turn.PassTurn.TheVariants as pass_turn
@@ -35,8 +36,8 @@ capped_more events moved e = omega (arith, e)
 -- what was got, with the End that counts as seen
 got_seen : (b : Bool) (got : Option (List Message)) → is_none got ≡ b → length (got_by got) ≡ many_got b (got_by got) + length (got_at_start b)
 got_seen true None n = refl
-got_seen false None n = no n
-got_seen true (Some got) n = no (sym n)
+got_seen false None n = true-false n
+got_seen true (Some got) n = true-false (sym n)
 got_seen false (Some got) n = omega arith
 
 none_got_yet : (b : Bool) → many_got b (got_by (fresh_end b)) ≡ 0
@@ -58,7 +59,7 @@ walked_all v got sent r o t =
     ap (λ (a : AskingState). length a.left) r.is ∙ ap length (holds.over (ap (λ (a : AskingState). a.is_over) (sym r.is) ∙ o)).0
   where
     start : (b : Bool) → (begun b v.last (knows v)).is_whole ≡ true → AskingHolds v.first v.last (knows v) (begun b v.last (knows v))
-    start true t = no (sym t)
+    start true t = true-false (sym t)
     start false t = asking_starts v.first v.last (knows v)
 
 module _ (i : Given) (v : BackView) (w : Told) (a : IsAsking i v w) (l : HasLinks i w) (next : StageView) (got' sent' : Option (List Message)) (turn : PassTurn)

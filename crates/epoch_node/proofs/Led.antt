@@ -3,10 +3,11 @@
 use Rattle.std.proofs.Common.{◌≡◌, ◌⊎◌, inl, inr, ℕ, ◌-◌, ◌^◌, ◌<◌, ◌≤◌, List, [], ◌∷◌, refl, ap, sym, ◌∙◌, Bool, true, false, arith}
 use Rattle.std.specs.Prelude.{Option}
 use Rattle.std.proofs.lemmas.Bool.{cases_lt}
+use Rattle.lists.proofs.Tests.{true-false}
 use Rattle.flow_rule.specs.declared.Message.{Message}
 use Rattle.sink_collect.specs.Pairs.{capped}
 use Rattle.stream_model.specs.Passes.{Asking as AskingState, Answering as AnsweringState}
-use Rattle.stream_model.proofs.Passing.{no, begun_whole}
+use Rattle.stream_model.proofs.Passing.{begun_whole}
 use Rattle.stream_model.proofs.Moves.{whole_asking_before}
 use Rattle.run_board.specs.declared.task.Turn.{Turn}
 use Rattle.run_board.specs.declared.task.Turn.TheVariants as turn
@@ -44,7 +45,7 @@ whole_at_first old new (next ∷ later) h w =
 pub broken_stays : BrokenStays
 broken_stays new old led broken = by (whole_at new.core.stage) refl where
   by : (whole : Bool) → whole_at new.core.stage ≡ whole → whole_at new.core.stage ≡ false
-  by true w = no (sym (whole_at_first (progress_of old) (progress_of new) led.came.0 led.came.1 w) ∙ broken)
+  by true w = true-false (sym (whole_at_first (progress_of old) (progress_of new) led.came.0 led.came.1 w) ∙ broken)
   by false w = w
 
 -- a core that is done stays as it is

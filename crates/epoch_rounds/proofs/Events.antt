@@ -1,6 +1,7 @@
 -- What an event of a core sends, and how much less is left after it.
 use Rattle.std.proofs.Common.{◌≡◌, ◌⊎◌, inl, inr, ℕ, ◌+◌, ◌-◌, ◌<◌, ◌≤◌, List, [], ◌∷◌, ◌++◌, length, refl, ap, sym, subst, ◌∙◌, Bool, true, false, arith}
 use Rattle.std.specs.Prelude.{Option, Some, None, is_none, IsSome}
+use Rattle.lists.proofs.Tests.{true-false}
 use Rattle.flow_rule.specs.declared.Message.{Message}
 use Rattle.flow_rule.specs.declared.Message.TheVariants.{Ask, Byte, Close, End}
 use Rattle.epoch_model.specs.Summary.{Summary}
@@ -10,9 +11,8 @@ use Rattle.stream_model.specs.Streams.{is_ended, requests}
 use Rattle.stream_model.specs.Passes.{Asking as AskingState, Answering as AnsweringState}
 use Rattle.stream_model.specs.Schedules.{is_met, asking_need, answering_need}
 use Rattle.stream_model.specs.ScheduleLaws.{one_if}
-use Rattle.stream_model.proofs.Passing.{no}
 use Rattle.stream_model.proofs.Moving.{sent_part, IsGot, AskMoved, asking_moves, AnswerFits, AnswerMoved, answering_moves}
-use Rattle.stream_model.proofs.Progress.{AsksForward, asks_forward, AsksNoMore, asks_no_more, unresolved, AnswersForward, answers_forward, AnswersNoMore, answers_no_more, asking_met, answering_met}
+use Rattle.stream_model.proofs.Progress.{AsksForward, asks_forward, AsksNoMore, asks_no_more, unresolved, AnswersForward, answers_forward, AnswersNoMore, answers_no_more, asking_met, answering_met, at_most_one}
 use Rattle.pass_parts.specs.declared.pass_turn.PassTurn.{PassTurn}
 use Rattle.pass_parts.specs.declared.pass_turn.PassTurn.TheVariants as pass_turn
 use Rattle.pass_parts.specs.Ends.{got_by, sent_by}
@@ -48,10 +48,6 @@ shorter : (got got' : List Message) (next : Option Message) → IsGot next got g
 shorter got got' next (inl e) = let n = ap length e in omega (arith, n)
 shorter got got' next (inr g) = let n = prefix_length got got' (g.0 ∷ [], sym g.2) in n
 
-at_most_one : (b : Bool) → one_if b ≤ 1
-at_most_one true = omega arith
-at_most_one false = omega arith
-
 few_requests : (ms : List Message) → length (requests ms) ≤ length ms
 few_requests [] = omega arith
 few_requests (Ask l ∷ ms) = let n = few_requests ms in omega (arith, n)
@@ -62,15 +58,15 @@ few_requests (End whole ∷ ms) = omega arith
 same_long : (o o' whole whole' : Bool) (sent : Option (List Message)) → o ≡ o' → length (sent_by o whole sent) ≡ length (sent_by o' whole' sent)
 same_long true true whole whole' None e = refl
 same_long false false whole whole' None e = refl
-same_long true false whole whole' None e = no e
-same_long false true whole whole' None e = no (sym e)
+same_long true false whole whole' None e = true-false e
+same_long false true whole whole' None e = true-false (sym e)
 same_long o o' whole whole' (Some sent) e = refl
 
 -- what went through an end that is there or not, before an event and after it
 sent_on_broken : (all : List Message) (o o' whole whole' : Bool) (sent sent' : Option (List Message)) → is_none sent' ≡ is_none sent → HasSentPart all sent
     → (sent_by o' whole' sent' ≡ sent_by o whole sent) ⊎ ((is_ended (sent_by o whole sent) ≡ false) × (sent_by o' whole' sent' ≡ sent_by o whole sent ++ End false ∷ [])) → HasSentPart all sent'
 sent_on_broken all o o' whole whole' None None n p e = tt
-sent_on_broken all o o' whole whole' None (Some s) n p e = no (sym n)
+sent_on_broken all o o' whole whole' None (Some s) n p e = true-false (sym n)
 sent_on_broken all o o' whole whole' (Some s) None n p e = tt
 sent_on_broken all o o' whole whole' (Some s) (Some s') n p e = broken_part all s s' p e
 
@@ -119,7 +115,7 @@ module _ (i : Given) (v : BackView) (w : Told) (at : IsAsking i v w) (next : Sta
       let went = subst (λ c. OnMoved c ((x.happens.links.has_room ≡ true) × IsSome x.happens.links.next)) e x.happens.went in
       asking_met x.happens.links went.0 went.1 (state v w.asks_got w.asks_sent) at.running
   met pass_turn.NotYet e not_still o = absurd (not_still (x.answered ∙ ap asks_turn e))
-  met pass_turn.Over e not_still o = no (sym (subst (λ c. OnOver c (x.back.over ≡ true)) e x.over) ∙ o)
+  met pass_turn.Over e not_still o = true-false (sym (subst (λ c. OnOver c (x.back.over ≡ true)) e x.over) ∙ o)
 
   -- how much less is left
   pub asks_less : (asks answered answers : List Message) → HasSentPart asks sent' → HasGotPart (all_asks es) got' → (turn ≡ NotYet → ⊥)
@@ -217,7 +213,7 @@ module _ (i : Given) (f : ForeView) (w : Told) (at : IsAnswering i f w) (running
       let went = subst (λ c. OnMoved c ((x.happens.links.has_room ≡ true) × IsSome x.happens.links.next)) e x.happens.went in
       answering_met x.happens.links went.0 went.1 (known_by f) f.asked (fore_state f w.answers_got w.answers_sent) running
   answer_met pass_turn.NotYet e not_still o = absurd (not_still (x.answered ∙ ap answers_turn e))
-  answer_met pass_turn.Over e not_still o = no (sym (subst (λ c. OnOver c (x.fore.over ≡ true)) e x.over) ∙ o)
+  answer_met pass_turn.Over e not_still o = true-false (sym (subst (λ c. OnOver c (x.fore.over ≡ true)) e x.over) ∙ o)
 
   -- how much less is left
   pub answers_less : (asks requests answered answers : List Message) → HasSentPart answers sent' → HasGotPart answered got' → (turn ≡ NotYet → ⊥)

@@ -1,10 +1,10 @@
 -- Rounds of a line.
 use Rattle.std.proofs.Common.{◌≡◌, ◌⊎◌, inl, inr, ℕ, zero, suc, ◌<◌, ◌≤◌, List, [], ◌∷◌, length, refl, ap, sym, ◌∙◌, Bool, true, false, arith}
 use Rattle.std.specs.Prelude.{Option, Some, None, is_none}
+use Rattle.lists.proofs.Tests.{true-false}
 use Rattle.flow_rule.specs.declared.Message.TheVariants.{End}
 use Rattle.epoch_cut.specs.Numbered.{NumberedEpoch}
 use Rattle.stream_model.specs.Schedules.{Phase, NodeState, moves_at, is_done}
-use Rattle.stream_model.proofs.Passing.{no}
 use Rattle.stream_model.proofs.NeverStill.{AllDone, Moves, goes_on}
 use Rattle.epoch_node.specs.declared.stage.Phase.TheVariants as phase
 use Rattle.epoch_node.specs.Cores.{Given, StageView, Fresh, Asking, Answering, Done, Between, CoreView, phase_of}
@@ -47,7 +47,7 @@ answered_first p (e ∷ es) c cs (j ∷ []) s = absurd s
 answered_first p (e ∷ es) c cs (j ∷ i ∷ js) s = by j.answer (s.0.keeps.links.answers_got ∙ ap (λ (g : Given). g.first) s.0.given) where
   by : (link : Link) → is_none (got_on link) ≡ true → IsSource (End true ∷ []) (sent_on link)
   by None n = refl
-  by (Some l) n = no (sym n)
+  by (Some l) n = true-false (sym n)
 
 pub parts_on : (p : Plan) (place : ℕ) (cs : List CoreView) (js : List Joint) (cs' : List CoreView) (js' : List Joint) → IsLineOf p cs js → AreParts cs js → TurnsAt place cs js cs' js'
     → LineTurned p.capacity place true (End true ∷ []) None cs js cs' js'
@@ -112,9 +112,9 @@ states_count p first (e ∷ es) (c ∷ cs) (j ∷ []) s = absurd s
 states_count p first (e ∷ es) (c ∷ cs) (j ∷ i ∷ js) s = ap suc (states_count p false es cs (i ∷ js) s.1)
 
 done_core : (g : Given) (j i : Joint) (s : StageView) → AtStage g s (told_between j i) → is_done (phase_in s (told_between j i)) ≡ true → phase_of s ≡ phase.Done
-done_core g j i (Fresh t) at d = no (sym d)
-done_core g j i (Asking v) at d = no (sym d)
-done_core g j i (Answering f) at d = no (sym d ∙ at.1)
+done_core g j i (Fresh t) at d = true-false (sym d)
+done_core g j i (Asking v) at d = true-false (sym d)
+done_core g j i (Answering f) at d = true-false (sym d ∙ at.1)
 done_core g j i (Done f) at d = refl
 done_core g j i Between at d = absurd at
 
@@ -139,8 +139,8 @@ round_less p cs js cs' js' h r not_done = by r.less where
       up (inr h) = inr (omega (arith, h))
 
     on : (m.0 < length cs) ⊎ (length cs ≤ m.0) → ⊥
-    on (inl less) = no (sym m.1 ∙ none m.0 less)
-    on (inr far) = let count = states_count p true (epochs_of p.run) cs js h.stand in no (sym m.1 ∙ beyond p.capacity m.0 None (states cs js) (omega (arith, far, count)))
+    on (inl less) = true-false (sym m.1 ∙ none m.0 less)
+    on (inr far) = let count = states_count p true (epochs_of p.run) cs js h.stand in true-false (sym m.1 ∙ beyond p.capacity m.0 None (states cs js) (omega (arith, far, count)))
 
   still : ((k : ℕ) → k < length cs → moves_at p.capacity k None (states cs js) ≡ false) → AllDone (states cs js) ⊎ Moves p.capacity None (states cs js) → ⊥
   still none (inl all) = not_done (done_cores p true (epochs_of p.run) cs js h.stand all)

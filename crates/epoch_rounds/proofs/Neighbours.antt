@@ -2,6 +2,7 @@
 use Rattle.std.proofs.Common.{◌≡◌, ℕ, zero, suc, ◌+◌, ◌≤◌, List, [], ◌∷◌, ◌++◌, length, drop, refl, ap, sym, subst, ◌∙◌, Bool, true, false, cond, length-append, arith}
 use Rattle.std.specs.Prelude.{Option, Some, None, is_none, is_some, nat_lt}
 use Rattle.std.proofs.lemmas.Bool.{ltb-true, ltb-false}
+use Rattle.lists.proofs.Tests.{true-false}
 use Rattle.flow_rule.specs.declared.Message.{Message}
 use Rattle.epoch_cut.specs.Numbered.{NumberedEpoch}
 use Rattle.epoch_link.specs.Link.{Delivered}
@@ -10,7 +11,6 @@ use Rattle.stream_model.specs.Streams.{is_ended}
 use Rattle.stream_model.specs.StreamLaws.{IsPrefix}
 use Rattle.stream_model.specs.Passes.{Links}
 use Rattle.stream_model.specs.Schedules.{Phase, Need, Room, Item, Nothing, Over, is_met, asks_sent_in, asks_got_in, answers_sent_in, answers_got_in, first_of, next_item, has_room_for, room_to, item_from, phase_of_first}
-use Rattle.stream_model.proofs.Passing.{no}
 use Rattle.stream_model.proofs.Moving.{PhaseHolds, LinkHolds, FirstHolds, LastHolds, BeforeHolds, NodesHold}
 use Rattle.pass_parts.specs.Ends.{got_by, sent_by, fresh_end}
 use Rattle.pass_parts.specs.Turns.{Waits}
@@ -82,7 +82,7 @@ module _ (g : Given) (j i : Joint) where
 
   no_got : (link : Link) → is_none (got_on link) ≡ true → is_ended (got_by (got_on link)) ≡ true
   no_got None n = refl
-  no_got (Some l) n = no (sym n)
+  no_got (Some l) n = true-false (sym n)
 
   pub first_holds : (s : StageView) → is_none (got_on j.answer) ≡ true → FirstHolds (phase_in s (told_between j i))
   first_holds (Fresh t) n = tt
@@ -101,7 +101,7 @@ module _ (g : Given) (j i : Joint) where
 -- ---- between neighbours
 
 some_link : (capacity : ℕ) (link : Link) → is_none (got_on link) ≡ false → IsLinkOf capacity link → (l : BothEnds Message) × (link ≡ Some l) × (l.capacity ≡ capacity) × Delivered l.sent l.got l.capacity
-some_link capacity None n h = no n
+some_link capacity None n h = true-false n
 some_link capacity (Some l) n h = (l, refl, h.0, h.1)
 
 none_same : (link : Link) → is_none (sent_on link) ≡ is_none (got_on link)
@@ -241,17 +241,17 @@ module _ (p : Plan) (first : Bool) (e : NumberedEpoch) (es : List NumberedEpoch)
     pub before_ask : (l : BothEnds Message) → j.ask ≡ Some l → IsOther p.capacity true asks_got_in before l
     before_ask l e = by before b (is_first l j.ask (sym (none_same j.ask) ∙ s.keeps.links.asks_sent) e) where
       by : (before : Option Phase) → ComesBefore p.capacity first before (j ∷ js) → first ≡ false → IsOther p.capacity true asks_got_in before l
-      by None b f = no (sym b ∙ f)
+      by None b f = true-false (sym b ∙ f)
       by (Some q) b f = record { phase = q; is = refl; list_is = b.1.meets.ask l e; of_link = of_link p.capacity j.ask l e b.1.ask }
 
     pub before_answer : (l : BothEnds Message) → j.answer ≡ Some l → IsOther p.capacity false answers_sent_in before l
     before_answer l e = by before b (is_first l j.answer s.keeps.links.answers_got e) where
       by : (before : Option Phase) → ComesBefore p.capacity first before (j ∷ js) → first ≡ false → IsOther p.capacity false answers_sent_in before l
-      by None b f = no (sym b ∙ f)
+      by None b f = true-false (sym b ∙ f)
       by (Some q) b f = record { phase = q; is = refl; list_is = b.1.meets.answer l e; of_link = of_link p.capacity j.answer l e b.1.answer }
 
   behind_is : (es : List NumberedEpoch) (cs : List CoreView) (js : List Joint) → is_last es ≡ false → Stand p false es cs (i ∷ js) → (q : Phase) × (phase_of_first (states cs (i ∷ js)) ≡ Some q) × MeetsBehind q i
-  behind_is [] cs js n h = no n
+  behind_is [] cs js n h = true-false n
   behind_is (d ∷ ds) [] js n h = absurd h
   behind_is (d ∷ ds) (c ∷ cs) [] n h = absurd h
   behind_is (d ∷ ds) (c ∷ cs) (k ∷ js) n h = (phase_in c.stage (told_between i k), refl, meets_behind c.given i k c.stage h.0.keeps.stage)

@@ -1,13 +1,13 @@
 -- Parts of what is sent in all.
 use Rattle.std.proofs.Common.{◌≡◌, ◌⊎◌, inl, inr, ◌+◌, ◌≤◌, Some, None, List, [], ◌∷◌, ◌++◌, length, refl, ap, sym, subst, ◌∙◌, Bool, true, false, length-append, append-nil, arith}
 use Rattle.std.specs.Prelude.{Option}
+use Rattle.lists.proofs.Tests.{true-false}
 use Rattle.flow_rule.specs.declared.Message.{Message}
 use Rattle.flow_rule.specs.declared.Message.TheVariants.{End}
 use Rattle.epoch_model.specs.Summary.{Summary}
 use Rattle.stream_model.specs.Streams.{is_ended}
 use Rattle.stream_model.specs.StreamLaws.{IsPrefix, EndsLast}
 use Rattle.stream_model.proofs.Growing.{prefix_trans, nothing_is_left, asks_end_last}
-use Rattle.stream_model.proofs.Passing.{no}
 use Rattle.stream_model.proofs.Moving.{ended_after}
 use Rattle.pass_parts.specs.Ends.{got_by, sent_by, EndsWhole}
 use Rattle.epoch_rounds.specs.Joints.{Link, got_on, sent_on, IsSound}
@@ -72,7 +72,7 @@ whole_part all got sent (inr b) q w = by (front_or_all got b.front q.0 (End fals
 pub broken_part : (all sent sent' : List Message) → IsPart all sent → (sent' ≡ sent) ⊎ ((is_ended sent ≡ false) × (sent' ≡ sent ++ End false ∷ [])) → IsPart all sent'
 broken_part all sent sent' p (inl e) = subst (IsPart all) (sym e) p
 broken_part all sent sent' (inl p) (inr e) = inr (record { front = sent; part = p; unended = e.0; is = e.1 })
-broken_part all sent sent' (inr b) (inr e) = no (sym (ap is_ended b.is ∙ ended_after b.front (End false ∷ []) b.unended) ∙ e.0)
+broken_part all sent sent' (inr b) (inr e) = true-false (sym (ap is_ended b.is ∙ ended_after b.front (End false ∷ []) b.unended) ∙ e.0)
 
 -- who got a whole End got all
 pub all_of_it : (all got : List Message) → IsPrefix got all → EndsLast all → is_ended got ≡ true → got ≡ all

@@ -1,16 +1,16 @@
 -- What a core that is whole has sent is a part of what it sends in all.
-use Rattle.std.proofs.Common.{◌≡◌, inl, List, [], ◌∷◌, ◌++◌, refl, ap, ap₂, sym, subst, ◌∙◌, Bool, true, false}
+use Rattle.std.proofs.Common.{◌≡◌, inl, List, ◌∷◌, refl, ap, ap₂, sym, subst, ◌∙◌, Bool, true, false}
 use Rattle.std.specs.Prelude.{Option, Some, None, is_none}
 use Rattle.flow_model.specs.declared.Loc.{Loc}
 use Rattle.flow_rule.specs.declared.Message.{Message}
-use Rattle.flow_rule.specs.declared.Message.TheVariants.{Ask, Byte, Close, End}
 use Rattle.epoch_model.specs.Summary.{Summary}
-use Rattle.stream_model.specs.Streams.{is_ended, requests, asks_for, answers_for, asked_of}
+use Rattle.stream_model.specs.Streams.{requests, asks_for, answers_for, asked_of}
 use Rattle.stream_model.specs.StreamLaws.{IsPrefix}
 use Rattle.stream_model.specs.Passes.{Answering as AnsweringState, answering_start}
 use Rattle.stream_model.proofs.Growing.{prefix_trans, asks_grow, answers_grow}
 use Rattle.stream_model.proofs.Passing.{begun_whole}
-use Rattle.pass_parts.specs.Ends.{got_by, sent_by, EndsWhole}
+use Rattle.pass_parts.specs.Ends.{got_by, sent_by}
+use Rattle.pass_parts.proofs.Whole.{ended_whole}
 use Rattle.backward_pass.specs.Backward.{BackView, knows}
 use Rattle.forward_pass.specs.Forward.{ForeView, known_by}
 use Rattle.epoch_node.specs.Cores.{Given}
@@ -21,15 +21,6 @@ use Rattle.epoch_rounds.proofs.Parts.{HasGotPart, got_whole, all_of_it, asks_las
 sent_part : (all : List Message) (over whole : Bool) (sent : Option (List Message)) → (is_none sent ≡ false → IsPrefix (sent_by over whole sent) all) → HasSentPart all sent
 sent_part all over whole None p = tt
 sent_part all over whole (Some sent) p = inl (p refl)
-
-ended_whole : (ms : List Message) → EndsWhole ms → is_ended ms ≡ true
-ended_whole ms w = ap is_ended w.1 ∙ by w.0 where
-  by : (front : List Message) → is_ended (front ++ End true ∷ []) ≡ true
-  by [] = refl
-  by (Ask l ∷ ms) = by ms
-  by (Byte b ∷ ms) = by ms
-  by (Close l ∷ ms) = by ms
-  by (End whole ∷ ms) = refl
 
 -- for more that is got, no less is asked and answered
 asks_within : (e : Summary) (got all : List Message) → IsPrefix got all → IsPrefix (asks_for e got) (asks_for e all)

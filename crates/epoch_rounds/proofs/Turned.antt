@@ -1,6 +1,7 @@
 -- In a line whose cores have begun, an event sends a part of what is to be sent, and leaves less to do, or it cannot move.
 use Rattle.std.proofs.Common.{◌≡◌, ◌⊎◌, inl, inr, ℕ, zero, suc, ◌+◌, ◌<◌, List, [], ◌∷◌, map, refl, ap, ap₂, sym, subst, subst₂, ◌∙◌, Bool, true, false, arith}
 use Rattle.std.specs.Prelude.{Option, Some, None, is_none}
+use Rattle.lists.proofs.Tests.{true-false}
 use Rattle.flow_rule.specs.declared.Message.{Message}
 use Rattle.flow_rule.specs.declared.Message.TheVariants.{End}
 use Rattle.epoch_model.specs.Summary.{Summary}
@@ -8,7 +9,6 @@ use Rattle.epoch_cut.specs.Numbered.{NumberedEpoch}
 use Rattle.run_board.specs.declared.task.Turn.{Turn}
 use Rattle.run_board.specs.declared.task.Turn.TheVariants as turn
 use Rattle.stream_model.specs.Schedules.{Phase, NodeState, is_met, asks_sent_in, asks_got_in, answers_sent_in, answers_got_in, asking_links, answering_links, answering_need_by, node_moves, phase_of_first, moves_at}
-use Rattle.stream_model.proofs.Passing.{no}
 use Rattle.pass_parts.specs.Known.{known}
 use Rattle.backward_pass.specs.Backward.{BackView, knows, state}
 use Rattle.forward_pass.specs.Forward.{ForeView, known_by, fore_state}
@@ -280,11 +280,11 @@ module _ (p : Plan) where
     both (Some l) = refl
 
     by : (ds : List NumberedEpoch) → is_none (sent_on i.ask) ≡ is_last ds → (cs : List CoreView) (js : List Joint) → Stand p false ds cs (i ∷ js) → AllSendPart false answered cs (i ∷ js) → IsSource (all_asks (summaries_of cs)) (sent_on i.ask)
-    by [] n [] js h a = source _ (sent_on i.ask) (λ t. refl) (λ f. no (sym n ∙ f))
+    by [] n [] js h a = source _ (sent_on i.ask) (λ t. refl) (λ f. true-false (sym n ∙ f))
     by [] n (c ∷ cs) js h a = absurd h
     by (d ∷ ds) n [] js h a = absurd h
     by (d ∷ ds) n (c ∷ cs) [] h a = absurd a
-    by (d ∷ ds) n (c ∷ cs) (k ∷ js) h a = source _ (sent_on i.ask) (λ t. no (sym t ∙ n)) (λ f. a.0.asks)
+    by (d ∷ ds) n (c ∷ cs) (k ∷ js) h a = source _ (sent_on i.ask) (λ t. true-false (sym t ∙ n)) (λ f. a.0.asks)
 
   pub turned : (place : ℕ) (first : Bool) (es : List NumberedEpoch) (answered : List Message) (before : Option Phase) (cs : List CoreView) (js : List Joint) (cs' : List CoreView) (js' : List Joint)
       → Stand p first es cs js → AllSendPart first answered cs js → IsAnswered answered js → ComesBefore p.capacity first before js → TurnsAt place cs js cs' js'
@@ -330,7 +330,7 @@ module _ (p : Plan) where
       )
   turned (suc place) first (e ∷ es) answered before (c ∷ cs) (j ∷ i ∷ js) cs' js' s a h b t =
       let answers = all_answers first (summary_at c.stage) (summaries_of cs) answered in
-      let src = source answers (sent_on i.answer) (λ n. no (sym n ∙ s.0.keeps.links.answers_sent ∙ ap (λ (g : Given). g.last) s.0.given ∙ not_last es cs t.cores t.joints s.1 t.later)) (λ n. a.0.answers) in
+      let src = source answers (sent_on i.answer) (λ n. true-false (sym n ∙ s.0.keeps.links.answers_sent ∙ ap (λ (g : Given). g.last) s.0.given ∙ not_last es cs t.cores t.joints s.1 t.later)) (λ n. a.0.answers) in
       let r = turned place false es answers (Some (phase_in c.stage (told_between j i))) cs (i ∷ js) t.cores t.joints s.1 a.1 src (next_before p first e es c j i js s.0) t.later in
       let stands = turn_stands p place false es cs (i ∷ js) t.cores t.joints s.1 t.later in
       subst₂ (LineTurned p.capacity (suc place) first answered before (c ∷ cs) (j ∷ i ∷ js)) (sym t.cores_are) (sym t.joints_are) (by t.joints r stands.0 stands.1)

@@ -8,8 +8,6 @@ use Rattle.std.proofs.lemmas.Option.{slice_get-get_or}
 use Rattle.flow_model.specs.declared.Loc.{Loc}
 use Rattle.flow_model.specs.declared.Loc.TheVariants.{Reg, Mem}
 use Rattle.flow_model.specs.contracts.LocPartialEq.TheImpl as test
-use Rattle.taint_shadow.specs.declared.labels.Label.{Label}
-use Rattle.taint_shadow.specs.contracts.labels.LabelPartialEq.TheImpl as label_test
 
 -- the derived test
 abbrev pub alike : Loc → Loc → Bool
@@ -34,7 +32,3 @@ first_alike locs l k h = by (nat_lt (position_or_len (alike l) locs) (length loc
 pub at_place : (locs : List Loc) (l : Loc) (o : Option ℕ) → o ≡ position (alike l) locs → IfSome o (λ k. slice_get locs k ≡ Some l)
 at_place locs l None e = tt
 at_place locs l (Some k) e = first_alike locs l k (sym e)
-
--- the derived test of labels
-pub same_label : (l m : Label) → label_test.eq-value.it l m ≡ true → l ≡ m
-same_label l m h = let same : l.number ≡ m.number = grind (arith, common_steps) in ap (λ (n : ℕ). record { number = n }) same

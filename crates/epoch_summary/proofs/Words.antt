@@ -1,7 +1,7 @@
 -- What labels mean, by their kind.
-use Rattle.std.proofs.Common.{◌≡◌, ◌<◌, ◌^◌, ℕ, List, refl, ap, ap₂, sym, subst, ◌∙◌, arith}
-use Rattle.merge_log.specs.declared.nodes.Entry.{Entry}
+use Rattle.std.proofs.Common.{◌≡◌, ◌<◌, ◌^◌, ℕ, refl, ap, ap₂, sym, subst, ◌∙◌, arith}
 use Rattle.merge_log.specs.Log.{IsNode, KeepsNodes, joined, terms}
+use Rattle.merge_log.proofs.Keeping.{keeps_then}
 use Rattle.taint_shadow.specs.declared.labels.Label.{Label}
 use Rattle.taint_shadow.specs.declared.labels.LabelKind.{LabelKind}
 use Rattle.taint_shadow.specs.declared.labels.LabelKind.TheVariants.{Node, Start, Run}
@@ -43,12 +43,6 @@ with_nothing nodes left right is h =
 pub nothing_with : (nodes : Nodes) (left right : Label) → left ≡ nothing_label → terms_in nodes right ≡ together (terms_in nodes left) (terms_in nodes right)
 nothing_with nodes left right is = sym (ap (λ l. together (terms_in nodes l) (terms_in nodes right)) is ∙ ap (λ t. together t (terms_in nodes right)) (label_laws.of_nothing nodes).means)
 
-pub nodes_themselves : (log : List Entry) → KeepsNodes log log
-nodes_themselves log = record { nodes = λ n h. h; terms = λ n h. refl }
-
-nodes_then : (a b c : List Entry) → KeepsNodes a b → KeepsNodes b c → KeepsNodes a c
-nodes_then a b c h k = record { nodes = λ n i. k.nodes n (h.nodes n i); terms = λ n i. k.terms n (h.nodes n i) ∙ h.terms n i }
-
 -- where the node of the left label is made, and then that of the right one, and then their union
 pub of_both : (a b c d : Nodes) (left right : Label) (l r n : ℕ) (label : Label) → StandsIn a right → IsNode b.log l → as_terms (terms b.log l) ≡ terms_in a left → KeepsNodes a.log b.log
     → as_terms (terms c.log r) ≡ terms_in b right → KeepsNodes b.log c.log → terms d.log n ≡ joined (terms c.log l) (terms c.log r) → KeepsNodes c.log d.log
@@ -58,5 +52,5 @@ of_both a b c d left right l r n label stands node is_left first is_right second
     stands = made.stands;
     means = made.means ∙ ap as_terms is ∙ ap₂ together (ap as_terms (second.terms l node) ∙ is_left) (is_right ∙ (keeps_labels a b first right stands).means);
   };
-  keeps = keeps_labels a d (nodes_then a.log c.log d.log (nodes_then a.log b.log c.log first second) third);
+  keeps = keeps_labels a d (keeps_then a.log c.log d.log (keeps_then a.log b.log c.log first second) third);
 }

@@ -1,5 +1,7 @@
 -- The record that answers a call of a run.
-use Rattle.std.proofs.Common.{◌≡◌, ℕ, ℤ, pos, List, [], ◌∷◌, length, get_or, None, refl, arith, ap, ap₂, ◌∙◌, subst}
+use Rattle.std.proofs.Common.{◌≡◌, ℕ, ℤ, pos, List, [], ◌∷◌, length, get_or, None, ◌∙◌, subst}
+use Rattle.lists.proofs.Lists.{same-three}
+use Rattle.lists.proofs.Numbers.{three-get_or}
 use Rattle.isa.specs.declared.Call.{Call}
 use Rattle.isa.specs.declared.CallKind.TheVariants as kind
 use Rattle.isa.specs.Machine.{State, Called, next, reg}
@@ -19,25 +21,15 @@ use Rattle.decision_model.proofs.Answered.{ends_at}
 
 -- ---- the arguments of a record are those of the state
 
-three_are : (args : List ℕ) → length args ≡ 3 → args ≡ get_or args 0 0 ∷ get_or args 1 0 ∷ get_or args 2 0 ∷ []
-three_are [] e = absurd (omega arith)
-three_are (a ∷ []) e = absurd (omega arith)
-three_are (a ∷ b ∷ []) e = absurd (omega arith)
-three_are (a ∷ b ∷ c ∷ []) e = refl
-three_are (a ∷ b ∷ c ∷ d ∷ rest) e = absurd (omega arith)
-
-three_same : (a b c x y z : ℕ) → a ≡ x → b ≡ y → c ≡ z → a ∷ b ∷ c ∷ [] ≡ x ∷ y ∷ z ∷ []
-three_same a b c x y z e f g = ap₂ (λ (u : ℕ) (us : List ℕ). u ∷ us) e (ap₂ (λ (u : ℕ) (us : List ℕ). u ∷ us) f (ap (λ (u : ℕ). u ∷ []) g))
-
 pub read_arguments : (s : State) (inputs at : ℕ) (args : List ℕ) (result : ℤ) (bytes : List ℕ) → IsRecord (Read at args result bytes) → IsLawful s inputs (Read at args result bytes) → args ≡ arguments_of s
 read_arguments s inputs at args result bytes form lawful =
     let same = same_arguments s args (result_compared result (allowed (refusal_of s inputs (arguments_of s)) result 0) ∷ []) lawful in
-    three_are args form.1.three ∙ three_same (get_or args 0 0) (get_or args 1 0) (get_or args 2 0) (reg s 10) (reg s 11) (reg s 12) same.first same.second same.third
+    three-get_or args form.1.three ∙ same-three (get_or args 0 0) (get_or args 1 0) (get_or args 2 0) (reg s 10) (reg s 11) (reg s 12) same.first same.second same.third
 
 pub write_arguments : (s : State) (inputs at : ℕ) (args : List ℕ) (result : ℤ) (bytes : List ℕ) → IsRecord (Write at args result bytes) → IsLawful s inputs (Write at args result bytes) → args ≡ arguments_of s
 write_arguments s inputs at args result bytes form lawful =
     let same = same_arguments s args (result_compared result (allowed (refusal_of s 16 (arguments_of s)) result (reg s 12)) ∷ bytes_compared 0 bytes (bytes_at s (reg s 11) (length bytes))) lawful in
-    three_are args form.1.three ∙ three_same (get_or args 0 0) (get_or args 1 0) (get_or args 2 0) (reg s 10) (reg s 11) (reg s 12) same.first same.second same.third
+    three-get_or args form.1.three ∙ same-three (get_or args 0 0) (get_or args 1 0) (get_or args 2 0) (reg s 10) (reg s 11) (reg s 12) same.first same.second same.third
 
 pub other_number : (s : State) (inputs at number : ℕ) → IsLawful s inputs (Other at number) → number ≡ reg s 17
 other_number s inputs at number lawful =

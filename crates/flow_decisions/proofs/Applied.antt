@@ -4,6 +4,8 @@ use Rattle.std.specs.Prelude.{◌==◌, All}
 use Rattle.std.specs.List.{flat_map}
 use Rattle.std.proofs.lemmas.Int.{ints}
 use Rattle.std.proofs.lemmas.List.Elements.{All-from_recursion}
+use Rattle.lists.proofs.Tests.{true-false}
+use Rattle.lists.proofs.Numbers.{all-below}
 use Rattle.isa.specs.Machine.{State}
 use Rattle.log_model.specs.declared.CallRecord.TheVariants.{Read, Write}
 use Rattle.log_model.specs.declared.RunEnd.TheVariants.{Exit}
@@ -20,12 +22,11 @@ use Rattle.replay_model.specs.Run.{trace}
 use Rattle.flow_meaning.specs.RunLaws.{SamePath, content_at, byte_written, under}
 use Rattle.flow_meaning.proofs.Steps.{compute_determines}
 use Rattle.flow_decisions.specs.Environments.{SameAnswers}
-use Rattle.flow_meaning.proofs.Never.{no}
 use Rattle.decision_model.specs.Decisions.{Decision}
 use Rattle.decision_model.specs.Text.{decided_by}
 use Rattle.flow_decisions.specs.DecisionLaws.{NoneDiffers, IsUndecided, AreAlikeBut}
 use Rattle.flow_decisions.specs.Recordings.{AreSettingsAlike, AreAnswersAlike}
-use Rattle.flow_decisions.proofs.Worked.{all_below, a_transfer, all, byte_in, doubling_start, doubled, first_doubled, second_doubled}
+use Rattle.flow_decisions.proofs.Worked.{a_transfer, all, byte_in, doubling_start, doubled, first_doubled, second_doubled}
 use Rattle.flow_decisions.proofs.Both.{path_is_same, contents_are_same}
 use Rattle.flow_decisions.proofs.Recordings.{recordings_are_alike}
 
@@ -39,7 +40,7 @@ answered_doubled : SameAnswers first_byte [] (doubled 3 7).records (doubled 100 
 answered_doubled asks = ((refl, bytes), λ asks. (refl, tt))
   where
     bytes : (i : ℕ) → first_byte (byte_in (0 + i)) ≡ false → get_or {A = ℕ} (3 ∷ 7 ∷ []) i 0 ≡ get_or {A = ℕ} (100 ∷ 7 ∷ []) i 0
-    bytes zero e = no e
+    bytes zero e = true-false e
     bytes (suc zero) e = refl
     bytes (suc (suc i)) e = refl
 
@@ -48,7 +49,7 @@ undecided_doubled : IsUndecided Compute all first_byte doubling_start (doubled 3
 undecided_doubled = record {
   first = first_doubled;
   second = second_doubled;
-  chosen = λ x e. no e;
+  chosen = λ x e. true-false e;
   none = All-from_recursion (λ (d : Decision). NoneDiffers first_byte d.sources) [] tt;
   answers = answered_doubled;
 }
@@ -104,7 +105,7 @@ digest_long = refl
 
 digest_is_bytes : IsBytes (sha256 copy_four)
 unfolding sha256 digest_bytes hash_after compress rounds first_words schedule
-digest_is_bytes = all_below 256 (sha256 copy_four) refl
+digest_is_bytes = all-below 256 (sha256 copy_four) refl
 
 four_bytes : (x : ℕ) → x < 256 → IsBytes (0x41 ∷ x ∷ 0x43 ∷ 0x44 ∷ [])
 four_bytes x h = (omega arith, (h, (omega arith, (omega arith, tt))))
@@ -160,7 +161,7 @@ settings_alike = record { program = refl; pages = refl; channels = refl; lengths
 
     bytes : (c o : ℕ) → second_byte (record { channel = c; offset = o }) ≡ false → get_or (input_of (setting 0x42).inputs c) o 0 ≡ get_or (input_of (setting 0x58).inputs c) o 0
     bytes zero zero e = refl
-    bytes zero (suc zero) e = no e
+    bytes zero (suc zero) e = true-false e
     bytes zero (suc (suc o)) e = refl
     bytes (suc c) o e = refl
 
@@ -175,8 +176,8 @@ unfolding first_recorded
 nothing_decided = refl
 
 alike : AreAlikeBut compute_query second_byte first_recorded.fits.start (copied 0x42) (copied 0x58)
-alike = recordings_are_alike (setting 0x42) (setting 0x58) [] [] (copied 0x42) (copied 0x58) second_byte settings_alike (all_below 256 copy_four refl) tt first_recorded second_recorded compute_query refl
-    (λ z e. no e) (subst (λ (ds : List Decision). All (λ d. NoneDiffers second_byte d.sources) ds) (sym nothing_decided) (All-from_recursion (λ (d : Decision). NoneDiffers second_byte d.sources) [] tt))
+alike = recordings_are_alike (setting 0x42) (setting 0x58) [] [] (copied 0x42) (copied 0x58) second_byte settings_alike (all-below 256 copy_four refl) tt first_recorded second_recorded compute_query refl
+    (λ z e. true-false e) (subst (λ (ds : List Decision). All (λ d. NoneDiffers second_byte d.sources) ds) (sym nothing_decided) (All-from_recursion (λ (d : Decision). NoneDiffers second_byte d.sources) [] tt))
 
 -- ---- the clock
 

@@ -1,7 +1,9 @@
 -- The laws of decisions.
-use Rattle.std.proofs.Common.{◌≡◌, ℕ, suc, ◌+◌, false, List, [], ◌++◌, get_or, Some, refl, arith, ap, sym, ◌∙◌, subst, append-nil}
+use Rattle.std.proofs.Common.{◌≡◌, ℕ, suc, ◌+◌, false, List, [], ◌++◌, get_or, refl, arith, ap, sym, ◌∙◌, subst, append-nil}
 use Rattle.std.specs.Prelude.{All}
 use Rattle.std.proofs.lemmas.List.Elements.{recursion_from_All, All-from_recursion}
+use Rattle.std.proofs.lemmas.Option.{same_Some}
+use Rattle.lists.proofs.Lists.{all-weaken}
 use Rattle.isa.specs.Machine.{State}
 use Rattle.elf_model.specs.Image.{image}
 use Rattle.log_model.specs.declared.CallRecord.{CallRecord}
@@ -22,7 +24,6 @@ use Rattle.replay_model.proofs.Track.{on_track_at}
 use Rattle.flow_meaning.specs.StepLaws.{DeterminedBy}
 use Rattle.flow_meaning.specs.RunLaws.{IsRun, moment_at, byte_received, byte_at_sink, under, AlikeAt, AlikeElsewhere}
 use Rattle.flow_meaning.proofs.Beginning.{fits_makes_run}
-use Rattle.flow_meaning.proofs.Sets.{all-gives}
 use Rattle.flow_meaning.proofs.Rows.{determined_rows}
 use Rattle.flow_meaning.proofs.Steps.{compute_determines}
 use Rattle.decision_model.specs.Decisions.{decided}
@@ -89,7 +90,7 @@ rows_are_same rule law q differs s a b is u e =
     let path = path_is_same rule law (has_source q) differs s a b u e in
     let elsewhere : AlikeElsewhere (has_source q) a b = λ x h. same x (u.chosen x h) in
     let all = determined_rows rule law a b s u.first u.second path q is elsewhere in
-    All-from_recursion Q (rows q (trace s a)) (all-gives P Q (λ r h clear. h (alike same r.sources clear)) (rows q (trace s a)) (recursion_from_All P (rows q (trace s a)) all))
+    All-from_recursion Q (rows q (trace s a)) (all-weaken P Q (λ r h clear. h (alike same r.sources clear)) (rows q (trace s a)) (recursion_from_All P (rows q (trace s a)) all))
   where
     P : Row → Type 0
     P r = AlikeAt a b r.sources → byte_at_sink s a r.sink ≡ byte_at_sink s b r.sink
@@ -99,16 +100,13 @@ rows_are_same rule law q differs s a b is u e =
 
     alike : ((x : SourceByte) → differs x ≡ false → byte_received a x ≡ byte_received b x) → (bs : List SourceByte) → NoneDiffers differs bs → AlikeAt a b bs
     alike same bs h = All-from_recursion (λ x. byte_received a x ≡ byte_received b x) bs
-        (all-gives (λ x. differs x ≡ false) (λ x. byte_received a x ≡ byte_received b x) same bs (recursion_from_All (λ x. differs x ≡ false) bs h))
+        (all-weaken (λ x. differs x ≡ false) (λ x. byte_received a x ≡ byte_received b x) same bs (recursion_from_All (λ x. differs x ≡ false) bs h))
 
 -- ---- two runs of one program
 
-one_start : (x y : State) → Some x ≡ Some y → x ≡ y
-one_start x y e = cc
-
 pub begins_alike : (program : List ℕ) (a b : Log) (runs : AreRuns program a b) → runs.fits_too.start ≡ runs.fits.start
 begins_alike program a b runs =
-    one_start runs.fits_too.start runs.fits.start (sym runs.fits_too.begins ∙ ap (λ (n : ℕ). start_in_image (image program) n) (sym runs.pages) ∙ runs.fits.begins)
+    same_Some runs.fits_too.start runs.fits.start (sym runs.fits_too.begins ∙ ap (λ (n : ℕ). start_in_image (image program) n) (sym runs.pages) ∙ runs.fits.begins)
 
 pub no_influence : NoInfluence
 no_influence program a b runs q differs is chosen none answers n x y =

@@ -1,8 +1,9 @@
 -- Where no listed decision comes from what differs, no location that decides does.
-use Rattle.std.proofs.Common.{◌≡◌, ℕ, zero, suc, ◌+◌, ◌<◌, ◌≤◌, Bool, false, cond, List, [], ◌∷◌, ◌++◌, map, refl, arith, sym, subst}
+use Rattle.std.proofs.Common.{◌≡◌, ℕ, zero, suc, ◌+◌, ◌<◌, ◌≤◌, Bool, false, cond, List, [], ◌∷◌, map, refl, arith, sym, subst}
 use Rattle.std.specs.Prelude.{All}
 use Rattle.std.specs.List.{filter, AllByRecursion}
 use Rattle.std.proofs.lemmas.List.Elements.{recursion_from_All}
+use Rattle.lists.proofs.Lists.{all-parts}
 use Rattle.isa.specs.Machine.{State}
 use Rattle.log_model.specs.declared.RunEnd.{RunEnd}
 use Rattle.log_model.specs.declared.RunEnd.TheVariants.{Exit, Trap, Limit}
@@ -16,10 +17,6 @@ use Rattle.replay_model.proofs.Track.{on_track_at}
 use Rattle.flow_meaning.specs.RunLaws.{IsRun, moment_at}
 use Rattle.decision_model.specs.Decisions.{decisions, moments_seen, Decision, decision, is_some_byte, decided_at, decided_from, decided}
 use Rattle.flow_decisions.specs.DecisionLaws.{NoneDiffers}
-
-pub split_all : {X : Type 0} (Q : X → Type 0) (xs ys : List X) → AllByRecursion Q (xs ++ ys) → AllByRecursion Q xs × AllByRecursion Q ys
-split_all Q [] ys h = (tt, h)
-split_all Q (x ∷ xs) ys h = let rest = split_all Q xs ys h.1 in ((h.0, rest.0), rest.1)
 
 pub seen_within : (end : RunEnd) → moments_seen end ≤ end_at end + 1
 seen_within (Exit at code) = omega arith
@@ -58,8 +55,8 @@ module _ (differs : SourceByte → Bool) where
 
     listed_from : (n k : ℕ) (m : Moment) → k < n → AllByRecursion Passes (decided_from policy trace n m) → Undecided policy trace (moment_after k m).time (moment_after k m).state
     listed_from zero k m g h = absurd (omega arith)
-    listed_from (suc n) zero m g h = each_listed m (decisions policy.rule m.state) (split_all Passes (decided_at policy trace m) (decided_from policy trace n (advance m)) h).0
-    listed_from (suc n) (suc k) m g h = listed_from n k (advance m) (omega arith) (split_all Passes (decided_at policy trace m) (decided_from policy trace n (advance m)) h).1
+    listed_from (suc n) zero m g h = each_listed m (decisions policy.rule m.state) (all-parts Passes (decided_at policy trace m) (decided_from policy trace n (advance m)) h).0
+    listed_from (suc n) (suc k) m g h = listed_from n k (advance m) (omega arith) (all-parts Passes (decided_at policy trace m) (decided_from policy trace n (advance m)) h).1
 
   pub undecided : (policy : Policy) (s : State) (log : Log) → IsRun log s → All Passes (decided policy s log) → (k : ℕ) → k < moments_seen log.end → Undecided policy (trace s log) k (moment_at s log k).state
   undecided policy s log run h k g =

@@ -1,10 +1,12 @@
 -- Where two states agree at the decisions of one, their next steps are alike.
 use Rattle.std.proofs.Common.{◌≡◌, ℕ, ℤ, zero, suc, ◌+◌, ◌*◌, ◌/◌, ◌<◌, ◌⊎◌, inl, inr, Bool, true, false, List, [], ◌∷◌, ◌++◌, length, get_or, refl, arith, ap, ap₂, sym, ◌∙◌, subst, mod-eq_of_lt, int_lt}
 use Rattle.std.specs.Prelude.{◌==◌, not, ◌&&◌, nat_lt, nat_le}
+use Rattle.lists.proofs.Tests.{true-false}
 use Rattle.isa.specs.declared.Instr.{Instr}
 use Rattle.isa.specs.declared.Instr.TheVariants.{Lui, Auipc, Jal, Jalr, Beq, Bne, Blt, Bge, Bltu, Bgeu, Lb, Lh, Lw, Lbu, Lhu, Sb, Sh, Sw, Addi, Slti, Sltiu, Xori, Ori, Andi, Slli, Srli, Srai, Add, Sub, Sll, Slt, Sltu, Xor, Srl, Sra, Or, And, Mul, Mulh, Mulhsu, Mulhu, Div, Divu, Rem, Remu, Fence, Ecall, Ebreak}
 use Rattle.isa.specs.Words.{instruction_of}
 use Rattle.isa.specs.Machine.{as_word, State, Outcome, Retired, Called, Trapped, reg, kind_of, call_of, wrap, as_signed, in_window, bytes_at, little_endian, relative, effective_address, effect_of, execute, landed, is_aligned, jumped, branched, loaded, stored, Fetch, Fetched, OutsideWindow, Illegal, fetch, fetch_if, decoded, outcome_of, next, place_of}
+use Rattle.isa.proofs.Window.{holds_by, Holds}
 use Rattle.flow_model.specs.declared.Loc.{Loc}
 use Rattle.flow_model.specs.declared.Loc.TheVariants.{Mem}
 use Rattle.flow_model.specs.declared.Rule.{Rule}
@@ -12,8 +14,7 @@ use Rattle.flow_model.specs.declared.Rule.TheVariants.{Copy, Keep, Compute, Inde
 use Rattle.flow_model.specs.Flow.{lanes, all_lanes}
 use Rattle.flow_meaning.specs.Content.{content, byte_in, AgreeAt, IsSound}
 use Rattle.flow_meaning.specs.StepLaws.{is_load}
-use Rattle.flow_meaning.proofs.Never.{no}
-use Rattle.flow_meaning.proofs.Window.{Holds, holds_by, bytes_length, byte_of_window}
+use Rattle.flow_meaning.proofs.Window.{bytes_length, byte_of_window}
 use Rattle.flow_meaning.proofs.Operands.{word_agrees, words_agree, address_agrees}
 use Rattle.decision_model.specs.Decides.{base_of_load, used, asked, decides}
 use Rattle.decision_model.specs.Decisions.{fetched_from, instr_of, decides_fetched, decisions}
@@ -43,8 +44,8 @@ split_agree s t (x ∷ xs) ys h = let rest = split_agree s t xs ys h.1 in ((h.0,
 landed_alike : (rule : Rule) (s t : State) (b c : Bool) (x y : State) → b ≡ c → x.pc ≡ y.pc → AlikeOutcomes rule s t (landed b x) (landed c y)
 landed_alike rule s t true true x y e h = h
 landed_alike rule s t false false x y e h = refl
-landed_alike rule s t true false x y e h = no e
-landed_alike rule s t false true x y e h = no (sym e)
+landed_alike rule s t true false x y e h = true-false e
+landed_alike rule s t false true x y e h = true-false (sym e)
 
 module _ {s t : State} (ss : IsSound s) (st : IsSound t) (pc : s.pc ≡ t.pc) (base : s.base ≡ t.base) (size : length s.memory ≡ length t.memory) (rule : Rule) where
   same_window : (a b n : ℕ) → a ≡ b → in_window s a n ≡ in_window t b n
@@ -109,8 +110,8 @@ module _ {s t : State} (ss : IsSound s) (st : IsSound t) (pc : s.pc ≡ t.pc) (b
   branched_alike : (x y : Bool) (p q : ℕ) → x ≡ y → p ≡ q → AlikeOutcomes rule s t (branched s x p) (branched t y q)
   branched_alike true true p q e f = landed_alike rule s t (is_aligned p) (is_aligned q) (record s { pc = p }) (record t { pc = q }) (ap is_aligned f) f
   branched_alike false false p q e f = stepped_on
-  branched_alike true false p q e f = no e
-  branched_alike false true p q e f = no (sym e)
+  branched_alike true false p q e f = true-false e
+  branched_alike false true p q e f = true-false (sym e)
 
   branches : (f : ℕ → ℕ → Bool) (a b : ℕ) (imm : ℤ) → AgreeAt s t (all_lanes a b 0) → AlikeOutcomes rule s t (branched s (f (reg s a) (reg s b)) (relative s imm)) (branched t (f (reg t a) (reg t b)) (relative t imm))
   branches f a b imm h = let both = words_agree ss st a b 0 h in branched_alike (f (reg s a) (reg s b)) (f (reg t a) (reg t b)) (relative s imm) (relative t imm) (ap₂ f both.0 both.1) (same_relative imm)
@@ -124,9 +125,9 @@ module _ {s t : State} (ss : IsSound s) (st : IsSound t) (pc : s.pc ≡ t.pc) (b
   loaded_alike : (b c : Bool) (d x y n : ℕ) (g : Bool) → (b ≡ c) ⊎ (rule ≡ Index) → AlikeOutcomes rule s t (loaded s b d x n g) (loaded t c d y n g)
   loaded_alike true true d x y n g e = stepped_on
   loaded_alike false false d x y n g e = refl
-  loaded_alike true false d x y n g (inl e) = no e
+  loaded_alike true false d x y n g (inl e) = true-false e
   loaded_alike true false d x y n g (inr e) = e
-  loaded_alike false true d x y n g (inl e) = no (sym e)
+  loaded_alike false true d x y n g (inl e) = true-false (sym e)
   loaded_alike false true d x y n g (inr e) = e
 
   loads : (d a : ℕ) (imm : ℤ) (n : ℕ) (g : Bool) → (effective_address s a imm ≡ effective_address t a imm) ⊎ (rule ≡ Index)
@@ -137,8 +138,8 @@ module _ {s t : State} (ss : IsSound s) (st : IsSound t) (pc : s.pc ≡ t.pc) (b
   stored_alike : (b c : Bool) (x y n v w : ℕ) → b ≡ c → AlikeOutcomes rule s t (stored s b x n v) (stored t c y n w)
   stored_alike true true x y n v w e = stepped_on
   stored_alike false false x y n v w e = refl
-  stored_alike true false x y n v w e = no e
-  stored_alike false true x y n v w e = no (sym e)
+  stored_alike true false x y n v w e = true-false e
+  stored_alike false true x y n v w e = true-false (sym e)
 
   stores : (a b : ℕ) (imm : ℤ) (n : ℕ) → AgreeAt s t (lanes a)
       → AlikeOutcomes rule s t (stored s (in_window s (effective_address s a imm) n) (effective_address s a imm) n (reg s b)) (stored t (in_window t (effective_address t a imm) n) (effective_address t a imm) n (reg t b))

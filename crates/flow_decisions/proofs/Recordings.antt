@@ -3,17 +3,16 @@ use Rattle.std.proofs.Common.{◌≡◌, ℕ, ℤ, zero, suc, ◌+◌, ◌<◌, 
 use Rattle.std.specs.Prelude.{◌==◌, nat_le, not, ◌&&◌, min, if◌then◌else◌}
 use Rattle.std.specs.List.{AllByRecursion}
 use Rattle.std.proofs.lemmas.Bool.{cases_lt}
-use Rattle.std.proofs.lemmas.List.{get_or_past}
+use Rattle.std.proofs.lemmas.List.{get_or_past, nil_from_length}
 use Rattle.isa.specs.declared.Call.{Call}
 use Rattle.isa.specs.Machine.{State, reg, in_window, bytes_at}
 use Rattle.isa.specs.Calls.{channel_of, buffer_of, length_of, refusal_of, has_channel, is_of_no_bytes, bad_channel, bad_buffer, not_refused}
 use Rattle.log_model.specs.declared.CallRecord.{CallRecord}
 use Rattle.log_model.specs.declared.CallRecord.TheVariants.{Read, Write, Clock, Other}
-use Rattle.log_model.specs.declared.RunEnd.{RunEnd}
-use Rattle.log_model.specs.declared.RunEnd.TheVariants.{Exit, Trap, Limit}
-use Rattle.log_model.specs.Logs.{Log, IsRecord, IsRefusal, moved_length, steps_by, end_at}
+use Rattle.log_model.specs.Logs.{Log, IsRecord, IsRefusal, moved_length, end_at}
 use Rattle.log_model.specs.Moved.{received, received_by}
 use Rattle.log_model.proofs.Moved.{length-received-push}
+use Rattle.log_model.proofs.Ends.{end_at-le-steps_by}
 use Rattle.flow_model.specs.declared.SourceByte.{SourceByte}
 use Rattle.replay_model.specs.Run.{Moment, start, after_outcome}
 use Rattle.replay_model.specs.Fits.{Fits}
@@ -48,29 +47,24 @@ record WasLawful (inputs : ℕ) (s : State) (r : CallRecord) : Type 0 where
 abbrev AreLawful : ℕ → State → List CallRecord → Type 0
 AreLawful inputs s rs = AllByRecursion (WasLawful inputs s) rs
 
-end_within : (end : RunEnd) → end_at end ≤ steps_by end
-end_within (Exit at code) = omega arith
-end_within (Trap at kind pc) = omega arith
-end_within (Limit at) = omega arith
-
 lawful_left : (log : Log) (s : State) → IsRun log s → (n t : ℕ) → t + n ≡ end_at log.end → AreLawful log.inputs s (moment_at s log t).left
 lawful_left log s run zero t e =
     let there = on_track_at log s t run.form run.agrees (omega arith) in
     let time = there.time in
     subst (AreLawful log.inputs s) (sym (none_left log (moment_at s log t) there.on (omega arith))) tt
-lawful_left log s run (suc n) t e = by (lawful_left log s run n (suc t) (omega arith)) (does log.inputs m (done_at log s t run (let x = end_within log.end in omega arith)))
+lawful_left log s run (suc n) t e = by (lawful_left log s run n (suc t) (omega arith)) (does log.inputs m (done_at log s t run (let x = end_at-le-steps_by log.end in omega arith)))
   where
     m : Moment
     m = moment_at s log t
 
     calls : (c : Call) (left : List CallRecord) → IsCallAt log t m.state c left → AreLawful log.inputs s (left_after left) → AreLawful log.inputs s left
     calls c [] x h = tt
-    calls c (r ∷ rs) x h = (record { form = x.1; state = m.state; window = window_at log s t run (let y = end_within log.end in omega arith); lawful = x.2 }, h)
+    calls c (r ∷ rs) x h = (record { form = x.1; state = m.state; window = window_at log s t run (let y = end_at-le-steps_by log.end in omega arith); lawful = x.2 }, h)
 
     by : AreLawful log.inputs s (moment_at s log (suc t)).left → Does log.inputs m → AreLawful log.inputs s m.left
     by ih (Plain v x f se sa) = subst (AreLawful log.inputs s) (ap (λ (z : Moment). z.left) (moment_later t (start s log)) ∙ ap (λ (z : Moment). z.left) (advance_plain m v f)) ih
     by ih (Calls c f g se sa) =
-        calls c m.left (call_at_time log s t run.form run.agrees (let y = end_within log.end in omega arith) c f)
+        calls c m.left (call_at_time log s t run.form run.agrees (let y = end_at-le-steps_by log.end in omega arith) c f)
         (subst (AreLawful log.inputs s) (ap (λ (z : Moment). z.left) (moment_later t (start s log)) ∙ ap (λ (z : Moment). z.left) (ap (after_outcome m) f) ∙ (moved_by m m.left refl).left_is) ih)
 
 all_lawful : (log : Log) (s : State) → IsRun log s → AreLawful log.inputs s log.records
@@ -86,10 +80,6 @@ one_refusal s x y c d args args1 h g e f =
     ap (λ (held : Bool). if not (has_channel c args) then bad_channel else if is_of_no_bytes args then not_refused else if held then not_refused else bad_buffer) (one_window s x y (buffer_of args) (length_of args) h g)
     ∙ ap₂ (λ (k : ℕ) (xs : List ℕ). refusal_of y k xs) e f
 
-no_bytes : (bytes : List ℕ) → length bytes ≡ 0 → bytes ≡ []
-no_bytes [] e = refl
-no_bytes (b ∷ bs) e = absurd (omega arith)
-
 -- ---- reads
 
 abbrev ReadIs : ℤ → ℤ → List ℕ → List ℕ → Type 0
@@ -98,7 +88,7 @@ ReadIs (pos n) result bytes part = (result ≡ pos (length part)) × (bytes ≡ 
 
 read_is : (inputs : List (List ℕ)) (piece : ℕ) (before : List CallRecord) (refused : ℤ) (at : ℕ) (args : List ℕ) (result : ℤ) (bytes : List ℕ) → result ≡ allowed refused result 0 → length bytes ≡ moved_length result
     → ReadsNext inputs piece before (Read at args result bytes) → ReadIs refused result bytes (part_of inputs piece (length (received (channel_of args) before)) args)
-read_is inputs piece before (negsuc n) at args result bytes e w x = (e, no_bytes bytes (w ∙ ap moved_length e))
+read_is inputs piece before (negsuc n) at args result bytes e w x = (e, nil_from_length bytes (w ∙ ap moved_length e))
 read_is inputs piece before (pos n) at args (pos k) bytes e w x = (ap pos (sym w ∙ ap length x), x)
 read_is inputs piece before (pos n) at args (negsuc k) bytes e w x = cc
 

@@ -2,6 +2,8 @@
 use Rattle.std.proofs.Common.{◌≡◌, ℕ, zero, suc, ◌+◌, ◌^◌, ◌<◌, ◌≤◌, ◌⊎◌, inl, inr, Bool, true, false, cond, List, [], ◌∷◌, drop, length, get_or, Option, Some, None, refl, arith, ap, ap₂, sym, ◌∙◌, subst}
 use Rattle.std.specs.Prelude.{if◌then◌else◌}
 use Rattle.std.proofs.lemmas.Bool.{cases_lt}
+use Rattle.lists.proofs.Tests.{true-false}
+use Rattle.lists.proofs.Lists.{all-weaken}
 use Rattle.isa.specs.declared.Instr.{Instr}
 use Rattle.isa.specs.declared.Instr.TheVariants.{Ecall}
 use Rattle.isa.specs.Machine.{State, Outcome, Retired, Called, next, Fetched, wrap, place_of}
@@ -23,9 +25,9 @@ use Rattle.replay_model.proofs.Track.{advance_plain}
 use Rattle.flow_meaning.specs.Content.{content, AgreeAt, IsSound}
 use Rattle.flow_meaning.specs.StepLaws.{DeterminedBy, SameStep, receives, bytes_given, answer_by, is_load, on_path}
 use Rattle.flow_meaning.specs.RunLaws.{IsRun, moment_at, under}
-use Rattle.flow_meaning.proofs.Never.{no, none_is, some_is}
+use Rattle.flow_meaning.proofs.Never.{none_is, some_is}
 use Rattle.flow_meaning.proofs.Window.{byte_beyond}
-use Rattle.flow_meaning.proofs.Sets.{union_over-all, all-gives}
+use Rattle.flow_meaning.proofs.Sets.{union_over-all}
 use Rattle.flow_meaning.proofs.After.{Receives, receives_one, flows, arrives}
 use Rattle.flow_meaning.proofs.Steps.{Does, Plain, Calls, does, instruction_step, same_call, received_is_there}
 use Rattle.flow_meaning.proofs.Calls.{state_given}
@@ -100,7 +102,7 @@ module _ (rule : Rule) (law : DeterminedBy rule) (introduces differs : SourceByt
   -- they agree at what decides
   pub decides_agree : (t : ℕ) → t < moments_seen a.end → Together t (first_at t) (second_at t) → AgreeAt (first_at t).state (second_at t).state (decisions rule (first_at t).state)
   decides_agree t h both =
-      all-gives (λ l. Clear differs (origins_at t l)) (λ l. content (first_at t).state l ≡ content (second_at t).state l) both.alike
+      all-weaken (λ l. Clear differs (origins_at t l)) (λ l. content (first_at t).state l ≡ content (second_at t).state l) both.alike
       (decisions rule (first_at t).state) (undecided differs policy s a u.first u.none t h)
 
   abbrev pub OutcomesAlike : ℕ → Type 0
@@ -220,7 +222,7 @@ module _ (rule : Rule) (law : DeterminedBy rule) (introduces differs : SourceByt
       by false e h = u.chosen x e
 
   content_received : (t : ℕ) (l : Loc) → t < steps a → t < steps b → Stepped t → Receives (step_of (first_at t)) l → Clear differs (origins_at (suc t) l) → content (advance (first_at t)).state l ≡ content (advance (second_at t)).state l
-  content_received t (Reg r i) h g step there clear = no (sym there.is_there)
+  content_received t (Reg r i) h g step there clear = true-false (sym there.is_there)
   content_received t (Mem q) h g step there clear = by (cases_lt q (2 ^ 32))
     where
       m : Moment
@@ -254,7 +256,7 @@ module _ (rule : Rule) (law : DeterminedBy rule) (introduces differs : SourceByt
       let n = second_at t in
       let whole = origins_later t l h ∙ flows policy (step_of m) (origins_at t) l e in
       let each = union_over-all (λ x. differs x ≡ false) (origins_at t) (from rule (step_of m) l) (subst (Clear differs) whole clear) in
-      let agree : AgreeAt m.state n.state (from rule (step_of m) l) = all-gives (λ k. Clear differs (origins_at t k)) (λ k. content m.state k ≡ content n.state k) both.alike (from rule (step_of m) l) each in
+      let agree : AgreeAt m.state n.state (from rule (step_of m) l) = all-weaken (λ k. Clear differs (origins_at t k)) (λ k. content m.state k ≡ content n.state k) both.alike (from rule (step_of m) l) each in
       law a.inputs b.inputs m n l (sound_at a s t u.first (omega arith)) (sound_at b s t u.second (omega arith)) (done_at a s t u.first h) (done_at b s t u.second g) step.same e agree
 
   content_next : (t : ℕ) (l : Loc) → t < steps a → t < steps b → Together t (first_at t) (second_at t) → Stepped t → Clear differs (origins_at (suc t) l) → content (advance (first_at t)).state l ≡ content (advance (second_at t)).state l

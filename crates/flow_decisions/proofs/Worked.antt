@@ -1,10 +1,10 @@
 -- Examples: a run without decisions, and one for each kind of decision without which the laws would be false.
-use Rattle.std.proofs.Common.{◌≡◌, ℕ, zero, suc, ◌+◌, ◌^◌, ◌<◌, Bool, true, List, [], ◌∷◌, ◌++◌, length, take, pos, refl, arith, inl, inr, replicate, get_or, ltb-true}
+use Rattle.std.proofs.Common.{◌≡◌, ℕ, suc, ◌+◌, ◌^◌, ◌<◌, Bool, true, List, [], ◌∷◌, ◌++◌, length, take, pos, refl, arith, inl, inr, replicate}
 use Rattle.std.specs.Prelude.{nat_lt, ◌<ℤ◌, Some}
 use Rattle.std.specs.List.{flat_map, list_all, AllByRecursion}
-use Rattle.std.proofs.lemmas.Bool.{and_parts}
 use Rattle.std.proofs.lemmas.Int.{ints}
 use Rattle.std.specs.Int.{w32, to_le_bytes}
+use Rattle.lists.proofs.Numbers.{get_or-below, all-below}
 use Rattle.isa.specs.declared.Instr.{Instr}
 use Rattle.isa.specs.declared.Instr.TheVariants.{Ecall, Lbu, Beq, Jalr, Auipc, Sb, Addi, Add}
 use Rattle.isa.specs.Machine.{State}
@@ -51,15 +51,6 @@ log_of place n channel code xs ys = log_with (read_of place xs ∷ write_of n ch
 abbrev pub byte_in : ℕ → SourceByte
 byte_in i = record { channel = 0; offset = i }
 
-pub all_below : (n : ℕ) (xs : List ℕ) → list_all (λ v. nat_lt v n) xs ≡ true → AllByRecursion (λ v. v < n) xs
-all_below n [] e = tt
-all_below n (x ∷ xs) e = let both = and_parts (nat_lt x n) (list_all (λ v. nat_lt v n) xs) e in (ltb-true x n both.0, all_below n xs both.1)
-
-pub each_below : (n : ℕ) (xs : List ℕ) → 0 < n → AllByRecursion (λ v. v < n) xs → (k : ℕ) → get_or xs k 0 < n
-each_below n [] z h k = z
-each_below n (x ∷ xs) z h zero = h.0
-each_below n (x ∷ xs) z h (suc k) = each_below n xs z h.1 k
-
 pub a_transfer : (channel place : ℕ) (xs : List ℕ) → channel < 2 ^ 32 → place < 2 ^ 32 → length xs < 2 ^ 31 → AllByRecursion (λ v. v < 256) xs → IsTransfer (channel ∷ place ∷ length xs ∷ []) (pos (length xs)) xs
 a_transfer channel place xs h g k b = record { three = refl; words = (h, (g, (omega arith, tt))); fits = fits; whole = refl; are_bytes = b }
   where
@@ -71,7 +62,7 @@ is_log place n channel code xs ys low high p c d lx ly bx by = record {
   pages = (omega arith, omega arith);
   inputs = omega arith;
   digest = refl;
-  digest_bytes = all_below 256 (replicate 32 0) refl;
+  digest_bytes = all-below 256 (replicate 32 0) refl;
   records = ((omega arith, a_transfer 0 place xs (omega arith) (omega arith) (omega arith) bx, inr (omega (arith, ints), omega (arith, ints))), ((omega arith, a_transfer channel 60 ys (omega arith) (omega arith) (omega arith) by, inr refl), tt));
   end = (omega arith, omega arith);
   rise = (omega arith, (omega arith, tt));
@@ -83,8 +74,8 @@ pub is_sound : (code : List Instr) (place n : ℕ) (bytes : List ℕ) → (list_
 is_sound code place n bytes r c m l = record {
   count = c;
   first = refl;
-  words = each_below (2 ^ 32) (beginning_with code place n bytes).registers (omega arith) (all_below (2 ^ 32) (beginning_with code place n bytes).registers r);
-  bytes = each_below (2 ^ 8) (beginning_with code place n bytes).memory (omega arith) (all_below (2 ^ 8) (beginning_with code place n bytes).memory m);
+  words = get_or-below (2 ^ 32) (beginning_with code place n bytes).registers (omega arith) (all-below (2 ^ 32) (beginning_with code place n bytes).registers r);
+  bytes = get_or-below (2 ^ 8) (beginning_with code place n bytes).memory (omega arith) (all-below (2 ^ 8) (beginning_with code place n bytes).memory m);
   ends = omega arith;
 }
 
@@ -107,10 +98,10 @@ pub doubling_sound : IsSound doubling_start
 doubling_sound = is_sound doubling 60 2 [] refl refl refl (omega arith)
 
 pub first_doubled : IsRun (doubled 3 7) doubling_start
-first_doubled = record { form = is_log 60 5 2 2 (3 ∷ 7 ∷ []) (6 ∷ 7 ∷ []) (omega arith) (omega arith) (omega arith) (omega arith) (omega arith) (omega arith) (omega arith) (all_below 256 (3 ∷ 7 ∷ []) refl) (all_below 256 (6 ∷ 7 ∷ []) refl); sound = doubling_sound; agrees = refl }
+first_doubled = record { form = is_log 60 5 2 2 (3 ∷ 7 ∷ []) (6 ∷ 7 ∷ []) (omega arith) (omega arith) (omega arith) (omega arith) (omega arith) (omega arith) (omega arith) (all-below 256 (3 ∷ 7 ∷ []) refl) (all-below 256 (6 ∷ 7 ∷ []) refl); sound = doubling_sound; agrees = refl }
 
 pub second_doubled : IsRun (doubled 100 7) doubling_start
-second_doubled = record { form = is_log 60 5 2 2 (100 ∷ 7 ∷ []) (200 ∷ 7 ∷ []) (omega arith) (omega arith) (omega arith) (omega arith) (omega arith) (omega arith) (omega arith) (all_below 256 (100 ∷ 7 ∷ []) refl) (all_below 256 (200 ∷ 7 ∷ []) refl); sound = doubling_sound; agrees = refl }
+second_doubled = record { form = is_log 60 5 2 2 (100 ∷ 7 ∷ []) (200 ∷ 7 ∷ []) (omega arith) (omega arith) (omega arith) (omega arith) (omega arith) (omega arith) (omega arith) (all-below 256 (100 ∷ 7 ∷ []) refl) (all-below 256 (200 ∷ 7 ∷ []) refl); sound = doubling_sound; agrees = refl }
 
 pub nothing_decided : decided (under Compute all) doubling_start (doubled 3 7) ≡ []
 nothing_decided = refl
@@ -139,13 +130,13 @@ abbrev pub first_branching : Log
 first_branching = log_of 60 6 1 1 (1 ∷ []) (12 ∷ [])
 
 pub first_branching_runs : IsRun first_branching branching_start
-first_branching_runs = record { form = is_log 60 6 1 1 (1 ∷ []) (12 ∷ []) (omega arith) (omega arith) (omega arith) (omega arith) (omega arith) (omega arith) (omega arith) (all_below 256 (1 ∷ []) refl) (all_below 256 (12 ∷ []) refl); sound = branching_sound; agrees = refl }
+first_branching_runs = record { form = is_log 60 6 1 1 (1 ∷ []) (12 ∷ []) (omega arith) (omega arith) (omega arith) (omega arith) (omega arith) (omega arith) (omega arith) (all-below 256 (1 ∷ []) refl) (all-below 256 (12 ∷ []) refl); sound = branching_sound; agrees = refl }
 
 abbrev pub second_branching : Log
 second_branching = log_of 60 6 1 1 (0 ∷ []) (36 ∷ [])
 
 pub second_branching_runs : IsRun second_branching branching_start
-second_branching_runs = record { form = is_log 60 6 1 1 (0 ∷ []) (36 ∷ []) (omega arith) (omega arith) (omega arith) (omega arith) (omega arith) (omega arith) (omega arith) (all_below 256 (0 ∷ []) refl) (all_below 256 (36 ∷ []) refl); sound = branching_sound; agrees = refl }
+second_branching_runs = record { form = is_log 60 6 1 1 (0 ∷ []) (36 ∷ []) (omega arith) (omega arith) (omega arith) (omega arith) (omega arith) (omega arith) (omega arith) (all-below 256 (0 ∷ []) refl) (all-below 256 (36 ∷ []) refl); sound = branching_sound; agrees = refl }
 
 pub branching_decides : decided (under Compute all) branching_start first_branching ≡ one_at 2 8 (Beq 5 0 (pos 28)) (Reg 5 0)
 branching_decides = refl
@@ -169,13 +160,13 @@ abbrev pub first_comparing : Log
 first_comparing = log_of 60 6 1 1 (1 ∷ []) (12 ∷ [])
 
 pub first_comparing_runs : IsRun first_comparing comparing_start
-first_comparing_runs = record { form = is_log 60 6 1 1 (1 ∷ []) (12 ∷ []) (omega arith) (omega arith) (omega arith) (omega arith) (omega arith) (omega arith) (omega arith) (all_below 256 (1 ∷ []) refl) (all_below 256 (12 ∷ []) refl); sound = comparing_sound; agrees = refl }
+first_comparing_runs = record { form = is_log 60 6 1 1 (1 ∷ []) (12 ∷ []) (omega arith) (omega arith) (omega arith) (omega arith) (omega arith) (omega arith) (omega arith) (all-below 256 (1 ∷ []) refl) (all-below 256 (12 ∷ []) refl); sound = comparing_sound; agrees = refl }
 
 abbrev pub second_comparing : Log
 second_comparing = log_of 60 6 1 1 (0 ∷ []) (36 ∷ [])
 
 pub second_comparing_runs : IsRun second_comparing comparing_start
-second_comparing_runs = record { form = is_log 60 6 1 1 (0 ∷ []) (36 ∷ []) (omega arith) (omega arith) (omega arith) (omega arith) (omega arith) (omega arith) (omega arith) (all_below 256 (0 ∷ []) refl) (all_below 256 (36 ∷ []) refl); sound = comparing_sound; agrees = refl }
+second_comparing_runs = record { form = is_log 60 6 1 1 (0 ∷ []) (36 ∷ []) (omega arith) (omega arith) (omega arith) (omega arith) (omega arith) (omega arith) (omega arith) (all-below 256 (0 ∷ []) refl) (all-below 256 (36 ∷ []) refl); sound = comparing_sound; agrees = refl }
 
 pub comparing_decides : decided (under Compute all) comparing_start first_comparing ≡ one_at 2 8 (Beq 0 5 (pos 28)) (Reg 5 0)
 comparing_decides = refl
@@ -199,13 +190,13 @@ abbrev pub first_jumping : Log
 first_jumping = log_of 60 6 1 1 (12 ∷ []) (12 ∷ [])
 
 pub first_jumping_runs : IsRun first_jumping jumping_start
-first_jumping_runs = record { form = is_log 60 6 1 1 (12 ∷ []) (12 ∷ []) (omega arith) (omega arith) (omega arith) (omega arith) (omega arith) (omega arith) (omega arith) (all_below 256 (12 ∷ []) refl) (all_below 256 (12 ∷ []) refl); sound = jumping_sound; agrees = refl }
+first_jumping_runs = record { form = is_log 60 6 1 1 (12 ∷ []) (12 ∷ []) (omega arith) (omega arith) (omega arith) (omega arith) (omega arith) (omega arith) (omega arith) (all-below 256 (12 ∷ []) refl) (all-below 256 (12 ∷ []) refl); sound = jumping_sound; agrees = refl }
 
 abbrev pub second_jumping : Log
 second_jumping = log_of 60 6 1 1 (36 ∷ []) (36 ∷ [])
 
 pub second_jumping_runs : IsRun second_jumping jumping_start
-second_jumping_runs = record { form = is_log 60 6 1 1 (36 ∷ []) (36 ∷ []) (omega arith) (omega arith) (omega arith) (omega arith) (omega arith) (omega arith) (omega arith) (all_below 256 (36 ∷ []) refl) (all_below 256 (36 ∷ []) refl); sound = jumping_sound; agrees = refl }
+second_jumping_runs = record { form = is_log 60 6 1 1 (36 ∷ []) (36 ∷ []) (omega arith) (omega arith) (omega arith) (omega arith) (omega arith) (omega arith) (omega arith) (all-below 256 (36 ∷ []) refl) (all-below 256 (36 ∷ []) refl); sound = jumping_sound; agrees = refl }
 
 pub jumping_decides : decided (under Compute all) jumping_start first_jumping ≡ one_at 2 8 (Jalr 0 5 (pos 0)) (Reg 5 0)
 jumping_decides = refl
@@ -229,13 +220,13 @@ abbrev pub first_loading : Log
 first_loading = log_of 60 5 1 1 (0 ∷ []) (7 ∷ [])
 
 pub first_loading_runs : IsRun first_loading loading_start
-first_loading_runs = record { form = is_log 60 5 1 1 (0 ∷ []) (7 ∷ []) (omega arith) (omega arith) (omega arith) (omega arith) (omega arith) (omega arith) (omega arith) (all_below 256 (0 ∷ []) refl) (all_below 256 (7 ∷ []) refl); sound = loading_sound; agrees = refl }
+first_loading_runs = record { form = is_log 60 5 1 1 (0 ∷ []) (7 ∷ []) (omega arith) (omega arith) (omega arith) (omega arith) (omega arith) (omega arith) (omega arith) (all-below 256 (0 ∷ []) refl) (all-below 256 (7 ∷ []) refl); sound = loading_sound; agrees = refl }
 
 abbrev pub second_loading : Log
 second_loading = log_of 60 5 1 1 (1 ∷ []) (9 ∷ [])
 
 pub second_loading_runs : IsRun second_loading loading_start
-second_loading_runs = record { form = is_log 60 5 1 1 (1 ∷ []) (9 ∷ []) (omega arith) (omega arith) (omega arith) (omega arith) (omega arith) (omega arith) (omega arith) (all_below 256 (1 ∷ []) refl) (all_below 256 (9 ∷ []) refl); sound = loading_sound; agrees = refl }
+second_loading_runs = record { form = is_log 60 5 1 1 (1 ∷ []) (9 ∷ []) (omega arith) (omega arith) (omega arith) (omega arith) (omega arith) (omega arith) (omega arith) (all-below 256 (1 ∷ []) refl) (all-below 256 (9 ∷ []) refl); sound = loading_sound; agrees = refl }
 
 pub loading_decides : decided (under Compute all) loading_start first_loading ≡ one_at 2 8 (Lbu 6 5 (pos 64)) (Reg 5 0)
 loading_decides = refl
@@ -259,13 +250,13 @@ abbrev pub first_storing : Log
 first_storing = log_of 60 6 1 1 (1 ∷ []) (0 ∷ [])
 
 pub first_storing_runs : IsRun first_storing storing_start
-first_storing_runs = record { form = is_log 60 6 1 1 (1 ∷ []) (0 ∷ []) (omega arith) (omega arith) (omega arith) (omega arith) (omega arith) (omega arith) (omega arith) (all_below 256 (1 ∷ []) refl) (all_below 256 (0 ∷ []) refl); sound = storing_sound; agrees = refl }
+first_storing_runs = record { form = is_log 60 6 1 1 (1 ∷ []) (0 ∷ []) (omega arith) (omega arith) (omega arith) (omega arith) (omega arith) (omega arith) (omega arith) (all-below 256 (1 ∷ []) refl) (all-below 256 (0 ∷ []) refl); sound = storing_sound; agrees = refl }
 
 abbrev pub second_storing : Log
 second_storing = log_of 60 6 1 1 (0 ∷ []) (1 ∷ [])
 
 pub second_storing_runs : IsRun second_storing storing_start
-second_storing_runs = record { form = is_log 60 6 1 1 (0 ∷ []) (1 ∷ []) (omega arith) (omega arith) (omega arith) (omega arith) (omega arith) (omega arith) (omega arith) (all_below 256 (0 ∷ []) refl) (all_below 256 (1 ∷ []) refl); sound = storing_sound; agrees = refl }
+second_storing_runs = record { form = is_log 60 6 1 1 (0 ∷ []) (1 ∷ []) (omega arith) (omega arith) (omega arith) (omega arith) (omega arith) (omega arith) (omega arith) (all-below 256 (0 ∷ []) refl) (all-below 256 (1 ∷ []) refl); sound = storing_sound; agrees = refl }
 
 pub storing_decides : decided (under Compute all) storing_start first_storing ≡ one_at 2 8 (Sb 5 12 (pos 64)) (Reg 5 0)
 storing_decides = refl
@@ -289,13 +280,13 @@ abbrev pub first_asking : Log
 first_asking = log_of 60 4 1 1 (1 ∷ []) (0 ∷ [])
 
 pub first_asking_runs : IsRun first_asking asking_start
-first_asking_runs = record { form = is_log 60 4 1 1 (1 ∷ []) (0 ∷ []) (omega arith) (omega arith) (omega arith) (omega arith) (omega arith) (omega arith) (omega arith) (all_below 256 (1 ∷ []) refl) (all_below 256 (0 ∷ []) refl); sound = asking_sound; agrees = refl }
+first_asking_runs = record { form = is_log 60 4 1 1 (1 ∷ []) (0 ∷ []) (omega arith) (omega arith) (omega arith) (omega arith) (omega arith) (omega arith) (omega arith) (all-below 256 (1 ∷ []) refl) (all-below 256 (0 ∷ []) refl); sound = asking_sound; agrees = refl }
 
 abbrev pub second_asking : Log
 second_asking = log_of 60 4 1 2 (2 ∷ []) (0 ∷ 0 ∷ [])
 
 pub second_asking_runs : IsRun second_asking asking_start
-second_asking_runs = record { form = is_log 60 4 1 2 (2 ∷ []) (0 ∷ 0 ∷ []) (omega arith) (omega arith) (omega arith) (omega arith) (omega arith) (omega arith) (omega arith) (all_below 256 (2 ∷ []) refl) (all_below 256 (0 ∷ 0 ∷ []) refl); sound = asking_sound; agrees = refl }
+second_asking_runs = record { form = is_log 60 4 1 2 (2 ∷ []) (0 ∷ 0 ∷ []) (omega arith) (omega arith) (omega arith) (omega arith) (omega arith) (omega arith) (omega arith) (all-below 256 (2 ∷ []) refl) (all-below 256 (0 ∷ 0 ∷ []) refl); sound = asking_sound; agrees = refl }
 
 pub asking_decides : decided (under Compute all) asking_start first_asking ≡ one_at 4 16 Ecall (Reg 12 0)
 asking_decides = refl
@@ -319,13 +310,13 @@ abbrev pub first_channel : Log
 first_channel = log_of 60 4 2 1 (2 ∷ []) (0 ∷ [])
 
 pub first_channel_runs : IsRun first_channel channel_start
-first_channel_runs = record { form = is_log 60 4 2 1 (2 ∷ []) (0 ∷ []) (omega arith) (omega arith) (omega arith) (omega arith) (omega arith) (omega arith) (omega arith) (all_below 256 (2 ∷ []) refl) (all_below 256 (0 ∷ []) refl); sound = channel_sound; agrees = refl }
+first_channel_runs = record { form = is_log 60 4 2 1 (2 ∷ []) (0 ∷ []) (omega arith) (omega arith) (omega arith) (omega arith) (omega arith) (omega arith) (omega arith) (all-below 256 (2 ∷ []) refl) (all-below 256 (0 ∷ []) refl); sound = channel_sound; agrees = refl }
 
 abbrev pub second_channel : Log
 second_channel = log_of 60 4 3 1 (3 ∷ []) (0 ∷ [])
 
 pub second_channel_runs : IsRun second_channel channel_start
-second_channel_runs = record { form = is_log 60 4 3 1 (3 ∷ []) (0 ∷ []) (omega arith) (omega arith) (omega arith) (omega arith) (omega arith) (omega arith) (omega arith) (all_below 256 (3 ∷ []) refl) (all_below 256 (0 ∷ []) refl); sound = channel_sound; agrees = refl }
+second_channel_runs = record { form = is_log 60 4 3 1 (3 ∷ []) (0 ∷ []) (omega arith) (omega arith) (omega arith) (omega arith) (omega arith) (omega arith) (omega arith) (all-below 256 (3 ∷ []) refl) (all-below 256 (0 ∷ []) refl); sound = channel_sound; agrees = refl }
 
 pub channel_decides : decided (under Compute all) channel_start first_channel ≡ one_at 4 16 Ecall (Reg 10 0)
 channel_decides = refl
@@ -349,7 +340,7 @@ abbrev pub first_calling : Log
 first_calling = log_of 60 3 1 1 (64 ∷ []) (0 ∷ [])
 
 pub first_calling_runs : IsRun first_calling calling_start
-first_calling_runs = record { form = is_log 60 3 1 1 (64 ∷ []) (0 ∷ []) (omega arith) (omega arith) (omega arith) (omega arith) (omega arith) (omega arith) (omega arith) (all_below 256 (64 ∷ []) refl) (all_below 256 (0 ∷ []) refl); sound = calling_sound; agrees = refl }
+first_calling_runs = record { form = is_log 60 3 1 1 (64 ∷ []) (0 ∷ []) (omega arith) (omega arith) (omega arith) (omega arith) (omega arith) (omega arith) (omega arith) (all-below 256 (64 ∷ []) refl) (all-below 256 (0 ∷ []) refl); sound = calling_sound; agrees = refl }
 
 -- 5 is no call's number
 abbrev pub second_calling : Log
@@ -361,7 +352,7 @@ second_calling_runs = record {
     pages = (omega arith, omega arith);
     inputs = omega arith;
     digest = refl;
-    digest_bytes = all_below 256 (replicate 32 0) refl;
+    digest_bytes = all-below 256 (replicate 32 0) refl;
     records = ((omega arith, a_transfer 0 60 (5 ∷ []) (omega arith) (omega arith) (omega arith) (omega arith, tt), inr (omega (arith, ints), omega (arith, ints))), ((omega arith, omega arith), tt));
     end = (omega arith, omega arith);
     rise = (omega arith, (omega arith, tt));
@@ -397,7 +388,7 @@ sent_log x y h g = record {
   pages = (omega arith, omega arith);
   inputs = omega arith;
   digest = refl;
-  digest_bytes = all_below 256 (replicate 32 0) refl;
+  digest_bytes = all-below 256 (replicate 32 0) refl;
   records = ((omega arith, a_transfer 0 60 (x ∷ []) (omega arith) (omega arith) (omega arith) (h, tt), inr (omega (arith, ints), omega (arith, ints))), ((omega arith, a_transfer 1 x (y ∷ []) (omega arith) (omega arith) (omega arith) (g, tt), inr refl), tt));
   end = (omega arith, omega arith);
   rise = (omega arith, (omega arith, tt));
@@ -432,13 +423,13 @@ abbrev pub first_patching : Log
 first_patching = log_of 7 5 1 1 (1 ∷ []) (16 ∷ [])
 
 pub first_patching_runs : IsRun first_patching patching_start
-first_patching_runs = record { form = is_log 7 5 1 1 (1 ∷ []) (16 ∷ []) (omega arith) (omega arith) (omega arith) (omega arith) (omega arith) (omega arith) (omega arith) (all_below 256 (1 ∷ []) refl) (all_below 256 (16 ∷ []) refl); sound = patching_sound; agrees = refl }
+first_patching_runs = record { form = is_log 7 5 1 1 (1 ∷ []) (16 ∷ []) (omega arith) (omega arith) (omega arith) (omega arith) (omega arith) (omega arith) (omega arith) (all-below 256 (1 ∷ []) refl) (all-below 256 (16 ∷ []) refl); sound = patching_sound; agrees = refl }
 
 abbrev pub second_patching : Log
 second_patching = log_of 7 5 1 1 (2 ∷ []) (32 ∷ [])
 
 pub second_patching_runs : IsRun second_patching patching_start
-second_patching_runs = record { form = is_log 7 5 1 1 (2 ∷ []) (32 ∷ []) (omega arith) (omega arith) (omega arith) (omega arith) (omega arith) (omega arith) (omega arith) (all_below 256 (2 ∷ []) refl) (all_below 256 (32 ∷ []) refl); sound = patching_sound; agrees = refl }
+second_patching_runs = record { form = is_log 7 5 1 1 (2 ∷ []) (32 ∷ []) (omega arith) (omega arith) (omega arith) (omega arith) (omega arith) (omega arith) (omega arith) (all-below 256 (2 ∷ []) refl) (all-below 256 (32 ∷ []) refl); sound = patching_sound; agrees = refl }
 
 pub patching_decides : decided (under Compute all) patching_start first_patching ≡ one_at 1 4 (Addi 6 0 (pos 16)) (Mem 7)
 patching_decides = refl
@@ -466,7 +457,7 @@ exiting_log x h = record {
   pages = (omega arith, omega arith);
   inputs = omega arith;
   digest = refl;
-  digest_bytes = all_below 256 (replicate 32 0) refl;
+  digest_bytes = all-below 256 (replicate 32 0) refl;
   records = ((omega arith, a_transfer 0 60 (x ∷ []) (omega arith) (omega arith) (omega arith) (h, tt), inr (omega (arith, ints), omega (arith, ints))), tt);
   end = (omega arith, omega arith);
   rise = (omega arith, tt);
@@ -492,7 +483,7 @@ trapped_log = record {
   pages = (omega arith, omega arith);
   inputs = omega arith;
   digest = refl;
-  digest_bytes = all_below 256 (replicate 32 0) refl;
+  digest_bytes = all-below 256 (replicate 32 0) refl;
   records = ((omega arith, a_transfer 0 60 (200 ∷ []) (omega arith) (omega arith) (omega arith) (omega arith, tt), inr (omega (arith, ints), omega (arith, ints))), tt);
   end = (omega arith, inr (inl refl), omega arith);
   rise = (omega arith, tt);

@@ -5,8 +5,10 @@ use Rattle.std.specs.List.{AllByRecursion, list_all}
 use Rattle.std.proofs.lemmas.Bool.{and_parts, cases_lt, or_parts}
 use Rattle.std.proofs.lemmas.List.{get_or_past, length-replicate}
 use Rattle.isa.specs.Machine.{State, overwritten}
+use Rattle.isa.proofs.Window.{length-overwritten}
 use Rattle.elf_model.specs.declared.ImageKind.{ImageKind}
 use Rattle.lists.specs.FirstTrue.{first_true}
+use Rattle.lists.proofs.FirstTrue.{none-if}
 use Rattle.elf_model.specs.Image.{Image, LoadedSegment, ProgramHeader, e_entry, image, image_of, unless_faulty, faults, segment, lowest, loaded_headers, is_segment_wrong, is_any_segment_wrong}
 use Rattle.elf_model.specs.Window.{start_of, start_with, start_in, can_hold, laid_out}
 use Rattle.replay_model.specs.Fits.{start_in_image}
@@ -14,7 +16,6 @@ use Rattle.flow_meaning.specs.Content.{IsSound}
 use Rattle.flow_meaning.specs.RunLaws.{FitsMakesRun}
 use Rattle.flow_meaning.proofs.Never.{none_is}
 use Rattle.flow_meaning.proofs.Bytes.{AreBytes}
-use Rattle.flow_meaning.proofs.Window.{over_length}
 use Rattle.flow_meaning.proofs.Sound.{put_bytes}
 
 -- ---- segments
@@ -71,16 +72,9 @@ good_all file n (h ∷ hs) b e =
 
 -- ---- a file without faults
 
-none_true : {X : Type 0} (b : Bool) (x : X) (o : Option X) → (if b then Some x else o) ≡ None → (b ≡ false) × (o ≡ None)
-none_true true x o e = absurd (some e)
-  where
-    some : Some x ≡ None → ⊥
-    some e = cc
-none_true false x o e = (refl, e)
-
 all_false : {X : Type 0} (rows : List (Bool × X)) → first_true rows ≡ None → AllByRecursion (λ row. row.0 ≡ false) rows
 all_false [] e = tt
-all_false (row ∷ rows) e = let both = none_true row.0 row.1 (first_true rows) e in (both.0, all_false rows both.1)
+all_false (row ∷ rows) e = let both = none-if row.0 row.1 (first_true rows) e in (both.0, all_false rows both.1)
 
 segments_right : (file : List ℕ) → first_true (faults file) ≡ None → is_any_segment_wrong (length file) 0 (loaded_headers file) ≡ false
 segments_right file e = (all_false (faults file) e).1.1.1.1.1.1.1.0
@@ -114,7 +108,7 @@ laid_window base size mem (s ∷ ss) w g e =
     let long = w.long in
     let room : (s.place - base) + length s.bytes ≤ length mem = omega arith in
     laid_window base size (overwritten mem (s.place - base) s.bytes) ss
-    (record { long = over_length mem (s.place - base) s.bytes room ∙ w.long; bytes = put_bytes mem (s.place - base) s.bytes room w.bytes g.0.bytes }) g.1 both.1
+    (record { long = length-overwritten mem (s.place - base) s.bytes room ∙ w.long; bytes = put_bytes mem (s.place - base) s.bytes room w.bytes g.0.bytes }) g.1 both.1
 
 zero_bytes : (n k : ℕ) → get_or (replicate {A = ℕ} n 0) k 0 < 2 ^ 8
 zero_bytes zero k = omega arith

@@ -9,6 +9,7 @@ use Rattle.isa.specs.declared.CallKind.{CallKind}
 use Rattle.isa.specs.declared.CallKind.TheVariants as kind
 use Rattle.isa.specs.Machine.{State, reg, overwritten, as_word, wrap}
 use Rattle.isa.specs.Calls.{channel_of, buffer_of, no_such_call, after_read, after_clock, after_exit}
+use Rattle.isa.proofs.Window.{overwritten-nil, holds_by, Holds, length-overwritten}
 use Rattle.log_model.specs.declared.CallRecord.{CallRecord}
 use Rattle.log_model.specs.declared.CallRecord.TheVariants.{Read, Write, Clock, Other}
 use Rattle.log_model.specs.Moved.{received}
@@ -24,7 +25,7 @@ use Rattle.flow_meaning.specs.Content.{content, lane_of, byte_in, IsSound}
 use Rattle.flow_meaning.specs.StepLaws.{IsAnswered, words_given}
 use Rattle.flow_meaning.proofs.Never.{negative_word}
 use Rattle.flow_meaning.proofs.Bytes.{AreBytes}
-use Rattle.flow_meaning.proofs.Window.{Holds, holds_by, put_in, put_out, over_nothing}
+use Rattle.flow_meaning.proofs.Window.{put_in, put_out}
 use Rattle.flow_meaning.proofs.Targets.{Carries, carry, kept, to_set, set_in, put_at}
 use Rattle.flow_meaning.proofs.Operands.{still, same_value}
 use Rattle.flow_meaning.proofs.Sound.{sound_set, sound_put, sound_pc}
@@ -35,6 +36,10 @@ use Rattle.flow_meaning.proofs.Sound.{sound_set, sound_put, sound_pc}
 abbrev pub HasRoom : State → ℕ → List ℕ → Type 0
 HasRoom s a bytes = (bytes ≡ []) ⊎ Holds s.base (length s.memory) a (length bytes)
 
+pub length-room : (s : State) (a : ℕ) (bytes : List ℕ) → HasRoom s a bytes → length (overwritten s.memory (a - s.base) bytes) ≡ length s.memory
+length-room s a bytes (inl e) = ap (λ (xs : List ℕ). length (overwritten s.memory (a - s.base) xs)) e ∙ ap length (overwritten-nil s.memory (a - s.base))
+length-room s a bytes (inr w) = let above = w.above in let below = w.below in length-overwritten s.memory (a - s.base) bytes (omega arith)
+
 pub read_room : (s : State) (inputs at : ℕ) (args : List ℕ) (result : ℤ) (bytes : List ℕ) → IsAnswered s inputs (Read at args result bytes ∷ []) → HasRoom s (buffer_of args) bytes
 read_room s inputs at args result [] h = inl refl
 read_room s inputs at args result (b ∷ bytes) h =
@@ -43,7 +48,7 @@ read_room s inputs at args result (b ∷ bytes) h =
 
 -- a place that gets no byte keeps its own
 pub unread : (base : ℕ) (mem : List ℕ) (a : ℕ) (bytes : List ℕ) (q : ℕ) → base + length mem ≤ 2 ^ 32 → (bytes ≡ []) ⊎ Holds base (length mem) a (length bytes) → nat_lt (distance a q) (length bytes) ≡ false → byte_in base (overwritten mem (a - base) bytes) q ≡ byte_in base mem q
-unread base mem a bytes q h (inl e) f = ap (λ (xs : List ℕ). byte_in base (overwritten mem (a - base) xs) q) e ∙ ap (λ (xs : List ℕ). byte_in base xs q) (over_nothing mem (a - base))
+unread base mem a bytes q h (inl e) f = ap (λ (xs : List ℕ). byte_in base (overwritten mem (a - base) xs) q) e ∙ ap (λ (xs : List ℕ). byte_in base xs q) (overwritten-nil mem (a - base))
 unread base mem a bytes q h (inr w) f = by (cases_lt q (2 ^ 32)) (cases_lt q a)
   where
     far : length bytes ≤ distance a q
@@ -184,7 +189,7 @@ result_word (negsuc n) h = negative_word n
 
 read_sound : (s : State) (p a : ℕ) (bytes : List ℕ) → IsSound s → HasRoom s a bytes → AreBytes bytes → IsSound (put_at s p a bytes)
 read_sound s p a bytes h (inl e) b =
-    let nothing : overwritten s.memory (a - s.base) bytes ≡ s.memory = ap (λ (xs : List ℕ). overwritten s.memory (a - s.base) xs) e ∙ over_nothing s.memory (a - s.base) in
+    let nothing : overwritten s.memory (a - s.base) bytes ≡ s.memory = ap (λ (xs : List ℕ). overwritten s.memory (a - s.base) xs) e ∙ overwritten-nil s.memory (a - s.base) in
     subst (λ (mem : List ℕ). IsSound (record s { pc = p; memory = mem })) (sym nothing) (sound_pc s p h)
 read_sound s p a bytes h (inr w) b = sound_put s p a bytes h w b
 

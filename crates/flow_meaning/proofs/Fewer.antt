@@ -6,13 +6,13 @@ use Rattle.std.proofs.lemmas.Bool.{cases_eq}
 use Rattle.std.specs.Int.{int_shr}
 use Rattle.std.proofs.Math.Nat.{div-div-eq-div-mul, div-le_self, mul_comm}
 use Rattle.std.proofs.lemmas.Nat.{mul-mod}
+use Rattle.lists.proofs.Lists.{all-parts}
 use Rattle.isa.specs.Machine.{State, reg, wrap, as_word, arithmetic_right, unsigned_quotient}
 use Rattle.flow_model.specs.declared.Loc.{Loc}
 use Rattle.flow_model.specs.Flow.{lane, lanes}
 use Rattle.flow_meaning.specs.Content.{content, lane_of, AgreeAt, IsSound}
 use Rattle.flow_meaning.specs.FewerLaws.{lanes_up_to, lanes_from, OfSum, OfDifference, OfProduct, OfImmediate, OfLeftShift, OfRightShift, OfSignedShift, OfQuotient, FewerDetermine}
 use Rattle.flow_meaning.proofs.Operands.{word_agrees, lane_agrees}
-use Rattle.flow_meaning.proofs.Sets.{both_parts}
 
 -- ---- the lanes up to one, and from one on, as a number
 
@@ -143,7 +143,7 @@ module _ {s t : State} (ss : IsSound s) (st : IsSound t) where
   each_lane_agrees : (r a n : ℕ) → AgreeAt s t (flat_map (lane r) (range_with_len a n)) → (j : ℕ) → a < j + 1 → j < a + n → lane_of (reg s r) j ≡ lane_of (reg t r) j
   each_lane_agrees r a zero h j x y = absurd (omega arith)
   each_lane_agrees r a (suc n) h j x y =
-      let both = both_parts (λ l. content s l ≡ content t l) (lane r a) (flat_map (lane r) (range_with_len (a + 1) n)) h in
+      let both = all-parts (λ l. content s l ≡ content t l) (lane r a) (flat_map (lane r) (range_with_len (a + 1) n)) h in
       by (each_lane_agrees r (a + 1) n both.1 j) both.0 (cases_eq j a)
     where
       by : (a + 1 < j + 1 → j < a + 1 + n → lane_of (reg s r) j ≡ lane_of (reg t r) j) → AgreeAt s t (lane r a) → (j ≡ a) ⊎ (j ≡ a → ⊥) → lane_of (reg s r) j ≡ lane_of (reg t r) j
@@ -158,7 +158,7 @@ module _ {s t : State} (ss : IsSound s) (st : IsSound t) where
 
   -- of two lists of locations
   apart : (xs ys : List Loc) → AgreeAt s t (xs ++ ys) → AgreeAt s t xs × AgreeAt s t ys
-  apart xs ys h = both_parts (λ l. content s l ≡ content t l) xs ys h
+  apart xs ys h = all-parts (λ l. content s l ≡ content t l) xs ys h
 
   amount_agrees : (b : ℕ) → AgreeAt s t (lane b 0) → reg s b % 32 ≡ reg t b % 32
   amount_agrees b h = low_five (reg s b) (reg t b) (lane_agrees ss st b 0 h)

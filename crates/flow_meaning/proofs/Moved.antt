@@ -3,6 +3,7 @@ use Rattle.std.proofs.Common.{◌≡◌, ℕ, ◌+◌, ◌<◌, ◌≤◌, List,
 use Rattle.std.specs.Prelude.{All}
 use Rattle.std.specs.Option.{option_and_then}
 use Rattle.std.proofs.lemmas.List.Elements.{All-weaker}
+use Rattle.lists.proofs.Tests.{true-false}
 use Rattle.isa.specs.declared.CallKind.{CallKind}
 use Rattle.isa.specs.declared.CallKind.TheVariants as kind
 use Rattle.isa.specs.Machine.{State}
@@ -25,7 +26,7 @@ use Rattle.replay_model.specs.Received.{ReadsByteAt}
 use Rattle.replay_model.proofs.Received.{reads_are_received}
 use Rattle.flow_meaning.specs.RunLaws.{IsRun, moment_at}
 use Rattle.flow_meaning.specs.MovedLaws.{WasReceived, IsOfMovedBytes, RowsAreOfMovedBytes}
-use Rattle.flow_meaning.proofs.Never.{no, none_is, some_is}
+use Rattle.flow_meaning.proofs.Never.{none_is, some_is}
 use Rattle.flow_meaning.proofs.Steps.{Does, Plain, Calls, does}
 use Rattle.flow_meaning.proofs.Done.{on_track, done_at}
 use Rattle.flow_meaning.proofs.Transferred.{written_within}
@@ -39,14 +40,14 @@ read_by : (trace : List StepSeen) (k : ℕ) (call : CallSeen) (p : ℕ) (n : Cal
 read_by trace k call p kind.Read there e h =
     let below : distance call.place p < call.length = ltb-true (distance call.place p) call.length h in
     record { call = call; there = there; reads = e; on = refl; from = omega arith; to = omega (arith, below) }
-read_by trace k call p kind.Write there e h = no (sym h)
-read_by trace k call p kind.Clock there e h = no (sym h)
-read_by trace k call p kind.Other there e h = no (sym h)
-read_by trace k call p kind.Exit there e h = no (sym h)
+read_by trace k call p kind.Write there e h = true-false (sym h)
+read_by trace k call p kind.Clock there e h = true-false (sym h)
+read_by trace k call p kind.Other there e h = true-false (sym h)
+read_by trace k call p kind.Exit there e h = true-false (sym h)
 
 read_at : (trace : List StepSeen) (k : ℕ) (call : CallSeen) (l : Loc) → call_at trace k ≡ Some call → is_received call l ≡ true
     → ReadsByteAt trace (byte_at call l).channel (byte_at call l).offset k
-read_at trace k call (Reg r i) there h = no (sym h)
+read_at trace k call (Reg r i) there h = true-false (sym h)
 read_at trace k call (Mem p) there h = read_by trace k call p call.kind there refl h
 
 was_received : (log : Log) (s : State) → IsRun log s → (policy : Policy) (t : ℕ) (b : SourceByte) → WasRead policy (trace s log) t b → WasReceived log b

@@ -1,8 +1,5 @@
 -- What is never so.
-use Rattle.std.proofs.Common.{◌≡◌, ℕ, suc, ◌-◌, ◌^◌, ◌<◌, true, false, Some, None, arith}
-
-pub no : {A : Type 0} → true ≡ false → A
-no e = cc
+use Rattle.std.proofs.Common.{◌≡◌, ℕ, suc, ◌-◌, ◌^◌, ◌<◌, Some, None, arith}
 
 pub none_is : {X A : Type 0} {x : X} → None ≡ Some x → A
 none_is e = cc

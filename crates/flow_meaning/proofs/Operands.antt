@@ -3,6 +3,7 @@ use Rattle.std.proofs.Common.{◌≡◌, ℕ, zero, suc, ◌+◌, ◌-◌, ◌*�
 use Rattle.std.specs.Prelude.{◌==◌, ◌&&◌, nat_lt, nat_le, if◌then◌else◌}
 use Rattle.std.proofs.lemmas.List.{get_or_past}
 use Rattle.isa.specs.Machine.{State, reg, flag, bytes_at, little_endian, sign_extended, low_bytes, effective_address, as_word, wrap}
+use Rattle.isa.proofs.Window.{Holds}
 use Rattle.flow_model.specs.declared.Loc.{Loc}
 use Rattle.flow_model.specs.declared.Loc.TheVariants.{Reg, Mem}
 use Rattle.flow_model.specs.declared.Rule.{Rule}
@@ -13,7 +14,7 @@ use Rattle.flow_meaning.specs.Content.{content, lane_of, byte_in, AgreeAt, IsSou
 use Rattle.flow_meaning.proofs.Sets.{union-all}
 use Rattle.flow_meaning.proofs.Lanes.{same_word, lane_small, flag_lane, low_byte, lane_up}
 use Rattle.flow_meaning.proofs.Bytes.{Size, Short, ShortOne, ShortTwo, lanes_of_bytes, signed_lanes, sign_byte}
-use Rattle.flow_meaning.proofs.Window.{window_bytes, Holds, bytes_length, byte_of_window}
+use Rattle.flow_meaning.proofs.Window.{window_bytes, bytes_length, byte_of_window}
 use Rattle.flow_meaning.proofs.Targets.{AgreesOn, IsMoved, Carries, carry}
 
 -- ---- a lane that is moved

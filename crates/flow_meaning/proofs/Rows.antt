@@ -7,6 +7,7 @@ use Rattle.isa.specs.declared.CallKind.TheVariants as kind
 use Rattle.isa.specs.Machine.{State}
 use Rattle.log_model.specs.Logs.{Log, steps}
 use Rattle.lists.proofs.Algebra.{All-set_of}
+use Rattle.lists.proofs.Lists.{all-weaken}
 use Rattle.flow_model.specs.declared.Rule.{Rule}
 use Rattle.flow_model.specs.declared.InnerSink.{InnerSink}
 use Rattle.flow_model.specs.declared.SourceByte.{SourceByte}
@@ -21,7 +22,6 @@ use Rattle.flow_meaning.specs.Content.{content}
 use Rattle.flow_meaning.specs.StepLaws.{OnlyMoves, DeterminedBy}
 use Rattle.flow_meaning.specs.RunLaws.{IsRun, moment_at, content_at, byte_at_sink, under, AlikeAt, AlikeElsewhere, SamePath, IsCopied, CopiedRows, DeterminedRows}
 use Rattle.flow_meaning.proofs.Never.{none_is, some_is}
-use Rattle.flow_meaning.proofs.Sets.{all-gives}
 use Rattle.flow_meaning.proofs.Steps.{Does, Plain, Calls, does, same_call}
 use Rattle.flow_meaning.proofs.Done.{on_track, done_at, sound_at}
 use Rattle.flow_meaning.proofs.Transferred.{written_given}
@@ -119,7 +119,7 @@ HasCopied log s rule introduces x = IsCopied log (byte_at_sink s log x.name) (or
 
 copied_sinks : (log : Log) (s : State) → IsRun log s → (rule : Rule) → OnlyMoves rule → (q : Query) → All (λ p. IsLocation p.loc) q.points → AllByRecursion (HasCopied log s rule (has_source q)) (chosen_sinks q (trace s log))
 copied_sinks log s run rule only q located = all_sinks (HasCopied log s rule (has_source q)) q s log
-    (all-gives (λ p. IsLocation p.loc) (λ p. p.time ≤ steps log → HasCopied log s rule (has_source q) (point_sink p)) (λ p l h. copied_contents log s run rule only (has_source q) p.time p.loc h l) q.points (recursion_from_All (λ p. IsLocation p.loc) q.points located))
+    (all-weaken (λ p. IsLocation p.loc) (λ p. p.time ≤ steps log → HasCopied log s rule (has_source q) (point_sink p)) (λ p l h. copied_contents log s run rule only (has_source q) p.time p.loc h l) q.points (recursion_from_All (λ p. IsLocation p.loc) q.points located))
     (λ t h call e w i g. subst (λ (v : ℕ). IsCopied log v (origins (under rule (has_source q)) (trace s log) t (sink_at t call i).loc)) (output_is log s t call i run h e w g)
     (copied_contents log s run rule only (has_source q) t (sink_at t call i).loc (omega arith) (is_place (call.place + i))))
   where

@@ -3,6 +3,8 @@ use Rattle.std.proofs.Common.{◌≡◌, ℕ, zero, suc, ◌^◌, ◌<◌, ◌�
 use Rattle.std.specs.List.{AllByRecursion}
 use Rattle.std.proofs.lemmas.Bool.{cases_lt}
 use Rattle.std.proofs.lemmas.List.Elements.{recursion_from_All}
+use Rattle.lists.proofs.Tests.{true-false}
+use Rattle.lists.proofs.Lists.{all-weaken}
 use Rattle.isa.specs.Machine.{State}
 use Rattle.log_model.specs.Logs.{Log, steps}
 use Rattle.flow_model.specs.declared.Loc.{Loc}
@@ -19,11 +21,11 @@ use Rattle.replay_model.proofs.Offsets.{step_at_from, moment_later}
 use Rattle.flow_meaning.specs.Content.{content, AgreeAt}
 use Rattle.flow_meaning.specs.StepLaws.{OnlyMoves, DeterminedBy, receives, bytes_given}
 use Rattle.flow_meaning.specs.RunLaws.{IsRun, byte_received, moment_at, content_at, under, AlikeElsewhere, IsCopied, NoOrigin, OneOrigin, SamePath, CopiedContents, SamePathSameTrace, DeterminedContents}
-use Rattle.flow_meaning.proofs.Never.{no, none_is, some_is}
+use Rattle.flow_meaning.proofs.Never.{none_is, some_is}
 use Rattle.flow_meaning.proofs.Window.{byte_beyond}
 use Rattle.flow_meaning.proofs.Single.{IsPlace, AtMostOne, Nothing, One, single_place}
 use Rattle.flow_meaning.proofs.Steps.{Does, Plain, Calls, does, same_call, moves_keep_content, received_is_there}
-use Rattle.flow_meaning.proofs.Sets.{union_over-all, all-gives}
+use Rattle.flow_meaning.proofs.Sets.{union_over-all}
 use Rattle.flow_meaning.proofs.After.{Receives, receives_one, flows, arrives}
 use Rattle.flow_meaning.proofs.Done.{on_track, done_at, sound_at}
 use Rattle.flow_meaning.proofs.Transferred.{received_given}
@@ -76,7 +78,7 @@ copied_as log v w bs cs e f (NoOrigin g) = NoOrigin (f ∙ g)
 copied_as log v w bs cs e f (OneOrigin b g h) = OneOrigin b (f ∙ g) (e ∙ h)
 
 copied_received : (log : Log) (s : State) (rule : Rule) (introduces : SourceByte → Bool) (t : ℕ) (l : Loc) → IsRun log s → t < steps log → IsPlace l → Receives (step_of (moment_at s log t)) l → IsCopied log (content_at s log (suc t) l) (origins (under rule introduces) (trace s log) (suc t) l)
-copied_received log s rule introduces t (Reg r i) run h p g = no (sym g.is_there)
+copied_received log s rule introduces t (Reg r i) run h p g = true-false (sym g.is_there)
 copied_received log s rule introduces t (Mem q) run h p g =
     let policy = under rule introduces in
     copied_as log (content_at s log (suc t) (Mem q)) (content_at s log (suc t) (Mem q)) (origins policy (trace s log) (suc t) (Mem q)) (introduced policy (byte_at g.call (Mem q))) refl
@@ -133,7 +135,7 @@ module _ (rule : Rule) (a b : Log) (s : State) (ra : IsRun a s) (rb : IsRun b s)
   later t h = let x = path.as_long in omega arith
 
   both_received : (t : ℕ) (l : Loc) → t < steps a → Receives (step_of (moment_at s a t)) l → IsAlike (suc t) l
-  both_received t (Reg r i) h g alike = no (sym g.is_there)
+  both_received t (Reg r i) h g alike = true-false (sym g.is_there)
   both_received t (Mem q) h g alike = by (cases_lt q (2 ^ 32))
     where
       policy : Policy
@@ -159,7 +161,7 @@ module _ (rule : Rule) (a b : Log) (s : State) (ra : IsRun a s) (rb : IsRun b s)
       let m = moment_at s a t in
       let whole = origins_after policy s a t l h ∙ flows policy (step_of m) (origins policy (trace s a) t) l g in
       let each = union_over-all (λ x. byte_received a x ≡ byte_received b x) (origins policy (trace s a) t) (from rule (step_of m) l) (subst (AlikeAll a b) whole alike) in
-      let agree : AgreeAt m.state (moment_at s b t).state (from rule (step_of m) l) = all-gives _ (λ k. content m.state k ≡ content (moment_at s b t).state k) ih (from rule (step_of m) l) each in
+      let agree : AgreeAt m.state (moment_at s b t).state (from rule (step_of m) l) = all-weaken _ (λ k. content m.state k ≡ content (moment_at s b t).state k) ih (from rule (step_of m) l) each in
       content_after s a t l
       ∙ law a.inputs b.inputs m (moment_at s b t) l (sound_at a s t ra (omega arith)) (sound_at b s t rb (let x = later t h in omega arith)) (done_at a s t ra h) (done_at b s t rb (later t h)) (path.each t h) g agree
       ∙ sym (content_after s b t l)

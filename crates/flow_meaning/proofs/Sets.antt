@@ -1,19 +1,21 @@
 -- What is among a union, and what is true of each of one.
-use Rattle.std.proofs.Common.{◌≡◌, Bool, true, false, List, [], ◌∷◌, ◌++◌, refl, ap, sym, ◌∙◌, subst}
+use Rattle.std.proofs.Common.{◌≡◌, Bool, true, false, List, [], ◌∷◌, refl, ap, sym, ◌∙◌, subst}
 use Rattle.std.specs.Prelude.{◌||◌}
 use Rattle.std.specs.FinMap.{IsAntisymmetric}
 use Rattle.std.specs.Ordering.{eq_by_cmp}
-use Rattle.std.specs.List.{AllByRecursion, list_any}
+use Rattle.std.specs.List.{AllByRecursion}
 use Rattle.std.specs.declared.cmp.Ordering.{Ordering}
 use Rattle.std.specs.declared.cmp.Ordering.TheVariants.{Less, Equal, Greater}
 use Rattle.std.proofs.lemmas.List.Folds.{list_any_at, Any-from_list_any}
+use Rattle.std.proofs.Math.Bool.{or-true}
 use Rattle.lists.specs.Sets.{union, inserted, placed, has}
 use Rattle.lists.proofs.Algebra.{has-union, has-Contains, Contains-has}
 use Rattle.flow_model.specs.declared.Loc.{Loc}
 use Rattle.flow_model.specs.declared.SourceByte.{SourceByte}
 use Rattle.flow_model.specs.Orders.{source_cmp, loc_cmp}
 use Rattle.flow_model.specs.Origins.{union_over}
-use Rattle.flow_model.proofs.Orders.{source_total, source_same, loc_total, loc_same}
+use Rattle.flow_model.proofs.Orders.{source_same, loc_total, loc_same}
+use Rattle.flow_model.proofs.Members.{has-union_over}
 
 -- ---- each of a union
 
@@ -39,29 +41,7 @@ union_over-all Q before (l ∷ []) h = (h, tt)
 union_over-all Q before (l ∷ m ∷ ls) h =
     let both = union-all source_same Q (before l) (union_over before (m ∷ ls)) h in (both.0, union_over-all Q before (m ∷ ls) both.1)
 
-pub all-gives : {X : Type 0} (P Q : X → Type 0) → ((x : X) → P x → Q x) → (xs : List X) → AllByRecursion P xs → AllByRecursion Q xs
-all-gives P Q f [] h = tt
-all-gives P Q f (x ∷ xs) h = (f x h.0, all-gives P Q f xs h.1)
-
-pub both_parts : {X : Type 0} (Q : X → Type 0) (xs ys : List X) → AllByRecursion Q (xs ++ ys) → AllByRecursion Q xs × AllByRecursion Q ys
-both_parts Q [] ys h = (tt, h)
-both_parts Q (x ∷ xs) ys h = let rest = both_parts Q xs ys h.1 in ((h.0, rest.0), rest.1)
-
 -- ---- among a union
-
-pub or_true : (a : Bool) → (a || true) ≡ true
-or_true true = refl
-or_true false = refl
-
-or_nothing : (a : Bool) → (a || false) ≡ a
-or_nothing true = refl
-or_nothing false = refl
-
-pub has_over : (b : SourceByte) (before : Loc → List SourceByte) (ls : List Loc) → has source_cmp b (union_over before ls) ≡ list_any (λ l. has source_cmp b (before l)) ls
-has_over b before [] = refl
-has_over b before (l ∷ []) = sym (or_nothing (has source_cmp b (before l)))
-has_over b before (l ∷ m ∷ ls) =
-    has-union source_total (before l) (union_over before (m ∷ ls)) b ∙ ap (λ (a : Bool). has source_cmp b (before l) || a) (has_over b before (m ∷ ls))
 
 -- each of the first locations is one of the others
 abbrev pub Within : List Loc → List Loc → Type 0
@@ -81,16 +61,16 @@ within_first l ns k h = by (eq_by_cmp loc_cmp k l) h
     by false h = cc
 
 pub within_later : (l : Loc) (ms ns : List Loc) → Within ms ns → Within ms (l ∷ ns)
-within_later l ms ns f k h = ap (λ (b : Bool). eq_by_cmp loc_cmp k l || b) (f k h) ∙ or_true (eq_by_cmp loc_cmp k l)
+within_later l ms ns f k h = ap (λ (b : Bool). eq_by_cmp loc_cmp k l || b) (f k h) ∙ or-true (eq_by_cmp loc_cmp k l)
 
 pub within_union : (ls ms : List Loc) → Within ms (union loc_cmp ls ms)
-within_union ls ms k h = has-union loc_total ls ms k ∙ ap (λ (b : Bool). has loc_cmp k ls || b) h ∙ or_true (has loc_cmp k ls)
+within_union ls ms k h = has-union loc_total ls ms k ∙ ap (λ (b : Bool). has loc_cmp k ls || b) h ∙ or-true (has loc_cmp k ls)
 
 -- more locations, each with more source bytes, have more source bytes
 pub over_within : (b : SourceByte) (f g : Loc → List SourceByte) → ((l : Loc) → has source_cmp b (f l) ≡ true → has source_cmp b (g l) ≡ true) → (ls ms : List Loc) → Within ls ms
     → has source_cmp b (union_over f ls) ≡ true → has source_cmp b (union_over g ms) ≡ true
 over_within b f g more ls ms within h =
-    let some = Any-from_list_any (λ l. has source_cmp b (f l)) ls (sym (has_over b f ls) ∙ h) in
+    let some = Any-from_list_any (λ l. has source_cmp b (f l)) ls (sym (has-union_over f ls b) ∙ h) in
     let there = Contains-has loc_total loc_same ms some.1 (within some.1 (has-Contains loc_total ls some.1 (some.0, some.2, some.3))) in
-    has_over b g ms
+    has-union_over g ms b
     ∙ list_any_at (λ l. has source_cmp b (g l)) ms there.0 some.1 there.1 (ap (λ (l : Loc). has source_cmp b (g l)) there.2 ∙ more some.1 some.4)

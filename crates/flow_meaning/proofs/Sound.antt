@@ -9,11 +9,12 @@ use Rattle.std.proofs.lemmas.Nat.{and_le_l, or_of_32, xor_of_32, shr_le}
 use Rattle.isa.specs.declared.Instr.{Instr}
 use Rattle.isa.specs.declared.Instr.TheVariants.{Lui, Auipc, Jal, Jalr, Beq, Bne, Blt, Bge, Bltu, Bgeu, Lb, Lh, Lw, Lbu, Lhu, Sb, Sh, Sw, Addi, Slti, Sltiu, Xori, Ori, Andi, Slli, Srli, Srai, Add, Sub, Sll, Slt, Sltu, Xor, Srl, Sra, Or, And, Mul, Mulh, Mulhsu, Mulhu, Div, Divu, Rem, Remu, Fence, Ecall, Ebreak}
 use Rattle.isa.specs.Machine.{State, reg, execute, effect_of, effective_address, relative, as_word, as_signed, flag, arithmetic_right, wrap, in_window, jumped, landed, is_aligned, branched, loaded, stored, extended, little_endian, bytes_at, low_bytes, moved_on_with, overwritten, upper_word, quotient, remainder, unsigned_quotient, unsigned_remainder}
+use Rattle.isa.proofs.Window.{length-overwritten, holds_by, wrap-lt, Holds}
 use Rattle.flow_meaning.specs.Content.{IsSound}
 use Rattle.flow_meaning.proofs.Never.{negative_word}
 use Rattle.flow_meaning.proofs.Lanes.{lane_small, low_byte}
 use Rattle.flow_meaning.proofs.Bytes.{low_length, Size, OneByte, TwoBytes, FourBytes, AreBytes}
-use Rattle.flow_meaning.proofs.Window.{window_bytes, Holds, holds_by, over_in, over_before, over_after, over_length, bytes_length}
+use Rattle.flow_meaning.proofs.Window.{window_bytes, over_in, over_before, over_after, bytes_length}
 use Rattle.flow_meaning.proofs.Targets.{set_in, put_at}
 use Rattle.flow_meaning.proofs.Leaves.{Leaves, on_landed, on_branched, on_loaded, on_stored}
 use Rattle.flow_meaning.proofs.Products.{signed_product_word, mixed_product_word, unsigned_product_word, quotient_word, remainder_word, unsigned_quotient_word, unsigned_remainder_word}
@@ -58,13 +59,10 @@ sound_put s p a bs h w b =
     let x = w.above in
     let y = w.below in
     let room : (a - s.base) + length bs ≤ length s.memory = omega arith in
-    let same = over_length s.memory (a - s.base) bs room in
+    let same = length-overwritten s.memory (a - s.base) bs room in
     record { count = h.count; first = h.first; words = h.words; bytes = put_bytes s.memory (a - s.base) bs room h.bytes b; ends = subst (λ (n : ℕ). s.base + n ≤ 2 ^ 32) (sym same) h.ends }
 
 -- ---- the values
-
-wrap_word : (n : ℕ) → wrap n < 2 ^ 32
-wrap_word n = omega arith
 
 flag_word : (b : Bool) → flag b < 2 ^ 32
 flag_word true = omega arith
@@ -123,7 +121,7 @@ module _ {s : State} (h : IsSound s) where
   set_on d v g = sound_set s (wrap (s.pc + 4)) d v h g
 
   jump_on : (d p : ℕ) → Leaves (landed (is_aligned p) (jumped s d p)) IsSound
-  jump_on d p = on_landed (is_aligned p) (jumped s d p) IsSound (sound_set s p d (wrap (s.pc + 4)) h (wrap_word (s.pc + 4)))
+  jump_on d p = on_landed (is_aligned p) (jumped s d p) IsSound (sound_set s p d (wrap (s.pc + 4)) h (wrap-lt (s.pc + 4)))
 
   branch_on : (b : Bool) (p : ℕ) → Leaves (branched s b p) IsSound
   branch_on b p = on_branched s b p IsSound (λ q. sound_pc s q h)
@@ -138,7 +136,7 @@ module _ {s : State} (h : IsSound s) where
 
   pub stays_sound : (i : Instr) → InRange i → Leaves (execute s (effect_of s i)) IsSound
   stays_sound (Lui d imm) r = set_on d (as_word imm) (r.word)
-  stays_sound (Auipc d imm) r = set_on d (relative s imm) (wrap_word (s.pc + as_word imm))
+  stays_sound (Auipc d imm) r = set_on d (relative s imm) (wrap-lt (s.pc + as_word imm))
   stays_sound (Jal d imm) r = jump_on d (relative s imm)
   stays_sound (Jalr d a imm) r = jump_on d (effective_address s a imm / 2 * 2)
   stays_sound (Beq a b imm) r = branch_on (reg s a == reg s b) (relative s imm)
@@ -155,18 +153,18 @@ module _ {s : State} (h : IsSound s) where
   stays_sound (Sb a b imm) r = store_on (effective_address s a imm) 1 (reg s b) OneByte
   stays_sound (Sh a b imm) r = store_on (effective_address s a imm) 2 (reg s b) TwoBytes
   stays_sound (Sw a b imm) r = store_on (effective_address s a imm) 4 (reg s b) FourBytes
-  stays_sound (Addi d a imm) r = set_on d (wrap (reg s a + as_word imm)) (wrap_word (reg s a + as_word imm))
+  stays_sound (Addi d a imm) r = set_on d (wrap (reg s a + as_word imm)) (wrap-lt (reg s a + as_word imm))
   stays_sound (Slti d a imm) r = set_on d (flag (int_lt (as_signed (reg s a)) imm)) (flag_word (int_lt (as_signed (reg s a)) imm))
   stays_sound (Sltiu d a imm) r = set_on d (flag (nat_lt (reg s a) (as_word imm))) (flag_word (nat_lt (reg s a) (as_word imm)))
   stays_sound (Xori d a imm) r = set_on d (bit_xor (reg s a) (as_word imm)) (xor_of_32 (reg s a) (as_word imm) (h.words a) r.word)
   stays_sound (Ori d a imm) r = set_on d (bit_or (reg s a) (as_word imm)) (or_of_32 (reg s a) (as_word imm) (h.words a) r.word)
   stays_sound (Andi d a imm) r = set_on d (bit_and (reg s a) (as_word imm)) (let x = h.words a in let y = and_le_l (reg s a) (as_word imm) in omega arith)
-  stays_sound (Slli d a k) r = set_on d (wrap (reg s a * 2 ^ k)) (wrap_word (reg s a * 2 ^ k))
+  stays_sound (Slli d a k) r = set_on d (wrap (reg s a * 2 ^ k)) (wrap-lt (reg s a * 2 ^ k))
   stays_sound (Srli d a k) r = set_on d (reg s a / 2 ^ k) (shifted_word (reg s a) k (h.words a))
   stays_sound (Srai d a k) r = set_on d (arithmetic_right (reg s a) k) (arithmetic_word (reg s a) k (h.words a))
-  stays_sound (Add d a b) r = set_on d (wrap (reg s a + reg s b)) (wrap_word (reg s a + reg s b))
-  stays_sound (Sub d a b) r = set_on d (wrap (reg s a + (2 ^ 32 - reg s b))) (wrap_word (reg s a + (2 ^ 32 - reg s b)))
-  stays_sound (Sll d a b) r = set_on d (wrap (reg s a * 2 ^ (reg s b % 32))) (wrap_word (reg s a * 2 ^ (reg s b % 32)))
+  stays_sound (Add d a b) r = set_on d (wrap (reg s a + reg s b)) (wrap-lt (reg s a + reg s b))
+  stays_sound (Sub d a b) r = set_on d (wrap (reg s a + (2 ^ 32 - reg s b))) (wrap-lt (reg s a + (2 ^ 32 - reg s b)))
+  stays_sound (Sll d a b) r = set_on d (wrap (reg s a * 2 ^ (reg s b % 32))) (wrap-lt (reg s a * 2 ^ (reg s b % 32)))
   stays_sound (Slt d a b) r = set_on d (flag (int_lt (as_signed (reg s a)) (as_signed (reg s b)))) (flag_word (int_lt (as_signed (reg s a)) (as_signed (reg s b))))
   stays_sound (Sltu d a b) r = set_on d (flag (nat_lt (reg s a) (reg s b))) (flag_word (nat_lt (reg s a) (reg s b)))
   stays_sound (Xor d a b) r = set_on d (bit_xor (reg s a) (reg s b)) (xor_of_32 (reg s a) (reg s b) (h.words a) (h.words b))
@@ -174,7 +172,7 @@ module _ {s : State} (h : IsSound s) where
   stays_sound (Sra d a b) r = set_on d (arithmetic_right (reg s a) (reg s b % 32)) (arithmetic_word (reg s a) (reg s b % 32) (h.words a))
   stays_sound (Or d a b) r = set_on d (bit_or (reg s a) (reg s b)) (or_of_32 (reg s a) (reg s b) (h.words a) (h.words b))
   stays_sound (And d a b) r = set_on d (bit_and (reg s a) (reg s b)) (let x = h.words a in let y = and_le_l (reg s a) (reg s b) in omega arith)
-  stays_sound (Mul d a b) r = set_on d (wrap ((reg s a) * (reg s b))) (wrap_word (reg s a * reg s b))
+  stays_sound (Mul d a b) r = set_on d (wrap ((reg s a) * (reg s b))) (wrap-lt (reg s a * reg s b))
   stays_sound (Mulh d a b) r = set_on d (upper_word (as_signed (reg s a) *ℤ as_signed (reg s b))) (signed_product_word (reg s a) (reg s b) (h.words a) (h.words b))
   stays_sound (Mulhsu d a b) r = set_on d (upper_word (as_signed (reg s a) *ℤ pos (reg s b))) (mixed_product_word (reg s a) (reg s b) (h.words a) (h.words b))
   stays_sound (Mulhu d a b) r = set_on d ((reg s a) * (reg s b) / 2 ^ 32) (unsigned_product_word (reg s a) (reg s b) (h.words a) (h.words b))

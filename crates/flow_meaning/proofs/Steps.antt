@@ -1,6 +1,7 @@
 -- One step of a run. Crates above cite these lemmas.
 use Rattle.std.proofs.Common.{◌≡◌, ℕ, ◌^◌, ◌<◌, Bool, true, false, List, [], ◌∷◌, Option, Some, None, refl, ap, sym, ◌∙◌, subst, length, get_or, ltb-true}
 use Rattle.std.specs.Prelude.{if◌then◌else◌}
+use Rattle.lists.proofs.Tests.{true-false}
 use Rattle.isa.specs.declared.Instr.{Instr}
 use Rattle.isa.specs.declared.Instr.TheVariants.{Ecall}
 use Rattle.isa.specs.declared.Call.{Call}
@@ -18,7 +19,7 @@ use Rattle.flow_model.specs.Flow.{flow, from, from_call, from_instruction_or, or
 use Rattle.replay_model.specs.Run.{Moment, advance, after_outcome, step_of, step_by, plain_step, call_seen}
 use Rattle.flow_meaning.specs.Content.{content, AgreeAt, IsSound}
 use Rattle.flow_meaning.specs.StepLaws.{IsAnswered, IsDoneBy, IsDone, words_given, answer_by, bytes_given, receives_by, receives, is_load, on_path, SameStep, StaysSound, OnlyMoves, ByCopy, ByKeep, MovesKeepContent, DeterminedBy, IsReceivedThere, ReceivedIsThere}
-use Rattle.flow_meaning.proofs.Never.{no, none_is, some_is}
+use Rattle.flow_meaning.proofs.Never.{none_is, some_is}
 use Rattle.flow_meaning.proofs.Targets.{agrees_on, IsMoved, Carries}
 use Rattle.flow_meaning.proofs.Operands.{base_agrees, no_location}
 use Rattle.flow_meaning.proofs.Leaves.{Leaves, leaves_is}
@@ -193,7 +194,7 @@ by_index s t ss st = record {
 }
 
 nothing_received : (rule : Rule) (step : StepSeen) (o : Option CallSeen) (l : Loc) → step.call ≡ o → receives_by o l ≡ true → from rule step l ≡ []
-nothing_received rule step None l e h = no (sym h)
+nothing_received rule step None l e h = true-false (sym h)
 nothing_received rule step (Some call) l e h = ap (λ (x : Option CallSeen). from_instruction_or rule step x l) e ∙ ap (λ (b : Bool). if b then [] else origins_by (cleared call.kind) l) h
 
 same_step : (rule : Rule) (m : Moment) → SameStep rule m m
@@ -221,10 +222,10 @@ there_by : (s : State) (m : Moment) (inputs : ℕ) (left : List CallRecord) (cal
 there_by s m inputs (Read at args result bytes ∷ rs) call p h a x e r = subst (λ (y : CallSeen). is_received y (Mem p) ≡ true → (distance y.place p < y.length) × (content (state_given s (Read at args result bytes ∷ rs)) (Mem p) ≡ get_or bytes (distance y.place p) 0)) e
     (λ r. let below = ltb-true (distance (buffer_of args) p) (length bytes) r in
     (below, read_there s.base s.memory (buffer_of args) bytes p x h.ends (read_room s inputs at args result bytes (a.0, a.1)) below)) r
-there_by s m inputs [] call p h a x e r = no (sym (ap (λ (y : CallSeen). is_received y (Mem p)) e ∙ r))
-there_by s m inputs (Write at args result bytes ∷ rs) call p h a x e r = no (sym (ap (λ (y : CallSeen). is_received y (Mem p)) e ∙ r))
-there_by s m inputs (Clock at value ∷ rs) call p h a x e r = no (sym (ap (λ (y : CallSeen). is_received y (Mem p)) e ∙ r))
-there_by s m inputs (Other at number ∷ rs) call p h a x e r = no (sym (ap (λ (y : CallSeen). is_received y (Mem p)) e ∙ r))
+there_by s m inputs [] call p h a x e r = true-false (sym (ap (λ (y : CallSeen). is_received y (Mem p)) e ∙ r))
+there_by s m inputs (Write at args result bytes ∷ rs) call p h a x e r = true-false (sym (ap (λ (y : CallSeen). is_received y (Mem p)) e ∙ r))
+there_by s m inputs (Clock at value ∷ rs) call p h a x e r = true-false (sym (ap (λ (y : CallSeen). is_received y (Mem p)) e ∙ r))
+there_by s m inputs (Other at number ∷ rs) call p h a x e r = true-false (sym (ap (λ (y : CallSeen). is_received y (Mem p)) e ∙ r))
 
 pub received_is_there : ReceivedIsThere
 received_is_there inputs m call p h d x e r = by (does inputs m d)

@@ -7,6 +7,7 @@ use Rattle.std.proofs.lemmas.Bool.Decides.{Decides-int_eq}
 use Rattle.isa.specs.declared.Instr.{Instr}
 use Rattle.isa.specs.declared.Instr.TheVariants.{Lui, Auipc, Jal, Jalr, Beq, Bne, Blt, Bge, Bltu, Bgeu, Lb, Lh, Lw, Lbu, Lhu, Sb, Sh, Sw, Addi, Slti, Sltiu, Xori, Ori, Andi, Slli, Srli, Srai, Add, Sub, Sll, Slt, Sltu, Xor, Srl, Sra, Or, And, Mul, Mulh, Mulhsu, Mulhu, Div, Divu, Rem, Remu, Fence, Ecall, Ebreak}
 use Rattle.isa.specs.Machine.{State, reg, execute, effect_of, effective_address, relative, place_of, as_word, as_signed, flag, arithmetic_right, wrap, in_window, jumped, landed, is_aligned, branched, loaded, stored, little_endian, sign_extended, bytes_at, low_bytes, moved_on_with, upper_word, quotient, remainder, unsigned_quotient, unsigned_remainder}
+use Rattle.isa.proofs.Window.{holds_by}
 use Rattle.flow_model.specs.declared.Loc.{Loc}
 use Rattle.flow_model.specs.declared.Rule.{Rule}
 use Rattle.flow_model.specs.Flow.{flow, origins_by, to_register, to_memory, nothing, computed, kept_or_computed, with_base, lane, lanes, loaded_byte, signed_load, moved_or, each_lane, all_lanes, shifted_lanes, in_first_lane, unchanged_lanes, left_lanes, right_lanes}
@@ -14,7 +15,6 @@ use Rattle.flow_meaning.specs.Content.{content, lane_of, IsSound}
 use Rattle.flow_meaning.specs.StepLaws.{is_load}
 use Rattle.flow_meaning.proofs.Lanes.{xor_lane, or_lane, and_lane, and_all, lane_down, lane_down_signed}
 use Rattle.flow_meaning.proofs.Bytes.{low_length, Size, OneByte, TwoBytes, FourBytes, Short, ShortOne, ShortTwo}
-use Rattle.flow_meaning.proofs.Window.{holds_by}
 use Rattle.flow_meaning.proofs.Targets.{AgreesOn, agrees_on, Carries, carry, kept, to_set, to_put}
 use Rattle.flow_meaning.proofs.Operands.{left_moved, right_moved, same_value, moves, of_one, of_two, of_shift, of_bytes, of_immediate, of_shift_by, of_test, of_tests, of_move, of_load, of_signed_load, of_store}
 use Rattle.flow_meaning.proofs.Leaves.{Leaves, on_landed, on_branched, on_loaded, on_stored}

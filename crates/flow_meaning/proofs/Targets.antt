@@ -3,15 +3,16 @@ use Rattle.std.proofs.Common.{◌≡◌, ℕ, ℤ, zero, suc, ◌+◌, ◌-◌, 
 use Rattle.std.specs.Prelude.{◌==◌, ◌&&◌, slice_set}
 use Rattle.std.specs.List.{range_with_len}
 use Rattle.std.proofs.lemmas.Bool.{eqb-false, cases_lt, ne_eqb}
+use Rattle.lists.proofs.Tests.{true-false}
 use Rattle.isa.specs.Machine.{State, with_register, overwritten, effective_address, wrap}
+use Rattle.isa.proofs.Window.{Holds}
 use Rattle.flow_model.specs.declared.Loc.{Loc}
 use Rattle.flow_model.specs.declared.Loc.TheVariants.{Reg, Mem}
 use Rattle.flow_model.specs.declared.Rule.{Rule}
 use Rattle.flow_model.specs.declared.Rule.TheVariants.{Copy, Keep, Compute, Index}
 use Rattle.flow_model.specs.Flow.{Target, to_register, to_memory, computed, kept_or_computed, with_base, origins_by}
 use Rattle.flow_meaning.specs.Content.{content, lane_of, byte_in, AgreeAt, IsSound}
-use Rattle.flow_meaning.proofs.Never.{no}
-use Rattle.flow_meaning.proofs.Window.{Holds, put_in, put_out}
+use Rattle.flow_meaning.proofs.Window.{put_in, put_out}
 
 -- two runs load from one address; under the rule index from any two
 abbrev pub AgreesOn : Rule → ℕ → ℕ → Type 0
@@ -98,10 +99,10 @@ module _ {s t : State} {rule : Rule} {P : List Loc → ℕ → ℕ → Type 0} (
       other xs x r i n = ap (λ (y : ℕ). lane_of y i) (get_or-set_other xs d r x 0 (λ e. n (sym e)))
 
       past : (x y z u : Bool) (ls : List Loc) (v w : ℕ) → x ≡ false → y ≡ false → z ≡ false → u ≡ false → P ls v w → P (cond x (origins 0) (cond y (origins 1) (cond z (origins 2) (cond u (origins 3) ls)))) v w
-      past true y z u ls v w a b e f h = no a
-      past false true z u ls v w a b e f h = no b
-      past false false true u ls v w a b e f h = no e
-      past false false false true ls v w a b e f h = no f
+      past true y z u ls v w a b e f h = true-false a
+      past false true z u ls v w a b e f h = true-false b
+      past false false true u ls v w a b e f h = true-false e
+      past false false false true ls v w a b e f h = true-false f
       past false false false false ls v w a b e f h = h
 
       hit : (r : ℕ) → d ≡ r → (i : ℕ) → P (cond (0 == i) (origins 0) (cond (1 == i) (origins 1) (cond (2 == i) (origins 2) (cond (3 == i) (origins 3) (Reg r i ∷ []))))) (lane_of v i) (lane_of w i)

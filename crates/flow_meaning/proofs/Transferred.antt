@@ -1,11 +1,12 @@
 -- Which bytes of a log a call moves: those after the bytes that the records before it moved on its channel.
-use Rattle.std.proofs.Common.{◌≡◌, ℕ, zero, suc, ◌+◌, ◌^◌, ◌<◌, ◌≤◌, Bool, true, List, [], ◌∷◌, ◌++◌, length, get_or, None, refl, arith, ap, sym, ◌∙◌, ℤ, pos, get_or-append-add, ltb-true, mod-eq_of_lt, subst}
-use Rattle.std.specs.Prelude.{◌==◌, if◌then◌else◌}
-use Rattle.std.proofs.lemmas.Bool.{eq-eqb}
+use Rattle.std.proofs.Common.{◌≡◌, ℕ, zero, suc, ◌+◌, ◌^◌, ◌<◌, ◌≤◌, true, List, [], ◌∷◌, ◌++◌, length, get_or, None, arith, ap, sym, ◌∙◌, ℤ, pos, get_or-append-add, ltb-true, mod-eq_of_lt, subst}
 use Rattle.std.proofs.lemmas.List.{get_or_append_left, length-append}
+use Rattle.lists.proofs.Tests.{true-false}
+use Rattle.lists.proofs.Numbers.{if-itself}
 use Rattle.isa.specs.declared.CallKind.TheVariants as kind
 use Rattle.isa.specs.Machine.{State, reg, bytes_at, wrap}
 use Rattle.isa.specs.Calls.{channel_of, buffer_of, refusal_of}
+use Rattle.isa.proofs.Window.{holds_by}
 use Rattle.log_model.specs.declared.CallRecord.{CallRecord}
 use Rattle.log_model.specs.declared.CallRecord.TheVariants.{Read, Write, Clock, Other}
 use Rattle.log_model.specs.Logs.{Log}
@@ -25,16 +26,12 @@ use Rattle.replay_model.proofs.Transfers.{write_held}
 use Rattle.flow_meaning.specs.Content.{content, IsSound}
 use Rattle.flow_meaning.specs.StepLaws.{IsAnswered, bytes_given}
 use Rattle.flow_meaning.specs.RunLaws.{byte_received, byte_at_sink}
-use Rattle.flow_meaning.proofs.Never.{no}
-use Rattle.flow_meaning.proofs.Window.{holds_by, bytes_length, byte_of_window}
+use Rattle.flow_meaning.proofs.Window.{bytes_length, byte_of_window}
 
 -- a byte of the middle of three lists
 middle : (before bytes rest whole : List ℕ) (i : ℕ) → whole ≡ before ++ (bytes ++ rest) → i < length bytes → get_or whole (length before + i) 0 ≡ get_or bytes i 0
 middle before bytes rest whole i e h =
     ap (λ (xs : List ℕ). get_or xs (length before + i) 0) e ∙ get_or-append-add before (bytes ++ rest) i 0 ∙ get_or_append_left bytes rest 0 i h
-
-own_channel : (c : ℕ) (bytes : List ℕ) → (if c == c then bytes else []) ≡ bytes
-own_channel c bytes = ap (λ (b : Bool). if b then bytes else []) (eq-eqb c c refl)
 
 -- ---- what a read receives
 
@@ -46,13 +43,13 @@ received_given log inputs m s (Read at args result bytes ∷ rs) all a p r =
     let i = distance (buffer_of args) p in
     let below : i < length bytes = ltb-true i (length bytes) r in
     let whole : received c log.records ≡ received c m.done ++ (bytes ++ received c rs) =
-    ap (received c) (sym all) ∙ received-append c m.done (Read at args result bytes ∷ rs) ∙ ap (λ (xs : List ℕ). received c m.done ++ (xs ++ received c rs)) (own_channel c bytes) in
+    ap (received c) (sym all) ∙ received-append c m.done (Read at args result bytes ∷ rs) ∙ ap (λ (xs : List ℕ). received c m.done ++ (xs ++ received c rs)) (if-itself c bytes []) in
     ap (λ (o : ℕ). get_or (received c log.records) (o + i) 0) (transfer_offset kind.Read args (received c m.done) (length bytes) (omega arith))
     ∙ middle (received c m.done) bytes (received c rs) (received c log.records) i whole below
-received_given log inputs m s [] all a p r = no (sym r)
-received_given log inputs m s (Write at args result bytes ∷ rs) all a p r = no (sym r)
-received_given log inputs m s (Clock at value ∷ rs) all a p r = no (sym r)
-received_given log inputs m s (Other at number ∷ rs) all a p r = no (sym r)
+received_given log inputs m s [] all a p r = true-false (sym r)
+received_given log inputs m s (Write at args result bytes ∷ rs) all a p r = true-false (sym r)
+received_given log inputs m s (Clock at value ∷ rs) all a p r = true-false (sym r)
+received_given log inputs m s (Other at number ∷ rs) all a p r = true-false (sym r)
 
 -- ---- what a write sends
 
@@ -84,7 +81,7 @@ written_parts : (log : Log) (m : Moment) (at : ℕ) (args : List ℕ) (kept : �
     → written (channel_of args) log.records ≡ written (channel_of args) m.done ++ (bytes ++ written (channel_of args) rs)
 written_parts log m at args kept bytes rs all =
     let c = channel_of args in
-    ap (written c) (sym all) ∙ written-append c m.done (Write at args kept bytes ∷ rs) ∙ ap (λ (xs : List ℕ). written c m.done ++ (xs ++ written c rs)) (own_channel c bytes)
+    ap (written c) (sym all) ∙ written-append c m.done (Write at args kept bytes ∷ rs) ∙ ap (λ (xs : List ℕ). written c m.done ++ (xs ++ written c rs)) (if-itself c bytes [])
 
 -- and is the log's byte of that name
 pub written_given : (log : Log) (inputs t : ℕ) (m : Moment) (s : State) (left : List CallRecord) (i : ℕ) → IsSound s → m.done ++ left ≡ log.records → IsAnswered s inputs left → (call_seen m left).kind ≡ kind.Write → i < (call_seen m left).length

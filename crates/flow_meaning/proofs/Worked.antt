@@ -1,10 +1,9 @@
 -- Examples: why the laws have the premises that they have.
-use Rattle.std.proofs.Common.{◌≡◌, ℕ, zero, suc, ◌^◌, ◌<◌, List, [], ◌∷◌, ◌++◌, map, take, pos, refl, true, arith, inr, replicate, get_or, ltb-true}
-use Rattle.std.specs.Prelude.{nat_lt}
-use Rattle.std.specs.List.{flat_map, list_all, AllByRecursion}
-use Rattle.std.proofs.lemmas.Bool.{and_parts}
+use Rattle.std.proofs.Common.{◌≡◌, ℕ, zero, suc, ◌^◌, ◌<◌, List, [], ◌∷◌, ◌++◌, map, take, pos, refl, true, arith, inr, replicate}
+use Rattle.std.specs.List.{flat_map}
 use Rattle.std.proofs.lemmas.Int.{ints}
 use Rattle.std.specs.Int.{w32, to_le_bytes}
+use Rattle.lists.proofs.Numbers.{get_or-below, all-below}
 use Rattle.isa.specs.declared.Instr.{Instr}
 use Rattle.isa.specs.declared.Instr.TheVariants.{Ecall, Lbu, Beq, Auipc, Sb, Addi, Add, Sltu}
 use Rattle.isa.specs.Machine.{State, execute, effect_of, moved_on_with, Retired}
@@ -55,15 +54,6 @@ read_byte = record { channel = 0; offset = 0 }
 abbrev output_byte : SinkByte
 output_byte = record { channel = 1; offset = 0 }
 
-all_below : (n : ℕ) (xs : List ℕ) → list_all (λ v. nat_lt v n) xs ≡ true → AllByRecursion (λ v. v < n) xs
-all_below n [] e = tt
-all_below n (x ∷ xs) e = let both = and_parts (nat_lt x n) (list_all (λ v. nat_lt v n) xs) e in (ltb-true x n both.0, all_below n xs both.1)
-
-each_below : (n : ℕ) (xs : List ℕ) → 0 < n → AllByRecursion (λ v. v < n) xs → (k : ℕ) → get_or xs k 0 < n
-each_below n [] z h k = z
-each_below n (x ∷ xs) z h zero = h.0
-each_below n (x ∷ xs) z h (suc k) = each_below n xs z h.1 k
-
 a_transfer : (channel byte : ℕ) → channel < 2 ^ 32 → byte < 256 → IsTransfer (channel ∷ 60 ∷ 1 ∷ []) (pos 1) (byte ∷ [])
 a_transfer channel byte h g = record { three = refl; words = (h, (omega arith, (omega arith, tt))); fits = omega (arith, ints); whole = refl; are_bytes = (g, tt) }
 
@@ -72,7 +62,7 @@ is_log n x y low high h g = record {
   pages = (omega arith, omega arith);
   inputs = omega arith;
   digest = refl;
-  digest_bytes = all_below 256 (replicate 32 0) refl;
+  digest_bytes = all-below 256 (replicate 32 0) refl;
   records = ((omega arith, a_transfer 0 x (omega arith) h, inr (omega (arith, ints), omega (arith, ints))), ((omega arith, a_transfer 1 y (omega arith) g, inr refl), tt));
   end = (omega arith, omega arith);
   rise = (omega arith, (omega arith, tt));
@@ -92,8 +82,8 @@ branch_sound : IsSound branch_start
 branch_sound = record {
   count = refl;
   first = refl;
-  words = each_below (2 ^ 32) branch_start.registers (omega arith) (all_below (2 ^ 32) branch_start.registers refl);
-  bytes = each_below (2 ^ 8) branch_start.memory (omega arith) (all_below (2 ^ 8) branch_start.memory refl);
+  words = get_or-below (2 ^ 32) branch_start.registers (omega arith) (all-below (2 ^ 32) branch_start.registers refl);
+  bytes = get_or-below (2 ^ 8) branch_start.memory (omega arith) (all-below (2 ^ 8) branch_start.memory refl);
   ends = omega arith;
 }
 
@@ -140,8 +130,8 @@ table_sound : IsSound table_start
 table_sound = record {
   count = refl;
   first = refl;
-  words = each_below (2 ^ 32) table_start.registers (omega arith) (all_below (2 ^ 32) table_start.registers refl);
-  bytes = each_below (2 ^ 8) table_start.memory (omega arith) (all_below (2 ^ 8) table_start.memory refl);
+  words = get_or-below (2 ^ 32) table_start.registers (omega arith) (all-below (2 ^ 32) table_start.registers refl);
+  bytes = get_or-below (2 ^ 8) table_start.memory (omega arith) (all-below (2 ^ 8) table_start.memory refl);
   ends = omega arith;
 }
 
@@ -185,8 +175,8 @@ store_sound : IsSound store_start
 store_sound = record {
   count = refl;
   first = refl;
-  words = each_below (2 ^ 32) store_start.registers (omega arith) (all_below (2 ^ 32) store_start.registers refl);
-  bytes = each_below (2 ^ 8) store_start.memory (omega arith) (all_below (2 ^ 8) store_start.memory refl);
+  words = get_or-below (2 ^ 32) store_start.registers (omega arith) (all-below (2 ^ 32) store_start.registers refl);
+  bytes = get_or-below (2 ^ 8) store_start.memory (omega arith) (all-below (2 ^ 8) store_start.memory refl);
   ends = omega arith;
 }
 

@@ -1,6 +1,6 @@
 -- The targets and origins of an instruction that fits are locations, and so are those of a step. Crates above cite these
 -- lemmas.
-use Rattle.std.proofs.Common.{ℕ, ◌+◌, ◌-◌, ◌<◌, ◌==◌, nat_lt, List, [], ◌∷◌, ◌++◌, zero, suc, ◌≡◌, subst, refl, ltb-true, arith, Bool, true, false, if◌then◌else◌}
+use Rattle.std.proofs.Common.{ℕ, length, get_or, ◌+◌, ◌-◌, ◌<◌, ◌==◌, nat_lt, List, [], ◌∷◌, ◌++◌, zero, suc, ◌≡◌, subst, refl, ltb-true, arith, Bool, true, false, if◌then◌else◌}
 use Rattle.std.specs.Ordering.{int_eq}
 use Rattle.std.specs.declared.cmp.Ordering.{Ordering}
 use Rattle.std.specs.declared.cmp.Ordering.TheVariants.{Less, Equal, Greater}
@@ -38,10 +38,15 @@ in-union : (ls ms : List Loc) → AreLocations ls → AreLocations ms → AreLoc
 in-union [] ms h k = k
 in-union (l ∷ ls) ms h k = in-inserted l (union loc_cmp ls ms) h.0 (in-union ls ms h.1 k)
 
+pub located-get_or : (ls : List Loc) (i : ℕ) (d : Loc) → AreLocations ls → i < length ls → IsLocation (get_or ls i d)
+located-get_or [] i d h k = absurd (omega arith)
+located-get_or (l ∷ ls) zero d h k = h.0
+located-get_or (l ∷ ls) (suc i) d h k = located-get_or ls i d h.1 (omega arith)
+
 in-lane : (r i : ℕ) → r < 32 → i < 4 → AreLocations (lane r i)
 in-lane r i h k = either (r == 0) [] (Reg r i ∷ []) tt ((h, k), tt)
 
-in-lanes : (r : ℕ) → r < 32 → AreLocations (lanes r)
+pub in-lanes : (r : ℕ) → r < 32 → AreLocations (lanes r)
 in-lanes r h = either (r == 0) [] (Reg r 0 ∷ Reg r 1 ∷ Reg r 2 ∷ Reg r 3 ∷ []) tt ((h, omega arith), ((h, omega arith), ((h, omega arith), ((h, omega arith), tt))))
 
 -- the origins of each lane are locations

@@ -3,6 +3,7 @@ use Rattle.std.proofs.Common.{◌≡◌, ℕ, ◌+◌, List, [], ◌∷◌, Bool
 use Rattle.std.specs.Prelude.{Option, Some, ◌||◌, ◌⊎◌, ◌↔◌, Contains, Any}
 use Rattle.std.specs.List.{list_any}
 use Rattle.std.proofs.lemmas.List.Folds.{list_any_at, Any-from_list_any}
+use Rattle.std.proofs.Math.Bool.{or-false, or-true}
 use Rattle.flow_model.specs.declared.Loc.{Loc}
 use Rattle.flow_model.specs.declared.SourceByte.{SourceByte}
 use Rattle.flow_model.specs.declared.StepSeen.{StepSeen}
@@ -15,20 +16,12 @@ use Rattle.flow_model.specs.OriginLaws.{OriginsFlowIn, NoneAtStart}
 use Rattle.flow_model.proofs.Orders.{source_total, source_same}
 
 -- b is in the set
-abbrev is_in : SourceByte → List SourceByte → Bool
+abbrev pub is_in : SourceByte → List SourceByte → Bool
 is_in b xs = has source_cmp b xs
 
-or_nothing : (a : Bool) → (a || false) ≡ a
-or_nothing true = refl
-or_nothing false = refl
-
-or_true : (a : Bool) → (a || true) ≡ true
-or_true true = refl
-or_true false = refl
-
-has-union_over : (before : Loc → List SourceByte) (ls : List Loc) (b : SourceByte) → is_in b (union_over before ls) ≡ list_any (λ l. is_in b (before l)) ls
+pub has-union_over : (before : Loc → List SourceByte) (ls : List Loc) (b : SourceByte) → is_in b (union_over before ls) ≡ list_any (λ l. is_in b (before l)) ls
 has-union_over before [] b = refl
-has-union_over before (l ∷ []) b = sym (or_nothing (is_in b (before l)))
+has-union_over before (l ∷ []) b = sym (or-false (is_in b (before l)))
 has-union_over before (l ∷ m ∷ ls) b =
     has-union source_total (before l) (union_over before (m ∷ ls)) b ∙ ap (λ (a : Bool). is_in b (before l) || a) (has-union_over before (m ∷ ls) b)
 
@@ -60,7 +53,7 @@ module _ (policy : Policy) (step : StepSeen) (before : Loc → List SourceByte) 
   flows_in-from = ⊎_elim
       (λ c. ap (λ (a : Bool). a || list_any (λ m. is_in b (before m)) (from policy.rule step l)) (has-Contains source_total (fresh policy step l) b c))
       (λ some. ap (λ (a : Bool). is_in b (fresh policy step l) || a) (list_any_at (λ m. is_in b (before m)) (from policy.rule step l) some.0 some.1 some.2 (ap (λ (m : Loc). is_in b (before m)) some.3 ∙ has-Contains source_total (before some.1) b some.4))
-      ∙ or_true (is_in b (fresh policy step l)))
+      ∙ or-true (is_in b (fresh policy step l)))
 
   pub contains-after_step : Contains (after_step policy (Some step) before l) b ↔ FlowsIn
   contains-after_step = (

@@ -1,10 +1,10 @@
 -- The orders of locations, source bytes, output bytes and points inside a run are total, and only the same tie. Crates above cite these lemmas.
-use Rattle.std.proofs.Common.{◌≡◌, ℕ, List, ap, ap₂}
+use Rattle.std.proofs.Common.{◌≡◌, ℕ, ◌<◌, List, refl, sym, ap, ap₂}
 use Rattle.std.specs.Ordering.{nat_cmp}
-use Rattle.std.specs.Cmp.{IsTotalOrder, on_total}
+use Rattle.std.specs.Cmp.{IsTotalOrder, on_total, nat_cmp_is}
 use Rattle.std.specs.Cmp.Lexicographic.{slice_cmp, nat_list_cmp_total}
 use Rattle.std.specs.FinMap.{IsAntisymmetric, nat_cmp-IsAntisymmetric, slice_cmp-IsAntisymmetric}
-use Rattle.std.specs.declared.cmp.Ordering.TheVariants.{Equal}
+use Rattle.std.specs.declared.cmp.Ordering.TheVariants.{Less, Equal}
 use Rattle.flow_model.specs.declared.Loc.{Loc}
 use Rattle.flow_model.specs.declared.Loc.TheVariants.{Reg, Mem}
 use Rattle.flow_model.specs.declared.SourceByte.{SourceByte}
@@ -17,10 +17,13 @@ use Rattle.flow_model.specs.Orders.{loc_key, source_key, loc_cmp, source_cmp, si
 pub source_total : IsTotalOrder source_cmp
 source_total = on_total source_key nat_list_cmp_total
 
+pub source_cmp-channel : (x y : SourceByte) → x.channel < y.channel → source_cmp x y ≡ Less
+source_cmp-channel x y h = rw (sym (nat_cmp_is x.channel y.channel Less h)) refl
+
 pub loc_total : IsTotalOrder loc_cmp
 loc_total = on_total loc_key nat_list_cmp_total
 
-same_lists : (xs ys : List ℕ) → slice_cmp nat_cmp xs ys ≡ Equal → xs ≡ ys
+pub same_lists : (xs ys : List ℕ) → slice_cmp nat_cmp xs ys ≡ Equal → xs ≡ ys
 same_lists = slice_cmp-IsAntisymmetric nat_cmp-IsAntisymmetric
 
 same_source : (a b : SourceByte) → source_key a ≡ source_key b → a ≡ b
@@ -33,7 +36,7 @@ same_source a b e =
 pub source_same : IsAntisymmetric source_cmp
 source_same a b e = same_source a b (same_lists (source_key a) (source_key b) e)
 
-same_loc : (a b : Loc) → loc_key a ≡ loc_key b → a ≡ b
+pub same_loc : (a b : Loc) → loc_key a ≡ loc_key b → a ≡ b
 same_loc (Reg r i) (Reg s j) e = cc
 same_loc (Reg r i) (Mem p) e = cc
 same_loc (Mem p) (Reg s j) e = cc

@@ -35,7 +35,7 @@ steps_keep_origins policy trace s t l le h = by (t - s) t (omega arith) h where
 
 -- ---- a byte that a read received
 
-introduced_alone : (policy : Policy) (b : SourceByte) → union source_cmp (introduced policy b) [] ≡ introduced policy b
+pub introduced_alone : (policy : Policy) (b : SourceByte) → union source_cmp (introduced policy b) [] ≡ introduced policy b
 introduced_alone policy b = by (policy.introduces b) where
   by : (c : Bool) → union source_cmp (cond c (b ∷ []) []) [] ≡ cond c (b ∷ []) []
   by true = refl

@@ -4,7 +4,6 @@ use Rattle.std.proofs.lemmas.List.{drop_more, get_or-set_same, get_or-set_other}
 use Rattle.flow_model.specs.declared.Loc.{Loc}
 use Rattle.flow_model.specs.declared.Loc.TheVariants.{Reg, Mem}
 use Rattle.flow_model.specs.Flow.{loc_eq}
-use Rattle.flow_model.specs.Ranges.{IsLocation, AreLocations}
 use Rattle.flow_path.specs.declared.nodes.Label.{Label}
 use Rattle.flow_path.specs.declared.nodes.Label.TheVariants.{Nothing, Read, At}
 use Rattle.flow_path.specs.Labels.{is_nothing}
@@ -16,11 +15,6 @@ nothing_more [] zero e = refl
 nothing_more [] (suc k) e = refl
 nothing_more (x ∷ xs) zero e = e
 nothing_more (x ∷ xs) (suc k) e = nothing_more xs k e
-
-pub located_at : (ls : List Loc) (k : ℕ) (d : Loc) → AreLocations ls → k < length ls → IsLocation (get_or ls k d)
-located_at [] k d h lt = absurd (omega arith)
-located_at (l ∷ ls) zero d h lt = h.0
-located_at (l ∷ ls) (suc k) d h lt = located_at ls k d h.1 (omega (arith, lt))
 
 -- the first of a list, where its head is nothing, and where it isn't
 pub head_is_nothing : (f : Loc → Label) (ls : List Loc) (k : ℕ) (d : Loc) → k < length ls → is_nothing (f (get_or ls k d)) ≡ true

@@ -3,6 +3,7 @@ use Rattle.std.proofs.Common.{◌≡◌, ℕ, zero, suc, ◌+◌, ◌-◌, ◌<�
 use Rattle.std.specs.Prelude.{Some, slice_get}
 use Rattle.std.specs.Option.{option_or}
 use Rattle.std.proofs.lemmas.List.{drop_more}
+use Rattle.std.proofs.lemmas.Option.{same_Some}
 use Rattle.flow_model.specs.declared.Loc.{Loc}
 use Rattle.flow_model.specs.declared.Loc.TheVariants.{Reg}
 use Rattle.flow_model.specs.Flow.{Target, loc_eq}
@@ -51,9 +52,6 @@ pub length_map : (ts : List Target) → length (map (λ (t : Target). t.origins)
 length_map [] = refl
 length_map (t ∷ ts) = ap suc (length_map ts)
 
-pub some_is : {X : Type 0} (a b : X) → Some a ≡ Some b → a ≡ b
-some_is a b e = cc
-
 -- the label for a target is the first of its origins, and it stands
 pub label_is : (ns : List Node) (c : Carriers) (ts : List Target) (labels : List Label) (i : ℕ) → i < length ts → AreFirst c ts labels
     → slice_index_or labels i Nothing ≡ first_label (kept c) (get_or ts i no_target).origins
@@ -87,7 +85,7 @@ one_carried old before t ts labels n done mid between new now loc label size mor
       ap (λ (k : ℕ). drop k ts) here ∙ drop_more ts (n - 1 - done) no_target lt ∙ ap (λ (k : ℕ). get_or ts (n - 1 - done) no_target ∷ drop k ts) next
 
   target_is : (get_or ts (n - 1 - done) no_target).loc ≡ loc
-  target_is = some_is _ _ (sym (map_at (λ t. t.loc) ts (n - 1 - done) no_target lt) ∙ at)
+  target_is = same_Some _ _ (sym (map_at (λ t. t.loc) ts (n - 1 - done) no_target lt) ∙ at)
 
   first_path : path_at mid (slice_index_or labels (n - 1 - done) Nothing) ≡ first_of (told old before) (get_or ts (n - 1 - done) no_target).origins
   first_path =

@@ -1,6 +1,8 @@
 -- What the pass does in an event is what the definition says.
 use Rattle.std.proofs.Common.{◌≡◌, List, [], ◌∷◌, ◌++◌, refl, ap, ap₂, sym, subst, ◌∙◌, Bool, true, false, ◌||◌, ⊎_elim, nat_le, length}
 use Rattle.std.specs.Prelude.{IsSome, Option, Some, None, IfNone}
+use Rattle.std.proofs.Math.Bool.{or-false}
+use Rattle.lists.proofs.Tests.{true-false}
 use Rattle.flow_model.specs.declared.Loc.{Loc}
 use Rattle.flow_model.specs.declared.SourceByte.{SourceByte}
 use Rattle.flow_rule.specs.declared.Message.{Message}
@@ -12,7 +14,6 @@ use Rattle.stream_model.specs.Streams.{is_ended, is_resolvable, answer}
 use Rattle.stream_model.specs.Passes.{Answering, Links, answering_event, answering_by, whole_answering, broken_answering, is_whole_message, take_answer, drop_answer, pop_answer, build, build_or_pop, pop_or_end, resolve, resolve_or_end, end_answers, push_answer}
 use Rattle.stream_model.specs.Schedules.{Item, answering_need, answering_need_by, whole_answering_need, last_need, nothing_or_item, item_or_room}
 use Rattle.stream_model.proofs.Moving.{ended_after}
-use Rattle.stream_model.proofs.Passing.{no}
 use Rattle.pass_parts.specs.declared.pass_turn.PassTurn.TheVariants.{Moved, NotYet, Over}
 use Rattle.pass_parts.specs.declared.requests.Request.{Request}
 use Rattle.pass_parts.specs.Ends.{got_by, unsent, sent_by, with}
@@ -53,7 +54,7 @@ pop_by true refused f next = pop_answer refused f next
 pop_by false refused f next = drop_answer f next
 
 some_is : (rows : Option (List Row)) → IsSome rows → (r : List Row) × (rows ≡ Some r)
-some_is None e = no (sym e)
+some_is None e = true-false (sym e)
 some_is (Some r) e = (r, refl)
 
 -- ---- a message is taken
@@ -74,30 +75,26 @@ took m v new t got sent = ap (λ (n : ForeView). answering_of n (got ++ m ∷ []
 
 -- whoever stays whole was whole, and got no End that isn't
 was_whole : (b r : Bool) (m : Message) → is_whole_after b r m ≡ true → (b ≡ true) × (is_whole_message m ≡ true)
-was_whole true true m e = no (sym e)
+was_whole true true m e = true-false (sym e)
 was_whole true false m e = (refl, e)
-was_whole false r m e = no (sym e)
+was_whole false r m e = true-false (sym e)
 
 whole_end : (m : Message) → is_whole_message m ≡ true → is_ended (m ∷ []) ≡ true → m ≡ End true
-whole_end (Ask l) w h = no (sym h)
-whole_end (Byte x) w h = no (sym h)
-whole_end (Close l) w h = no (sym h)
+whole_end (Ask l) w h = true-false (sym h)
+whole_end (Byte x) w h = true-false (sym h)
+whole_end (Close l) w h = true-false (sym h)
 whole_end (End x) w h = ap (λ (b : Bool). End b) w
-
-or_none : (b : Bool) → (b || false) ≡ b
-or_none true = refl
-or_none false = refl
 
 keeps_pop : (v new : ForeView) (got sent later : Option (List Message)) (m : Message) → v.came.is_ended ≡ false → ForeKeeps v got sent → later ≡ with m got → Takes m v new
     → ForeKeeps new later sent
-keeps_pop v new None sent later m o k e t = no (sym k.heard ∙ o)
+keeps_pop v new None sent later m o k e t = true-false (sym k.heard ∙ o)
 keeps_pop v new (Some got) sent later m o k e t =
     subst (λ n. ForeKeeps n later sent) (sym t.is) (subst (λ g. ForeKeeps (record v { came = new.came; whole = new.whole }) g sent) (sym e) kept) where
       running : is_ended got ≡ false
       running = sym k.heard ∙ o
 
       ended : new.came.is_ended ≡ is_ended (m ∷ [])
-      ended = t.ended ∙ ap (λ (b : Bool). is_ended (m ∷ []) || b) o ∙ or_none (is_ended (m ∷ []))
+      ended = t.ended ∙ ap (λ (b : Bool). is_ended (m ∷ []) || b) o ∙ or-false (is_ended (m ∷ []))
 
       was : new.whole ≡ true → (v.whole ≡ true) × (is_whole_message m ≡ true)
       was w = was_whole v.whole t.is_refused m (sym t.whole ∙ w)
@@ -147,7 +144,7 @@ module _ (v : ForeView) (got sent : Option (List Message)) (k : ForeKeeps v got 
       went = (refl, refl);
       is = ap (λ (ms : List Message). record (fore_state v got sent) { sent = ms; is_whole = false }) (sent_same v.over v.over false v.whole o o sent) ∙ sym h;
     };
-    keeps = record { known = λ t. no (sym t); heard = k.heard; alone = k.alone; received = λ t. no (sym t); counted = λ t. no (sym t); ends = λ t. no (sym t) };
+    keeps = record { known = λ t. true-false (sym t); heard = k.heard; alone = k.alone; received = λ t. true-false (sym t); counted = λ t. true-false (sym t); ends = λ t. true-false (sym t) };
     same = record { summary = refl; asked = refl };
     over = tt;
     running = o;
@@ -235,7 +232,7 @@ module _ (v : ForeView) (got sent : Option (List Message)) (k : ForeKeeps v got 
       on_last (known_by v) v.asked links (fore_state v got sent) r.running w (r.idle w).sending (ap locations d) ∙ ap (pop_or_end (known_by v) v.asked links (fore_state v got sent)) (sym k.heard ∙ r.ended)
       ∙ ap (resolve_or_end (known_by v) v.asked links (fore_state v got sent)) (some_is v.rows ((r.idle w).sinks d r.ended)).1
   on_end links r true w (q ∷ left) d =
-      no (sym (answerable q) ∙ subst (CannotAnswer v.came) d (r.idle w).requests) where
+      true-false (sym (answerable q) ∙ subst (CannotAnswer v.came) d (r.idle w).requests) where
         answerable : (q : Request) → is_answerable v.came q ≡ true
         answerable q = ap (λ (b : Bool). b || nat_le q.needed_first (length v.came.answers)) r.ended
 
@@ -311,7 +308,7 @@ module _ (v : ForeView) (got sent : Option (List Message)) (k : ForeKeeps v got 
       by : (got : Option (List Message)) → later ≡ with m got → is_ended (got_by got) ≡ false
           → answering_event (known_by v) v.asked (links_of true (Some m) t.is_refused) (fore_state v got sent) ≡ pop_by v.whole t.is_refused (fore_state v got sent) (Some m)
           → fore_state new later sent ≡ answering_event (known_by v) v.asked (links_of true (Some m) t.is_refused) (fore_state v got sent)
-      by None e h at = no h
+      by None e h at = true-false h
       by (Some got) e h at =
           ap (λ (g : Option (List Message)). fore_state new g sent) e ∙ took m v new t got (sent_by new.over new.whole sent)
           ∙ ap (λ (ms : List Message). took_by v.whole t.is_refused (answering_of v got ms) m) (sent_same new.over v.over new.whole v.whole o r.running sent)

@@ -1,20 +1,17 @@
 -- Parts of lists.
-use Rattle.std.proofs.Common.{◌≡◌, ℕ, ◌+◌, ◌<◌, ◌≤◌, List, [], ◌∷◌, length, drop, get_or, refl, ap, sym, arith}
+use Rattle.std.proofs.Common.{◌≡◌, ℕ, ◌+◌, ◌<◌, ◌≤◌, List, [], length, drop, refl, ap, sym}
 use Rattle.std.specs.Prelude.{Option, Some, None}
-use Rattle.std.proofs.lemmas.List.{drop_all, drop_more}
+use Rattle.std.proofs.lemmas.List.{drop_all}
+use Rattle.lists.proofs.Lists.{drop-within}
 use Rattle.flow_model.specs.declared.Loc.{Loc}
 use Rattle.flow_model.specs.declared.SourceByte.{SourceByte}
 use Rattle.forward_pass.specs.Rest.{rest_of_answer, rest_of}
-
-pub next_behind : {X : Type 0} (xs : List X) (i : ℕ) → i < length xs → (x : X) × (drop i xs ≡ x ∷ drop (i + 1) xs)
-next_behind [] i h = absurd (omega arith)
-next_behind (x ∷ xs) i h = (get_or (x ∷ xs) i x, drop_more (x ∷ xs) i x h)
 
 -- a source byte of the answer is sent
 pub byte_sent : (set : List SourceByte) (i : ℕ) (closing : Option Loc) → i < length set
     → rest_of_answer (drop (i + 1) set) closing ≡ rest_of (rest_of_answer (drop i set) closing)
 byte_sent set i None h = refl
-byte_sent set i (Some l) h = ap (λ (bs : List SourceByte). rest_of (rest_of_answer bs (Some l))) (sym (next_behind set i h).1)
+byte_sent set i (Some l) h = ap (λ (bs : List SourceByte). rest_of (rest_of_answer bs (Some l))) (sym (drop-within set i h).1)
 
 -- its Close is sent
 pub close_sent : (set : List SourceByte) (i : ℕ) (closing : Option Loc) → length set ≤ i

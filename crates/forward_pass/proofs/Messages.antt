@@ -2,6 +2,7 @@
 use Rattle.std.proofs.Common.{◌≡◌, List, [], ◌∷◌, ◌++◌, length, refl, ap, ap₂, sym, subst, ◌∙◌, Bool, true, false, ◌||◌, nat_le, append-nil, append_assoc}
 use Rattle.std.specs.List.{list_all}
 use Rattle.std.proofs.lemmas.List.Elements.{recursion_from_All, All-from_recursion}
+use Rattle.lists.proofs.Tests.{true-false}
 use Rattle.flow_model.specs.declared.Loc.{Loc}
 use Rattle.flow_model.specs.declared.SourceByte.{SourceByte}
 use Rattle.flow_rule.specs.declared.Message.{Message}
@@ -9,7 +10,6 @@ use Rattle.flow_rule.specs.declared.Message.TheVariants.{Ask, Byte, Close, End}
 use Rattle.epoch_model.specs.Summary.{Summary as EpochSummary}
 use Rattle.epoch_model.specs.Join.{answer_to}
 use Rattle.stream_model.specs.Streams.{is_ended, answers_in, heard, is_answered, is_resolvable}
-use Rattle.stream_model.proofs.Passing.{no}
 use Rattle.pass_parts.specs.declared.requests.Request.{Request}
 use Rattle.pass_parts.specs.Requests.{IsCounted, AreCounted}
 use Rattle.pass_parts.proofs.Counted.{answerable_by_count}
@@ -23,14 +23,14 @@ from_more m got asked old new o e r = subst (CameFrom (got ++ m ∷ []) asked) (
   goes_on m more = ap (answers_in []) (append_assoc got (m ∷ []) more) ∙ r.running o (m ∷ more)
 
   by : (m : Message) → CameFrom (got ++ m ∷ []) asked (came_with old m)
-  by (Ask l) = record { running = λ _. goes_on (Ask l); ended = λ t. no (sym t ∙ o) }
-  by (Byte b) = record { running = λ _. goes_on (Byte b); ended = λ t. no (sym t ∙ o) }
+  by (Ask l) = record { running = λ _. goes_on (Ask l); ended = λ t. true-false (sym t ∙ o) }
+  by (Byte b) = record { running = λ _. goes_on (Byte b); ended = λ t. true-false (sym t ∙ o) }
   by (Close l) = record {
     running = λ _ more. goes_on (Close l) more ∙ sym (append_assoc old.answers (old.so_far ∷ []) (answers_in [] more));
-    ended = λ t. no (sym t ∙ o);
+    ended = λ t. true-false (sym t ∙ o);
   }
   by (End whole) = record {
-    running = λ t. no t;
+    running = λ t. true-false t;
     ended = λ _ l. ap (λ (sets : List (List SourceByte)). answer_to asked sets l) (sym (r.running o (End whole ∷ [])));
   }
 

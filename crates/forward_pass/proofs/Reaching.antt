@@ -2,6 +2,7 @@
 use Rattle.std.proofs.Common.{◌≡◌, List, [], ◌∷◌, ◌++◌, refl, ap, ap₂, sym, subst, ◌∙◌, Bool, true, false, cond}
 use Rattle.std.specs.Prelude.{IsSome, Option, IfNone}
 use Rattle.std.specs.Ordering.{eq_by_cmp}
+use Rattle.lists.proofs.Tests.{true-false}
 use Rattle.flow_model.specs.declared.Loc.{Loc}
 use Rattle.flow_model.specs.Orders.{loc_cmp}
 use Rattle.flow_rule.specs.declared.Message.{Message}
@@ -10,7 +11,7 @@ use Rattle.epoch_summary.specs.declared.summary.Summary.{Summary}
 use Rattle.stream_model.specs.Streams.{is_ended, heard}
 use Rattle.stream_model.specs.Passes.{Answering, Links, answering_event, answering_start, answering_after}
 use Rattle.stream_model.specs.PassLaws.{AnswersSent}
-use Rattle.stream_model.proofs.Passing.{no, answering_sends, begun_whole}
+use Rattle.stream_model.proofs.Passing.{answering_sends, begun_whole}
 use Rattle.pass_parts.specs.declared.pass_turn.PassTurn.{PassTurn}
 use Rattle.pass_parts.specs.declared.requests.Request.{Request}
 use Rattle.pass_parts.specs.Ends.{EndsWhole, got_by, fresh_end}
@@ -58,7 +59,7 @@ module _ (s : Option Summary) (asked : List Loc) (requests : List Request) (whol
       (record { known = is_known; heard = heard_at first; alone = alone last none; received = λ _. received first; counted = counted; ends = λ _. ends first }) where
         ends : (b : Bool) → b ≡ true → EndsWhole (got_by (fresh_end b))
         ends true e = ([], refl)
-        ends false e = no (sym e)
+        ends false e = true-false (sym e)
 
         heard_at : (b : Bool) → b ≡ is_ended (got_by (fresh_end b))
         heard_at true = refl
@@ -76,8 +77,8 @@ module _ (s : Option Summary) (asked : List Loc) (requests : List Request) (whol
           by false = sym (no_answer ls l)
 
         received : (b : Bool) → CameFrom (got_by (fresh_end b)) asked (record { answers = []; so_far = []; is_ended = b })
-        received true = record { running = λ t. no t; ended = λ _. nothing asked }
-        received false = record { running = λ _ more. refl; ended = λ t. no (sym t) }
+        received true = record { running = λ t. true-false t; ended = λ _. nothing asked }
+        received false = record { running = λ _ more. refl; ended = λ t. true-false (sym t) }
 
   pub new_reached : (v : ForeView) → v ≡ new_fore s asked requests whole first → ForeReached first (locations requests) whole v (fresh_end first) (fresh_end last)
   new_reached v e = subst (λ v. ForeReached first (locations requests) whole v (fresh_end first) (fresh_end last)) (sym e) (by first last) where

@@ -2,3 +2,4 @@ mod Worked
 mod WorkedSteps
 mod WorkedWords
 mod ZeroRegister
+pub mod Window

@@ -1,5 +1,5 @@
 -- What is asked, one location, one sink and one epoch after another.
-use Rattle.std.proofs.Common.{◌≡◌, ℕ, zero, suc, ◌+◌, ◌<◌, ◌≤◌, List, [], ◌∷◌, ◌++◌, map, take, length, get_or, slice_get, refl, ap, sym, ◌∙◌, append-nil, append_assoc, arith, add-one}
+use Rattle.std.proofs.Common.{◌≡◌, ℕ, zero, suc, ◌+◌, ◌<◌, ◌≤◌, List, [], ◌∷◌, ◌++◌, map, take, length, get_or, slice_get, ap, sym, ◌∙◌, append-nil, append_assoc, arith, add-one}
 use Rattle.std.specs.Prelude.{Some}
 use Rattle.std.specs.List.{flat_map}
 use Rattle.std.proofs.lemmas.List.{take_more, take_all, length-map}
@@ -7,12 +7,9 @@ use Rattle.std.proofs.lemmas.List.Folds.{flat_map-map}
 use Rattle.flow_model.specs.declared.Loc.{Loc}
 use Rattle.epoch_model.specs.Summary.{Terms, SinkTerms}
 use Rattle.epoch_model.specs.Crossing.{added, added_all}
+use Rattle.epoch_model.proofs.Adding.{added_all-append}
 
 -- ---- lists to which each is added
-
-added_all-append : (asked xs ys : List Loc) → added_all asked (xs ++ ys) ≡ added_all (added_all asked xs) ys
-added_all-append asked [] ys = refl
-added_all-append asked (x ∷ xs) ys = added_all-append (added asked x) xs ys
 
 -- one start location more
 pub start_added : (asked items starts : List Loc) (i : ℕ) (d : Loc) (now next : List Loc) → items ≡ starts → i < length items

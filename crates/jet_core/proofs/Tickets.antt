@@ -1,9 +1,10 @@
 -- The tickets of a run's epochs begin at its checkpoints, and what is found of these epochs is of all steps.
-use Rattle.std.proofs.Common.{◌≡◌, ℕ, zero, suc, ◌+◌, ◌-◌, ◌<◌, ◌≤◌, List, [], ◌∷◌, map, take, length, get_or, slice_get, refl, ap, sym, subst, ◌∙◌, arith, Bool, true, false}
+use Rattle.std.proofs.Common.{◌≡◌, ℕ, suc, ◌+◌, ◌-◌, ◌<◌, ◌≤◌, List, [], ◌∷◌, map, take, length, get_or, slice_get, refl, ap, sym, subst, ◌∙◌, arith, Bool, true, false}
 use Rattle.std.specs.Prelude.{Some, Result, Ok, Err, All, nat_lt, IfOk, MatchResult}
 use Rattle.std.specs.List.{AllByRecursion, AllZip, Contains}
 use Rattle.std.proofs.lemmas.Bool.{ltb-true, ltb-false}
 use Rattle.std.proofs.lemmas.List.Elements.{All-from_recursion}
+use Rattle.lists.proofs.Lists.{slice_get-take}
 use Rattle.flow_model.specs.declared.StepSeen.{StepSeen}
 use Rattle.flow_model.specs.Origins.{step_at}
 use Rattle.flow_model.specs.Ranges.{IsInRange}
@@ -12,9 +13,9 @@ use Rattle.report_model.specs.Query.{Query}
 use Rattle.replay_model.specs.Run.{start}
 use Rattle.replay_model.proofs.Offsets.{length-steps_from}
 use Rattle.replayer.specs.Jobs.{Job, trace_of}
-use Rattle.epoch_model.specs.Cutting.{Epoch, RisesTo, IsCutting, epochs}
+use Rattle.epoch_model.specs.Cutting.{Epoch, IsCutting, epochs}
 use Rattle.epoch_model.specs.Summary.{AreSummaries}
-use Rattle.epoch_model.proofs.Asking.{rises_up}
+use Rattle.epoch_model.proofs.Cutting.{all_within, one_left, AreLeft}
 use Rattle.epoch_cut.specs.Numbered.{numbered}
 use Rattle.checkpoints.specs.Points.{beginnings}
 use Rattle.epoch_summary.specs.declared.summary.Summary.{Summary}
@@ -25,35 +26,9 @@ use Rattle.jet_core.specs.Tickets.{BeginsAt, AreFound}
 
 -- ---- where epochs begin
 
--- each cut is within the run
-within : (s n : ℕ) (cs : List ℕ) → RisesTo s cs n → AllByRecursion (λ c. c ≤ n) cs
-within s n [] r = tt
-within s n (c ∷ cs) r = (rises_up c cs n r.1, within c n cs r.1)
-
-all_within : (n : ℕ) (cuts : List ℕ) → IsCutting n cuts → AllByRecursion (λ c. c ≤ n) cuts
-all_within zero cuts e = subst (AllByRecursion (λ c. c ≤ 0)) (sym e) (omega arith, tt)
-all_within (suc n) cuts r = within 0 (suc n) cuts r
-
-get_taken : {X : Type 0} (n k : ℕ) (xs : List X) → k < n → slice_get (take n xs) k ≡ slice_get xs k
-get_taken zero k xs h = absurd (omega (arith, h))
-get_taken (suc n) k [] h = refl
-get_taken (suc n) zero (x ∷ xs) h = refl
-get_taken (suc n) (suc k) (x ∷ xs) h = get_taken n k xs (omega (arith, h))
-
 taken_long : {X : Type 0} (xs : List X) (x : X) → length (take (length xs) (x ∷ xs)) ≡ length xs
 taken_long [] x = refl
 taken_long (y ∷ ys) x = ap suc (taken_long ys y)
-
--- the cuts cs that are left, and the time s before them, stand in all cuts from place k on
-record AreLeft (cuts : List ℕ) (k s : ℕ) (cs : List ℕ) : Type 0 where
-  count : k + length cs ≡ length cuts
-  at : (j : ℕ) → slice_get (0 ∷ cuts) (k + j) ≡ slice_get (s ∷ cs) j
-
-one_left : (cuts : List ℕ) (k s c : ℕ) (cs : List ℕ) → AreLeft cuts k s (c ∷ cs) → AreLeft cuts (suc k) c cs
-one_left cuts k s c cs h = record {
-  count = omega (arith, h.count);
-  at = λ j. let place : suc k + j ≡ k + suc j = omega arith in ap (slice_get (0 ∷ cuts)) place ∙ h.at (suc j);
-}
 
 module _ (job : Job) (cuts : List ℕ) where
   from_place : (k s : ℕ) (cs : List ℕ) → AreLeft cuts k s cs → AllByRecursion (λ c. c ≤ steps job.log) cs
@@ -64,7 +39,7 @@ module _ (job : Job) (cuts : List ℕ) where
       let place : k + 0 ≡ k = omega arith in (
         record {
           number = omega (arith, below, taken_long cuts 0);
-          first = get_taken (length cuts) k (0 ∷ cuts) below ∙ ap (slice_get (0 ∷ cuts)) (sym place) ∙ h.at 0;
+          first = slice_get-take (length cuts) k (0 ∷ cuts) below ∙ ap (slice_get (0 ∷ cuts)) (sym place) ∙ h.at 0;
           past_last = a.0;
         },
         from_place (suc k) c cs (one_left cuts k s c cs h) a.1,

@@ -1,4 +1,4 @@
 pub mod Composing
 mod Read
 mod Runs
-mod Several
+pub mod Several

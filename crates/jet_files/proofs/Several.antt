@@ -72,7 +72,7 @@ kept-is : {A : Type 0} (alike : A → A → Type 0) (kept : A) (found : Result A
 kept-is alike kept (Ok written) h = (written, refl, h)
 kept-is alike kept (Err r) h = absurd h
 
-kept-refused : {A : Type 0} (alike : A → A → Type 0) (r : Refusal) (found : Result A Refusal) → IsKeptFor alike (Err r) found → found ≡ Err r
+pub kept-refused : {A : Type 0} (alike : A → A → Type 0) (r : Refusal) (found : Result A Refusal) → IsKeptFor alike (Err r) found → found ≡ Err r
 kept-refused alike r (Ok written) h = absurd h
 kept-refused alike r (Err s) h = ap Err (sym h)
 

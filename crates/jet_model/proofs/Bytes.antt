@@ -1,9 +1,9 @@
 -- The texts of a log are lists of bytes.
 use Rattle.std.proofs.Common.{arith, refl, sym, ◌≡◌, ap, subst, ℕ, ◌<◌, List, [], ◌∷◌, ◌++◌, length, map, Bool, true, false, nat_lt, Ok, Err}
-use Rattle.std.specs.Prelude.{◌&&◌, if◌then◌else◌, ℤ}
+use Rattle.std.specs.Prelude.{if◌then◌else◌, ℤ}
 use Rattle.std.specs.List.{AllByRecursion, list_all, flat_map, range_with_len}
 use Rattle.std.specs.Int.{cast_unsigned, w32}
-use Rattle.std.proofs.lemmas.Bool.{lt-ltb, ltb-true}
+use Rattle.std.proofs.lemmas.Bool.{lt-ltb, ltb-true, and_parts}
 use Rattle.log_model.specs.declared.Version.{Version}
 use Rattle.log_model.specs.declared.Version.TheVariants.{One, Two}
 use Rattle.log_model.specs.declared.CallRecord.{CallRecord}
@@ -24,14 +24,10 @@ test-true : (bytes : List ℕ) → AreBytes bytes → list_all (λ n. nat_lt n 2
 test-true [] h = refl
 test-true (b ∷ bytes) h = rw (lt-ltb b 256 h.0, test-true bytes h.1)
 
-both-true : (a b : Bool) → (a && b) ≡ true → (a ≡ true) × (b ≡ true)
-both-true true b h = (refl, h)
-both-true false b h = cc
-
 true-test : (bytes : List ℕ) → list_all (λ n. nat_lt n 256) bytes ≡ true → AreBytes bytes
 true-test [] h = tt
 true-test (b ∷ bytes) h =
-    let p = both-true (nat_lt b 256) (list_all (λ n. nat_lt n 256) bytes) h in
+    let p = and_parts (nat_lt b 256) (list_all (λ n. nat_lt n 256) bytes) h in
     (ltb-true b 256 p.0, true-test bytes p.1)
 
 pub if_bytes-are : (bytes : List ℕ) → AreBytes bytes → if_bytes bytes ≡ Ok bytes

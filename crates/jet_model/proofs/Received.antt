@@ -15,15 +15,17 @@ use Rattle.flow_model.specs.declared.StepSeen.{StepSeen}
 use Rattle.flow_model.specs.declared.CallSeen.{CallSeen}
 use Rattle.flow_model.specs.Origins.{step_at}
 use Rattle.flow_model.specs.Orders.{source_cmp}
-use Rattle.flow_model.proofs.Orders.{source_total, source_same}
+use Rattle.flow_model.proofs.Orders.{source_total, source_same, source_cmp-channel}
 use Rattle.lists.specs.Sets.{set_of, has, IsBelow, Ascends}
-use Rattle.lists.proofs.Algebra.{Ascends-set_of, has-set_of, has-Contains, Contains-has, same_list}
+use Rattle.lists.proofs.Algebra.{Ascends-set_of, has-set_of, has-Contains, Contains-has, same_list, IsBelow-append}
 use Rattle.lists.proofs.Filters.{filter-set_of}
+use Rattle.lists.proofs.Tests.{same-tests}
 use Rattle.log_model.specs.Logs.{Log, IsLog}
 use Rattle.log_model.specs.Moved.{received}
 use Rattle.report_model.specs.Query.{Query, has_source}
 use Rattle.report_model.specs.Influence.{source_at, sources_of_call, sources_of_step, sources_of, chosen_sources}
 use Rattle.report_model.proofs.Members.{Some_in, some-Contains, Contains-some, some-each, some-left, some-right, map-some, some-map, some-range}
+use Rattle.report_model.proofs.Turned.{in_trace}
 use Rattle.replay_model.specs.Run.{trace}
 use Rattle.replay_model.specs.Comparison.{divergence}
 use Rattle.replay_model.specs.Received.{IsReceived}
@@ -31,9 +33,6 @@ use Rattle.replay_model.proofs.Received.{reads_are_received, none_received}
 use Rattle.jet_model.specs.Sources.{source_on, sources_on, received_sources}
 
 -- ---- the order
-
-by_channel : (x y : SourceByte) → x.channel < y.channel → source_cmp x y ≡ Less
-by_channel x y h = rw (sym (nat_cmp_is x.channel y.channel Less h)) refl
 
 by_offset : (c o p : ℕ) → o < p → source_cmp (source_on c o) (source_on c p) ≡ Less
 by_offset c o p h = rw (sym (nat_cmp_is c c Equal refl), sym (nat_cmp_is o p Less h)) refl
@@ -46,13 +45,9 @@ offsets_ascend : (c a n : ℕ) → Ascends source_cmp (map (source_on c) (range_
 offsets_ascend c a zero = tt
 offsets_ascend c a (suc n) = (below_offsets c a (a + 1) n (omega arith), offsets_ascend c (a + 1) n)
 
-below_append : (x : SourceByte) (xs ys : List SourceByte) → IsBelow source_cmp x xs → IsBelow source_cmp x ys → IsBelow source_cmp x (xs ++ ys)
-below_append x [] ys h k = k
-below_append x (y ∷ xs) ys h k = (h.0, below_append x xs ys h.1 k)
-
 ascends_append : (xs ys : List SourceByte) → Ascends source_cmp xs → Ascends source_cmp ys → AllByRecursion (λ x. IsBelow source_cmp x ys) xs → Ascends source_cmp (xs ++ ys)
 ascends_append [] ys h k below = k
-ascends_append (x ∷ xs) ys h k below = (below_append x xs ys h.0 below.0, ascends_append xs ys h.1 k below.1)
+ascends_append (x ∷ xs) ys h k below = (IsBelow-append source_total x xs ys h.0 below.0, ascends_append xs ys h.1 k below.1)
 
 module _ (count : ℕ → ℕ) where
   abbrev block : ℕ → List SourceByte
@@ -66,11 +61,11 @@ module _ (count : ℕ → ℕ) where
 
   below_block : (x : SourceByte) (c a n : ℕ) → x.channel < c → IsBelow source_cmp x (map (source_on c) (range_with_len a n))
   below_block x c a zero h = tt
-  below_block x c a (suc n) h = (by_channel x (source_on c a) h, below_block x c (a + 1) n h)
+  below_block x c a (suc n) h = (source_cmp-channel x (source_on c a) h, below_block x c (a + 1) n h)
 
   below_blocks : (x : SourceByte) (a n : ℕ) → x.channel < a → IsBelow source_cmp x (blocks a n)
   below_blocks x a zero h = tt
-  below_blocks x a (suc n) h = subst (IsBelow source_cmp x) (sym (blocks-cons a n)) (below_append x (block a) (blocks (a + 1) n) (below_block x a 0 (count a) h) (below_blocks x (a + 1) n (omega (arith, h))))
+  below_blocks x a (suc n) h = subst (IsBelow source_cmp x) (sym (blocks-cons a n)) (IsBelow-append source_total x (block a) (blocks (a + 1) n) (below_block x a 0 (count a) h) (below_blocks x (a + 1) n (omega (arith, h))))
 
   each_below : (c b n d m : ℕ) → c < b → AllByRecursion (λ x. IsBelow source_cmp x (blocks b n)) (map (source_on c) (range_with_len d m))
   each_below c b n d zero h = tt
@@ -130,14 +125,6 @@ from_trace (s ∷ ss) b h = by (split-some (λ c. 0) (λ c. c ≡ b) (sources_of
   by (inl g) rest = (0, record { step = s; is_step = refl; listed = g })
   by (inr g) rest = let r = rest g in (suc r.0, record { step = r.1.step; is_step = r.1.is_step; listed = r.1.listed })
 
-in_trace : (P : SourceByte → Type 0) (trace : List StepSeen) (n : ℕ) (step : StepSeen) → step_at trace n ≡ Some step → Some_in P (sources_of_step step.call) → Some_in P (sources_of trace)
-in_trace P [] n step e h = cc
-in_trace P (s ∷ ss) zero step e h =
-    let same : s ≡ step = cc in
-    subst (Some_in P) (sym (flat_map-cons (λ (t : StepSeen). sources_of_step t.call) s ss)) (some-left P (sources_of_step s.call) _ (subst (λ (t : StepSeen). Some_in P (sources_of_step t.call)) (sym same) h))
-in_trace P (s ∷ ss) (suc n) step e h =
-    subst (Some_in P) (sym (flat_map-cons (λ (t : StepSeen). sources_of_step t.call) s ss)) (some-right P (sources_of_step s.call) _ (in_trace P ss n step e h))
-
 -- the byte is one of a read
 record IsReadBy (call : CallSeen) (b : SourceByte) : Type 0 where
   reads : call.kind ≡ kind.Read
@@ -192,12 +179,6 @@ received-in trace b r =
 
 -- ---- the sources of a fitting log
 
--- numbers of which one test is true exactly where the other is
-same_test : (a b : Bool) → (a ≡ true → b ≡ true) → (b ≡ true → a ≡ true) → a ≡ b
-same_test true b f g = sym (f refl)
-same_test false true f g = g refl
-same_test false false f g = refl
-
 module _ (start : State) (log : Log) (is_log : IsLog log) (agrees : divergence start log ≡ None) where
   abbrev steps_of : List StepSeen
   steps_of = trace start log
@@ -225,7 +206,7 @@ module _ (start : State) (log : Log) (is_log : IsLog log) (agrees : divergence s
 
   all_received : set_of source_cmp (sources_of steps_of) ≡ received_sources log
   all_received = same_list source_total source_same (set_of source_cmp (sources_of steps_of)) (received_sources log) (Ascends-set_of source_total (sources_of steps_of)) (blocks_ascend count_of 0 16)
-      (λ b. same_test _ _ (to_log b) (from_log b))
+      (λ b. same-tests _ _ (to_log b) (from_log b))
 
 pub sources_are_received : (q : Query) (start : State) (log : Log) → IsLog log → divergence start log ≡ None → chosen_sources q (trace start log) ≡ filter (has_source q) (received_sources log)
 sources_are_received q start log is_log agrees =

@@ -34,6 +34,7 @@ use Rattle.jet_model.specs.Answer.{fitting_start, told_check, cut_answer, analys
 use Rattle.jet_model.proofs.AndThen.{and_then-ok, and_then-err}
 use Rattle.jet_files.specs.Outcome.{AskAlike, AreAlike, IsKeptFor, Comes, Found, Follows, IsWork, by_reading}
 use Rattle.jet_files.proofs.Composing.{comes-then, comes-stops, follows-stops}
+use Rattle.jet_files.proofs.Several.{kept-refused}
 use Rattle.jet_words.specs.declared.command.Listing.{Listing}
 use Rattle.jet_words.specs.declared.command.Listing.TheVariants.{BySink, BySource, ByPath, ByRange}
 use Rattle.jet_work.specs.Answers.{IsWorkOf, fits_and_is_cut, conversion_of, given_by, telling_text, decisions_by, IsGivenAlike, AreGivenAlike, named}
@@ -62,10 +63,6 @@ follows-answer R Q T x f g step first (Err r) work =
 
 -- ---- a query that was read
 
-refused_alike : {A : Type 0} (alike : A → A → Type 0) (r : Refusal) (written : Result A Refusal) → IsKeptFor alike (Err r) written → written ≡ Err r
-refused_alike alike r (Ok q) h = absurd h
-refused_alike alike r (Err s) h = ap Err (sym h)
-
 kept_alike : {A B : Type 0} (alike : A → A → Type 0) (kept : A) (next : A → Result B Refusal) (outcome : Result B Refusal) (written : Result A Refusal) → IsKeptFor alike (Ok kept) written
     → ((q : A) → alike kept q → next q ≡ outcome) → and_then written next ≡ outcome
 kept_alike alike kept next outcome (Ok q) h same = same q h
@@ -78,7 +75,7 @@ module _ {A : Type 0} (alike : A → A → Type 0) (read : Contents → Result A
 
   pub kept-refused : (r : Refusal) → Follows (λ file kept. IsKeptFor alike kept (read file)) f g (Err r) → Follows Given f g (Err r)
   kept-refused r = follows-stops (λ file kept. IsKeptFor alike kept (read file)) Given f g r
-      (λ file h. and_then-err (read file) next r (refused_alike alike r (read file) h))
+      (λ file h. and_then-err (read file) next r (kept-refused alike r (read file) h))
 
   pub kept-given : (kept : A) → Follows (λ file kept. IsKeptFor alike kept (read file)) f g (Ok kept) → (outcome : Result (List ℕ) Refusal)
       → IsWorkOf (λ answer. (q : A) → alike kept q → next q ≡ answer) outcome → Follows Given f g outcome

@@ -7,43 +7,29 @@ use Rattle.std.specs.Ordering.{eq_by_cmp, ordering_reverse, is_eq}
 use Rattle.std.specs.FinMap.{IsAntisymmetric}
 use Rattle.std.specs.declared.cmp.Ordering.{Ordering}
 use Rattle.std.specs.declared.cmp.Ordering.TheVariants.{Less, Equal, Greater}
+use Rattle.std.proofs.Math.Bool.{or_assoc, or_self_left}
 use Rattle.std.proofs.lemmas.List.Folds.{list_any_at}
 use Rattle.std.proofs.lemmas.Map.Views.{Contains-from_any}
+use Rattle.lists.proofs.Tests.{true-false, or-swapped}
 use Rattle.lists.specs.Sets.{union, inserted, placed, set_of, has, is_within, IsBelow, Ascends}
 
-no : {A : Type 0} → true ≡ false → A
-no e = cc
-
 pub tied_by : (r : Ordering) → is_eq r ≡ true → r ≡ Equal
-tied_by Less e = no (sym e)
+tied_by Less e = true-false (sym e)
 tied_by Equal e = refl
-tied_by Greater e = no (sym e)
+tied_by Greater e = true-false (sym e)
 
 module _ {K : Type 0} {R : K → K → Ordering} (o : IsTotalOrder R) where
-  or_twice : (b c : Bool) → (b || (b || c)) ≡ (b || c)
-  or_twice true c = refl
-  or_twice false c = refl
-
-  or_swapped : (a b c : Bool) → (a || (b || c)) ≡ (b || (a || c))
-  or_swapped true true c = refl
-  or_swapped true false c = refl
-  or_swapped false b c = refl
-
-  or_grouped : (a b c : Bool) → (a || (b || c)) ≡ ((a || b) || c)
-  or_grouped true b c = refl
-  or_grouped false b c = refl
-
   pub has-inserted : (x : K) (ys : List K) (q : K) → has R q (inserted R x ys) ≡ (eq_by_cmp R q x || has R q ys)
   has-inserted x [] q = refl
   has-inserted x (y ∷ ys) q = by (has-inserted x ys q) (R x y) refl where
     by : has R q (inserted R x ys) ≡ (eq_by_cmp R q x || has R q ys) → (r : Ordering) → R x y ≡ r → has R q (placed r x y ys (inserted R x ys)) ≡ (eq_by_cmp R q x || has R q (y ∷ ys))
     by ih Less e = refl
-    by ih Equal e = sym (or_twice (eq_by_cmp R q y) _) ∙ ap (λ (b : Bool). b || (eq_by_cmp R q y || has R q ys)) (sym (ap (is_eq) (alike_right o x y q e)))
-    by ih Greater e = ap (λ (b : Bool). eq_by_cmp R q y || b) ih ∙ or_swapped (eq_by_cmp R q y) (eq_by_cmp R q x) (has R q ys)
+    by ih Equal e = sym (or_self_left (eq_by_cmp R q y) _) ∙ ap (λ (b : Bool). b || (eq_by_cmp R q y || has R q ys)) (sym (ap (is_eq) (alike_right o x y q e)))
+    by ih Greater e = ap (λ (b : Bool). eq_by_cmp R q y || b) ih ∙ or-swapped (eq_by_cmp R q y) (eq_by_cmp R q x) (has R q ys)
 
   pub has-union : (xs ys : List K) (q : K) → has R q (union R xs ys) ≡ (has R q xs || has R q ys)
   has-union [] ys q = refl
-  has-union (x ∷ xs) ys q = has-inserted x (union R xs ys) q ∙ ap (λ (b : Bool). eq_by_cmp R q x || b) (has-union xs ys q) ∙ or_grouped (eq_by_cmp R q x) (has R q xs) (has R q ys)
+  has-union (x ∷ xs) ys q = has-inserted x (union R xs ys) q ∙ ap (λ (b : Bool). eq_by_cmp R q x || b) (has-union xs ys q) ∙ sym (or_assoc (eq_by_cmp R q x) (has R q xs) (has R q ys))
 
   pub IsBelow-inserted : (x z : K) (ys : List K) → R x z ≡ Less → IsBelow R x ys → IsBelow R x (inserted R z ys)
   IsBelow-inserted x z [] e b = (e, tt)
@@ -52,6 +38,10 @@ module _ {K : Type 0} {R : K → K → Ordering} (o : IsTotalOrder R) where
     by ih Less = (e, b)
     by ih Equal = b
     by ih Greater = (b.0, ih)
+
+  pub IsBelow-append : (x : K) (xs ys : List K) → IsBelow R x xs → IsBelow R x ys → IsBelow R x (xs ++ ys)
+  IsBelow-append x [] ys h k = k
+  IsBelow-append x (y ∷ xs) ys h k = (h.0, IsBelow-append x xs ys h.1 k)
 
   pub below_chain : (x y : K) (ys : List K) → R x y ≡ Less → IsBelow R y ys → IsBelow R x ys
   below_chain x y [] e b = tt
@@ -143,10 +133,10 @@ module _ {K : Type 0} {R : K → K → Ordering} (o : IsTotalOrder R) where
 
   -- a member inserted again changes nothing
   pub inserted_member : (x : K) (ys : List K) → Ascends R ys → has R x ys ≡ true → inserted R x ys ≡ ys
-  inserted_member x [] a h = no (sym h)
+  inserted_member x [] a h = true-false (sym h)
   inserted_member x (y ∷ ys) a h = by (inserted_member x ys a.1) (R x y) refl where
     by : (has R x ys ≡ true → inserted R x ys ≡ ys) → (r : Ordering) → R x y ≡ r → placed r x y ys (inserted R x ys) ≡ y ∷ ys
-    by ih Less e = no (sym h ∙ none_below x (y ∷ ys) (e, below_chain x y ys e a.0))
+    by ih Less e = true-false (sym h ∙ none_below x (y ∷ ys) (e, below_chain x y ys e a.0))
     by ih Equal e = refl
     by ih Greater e = ap (λ (zs : List K). y ∷ zs) (ih (sym (ap (λ (r : Ordering). is_eq r || has R x ys) e) ∙ h))
 
@@ -156,7 +146,7 @@ module _ {K : Type 0} {R : K → K → Ordering} (o : IsTotalOrder R) where
   union-within (x ∷ xs) ys a h = by (union-within xs ys a) (has R x ys) refl h where
     by : (is_within R xs ys ≡ true → union R xs ys ≡ ys) → (b : Bool) → has R x ys ≡ b → (b && is_within R xs ys) ≡ true → inserted R x (union R xs ys) ≡ ys
     by ih true e g = ap (inserted R x) (ih g) ∙ inserted_member x ys a e
-    by ih false e g = no (sym g)
+    by ih false e g = true-false (sym g)
 
   -- a member of the list itself is a member by the order
   pub has-Contains : (xs : List K) (q : K) → Contains xs q → has R q xs ≡ true
@@ -178,12 +168,12 @@ module _ {K : Type 0} {R : K → K → Ordering} (o : IsTotalOrder R) where
 
     pub same_list : (xs ys : List K) → Ascends R xs → Ascends R ys → ((q : K) → has R q xs ≡ has R q ys) → xs ≡ ys
     same_list [] [] a b h = refl
-    same_list [] (y ∷ ys) a b h = no (sym (first_has y ys) ∙ sym (h y))
-    same_list (x ∷ xs) [] a b h = no (sym (first_has x xs) ∙ h x)
+    same_list [] (y ∷ ys) a b h = true-false (sym (first_has y ys) ∙ sym (h y))
+    same_list (x ∷ xs) [] a b h = true-false (sym (first_has x xs) ∙ h x)
     same_list (x ∷ xs) (y ∷ ys) a b h = by (same_list xs ys a.1 b.1) (R x y) refl where
       by : (((q : K) → has R q xs ≡ has R q ys) → xs ≡ ys) → (r : Ordering) → R x y ≡ r → x ∷ xs ≡ y ∷ ys
-      by ih Less e = no (sym (first_has x xs) ∙ h x ∙ none_below x (y ∷ ys) (e, below_chain x y ys e b.0))
-      by ih Greater e = no (sym (first_has y ys) ∙ sym (h y) ∙ none_below y (x ∷ xs) (greater_turned x y e, below_chain y x xs (greater_turned x y e) a.0))
+      by ih Less e = true-false (sym (first_has x xs) ∙ h x ∙ none_below x (y ∷ ys) (e, below_chain x y ys e b.0))
+      by ih Greater e = true-false (sym (first_has y ys) ∙ sym (h y) ∙ none_below y (x ∷ xs) (greater_turned x y e, below_chain y x xs (greater_turned x y e) a.0))
       by ih Equal e = subst (λ (z : K). IsBelow R z ys → ((q : K) → has R q (x ∷ xs) ≡ has R q (z ∷ ys)) → x ∷ xs ≡ z ∷ ys) (same x y e)
           (λ c g. ap (λ (zs : List K). x ∷ zs) (ih (tails x xs ys a.0 c g))) b.0 h
 
@@ -198,7 +188,7 @@ module _ {K : Type 0} {R : K → K → Ordering} (o : IsTotalOrder R) where
 
     pub union_assoc : (xs ys zs : List K) → Ascends R ys → Ascends R zs → union R xs (union R ys zs) ≡ union R (union R xs ys) zs
     union_assoc xs ys zs b c = same_list _ _ (Ascends-union xs _ (Ascends-union ys zs c)) (Ascends-union (union R xs ys) zs c)
-        (λ q. has-union xs (union R ys zs) q ∙ ap (λ (d : Bool). has R q xs || d) (has-union ys zs q) ∙ or_grouped (has R q xs) (has R q ys) (has R q zs)
+        (λ q. has-union xs (union R ys zs) q ∙ ap (λ (d : Bool). has R q xs || d) (has-union ys zs q) ∙ sym (or_assoc (has R q xs) (has R q ys) (has R q zs))
         ∙ ap (λ (d : Bool). d || has R q zs) (sym (has-union xs ys q)) ∙ sym (has-union (union R xs ys) zs q))
 
 -- what holds of each member of the parts holds of each of the whole

@@ -26,3 +26,8 @@ module _ {X : Type 0} where
   second_false true b x y rest e = cc
   second_false false true x y rest e = cc
   second_false false false x y rest e = refl
+
+  -- where no name is given, the first test is false, and the others give none
+  pub none-if : (b : Bool) (x : X) (o : Option X) → (if b then Some x else o) ≡ None → (b ≡ false) × (o ≡ None)
+  none-if true x o e = absurd cc
+  none-if false x o e = (refl, e)

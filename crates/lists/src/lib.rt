@@ -10,7 +10,7 @@
 //! are equal; a union commutes and associates.
 //!
 //! Crates above may cite the lemmas of proofs/: on sets in Algebra.antt and Sorting.antt, on tables of tests in
-//! FirstTrue.antt.
+//! FirstTrue.antt, and what several crates need of lists, tests and numbers in Lists.antt, Tests.antt and Numbers.antt.
 #![tactic(auto)]
 
 pub mod laws;

@@ -8,6 +8,7 @@ use Rattle.std.proofs.lemmas.Int.{ints}
 use Rattle.std.proofs.lemmas.List.{take_at, drop-drop, length-append}
 use Rattle.std.proofs.lemmas.Nat.{from_le_bytes-to_le_bytes_4, from_le_bytes-to_le_bytes_8}
 use Rattle.lists.specs.Fields.{word_at}
+use Rattle.lists.proofs.Numbers.{three-get_or}
 use Rattle.log_model.specs.declared.Version.{Version}
 use Rattle.log_model.specs.declared.Version.TheVariants.{One, Two}
 use Rattle.log_model.specs.declared.CallRecord.{CallRecord}
@@ -161,14 +162,6 @@ end_again v left (Limit at) after h w none =
 
 -- ---- reads and writes
 
--- three arguments
-three : (args : List ℕ) → length args ≡ 3 → args ≡ get_or args 0 0 ∷ get_or args 1 0 ∷ get_or args 2 0 ∷ []
-three [] e = absurd (omega (arith, e))
-three (a ∷ []) e = absurd (omega (arith, e))
-three (a ∷ b ∷ []) e = absurd (omega (arith, e))
-three (a ∷ b ∷ c ∷ []) e = refl
-three (a ∷ b ∷ c ∷ d ∷ args) e = absurd (omega (arith, e))
-
 -- the fields of a read or a write, and what follows them
 abbrev transfer : List ℕ → ℤ → List ℕ → List ℕ
 transfer args result after = flat_map word32 args ++ (signed32 result ++ after)
@@ -296,11 +289,11 @@ write_again v left at a b c result bytes after r w =
 
 pub record_again : (v : Version) (left : List (List ℕ)) (r : CallRecord) (after : List ℕ) → IsRecord r → item_at (Call r) < step_end v → IsItemOf v left (Call r) → IsAgain v left (Call r) after
 record_again v left (Read at args result bytes) after r w front =
-    let split = three args r.1.three in
+    let split = three-get_or args r.1.three in
     let here : IsRecord (Read at (get_or args 0 0 ∷ get_or args 1 0 ∷ get_or args 2 0 ∷ []) result bytes) = subst (λ (x : List ℕ). IsRecord (Read at x result bytes)) split r in
     subst (λ (x : List ℕ). IsAgain v left (Call (Read at x result bytes)) after) (sym split) (read_again v left at _ _ _ result bytes after here w front)
 record_again v left (Write at args result bytes) after r w front =
-    let split = three args r.1.three in
+    let split = three-get_or args r.1.three in
     let here : IsRecord (Write at (get_or args 0 0 ∷ get_or args 1 0 ∷ get_or args 2 0 ∷ []) result bytes) = subst (λ (x : List ℕ). IsRecord (Write at x result bytes)) split r in
     subst (λ (x : List ℕ). IsAgain v left (Call (Write at x result bytes)) after) (sym split) (write_again v left at _ _ _ result bytes after here w)
 record_again v left (Clock at value) after r w front = clock_again v left at value after r.0 w r.1

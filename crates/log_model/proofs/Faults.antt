@@ -1,7 +1,8 @@
 -- Records without a fault. Crates above cite these lemmas.
-use Rattle.std.proofs.Common.{◌≡◌, ℕ, ◌+◌, ◌≤◌, ◌<◌, Bool, true, false, List, length, Option, Some, None, refl, arith}
-use Rattle.std.specs.Prelude.{nat_lt, nat_le, if◌then◌else◌, ◌==◌}
+use Rattle.std.proofs.Common.{◌≡◌, ℕ, ◌+◌, ◌≤◌, ◌<◌, false, List, length, None, refl, arith}
+use Rattle.std.specs.Prelude.{nat_lt, nat_le, ◌==◌}
 use Rattle.std.proofs.lemmas.Bool.{le-ltb, lt-leb, ne_eqb, or_parts, or_from, eqb-false, ltb-false, leb-false}
+use Rattle.lists.proofs.FirstTrue.{none-if}
 use Rattle.log_model.specs.declared.Version.{Version}
 use Rattle.log_model.specs.Faults.{tag_of, step_of, fields_of, fixed_length, data_length, step_bound, is_step_wrong, is_result_wrong, are_bytes_wrong, record_fault}
 use Rattle.log_model.specs.Reading.{item_length}
@@ -31,10 +32,6 @@ record_fault-none v least left rest t is =
 
 -- ---- what a record without a fault meets
 
-pub none_if : {X : Type 0} (b : Bool) (x : X) (o : Option X) → (if b then Some x else o) ≡ None → (b ≡ false) × (o ≡ None)
-none_if true x o h = absurd cc
-none_if false x o h = (refl, h)
-
 pub some_of : (n : ℕ) → (n == 0) ≡ false → 1 ≤ n
 some_of n h = let not_zero = eqb-false n 0 h in omega (arith, not_zero)
 
@@ -42,13 +39,13 @@ pub no_fault : (v : Version) (least : ℕ) (left : List (List ℕ)) (rest : List
 no_fault v least left rest h =
     let tag = tag_of rest in
     let at = step_of v rest in
-    let a = none_if _ _ _ h in
-    let b = none_if _ _ _ a.1 in
-    let c = none_if _ _ _ b.1 in
-    let d = none_if _ _ _ c.1 in
-    let e = none_if _ _ _ d.1 in
-    let f = none_if _ _ _ e.1 in
-    let g = none_if _ _ _ f.1 in
+    let a = none-if _ _ _ h in
+    let b = none-if _ _ _ a.1 in
+    let c = none-if _ _ _ b.1 in
+    let d = none-if _ _ _ c.1 in
+    let e = none-if _ _ _ d.1 in
+    let f = none-if _ _ _ e.1 in
+    let g = none-if _ _ _ f.1 in
     let known = or_parts (tag == 0) (nat_lt 7 tag) b.0 in
     let step = or_parts (nat_lt at least) (nat_le (step_bound tag) at) d.0 in
     record {

@@ -6,13 +6,14 @@ use Rattle.std.proofs.lemmas.Bool.{or_parts, ltb-false}
 use Rattle.std.proofs.lemmas.List.{take-append-drop, drop-drop}
 use Rattle.std.proofs.lemmas.Slice.Eq.{bytes_eq-Decides}
 use Rattle.lists.specs.Fields.{word_at}
+use Rattle.lists.proofs.FirstTrue.{none-if}
 use Rattle.log_model.specs.declared.Version.{Version}
 use Rattle.log_model.specs.declared.Version.TheVariants.{One, Two}
 use Rattle.log_model.specs.Logs.{IsBytes, magic, word32}
 use Rattle.log_model.specs.Faults.{version_of, header_fault}
 use Rattle.log_model.proofs.Words.{word_spelt}
 use Rattle.log_model.proofs.HeaderAgain.{regroup}
-use Rattle.log_model.proofs.Faults.{none_if, some_of}
+use Rattle.log_model.proofs.Faults.{some_of}
 
 pub record IsHeaded (bytes : List ℕ) : Type 0 where
   pub v : Version
@@ -27,10 +28,10 @@ some_version None e = absurd cc
 
 pub headed : (bytes : List ℕ) → header_fault bytes ≡ None → IsHeaded bytes
 headed bytes h =
-    let a = none_if _ _ _ h in
-    let b = none_if _ _ _ a.1 in
-    let c = none_if _ _ _ b.1 in
-    let d = none_if _ _ _ c.1 in
+    let a = none-if _ _ _ h in
+    let b = none-if _ _ _ a.1 in
+    let c = none-if _ _ _ b.1 in
+    let d = none-if _ _ _ c.1 in
     let version = some_version (version_of bytes) a.0 in
     let pages = or_parts (word_at bytes 40 == 0) (nat_lt 4096 (word_at bytes 40)) c.0 in
     record {

@@ -16,3 +16,4 @@ pub mod Soundness
 pub mod Unique
 pub mod Texts
 mod Examples
+pub mod Ends

@@ -5,8 +5,8 @@ use Rattle.std.proofs.Math.ListN.{set}
 use Rattle.std.proofs.lemmas.Grind.{common_steps}
 use Rattle.std.proofs.lemmas.List.{get_or-set_other, get_or-set_same, length-set}
 use Rattle.std.proofs.lemmas.Option.{slice_get_within, slice_get-get_or, get_or_from_slice_get}
+use Rattle.lists.proofs.Tests.{true-false}
 use Rattle.merge_log.specs.Masks.{AreMarked, IsClearBelow, IsClearFrom}
-use Rattle.merge_log.proofs.Leaves.{no}
 use Rattle.merge_log.proofs.Roots.{number_case}
 
 -- the block of a node
@@ -38,7 +38,7 @@ pub block_marked : (masks : List ℕ) (blocks : List Bool) (node mask : ℕ) →
 block_marked masks blocks node mask marked node_in = record {
   room = rw (length-set, length-set) marked.room;
   clear = λ m h. elim (number_case (m / 64) (node / 64)) [
-    | inl e ↦ no (sym (get_or-set_same blocks (node / 64) true false (block_in masks blocks node marked node_in))
+    | inl e ↦ true-false (sym (get_or-set_same blocks (node / 64) true false (block_in masks blocks node marked node_in))
         ∙ get_or_from_slice_get (set blocks (node / 64) true) (node / 64) false false (subst (λ (b : ℕ). slice_get (set blocks (node / 64) true) b ≡ Some false) e h))
     | inr e ↦ get_or-set_other masks node m mask 0 (λ d. e (ap (λ (i : ℕ). i / 64) d)) ∙ marked.clear m (other_block blocks (node / 64) (m / 64) true e h)
   ];

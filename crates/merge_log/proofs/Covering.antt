@@ -8,6 +8,7 @@ use Rattle.std.proofs.lemmas.Grind.{common_steps, get_or-set_at}
 use Rattle.std.proofs.lemmas.List.{get_or-set_other, length-set}
 use Rattle.std.proofs.lemmas.Nat.Bits.{bit_at_or, bit_at-zero, bit_at-lt, bit_at_set_same, bit_at_set_other}
 use Rattle.std.proofs.lemmas.Bool.{or_left, or_right, or_cases}
+use Rattle.lists.proofs.Tests.{true-false, same-tests}
 use Rattle.merge_log.specs.declared.nodes.Entry.{Entry}
 use Rattle.merge_log.specs.declared.nodes.Entry.TheVariants.{Union}
 use Rattle.merge_log.specs.declared.reader.Leaf.{Leaf}
@@ -15,7 +16,7 @@ use Rattle.merge_log.specs.declared.reader.Leaf.TheVariants as leaf
 use Rattle.merge_log.specs.Log.{Terms, no_terms, joined, terms, HasOperandsBefore, entry_at}
 use Rattle.merge_log.specs.Walk.{has_leaf}
 use Rattle.merge_log.specs.Masks.{HasBit, IsClearFrom, IsCover, IsLeftToo, with_leaves}
-use Rattle.merge_log.proofs.Leaves.{same_bool, no, has-joined, leaves_terms}
+use Rattle.merge_log.proofs.Leaves.{has-joined, leaves_terms}
 use Rattle.merge_log.specs.declared.finding.Leaves.{Leaves}
 use Rattle.merge_log.proofs.Walking.{leaves_added}
 use Rattle.merge_log.proofs.Roots.{number_case, leaves_kept}
@@ -146,7 +147,7 @@ cover_leaf log root old new found more n back on keeps only given c = record {
 -- nothing is left
 pub cover_ends : (log : List Entry) (root : ℕ) (is_left : ℕ → Type 0) (found : Terms) → ((m : ℕ) → is_left m → ⊥) → IsCover log root is_left found → (q : Leaf) → has_leaf q found ≡ has_leaf q (terms log root)
 cover_ends log root is_left found none c q =
-    same_bool (has_leaf q found) (has_leaf q (terms log root)) (c.within q) (λ t. elim (c.covered q t) [ inl p ↦ p | inr p ↦ absurd (none p.0 p.1) ])
+    same-tests (has_leaf q found) (has_leaf q (terms log root)) (c.within q) (λ t. elim (c.covered q t) [ inl p ↦ p | inr p ↦ absurd (none p.0 p.1) ])
 
 -- ---- one node
 
@@ -224,7 +225,7 @@ nothing_cover log root masks r found h c = record {
   covered = λ q t. elim (c.covered q t) [
     | inl p ↦ inl p
     | inr p ↦ elim (taken_on masks 0 r p.0 p.1) [
-      | inl e ↦ no (sym p.2 ∙ ap (λ (i : ℕ). has_leaf q (terms log i)) e ∙ ap (has_leaf q) (nothing_under_0 log) ∙ none q)
+      | inl e ↦ true-false (sym p.2 ∙ ap (λ (i : ℕ). has_leaf q (terms log i)) e ∙ ap (has_leaf q) (nothing_under_0 log) ∙ none q)
       | inr k ↦ inr (p.0, k, p.2)
     ]
   ];
@@ -237,7 +238,7 @@ nothing_cover log root masks r found h c = record {
 pub first_cover : (log : List Entry) (root : ℕ) (masks : List ℕ) (r : ℕ) (found : Terms) → found ≡ no_terms → ((m : ℕ) → HasBit masks r m → m ≡ root) → HasBit masks r root → IsCover log root (HasBit masks r) found
 first_cover log root masks r found is only bit = record {
   under = λ m h q t. ap (λ (i : ℕ). has_leaf q (terms log i)) (sym (only m h)) ∙ t;
-  within = λ q t. no (sym t ∙ ap (has_leaf q) is ∙ none q);
+  within = λ q t. true-false (sym t ∙ ap (has_leaf q) is ∙ none q);
   covered = λ q t. inr (root, bit, t);
 } where
   none : (q : Leaf) → has_leaf q no_terms ≡ false

@@ -15,6 +15,7 @@ use Rattle.merge_log.specs.declared.nodes.Entry.{Entry}
 use Rattle.merge_log.specs.declared.nodes.Entry.TheVariants.{Source, Run, Start, Union}
 use Rattle.merge_log.specs.Log.{HasOperandsBefore, AreDistinct, IsLog, IsNoted, KeepsNodes, entry_at, terms, entry_terms}
 use Rattle.merge_log.proofs.Terms.{ordered_more, kept, terms_step, entry_before}
+use Rattle.merge_log.proofs.Keeping.{keeps_all}
 
 -- the derived test
 abbrev pub alike : Entry → Entry → Bool
@@ -128,9 +129,6 @@ noted_at log e k h =
     let at = first_alike log e k h in
     let same : at.0 ≡ e = sym (alike_same e at.0 at.2) in
     noted_here log e (k + 1) (at_index log k e (at.1 ∙ ap Some same))
-
-pub keeps_all : (log : List Entry) → KeepsNodes log log
-keeps_all log = record { nodes = λ n h. h; terms = λ n h. refl }
 
 pub keeps_more : (log : List Entry) (e : Entry) (new : List Entry) → new ≡ insert_key alike log e → KeepsNodes log new
 keeps_more log e new is = subst (KeepsNodes log) (sym is) (by (list_any (alike e) log)) where

@@ -1,7 +1,8 @@
 -- Which leaves are among terms.
-use Rattle.std.proofs.Common.{◌≡◌, [], ◌∷◌, refl, sym, Bool, true, false, ◌||◌}
+use Rattle.std.proofs.Common.{◌≡◌, [], ◌∷◌, sym, ◌||◌}
 use Rattle.std.specs.Ordering.{eq_by_cmp}
 use Rattle.std.proofs.lemmas.List.Folds.{list_any-append}
+use Rattle.std.proofs.Math.Bool.{or-false}
 use Rattle.lists.specs.Sets.{has}
 use Rattle.lists.proofs.Algebra.{has-union}
 use Rattle.flow_model.specs.Orders.{loc_cmp, source_cmp}
@@ -14,20 +15,6 @@ use Rattle.merge_log.specs.declared.finding.Leaves.TheVariants.{Run, Start}
 use Rattle.merge_log.specs.Log.{Terms, joined, run_term, start_term}
 use Rattle.merge_log.specs.Masks.{and_leaves}
 use Rattle.merge_log.specs.Walk.{has_leaf}
-
--- ---- truth values
-
-pub no : {A : Type 0} → true ≡ false → A
-no e = cc
-
-pub or_false : (a : Bool) → (a || false) ≡ a
-or_false true = refl
-or_false false = refl
-
-pub same_bool : (a b : Bool) → (a ≡ true → b ≡ true) → (b ≡ true → a ≡ true) → a ≡ b
-same_bool true b h k = sym (h refl)
-same_bool false true h k = no (sym (k refl))
-same_bool false false h k = refl
 
 -- ---- leaves of terms
 
@@ -43,6 +30,6 @@ leaves_terms (Start l) = start_term l
 -- terms with more leaves have these too
 pub has-more : (q : Leaf) (u : Leaves) (t : Terms) → has_leaf q (and_leaves u t) ≡ (has_leaf q t || has_leaf q (leaves_terms u))
 has-more (leaf.Source q) (Run r) t = list_any-append (eq_by_cmp source_cmp q) t.sources (bytes_of r)
-has-more (leaf.Start q) (Run r) t = sym (or_false (has loc_cmp q t.starts))
-has-more (leaf.Source q) (Start l) t = sym (or_false (has source_cmp q t.sources))
+has-more (leaf.Start q) (Run r) t = sym (or-false (has loc_cmp q t.starts))
+has-more (leaf.Source q) (Start l) t = sym (or-false (has source_cmp q t.sources))
 has-more (leaf.Start q) (Start l) t = list_any-append (eq_by_cmp loc_cmp q) t.starts (l ∷ [])

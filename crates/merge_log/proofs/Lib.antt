@@ -10,3 +10,4 @@ mod Blocks
 mod Roots
 mod Bounds
 mod Noted
+pub mod Keeping

@@ -6,7 +6,7 @@ use Rattle.std.proofs.lemmas.Grind.{common_steps, get_or-set_at}
 use Rattle.std.proofs.lemmas.List.{get_or-set_other, length-set}
 use Rattle.std.proofs.lemmas.List.Folds.{list_any-append}
 use Rattle.std.proofs.lemmas.List.Sums.{sum_by-set}
-use Rattle.std.proofs.lemmas.Bool.{or_left, or_right, or_cases}
+use Rattle.std.proofs.lemmas.Bool.{or_left, or_right, or_cases, eq-eqb}
 use Rattle.merge_log.specs.Walk.{visited}
 
 -- the node bears the mark of the round
@@ -57,12 +57,9 @@ on_visited marks round a stack m h = by (slice_index marks a == round) where
 
 -- ---- the cost
 
-itself : (n : ℕ) → (n == n) ≡ true
-itself n = grind (arith, common_steps)
-
 pub visited_cost : (marks : List ℕ) (round a : ℕ) (stack : List ℕ) → a < length marks → cost (set marks a round) round (visited marks round a stack) ≤ cost marks round stack
 visited_cost marks round a stack h =
-    by (slice_index marks a == round) (sum_by-set (λ m. cond (not (m == round)) 1 0) marks a round 0 h ∙ ap (λ (b : Bool). count_by (λ m. not (m == round)) marks + cond (not b) 1 0) (itself round)) where
+    by (slice_index marks a == round) (sum_by-set (λ m. cond (not (m == round)) 1 0) marks a round 0 h ∙ ap (λ (b : Bool). count_by (λ m. not (m == round)) marks + cond (not b) 1 0) (eq-eqb round round refl)) where
       by : (b : Bool) → count_by (λ m. not (m == round)) (set marks a round) + cond (not b) 1 0 ≡ count_by (λ m. not (m == round)) marks + 0
           → 2 * count_by (λ m. not (m == round)) (set marks a round) + length (if b then stack else stack ++ a ∷ []) ≤ cost marks round stack
       by true p = omega (arith, p)

@@ -8,6 +8,7 @@ use Rattle.std.specs.declared.cmp.Ordering.{Ordering}
 use Rattle.std.specs.declared.cmp.Ordering.TheVariants.{Less}
 use Rattle.std.proofs.lemmas.List.Kept.{IsStrictlySortedBy-dedup}
 use Rattle.std.proofs.lemmas.List.Sorted.{list_any-IsPermutation}
+use Rattle.std.proofs.Math.Bool.{or_self_left}
 use Rattle.lists.specs.Sets.{Ascends, IsBelow, has}
 use Rattle.lists.proofs.Algebra.{same_list, tied_by}
 use Rattle.flow_model.specs.Orders.{loc_cmp, source_cmp}
@@ -36,10 +37,6 @@ module _ {K : Type 0} {R : K → K → Ordering} (o : IsTotalOrder R) (E : K →
   pub Ascends-dedup : (xs ys : List K) → IsSorted R xs → ys ≡ dedup E xs → Ascends R ys
   Ascends-dedup xs ys h is = subst (Ascends R) (sym is) (ascending R (dedup E xs) (IsStrictlySortedBy-dedup o ties xs h))
 
-  or_twice : (b c : Bool) → (b || c) ≡ (b || (b || c))
-  or_twice true c = refl
-  or_twice false c = refl
-
   has-dedup_from : (q k : K) (xs : List K) → has R q (dedup_from E k xs) ≡ (eq_by_cmp R q k || has R q xs)
   has-dedup_from q k [] = refl
   has-dedup_from q k (x ∷ xs) = by (has-dedup_from q k xs) (has-dedup_from q x xs) (E x k) refl where
@@ -47,7 +44,7 @@ module _ {K : Type 0} {R : K → K → Ordering} (o : IsTotalOrder R) (E : K →
         → (b : Bool) → E x k ≡ b → has R q (cond b (dedup_from E k xs) (k ∷ dedup_from E x xs)) ≡ (eq_by_cmp R q k || (eq_by_cmp R q x || has R q xs))
     by ih later true e =
         let alike : eq_by_cmp R q k ≡ eq_by_cmp R q x = sym (ap is_eq (alike_right o x k q (tied_by (R x k) (sym (ties x k) ∙ e)))) in
-        ih ∙ or_twice (eq_by_cmp R q k) (has R q xs) ∙ ap (λ (b : Bool). eq_by_cmp R q k || (b || has R q xs)) alike
+        ih ∙ sym (or_self_left (eq_by_cmp R q k) (has R q xs)) ∙ ap (λ (b : Bool). eq_by_cmp R q k || (b || has R q xs)) alike
     by ih later false e = ap (λ (b : Bool). eq_by_cmp R q k || b) later
 
   has-dedup : (q : K) (xs : List K) → has R q (dedup E xs) ≡ has R q xs

@@ -5,6 +5,7 @@ use Rattle.std.proofs.lemmas.Grind.{common_steps}
 use Rattle.std.specs.Cmp.{IsTotalOrder}
 use Rattle.std.specs.FinMap.{IsAntisymmetric}
 use Rattle.std.specs.declared.cmp.Ordering.{Ordering}
+use Rattle.std.proofs.Math.Bool.{or_self_left}
 use Rattle.lists.specs.Sets.{union, Ascends, has}
 use Rattle.lists.proofs.Algebra.{Ascends-union, same_list, union_assoc, union_comm, union-nil, has-union}
 use Rattle.flow_model.proofs.Orders.{loc_total, loc_same, source_total, source_same}
@@ -153,13 +154,9 @@ module _ {K : Type 0} {R : K → K → Ordering} (o : IsTotalOrder R) (same : Is
   union_itself : (xs : List K) → Ascends R xs → union R xs xs ≡ xs
   union_itself xs a = same_list o same (union R xs xs) xs (Ascends-union o xs xs a) a (λ q. has-union o xs xs q ∙ or_itself (has R q xs))
 
-  or_again : (b c : Bool) → (b || (b || c)) ≡ (b || c)
-  or_again true c = refl
-  or_again false c = refl
-
   union_again : (xs ys : List K) → Ascends R ys → union R xs (union R xs ys) ≡ union R xs ys
   union_again xs ys a = same_list o same _ _ (Ascends-union o xs (union R xs ys) (Ascends-union o xs ys a)) (Ascends-union o xs ys a)
-      (λ q. has-union o xs (union R xs ys) q ∙ ap (λ (b : Bool). has R q xs || b) (has-union o xs ys q) ∙ or_again (has R q xs) (has R q ys) ∙ sym (has-union o xs ys q))
+      (λ q. has-union o xs (union R xs ys) q ∙ ap (λ (b : Bool). has R q xs || b) (has-union o xs ys q) ∙ or_self_left (has R q xs) (has R q ys) ∙ sym (has-union o xs ys q))
 
 pub joined_again : (a b : Terms) → AreSets b → joined a (joined a b) ≡ joined a b
 joined_again a b h =

@@ -5,6 +5,7 @@ use Rattle.std.proofs.Math.ListN.{set}
 use Rattle.std.proofs.lemmas.Grind.{common_steps}
 use Rattle.std.proofs.lemmas.Option.{slice_get-get_or}
 use Rattle.std.proofs.lemmas.Bool.{or_left, or_right, or_cases}
+use Rattle.lists.proofs.Tests.{true-false, same-tests}
 use Rattle.flow_model.specs.declared.Loc.{Loc}
 use Rattle.flow_model.specs.declared.SourceByte.{SourceByte}
 use Rattle.merge_log.specs.declared.nodes.Entry.{Entry}
@@ -16,7 +17,7 @@ use Rattle.merge_log.specs.declared.finding.Leaves.{Leaves}
 use Rattle.merge_log.specs.Masks.{and_leaves}
 use Rattle.merge_log.specs.Log.{Terms, source_term, run_term, start_term, terms, IsNode, HasOperandsBefore, AreOrdered, IsLog, entry_at}
 use Rattle.merge_log.specs.Walk.{has_leaf, visited}
-use Rattle.merge_log.proofs.Leaves.{no, same_bool, leaves_terms, has-joined, has-more}
+use Rattle.merge_log.proofs.Leaves.{leaves_terms, has-joined, has-more}
 use Rattle.merge_log.proofs.Marks.{IsMarked, IsOn, IsVisit, cost, marked_more, marked_back, on_pushed, on_top, on_back, on_visited, visit_length, visit_marks, visit_marked, visit_cost}
 use Rattle.merge_log.proofs.Terms.{terms_step, entry_before}
 
@@ -165,7 +166,7 @@ all_found : (log : List Entry) (root round : ℕ) (marks : List ℕ) (found : Te
     → (n m : ℕ) → m < n → IsMarked marks round m → (q : Leaf) → has_leaf q (terms log m) ≡ true → has_leaf q found ≡ true
 all_found log root round marks found o w zero m h k q t = absurd (omega arith)
 all_found log root round marks found o w (suc n) m h k q t = elim (w.settled m k) [
-  | inl p ↦ no (sym p)
+  | inl p ↦ true-false (sym p)
   | inr (inl p) ↦ by (λ i l j u. all_found log root round marks found o w n i l j q u) p.0 p.1 p.2 (entry_before log m p.0 o p.1)
   | inr (inr p) ↦ absurd p
 ] where
@@ -181,7 +182,7 @@ all_found log root round marks found o w (suc n) m h k q t = elim (w.settled m k
 
 pub walk_ends : (log : List Entry) (root round : ℕ) (marks : List ℕ) (found : Terms) → IsLog log → IsWalk log root round marks [] found none_open → (q : Leaf) → has_leaf q found ≡ has_leaf q (terms log root)
 walk_ends log root round marks found form w q =
-    same_bool (has_leaf q found) (has_leaf q (terms log root)) (w.within q) (all_found log root round marks found form.ordered w (suc root) root (omega arith) w.begun q)
+    same-tests (has_leaf q found) (has_leaf q (terms log root)) (w.within q) (all_found log root round marks found form.ordered w (suc root) root (omega arith) w.begun q)
 
 -- ---- operands
 

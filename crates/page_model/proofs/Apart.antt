@@ -4,6 +4,7 @@ use Rattle.std.specs.Prelude.{codes, Option, Some, None}
 use Rattle.std.specs.List.{flat_map, AllByRecursion}
 use Rattle.std.specs.Char.{digit_value}
 use Rattle.std.proofs.lemmas.Bool.Decides.{nat_tests}
+use Rattle.lists.proofs.Lists.{same-tails}
 use Rattle.flow_model.specs.declared.Loc.{Loc}
 use Rattle.flow_model.specs.declared.Loc.TheVariants.{Reg, Mem}
 use Rattle.flow_model.specs.declared.SourceByte.{SourceByte}
@@ -21,7 +22,7 @@ use Rattle.source_ranges.proofs.Longest.{ranges_hold_bytes}
 use Rattle.page_model.specs.Rows.{range_word, ranges_text, is_next_address, is_next, is_moved, each_moved, are_moved, goes_on, whole_row, row_after, rows_after, joined_rows}
 use Rattle.page_model.specs.Data.{Asked, run_text, told_text, data_text}
 use Rattle.page_model.specs.PageLaws.{IsSmallSource, IsSmallRow, DataTellReports}
-use Rattle.page_model.proofs.Told.{IsSmallRange, Stopped, stopped, tails, same_ranges, same_point, point_begins}
+use Rattle.page_model.proofs.Told.{IsSmallRange, Stopped, stopped, same_ranges, same_point, point_begins}
 
 -- ---- a row that goes on is known from the row before it
 
@@ -161,8 +162,8 @@ same_row before r s u v hr hs e = by (standing before r) (standing before s)
     apart j k xs ys f = cc
 
     by : Standing before r → Standing before s → (r ≡ s) × (u ≡ v)
-    by (alike a f p x) (alike b g q y) = (from 0 a b f g p q, tails 0x3d 0x3d u v (put (0x3d ∷ []) (0x3d ∷ []) x y))
-    by (onward a f p x) (onward b g q y) = (from 1 a b f g p q, tails 0x2b 0x2b u v (put (0x2b ∷ []) (0x2b ∷ []) x y))
+    by (alike a f p x) (alike b g q y) = (from 0 a b f g p q, same-tails 0x3d 0x3d u v (put (0x3d ∷ []) (0x3d ∷ []) x y))
+    by (onward a f p x) (onward b g q y) = (from 1 a b f g p q, same-tails 0x2b 0x2b u v (put (0x2b ∷ []) (0x2b ∷ []) x y))
     by (whole x) (whole y) = same_whole r s u v hr hs (put (whole_row r) (whole_row s) x y)
     by (alike a f p x) (onward b g q y) = absurd (let z = apart 0x3d 0x2b u v (put (0x3d ∷ []) (0x2b ∷ []) x y) in omega (arith, z))
     by (onward a f p x) (alike b g q y) = absurd (let z = apart 0x2b 0x3d u v (put (0x2b ∷ []) (0x3d ∷ []) x y) in omega (arith, z))

@@ -10,10 +10,9 @@ use Rattle.isa.specs.Machine.{State, Outcome, Retired, Called, Trapped, next, Fe
 use Rattle.isa.specs.Calls.{channel_of}
 use Rattle.log_model.specs.declared.CallRecord.{CallRecord}
 use Rattle.log_model.specs.declared.CallRecord.TheVariants.{Read, Write, Clock, Other}
-use Rattle.log_model.specs.declared.RunEnd.{RunEnd}
-use Rattle.log_model.specs.declared.RunEnd.TheVariants.{Exit, Trap, Limit}
-use Rattle.log_model.specs.Logs.{Log, IsLog, IsRecord, IsEnd, Rise, least_after, at_of, end_at, steps}
+use Rattle.log_model.specs.Logs.{Log, IsLog, IsRecord, Rise, least_after, at_of, steps}
 use Rattle.log_model.specs.Moved.{received_of, written_of, is_on, received_by, received, written_by, written}
+use Rattle.log_model.proofs.Ends.{end_at-small}
 use Rattle.flow_model.specs.declared.Loc.{Loc}
 use Rattle.flow_model.specs.declared.Loc.TheVariants.{Reg, Mem}
 use Rattle.flow_model.specs.declared.SourceByte.{SourceByte}
@@ -135,16 +134,11 @@ few_records : (least : ℕ) (rs : List CallRecord) → Rise least rs → length 
 few_records least [] rise = omega arith
 few_records least (r ∷ rs) rise = omega (arith, rise.0, few_records (at_of r + 1) rs rise.1)
 
-end_small : (end : RunEnd) → IsEnd end → end_at end ≤ 2 ^ 40
-end_small (Exit at code) h = omega (arith, h.0)
-end_small (Trap at trap pc) h = h.0
-end_small (Limit at) h = h
-
 trace_small : (s : State) (log : Log) → IsLog log → AllByRecursion HasSmallCall (trace s log)
 trace_small s log form = steps_small (steps log) (start s log) (record {
   done = tt;
   left = form.records;
-  few = omega (arith, few_records 0 log.records form.rise, form.ends_after, end_small log.end form.end);
+  few = omega (arith, few_records 0 log.records form.rise, form.ends_after, end_at-small log.end form.end);
 })
 
 -- ---- source bytes
@@ -222,7 +216,7 @@ pub rows_are_small : RowsAreSmall
 rows_are_small q state log located form =
     let ss = trace state log in
     let small = trace_small state log form in
-    let short : 0 + length ss < 2 ^ 72 = omega (arith, length-steps_from (steps log) (start state log), steps_within log.end, end_small log.end form.end) in
+    let short : 0 + length ss < 2 ^ 72 = omega (arith, length-steps_from (steps log) (start state log), steps_within log.end, end_at-small log.end form.end) in
     let of_sink : (s : Sink) → HasSmallName s → IsSmallRow (row q ss s) = λ s h. (h, sources_small (policy_of q) ss s.time s.loc small) in
     let each = All-map IsSmallRow (row q ss) (chosen_sinks q ss) (All-weaker HasSmallName (λ s. IsSmallRow (row q ss s)) of_sink (chosen_sinks q ss) (sinks_small q 0 ss located short small)) in
     All-set_of row_cmp IsSmallRow (rows_as_written q ss) (recursion_from_All IsSmallRow (rows_as_written q ss) each)

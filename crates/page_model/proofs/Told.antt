@@ -5,6 +5,7 @@ use Rattle.std.specs.Char.{digit_value}
 use Rattle.std.specs.Str.Parse.{AllDigits, digits_value}
 use Rattle.std.specs.Fmt.{decimal}
 use Rattle.std.proofs.lemmas.Fmt.{decimal_is_IsNumeral_wide}
+use Rattle.lists.proofs.Lists.{same-heads, same-tails}
 use Rattle.flow_model.specs.declared.Loc.{Loc}
 use Rattle.flow_model.specs.declared.Loc.TheVariants.{Reg, Mem}
 use Rattle.flow_model.specs.declared.SinkByte.{SinkByte}
@@ -29,23 +30,17 @@ pub record Stopped (xs : List ℕ) : Type 0 where
 pub stopped : (c : ℕ) (s : List ℕ) → 10 ≤ digit_value c → Stopped (c ∷ s)
 stopped c s h = record { first = c; rest = s; parts = refl; stop = h }
 
-heads : (x y : ℕ) (xs ys : List ℕ) → x ∷ xs ≡ y ∷ ys → x ≡ y
-heads x y xs ys e = cc
-
-pub tails : (x y : ℕ) (xs ys : List ℕ) → x ∷ xs ≡ y ∷ ys → xs ≡ ys
-tails x y xs ys e = cc
-
 no_digit : (c d : ℕ) → c ≡ d → digit_value c < 10 → 10 ≤ digit_value d → ⊥
 no_digit c d e h k = let f : digit_value c ≡ digit_value d = ap digit_value e in omega (arith, f)
 
 same_digits : (xs ys : List ℕ) (c d : ℕ) (s t : List ℕ) → AllDigits 10 xs → AllDigits 10 ys → 10 ≤ digit_value c → 10 ≤ digit_value d
     → xs ++ c ∷ s ≡ ys ++ d ∷ t → (xs ≡ ys) × (c ∷ s ≡ d ∷ t)
 same_digits [] [] c d s t hx hy hc hd e = (refl, e)
-same_digits [] (y ∷ ys) c d s t hx hy hc hd e = absurd (no_digit y c (sym (heads c y s (ys ++ d ∷ t) e)) hy.0 hc)
-same_digits (x ∷ xs) [] c d s t hx hy hc hd e = absurd (no_digit x d (heads x d (xs ++ c ∷ s) t e) hx.0 hd)
+same_digits [] (y ∷ ys) c d s t hx hy hc hd e = absurd (no_digit y c (sym (same-heads c y s (ys ++ d ∷ t) e)) hy.0 hc)
+same_digits (x ∷ xs) [] c d s t hx hy hc hd e = absurd (no_digit x d (same-heads x d (xs ++ c ∷ s) t e) hx.0 hd)
 same_digits (x ∷ xs) (y ∷ ys) c d s t hx hy hc hd e =
-    let r = same_digits xs ys c d s t hx.1 hy.1 hc hd (tails x y (xs ++ c ∷ s) (ys ++ d ∷ t) e) in
-    (ap₂ (λ (z : ℕ) (zs : List ℕ). z ∷ zs) (heads x y (xs ++ c ∷ s) (ys ++ d ∷ t) e) r.0, r.1)
+    let r = same_digits xs ys c d s t hx.1 hy.1 hc hd (same-tails x y (xs ++ c ∷ s) (ys ++ d ∷ t) e) in
+    (ap₂ (λ (z : ℕ) (zs : List ℕ). z ∷ zs) (same-heads x y (xs ++ c ∷ s) (ys ++ d ∷ t) e) r.0, r.1)
 
 -- numbers before texts that begin with no digit
 pub same_number : (m n : ℕ) (u v : List ℕ) → m < 10 ^ 64 → n < 10 ^ 64 → Stopped u → Stopped v → decimal m ++ u ≡ decimal n ++ v → (m ≡ n) × (u ≡ v)
@@ -60,7 +55,7 @@ number_begins n u k w hn hk e = by (decimal n) (decimal_is_IsNumeral_wide n hn).
   where
     by : (xs : List ℕ) → 0 < length xs → AllDigits 10 xs → xs ++ u ≡ k ∷ w → ⊥
     by [] some digits f = omega arith
-    by (x ∷ xs) some digits f = no_digit x k (heads x k (xs ++ u) w f) digits.0 hk
+    by (x ∷ xs) some digits f = no_digit x k (same-heads x k (xs ++ u) w f) digits.0 hk
 
 -- two numbers with a sign between them
 joined : (a b u : List ℕ) (k : ℕ) → ((a ++ k ∷ []) ++ b) ++ u ≡ a ++ k ∷ (b ++ u)
@@ -71,7 +66,7 @@ pub same_two : (k : ℕ) (m n p q : ℕ) (u v : List ℕ) → 10 ≤ digit_value
 same_two k m n p q u v hk hm hn hp hq su sv e =
     let r = same_number m p (k ∷ (decimal n ++ u)) (k ∷ (decimal q ++ v)) hm hp (stopped k (decimal n ++ u) hk) (stopped k (decimal q ++ v) hk)
     (sym (joined (decimal m) (decimal n) u k) ∙ e ∙ joined (decimal p) (decimal q) v k) in
-    let s = same_number n q u v hn hq su sv (tails k k (decimal n ++ u) (decimal q ++ v) r.1) in
+    let s = same_number n q u v hn hq su sv (same-tails k k (decimal n ++ u) (decimal q ++ v) r.1) in
     (r.0, s.0, s.1)
 
 -- ---- ranges
@@ -98,20 +93,20 @@ one_range a b u v ha hb su sv e =
     let q = decimal b.past ++ v in
     let r = same_two 0x3a a.channel a.from b.channel b.from (0x2d ∷ p) (0x2d ∷ q) (omega arith) ha.0 ha.1 hb.0 hb.1
     (stopped 0x2d p (omega arith)) (stopped 0x2d q (omega arith)) (sym (flat a u) ∙ e ∙ flat b v) in
-    let s = same_number a.past b.past u v ha.2 hb.2 su sv (tails 0x2d 0x2d p q r.2) in
+    let s = same_number a.past b.past u v ha.2 hb.2 su sv (same-tails 0x2d 0x2d p q r.2) in
     (same_range a b r.0 r.1 s.0, s.1)
 
 pub same_ranges : (rs ss : List SourceRange) (s t : List ℕ) → AllByRecursion IsSmallRange rs → AllByRecursion IsSmallRange ss
     → flat_map range_word rs ++ 0x0a ∷ s ≡ flat_map range_word ss ++ 0x0a ∷ t → (rs ≡ ss) × (s ≡ t)
-same_ranges [] [] s t hr hs e = (refl, tails 0x0a 0x0a s t e)
-same_ranges [] (q ∷ ss) s t hr hs e = absurd (let f = heads 0x0a 0x20 s ((range_text q ++ flat_map range_word ss) ++ 0x0a ∷ t) e in omega (arith, f))
-same_ranges (r ∷ rs) [] s t hr hs e = absurd (let f = heads 0x20 0x0a ((range_text r ++ flat_map range_word rs) ++ 0x0a ∷ s) t e in omega (arith, f))
+same_ranges [] [] s t hr hs e = (refl, same-tails 0x0a 0x0a s t e)
+same_ranges [] (q ∷ ss) s t hr hs e = absurd (let f = same-heads 0x0a 0x20 s ((range_text q ++ flat_map range_word ss) ++ 0x0a ∷ t) e in omega (arith, f))
+same_ranges (r ∷ rs) [] s t hr hs e = absurd (let f = same-heads 0x20 0x0a ((range_text r ++ flat_map range_word rs) ++ 0x0a ∷ s) t e in omega (arith, f))
 same_ranges (r ∷ rs) (q ∷ ss) s t hr hs e =
     let more = flat_map range_word rs in
     let others = flat_map range_word ss in
     let one = one_range r q (more ++ 0x0a ∷ s) (others ++ 0x0a ∷ t) hr.0 hs.0 (after_range rs s) (after_range ss t)
     (sym (append_assoc (range_text r) more (0x0a ∷ s))
-    ∙ tails 0x20 0x20 ((range_text r ++ more) ++ 0x0a ∷ s) ((range_text q ++ others) ++ 0x0a ∷ t) e
+    ∙ same-tails 0x20 0x20 ((range_text r ++ more) ++ 0x0a ∷ s) ((range_text q ++ others) ++ 0x0a ∷ t) e
     ∙ append_assoc (range_text q) others (0x0a ∷ t)) in
     let rest = same_ranges rs ss s t hr.1 hs.1 one.1 in
     (ap₂ (λ (z : SourceRange) (zs : List SourceRange). z ∷ zs) one.0 rest.0, rest.1)
@@ -133,22 +128,22 @@ same_loc (Reg r i) (Reg s j) u v ha hb su sv e =
     let a = ((decimal r ++ 0x2e ∷ []) ++ decimal i) ++ u in
     let b = ((decimal s ++ 0x2e ∷ []) ++ decimal j) ++ v in
     let w = same_two 0x2e r i s j u v (omega arith) (wide r ha.0) (wide i ha.1) (wide s hb.0) (wide j hb.1) su sv
-    (tails 0x3a 0x3a a b (tails 0x72 0x72 (0x3a ∷ a) (0x3a ∷ b) e)) in
+    (same-tails 0x3a 0x3a a b (same-tails 0x72 0x72 (0x3a ∷ a) (0x3a ∷ b) e)) in
     (ap₂ (λ (x y : ℕ). Reg x y) w.0 w.1, w.2)
 same_loc (Reg r i) (Mem q) u v ha hb su sv e =
-    absurd (let f = heads 0x72 0x6d (0x3a ∷ (((decimal r ++ 0x2e ∷ []) ++ decimal i) ++ u)) (0x3a ∷ (decimal q ++ v)) e in omega (arith, f))
+    absurd (let f = same-heads 0x72 0x6d (0x3a ∷ (((decimal r ++ 0x2e ∷ []) ++ decimal i) ++ u)) (0x3a ∷ (decimal q ++ v)) e in omega (arith, f))
 same_loc (Mem p) (Reg s j) u v ha hb su sv e =
-    absurd (let f = heads 0x6d 0x72 (0x3a ∷ (decimal p ++ u)) (0x3a ∷ (((decimal s ++ 0x2e ∷ []) ++ decimal j) ++ v)) e in omega (arith, f))
+    absurd (let f = same-heads 0x6d 0x72 (0x3a ∷ (decimal p ++ u)) (0x3a ∷ (((decimal s ++ 0x2e ∷ []) ++ decimal j) ++ v)) e in omega (arith, f))
 same_loc (Mem p) (Mem q) u v ha hb su sv e =
     let a = decimal p ++ u in
     let b = decimal q ++ v in
-    let w = same_number p q u v (wide p ha) (wide q hb) su sv (tails 0x3a 0x3a a b (tails 0x6d 0x6d (0x3a ∷ a) (0x3a ∷ b) e)) in
+    let w = same_number p q u v (wide p ha) (wide q hb) su sv (same-tails 0x3a 0x3a a b (same-tails 0x6d 0x6d (0x3a ∷ a) (0x3a ∷ b) e)) in
     (ap (λ (x : ℕ). Mem x) w.0, w.1)
 
 -- a location begins with `r` or `m`
 loc_begins : (l : Loc) (u : List ℕ) (k : ℕ) (w : List ℕ) → (k ≡ 0x72 → ⊥) → (k ≡ 0x6d → ⊥) → loc_text l ++ u ≡ k ∷ w → ⊥
-loc_begins (Reg r i) u k w a b e = a (sym (heads 0x72 k (0x3a ∷ (((decimal r ++ 0x2e ∷ []) ++ decimal i) ++ u)) w e))
-loc_begins (Mem p) u k w a b e = b (sym (heads 0x6d k (0x3a ∷ (decimal p ++ u)) w e))
+loc_begins (Reg r i) u k w a b e = a (sym (same-heads 0x72 k (0x3a ∷ (((decimal r ++ 0x2e ∷ []) ++ decimal i) ++ u)) w e))
+loc_begins (Mem p) u k w a b e = b (sym (same-heads 0x6d k (0x3a ∷ (decimal p ++ u)) w e))
 
 -- the name of a point inside the run, its location first
 at_text : (p : InnerSink) (u : List ℕ) → point_text (At p) ++ u ≡ loc_text p.loc ++ 0x40 ∷ (decimal p.time ++ u)
@@ -184,5 +179,5 @@ same_point (At p) (At q) u v hp hq su sv e =
     let a = decimal p.time ++ u in
     let b = decimal q.time ++ v in
     let w = same_loc p.loc q.loc (0x40 ∷ a) (0x40 ∷ b) hp.0 hq.0 (stopped 0x40 a (omega arith)) (stopped 0x40 b (omega arith)) (sym (at_text p u) ∙ e ∙ at_text q v) in
-    let t = same_number p.time q.time u v (wide p.time hp.1) (wide q.time hq.1) su sv (tails 0x40 0x40 a b w.1) in
+    let t = same_number p.time q.time u v (wide p.time hp.1) (wide q.time hq.1) su sv (same-tails 0x40 0x40 a b w.1) in
     (ap (λ (x : InnerSink). At x) (same_inner p q w.0 t.0), t.1)

@@ -1,3 +1,4 @@
 pub mod Known
 pub mod Counted
 pub mod Events
+pub mod Whole

@@ -1,5 +1,5 @@
 -- A run writes no output byte twice.
-use Rattle.std.proofs.Common.{◌≡◌, ℕ, zero, suc, ◌+◌, ◌<◌, nat_lt, Bool, true, false, List, [], ◌∷◌, ◌++◌, refl, ap, ap₂, sym, ◌∙◌, arith, ltb-true, ltb-false, inl, inr}
+use Rattle.std.proofs.Common.{◌≡◌, ℕ, zero, suc, ◌+◌, ◌<◌, nat_lt, Bool, true, false, List, [], ◌∷◌, refl, ap, ap₂, sym, ◌∙◌, arith, ltb-true, ltb-false, inl, inr}
 use Rattle.std.specs.Prelude.{Option, Some, None, ◌⊎◌}
 use Rattle.std.specs.List.{range_with_len}
 use Rattle.isa.specs.declared.CallKind.{CallKind}
@@ -10,7 +10,7 @@ use Rattle.flow_model.specs.declared.SinkByte.{SinkByte}
 use Rattle.flow_model.specs.declared.SinkPoint.TheVariants.{Out}
 use Rattle.replay_model.specs.Offsets.{call_at, AreWritesApart}
 use Rattle.report_model.specs.Rows.{Sink, sink_at, sinks_of_call, sinks_of_step}
-use Rattle.report_model.proofs.Members.{Some_in, some-Contains, map-some}
+use Rattle.report_model.proofs.Members.{Some_in, some-Contains, map-some, some-append}
 use Rattle.path_model.specs.Answer.{written_from, IsWrittenOnce}
 
 -- an output byte is that of a write of the trace, where t steps are done before the trace
@@ -35,17 +35,9 @@ of_call y t call kind.Clock h = absurd h
 of_call y t call kind.Other h = absurd h
 of_call y t call kind.Exit h = absurd h
 
-either_part : {X : Type 0} (P : X → Type 0) (xs ys : List X) → Some_in P (xs ++ ys) → Some_in P xs ⊎ Some_in P ys
-either_part P [] ys h = inr h
-either_part P (x ∷ xs) ys (inl p) = inl (inl p)
-either_part P (x ∷ xs) ys (inr h) = by (either_part P xs ys h) where
-  by : Some_in P xs ⊎ Some_in P ys → Some_in P (x ∷ xs) ⊎ Some_in P ys
-  by (inl a) = inl (inr a)
-  by (inr b) = inr b
-
 of_write : (y : Sink) (t : ℕ) (trace : List StepSeen) → Some_in (λ x. x ≡ y) (written_from t trace) → IsOfWrite t trace y
 of_write y t [] h = absurd h
-of_write y t (s ∷ ss) h = by (of_write y (t + 1) ss) (either_part (λ x. x ≡ y) (sinks_of_step t s.call) (written_from (t + 1) ss) h) where
+of_write y t (s ∷ ss) h = by (of_write y (t + 1) ss) (some-append (λ x. x ≡ y) (sinks_of_step t s.call) (written_from (t + 1) ss) h) where
   here : (o : Option CallSeen) → s.call ≡ o → Some_in (λ x. x ≡ y) (sinks_of_step t o) → IsOfWrite t (s ∷ ss) y
   here None e h = absurd h
   here (Some call) e h =

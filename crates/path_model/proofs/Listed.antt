@@ -22,7 +22,7 @@ use Rattle.flow_model.proofs.OriginsRead.{origins_were_read}
 use Rattle.report_model.specs.Query.{Query, has_source, has_sink, policy_of}
 use Rattle.report_model.specs.Rows.{Sink, Row, row, sinks_of_step, point_sink, points_at, sinks_from, chosen_sinks, rows_as_written, rows}
 use Rattle.report_model.specs.RowLaws.{has_row, sources_at, IsRowOfPoint}
-use Rattle.report_model.proofs.Members.{Some_in, Any-some, some-Contains, Contains-some, some-each, some-gives, some-left, some-right, filter-some, some-filter, map-some, some-map}
+use Rattle.report_model.proofs.Members.{Some_in, Any-some, some-Contains, Contains-some, some-each, some-gives, some-left, some-right, filter-some, some-filter, map-some, some-map, some-append}
 use Rattle.report_model.proofs.RowLemmas.{all_written, same_sinks}
 use Rattle.report_model.proofs.PointRows.{points_have_rows}
 use Rattle.path_model.specs.declared.Arrival.{Arrival}
@@ -31,14 +31,6 @@ use Rattle.path_model.specs.Answer.{written_from, sink_of, PathTo, ended_in, pat
 use Rattle.path_model.proofs.Iff.{one_path_is_origin}
 
 -- ---- lists
-
-some-append : {X : Type 0} (P : X → Type 0) (xs ys : List X) → Some_in P (xs ++ ys) → Some_in P xs ⊎ Some_in P ys
-some-append P [] ys h = inr h
-some-append P (x ∷ xs) ys (inl p) = inl (inl p)
-some-append P (x ∷ xs) ys (inr h) = by (some-append P xs ys h) where
-  by : Some_in P xs ⊎ Some_in P ys → Some_in P (x ∷ xs) ⊎ Some_in P ys
-  by (inl a) = inl (inr a)
-  by (inr b) = inr b
 
 found_in : {X : Type 0} (t : X → Bool) (xs : List X) (y : X) → find t xs ≡ Some y → Some_in (λ x. x ≡ y) xs × (t y ≡ true)
 found_in t [] y e = absurd cc

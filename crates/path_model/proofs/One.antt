@@ -4,6 +4,7 @@ use Rattle.std.specs.Prelude.{Option, Some, None, is_some, ◌&&◌, Contains}
 use Rattle.std.specs.List.{find}
 use Rattle.std.specs.Option.{option_or}
 use Rattle.std.specs.Ordering.{eq_by_cmp}
+use Rattle.std.proofs.lemmas.Option.{same_Some}
 use Rattle.lists.specs.Sets.{has}
 use Rattle.lists.proofs.Algebra.{tied_by}
 use Rattle.flow_model.specs.declared.Loc.{Loc}
@@ -177,14 +178,11 @@ find_same : (f g : Loc → Bool) → ((m : Loc) → f m ≡ g m) → (ls : List 
 find_same f g h [] = refl
 find_same f g h (l ∷ ls) = ap (λ (b : Bool). if b then Some l else find f ls) (h l) ∙ ap (λ (o : Option Loc). if g l then Some l else o) (find_same f g h ls)
 
-some_is : {X : Type 0} (x y : X) → Some x ≡ Some y → x ≡ y
-some_is x y e = cc
-
 pub hop_is_from_first : HopIsFromFirst
 hop_is_from_first policy s trace t l a b bs step chosen e at =
     let rule = policy.rule in
     let c = came rule s trace t l a (b ∷ bs) e in
-    let same : c.step ≡ step = some_is c.step step (sym c.is_step ∙ at) in
+    let same : c.step ≡ step = same_Some c.step step (sym c.is_step ∙ at) in
     let f = hop_behind rule s trace a.number c.step a.loc b bs c.rest_is in
     ap (λ (x : StepSeen). find (λ m. has source_cmp s (origins policy trace a.number m)) (from rule x a.loc)) (sym same)
     ∙ find_same _ _ (λ m. sym (one_is policy s chosen trace a.number m)) (from rule c.step a.loc)

@@ -6,8 +6,10 @@ use Rattle.std.specs.Option.{option_or}
 use Rattle.std.specs.Ordering.{eq_by_cmp, is_eq}
 use Rattle.std.specs.Cmp.{tied_itself}
 use Rattle.std.proofs.lemmas.List.Folds.{list_any_at}
+use Rattle.std.proofs.Math.Bool.{or-false, or-true}
 use Rattle.lists.specs.Sets.{has}
 use Rattle.lists.proofs.Algebra.{tied_by, has-union, has-Contains, Contains-has}
+use Rattle.lists.proofs.Lists.{list_any-same}
 use Rattle.flow_model.specs.declared.Loc.{Loc}
 use Rattle.flow_model.specs.declared.Rule.{Rule}
 use Rattle.flow_model.specs.declared.SourceByte.{SourceByte}
@@ -17,29 +19,12 @@ use Rattle.flow_model.specs.Orders.{source_cmp}
 use Rattle.flow_model.specs.Flow.{from, is_received}
 use Rattle.flow_model.specs.Origins.{Policy, introduced, byte_at, fresh, fresh_by, union_over, after_step, step_at, origins}
 use Rattle.flow_model.proofs.Orders.{source_total, source_same}
+use Rattle.flow_model.proofs.Members.{has-union_over}
 use Rattle.path_model.specs.declared.Arrival.{Arrival}
 use Rattle.path_model.specs.Paths.{puts, brings, IsPath, IsRead, IsLatest, first_of, behind, arrived, path_if_put, path_after, path}
 use Rattle.path_model.proofs.Still.{left_alone, still_keeps}
 
-or_nothing : (a : Bool) → (a || false) ≡ a
-or_nothing true = refl
-or_nothing false = refl
-
-or_true : (a : Bool) → (a || true) ≡ true
-or_true true = refl
-or_true false = refl
-
-any_same : {X : Type 0} (f g : X → Bool) → ((x : X) → f x ≡ g x) → (xs : List X) → list_any f xs ≡ list_any g xs
-any_same f g h [] = refl
-any_same f g h (x ∷ xs) = ap₂ ◌||◌ (h x) (any_same f g h xs)
-
 -- ---- the origins after a step, as a test
-
-pub has_over : (b : SourceByte) (before : Loc → List SourceByte) (ls : List Loc) → has source_cmp b (union_over before ls) ≡ list_any (λ l. has source_cmp b (before l)) ls
-has_over b before [] = refl
-has_over b before (l ∷ []) = sym (or_nothing (has source_cmp b (before l)))
-has_over b before (l ∷ m ∷ ls) =
-    has-union source_total (before l) (union_over before (m ∷ ls)) b ∙ ap (λ (a : Bool). has source_cmp b (before l) || a) (has_over b before (m ∷ ls))
 
 same_source : (s b : SourceByte) → eq_by_cmp source_cmp s b ≡ true → s ≡ b
 same_source s b e = source_same s b (tied_by (source_cmp s b) e)
@@ -48,7 +33,7 @@ module _ (policy : Policy) (s : SourceByte) (chosen : policy.introduces s ≡ tr
   introduced_is : (b : SourceByte) → has source_cmp s (introduced policy b) ≡ eq_by_cmp source_cmp s b
   introduced_is b = by (policy.introduces b) refl (eq_by_cmp source_cmp s b) refl where
     by : (c : Bool) → policy.introduces b ≡ c → (d : Bool) → eq_by_cmp source_cmp s b ≡ d → has source_cmp s (if c then b ∷ [] else []) ≡ eq_by_cmp source_cmp s b
-    by true e d f = or_nothing (eq_by_cmp source_cmp s b)
+    by true e d f = or-false (eq_by_cmp source_cmp s b)
     by false e true f = let same : policy.introduces b ≡ true = ap policy.introduces (sym (same_source s b f)) ∙ chosen in cc
     by false e false f = sym f
 
@@ -64,7 +49,7 @@ module _ (policy : Policy) (s : SourceByte) (chosen : policy.introduces s ≡ tr
       → has source_cmp s (after_step policy (Some step) before l) ≡ (brings s step.call l || list_any (λ m. has source_cmp s (before m)) (from policy.rule step l))
   has_after step before l =
       has-union source_total (fresh policy step l) (union_over before (from policy.rule step l)) s
-      ∙ ap₂ ◌||◌ (fresh_is step.call l) (has_over s before (from policy.rule step l))
+      ∙ ap₂ ◌||◌ (fresh_is step.call l) (has-union_over before (from policy.rule step l) s)
 
 -- ---- whether there is the one path
 
@@ -102,7 +87,7 @@ module _ (policy : Policy) (s : SourceByte) (chosen : policy.introduces s ≡ tr
           → is_some (path_if_put b policy.rule s t step (path policy.rule s trace t) l) ≡ has source_cmp s (after_step policy (Some step) (origins policy trace t) l)
       put true e =
           arrived_some t l (behind policy.rule s step (path policy.rule s trace t) l) ∙ behind_some policy.rule s step (path policy.rule s trace t) l
-          ∙ ap (λ (b : Bool). brings s step.call l || b) (any_same _ _ ih (from policy.rule step l))
+          ∙ ap (λ (b : Bool). brings s step.call l || b) (list_any-same _ _ ih (from policy.rule step l))
           ∙ sym (has_after policy s chosen step (origins policy trace t) l)
       put false e =
           let alone = left_alone policy l (Some step) e in
@@ -148,7 +133,7 @@ module _ (policy : Policy) (s : SourceByte) (chosen : policy.introduces s ≡ tr
       let c = h.1.flows in
       let some : list_any (λ m. had a.number m) (from policy.rule h.1.step a.loc) ≡ true =
       list_any_at (λ m. had a.number m) (from policy.rule h.1.step a.loc) c.0 b.loc c.1 (ap (had a.number) c.2 ∙ one) in
-      since t l a h.1.step h.1.is_step h.0 (ap (λ (r : Bool). brings s h.1.step.call a.loc || r) some ∙ or_true (brings s h.1.step.call a.loc))
+      since t l a h.1.step h.1.is_step h.0 (ap (λ (r : Bool). brings s h.1.step.call a.loc || r) some ∙ or-true (brings s h.1.step.call a.loc))
 
   pub contains_had : (t : ℕ) (l : Loc) → has source_cmp s (origins policy trace t l) ≡ true → Contains (origins policy trace t l) s
   contains_had t l e = Contains-has source_total source_same (origins policy trace t l) s e

@@ -1,10 +1,10 @@
 -- What one call of a run needs.
 use Rattle.std.proofs.Common.{◌≡◌, ℕ, ◌+◌, ◌<◌, ◌≤◌, Bool, true, false, ◌||◌, List, [], ◌∷◌, length, map, refl, ap, ap₂, sym, ◌∙◌, arith, cond}
-use Rattle.std.specs.Prelude.{nat_lt, Option, Some, None, if◌then◌else◌, ℤ}
+use Rattle.std.specs.Prelude.{nat_lt, Option, Some, if◌then◌else◌, ℤ}
 use Rattle.std.specs.List.{filter, list_any, range_with_len}
 use Rattle.std.proofs.lemmas.Bool.{lt-ltb}
 use Rattle.isa.specs.declared.CallKind.TheVariants as kind
-use Rattle.isa.specs.Machine.{State, Outcome, Retired, Called, Trapped, Fetch, Fetched, OutsideWindow, Illegal, fetch, reg, bytes_at}
+use Rattle.isa.specs.Machine.{State, Outcome, Retired, Called, Trapped, fetch, reg, bytes_at}
 use Rattle.isa.specs.Calls.{channel_of}
 use Rattle.log_model.specs.declared.CallRecord.{CallRecord}
 use Rattle.log_model.specs.declared.CallRecord.TheVariants.{Read, Write, Clock, Other}
@@ -14,12 +14,12 @@ use Rattle.flow_model.specs.declared.CallSeen.{CallSeen}
 use Rattle.report_model.specs.Query.{Query, has_sink}
 use Rattle.report_model.specs.Rows.{Sink, sink_at, sinks_of_step}
 use Rattle.report_model.proofs.Needed.{needed_by}
-use Rattle.replay_model.specs.Run.{Moment, plain_step, step_by, call_seen, transfer}
+use Rattle.replay_model.specs.Run.{Moment, step_by, call_seen, transfer}
 use Rattle.replay_model.specs.Comparison.{bytes_compared}
 use Rattle.replay_model.proofs.Agreement.{CallAgrees}
 use Rattle.replay_model.proofs.Track.{moment}
 use Rattle.replay_model.proofs.Transfers.{write_held}
-use Rattle.replay_model.proofs.Offsets.{transfer_offset}
+use Rattle.replay_model.proofs.Offsets.{transfer_offset, no_call}
 use Rattle.query_need.specs.Need.{output_byte, output_bytes, bytes_of_call, steps_for_call, written_before}
 
 -- those of some sinks that the query chooses
@@ -81,11 +81,6 @@ module _ (q : Query) (inputs t : ℕ) (s : State) (done : List CallRecord) where
   call_needs (Other at number) rs e form agreed = refl
 
 -- ---- steps that are no such call
-
-no_call : (t : ℕ) (s : State) (f : Fetch) → (plain_step t s f).call ≡ None
-no_call t s (Fetched i) = refl
-no_call t s OutsideWindow = refl
-no_call t s Illegal = refl
 
 pub plain_needs : (q : Query) (t : ℕ) (m : Moment) (s : State) → needed_by (chosen q (sinks_of_step t (step_by m (Retired s)).call)) ≡ 0
 plain_needs q t m s = ap (λ (o : Option CallSeen). needed_by (chosen q (sinks_of_step t o))) (no_call m.time m.state (fetch m.state))

@@ -4,9 +4,8 @@ use Rattle.std.specs.Prelude.{max}
 use Rattle.std.proofs.lemmas.Bool.{cases_lt}
 use Rattle.isa.specs.Machine.{State, Outcome, next}
 use Rattle.log_model.specs.declared.CallRecord.{CallRecord}
-use Rattle.log_model.specs.declared.RunEnd.{RunEnd}
-use Rattle.log_model.specs.declared.RunEnd.TheVariants.{Exit, Trap, Limit}
-use Rattle.log_model.specs.Logs.{Log, at_of, end_at, steps, steps_by}
+use Rattle.log_model.specs.Logs.{Log, at_of, end_at, steps}
+use Rattle.log_model.proofs.Ends.{end_at-le-steps_by}
 use Rattle.report_model.specs.Query.{Query, has_sink}
 use Rattle.report_model.specs.Rows.{sinks_of_step}
 use Rattle.std.specs.List.{filter}
@@ -83,14 +82,9 @@ module _ (q : Query) (log : Log) where
   told (suc n) zero low high m on end d = absurd (omega (arith, low))
   told (suc n) (suc k) low high m on end d = told_next n k m.time m.state m.done m.left (told n k (omega (arith, low)) (omega (arith, high))) on end d
 
-end_within : (end : RunEnd) → end_at end ≤ steps_by end
-end_within (Exit at code) = omega arith
-end_within (Trap at kind pc) = omega arith
-end_within (Limit at) = omega arith
-
 pub log_tells_need : LogTellsNeed
 log_tells_need q s log form d =
     let none : divergence_from log (suc (end_at log.end)) (start s log) ≡ None = subst (λ (n : ℕ). divergence_from log n (start s log) ≡ None) (add-one (end_at log.end)) d in
-    let calls = told q log (end_at log.end) (steps log) (end_within log.end) (steps_within log.end) (start s log) (on_track_start log s form) (zero-add (end_at log.end)) none in
+    let calls = told q log (end_at log.end) (steps log) (end_at-le-steps_by log.end) (steps_within log.end) (start s log) (on_track_start log s form) (zero-add (end_at log.end)) none in
     let all = all_need q (steps log) (trace s log) (length-steps_from (steps log) (start s log)) in
     omega (arith, calls, all)

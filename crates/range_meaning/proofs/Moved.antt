@@ -4,6 +4,7 @@ use Rattle.std.specs.Prelude.{◌||◌, All}
 use Rattle.std.specs.List.{flat_map, list_all, range_with_len, AllByRecursion}
 use Rattle.std.proofs.lemmas.Bool.{and_parts}
 use Rattle.std.proofs.lemmas.List.Elements.{recursion_from_All, All-from_recursion, All-weaker, All-head}
+use Rattle.lists.proofs.Lists.{all-parts}
 use Rattle.log_model.specs.Logs.{Log}
 use Rattle.log_model.specs.Moved.{received, written}
 use Rattle.flow_model.specs.declared.SourceByte.{SourceByte}
@@ -12,7 +13,6 @@ use Rattle.flow_model.specs.declared.SinkPoint.TheVariants.{Out, At}
 use Rattle.report_model.specs.Rows.{Row, rows}
 use Rattle.replay_model.specs.Run.{trace}
 use Rattle.flow_meaning.specs.MovedLaws.{WasReceived, WasWritten, IsOfMovedBytes, RowsAreOfMovedBytes}
-use Rattle.flow_meaning.proofs.Sets.{both_parts}
 use Rattle.source_ranges.specs.declared.SourceRange.{SourceRange}
 use Rattle.source_ranges.specs.Ranges.{byte_on, bytes_of, ranges_of}
 use Rattle.source_ranges.specs.RangeLaws.{AreApart, RangesHoldBytes}
@@ -99,7 +99,7 @@ module _ (log : Log) where
   ranges_received : (rs : List SourceRange) → AreApart rs → AllByRecursion (WasReceived log) (flat_map bytes_of rs) → AllByRecursion (λ r. r.past ≤ length (received r.channel log.records)) rs
   ranges_received [] apart h = tt
   ranges_received (r ∷ rs) apart h =
-      let parts = both_parts (WasReceived log) (bytes_of r) (flat_map bytes_of rs) h in
+      let parts = all-parts (WasReceived log) (bytes_of r) (flat_map bytes_of rs) h in
       (range_received r apart.0 parts.0, ranges_received rs apart.2 parts.1)
 
   -- ---- the lines
@@ -126,7 +126,7 @@ module _ (log : Log) where
   each_run Q one [] longest h = tt
   each_run Q one ([] ∷ rest) longest h = absurd longest
   each_run Q one ((r ∷ rs) ∷ rest) longest h =
-      let parts = both_parts IsMoved (r ∷ rs) (flat_map (λ (run : List Row). run) rest) h in
+      let parts = all-parts IsMoved (r ∷ rs) (flat_map (λ (run : List Row). run) rest) h in
       (one r rs longest.0 parts.0, each_run Q one rest longest.2 parts.1)
 
   all_runs : RunsHoldRows → (Q : List Row → Type 0) → ((r : Row) (rs : List Row) → is_run (r ∷ rs) ≡ true → AllByRecursion IsMoved (r ∷ rs) → Q (r ∷ rs))

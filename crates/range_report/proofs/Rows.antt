@@ -3,8 +3,9 @@ use Rattle.std.proofs.Common.{◌≡◌, ℕ, zero, suc, ◌+◌, ◌≤◌, ◌
 use Rattle.std.specs.Prelude.{if◌then◌else◌}
 use Rattle.std.specs.List.{flat_map, list_all}
 use Rattle.std.specs.Cmp.Lexicographic.{pointwise}
-use Rattle.std.proofs.lemmas.Bool.{and_right}
+use Rattle.std.proofs.lemmas.Bool.{and_right, eq-eqb}
 use Rattle.std.proofs.lemmas.Bool.Decides.{nat_tests}
+use Rattle.std.proofs.Math.Bool.{or-false}
 use Rattle.flow_model.specs.declared.SourceByte.{SourceByte}
 use Rattle.flow_model.specs.declared.SinkPoint.TheVariants.{Out}
 use Rattle.flow_model.specs.contracts.SourceBytePartialEq.TheImpl as test
@@ -18,9 +19,6 @@ use Rattle.range_model.specs.Runs.{is_next_sink, is_next_source, same_sources, g
 
 -- ---- tests
 
-same_number : (n : ℕ) → (n == n) ≡ true
-same_number n = grind (arith, nat_tests)
-
 other_number : (n : ℕ) → (n == n + 1) ≡ false
 other_number n = grind (arith, nat_tests)
 
@@ -28,15 +26,11 @@ and_true : (a : Bool) → (a && true) ≡ a
 and_true true = refl
 and_true false = refl
 
-or_false : (a : Bool) → (a || false) ≡ a
-or_false true = refl
-or_false false = refl
-
 pub next_sink : (c o : ℕ) → is_next_sink (Out (record { channel = c; offset = o })) (Out (record { channel = c; offset = o + 1 })) ≡ true
-next_sink c o = ap₂ ◌&&◌ (same_number c) (same_number (o + 1))
+next_sink c o = ap₂ ◌&&◌ (eq-eqb c c refl) (eq-eqb (o + 1) (o + 1) refl)
 
 pub next_source : (d e : ℕ) → is_next_source (byte_on d e ∷ []) (byte_on d (e + 1) ∷ []) ≡ true
-next_source d e = ap₂ ◌&&◌ (same_number d) (same_number (e + 1))
+next_source d e = ap₂ ◌&&◌ (eq-eqb d d refl) (eq-eqb (e + 1) (e + 1) refl)
 
 -- no source bytes are the next of themselves, and none the same as the next
 not_next : (bs : List SourceByte) → is_next_source bs bs ≡ false
@@ -49,7 +43,7 @@ not_same d e = ap (λ (b : Bool). ((d == d) && b) && true) (other_number e) ∙ 
 
 same_itself : (bs : List SourceByte) → same_sources bs bs ≡ true
 same_itself [] = refl
-same_itself (b ∷ bs) = ap₂ ◌&&◌ (ap₂ ◌&&◌ (same_number b.channel) (same_number b.offset)) (same_itself bs)
+same_itself (b ∷ bs) = ap₂ ◌&&◌ (ap₂ ◌&&◌ (eq-eqb b.channel b.channel refl) (eq-eqb b.offset b.offset refl)) (same_itself bs)
 
 -- the next of source bytes is one source byte
 next_is_one : (xs ys : List SourceByte) → is_next_source xs ys ≡ true → (length ys == 1) ≡ true
@@ -147,7 +141,7 @@ pub moved-is_run : (c o d e n : ℕ) (r : Row)
     ≡ (is_next_sink (Out (record { channel = c; offset = o + suc n })) r.sink && is_next_source (byte_on d (e + suc n) ∷ []) r.sources)
 moved-is_run c o d e n r =
     ap₂ ◌||◌ (moved-is_moved c o d e (suc n) r) (moved-not_shared c o d e n (r ∷ []))
-    ∙ or_false (is_next_sink (Out (record { channel = c; offset = o + suc n })) r.sink && is_next_source (byte_on d (e + suc n) ∷ []) r.sources)
+    ∙ or-false (is_next_sink (Out (record { channel = c; offset = o + suc n })) r.sink && is_next_source (byte_on d (e + suc n) ∷ []) r.sources)
 
 -- two rows or more that share their sources aren't moved
 pub shared-not_moved : (c o : ℕ) (bs : List SourceByte) (n : ℕ) (rs : List Row) → is_moved (shared_rows c o bs (suc (suc n)) ++ rs) ≡ false

@@ -1,12 +1,12 @@
 -- The record that a call gets is lawful, has the ranges of a log and reads on; and each record that does is this one.
 -- Crates above cite these lemmas.
-use Rattle.std.proofs.Common.{◌≡◌, ℕ, ◌+◌, ◌^◌, ◌<◌, ◌≤◌, ◌⊎◌, inl, inr, Bool, true, false, List, [], ◌∷◌, ◌++◌, length, get_or, take, drop, ℤ, pos, negsuc, None, Some, refl, arith, ap, sym, ◌∙◌, subst, length-take, length-drop}
+use Rattle.std.proofs.Common.{◌≡◌, ℕ, ◌+◌, ◌^◌, ◌<◌, ◌≤◌, ◌⊎◌, inl, inr, Bool, true, false, List, [], ◌∷◌, ◌++◌, length, get_or, take, drop, ℤ, pos, negsuc, None, refl, arith, ap, sym, ◌∙◌, subst, length-take, length-drop}
 use Rattle.std.specs.Prelude.{◌==◌, nat_lt, not, min, if◌then◌else◌, ◌≤ℤ◌, IsTrue, slice_index}
 use Rattle.std.specs.List.{AllByRecursion}
 use Rattle.std.proofs.lemmas.Int.{ints}
 use Rattle.std.proofs.lemmas.Bool.{cases_lt, eqb-true}
-use Rattle.std.proofs.lemmas.Bool.Decides.{Decides-int_eq}
 use Rattle.std.proofs.lemmas.List.{nil_from_length}
+use Rattle.lists.proofs.Lists.{same-three}
 use Rattle.isa.specs.declared.CallKind.{CallKind}
 use Rattle.isa.specs.declared.CallKind.TheVariants as kind
 use Rattle.isa.specs.Machine.{State, reg, in_window, bytes_at}
@@ -18,20 +18,16 @@ use Rattle.log_model.specs.Moved.{received}
 use Rattle.replay_model.specs.declared.Field.TheVariants as field
 use Rattle.replay_model.specs.Comparison.{Compared, compared, first_different, CallOf, fields, arguments, arguments_of, allowed, bytes_compared, IsLawful}
 use Rattle.replay_model.specs.Comparison.{result as result_compared}
-use Rattle.replay_model.proofs.Agreement.{first_agrees, rest_agrees, kind_by}
+use Rattle.replay_model.proofs.Agreement.{first_agrees, rest_agrees, kind_by, first_different-same}
 use Rattle.replay_model.proofs.Transfers.{same_arguments, write_held, length_held}
 use Rattle.record_model.specs.Recorded.{ReadsNext, IsFrontOf, part_of, input_of, clock_values}
 use Rattle.record_model.specs.Calls.{result_of, bytes_of, read_record, write_record, record_at}
 
 -- ---- comparisons
 
--- a field that doesn't differ is passed over
-pub passed : (c : Compared) (cs : List Compared) → c.kept ≡ c.seen → first_different (c ∷ cs) ≡ first_different cs
-passed c cs e = ap (λ (b : Bool). if b then first_different cs else Some c) ((Decides-int_eq c.kept c.seen).1 e)
-
 same_bytes : (i : ℕ) (bytes : List ℕ) → first_different (bytes_compared i bytes bytes) ≡ None
 same_bytes i [] = refl
-same_bytes i (b ∷ bs) = passed (compared (field.Byte i) b b) (bytes_compared (i + 1) bs bs) refl ∙ same_bytes (i + 1) bs
+same_bytes i (b ∷ bs) = first_different-same (compared (field.Byte i) b b) (bytes_compared (i + 1) bs bs) refl ∙ same_bytes (i + 1) bs
 
 -- ---- the refusal
 
@@ -158,10 +154,10 @@ transfer_lawful s refused whole n rest same =
     let result = result_compared (result_of refused whole) (allowed refused (result_of refused whole) n) in
     let third = compared field.A2 (reg s 12) (reg s 12) in
     let second = compared field.A1 (reg s 11) (reg s 11) in
-    passed (compared field.A0 (reg s 10) (reg s 10)) (second ∷ third ∷ result ∷ rest) refl
-    ∙ passed second (third ∷ result ∷ rest) refl
-    ∙ passed third (result ∷ rest) refl
-    ∙ passed result rest (allowed_is refused whole n) ∙ same
+    first_different-same (compared field.A0 (reg s 10) (reg s 10)) (second ∷ third ∷ result ∷ rest) refl
+    ∙ first_different-same second (third ∷ result ∷ rest) refl
+    ∙ first_different-same third (result ∷ rest) refl
+    ∙ first_different-same result rest (allowed_is refused whole n) ∙ same
 
 pub read_lawful : (t : ℕ) (s : State) (channels : ℕ) (part : List ℕ)
     → IsLawful s channels (read_record t s channels part)
@@ -186,7 +182,7 @@ write_lawful t s inputs =
     (write_bytes s refused (can_be s 16) (write_whole s 16))
 
 other_lawful : (t : ℕ) (s : State) (inputs : ℕ) → IsLawful s inputs (Other t (reg s 17))
-other_lawful t s inputs = passed (compared field.Number (reg s 17) (reg s 17)) [] refl
+other_lawful t s inputs = first_different-same (compared field.Number (reg s 17) (reg s 17)) [] refl
 
 -- ---- what is known of the record
 
@@ -241,15 +237,12 @@ three_are (a ∷ b ∷ []) e = absurd (omega arith)
 three_are (a ∷ b ∷ c ∷ []) e = refl
 three_are (a ∷ b ∷ c ∷ d ∷ args) e = absurd (omega arith)
 
-three_by : (a b c x y z : ℕ) → a ≡ x → b ≡ y → c ≡ z → a ∷ b ∷ c ∷ [] ≡ x ∷ y ∷ z ∷ []
-three_by a b c x y z p q r = cc
-
 -- the arguments are those in the registers
 arguments_are : (s : State) (args : List ℕ) (rest : List Compared) → length args ≡ 3
     → first_different (arguments s args ++ rest) ≡ None → args ≡ arguments_of s
 arguments_are s args rest three d =
     let same = same_arguments s args rest d in
-    three_are args three ∙ three_by (channel_of args) (buffer_of args) (length_of args) (reg s 10) (reg s 11) (reg s 12)
+    three_are args three ∙ same-three (channel_of args) (buffer_of args) (length_of args) (reg s 10) (reg s 11) (reg s 12)
     same.first same.second same.third
 
 -- what a transfer got, where the call allows its result and bytes that aren't refused are these

@@ -4,6 +4,7 @@ use Rattle.std.specs.Prelude.{min, IsSome}
 use Rattle.std.specs.Int.{w32, to_be_bytes}
 use Rattle.std.specs.List.{AllByRecursion, range_with_len}
 use Rattle.std.proofs.lemmas.List.FromFn.{map-range_with_len_more}
+use Rattle.lists.proofs.Lists.{all-append}
 use Rattle.isa.specs.Machine.{State, Outcome, Retired, Called, Trapped, next, reg, bytes_at, call_of}
 use Rattle.isa.specs.declared.Call.{Call}
 use Rattle.isa.specs.declared.CallKind.{CallKind}
@@ -56,19 +57,15 @@ moved_bytes : (refused : ℤ) (whole : List ℕ) → IsBytes whole → IsBytes (
 moved_bytes (pos n) whole h = h
 moved_bytes (negsuc n) whole h = tt
 
-join_bytes : (xs ys : List ℕ) → IsBytes xs → IsBytes ys → IsBytes (xs ++ ys)
-join_bytes [] ys h g = g
-join_bytes (x ∷ xs) ys h g = (h.0, join_bytes xs ys h.1 g)
-
 word_bytes : (n : ℕ) → IsBytes (to_be_bytes w32 n)
 word_bytes n = omega arith
 
 digest_are_bytes : (h : List ℕ) (n : ℕ) → IsBytes (digest_bytes h n)
 unfolding digest_bytes
 digest_are_bytes h zero = tt
-digest_are_bytes h (suc n) = join_bytes (digest_bytes h n) _ (digest_are_bytes h n) (word_bytes _)
+digest_are_bytes h (suc n) = all-append (λ b. b < 256) (digest_bytes h n) _ (digest_are_bytes h n) (word_bytes _)
 
-sha256_bytes : (m : List ℕ) → IsBytes (sha256 m)
+pub sha256_bytes : (m : List ℕ) → IsBytes (sha256 m)
 unfolding sha256
 sha256_bytes m = digest_are_bytes _ 8
 

@@ -11,12 +11,12 @@ use Rattle.log_model.specs.Logs.{Log, IsRecord, Rise, least_after, at_of, end_at
 use Rattle.replay_model.specs.declared.Field.TheVariants as field
 use Rattle.replay_model.specs.Run.{Moment, start, advance, state_after, after_outcome}
 use Rattle.replay_model.specs.Comparison.{Compared, compared, first_different, PlainStep, CallOf, EndOf, expected, kept_event, call_event, seen_event, fields, trap_kind, difference, difference_at, or_later, divergence_from, divergence, IsLawful}
-use Rattle.replay_model.proofs.Agreement.{expects_plain_at_end, expects_plain_before, expects_call, expects_end}
+use Rattle.replay_model.proofs.Agreement.{expects_plain_at_end, expects_plain_before, expects_call, expects_end, first_different-same}
 use Rattle.replay_model.proofs.Track.{moment, least_rises}
 use Rattle.log_model.proofs.Records.{all_push, rise_push, least_push}
 use Rattle.record_model.specs.Recorded.{AllReadNext}
 use Rattle.record_model.specs.Calls.{EndsIn}
-use Rattle.record_model.proofs.Calls.{IsHere, passed}
+use Rattle.record_model.proofs.Calls.{IsHere}
 use Rattle.record_model.proofs.Pushes.{reads_push}
 
 -- these records were made by the first t steps, which end in the state s
@@ -102,7 +102,7 @@ call_same : (m : Moment) (inputs : ℕ) (r : CallRecord) (call : Call) → next 
     → difference_at m inputs (CallOf r) ≡ None
 call_same m inputs r call e k lawful =
     let seen : kept_event (CallOf r) ≡ seen_event (next m.state) = sym k ∙ sym (ap seen_event e) in
-    passed (compared field.Event (kept_event (CallOf r)) (seen_event (next m.state))) (fields m.state inputs (CallOf r))
+    first_different-same (compared field.Event (kept_event (CallOf r)) (seen_event (next m.state))) (fields m.state inputs (CallOf r))
     (ap pos seen) ∙ lawful
 
 pub runs_call : (start : State) (inputs : List (List ℕ)) (piece : ℕ) (done : List CallRecord) (t : ℕ) (s : State)
@@ -141,16 +141,16 @@ end_same : (t : ℕ) (m : Moment) (inputs : ℕ) (end : RunEnd) → EndsIn m.sta
     → difference_at m inputs (EndOf end) ≡ None
 end_same t m inputs (Exit at code) stop =
     let seen : 5 ≡ seen_event (next m.state) = sym (ap call_event stop.2) ∙ sym (ap seen_event stop.1) in
-    passed (compared field.Event 5 (seen_event (next m.state))) (compared field.Code code (reg m.state 10) ∷ [])
+    first_different-same (compared field.Event 5 (seen_event (next m.state))) (compared field.Code code (reg m.state 10) ∷ [])
     (ap pos seen)
-    ∙ passed (compared field.Code code (reg m.state 10)) [] (ap pos stop.3)
+    ∙ first_different-same (compared field.Code code (reg m.state 10)) [] (ap pos stop.3)
 end_same t m inputs (Trap at k pc) stop =
     let seen : 6 ≡ seen_event (next m.state) = sym (ap seen_event stop.1) in
     let same : k ≡ trap_kind (next m.state) = sym (ap trap_kind stop.1) in
-    passed (compared field.Event 6 (seen_event (next m.state)))
+    first_different-same (compared field.Event 6 (seen_event (next m.state)))
     (compared field.Kind k (trap_kind (next m.state)) ∷ compared field.Pc pc m.state.pc ∷ []) (ap pos seen)
-    ∙ passed (compared field.Kind k (trap_kind (next m.state))) (compared field.Pc pc m.state.pc ∷ []) (ap pos same)
-    ∙ passed (compared field.Pc pc m.state.pc) [] (ap pos stop.2)
+    ∙ first_different-same (compared field.Kind k (trap_kind (next m.state))) (compared field.Pc pc m.state.pc ∷ []) (ap pos same)
+    ∙ first_different-same (compared field.Pc pc m.state.pc) [] (ap pos stop.2)
 end_same t m inputs (Limit at) stop = absurd stop
 
 runs_out : (start : State) (inputs : List (List ℕ)) (piece : ℕ) (done : List CallRecord) (t : ℕ) (s : State)

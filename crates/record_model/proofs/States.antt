@@ -1,24 +1,24 @@
 -- The states that a run reaches: they stay in range, and each step retires, calls as its registers say, or traps by a code of the
 -- standard's.
-use Rattle.std.proofs.Common.{◌≡◌, ℕ, ◌+◌, ◌-◌, ◌*◌, ◌/◌, ◌^◌, ◌<◌, ◌≤◌, inl, inr, Bool, true, false, List, [], ◌∷◌, length, refl, arith, ap, ◌∙◌, subst, length-take}
+use Rattle.std.proofs.Common.{◌≡◌, ℕ, ◌+◌, ◌-◌, ◌*◌, ◌/◌, ◌^◌, ◌<◌, ◌≤◌, inl, inr, Bool, true, false, [], ◌∷◌, length, refl, arith, subst, length-take}
 use Rattle.std.specs.Int.{w32, to_le_bytes}
 use Rattle.isa.specs.declared.Instr.{Instr}
 use Rattle.isa.specs.declared.Instr.TheVariants.{Jal, Jalr, Beq, Bne, Blt, Bge, Bltu, Bgeu}
 use Rattle.isa.specs.declared.Effect.{Effect}
 use Rattle.isa.specs.declared.Effect.TheVariants.{SetRegister, Jump, Branch, Load, Store, MoveOn, EnvironmentCall, Breakpoint}
-use Rattle.isa.specs.Machine.{State, Outcome, Retired, Called, Trapped, wrap, effect_of, execute, landed, is_aligned, jumped, branched, loaded, stored, low_bytes, in_window, overwritten, call_of, Fetch, Fetched, OutsideWindow, Illegal, fetch, outcome_of, next}
+use Rattle.isa.specs.Machine.{State, Outcome, Retired, Called, Trapped, wrap, effect_of, execute, landed, is_aligned, jumped, branched, loaded, stored, low_bytes, in_window, call_of, Fetch, Fetched, OutsideWindow, Illegal, fetch, outcome_of, next}
 use Rattle.isa.specs.Calls.{buffer_of}
+use Rattle.isa.proofs.Window.{length-overwritten, holds_by, wrap-lt}
 use Rattle.log_model.specs.declared.CallRecord.{CallRecord}
 use Rattle.log_model.specs.declared.CallRecord.TheVariants.{Read, Write, Clock, Other}
 use Rattle.log_model.specs.Logs.{IsRecord, IsTrapKind}
 use Rattle.replay_model.specs.Run.{state_after}
 use Rattle.replay_model.specs.Comparison.{IsLawful}
 use Rattle.flow_meaning.specs.Content.{IsSound}
-use Rattle.flow_meaning.proofs.Window.{holds_by, over_length, over_nothing}
 use Rattle.flow_meaning.proofs.Leaves.{leaves_is}
 use Rattle.flow_meaning.proofs.Decoded.{fetched_in_range}
 use Rattle.flow_meaning.proofs.Sound.{stays_sound}
-use Rattle.flow_meaning.proofs.Calls.{HasRoom, read_room, call_sound}
+use Rattle.flow_meaning.proofs.Calls.{read_room, call_sound, length-room}
 use Rattle.flow_meaning.proofs.Steps.{retires}
 
 -- a sound state, whose pc is a word, and whose window has at most 4096 pages
@@ -41,21 +41,18 @@ HasTarget (Jump d target) = target < 2 ^ 32
 HasTarget (Branch taken target) = target < 2 ^ 32
 HasTarget other = Unit {0}
 
-wrapped : (n : ℕ) → wrap n < 2 ^ 32
-wrapped n = omega arith
-
 rounded : (n : ℕ) → wrap n / 2 * 2 < 2 ^ 32
 rounded n = omega arith
 
 has_target : (s : State) (i : Instr) → HasTarget (effect_of s i)
-has_target s (Jal d imm) = wrapped _
+has_target s (Jal d imm) = wrap-lt _
 has_target s (Jalr d a imm) = rounded _
-has_target s (Beq a b imm) = wrapped _
-has_target s (Bne a b imm) = wrapped _
-has_target s (Blt a b imm) = wrapped _
-has_target s (Bge a b imm) = wrapped _
-has_target s (Bltu a b imm) = wrapped _
-has_target s (Bgeu a b imm) = wrapped _
+has_target s (Beq a b imm) = wrap-lt _
+has_target s (Bne a b imm) = wrap-lt _
+has_target s (Blt a b imm) = wrap-lt _
+has_target s (Bge a b imm) = wrap-lt _
+has_target s (Bltu a b imm) = wrap-lt _
+has_target s (Bgeu a b imm) = wrap-lt _
 has_target s other = tt
 
 module _ (s : State) where
@@ -65,10 +62,10 @@ module _ (s : State) where
 
   fine_branched : (taken : Bool) (target : ℕ) → target < 2 ^ 32 → IsFine s (branched s taken target)
   fine_branched true target h = fine_landed (is_aligned target) (record s { pc = target }) h refl
-  fine_branched false target h = (wrapped (s.pc + 4), refl)
+  fine_branched false target h = (wrap-lt (s.pc + 4), refl)
 
   fine_loaded : (held : Bool) (d a n : ℕ) (is_signed : Bool) → IsFine s (loaded s held d a n is_signed)
-  fine_loaded true d a n is_signed = (wrapped (s.pc + 4), refl)
+  fine_loaded true d a n is_signed = (wrap-lt (s.pc + 4), refl)
   fine_loaded false d a n is_signed = inr (inl refl)
 
   fine_stored : (held : Bool) (a n v : ℕ) → in_window s a n ≡ held → IsFine s (stored s held a n v)
@@ -77,16 +74,16 @@ module _ (s : State) where
       let above = room.above in
       let below = room.below in
       let few = length-take n (to_le_bytes w32 v) in
-      (wrapped (s.pc + 4), over_length s.memory (a - s.base) (low_bytes n v) (omega arith))
+      (wrap-lt (s.pc + 4), length-overwritten s.memory (a - s.base) (low_bytes n v) (omega arith))
   fine_stored false a n v e = inr (inr refl)
 
   fine_executed : (e : Effect) → HasTarget e → IsFine s (execute s e)
-  fine_executed (SetRegister d v) h = (wrapped (s.pc + 4), refl)
+  fine_executed (SetRegister d v) h = (wrap-lt (s.pc + 4), refl)
   fine_executed (Jump d target) h = fine_landed (is_aligned target) (jumped s d target) h refl
   fine_executed (Branch taken target) h = fine_branched taken target h
   fine_executed (Load d a n is_signed) h = fine_loaded (in_window s a n) d a n is_signed
   fine_executed (Store a n v) h = fine_stored (in_window s a n) a n v refl
-  fine_executed MoveOn h = (wrapped (s.pc + 4), refl)
+  fine_executed MoveOn h = (wrap-lt (s.pc + 4), refl)
   fine_executed EnvironmentCall h = refl
   fine_executed Breakpoint h = inl (omega arith)
 
@@ -112,21 +109,17 @@ reached_next s t e h =
       size = omega arith;
     }
 
-read_size : (s : State) (a : ℕ) (bytes : List ℕ) → HasRoom s a bytes → length (overwritten s.memory (a - s.base) bytes) ≡ length s.memory
-read_size s a bytes (inl e) = ap (λ (xs : List ℕ). length (overwritten s.memory (a - s.base) xs)) e ∙ ap length (over_nothing s.memory (a - s.base))
-read_size s a bytes (inr w) = let above = w.above in let below = w.below in over_length s.memory (a - s.base) bytes (omega arith)
-
 pub reached_call : (s : State) (inputs : ℕ) (r : CallRecord) → IsRecord r → IsLawful s inputs r → IsReached s → IsReached (state_after s r)
 reached_call s inputs r form lawful h = record { sound = call_sound s inputs (r ∷ []) h.sound (form, lawful); pc = pc r; size = size r form lawful }
   where
     pc : (r : CallRecord) → (state_after s r).pc < 2 ^ 32
-    pc (Read at args result bytes) = wrapped (s.pc + 4)
-    pc (Write at args result bytes) = wrapped (s.pc + 4)
-    pc (Clock at value) = wrapped (s.pc + 4)
-    pc (Other at number) = wrapped (s.pc + 4)
+    pc (Read at args result bytes) = wrap-lt (s.pc + 4)
+    pc (Write at args result bytes) = wrap-lt (s.pc + 4)
+    pc (Clock at value) = wrap-lt (s.pc + 4)
+    pc (Other at number) = wrap-lt (s.pc + 4)
 
     size : (r : CallRecord) → IsRecord r → IsLawful s inputs r → length (state_after s r).memory ≤ 2 ^ 24
-    size (Read at args result bytes) form lawful = let same = read_size s (buffer_of args) bytes (read_room s inputs at args result bytes (form, lawful)) in let few = h.size in omega arith
+    size (Read at args result bytes) form lawful = let same = length-room s (buffer_of args) bytes (read_room s inputs at args result bytes (form, lawful)) in let few = h.size in omega arith
     size (Write at args result bytes) form lawful = h.size
     size (Clock at value) form lawful = h.size
     size (Other at number) form lawful = h.size

@@ -4,6 +4,7 @@ use Rattle.std.proofs.Common.{◌≡◌, ℕ, zero, suc, ◌+◌, ◌-◌, ◌<�
 use Rattle.std.specs.List.{AllByRecursion}
 use Rattle.std.proofs.lemmas.List.{take_all, take_at, replicate-append-replicate}
 use Rattle.std.proofs.lemmas.Bool.{cases_lt}
+use Rattle.std.proofs.lemmas.Option.{same_Some}
 use Rattle.isa.specs.Machine.{State, Outcome, Retired, Called, Trapped, next, reg}
 use Rattle.isa.specs.declared.CallKind.{CallKind}
 use Rattle.isa.specs.declared.CallKind.TheVariants as kind
@@ -308,9 +309,6 @@ log_is a b p i d r e =
     ∙ ap (λ (x : List CallRecord). log_of b.pages b.inputs b.digest x a.end) r
     ∙ ap (λ (x : RunEnd). log_of b.pages b.inputs b.digest b.records x) e
 
-same_start : (x y : State) → Some x ≡ Some y → x ≡ y
-same_start x y e = cc
-
 -- two recordings with the first answers of one list
 pub one_recording_of_fronts : (st : Setting) (xs ys answers : List ℕ) (a b : Log) → IsFrontOf xs answers
     → IsFrontOf ys answers → IsRecorded st xs a → IsRecorded st ys b → a ≡ b
@@ -318,7 +316,7 @@ one_recording_of_fronts st xs ys answers a b first_a first_b x y =
     let same_pages = x.has_pages ∙ sym y.has_pages in
     let begins : Some y.fits.start ≡ Some x.fits.start = sym y.fits.begins
     ∙ ap (start_in_image (image st.program)) (sym same_pages) ∙ x.fits.begins in
-    let start_is = same_start y.fits.start x.fits.start begins in
+    let start_is = same_Some y.fits.start x.fits.start begins in
     let rest_a = whole_rest st xs answers a x.fits.start first_a x x.fits.agrees in
     let rest_b = whole_rest st ys answers b x.fits.start first_b y
     (subst (λ (s : State). divergence s b ≡ None) start_is y.fits.agrees) in

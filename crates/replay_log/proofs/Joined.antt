@@ -1,14 +1,11 @@
 -- Texts, one after another.
-use Rattle.std.proofs.Common.{◌≡◌, ℕ, ◌+◌, ◌<◌, List, [], ◌∷◌, ◌++◌, length, take, get_or, map, sym, ap, ◌∙◌, append_assoc, refl, arith}
+use Rattle.std.proofs.Common.{◌≡◌, ℕ, ◌+◌, ◌<◌, List, [], ◌∷◌, ◌++◌, length, take, get_or, map, sym, ap, ◌∙◌, refl, arith}
 use Rattle.std.specs.List.{flat_map, range_with_len}
 use Rattle.std.proofs.lemmas.List.{flat_map_more, take_more}
 use Rattle.std.proofs.lemmas.List.FromFn.{map-range_with_len_more}
 use Rattle.log_model.specs.declared.CallRecord.{CallRecord}
 use Rattle.log_model.specs.Moved.{received}
 use Rattle.log_model.specs.Logs.{channel_text}
-
-pub two_texts : (old start more one two : List ℕ) → one ≡ old ++ start → two ≡ one ++ more → two ≡ old ++ (start ++ more)
-two_texts old start more one two d e = e ∙ ap (λ (x : List ℕ). x ++ more) d ∙ append_assoc old start more
 
 pub four_texts : (x y z u none one two three four : List ℕ) → none ≡ [] → one ≡ none ++ x → two ≡ one ++ y → three ≡ two ++ z → four ≡ three ++ u → four ≡ x ++ y ++ z ++ u
 four_texts x y z u none one two three four a b d e f = rw (f, e, d, b, a) refl

@@ -25,6 +25,10 @@ tested true rest c e = (refl, e)
 tested false rest c e = (cc, cc)
 
 -- where nothing differs, the first doesn't, and nothing after it does
+-- a field that doesn't differ is passed over
+pub first_different-same : (c : Compared) (cs : List Compared) → c.kept ≡ c.seen → first_different (c ∷ cs) ≡ first_different cs
+first_different-same c cs e = ap (λ (b : Bool). if b then first_different cs else Some c) ((Decides-int_eq c.kept c.seen).1 e)
+
 pub first_agrees : (c : Compared) (cs : List Compared) → first_different (c ∷ cs) ≡ None → (c.kept ≡ c.seen) × (first_different cs ≡ None)
 first_agrees c cs e =
     let both = tested (int_eq c.kept c.seen) (first_different cs) c e in

@@ -51,7 +51,7 @@ steps_within (Limit at) = omega arith
 pub transfer_offset : (k : CallKind) (args before : List ℕ) (n : ℕ) → 0 < n → (transfer k args before n).offset ≡ length before
 transfer_offset k args before n h = ap (λ (b : Bool). if b then 0 else length before) (ne_eqb n 0 (λ e. omega arith))
 
-no_call : (t : ℕ) (s : State) (f : Fetch) → (plain_step t s f).call ≡ None
+pub no_call : (t : ℕ) (s : State) (f : Fetch) → (plain_step t s f).call ≡ None
 no_call t s (Fetched i) = refl
 no_call t s OutsideWindow = refl
 no_call t s Illegal = refl

@@ -10,9 +10,7 @@ use Rattle.isa.specs.Calls.{channel_of}
 use Rattle.log_model.specs.declared.Version.TheVariants.{Two}
 use Rattle.log_model.specs.declared.CallRecord.{CallRecord}
 use Rattle.log_model.specs.declared.CallRecord.TheVariants.{Read, Write, Clock, Other}
-use Rattle.log_model.specs.declared.RunEnd.{RunEnd}
-use Rattle.log_model.specs.declared.RunEnd.TheVariants.{Exit, Trap, Limit}
-use Rattle.log_model.specs.Logs.{Log, IsLog, IsRecord, CanHold, log_text, at_of, end_at, steps, steps_by}
+use Rattle.log_model.specs.Logs.{Log, IsLog, IsRecord, CanHold, log_text, at_of, end_at, steps}
 use Rattle.log_model.specs.Moved.{received, received_by}
 use Rattle.log_model.proofs.Moved.{length-received-push, length-received-append}
 use Rattle.flow_model.specs.declared.StepSeen.{StepSeen}
@@ -24,6 +22,7 @@ use Rattle.replay_model.proofs.Agreement.{expects_plain_before, expects_call, pl
 use Rattle.replay_model.proofs.Track.{moment, IsOnTrack, agrees_with, least_rises, advance_plain, advance_call, step_time, stays_on, on_track_at, on_track_start}
 use Rattle.replay_model.proofs.Transfers.{read_held}
 use Rattle.log_model.proofs.Texts.{can_hold}
+use Rattle.log_model.proofs.Ends.{end_at-le-steps_by}
 use Rattle.replay_model.proofs.Offsets.{at_moment, in_trace, length-steps_from, steps_within, transfer_offset, call_of_plain}
 
 -- ---- a byte that was received is read by a step
@@ -123,15 +122,10 @@ module _ (log : Log) (channel offset : ℕ) (below : offset < length (received c
   found (suc n) zero h m on end d few = absurd (omega arith)
   found (suc n) (suc q) h m on end d few = found_next n q m.time m.state m.done m.left (found n q (omega arith)) on end d few
 
-end_within : (end : RunEnd) → end_at end ≤ steps_by end
-end_within (Exit at code) = omega arith
-end_within (Trap at kind pc) = omega arith
-end_within (Limit at) = omega arith
-
 found_in_trace : (s : State) (log : Log) → IsLog log → divergence s log ≡ None → (channel offset : ℕ) → offset < length (received channel log.records) → IsFound (trace s log) log.inputs channel offset
 found_in_trace s log form d channel offset below =
     let none : divergence_from log (suc (end_at log.end)) (start s log) ≡ None = subst (λ (n : ℕ). divergence_from log n (start s log) ≡ None) (add-one (end_at log.end)) d in
-    found log channel offset below (end_at log.end) (steps log) (end_within log.end) (start s log) (on_track_start log s form) (zero-add (end_at log.end)) none (omega arith)
+    found log channel offset below (end_at log.end) (steps log) (end_at-le-steps_by log.end) (start s log) (on_track_start log s form) (zero-add (end_at log.end)) none (omega arith)
 
 -- ---- a byte that a step reads was received
 

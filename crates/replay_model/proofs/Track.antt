@@ -47,7 +47,7 @@ before_past : (t : ℕ) (rs : List CallRecord) → ArePast t rs → records_befo
 before_past t [] past = refl
 before_past t (r ∷ rs) past = ap (λ (b : Bool). if b then r ∷ records_before t rs else records_before t rs) (lt-ltb (at_of r) t past.0) ∙ ap (λ (qs : List CallRecord). r ∷ qs) (before_past t rs past.1)
 
-none_before : (t from : ℕ) (rs : List CallRecord) → t ≤ from → Rise from rs → records_before t rs ≡ []
+pub none_before : (t from : ℕ) (rs : List CallRecord) → t ≤ from → Rise from rs → records_before t rs ≡ []
 none_before t from [] h rise = refl
 none_before t from (r ∷ rs) h rise =
     let first = rise.0 in
@@ -92,7 +92,7 @@ agrees_with log m e h d = subst (λ (x : Expected). difference_at m log.inputs x
 
 -- ---- the time
 
-called_time : (m : Moment) (left : List CallRecord) → (after_call m left).time ≡ m.time + 1
+pub called_time : (m : Moment) (left : List CallRecord) → (after_call m left).time ≡ m.time + 1
 called_time m [] = refl
 called_time m (r ∷ rs) = refl
 

@@ -5,6 +5,7 @@ use Rattle.std.proofs.lemmas.Int.{ints}
 use Rattle.std.proofs.lemmas.Bool.{ltb-true, leb-true, eqb-true, le-leb, and_parts, and_from}
 use Rattle.isa.specs.Machine.{State, reg, in_window, bytes_at}
 use Rattle.isa.specs.Calls.{channel_of, buffer_of, length_of, bad_channel, bad_buffer, not_refused, refusal_of}
+use Rattle.isa.proofs.Window.{window_start}
 use Rattle.log_model.specs.declared.CallRecord.TheVariants.{Read, Write}
 use Rattle.log_model.specs.Logs.{IsRecord, IsRefusal, moved_length}
 use Rattle.replay_model.specs.declared.Field.TheVariants as field
@@ -22,9 +23,6 @@ bound_below s place n m h w =
 
 pub window_end : (s : State) (place n : ℕ) → IsTrue (in_window s place n) → place + n ≤ s.base + length s.memory
 window_end s place n w = leb-true (place + n) (s.base + length s.memory) (and_parts (nat_le s.base place) (nat_le (place + n) (s.base + length s.memory)) w).1
-
-window_start : (s : State) (place n : ℕ) → IsTrue (in_window s place n) → s.base ≤ place
-window_start s place n w = leb-true s.base place (and_parts (nat_le s.base place) (nat_le (place + n) (s.base + length s.memory)) w).0
 
 -- as many bytes as were requested
 pub length_held : (s : State) (place n : ℕ) → (n ≡ 0) ⊎ IsTrue (in_window s place n) → length (bytes_at s place n) ≡ n

@@ -19,7 +19,7 @@ use Rattle.flow_model.specs.declared.StepSeen.{StepSeen}
 use Rattle.replay_model.specs.Run.{Moment, advance, after_outcome, step_of, step_by, plain_step, after_call, call_seen}
 use Rattle.replay_model.specs.Comparison.{CallOf, EndOf, PlainStep, difference, difference_at, bytes_compared, result, allowed, arguments_of}
 use Rattle.replay_model.proofs.Agreement.{CallAgrees, call_agrees, plain_agrees, exit_agrees, expects_plain_at_end, expects_plain_before, expects_call, expects_end}
-use Rattle.replay_model.proofs.Track.{moment, agrees_with, least_rises}
+use Rattle.replay_model.proofs.Track.{moment, agrees_with, least_rises, called_time}
 use Rattle.replay_model.proofs.Transfers.{IsHeld, read_held, write_held, same_arguments}
 use Rattle.rv_machine.specs.Hart.{Hart, IsStep}
 use Rattle.rv_machine.specs.declared.Stepped.{Stepped}
@@ -165,10 +165,6 @@ done m (Trapped kind pc) hart s after h f = absurd f
 pub record IsNumbered (m : Moment) (s : StepSeen) (after : Moment) : Type 0 where
   pub number : s.number ≡ m.time
   pub time : after.time ≡ m.time + 1
-
-called_time : (m : Moment) (left : List CallRecord) → (after_call m left).time ≡ m.time + 1
-called_time m [] = refl
-called_time m (r ∷ rs) = refl
 
 pub numbered : (m : Moment) (stepped : Stepped) (s : StepSeen) (after : Moment) → IsFinished m stepped s after → IsNumbered m s after
 numbered m (Plain instr place) s after f = record { number = ap (λ (x : StepSeen). x.number) f.0; time = ap (λ (x : Moment). x.time) f.1 }

@@ -1,12 +1,13 @@
 -- One step of a check, against what the log has next.
-use Rattle.std.proofs.Common.{◌≡◌, ℕ, ◌-◌, ◌^◌, ◌<◌, ◌≤◌, ◌⊎◌, inl, inr, Bool, true, false, List, [], ◌∷◌, Option, None, refl, arith, ap, sym, ◌∙◌, subst}
+use Rattle.std.proofs.Common.{◌≡◌, ℕ, ◌-◌, ◌<◌, ◌≤◌, ◌⊎◌, inl, inr, Bool, true, false, List, [], ◌∷◌, Option, None, refl, arith, ap, sym, ◌∙◌, subst}
 use Rattle.std.specs.Prelude.{nat_lt, if◌then◌else◌}
 use Rattle.std.specs.List.{AllByRecursion}
 use Rattle.std.proofs.lemmas.Bool.{ltb-true, ltb-false}
 use Rattle.log_model.specs.declared.CallRecord.{CallRecord}
 use Rattle.log_model.specs.declared.RunEnd.{RunEnd}
 use Rattle.log_model.specs.declared.RunEnd.TheVariants.{Exit, Trap, Limit}
-use Rattle.log_model.specs.Logs.{Log, IsRecord, IsEnd, at_of, end_at, steps, steps_by}
+use Rattle.log_model.specs.Logs.{Log, IsRecord, at_of, end_at, steps, steps_by}
+use Rattle.log_model.proofs.Ends.{end_at-le-steps_by}
 use Rattle.replay_model.proofs.Offsets.{steps_within}
 use Rattle.replay_model.specs.Run.{Moment}
 use Rattle.replay_model.specs.Comparison.{Compared, Expected, PlainStep, CallOf, EndOf, expected, first_different, difference, difference_at}
@@ -61,11 +62,6 @@ none_left log m x h none empty =
     let same : x ≡ expected m.time [] log.end = h ∙ ap (λ (rs : List CallRecord). expected m.time rs log.end) empty in
     ltb-true m.time (end_at log.end) (end_not_due (nat_lt m.time (end_at log.end)) log.end (λ e i. none e (same ∙ i)))
 
-pub end_within : (end : RunEnd) → end_at end ≤ steps_by end
-end_within (Exit at code) = omega arith
-end_within (Trap at kind pc) = omega arith
-end_within (Limit at) = omega arith
-
 -- ---- what differs
 
 compared_at : (m : Moment) (inputs : ℕ) (x : Expected) → is_limit x ≡ false → difference_at m inputs x ≡ first_different (compares m.state inputs x)
@@ -97,11 +93,6 @@ pub end_expected : (x : Expects) (e : RunEnd) → expected_of x ≡ EndOf e → 
 end_expected expects.PlainStep e h = cc
 end_expected (expects.Call r) e h = cc
 end_expected (expects.End end) e h = let same : end ≡ e = cc in ap (λ (y : RunEnd). expects.End y) same
-
-pub end_small : (end : RunEnd) → IsEnd end → end_at end ≤ 2 ^ 40
-end_small (Exit at code) h = omega (arith, h.0)
-end_small (Trap at kind pc) h = h.0
-end_small (Limit at) h = h
 
 -- ---- the step that is left
 
@@ -135,12 +126,12 @@ none_left_by log m (EndOf (Limit at)) h within t = let left = left_at_end log m 
 -- elsewhere a step is left, and at the end it is the last
 pub step_left : (r : RunAt) (x : Expects) → IsUnderLog r → expected_of x ≡ expected r.moment.time r.moment.left r.log.end → r.moment.time ≤ end_at r.log.end → is_limit (expected_of x) ≡ false → is_trap (expected_of x) ≡ false → r.moment.time < steps r.log
 step_left r expects.PlainStep under h within a b =
-    let early = before_end r under (none_left r.log r.moment PlainStep h (λ e i. not_end e i)) in omega (arith, early, end_within r.log.end)
+    let early = before_end r under (none_left r.log r.moment PlainStep h (λ e i. not_end e i)) in omega (arith, early, end_at-le-steps_by r.log.end)
   where
     not_end : (e : RunEnd) → PlainStep ≡ EndOf e → ⊥
     not_end e i = cc
 step_left r (expects.Call q) under h within a b =
-    let early = before_end r under (none_left r.log r.moment (CallOf q.now) h (λ e i. not_end e i)) in omega (arith, early, end_within r.log.end)
+    let early = before_end r under (none_left r.log r.moment (CallOf q.now) h (λ e i. not_end e i)) in omega (arith, early, end_at-le-steps_by r.log.end)
   where
     not_end : (e : RunEnd) → CallOf q.now ≡ EndOf e → ⊥
     not_end e i = cc

@@ -7,12 +7,9 @@ use Rattle.std.specs.Ordering.{int_eq}
 use Rattle.std.proofs.lemmas.Bool.Decides.{Decides-int_eq}
 use Rattle.std.proofs.lemmas.Bool.{false_from_ne_true}
 use Rattle.replay_model.specs.Comparison.{Compared, compared, first_different, bytes_compared}
-use Rattle.replay_model.proofs.Agreement.{first_agrees}
+use Rattle.replay_model.proofs.Agreement.{first_agrees, first_different-same}
 use Rattle.replayer.specs.declared.difference.Difference.{Difference}
 use Rattle.replayer.specs.Differences.{IsFirst}
-
-pub first_same : (c : Compared) (cs : List Compared) → c.kept ≡ c.seen → first_different (c ∷ cs) ≡ first_different cs
-first_same c cs e = ap (λ (b : Bool). if b then first_different cs else Some c) ((Decides-int_eq c.kept c.seen).1 e)
 
 pub first_other : (c : Compared) (cs : List Compared) → (c.kept ≡ c.seen → ⊥) → first_different (c ∷ cs) ≡ Some c
 first_other c cs e =
@@ -23,7 +20,7 @@ pub first_after : (cs ds : List Compared) → first_different cs ≡ None → fi
 first_after [] ds e = refl
 first_after (c ∷ cs) ds e =
     let here = first_agrees c cs e in
-    first_same c (cs ++ ds) here.0 ∙ first_after cs ds here.1
+    first_different-same c (cs ++ ds) here.0 ∙ first_after cs ds here.1
 
 -- a difference among some fields is the first, whatever comes after them
 pub first_before : (cs ds : List Compared) (d : Compared) → first_different cs ≡ Some d → first_different (cs ++ ds) ≡ Some d

@@ -8,6 +8,7 @@ use Rattle.log_model.specs.declared.CallRecord.{CallRecord}
 use Rattle.log_model.specs.declared.RunEnd.{RunEnd}
 use Rattle.log_model.specs.declared.RunEnd.TheVariants.{Exit, Trap, Limit}
 use Rattle.log_model.specs.Logs.{Log, Rise, at_of, end_at, steps, steps_by}
+use Rattle.log_model.proofs.Ends.{end_at-le-steps_by}
 use Rattle.flow_model.specs.declared.StepSeen.{StepSeen}
 use Rattle.flow_model.specs.declared.CallSeen.{CallSeen}
 use Rattle.replay_model.specs.Run.{Moment, start, after_outcome, moment_after, call_seen, plain_step, step_of, step_by}
@@ -21,7 +22,6 @@ use Rattle.replay_run.proofs.Steps.{event_within}
 use Rattle.replayer.specs.Jobs.{Job}
 use Rattle.replayer.specs.Cursors.{IsCursor}
 use Rattle.replayer.specs.Nexts.{IsPlainAt, IsPlainUntil}
-use Rattle.replayer.proofs.Checking.{end_within}
 use Rattle.replayer.proofs.Passing.{plain_before}
 
 -- ---- whether a step is a call
@@ -93,7 +93,7 @@ module _ (job : Job) (run : RunAt) (cursor : IsCursor job run) (under : IsUnderL
 
   plain_at : (k : ℕ) → run.moment.time ≤ k → k < event → IsPlainAt job k
   plain_at k late h =
-      let below : k < steps job.log = omega (arith, h, within, end_within job.log.end) in
+      let below : k < steps job.log = omega (arith, h, within, end_at-le-steps_by job.log.end) in
       let retired = retires k (still_at k late (omega arith)) h in
       record { below = below; no_call = λ s e. by s (sym (step_at_from (steps job.log) k (start job.start job.log) below) ∙ e) retired.0 retired.1 }
     where

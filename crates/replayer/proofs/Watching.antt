@@ -2,6 +2,7 @@
 use Rattle.std.proofs.Common.{◌≡◌, ℕ, zero, suc, ◌+◌, ◌-◌, ◌<◌, ◌≤◌, refl, Some, arith, ap, sym, ◌∙◌, subst}
 use Rattle.isa.specs.Machine.{State}
 use Rattle.log_model.specs.Logs.{Log, end_at, steps}
+use Rattle.log_model.proofs.Ends.{end_at-le-steps_by}
 use Rattle.flow_model.specs.declared.StepSeen.{StepSeen}
 use Rattle.flow_model.specs.Origins.{step_at}
 use Rattle.replay_model.specs.Run.{Moment, start, advance, moment_after}
@@ -16,7 +17,6 @@ use Rattle.replayer.specs.Jobs.{Job, trace_of}
 use Rattle.replayer.specs.Cursors.{Stands}
 use Rattle.replayer.specs.Watching.{Seen, IsMadeOf, IsToldOf, IsTold, ArePassed}
 use Rattle.replayer.proofs.Loops.{IsChecking}
-use Rattle.replayer.proofs.Checking.{end_within}
 use Rattle.replayer.proofs.Passing.{IsPassing, IsBeyond, passing_more, beyond_passed, beyond_more}
 use Rattle.replayer.proofs.Standing.{IsMoved, moved_by_one, stands_later, step_here}
 
@@ -123,7 +123,7 @@ module _ {W : Type 0} (seen : Seen W) where
           let later = there.time in
           let n = after.moment.time - run.moment.time in
           let next : run.moment.time + n ≡ after.moment.time = omega arith in
-          record { beyond = b; told = subst (seen begun new job) next (more n new (omega (arith, end_within log.end)) p.told) }
+          record { beyond = b; told = subst (seen begun new job) next (more n new (omega (arith, end_at-le-steps_by log.end)) p.told) }
 
       pub seen_advanced : (after : RunAt) (new : W) → IsAdvanced run after → IsTold seen run 1 w new → IsSeen (event + 1) after new
       seen_advanced after new made told =
@@ -135,7 +135,7 @@ module _ {W : Type 0} (seen : Seen W) where
           let next : run.moment.time + 1 ≡ after.moment.time = omega arith in
           record {
             beyond = beyond_more log s event run after so_far.beyond made;
-            told = subst (seen begun new job) next (more 1 new (omega (arith, end_within log.end)) told);
+            told = subst (seen begun new job) next (more 1 new (omega (arith, end_at-le-steps_by log.end)) told);
           }
 
       pub seen_whole : (new : W) → IsTold seen run (steps run.log - run.moment.time) w new → seen begun new job (steps log)
@@ -143,6 +143,6 @@ module _ {W : Type 0} (seen : Seen W) where
           let now = so_far.beyond.checking.time in
           let within = so_far.beyond.within in
           let all : steps run.log ≡ steps log = ap steps so_far.beyond.checking.same_log in
-          let least = end_within log.end in
+          let least = end_at-le-steps_by log.end in
           let next : run.moment.time + (steps run.log - run.moment.time) ≡ steps log = omega arith in
           subst (seen begun new job) next (more (steps run.log - run.moment.time) new (omega arith) told)

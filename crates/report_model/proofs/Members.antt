@@ -47,6 +47,14 @@ module _ {X : Type 0} where
   some-each-too P Q (x ∷ xs) (inl p) e = inl (p, e.0)
   some-each-too P Q (x ∷ xs) (inr h) e = inr (some-each-too P Q xs h e.1)
 
+  pub some-append : (P : X → Type 0) (xs ys : List X) → Some_in P (xs ++ ys) → Some_in P xs ⊎ Some_in P ys
+  some-append P [] ys h = inr h
+  some-append P (x ∷ xs) ys (inl p) = inl (inl p)
+  some-append P (x ∷ xs) ys (inr h) = by (some-append P xs ys h) where
+    by : Some_in P xs ⊎ Some_in P ys → Some_in P (x ∷ xs) ⊎ Some_in P ys
+    by (inl a) = inl (inr a)
+    by (inr b) = inr b
+
   pub some-left : (P : X → Type 0) (xs ys : List X) → Some_in P xs → Some_in P (xs ++ ys)
   some-left P [] ys h = absurd h
   some-left P (x ∷ xs) ys (inl p) = inl p

@@ -13,10 +13,11 @@ use Rattle.flow_model.specs.declared.StepSeen.{StepSeen}
 use Rattle.flow_model.specs.declared.CallSeen.{CallSeen}
 use Rattle.flow_model.specs.Origins.{Policy, step_at, after_step, origins}
 use Rattle.lists.specs.Sets.{set_of}
+use Rattle.lists.proofs.Lists.{all-append, all-weaken, all-filter, all-map}
 use Rattle.report_model.specs.Query.{Query, has_sink, policy_of}
 use Rattle.report_model.specs.Rows.{Sink, Row, sink_at, sinks_of_call, sinks_of_step, point_sink, at_time, points_at, sinks_from, chosen_sinks, row, row_cmp}
 use Rattle.report_model.specs.Needed.{greatest, steps_for, steps_for_sink, RowsOfBeginning, OrderOfBeginning, NeededAreMade}
-use Rattle.report_model.proofs.Each.{each-gives, each-append, each-filter, each-trivial, each-map}
+use Rattle.report_model.proofs.Each.{each-trivial}
 
 -- ---- the greatest of some numbers
 
@@ -40,11 +41,11 @@ none_beyond n (x ∷ xs) beyond h = absurd (omega (arith, beyond.0, h))
 
 points_need : (q : Query) (t : ℕ) → AllByRecursion (λ x. steps_for_sink x ≡ t) (points_at q t)
 points_need q t =
-    each-map (λ x. steps_for_sink x ≡ t) point_sink (at_time t q.points)
-    (each-gives _ (λ p. p.time ≡ t) (λ p h. eqb-true p.time t h.0) (at_time t q.points) (each-filter (λ p. Unit {0}) (λ p. p.time == t) q.points (each-trivial q.points)))
+    all-map (λ x. steps_for_sink x ≡ t) point_sink (at_time t q.points)
+    (all-weaken _ (λ p. p.time ≡ t) (λ p h. eqb-true p.time t h.0) (at_time t q.points) (all-filter (λ p. Unit {0}) (λ p. p.time == t) q.points (each-trivial q.points)))
 
 call_needs : (t : ℕ) (call : CallSeen) (k : CallKind) → AllByRecursion (λ x. steps_for_sink x ≡ t + 1) (sinks_of_call t call k)
-call_needs t call kind.Write = each-map (λ x. steps_for_sink x ≡ t + 1) (sink_at t call) (range_with_len 0 call.length) (each-gives (λ i. Unit {0}) _ (λ i u. refl) (range_with_len 0 call.length) (each-trivial (range_with_len 0 call.length)))
+call_needs t call kind.Write = all-map (λ x. steps_for_sink x ≡ t + 1) (sink_at t call) (range_with_len 0 call.length) (all-weaken (λ i. Unit {0}) _ (λ i u. refl) (range_with_len 0 call.length) (each-trivial (range_with_len 0 call.length)))
 call_needs t call kind.Read = tt
 call_needs t call kind.Clock = tt
 call_needs t call kind.Other = tt
@@ -59,12 +60,12 @@ abbrev chosen_of_step : Query → ℕ → StepSeen → List Sink
 chosen_of_step q t s = filter (λ x. has_sink q x.name) (sinks_of_step t s.call)
 
 chosen_need : (q : Query) (t : ℕ) (s : StepSeen) → AllByRecursion (λ x. steps_for_sink x ≡ t + 1) (chosen_of_step q t s)
-chosen_need q t s = each-gives _ (λ x. steps_for_sink x ≡ t + 1) (λ x h. h.1) (chosen_of_step q t s) (each-filter (λ x. steps_for_sink x ≡ t + 1) (λ x. has_sink q x.name) (sinks_of_step t s.call) (step_needs t s.call))
+chosen_need q t s = all-weaken _ (λ x. steps_for_sink x ≡ t + 1) (λ x h. h.1) (chosen_of_step q t s) (all-filter (λ x. steps_for_sink x ≡ t + 1) (λ x. has_sink q x.name) (sinks_of_step t s.call) (step_needs t s.call))
 
 -- ---- the sinks from a time on
 
 all_at : (P : ℕ → Type 0) (m : ℕ) (xs : List Sink) → P m → AllByRecursion (λ x. steps_for_sink x ≡ m) xs → AllByRecursion (λ x. P (steps_for_sink x)) xs
-all_at P m xs p each = each-gives (λ x. steps_for_sink x ≡ m) (λ x. P (steps_for_sink x)) (λ x e. subst P (sym e) p) xs each
+all_at P m xs p each = all-weaken (λ x. steps_for_sink x ≡ m) (λ x. P (steps_for_sink x)) (λ x e. subst P (sym e) p) xs each
 
 -- each needs at least the steps before that time, and at most those of the trace
 each_needs : (P : ℕ → Type 0) (q : Query) (t : ℕ) (ss : List StepSeen) → ((n : ℕ) → t ≤ n → n ≤ t + length ss → P n) → AllByRecursion (λ x. P (steps_for_sink x)) (sinks_from q t ss)
@@ -72,8 +73,8 @@ each_needs P q t [] h = all_at P t (points_at q t) (h t (omega arith) (omega ari
 each_needs P q t (s ∷ ss) h =
     let points = all_at P t (points_at q t) (h t (omega arith) (omega arith)) (points_need q t) in
     let chosen = all_at P (t + 1) (chosen_of_step q t s) (h (t + 1) (omega arith) (omega arith)) (chosen_need q t s) in
-    each-append (λ x. P (steps_for_sink x)) (points_at q t ++ chosen_of_step q t s) (sinks_from q (t + 1) ss)
-    (each-append (λ x. P (steps_for_sink x)) (points_at q t) (chosen_of_step q t s) points chosen)
+    all-append (λ x. P (steps_for_sink x)) (points_at q t ++ chosen_of_step q t s) (sinks_from q (t + 1) ss)
+    (all-append (λ x. P (steps_for_sink x)) (points_at q t) (chosen_of_step q t s) points chosen)
     (each_needs P q (t + 1) ss (λ n low high. h n (omega (arith, low)) (omega (arith, high))))
 
 none_later : (q : Query) (t n : ℕ) (ss : List StepSeen) → n < t → needed_by (sinks_from q t ss) ≤ n → sinks_from q t ss ≡ []
@@ -81,7 +82,7 @@ none_later q t n ss later h = none_beyond n (sinks_from q t ss) (each_needs (λ 
 
 none_of_step : (q : Query) (t n : ℕ) (s : StepSeen) → n ≤ t → needed_by (chosen_of_step q t s) ≤ n → chosen_of_step q t s ≡ []
 none_of_step q t n s late h =
-    none_beyond n (chosen_of_step q t s) (each-gives _ (λ x. n < steps_for_sink x) (λ x e. omega (arith, e, late)) (chosen_of_step q t s) (chosen_need q t s)) h
+    none_beyond n (chosen_of_step q t s) (all-weaken _ (λ x. n < steps_for_sink x) (λ x e. omega (arith, e, late)) (chosen_of_step q t s) (chosen_need q t s)) h
 
 -- the parts of the sinks of a trace that begins with a step need no more than all of them
 parts_need : (q : Query) (t : ℕ) (s : StepSeen) (ss : List StepSeen)

@@ -19,13 +19,14 @@ use Rattle.flow_model.proofs.Narrowed.{narrowed-origins}
 use Rattle.lists.specs.Sets.{set_of, has, Ascends}
 use Rattle.lists.proofs.Algebra.{Ascends-set_of, has-set_of, same_list}
 use Rattle.lists.proofs.Filters.{IsAlikeWhereTied, Ascends-filter, has-filter, filter-set_of, map-set_of}
+use Rattle.lists.proofs.Lists.{all-weaken}
 use Rattle.report_model.specs.declared.QueryKind.{QueryKind}
 use Rattle.report_model.specs.Query.{Query, has_source, has_sink, policy_of}
 use Rattle.report_model.specs.Grammar.{query_of, read_lines, first_fault, unless, points_in}
 use Rattle.report_model.specs.Rows.{Sink, Row, row, rows, point_sink, points_at, sinks_of_step, sinks_from, chosen_sinks, row_cmp}
 use Rattle.report_model.specs.Together.{Covers, only, together, first_rule, is_same_rule, other_rule, first_other_rule}
 use Rattle.report_model.specs.TogetherLaws.{PointsAscend, OnlyIsOwn, TogetherCovers, TogetherAscends, EachIsOwn}
-use Rattle.report_model.proofs.Each.{each-both, each-gives}
+use Rattle.report_model.proofs.Each.{each-both}
 use Rattle.report_model.proofs.Members.{Some_in, some-Contains}
 use Rattle.report_model.proofs.RowLemmas.{row_total}
 
@@ -193,7 +194,7 @@ covers_one qs q c rule =
 covers_each : (qs : List Query) → first_other_rule qs ≡ None → AllByRecursion (Covers (together qs)) qs
 covers_each qs e =
     let own = recursion_from_All (Contains qs) qs (All-contains_itself qs) in
-    each-gives _ (Covers (together qs)) (λ (q : Query) h. covers_one qs q h.0 h.1) qs (each-both (Contains qs) (λ (q : Query). first_rule qs ≡ q.rule) qs own (same_rules qs e))
+    all-weaken _ (Covers (together qs)) (λ (q : Query) h. covers_one qs q h.0 h.1) qs (each-both (Contains qs) (λ (q : Query). first_rule qs ≡ q.rule) qs own (same_rules qs e))
 
 pub together_covers : TogetherCovers
 together_covers qs e = All-from_recursion (Covers (together qs)) qs (covers_each qs e)
@@ -205,7 +206,7 @@ pub each_is_own : EachIsOwn
 each_is_own qs trace e a =
     let ascending = recursion_from_All (λ (q : Query). Ascends inner_cmp q.points) qs a in
     All-from_recursion (λ (q : Query). rows q trace ≡ only q (rows (together qs) trace)) qs
-    (each-gives _ (λ (q : Query). rows q trace ≡ only q (rows (together qs) trace)) (λ (q : Query) h. only_is_own (together qs) q trace h.0 h.1 (together_ascends qs)) qs
+    (all-weaken _ (λ (q : Query). rows q trace ≡ only q (rows (together qs) trace)) (λ (q : Query) h. only_is_own (together qs) q trace h.0 h.1 (together_ascends qs)) qs
     (each-both (Covers (together qs)) (λ (q : Query). Ascends inner_cmp q.points) qs (covers_each qs e) ascending))
 
 -- ---- the points of a text's query

@@ -16,10 +16,11 @@ use Rattle.flow_model.specs.declared.StepSeen.{StepSeen}
 use Rattle.flow_model.specs.declared.CallSeen.{CallSeen}
 use Rattle.flow_model.proofs.Orders.{point_same}
 use Rattle.lists.proofs.Algebra.{has-set_of, has-Contains, All-set_of, tied_by}
+use Rattle.lists.proofs.Lists.{all-append, all-weaken, all-filter, all-map}
 use Rattle.report_model.specs.Query.{Query, has_sink}
 use Rattle.report_model.specs.Rows.{Sink, Row, row, rows, rows_as_written, point_sink, points_at, sink_at, sinks_of_call, sinks_of_step, sinks_from, chosen_sinks, row_cmp}
 use Rattle.report_model.specs.RowLaws.{sources_at, PointHasRow, IsRowOfPoint, RowIsOfPoint, PointsHaveRows}
-use Rattle.report_model.proofs.Each.{each-gives, each-append, each-filter, each-trivial, each-map}
+use Rattle.report_model.proofs.Each.{each-trivial}
 use Rattle.report_model.proofs.Members.{Some_in, some-Any, some-Contains, Contains-some, some-each, some-each-too, some-left, some-right, some-map, some-filter}
 use Rattle.report_model.proofs.RowLemmas.{row_total}
 
@@ -61,8 +62,8 @@ module _ (q : Query) (p : InnerSink) where
       let points = q.points in
       let own = recursion_from_All (Contains points) points (All-contains_itself points) in
       let kept = filter (λ y. y.time == t) points in
-      each-map (λ (x : Sink). x.name ≡ At p → IsOwn until x) point_sink kept
-      (each-gives _ (λ (y : InnerSink). At y ≡ At p → IsOwn until (point_sink y)) (λ (y : InnerSink) h e. this y h.0 h.1 e) kept (each-filter (Contains points) (λ y. y.time == t) points own)) where
+      all-map (λ (x : Sink). x.name ≡ At p → IsOwn until x) point_sink kept
+      (all-weaken _ (λ (y : InnerSink). At y ≡ At p → IsOwn until (point_sink y)) (λ (y : InnerSink) h e. this y h.0 h.1 e) kept (all-filter (Contains points) (λ y. y.time == t) points own)) where
         this : (y : InnerSink) → (y.time == t) ≡ true → Contains q.points y → At y ≡ At p → IsOwn until (point_sink y)
         this y now c e =
             let f : y ≡ p = cc in
@@ -71,8 +72,8 @@ module _ (q : Query) (p : InnerSink) where
             record { chosen = subst (Contains q.points) f c; inside = omega (arith, is_now, times, le); same = ap point_sink f }
 
   none_in_call : (t until : ℕ) (call : CallSeen) (k : CallKind) → AllByRecursion (λ x. x.name ≡ At p → IsOwn until x) (sinks_of_call t call k)
-  none_in_call t until call kind.Write = each-map (λ (x : Sink). x.name ≡ At p → IsOwn until x) (sink_at t call) (range_with_len 0 call.length)
-      (each-gives _ (λ i. (sink_at t call i).name ≡ At p → IsOwn until (sink_at t call i)) (λ i u e. cc) (range_with_len 0 call.length) (each-trivial (range_with_len 0 call.length)))
+  none_in_call t until call kind.Write = all-map (λ (x : Sink). x.name ≡ At p → IsOwn until x) (sink_at t call) (range_with_len 0 call.length)
+      (all-weaken _ (λ i. (sink_at t call i).name ≡ At p → IsOwn until (sink_at t call i)) (λ i u e. cc) (range_with_len 0 call.length) (each-trivial (range_with_len 0 call.length)))
   none_in_call t until call kind.Read = tt
   none_in_call t until call kind.Clock = tt
   none_in_call t until call kind.Other = tt
@@ -83,13 +84,13 @@ module _ (q : Query) (p : InnerSink) where
   none_in_step t until (Some call) = none_in_call t until call call.kind
 
   none_chosen : (t until : ℕ) (call : Option CallSeen) → AllByRecursion (λ x. x.name ≡ At p → IsOwn until x) (filter (λ x. has_sink q x.name) (sinks_of_step t call))
-  none_chosen t until call = each-gives _ (λ (x : Sink). x.name ≡ At p → IsOwn until x) (λ (x : Sink) h. h.1) _
-      (each-filter (λ (x : Sink). x.name ≡ At p → IsOwn until x) (λ x. has_sink q x.name) (sinks_of_step t call) (none_in_step t until call))
+  none_chosen t until call = all-weaken _ (λ (x : Sink). x.name ≡ At p → IsOwn until x) (λ (x : Sink) h. h.1) _
+      (all-filter (λ (x : Sink). x.name ≡ At p → IsOwn until x) (λ x. has_sink q x.name) (sinks_of_step t call) (none_in_step t until call))
 
   own_from : (t until : ℕ) (trace : List StepSeen) → t + length trace ≤ until → AllByRecursion (λ x. x.name ≡ At p → IsOwn until x) (sinks_from q t trace)
   own_from t until [] le = own_at t until (omega (arith, le))
-  own_from t until (s ∷ ss) le = each-append (λ (x : Sink). x.name ≡ At p → IsOwn until x) _ _
-      (each-append (λ (x : Sink). x.name ≡ At p → IsOwn until x) (points_at q t) _ (own_at t until (omega (arith, le))) (none_chosen t until s.call))
+  own_from t until (s ∷ ss) le = all-append (λ (x : Sink). x.name ≡ At p → IsOwn until x) _ _
+      (all-append (λ (x : Sink). x.name ≡ At p → IsOwn until x) (points_at q t) _ (own_at t until (omega (arith, le))) (none_chosen t until s.call))
       (own_from (t + 1) until ss (omega (arith, le)))
 
   -- ---- the law
@@ -105,7 +106,7 @@ module _ (q : Query) (p : InnerSink) where
     unfolding IsOwnRow
     own_rows =
         let sinks = chosen_sinks q trace in
-        let raw = each-map IsOwnRow (row q trace) sinks (each-gives _ (λ (x : Sink). IsOwnRow (row q trace x)) of_sink sinks (own_from 0 (length trace) trace (omega arith))) in
+        let raw = all-map IsOwnRow (row q trace) sinks (all-weaken _ (λ (x : Sink). IsOwnRow (row q trace x)) of_sink sinks (own_from 0 (length trace) trace (omega arith))) in
         All-set_of row_cmp IsOwnRow (rows_as_written q trace) raw
 
     row_is_of_point : RowIsOfPoint q trace p

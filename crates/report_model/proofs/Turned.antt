@@ -59,7 +59,7 @@ in_step : (call : CallSeen) (l : Loc) → is_received call l ≡ true → Some_i
 in_step call (Reg r i) h = cc
 in_step call (Mem p) h = in_call call call.kind p h
 
-in_trace : (P : SourceByte → Type 0) (trace : List StepSeen) (n : ℕ) (step : StepSeen) → step_at trace n ≡ Some step → Some_in P (sources_of_step step.call) → Some_in P (sources_of trace)
+pub in_trace : (P : SourceByte → Type 0) (trace : List StepSeen) (n : ℕ) (step : StepSeen) → step_at trace n ≡ Some step → Some_in P (sources_of_step step.call) → Some_in P (sources_of trace)
 in_trace P [] n step e h = cc
 in_trace P (s ∷ ss) zero step e h =
     let same : s ≡ step = cc in

@@ -1,26 +1,21 @@
 -- The calls among the first n steps, of calls that rise.
-use Rattle.std.proofs.Common.{◌≡◌, ◌∙◌, ap, sym, subst, refl, arith, ℕ, ◌+◌, ◌<◌, ◌≤◌, ◌⊎◌, inl, inr, Bool, List, [], ◌∷◌, ◌++◌, length, take, drop, get_or, append_assoc, append-nil}
+use Rattle.std.proofs.Common.{◌≡◌, ◌∙◌, ap, sym, subst, arith, ℕ, ◌+◌, ◌<◌, ◌≤◌, ◌⊎◌, inl, inr, Bool, List, [], ◌∷◌, ◌++◌, length, take, drop, get_or, append_assoc, append-nil}
 use Rattle.std.specs.Prelude.{if◌then◌else◌}
 use Rattle.std.specs.List.{AllByRecursion, sum_by}
-use Rattle.std.proofs.lemmas.Bool.{cases_lt, lt-ltb, le-ltb}
+use Rattle.std.proofs.lemmas.Bool.{cases_lt, lt-ltb}
 use Rattle.std.proofs.lemmas.List.{take_more, drop_more}
 use Rattle.std.proofs.lemmas.List.Sums.{sum_by-cons}
 use Rattle.log_model.specs.declared.CallRecord.{CallRecord}
 use Rattle.log_model.specs.Logs.{IsRecord, Rise, at_of, least_after, share}
 use Rattle.replay_model.specs.Offsets.{records_before}
+use Rattle.replay_model.proofs.Track.{none_before}
 
 pub kept : (n : ℕ) (r : CallRecord) (rs : List CallRecord) → at_of r < n → records_before n (r ∷ rs) ≡ r ∷ records_before n rs
 kept n r rs h = ap (λ (b : Bool). if b then r ∷ records_before n rs else records_before n rs) (lt-ltb (at_of r) n h)
 
-pub none_kept : (n t : ℕ) (rs : List CallRecord) → n ≤ t → Rise t rs → records_before n rs ≡ []
-none_kept n t [] h rise = refl
-none_kept n t (r ∷ rs) h rise =
-    ap (λ (b : Bool). if b then r ∷ records_before n rs else records_before n rs) (le-ltb (at_of r) n (omega (arith, h, rise.0)))
-    ∙ none_kept n (at_of r + 1) rs (omega (arith, h, rise.0)) rise.1
-
 -- the first call that isn't among the first n steps is followed by none that is
 pub stops : (n t : ℕ) (r : CallRecord) (rs : List CallRecord) → n ≤ at_of r → Rise t (r ∷ rs) → records_before n (r ∷ rs) ≡ []
-stops n t r rs h rise = none_kept n (at_of r) (r ∷ rs) h (omega arith, rise.1)
+stops n t r rs h rise = none_before n (at_of r) (r ∷ rs) h (omega arith, rise.1)
 
 -- ---- they are a log's calls
 

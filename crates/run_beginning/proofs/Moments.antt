@@ -5,19 +5,19 @@ use Rattle.isa.specs.declared.Instr.TheVariants.{Ecall}
 use Rattle.isa.specs.Machine.{State}
 use Rattle.log_model.specs.declared.CallRecord.{CallRecord}
 use Rattle.log_model.specs.declared.CallRecord.TheVariants.{Read, Write, Clock, Other}
-use Rattle.log_model.specs.declared.RunEnd.{RunEnd}
-use Rattle.log_model.specs.declared.RunEnd.TheVariants.{Exit, Trap, Limit}
-use Rattle.log_model.specs.Logs.{Log, IsLog, Rise, at_of, end_at, steps, steps_by}
+use Rattle.log_model.specs.declared.RunEnd.TheVariants.{Limit}
+use Rattle.log_model.specs.Logs.{Log, IsLog, Rise, at_of, end_at, steps}
+use Rattle.log_model.proofs.Ends.{end_at-le-steps_by}
 use Rattle.flow_model.specs.declared.StepSeen.{StepSeen}
 use Rattle.flow_model.specs.declared.CallSeen.{CallSeen}
 use Rattle.replay_model.specs.Run.{Moment, start, advance, call_seen, step_by, step_of, steps_from}
 use Rattle.replay_model.specs.Comparison.{Compared, PlainStep, CallOf, expected, difference_at, difference, or_later, divergence_from, divergence}
 use Rattle.replay_model.specs.Offsets.{records_before}
 use Rattle.replay_model.proofs.Agreement.{expects_plain_at_end, expects_plain_before, expects_call, expects_end, plain_agrees, call_agrees, agrees_at, later_agrees}
-use Rattle.replay_model.proofs.Track.{IsOnTrack, moment, advance_plain, advance_call, agrees_with, step_time, stays_on, on_track_start}
+use Rattle.replay_model.proofs.Track.{IsOnTrack, moment, advance_plain, advance_call, agrees_with, step_time, stays_on, on_track_start, none_before}
 use Rattle.run_beginning.specs.Beginnings.{beginning}
 use Rattle.run_beginning.specs.BeginningLaws.{BeginningAgrees, BeginningOfTrace}
-use Rattle.run_beginning.proofs.Fronts.{kept, none_kept, stops}
+use Rattle.run_beginning.proofs.Fronts.{kept, stops}
 
 -- what a call is seen as hangs on no later call
 same_seen : (t : ℕ) (s : State) (done : List CallRecord) (r : CallRecord) (rs front : List CallRecord) → call_seen (moment t s done (r ∷ front)) (r ∷ front) ≡ call_seen (moment t s done (r ∷ rs)) (r ∷ rs)
@@ -25,11 +25,6 @@ same_seen t s done (Read at args result bytes) rs front = refl
 same_seen t s done (Write at args result bytes) rs front = refl
 same_seen t s done (Clock at value) rs front = refl
 same_seen t s done (Other at number) rs front = refl
-
-end_within : (end : RunEnd) → end_at end ≤ steps_by end
-end_within (Exit at code) = omega arith
-end_within (Trap at kind pc) = omega arith
-end_within (Limit at) = omega arith
 
 module _ (log : Log) (n : ℕ) where
   -- the moment of the beginning's run at the time of one of the whole run
@@ -93,7 +88,7 @@ module _ (log : Log) (n : ℕ) where
   -- at the last moment no call is left, and a run is cut off wherever it is
   agrees_at_last : (m : Moment) → IsOnTrack log m → m.time ≡ n → difference (beginning n log) (cut m) ≡ None
   agrees_at_last m on now =
-      let none = none_kept n m.time m.left (omega (arith, now)) on.rise in
+      let none = none_before n m.time m.left (omega (arith, now)) on.rise in
       ap (difference_at (cut m) log.inputs)
       (ap (λ (left : List CallRecord). expected m.time left (Limit n)) none ∙ expects_end m.time (Limit n) (omega (arith, now)))
 
@@ -131,7 +126,7 @@ module _ (log : Log) (n : ℕ) where
 begins : (s : State) (log : Log) (n : ℕ) → IsLog log → divergence s log ≡ None → n ≤ end_at log.end → IsBeginning log n n (steps log) (start s log)
 begins s log n form d below =
     let none : divergence_from log (suc (end_at log.end)) (start s log) ≡ None = subst (λ (k : ℕ). divergence_from log k (start s log) ≡ None) (add-one (end_at log.end)) d in
-    is_beginning log n n (steps log) (suc (end_at log.end)) (start s log) (on_track_start log s form) (zero-add n) below (omega (arith, below, end_within log.end)) (omega (arith, below)) none
+    is_beginning log n n (steps log) (suc (end_at log.end)) (start s log) (on_track_start log s form) (zero-add n) below (omega (arith, below, end_at-le-steps_by log.end)) (omega (arith, below)) none
 
 pub beginning_agrees : BeginningAgrees
 beginning_agrees s log n form d below =

@@ -4,17 +4,13 @@ use Rattle.log_model.specs.declared.Version.TheVariants.{Two}
 use Rattle.log_model.specs.declared.CallRecord.{CallRecord}
 use Rattle.log_model.specs.declared.RunEnd.{RunEnd}
 use Rattle.log_model.specs.declared.RunEnd.TheVariants.{Exit, Trap, Limit}
-use Rattle.log_model.specs.Logs.{Log, IsLog, IsEnd, end_at, end_text, log_text}
+use Rattle.log_model.specs.Logs.{Log, IsLog, end_at, end_text, log_text}
 use Rattle.log_model.proofs.Texts.{wide_length}
+use Rattle.log_model.proofs.Ends.{end_at-small}
 use Rattle.replay_model.specs.Offsets.{records_before}
 use Rattle.replay_log.specs.Logs.{log_of_parts}
 use Rattle.run_beginning.specs.Beginnings.{beginning}
 use Rattle.run_beginning.proofs.Fronts.{is_front}
-
-ends_in_time : (end : RunEnd) → IsEnd end → end_at end ≤ 2 ^ 40
-ends_in_time (Exit at code) is = omega (arith, is.0)
-ends_in_time (Trap at kind pc) is = is.0
-ends_in_time (Limit at) is = is
 
 -- no end is shorter than that of a run that is cut off
 limit_is_short : (end : RunEnd) (n : ℕ) → length (end_text Two (Limit n)) ≤ length (end_text Two end)
@@ -32,7 +28,7 @@ module _ (log : Log) (n : ℕ) (form : IsLog log) where
         digest = form.digest;
         digest_bytes = form.digest_bytes;
         records = front.records;
-        end = omega (arith, below, ends_in_time log.end form.end);
+        end = omega (arith, below, end_at-small log.end form.end);
         rise = front.rise;
         ends_after = front.ends_after;
       }

@@ -1,23 +1,22 @@
 -- Finished tasks that have all numbers below n, each once, stand in the order of their numbers once they are sorted.
-use Rattle.std.proofs.Common.{◌≡◌, ℕ, zero, suc, ◌+◌, ◌-◌, ◌<◌, ◌≤◌, Some, List, [], ◌∷◌, length, map, get_or, refl, sym, ap, ◌∙◌, subst, arith, All}
+use Rattle.std.proofs.Common.{◌≡◌, ℕ, zero, suc, ◌+◌, ◌-◌, ◌<◌, ◌≤◌, List, [], ◌∷◌, length, map, get_or, refl, sym, ap, ◌∙◌, subst, arith, All}
 use Rattle.std.specs.List.{sum_by, range_with_len, slice_get, AllZip}
 use Rattle.std.specs.List.Sorted.{IsPermutation, IsNonDecreasingBy}
 use Rattle.std.proofs.lemmas.List.Sums.{sum_by-cons}
 use Rattle.std.proofs.lemmas.List.Sorted.{sum_by-IsPermutation, All-permutation}
 use Rattle.std.proofs.lemmas.List.Elements.{All-head, All-tail}
+use Rattle.std.proofs.lemmas.Option.{same_Some}
+use Rattle.lists.proofs.Lists.{same-heads, same-tails}
 use Rattle.run_board.specs.declared.view.WorkerView.{WorkerView}
 use Rattle.run_board.specs.Tasks.{TaskWords, AreNumbered, IsLed}
 use Rattle.run_board.specs.Rule.{view_weight, whole_weight}
 use Rattle.run_board.specs.Workers.{Keeps}
-use Rattle.run_board.proofs.FillOrder.{head_is, tail_is, nil_cons}
+use Rattle.run_board.proofs.FillOrder.{nil_cons}
 
 -- no number of a range lies below its start
 none_below : (c a n : ℕ) → c ≤ a → sum_by (λ z. c - z) (range_with_len a n) ≡ 0
 none_below c a zero h = refl
 none_below c a (suc n) h = omega (arith, sum_by-cons (λ z. c - z) a (range_with_len (a + 1) n), none_below c (a + 1) n (omega arith))
-
-some_is : {X : Type 0} (x y : X) → Some x ≡ Some y → x ≡ y
-some_is x y e = cc
 
 module _ {T : Type 0} (number : T → ℕ) where
   sum_by-numbers : (h : ℕ → ℕ) (xs : List T) → sum_by h (map number xs) ≡ sum_by (λ t. h (number t)) xs
@@ -57,10 +56,10 @@ module _ {T : Type 0} (words : TaskWords T) where
   led_in_order starts (x ∷ xs) (y ∷ ys) a e at all =
       let range = range_with_len (a + 1) (length ys) in
       let one = All-head (IsLed words starts) x xs all in
-      let here : words.number x ≡ a + 0 = let h = head_is (words.number x) a (map words.number xs) range e in omega arith in
-      let start_is : one.0 ≡ y = some_is one.0 y (sym one.1 ∙ ap (slice_get starts) here ∙ at 0) in (
+      let here : words.number x ≡ a + 0 = let h = same-heads (words.number x) a (map words.number xs) range e in omega arith in
+      let start_is : one.0 ≡ y = same_Some one.0 y (sym one.1 ∙ ap (slice_get starts) here ∙ at 0) in (
         subst (λ s. words.led_from x s) start_is one.2,
-        led_in_order starts xs ys (a + 1) (tail_is (words.number x) a (map words.number xs) range e) (λ i. let n : (a + 1) + i ≡ a + suc i = omega arith in ap (slice_get starts) n ∙ at (suc i)) (All-tail (IsLed words starts) x xs all),
+        led_in_order starts xs ys (a + 1) (same-tails (words.number x) a (map words.number xs) range e) (λ i. let n : (a + 1) + i ≡ a + suc i = omega arith in ap (slice_get starts) n ∙ at (suc i)) (All-tail (IsLed words starts) x xs all),
       )
 
   -- what the board answers, of the tasks handed in

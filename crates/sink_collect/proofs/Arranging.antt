@@ -2,19 +2,16 @@
 use Rattle.std.proofs.Common.{◌≡◌, List, [], ◌∷◌, Bool, false, refl, sym, subst}
 use Rattle.std.specs.List.{AllByRecursion, IsDistinct}
 use Rattle.std.specs.List.Sorted.{IsSortedBy, IsPermutation}
-use Rattle.std.specs.Cmp.{IsTotalOrder, on_total}
 use Rattle.std.specs.Ordering.{eq_by_cmp, is_eq, is_lt}
 use Rattle.std.specs.declared.cmp.Ordering.{Ordering}
 use Rattle.std.specs.declared.cmp.Ordering.TheVariants.{Less, Equal, Greater}
 use Rattle.lists.specs.Sets.{set_of}
 use Rattle.lists.proofs.Sorting.{sorted-is_set_of}
-use Rattle.flow_model.proofs.Orders.{point_total, point_same}
+use Rattle.flow_model.proofs.Orders.{point_same}
 use Rattle.flow_model.proofs.Derived.{point_alike, point_compared}
 use Rattle.report_model.specs.Rows.{Row, row_cmp}
+use Rattle.report_model.proofs.RowLemmas.{row_total}
 use Rattle.sink_collect.specs.Distinct.{AreDistinct, IsApartFrom}
-
-row_total : IsTotalOrder row_cmp
-row_total = on_total (λ r. r.sink) point_total
 
 -- rows of different output bytes or points don't tie
 no_tie : (r s : Row) → (r.sink ≡ s.sink → ⊥) → eq_by_cmp row_cmp r s ≡ false

@@ -1,5 +1,5 @@
 -- Ranges that are cut wherever a row begins or ends to list source bytes: a row lists all bytes of such a range, or none.
-use Rattle.std.proofs.Common.{◌≡◌, ℕ, ◌+◌, ◌-◌, ◌^◌, ◌<◌, ◌≤◌, ◌⊎◌, inl, inr, List, [], ◌∷◌, ◌++◌, length, map, get_or, Bool, true, false, cond, refl, sym, ap, ap₂, ◌∙◌, subst, arith}
+use Rattle.std.proofs.Common.{◌≡◌, ℕ, ◌+◌, ◌-◌, ◌^◌, ◌<◌, ◌≤◌, ◌⊎◌, inl, inr, List, [], ◌∷◌, ◌++◌, length, map, get_or, Bool, true, cond, refl, sym, ap, ap₂, ◌∙◌, subst, arith}
 use Rattle.std.specs.Prelude.{All, Contains, ◌||◌}
 use Rattle.std.specs.List.{filter, flat_map, AllByRecursion}
 use Rattle.std.specs.Ordering.{eq_by_cmp}
@@ -13,6 +13,7 @@ use Rattle.flow_model.specs.Orders.{source_cmp}
 use Rattle.flow_model.proofs.Orders.{source_total, source_same}
 use Rattle.lists.specs.Sets.{has}
 use Rattle.lists.proofs.Algebra.{has-Contains, Contains-has}
+use Rattle.lists.proofs.Tests.{same-tests}
 use Rattle.report_model.specs.Rows.{Row}
 use Rattle.source_ranges.specs.declared.SourceRange.{SourceRange}
 use Rattle.source_ranges.specs.Ranges.{byte_on, bytes_of, ranges_of}
@@ -46,11 +47,6 @@ has_in b r h =
     let channel : r.channel ≡ b.channel = ap (λ (x : SourceByte). x.channel) is in
     let offset : r.from + k ≡ b.offset = ap (λ (x : SourceByte). x.offset) is in
     record { channel = sym channel; low = omega arith; high = omega arith }
-
-pub same_tests : (a b : Bool) → (a ≡ true → b ≡ true) → (b ≡ true → a ≡ true) → a ≡ b
-same_tests true b f g = sym (f refl)
-same_tests false true f g = g refl
-same_tests false false f g = refl
 
 -- ---- one range, and the ends of others
 
@@ -91,7 +87,7 @@ module _ (p : SourceRange) (o : ℕ) (low : p.from ≤ o) (high : o < p.past) wh
 
   one_range : (g : SourceRange) → IsNotWithin p (start_of g) → IsNotWithin p (end_of g) → has source_cmp here (bytes_of g) ≡ has source_cmp first (bytes_of g)
   one_range g s e =
-      same_tests (has source_cmp here (bytes_of g)) (has source_cmp first (bytes_of g))
+      same-tests (has source_cmp here (bytes_of g)) (has source_cmp first (bytes_of g))
       (λ h. in_has first g (in_front p g o low high s (has_in here g h)))
       (λ h. in_has here g (in_rest p g o low high e (has_in first g h)))
 

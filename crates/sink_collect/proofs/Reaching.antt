@@ -16,6 +16,7 @@ use Rattle.flow_model.specs.declared.SinkPoint.{SinkPoint}
 use Rattle.flow_model.specs.declared.SourceByte.{SourceByte}
 use Rattle.flow_model.specs.Orders.{source_cmp}
 use Rattle.lists.specs.Sets.{has, Ascends}
+use Rattle.lists.proofs.Tests.{same-tests}
 use Rattle.report_model.specs.Rows.{Row}
 use Rattle.report_model.specs.Influence.{Reach, reached, turned}
 use Rattle.source_ranges.specs.declared.SourceRange.{SourceRange}
@@ -25,7 +26,7 @@ use Rattle.source_ranges.proofs.Kept.{bytes-pushed, length-bytes}
 use Rattle.sink_collect.specs.Places.{start_of, end_of, first_of, IsAlike}
 use Rattle.sink_collect.specs.Reaching.{Stretch, reach_of, reaches_in, stretches, one_if, with_sink_if, with_sink, with_row}
 use Rattle.sink_collect.proofs.Order.{only_once}
-use Rattle.sink_collect.proofs.Cuts.{IsIn, in_has, has_in, same_tests}
+use Rattle.sink_collect.proofs.Cuts.{IsIn, in_has, has_in}
 
 never : {A : Type 0} → Less ≡ Equal → A
 never e = cc
@@ -157,7 +158,7 @@ module _ (s : SinkPoint) (old now : List Stretch) (starts : List ℕ) (g : Sourc
       (λ k d inside.
       let within : k < length old = omega (arith, raised.long) in
       raised.each k d within
-      ∙ ap (λ (b : Bool). with_sink_if b s (get_or old k d)) (same_tests (is_from first i k) (has source_cmp (first_of (get_or old k d).range) (bytes_of g)) (found k d within) (listed k d within))
+      ∙ ap (λ (b : Bool). with_sink_if b s (get_or old k d)) (same-tests (is_from first i k) (has source_cmp (first_of (get_or old k d).range) (bytes_of g)) (found k d within) (listed k d within))
       ∙ sym (get_or-map add old k d d within))
 
 -- ---- one range more

@@ -2,7 +2,6 @@
 use Rattle.std.proofs.Common.{◌≡◌, ℕ, zero, suc, ◌<◌, nat_lt, true, false, List, [], ◌∷◌, length, refl, ap, ap₂, sym, ◌∙◌, subst, arith}
 use Rattle.std.specs.Prelude.{◌↔◌, IsTrue}
 use Rattle.std.proofs.lemmas.Bool.{false≢true, lt-ltb, ltb-true}
-use Rattle.std.proofs.lemmas.Grind.{common_steps}
 use Rattle.std.specs.declared.cmp.Ordering.{Ordering}
 use Rattle.std.specs.declared.cmp.Ordering.TheVariants.{Less, Equal, Greater}
 use Rattle.lists.specs.Sets.{union, inserted, placed}
@@ -14,8 +13,8 @@ use Rattle.source_runs.specs.Runs.{bytes_of}
 use Rattle.merge_log.specs.declared.nodes.Entry.{Entry}
 use Rattle.merge_log.specs.Log.{KeepsNodes, Terms, terms, joined}
 use Rattle.merge_log.proofs.Terms.{nothing_under_0}
+use Rattle.merge_log.proofs.Keeping.{keeps_then}
 use Rattle.taint_shadow.specs.declared.labels.Label.{Label}
-use Rattle.taint_shadow.specs.contracts.labels.LabelPartialEq.TheImpl as label_test
 use Rattle.taint_shadow.specs.declared.labels.LabelKind.{LabelKind}
 use Rattle.taint_shadow.specs.declared.labels.LabelKind.TheVariants.{Node, Start, Run}
 use Rattle.taint_shadow.specs.Labels.{MakesLabel, KeepsLabels, Makes, mean_together, kind_of}
@@ -101,9 +100,6 @@ pub joined_stands : (old new : List Entry) (one other n : ℕ) → 0 < length (t
 joined_stands old new one other n some is = subst HasByte (sym (ap sources_in is)) (some_union (terms old one).sources (terms old other).sources some)
 
 -- where the node of the left label is made, and then that of the right one, and then their union
-nodes_then : (a b c : List Entry) → KeepsNodes a b → KeepsNodes b c → KeepsNodes a c
-nodes_then a b c h k = record { nodes = λ n i. k.nodes n (h.nodes n i); terms = λ n i. k.terms n (h.nodes n i) ∙ h.terms n i }
-
 pub of_both : (a b c d : SourceLabels) (left right : Label) (l r n : ℕ) (label : Label) → label_words.stands a right → IsSourceNode (log_of b) l
     → (terms (log_of b) l).sources ≡ label_words.means a left → KeepsNodes (log_of a) (log_of b)
     → (terms (log_of c) r).sources ≡ label_words.means b right → KeepsNodes (log_of b) (log_of c)
@@ -115,12 +111,8 @@ of_both a b c d left right l r n label stands node is_left first is_right second
     means = made.means ∙ ap sources_in is
         ∙ ap₂ (union source_cmp) (ap sources_in (second.terms l node.stands) ∙ is_left) (is_right ∙ (keeps_labels a b first right stands).means);
   };
-  keeps = keeps_labels a d (nodes_then (log_of a) (log_of c) (log_of d) (nodes_then (log_of a) (log_of b) (log_of c) first second) third);
+  keeps = keeps_labels a d (keeps_then (log_of a) (log_of c) (log_of d) (keeps_then (log_of a) (log_of b) (log_of c) first second) third);
 }
-
--- labels that test as equal are the same
-pub same_label : (l m : Label) → label_test.eq-value.it l m ≡ true → l ≡ m
-same_label l m h = let same : l.number ≡ m.number = grind (arith, common_steps) in ap (λ (n : ℕ). record { number = n }) same
 
 -- equal labels, and one without a source byte
 module _ (labels : SourceLabels) (left right : Label) (is_left : label_words.stands labels left) (is_right : label_words.stands labels right) where

@@ -2,7 +2,7 @@
 use Rattle.std.proofs.Common.{◌≡◌, ℕ, zero, suc, ◌+◌, ◌-◌, ◌<◌, Bool, true, false, ◌&&◌, ◌==◌, if◌then◌else◌, List, [], ◌∷◌, ◌++◌, map, take, drop, refl, sym, ap, ap₂, ◌∙◌, subst, arith}
 use Rattle.std.specs.List.{flat_map, range_with_len}
 use Rattle.std.proofs.lemmas.List.{take-append-drop}
-use Rattle.std.proofs.lemmas.Bool.{eqb-true}
+use Rattle.std.proofs.lemmas.Bool.{eqb-true, false≢true}
 use Rattle.std.proofs.lemmas.Bool.Decides.{nat_tests}
 use Rattle.flow_model.specs.declared.SourceByte.{SourceByte}
 use Rattle.source_ranges.specs.declared.SourceRange.{SourceRange}
@@ -108,9 +108,6 @@ more_bytes c a p q e h =
 one_byte : (b : SourceByte) → bytes_of (range_of b) ≡ b ∷ []
 one_byte b = let length : b.offset + 1 - b.offset ≡ 1 = omega arith in ap (λ (n : ℕ). bytes_from b.channel b.offset n) length
 
-never : false ≡ true → ⊥
-never h = cc
-
 with_byte-holds : (b : SourceByte) (bs : List SourceByte) (rs : List SourceRange) → AreRangesOf bs rs → AreRangesOf (b ∷ bs) (with_byte b rs)
 with_byte-holds b bs [] h = record {
   bytes = ap (λ (xs : List SourceByte). xs ++ []) (one_byte b) ∙ ap (λ (xs : List SourceByte). b ∷ xs) h.bytes;
@@ -130,7 +127,7 @@ with_byte-holds b bs (r ∷ rs) h = by (is_just_before b r) refl
         }
     by false e = record {
       bytes = ap₂ (λ (xs ys : List SourceByte). xs ++ ys) (one_byte b) h.bytes;
-      apart = (omega arith, λ c o. never (sym e ∙ test_true b.channel r.channel (b.offset + 1) r.from c o), h.apart);
+      apart = (omega arith, λ c o. false≢true (sym e ∙ test_true b.channel r.channel (b.offset + 1) r.from c o), h.apart);
     }
 
 pub ranges_hold_bytes : RangesHoldBytes

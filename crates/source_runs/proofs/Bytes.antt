@@ -7,19 +7,12 @@ use Rattle.std.proofs.lemmas.Grind.{common_steps}
 use Rattle.std.proofs.lemmas.Bool.{or_left, or_right, or_cases}
 use Rattle.lists.specs.Sets.{union, has, IsBelow, Ascends}
 use Rattle.lists.proofs.Algebra.{Ascends-union, has-union, same_list, tied_by}
+use Rattle.lists.proofs.Tests.{true-false, same-tests}
 use Rattle.flow_model.specs.declared.SourceByte.{SourceByte}
 use Rattle.flow_model.specs.Orders.{source_cmp}
-use Rattle.flow_model.proofs.Orders.{source_total, source_same}
+use Rattle.flow_model.proofs.Orders.{source_total, source_same, source_cmp-channel}
 use Rattle.source_runs.specs.declared.runs.SourceRun.{SourceRun}
 use Rattle.source_runs.specs.Runs.{byte_on, bytes_from, bytes_of}
-
-pub no : {A : Type 0} → true ≡ false → A
-no e = cc
-
-same_bool : (a b : Bool) → (a ≡ true → b ≡ true) → (b ≡ true → a ≡ true) → a ≡ b
-same_bool true b h k = sym (h refl)
-same_bool false true h k = no (sym (k refl))
-same_bool false false h k = refl
 
 pub lt_or : (i n : ℕ) → (i < n) ⊎ (n ≤ i)
 lt_or i n = by (nat_lt i n) refl where
@@ -29,15 +22,12 @@ lt_or i n = by (nat_lt i n) refl where
 
 -- ---- the order
 
-by_channel : (x y : SourceByte) → x.channel < y.channel → source_cmp x y ≡ Less
-by_channel x y h = rw (sym (nat_cmp_is x.channel y.channel Less h)) refl
-
 by_offset : (x y : SourceByte) → x.channel ≡ y.channel → x.offset < y.offset → source_cmp x y ≡ Less
 by_offset x y e h = rw (sym (nat_cmp_is x.channel y.channel Equal e), sym (nat_cmp_is x.offset y.offset Less h)) refl
 
 -- one byte comes before another
 pub less : (x y : SourceByte) → (x.channel < y.channel) ⊎ ((x.channel ≡ y.channel) × (x.offset < y.offset)) → source_cmp x y ≡ Less
-less x y (inl h) = by_channel x y h
+less x y (inl h) = source_cmp-channel x y h
 less x y (inr h) = by_offset x y h.0 h.1
 
 below_offsets : (c o a n : ℕ) → o < a → IsBelow source_cmp (byte_on c o) (bytes_from c a n)
@@ -63,7 +53,7 @@ byte_is : (q : SourceByte) (c a : ℕ) → q.channel ≡ c → q.offset ≡ a �
 byte_is q c a e f = ap₂ (λ (x y : ℕ). byte_on x y) e f
 
 one_of : (q : SourceByte) (c a n : ℕ) → has source_cmp q (bytes_from c a n) ≡ true → IsFrom q c a n
-one_of q c a zero h = no (sym h)
+one_of q c a zero h = true-false (sym h)
 one_of q c a (suc n) h = by (eq_by_cmp source_cmp q (byte_on c a)) refl h (one_of q c (a + 1) n) where
   by : (b : Bool) → eq_by_cmp source_cmp q (byte_on c a) ≡ b → (b || has source_cmp q (bytes_from c (a + 1) n)) ≡ true
       → (has source_cmp q (bytes_from c (a + 1) n) ≡ true → IsFrom q c (a + 1) n) → IsFrom q c a (suc n)
@@ -113,7 +103,7 @@ one_byte b = let one : b.offset + 1 - b.offset ≡ 1 = omega arith in ap (λ (n 
 have_both : (r s t : SourceRun) (q : SourceByte) → (IsOf q t → IsOf q r ⊎ IsOf q s) → (IsOf q r → IsOf q t) → (IsOf q s → IsOf q t)
     → has source_cmp q (bytes_of t) ≡ (has source_cmp q (bytes_of r) || has source_cmp q (bytes_of s))
 have_both r s t q split left right =
-    same_bool (has source_cmp q (bytes_of t)) (has source_cmp q (bytes_of r) || has source_cmp q (bytes_of s))
+    same-tests (has source_cmp q (bytes_of t)) (has source_cmp q (bytes_of r) || has source_cmp q (bytes_of s))
     (λ h. elim (split (of_run q t h)) [
       | inl i ↦ or_left (has source_cmp q (bytes_of r)) (has source_cmp q (bytes_of s)) (run_has q r i)
       | inr i ↦ or_right (has source_cmp q (bytes_of r)) (has source_cmp q (bytes_of s)) (run_has q s i)

@@ -11,13 +11,15 @@ use Rattle.std.proofs.lemmas.Bool.Decides.{nat_tests}
 use Rattle.std.proofs.lemmas.List.Folds.{list_any-append}
 use Rattle.std.proofs.lemmas.List.Sorted.{list_any-IsPermutation}
 use Rattle.lists.specs.Sets.{has, IsBelow, Ascends}
+use Rattle.lists.proofs.Tests.{true-false}
+use Rattle.lists.proofs.Algebra.{IsBelow-append}
 use Rattle.flow_model.specs.declared.SourceByte.{SourceByte}
 use Rattle.flow_model.specs.Orders.{source_cmp}
 use Rattle.flow_model.proofs.Orders.{source_total}
 use Rattle.source_runs.specs.declared.runs.SourceRun.{SourceRun}
 use Rattle.source_runs.specs.contracts.runs.SourceRunOrd.TheImpl as of_run_order
 use Rattle.source_runs.specs.Runs.{bytes_of, all_bytes, goes_on, IsBefore, Rise, AreRising, Stop, AreLongest}
-use Rattle.source_runs.proofs.Bytes.{no, IsOf, of_run, run_ascends, less, longer, longer_has}
+use Rattle.source_runs.proofs.Bytes.{IsOf, of_run, run_ascends, less, longer, longer_has}
 
 -- ---- runs in order
 
@@ -126,15 +128,11 @@ below_each : (x : SourceByte) (ys : List SourceByte) → ((y : SourceByte) → h
 below_each x [] h = tt
 below_each x (y ∷ ys) h = (h y (or_left (eq_by_cmp source_cmp y y) (has source_cmp y ys) (itself y)), below_each x ys (λ z k. h z (or_right (eq_by_cmp source_cmp z y) (has source_cmp z ys) k)))
 
-below_append : (x : SourceByte) (xs ys : List SourceByte) → IsBelow source_cmp x xs → IsBelow source_cmp x ys → IsBelow source_cmp x (xs ++ ys)
-below_append x [] ys h k = k
-below_append x (y ∷ xs) ys h k = (h.0, below_append x xs ys h.1 k)
-
 ascends_append : (xs ys : List SourceByte) → Ascends source_cmp xs → Ascends source_cmp ys
     → ((x y : SourceByte) → has source_cmp x xs ≡ true → has source_cmp y ys ≡ true → source_cmp x y ≡ Less) → Ascends source_cmp (xs ++ ys)
 ascends_append [] ys h k below = k
 ascends_append (x ∷ xs) ys h k below = (
-  below_append x xs ys h.0 (below_each x ys (λ y m. below x y (or_left (eq_by_cmp source_cmp x x) (has source_cmp x xs) (itself x)) m)),
+  IsBelow-append source_total x xs ys h.0 (below_each x ys (λ y m. below x y (or_left (eq_by_cmp source_cmp x x) (has source_cmp x xs) (itself x)) m)),
   ascends_append xs ys h.1 k (λ z y l m. below z y (or_right (eq_by_cmp source_cmp z x) (has source_cmp z xs) l) m),
 )
 
@@ -152,7 +150,7 @@ own_after : (s : SourceRun) (y : SourceByte) → has source_cmp y (bytes_of s) �
 own_after s y p = let i = of_run y s p in inr (sym i.channel, i.first)
 
 later_after : (s : SourceRun) (ss : List SourceRun) (y : SourceByte) → Rise s ss → has source_cmp y (all_bytes ss) ≡ true → IsAfter s y
-later_after s [] y h p = no (sym p)
+later_after s [] y h p = true-false (sym p)
 later_after s (t ∷ ts) y h p = after_then s t y h.0 (by (or_cases (has source_cmp y (bytes_of t)) (has source_cmp y (all_bytes ts)) (sym (has-all y t ts) ∙ p)) (later_after t ts y h.1)) where
   by : (has source_cmp y (bytes_of t) ≡ true) ⊎ (has source_cmp y (all_bytes ts) ≡ true) → (has source_cmp y (all_bytes ts) ≡ true → IsAfter t y) → IsAfter t y
   by (inl q) later = own_after t y q

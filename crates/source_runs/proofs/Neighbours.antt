@@ -1,5 +1,6 @@
 -- Runs that are joined to those before them, where they overlap or touch.
-use Rattle.std.proofs.Common.{◌≡◌, List, [], ◌∷◌, ◌++◌, refl, ap, sym, ◌∙◌, Bool, true, false, ◌||◌}
+use Rattle.std.proofs.Common.{◌≡◌, List, [], ◌∷◌, ◌++◌, ap, sym, ◌∙◌, Bool, ◌||◌}
+use Rattle.std.proofs.Math.Bool.{or-false}
 use Rattle.lists.specs.Sets.{union, has}
 use Rattle.lists.proofs.Algebra.{has-union}
 use Rattle.flow_model.specs.declared.SourceByte.{SourceByte}
@@ -25,12 +26,8 @@ joined_both joined current run both rest runs is h b =
     ∙ ap (λ (x : Bool). has source_cmp b (bytes_of current) || x) (sym (has-all b run rest)))
     ∙ h b
 
-or_nothing : (a : Bool) → (a || false) ≡ a
-or_nothing true = refl
-or_nothing false = refl
-
 has-pushed : (b : SourceByte) (rs : List SourceRun) (r : SourceRun) → has source_cmp b (all_bytes (rs ++ r ∷ [])) ≡ (has source_cmp b (all_bytes rs) || has source_cmp b (bytes_of r))
-has-pushed b [] r = has-all b r [] ∙ or_nothing (has source_cmp b (bytes_of r))
+has-pushed b [] r = has-all b r [] ∙ or-false (has source_cmp b (bytes_of r))
 has-pushed b (s ∷ rs) r =
     has-all b s (rs ++ r ∷ []) ∙ ap (λ (x : Bool). has source_cmp b (bytes_of s) || x) (has-pushed b rs r)
     ∙ sym (or_grouped (has source_cmp b (bytes_of s)) (has source_cmp b (all_bytes rs)) (has source_cmp b (bytes_of r)))
@@ -48,5 +45,5 @@ pub joined_end : (joined : List SourceRun) (current : SourceRun) (rest runs : Li
 joined_end joined current rest runs none h b =
     has-pushed b joined current
     ∙ ap (λ (x : Bool). has source_cmp b (all_bytes joined) || x)
-    (sym (or_nothing (has source_cmp b (bytes_of current))) ∙ ap (λ (rs : List SourceRun). has source_cmp b (bytes_of current) || has source_cmp b (all_bytes rs)) (sym none))
+    (sym (or-false (has source_cmp b (bytes_of current))) ∙ ap (λ (rs : List SourceRun). has source_cmp b (bytes_of current) || has source_cmp b (all_bytes rs)) (sym none))
     ∙ h b

@@ -7,16 +7,14 @@ use Rattle.std.proofs.lemmas.Bool.{and_parts}
 use Rattle.flow_model.specs.declared.Loc.{Loc}
 use Rattle.flow_model.specs.declared.SourceByte.{SourceByte}
 use Rattle.lists.specs.Sets.{has, is_within}
+use Rattle.lists.proofs.Tests.{true-false}
 use Rattle.flow_model.specs.Orders.{loc_cmp}
 use Rattle.stream_model.specs.Streams.{is_ended, answers_in, is_answered, places_up_to, places_needed}
 use Rattle.stream_model.specs.StreamLaws.{ResolvableByCount, PlacesStay}
 
-no : {A : Type 0} → true ≡ false → A
-no e = cc
-
 -- the number is at least 1 where the location is asked
 some_place : (asked : List Loc) (l : Loc) → has loc_cmp l asked ≡ true → 1 ≤ places_up_to asked l
-some_place [] l e = no (sym e)
+some_place [] l e = true-false (sym e)
 some_place (m ∷ ms) l e = by (eq_by_cmp loc_cmp l m) where
   by : (b : Bool) → 1 ≤ cond b 1 (1 + places_up_to ms l)
   by true = omega arith
@@ -28,7 +26,7 @@ le_later m n = grind arith
 -- one asked location is answered where there are as many answers as it has places
 answered_by_count : (asked : List Loc) (answers : List (List SourceByte)) (l : Loc) → has loc_cmp l asked ≡ true
     → is_answered asked answers l ≡ nat_le (places_up_to asked l) (length answers)
-answered_by_count [] answers l e = no (sym e)
+answered_by_count [] answers l e = true-false (sym e)
 answered_by_count (m ∷ ms) [] l e = none (places_up_to (m ∷ ms) l) (some_place (m ∷ ms) l e) where
   none : (n : ℕ) → 1 ≤ n → false ≡ nat_le n 0
   none zero h = absurd (omega (arith, h))
@@ -57,7 +55,7 @@ resolvable_by_count asked got t e = ap (λ (b : Bool). is_ended got || b) (all_b
 
 -- a place stays when more is asked
 pub place_stays : (asked more : List Loc) (l : Loc) → has loc_cmp l asked ≡ true → places_up_to (asked ++ more) l ≡ places_up_to asked l
-place_stays [] more l e = no (sym e)
+place_stays [] more l e = true-false (sym e)
 place_stays (m ∷ ms) more l e = by (place_stays ms more l) (eq_by_cmp loc_cmp l m) e where
   by : (has loc_cmp l ms ≡ true → places_up_to (ms ++ more) l ≡ places_up_to ms l)
       → (b : Bool) → (b || has loc_cmp l ms) ≡ true

@@ -19,7 +19,7 @@ use Rattle.stream_model.specs.Streams.{is_ended, requests, answers_in, heard, is
 use Rattle.stream_model.specs.StreamLaws.{IsPrefix, AsksGrow, AnswersGrow, EndsLast, NothingIsLeft, AsksEndLast, AnswersEndLast, HeardAscends}
 use Rattle.lists.proofs.Algebra.{Ascends-inserted}
 use Rattle.flow_model.proofs.Orders.{source_total}
-use Rattle.epoch_model.proofs.Adding.{union_over_same}
+use Rattle.epoch_model.proofs.Adding.{union_over_same, added_all-append, Ascends-answer}
 
 -- ---- prefixes
 
@@ -67,10 +67,6 @@ answers_more so_far (Close l ∷ ms) more = let r = answers_more [] ms more in (
 answers_more so_far (End whole ∷ ms) more = ([], refl)
 
 -- ---- asks
-
-pub added_all-append : (asked xs ys : List Loc) → added_all asked (xs ++ ys) ≡ added_all (added_all asked xs) ys
-added_all-append asked [] ys = refl
-added_all-append asked (x ∷ xs) ys = added_all-append (added asked x) xs ys
 
 added_keeps : (asked : List Loc) (l : Loc) → IsPrefix asked (added asked l)
 added_keeps asked l = by (has loc_cmp l asked) where
@@ -216,13 +212,5 @@ answers_ascend so_far (Byte b ∷ ms) a = answers_ascend (inserted source_cmp b 
 answers_ascend so_far (Close l ∷ ms) a = (a, answers_ascend [] ms tt)
 answers_ascend so_far (End whole ∷ ms) a = (a, tt)
 
-answer_ascends : (asked : List Loc) (answers : List (List SourceByte)) (l : Loc) → AllByRecursion (Ascends source_cmp) answers → Ascends source_cmp (answer_to asked answers l)
-answer_ascends [] answers l a = tt
-answer_ascends (m ∷ asked) [] l a = tt
-answer_ascends (m ∷ asked) (x ∷ xs) l a = by (answer_ascends asked xs l a.1) (eq_by_cmp loc_cmp l m) where
-  by : Ascends source_cmp (answer_to asked xs l) → (b : Bool) → Ascends source_cmp (cond b x (answer_to asked xs l))
-  by ih true = a.0
-  by ih false = ih
-
 pub heard_ascends : HeardAscends
-heard_ascends asked got l = answer_ascends asked (answers_in [] got) l (answers_ascend [] got tt)
+heard_ascends asked got l = Ascends-answer asked (answers_in [] got) l (answers_ascend [] got tt)

@@ -2,6 +2,7 @@
 -- these lemmas.
 use Rattle.std.proofs.Common.{◌≡◌, ℕ, ◌+◌, List, [], ◌∷◌, ◌++◌, length, drop, refl, ap, sym, ◌∙◌, Bool, true, false, length-append, arith}
 use Rattle.std.specs.Prelude.{Option, Some, None, is_some}
+use Rattle.lists.proofs.Tests.{true-false}
 use Rattle.flow_model.specs.declared.Loc.{Loc}
 use Rattle.flow_rule.specs.declared.Message.{Message}
 use Rattle.flow_rule.specs.declared.Message.TheVariants.{Ask, End}
@@ -11,7 +12,7 @@ use Rattle.stream_model.specs.Streams.{is_ended, is_resolvable}
 use Rattle.stream_model.specs.Passes.{Links, Asking, push_ask, walk, pop_ask, end_asks, whole_asking, asking_by, asking_event, Answering, push_answer, pop_answer, build, build_or_pop, resolve, end_answers, resolve_or_end, pop_or_end, whole_answering, answering_by, answering_event}
 use Rattle.stream_model.specs.Schedules.{Need, Room, Item, Nothing, Over, is_met, item_or_room, whole_asking_need, asking_need_by, asking_need, nothing_or_room, last_need, nothing_or_item, whole_answering_need, answering_need_by, answering_need}
 use Rattle.stream_model.specs.ScheduleLaws.{one_if}
-use Rattle.stream_model.proofs.Passing.{no, stays_broken, answering_stays_broken}
+use Rattle.stream_model.proofs.Passing.{stays_broken, answering_stays_broken}
 use Rattle.stream_model.proofs.NeverStill.{still_asking, still_answering}
 
 pub one_longer : {X : Type 0} (xs : List X) (x : X) → length (xs ++ x ∷ []) ≡ length xs + 1
@@ -35,12 +36,12 @@ module _ (first : Bool) (e : Summary) (links : Links) (a : Asking) where
   count_push false l = ask_none
 
   count_walk : (refused : Bool) (k : SinkTerms) (left : List SinkTerms) → a.left ≡ k ∷ left → (walk refused first a k left).is_whole ≡ true → AskCount a (walk refused first a k left) true
-  count_walk true k left w t = no (sym t)
+  count_walk true k left w t = true-false (sym t)
   count_walk false k left w t = omega (arith, ap length w)
 
   count_pop : (refused : Bool) (next : Option Message) → (pop_ask refused first e a next).is_whole ≡ true → AskCount a (pop_ask refused first e a next) (is_some next)
   count_pop refused None t = ask_none
-  count_pop true (Some m) t = no (sym t)
+  count_pop true (Some m) t = true-false (sym t)
   count_pop false (Some m) t = omega (arith, one_longer a.got m)
 
   count_end : (room : Bool) → AskCount a (end_asks room a) room
@@ -57,7 +58,7 @@ module _ (first : Bool) (e : Summary) (links : Links) (a : Asking) where
   count_by : (over whole : Bool) → a.is_whole ≡ whole → (asking_by first e links a over whole).is_whole ≡ true → AskCount a (asking_by first e links a over whole) (is_met (asking_need_by a over whole) (freed links))
   count_by true whole w t = ask_none
   count_by false true w t = count_whole (drop a.pushed a.asked) a.left refl (is_ended a.got) t
-  count_by false false w t = no (sym t ∙ stays_broken links a (is_ended a.got) ∙ w)
+  count_by false false w t = true-false (sym t ∙ stays_broken links a (is_ended a.got) ∙ w)
 
   pub count_asking : (asking_event first e links a).is_whole ≡ true → AskCount a (asking_event first e links a) (is_met (asking_need a) (freed links))
   count_asking t = count_by a.is_over a.is_whole refl t
@@ -67,7 +68,7 @@ module _ (first : Bool) (e : Summary) (links : Links) (a : Asking) where
   whole_asking_before t = by a.is_whole refl where
     over : (o : Bool) → a.is_whole ≡ false → (asking_by first e links a o false).is_whole ≡ true → a.is_whole ≡ true
     over true w t = t
-    over false w t = no (sym t ∙ stays_broken links a (is_ended a.got) ∙ w)
+    over false w t = true-false (sym t ∙ stays_broken links a (is_ended a.got) ∙ w)
 
     by : (b : Bool) → a.is_whole ≡ b → a.is_whole ≡ true
     by true w = w
@@ -91,11 +92,11 @@ module _ (e : Summary) (asked : List Loc) (links : Links) (f : Answering) where
 
   count_receive : (refused : Bool) (next : Option Message) → (pop_answer refused f next).is_whole ≡ true → AnswerCount f (pop_answer refused f next) (is_some next)
   count_receive refused None t = answer_none
-  count_receive true (Some m) t = no (sym t)
+  count_receive true (Some m) t = true-false (sym t)
   count_receive false (Some m) t = omega (arith, one_longer f.got m)
 
   count_build : (refused : Bool) (l : Loc) (left : List Loc) → f.left ≡ l ∷ left → (build refused e asked f l left).is_whole ≡ true → AnswerCount f (build refused e asked f l left) true
-  count_build true l left w t = no (sym t)
+  count_build true l left w t = true-false (sym t)
   count_build false l left w t = omega (arith, ap length w)
 
   count_request : (b : Bool) (l : Loc) (left : List Loc) → f.left ≡ l ∷ left → (build_or_pop b e asked links f l left).is_whole ≡ true
@@ -104,7 +105,7 @@ module _ (e : Summary) (asked : List Loc) (links : Links) (f : Answering) where
   count_request false l left w t = count_receive links.is_refused links.next t
 
   count_resolve : (refused : Bool) → f.rows ≡ None → (resolve refused e asked f).is_whole ≡ true → AnswerCount f (resolve refused e asked f) true
-  count_resolve true r t = no (sym t)
+  count_resolve true r t = true-false (sym t)
   count_resolve false r t = let none : row_count f.rows ≡ 0 = ap row_count r in omega (arith, none)
 
   count_answer_end : (room : Bool) → AnswerCount f (end_answers room f) room
@@ -129,7 +130,7 @@ module _ (e : Summary) (asked : List Loc) (links : Links) (f : Answering) where
       → AnswerCount f (answering_by e asked links f over whole) (is_met (answering_need_by e asked f over whole) (freed links))
   count_answers_by true whole w t = answer_none
   count_answers_by false true w t = count_answers f.sending f.left refl t
-  count_answers_by false false w t = no (sym t ∙ answering_stays_broken links f (is_ended f.got) ∙ w)
+  count_answers_by false false w t = true-false (sym t ∙ answering_stays_broken links f (is_ended f.got) ∙ w)
 
   pub count_answering : (answering_event e asked links f).is_whole ≡ true → AnswerCount f (answering_event e asked links f) (is_met (answering_need e asked f) (freed links))
   count_answering t = count_answers_by f.is_over f.is_whole refl t
@@ -147,14 +148,14 @@ met : (need : Need) (links : Links) → goes need ≡ true → links.has_room �
 met Room links g room next = room
 met Item links g room next = next
 met Nothing links g room next = refl
-met Over links g room next = no (sym g)
+met Over links g room next = true-false (sym g)
 
 goes_item : (ended : Bool) → goes (item_or_room ended) ≡ true
 goes_item true = refl
 goes_item false = refl
 
 asking_goes : (a : Asking) (over whole : Bool) → over ≡ false → goes (asking_need_by a over whole) ≡ true
-asking_goes a true whole o = no o
+asking_goes a true whole o = true-false o
 asking_goes a false false o = goes_item (is_ended a.got)
 asking_goes a false true o = by (drop a.pushed a.asked) a.left where
   by : (waiting : List Loc) (left : List SinkTerms) → goes (whole_asking_need waiting left (is_ended a.got)) ≡ true
@@ -163,7 +164,7 @@ asking_goes a false true o = by (drop a.pushed a.asked) a.left where
   by [] [] = goes_item (is_ended a.got)
 
 answering_goes : (e : Summary) (asked : List Loc) (f : Answering) (over whole : Bool) → over ≡ false → goes (answering_need_by e asked f over whole) ≡ true
-answering_goes e asked f true whole o = no o
+answering_goes e asked f true whole o = true-false o
 answering_goes e asked f false false o = goes_item (is_ended f.got)
 answering_goes e asked f false true o = by f.sending f.left where
   either : (b : Bool) → goes (nothing_or_item b) ≡ true
@@ -200,10 +201,10 @@ pub asking_moves_over : (first : Bool) (e : Summary) (links : Links) (a : Asking
 asking_moves_over first e links a o t = same_met (asking_need a) links ∙ by _ refl where
   by : (b : Bool) → is_met (asking_need a) links ≡ b → is_met (asking_need a) links ≡ true
   by true m = m
-  by false m = no (sym t ∙ ap (λ (b : Asking). b.is_over) (still_asking first e links a m) ∙ o)
+  by false m = true-false (sym t ∙ ap (λ (b : Asking). b.is_over) (still_asking first e links a m) ∙ o)
 
 pub answering_moves_over : (e : Summary) (asked : List Loc) (links : Links) (f : Answering) → f.is_over ≡ false → (answering_event e asked links f).is_over ≡ true → is_met (answering_need e asked f) (freed links) ≡ true
 answering_moves_over e asked links f o t = same_met (answering_need e asked f) links ∙ by _ refl where
   by : (b : Bool) → is_met (answering_need e asked f) links ≡ b → is_met (answering_need e asked f) links ≡ true
   by true m = m
-  by false m = no (sym t ∙ ap (λ (g : Answering). g.is_over) (still_answering e asked links f m) ∙ o)
+  by false m = true-false (sym t ∙ ap (λ (g : Answering). g.is_over) (still_answering e asked links f m) ∙ o)

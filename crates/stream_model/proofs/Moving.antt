@@ -1,6 +1,7 @@
 -- What events change, and what they keep between neighbours.
 use Rattle.std.proofs.Common.{◌≡◌, ◌⊎◌, inl, inr, ℕ, zero, suc, List, [], ◌∷◌, ◌++◌, length, drop, refl, ap, sym, subst, ◌∙◌, Bool, true, false, append_assoc}
 use Rattle.std.specs.Prelude.{Option, Some, None, is_none}
+use Rattle.lists.proofs.Tests.{true-false}
 use Rattle.flow_model.specs.declared.Loc.{Loc}
 use Rattle.flow_model.specs.declared.SourceByte.{SourceByte}
 use Rattle.flow_rule.specs.declared.Message.{Message}
@@ -13,7 +14,6 @@ use Rattle.stream_model.specs.StreamLaws.{IsPrefix}
 use Rattle.stream_model.specs.Passes.{Links, Asking, Answering, push_ask, walk, pop_ask, drop_ask, end_asks, broken_asking, whole_asking, asking_by, asking_event, push_answer, pop_answer, build, build_or_pop, resolve, drop_answer, end_answers, resolve_or_end, pop_or_end, broken_answering, whole_answering, answering_by, answering_event}
 use Rattle.stream_model.specs.Schedules.{Phase, Fresh, Asks, Answers, NodeState, Event, asks_sent_in, asks_got_in, answers_sent_in, answers_got_in, first_of, next_item, asking_links, answering_links, begun, settled_by, node_event, phase_of_first, event_at, nodes_start, nodes_after}
 use Rattle.stream_model.proofs.Growing.{prefix_same, prefix_trans, ended_stays}
-use Rattle.stream_model.proofs.Passing.{no}
 
 -- ---- Ends in lists
 
@@ -22,7 +22,7 @@ ended_after [] ys h = refl
 ended_after (Ask l ∷ xs) ys h = ended_after xs ys h
 ended_after (Byte b ∷ xs) ys h = ended_after xs ys h
 ended_after (Close l ∷ xs) ys h = ended_after xs ys h
-ended_after (End whole ∷ xs) ys h = no h
+ended_after (End whole ∷ xs) ys h = true-false h
 
 no_end : (l : Loc) (set : List SourceByte) → is_ended (answer l set) ≡ false
 no_end l [] = refl
@@ -32,7 +32,7 @@ apart : (m : Message) (ms : List Message) → is_ended (m ∷ ms) ≡ false → 
 apart (Ask l) ms n = (refl, n)
 apart (Byte b) ms n = (refl, n)
 apart (Close l) ms n = (refl, n)
-apart (End whole) ms n = no n
+apart (End whole) ms n = true-false n
 
 -- ---- what an event sends and gets
 
@@ -84,7 +84,7 @@ module _ (first : Bool) (e : Summary) (links : Links) (a : Asking) (o : a.is_ove
     sent = inl s;
     got = inl g;
     running = λ _. ap is_ended s ∙ r;
-    over = λ t. no (sym t ∙ v ∙ o);
+    over = λ t. true-false (sym t ∙ v ∙ o);
   }
 
   ask_got : (m : Message) (b : Asking) → links.next ≡ Some m → b.sent ≡ a.sent → b.got ≡ a.got ++ m ∷ [] → b.is_over ≡ a.is_over → AskMoved links a b
@@ -92,7 +92,7 @@ module _ (first : Bool) (e : Summary) (links : Links) (a : Asking) (o : a.is_ove
     sent = inl s;
     got = inr (m, n, g);
     running = λ _. ap is_ended s ∙ r;
-    over = λ t. no (sym t ∙ v ∙ o);
+    over = λ t. true-false (sym t ∙ v ∙ o);
   }
 
   ask_pushed : (room : Bool) → links.has_room ≡ room → (l : Loc) → AskMoved links a (push_ask room a l)
@@ -101,7 +101,7 @@ module _ (first : Bool) (e : Summary) (links : Links) (a : Asking) (o : a.is_ove
     sent = inr (Ask l, n, refl);
     got = inl refl;
     running = λ _. ended_after a.sent (Ask l ∷ []) r;
-    over = λ t. no (sym t ∙ o);
+    over = λ t. true-false (sym t ∙ o);
   }
 
   ask_walked : (refused : Bool) (k : SinkTerms) (left : List SinkTerms) → AskMoved links a (walk refused first a k left)
@@ -122,7 +122,7 @@ module _ (first : Bool) (e : Summary) (links : Links) (a : Asking) (o : a.is_ove
   ask_ended true n d = record {
     sent = inr (End a.is_whole, n, refl);
     got = inl refl;
-    running = λ f. no f;
+    running = λ f. true-false f;
     over = λ _. (ended_after a.sent (End a.is_whole ∷ []) r, d);
   }
 
@@ -165,14 +165,14 @@ module _ (e : Summary) (asked : List Loc) (links : Links) (f : Answering) (h : A
     answer_kept g s t n v = record {
       sent = inl s;
       got = inl t;
-      fits = record { running = λ _. (ap is_ended s ∙ (h.running o).0, n); over = λ u. no (sym u ∙ v ∙ o) };
+      fits = record { running = λ _. (ap is_ended s ∙ (h.running o).0, n); over = λ u. true-false (sym u ∙ v ∙ o) };
     }
 
     answer_got : (m : Message) (g : Answering) → links.next ≡ Some m → g.sent ≡ f.sent → g.got ≡ f.got ++ m ∷ [] → g.sending ≡ f.sending → g.is_over ≡ f.is_over → AnswerMoved links f g
     answer_got m g n s t k v = record {
       sent = inl s;
       got = inr (m, n, t);
-      fits = record { running = λ _. (ap is_ended s ∙ (h.running o).0, ap is_ended k ∙ (h.running o).1); over = λ u. no (sym u ∙ v ∙ o) };
+      fits = record { running = λ _. (ap is_ended s ∙ (h.running o).0, ap is_ended k ∙ (h.running o).1); over = λ u. true-false (sym u ∙ v ∙ o) };
     }
 
     answer_pushed : (room : Bool) → links.has_room ≡ room → (m : Message) (sending : List Message) → f.sending ≡ m ∷ sending → AnswerMoved links f (push_answer room f m sending)
@@ -183,7 +183,7 @@ module _ (e : Summary) (asked : List Loc) (links : Links) (f : Answering) (h : A
         record {
           sent = inr (m, n, refl);
           got = inl refl;
-          fits = record { running = λ _. (ended_after f.sent (m ∷ []) (h.running o).0 ∙ parts.0, parts.1); over = λ u. no (sym u ∙ o) };
+          fits = record { running = λ _. (ended_after f.sent (m ∷ []) (h.running o).0 ∙ parts.0, parts.1); over = λ u. true-false (sym u ∙ o) };
         }
 
     answer_popped : (refused : Bool) (next : Option Message) → links.next ≡ next → AnswerMoved links f (pop_answer refused f next)
@@ -212,7 +212,7 @@ module _ (e : Summary) (asked : List Loc) (links : Links) (f : Answering) (h : A
     answer_ended true n d = record {
       sent = inr (End f.is_whole, n, refl);
       got = inl refl;
-      fits = record { running = λ t. no t; over = λ _. (ended_after f.sent (End f.is_whole ∷ []) (h.running o).0, d) };
+      fits = record { running = λ t. true-false t; over = λ _. (ended_after f.sent (End f.is_whole ∷ []) (h.running o).0, d) };
     }
 
     answer_rows : (rows : Option (List Row)) → is_ended f.got ≡ true → AnswerMoved links f (resolve_or_end e asked links f rows)
@@ -307,7 +307,7 @@ module _ (capacity : ℕ) (refused : Bool) where
   asks_keep before behind a b s x y over o = record { phase = phase over o; early = early before x over; late = late behind s.got y over } where
     phase : (over : Bool) → b.is_over ≡ over → PhaseHolds (settled_by over (is_none before) b)
     phase false o = (o, s.running o)
-    phase true o = ((s.over o).0, (s.over o).1, record { running = λ _. (refl, refl); over = λ t. no (sym t) })
+    phase true o = ((s.over o).0, (s.over o).1, record { running = λ _. (refl, refl); over = λ t. true-false (sym t) })
 
     early : (before : Option Phase) → BeforeHolds before (Asks a) → (over : Bool) → BeforeHolds before (settled_by over (is_none before) b)
     early None x true = refl

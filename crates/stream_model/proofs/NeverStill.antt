@@ -4,6 +4,7 @@ use Rattle.std.specs.Prelude.{Option, Some, None, is_some, nat_lt}
 use Rattle.std.specs.List.{AllByRecursion}
 use Rattle.std.proofs.lemmas.Grind.{common_steps}
 use Rattle.std.proofs.lemmas.Bool.{or_parts}
+use Rattle.lists.proofs.Tests.{true-false}
 use Rattle.flow_model.specs.declared.Loc.{Loc}
 use Rattle.flow_rule.specs.declared.Message.{Message}
 use Rattle.report_model.specs.Rows.{Row}
@@ -14,7 +15,6 @@ use Rattle.stream_model.specs.Passes.{Links, Asking, push_ask, pop_ask, drop_ask
 use Rattle.stream_model.specs.Schedules.{Phase, Fresh, Asks, Answers, NodeState, asks_sent_in, asks_got_in, answers_sent_in, answers_got_in, first_of, next_item, has_room_for, room_to, item_from, asking_links, answering_links, nodes_start, Need, is_met, item_or_room, whole_asking_need, asking_need_by, asking_need, nothing_or_room, last_need, nothing_or_item, whole_answering_need, answering_need_by, answering_need, node_moves, moves_at, is_done}
 use Rattle.stream_model.specs.ScheduleLaws.{NeverStill, StillAsking, StillAnswering}
 use Rattle.stream_model.proofs.Growing.{ended_stays}
-use Rattle.stream_model.proofs.Passing.{no}
 use Rattle.stream_model.proofs.Moving.{PhaseHolds, LinkHolds, BeforeHolds, BehindHolds, NodesHold, drop_front, reached, started}
 
 -- ---- what a link gives
@@ -28,7 +28,7 @@ module _ (got sent : List Message) (p : IsPrefix got sent) where
   end_waits : is_ended got ≡ false → is_ended sent ≡ true → is_some (next_item got sent) ≡ true
   end_waits g s = by p.0 refl where
     by : (rest : List Message) → p.0 ≡ rest → is_some (next_item got sent) ≡ true
-    by [] e = no (sym s ∙ ap is_ended (sym p.1 ∙ ap (λ (r : List Message). got ++ r) e ∙ append-nil got) ∙ g)
+    by [] e = true-false (sym s ∙ ap is_ended (sym p.1 ∙ ap (λ (r : List Message). got ++ r) e ∙ append-nil got) ∙ g)
     by (m ∷ rest) e = ap (λ (r : List Message). is_some (first_of r)) (held ∙ e)
 
   -- where the link is full, an item waits
@@ -38,7 +38,7 @@ module _ (got sent : List Message) (p : IsPrefix got sent) where
     by [] e =
         let same : length sent ≡ length got = ap length (sym p.1 ∙ ap (λ (r : List Message). got ++ r) e ∙ append-nil got) in
         let room : nat_lt (length sent) (length got + capacity) ≡ true = grind (arith, common_steps, same, c) in
-        no (sym room ∙ f)
+        true-false (sym room ∙ f)
     by (m ∷ rest) e = ap (λ (r : List Message). is_some (first_of r)) (held ∙ e)
 
   -- where the End was got, it was sent
@@ -67,7 +67,7 @@ module _ (links : Links) where
   asking_goes : (a : Asking) → a.is_over ≡ false → (is_ended a.got ≡ false → is_some links.next ≡ true) → Goes (asking_need a) links
   asking_goes a o n = by a.is_over o a.is_whole where
     by : (over : Bool) → over ≡ false → (whole : Bool) → Goes (asking_need_by a over whole) links
-    by true o whole = no o
+    by true o whole = true-false o
     by false o true = asking_whole_goes (drop a.pushed a.asked) a.left (is_ended a.got) n
     by false o false = item_goes (is_ended a.got) n
 
@@ -91,7 +91,7 @@ module _ (links : Links) where
     whole_goes [] [] = last (is_ended f.got) refl
 
     by : (over : Bool) → over ≡ false → (whole : Bool) → Goes (answering_need_by e asked f over whole) links
-    by true o whole = no o
+    by true o whole = true-false o
     by false o true = whole_goes f.sending f.left
     by false o false = item_goes (is_ended f.got) n
 
@@ -142,7 +142,7 @@ module _ (capacity : ℕ) (c : 0 < capacity) where
   under_stopped before e Fresh (Asks b) hp hq l s = inl refl
   under_stopped before e (Asks a) (Asks b) hp hq l s =
       asking_goes (asking_links capacity false before (Some (Asks b)) a) a hp.0 (λ running. full_waits a.got b.sent l.asks capacity c s)
-  under_stopped before e (Answers a f) (Asks b) hp hq l s = no (sym (end_was_sent a.got b.sent l.asks hp.1) ∙ hq.1)
+  under_stopped before e (Answers a f) (Asks b) hp hq l s = true-false (sym (end_was_sent a.got b.sent l.asks hp.1) ∙ hq.1)
 
   -- a node before one that answers, and the last one, has an End to get
   under_answering : (before behind : Option Phase) (e : Summary) (p : Phase) → PhaseHolds p → BehindHolds p behind → ((q : Phase) → behind ≡ Some q → PhaseHolds q × IsAnswering q)
@@ -152,7 +152,7 @@ module _ (capacity : ℕ) (c : 0 < capacity) where
   under_answering before behind e (Asks a) hp l w = by (asking_goes (asking_links capacity false before behind a) a hp.0 (waits behind l w)) where
     waits : (behind : Option Phase) → BehindHolds (Asks a) behind → ((q : Phase) → behind ≡ Some q → PhaseHolds q × IsAnswering q)
         → is_ended a.got ≡ false → is_some (item_from asks_sent_in a.got behind) ≡ true
-    waits None l w running = no (sym l ∙ running)
+    waits None l w running = true-false (sym l ∙ running)
     waits (Some Fresh) l w running = absurd (w Fresh refl).1
     waits (Some (Asks b)) l w running = absurd (w (Asks b) refl).1
     waits (Some (Answers b f)) l w running = end_waits a.got b.sent l.asks running (w (Answers b f) refl).0.0
@@ -204,13 +204,13 @@ module _ (capacity : ℕ) (c : 0 < capacity) where
   hears_too before (Answers a f) (Asks b) hp hq l t x s = absurd x
   hears_too before (Answers a f) (Answers b g) hp hq l t x s = by g.is_over refl where
     by : (over : Bool) → g.is_over ≡ over → Hears (Some (Answers a f)) (Answers b g)
-    by true o = no (sym (end_was_sent g.got f.sent l.answers (hq.2.over o).1) ∙ (hp.2.running t.0).0)
+    by true o = true-false (sym (end_was_sent g.got f.sent l.answers (hq.2.over o).1) ∙ (hp.2.running t.0).0)
     by false o = (o, λ running. full_waits g.got f.sent l.answers capacity c s)
 
   room_at_last : (p : Phase) → IsFull capacity None p → ⊥
   room_at_last Fresh s = s
   room_at_last (Asks a) s = s
-  room_at_last (Answers a f) s = no s
+  room_at_last (Answers a f) s = true-false s
 
   up : (before : Option Phase) (n : NodeState) (ns : List NodeState) → NodesHold before (n ∷ ns) → Hears before n.phase → AllAnswering ns → Moves capacity before (n ∷ ns)
   up before n [] h t all = by (go_up before None n.summary n.phase t) where
@@ -231,7 +231,7 @@ module _ (capacity : ℕ) (c : 0 < capacity) where
   done_or_hears before (Answers a f) h l x d = by f.is_over refl where
     waits : (before : Option Phase) → BeforeHolds before (Answers a f) → ((q : Phase) → before ≡ Some q → is_ended (answers_sent_in q) ≡ true)
         → is_ended f.got ≡ false → is_some (item_from answers_sent_in f.got before) ≡ true
-    waits None l d running = no (sym l ∙ running)
+    waits None l d running = true-false (sym l ∙ running)
     waits (Some q) l d running = end_waits f.got (answers_sent_in q) l.answers running (d q refl)
 
     by : (over : Bool) → f.is_over ≡ over → ((f.is_over ≡ true) × (is_ended f.sent ≡ true)) ⊎ Hears before (Answers a f)
@@ -254,7 +254,7 @@ module _ (capacity : ℕ) (c : 0 < capacity) where
 
   room_at_first : (p : Phase) → IsStopped capacity None p → ⊥
   room_at_first Fresh s = s
-  room_at_first (Asks a) s = no s
+  room_at_first (Asks a) s = true-false s
   room_at_first (Answers a f) s = s
 
   pub goes_on : (ns : List NodeState) → NodesHold None ns → AllDone ns ⊎ Moves capacity None ns
@@ -273,23 +273,23 @@ never_still capacity es schedule c = goes_on capacity c _ (reached capacity sche
 module _ (first : Bool) (e : Summary) (links : Links) (a : Asking) where
   still_item : (refused : Bool) (next : Option Message) → is_some next ≡ false → pop_ask refused first e a next ≡ a
   still_item refused None s = refl
-  still_item refused (Some m) s = no s
+  still_item refused (Some m) s = true-false s
 
   still_drop : (next : Option Message) → is_some next ≡ false → drop_ask a next ≡ a
   still_drop None s = refl
-  still_drop (Some m) s = no s
+  still_drop (Some m) s = true-false s
 
   still_push : (room : Bool) (l : Loc) → room ≡ false → push_ask room a l ≡ a
-  still_push true l s = no s
+  still_push true l s = true-false s
   still_push false l s = refl
 
   still_end : (room : Bool) → room ≡ false → end_asks room a ≡ a
-  still_end true s = no s
+  still_end true s = true-false s
   still_end false s = refl
 
   still_whole : (waiting : List Loc) (left : List SinkTerms) (ended : Bool) → is_met (whole_asking_need waiting left ended) links ≡ false → whole_asking first e links a waiting left ended ≡ a
   still_whole (l ∷ waiting) left ended s = still_push links.has_room l s
-  still_whole [] (k ∷ left) ended s = no s
+  still_whole [] (k ∷ left) ended s = true-false s
   still_whole [] [] true s = still_end links.has_room s
   still_whole [] [] false s = still_item links.is_refused links.next s
 
@@ -308,22 +308,22 @@ still_asking first e links a s = still_by first e links a a.is_over a.is_whole s
 module _ (e : Summary) (asked : List Loc) (links : Links) (f : Answering) where
   still_answer_item : (refused : Bool) (next : Option Message) → is_some next ≡ false → pop_answer refused f next ≡ f
   still_answer_item refused None s = refl
-  still_answer_item refused (Some m) s = no s
+  still_answer_item refused (Some m) s = true-false s
 
   still_answer_drop : (next : Option Message) → is_some next ≡ false → drop_answer f next ≡ f
   still_answer_drop None s = refl
-  still_answer_drop (Some m) s = no s
+  still_answer_drop (Some m) s = true-false s
 
   still_answer_push : (room : Bool) (m : Message) (sending : List Message) → room ≡ false → push_answer room f m sending ≡ f
-  still_answer_push true m sending s = no s
+  still_answer_push true m sending s = true-false s
   still_answer_push false m sending s = refl
 
   still_answer_end : (room : Bool) → room ≡ false → end_answers room f ≡ f
-  still_answer_end true s = no s
+  still_answer_end true s = true-false s
   still_answer_end false s = refl
 
   still_rows : (rows : Option (List Row)) → is_met (nothing_or_room rows) links ≡ false → resolve_or_end e asked links f rows ≡ f
-  still_rows None s = no s
+  still_rows None s = true-false s
   still_rows (Some rows) s = still_answer_end links.has_room s
 
   still_last : (ended : Bool) → is_met (last_need ended f.rows) links ≡ false → pop_or_end e asked links f ended ≡ f
@@ -331,7 +331,7 @@ module _ (e : Summary) (asked : List Loc) (links : Links) (f : Answering) where
   still_last false s = still_answer_item links.is_refused links.next s
 
   still_request : (b : Bool) (l : Loc) (left : List Loc) → is_met (nothing_or_item b) links ≡ false → build_or_pop b e asked links f l left ≡ f
-  still_request true l left s = no s
+  still_request true l left s = true-false s
   still_request false l left s = still_answer_item links.is_refused links.next s
 
   still_answers : (sending : List Message) (left : List Loc) → is_met (whole_answering_need e asked f sending left) links ≡ false → whole_answering e asked links f sending left ≡ f

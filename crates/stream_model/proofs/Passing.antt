@@ -5,6 +5,7 @@ use Rattle.std.specs.List.{flat_map}
 use Rattle.std.proofs.lemmas.List.{map-append, take-append-le}
 use Rattle.std.proofs.lemmas.List.Concat.{flat_map-append}
 use Rattle.std.proofs.lemmas.Bool.{or_left, or_parts}
+use Rattle.lists.proofs.Tests.{true-false}
 use Rattle.flow_model.specs.declared.Loc.{Loc}
 use Rattle.flow_model.specs.declared.SourceByte.{SourceByte}
 use Rattle.flow_rule.specs.declared.Message.{Message}
@@ -13,11 +14,12 @@ use Rattle.report_model.specs.Rows.{Row}
 use Rattle.epoch_model.specs.Summary.{Summary, SinkTerms}
 use Rattle.epoch_model.specs.Crossing.{added_all, wanted, asked_by}
 use Rattle.epoch_model.specs.Join.{answer_to, resolved, rows_of}
+use Rattle.epoch_model.proofs.Adding.{added_all-append}
 use Rattle.stream_model.specs.Streams.{is_ended, requests, heard, is_resolvable, end_if, asks_for, answer, then_if, answers_for, asked_of}
 use Rattle.stream_model.specs.StreamLaws.{IsPrefix}
 use Rattle.stream_model.specs.Passes.{Links, Asking, Answering, asking_start, got_at_start, asked_more, wanted_for, is_whole_message, asked_if, push_ask, walk, pop_ask, drop_ask, end_asks, broken_asking, whole_asking, asking_by, asking_event, asking_after, answering_start, push_answer, pop_answer, build, build_or_pop, resolve, drop_answer, end_answers, resolve_or_end, pop_or_end, broken_answering, whole_answering, answering_by, answering_event, answering_after, rows_or_none}
 use Rattle.stream_model.specs.PassLaws.{AsksSent, AskingSends, AnswersSent, AnsweringSends, PassesEndDone}
-use Rattle.stream_model.proofs.Growing.{prefix_same, prefix_trans, added_all-append, added_all_keeps, requests_more, resolvable_stays, ended_stays, answers_stay}
+use Rattle.stream_model.proofs.Growing.{prefix_same, prefix_trans, added_all_keeps, requests_more, resolvable_stays, ended_stays, answers_stay}
 
 -- ---- parts of a list
 
@@ -50,9 +52,6 @@ module _ {X : Type 0} where
       let long : length ys ≡ length xs + length p.0 = ap length (sym p.1) ∙ length-append xs p.0 in
       (ap (take n) (sym p.1) ∙ take-append-le n xs p.0 h, omega (arith, long, h))
 
-pub no : {A : Type 0} → true ≡ false → A
-no e = cc
-
 -- ---- asking
 
 abbrev starts : List SinkTerms → List Loc
@@ -73,7 +72,7 @@ more_keeps false asked ls = added_all_keeps asked ls
 
 nothing_more : (first : Bool) (asked ls : List Loc) → first ≡ true → asked ≡ [] → asked_more first asked ls ≡ []
 nothing_more true asked ls f e = e
-nothing_more false asked ls f e = no (sym f)
+nothing_more false asked ls f e = true-false (sym f)
 
 one_request : (e : Summary) (asked : List Loc) (m : Message) → added_all asked (wanted_for e m) ≡ added_all asked (flat_map (λ l. (e.ends l).starts) (requests (m ∷ [])))
 one_request e asked (Ask l) = ap (added_all asked) (sym (append-nil (e.ends l).starts))
@@ -99,11 +98,11 @@ module _ (first last : Bool) (e : Summary) (links : Links) (a : Asking) (h : Ask
         nothing = h.nothing;
         asked = h.asked;
         alone = h.alone;
-        over = λ t. no (sym t ∙ o);
+        over = λ t. true-false (sym t ∙ o);
       }
 
   on_walk : (refused : Bool) (k : SinkTerms) (left : List SinkTerms) → a.is_over ≡ false → a.left ≡ k ∷ left → (walk refused first a k left).is_whole ≡ true → AskingHolds first last e (walk refused first a k left)
-  on_walk true k left o w t = no (sym t)
+  on_walk true k left o w t = true-false (sym t)
   on_walk false k left o w t =
       let front = take_front a.pushed a.asked (asked_more first a.asked k.terms.starts) h.within (more_keeps first a.asked k.terms.starts) in
       record {
@@ -113,12 +112,12 @@ module _ (first last : Bool) (e : Summary) (links : Links) (a : Asking) (h : Ask
         asked = λ f. ap (λ (b : Bool). added_all (asked_more b a.asked k.terms.starts) (starts left)) f
             ∙ sym (added_all-append a.asked k.terms.starts (starts left)) ∙ ap (λ (ks : List SinkTerms). added_all a.asked (starts ks)) (sym w) ∙ h.asked f;
         alone = h.alone;
-        over = λ t. no (sym t ∙ o);
+        over = λ t. true-false (sym t ∙ o);
       }
 
   on_take : (m : Message) → a.is_over ≡ false → a.left ≡ [] → is_ended a.got ≡ false → (b : Bool) → b ≡ true
       → AskingHolds first last e (record a { got = a.got ++ m ∷ []; asked = asked_if b (asked_more first a.asked (wanted_for e m)); is_whole = b })
-  on_take m o w running false t = no (sym t)
+  on_take m o w running false t = true-false (sym t)
   on_take m o w running true t =
       let front = take_front a.pushed a.asked (asked_more first a.asked (wanted_for e m)) h.within (more_keeps first a.asked (wanted_for e m)) in
       record {
@@ -129,20 +128,20 @@ module _ (first last : Bool) (e : Summary) (links : Links) (a : Asking) (h : Ask
             ∙ one_request e a.asked m
             ∙ ap (λ (ls : List Loc). added_all ls (flat_map (λ l. (e.ends l).starts) (requests (m ∷ [])))) (ap (λ (ks : List SinkTerms). added_all a.asked (starts ks)) (sym w) ∙ h.asked f)
             ∙ sym (asked_then e (requests a.got) (requests (m ∷ []))) ∙ ap (asked_by e) (sym (requests_more a.got (m ∷ []) running));
-        alone = λ l. no (sym (ap is_ended (h.alone l)) ∙ running);
-        over = λ t. no (sym t ∙ o);
+        alone = λ l. true-false (sym (ap is_ended (h.alone l)) ∙ running);
+        over = λ t. true-false (sym t ∙ o);
       }
 
   on_pop : (refused : Bool) (next : Option Message) → a.is_over ≡ false → a.left ≡ [] → is_ended a.got ≡ false → (pop_ask refused first e a next).is_whole ≡ true → AskingHolds first last e (pop_ask refused first e a next)
   on_pop refused None o w running t = h
-  on_pop true (Some m) o w running t = no (sym t)
+  on_pop true (Some m) o w running t = true-false (sym t)
   on_pop false (Some m) o w running t = on_take m o w running (is_whole_message m) t
 
   on_end : (room : Bool) → a.is_over ≡ false → drop a.pushed a.asked ≡ [] → a.left ≡ [] → is_ended a.got ≡ true → AskingHolds first last e (end_asks room a)
   on_end false o w l ended = h
   on_end true o w l ended =
       record {
-        sent = no;
+        sent = true-false;
         within = h.within;
         nothing = h.nothing;
         asked = h.asked;
@@ -174,7 +173,7 @@ asking_keeps first last e links a h = by a.is_over refl a.is_whole refl where
   by : (over : Bool) → a.is_over ≡ over → (whole : Bool) → a.is_whole ≡ whole → (asking_by first e links a over whole).is_whole ≡ true → AskingHolds first last e (asking_by first e links a over whole)
   by true o whole w t = h t
   by false o true w t = on_whole first last e links a (h w) w o (drop a.pushed a.asked) refl a.left refl (is_ended a.got) refl t
-  by false o false w t = no (sym t ∙ stays_broken links a (is_ended a.got) ∙ w)
+  by false o false w t = true-false (sym t ∙ stays_broken links a (is_ended a.got) ∙ w)
 
 pub asking_starts : (first last : Bool) (e : Summary) → AskingHolds first last e (asking_start last e)
 asking_starts first last e = record {
@@ -183,7 +182,7 @@ asking_starts first last e = record {
   nothing = λ _. refl;
   asked = λ _. by last;
   alone = λ l. ap got_at_start l;
-  over = λ t. no (sym t);
+  over = λ t. true-false (sym t);
 } where
   by : (b : Bool) → added_all [] (starts e.sinks) ≡ asked_by e (requests (got_at_start b))
   by true = ap (added_all []) (sym (append-nil (starts e.sinks)))
@@ -263,31 +262,31 @@ module _ (first : Bool) (e : Summary) (asked ls : List Loc) (links : Links) (f :
         ∙ ap (λ (ms : List Message). f.sent ++ (ms ++ answers_for e asked f.left (f.got ++ more))) (sym s) ∙ h.sent o more;
     alone = h.alone;
     resolved = h.resolved;
-    over = λ t. no (sym t ∙ o);
+    over = λ t. true-false (sym t ∙ o);
   }
 
   on_receive : (refused : Bool) (next : Option Message) → f.is_over ≡ false → is_ended f.got ≡ false → (pop_answer refused f next).is_whole ≡ true → AnsweringHolds first e asked ls (pop_answer refused f next)
   on_receive refused None o running t = h
-  on_receive true (Some m) o running t = no (sym t)
+  on_receive true (Some m) o running t = true-false (sym t)
   on_receive false (Some m) o running t = record {
     sent = λ _ more.
         let grown = append_assoc f.got (m ∷ []) more in
         ap (λ (got : List Message). f.sent ++ (f.sending ++ answers_for e asked f.left got)) grown ∙ h.sent o (m ∷ more) ∙ ap (answers_for e asked ls) (sym grown);
-    alone = λ t. no (sym (ap is_ended (h.alone t)) ∙ running);
-    resolved = λ r s. no (sym (h.resolved r s).0 ∙ running);
-    over = λ t. no (sym t ∙ o);
+    alone = λ t. true-false (sym (ap is_ended (h.alone t)) ∙ running);
+    resolved = λ r s. true-false (sym (h.resolved r s).0 ∙ running);
+    over = λ t. true-false (sym t ∙ o);
   }
 
   on_build : (refused : Bool) (l : Loc) (left : List Loc) → f.is_over ≡ false → f.sending ≡ [] → f.left ≡ l ∷ left → is_resolvable asked f.got (e.ends l) ≡ true
       → (build refused e asked f l left).is_whole ≡ true → AnsweringHolds first e asked ls (build refused e asked f l left)
-  on_build true l left o s w r t = no (sym t)
+  on_build true l left o s w r t = true-false (sym t)
   on_build false l left o s w r t = record {
     sent = λ _ more.
         ap (λ (ms : List Message). f.sent ++ ms) (first_answer e asked l left f.got more r)
         ∙ ap₂ (λ (ms : List Message) (ks : List Loc). f.sent ++ (ms ++ answers_for e asked ks (f.got ++ more))) (sym s) (sym w) ∙ h.sent o more;
     alone = h.alone;
     resolved = h.resolved;
-    over = λ u. no (sym u ∙ o);
+    over = λ u. true-false (sym u ∙ o);
   }
 
   on_request : (b : Bool) (l : Loc) (left : List Loc) → f.is_over ≡ false → f.sending ≡ [] → f.left ≡ l ∷ left → is_resolvable asked f.got (e.ends l) ≡ b
@@ -296,12 +295,12 @@ module _ (first : Bool) (e : Summary) (asked ls : List Loc) (links : Links) (f :
   on_request true l left o s w r t = on_build links.is_refused l left o s w r t
 
   on_resolve : (refused : Bool) → f.is_over ≡ false → is_ended f.got ≡ true → (resolve refused e asked f).is_whole ≡ true → AnsweringHolds first e asked ls (resolve refused e asked f)
-  on_resolve true o ended t = no (sym t)
+  on_resolve true o ended t = true-false (sym t)
   on_resolve false o ended t = record {
     sent = h.sent;
     alone = h.alone;
     resolved = λ r same. (ended, cc);
-    over = λ u. no (sym u ∙ o);
+    over = λ u. true-false (sym u ∙ o);
   }
 
   on_rows : (rows : Option (List Row)) → f.rows ≡ rows → f.is_over ≡ false → f.sending ≡ [] → f.left ≡ [] → is_ended f.got ≡ true
@@ -319,7 +318,7 @@ module _ (first : Bool) (e : Summary) (asked ls : List Loc) (links : Links) (f :
     by : (room : Bool) → AnsweringHolds first e asked ls (end_answers room f)
     by false = h
     by true = record {
-      sent = no;
+      sent = true-false;
       alone = h.alone;
       resolved = h.resolved;
       over = λ _. (ended, ap (λ (b : Bool). f.sent ++ End b ∷ []) whole ∙ all, is ∙ ap (λ (r : List Row). Some r) (h.resolved rows is).1, w);
@@ -352,14 +351,14 @@ answering_keeps first e asked ls links f h = by f.is_over refl f.is_whole refl w
   by : (over : Bool) → f.is_over ≡ over → (whole : Bool) → f.is_whole ≡ whole → (answering_by e asked links f over whole).is_whole ≡ true → AnsweringHolds first e asked ls (answering_by e asked links f over whole)
   by true o whole w t = h t
   by false o true w t = on_whole_answering first e asked ls links f (h w) w o f.sending refl f.left refl t
-  by false o false w t = no (sym t ∙ answering_stays_broken links f (is_ended f.got) ∙ w)
+  by false o false w t = true-false (sym t ∙ answering_stays_broken links f (is_ended f.got) ∙ w)
 
 pub answering_starts : (whole first : Bool) (e : Summary) (asked ls : List Loc) → AnsweringHolds first e asked ls (answering_start whole first ls)
 answering_starts whole first e asked ls = record {
   sent = λ _ more. refl;
   alone = λ t. ap got_at_start t;
   resolved = λ r s. cc;
-  over = λ t. no (sym t);
+  over = λ t. true-false (sym t);
 }
 
 pub answering_after_holds : (first : Bool) (e : Summary) (asked ls : List Loc) (schedule : List Links) (f : Answering) → (f.is_whole ≡ true → AnsweringHolds first e asked ls f)

@@ -1,6 +1,7 @@
 -- What each event that moves brings forward, also where it breaks a pass, and what a pass that breaks has sent.
 use Rattle.std.proofs.Common.{◌≡◌, ◌⊎◌, inl, inr, ℕ, ◌+◌, ◌≤◌, List, [], ◌∷◌, ◌++◌, length, drop, refl, ap, sym, ◌∙◌, Bool, true, false, arith}
 use Rattle.std.specs.Prelude.{Option, Some, None, is_some}
+use Rattle.lists.proofs.Tests.{true-false}
 use Rattle.flow_model.specs.declared.Loc.{Loc}
 use Rattle.flow_rule.specs.declared.Message.{Message}
 use Rattle.flow_rule.specs.declared.Message.TheVariants.{Ask, End}
@@ -10,13 +11,12 @@ use Rattle.stream_model.specs.Streams.{is_ended, is_resolvable}
 use Rattle.stream_model.specs.Passes.{Links, Asking, push_ask, walk, pop_ask, drop_ask, end_asks, broken_asking, whole_asking, asking_by, asking_event, Answering, push_answer, pop_answer, build, build_or_pop, resolve, drop_answer, end_answers, resolve_or_end, pop_or_end, broken_answering, whole_answering, answering_by, answering_event}
 use Rattle.stream_model.specs.Schedules.{is_met, item_or_room, whole_asking_need, asking_need_by, asking_need, nothing_or_room, last_need, nothing_or_item, whole_answering_need, answering_need_by, answering_need}
 use Rattle.stream_model.specs.ScheduleLaws.{one_if}
-use Rattle.stream_model.proofs.Passing.{no}
 use Rattle.stream_model.proofs.Moves.{one_longer}
 
 whole_counts : (b : Bool) → b ≡ true → one_if b ≡ 1
 whole_counts b w = ap one_if w
 
-at_most_one : (b : Bool) → one_if b ≤ 1
+pub at_most_one : (b : Bool) → one_if b ≤ 1
 at_most_one true = omega arith
 at_most_one false = omega arith
 
@@ -92,7 +92,7 @@ module _ (first : Bool) (e : Summary) (links : Links) (a : Asking) where
   drop_no_more (Some m) w = inl refl
 
   push_no_more : (room : Bool) (l : Loc) → a.is_whole ≡ true → AsksNoMore a (push_ask room a l)
-  push_no_more true l t w = no (sym t ∙ w)
+  push_no_more true l t w = true-false (sym t ∙ w)
   push_no_more false l t w = inl refl
 
   walk_no_more : (refused : Bool) (k : SinkTerms) (left : List SinkTerms) → AsksNoMore a (walk refused first a k left)
@@ -208,7 +208,7 @@ module _ (e : Summary) (asked : List Loc) (links : Links) (f : Answering) where
   silent_drop (Some m) w = inl refl
 
   silent_push : (room : Bool) (m : Message) (sending : List Message) → f.is_whole ≡ true → AnswersNoMore f (push_answer room f m sending)
-  silent_push true m sending t w = no (sym t ∙ w)
+  silent_push true m sending t w = true-false (sym t ∙ w)
   silent_push false m sending t w = inl refl
 
   silent_build : (refused : Bool) (l : Loc) (left : List Loc) → AnswersNoMore f (build refused e asked f l left)
@@ -263,7 +263,7 @@ module _ (links : Links) (r : links.has_room ≡ true) (n : is_some links.next �
   pub asking_met : (a : Asking) → a.is_over ≡ false → is_met (asking_need a) links ≡ true
   asking_met a o = by a.is_over o a.is_whole where
     by : (over : Bool) → over ≡ false → (whole : Bool) → is_met (asking_need_by a over whole) links ≡ true
-    by true o whole = no o
+    by true o whole = true-false o
     by false o true = met_asking (drop a.pushed a.asked) a.left (is_ended a.got)
     by false o false = met_item_or_room (is_ended a.got)
 
@@ -287,6 +287,6 @@ module _ (links : Links) (r : links.has_room ≡ true) (n : is_some links.next �
     whole [] [] = met_last (is_ended f.got) f.rows
 
     by : (over : Bool) → over ≡ false → (whole : Bool) → is_met (answering_need_by e asked f over whole) links ≡ true
-    by true o t = no o
+    by true o t = true-false o
     by false o true = whole f.sending f.left
     by false o false = met_item_or_room (is_ended f.got)

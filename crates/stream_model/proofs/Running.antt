@@ -2,6 +2,7 @@
 use Rattle.std.proofs.Common.{◌≡◌, ℕ, zero, suc, List, [], ◌∷◌, ◌++◌, map, refl, ap, sym, subst, ◌∙◌, Bool, true, false, append-nil}
 use Rattle.std.specs.Prelude.{Option, Some, None, is_none}
 use Rattle.std.specs.List.{AllByRecursion}
+use Rattle.lists.proofs.Tests.{true-false}
 use Rattle.flow_rule.specs.declared.Message.{Message}
 use Rattle.flow_rule.specs.declared.Message.TheVariants.{Ask, End}
 use Rattle.epoch_model.specs.Summary.{Summary, AreSummaries}
@@ -12,7 +13,7 @@ use Rattle.stream_model.specs.Schedules.{Phase, Fresh, Asks, Answers, NodeState,
 use Rattle.stream_model.specs.ScheduleLaws.{EveryScheduleMeets}
 use Rattle.stream_model.proofs.Growing.{nothing_is_left, asks_end_last, answers_end_last}
 use Rattle.stream_model.proofs.Meeting.{done_nodes_meet}
-use Rattle.stream_model.proofs.Passing.{no, AskingHolds, AnsweringHolds, asking_keeps, asking_starts, asks_are_sent, answering_keeps, answering_starts, answers_are_sent, begun_whole}
+use Rattle.stream_model.proofs.Passing.{AskingHolds, AnsweringHolds, asking_keeps, asking_starts, asks_are_sent, answering_keeps, answering_starts, answers_are_sent, begun_whole}
 use Rattle.stream_model.proofs.Moving.{LinkHolds, NodesHold, reached, started}
 
 -- ---- the invariants of the passes, along a schedule
@@ -37,7 +38,7 @@ module _ (capacity : ℕ) (refused : Bool) where
       → PassHolds (is_none before) (is_none behind) e (node_event capacity refused before behind e p)
   pass_keeps before behind e Fresh h = by refused where
     by : (b : Bool) → (begun b (is_none behind) e).is_whole ≡ true → AskingHolds (is_none before) (is_none behind) e (begun b (is_none behind) e)
-    by true t = no (sym t)
+    by true t = true-false (sym t)
     by false t = asking_starts (is_none before) (is_none behind) e
   pass_keeps before behind e (Asks a) h =
       let links = asking_links capacity refused before behind a in
@@ -99,8 +100,8 @@ pub record Facts (first last : Bool) (n : Node) : Type 0 where
   pub sent_answers : n.answers_sent ≡ answers_for n.summary n.asked (requests n.asks_got) n.answers_got
 
 pub facts : (first last : Bool) (e : Summary) (p : Phase) → PassHolds first last e p → is_done p ≡ true → is_whole_in p ≡ true → Facts first last (node_in (record { summary = e; phase = p }))
-facts first last e Fresh h d w = no (sym d)
-facts first last e (Asks a) h d w = no (sym d)
+facts first last e Fresh h d w = true-false (sym d)
+facts first last e (Asks a) h d w = true-false (sym d)
 facts first last e (Answers a f) h d w =
     let x = h.2 (h.1 w) in
     let y = h.3 w in

@@ -2,6 +2,7 @@
 use Rattle.std.proofs.Common.{◌≡◌, ℕ, zero, suc, ◌+◌, List, [], ◌∷◌, ◌++◌, map, length, refl, ap, sym, subst, ◌∙◌, Bool, true, false, arith}
 use Rattle.std.specs.Prelude.{Option, Some, None, is_none}
 use Rattle.std.proofs.lemmas.List.{length-map}
+use Rattle.lists.proofs.Tests.{true-false}
 use Rattle.flow_model.specs.declared.Loc.{Loc}
 use Rattle.flow_rule.specs.declared.Message.{Message}
 use Rattle.flow_rule.specs.declared.Message.TheVariants.{Ask, End}
@@ -12,7 +13,7 @@ use Rattle.stream_model.specs.Passes.{Asking, got_at_start, asking_event, rows_o
 use Rattle.stream_model.specs.Work.{node_work, work_in_all, EndsBehind, EndsOutside}
 use Rattle.stream_model.specs.Schedules.{Phase, Fresh, Asks, Answers, NodeState, Event, asking_links, answering_links, begun, settled_by, node_event, phase_of_first, event_at, nodes_start, nodes_after, node_moves, moves_at, is_done, is_whole_in, node_in}
 use Rattle.stream_model.specs.ScheduleLaws.{one_if, moves_in, SameWork}
-use Rattle.stream_model.proofs.Passing.{no, begun_whole}
+use Rattle.stream_model.proofs.Passing.{begun_whole}
 use Rattle.stream_model.proofs.Moving.{reached, started}
 use Rattle.stream_model.proofs.Running.{PassHolds, RunHolds, AllDone, AllWhole, facts, all_are_done, run_holds, run_starts, kept_summaries, first_summaries, as_many}
 use Rattle.stream_model.proofs.Moves.{AskCount, count_asking, whole_asking_before, row_count, count_answering}
@@ -37,7 +38,7 @@ module _ (capacity : ℕ) (refused : Bool) where
   node_count before behind e Fresh t = by refused t where
     by : (b : Bool) → (begun b (is_none behind) e).is_whole ≡ true
         → gain e (Asks (begun b (is_none behind) e)) + 0 ≡ 0 + debt (is_none before) (is_none behind) (Asks (begun b (is_none behind) e)) + 1
-    by true t = no (sym t)
+    by true t = true-false (sym t)
     by false t = omega arith
   node_count before behind e (Asks a) t =
       let links = asking_links capacity refused before behind a in
@@ -117,8 +118,8 @@ nothing_owed before (e ∷ es) = let rest = nothing_owed (Some Fresh) es in omeg
 -- what a node that is done gained is its work, and what is left to it
 done_work : (first last : Bool) (e : Summary) (p : Phase) → PassHolds first last e p → is_done p ≡ true → is_whole_in p ≡ true
     → gain e p ≡ node_work first last (node_in (record { summary = e; phase = p })) + debt first last p
-done_work first last e Fresh h d w = no (sym d)
-done_work first last e (Asks a) h d w = no (sym d)
+done_work first last e Fresh h d w = true-false (sym d)
+done_work first last e (Asks a) h d w = true-false (sym d)
 done_work first last e (Answers a f) h d w =
     let x = facts first last e (Answers a f) h d w in
     let asks : length a.left ≡ 0 = ap length ((h.2 (h.1 w)).over h.0).0 in

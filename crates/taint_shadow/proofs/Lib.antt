@@ -6,3 +6,4 @@ mod Bytes
 mod Targets
 mod Flows
 mod Received
+pub mod Alike

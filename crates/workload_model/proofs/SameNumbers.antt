@@ -1,20 +1,16 @@
 -- The numbers of alike queries. Crates above cite this lemma.
-use Rattle.std.proofs.Common.{◌≡◌, ℕ, zero, suc, ◌+◌, ◌-◌, ◌==◌, List, [], ◌∷◌, ◌++◌, length, Bool, map, ap, ap₂, refl, sym, ◌∙◌, sum_by, arith}
+use Rattle.std.proofs.Common.{◌≡◌, ℕ, zero, suc, ◌+◌, ◌-◌, List, [], ◌∷◌, ◌++◌, length, Bool, map, ap, ap₂, refl, sym, ◌∙◌, sum_by, arith}
 use Rattle.std.proofs.lemmas.List.{length-map}
 use Rattle.std.specs.Prelude.{Option, Some, None}
 use Rattle.std.specs.List.{filter}
 use Rattle.flow_model.specs.declared.Loc.{Loc}
-use Rattle.flow_model.specs.declared.InnerSink.{InnerSink}
 use Rattle.flow_model.specs.declared.SinkPoint.{SinkPoint}
-use Rattle.flow_model.specs.declared.SinkPoint.TheVariants.{Out, At}
 use Rattle.flow_model.specs.declared.StepSeen.{StepSeen}
-use Rattle.flow_model.specs.Orders.{inner_cmp}
 use Rattle.flow_model.specs.Origins.{Policy, step_at}
-use Rattle.lists.specs.Sets.{has}
-use Rattle.report_model.specs.Query.{Query, Alike, has_sink, policy_of}
-use Rattle.report_model.specs.Rows.{Sink, Row, row, rows, rows_as_written, point_sink, points_at, sinks_of_step, sinks_from}
+use Rattle.report_model.specs.Query.{Query, Alike, policy_of}
+use Rattle.report_model.specs.Rows.{Sink, Row, row, rows, rows_as_written, sinks_of_step, sinks_from}
 use Rattle.report_model.specs.Text.{report_text}
-use Rattle.report_model.proofs.RowLemmas.{same_rows}
+use Rattle.report_model.proofs.RowLemmas.{same_rows, same_choice, same_points, same_sinks_from}
 use Rattle.record_model.specs.Counts.{capped}
 use Rattle.sink_collect.specs.Pairs.{pairs}
 use Rattle.epoch_model.specs.Stretch.{sinks_at_step, sinks_between, points_at_start, sinks_of_epoch}
@@ -27,15 +23,6 @@ use Rattle.workload_model.specs.Lines.{numbers_of}
 
 same_policy : (q p : Query) → Alike q p → policy_of q ≡ policy_of p
 same_policy q p a = λ i. record { rule = a.rule i; introduces = λ b. a.sources b.channel b.offset i }
-
-same_choice : (q p : Query) → Alike q p → has_sink q ≡ has_sink p
-same_choice q p a = λ i s. of s i where
-  of : (s : SinkPoint) → has_sink q s ≡ has_sink p s
-  of (Out b) = a.sinks b.channel b.offset
-  of (At x) = ap (has inner_cmp x) a.points
-
-same_points : (q p : Query) → Alike q p → (t : ℕ) → points_at q t ≡ points_at p t
-same_points q p a t = ap (λ (xs : List InnerSink). map point_sink (filter (λ x. x.time == t) xs)) a.points
 
 same_at_step : (q p : Query) → Alike q p → (t : ℕ) (step : Option StepSeen) → sinks_at_step q t step ≡ sinks_at_step p t step
 same_at_step q p a t None = refl
@@ -91,13 +78,6 @@ same_listed_in_all : (q p : Query) → Alike q p → (trace : List StepSeen) (cu
 same_listed_in_all q p a trace [] = refl
 same_listed_in_all q p a trace (c ∷ []) = refl
 same_listed_in_all q p a trace (c ∷ d ∷ cuts) = ap₂ (λ (m n : ℕ). m + n) (same_listed q p a trace c (d ∷ cuts)) (same_listed_in_all q p a trace (d ∷ cuts))
-
-same_sinks_from : (q p : Query) → Alike q p → (t : ℕ) (trace : List StepSeen) → sinks_from q t trace ≡ sinks_from p t trace
-same_sinks_from q p a t [] = same_points q p a t
-same_sinks_from q p a t (s ∷ ss) =
-    ap₂ (λ (xs ys : List Sink). xs ++ ys)
-    (ap₂ (λ (xs : List Sink) (f : SinkPoint → Bool). xs ++ filter (λ x. f x.name) (sinks_of_step t s.call)) (same_points q p a t) (same_choice q p a))
-    (same_sinks_from q p a (t + 1) ss)
 
 -- as many rows as sinks
 row_count : (q p : Query) → Alike q p → (trace : List StepSeen) → length (rows_as_written q trace) ≡ length (rows_as_written p trace)

@@ -1,9 +1,10 @@
 use Rattle.std.proofs.Common.{List, [], ◌∷◌, ◌++◌, ap, sym, ◌∙◌, arith}
 use Rattle.std.proofs.lemmas.List.{length-map}
+use Rattle.lists.proofs.Lists.{take-slice_get}
 use Rattle.report_model.specs.Rows.{Row}
 use Rattle.epoch_model.specs.Join.{answer_to, resolved_row, rows_of}
 use Rattle.epoch_summary.specs.Summaries.{summary_of}
-use Rattle.answer_sets.proofs.Each.{take_next, row_before}
+use Rattle.answer_sets.proofs.Each.{row_before}
 use Rattle.answer_sets.proofs.sink_rows.rows.Goals as goal
 
 pub row-requires-clause-before : goal.row-requires-clause-before
@@ -18,6 +19,6 @@ loop-number-preserved c = record {
   made =
       c.in_ok-push.ensures.items
       ∙ ap (λ (rows : List Row). rows ++ c.in_ok-next.next ∷ []) c.loop-number.invariant.made
-      ∙ sym (take_next _ c.loop-number.number c.in_ok-next.next c.in_ok-next.ensures.row);
+      ∙ sym (take-slice_get _ c.loop-number.number c.in_ok-next.next c.in_ok-next.ensures.row);
   ahead = c.in_ok-next.ensures.ahead;
 }

@@ -1,10 +1,11 @@
 use Rattle.std.proofs.Common.{ap, sym, subst, ◌∙◌}
+use Rattle.lists.proofs.Lists.{drop-within}
 use Rattle.epoch_model.specs.Crossing.{added_all}
 use Rattle.stream_model.specs.Passes.{asked_more}
 use Rattle.epoch_summary.specs.Summaries.{summary_of}
 use Rattle.backward_pass.specs.Backward.{IsWalked}
 use Rattle.backward_pass.proofs.Counts.{shared_sink}
-use Rattle.backward_pass.proofs.Lists.{next_behind, sink_behind}
+use Rattle.backward_pass.proofs.Lists.{sink_behind}
 use Rattle.backward_pass.proofs.asking.add_sink.Goals as goal
 use Rattle.backward_pass.proofs.asking.add_sink.Goals.{then-first-via-then-first, then-first-via-else-first+then-shares_terms}
 
@@ -13,7 +14,7 @@ returns-then-first-clause-walked c =
     let ks = (summary_of c.args.summary.now).sinks in
     elim c.then-first.branch [
       | then-first-via-then-first w ↦
-          let next = next_behind ks c.args.number c.requires.inside in
+          let next = drop-within ks c.args.number c.requires.inside in
           record { sink = next.0; is = next.1; added = sym (ap (λ b. asked_more b c.args.asked.now next.0.terms.starts) w.if-first.true) }
       | then-first-via-else-first+then-shares_terms w ↦
           let shares = w.shares_terms.ensures in let yes = w.if-shares_terms.true in

@@ -3,11 +3,12 @@ use Rattle.std.specs.Prelude.{option_map}
 use Rattle.std.specs.List.{AllByRecursion}
 use Rattle.std.specs.Vec.Iter.{into_iter_items}
 use Rattle.epoch_cut.specs.Numbered.{NumberedEpoch}
+use Rattle.epoch_cut.proofs.Numbered.{length-numbered}
 use Rattle.checkpoints.specs.Points.{beginnings}
 use Rattle.epoch_node.specs.Cores.{CanStart}
 use Rattle.epoch_node.specs.Nodes.{NodeView}
 use Rattle.epoch_layout.specs.Layouts.{CutRun, points_of, before_end, laid_out}
-use Rattle.epoch_layout.proofs.Tickets.{all_can_start, some_epoch, length-numbered}
+use Rattle.epoch_layout.proofs.Tickets.{all_can_start, some_epoch}
 use Rattle.epoch_layout.proofs.Layouts.{can_start, at_place, no_items, new_between, last_of, last_push, push_open, push_last}
 use Rattle.epoch_layout.proofs.layout.lay_out.Goals as goal
 

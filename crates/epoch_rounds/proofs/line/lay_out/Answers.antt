@@ -2,10 +2,11 @@ use Rattle.std.proofs.Common.{◌≡◌, ◌+◌, List, [], ◌∷◌, ◌++◌,
 use Rattle.std.specs.List.{AllByRecursion}
 use Rattle.std.specs.Vec.Iter.{into_iter_items}
 use Rattle.epoch_cut.specs.Numbered.{NumberedEpoch}
+use Rattle.epoch_cut.proofs.Numbered.{length-numbered}
 use Rattle.checkpoints.specs.Points.{beginnings}
 use Rattle.epoch_node.specs.Cores.{CoreView, CanStart, core_of}
 use Rattle.epoch_layout.specs.Layouts.{CutRun, points_of}
-use Rattle.epoch_layout.proofs.Tickets.{all_can_start, some_epoch, length-numbered}
+use Rattle.epoch_layout.proofs.Tickets.{all_can_start, some_epoch}
 use Rattle.epoch_layout.proofs.Layouts.{can_start, at_place, no_items}
 use Rattle.epoch_rounds.specs.declared.joints.Joint.{Joint}
 use Rattle.epoch_rounds.specs.Lines.{new_cores}

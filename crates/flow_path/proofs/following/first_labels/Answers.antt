@@ -1,11 +1,11 @@
 use Rattle.std.proofs.Common.{◌<◌, length, map, arith, ap, sym, ◌∙◌}
 use Rattle.std.specs.Prelude.{slice_get}
 use Rattle.std.proofs.lemmas.List.{length-set}
-use Rattle.std.proofs.lemmas.Option.{slice_get_within}
+use Rattle.std.proofs.lemmas.Option.{slice_get_within, same_Some}
 use Rattle.flow_model.proofs.Located.{origins_located}
 use Rattle.flow_path.specs.Carriers.{kept, first_label}
 use Rattle.flow_path.proofs.Places.{other_label}
-use Rattle.flow_path.proofs.Tables.{some_is, length_map}
+use Rattle.flow_path.proofs.Tables.{length_map}
 use Rattle.flow_path.proofs.following.first_labels.Goals as goal
 
 pub first-requires : goal.first-requires
@@ -18,7 +18,7 @@ loop-i-preserved c =
     record {
       size = length-set c.loop-i.labels c.loop-i.i c.first.result ∙ c.loop-i.invariant.size;
       first = λ j ls less at. other_label c.loop-i.labels c.loop-i.i j c.first.result (f ls) inside
-          (λ same. c.first.ensures ∙ ap f (some_is c.origins.result.now ls (sym c.origins.ensures.value ∙ ap (slice_get (map (λ t. t.origins) c.args.flow.now)) (sym same) ∙ at)))
+          (λ same. c.first.ensures ∙ ap f (same_Some c.origins.result.now ls (sym c.origins.ensures.value ∙ ap (slice_get (map (λ t. t.origins) c.args.flow.now)) (sym same) ∙ at)))
           (λ apart. c.loop-i.invariant.first j ls (omega (arith, less, apart)) at);
     }
 

@@ -1,15 +1,12 @@
-use Rattle.std.proofs.Common.{◌≡◌, ◌∙◌, ap, ℕ, ◌++◌, List, length, append_assoc}
+use Rattle.std.proofs.Common.{◌≡◌, ◌∙◌, ap, ℕ, ◌++◌, List, length}
 use Rattle.std.specs.Prelude.{codes}
+use Rattle.lists.proofs.Lists.{append-twice}
 use Rattle.report_model.specs.Rows.{Row}
 use Rattle.run_output.specs.Summary.{number_line}
 use Rattle.page_model.specs.Rows.{joined_rows}
 use Rattle.replayer.specs.Jobs.{trace_of}
 use Rattle.page_model.specs.Data.{asked, told_text}
 use Rattle.page_data.proofs.data.push_data.Goals as goal
-
--- one more text
-next : (old said more one two : List ℕ) → one ≡ old ++ said → two ≡ one ++ more → two ≡ old ++ (said ++ more)
-next old said more one two e f = f ∙ ap (λ (x : List ℕ). x ++ more) e ∙ append_assoc old said more
 
 pub returns : goal.returns
 returns c =
@@ -23,8 +20,8 @@ returns c =
     let end : List ℕ = number_line (codes "end") (length report) in
     let ends : c.push_number.new.out.items ≡ third ++ end = c.in_ok-push_number.ensures ∙ ap (λ (n : ℕ). third ++ number_line (codes "end") n) c.lines.ensures in
     let rows : second ≡ first ++ joined_rows report = c.in_ok-push_rows.ensures ∙ ap (λ (rs : List Row). first ++ joined_rows rs) c.rows.ensures in
-    next old (head ++ joined_rows report ++ told) end third c.push_number.new.out.items
-    (next old (head ++ joined_rows report) told second third
-    (next old head (joined_rows report) first second c.in_ok-extend_from_slice.ensures.items rows)
+    append-twice old (head ++ joined_rows report ++ told) end third c.push_number.new.out.items
+    (append-twice old (head ++ joined_rows report) told second third
+    (append-twice old head (joined_rows report) first second c.in_ok-extend_from_slice.ensures.items rows)
     c.in_ok-push_told.ensures)
     ends

@@ -1,12 +1,10 @@
-use Rattle.std.proofs.Common.{◌≡◌, true, false, map, sym, ap, ◌∙◌, arith}
+use Rattle.std.proofs.Common.{map, sym, ap, ◌∙◌, arith}
 use Rattle.std.proofs.lemmas.List.{take_all}
+use Rattle.std.proofs.lemmas.Bool.{false≢true}
 use Rattle.source_ranges.specs.declared.SourceRange.{SourceRange}
 use Rattle.page_data.specs.Moved.{range_moved}
 use Rattle.page_data.proofs.MovedRanges.{other_count, other_range, all_moved}
 use Rattle.page_data.proofs.rows.are_moved.Goals as goal
-
-never : false ≡ true → ⊥
-never h = cc
 
 abbrev none : SourceRange
 none = record { channel = 0; from = 0; past = 0 }
@@ -19,7 +17,7 @@ returns-then-first-second c =
 pub returns-then-not-is_moved : goal.returns-then-not-is_moved
 returns-then-not-is_moved c =
     other_range c.args.by c.args.before.now c.args.now.now c.ranges-first.result.now c.ranges-second.result.now c.ranges-first.ensures.value
-    c.ranges-second.ensures.value c.loop-i.i none c.loop-i-test.true (λ e. never (sym c.if-not-is_moved.true ∙ c.is_moved.ensures.1 e))
+    c.ranges-second.ensures.value c.loop-i.i none c.loop-i-test.true (λ e. false≢true (sym c.if-not-is_moved.true ∙ c.is_moved.ensures.1 e))
 
 pub returns : goal.returns
 returns c =

@@ -1,5 +1,5 @@
 use Rattle.std.proofs.Common.{◌≡◌, ℕ, ◌+◌, Bool, true, false, ◌&&◌, ◌||◌, [], ◌∷◌, refl, sym, ap, ap₂, ◌∙◌, arith}
-use Rattle.std.proofs.lemmas.Bool.{and_from, and_right, or_right}
+use Rattle.std.proofs.lemmas.Bool.{and_from, and_right, or_right, false≢true}
 use Rattle.flow_model.specs.declared.SinkPoint.TheVariants.{Out}
 use Rattle.report_model.specs.Rows.{Row}
 use Rattle.range_model.specs.Runs.{is_next_sink, is_next_source, same_sources}
@@ -29,9 +29,6 @@ returns c =
       fits = (omega arith, omega arith);
     }
 
-never : false ≡ true → ⊥
-never h = cc
-
 pub returns-then-not-equals : goal.returns-then-not-equals
 returns-then-not-equals c =
     let first = c.args.first in
@@ -39,5 +36,5 @@ returns-then-not-equals c =
     let sources = c.args.sources.now in
     let next = is_next_sink (Out first) (Out c.args.byte) in
     one-is_run first.channel first.offset own (row c.args.byte sources)
-    ∙ ap₂ (λ (m s : Bool). next && (m || s)) c.in_default.ensures (differ own sources (λ e. never (sym c.if-not-equals.true ∙ c.equals.ensures.1 e)))
+    ∙ ap₂ (λ (m s : Bool). next && (m || s)) c.in_default.ensures (differ own sources (λ e. false≢true (sym c.if-not-equals.true ∙ c.equals.ensures.1 e)))
     ∙ and_right next false refl

@@ -1,5 +1,5 @@
-use Rattle.std.proofs.Common.{◌≡◌, ℕ, suc, ◌+◌, ◌-◌, ◌≤◌, true, false, List, [], ◌∷◌, ◌++◌, sym, ap, ap₂, ◌∙◌, arith}
-use Rattle.std.proofs.lemmas.Bool.{and_left, and_right, and_from}
+use Rattle.std.proofs.Common.{◌≡◌, ℕ, suc, ◌+◌, ◌-◌, ◌≤◌, true, List, [], ◌∷◌, ◌++◌, sym, ap, ap₂, ◌∙◌, arith}
+use Rattle.std.proofs.lemmas.Bool.{and_left, and_right, and_from, false≢true}
 use Rattle.flow_model.specs.declared.SourceByte.{SourceByte}
 use Rattle.flow_model.specs.declared.SinkByte.{SinkByte}
 use Rattle.flow_model.specs.declared.SinkPoint.TheVariants.{Out}
@@ -10,9 +10,6 @@ use Rattle.range_report.specs.OpenRuns.{row_of, row, shared_rows}
 use Rattle.range_report.proofs.Rows.{shared-test, shared-push, same-sources, differ, agree}
 use Rattle.range_report.proofs.runs.shared_with.Goals as goal
 use Rattle.range_report.proofs.runs.shared_with.Goals.{then-not-sink_follows-via-then-not-sink_follows, then-not-sink_follows-via-else-not-sink_follows+then-not-equals}
-
-never : false ≡ true → ⊥
-never h = cc
 
 -- the rows with the next one
 longer : (first byte : SinkByte) (own sources : List SourceByte) (n : ℕ) → 2 ≤ n
@@ -36,7 +33,7 @@ returns-then-not-sink_follows c =
     ∙ elim c.then-not-sink_follows.branch [
       | then-not-sink_follows-via-then-not-sink_follows w ↦ and_left next same (sym c.sink_follows.ensures.next ∙ w.if-not-sink_follows.true)
       | then-not-sink_follows-via-else-not-sink_follows+then-not-equals w ↦
-          and_right next same (differ c.args.own.now c.args.sources.now (λ e. never (sym w.if-not-equals.true ∙ w.equals.ensures.1 e)))
+          and_right next same (differ c.args.own.now c.args.sources.now (λ e. false≢true (sym w.if-not-equals.true ∙ w.equals.ensures.1 e)))
     ]
 
 pub returns : goal.returns

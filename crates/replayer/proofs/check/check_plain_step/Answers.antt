@@ -4,11 +4,11 @@ use Rattle.replay_run.specs.Runs.{RunAt, hart_of, later_by_one, IsLater}
 use Rattle.rv_machine.specs.declared.Stepped.TheVariants.{Plain}
 use Rattle.replayer.specs.Differences.{compared_of}
 use Rattle.replayer.specs.Nexts.{seen_at}
-use Rattle.replayer.proofs.Checking.{end_small}
 use Rattle.replayer.proofs.PlainSteps.{record_later, end_is_later, plain_advances, other_differs}
 use Rattle.replayer.proofs.Stepping.{plain_finished}
 use Rattle.replayer.proofs.Watching.{told_one}
 use Rattle.replayer.proofs.check.check_plain_step.Goals as goal
+use Rattle.log_model.proofs.Ends.{end_at-small}
 
 pub advance-requires-clause-later : goal.advance-requires-clause-later
 advance-requires-clause-later g c =
@@ -19,7 +19,7 @@ pub advance-requires-clause-time : goal.advance-requires-clause-time
 advance-requires-clause-time g c =
     let r = c.args.run.now in
     let time : c.step_inlined.new.self.moment.time ≡ r.moment.time = ap (λ (x : RunAt). x.moment.time) c.in-Plain.ensures.rest in
-    omega (arith, end_is_later r c.form.ensures c.requires.plain, end_small r.log.end c.form.ensures.form.end)
+    omega (arith, end_is_later r c.form.ensures c.requires.plain, end_at-small r.log.end c.form.ensures.form.end)
 
 pub returns-in-Plain-clause-checked : goal.returns-in-Plain-clause-checked
 returns-in-Plain-clause-checked g c =

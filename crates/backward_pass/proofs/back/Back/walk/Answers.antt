@@ -1,10 +1,10 @@
 use Rattle.std.proofs.Common.{◌+◌, true, take, drop, ap, subst, ◌∙◌, arith}
+use Rattle.lists.proofs.Lists.{drop-within}
 use Rattle.epoch_summary.specs.Summaries.{summary_of}
 use Rattle.pass_parts.specs.Known.{known}
 use Rattle.pass_parts.specs.Knowing.{is_whole, summary_in}
 use Rattle.backward_pass.specs.Backward.{AreAsked}
 use Rattle.backward_pass.proofs.Counts.{first_asked}
-use Rattle.backward_pass.proofs.Lists.{next_behind}
 use Rattle.backward_pass.proofs.back.Back.walk.Goals as goal
 
 pub add_sink-requires-clause-walked : goal.add_sink-requires-clause-walked
@@ -16,7 +16,7 @@ add_sink-requires-clause-walked c = λ other.
 pub returns-in_default-add_sink-clause-walked : goal.returns-in_default-add_sink-clause-walked
 returns-in_default-add_sink-clause-walked c = λ _.
     let s = c.args.self.now in
-    let next = next_behind (summary_of c.in-Whole.summary).sinks s.walked (omega (arith, c.if-self-sink_count.false, c.sink_count.ensures)) in
+    let next = drop-within (summary_of c.in-Whole.summary).sinks s.walked (omega (arith, c.if-self-sink_count.false, c.sink_count.ensures)) in
     record {
       whole = ap is_whole c.in-Whole.is;
       refused = true;

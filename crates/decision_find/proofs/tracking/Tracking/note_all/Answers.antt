@@ -2,13 +2,13 @@ use Rattle.std.proofs.Common.{sym, subst, List}
 use Rattle.std.proofs.lemmas.List.{take_more}
 use Rattle.flow_model.specs.declared.Loc.{Loc}
 use Rattle.flow_model.specs.declared.Loc.TheVariants.{Reg}
+use Rattle.flow_model.proofs.Located.{located-get_or}
 use Rattle.decision_find.specs.Following.{Notes}
-use Rattle.decision_find.proofs.Located.{located_at}
 use Rattle.decision_find.proofs.Noted.{noted_then}
 use Rattle.decision_find.proofs.tracking.Tracking.note_all.Goals as goal
 
 pub note_one-requires-clause-located : goal.note_one-requires-clause-located
-note_one-requires-clause-located c = located_at c.args.locs.now c.loop-loc.loc-index (Reg 0 0) c.requires.located c.loop-loc-test.true
+note_one-requires-clause-located c = located-get_or c.args.locs.now c.loop-loc.loc-index (Reg 0 0) c.requires.located c.loop-loc-test.true
 
 pub loop-loc-preserved : goal.loop-loc-preserved
 loop-loc-preserved c =

@@ -1,7 +1,7 @@
 use Rattle.std.proofs.Common.{refl, sym}
 use Rattle.taint_shadow.proofs.Meaning.{keeps_itself}
+use Rattle.taint_shadow.proofs.Alike.{same_label}
 use Rattle.epoch_summary.specs.Words.{label_words}
-use Rattle.epoch_summary.proofs.Alike.{same_label}
 use Rattle.epoch_summary.proofs.Words.{with_itself, with_nothing, nothing_with}
 use Rattle.epoch_summary.proofs.labels.Nodes.unite_labels.Goals as goal
 

@@ -1,5 +1,5 @@
 use Rattle.std.proofs.Common.{arith, sym, ◌∙◌}
-use Rattle.epoch_summary.proofs.Alike.{same_label}
+use Rattle.taint_shadow.proofs.Alike.{same_label}
 use Rattle.epoch_summary.proofs.Named.{same_terms}
 use Rattle.epoch_summary.proofs.summary.Summary.shares_terms.Goals as goal
 

@@ -1,9 +1,10 @@
 use Rattle.std.proofs.Common.{◌∙◌}
-use Rattle.merge_log.proofs.Keys.{keeps_all, noted_here, noted_terms}
+use Rattle.merge_log.proofs.Keys.{noted_here, noted_terms}
 use Rattle.merge_log.proofs.Terms.{with_itself, with_nothing, nothing_with}
 use Rattle.merge_log.proofs.Unions.{made, made_terms}
 use Rattle.merge_log.proofs.nodes.MergeLog.recent_union.Goals as goal
 use Rattle.merge_log.proofs.nodes.MergeLog.recent_union.Goals.{then-a-b-via-then-a-b, then-a-b-via-else-a-b+then-b-eq0}
+use Rattle.merge_log.proofs.Keeping.{keeps_all}
 
 pub returns-then-a-b-clause-terms : goal.returns-then-a-b-clause-terms
 returns-then-a-b-clause-terms c =

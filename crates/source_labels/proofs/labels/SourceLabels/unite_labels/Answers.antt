@@ -1,7 +1,8 @@
 use Rattle.std.proofs.Common.{sym}
 use Rattle.std.proofs.lemmas.Bool.{iff_false}
-use Rattle.source_labels.proofs.Nodes.{same_label, same_labels, right_nothing, left_nothing}
+use Rattle.source_labels.proofs.Nodes.{same_labels, right_nothing, left_nothing}
 use Rattle.source_labels.proofs.labels.SourceLabels.unite_labels.Goals as goal
+use Rattle.taint_shadow.proofs.Alike.{same_label}
 
 pub returns-then-eq : goal.returns-then-eq
 returns-then-eq c = same_labels c.args.self.now c.args.left c.args.right c.requires.left c.requires.right (same_label c.args.left c.args.right (sym c.if-eq.ensures))
