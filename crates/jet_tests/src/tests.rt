@@ -20,7 +20,7 @@ mod refusals;
 mod runs;
 mod show;
 
-use guest_assembler::{Instr, code, program};
+use guest_assembler::{Instr, code};
 use guests::{
     ADD_WORDS, COPY_FOUR, Guest, LESS_THAN, LOAD_SIGNED, LOAD_UNSIGNED, LOOK_UP, MASK_AND_SHIFT,
     MULTIPLY_WORDS, OVERWRITE, UNALIGNED, XOR_WORDS,
@@ -28,10 +28,9 @@ use guests::{
 use jet_cli::jet;
 use outer_io::{Gate, ListClock, MemoryFile, MemorySink, MemoryStore, OpenGate, Sink, Store};
 use sha2::{Digest, Sha256};
-use std::alloc::{AllocError, Global};
+use std::alloc::Global;
 use std::process::Abort;
 use std::sync::Wait;
-use std::test::Fail;
 use std::thread::Threads;
 
 const COPY: &str = "rule copy\nsource all\nsink all\n";
@@ -74,11 +73,24 @@ const NEVER: u64 = 1 << 40;
 /// The address that code is loaded at.
 const BASE: u32 = 0x10000;
 
-fn push_words(out: &mut Vec<u8>, words: &[u32]) -> Result<(), AllocError> {
+/// The program file of this code.
+fn program(rt: &impl Abort, alloc: Global, code: &[Instr]) -> Vec<u8> {
+    guest_assembler::program(alloc, code).expect(rt, "memory")
+}
+
+/// These bytes, owned.
+fn owned(rt: &impl Abort, alloc: Global, bytes: &[u8]) -> Vec<u8> {
+    bytes.to_vec(alloc).expect(rt, "memory")
+}
+
+fn push(rt: &impl Abort, out: &mut Vec<u8>, bytes: &[u8]) {
+    out.extend_from_slice(bytes).expect(rt, "memory");
+}
+
+fn push_words(rt: &impl Abort, out: &mut Vec<u8>, words: &[u32]) {
     for word in words {
-        out.extend_from_slice(&word.to_le_bytes())?;
+        push(rt, out, &word.to_le_bytes());
     }
-    Ok(())
 }
 
 /// An instruction that no word stands for: its file has a word that traps.
@@ -90,30 +102,32 @@ const NO_INSTRUCTION: Instr = Instr::Addi {
 
 /// The header of a log whose first line is this.
 fn header(
+    rt: &impl Abort,
     alloc: Global,
     magic: &[u8],
     program: &[u8],
     pages: u32,
     inputs: u32,
-) -> Result<Vec<u8>, AllocError> {
+) -> Vec<u8> {
     let mut out = Vec::new(alloc);
-    out.extend_from_slice(magic)?;
-    out.extend_from_slice(&Sha256::digest(program))?;
-    push_words(&mut out, [pages, inputs].as_slice())?;
-    Ok(out)
+    push(rt, &mut out, magic);
+    push(rt, &mut out, &Sha256::digest(program));
+    push_words(rt, &mut out, [pages, inputs].as_slice());
+    out
 }
 
 /// The header of a log in version 1 and these records.
 fn log(
+    rt: &impl Abort,
     alloc: Global,
     program: &[u8],
     pages: u32,
     inputs: u32,
     records: &[u8],
-) -> Result<Vec<u8>, AllocError> {
-    let mut out = header(alloc, b"JETLOG1\n", program, pages, inputs)?;
-    out.extend_from_slice(records)?;
-    Ok(out)
+) -> Vec<u8> {
+    let mut out = header(rt, alloc, b"JETLOG1\n", program, pages, inputs);
+    push(rt, &mut out, records);
+    out
 }
 
 /// The version of a log. Version 2 has wide steps, and the bytes of reads stand in its channels.
@@ -124,79 +138,84 @@ enum Version {
 }
 
 /// A record's tag and its step.
-fn push_tag(out: &mut Vec<u8>, version: Version, tag: u8, at: u32) -> Result<(), AllocError> {
-    out.push(tag)?;
-    push_words(out, [at].as_slice())?;
+fn push_tag(rt: &impl Abort, out: &mut Vec<u8>, version: Version, tag: u8, at: u32) {
+    push(rt, out, &[tag]);
+    push_words(rt, out, [at].as_slice());
     match version {
-        Version::One => Ok(()),
-        Version::Two => push_words(out, [0].as_slice()),
+        Version::One => {}
+        Version::Two => push_words(rt, out, [0].as_slice()),
     }
 }
 
 /// The record of a read (tag 1) or a write (tag 2), with its bytes in version 1.
 fn push_transfer(
+    rt: &impl Abort,
     out: &mut Vec<u8>,
     tag: u8,
     at: u32,
     args: [u32; 3],
     bytes: &[u8],
-) -> Result<(), AllocError> {
-    push_moved(out, Version::One, tag, at, args, bytes.len())?;
-    out.extend_from_slice(bytes)
+) {
+    push_moved(rt, out, Version::One, tag, at, args, bytes.len());
+    push(rt, out, bytes);
 }
 
 /// The fields of a read or a write that moved so many bytes.
 fn push_moved(
+    rt: &impl Abort,
     out: &mut Vec<u8>,
     version: Version,
     tag: u8,
     at: u32,
     args: [u32; 3],
     length: usize,
-) -> Result<(), AllocError> {
-    push_tag(out, version, tag, at)?;
+) {
+    push_tag(rt, out, version, tag, at);
     let [channel, address, asked] = args;
     let length = u32::try_from(length).unwrap_or(0);
-    push_words(out, [channel, address, asked, length].as_slice())
+    push_words(rt, out, [channel, address, asked, length].as_slice());
 }
 
 /// The program file of a guest. A table's field costs the proof more than a guest that is lent.
-fn program_of(alloc: Global, guest: &Guest) -> Result<Vec<u8>, AllocError> {
-    program(alloc, guest.code)
+fn program_of(rt: &impl Abort, alloc: Global, guest: &Guest) -> Vec<u8> {
+    program(rt, alloc, guest.code)
 }
 
 /// The log of a guest's run in one page, with these bytes written.
 fn log_with(
+    rt: &impl Abort,
     alloc: Global,
     guest: &Guest,
     program: &[u8],
     written: &[u8],
-) -> Result<Vec<u8>, AllocError> {
-    let records = records(alloc, guest, written)?;
-    log(alloc, program, guest.pages, 1, &records)
+) -> Vec<u8> {
+    let records = records(rt, alloc, guest, written);
+    log(rt, alloc, program, guest.pages, 1, &records)
 }
 
 /// The records of a guest's run, with these bytes written.
-fn records(alloc: Global, guest: &Guest, written: &[u8]) -> Result<Vec<u8>, AllocError> {
+fn records(rt: &impl Abort, alloc: Global, guest: &Guest, written: &[u8]) -> Vec<u8> {
     let mut out = Vec::new(alloc);
     let (read, write) = (&guest.read, &guest.write);
     push_transfer(
+        rt,
         &mut out,
         1,
         read.at,
         [0, read.place, read.asked],
         read.bytes,
-    )?;
+    );
     push_transfer(
+        rt,
         &mut out,
         2,
         write.at,
         [1, write.place, write.asked],
         written,
-    )?;
-    out.push(5)?;
-    push_words(&mut out, [guest.exit, 0].as_slice())?;
-    Ok(out)
+    );
+    push(rt, &mut out, &[5]);
+    push_words(rt, &mut out, [guest.exit, 0].as_slice());
+    out
 }
 
 /// A record of a log, or its end. All transfers are with the buffer at 0x10100.
@@ -221,74 +240,76 @@ enum Entry {
 
 /// A read or a write with the buffer at 0x10100.
 fn push_bytes(
+    rt: &impl Abort,
     out: &mut Vec<u8>,
     version: Version,
     tag: u8,
     step: (u32, u32, u32),
     bytes: &[u8],
-) -> Result<(), AllocError> {
+) {
     let (at, channel, asked) = step;
     let args = [channel, 0x10100, asked];
-    push_moved(out, version, tag, at, args, bytes.len())?;
+    push_moved(rt, out, version, tag, at, args, bytes.len());
     match (version, tag) {
-        (Version::Two, 1) => Ok(()),
-        _ => out.extend_from_slice(bytes),
+        (Version::Two, 1) => {}
+        _ => push(rt, out, bytes),
     }
 }
 
 /// A record of a tag, a step and these fields.
 fn push_fields(
+    rt: &impl Abort,
     out: &mut Vec<u8>,
     version: Version,
     tag: u8,
     at: u32,
     fields: &[u32],
-) -> Result<(), AllocError> {
-    push_tag(out, version, tag, at)?;
-    push_words(out, fields)
+) {
+    push_tag(rt, out, version, tag, at);
+    push_words(rt, out, fields);
 }
 
-fn push_entry(out: &mut Vec<u8>, version: Version, entry: Entry) -> Result<(), AllocError> {
+fn push_entry(rt: &impl Abort, out: &mut Vec<u8>, version: Version, entry: Entry) {
     match entry {
         Entry::Read(at, channel, asked, bytes) => {
-            push_bytes(out, version, 1, (at, channel, asked), bytes)
+            push_bytes(rt, out, version, 1, (at, channel, asked), bytes)
         }
         Entry::Write(at, channel, asked, bytes) => {
-            push_bytes(out, version, 2, (at, channel, asked), bytes)
+            push_bytes(rt, out, version, 2, (at, channel, asked), bytes)
         }
         Entry::Refused(tag, at, channel, asked) => {
             let fields = [channel, 0x10100, asked, 0xffff_fff7];
-            push_fields(out, version, tag, at, fields.as_slice())
+            push_fields(rt, out, version, tag, at, fields.as_slice())
         }
         Entry::Time(at, time) => {
-            push_tag(out, version, 3, at)?;
-            out.extend_from_slice(&time.to_le_bytes())
+            push_tag(rt, out, version, 3, at);
+            push(rt, out, &time.to_le_bytes());
         }
-        Entry::Other(at, number) => push_fields(out, version, 4, at, [number].as_slice()),
-        Entry::Exit(at, code) => push_fields(out, version, 5, at, [code].as_slice()),
-        Entry::Trap(at, kind, pc) => push_fields(out, version, 6, at, [kind, pc].as_slice()),
-        Entry::Limit(at) => push_tag(out, version, 7, at),
+        Entry::Other(at, number) => push_fields(rt, out, version, 4, at, [number].as_slice()),
+        Entry::Exit(at, code) => push_fields(rt, out, version, 5, at, [code].as_slice()),
+        Entry::Trap(at, kind, pc) => push_fields(rt, out, version, 6, at, [kind, pc].as_slice()),
+        Entry::Limit(at) => push_tag(rt, out, version, 7, at),
     }
 }
 
-fn push_entries(out: &mut Vec<u8>, version: Version, entries: &[Entry]) -> Result<(), AllocError> {
+fn push_entries(rt: &impl Abort, out: &mut Vec<u8>, version: Version, entries: &[Entry]) {
     for entry in entries {
-        push_entry(out, version, *entry)?;
+        push_entry(rt, out, version, *entry);
     }
-    Ok(())
 }
 
 /// A log of these records in version 1.
 fn log_of(
+    rt: &impl Abort,
     alloc: Global,
     program: &[u8],
     pages: u32,
     inputs: u32,
     entries: &[Entry],
-) -> Result<Vec<u8>, AllocError> {
-    let mut out = header(alloc, b"JETLOG1\n", program, pages, inputs)?;
-    push_entries(&mut out, Version::One, entries)?;
-    Ok(out)
+) -> Vec<u8> {
+    let mut out = header(rt, alloc, b"JETLOG1\n", program, pages, inputs);
+    push_entries(rt, &mut out, Version::One, entries);
+    out
 }
 
 /// What was read on each channel, in order.
@@ -296,33 +317,34 @@ type Channels = &'static [&'static [u8]];
 
 /// A log of these records in version 2.
 fn wide_log_of(
+    rt: &impl Abort,
     alloc: Global,
     program: &[u8],
     pages: u32,
     channels: Channels,
     entries: &[Entry],
-) -> Result<Vec<u8>, AllocError> {
+) -> Vec<u8> {
     let inputs = u32::try_from(channels.len()).unwrap_or(0);
-    let mut out = header(alloc, b"JETLOG2\n", program, pages, inputs)?;
+    let mut out = header(rt, alloc, b"JETLOG2\n", program, pages, inputs);
     for bytes in channels {
-        push_channel(&mut out, bytes)?;
+        push_channel(rt, &mut out, bytes);
     }
-    push_entries(&mut out, Version::Two, entries)?;
-    Ok(out)
+    push_entries(rt, &mut out, Version::Two, entries);
+    out
 }
 
-fn push_channel(out: &mut Vec<u8>, bytes: &[u8]) -> Result<(), AllocError> {
+fn push_channel(rt: &impl Abort, out: &mut Vec<u8>, bytes: &[u8]) {
     let length = u32::try_from(bytes.len()).unwrap_or(0);
-    push_words(out, [length].as_slice())?;
-    out.extend_from_slice(bytes)
+    push_words(rt, out, [length].as_slice());
+    push(rt, out, bytes);
 }
 
 /// Bytes that are put in place of those at an offset.
 type Patch = (usize, &'static [u8]);
 
 /// The bytes, with others from an offset on.
-fn patched(alloc: Global, bytes: &[u8], patch: Patch) -> Result<Vec<u8>, AllocError> {
-    let mut changed = bytes.to_vec(alloc)?;
+fn patched(rt: &impl Abort, alloc: Global, bytes: &[u8], patch: Patch) -> Vec<u8> {
+    let mut changed = owned(rt, alloc, bytes);
     let (offset, patch) = patch;
     for (i, byte) in patch.iter().enumerate() {
         let place = offset.wrapping_add(i);
@@ -330,40 +352,58 @@ fn patched(alloc: Global, bytes: &[u8], patch: Patch) -> Result<Vec<u8>, AllocEr
             changed[place] = *byte;
         }
     }
-    Ok(changed)
+    changed
 }
 
 /// Adds a file.
-fn push_file(files: &mut Vec<MemoryFile>, name: &str, bytes: &[u8]) -> Result<(), AllocError> {
+fn push_file(rt: &impl Abort, files: &mut Vec<MemoryFile>, name: &str, bytes: &[u8]) {
     let alloc = *files.allocator();
-    files.push(MemoryFile {
-        name: String::from_str(alloc, name)?,
-        bytes: bytes.to_vec(alloc)?,
-    })?;
-    Ok(())
+    let file = MemoryFile {
+        name: String::from_str(alloc, name).expect(rt, "memory"),
+        bytes: owned(rt, alloc, bytes),
+    };
+    files.push(file).expect(rt, "memory");
 }
 
 /// The files `prog`, `log` and `query`.
 fn files(
+    rt: &impl Abort,
     alloc: Global,
     program: &[u8],
     log: &[u8],
     query: &[u8],
-) -> Result<Vec<MemoryFile>, AllocError> {
+) -> Vec<MemoryFile> {
     let mut files = Vec::new(alloc);
-    push_file(&mut files, "prog", program)?;
-    push_file(&mut files, "log", log)?;
-    push_file(&mut files, "query", query)?;
-    Ok(files)
+    push_file(rt, &mut files, "prog", program);
+    push_file(rt, &mut files, "log", log);
+    push_file(rt, &mut files, "query", query);
+    files
+}
+
+/// A store of these files, of which the call of this number fails. Its calls move so many bytes, and there is room for files of so
+/// many to be written.
+fn store_of(
+    rt: &impl Abort,
+    alloc: Global,
+    files: Vec<MemoryFile>,
+    failing: u64,
+    piece: usize,
+    room: usize,
+) -> MemoryStore
+    requires { 0 < piece }
+{
+    let failing = [failing].as_slice().to_vec(alloc).expect(rt, "memory");
+    MemoryStore::new(alloc, files, failing, piece, room).expect(rt, "memory")
 }
 
 /// The words of a line, owned.
-fn words(alloc: Global, line: Line) -> Result<Vec<String>, AllocError> {
+fn words(rt: &impl Abort, alloc: Global, line: Line) -> Vec<String> {
     let mut words = Vec::new(alloc);
     for word in line {
-        words.push(String::from_str(alloc, word)?)?;
+        let word = String::from_str(alloc, word).expect(rt, "memory");
+        words.push(word).expect(rt, "memory");
     }
-    Ok(words)
+    words
 }
 
 /// How a command ended: the status, and what it wrote to the two outputs.
@@ -395,28 +435,28 @@ impl Ending<'_> {
 }
 
 /// The status of the command of these words, where this gate is told of its epochs.
-fn status_by<R: Threads + Wait + Sync + AllocGlobal, S: Store, O: Sink, E: Sink, G: Gate>(
+fn status_by<R: Threads + Wait + Sync + AllocGlobal + Abort, S: Store, O: Sink, E: Sink, G: Gate>(
     rt: &R,
     line: Line,
     store: &mut S,
     out: &mut O,
     err: &mut E,
     gate: &G,
-) -> Result<u8, AllocError> {
+) -> u8 {
     let alloc = rt.alloc();
-    let words = words(alloc, line)?;
-    let mut clock = ListClock::new(alloc, [TIME].as_slice())?;
-    Ok(jet(rt, &words, store, out, err, &mut clock, gate))
+    let words = words(rt, alloc, line);
+    let mut clock = ListClock::new(alloc, [TIME].as_slice()).expect(rt, "memory");
+    jet(rt, &words, store, out, err, &mut clock, gate)
 }
 
 /// The status of the command of these words.
-fn status_of<R: Threads + Wait + Sync + AllocGlobal, S: Store, O: Sink, E: Sink>(
+fn status_of<R: Threads + Wait + Sync + AllocGlobal + Abort, S: Store, O: Sink, E: Sink>(
     rt: &R,
     line: Line,
     store: &mut S,
     out: &mut O,
     err: &mut E,
-) -> Result<u8, AllocError> {
+) -> u8 {
     status_by(rt, line, store, out, err, &OpenGate)
 }
 
@@ -428,20 +468,20 @@ fn assert_outside<R: Threads + Wait + Sync + AllocGlobal + Abort>(
     out: &mut MemorySink,
     err: &mut MemorySink,
     ending: Ending<'_>,
-) -> Result<(), Fail> {
-    let status = status_of(rt, line, store, out, err)?;
+) {
+    let status = status_of(rt, line, store, out, err);
     let said = ending.err;
     assert_eq!(rt; status, ending.status, "{said}");
     assert_eq!(rt; out.bytes(), ending.out);
     assert_eq!(rt; err.bytes(), said.as_bytes());
-    Ok(())
 }
 
 /// An output that takes at most so many bytes at a time, and fails at this put.
-fn sink(alloc: Global, put: u64, piece: usize) -> Result<MemorySink, AllocError>
+fn sink(rt: &impl Abort, alloc: Global, put: u64, piece: usize) -> MemorySink
     requires { 0 < piece }
 {
-    MemorySink::new(alloc, [put].as_slice().to_vec(alloc)?, piece, 70000)
+    let failing = [put].as_slice().to_vec(alloc).expect(rt, "memory");
+    MemorySink::new(alloc, failing, piece, 70000).expect(rt, "memory")
 }
 
 /// The command of these words ends so over this store, where the output takes at most so many bytes at a time and fails at
@@ -454,13 +494,13 @@ fn assert_puts<R: Threads + Wait + Sync + AllocGlobal + Abort>(
     piece: usize,
     err_put: u64,
     ending: Ending<'_>,
-) -> Result<(), Fail>
+)
     requires { 0 < piece }
 {
     let alloc = rt.alloc();
-    let mut out = sink(alloc, put, piece)?;
-    let mut err = sink(alloc, err_put, 1)?;
-    assert_outside(rt, line, store, &mut out, &mut err, ending)
+    let mut out = sink(rt, alloc, put, piece);
+    let mut err = sink(rt, alloc, err_put, 1);
+    assert_outside(rt, line, store, &mut out, &mut err, ending);
 }
 
 /// The command of these words ends so over this store.
@@ -469,8 +509,8 @@ fn assert_ends<R: Threads + Wait + Sync + AllocGlobal + Abort>(
     line: Line,
     store: &mut MemoryStore,
     ending: Ending<'_>,
-) -> Result<(), Fail> {
-    assert_puts(rt, line, store, NEVER, 65536, NEVER, ending)
+) {
+    assert_puts(rt, line, store, NEVER, 65536, NEVER, ending);
 }
 
 /// The command of these words ends so over these files.
@@ -481,11 +521,11 @@ fn assert_command<R: Threads + Wait + Sync + AllocGlobal + Abort>(
     log: &[u8],
     query: &[u8],
     ending: Ending<'_>,
-) -> Result<(), Fail> {
+) {
     let alloc = rt.alloc();
-    let files = files(alloc, program, log, query)?;
-    let mut store = MemoryStore::new(alloc, files, Vec::new(alloc), 65536, 0)?;
-    assert_ends(rt, line, &mut store, ending)
+    let files = files(rt, alloc, program, log, query);
+    let mut store = store_of(rt, alloc, files, NEVER, 65536, 0);
+    assert_ends(rt, line, &mut store, ending);
 }
 
 /// A query of these files ends so.
@@ -495,8 +535,8 @@ fn assert_query<R: Threads + Wait + Sync + AllocGlobal + Abort>(
     log: &[u8],
     query: &[u8],
     ending: Ending<'_>,
-) -> Result<(), Fail> {
-    assert_command(rt, QUERY, program, log, query, ending)
+) {
+    assert_command(rt, QUERY, program, log, query, ending);
 }
 
 /// A command over a guest's run and a query ends so.
@@ -506,11 +546,11 @@ fn assert_guest<R: Threads + Wait + Sync + AllocGlobal + Abort>(
     guest: &Guest,
     query: &str,
     ending: Ending<'_>,
-) -> Result<(), Fail> {
+) {
     let alloc = rt.alloc();
-    let program = program_of(alloc, guest)?;
-    let log = log_with(alloc, guest, &program, guest.write.bytes)?;
-    assert_command(rt, line, &program, &log, query.as_bytes(), ending)
+    let program = program_of(rt, alloc, guest);
+    let log = log_with(rt, alloc, guest, &program, guest.write.bytes);
+    assert_command(rt, line, &program, &log, query.as_bytes(), ending);
 }
 
 /// The sum or the product of two words depends on all eight bytes, in each of its own.
@@ -594,13 +634,12 @@ end 4
 ];
 
 #[test]
-fn bytes_are_followed(rt: HostRuntime) -> Result<(), Fail> {
+fn bytes_are_followed(rt: HostRuntime) {
     for &(guest, query, report) in REPORTS {
         for line in [QUERY, BY_STEPS] {
-            assert_guest(&rt, line, guest, query, Ending::report(report))?;
+            assert_guest(&rt, line, guest, query, Ending::report(report));
         }
     }
-    Ok(())
 }
 
 /// The code of a guest that reads 5,000 bytes to 0x11000, copies them one by one to 0x13000 and writes
@@ -628,30 +667,44 @@ const COPY_MANY: [Instr; 20] = code![
     ecall(),
 ];
 
-/// Twenty-five thousand steps, and a report of 67,789 bytes.
-#[test]
-fn a_long_copy_is_followed(rt: HostRuntime) -> Result<(), Fail> {
-    let alloc = rt.alloc();
-    let program = program(alloc, &COPY_MANY)?;
-    let mut bytes = Vec::new(alloc);
+/// The report of that copy.
+fn report_of_many(rt: &impl Abort, alloc: Global) -> String {
     let mut report = String::new(alloc);
     for i in 0..5000u32 {
-        bytes.push((i % 256) as u8)?;
-        report.push_str(&format!(in alloc; "1:{i} 0:{i}\n")?)?;
+        let line = format!(in alloc; "1:{i} 0:{i}\n").expect(rt, "memory");
+        report.push_str(&line).expect(rt, "memory");
     }
-    report.push_str("end 5000\n")?;
-    assert_eq!(rt; report.len(), 67789);
+    report.push_str("end 5000\n").expect(rt, "memory");
+    report
+}
+
+/// Its log.
+fn log_of_many(rt: &impl Abort, alloc: Global, program: &[u8]) -> Vec<u8> {
+    let mut bytes = Vec::new(alloc);
+    for i in 0..5000u32 {
+        push(rt, &mut bytes, &[(i % 256) as u8]);
+    }
     let mut records = Vec::new(alloc);
-    push_transfer(&mut records, 1, 5, [0, 0x11000, 5000], &bytes)?;
-    push_transfer(&mut records, 2, 25011, [1, 0x13000, 5000], &bytes)?;
-    records.push(5)?;
-    push_words(&mut records, [25014, 0].as_slice())?;
-    let log = log(alloc, &program, 5, 1, &records)?;
+    push_transfer(rt, &mut records, 1, 5, [0, 0x11000, 5000], &bytes);
+    push_transfer(rt, &mut records, 2, 25011, [1, 0x13000, 5000], &bytes);
+    push(rt, &mut records, &[5]);
+    push_words(rt, &mut records, [25014, 0].as_slice());
+    log(rt, alloc, program, 5, 1, &records)
+}
+
+/// Twenty-five thousand steps, and a report of 67,789 bytes.
+#[test]
+fn a_long_copy_is_followed(rt: HostRuntime) {
+    let alloc = rt.alloc();
+    let program = program(&rt, alloc, &COPY_MANY);
+    let log = log_of_many(&rt, alloc, &program);
+    let report = report_of_many(&rt, alloc);
+    assert_eq!(rt; report.len(), 67789);
     assert_query(
         &rt,
         &program,
         &log,
         COPY.as_bytes(),
         Ending::report(&report),
-    )
+    );
 }

@@ -1,11 +1,10 @@
 //! The workload's run: its numbers, and its limits.
 
-use super::{Ending, Line, assert_ends};
+use super::{Ending, Line, assert_ends, store_of};
 use outer_io::MemoryStore;
-use std::alloc::{AllocError, Global};
+use std::alloc::Global;
 use std::process::Abort;
 use std::sync::Wait;
-use std::test::Fail;
 use std::thread::Threads;
 
 /// Words, and the lines that are printed. The counts and the digests were computed by another program.
@@ -83,9 +82,8 @@ const REFUSED: &[(Line, u8, &str)] = &[
 ];
 
 /// A store with no file, whose first call fails.
-fn closed_store(alloc: Global) -> Result<MemoryStore, AllocError> {
-    let failing = [0].as_slice().to_vec(alloc)?;
-    MemoryStore::new(alloc, Vec::new(alloc), failing, 65536, 0)
+fn closed_store(rt: &impl Abort, alloc: Global) -> MemoryStore {
+    store_of(rt, alloc, Vec::new(alloc), 0, 65536, 0)
 }
 
 /// The command of these words ends so, and calls no store.
@@ -93,23 +91,21 @@ fn assert_bench<R: Threads + Wait + Sync + AllocGlobal + Abort>(
     rt: &R,
     line: Line,
     ending: Ending<'_>,
-) -> Result<(), Fail> {
-    let mut store = closed_store(rt.alloc())?;
-    assert_ends(rt, line, &mut store, ending)
+) {
+    let mut store = closed_store(rt, rt.alloc());
+    assert_ends(rt, line, &mut store, ending);
 }
 
 #[test]
-fn a_workload_has_its_numbers(rt: HostRuntime) -> Result<(), Fail> {
+fn a_workload_has_its_numbers(rt: HostRuntime) {
     for &(line, text) in NUMBERS {
-        assert_bench(&rt, line, Ending::report(text))?;
+        assert_bench(&rt, line, Ending::report(text));
     }
-    Ok(())
 }
 
 #[test]
-fn a_workload_is_refused(rt: HostRuntime) -> Result<(), Fail> {
+fn a_workload_is_refused(rt: HostRuntime) {
     for &(line, status, said) in REFUSED {
-        assert_bench(&rt, line, Ending::refusal(status, said))?;
+        assert_bench(&rt, line, Ending::refusal(status, said));
     }
-    Ok(())
 }

@@ -5,13 +5,14 @@ ghost use Rattle.std.specs.Prelude.{◌<◌};
 use super::record::{FOUR, Recording, assert_file};
 use super::refusals::copied;
 use super::runs::{CONVERT, COPIES};
-use super::{COPY, Ending, Line, NEVER, assert_ends, files, log_of, program, wide_log_of};
+use super::{
+    COPY, Ending, Line, NEVER, assert_ends, files, log_of, program, store_of, wide_log_of,
+};
 use jet_files::read_file;
 use outer_io::MemoryStore;
-use std::alloc::{AllocError, Global};
+use std::alloc::Global;
 use std::process::Abort;
 use std::sync::Wait;
-use std::test::Fail;
 use std::thread::Threads;
 
 const AGAIN: Line = &["jet", "convert", "prog", "new", "again"];
@@ -20,18 +21,18 @@ const QUERY_NEW: Line = &["jet", "query", "prog", "new", "query"];
 
 /// A store of a program, a log and a query, of which the call of this number fails. Its calls move so many bytes.
 fn store(
+    rt: &impl Abort,
     alloc: Global,
     program: &[u8],
     log: &[u8],
     query: &str,
     failing: u64,
     piece: usize,
-) -> Result<MemoryStore, AllocError>
+) -> MemoryStore
     requires { 0 < piece }
 {
-    let files = files(alloc, program, log, query.as_bytes())?;
-    let failing = [failing].as_slice().to_vec(alloc)?;
-    MemoryStore::new(alloc, files, failing, piece, 1000)
+    let files = files(rt, alloc, program, log, query.as_bytes());
+    store_of(rt, alloc, files, failing, piece, 1000)
 }
 
 /// The log `new` is this one, the query tells the same of it, and it is what it is converted to.
@@ -40,12 +41,12 @@ fn assert_new<R: Threads + Wait + Sync + AllocGlobal + Abort>(
     store: &mut MemoryStore,
     log: &[u8],
     report: &str,
-) -> Result<(), Fail> {
-    assert_ends(rt, CONVERT, store, Ending::report(""))?;
-    assert_file(rt, store, "new", Some(log))?;
-    assert_ends(rt, QUERY_NEW, store, Ending::report(report))?;
-    assert_ends(rt, AGAIN, store, Ending::report(""))?;
-    assert_file(rt, store, "again", Some(log))
+) {
+    assert_ends(rt, CONVERT, store, Ending::report(""));
+    assert_file(rt, store, "new", Some(log));
+    assert_ends(rt, QUERY_NEW, store, Ending::report(report));
+    assert_ends(rt, AGAIN, store, Ending::report(""));
+    assert_file(rt, store, "again", Some(log));
 }
 
 /// The run's log in this store is converted to what its recording writes.
@@ -54,22 +55,29 @@ fn assert_converted<R: Threads + Wait + Sync + AllocGlobal + Abort>(
     recording: &Recording,
     store: &mut MemoryStore,
     program: &[u8],
-) -> Result<(), Fail> {
-    let wide = recording.log(rt.alloc(), program)?;
-    assert_new(rt, store, &wide, recording.report)
+) {
+    let wide = recording.log(rt, rt.alloc(), program);
+    assert_new(rt, store, &wide, recording.report);
 }
 
 /// The run's log in version 1 is converted to what its recording writes.
 pub fn assert_conversion<R: Threads + Wait + Sync + AllocGlobal + Abort>(
     rt: &R,
     recording: &Recording,
-) -> Result<(), Fail> {
+) {
     let alloc = rt.alloc();
-    let program = program(alloc, recording.code)?;
+    let program = program(rt, alloc, recording.code);
     let inputs = u32::try_from(recording.channels.len()).unwrap_or(0);
-    let log = log_of(alloc, &program, recording.pages, inputs, recording.entries)?;
-    let mut store = store(alloc, &program, &log, recording.query, NEVER, 65536)?;
-    assert_converted(rt, recording, &mut store, &program)
+    let log = log_of(
+        rt,
+        alloc,
+        &program,
+        recording.pages,
+        inputs,
+        recording.entries,
+    );
+    let mut store = store(rt, alloc, &program, &log, recording.query, NEVER, 65536);
+    assert_converted(rt, recording, &mut store, &program);
 }
 
 /// The other files are as before, and the new log has these bytes or isn't there.
@@ -79,11 +87,11 @@ fn assert_files<R: Threads + Wait + Sync + AllocGlobal + Abort>(
     program: &[u8],
     log: &[u8],
     new: Option<&[u8]>,
-) -> Result<(), Fail> {
-    assert_file(rt, store, "new", new)?;
-    assert_file(rt, store, "prog", Some(program))?;
-    assert_file(rt, store, "log", Some(log))?;
-    assert_file(rt, store, "query", Some(COPY.as_bytes()))
+) {
+    assert_file(rt, store, "new", new);
+    assert_file(rt, store, "prog", Some(program));
+    assert_file(rt, store, "log", Some(log));
+    assert_file(rt, store, "query", Some(COPY.as_bytes()));
 }
 
 /// A conversion over this store, of which this call fails.
@@ -94,7 +102,7 @@ fn assert_call_fails<R: Threads + Wait + Sync + AllocGlobal + Abort>(
     log: &[u8],
     wide: &[u8],
     call: u64,
-) -> Result<(), Fail> {
+) {
     let (ending, new) = if call < 29 {
         (Ending::refusal(7, "jet: read fault\n"), None)
     } else if call < 44 {
@@ -102,10 +110,10 @@ fn assert_call_fails<R: Threads + Wait + Sync + AllocGlobal + Abort>(
     } else {
         (Ending::report(""), Some(wide))
     };
-    assert_ends(rt, CONVERT, store, ending)?;
+    assert_ends(rt, CONVERT, store, ending);
     // A call that never came fails now.
     let _ = read_file(rt.alloc(), store, "query");
-    assert_files(rt, store, program, log, new)
+    assert_files(rt, store, program, log, new);
 }
 
 /// A conversion over a store of which this call fails.
@@ -115,20 +123,19 @@ fn assert_failing_call<R: Threads + Wait + Sync + AllocGlobal + Abort>(
     log: &[u8],
     wide: &[u8],
     call: u64,
-) -> Result<(), Fail> {
-    let mut store = store(rt.alloc(), program, log, COPY, call, 10)?;
-    assert_call_fails(rt, &mut store, program, log, wide, call)
+) {
+    let mut store = store(rt, rt.alloc(), program, log, COPY, call, 10);
+    assert_call_fails(rt, &mut store, program, log, wide, call);
 }
 
 /// The program is read in 16 calls of ten bytes and the log in 13; the new log is created, put in 13 pieces, and finished.
 /// Each of these calls fails once, and then no file differs.
 #[test]
-fn a_failing_store_leaves_the_files(rt: HostRuntime) -> Result<(), Fail> {
+fn a_failing_store_leaves_the_files(rt: HostRuntime) {
     let alloc = rt.alloc();
-    let (program, log) = copied(alloc)?;
-    let wide = wide_log_of(alloc, &program, 1, FOUR, COPIES)?;
+    let (program, log) = copied(&rt, alloc);
+    let wide = wide_log_of(&rt, alloc, &program, 1, FOUR, COPIES);
     for call in 0..45 {
-        assert_failing_call(&rt, &program, &log, &wide, call)?;
+        assert_failing_call(&rt, &program, &log, &wide, call);
     }
-    Ok(())
 }

@@ -2,15 +2,14 @@
 
 use super::guests::COPY_FOUR;
 use super::{
-    COPIED, COPY, Line, NEVER, QUERY, files, log, log_with, program, program_of, push_words, sink,
-    status_by,
+    COPIED, COPY, Line, NEVER, QUERY, files, log, log_with, program, program_of, push, push_words,
+    sink, status_by, store_of,
 };
 use guest_assembler::{Instr, code};
 use outer_io::{Gate, MemoryStore};
-use std::alloc::{AllocError, Global};
+use std::alloc::Global;
 use std::process::Abort;
 use std::sync::Wait;
-use std::test::Fail;
 use std::thread::Threads;
 use test_gates::{CountingGate, MeetingGate};
 
@@ -28,11 +27,11 @@ const BY_TWO: Line = &[
 ];
 
 /// A store of the files of the four-byte copy.
-fn copied(alloc: Global) -> Result<MemoryStore, AllocError> {
-    let program = program_of(alloc, &COPY_FOUR)?;
-    let log = log_with(alloc, &COPY_FOUR, &program, b"ABCD")?;
-    let files = files(alloc, &program, &log, COPY.as_bytes())?;
-    MemoryStore::new(alloc, files, Vec::new(alloc), 65536, 0)
+fn copied(rt: &impl Abort, alloc: Global) -> MemoryStore {
+    let program = program_of(rt, alloc, &COPY_FOUR);
+    let log = log_with(rt, alloc, &COPY_FOUR, &program, b"ABCD");
+    let files = files(rt, alloc, &program, &log, COPY.as_bytes());
+    store_of(rt, alloc, files, NEVER, 65536, 0)
 }
 
 /// The query over these files is answered with this report, where this gate is told of its epochs.
@@ -44,16 +43,16 @@ fn assert_report<R: Threads + Wait + Sync + AllocGlobal + Abort, G: Gate>(
     gate: &G,
 ) {
     let alloc = rt.alloc();
-    let mut out = sink(alloc, NEVER, 65536).expect(rt, "memory");
-    let mut err = sink(alloc, NEVER, 1).expect(rt, "memory");
+    let mut out = sink(rt, alloc, NEVER, 65536);
+    let mut err = sink(rt, alloc, NEVER, 1);
     let status = status_by(rt, line, &mut store, &mut out, &mut err, gate);
-    assert_eq!(rt; status.expect(rt, "memory"), 0);
+    assert_eq!(rt; status, 0);
     assert_eq!(rt; out.bytes(), report.as_bytes());
 }
 
 /// The query over the four-byte copy is answered, where this gate is told of its epochs.
 fn assert_copied<R: Threads + Wait + Sync + AllocGlobal + Abort, G: Gate>(rt: &R, gate: &G) {
-    let store = copied(rt.alloc()).expect(rt, "memory");
+    let store = copied(rt, rt.alloc());
     assert_report(rt, BY_TWO, store, COPIED, gate);
 }
 
@@ -83,14 +82,14 @@ const COUNT_DOWN: [Instr; 5] = code![
 ];
 
 /// A store of the files of that run, and this query.
-fn counted(alloc: Global, query: &str) -> Result<MemoryStore, AllocError> {
-    let program = program(alloc, &COUNT_DOWN)?;
+fn counted(rt: &impl Abort, alloc: Global, query: &str) -> MemoryStore {
+    let program = program(rt, alloc, &COUNT_DOWN);
     let mut records = Vec::new(alloc);
-    records.push(5)?;
-    push_words(&mut records, [262146, 0].as_slice())?;
-    let log = log(alloc, &program, 1, 0, &records)?;
-    let files = files(alloc, &program, &log, query.as_bytes())?;
-    MemoryStore::new(alloc, files, Vec::new(alloc), 65536, 0)
+    push(rt, &mut records, &[5]);
+    push_words(rt, &mut records, [262146, 0].as_slice());
+    let log = log(rt, alloc, &program, 1, 0, &records);
+    let files = files(rt, alloc, &program, &log, query.as_bytes());
+    store_of(rt, alloc, files, NEVER, 65536, 0)
 }
 
 /// A point at that run's end, and the report.
@@ -142,7 +141,7 @@ fn what_is_analysed_has_an_epoch_for_each_worker(rt: HostRuntime) {
     let alloc = rt.alloc();
     for &(line, (query, report), epochs) in SHARES {
         let gate = CountingGate::new(alloc, epochs).expect(&rt, "memory");
-        let store = counted(alloc, query).expect(&rt, "memory");
+        let store = counted(&rt, alloc, query);
         assert_report(&rt, line, store, report, &gate);
         assert!(rt; gate.is_entered_by_each_once());
     }

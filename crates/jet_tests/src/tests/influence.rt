@@ -3,7 +3,6 @@
 use super::guests::{ADD_WORDS, COPY_FOUR, Guest, LOOK_UP, OVERWRITE, UNALIGNED};
 use super::runs::INFLUENCE;
 use super::{COMPUTE, COPY, Ending, INDEX, assert_guest};
-use std::test::Fail;
 
 /// Each of the eight bytes of two words comes to all four of their sum.
 const OF_SUM: &str = "0:0 1:0 1:1 1:2 1:3
@@ -68,16 +67,15 @@ end 2
 ];
 
 #[test]
-fn input_bytes_are_followed(rt: HostRuntime) -> Result<(), Fail> {
+fn input_bytes_are_followed(rt: HostRuntime) {
     for &(guest, query, text) in INFLUENCES {
-        assert_guest(&rt, INFLUENCE, guest, query, Ending::report(text))?;
+        assert_guest(&rt, INFLUENCE, guest, query, Ending::report(text));
     }
-    Ok(())
 }
 
 /// A faulty query is refused as a report's is.
 #[test]
-fn an_influence_of_a_faulty_query_is_refused(rt: HostRuntime) -> Result<(), Fail> {
+fn an_influence_of_a_faulty_query_is_refused(rt: HostRuntime) {
     let ending = Ending::refusal(6, "jet: query line 1 Channel\n");
-    assert_guest(&rt, INFLUENCE, &COPY_FOUR, "sink 16", ending)
+    assert_guest(&rt, INFLUENCE, &COPY_FOUR, "sink 16", ending);
 }

@@ -3,7 +3,6 @@
 use super::runs::{INFLUENCE, QUERIES, SHOW};
 use super::{BY_STEPS, Ending, Entry, Line, QUERY, assert_command, log_of, program};
 use guest_assembler::{Instr, code};
-use std::test::Fail;
 
 /// Reads two bytes and writes them, counts down from 3, reads two more and writes them: 25 steps.
 pub const TWICE: [Instr; 21] = code![
@@ -90,25 +89,24 @@ const TOLD: &[(Line, &str, &str)] = &[
 ];
 
 #[test]
-fn what_comes_after_the_last_chosen_byte_changes_nothing(rt: HostRuntime) -> Result<(), Fail> {
+fn what_comes_after_the_last_chosen_byte_changes_nothing(rt: HostRuntime) {
     let alloc = rt.alloc();
-    let program = program(alloc, &TWICE)?;
-    let log = log_of(alloc, &program, 1, 1, &CALLED_TWICE)?;
+    let program = program(&rt, alloc, &TWICE);
+    let log = log_of(&rt, alloc, &program, 1, 1, &CALLED_TWICE);
     for &(line, query, told) in TOLD {
         let ending = Ending::report(told);
-        assert_command(&rt, line, &program, &log, query.as_bytes(), ending)?;
+        assert_command(&rt, line, &program, &log, query.as_bytes(), ending);
     }
-    Ok(())
 }
 
 /// A call after the last chosen byte that the log keeps wrongly is told as ever.
 #[test]
-fn a_later_call_is_checked(rt: HostRuntime) -> Result<(), Fail> {
+fn a_later_call_is_checked(rt: HostRuntime) {
     let alloc = rt.alloc();
-    let program = program(alloc, &TWICE)?;
+    let program = program(&rt, alloc, &TWICE);
     let mut entries = CALLED_TWICE;
     entries[3] = Entry::Write(21, 1, 2, b"CE");
-    let log = log_of(alloc, &program, 1, 1, &entries)?;
+    let log = log_of(&rt, alloc, &program, 1, 1, &entries);
     let ending = Ending::refusal(5, "jet: diverged at 21 byte 1 kept 69 seen 68\n");
-    assert_command(&rt, QUERY, &program, &log, EARLY.as_bytes(), ending)
+    assert_command(&rt, QUERY, &program, &log, EARLY.as_bytes(), ending);
 }

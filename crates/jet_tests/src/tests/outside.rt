@@ -9,13 +9,12 @@ use super::runs::{
 };
 use super::{
     COPIED, COPY, Ending, Line, NEVER, QUERY, assert_ends, assert_puts, files, log_with,
-    program_of, status_of,
+    program_of, status_of, store_of,
 };
 use outer_io::{MemoryFile, MemoryStore, SureSink, SureStore};
-use std::alloc::{AllocError, Global};
+use std::alloc::Global;
 use std::process::Abort;
 use std::sync::Wait;
-use std::test::Fail;
 use std::thread::Threads;
 
 /// The words of commands over the four-byte copy, how often they call the store, and what they write.
@@ -42,16 +41,15 @@ const COMMANDS: &[(Line, u64, &str)] = &[
 ];
 
 /// The three files of the four-byte copy; the log has these bytes as written.
-fn copied(alloc: Global, written: &[u8]) -> Result<Vec<MemoryFile>, AllocError> {
-    let program = program_of(alloc, &COPY_FOUR)?;
-    let log = log_with(alloc, &COPY_FOUR, &program, written)?;
-    files(alloc, &program, &log, COPY.as_bytes())
+fn copied(rt: &impl Abort, alloc: Global, written: &[u8]) -> Vec<MemoryFile> {
+    let program = program_of(rt, alloc, &COPY_FOUR);
+    let log = log_with(rt, alloc, &COPY_FOUR, &program, written);
+    files(rt, alloc, &program, &log, COPY.as_bytes())
 }
 
 /// A store of the files, of which the call of this number fails.
-fn store(alloc: Global, written: &[u8], failing: u64) -> Result<MemoryStore, AllocError> {
-    let failing = [failing].as_slice().to_vec(alloc)?;
-    MemoryStore::new(alloc, copied(alloc, written)?, failing, 65536, 0)
+fn store(rt: &impl Abort, alloc: Global, written: &[u8], failing: u64) -> MemoryStore {
+    store_of(rt, alloc, copied(rt, alloc, written), failing, 65536, 0)
 }
 
 /// A command that calls the store so often ends so where this call fails.
@@ -61,25 +59,24 @@ fn assert_read_fails<R: Threads + Wait + Sync + AllocGlobal + Abort>(
     calls: u64,
     text: &str,
     call: u64,
-) -> Result<(), Fail> {
-    let mut store = store(rt.alloc(), b"ABCD", call)?;
+) {
+    let mut store = store(rt, rt.alloc(), b"ABCD", call);
     let ending = if call < calls {
         Ending::refusal(7, "jet: read fault\n")
     } else {
         Ending::report(text)
     };
-    assert_ends(rt, line, &mut store, ending)
+    assert_ends(rt, line, &mut store, ending);
 }
 
 /// Each file is opened, read, and read to its end: three calls a file. Each of them fails once.
 #[test]
-fn each_failing_read_is_a_read_fault(rt: HostRuntime) -> Result<(), Fail> {
+fn each_failing_read_is_a_read_fault(rt: HostRuntime) {
     for &(line, calls, text) in COMMANDS {
         for call in 0..10 {
-            assert_read_fails(&rt, line, calls, text, call)?;
+            assert_read_fails(&rt, line, calls, text, call);
         }
     }
-    Ok(())
 }
 
 /// How a command with this text ends whose output takes so many bytes at a time, and fails at this put.
@@ -107,31 +104,27 @@ fn assert_put_fails<R: Threads + Wait + Sync + AllocGlobal + Abort>(
     text: &str,
     put: u64,
     piece: usize,
-) -> Result<(), Fail>
+)
     requires { 0 < piece }
 {
-    let mut store = store(rt.alloc(), b"ABCD", NEVER)?;
+    let mut store = store(rt, rt.alloc(), b"ABCD", NEVER);
     let ending = ending_at(text, put, piece);
-    assert_puts(rt, line, &mut store, put, piece, NEVER, ending)
+    assert_puts(rt, line, &mut store, put, piece, NEVER, ending);
 }
 
 #[test]
-fn each_failing_put_is_a_write_fault(rt: HostRuntime) -> Result<(), Fail> {
+fn each_failing_put_is_a_write_fault(rt: HostRuntime) {
     for &(line, _, text) in COMMANDS {
         for put in 0..47 {
-            assert_put_fails(&rt, line, text, put, 1)?;
+            assert_put_fails(&rt, line, text, put, 1);
         }
     }
-    assert_put_fails(&rt, QUERY, COPIED, 1, 10)
+    assert_put_fails(&rt, QUERY, COPIED, 1, 10);
 }
 
 /// A diverging log is refused where standard error fails at this put, and so much of the line is said.
-fn assert_said<R: Threads + Wait + Sync + AllocGlobal + Abort>(
-    rt: &R,
-    put: u64,
-    said: &str,
-) -> Result<(), Fail> {
-    let mut store = store(rt.alloc(), b"ABXD", NEVER)?;
+fn assert_said<R: Threads + Wait + Sync + AllocGlobal + Abort>(rt: &R, put: u64, said: &str) {
+    let mut store = store(rt, rt.alloc(), b"ABXD", NEVER);
     assert_puts(
         rt,
         QUERY,
@@ -140,14 +133,14 @@ fn assert_said<R: Threads + Wait + Sync + AllocGlobal + Abort>(
         256,
         put,
         Ending::refusal(5, said),
-    )
+    );
 }
 
 /// A standard error that fails, at once or after some bytes, changes no status.
 #[test]
-fn a_failing_standard_error_changes_no_status(rt: HostRuntime) -> Result<(), Fail> {
-    assert_said(&rt, 0, "")?;
-    assert_said(&rt, 5, "jet: ")
+fn a_failing_standard_error_changes_no_status(rt: HostRuntime) {
+    assert_said(&rt, 0, "");
+    assert_said(&rt, 5, "jet: ");
 }
 
 /// A query over a sure outside gives the same.
@@ -156,21 +149,21 @@ fn assert_sure<R: Threads + Wait + Sync + AllocGlobal + Abort>(
     store: &mut SureStore,
     out: &mut SureSink,
     err: &mut SureSink,
-) -> Result<(), Fail> {
-    let status = status_of(rt, QUERY, store, out, err)?;
+) {
+    let status = status_of(rt, QUERY, store, out, err);
     assert_eq!(rt; status, 0);
     assert_eq!(rt; out.bytes(), COPIED.as_bytes());
     assert_eq!(rt; err.bytes().len(), 0);
-    Ok(())
 }
 
 #[test]
-fn a_sure_outside_gives_the_same(rt: HostRuntime) -> Result<(), Fail> {
+fn a_sure_outside_gives_the_same(rt: HostRuntime) {
     let alloc = rt.alloc();
-    let mut store = SureStore::new(alloc, copied(alloc, b"ABCD")?, 0)?;
-    let mut out = SureSink::new(alloc, 100)?;
-    let mut err = SureSink::new(alloc, 100)?;
-    assert_sure(&rt, &mut store, &mut out, &mut err)
+    let files = copied(&rt, alloc, b"ABCD");
+    let mut store = SureStore::new(alloc, files, 0).expect(&rt, "memory");
+    let mut out = SureSink::new(alloc, 100).expect(&rt, "memory");
+    let mut err = SureSink::new(alloc, 100).expect(&rt, "memory");
+    assert_sure(&rt, &mut store, &mut out, &mut err);
 }
 
 /// Words that are no command, and commands whose files are missing.
@@ -207,16 +200,15 @@ fn assert_without_files<R: Threads + Wait + Sync + AllocGlobal + Abort>(
     rt: &R,
     line: Line,
     ending: Ending<'_>,
-) -> Result<(), Fail> {
+) {
     let alloc = rt.alloc();
-    let mut store = MemoryStore::new(alloc, Vec::new(alloc), Vec::new(alloc), 8, 0)?;
-    assert_ends(rt, line, &mut store, ending)
+    let mut store = store_of(rt, alloc, Vec::new(alloc), NEVER, 8, 0);
+    assert_ends(rt, line, &mut store, ending);
 }
 
 #[test]
-fn words_and_names_are_looked_at(rt: HostRuntime) -> Result<(), Fail> {
+fn words_and_names_are_looked_at(rt: HostRuntime) {
     for &(line, status, said) in WORDS {
-        assert_without_files(&rt, line, Ending::refusal(status, said))?;
+        assert_without_files(&rt, line, Ending::refusal(status, said));
     }
-    Ok(())
 }

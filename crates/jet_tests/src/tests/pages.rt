@@ -3,16 +3,14 @@
 use super::guests::COPY_FOUR;
 use super::record::assert_file;
 use super::runs::PAGE;
-use super::{COPY, Ending, Line, NEVER, assert_ends, files, log_with, program_of};
+use super::{COPY, Ending, Line, NEVER, assert_ends, files, log_with, program_of, push, store_of};
 use jet_files::read_file;
-use no_memory::NoMemory;
 use outer_io::MemoryStore;
 use page_text::{push_head, push_tail};
 use sha2::{Digest, Sha256};
-use std::alloc::{AllocError, Global};
+use std::alloc::Global;
 use std::process::Abort;
 use std::sync::Wait;
-use std::test::Fail;
 use std::thread::Threads;
 
 /// The words with one step in each epoch, many workers and the smallest links.
@@ -44,25 +42,24 @@ const TOLD: &str =
     r 0 4 5\nw 1 4 8\nend 4\n";
 
 /// The page of the copy by this program.
-fn page_of(alloc: Global, program: &[u8]) -> Result<Vec<u8>, NoMemory> {
+fn page_of(rt: &impl Abort, alloc: Global, program: &[u8]) -> Vec<u8> {
     let mut digits = [0; 64];
     let digest = Sha256::digest(program);
     let _ = hex::encode_to_slice(digest.as_slice(), &mut digits);
     let mut page = Vec::new(alloc);
-    push_head(&mut page)?;
-    page.extend_from_slice(ROWS.as_bytes())?;
-    page.extend_from_slice(&digits)?;
-    page.extend_from_slice(TOLD.as_bytes())?;
-    push_tail(&mut page)?;
-    Ok(page)
+    push_head(&mut page).expect(rt, "memory");
+    push(rt, &mut page, ROWS.as_bytes());
+    push(rt, &mut page, &digits);
+    push(rt, &mut page, TOLD.as_bytes());
+    push_tail(&mut page).expect(rt, "memory");
+    page
 }
 
 /// A store of the copy's files, of which the call of this number fails.
-fn store(alloc: Global, program: &[u8], failing: u64) -> Result<MemoryStore, AllocError> {
-    let log = log_with(alloc, &COPY_FOUR, program, b"ABCD")?;
-    let files = files(alloc, program, &log, COPY.as_bytes())?;
-    let failing = [failing].as_slice().to_vec(alloc)?;
-    MemoryStore::new(alloc, files, failing, 65536, 70000)
+fn store(rt: &impl Abort, alloc: Global, program: &[u8], failing: u64) -> MemoryStore {
+    let log = log_with(rt, alloc, &COPY_FOUR, program, b"ABCD");
+    let files = files(rt, alloc, program, &log, COPY.as_bytes());
+    store_of(rt, alloc, files, failing, 65536, 70000)
 }
 
 /// The command of these words ends so over the copy's files, of which this call fails. Then there is this page, or
@@ -74,39 +71,37 @@ fn assert_page<R: Threads + Wait + Sync + AllocGlobal + Abort>(
     call: u64,
     ending: Ending<'_>,
     page: Option<&[u8]>,
-) -> Result<(), Fail> {
-    let mut store = store(rt.alloc(), program, call)?;
-    assert_ends(rt, line, &mut store, ending)?;
+) {
+    let mut store = store(rt, rt.alloc(), program, call);
+    assert_ends(rt, line, &mut store, ending);
     // A call that never came fails now.
     let _ = read_file(rt.alloc(), &mut store, "query");
-    assert_file(rt, &mut store, "page", page)?;
-    assert_file(rt, &mut store, "prog", Some(program))?;
-    assert_file(rt, &mut store, "query", Some(COPY.as_bytes()))
+    assert_file(rt, &mut store, "page", page);
+    assert_file(rt, &mut store, "prog", Some(program));
+    assert_file(rt, &mut store, "query", Some(COPY.as_bytes()));
 }
 
 #[test]
-fn a_page_is_its_data_between_two_texts(rt: HostRuntime) -> Result<(), Fail> {
+fn a_page_is_its_data_between_two_texts(rt: HostRuntime) {
     let alloc = rt.alloc();
-    let program = program_of(alloc, &COPY_FOUR)?;
-    let page = page_of(alloc, &program)?;
+    let program = program_of(&rt, alloc, &COPY_FOUR);
+    let page = page_of(&rt, alloc, &program);
     let made = Ending::report("");
     for line in [PAGE, BY_STEPS] {
-        assert_page(&rt, line, &program, NEVER, made, Some(page.as_slice()))?;
+        assert_page(&rt, line, &program, NEVER, made, Some(page.as_slice()));
     }
-    Ok(())
 }
 
 /// Three files are read in three calls each; the page is created, put and finished. Each of these calls fails once.
 #[test]
-fn a_failing_store_leaves_no_page(rt: HostRuntime) -> Result<(), Fail> {
-    let program = program_of(rt.alloc(), &COPY_FOUR)?;
+fn a_failing_store_leaves_no_page(rt: HostRuntime) {
+    let program = program_of(&rt, rt.alloc(), &COPY_FOUR);
     let unread = Ending::refusal(7, "jet: read fault\n");
     for call in 0..9 {
-        assert_page(&rt, PAGE, &program, call, unread, None)?;
+        assert_page(&rt, PAGE, &program, call, unread, None);
     }
     let unwritten = Ending::refusal(8, "jet: write fault\n");
     for call in 9..12 {
-        assert_page(&rt, PAGE, &program, call, unwritten, None)?;
+        assert_page(&rt, PAGE, &program, call, unwritten, None);
     }
-    Ok(())
 }

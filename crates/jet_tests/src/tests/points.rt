@@ -2,7 +2,6 @@
 
 use super::guests::{ADD_WORDS, COPY_FOUR, Guest};
 use super::{COPIED, Ending, QUERY, assert_guest};
-use std::test::Fail;
 
 /// Guests, queries with points, and their reports.
 const POINTS: &[(&Guest, &str, &str)] = &[
@@ -82,11 +81,10 @@ end 8
 ];
 
 #[test]
-fn points_are_followed(rt: HostRuntime) -> Result<(), Fail> {
+fn points_are_followed(rt: HostRuntime) {
     for &(guest, query, report) in POINTS {
-        assert_guest(&rt, QUERY, guest, query, Ending::report(report))?;
+        assert_guest(&rt, QUERY, guest, query, Ending::report(report));
     }
-    Ok(())
 }
 
 /// Queries, and the line of their status 6.
@@ -108,9 +106,8 @@ const FAULTY: &[(&str, &str)] = &[
 ];
 
 #[test]
-fn faulty_points_are_told(rt: HostRuntime) -> Result<(), Fail> {
+fn faulty_points_are_told(rt: HostRuntime) {
     for &(query, line) in FAULTY {
-        assert_guest(&rt, QUERY, &COPY_FOUR, query, Ending::refusal(6, line))?;
+        assert_guest(&rt, QUERY, &COPY_FOUR, query, Ending::refusal(6, line));
     }
-    Ok(())
 }

@@ -2,12 +2,14 @@
 
 use super::guests::{ADD_WORDS, COPY_FOUR, Guest};
 use super::refusals::copied;
-use super::{COMPUTE, COPY, Ending, KEEP, Line, assert_ends, log_with, program_of, push_file};
-use outer_io::{MemoryFile, MemoryStore};
-use std::alloc::{AllocError, Global};
+use super::{
+    COMPUTE, COPY, Ending, KEEP, Line, NEVER, assert_ends, log_with, program_of, push_file,
+    store_of,
+};
+use outer_io::MemoryFile;
+use std::alloc::Global;
 use std::process::Abort;
 use std::sync::Wait;
-use std::test::Fail;
 use std::thread::Threads;
 
 /// The names of the files of queries, in their order.
@@ -125,20 +127,21 @@ const REFUSED: &[(Line, &[&str], u8, &str)] = &[
 
 /// A program, a log and queries.
 fn files(
+    rt: &impl Abort,
     alloc: Global,
     program: &[u8],
     log: &[u8],
     queries: &[&str],
-) -> Result<Vec<MemoryFile>, AllocError> {
+) -> Vec<MemoryFile> {
     let mut files = Vec::new(alloc);
-    push_file(&mut files, "prog", program)?;
-    push_file(&mut files, "log", log)?;
+    push_file(rt, &mut files, "prog", program);
+    push_file(rt, &mut files, "log", log);
     for (number, query) in queries.iter().enumerate() {
         if number < NAMES.len() {
-            push_file(&mut files, NAMES[number], query.as_bytes())?;
+            push_file(rt, &mut files, NAMES[number], query.as_bytes());
         }
     }
-    Ok(files)
+    files
 }
 
 /// The command of these words ends so over a program, a log and queries.
@@ -149,11 +152,11 @@ fn assert_queries<R: Threads + Wait + Sync + AllocGlobal + Abort>(
     log: &[u8],
     queries: &[&str],
     ending: Ending<'_>,
-) -> Result<(), Fail> {
+) {
     let alloc = rt.alloc();
-    let files = files(alloc, program, log, queries)?;
-    let mut store = MemoryStore::new(alloc, files, Vec::new(alloc), 65536, 0)?;
-    assert_ends(rt, line, &mut store, ending)
+    let files = files(rt, alloc, program, log, queries);
+    let mut store = store_of(rt, alloc, files, NEVER, 65536, 0);
+    assert_ends(rt, line, &mut store, ending);
 }
 
 /// The same over a guest's run.
@@ -163,28 +166,26 @@ fn assert_guest_queries<R: Threads + Wait + Sync + AllocGlobal + Abort>(
     line: Line,
     queries: &[&str],
     ending: Ending<'_>,
-) -> Result<(), Fail> {
+) {
     let alloc = rt.alloc();
-    let program = program_of(alloc, guest)?;
-    let log = log_with(alloc, guest, &program, guest.write.bytes)?;
-    assert_queries(rt, line, &program, &log, queries, ending)
+    let program = program_of(rt, alloc, guest);
+    let log = log_with(rt, alloc, guest, &program, guest.write.bytes);
+    assert_queries(rt, line, &program, &log, queries, ending);
 }
 
 #[test]
-fn several_queries_have_their_reports(rt: HostRuntime) -> Result<(), Fail> {
+fn several_queries_have_their_reports(rt: HostRuntime) {
     for &(guest, line, queries, text) in REPORTS {
-        assert_guest_queries(&rt, guest, line, queries, Ending::report(text))?;
+        assert_guest_queries(&rt, guest, line, queries, Ending::report(text));
     }
-    Ok(())
 }
 
 #[test]
-fn several_queries_are_refused(rt: HostRuntime) -> Result<(), Fail> {
+fn several_queries_are_refused(rt: HostRuntime) {
     for &(line, queries, status, said) in REFUSED {
         let ending = Ending::refusal(status, said);
-        assert_guest_queries(&rt, &COPY_FOUR, line, queries, ending)?;
+        assert_guest_queries(&rt, &COPY_FOUR, line, queries, ending);
     }
-    Ok(())
 }
 
 /// Rules that differ are told even where the log is of another program, and a log that is none before them.
@@ -192,17 +193,17 @@ fn assert_rules_first<R: Threads + Wait + Sync + AllocGlobal + Abort>(
     rt: &R,
     program: &[u8],
     log: &[u8],
-) -> Result<(), Fail> {
+) {
     let rules = Ending::refusal(11, "jet: rules copy 2 compute\n");
-    assert_queries(rt, TWO, program, log, &[COPY, COMPUTE], rules)?;
+    assert_queries(rt, TWO, program, log, &[COPY, COMPUTE], rules);
     let short = Ending::refusal(4, "jet: log 3 Short at 98\n");
     let begun = &log[..log.len().min(106)];
-    assert_queries(rt, TWO, program, begun, &[COPY, COMPUTE], short)
+    assert_queries(rt, TWO, program, begun, &[COPY, COMPUTE], short);
 }
 
 #[test]
-fn rules_are_compared_before_the_log_is_fitted(rt: HostRuntime) -> Result<(), Fail> {
-    let (_, log) = copied(rt.alloc())?;
-    let program = program_of(rt.alloc(), &ADD_WORDS)?;
-    assert_rules_first(&rt, &program, &log)
+fn rules_are_compared_before_the_log_is_fitted(rt: HostRuntime) {
+    let (_, log) = copied(&rt, rt.alloc());
+    let program = program_of(&rt, rt.alloc(), &ADD_WORDS);
+    assert_rules_first(&rt, &program, &log);
 }

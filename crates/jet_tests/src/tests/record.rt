@@ -7,15 +7,14 @@ use super::guests::COPY_CODE;
 use super::runs::{COPIES, ON_TWO, WRITE_ON_TWO};
 use super::{
     BASE, COMPUTE, COPIED, COPY, Channels, Ending, Entry, Line, NEVER, NO_INSTRUCTION, QUERY, TIME,
-    assert_ends, patched, program, push_file, wide_log_of,
+    assert_ends, patched, program, push_file, store_of, wide_log_of,
 };
 use guest_assembler::{Instr, code};
 use jet_files::read_file;
 use outer_io::{MemoryFile, MemoryStore};
-use std::alloc::{AllocError, Global};
+use std::alloc::Global;
 use std::process::Abort;
 use std::sync::Wait;
-use std::test::Fail;
 use std::thread::Threads;
 
 /// Asks for the time, and writes it.
@@ -93,8 +92,8 @@ pub struct Recording {
 
 impl Recording {
     /// The log of the run.
-    pub fn log(&self, alloc: Global, program: &[u8]) -> Result<Vec<u8>, AllocError> {
-        wide_log_of(alloc, program, self.pages, self.channels, self.entries)
+    pub fn log(&self, rt: &impl Abort, alloc: Global, program: &[u8]) -> Vec<u8> {
+        wide_log_of(rt, alloc, program, self.pages, self.channels, self.entries)
     }
 }
 
@@ -291,38 +290,38 @@ const RECORDINGS: &[Recording] = &[
 const INPUTS: &[(&str, &[u8])] = &[("in", b"ABCDEFG"), ("four", b"ABCD"), ("other", b"WXYZ")];
 
 /// Adds a program, the same for a wider window, and what begins it.
-fn push_programs(files: &mut Vec<MemoryFile>, program: &[u8]) -> Result<(), AllocError> {
-    let wide = patched(*files.allocator(), program, (72, b"\0\x20\0\0"))?;
-    push_file(files, "wide", &wide)?;
-    push_file(files, "prog", program)?;
-    push_file(files, "short", &program[..program.len().min(51)])
+fn push_programs(rt: &impl Abort, files: &mut Vec<MemoryFile>, program: &[u8]) {
+    let wide = patched(rt, *files.allocator(), program, (72, b"\0\x20\0\0"));
+    push_file(rt, files, "wide", &wide);
+    push_file(rt, files, "prog", program);
+    push_file(rt, files, "short", &program[..program.len().min(51)]);
 }
 
 /// The programs, the inputs, and a query.
-fn files(alloc: Global, program: &[u8], query: &str) -> Result<Vec<MemoryFile>, AllocError> {
+fn files(rt: &impl Abort, alloc: Global, program: &[u8], query: &str) -> Vec<MemoryFile> {
     let mut files = Vec::new(alloc);
-    push_programs(&mut files, program)?;
+    push_programs(rt, &mut files, program);
     for &(name, bytes) in INPUTS {
-        push_file(&mut files, name, bytes)?;
+        push_file(rt, &mut files, name, bytes);
     }
-    push_file(&mut files, "query", query.as_bytes())?;
-    Ok(files)
+    push_file(rt, &mut files, "query", query.as_bytes());
+    files
 }
 
 /// A store of a program, of inputs and of a query, of which the call of this number fails. Its calls move so many
 /// bytes.
 fn store(
+    rt: &impl Abort,
     alloc: Global,
     program: &[u8],
     query: &str,
     failing: u64,
     piece: usize,
-) -> Result<MemoryStore, AllocError>
+) -> MemoryStore
     requires { 0 < piece }
 {
-    let files = files(alloc, program, query)?;
-    let failing = [failing].as_slice().to_vec(alloc)?;
-    MemoryStore::new(alloc, files, failing, piece, 1000)
+    let files = files(rt, alloc, program, query);
+    store_of(rt, alloc, files, failing, piece, 1000)
 }
 
 /// The store's file of this name has these bytes, or there is no such file.
@@ -331,13 +330,12 @@ pub fn assert_file<R: Threads + Wait + Sync + AllocGlobal + Abort>(
     store: &mut MemoryStore,
     name: &str,
     expected: Option<&[u8]>,
-) -> Result<(), Fail> {
+) {
     let is_so = match read_file(rt.alloc(), store, name) {
         Ok(file) => expected == Some(file.as_slice()),
         Err(_) => expected.is_none(),
     };
     assert!(rt; is_so, "{name}");
-    Ok(())
 }
 
 /// The run over this store is recorded in this log, of which the query tells this.
@@ -346,31 +344,27 @@ fn assert_recorded<R: Threads + Wait + Sync + AllocGlobal + Abort>(
     recording: &Recording,
     store: &mut MemoryStore,
     log: &[u8],
-) -> Result<(), Fail> {
-    assert_ends(rt, recording.line, store, Ending::report(""))?;
-    assert_file(rt, store, "log", Some(log))?;
-    assert_ends(rt, QUERY, store, Ending::report(recording.report))
+) {
+    assert_ends(rt, recording.line, store, Ending::report(""));
+    assert_file(rt, store, "log", Some(log));
+    assert_ends(rt, QUERY, store, Ending::report(recording.report));
 }
 
-fn assert_recording<R: Threads + Wait + Sync + AllocGlobal + Abort>(
-    rt: &R,
-    recording: &Recording,
-) -> Result<(), Fail> {
+fn assert_recording<R: Threads + Wait + Sync + AllocGlobal + Abort>(rt: &R, recording: &Recording) {
     let alloc = rt.alloc();
-    let program = program(alloc, recording.code)?;
-    let log = recording.log(alloc, &program)?;
+    let program = program(rt, alloc, recording.code);
+    let log = recording.log(rt, alloc, &program);
     assert_eq!(rt; log.len(), recording.length);
-    let mut store = store(alloc, &program, recording.query, NEVER, 65536)?;
-    assert_recorded(rt, recording, &mut store, &log)
+    let mut store = store(rt, alloc, &program, recording.query, NEVER, 65536);
+    assert_recorded(rt, recording, &mut store, &log);
 }
 
 #[test]
-fn runs_are_recorded_and_converted(rt: HostRuntime) -> Result<(), Fail> {
+fn runs_are_recorded_and_converted(rt: HostRuntime) {
     for recording in RECORDINGS {
-        assert_recording(&rt, recording)?;
-        assert_conversion(&rt, recording)?;
+        assert_recording(&rt, recording);
+        assert_conversion(&rt, recording);
     }
-    Ok(())
 }
 
 /// Words, their status and their line. No file is written.
@@ -431,27 +425,26 @@ fn assert_unwritten<R: Threads + Wait + Sync + AllocGlobal + Abort>(
     program: &[u8],
     line: Line,
     ending: Ending<'_>,
-) -> Result<(), Fail> {
-    let mut store = store(rt.alloc(), program, COPY, NEVER, 65536)?;
-    assert_ends(rt, line, &mut store, ending)?;
-    assert_file(rt, &mut store, "log", None)
+) {
+    let mut store = store(rt, rt.alloc(), program, COPY, NEVER, 65536);
+    assert_ends(rt, line, &mut store, ending);
+    assert_file(rt, &mut store, "log", None);
 }
 
 #[test]
-fn a_refused_recording_writes_no_file(rt: HostRuntime) -> Result<(), Fail> {
-    let program = program(rt.alloc(), COPY_CODE)?;
+fn a_refused_recording_writes_no_file(rt: HostRuntime) {
+    let program = program(&rt, rt.alloc(), COPY_CODE);
     for &(line, status, said) in REFUSED {
-        assert_unwritten(&rt, &program, line, Ending::refusal(status, said))?;
+        assert_unwritten(&rt, &program, line, Ending::refusal(status, said));
     }
-    Ok(())
 }
 
 /// Five writes are more than a log may have.
 #[test]
-fn a_log_that_is_too_long_is_not_written(rt: HostRuntime) -> Result<(), Fail> {
-    let program = program(rt.alloc(), WRITE_MUCH)?;
+fn a_log_that_is_too_long_is_not_written(rt: HostRuntime) {
+    let program = program(&rt, rt.alloc(), WRITE_MUCH);
     let ending = Ending::refusal(9, "jet: limit log 83558586\n");
-    assert_unwritten(&rt, &program, WIDEST, ending)
+    assert_unwritten(&rt, &program, WIDEST, ending);
 }
 
 /// The program and the input are there as before, and the log has these bytes or isn't there.
@@ -460,10 +453,10 @@ fn assert_files<R: Threads + Wait + Sync + AllocGlobal + Abort>(
     store: &mut MemoryStore,
     program: &[u8],
     log: Option<&[u8]>,
-) -> Result<(), Fail> {
-    assert_file(rt, store, "log", log)?;
-    assert_file(rt, store, "prog", Some(program))?;
-    assert_file(rt, store, "in", Some(b"ABCDEFG"))
+) {
+    assert_file(rt, store, "log", log);
+    assert_file(rt, store, "prog", Some(program));
+    assert_file(rt, store, "in", Some(b"ABCDEFG"));
 }
 
 /// A recording over this store, of which this call fails.
@@ -473,7 +466,7 @@ fn assert_call_fails<R: Threads + Wait + Sync + AllocGlobal + Abort>(
     program: &[u8],
     log: &[u8],
     call: u64,
-) -> Result<(), Fail> {
+) {
     let (ending, written) = if call < 19 {
         (Ending::refusal(7, "jet: read fault\n"), None)
     } else if call < 34 {
@@ -481,10 +474,10 @@ fn assert_call_fails<R: Threads + Wait + Sync + AllocGlobal + Abort>(
     } else {
         (Ending::report(""), Some(log))
     };
-    assert_ends(rt, RECORD, store, ending)?;
+    assert_ends(rt, RECORD, store, ending);
     // A call that never came fails now.
     let _ = read_file(rt.alloc(), store, "in");
-    assert_files(rt, store, program, written)
+    assert_files(rt, store, program, written);
 }
 
 /// A recording over a store of which this call fails.
@@ -493,20 +486,19 @@ fn assert_failing_call<R: Threads + Wait + Sync + AllocGlobal + Abort>(
     program: &[u8],
     log: &[u8],
     call: u64,
-) -> Result<(), Fail> {
-    let mut store = store(rt.alloc(), program, COPY, call, 10)?;
-    assert_call_fails(rt, &mut store, program, log, call)
+) {
+    let mut store = store(rt, rt.alloc(), program, COPY, call, 10);
+    assert_call_fails(rt, &mut store, program, log, call);
 }
 
 /// The program is read in 16 calls of ten bytes and the input in 3; the log is created, put in 13 pieces, and finished.
 /// Each of these calls fails once, and then no file differs.
 #[test]
-fn a_failing_store_leaves_the_files(rt: HostRuntime) -> Result<(), Fail> {
+fn a_failing_store_leaves_the_files(rt: HostRuntime) {
     let alloc = rt.alloc();
-    let program = program(alloc, COPY_CODE)?;
-    let log = wide_log_of(alloc, &program, 1, FOUR, COPIES)?;
+    let program = program(&rt, alloc, COPY_CODE);
+    let log = wide_log_of(&rt, alloc, &program, 1, FOUR, COPIES);
     for call in 0..35 {
-        assert_failing_call(&rt, &program, &log, call)?;
+        assert_failing_call(&rt, &program, &log, call);
     }
-    Ok(())
 }

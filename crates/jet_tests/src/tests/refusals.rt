@@ -4,20 +4,19 @@ use super::guests::COPY_FOUR;
 use super::record::FOUR;
 use super::runs::COPIES;
 use super::{
-    COPIED, COPY, Channels, Ending, Entry, Patch, assert_query, log_with, patched, program_of,
-    push_words, wide_log_of,
+    COPIED, COPY, Channels, Ending, Entry, Patch, assert_query, log_with, owned, patched,
+    program_of, push, push_words, wide_log_of,
 };
-use std::alloc::{AllocError, Global};
+use std::alloc::Global;
 use std::process::Abort;
 use std::sync::Wait;
-use std::test::Fail;
 use std::thread::Threads;
 
 /// The program and the log of the four-byte copy.
-pub fn copied(alloc: Global) -> Result<(Vec<u8>, Vec<u8>), AllocError> {
-    let program = program_of(alloc, &COPY_FOUR)?;
-    let log = log_with(alloc, &COPY_FOUR, &program, b"ABCD")?;
-    Ok((program, log))
+pub fn copied(rt: &impl Abort, alloc: Global) -> (Vec<u8>, Vec<u8>) {
+    let program = program_of(rt, alloc, &COPY_FOUR);
+    let log = log_with(rt, alloc, &COPY_FOUR, &program, b"ABCD");
+    (program, log)
 }
 
 /// A prefix of up to so many bytes ends with this status, and this report or line.
@@ -84,8 +83,8 @@ fn ending_of(length: usize, prefixes: &'static [Prefix]) -> Ending<'static> {
 }
 
 #[test]
-fn each_prefix_of_a_file_has_its_ending(rt: HostRuntime) -> Result<(), Fail> {
-    let (program, log) = copied(rt.alloc())?;
+fn each_prefix_of_a_file_has_its_ending(rt: HostRuntime) {
+    let (program, log) = copied(&rt, rt.alloc());
     let query = COPY.as_bytes();
     for length in 0..=program.len() {
         assert_query(
@@ -94,7 +93,7 @@ fn each_prefix_of_a_file_has_its_ending(rt: HostRuntime) -> Result<(), Fail> {
             &log,
             query,
             ending_of(length, PROGRAMS),
-        )?;
+        );
     }
     for length in 0..=log.len() {
         assert_query(
@@ -103,7 +102,7 @@ fn each_prefix_of_a_file_has_its_ending(rt: HostRuntime) -> Result<(), Fail> {
             &log[..length],
             query,
             ending_of(length, LOGS),
-        )?;
+        );
     }
     for length in 0..=query.len() {
         assert_query(
@@ -112,9 +111,8 @@ fn each_prefix_of_a_file_has_its_ending(rt: HostRuntime) -> Result<(), Fail> {
             &log,
             &query[..length],
             ending_of(length, QUERIES),
-        )?;
+        );
     }
-    Ok(())
 }
 
 /// Each prefix of a log ends as the table says.
@@ -123,20 +121,19 @@ fn assert_prefixes<R: Threads + Wait + Sync + AllocGlobal + Abort>(
     program: &[u8],
     log: &[u8],
     prefixes: &'static [Prefix],
-) -> Result<(), Fail> {
+) {
     for length in 0..=log.len() {
         let ending = ending_of(length, prefixes);
-        assert_query(rt, program, &log[..length], COPY.as_bytes(), ending)?;
+        assert_query(rt, program, &log[..length], COPY.as_bytes(), ending);
     }
-    Ok(())
 }
 
 #[test]
-fn each_prefix_of_a_log_in_version_2_has_its_ending(rt: HostRuntime) -> Result<(), Fail> {
+fn each_prefix_of_a_log_in_version_2_has_its_ending(rt: HostRuntime) {
     let alloc = rt.alloc();
-    let program = program_of(alloc, &COPY_FOUR)?;
-    let log = wide_log_of(alloc, &program, 1, FOUR, COPIES)?;
-    assert_prefixes(&rt, &program, &log, WIDE_LOGS)
+    let program = program_of(&rt, alloc, &COPY_FOUR);
+    let log = wide_log_of(&rt, alloc, &program, 1, FOUR, COPIES);
+    assert_prefixes(&rt, &program, &log, WIDE_LOGS);
 }
 
 /// The channels of the four-byte copy, its records, bytes in place of others, and the status and the line.
@@ -204,27 +201,26 @@ fn assert_wide<R: Threads + Wait + Sync + AllocGlobal + Abort>(
     rt: &R,
     program: &[u8],
     case: &WideCase,
-) -> Result<(), Fail> {
+) {
     let alloc = rt.alloc();
     let (channels, entries, patch, status, line) = *case;
-    let log = wide_log_of(alloc, program, 1, channels, entries)?;
-    let log = patched(alloc, &log, patch)?;
+    let log = wide_log_of(rt, alloc, program, 1, channels, entries);
+    let log = patched(rt, alloc, &log, patch);
     assert_query(
         rt,
         program,
         &log,
         COPY.as_bytes(),
         Ending::refusal(status, line),
-    )
+    );
 }
 
 #[test]
-fn faults_of_version_2_are_told(rt: HostRuntime) -> Result<(), Fail> {
-    let program = program_of(rt.alloc(), &COPY_FOUR)?;
+fn faults_of_version_2_are_told(rt: HostRuntime) {
+    let program = program_of(&rt, rt.alloc(), &COPY_FOUR);
     for case in WIDE_CASES {
-        assert_wide(&rt, &program, case)?;
+        assert_wide(&rt, &program, case);
     }
-    Ok(())
 }
 
 /// Other bytes in the program, and the line of its status 3.
@@ -277,25 +273,25 @@ fn assert_patched<R: Threads + Wait + Sync + AllocGlobal + Abort>(
     changed: Changed,
     patch: Patch,
     ending: Ending<'_>,
-) -> Result<(), Fail> {
+) {
     let alloc = rt.alloc();
     let (program, log) = files;
     let query = COPY.as_bytes();
     match changed {
         Changed::Program => {
-            let bytes = patched(alloc, program, patch)?;
-            assert_query(rt, &bytes, log, query, ending)
+            let bytes = patched(rt, alloc, program, patch);
+            assert_query(rt, &bytes, log, query, ending);
         }
         Changed::Log => {
-            let bytes = patched(alloc, log, patch)?;
-            assert_query(rt, program, &bytes, query, ending)
+            let bytes = patched(rt, alloc, log, patch);
+            assert_query(rt, program, &bytes, query, ending);
         }
     }
 }
 
 #[test]
-fn changed_bytes_are_refused(rt: HostRuntime) -> Result<(), Fail> {
-    let (program, log) = copied(rt.alloc())?;
+fn changed_bytes_are_refused(rt: HostRuntime) {
+    let (program, log) = copied(&rt, rt.alloc());
     let files = (program.as_slice(), log.as_slice());
     for &(patch, line) in CHANGED_PROGRAMS {
         assert_patched(
@@ -304,7 +300,7 @@ fn changed_bytes_are_refused(rt: HostRuntime) -> Result<(), Fail> {
             Changed::Program,
             patch,
             Ending::refusal(3, line),
-        )?;
+        );
     }
     for &(patch, status, line) in CHANGED_LOGS {
         assert_patched(
@@ -313,9 +309,8 @@ fn changed_bytes_are_refused(rt: HostRuntime) -> Result<(), Fail> {
             Changed::Log,
             patch,
             Ending::refusal(status, line),
-        )?;
+        );
     }
-    Ok(())
 }
 
 /// The log and one byte more is refused with this line.
@@ -324,25 +319,25 @@ fn assert_trailing<R: Threads + Wait + Sync + AllocGlobal + Abort>(
     program: &[u8],
     log: &[u8],
     line: &str,
-) -> Result<(), Fail> {
-    let mut longer = log.to_vec(rt.alloc())?;
-    longer.push(0)?;
+) {
+    let mut longer = owned(rt, rt.alloc(), log);
+    push(rt, &mut longer, &[0]);
     assert_query(
         rt,
         program,
         &longer,
         COPY.as_bytes(),
         Ending::refusal(4, line),
-    )
+    );
 }
 
 #[test]
-fn a_byte_after_a_log_is_refused(rt: HostRuntime) -> Result<(), Fail> {
+fn a_byte_after_a_log_is_refused(rt: HostRuntime) {
     let alloc = rt.alloc();
-    let (program, log) = copied(alloc)?;
-    assert_trailing(&rt, &program, &log, "jet: log 7 Trailing at 107\n")?;
-    let wide = wide_log_of(alloc, &program, 1, FOUR, COPIES)?;
-    assert_trailing(&rt, &program, &wide, "jet: log 7 Trailing at 123\n")
+    let (program, log) = copied(&rt, alloc);
+    assert_trailing(&rt, &program, &log, "jet: log 7 Trailing at 107\n");
+    let wide = wide_log_of(&rt, alloc, &program, 1, FOUR, COPIES);
+    assert_trailing(&rt, &program, &wide, "jet: log 7 Trailing at 123\n");
 }
 
 /// Queries, and the line of their status 6.
@@ -364,29 +359,28 @@ const FAULTY_QUERIES: &[(&[u8], &str)] = &[
 ];
 
 #[test]
-fn faulty_queries_are_told(rt: HostRuntime) -> Result<(), Fail> {
-    let (program, log) = copied(rt.alloc())?;
+fn faulty_queries_are_told(rt: HostRuntime) {
+    let (program, log) = copied(&rt, rt.alloc());
     for &(query, line) in FAULTY_QUERIES {
-        assert_query(&rt, &program, &log, query, Ending::refusal(6, line))?;
+        assert_query(&rt, &program, &log, query, Ending::refusal(6, line));
     }
-    Ok(())
 }
 
 /// The program with a second program header after the first, of a type that isn't loaded.
-fn with_two_headers(alloc: Global, program: &[u8]) -> Result<Vec<u8>, AllocError> {
+fn with_two_headers(rt: &impl Abort, alloc: Global, program: &[u8]) -> Vec<u8> {
     let (first, code) = program.split_at(program.len().min(84));
-    let mut two = first.to_vec(alloc)?;
-    push_words(&mut two, [0x7000_0003, 0, 0, 0, 0, 0, 0, 0].as_slice())?;
-    two.extend_from_slice(code)?;
-    let counted = patched(alloc, &two, (44, b"\x02"))?;
-    patched(alloc, &counted, (56, b"\x74"))
+    let mut two = owned(rt, alloc, first);
+    push_words(rt, &mut two, [0x7000_0003, 0, 0, 0, 0, 0, 0, 0].as_slice());
+    push(rt, &mut two, code);
+    let counted = patched(rt, alloc, &two, (44, b"\x02"));
+    patched(rt, alloc, &counted, (56, b"\x74"))
 }
 
 #[test]
-fn a_header_of_another_type_is_skipped(rt: HostRuntime) -> Result<(), Fail> {
+fn a_header_of_another_type_is_skipped(rt: HostRuntime) {
     let alloc = rt.alloc();
-    let program = program_of(alloc, &COPY_FOUR)?;
-    let two = with_two_headers(alloc, &program)?;
-    let log = log_with(alloc, &COPY_FOUR, &two, b"ABCD")?;
-    assert_query(&rt, &two, &log, COPY.as_bytes(), Ending::report(COPIED))
+    let program = program_of(&rt, alloc, &COPY_FOUR);
+    let two = with_two_headers(&rt, alloc, &program);
+    let log = log_with(&rt, alloc, &COPY_FOUR, &two, b"ABCD");
+    assert_query(&rt, &two, &log, COPY.as_bytes(), Ending::report(COPIED));
 }

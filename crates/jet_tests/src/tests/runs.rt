@@ -9,7 +9,6 @@ use super::{
 use guest_assembler::{Instr, code};
 use std::process::Abort;
 use std::sync::Wait;
-use std::test::Fail;
 use std::thread::Threads;
 
 pub const REPLAY: Line = &["jet", "replay", "prog", "log"];
@@ -335,11 +334,10 @@ fn assert_refused<R: Threads + Wait + Sync + AllocGlobal + Abort>(
     program: &[u8],
     log: &[u8],
     ending: Ending<'_>,
-) -> Result<(), Fail> {
+) {
     for line in READERS {
-        assert_command(rt, line, program, log, COPY.as_bytes(), ending)?;
+        assert_command(rt, line, program, log, COPY.as_bytes(), ending);
     }
-    Ok(())
 }
 
 /// A command over the log of these records ends so.
@@ -349,29 +347,27 @@ fn assert_run<R: Threads + Wait + Sync + AllocGlobal + Abort>(
     code: &[Instr],
     entries: &[Entry],
     ending: Ending<'_>,
-) -> Result<(), Fail> {
+) {
     let alloc = rt.alloc();
-    let program = program(alloc, code)?;
-    let log = log_of(alloc, &program, 1, 1, entries)?;
-    assert_command(rt, line, &program, &log, COPY.as_bytes(), ending)
+    let program = program(rt, alloc, code);
+    let log = log_of(rt, alloc, &program, 1, 1, entries);
+    assert_command(rt, line, &program, &log, COPY.as_bytes(), ending);
 }
 
 #[test]
-fn runs_have_numbers_and_outputs(rt: HostRuntime) -> Result<(), Fail> {
+fn runs_have_numbers_and_outputs(rt: HostRuntime) {
     for &(line, code, entries, text) in RUNS {
-        assert_run(&rt, line, code, entries, Ending::report(text))?;
+        assert_run(&rt, line, code, entries, Ending::report(text));
     }
-    Ok(())
 }
 
 #[test]
-fn a_run_that_diverges_is_refused(rt: HostRuntime) -> Result<(), Fail> {
+fn a_run_that_diverges_is_refused(rt: HostRuntime) {
     for &(code, entries, said) in DIVERGING {
         for line in READERS {
-            assert_run(&rt, line, code, entries, Ending::refusal(5, said))?;
+            assert_run(&rt, line, code, entries, Ending::refusal(5, said));
         }
     }
-    Ok(())
 }
 
 /// Each command is refused so with these bytes changed in the log.
@@ -381,31 +377,30 @@ fn assert_changed<R: Threads + Wait + Sync + AllocGlobal + Abort>(
     log: &[u8],
     patch: Patch,
     ending: Ending<'_>,
-) -> Result<(), Fail> {
-    let changed = patched(rt.alloc(), log, patch)?;
-    assert_refused(rt, program, &changed, ending)
+) {
+    let changed = patched(rt, rt.alloc(), log, patch);
+    assert_refused(rt, program, &changed, ending);
 }
 
 #[test]
-fn a_changed_log_is_refused(rt: HostRuntime) -> Result<(), Fail> {
+fn a_changed_log_is_refused(rt: HostRuntime) {
     let alloc = rt.alloc();
-    let program = program_of(alloc, &COPY_FOUR)?;
-    let log = log_with(alloc, &COPY_FOUR, &program, b"ABCD")?;
+    let program = program_of(&rt, alloc, &COPY_FOUR);
+    let log = log_with(&rt, alloc, &COPY_FOUR, &program, b"ABCD");
     for &(patch, status, said) in CHANGED_LOGS {
-        assert_changed(&rt, &program, &log, patch, Ending::refusal(status, said))?;
+        assert_changed(&rt, &program, &log, patch, Ending::refusal(status, said));
     }
-    Ok(())
 }
 
 /// One byte of the log is missing; and one page can't hold the program.
 #[test]
-fn a_log_that_does_not_fit_is_refused(rt: HostRuntime) -> Result<(), Fail> {
+fn a_log_that_does_not_fit_is_refused(rt: HostRuntime) {
     let alloc = rt.alloc();
-    let program = program_of(alloc, &COPY_FOUR)?;
-    let log = log_with(alloc, &COPY_FOUR, &program, b"ABCD")?;
+    let program = program_of(&rt, alloc, &COPY_FOUR);
+    let log = log_with(&rt, alloc, &COPY_FOUR, &program, b"ABCD");
     let short = Ending::refusal(4, "jet: log 3 Short at 98\n");
-    assert_refused(&rt, &program, &log[..log.len().min(106)], short)?;
-    let wide = patched(alloc, &program, (72, b"\0\x20\0\0"))?;
-    let log_wide = log_with(alloc, &COPY_FOUR, &wide, b"ABCD")?;
-    assert_refused(&rt, &wide, &log_wide, Ending::refusal(3, "jet: window 1\n"))
+    assert_refused(&rt, &program, &log[..log.len().min(106)], short);
+    let wide = patched(&rt, alloc, &program, (72, b"\0\x20\0\0"));
+    let log_wide = log_with(&rt, alloc, &COPY_FOUR, &wide, b"ABCD");
+    assert_refused(&rt, &wide, &log_wide, Ending::refusal(3, "jet: window 1\n"));
 }
