@@ -2,7 +2,7 @@
 
 ghost use Rattle.std.specs.Prelude.{◌≡◌, ◌<◌, [], ◌∷◌, ◌++◌, length, get_or, IfOk, OnErr};
 
-use no_memory::NoMemory;
+use no_memory::{Limit, NoMemory};
 use std::alloc::Global;
 use std::marker::Model;
 
@@ -52,8 +52,9 @@ impl Pages {
         ensures kept { IfOk result (λ _. self.new ≡ self.old ++ page.now ∷ []) }
         ensures err { OnErr result (self.new ≡ self.old) }
     {
-        let Ok(number) = u32::try_from(self.pages.len()) else {
-            return Err(NoMemory::past_count());
+        let count = self.count();
+        let Ok(number) = u32::try_from(count) else {
+            return Err(NoMemory::past_count(Limit::CheckpointPages, count));
         };
         let mut kept = Vec::with_capacity(alloc, page.len())?;
         kept.extend_from_slice(page)?;

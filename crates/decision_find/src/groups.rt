@@ -14,7 +14,7 @@ use crate::looks::Look;
 use decision_model::Place;
 use flow_model::Loc;
 use isa::Instr;
-use no_memory::NoMemory;
+use no_memory::{Limit, NoMemory};
 use source_labels::SourceLabels;
 use std::alloc::Global;
 use std::collections::BTreeMap;
@@ -56,7 +56,7 @@ impl Group {
         ensures { IfOk result (λ group. Joins labels.old self label labels.new group) }
     {
         let Some(count) = self.count.checked_add(1) else {
-            return Err(NoMemory::past_count());
+            return Err(NoMemory::past_count(Limit::Decisions, self.count));
         };
         let label = labels.unite(self.label, label)?;
         Ok(Group {

@@ -114,8 +114,9 @@ impl Gathering {
         } = finished;
         self.close_links(ends);
         self.events = self.events.saturating_add(moved);
-        let Ok(own) = own else {
-            return Err(NoMemory::past_count());
+        let own = match own {
+            Ok(own) => own,
+            Err(broken) => return Err(NoMemory::from(broken)),
         };
         self.sets.push(own)?;
         self.asked.push(requests)?;

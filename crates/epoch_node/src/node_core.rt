@@ -28,7 +28,13 @@ use thiserror::Error;
 /// A growth was refused in the node, or in another one that told of it.
 #[derive(Clone, Copy, Debug, PartialEq, Eq, Error)]
 #[error("a growth was refused in this node or in another one")]
-pub struct Broken;
+pub struct Broken(());
+
+impl From<Broken> for NoMemory {
+    fn from(_: Broken) -> NoMemory {
+        NoMemory::not_whole(false)
+    }
+}
 
 /// What a node is without its ends: its epoch, and how far it has come.
 pub struct Core<'a, G> {
@@ -264,12 +270,12 @@ impl<'a, G> Core<'a, G> {
             stage,
         } = self;
         let Some(fore) = Box::into_inner(stage).into_done() else {
-            return Ok((Err(Broken), Asked::new(alloc), events));
+            return Ok((Err(Broken(())), Asked::new(alloc), events));
         };
         let whole = fore.whole();
         let (sets, asked) = fore.into_sets();
         if !whole {
-            return Ok((Err(Broken), asked, events));
+            return Ok((Err(Broken(())), asked, events));
         }
         Ok((Ok(sets?), asked, events))
     }

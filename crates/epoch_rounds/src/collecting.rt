@@ -41,8 +41,9 @@ pub(crate) fn collect<'a, G>(alloc: Global, line: Line<'a, G>) -> Result<Collect
     let mut events = 0u64;
     for core in line.cores {
         let (own, requests, moved) = core.into_result()?;
-        let Ok(own) = own else {
-            return Err(NoMemory::past_count());
+        let own = match own {
+            Ok(own) => own,
+            Err(broken) => return Err(NoMemory::from(broken)),
         };
         let mut own = own.into_vec();
         sets.append(&mut own)?;

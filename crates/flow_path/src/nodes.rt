@@ -7,7 +7,7 @@ ghost use Rattle.flow_path.specs.Labels.{is_nothing, StandsIn, path_at, MakesLab
 ghost use Rattle.flow_path.specs.Nodes.{paths_of};
 
 use flow_model::Loc;
-use no_memory::NoMemory;
+use no_memory::{Limit, NoMemory};
 use path_model::Arrival;
 use std::alloc::Global;
 use std::marker::Model;
@@ -86,7 +86,7 @@ impl Nodes {
         };
         let size = self.nodes.len();
         if size >= MOST_NODES {
-            return Err(NoMemory::past_count());
+            return Err(NoMemory::past_count(Limit::PathNodes, size as u64));
         }
         let arrival = Arrival { number, loc };
         self.nodes.push(Node { arrival, behind })?;

@@ -10,7 +10,7 @@ use crate::recent::RecentUnions;
 use crate::under::StartsUnder;
 use flow_model::{Loc, SourceByte};
 use indexmap::IndexSet;
-use no_memory::NoMemory;
+use no_memory::{Limit, NoMemory};
 use source_runs::SourceRun;
 use std::alloc::Global;
 use std::marker::Model;
@@ -364,7 +364,7 @@ impl MergeLog {
         }
         match self.entries.get_index_of(&entry) {
             Some(index) => Ok(index as u64 + 1),
-            None => Err(NoMemory::past_count()),
+            None => Err(NoMemory::past_count(Limit::MergedNodes, self.entries.len() as u64)),
         }
     }
 }

@@ -1,22 +1,52 @@
 //! Out of memory, as an answer, and the faults that carry it.
 #![tactic(auto)]
 
-ghost use Rattle.std.specs.Prelude.{◌≡◌};
+ghost use Rattle.std.specs.Prelude.{◌≡◌, ◌≤◌, false};
 ghost use Rattle.no_memory.specs.declared.Fault.TheVariants as fault;
 ghost use Rattle.no_memory.specs.Faults.{IsOutOfMemory};
+ghost use Rattle.no_memory.specs.Limits.{most};
 
 use std::alloc::{AllocError, AllocFailed};
 use std::fmt::Display;
 use thiserror::Error;
 
-/// Out of memory. A refused allocation makes one, and [`NoMemory::past_count`]; elsewhere it is only handed on.
+/// What there are only so many of, since their numbers, or their count, have so many bits. Where they are used up, that is
+/// told as out of memory.
+#[derive(Clone, Copy)]
+pub enum Limit {
+    /// The nodes of a merge log, without the empty one.
+    MergedNodes,
+    /// The pages of checkpoints.
+    CheckpointPages,
+    /// The answers that the clock of the workload counts.
+    ClockAnswers,
+    /// The decisions that are counted at one place.
+    Decisions,
+    /// The nodes of the paths of a source byte.
+    PathNodes,
+}
+
+/// Out of memory. A refused allocation makes one, and [`NoMemory::past_count`] where a [`Limit`] is reached; and what tells of a
+/// refused allocation by being not whole, by [`NoMemory::not_whole`]. Elsewhere it is only handed on.
 #[derive(Clone, Copy, Debug, PartialEq, Eq, Error)]
 #[error("out of memory")]
 pub struct NoMemory(());
 
 impl NoMemory {
-    /// There are more of them than their numbers tell apart, which is told as out of memory.
-    pub fn past_count() -> NoMemory {
+    /// As many as the limit allows are there, and one more is asked for.
+    pub fn past_count(limit: Limit, count: u64) -> NoMemory
+        requires { most limit ≤ count }
+    {
+        let _ = limit;
+        let _ = count;
+        NoMemory(())
+    }
+
+    /// What is not whole lacks something, for which an allocation was refused where it was made.
+    pub fn not_whole(whole: bool) -> NoMemory
+        requires { whole ≡ false }
+    {
+        let _ = whole;
         NoMemory(())
     }
 }
