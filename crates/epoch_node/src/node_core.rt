@@ -21,7 +21,7 @@ use query_lang::Query;
 use replayer::Cursor;
 use run_board::Turn;
 use sink_collect::SinkSets;
-use std::alloc::Global;
+use std::alloc::{AllocError, Global};
 use std::mem;
 use thiserror::Error;
 
@@ -30,9 +30,10 @@ use thiserror::Error;
 #[error("a growth was refused in this node or in another one")]
 pub struct Broken(());
 
+// Where another node tells of the refused growth, it does so by its last message, which holds no error.
 impl From<Broken> for NoMemory {
     fn from(_: Broken) -> NoMemory {
-        NoMemory::not_whole(false)
+        NoMemory::from(AllocError)
     }
 }
 

@@ -1,7 +1,7 @@
 //! Out of memory, as an answer, and the faults that carry it.
 #![tactic(auto)]
 
-ghost use Rattle.std.specs.Prelude.{◌≡◌, ◌≤◌, false};
+ghost use Rattle.std.specs.Prelude.{◌≡◌, ◌≤◌};
 ghost use Rattle.no_memory.specs.declared.Fault.TheVariants as fault;
 ghost use Rattle.no_memory.specs.Faults.{IsOutOfMemory};
 ghost use Rattle.no_memory.specs.Limits.{most};
@@ -26,8 +26,8 @@ pub enum Limit {
     PathNodes,
 }
 
-/// Out of memory. A refused allocation makes one, and [`NoMemory::past_count`] where a [`Limit`] is reached; and what tells of a
-/// refused allocation by being not whole, by [`NoMemory::not_whole`]. Elsewhere it is only handed on.
+/// Out of memory. A refused allocation makes one, and [`NoMemory::past_count`] where a [`Limit`] is reached; elsewhere it is only
+/// handed on.
 #[derive(Clone, Copy, Debug, PartialEq, Eq, Error)]
 #[error("out of memory")]
 pub struct NoMemory(());
@@ -39,14 +39,6 @@ impl NoMemory {
     {
         let _ = limit;
         let _ = count;
-        NoMemory(())
-    }
-
-    /// What is not whole lacks something, for which an allocation was refused where it was made.
-    pub fn not_whole(whole: bool) -> NoMemory
-        requires { whole ≡ false }
-    {
-        let _ = whole;
         NoMemory(())
     }
 }
