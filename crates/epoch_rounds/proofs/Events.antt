@@ -1,8 +1,8 @@
 -- What an event of a core sends, and how much less is left after it.
 use Rattle.std.proofs.Common.{◌≡◌, ◌⊎◌, inl, inr, ℕ, ◌+◌, ◌-◌, ◌<◌, ◌≤◌, List, [], ◌∷◌, ◌++◌, length, refl, ap, sym, subst, ◌∙◌, Bool, true, false, arith}
 use Rattle.std.specs.Prelude.{Option, Some, None, is_none, IsSome}
-use Rattle.flow_rule.specs.declared.Message.{Message}
-use Rattle.flow_rule.specs.declared.Message.TheVariants.{Ask, Byte, Close, End}
+use Rattle.flow_model.specs.declared.Message.{Message}
+use Rattle.flow_model.specs.declared.Message.TheVariants.{Ask, Byte, Close, End}
 use Rattle.epoch_model.specs.Summary.{Summary}
 use Rattle.run_board.specs.declared.task.Turn.{Turn}
 use Rattle.run_board.specs.declared.task.Turn.TheVariants.{NotYet}

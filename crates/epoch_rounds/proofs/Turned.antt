@@ -1,8 +1,8 @@
 -- In a line whose cores have begun, an event sends a part of what is to be sent, and leaves less to do, or it cannot move.
 use Rattle.std.proofs.Common.{◌≡◌, ◌⊎◌, inl, inr, ℕ, zero, suc, ◌+◌, ◌<◌, List, [], ◌∷◌, map, refl, ap, ap₂, sym, subst, subst₂, ◌∙◌, Bool, true, false, arith}
 use Rattle.std.specs.Prelude.{Option, Some, None, is_none}
-use Rattle.flow_rule.specs.declared.Message.{Message}
-use Rattle.flow_rule.specs.declared.Message.TheVariants.{End}
+use Rattle.flow_model.specs.declared.Message.{Message}
+use Rattle.flow_model.specs.declared.Message.TheVariants.{End}
 use Rattle.epoch_model.specs.Summary.{Summary}
 use Rattle.epoch_cut.specs.Numbered.{NumberedEpoch}
 use Rattle.run_board.specs.declared.task.Turn.{Turn}
