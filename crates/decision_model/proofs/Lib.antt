@@ -1,2 +1,5 @@
 pub mod Orders
 pub mod Answered
+mod Lines
+mod Seen
+mod Worked

@@ -63,9 +63,9 @@ module _ (change : Change) (file : Contents) where
   answered (DecisionsOf program log query) text h within = given-is_answer decisions_by None file (named program log query) text within h tt
   answered (PageOf program log query page pipeline) text h within = given-is_answer page_report pipeline.epoch file (named program log query) text within.0 h within.1
   answered (RecordOf program log inputs pages piece steps) text h within =
-      record { answers = h.answers; gained = h.gained; holds = recording-is_record_answer file program inputs (limits_of pages piece steps) h.answers text within.0 within.1 within.2 h.holds }
+      record { answers = h.answers; gained = h.gained; holds = recording-is_record_answer file program inputs (limits_of pages piece steps) h.answers text within.0 within.1 h.holds }
   answered (ProductOf product program log) text h within = given-is_run_answer file program log (made_by product) text within.0 within.1 h
-  answered (ConvertOf program log new) text h within = given-is_convert file program log text within.0 within.1 within.2 h.given
+  answered (ConvertOf program log new) text h within = given-is_convert file program log text within.0 within.1 h.short h.given
   answered (QueriesOf program log queries pipeline) text h within = given-are_reports pipeline.epoch file program log queries text within.0 within.1 within.2 h within.3
   answered (BenchOf seed steps pipeline) text h within = lines-are_answer seed steps (workload_length pipeline) text h within.0 within.1
 

@@ -70,7 +70,7 @@ IsDecided status None change = Unit {0}
 IsDecided status (Some command) change = (u : IsUndisturbed change) → IsHeard command change → (answer : Result (List ℕ) Refusal)
     → IsAnswer command change.before.heard change.after.heard u.told.file answer → (status ≡ status_after answer) ⊎ (status ≡ 10)
 
--- the files that are read have at most 2 ^ 26 bytes each, and so has a log that is recorded or written; and a run that is analysed
+-- the files that are read have at most 2 ^ 26 bytes each, and so has the log of the workload's run; and a run that is analysed
 -- has at most 4096 epochs of the length that the words tell, if they tell one
 abbrev pub AreWithinLimits : (command : CommandOf) (change : Change) (file : Contents) (text : List ℕ)
     → IsWanted command change file text → Type 0
@@ -81,9 +81,8 @@ AreWithinLimits (DecisionsOf program log query) change file text is = AreShort f
 AreWithinLimits (PageOf program log query page pipeline) change file text is =
     AreShort file (named program log query) × HasFewIfTold pipeline.epoch is.log
 AreWithinLimits (RecordOf program log inputs pages piece steps) change file text is =
-    IsShort (file program) × AreAllShort file inputs × (length text ≤ 2 ^ 26)
-AreWithinLimits (ConvertOf program log new) change file text is =
-    IsShort (file program) × IsShort (file log) × (length text ≤ 2 ^ 26)
+    IsShort (file program) × AreAllShort file inputs
+AreWithinLimits (ConvertOf program log new) change file text is = IsShort (file program) × IsShort (file log)
 AreWithinLimits (QueriesOf program log queries pipeline) change file text is =
     IsShort (file program) × IsShort (file log) × AreAllShort file queries × HasFewIfTold pipeline.epoch is.log
 AreWithinLimits (BenchOf seed steps pipeline) change file text is =

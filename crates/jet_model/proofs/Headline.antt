@@ -31,6 +31,7 @@ use Rattle.jet_model.proofs.AndThen.{ok-one, and_then-ok, and_then-is_ok, AndThe
 use Rattle.replay_model.proofs.Received.{fitting_is_held}
 use Rattle.epoch_model.specs.ByLength.{epoch_count}
 use Rattle.record_model.specs.Counts.{capped}
+use Rattle.record_model.specs.Recorded.{Setting, IsRecorded}
 use Rattle.record_model.proofs.Unique.{one_recording}
 use Rattle.jet_model.proofs.Files.{program_at-there, program_at-is_ok, log_at-there, log_at-is_ok, query_at-there, query_at-is_ok, queries_at-there, queries_at-is_ok, run_at-there, run_at-is_ok, inputs_at-there, inputs_at-is_ok}
 
@@ -290,7 +291,7 @@ fitting-is_read log program text is_log fits e short =
 
 pub given-is_conversion : (file : Contents) (program log text : List ℕ) → IsGivenBy file program log (λ start. log_text Two) text → length text ≤ 2 ^ 26 → IsConversionOf file program log text
 given-is_conversion file program log text g short =
-    record { given = g; same = fitting-is_read g.log g.program text g.run.is_log g.run.fits g.gives short }
+    record { given = g; short = short; same = fitting-is_read g.log g.program text g.run.is_log g.run.fits g.gives short }
 
 pub convert-is_given : (file : Contents) (program log text : List ℕ) → convert_answer file program log ≡ Ok text → IsConversionOf file program log text
 convert-is_given file program log text h =
@@ -336,6 +337,7 @@ record_answer-is_recording file program inputs limits answers text h =
     let captured = c.2 in
     let found = source_at-is_ok file program inputs source s.1 in
     let p = program_at-is_ok file program source.program found.the_program in
+    let limited = limited-is_ok captured.log text captured.text in
     record {
       program = source.program.bytes;
       inputs = source.inputs;
@@ -343,12 +345,14 @@ record_answer-is_recording file program inputs limits answers text h =
       program_file = p.there;
       input_files = inputs_at-is_ok file inputs source.inputs found.the_inputs;
       recorded = captured.recorded;
-      gives = (limited-is_ok captured.log text captured.text).0;
+      gives = limited.0;
+      short = limited.1;
+      same = fitting-is_read captured.log source.program.bytes text captured.recorded.is_log captured.recorded.fits limited.0 limited.1;
     }
 
-pub recording-is_record_answer : (file : Contents) (program : List ℕ) (inputs : List (List ℕ)) (limits : Limits) (answers text : List ℕ) → IsShort (file program) → AreAllShort file inputs → length text ≤ 2 ^ 26
+pub recording-is_record_answer : (file : Contents) (program : List ℕ) (inputs : List (List ℕ)) (limits : Limits) (answers text : List ℕ) → IsShort (file program) → AreAllShort file inputs
     → IsRecordingOf file program inputs limits answers text → IsRecordAnswer file program inputs limits answers (Ok text)
-recording-is_record_answer file program inputs limits answers text short all fits r =
+recording-is_record_answer file program inputs limits answers text short all r =
     let b = begins_in_image r.program r.log r.recorded.fits in
     let p : Program = record { bytes = r.program; image = b.im } in
     let source : Source = record { program = p; inputs = r.inputs } in
@@ -357,12 +361,11 @@ recording-is_record_answer file program inputs limits answers text short all fit
     (and_then-ok (program_at file program) (λ x. and_then (inputs_at file inputs) (λ contents. source_next x contents)) p (program_at-there file program r.program b.im r.program_file short b.is_image)
     ∙ and_then-ok (inputs_at file inputs) (λ contents. source_next p contents) r.inputs (inputs_at-there file inputs r.inputs r.input_files all))
     (AndThen-ok (start_in b.im limits.pages) (λ start. IsCaptured (setting_of source limits) answers) r.recorded.fits.start (Ok text) (start_there b.im limits.pages r.recorded.fits.start begins)
-    (record { log = r.log; recorded = r.recorded; text = limited-short r.log text fits r.gives }))
+    (record { log = r.log; recorded = r.recorded; text = limited-short r.log text r.short r.gives }))
 
--- the text of a recording is read as its log
-pub recording-is_read : (file : Contents) (program : List ℕ) (inputs : List (List ℕ)) (limits : Limits) (answers text : List ℕ) → length text ≤ 2 ^ 26
-    → (r : IsRecordingOf file program inputs limits answers text) → log_of text ≡ Ok r.log
-recording-is_read file program inputs limits answers text short r = fitting-is_read r.log r.program text r.recorded.is_log r.recorded.fits r.gives short
+-- a log that is recorded is read from its text
+pub recorded-is_read : (setting : Setting) (answers : List ℕ) (log : Log) → IsRecorded setting answers log → length (log_text Two log) ≤ 2 ^ 26 → log_of (log_text Two log) ≡ Ok log
+recorded-is_read setting answers log r short = fitting-is_read log setting.program (log_text Two log) r.is_log r.fits refl short
 
 one_captured : (source : Source) (limits : Limits) (answers : List ℕ) (a b : Result (List ℕ) Refusal) → IsCaptured (setting_of source limits) answers a → IsCaptured (setting_of source limits) answers b → a ≡ b
 one_captured source limits answers a b g h =

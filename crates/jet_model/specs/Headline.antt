@@ -54,13 +54,15 @@ pub record IsGivenBy (file : Contents) (program_name log_name : List ℕ) (given
   pub run : IsRunOf file program_name log_name program log
   pub gives : text ≡ given run.fits.start log
 
--- the text is the log of the two named files in version 2, and it is read as the same log: so the run is the same, and fits
+-- the text is the log of the two named files in version 2, of at most 2 ^ 26 bytes, and it is read as the same log: so the run
+-- is the same, and fits
 pub record IsConversionOf (file : Contents) (program_name log_name : List ℕ) (text : List ℕ) : Type 0 where
   pub given : IsGivenBy file program_name log_name (λ start. log_text Two) text
+  pub short : length text ≤ 2 ^ 26
   pub same : log_of text ≡ Ok given.log
 
 -- the text is the log of the run of the named program over the contents of the named inputs, where the clock gave these
--- answers; and it is read as that log
+-- answers. It has at most 2 ^ 26 bytes, and it is read as that log
 pub record IsRecordingOf (file : Contents) (program_name : List ℕ) (input_names : List (List ℕ)) (limits : Limits) (answers text : List ℕ) : Type 0 where
   pub program : List ℕ
   pub inputs : List (List ℕ)
@@ -69,6 +71,8 @@ pub record IsRecordingOf (file : Contents) (program_name : List ℕ) (input_name
   pub input_files : map file input_names ≡ map Some inputs
   pub recorded : IsRecorded (record { program = program; pages = limits.pages; inputs = inputs; piece = limits.piece; steps = limits.steps }) answers log
   pub gives : text ≡ log_text Two log
+  pub short : length text ≤ 2 ^ 26
+  pub same : log_of text ≡ Ok log
 
 -- ---- the limits of a file's length, and of epochs
 

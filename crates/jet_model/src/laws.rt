@@ -10,6 +10,7 @@ ghost use Rattle.report_model.specs.Query.{Query, has_source};
 ghost use Rattle.report_model.specs.Influence.{chosen_sources};
 ghost use Rattle.replay_model.specs.Run.{trace};
 ghost use Rattle.replay_model.specs.Comparison.{divergence};
+ghost use Rattle.record_model.specs.Recorded.{Setting, IsRecorded};
 ghost use Rattle.epoch_model.specs.ByLength.{epoch_count};
 ghost use Rattle.jet_refusal.specs.declared.refusal.Refusal.{Refusal};
 ghost use Rattle.jet_model.specs.Contents.{Contents, Names};
@@ -92,7 +93,7 @@ pub fn given_is_conversion()
         → IsConversionOf file program log text }
 {}
 
-/// Where a program, inputs and the clock's answers come to a text, it is the log of the program's run.
+/// Where a program, inputs and the clock's answers come to a text, it is the log of the program's run, and is read as it.
 pub fn record_answer_is_recording()
     ensures { (file : Contents) (program : List ℕ) (inputs : List (List ℕ)) (limits : Limits) (answers : List ℕ)
         (text : List ℕ)
@@ -100,20 +101,20 @@ pub fn record_answer_is_recording()
         → IsRecordingOf file program inputs limits answers text }
 {}
 
-/// A program, inputs and the clock's answers come to the log of the run, where neither it nor a file has more than 2^26
-/// bytes.
+/// A program, inputs and the clock's answers come to the log of the run, where no file has more than 2^26 bytes.
 pub fn recording_is_record_answer()
     ensures { (file : Contents) (program : List ℕ) (inputs : List (List ℕ)) (limits : Limits) (answers : List ℕ)
         (text : List ℕ)
-        → IsShort (file program) → AreAllShort file inputs → length text ≤ 2 ^ 26
+        → IsShort (file program) → AreAllShort file inputs
         → IsRecordingOf file program inputs limits answers text
         → IsRecordAnswer file program inputs limits answers (Ok text) }
 {}
 
-/// A recording of at most 2^26 bytes is read as the log of its run, which fits the program.
-pub fn recording_is_read()
-    ensures { (file : Contents) (program : List ℕ) (inputs : List (List ℕ)) (limits : Limits) (answers text : List ℕ)
-        → length text ≤ 2 ^ 26 → (r : IsRecordingOf file program inputs limits answers text) → log_of text ≡ Ok r.log }
+/// A log that is recorded is read from its text in version 2, where that has at most 2^26 bytes. So that a recording is read
+/// follows from its length.
+pub fn recorded_is_read()
+    ensures { (setting : Setting) (answers : List ℕ) (log : Log) → IsRecorded setting answers log
+        → length (log_text Two log) ≤ 2 ^ 26 → log_of (log_text Two log) ≡ Ok log }
 {}
 
 /// Where nothing differs, the source bytes that a query chooses of a trace are those that it chooses of what the log received

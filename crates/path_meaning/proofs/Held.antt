@@ -16,7 +16,7 @@ use Rattle.flow_meaning.specs.RunLaws.{IsRun, IsCopied, NoOrigin, OneOrigin, Cop
 use Rattle.path_model.specs.declared.Arrival.{Arrival}
 use Rattle.path_model.specs.Paths.{IsPath, IsLatest}
 use Rattle.path_model.proofs.Origins.{path_had, contains_had}
-use Rattle.path_meaning.specs.PathMeaning.{HasByte, PathHoldsByte}
+use Rattle.path_meaning.specs.PathMeaning.{HasByte, PathIsOfLocations, PathHoldsByte}
 
 -- what is copied from b has its byte
 from_byte : (log : Log) (v : ℕ) (bs : List SourceByte) (b : SourceByte) → IsCopied log v bs → Contains bs b → v ≡ byte_received log b
@@ -59,8 +59,8 @@ module _ (copied : CopiedContents) (log : Log) (s : State) (run : IsRun log s) (
     each (x ∷ xs) a.number x.loc (omega (arith, before_end t l a (x ∷ xs) h)) here.1 h.2,
   )
 
-pub path_holds_byte : CopiedContents → PathHoldsByte
-path_holds_byte copied log s run rule only b t l p inside here located h = (
+pub path_holds_byte : CopiedContents → PathIsOfLocations → PathHoldsByte
+path_holds_byte copied located log s run rule only b t l p inside here h = (
   at_end copied log s run rule only b t l p inside here h,
-  All-from_recursion _ p (each copied log s run rule only b p t l inside (recursion_from_All _ p located) h),
+  All-from_recursion _ p (each copied log s run rule only b p t l inside (recursion_from_All _ p (located log s run rule b t l p here h)) h),
 )

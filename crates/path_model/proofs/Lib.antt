@@ -2,6 +2,7 @@ pub mod Still
 pub mod Origins
 pub mod One
 mod Iff
-mod Listed
+pub mod Listed
+mod Located
 mod Worked
 mod Pairs

@@ -1,4 +1,4 @@
--- A path is told exactly where the report lists the source byte.
+-- A path is told exactly where the report lists the source byte. Crates above cite the first of these lemmas.
 use Rattle.std.proofs.Common.{◌≡◌, ℕ, ◌+◌, ◌≤◌, Bool, true, false, ◌&&◌, if◌then◌else◌, List, [], ◌∷◌, ◌++◌, length, refl, ap, ap₂, sym, ◌∙◌, subst, arith, inl, inr}
 use Rattle.std.specs.Prelude.{Option, Some, None, ◌⊎◌, nat_le, Contains}
 use Rattle.std.specs.List.{find, filter}
@@ -32,7 +32,7 @@ use Rattle.path_model.proofs.Iff.{one_path_is_origin}
 
 -- ---- lists
 
-found_in : {X : Type 0} (t : X → Bool) (xs : List X) (y : X) → find t xs ≡ Some y → Some_in (λ x. x ≡ y) xs × (t y ≡ true)
+pub found_in : {X : Type 0} (t : X → Bool) (xs : List X) (y : X) → find t xs ≡ Some y → Some_in (λ x. x ≡ y) xs × (t y ≡ true)
 found_in t [] y e = absurd cc
 found_in {X} t (x ∷ xs) y e = by (found_in t xs y) (t x) refl e where
   some_is : (a b : X) → Some a ≡ Some b → a ≡ b
@@ -52,7 +52,7 @@ there_found {X} t (x ∷ xs) y h e = by (there_found t xs y) (t x) refl h where
 
 -- ---- names
 
-named : (a b : SinkPoint) → is_eq (point_cmp a b) ≡ true → a ≡ b
+pub named : (a b : SinkPoint) → is_eq (point_cmp a b) ≡ true → a ≡ b
 named a b e = point_same a b (tied_by (point_cmp a b) e)
 
 same_name : (a b : SinkPoint) → a ≡ b → is_eq (point_cmp a b) ≡ true
@@ -82,7 +82,7 @@ module _ (q : Query) (b : SinkByte) (y : Sink) (is : y.name ≡ Out b) where
       by ih (inl h) = some-left (λ x. x ≡ y) (sinks_of_step t s.call) (written_from (t + 1) ss) (of_step (some-append (λ x. x ≡ y) (points_at q t) _ h))
       by ih (inr h) = some-right (λ x. x ≡ y) (sinks_of_step t s.call) (written_from (t + 1) ss) (ih h)
 
-  written_chosen : has_sink q (Out b) ≡ true → (t : ℕ) (trace : List StepSeen) → Some_in (λ x. x ≡ y) (written_from t trace) → Some_in (λ x. x ≡ y) (sinks_from q t trace)
+  pub written_chosen : has_sink q (Out b) ≡ true → (t : ℕ) (trace : List StepSeen) → Some_in (λ x. x ≡ y) (written_from t trace) → Some_in (λ x. x ≡ y) (sinks_from q t trace)
   written_chosen c t [] h = absurd h
   written_chosen c t (s ∷ ss) h = by (written_chosen c (t + 1) ss) (some-append (λ x. x ≡ y) (sinks_of_step t s.call) (written_from (t + 1) ss) h) where
     by : (Some_in (λ x. x ≡ y) (written_from (t + 1) ss) → Some_in (λ x. x ≡ y) (sinks_from q (t + 1) ss))
@@ -130,38 +130,34 @@ has_one q trace b y is c h =
 
 -- ---- what is told
 
--- the query chooses the source byte and the sink, and there is a path to it
-record IsTold (q : Query) (trace : List StepSeen) (name : SinkPoint) (s : SourceByte) : Type 0 where
-  source : has_source q s ≡ true
-  chosen : has_sink q name ≡ true
-  sink : Sink
-  is_sink : sink_of trace name ≡ Some sink
-  arrivals : List Arrival
-  is_path : path q.rule s trace sink.time sink.loc ≡ Some arrivals
+-- the query chooses the source byte and the sink, and this is the path to it
+pub record IsTold (q : Query) (trace : List StepSeen) (name : SinkPoint) (s : SourceByte) (p : PathTo) : Type 0 where
+  pub source : has_source q s ≡ true
+  pub chosen : has_sink q name ≡ true
+  pub is_sink : sink_of trace name ≡ Some p.sink
+  pub is_path : path q.rule s trace p.sink.time p.sink.loc ≡ Some p.arrivals
 
-is_told : (q : Query) (trace : List StepSeen) (name : SinkPoint) (s : SourceByte) (p : PathTo) → path_to q trace name s ≡ Some p → IsTold q trace name s
+pub is_told : (q : Query) (trace : List StepSeen) (name : SinkPoint) (s : SourceByte) (p : PathTo) → path_to q trace name s ≡ Some p → IsTold q trace name s p
 is_told q trace name s p e = by (has_source q s) refl (has_sink q name) refl e where
-  ended : (x : Sink) → (o : Option (List Arrival)) → ended_in x o ≡ Some p → (a : List Arrival) × (o ≡ Some a)
+  ended : (x : Sink) (o : Option (List Arrival)) → ended_in x o ≡ Some p → (x ≡ p.sink) × (o ≡ Some p.arrivals)
   ended x None e = absurd cc
-  ended x (Some a) e = (a, refl)
+  ended x (Some a) e = let same : record { sink = x; arrivals = a } ≡ p = cc in (ap (λ (z : PathTo). z.sink) same, ap (λ (z : PathTo). Some z.arrivals) same)
 
-  to_sink : has_source q s ≡ true → has_sink q name ≡ true → (o : Option Sink) → sink_of trace name ≡ o → path_to_sink q.rule s trace o ≡ Some p → IsTold q trace name s
+  to_sink : has_source q s ≡ true → has_sink q name ≡ true → (o : Option Sink) → sink_of trace name ≡ o → path_to_sink q.rule s trace o ≡ Some p → IsTold q trace name s p
   to_sink a b None is e = absurd cc
   to_sink a b (Some x) is e =
       let one = ended x (path q.rule s trace x.time x.loc) e in
-      record { source = a; chosen = b; sink = x; is_sink = is; arrivals = one.0; is_path = one.1 }
+      record { source = a; chosen = b; is_sink = is ∙ ap Some one.0; is_path = ap (λ (z : Sink). path q.rule s trace z.time z.loc) (sym one.0) ∙ one.1 }
 
-  by : (a : Bool) → has_source q s ≡ a → (b : Bool) → has_sink q name ≡ b → (if a && b then path_to_sink q.rule s trace (sink_of trace name) else None) ≡ Some p → IsTold q trace name s
+  by : (a : Bool) → has_source q s ≡ a → (b : Bool) → has_sink q name ≡ b → (if a && b then path_to_sink q.rule s trace (sink_of trace name) else None) ≡ Some p → IsTold q trace name s p
   by true x true y e = to_sink x y (sink_of trace name) refl e
   by true x false y e = absurd cc
   by false x b y e = absurd cc
 
-told_is : (q : Query) (trace : List StepSeen) (name : SinkPoint) (s : SourceByte) → IsTold q trace name s → (p : PathTo) × (path_to q trace name s ≡ Some p)
-told_is q trace name s h = (
-  record { sink = h.sink; arrivals = h.arrivals },
-  ap₂ (λ (a b : Bool). if a && b then path_to_sink q.rule s trace (sink_of trace name) else None) h.source h.chosen
-      ∙ ap (path_to_sink q.rule s trace) h.is_sink ∙ ap (ended_in h.sink) h.is_path,
-)
+told_is : (q : Query) (trace : List StepSeen) (name : SinkPoint) (s : SourceByte) (p : PathTo) → IsTold q trace name s p → path_to q trace name s ≡ Some p
+told_is q trace name s p h =
+    ap₂ (λ (a b : Bool). if a && b then path_to_sink q.rule s trace (sink_of trace name) else None) h.source h.chosen
+    ∙ ap (path_to_sink q.rule s trace) h.is_sink ∙ ap (ended_in p.sink) h.is_path
 
 -- ---- both ways
 
@@ -172,14 +168,17 @@ was_chosen : (q : Query) (trace : List StepSeen) (t : ℕ) (x : Sink) (s : Sourc
 was_chosen q trace t x s c = (All-contains (WasRead (policy_of q) trace x.time) (origins (policy_of q) trace x.time x.loc) s (origins_were_read (policy_of q) trace x.time x.loc) c).is_introduced
 
 module _ (q : Query) (trace : List StepSeen) (s : SourceByte) where
+  abbrev Told : SinkPoint → Type 0
+  Told name = (p : PathTo) × IsTold q trace name s p
+
   -- a row that lists s
   abbrev Listed : SinkPoint → Type 0
   Listed name = (r : Row) × Contains (rows q trace) r × (r.sink ≡ name) × Contains r.sources s
 
   module _ (once : IsWrittenOnce trace) (b : SinkByte) where
-    out_listed : IsTold q trace (Out b) s → Listed (Out b)
-    out_listed h =
-        let y = h.sink in
+    out_listed : Told (Out b) → Listed (Out b)
+    out_listed (p, h) =
+        let y = p.sink in
         let found = found_in (λ x. is_eq (point_cmp (Out b) x.name)) (written_from 0 trace) y h.is_sink in
         let name : y.name ≡ Out b = sym (named (Out b) y.name found.1) in
         let one = has_one q trace b y name h.chosen found.0 in
@@ -187,9 +186,9 @@ module _ (q : Query) (trace : List StepSeen) (s : SourceByte) where
         let of = row_of q trace b r one.1 one.2 in
         let same : of.sink ≡ y = once of.sink y of.written (Contains-some (written_from 0 trace) y found.0) (of.name ∙ sym name) in
         let sources : r.sources ≡ origins (policy_of q) trace y.time y.loc = of.sources ∙ ap (λ (x : Sink). origins (policy_of q) trace x.time x.loc) same in
-        (r, one.1, one.2, subst (λ (xs : List SourceByte). Contains xs s) (sym sources) ((one_path_is_origin (policy_of q) s trace y.time y.loc h.source).1 (h.arrivals, h.is_path)))
+        (r, one.1, one.2, subst (λ (xs : List SourceByte). Contains xs s) (sym sources) ((one_path_is_origin (policy_of q) s trace y.time y.loc h.source).1 (p.arrivals, h.is_path)))
 
-    out_told : Listed (Out b) → IsTold q trace (Out b) s
+    out_told : Listed (Out b) → Told (Out b)
     out_told h =
         let of = row_of q trace b h.0 h.1 h.2 in
         let x = of.sink in
@@ -200,49 +199,46 @@ module _ (q : Query) (trace : List StepSeen) (s : SourceByte) where
         let found = found_in (λ z. is_eq (point_cmp (Out b) z.name)) (written_from 0 trace) y there.1 in
         let same : x ≡ y = once x y of.written (Contains-some (written_from 0 trace) y found.0) (of.name ∙ named (Out b) y.name found.1) in
         let p = (one_path_is_origin (policy_of q) s trace x.time x.loc source).0 among in
-        record { source = source; chosen = of.chosen; sink = y; is_sink = there.1; arrivals = p.0; is_path = ap (λ (z : Sink). path q.rule s trace z.time z.loc) (sym same) ∙ p.1 }
+        let is_path = ap (λ (z : Sink). path q.rule s trace z.time z.loc) (sym same) ∙ p.1 in
+        (record { sink = y; arrivals = p.0 }, record { source = source; chosen = of.chosen; is_sink = there.1; is_path = is_path })
 
   module _ (p : InnerSink) where
     inside : nat_le p.time (length trace) ≡ true → p.time ≤ length trace
     inside e = grind (arith, nat_tests)
 
-    at_listed : IsTold q trace (At p) s → Listed (At p)
-    at_listed h = by (nat_le p.time (length trace)) refl h.is_sink where
-      here : p.time ≤ length trace → point_sink p ≡ h.sink → Listed (At p)
+    at_listed : Told (At p) → Listed (At p)
+    at_listed (to, h) = by (nat_le p.time (length trace)) refl h.is_sink where
+      here : p.time ≤ length trace → point_sink p ≡ to.sink → Listed (At p)
       here le same =
           let path_there = ap (λ (x : Sink). path q.rule s trace x.time x.loc) same ∙ h.is_path in (
             record { sink = At p; sources = sources_at q trace p },
             (points_have_rows q trace p).0 (Contains-has inner_total inner_same q.points p h.chosen) le,
             refl,
-            (one_path_is_origin (policy_of q) s trace p.time p.loc h.source).1 (h.arrivals, path_there),
+            (one_path_is_origin (policy_of q) s trace p.time p.loc h.source).1 (to.arrivals, path_there),
           )
 
-      by : (c : Bool) → nat_le p.time (length trace) ≡ c → (if c then Some (point_sink p) else None) ≡ Some h.sink → Listed (At p)
-      by true e f = here (inside e) (some_sink (point_sink p) h.sink f)
+      by : (c : Bool) → nat_le p.time (length trace) ≡ c → (if c then Some (point_sink p) else None) ≡ Some to.sink → Listed (At p)
+      by true e f = here (inside e) (some_sink (point_sink p) to.sink f)
       by false e f = absurd cc
 
-    at_told : Listed (At p) → IsTold q trace (At p) s
+    at_told : Listed (At p) → Told (At p)
     at_told h =
         let of = All-contains (λ (r : Row). r.sink ≡ At p → IsRowOfPoint q trace p r) (rows q trace) h.0 (points_have_rows q trace p).1 h.1 h.2 in
         let among : Contains (origins (policy_of q) trace p.time p.loc) s = subst (λ (xs : List SourceByte). Contains xs s) of.sources h.3 in
         let source = was_chosen q trace 0 (point_sink p) s among in
         let one = (one_path_is_origin (policy_of q) s trace p.time p.loc source).0 among in
         let low : nat_le p.time (length trace) ≡ true = grind (arith, nat_tests, of.inside) in
-        record {
-          source = source;
-          chosen = has-Contains inner_total q.points p of.chosen;
-          sink = point_sink p;
-          is_sink = ap (λ (c : Bool). if c then Some (point_sink p) else None) low;
-          arrivals = one.0;
-          is_path = one.1;
-        }
+        let is_sink = ap (λ (c : Bool). if c then Some (point_sink p) else None) low in (
+          record { sink = point_sink p; arrivals = one.0 },
+          record { source = source; chosen = has-Contains inner_total q.points p of.chosen; is_sink = is_sink; is_path = one.1 },
+        )
 
 pub paths_are_listed : PathsAreListed
-paths_are_listed q trace name s once = (λ p. listed name (is_told q trace name s p.0 p.1), λ h. told_is q trace name s (told name h)) where
-  listed : (name : SinkPoint) → IsTold q trace name s → Listed q trace s name
+paths_are_listed q trace name s once = (λ p. listed name (p.0, is_told q trace name s p.0 p.1), λ h. let p = told name h in (p.0, told_is q trace name s p.0 p.1)) where
+  listed : (name : SinkPoint) → Told q trace s name → Listed q trace s name
   listed (Out b) h = out_listed q trace s once b h
   listed (At p) h = at_listed q trace s p h
 
-  told : (name : SinkPoint) → Listed q trace s name → IsTold q trace name s
+  told : (name : SinkPoint) → Listed q trace s name → Told q trace s name
   told (Out b) h = out_told q trace s once b h
   told (At p) h = at_told q trace s p h

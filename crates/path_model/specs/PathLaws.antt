@@ -1,6 +1,7 @@
 -- What is always true of paths.
-use Rattle.std.specs.Prelude.{◌≡◌, ℕ, ◌≤◌, ◌↔◌, true, List, ◌∷◌, length, Some, Contains}
+use Rattle.std.specs.Prelude.{◌≡◌, ℕ, ◌≤◌, ◌↔◌, true, List, ◌∷◌, length, Some, All, Contains}
 use Rattle.std.specs.List.{find}
+use Rattle.isa.specs.Encodings.{Fits}
 use Rattle.flow_model.specs.declared.Loc.{Loc}
 use Rattle.flow_model.specs.declared.Rule.{Rule}
 use Rattle.flow_model.specs.declared.SourceByte.{SourceByte}
@@ -9,6 +10,7 @@ use Rattle.lists.specs.Sets.{has}
 use Rattle.flow_model.specs.Orders.{source_cmp}
 use Rattle.flow_model.specs.Flow.{from}
 use Rattle.flow_model.specs.Origins.{Policy, origins, step_at}
+use Rattle.flow_model.specs.Ranges.{IsLocation}
 use Rattle.path_model.specs.declared.Arrival.{Arrival}
 use Rattle.path_model.specs.Paths.{IsPath, path}
 
@@ -42,3 +44,8 @@ HopIsFromFirst = (policy : Policy) (s : SourceByte) (trace : List StepSeen) (t :
 -- arrivals are at most as many as steps
 abbrev pub PathIsShort : Type 0
 PathIsShort = (rule : Rule) (s : SourceByte) (trace : List StepSeen) (t : ℕ) (l : Loc) (p : List Arrival) → IsPath rule s trace t l p → length p ≤ t
+
+-- each arrival of a path to a location is at a location, where the instruction of each step has a word
+abbrev pub PathIsLocated : Type 0
+PathIsLocated = (rule : Rule) (s : SourceByte) (trace : List StepSeen) (t : ℕ) (l : Loc) (p : List Arrival) → All (λ x. Fits x.instr) trace
+    → IsLocation l → IsPath rule s trace t l p → All (λ a. IsLocation a.loc) p

@@ -1,7 +1,7 @@
 //! Laws of the definitions: each is the contract of a function that does nothing.
 
 ghost use Rattle.path_model.specs.Answer.{PathsAreListed, NoneIsListed, FirstPairHasPath};
-ghost use Rattle.path_model.specs.PathLaws.{PathsAreOrigins, OnePathIsOrigin, OnePathIsPath, BeginningIsPath, HopIsFromFirst, PathIsShort};
+ghost use Rattle.path_model.specs.PathLaws.{PathsAreOrigins, OnePathIsOrigin, OnePathIsPath, BeginningIsPath, HopIsFromFirst, PathIsShort, PathIsLocated};
 
 /// A source byte has a path to a location exactly where it is among its origins, and exactly there it has the one path that
 /// is told.
@@ -21,6 +21,11 @@ pub fn one_path_is_a_path()
 /// A path has at most as many arrivals as there are steps.
 pub fn paths_are_short()
     ensures { PathIsShort }
+{}
+
+/// Each arrival of a path to a location is at a location: a lane of a register, or an address.
+pub fn paths_are_located()
+    ensures { PathIsLocated }
 {}
 
 /// A path is told exactly where the report has a row of the sink that lists the source byte, over traces in which no output

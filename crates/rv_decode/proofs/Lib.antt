@@ -1,4 +1,4 @@
 mod Immediates
 mod Parts
 mod Written
-mod Read
+pub mod Read

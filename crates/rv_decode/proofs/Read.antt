@@ -1,4 +1,4 @@
--- The word of a word's instruction is the word, and the instruction fits.
+-- The word of a word's instruction is the word, and the instruction fits. Crates above cite the last lemma.
 use Rattle.std.proofs.Common.{◌≡◌, ℕ, ◌+◌, ◌*◌, ◌/◌, ◌%◌, ◌^◌, ◌<◌, nat_eq, Bool, true, false, if◌then◌else◌, List, [], ◌∷◌, Option, Some, None, IfSome, option_map, option_and_then, refl, ap, ◌∙◌, eqb-true, arith}
 use Rattle.isa.specs.declared.Instr.{Instr}
 use Rattle.isa.specs.Words.{field, opcode, rd, funct3, rs1, rs2, funct7, imm_i, imm_s, imm_b, imm_u, imm_j, entry, branches, loads, stores, immediates, shifts, operations, jumps, fences, systems, looked_up, funct7_funct3, immediate, opcodes, instruction_of}

@@ -1,0 +1,5 @@
+mod Reading
+mod Pieces
+mod Instructions
+mod Lines
+mod Worked

@@ -1,0 +1,12 @@
+-- Examples: texts of which one is the beginning of another, and a text that is read no further than its last line.
+use Rattle.std.proofs.Common.{◌≡◌, ℕ, List, [], ◌∷◌, ◌++◌, replicate, refl, arith}
+use Rattle.std.specs.Prelude.{codes}
+use Rattle.whole_texts.specs.PrefixFree.{ArePrefixFree}
+use Rattle.whole_texts.proofs.Reading.{AtStart, read}
+
+-- one dot is a beginning of two
+dots_are_not : ArePrefixFree (λ n. replicate n 0x2e) → ⊥
+dots_are_not free = free 2 1 1 (omega arith) refl
+
+no_further : read AtStart (codes "1:0 0:0\nend 1\n1:1\n") ≡ codes "1:0 0:0\nend 1\n"
+no_further = refl

@@ -1,0 +1,29 @@
+use Rattle.log_model.specs.Logs.{Log}
+use Rattle.flow_model.specs.declared.SourceByte.{SourceByte}
+use Rattle.report_model.specs.Rows.{Row}
+use Rattle.report_model.specs.Text.{report_text}
+use Rattle.report_model.specs.Influence.{influence_text}
+use Rattle.std.proofs.Common.{List}
+use Rattle.range_model.specs.Text.{ranges_report}
+use Rattle.path_text.specs.declared.writing.End.{End}
+use Rattle.path_text.specs.declared.writing.Stop.{Stop}
+use Rattle.path_text.specs.Text.{path_text}
+use Rattle.decision_model.specs.Text.{decisions_text}
+use Rattle.call_list.specs.Calls.{calls_text}
+use Rattle.call_stack.specs.Stack.{pcs_text}
+use Rattle.run_output.specs.Summary.{summary_text}
+use Rattle.whole_texts.proofs.Reading.{are_prefix_free}
+use Rattle.whole_texts.proofs.Lines.{report, influence, ranges, path, decisions, calls_of, stack, numbers}
+use Rattle.whole_texts.proofs.laws.no_front_is_a_text.Goals as goal
+
+pub returns : goal.returns
+returns c = record {
+  report = are_prefix_free report_text report;
+  influence = are_prefix_free influence_text influence;
+  ranges = are_prefix_free (λ (x : Log × List Row). ranges_report x.0 x.1) (λ x. ranges x.0 x.1);
+  path = are_prefix_free (λ (x : SourceByte × End × List Stop). path_text x.0 x.1 x.2) (λ x. path x.0 x.1 x.2);
+  decisions = are_prefix_free decisions_text decisions;
+  calls = are_prefix_free calls_text calls_of;
+  stack = are_prefix_free pcs_text stack;
+  numbers = are_prefix_free summary_text numbers;
+}
