@@ -2,7 +2,7 @@
 use Rattle.std.proofs.Common.{◌≡◌, List, [], ◌∷◌, ◌++◌, refl, ap, ap₂, sym, ◌∙◌, Bool, true, false, subst}
 use Rattle.std.specs.Prelude.{Option, Some, None, is_none}
 use Rattle.lists.proofs.Tests.{true-false}
-use Rattle.flow_rule.specs.declared.Message.{Message}
+use Rattle.flow_model.specs.declared.Message.{Message}
 use Rattle.epoch_model.specs.Summary.{Summary as EpochSummary}
 use Rattle.epoch_summary.specs.declared.summary.Summary.{Summary}
 use Rattle.stream_model.specs.Streams.{is_ended}

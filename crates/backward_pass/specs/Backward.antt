@@ -3,8 +3,8 @@ use Rattle.std.specs.Prelude.{◌≡◌, ◌⊎◌, ℕ, ◌+◌, ◌^◌, ◌<�
 use Rattle.flow_model.specs.declared.Loc.{Loc}
 use Rattle.flow_model.specs.Orders.{loc_cmp}
 use Rattle.lists.specs.Sets.{is_within}
-use Rattle.flow_rule.specs.declared.Message.{Message}
-use Rattle.flow_rule.specs.declared.Message.TheVariants.{Ask, Byte, Close, End}
+use Rattle.flow_model.specs.declared.Message.{Message}
+use Rattle.flow_model.specs.declared.Message.TheVariants.{Ask, Byte, Close, End}
 use Rattle.epoch_model.specs.Summary.{Summary as EpochSummary, SinkTerms}
 use Rattle.epoch_summary.specs.declared.summary.Summary.{Summary}
 use Rattle.stream_model.specs.Streams.{is_ended, requests}

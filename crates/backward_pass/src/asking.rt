@@ -11,7 +11,7 @@ ghost use Rattle.pass_parts.specs.Requests.{IsCounted, AreCounted};
 ghost use Rattle.backward_pass.specs.Backward.{AreAsked, IsWalked, IsRequested};
 
 use epoch_summary::{Asked, Summary, TermsAhead};
-use flow_rule::Loc;
+use flow_model::Loc;
 use merge_log::TermsReader;
 use no_memory::NoMemory;
 use pass_parts::{Request, Requests, read_end_terms, share_end_terms};

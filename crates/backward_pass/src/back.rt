@@ -8,7 +8,7 @@ ghost use Rattle.pass_parts.specs.Knowing.{IsOfEpoch};
 use crate::asking::{add_request, add_sink};
 use epoch_link::{Inlet, Outlet};
 use epoch_summary::{Asked, Summary, TermsAhead};
-use flow_rule::Message;
+use flow_model::Message;
 use merge_log::TermsReader;
 use pass_parts::{Knowledge, Next, PassTurn, Requests, pop_message, push_message};
 use std::alloc::Global;

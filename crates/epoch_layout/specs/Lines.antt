@@ -1,6 +1,6 @@
 -- The two ends of a link when it is closed.
 use Rattle.std.specs.Prelude.{◌≡◌, Option, Some, None}
-use Rattle.flow_rule.specs.declared.Message.{Message}
+use Rattle.flow_model.specs.declared.Message.{Message}
 use Rattle.epoch_link.specs.Ends.{Producing, Consuming}
 use Rattle.stream_model.specs.StreamLaws.{IsPrefix}
 

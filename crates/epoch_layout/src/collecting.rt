@@ -14,7 +14,7 @@ ghost use Rattle.stream_model.specs.Work.{asked_at, run_work};
 use epoch_link::{Consumer, Producer, close};
 use epoch_node::{Ends, Finished, Node};
 use epoch_summary::Asked;
-use flow_rule::Message;
+use flow_model::Message;
 use no_memory::NoMemory;
 use sink_collect::{SinkSet, SinkSets};
 use std::alloc::Global;

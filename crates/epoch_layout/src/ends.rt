@@ -5,7 +5,7 @@ ghost use Rattle.epoch_layout.specs.Layouts.{Links, before_end, after_end, ends_
 
 use epoch_link::{Capacity, Consumer, Producer, ring};
 use epoch_node::Ends;
-use flow_rule::Message;
+use flow_model::Message;
 use no_memory::NoMemory;
 use std::alloc::Global;
 

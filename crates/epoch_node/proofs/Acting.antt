@@ -4,7 +4,7 @@ use Rattle.std.specs.Prelude.{Option, Some, None, is_none}
 use Rattle.lists.proofs.Tests.{true-false}
 use Rattle.epoch_link.specs.Link.{EndView}
 use Rattle.flow_model.specs.declared.Loc.{Loc}
-use Rattle.flow_rule.specs.declared.Message.{Message}
+use Rattle.flow_model.specs.declared.Message.{Message}
 use Rattle.report_model.specs.Rows.{Row}
 use Rattle.epoch_summary.specs.declared.summary.Summary.{Summary}
 use Rattle.epoch_model.specs.Join.{rows_of}

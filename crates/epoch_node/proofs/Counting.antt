@@ -4,7 +4,7 @@ use Rattle.std.specs.Prelude.{Option, Some, None, is_none, is_some}
 use Rattle.std.proofs.lemmas.List.{length-map}
 use Rattle.lists.proofs.Tests.{true-false}
 use Rattle.flow_model.specs.declared.Loc.{Loc}
-use Rattle.flow_rule.specs.declared.Message.{Message}
+use Rattle.flow_model.specs.declared.Message.{Message}
 use Rattle.report_model.specs.Rows.{Row}
 use Rattle.sink_collect.specs.Pairs.{capped}
 use Rattle.epoch_model.specs.Summary.{Summary as EpochSummary}

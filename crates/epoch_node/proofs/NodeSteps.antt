@@ -2,7 +2,7 @@
 use Rattle.std.proofs.Common.{◌≡◌, ◌⊎◌, inl, inr, ◌-◌, List, [], ◌∷◌, refl, ap, sym, subst, subst₂, ◌∙◌, Bool, true, false}
 use Rattle.std.specs.Prelude.{Option, Some, None, is_none, option_map, IfSome}
 use Rattle.flow_model.specs.declared.Loc.{Loc}
-use Rattle.flow_rule.specs.declared.Message.{Message}
+use Rattle.flow_model.specs.declared.Message.{Message}
 use Rattle.epoch_link.specs.Link.{EndView}
 use Rattle.epoch_link.specs.Ends.{Producing, Consuming, producer_end, consumer_end}
 use Rattle.replayer.specs.Jobs.{trace_of}

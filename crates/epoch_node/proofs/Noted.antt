@@ -1,7 +1,7 @@
 -- What a pass backwards that is over leaves to the pass forwards.
 use Rattle.std.proofs.Common.{◌≡◌, List, [], ◌∷◌, ap, ◌∙◌, refl, true}
 use Rattle.std.specs.Prelude.{Option, None}
-use Rattle.flow_rule.specs.declared.Message.{Message}
+use Rattle.flow_model.specs.declared.Message.{Message}
 use Rattle.stream_model.specs.Streams.{requests}
 use Rattle.pass_parts.specs.declared.requests.Request.{Request}
 use Rattle.pass_parts.specs.Ends.{got_by}

@@ -1,7 +1,7 @@
 -- What an event of a core keeps.
 use Rattle.std.proofs.Common.{refl, ◌≡◌, ℕ, List, ap, ap₂, sym, subst, subst₂, ◌∙◌, true, false}
 use Rattle.std.specs.Prelude.{Option, is_none}
-use Rattle.flow_rule.specs.declared.Message.{Message}
+use Rattle.flow_model.specs.declared.Message.{Message}
 use Rattle.pass_parts.specs.declared.pass_turn.PassTurn.{PassTurn}
 use Rattle.pass_parts.specs.declared.pass_turn.PassTurn.TheVariants as pass_turn
 use Rattle.run_board.specs.declared.task.Turn.{Turn}

@@ -2,7 +2,7 @@
 use Rattle.std.specs.Prelude.{◌≡◌, ℕ, ◌+◌, Bool, true, false, Option, Some, None, is_none, List}
 use Rattle.flow_model.specs.declared.Loc.{Loc}
 use Rattle.epoch_link.specs.Link.{EndView}
-use Rattle.flow_rule.specs.declared.Message.{Message}
+use Rattle.flow_model.specs.declared.Message.{Message}
 use Rattle.sink_collect.specs.Pairs.{capped}
 use Rattle.stream_model.specs.Streams.{requests}
 use Rattle.stream_model.specs.StreamLaws.{IsPrefix}

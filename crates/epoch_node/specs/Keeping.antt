@@ -2,7 +2,7 @@
 use Rattle.std.specs.Prelude.{◌≡◌, ℕ, ◌+◌, ◌-◌, Bool, true, false, Option, None, is_none, is_some, List, [], length}
 use Rattle.flow_model.specs.declared.Loc.{Loc}
 use Rattle.flow_model.specs.declared.StepSeen.{StepSeen}
-use Rattle.flow_rule.specs.declared.Message.{Message}
+use Rattle.flow_model.specs.declared.Message.{Message}
 use Rattle.replayer.specs.Jobs.{trace_of}
 use Rattle.epoch_model.specs.Summary.{Summary as EpochSummary, IsSummary}
 use Rattle.epoch_cut.specs.Numbered.{NumberedEpoch}

@@ -1,7 +1,7 @@
 -- What contracts see of a node, and what its turns do.
 use Rattle.std.specs.Prelude.{◌≡◌, false, Option, Some, None, IfSome, List, [], ◌∷◌, ◌++◌, refl}
 use mathlib.Core.Path.{◌∙◌, subst}
-use Rattle.flow_rule.specs.declared.Message.{Message}
+use Rattle.flow_model.specs.declared.Message.{Message}
 use Rattle.epoch_link.specs.Link.{EndView, Rose}
 use Rattle.epoch_link.specs.Ends.{Producing, Consuming, producer_end, consumer_end}
 use Rattle.epoch_model.specs.Summary.{Summary as EpochSummary}

@@ -1,6 +1,6 @@
 -- The events of a core among those of the nodes of the definitions.
 use Rattle.std.specs.Prelude.{◌≡◌, ℕ, Bool, true, Option, None, is_none, List}
-use Rattle.flow_rule.specs.declared.Message.{Message}
+use Rattle.flow_model.specs.declared.Message.{Message}
 use Rattle.epoch_model.specs.Summary.{Summary as EpochSummary}
 use Rattle.run_board.specs.declared.task.Turn.{Turn}
 use Rattle.stream_model.specs.Passes.{Links, Asking as AskingState, asking_event, Answering as AnsweringState, answering_event}

@@ -1,7 +1,7 @@
 //! The ends of links that a node has.
 
 use epoch_link::{Consumer, Producer};
-use flow_rule::Message;
+use flow_model::Message;
 
 /// The ends of a node's four links. The first node has no links to a node before it, the last none to a node behind it.
 #[derive(Drop)]

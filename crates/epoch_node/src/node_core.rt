@@ -13,7 +13,7 @@ use checkpoints::{Checkpoints, StartPoint};
 use epoch_cut::EpochTicket;
 use epoch_link::{Inlet, Outlet};
 use epoch_summary::Asked;
-use flow_rule::Message;
+use flow_model::Message;
 use no_memory::NoMemory;
 use outer_io::Gate;
 use pass_parts::PassTurn;

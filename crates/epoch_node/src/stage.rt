@@ -10,7 +10,7 @@ ghost use Rattle.epoch_node.specs.Events.{went, CanAct, Acts, WaitsAt};
 use backward_pass::Back;
 use epoch_cut::EpochTicket;
 use epoch_link::{Inlet, Outlet};
-use flow_rule::Message;
+use flow_model::Message;
 use forward_pass::Fore;
 use pass_parts::PassTurn;
 

@@ -2,7 +2,7 @@
 use Rattle.std.proofs.Common.{◌≡◌, ◌⊎◌, inl, inr, ℕ, zero, suc, ◌<◌, ◌≤◌, List, [], ◌∷◌, length, refl, ap, sym, ◌∙◌, Bool, true, false, arith}
 use Rattle.std.specs.Prelude.{Option, Some, None, is_none}
 use Rattle.lists.proofs.Tests.{true-false}
-use Rattle.flow_rule.specs.declared.Message.TheVariants.{End}
+use Rattle.flow_model.specs.declared.Message.TheVariants.{End}
 use Rattle.epoch_cut.specs.Numbered.{NumberedEpoch}
 use Rattle.stream_model.specs.Schedules.{Phase, NodeState, moves_at, is_done}
 use Rattle.stream_model.proofs.NeverStill.{AllDone, Moves, goes_on}

@@ -3,7 +3,7 @@ use Rattle.std.proofs.Common.{◌≡◌, ℕ, zero, suc, ◌+◌, ◌≤◌, Lis
 use Rattle.std.specs.Prelude.{Option, Some, None, is_none, is_some, nat_lt}
 use Rattle.std.proofs.lemmas.Bool.{ltb-true, ltb-false}
 use Rattle.lists.proofs.Tests.{true-false}
-use Rattle.flow_rule.specs.declared.Message.{Message}
+use Rattle.flow_model.specs.declared.Message.{Message}
 use Rattle.epoch_cut.specs.Numbered.{NumberedEpoch}
 use Rattle.epoch_link.specs.Link.{Delivered}
 use Rattle.epoch_link.specs.ListLink.{BothEnds, held_count}

@@ -1,7 +1,7 @@
 -- An event keeps each core between its links.
 use Rattle.std.proofs.Common.{◌≡◌, ℕ, zero, suc, ◌+◌, ◌<◌, List, [], ◌∷◌, length, refl, ap, ap₂, sym, subst, subst₂, ◌∙◌, Bool, true, false, arith}
 use Rattle.std.specs.Prelude.{Option, Some, None}
-use Rattle.flow_rule.specs.declared.Message.{Message}
+use Rattle.flow_model.specs.declared.Message.{Message}
 use Rattle.run_board.specs.declared.task.Turn.{Turn}
 use Rattle.epoch_cut.specs.Numbered.{NumberedEpoch}
 use Rattle.forward_pass.specs.Forward.{ForeView}

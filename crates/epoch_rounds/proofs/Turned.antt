@@ -2,8 +2,8 @@
 use Rattle.std.proofs.Common.{◌≡◌, ◌⊎◌, inl, inr, ℕ, zero, suc, ◌+◌, ◌<◌, List, [], ◌∷◌, map, refl, ap, ap₂, sym, subst, subst₂, ◌∙◌, Bool, true, false, arith}
 use Rattle.std.specs.Prelude.{Option, Some, None, is_none}
 use Rattle.lists.proofs.Tests.{true-false}
-use Rattle.flow_rule.specs.declared.Message.{Message}
-use Rattle.flow_rule.specs.declared.Message.TheVariants.{End}
+use Rattle.flow_model.specs.declared.Message.{Message}
+use Rattle.flow_model.specs.declared.Message.TheVariants.{End}
 use Rattle.epoch_model.specs.Summary.{Summary}
 use Rattle.epoch_cut.specs.Numbered.{NumberedEpoch}
 use Rattle.run_board.specs.declared.task.Turn.{Turn}

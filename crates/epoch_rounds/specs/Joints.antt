@@ -1,7 +1,7 @@
 -- The links between neighbours, and what a core has of those beside it.
 use Rattle.std.specs.Prelude.{◌≡◌, ℕ, Option, Some, None, option_map, List, get_or}
 use Rattle.atomic_table.specs.Seated.{TableId}
-use Rattle.flow_rule.specs.declared.Message.{Message}
+use Rattle.flow_model.specs.declared.Message.{Message}
 use Rattle.epoch_link.specs.Link.{Delivered}
 use Rattle.epoch_link.specs.ListLink.{BothEnds, new_link}
 use Rattle.epoch_node.specs.Keeping.{Told}

@@ -1,7 +1,7 @@
 -- How much is left to do in a line whose cores have begun: each event that moves makes it less.
 use Rattle.std.specs.Prelude.{ℕ, ◌+◌, ◌-◌, Bool, true, false, List, [], ◌∷◌, map, length}
-use Rattle.flow_rule.specs.declared.Message.{Message}
-use Rattle.flow_rule.specs.declared.Message.TheVariants.{End}
+use Rattle.flow_model.specs.declared.Message.{Message}
+use Rattle.flow_model.specs.declared.Message.TheVariants.{End}
 use Rattle.stream_model.specs.Passes.{Asking as AskingState}
 use Rattle.stream_model.specs.Schedules.{NodeState, Phase, Fresh as NotBegun, Asks, Answers, asks_sent_in, asks_got_in, answers_sent_in, answers_got_in}
 use Rattle.stream_model.specs.ScheduleLaws.{one_if}

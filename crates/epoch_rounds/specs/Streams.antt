@@ -1,7 +1,7 @@
 -- All that the cores of a line send, if none breaks; what each has sent is a part of it.
 use Rattle.std.specs.Prelude.{◌≡◌, ◌⊎◌, Bool, true, false, Option, Some, None, List, [], ◌∷◌, ◌++◌, map}
-use Rattle.flow_rule.specs.declared.Message.{Message}
-use Rattle.flow_rule.specs.declared.Message.TheVariants.{End}
+use Rattle.flow_model.specs.declared.Message.{Message}
+use Rattle.flow_model.specs.declared.Message.TheVariants.{End}
 use Rattle.epoch_model.specs.Summary.{Summary}
 use Rattle.stream_model.specs.Streams.{is_ended, requests, asks_for, answers_for, asked_of}
 use Rattle.stream_model.specs.StreamLaws.{IsPrefix}

@@ -4,7 +4,7 @@ ghost use Rattle.std.specs.Prelude.{◌≡◌, IfOk};
 ghost use Rattle.epoch_rounds.specs.Joints.{no_joint, IsNewJoint, IsSound};
 
 use epoch_link::{Capacity, ListLink};
-use flow_rule::Message;
+use flow_model::Message;
 use no_memory::NoMemory;
 use std::alloc::Global;
 

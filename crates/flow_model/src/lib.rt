@@ -1,5 +1,6 @@
 //! Information flow as definitions: locations, source and sink bytes, the steps of a trace, which locations' content
-//! flows where in one step, and the origins of each location at each time.
+//! flows where in one step, and the origins of each location at each time; and the messages that carry locations and
+//! source bytes between the parts of an analysis.
 //!
 //! What there is to read stands in specs/. These definitions know no log and no program: a trace is a plain list of
 //! steps.
@@ -51,6 +52,16 @@ pub struct InnerSink {
 pub enum SinkPoint {
     Out(SinkByte),
     At(InnerSink),
+}
+
+/// What the parts of an analysis send each other: a question for a location's origins, one of its source
+/// bytes, the end of a location's source bytes, and the end of all, which says whether nothing was lost.
+#[derive(Clone, Copy)]
+pub enum Message {
+    Ask(Loc),
+    Byte(SourceByte),
+    Close(Loc),
+    End { whole: bool },
 }
 
 /// Which flows count.

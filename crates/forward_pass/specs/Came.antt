@@ -4,8 +4,8 @@ use Rattle.flow_model.specs.declared.Loc.{Loc}
 use Rattle.flow_model.specs.declared.SourceByte.{SourceByte}
 use Rattle.flow_model.specs.Orders.{source_cmp}
 use Rattle.lists.specs.Sets.{inserted}
-use Rattle.flow_rule.specs.declared.Message.{Message}
-use Rattle.flow_rule.specs.declared.Message.TheVariants.{Ask, Byte, Close, End}
+use Rattle.flow_model.specs.declared.Message.{Message}
+use Rattle.flow_model.specs.declared.Message.TheVariants.{Ask, Byte, Close, End}
 use Rattle.epoch_model.specs.Join.{answer_to}
 use Rattle.stream_model.specs.Streams.{answers_in, heard}
 use Rattle.pass_parts.specs.declared.requests.Request.{Request}

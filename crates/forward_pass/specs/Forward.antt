@@ -1,7 +1,7 @@
 -- What contracts see of the pass forwards.
 use Rattle.std.specs.Prelude.{◌≡◌, Bool, true, false, Option, None, IfNone, IsSome, List, [], drop}
 use Rattle.flow_model.specs.declared.Loc.{Loc}
-use Rattle.flow_rule.specs.declared.Message.{Message}
+use Rattle.flow_model.specs.declared.Message.{Message}
 use Rattle.report_model.specs.Rows.{Row}
 use Rattle.epoch_model.specs.Summary.{Summary as EpochSummary}
 use Rattle.epoch_summary.specs.declared.summary.Summary.{Summary}

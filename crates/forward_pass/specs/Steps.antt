@@ -2,7 +2,7 @@
 use Rattle.std.specs.Prelude.{◌≡◌, ◌⊎◌, Bool, true, false, ◌||◌, Some, None, IsSome, List, [], ◌∷◌}
 use Rattle.flow_model.specs.declared.Loc.{Loc}
 use Rattle.flow_model.specs.declared.SourceByte.{SourceByte}
-use Rattle.flow_rule.specs.declared.Message.{Message}
+use Rattle.flow_model.specs.declared.Message.{Message}
 use Rattle.epoch_model.specs.Join.{answer_to, resolved, rows_of}
 use Rattle.stream_model.specs.Streams.{is_ended, answer}
 use Rattle.stream_model.specs.Passes.{is_whole_message}

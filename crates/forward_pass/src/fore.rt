@@ -2,7 +2,7 @@
 
 ghost use Rattle.std.specs.Prelude.{◌≡◌, [], Option, List, true, false, Some, Bool, IfNone, IfOk, IfSome, IsSome, IsTrue};
 ghost use Rattle.flow_model.specs.declared.Loc.{Loc};
-ghost use Rattle.flow_rule.specs.declared.Message.{Message};
+ghost use Rattle.flow_model.specs.declared.Message.{Message};
 ghost use Rattle.epoch_model.specs.Join.{answer_to, resolved as resolved_terms};
 ghost use Rattle.stream_model.specs.Passes.{is_whole_message};
 ghost use Rattle.epoch_summary.specs.Ahead.{IsAhead};
@@ -20,7 +20,7 @@ use crate::state::Fore;
 use answer_sets::{Answers, resolved};
 use epoch_link::{Inlet, Outlet};
 use epoch_summary::{Asked, Summary, TermsAhead};
-use flow_rule::{Loc, Message, SourceByte};
+use flow_model::{Loc, Message, SourceByte};
 use merge_log::TermsReader;
 use no_memory::NoMemory;
 use pass_parts::{

@@ -1,13 +1,13 @@
 //! The answers that came for what the node asked.
 
 ghost use Rattle.std.specs.Prelude.{◌≡◌, ◌||◌, [], ◌∷◌, OnOk};
-ghost use Rattle.flow_rule.specs.declared.Message.TheVariants.{Byte};
+ghost use Rattle.flow_model.specs.declared.Message.TheVariants.{Byte};
 ghost use Rattle.stream_model.specs.Streams.{is_ended};
 ghost use Rattle.forward_pass.specs.Came.{closed, came_with, is_answerable};
 
 use crate::inserting::insert;
 use answer_sets::Answers;
-use flow_rule::{Message, SourceByte};
+use flow_model::{Message, SourceByte};
 use no_memory::NoMemory;
 use pass_parts::Request;
 use std::alloc::Global;

@@ -4,7 +4,7 @@ ghost use Rattle.std.specs.Prelude.{◌≡◌, ◌∷◌, [], IfSome, IfNone};
 ghost use Rattle.stream_model.specs.Streams.{answer};
 ghost use Rattle.forward_pass.specs.Rest.{rest_of};
 
-use flow_rule::{Loc, Message, SourceByte};
+use flow_model::{Loc, Message, SourceByte};
 use std::alloc::Global;
 use std::marker::Model;
 

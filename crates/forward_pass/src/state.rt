@@ -11,7 +11,7 @@ use crate::received::Received;
 use crate::rows::{SinkRows, make_rows};
 use crate::sending::Sending;
 use epoch_summary::{Asked, TermsAhead};
-use flow_rule::Loc;
+use flow_model::Loc;
 use merge_log::TermsReader;
 use no_memory::NoMemory;
 use pass_parts::{Knowledge, Requests};

@@ -1,8 +1,8 @@
 -- Events of passes. Crates above cite these lemmas.
 use Rattle.std.proofs.Common.{◌≡◌, List, refl, ap, ap₂, sym, subst, ◌∙◌, Bool, true, false}
 use Rattle.std.specs.Prelude.{Option, Some, None, IfNone}
-use Rattle.flow_rule.specs.declared.Message.{Message}
-use Rattle.flow_rule.specs.declared.Message.TheVariants.{End}
+use Rattle.flow_model.specs.declared.Message.{Message}
+use Rattle.flow_model.specs.declared.Message.TheVariants.{End}
 use Rattle.stream_model.specs.Passes.{Links}
 use Rattle.stream_model.specs.Schedules.{Need}
 use Rattle.pass_parts.specs.declared.pass_turn.PassTurn.TheVariants.{NotYet, Over}

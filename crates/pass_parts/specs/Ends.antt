@@ -1,8 +1,8 @@
 -- The ends of a pass, an inlet and an outlet, where there are any, and what went through them.
 use Rattle.std.specs.Prelude.{◌≡◌, Bool, true, false, Option, Some, None, List, [], ◌∷◌, ◌++◌, option_map}
 use Rattle.epoch_link.specs.Link.{EndView, IsSameEnd, HasRefused}
-use Rattle.flow_rule.specs.declared.Message.{Message}
-use Rattle.flow_rule.specs.declared.Message.TheVariants.{End}
+use Rattle.flow_model.specs.declared.Message.{Message}
+use Rattle.flow_model.specs.declared.Message.TheVariants.{End}
 
 -- one message more, where there is a link
 abbrev pub with : Message → Option (List Message) → Option (List Message)

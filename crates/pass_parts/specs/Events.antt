@@ -2,7 +2,7 @@
 -- definitions.
 use Rattle.std.specs.Prelude.{◌≡◌, Bool, true, false, Option, IsSome, List}
 use Rattle.epoch_link.specs.Link.{EndView}
-use Rattle.flow_rule.specs.declared.Message.{Message}
+use Rattle.flow_model.specs.declared.Message.{Message}
 use Rattle.stream_model.specs.Passes.{Links}
 use Rattle.stream_model.specs.Schedules.{Need}
 use Rattle.pass_parts.specs.declared.next.Next.{Next}

@@ -7,7 +7,7 @@ ghost use Rattle.epoch_summary.specs.Words.{as_terms};
 ghost use Rattle.pass_parts.specs.Known.{is_location, known};
 
 use epoch_summary::{Summary, TermsAhead};
-use flow_rule::Loc;
+use flow_model::Loc;
 use merge_log::TermsReader;
 use no_memory::NoMemory;
 

@@ -4,7 +4,7 @@ ghost use Rattle.std.specs.Prelude.{◌≡◌, IfSome, IfNone, true, false, IsSo
 ghost use Rattle.pass_parts.specs.Ends.{through, with, IsEndFrom, IsRefused};
 
 use epoch_link::{Inlet, Outlet, Popped, Pushed};
-use flow_rule::Message;
+use flow_model::Message;
 
 /// Sends a message, where there is a link. False where the link was full. It takes no memory.
 pub fn push_message<O: Outlet<Message>>(outlet: &mut Option<O>, message: Message) -> bool

@@ -15,7 +15,6 @@ mod requests;
 
 pub use end_terms::{read_end_terms, share_end_terms};
 pub use ends::{pop_message, push_message};
-pub use flow_rule::{Loc, Message, SourceByte};
 pub use knowledge::Knowledge;
 pub use next::Next;
 pub use pass_turn::PassTurn;

@@ -1,6 +1,6 @@
 //! What a pass does next.
 
-use flow_rule::Message;
+use flow_model::Message;
 
 /// What a pass does in an event.
 #[derive(Clone, Copy)]

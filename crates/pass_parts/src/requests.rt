@@ -1,6 +1,6 @@
 //! What the next epoch asks for.
 
-use flow_rule::Loc;
+use flow_model::Loc;
 
 /// A location that the next epoch asks for.
 #[derive(Clone, Copy)]

@@ -10,8 +10,8 @@ use Rattle.std.specs.Ordering.{eq_by_cmp}
 use Rattle.lists.specs.Sets.{inserted, union, has, Ascends}
 use Rattle.flow_model.specs.Orders.{loc_cmp, source_cmp}
 use Rattle.flow_model.specs.Origins.{union_over}
-use Rattle.flow_rule.specs.declared.Message.{Message}
-use Rattle.flow_rule.specs.declared.Message.TheVariants.{Ask, Byte, Close, End}
+use Rattle.flow_model.specs.declared.Message.{Message}
+use Rattle.flow_model.specs.declared.Message.TheVariants.{Ask, Byte, Close, End}
 use Rattle.epoch_model.specs.Summary.{Summary, Terms}
 use Rattle.epoch_model.specs.Crossing.{added, added_all, wanted, asked_by}
 use Rattle.epoch_model.specs.Join.{answer_to, resolved}

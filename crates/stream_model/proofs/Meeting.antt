@@ -16,8 +16,8 @@ use Rattle.lists.specs.Sets.{inserted, placed, has, IsBelow, Ascends}
 use Rattle.flow_model.specs.Orders.{loc_cmp, source_cmp}
 use Rattle.flow_model.specs.Origins.{origins}
 use Rattle.flow_model.specs.Ranges.{IsLocation, IsInRange}
-use Rattle.flow_rule.specs.declared.Message.{Message}
-use Rattle.flow_rule.specs.declared.Message.TheVariants.{Ask, Byte, Close, End}
+use Rattle.flow_model.specs.declared.Message.{Message}
+use Rattle.flow_model.specs.declared.Message.TheVariants.{Ask, Byte, Close, End}
 use Rattle.report_model.specs.Query.{Query, AreLocated, policy_of}
 use Rattle.report_model.specs.Rows.{Sink, Row, row}
 use Rattle.lists.proofs.Algebra.{tied_by, less_turned}

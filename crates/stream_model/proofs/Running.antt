@@ -3,8 +3,8 @@ use Rattle.std.proofs.Common.{◌≡◌, ℕ, zero, suc, List, [], ◌∷◌, �
 use Rattle.std.specs.Prelude.{Option, Some, None, is_none}
 use Rattle.std.specs.List.{AllByRecursion}
 use Rattle.lists.proofs.Tests.{true-false}
-use Rattle.flow_rule.specs.declared.Message.{Message}
-use Rattle.flow_rule.specs.declared.Message.TheVariants.{Ask, End}
+use Rattle.flow_model.specs.declared.Message.{Message}
+use Rattle.flow_model.specs.declared.Message.TheVariants.{Ask, End}
 use Rattle.epoch_model.specs.Summary.{Summary, AreSummaries}
 use Rattle.stream_model.specs.Streams.{is_ended, requests, answers_for, Node, IsDone, AreDone, AreAllDone, summaries}
 use Rattle.stream_model.specs.StreamLaws.{IsPrefix, EndsLast}

@@ -4,8 +4,8 @@ use Rattle.std.specs.Prelude.{Option, Some, None, is_none}
 use Rattle.std.proofs.lemmas.List.{length-map}
 use Rattle.lists.proofs.Tests.{true-false}
 use Rattle.flow_model.specs.declared.Loc.{Loc}
-use Rattle.flow_rule.specs.declared.Message.{Message}
-use Rattle.flow_rule.specs.declared.Message.TheVariants.{Ask, End}
+use Rattle.flow_model.specs.declared.Message.{Message}
+use Rattle.flow_model.specs.declared.Message.TheVariants.{Ask, End}
 use Rattle.epoch_model.specs.Summary.{Summary, AreSummaries}
 use Rattle.epoch_model.specs.Join.{resolved_row}
 use Rattle.stream_model.specs.Streams.{requests, heard, answers_for, end_if}

@@ -8,8 +8,8 @@ use Rattle.flow_model.specs.declared.Loc.TheVariants.{Reg, Mem}
 use Rattle.flow_model.specs.declared.Rule.TheVariants.{Copy}
 use Rattle.flow_model.specs.declared.SinkPoint.TheVariants.{Out}
 use Rattle.flow_model.specs.declared.StepSeen.{StepSeen}
-use Rattle.flow_rule.specs.declared.Message.{Message}
-use Rattle.flow_rule.specs.declared.Message.TheVariants.{Ask, Byte, Close, End}
+use Rattle.flow_model.specs.declared.Message.{Message}
+use Rattle.flow_model.specs.declared.Message.TheVariants.{Ask, Byte, Close, End}
 use Rattle.report_model.specs.Query.{Query}
 use Rattle.report_model.specs.Rows.{Row}
 use Rattle.epoch_model.specs.Summary.{Summary}

@@ -1,7 +1,7 @@
 -- Event by event, passes that are not broken send what nodes are to send for what they got.
 use Rattle.std.specs.Prelude.{◌≡◌, Bool, true, false, List, [], ◌∷◌, Some}
 use Rattle.flow_model.specs.declared.Loc.{Loc}
-use Rattle.flow_rule.specs.declared.Message.TheVariants.{End}
+use Rattle.flow_model.specs.declared.Message.TheVariants.{End}
 use Rattle.epoch_model.specs.Summary.{Summary}
 use Rattle.epoch_model.specs.Join.{rows_of}
 use Rattle.stream_model.specs.Streams.{is_ended, requests, heard, asks_for, answers_for, asked_of, Node, IsDone}

@@ -4,8 +4,8 @@
 -- a pass that is whole takes memory, and a push takes none.
 use Rattle.std.specs.Prelude.{ℕ, ◌+◌, Bool, true, false, List, [], ◌∷◌, ◌++◌, drop, Option, Some, None}
 use Rattle.flow_model.specs.declared.Loc.{Loc}
-use Rattle.flow_rule.specs.declared.Message.{Message}
-use Rattle.flow_rule.specs.declared.Message.TheVariants.{Ask, Byte, Close, End}
+use Rattle.flow_model.specs.declared.Message.{Message}
+use Rattle.flow_model.specs.declared.Message.TheVariants.{Ask, Byte, Close, End}
 use Rattle.report_model.specs.Rows.{Row}
 use Rattle.epoch_model.specs.Summary.{Summary, SinkTerms}
 use Rattle.epoch_model.specs.Crossing.{added_all}

@@ -4,7 +4,7 @@ use Rattle.std.specs.List.{AllByRecursion}
 use Rattle.flow_model.specs.declared.Loc.{Loc}
 use Rattle.flow_model.specs.declared.StepSeen.{StepSeen}
 use Rattle.flow_model.specs.Ranges.{IsInRange}
-use Rattle.flow_rule.specs.declared.Message.{Message}
+use Rattle.flow_model.specs.declared.Message.{Message}
 use Rattle.report_model.specs.Query.{Query, AreLocated}
 use Rattle.epoch_model.specs.Cutting.{IsCutting}
 use Rattle.epoch_model.specs.Summary.{Summary, AreSummaries}

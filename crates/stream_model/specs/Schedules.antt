@@ -1,7 +1,7 @@
 -- All nodes of a run and the links between them, under any schedule of events.
 use Rattle.std.specs.Prelude.{ℕ, zero, suc, ◌+◌, nat_lt, Bool, true, false, List, [], ◌∷◌, map, length, drop, Option, Some, None, is_some, is_none}
 use Rattle.flow_model.specs.declared.Loc.{Loc}
-use Rattle.flow_rule.specs.declared.Message.{Message}
+use Rattle.flow_model.specs.declared.Message.{Message}
 use Rattle.report_model.specs.Rows.{Row}
 use Rattle.epoch_model.specs.Summary.{Summary, SinkTerms}
 use Rattle.stream_model.specs.Streams.{is_ended, requests, is_resolvable, Node}

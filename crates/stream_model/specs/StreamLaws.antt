@@ -9,8 +9,8 @@ use Rattle.flow_model.specs.declared.StepSeen.{StepSeen}
 use Rattle.flow_model.specs.Orders.{loc_cmp, source_cmp}
 use Rattle.flow_model.specs.Origins.{origins}
 use Rattle.flow_model.specs.Ranges.{IsInRange}
-use Rattle.flow_rule.specs.declared.Message.{Message}
-use Rattle.flow_rule.specs.declared.Message.TheVariants.{Ask, Byte, Close, End}
+use Rattle.flow_model.specs.declared.Message.{Message}
+use Rattle.flow_model.specs.declared.Message.TheVariants.{Ask, Byte, Close, End}
 use Rattle.report_model.specs.Query.{Query, AreLocated, policy_of}
 use Rattle.report_model.specs.Rows.{row, rows_as_written}
 use Rattle.lists.specs.Sets.{Ascends, has, is_within}

@@ -4,8 +4,8 @@ use Rattle.flow_model.specs.declared.Loc.{Loc}
 use Rattle.flow_model.specs.declared.StepSeen.{StepSeen}
 use Rattle.flow_model.specs.Origins.{Policy, origins}
 use Rattle.flow_model.specs.Ranges.{IsInRange}
-use Rattle.flow_rule.specs.declared.Message.{Message}
-use Rattle.flow_rule.specs.declared.Message.TheVariants.{End}
+use Rattle.flow_model.specs.declared.Message.{Message}
+use Rattle.flow_model.specs.declared.Message.TheVariants.{End}
 use Rattle.report_model.specs.Query.{Query, AreLocated, policy_of}
 use Rattle.report_model.specs.Rows.{rows_as_written}
 use Rattle.epoch_model.specs.Cutting.{IsCutting}

@@ -1,6 +1,6 @@
 use Rattle.std.proofs.Common.{ap₂}
 use Rattle.epoch_link.specs.Ends.{Producing, Consuming}
-use Rattle.flow_rule.specs.declared.Message.{Message}
+use Rattle.flow_model.specs.declared.Message.{Message}
 use Rattle.epoch_layout.specs.declared.ends.Before.{Before}
 use Rattle.epoch_layout.specs.declared.ends.After.{After}
 use Rattle.epoch_layout.proofs.ends.join_two.Goals as goal

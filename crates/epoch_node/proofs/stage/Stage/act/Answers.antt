@@ -1,6 +1,6 @@
 use Rattle.std.proofs.Common.{List, refl, sym, subst}
 use Rattle.std.specs.Prelude.{Option}
-use Rattle.flow_rule.specs.declared.Message.{Message}
+use Rattle.flow_model.specs.declared.Message.{Message}
 use Rattle.pass_parts.specs.declared.pass_turn.PassTurn.{PassTurn}
 use Rattle.pass_parts.specs.Events.{IsEvent}
 use Rattle.backward_pass.specs.Backward.{BackView, back_of, backwards, Reached}

@@ -1,5 +1,5 @@
 use Rattle.std.proofs.Common.{List, ap, arith}
-use Rattle.flow_rule.specs.declared.Message.{Message}
+use Rattle.flow_model.specs.declared.Message.{Message}
 use Rattle.forward_pass.specs.Rest.{BeingSent}
 use Rattle.forward_pass.proofs.Lists.{byte_sent}
 use Rattle.forward_pass.proofs.sending.Sending.advance.Goals as goal

@@ -1,5 +1,5 @@
 use Rattle.std.proofs.Common.{ap, refl, ◌∙◌}
-use Rattle.flow_rule.specs.declared.Message.TheVariants.{End}
+use Rattle.flow_model.specs.declared.Message.TheVariants.{End}
 use Rattle.pass_parts.proofs.Events.{waits_at}
 use Rattle.pass_parts.specs.Ends.{through, with, IsRefused}
 use Rattle.forward_pass.specs.Forward.{ForeView, fore_of}
