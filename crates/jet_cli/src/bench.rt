@@ -39,12 +39,8 @@ fn workload_job(alloc: Global, seed: u64, steps: u64) -> Result<Job, Refusal>
     ensures err { IfErr result (λ r. (epoch : ℕ) → IsWorkOf (IsBenchAnswer seed steps epoch) (Err r)) }
 {
     let recording = recorded(alloc, seed, steps)?;
-    let Recording {
-        program,
-        image,
-        log,
-    } = recording;
-    fitted(alloc, &program, image, log)
+    let Recording { program, log } = recording;
+    fitted(alloc, program, log)
 }
 
 /// How many locations were asked at the cuts in all, or 2^64 - 1 where they are more.

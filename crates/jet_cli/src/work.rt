@@ -1,6 +1,5 @@
 //! The analysis of a run, of a program and a log that were read, and what is told of its rows.
 ghost use Rattle.std.specs.Prelude.{◌≡◌, ◌≤◌, Ok, Err, length, IfOk, IfErr, OnOk};
-ghost use Rattle.elf_model.specs.Image.{image as image_of_file};
 ghost use Rattle.replayer.specs.Checks.{IsChecked};
 ghost use Rattle.replayer.specs.Jobs.{trace_of};
 ghost use Rattle.report_model.specs.Rows.{rows};
@@ -14,7 +13,7 @@ ghost use Rattle.jet_work.specs.Texts.{text_of};
 use crate::engine::Engine;
 use crate::parts::part_for;
 use epoch_link::Capacity;
-use jet_files::{Program, Run};
+use jet_files::Run;
 use jet_refusal::Refusal;
 use jet_words::Pipeline;
 use jet_work::{Answer, Telling, fitted, own_parts, told, union_of};
@@ -35,7 +34,6 @@ fn analysed_run<R: Threads + Wait + Sync, G: Gate>(
     query: &Query,
     pipeline: Pipeline,
 ) -> Result<(Job, Report), Refusal>
-    requires image { image_of_file run.program.bytes.items ≡ Ok run.program.image }
     requires pipeline { IsPipeline pipeline }
     ensures checked { IfOk result (λ r. IsChecked run.program.bytes.items run.program.image run.log r.0) }
     ensures few { OnOk result (told_check pipeline.epoch run.log ≡ Ok tt) }
@@ -43,15 +41,13 @@ fn analysed_run<R: Threads + Wait + Sync, G: Gate>(
     ensures err { IfErr result (λ r. IsWork (fits_and_is_cut pipeline.epoch (run_of run)) (Err r)) }
 {
     let Run { program, log } = run;
-    let Program { bytes, image } = program;
     match part_for(&log, query, pipeline) {
         Ok(part) => {
             let found = check_and_query(
                 engine.rt,
                 engine.alloc,
                 engine.gate,
-                &bytes,
-                image,
+                program,
                 log,
                 query,
                 part,
@@ -61,7 +57,7 @@ fn analysed_run<R: Threads + Wait + Sync, G: Gate>(
             Ok(found)
         }
         Err(refusal) => {
-            let _job = fitted(engine.alloc, &bytes, image, log)?;
+            let _job = fitted(engine.alloc, program, log)?;
             Err(refusal)
         }
     }
@@ -75,7 +71,6 @@ pub fn tell<R: Threads + Wait + Sync, G: Gate>(
     telling: Telling,
     pipeline: Pipeline,
 ) -> Result<Answer, Refusal>
-    requires image { image_of_file run.program.bytes.items ≡ Ok run.program.image }
     requires pipeline { IsPipeline pipeline }
     ensures answer { IsWorkOf (IsGivenAlike (telling_text telling) pipeline.epoch (run_of run) query.now)
         (seen_by text_of result) }
@@ -95,7 +90,6 @@ pub fn reports<R: Threads + Wait + Sync, G: Gate>(
     queries: &[Query],
     pipeline: Pipeline,
 ) -> Result<Answer, Refusal>
-    requires image { image_of_file run.program.bytes.items ≡ Ok run.program.image }
     requires some { 1 ≤ length queries.now }
     requires few { length queries.now ≤ 16 }
     requires pipeline { IsPipeline pipeline }

@@ -1,5 +1,5 @@
 -- Programs and runs, as the definitions see them.
-use Rattle.jet_files.specs.declared.opening.Program.{Program as Opened}
+use Rattle.elf_image.specs.declared.program.Program.{Program as Opened}
 use Rattle.jet_files.specs.declared.opening.Run.{Run as OpenedRun}
 use Rattle.jet_model.specs.Contents.{Program, Run}
 

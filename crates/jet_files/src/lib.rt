@@ -10,7 +10,8 @@ mod opening;
 mod queries;
 mod reading;
 
+pub use elf_image::Program;
 pub use inputs::open_inputs;
-pub use opening::{Program, Run, open_log, open_program, open_query, open_run};
+pub use opening::{Run, open_log, open_program, open_query, open_run};
 pub use queries::open_queries;
 pub use reading::{LONGEST_FILE, read_file};

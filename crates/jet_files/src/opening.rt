@@ -1,25 +1,17 @@
 //! Programs, logs and queries, read from their files.
-ghost use Rattle.std.specs.Prelude.{◌≡◌, ◌≤◌, ◌^◌, ◌∷◌, [], true, Ok, length, is_ok, IfOk};
-ghost use Rattle.elf_model.specs.Image.{image as image_of_file};
+ghost use Rattle.std.specs.Prelude.{◌≡◌, ◌≤◌, ◌^◌, ◌∷◌, [], true, length, is_ok, IfOk};
 ghost use Rattle.outer_io.specs.Reads.{Reads};
 ghost use Rattle.jet_model.specs.Contents.{log_in, program_at, log_at, query_at, run_at};
 ghost use Rattle.jet_files.specs.Outcome.{Comes, Follows, IsWork, AreAlike, seen_by};
 ghost use Rattle.jet_files.specs.Views.{program_of, run_of};
 
 use crate::reading::read_file;
-use elf_image::{Image, load};
+use elf_image::Program;
 use jet_refusal::Refusal;
 use outer_io::Store;
 use query_lang::{Query, parse};
 use replay_log::{Log, read_log};
 use std::alloc::Global;
-
-/// A program's file and its image.
-#[derive(Drop)]
-pub struct Program {
-    pub bytes: Vec<u8>,
-    pub image: Image,
-}
 
 /// A program and a log.
 #[derive(Drop)]
@@ -40,13 +32,12 @@ fn log_of(alloc: Global, bytes: &[u8]) -> Result<Log, Refusal>
 pub fn open_program<S: Store>(alloc: Global, store: &mut S, name: &str) -> Result<Program, Refusal>
     ensures outcome { Comes (λ file. program_at file name.now) (S.shown store.old) (S.shown store.new)
         (seen_by program_of result) }
-    ensures loads { IfOk result (λ p. image_of_file p.bytes.items ≡ Ok p.image) }
     ensures short { IfOk result (λ p. length p.bytes.items ≤ 2 ^ 26) }
     ensures reads { Reads (name.now ∷ []) true (S.shown store.old) (S.shown store.new) }
 {
     let bytes = read_file(alloc, store, name)?;
-    let image = load(alloc, &bytes)?;
-    Ok(Program { bytes, image })
+    let program = Program::load(alloc, bytes)?;
+    Ok(program)
 }
 
 /// Reads a log. It gives up as `read_file` does, or with `Log`, the first fault of bytes that are none.
@@ -67,7 +58,6 @@ pub fn open_run<S: Store>(
 ) -> Result<Run, Refusal>
     ensures outcome { Comes (λ file. run_at file program.now log.now) (S.shown store.old) (S.shown store.new)
         (seen_by run_of result) }
-    ensures loads { IfOk result (λ run. image_of_file run.program.bytes.items ≡ Ok run.program.image) }
     ensures short { IfOk result (λ run. length run.program.bytes.items ≤ 2 ^ 26) }
     ensures reads { Reads (program.now ∷ log.now ∷ []) (is_ok result) (S.shown store.old) (S.shown store.new) }
 {

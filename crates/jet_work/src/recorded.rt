@@ -1,7 +1,6 @@
 //! The command `record`: a program is run over its inputs, and the log of the run is made.
-ghost use Rattle.std.specs.Prelude.{◌≡◌, ◌≤◌, ◌^◌, ◌∷◌, [], Ok, length, map, is_ok, IfErr};
+ghost use Rattle.std.specs.Prelude.{◌≡◌, ◌≤◌, ◌^◌, ◌∷◌, [], length, map, is_ok, IfErr};
 ghost use Rattle.std.specs.List.{All};
-ghost use Rattle.elf_model.specs.Image.{image as image_of_file};
 ghost use Rattle.outer_io.specs.Reads.{Reads};
 ghost use Rattle.call_record.specs.Sources.{contents};
 ghost use Rattle.jet_files.specs.Outcome.{Follows, seen_by, bytes_of};
@@ -35,7 +34,6 @@ fn log_text<K: Clock>(
     inputs: &[Vec<u8>],
     limits: Limits,
 ) -> Result<Vec<u8>, Refusal>
-    requires image { image_of_file program.now.bytes.items ≡ Ok program.now.image }
     requires some { 1 ≤ limits.pages }
     requires most { limits.pages ≤ 4096 }
     requires steps { limits.steps ≤ 2 ^ 40 }

@@ -1,13 +1,12 @@
 //! The work over a program and a log that were read, but for the analysis of the run: the log is fitted to its program, the
 //! run is replayed, and a text, or what a text is made of, is found.
-ghost use Rattle.std.specs.Prelude.{◌≡◌, None, Ok, Err, IfOk, IfErr};
-ghost use Rattle.elf_model.specs.Image.{image as image_of_file};
+ghost use Rattle.std.specs.Prelude.{◌≡◌, None, Err, IfOk, IfErr};
 ghost use Rattle.replayer.specs.Checks.{IsChecked};
 ghost use Rattle.replayer.specs.Jobs.{trace_of};
 ghost use Rattle.report_model.specs.Rows.{rows};
 ghost use Rattle.jet_model.specs.Answer.{fitting_start, text_answer};
 ghost use Rattle.jet_files.specs.Outcome.{IsWork, seen_by, bytes_of};
-ghost use Rattle.jet_files.specs.Views.{run_of};
+ghost use Rattle.jet_files.specs.Views.{program_of, run_of};
 ghost use Rattle.jet_work.specs.Answers.{IsWorkOf, IsGivenAlike, telling_text, made_by};
 ghost use Rattle.jet_work.specs.Answers.{conversion_of, decisions_by, IsPageWhole};
 ghost use Rattle.jet_work.specs.Texts.{text_of};
@@ -18,7 +17,6 @@ use crate::pieces::Answer;
 use call_list::calls_text;
 use call_stack::stack_text;
 use decision_find::decisions;
-use elf_image::Image;
 use jet_files::{LONGEST_FILE, Program, Run};
 use jet_refusal::Refusal;
 use jet_words::{Listing, Product};
@@ -42,25 +40,22 @@ pub enum Telling {
 }
 
 /// The log fitted to its program.
-pub fn fitted(alloc: Global, program: &[u8], image: Image, log: Log) -> Result<Job, Refusal>
-    requires image { image_of_file program.now ≡ Ok image }
-    ensures ok { IfOk result (λ job. IsChecked program.now image log job) }
-    ensures err { IfErr result (λ r.
-        IsWork (fitting_start (record { bytes = program.now; image = image }) log) (Err r)) }
+pub fn fitted(alloc: Global, program: Program, log: Log) -> Result<Job, Refusal>
+    ensures ok { IfOk result (λ job. IsChecked program.bytes.items program.image log job) }
+    ensures err { IfErr result (λ r. IsWork (fitting_start (program_of program) log) (Err r)) }
 {
-    let job = Job::check(alloc, program, image, log)?;
+    let Program { bytes, image } = program;
+    let job = Job::check(alloc, &bytes, image, log)?;
     Ok(job)
 }
 
 /// A run whose log fits its program.
 fn fitted_run(alloc: Global, run: Run) -> Result<Job, Refusal>
-    requires image { image_of_file run.program.bytes.items ≡ Ok run.program.image }
     ensures ok { IfOk result (λ job. IsChecked run.program.bytes.items run.program.image run.log job) }
     ensures err { IfErr result (λ r. IsWork (fitting_start (run_of run).program run.log) (Err r)) }
 {
     let Run { program, log } = run;
-    let Program { bytes, image } = program;
-    fitted(alloc, &bytes, image, log)
+    fitted(alloc, program, log)
 }
 
 /// What is told of the rows of a query. It gives up with NoMemory alone.
@@ -98,7 +93,6 @@ pub fn told(
 
 /// Where a source byte of a query could turn the run, for each query that this one stands for.
 pub fn decide(alloc: Global, run: Run, query: &Query) -> Result<Vec<u8>, Refusal>
-    requires image { image_of_file run.program.bytes.items ≡ Ok run.program.image }
     ensures { IsWorkOf (IsGivenAlike decisions_by None (run_of run) query.now) (seen_by bytes_of result) }
 {
     let job = fitted_run(alloc, run)?;
@@ -121,7 +115,6 @@ fn made(alloc: Global, job: &Job, product: Product) -> Result<Vec<u8>, NoMemory>
 
 /// What is made of the run without a query.
 pub fn make(alloc: Global, run: Run, product: Product) -> Result<Vec<u8>, Refusal>
-    requires image { image_of_file run.program.bytes.items ≡ Ok run.program.image }
     ensures { IsWork (text_answer (run_of run) (made_by product)) (seen_by bytes_of result) }
 {
     let job = fitted_run(alloc, run)?;
@@ -131,7 +124,6 @@ pub fn make(alloc: Global, run: Run, product: Product) -> Result<Vec<u8>, Refusa
 
 /// The log of the run in version 2. It gives up with `LogTooLong`, where that has more than 2^26 bytes.
 pub fn conversion(alloc: Global, run: Run) -> Result<Vec<u8>, Refusal>
-    requires image { image_of_file run.program.bytes.items ≡ Ok run.program.image }
     ensures { IsWork (conversion_of (run_of run)) (seen_by bytes_of result) }
 {
     let job = fitted_run(alloc, run)?;

@@ -3,7 +3,7 @@
 ghost use Rattle.std.specs.Prelude.{◌≡◌, IfOk};
 ghost use Rattle.workload_model.specs.Guest.{guest_file, guest_image};
 
-use elf_image::{Image, load};
+use elf_image::Program;
 use guest_assembler::{Instr, code, program};
 use no_memory::{Fault, NoMemory};
 use std::alloc::Global;
@@ -60,13 +60,14 @@ pub fn guest_file(alloc: Global) -> Result<Vec<u8>, NoMemory>
     Ok(program(alloc, GUEST)?)
 }
 
-/// The image of that file. It gives up with NoMemory alone.
-pub fn guest_image(alloc: Global, file: &[u8]) -> Result<Image, NoMemory>
-    requires { file.now ≡ guest_file }
-    ensures { IfOk result (λ image. image ≡ guest_image) }
+/// The guest. It gives up with NoMemory alone.
+pub fn guest_program(alloc: Global) -> Result<Program, NoMemory>
+    ensures file { IfOk result (λ program. program.bytes.items ≡ guest_file) }
+    ensures image { IfOk result (λ program. program.image ≡ guest_image) }
 {
-    match load(alloc, file) {
-        Ok(image) => Ok(image),
+    let file = guest_file(alloc)?;
+    match Program::load(alloc, file) {
+        Ok(program) => Ok(program),
         Err(Fault::NoMemory(no_memory)) => Err(no_memory),
         Err(Fault::At(_)) => unreachable!(),
     }

@@ -13,7 +13,7 @@ mod queries;
 mod recording;
 
 pub use generator::input;
-pub use guest::{guest_file, guest_image};
+pub use guest::{guest_file, guest_program};
 pub use lines::text_of;
 pub use queries::query;
 pub use recording::{MOST_STEPS, Recording, recorded};

@@ -10,9 +10,9 @@ ghost use Rattle.order_gateway.specs.Recordings.{IsCause};
 
 use crate::clock::StoppedClock;
 use crate::generator::input;
-use crate::guest::{guest_file, guest_image};
+use crate::guest::guest_program;
 use call_record::{CaptureFault, Unrecorded, capture};
-use elf_image::Image;
+use elf_image::Program;
 use no_memory::Fault;
 use replay_log::Log;
 use std::alloc::Global;
@@ -26,11 +26,10 @@ const PAGES: u32 = 4;
 /// How many bytes a read gets at most.
 const PIECE: u32 = 16_777_216;
 
-/// The guest's program file and its image, and the log of its run.
+/// The guest, and the log of its run.
 #[derive(Drop)]
 pub struct Recording {
-    pub program: Vec<u8>,
-    pub image: Image,
+    pub program: Program,
     pub log: Log,
 }
 
@@ -40,27 +39,29 @@ pub struct Recording {
 /// where they are more.
 pub fn recorded(alloc: Global, seed: u64, steps: u64) -> Result<Recording, CaptureFault>
     requires { steps ≤ MOST_STEPS }
-    ensures program { IfOk result (λ run. run.program.items ≡ guest_file) }
-    ensures image { IfOk result (λ run. run.image ≡ guest_image) }
+    ensures program { IfOk result (λ run. run.program.bytes.items ≡ guest_file) }
+    ensures image { IfOk result (λ run. run.program.image ≡ guest_image) }
     ensures log { IfOk result (λ run. IsWorkloadLog seed steps run.log) }
     ensures short { IfOk result (λ run. length (log_text Two run.log) ≤ 2 ^ 26) }
     ensures held { IfOk result (λ run. CanHold Two run.log) }
     ensures cause { IfErr result (IsCausedBy (IsCause seed steps)) }
 {
-    let program = guest_file(alloc)?;
-    let image = guest_image(alloc, &program)?;
+    let program = guest_program(alloc)?;
     let inputs = [input(alloc, seed, steps)?];
     let mut clock = StoppedClock::new();
     match capture(
-        alloc, &program, &image, PAGES, &inputs, &mut clock, PIECE, steps,
+        alloc,
+        &program.bytes,
+        &program.image,
+        PAGES,
+        &inputs,
+        &mut clock,
+        PIECE,
+        steps,
     ) {
         Ok(log) => {
             clock.counted()?;
-            Ok(Recording {
-                program,
-                image,
-                log,
-            })
+            Ok(Recording { program, log })
         }
         Err(Fault::At(Unrecorded::LogTooLong(size))) => {
             clock.counted()?;

@@ -1,8 +1,7 @@
 //! What a query needs of a run, made while its log is checked.
 
-ghost use Rattle.std.specs.Prelude.{◌≡◌, IfOk, IfErr, Ok};
+ghost use Rattle.std.specs.Prelude.{◌≡◌, IfOk, IfErr};
 ghost use Rattle.log_model.specs.Logs.{steps};
-ghost use Rattle.elf_model.specs.Image.{image as image_of_file};
 ghost use Rattle.epoch_model.specs.Cutting.{IsCutting};
 ghost use Rattle.no_memory.specs.Faults.{IsCausedBy};
 ghost use Rattle.replayer.specs.Checks.{IsChecked, IsMisfit};
@@ -10,7 +9,7 @@ ghost use Rattle.seq_taint.specs.Runs.{AreSinksOfRun};
 ghost use Rattle.query_parts.specs.Preparing.{AreTakenFor, IsPrepared, cuts_of};
 
 use checkpoints::CheckpointTaker;
-use elf_image::Image;
+use elf_image::Program;
 use epoch_cut::Cuts;
 use outer_io::Gate;
 use query_lang::Query;
@@ -35,33 +34,30 @@ pub enum Found {
     Parts(CheckpointTaker),
 }
 
-/// Checks that a log fits a program, of which `image` is the image, and finds in the same replay what the query needs of
-/// the run, which is cut so. One epoch alone is analysed, and enters the gate before.
+/// Checks that a log fits a program, and finds in the same replay what the query needs of the run, which is cut so. One epoch alone is analysed, and enters the gate before.
 ///
 /// The fault is that of [`Job::check`]: the first misfit that holds, or out of memory.
 pub fn check_for<G: Gate>(
     alloc: Global,
     gate: &G,
-    program: &[u8],
-    image: Image,
+    program: Program,
     log: Log,
     query: &Query,
     cuts: Cuts,
 ) -> Result<(Job, Prepared), CheckFault>
-    requires image { image_of_file program.now ≡ Ok image }
     requires cuts { IsCutting (steps log) cuts }
-    ensures checked { IfOk result (λ r. IsChecked program.now image log r.0) }
+    ensures checked { IfOk result (λ r. IsChecked program.bytes.items program.image log r.0) }
     ensures prepared { IfOk result (λ r. IsPrepared query.now r.0 r.1) }
     ensures cuts { IfOk result (λ r. cuts_of r.1 ≡ cuts) }
-    ensures fault { IfErr result (IsCausedBy (IsMisfit program.now image log)) }
+    ensures fault { IfErr result (IsCausedBy (IsMisfit program.bytes.items program.image log)) }
 {
     if cuts.count() == 1 {
         gate.enter(0);
-        let (job, sinks) = check_whole(alloc, program, image, log, query)?;
+        let (job, sinks) = check_whole(alloc, program, log, query)?;
         let found = Found::Whole(sinks);
         return Ok((job, Prepared { cuts, found }));
     }
-    let (job, taker) = check_parts(alloc, program, image, log, &cuts)?;
+    let (job, taker) = check_parts(alloc, program, log, &cuts)?;
     let found = Found::Parts(taker);
     Ok((job, Prepared { cuts, found }))
 }
@@ -69,18 +65,17 @@ pub fn check_for<G: Gate>(
 /// The log checked, and the sinks of the run.
 fn check_whole(
     alloc: Global,
-    program: &[u8],
-    image: Image,
+    program: Program,
     log: Log,
     query: &Query,
 ) -> Result<(Job, LabelledSinks), CheckFault>
-    requires { image_of_file program.now ≡ Ok image }
-    ensures checked { IfOk result (λ r. IsChecked program.now image log r.0) }
+    ensures checked { IfOk result (λ r. IsChecked program.bytes.items program.image log r.0) }
     ensures sinks { IfOk result (λ r. AreSinksOfRun query.now r.0 r.1) }
-    ensures fault { IfErr result (IsCausedBy (IsMisfit program.now image log)) }
+    ensures fault { IfErr result (IsCausedBy (IsMisfit program.bytes.items program.image log)) }
 {
     let mut watching = watching(alloc, query)?;
-    let job = Job::check_watched(alloc, program, image, log, &mut watching)?;
+    let Program { bytes, image } = program;
+    let job = Job::check_watched(alloc, &bytes, image, log, &mut watching)?;
     let sinks = LabelledSinks::of(watching)?;
     Ok((job, sinks))
 }
@@ -88,17 +83,16 @@ fn check_whole(
 /// The log checked, and the checkpoints at the cuts of the run taken.
 fn check_parts(
     alloc: Global,
-    program: &[u8],
-    image: Image,
+    program: Program,
     log: Log,
     cuts: &Cuts,
 ) -> Result<(Job, CheckpointTaker), CheckFault>
-    requires { image_of_file program.now ≡ Ok image }
-    ensures checked { IfOk result (λ r. IsChecked program.now image log r.0) }
+    ensures checked { IfOk result (λ r. IsChecked program.bytes.items program.image log r.0) }
     ensures taken { IfOk result (λ r. AreTakenFor cuts.now r.0 r.1) }
-    ensures fault { IfErr result (IsCausedBy (IsMisfit program.now image log)) }
+    ensures fault { IfErr result (IsCausedBy (IsMisfit program.bytes.items program.image log)) }
 {
     let mut taker = CheckpointTaker::new(alloc, cuts)?;
-    let job = Job::check_watched(alloc, program, image, log, &mut taker)?;
+    let Program { bytes, image } = program;
+    let job = Job::check_watched(alloc, &bytes, image, log, &mut taker)?;
     Ok((job, taker))
 }

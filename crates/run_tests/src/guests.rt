@@ -1,9 +1,6 @@
 //! Programs, each with the log of a run of it.
 
-ghost use Rattle.std.specs.Prelude.{◌≡◌, Ok};
-ghost use Rattle.elf_model.specs.Image.{image as image_of_file};
-
-use elf_image::{Image, load};
+use elf_image::Program;
 use guest_assembler::{Instr, code, program};
 use replay_log::{Log, read_log};
 use replayer::Job;
@@ -26,28 +23,26 @@ fn log_of(rt: &impl Abort, alloc: Global, file: &[u8], log: &[u8]) -> Log {
     read_log(alloc, &bytes).expect(rt, "a log")
 }
 
-/// A program's file and image, and the log of a run of it.
+/// A program, and the log of a run of it.
 #[derive(Drop)]
 pub struct Recorded {
-    pub file: Vec<u8>,
-    pub image: Image,
+    pub program: Program,
     pub log: Log,
 }
 
 /// A program with such a log.
-fn record(rt: &impl Abort, alloc: Global, code: &[Instr], log: &[u8]) -> Recorded
-    ensures { image_of_file result.file.items ≡ Ok result.image }
-{
+fn record(rt: &impl Abort, alloc: Global, code: &[Instr], log: &[u8]) -> Recorded {
     let file = program(alloc, code).expect(rt, "a program");
-    let image = load(alloc, &file).expect(rt, "an image");
     let log = log_of(rt, alloc, &file, log);
-    Recorded { file, image, log }
+    let program = Program::load(alloc, file).expect(rt, "an image");
+    Recorded { program, log }
 }
 
 /// The same, checked.
 fn job_of(rt: &impl Abort, alloc: Global, code: &[Instr], log: &[u8]) -> Job {
-    let Recorded { file, image, log } = record(rt, alloc, code, log);
-    Job::check(alloc, &file, image, log).expect(rt, "a log that fits")
+    let Recorded { program, log } = record(rt, alloc, code, log);
+    let Program { bytes, image } = program;
+    Job::check(alloc, &bytes, image, log).expect(rt, "a log that fits")
 }
 
 const COPY_FOUR: &[Instr] = &code![
@@ -76,9 +71,7 @@ pub fn copy_four(rt: &impl Abort, alloc: Global) -> Job {
 }
 
 /// The same, with its log not yet checked.
-pub fn copy_four_recorded(rt: &impl Abort, alloc: Global) -> Recorded
-    ensures { image_of_file result.file.items ≡ Ok result.image }
-{
+pub fn copy_four_recorded(rt: &impl Abort, alloc: Global) -> Recorded {
     record(rt, alloc, COPY_FOUR, COPY_FOUR_LOG)
 }
 

@@ -25,10 +25,10 @@ fn answer_prepared<G: Gate, R: Threads + Wait + Abort + Sync>(
     length: u64,
 ) -> Answer {
     assert!(rt; 1 <= length);
-    let Recorded { file, image, log } = copy_four_recorded(rt, alloc);
+    let Recorded { program, log } = copy_four_recorded(rt, alloc);
     cut_times_are_cutting();
     let cuts = cuts(steps_of(&log), length).expect(rt, "few epochs");
-    let checked = check_for(alloc, gate, &file, image, log, wanted, cuts);
+    let checked = check_for(alloc, gate, program, log, wanted, cuts);
     let (job, prepared) = checked.expect(rt, "a log that fits");
     let Line { workers, capacity } = ALONE;
     let capacity = Capacity::of(capacity);

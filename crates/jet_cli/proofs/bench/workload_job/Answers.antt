@@ -1,23 +1,18 @@
-use Rattle.std.proofs.Common.{◌∙◌, ap, sym, Ok, Err}
+use Rattle.std.proofs.Common.{Err}
 use Rattle.std.proofs.lemmas.Result.{IfOk-weaker, IfErr-weaker, err_from_is_err_and}
-use Rattle.elf_model.specs.Image.{image}
 use Rattle.workload_model.specs.Answer.{IsBenchAnswer}
-use Rattle.workload_model.proofs.Guests.{guest-image}
 use Rattle.jet_cli.proofs.Benching.{checked-is_job, fitted-stops, recording-stops}
 use Rattle.jet_cli.proofs.bench.workload_job.Goals as goal
 
-pub fitted-requires : goal.fitted-requires
-fitted-requires c = record { image = ap image (c.deref.ensures.value ∙ c.in_ok-recording.ensures.program) ∙ guest-image ∙ ap Ok (sym c.in_ok-recording.ensures.image) }
-
 pub returns-clause-ok : goal.returns-clause-ok
 returns-clause-ok c =
-    IfOk-weaker c.fitted.result _ _ (λ job checked. checked-is_job c.args.seed c.args.steps c.deref.result.now c.in_ok-recording.recording.image c.in_ok-recording.recording.log job c.in_ok-recording.ensures.image c.in_ok-recording.ensures.log c.in_ok-recording.ensures.short checked)
+    IfOk-weaker c.fitted.result _ _ (λ job checked. checked-is_job c.args.seed c.args.steps c.in_ok-recording.recording.program.bytes.items c.in_ok-recording.recording.program.image c.in_ok-recording.recording.log job c.in_ok-recording.ensures.image c.in_ok-recording.ensures.log c.in_ok-recording.ensures.short checked)
     c.fitted.ensures.ok
 
 pub returns-clause-err : goal.returns-clause-err
 returns-clause-err c =
     IfErr-weaker c.fitted.result _ _ (λ r stops epoch.
-    fitted-stops (IsBenchAnswer c.args.seed c.args.steps epoch (Err r)) c.deref.result.now c.in_ok-recording.recording.image c.in_ok-recording.recording.log r (c.deref.ensures.value ∙ c.in_ok-recording.ensures.program) c.in_ok-recording.ensures.image c.in_ok-recording.ensures.log.recorded.fits stops)
+    fitted-stops (IsBenchAnswer c.args.seed c.args.steps epoch (Err r)) c.in_ok-recording.recording.program.bytes.items c.in_ok-recording.recording.program.image c.in_ok-recording.recording.log r c.in_ok-recording.ensures.program c.in_ok-recording.ensures.image c.in_ok-recording.ensures.log.recorded.fits stops)
     c.fitted.ensures.err
 
 pub returns-in_err-recording-clause-err : goal.returns-in_err-recording-clause-err

@@ -1,5 +1,6 @@
-use Rattle.std.proofs.Common.{inl, inr, subst, List, ℕ}
+use Rattle.std.proofs.Common.{◌∙◌, ap, inl, inr, subst, List, ℕ}
 use Rattle.std.proofs.lemmas.Result.{err_from_is_err_and}
+use Rattle.elf_model.specs.Image.{image}
 use Rattle.no_memory.specs.Faults.{IsCausedBy}
 use Rattle.call_record.specs.Captures.{IsCaptured, IsCause, setting_of as captured_setting}
 use Rattle.call_record.specs.Sources.{contents}
@@ -9,6 +10,9 @@ use Rattle.jet_work.specs.Answers.{limits_of}
 use Rattle.jet_work.proofs.Recording.{captured-text, not_captured, not_read}
 use Rattle.jet_work.proofs.recorded.log_text.Goals as goal
 
+pub capture-requires-clause-image : goal.capture-requires-clause-image
+capture-requires-clause-image g c = ap image c.deref.ensures.value ∙ c.args.program.now.loads
+
 pub returns-clause-answer : goal.returns-clause-answer
 returns-clause-answer g c =
     let a = c.args in
@@ -17,7 +21,7 @@ returns-clause-answer g c =
     let heard = g.K.Clock.answers a.clock.now in
     let after = g.K.Clock.answers c.capture.new.clock in
     let captured = subst (λ (bytes : List ℕ). IsCaptured (captured_setting bytes a.limits.pages a.inputs.now a.limits.piece a.limits.steps) heard after c.in_ok-log.log) c.deref.ensures.value c.in_ok-log.ensures.captured in
-    captured-text source limits heard after c.requires.image c.in_ok-log.log _ captured c.in_ok-log.ensures.small c.in_ok-text.ensures
+    captured-text source limits heard after c.args.program.now.loads c.in_ok-log.log _ captured c.in_ok-log.ensures.small c.in_ok-text.ensures
 
 pub returns-in_err-log-clause-answer : goal.returns-in_err-log-clause-answer
 returns-in_err-log-clause-answer g c =
@@ -28,7 +32,7 @@ returns-in_err-log-clause-answer g c =
     let after = g.K.Clock.answers c.capture.new.clock in
     let cause = subst (λ (bytes : List ℕ). IsCausedBy (IsCause (captured_setting bytes a.limits.pages a.inputs.now a.limits.piece a.limits.steps) a.program.now.image heard after) c.in_err-log.field-0.0) c.deref.ensures.value c.in_err-log.ensures.cause in
     let p = err_from_is_err_and c.from_residual.result c.from_residual.ensures.1 in
-    rw p.1 (not_captured source limits heard after c.requires.image c.in_err-log.field-0.0 _ cause p.2)
+    rw p.1 (not_captured source limits heard after c.args.program.now.loads c.in_err-log.field-0.0 _ cause p.2)
 
 pub returns-in_err-log-clause-unasked : goal.returns-in_err-log-clause-unasked
 returns-in_err-log-clause-unasked g c =
@@ -39,7 +43,7 @@ returns-in_err-log-clause-unasked g c =
     let after = g.K.Clock.answers c.capture.new.clock in
     let cause = subst (λ (bytes : List ℕ). IsCausedBy (IsCause (captured_setting bytes a.limits.pages a.inputs.now a.limits.piece a.limits.steps) a.program.now.image heard after) c.in_err-log.field-0.0) c.deref.ensures.value c.in_err-log.ensures.cause in
     let p = err_from_is_err_and c.from_residual.result c.from_residual.ensures.1 in
-    rw p.1 (not_read source limits heard after c.requires.image c.in_err-log.field-0.0 _ cause p.2)
+    rw p.1 (not_read source limits heard after c.args.program.now.loads c.in_err-log.field-0.0 _ cause p.2)
 
 pub returns-in_err-text-clause-unasked : goal.returns-in_err-text-clause-unasked
 returns-in_err-text-clause-unasked g c =

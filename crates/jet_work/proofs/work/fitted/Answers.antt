@@ -1,8 +1,18 @@
+use Rattle.std.proofs.Common.{◌∙◌, ap, subst, List, ℕ}
 use Rattle.std.proofs.lemmas.Result.{err_from_is_err_and}
+use Rattle.elf_model.specs.Image.{image}
+use Rattle.no_memory.specs.Faults.{IsCausedBy}
+use Rattle.replayer.specs.Checks.{IsMisfit}
+use Rattle.jet_files.specs.Views.{program_of}
 use Rattle.jet_work.proofs.Refused.{misfit-stops}
 use Rattle.jet_work.proofs.work.fitted.Goals as goal
 
+pub check-requires : goal.check-requires
+check-requires c = ap image c.deref.ensures.value ∙ c.args.program.loads
+
 pub returns-in_err-job-clause-err : goal.returns-in_err-job-clause-err
 returns-in_err-job-clause-err c =
+    let program = program_of c.args.program in
     let p = err_from_is_err_and c.from_residual.result c.from_residual.ensures.1 in
-    rw p.1 (misfit-stops (record { bytes = c.args.program.now; image = c.args.image }) c.args.log c.in_err-job.field-0.0 _ c.in_err-job.ensures.fault p.2)
+    let fault = subst (λ (bytes : List ℕ). IsCausedBy (IsMisfit bytes program.image c.args.log) c.in_err-job.field-0.0) c.deref.ensures.value c.in_err-job.ensures.fault in
+    rw p.1 (misfit-stops program c.args.log c.in_err-job.field-0.0 _ fault p.2)
