@@ -6,7 +6,7 @@ use Rattle.std.specs.List.{AllByRecursion, flat_map, sum_by}
 use Rattle.std.proofs.lemmas.List.Sums.{sum_by-cons}
 use Rattle.flow_model.specs.declared.Loc.{Loc}
 use Rattle.flow_model.specs.declared.Message.{Message}
-use Rattle.flow_model.specs.declared.Message.TheVariants.{Ask, Byte, Close, End}
+use Rattle.flow_model.specs.declared.Message.TheVariants.{End}
 use Rattle.report_model.specs.Rows.{Row}
 use Rattle.replayer.specs.Jobs.{trace_of}
 use Rattle.sink_collect.specs.Pairs.{capped}

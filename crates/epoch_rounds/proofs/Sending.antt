@@ -3,7 +3,6 @@ use Rattle.std.proofs.Common.{◌≡◌, inl, List, ◌∷◌, refl, ap, ap₂, 
 use Rattle.std.specs.Prelude.{Option, Some, None, is_none}
 use Rattle.flow_model.specs.declared.Loc.{Loc}
 use Rattle.flow_model.specs.declared.Message.{Message}
-use Rattle.flow_model.specs.declared.Message.TheVariants.{Ask, Byte, Close, End}
 use Rattle.epoch_model.specs.Summary.{Summary}
 use Rattle.stream_model.specs.Streams.{requests, asks_for, answers_for, asked_of}
 use Rattle.stream_model.specs.StreamLaws.{IsPrefix}

@@ -1,5 +1,6 @@
-use Rattle.std.proofs.Common.{inl, inr, subst, List, ℕ}
+use Rattle.std.proofs.Common.{◌∙◌, ap, inl, inr, subst, List, ℕ}
 use Rattle.std.proofs.lemmas.Result.{err_from_is_err_and}
+use Rattle.elf_model.specs.Image.{image}
 use Rattle.no_memory.specs.Faults.{IsCausedBy}
 use Rattle.call_record.specs.Captures.{IsCaptured, IsCause, setting_of as captured_setting}
 use Rattle.call_record.specs.Sources.{contents}
@@ -8,6 +9,9 @@ use Rattle.jet_files.specs.Views.{program_of}
 use Rattle.jet_work.specs.Answers.{limits_of}
 use Rattle.jet_work.proofs.Recording.{captured-text, not_captured, not_read}
 use Rattle.jet_work.proofs.recorded.log_text.Goals as goal
+
+pub capture-requires-clause-image : goal.capture-requires-clause-image
+capture-requires-clause-image g c = ap image c.deref.ensures.value ∙ c.args.program.now.loads
 
 pub returns-clause-answer : goal.returns-clause-answer
 returns-clause-answer g c =
