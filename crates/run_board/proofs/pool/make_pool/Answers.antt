@@ -66,3 +66,24 @@ returns-clause-starts g c =
     let own : W = record { pass = c.loop-finished.pass; finished = c.in-Some.last } in
     let known = (view c.args.pass).starts in
     subst (All (KnowsStarts known)) (sym c.push_reserved-2.ensures.items) (All-push (KnowsStarts known) c.loop-finished.pool.items own i.starts (ap (λ (v : V). v.starts) i.view_is))
+
+pub another-share-requires-clause-queue : goal.another-share-requires-clause-queue
+another-share-requires-clause-queue g c = c.loop-finished.invariant.pass
+
+pub push_reserved-requires : goal.push_reserved-requires
+push_reserved-requires g c = omega (arith, c.loop-finished.invariant.room)
+
+pub loop-finished-smaller : goal.loop-finished-smaller
+loop-finished-smaller g c = omega (arith, c.in-Some-finished.ensures.steps.1)
+
+pub push_reserved-requires-2 : goal.push_reserved-requires-2
+push_reserved-requires-2 g c = omega (arith, c.loop-finished.invariant.room)
+
+pub returns-clause-some : goal.returns-clause-some
+returns-clause-some g c = omega (arith, c.push_reserved-2.ensures.len)
+
+pub returns-clause-shares : goal.returns-clause-shares
+returns-clause-shares g c =
+    let W : Type 0 = Worker g.row.T.Denot in
+    let own : W = record { pass = c.loop-finished.pass; finished = c.in-Some.last } in
+    omega (arith, c.loop-finished.invariant.shares, ap (λ (l : List W). shares_of l) c.push_reserved-2.ensures.items, shares_of-push c.loop-finished.pool.items own)
