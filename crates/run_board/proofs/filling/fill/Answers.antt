@@ -1,4 +1,4 @@
-use Rattle.std.proofs.Common.{◌≡◌, List, [], ◌∷◌, ◌++◌, length, sym, ap, ◌∙◌, append_assoc, arith}
+use Rattle.std.proofs.Common.{◌≡◌, List, [], ◌∷◌, ◌++◌, length, sym, ap, ◌∙◌, append_assoc, arith, length-append}
 use Rattle.std.specs.Vec.Iter.{into_iter_items}
 use Rattle.crossbeam_queue.specs.Passes.{view}
 use Rattle.run_board.specs.declared.view.WorkerView.{WorkerView}
@@ -59,3 +59,11 @@ returns-clause-filled g c =
     let i = c.loop-task.invariant in
     let none : length (into_iter_items c.loop-task.task-iterator) ≡ 0 = omega (arith, c.in-None.ensures.steps.0, c.loop-task.task-iterator.rest.ok) in
     i.view_is ∙ ap (λ (s : List g.row.T.Denot). filled whole_share s) (all_before (view c.loop-task.pass).starts (into_iter_items c.loop-task.task-iterator) _ none i.tasks)
+
+-- there is room for all tasks
+pub unreachable-requires : goal.unreachable-requires
+unreachable-requires g c =
+    let full = c.in-Err.ensures.rule in
+    let i = c.loop-task.invariant in
+    let left = length-append (view c.loop-task.pass).starts (into_iter_items c.loop-task.task-iterator) in
+    omega (arith, full.2.1, full.2.2, ap length i.tasks, left, ap length c.in-Some.ensures.steps.0, c.requires.capacity, c.args.tasks.ok)

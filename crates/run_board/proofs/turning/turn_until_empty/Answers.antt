@@ -1,8 +1,10 @@
-use Rattle.std.proofs.Common.{length, refl, sym, ap, ◌∙◌, subst, arith}
+use Rattle.std.proofs.Common.{◌≡◌, List, length, refl, sym, ap, ◌∙◌, subst, arith}
 use Rattle.std.proofs.lemmas.Bool.{false≢true}
 use Rattle.crossbeam_queue.specs.Passes.{view}
 use Rattle.run_board.specs.declared.view.WorkerView.{WorkerView}
+use Rattle.run_board.specs.Rule.{queue_weight, view_weight, whole_weight}
 use Rattle.run_board.specs.Workers.{Keeps}
+use Rattle.run_board.proofs.Lists.{no_items}
 use Rattle.run_board.proofs.KeepsRule.{takes, has_rest}
 use Rattle.run_board.proofs.Keeping.{takes_one, can_keep}
 use Rattle.run_board.proofs.turning.turn_until_empty.Goals as goal
@@ -76,6 +78,16 @@ returns-in-None-pop_as-clause-follows g c =
     let before = c.loop.invariant.follows in
     let knows = c.in-None-pop_as.ensures.rule.0 in
     record { shares = ap (λ (v : V). v.shares) knows ∙ before.shares; starts = ap (λ (v : V). v.starts) knows ∙ before.starts }
+
+pub returns-in-None-pop_as-clause-has_all : goal.returns-in-None-pop_as-clause-has_all
+returns-in-None-pop_as-clause-has_all g c = λ all weight.
+    let T : Type 0 = g.row.T.Denot in
+    let V : Type 0 = WorkerView T in
+    let knows = c.in-None-pop_as.ensures.rule.0 in
+    let looked = c.in-None-pop_as.ensures.rule.1 in
+    let rest = looked.2 (sym (ap (λ (v : V). v.shares) knows) ∙ all) weight in
+    let none = ap (λ (l : List T). queue_weight g.T.Numbered.words.number weight l) (no_items looked.0 looked.1) in
+    subst (λ (v : V). view_weight weight v ≡ whole_weight (length v.starts) weight) (sym knows) (omega (arith, rest, none))
 
 -- the loop has no end
 pub unreachable-requires : goal.unreachable-requires
