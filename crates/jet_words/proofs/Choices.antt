@@ -1,5 +1,5 @@
 -- The command of a subcommand, by its name.
-use Rattle.std.proofs.Common.{◌≡◌, true, false, List, Option, Some, None, Result, Ok, Err, IfOk, IsErr, codes}
+use Rattle.std.proofs.Common.{◌≡◌, true, false, List, Some, None, Result, Ok, Err, IfOk, IsErr, codes}
 use Rattle.std.proofs.lemmas.Bool.{false≢true}
 use Rattle.std.specs.Str.{bytes_eq}
 use Rattle.clap.specs.Words.{Row, Text}

@@ -34,10 +34,12 @@ returns-in_err-read_record c = nothing_owed _ c.from_residual.result c.from_resi
 pub returns-in_ok-read_record : goal.returns-in_ok-read_record
 returns-in_ok-read_record c =
     ap (λ (d : CommandOf). Some d) c.in_ok-read_record.ensures
-    ∙ sym (other-record c.args.name.now (rows_of (found_of c.args.matches.now)) (sym c.eq.ensures ∙ c.if-eq.false) (sym c.eq-else-eq.ensures ∙ c.if-eq-2.false) (sym c.eq-else-eq-2.ensures ∙ c.if-eq-3.true))
+    ∙ sym (other-record c.args.name.now (rows_of (found_of c.args.matches.now)) (sym c.eq.ensures ∙ c.if-eq.false)
+    (sym c.eq-else-eq.ensures ∙ c.if-eq-2.false) (sym c.eq-else-eq-2.ensures ∙ c.if-eq-3.true))
 
 pub returns-else-eq-3 : goal.returns-else-eq-3
 returns-else-eq-3 c =
     subst (λ (o : Option CommandOf). IfOk c.rest_of.result (λ d. option_map plain_command d ≡ o))
-    (sym (other-rest c.args.name.now (rows_of (found_of c.args.matches.now)) (sym c.eq.ensures ∙ c.if-eq.false) (sym c.eq-else-eq.ensures ∙ c.if-eq-2.false) (sym c.eq-else-eq-2.ensures ∙ c.if-eq-3.false)))
+    (sym (other-rest c.args.name.now (rows_of (found_of c.args.matches.now)) (sym c.eq.ensures ∙ c.if-eq.false)
+    (sym c.eq-else-eq.ensures ∙ c.if-eq-2.false) (sym c.eq-else-eq-2.ensures ∙ c.if-eq-3.false)))
     c.rest_of.ensures

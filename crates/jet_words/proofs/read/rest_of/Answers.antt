@@ -1,4 +1,4 @@
-use Rattle.std.proofs.Common.{◌≡◌, ◌∙◌, sym, ap, Some}
+use Rattle.std.proofs.Common.{◌∙◌, sym, ap, Some}
 use Rattle.clap.specs.Words.{rows_of, found_of}
 use Rattle.jet_words.specs.Commands.{CommandOf}
 use Rattle.jet_words.proofs.Choices.{nothing_owed, rest-convert, rest-queries, rest-bench, rest-none}
@@ -31,8 +31,10 @@ returns-in_ok-read_queries c =
 pub returns-then-eq-3 : goal.returns-then-eq-3
 returns-then-eq-3 c =
     ap (λ (d : CommandOf). Some d) c.read_bench.ensures
-    ∙ sym (rest-bench c.args.name.now (rows_of (found_of c.args.matches.now)) (sym c.eq.ensures ∙ c.if-eq.false) (sym c.eq-else-eq.ensures ∙ c.if-eq-2.false) (sym c.eq-else-eq-2.ensures ∙ c.if-eq-3.true))
+    ∙ sym (rest-bench c.args.name.now (rows_of (found_of c.args.matches.now)) (sym c.eq.ensures ∙ c.if-eq.false)
+    (sym c.eq-else-eq.ensures ∙ c.if-eq-2.false) (sym c.eq-else-eq-2.ensures ∙ c.if-eq-3.true))
 
 pub returns-else-eq-3 : goal.returns-else-eq-3
 returns-else-eq-3 c =
-    sym (rest-none c.args.name.now (rows_of (found_of c.args.matches.now)) (sym c.eq.ensures ∙ c.if-eq.false) (sym c.eq-else-eq.ensures ∙ c.if-eq-2.false) (sym c.eq-else-eq-2.ensures ∙ c.if-eq-3.false))
+    sym (rest-none c.args.name.now (rows_of (found_of c.args.matches.now)) (sym c.eq.ensures ∙ c.if-eq.false)
+    (sym c.eq-else-eq.ensures ∙ c.if-eq-2.false) (sym c.eq-else-eq-2.ensures ∙ c.if-eq-3.false))
