@@ -45,54 +45,58 @@ pipeline_sound s words plain has e =
 
 -- ---- each subcommand
 
+-- a subcommand has one name: it has no other's numbers
+never : {A : Type 0} → false ≡ true → A
+never bad = cc
+
 query_sound : AtTaken IsSound (leaf query_app)
 query_sound words e =
     let p = pipeline_sound (leaf query_app) words refl (refl, refl, refl) e in
-    record { numbers = (λ here. p.numbers, λ bad. cc, λ bad. cc, λ bad. cc, λ bad. cc, λ bad. cc, λ bad. cc, λ bad. cc); ranges = p.ranges }
+    record { numbers = (λ here. p.numbers, never, never, never, never, never, never, never); ranges = p.ranges }
 
 influence_sound : AtTaken IsSound (leaf influence_app)
 influence_sound words e =
     let p = pipeline_sound (leaf influence_app) words refl (refl, refl, refl) e in
-    record { numbers = (λ here. p.numbers, λ bad. cc, λ bad. cc, λ bad. cc, λ bad. cc, λ bad. cc, λ bad. cc, λ bad. cc); ranges = p.ranges }
+    record { numbers = (λ here. p.numbers, never, never, never, never, never, never, never); ranges = p.ranges }
 
 path_sound : AtTaken IsSound (leaf path_app)
 path_sound words e =
     let p = pipeline_sound (leaf path_app) words refl (refl, refl, refl) e in
-    record { numbers = (λ here. p.numbers, λ bad. cc, λ bad. cc, λ bad. cc, λ bad. cc, λ bad. cc, λ bad. cc, λ bad. cc); ranges = p.ranges }
+    record { numbers = (λ here. p.numbers, never, never, never, never, never, never, never); ranges = p.ranges }
 
 show_sound : AtTaken IsSound (leaf show_app)
 show_sound words e =
     let p = pipeline_sound (leaf show_app) words refl (refl, refl, refl) e in
-    record { numbers = (λ here. p.numbers, λ bad. cc, λ bad. cc, λ bad. cc, λ bad. cc, λ bad. cc, λ bad. cc, λ bad. cc); ranges = p.ranges }
+    record { numbers = (λ here. p.numbers, never, never, never, never, never, never, never); ranges = p.ranges }
 
 replay_sound : AtTaken IsSound (leaf replay_app)
-replay_sound words e = record { numbers = (λ bad. cc, λ bad. cc, λ bad. cc, λ bad. cc, λ bad. cc, λ bad. cc, λ bad. cc, λ bad. cc); ranges = tt }
+replay_sound words e = record { numbers = (never, never, never, never, never, never, never, never); ranges = tt }
 
 calls_sound : AtTaken IsSound (leaf calls_app)
-calls_sound words e = record { numbers = (λ bad. cc, λ bad. cc, λ bad. cc, λ bad. cc, λ bad. cc, λ bad. cc, λ bad. cc, λ bad. cc); ranges = tt }
+calls_sound words e = record { numbers = (never, never, never, never, never, never, never, never); ranges = tt }
 
 input_sound : AtTaken IsSound (leaf input_app)
 input_sound words e =
     let channel = number-in_range (leaf input_app) words refl e (codes "C") _ 4294967295 0 15 refl refl refl refl refl in
-    record { numbers = (λ bad. cc, λ here. channel.can_be_read, λ bad. cc, λ bad. cc, λ bad. cc, λ bad. cc, λ bad. cc, λ bad. cc); ranges = channel.at_most }
+    record { numbers = (never, λ here. channel.can_be_read, never, never, never, never, never, never); ranges = channel.at_most }
 
 output_sound : AtTaken IsSound (leaf output_app)
 output_sound words e =
     let channel = number-in_range (leaf output_app) words refl e (codes "C") _ 4294967295 0 15 refl refl refl refl refl in
-    record { numbers = (λ bad. cc, λ bad. cc, λ here. channel.can_be_read, λ bad. cc, λ bad. cc, λ bad. cc, λ bad. cc, λ bad. cc); ranges = channel.at_most }
+    record { numbers = (never, never, λ here. channel.can_be_read, never, never, never, never, never); ranges = channel.at_most }
 
 stack_sound : AtTaken IsSound (leaf stack_app)
 stack_sound words e =
     let time = number-in_range (leaf stack_app) words refl e (codes "T") _ 18446744073709551615 0 1099511627776 refl refl refl refl refl in
-    record { numbers = (λ bad. cc, λ bad. cc, λ bad. cc, λ here. time.can_be_read, λ bad. cc, λ bad. cc, λ bad. cc, λ bad. cc); ranges = time.at_most }
+    record { numbers = (never, never, never, λ here. time.can_be_read, never, never, never, never); ranges = time.at_most }
 
 decisions_sound : AtTaken IsSound (leaf decisions_app)
-decisions_sound words e = record { numbers = (λ bad. cc, λ bad. cc, λ bad. cc, λ bad. cc, λ bad. cc, λ bad. cc, λ bad. cc, λ bad. cc); ranges = tt }
+decisions_sound words e = record { numbers = (never, never, never, never, never, never, never, never); ranges = tt }
 
 page_sound : AtTaken IsSound (leaf page_app)
 page_sound words e =
     let p = pipeline_sound (leaf page_app) words refl (refl, refl, refl) e in
-    record { numbers = (λ bad. cc, λ bad. cc, λ bad. cc, λ bad. cc, λ here. p.numbers, λ bad. cc, λ bad. cc, λ bad. cc); ranges = p.ranges }
+    record { numbers = (never, never, never, never, λ here. p.numbers, never, never, never); ranges = p.ranges }
 
 record_sound : AtTaken IsSound (leaf record_app)
 record_sound words e =
@@ -100,7 +104,7 @@ record_sound words e =
     let piece = option-in_range (leaf record_app) words refl e (codes "piece") _ 4294967295 1 16777216 refl refl refl refl refl in
     let steps = option-in_range (leaf record_app) words refl e (codes "steps") _ 18446744073709551615 1 1099511627776 refl refl refl refl refl in
     record {
-      numbers = (λ bad. cc, λ bad. cc, λ bad. cc, λ bad. cc, λ bad. cc, λ here. (pages.can_be_read, piece.can_be_read, steps.can_be_read), λ bad. cc, λ bad. cc);
+      numbers = (never, never, never, never, never, λ here. (pages.can_be_read, piece.can_be_read, steps.can_be_read), never, never);
       ranges = (
         list-length (leaf record_app) words refl e (codes "IN") _ 16 refl refl,
         pages.at_least,
@@ -113,13 +117,13 @@ record_sound words e =
     }
 
 convert_sound : AtTaken IsSound (leaf convert_app)
-convert_sound words e = record { numbers = (λ bad. cc, λ bad. cc, λ bad. cc, λ bad. cc, λ bad. cc, λ bad. cc, λ bad. cc, λ bad. cc); ranges = tt }
+convert_sound words e = record { numbers = (never, never, never, never, never, never, never, never); ranges = tt }
 
 queries_sound : AtTaken IsSound (leaf queries_app)
 queries_sound words e =
     let p = pipeline_sound (leaf queries_app) words refl (refl, refl, refl) e in
     record {
-      numbers = (λ bad. cc, λ bad. cc, λ bad. cc, λ bad. cc, λ bad. cc, λ bad. cc, λ here. p.numbers, λ bad. cc);
+      numbers = (never, never, never, never, never, never, λ here. p.numbers, never);
       ranges = (
         list-filled (leaf queries_app) words refl e (codes "QUERY") _ 1 refl refl refl,
         list-length (leaf queries_app) words refl e (codes "QUERY") _ 16 refl refl,
@@ -133,7 +137,7 @@ bench_sound words e =
     let steps = number-in_range (leaf bench_app) words refl e (codes "STEPS") _ 18446744073709551615 1 2000000 refl refl refl refl refl in
     let p = pipeline_sound (leaf bench_app) words refl (refl, refl, refl) e in
     record {
-      numbers = (λ bad. cc, λ bad. cc, λ bad. cc, λ bad. cc, λ bad. cc, λ bad. cc, λ bad. cc, λ here. (seed.can_be_read, steps.can_be_read, p.numbers));
+      numbers = (never, never, never, never, never, never, never, λ here. (seed.can_be_read, steps.can_be_read, p.numbers));
       ranges = (seed.at_most, steps.at_least, steps.at_most, p.ranges);
     }
 

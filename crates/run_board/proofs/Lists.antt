@@ -1,5 +1,5 @@
 -- Lists, and what holds of each of their elements.
-use Rattle.std.proofs.Common.{◌≡◌, ◌≢◌, ℕ, zero, suc, Some, List, [], ◌∷◌, ◌++◌, length, set, sym, refl, subst, arith, All}
+use Rattle.std.proofs.Common.{◌≡◌, ◌≢◌, ℕ, zero, suc, Some, List, [], ◌∷◌, ◌++◌, length, set, sym, refl, subst, ◌∙◌, append-nil, arith, All}
 use Rattle.std.specs.List.{slice_get}
 use Rattle.std.proofs.lemmas.List.Elements.{All-nil, All-cons, All-head, All-tail}
 use mathlib.Core.Option.{some, some-injective, some-ne-none}
@@ -16,6 +16,16 @@ get_last [] zero x e = refl
 get_last [] (suc n) x e = absurd (omega arith)
 get_last (y ∷ xs) zero x e = absurd (omega arith)
 get_last (y ∷ xs) (suc n) x e = get_last xs n x (omega arith)
+
+-- a list with no element
+pub no_items : {X : Type 0} (xs : List X) → length xs ≡ 0 → xs ≡ []
+no_items [] none = refl
+no_items (x ∷ xs) none = absurd (omega (arith, none))
+
+-- what comes before no more elements is all
+pub all_before : {X : Type 0} (xs rest ys : List X) → length rest ≡ 0 → xs ++ rest ≡ ys → xs ≡ ys
+all_before xs [] ys none is = sym (append-nil xs) ∙ is
+all_before xs (x ∷ rest) ys none is = absurd (omega (arith, none))
 
 module _ {X : Type 0} (P : X → Type 0) where
   pub All-at : (xs : List X) (i : ℕ) (x : X) → get_elem? xs i ≡ some x → All P xs → P x

@@ -1,9 +1,10 @@
-use Rattle.std.proofs.Common.{◌++◌, List, length, sym, ap, ◌∙◌, subst, arith}
+use Rattle.std.proofs.Common.{◌+◌, ◌≤◌, ◌++◌, List, length, sym, ap, ◌∙◌, subst, arith}
 use Rattle.crossbeam_queue.specs.Passes.{view}
 use Rattle.run_board.specs.declared.view.WorkerView.{WorkerView}
+use Rattle.run_board.specs.Views.{taken, joined}
 use Rattle.run_board.specs.Workers.{Keeps, view_of}
 use Rattle.run_board.proofs.KeepsRule.{joins, has_room}
-use Rattle.run_board.proofs.Keeping.{keeps_both}
+use Rattle.run_board.proofs.Keeping.{keeps_both, both_fit}
 use Rattle.run_board.proofs.pool.join.Goals as goal
 
 pub absorb-requires-clause-rule : goal.absorb-requires-clause-rule
@@ -28,3 +29,24 @@ returns-clause-ready g c =
       few = omega (arith, mine.few, ap (λ (v : V). length v.starts) is);
       room = omega (arith, mine.room, c.gather.ensures.capacity);
     }
+
+pub absorb-requires-clause-queue : goal.absorb-requires-clause-queue
+absorb-requires-clause-queue g c = (c.requires.ready.has_pass, c.requires.other_ready.has_pass)
+
+pub returns-clause-starts : goal.returns-clause-starts
+returns-clause-starts g c = ap (λ (v : WorkerView g.row.T.Denot). v.starts) (c.learn_as.ensures.queue.1 ∙ c.absorb.ensures.rule)
+
+pub returns-clause-shares : goal.returns-clause-shares
+returns-clause-shares g c = ap (λ (v : WorkerView g.row.T.Denot). v.shares) (c.learn_as.ensures.queue.1 ∙ c.absorb.ensures.rule)
+
+pub gather-requires : goal.gather-requires
+gather-requires g c =
+    let V : Type 0 = WorkerView g.row.T.Denot in
+    let words = g.T.Numbered.words in
+    let mine = c.requires.ready in
+    let v = view_of c.args.worker.now in
+    let w = view_of c.args.other in
+    let room = subst (λ (u : V). length c.learn_as.ensures.rule.0 + length (taken u) ≤ length u.starts) c.absorb.ensures.rule c.learn_as.ensures.rule.1 in
+    let short : length (taken (joined v w)) ≤ length v.starts = omega (arith, room) in
+    let fit = both_fit words v w c.args.worker.now.finished.items c.args.other.finished.items (length v.starts) mine.keeps c.requires.other_ready.keeps short in
+    omega (arith, fit, mine.few, mine.room, c.args.worker.now.finished.ok, c.args.other.finished.ok)

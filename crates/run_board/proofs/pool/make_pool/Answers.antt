@@ -1,6 +1,6 @@
-use Rattle.std.proofs.Common.{◌≡◌, ◌<◌, List, All, length, sym, ap, ◌∙◌, subst, arith, lit<}
+use Rattle.std.proofs.Common.{◌≡◌, ◌<◌, List, [], ◌∷◌, All, length, sym, ap, ◌∙◌, subst, arith, lit<, length-append}
 use Rattle.std.specs.Vec.Iter.{into_iter_items}
-use Rattle.std.proofs.lemmas.List.Elements.{All-head, All-push, All-rest}
+use Rattle.std.proofs.lemmas.List.Elements.{All-nil, All-head, All-push, All-rest}
 use Rattle.crossbeam_queue.specs.Passes.{view, IsPassOf, ruled_capacity}
 use Rattle.run_board.specs.declared.view.WorkerView.{WorkerView}
 use Rattle.run_board.specs.declared.worker.Worker.{Worker}
@@ -11,6 +11,30 @@ use Rattle.run_board.proofs.KeepsRule.{splits}
 use Rattle.run_board.proofs.Keeping.{keeps_none}
 use Rattle.run_board.proofs.Joining.{shares_of-push}
 use Rattle.run_board.proofs.pool.make_pool.Goals as goal
+
+pub loop-finished-init : goal.loop-finished-init
+loop-finished-init g c =
+    let V : Type 0 = WorkerView g.row.T.Denot in
+    let W : Type 0 = Worker g.row.T.Denot in
+    let capacity = ruled_capacity c.args.queue.now in
+    let ready : W → Type 0 = λ w. IsReady g.T.Numbered.words capacity (IsPassOf c.args.queue.now) w in
+    let known = (view c.args.pass).starts in
+    let lists = c.in-Some.ensures.items in
+    let others = c.pop.new.self.items in
+    let e = c.into_iter-finished-iterator.ensures.into_iter_gives in
+    let shares = ap (λ (v : V). v.shares) c.requires.filled in
+    let one = length-append others (c.in-Some.last ∷ []) in
+    let none = c.requires.empty in
+    record {
+      pass = c.requires.pass;
+      view_is = c.requires.filled ∙ ap (λ n. filled n known) (sym shares);
+      left = omega (arith, shares, c.requires.count, ap length e.0, ap length lists, one, c.args.lists.ok);
+      lists = subst (All (HasRoomFor capacity)) (sym e.0) (All-last (HasRoomFor capacity) others c.in-Some.last (subst (All (HasRoomFor capacity)) lists c.requires.lists)).0;
+      room = omega (arith, c.requires.room, ap length e.0, ap length lists, one, ap length none, c.args.lists.ok, c.args.pool.ok);
+      ready = subst (All ready) (sym none) (All-nil ready);
+      starts = subst (All (KnowsStarts known)) (sym none) (All-nil (KnowsStarts known));
+      shares = omega (arith, ap (λ (l : List W). shares_of l) none, shares);
+    }
 
 pub another-share-requires-clause-rule : goal.another-share-requires-clause-rule
 another-share-requires-clause-rule g c = splits g.T.Numbered.words _ _ (omega (arith, c.loop-finished.invariant.left, ap length c.in-Some-finished.ensures.steps.0))
@@ -66,3 +90,24 @@ returns-clause-starts g c =
     let own : W = record { pass = c.loop-finished.pass; finished = c.in-Some.last } in
     let known = (view c.args.pass).starts in
     subst (All (KnowsStarts known)) (sym c.push_reserved-2.ensures.items) (All-push (KnowsStarts known) c.loop-finished.pool.items own i.starts (ap (λ (v : V). v.starts) i.view_is))
+
+pub another-share-requires-clause-queue : goal.another-share-requires-clause-queue
+another-share-requires-clause-queue g c = c.loop-finished.invariant.pass
+
+pub push_reserved-requires : goal.push_reserved-requires
+push_reserved-requires g c = omega (arith, c.loop-finished.invariant.room)
+
+pub loop-finished-smaller : goal.loop-finished-smaller
+loop-finished-smaller g c = omega (arith, c.in-Some-finished.ensures.steps.1)
+
+pub push_reserved-requires-2 : goal.push_reserved-requires-2
+push_reserved-requires-2 g c = omega (arith, c.loop-finished.invariant.room)
+
+pub returns-clause-some : goal.returns-clause-some
+returns-clause-some g c = omega (arith, c.push_reserved-2.ensures.len)
+
+pub returns-clause-shares : goal.returns-clause-shares
+returns-clause-shares g c =
+    let W : Type 0 = Worker g.row.T.Denot in
+    let own : W = record { pass = c.loop-finished.pass; finished = c.in-Some.last } in
+    omega (arith, c.loop-finished.invariant.shares, ap (λ (l : List W). shares_of l) c.push_reserved-2.ensures.items, shares_of-push c.loop-finished.pool.items own)

@@ -1,5 +1,10 @@
-use Rattle.std.proofs.Common.{ap, ◌∙◌, arith}
+use Rattle.std.proofs.Common.{◌≡◌, List, length, refl, sym, ap, ◌∙◌, subst, arith}
+use Rattle.std.proofs.lemmas.Bool.{false≢true}
 use Rattle.crossbeam_queue.specs.Passes.{view}
+use Rattle.run_board.specs.declared.view.WorkerView.{WorkerView}
+use Rattle.run_board.specs.Rule.{queue_weight, view_weight, whole_weight}
+use Rattle.run_board.specs.Workers.{Keeps}
+use Rattle.run_board.proofs.Lists.{no_items}
 use Rattle.run_board.proofs.KeepsRule.{takes, has_rest}
 use Rattle.run_board.proofs.Keeping.{takes_one, can_keep}
 use Rattle.run_board.proofs.turning.turn_until_empty.Goals as goal
@@ -34,3 +39,56 @@ loop-preserved g c =
         starts = after.starts ∙ ap (λ v. v.starts) told ∙ before.starts;
       };
     }
+
+pub loop-init : goal.loop-init
+loop-init g c = record { ready = c.requires.ready; follows = record { shares = refl; starts = refl } }
+
+pub pop_as-requires-clause-queue : goal.pop_as-requires-clause-queue
+pop_as-requires-clause-queue g c = c.loop.invariant.ready.has_pass
+
+pub turn_once-requires-clause-pass : goal.turn_once-requires-clause-pass
+turn_once-requires-clause-pass g c κs within =
+    let was = c.loop.invariant.ready.has_pass in
+    let same = c.pop_as.ensures.queue in
+    (same.0 ∙ was.0, same.2 ∙ was.1)
+
+pub turn_once-requires-clause-few : goal.turn_once-requires-clause-few
+turn_once-requires-clause-few g c κs within =
+    omega (arith, ap (λ (v : WorkerView g.row.T.Denot). length v.starts) c.in-Some-pop_as.ensures.rule.0, c.loop.invariant.ready.few)
+
+pub turn_once-requires-clause-room : goal.turn_once-requires-clause-room
+turn_once-requires-clause-room g c κs within = c.loop.invariant.ready.room
+
+pub returns-in-None-pop_as-clause-ready : goal.returns-in-None-pop_as-clause-ready
+returns-in-None-pop_as-clause-ready g c =
+    let V : Type 0 = WorkerView g.row.T.Denot in
+    let i = c.loop.invariant.ready in
+    let same = c.pop_as.ensures.queue in
+    let knows = c.in-None-pop_as.ensures.rule.0 in
+    record {
+      has_pass = (same.0 ∙ i.has_pass.0, same.2 ∙ i.has_pass.1);
+      keeps = subst (λ (v : V). Keeps g.T.Numbered.words v c.loop.worker.finished.items) (sym knows) i.keeps;
+      few = omega (arith, ap (λ (v : V). length v.starts) knows, i.few);
+      room = i.room;
+    }
+
+pub returns-in-None-pop_as-clause-follows : goal.returns-in-None-pop_as-clause-follows
+returns-in-None-pop_as-clause-follows g c =
+    let V : Type 0 = WorkerView g.row.T.Denot in
+    let before = c.loop.invariant.follows in
+    let knows = c.in-None-pop_as.ensures.rule.0 in
+    record { shares = ap (λ (v : V). v.shares) knows ∙ before.shares; starts = ap (λ (v : V). v.starts) knows ∙ before.starts }
+
+pub returns-in-None-pop_as-clause-has_all : goal.returns-in-None-pop_as-clause-has_all
+returns-in-None-pop_as-clause-has_all g c = λ all weight.
+    let T : Type 0 = g.row.T.Denot in
+    let V : Type 0 = WorkerView T in
+    let knows = c.in-None-pop_as.ensures.rule.0 in
+    let looked = c.in-None-pop_as.ensures.rule.1 in
+    let rest = looked.2 (sym (ap (λ (v : V). v.shares) knows) ∙ all) weight in
+    let none = ap (λ (l : List T). queue_weight g.T.Numbered.words.number weight l) (no_items looked.0 looked.1) in
+    subst (λ (v : V). view_weight weight v ≡ whole_weight (length v.starts) weight) (sym knows) (omega (arith, rest, none))
+
+-- the loop has no end
+pub unreachable-requires : goal.unreachable-requires
+unreachable-requires g c = false≢true c.in-None.ensures.steps
