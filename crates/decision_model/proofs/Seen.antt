@@ -4,18 +4,10 @@ use Rattle.std.specs.Prelude.{◌⊎◌, Contains}
 use Rattle.flow_model.specs.declared.Loc.{Loc}
 use Rattle.flow_model.specs.declared.StepSeen.{StepSeen}
 use Rattle.flow_model.specs.Origins.{Policy}
-use Rattle.report_model.proofs.Members.{Some_in, Any-some, some-Contains, Contains-some, some-each, some-left, some-right, filter-some, some-filter, map-some, some-map}
+use Rattle.report_model.proofs.Members.{Some_in, Any-some, some-Contains, Contains-some, some-each, some-left, some-right, filter-some, some-filter, map-some, some-map, some-append}
 use Rattle.replay_model.specs.Run.{Moment, start, advance, moment_after, trace}
 use Rattle.decision_model.specs.Decisions.{Decision, decision, decisions, is_some_byte, decided_at, decided_from, decided, moments_seen}
 use Rattle.decision_model.specs.TextLaws.{IsDecision, DecidedAreDecisions}
-
-parted : {X : Type 0} (P : X → Type 0) (xs ys : List X) → Some_in P (xs ++ ys) → Some_in P xs ⊎ Some_in P ys
-parted P [] ys h = inr h
-parted P (x ∷ xs) ys (inl p) = inl (inl p)
-parted P (x ∷ xs) ys (inr h) = by (parted P xs ys h) where
-  by : Some_in P xs ⊎ Some_in P ys → Some_in P (x ∷ xs) ⊎ Some_in P ys
-  by (inl a) = inl (inr a)
-  by (inr b) = inr b
 
 module _ (policy : Policy) (trace : List StepSeen) (d : Decision) where
   -- d is the decision of a location that decides at the moment
@@ -48,7 +40,7 @@ module _ (policy : Policy) (trace : List StepSeen) (d : Decision) where
 
   within : (n : ℕ) (m : Moment) → Some_in (λ x. x ≡ d) (decided_from policy trace n m) → IsWithin n m
   within zero m h = absurd h
-  within (suc n) m h = by (within n (advance m)) (parted (λ x. x ≡ d) (decided_at policy trace m) (decided_from policy trace n (advance m)) h) where
+  within (suc n) m h = by (within n (advance m)) (some-append (λ x. x ≡ d) (decided_at policy trace m) (decided_from policy trace n (advance m)) h) where
     by : (Some_in (λ x. x ≡ d) (decided_from policy trace n (advance m)) → IsWithin n (advance m))
         → Some_in (λ x. x ≡ d) (decided_at policy trace m) ⊎ Some_in (λ x. x ≡ d) (decided_from policy trace n (advance m)) → IsWithin (suc n) m
     by ih (inl h) = record { time = 0; below = omega arith; at = at_moment m h }

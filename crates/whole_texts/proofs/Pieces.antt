@@ -1,7 +1,7 @@
 -- Numbers, names and quoted texts have no line feed, and begin with no `e`.
-use Rattle.std.proofs.Common.{◌≡◌, ℕ, zero, suc, ◌+◌, ◌≤◌, ◌<◌, ◌/◌, ◌%◌, Bool, true, false, List, [], ◌∷◌, ◌++◌, length, take, refl, ap, sym, ◌∙◌, subst, arith, get_or, ℤ, pos, negsuc, ltb-true, ltb-false}
-use Rattle.std.specs.Prelude.{◌==◌, ◌&&◌, not, nat_lt, nat_le, if◌then◌else◌, codes}
-use Rattle.std.specs.List.{flat_map, AllByRecursion}
+use Rattle.std.proofs.Common.{◌≡◌, ℕ, zero, suc, ◌+◌, ◌≤◌, ◌<◌, ◌/◌, ◌%◌, Bool, true, false, List, [], ◌∷◌, ◌++◌, length, take, refl, ap, ◌∙◌, subst, arith, get_or, ℤ, pos, negsuc, ltb-true, ltb-false}
+use Rattle.std.specs.Prelude.{◌==◌, not, nat_lt, if◌then◌else◌, codes}
+use Rattle.std.specs.List.{list_all, AllByRecursion}
 use Rattle.std.specs.Fmt.{decimal, signed_decimal, digits, digits_onto, digit_glyph}
 use Rattle.std.specs.Int.{w32, to_be_bytes}
 use Rattle.std.proofs.lemmas.Bool.{and_parts}
@@ -16,7 +16,7 @@ use Rattle.source_ranges.specs.declared.SourceRange.{SourceRange}
 use Rattle.source_ranges.specs.Ranges.{span_text, range_text}
 use Rattle.printed_names.specs.Places.{pc_text}
 use Rattle.printed_names.specs.Quoted.{is_plain, quoted_byte, left_out, quoted_text}
-use Rattle.whole_texts.proofs.Reading.{Reader, AtStart, Inside, InLast, Over, next, kept, read, Reads, nothing, ◌⨾◌, each}
+use Rattle.whole_texts.proofs.Reading.{AtStart, Inside, InLast, Over, read, Reads, nothing, ◌⨾◌, each}
 
 -- ---- characters
 
@@ -37,6 +37,27 @@ feed = record { whole = λ rest. refl }
 
 pub last_feed : Reads InLast (0x0a ∷ []) Over
 last_feed = record { whole = λ rest. refl }
+
+-- ---- texts without a line feed
+
+abbrev pub no_feeds : List ℕ → Bool
+no_feeds cs = list_all (λ c. not (c == 0x0a)) cs
+
+is_not : (b : Bool) → not b ≡ true → b ≡ false
+is_not true e = absurd cc
+is_not false e = refl
+
+pub plain : (text : List ℕ) → no_feeds text ≡ true → Reads Inside text Inside
+plain [] e = nothing Inside
+plain (c ∷ cs) e = let both = and_parts (not (c == 0x0a)) (no_feeds cs) e in stays c (is_not (c == 0x0a) both.0) ⨾ plain cs both.1
+
+pub in_last : (text : List ℕ) → no_feeds text ≡ true → Reads InLast text InLast
+in_last [] e = nothing InLast
+in_last (c ∷ cs) e = let both = and_parts (not (c == 0x0a)) (no_feeds cs) e in stays_last c (is_not (c == 0x0a) both.0) ⨾ in_last cs both.1
+
+-- a line that begins with this character and text
+pub first : (c : ℕ) (text : List ℕ) → (c == 0x0a) ≡ false → (c == 0x65) ≡ false → no_feeds text ≡ true → Reads AtStart (c ∷ text) Inside
+first c text e f g = begins c e f ⨾ plain text g
 
 -- ---- digits
 
@@ -63,19 +84,17 @@ glyph n = by (nat_lt (n % 10) 10) refl where
   by true e = record { low = omega arith; high = omega (arith, ltb-true (n % 10) 10 e) }
   by false e = absurd (omega (arith, ltb-false (n % 10) 10 e))
 
+with_digit : (b : Bool) (n : ℕ) (acc more : List ℕ) → AllByRecursion IsDigit acc → IsNumber more → IsNumber (if b then digit_glyph false (n % 10) ∷ acc else more)
+with_digit true n acc more h later = record { first = digit_glyph false (n % 10); rest = acc; parts = refl; is_digit = glyph n; are_digits = h }
+with_digit false n acc more h later = later
+
 number_onto : (k n : ℕ) (acc : List ℕ) → AllByRecursion IsDigit acc → IsNumber (digits_onto (suc k) 10 false n acc)
-number_onto k n acc h = by (n / 10 == 0) (more k) where
-  one : IsNumber (digit_glyph false (n % 10) ∷ acc)
-  one = record { first = digit_glyph false (n % 10); rest = acc; parts = refl; is_digit = glyph n; are_digits = h }
-
-  more : (k : ℕ) → IsNumber (digits_onto k 10 false (n / 10) (digit_glyph false (n % 10) ∷ acc))
-  more zero = one
-  more (suc k) = number_onto k (n / 10) (digit_glyph false (n % 10) ∷ acc) (glyph n, h)
-
-  by : (b : Bool) → IsNumber (digits_onto k 10 false (n / 10) (digit_glyph false (n % 10) ∷ acc))
-      → IsNumber (if b then digit_glyph false (n % 10) ∷ acc else digits_onto k 10 false (n / 10) (digit_glyph false (n % 10) ∷ acc))
-  by true later = one
-  by false later = later
+number_onto zero n acc h =
+    let digit = digit_glyph false (n % 10) in
+    with_digit (n / 10 == 0) n acc (digit ∷ acc) h (record { first = digit; rest = acc; parts = refl; is_digit = glyph n; are_digits = h })
+number_onto (suc k) n acc h =
+    let digit = digit_glyph false (n % 10) in
+    with_digit (n / 10 == 0) n acc (digits_onto (suc k) 10 false (n / 10) (digit ∷ acc)) h (number_onto k (n / 10) (digit ∷ acc) (glyph n, h))
 
 is_number : (n : ℕ) → IsNumber (decimal n)
 unfolding digits
@@ -121,58 +140,59 @@ hexadecimal (b ∷ bs) = stays _ (digit (b / 16)) ⨾ (stays _ (digit (b % 16)) 
 
 -- ---- names
 
-pub code : {text : List ℕ} → ((rest : List ℕ) → read Inside (text ++ rest) ≡ text ++ read Inside rest) → Reads Inside text Inside
-code h = record { whole = h }
+pub blank : Reads Inside (codes " ") Inside
+blank = plain (codes " ") refl
 
 pub pc : (n : ℕ) → Reads Inside (pc_text n) Inside
-pc n = code (λ rest. refl) ⨾ hexadecimal (to_be_bytes w32 n)
+pc n = plain (codes "0x") refl ⨾ hexadecimal (to_be_bytes w32 n)
 
 pub pc_first : (n : ℕ) → Reads AtStart (pc_text n) Inside
-pc_first n = record { whole = λ rest. refl } ⨾ hexadecimal (to_be_bytes w32 n)
+pc_first n = first 0x30 (codes "x") refl refl refl ⨾ hexadecimal (to_be_bytes w32 n)
 
 pub name : (c o : ℕ) → Reads Inside (name_text c o) Inside
-name c o = number c ⨾ code (λ rest. refl) ⨾ number o
+name c o = number c ⨾ plain (codes ":") refl ⨾ number o
 
 pub name_first : (c o : ℕ) → Reads AtStart (name_text c o) Inside
-name_first c o = number_first c ⨾ code (λ rest. refl) ⨾ number o
+name_first c o = number_first c ⨾ plain (codes ":") refl ⨾ number o
 
 pub loc : (l : Loc) → Reads Inside (loc_text l) Inside
-loc (Reg r i) = code (λ rest. refl) ⨾ number r ⨾ code (λ rest. refl) ⨾ number i
-loc (Mem p) = code (λ rest. refl) ⨾ number p
+loc (Reg r i) = plain (codes "r:") refl ⨾ number r ⨾ plain (codes ".") refl ⨾ number i
+loc (Mem p) = plain (codes "m:") refl ⨾ number p
 
 loc_first : (l : Loc) → Reads AtStart (loc_text l) Inside
-loc_first (Reg r i) = record { whole = λ rest. refl } ⨾ number r ⨾ code (λ rest. refl) ⨾ number i
-loc_first (Mem p) = record { whole = λ rest. refl } ⨾ number p
+loc_first (Reg r i) = first 0x72 (codes ":") refl refl refl ⨾ number r ⨾ plain (codes ".") refl ⨾ number i
+loc_first (Mem p) = first 0x6d (codes ":") refl refl refl ⨾ number p
 
 pub point : (s : SinkPoint) → Reads Inside (point_text s) Inside
 point (Out b) = name b.channel b.offset
-point (At p) = loc p.loc ⨾ code (λ rest. refl) ⨾ number p.time
+point (At p) = loc p.loc ⨾ plain (codes "@") refl ⨾ number p.time
 
 pub point_first : (s : SinkPoint) → Reads AtStart (point_text s) Inside
 point_first (Out b) = name_first b.channel b.offset
-point_first (At p) = loc_first p.loc ⨾ code (λ rest. refl) ⨾ number p.time
+point_first (At p) = loc_first p.loc ⨾ plain (codes "@") refl ⨾ number p.time
 
 pub span_first : (c a b : ℕ) → Reads AtStart (span_text c a b) Inside
-span_first c a b = name_first c a ⨾ code (λ rest. refl) ⨾ number b
+span_first c a b = name_first c a ⨾ plain (codes "-") refl ⨾ number b
 
 pub range : (r : SourceRange) → Reads Inside (range_text r) Inside
-range r = name r.channel r.from ⨾ code (λ rest. refl) ⨾ number r.past
+range r = name r.channel r.from ⨾ plain (codes "-") refl ⨾ number r.past
 
 -- ---- quoted texts
+
+shown : (byte : ℕ) → is_plain byte ≡ true → 0x0a < byte
+shown byte e = grind (arith, nat_tests, and_parts)
 
 one_quoted : (byte : ℕ) → Reads Inside (quoted_byte byte) Inside
 one_quoted byte = by (is_plain byte) refl where
   by : (b : Bool) → is_plain byte ≡ b → Reads Inside (if b then byte ∷ [] else codes "\\x" ++ encode_lower (byte ∷ [])) Inside
-  by true e = stays byte (no_feed byte (shown e)) where
-    shown : is_plain byte ≡ true → 0x0a < byte
-    shown e = grind (arith, nat_tests, and_parts)
-  by false e = code (λ rest. refl) ⨾ hexadecimal (byte ∷ [])
+  by true e = stays byte (no_feed byte (shown byte e))
+  by false e = plain (codes "\\x") refl ⨾ hexadecimal (byte ∷ [])
 
 dots : (bytes : List ℕ) → Reads Inside (left_out bytes) Inside
 dots bytes = by (nat_lt 24 (length bytes)) where
   by : (b : Bool) → Reads Inside (if b then codes ".." else []) Inside
-  by true = code (λ rest. refl)
+  by true = plain (codes "..") refl
   by false = nothing Inside
 
 pub quoted : (bytes : List ℕ) → Reads Inside (quoted_text bytes) Inside
-quoted bytes = code (λ rest. refl) ⨾ each Inside quoted_byte one_quoted (take 24 bytes) ⨾ code (λ rest. refl) ⨾ dots bytes
+quoted bytes = plain (codes "\"") refl ⨾ each Inside quoted_byte one_quoted (take 24 bytes) ⨾ plain (codes "\"") refl ⨾ dots bytes

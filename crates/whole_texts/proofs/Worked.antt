@@ -1,5 +1,5 @@
 -- Examples: texts of which one is the beginning of another, and a text that is read no further than its last line.
-use Rattle.std.proofs.Common.{◌≡◌, ℕ, List, [], ◌∷◌, ◌++◌, replicate, refl, arith}
+use Rattle.std.proofs.Common.{◌≡◌, replicate, refl, arith}
 use Rattle.std.specs.Prelude.{codes}
 use Rattle.whole_texts.specs.PrefixFree.{ArePrefixFree}
 use Rattle.whole_texts.proofs.Reading.{AtStart, read}
