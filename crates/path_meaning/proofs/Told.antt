@@ -1,5 +1,5 @@
 -- The path of an answer leads to a location at a time inside the run.
-use Rattle.std.proofs.Common.{◌≡◌, ℕ, zero, suc, ◌+◌, ◌^◌, ◌%◌, ◌<◌, ◌≤◌, Bool, true, false, if◌then◌else◌, List, [], ◌∷◌, length, refl, ap, sym, subst, arith, Some, None}
+use Rattle.std.proofs.Common.{◌≡◌, ℕ, ◌+◌, ◌^◌, ◌%◌, ◌<◌, ◌≤◌, Bool, true, false, if◌then◌else◌, List, [], ◌∷◌, length, refl, sym, subst, arith, Some, None}
 use Rattle.std.specs.Prelude.{nat_le}
 use Rattle.std.specs.List.{AllByRecursion}
 use Rattle.std.specs.Ordering.{is_eq}
@@ -18,7 +18,8 @@ use Rattle.lists.proofs.Algebra.{Contains-has}
 use Rattle.report_model.specs.Query.{Query, AreLocated, has_sink}
 use Rattle.report_model.specs.Rows.{Sink, point_sink, chosen_sinks}
 use Rattle.report_model.proofs.Members.{some-each-too, some-gives}
-use Rattle.replay_model.specs.Run.{Moment, advance, start, steps_from, trace}
+use Rattle.replay_model.specs.Run.{start, trace}
+use Rattle.replay_model.proofs.Offsets.{length-steps_from}
 use Rattle.flow_meaning.proofs.Rows.{all_sinks}
 use Rattle.path_model.specs.Answer.{written_from, sink_of}
 use Rattle.path_model.specs.PathLaws.{OnePathIsPath}
@@ -29,10 +30,6 @@ use Rattle.path_meaning.specs.PathMeaning.{PathHoldsByte, ToldPathHoldsByte}
 record IsInside (log : Log) (x : Sink) : Type 0 where
   time : x.time ≤ steps log
   loc : IsLocation x.loc
-
-as_long : (n : ℕ) (m : Moment) → length (steps_from n m) ≡ n
-as_long zero m = refl
-as_long (suc n) m = ap suc (as_long n (advance m))
 
 module _ (log : Log) (s : State) (q : Query) (located : AreLocated q.points) where
   each_inside : AllByRecursion (IsInside log) (chosen_sinks q (trace s log))
@@ -66,7 +63,7 @@ module _ (log : Log) (s : State) (q : Query) (located : AreLocated q.points) whe
       by true le e =
           let same : point_sink p ≡ x = cc in
           let low = inside le in
-          subst (IsInside log) same (record { time = omega (arith, low, as_long (steps log) (start s log)); loc = here })
+          subst (IsInside log) same (record { time = omega (arith, low, length-steps_from (steps log) (start s log)); loc = here })
       by false le e = absurd cc
 
   sink_inside : (name : SinkPoint) (x : Sink) → has_sink q name ≡ true → sink_of (trace s log) name ≡ Some x → IsInside log x
