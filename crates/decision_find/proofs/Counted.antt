@@ -11,7 +11,7 @@ use Rattle.std.proofs.lemmas.List.{map-append}
 use Rattle.std.proofs.lemmas.List.Elements.{filter-append}
 use Rattle.std.proofs.lemmas.List.Folds.{list_any-append}
 use Rattle.lists.specs.Sets.{union, inserted, placed, set_of, has, Ascends}
-use Rattle.lists.proofs.Algebra.{tied_by, less_turned, greater_turned, has-inserted, has-set_of, Ascends-inserted, Ascends-set_of, Ascends-union, same_list, union_assoc, union-nil}
+use Rattle.lists.proofs.Algebra.{tied_by, less_turned, greater_turned, has-inserted, has-set_of, Ascends-inserted, Ascends-set_of, same_list, union_assoc, union-nil}
 use Rattle.flow_model.specs.declared.Loc.{Loc}
 use Rattle.flow_model.specs.Orders.{source_cmp}
 use Rattle.flow_model.proofs.Orders.{source_total, source_same}
@@ -22,6 +22,7 @@ use Rattle.decision_model.specs.declared.Place.{Place}
 use Rattle.decision_model.specs.Decisions.{Decision}
 use Rattle.decision_model.specs.Places.{place_cmp, place_of, places, is_at, decided_there, sources_of}
 use Rattle.decision_model.proofs.Orders.{place_total, place_same, place_compared, place_order_is}
+use Rattle.decision_model.proofs.Lines.{sources_ascend}
 use Rattle.source_labels.specs.declared.labels.SourceLabels.{SourceLabels}
 use Rattle.decision_find.specs.declared.looks.Look.{Look}
 use Rattle.decision_find.specs.declared.groups.Group.{Group}
@@ -72,14 +73,10 @@ not_there p ds d h = filter-append (is_at p) ds (d ∷ []) ∙ ap (λ (b : Bool)
 
 -- ---- the source bytes of one decision more
 
-ascend_all : (ds : List Decision) → Ascends source_cmp (sources_of ds)
-ascend_all [] = tt
-ascend_all (d ∷ ds) = Ascends-union source_total d.sources (sources_of ds) (ascend_all ds)
-
 pub sources_pushed : (ds : List Decision) (d : Decision) → Ascends source_cmp d.sources → sources_of (ds ++ d ∷ []) ≡ union source_cmp (sources_of ds) d.sources
 sources_pushed [] d h = union-nil source_total d.sources h
 sources_pushed (e ∷ ds) d h =
-    ap (union source_cmp e.sources) (sources_pushed ds d h) ∙ union_assoc source_total source_same e.sources (sources_of ds) d.sources (ascend_all ds) h
+    ap (union source_cmp e.sources) (sources_pushed ds d h) ∙ union_assoc source_total source_same e.sources (sources_of ds) d.sources (sources_ascend ds) h
 
 -- two places tie whichever comes first
 flips : (p q : Place) → eq_by_cmp place_cmp p q ≡ eq_by_cmp place_cmp q p

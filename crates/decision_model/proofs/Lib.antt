@@ -1,5 +1,5 @@
 pub mod Orders
 pub mod Answered
-mod Lines
+pub mod Lines
 mod Seen
 mod Worked

@@ -96,7 +96,7 @@ sources_are ds b = (to, from) where
       Contains-has source_total source_same (sources_of ds) b
       (of_one ds b (some-each (λ d. d ≡ h.0) (λ d. Contains d.sources b) (λ d e. subst (λ (x : Decision). Contains x.sources b) (sym e) h.2) ds (some-Contains ds h.0 h.1)))
 
-sources_ascend : (ds : List Decision) → Ascends source_cmp (sources_of ds)
+pub sources_ascend : (ds : List Decision) → Ascends source_cmp (sources_of ds)
 sources_ascend [] = tt
 sources_ascend (d ∷ ds) = Ascends-union source_total d.sources (sources_of ds) (sources_ascend ds)
 

@@ -6,14 +6,10 @@ use Rattle.flow_model.specs.declared.Rule.{Rule}
 use Rattle.flow_model.specs.declared.StepSeen.{StepSeen}
 use Rattle.flow_model.specs.Orders.{loc_cmp}
 use Rattle.flow_model.specs.Origins.{step_at}
-use Rattle.flow_model.specs.Ranges.{IsLocation, AreLocations, IsInRange}
-use Rattle.flow_model.proofs.Located.{of_step}
+use Rattle.flow_model.specs.Ranges.{IsLocation, IsInRange}
+use Rattle.flow_model.proofs.Located.{of_step, located-each}
 use Rattle.lists.proofs.Algebra.{All-union}
 use Rattle.epoch_model.specs.Stretch.{locations_over, from_step, past}
-
-each_location : (ls : List Loc) → AreLocations ls → AllByRecursion IsLocation ls
-each_location [] h = tt
-each_location (l ∷ ls) h = (h.0, each_location ls h.1)
 
 located-over : (before : Loc → List Loc) → ((l : Loc) → IsLocation l → AllByRecursion IsLocation (before l)) → (ls : List Loc) → AllByRecursion IsLocation ls
     → AllByRecursion IsLocation (locations_over before ls)
@@ -23,7 +19,7 @@ located-over before h (l ∷ m ∷ ls) a = All-union loc_cmp IsLocation (before 
 
 located-from : (rule : Rule) (trace : List StepSeen) (t : ℕ) (l : Loc) → AllByRecursion IsInRange trace → IsLocation l → AllByRecursion IsLocation (from_step rule (step_at trace t) l)
 located-from rule [] t l r h = (h, tt)
-located-from rule (s ∷ ss) zero l r h = each_location _ (of_step rule s s.call l (r.0).fits h)
+located-from rule (s ∷ ss) zero l r h = located-each _ (of_step rule s s.call l (r.0).fits h)
 located-from rule (s ∷ ss) (suc t) l r h = located-from rule ss t l r.1 h
 
 pub located-past : (rule : Rule) (trace : List StepSeen) (s n : ℕ) (l : Loc) → AllByRecursion IsInRange trace → IsLocation l → AllByRecursion IsLocation (past rule trace s n l)

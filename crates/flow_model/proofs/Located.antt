@@ -1,6 +1,7 @@
 -- The targets and origins of an instruction that fits are locations, and so are those of a step. Crates above cite these
 -- lemmas.
 use Rattle.std.proofs.Common.{ℕ, length, get_or, ◌+◌, ◌-◌, ◌<◌, ◌==◌, nat_lt, List, [], ◌∷◌, ◌++◌, zero, suc, ◌≡◌, subst, refl, ltb-true, arith, Bool, true, false, if◌then◌else◌}
+use Rattle.std.specs.List.{AllByRecursion}
 use Rattle.std.specs.Ordering.{int_eq}
 use Rattle.std.specs.declared.cmp.Ordering.{Ordering}
 use Rattle.std.specs.declared.cmp.Ordering.TheVariants.{Less, Equal, Greater}
@@ -37,6 +38,10 @@ in-inserted l (m ∷ ls) h k = by (in-inserted l ls h k.1) (loc_cmp l m) where
 in-union : (ls ms : List Loc) → AreLocations ls → AreLocations ms → AreLocations (union loc_cmp ls ms)
 in-union [] ms h k = k
 in-union (l ∷ ls) ms h k = in-inserted l (union loc_cmp ls ms) h.0 (in-union ls ms h.1 k)
+
+pub located-each : (ls : List Loc) → AreLocations ls → AllByRecursion IsLocation ls
+located-each [] h = tt
+located-each (l ∷ ls) h = (h.0, located-each ls h.1)
 
 pub located-get_or : (ls : List Loc) (i : ℕ) (d : Loc) → AreLocations ls → i < length ls → IsLocation (get_or ls i d)
 located-get_or [] i d h k = absurd (omega arith)

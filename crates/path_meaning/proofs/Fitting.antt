@@ -6,6 +6,7 @@ use Rattle.isa.specs.declared.Instr.{Instr}
 use Rattle.isa.specs.Words.{instruction_of}
 use Rattle.isa.specs.Encodings.{Fits}
 use Rattle.isa.specs.Machine.{State, Fetched, OutsideWindow, Illegal, fetch, fetch_if, decoded, in_window, little_endian, bytes_at}
+use Rattle.isa.proofs.Window.{holds_by}
 use Rattle.rv_decode.proofs.Read.{HasWord, written_back}
 use Rattle.log_model.specs.Logs.{Log, steps}
 use Rattle.flow_model.specs.declared.StepSeen.{StepSeen}
@@ -14,7 +15,7 @@ use Rattle.flow_meaning.specs.Content.{IsSound}
 use Rattle.flow_meaning.specs.RunLaws.{IsRun, moment_at}
 use Rattle.flow_meaning.proofs.Steps.{Does, Plain, Calls, does}
 use Rattle.flow_meaning.proofs.Done.{done_at, sound_at}
-use Rattle.flow_meaning.proofs.Window.{holds_by, bytes_length, window_bytes}
+use Rattle.flow_meaning.proofs.Window.{bytes_length, window_bytes}
 use Rattle.path_meaning.specs.PathMeaning.{StepsFit, PathIsOfLocations}
 use Rattle.path_model.specs.PathLaws.{PathIsLocated}
 

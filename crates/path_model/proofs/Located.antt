@@ -9,15 +9,11 @@ use Rattle.flow_model.specs.declared.SourceByte.{SourceByte}
 use Rattle.flow_model.specs.declared.StepSeen.{StepSeen}
 use Rattle.flow_model.specs.Flow.{from}
 use Rattle.flow_model.specs.Origins.{step_at}
-use Rattle.flow_model.specs.Ranges.{IsLocation, AreLocations}
-use Rattle.flow_model.proofs.Located.{of_step}
+use Rattle.flow_model.specs.Ranges.{IsLocation}
+use Rattle.flow_model.proofs.Located.{of_step, located-each}
 use Rattle.path_model.specs.declared.Arrival.{Arrival}
 use Rattle.path_model.specs.Paths.{IsPath, IsLatest, IsHop}
 use Rattle.path_model.specs.PathLaws.{PathIsLocated}
-
-each_location : (ls : List Loc) → AreLocations ls → AllByRecursion IsLocation ls
-each_location [] h = tt
-each_location (l ∷ ls) h = (h.0, each_location ls h.1)
 
 abbrev AllFit : List StepSeen → Type 0
 AllFit trace = AllByRecursion (λ x. Fits x.instr) trace
@@ -35,7 +31,7 @@ module _ (rule : Rule) (s : SourceByte) (trace : List StepSeen) (fit : AllFit tr
   behind_hop : (a b : Arrival) → IsLocation a.loc → IsHop rule trace a b → IsLocation b.loc
   behind_hop a b here h =
       let origins = of_step rule h.step h.step.call a.loc (step_fits trace a.number h.step fit h.is_step) here in
-      All-contains IsLocation (from rule h.step a.loc) b.loc (All-from_recursion IsLocation (from rule h.step a.loc) (each_location (from rule h.step a.loc) origins)) h.flows
+      All-contains IsLocation (from rule h.step a.loc) b.loc (All-from_recursion IsLocation (from rule h.step a.loc) (located-each (from rule h.step a.loc) origins)) h.flows
 
   each : (p : List Arrival) (t : ℕ) (l : Loc) → IsLocation l → IsPath rule s trace t l p → AllByRecursion (λ a. IsLocation a.loc) p
   each [] t l here h = tt
