@@ -17,11 +17,6 @@ get_last [] (suc n) x e = absurd (omega arith)
 get_last (y ∷ xs) zero x e = absurd (omega arith)
 get_last (y ∷ xs) (suc n) x e = get_last xs n x (omega arith)
 
--- a list with no element
-pub no_items : {X : Type 0} (xs : List X) → length xs ≡ 0 → xs ≡ []
-no_items [] none = refl
-no_items (x ∷ xs) none = absurd (omega (arith, none))
-
 -- what comes before no more elements is all
 pub all_before : {X : Type 0} (xs rest ys : List X) → length rest ≡ 0 → xs ++ rest ≡ ys → xs ≡ ys
 all_before xs [] ys none is = sym (append-nil xs) ∙ is

@@ -1,11 +1,11 @@
 use Rattle.std.proofs.Common.{◌≡◌, ◌+◌, List, length, All, refl, sym, ap, ◌∙◌, subst, arith}
 use Rattle.std.specs.Vec.Iter.{into_iter_items}
+use Rattle.std.proofs.lemmas.List.{nil_from_length}
 use Rattle.std.proofs.lemmas.List.Sums.{sum_by-cons}
 use Rattle.std.proofs.lemmas.List.Elements.{All-head, All-rest}
 use Rattle.crossbeam_queue.specs.Passes.{IsPassOf, ruled_capacity}
 use Rattle.run_board.specs.declared.worker.Worker.{Worker}
 use Rattle.run_board.specs.Workers.{IsReady, KnowsStarts, view_of, shares_of}
-use Rattle.run_board.proofs.Lists.{no_items}
 use Rattle.run_board.proofs.pool.join_all.Goals as goal
 
 pub loop-other-preserved : goal.loop-other-preserved
@@ -66,4 +66,4 @@ pub returns-clause-shares : goal.returns-clause-shares
 returns-clause-shares g c =
     let rest : List (Worker g.row.T.Denot) = into_iter_items c.loop-other.other-iterator in
     let none : length rest ≡ 0 = omega (arith, c.in-None.ensures.steps.0, c.loop-other.other-iterator.rest.ok) in
-    omega (arith, c.loop-other.invariant.shares, ap (λ (l : List (Worker g.row.T.Denot)). shares_of l) (no_items rest none))
+    omega (arith, c.loop-other.invariant.shares, ap (λ (l : List (Worker g.row.T.Denot)). shares_of l) (nil_from_length rest none))

@@ -1,10 +1,10 @@
 use Rattle.std.proofs.Common.{◌≡◌, List, length, refl, sym, ap, ◌∙◌, subst, arith}
 use Rattle.std.proofs.lemmas.Bool.{false≢true}
+use Rattle.std.proofs.lemmas.List.{nil_from_length}
 use Rattle.crossbeam_queue.specs.Passes.{view}
 use Rattle.run_board.specs.declared.view.WorkerView.{WorkerView}
 use Rattle.run_board.specs.Rule.{queue_weight, view_weight, whole_weight}
 use Rattle.run_board.specs.Workers.{Keeps}
-use Rattle.run_board.proofs.Lists.{no_items}
 use Rattle.run_board.proofs.KeepsRule.{takes, has_rest}
 use Rattle.run_board.proofs.Keeping.{takes_one, can_keep}
 use Rattle.run_board.proofs.turning.turn_until_empty.Goals as goal
@@ -86,7 +86,7 @@ returns-in-None-pop_as-clause-has_all g c = λ all weight.
     let knows = c.in-None-pop_as.ensures.rule.0 in
     let looked = c.in-None-pop_as.ensures.rule.1 in
     let rest = looked.2 (sym (ap (λ (v : V). v.shares) knows) ∙ all) weight in
-    let none = ap (λ (l : List T). queue_weight g.T.Numbered.words.number weight l) (no_items looked.0 looked.1) in
+    let none = ap (λ (l : List T). queue_weight g.T.Numbered.words.number weight l) (nil_from_length looked.0 looked.1) in
     subst (λ (v : V). view_weight weight v ≡ whole_weight (length v.starts) weight) (sym knows) (omega (arith, rest, none))
 
 -- the loop has no end
