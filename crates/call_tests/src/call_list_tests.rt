@@ -1,5 +1,6 @@
 //! What logs say of the calls of their runs, as text.
 
+use crate::asserts::assert_same;
 use call_list::calls_text;
 use replay_log::{Log, read_log};
 use std::alloc::Global;
@@ -66,6 +67,6 @@ fn each_call_is_a_line(rt: HostRuntime) {
     for (parts, text) in TEXTS {
         let log = log_of(&rt, rt.alloc(), parts);
         let told = calls_text(rt.alloc(), &log).expect(&rt, "memory");
-        assert_eq!(rt; told.as_slice(), text.as_bytes());
+        assert_same(&rt, told.as_slice(), text.as_bytes());
     }
 }

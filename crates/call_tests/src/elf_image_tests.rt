@@ -1,6 +1,7 @@
 //! Files that are loaded or refused, with what the gABI says of each.
 
-use elf_image::{ImageKind, load};
+use crate::asserts::assert_same;
+use elf_image::{Image, ImageKind, load};
 use no_memory::Fault;
 use std::alloc::Global;
 use std::process::Abort;
@@ -74,7 +75,18 @@ fn assert_fault(
     want: Option<ImageKind>,
 ) {
     let file = changed(rt, alloc, changes, entries);
-    assert_eq!(rt; fault_of(rt, alloc, &file), want);
+    assert_same(rt, fault_of(rt, alloc, &file), want);
+}
+
+/// The image has one segment, at this place, of the file's bytes after its headers.
+fn assert_segment(rt: &impl Abort, image: &Image, place: u32, size: u32, file: &[u8]) {
+    assert_same(rt, image.segments().len(), 1);
+    let Some(segment) = image.segments().first() else {
+        rt.abort()
+    };
+    assert_same(rt, segment.place(), place);
+    assert_same(rt, segment.size(), size);
+    assert!(rt; file.get(84..) == Some(segment.bytes()));
 }
 
 #[test]
@@ -86,20 +98,16 @@ fn a_sound_file_is_loaded(rt: HostRuntime) {
         &[],
     );
     let image = load(rt.alloc(), &file).expect(&rt, "an image");
-    assert_eq!(rt; image.base(), 0x20000);
-    assert_eq!(rt; image.entry(), 0x20ff4);
-    let segments = image.segments();
-    assert_eq!(rt; segments.len(), 1);
-    assert_eq!(rt; segments[0].place(), 0x20ff0);
-    assert_eq!(rt; segments[0].size(), 48);
-    assert_eq!(rt; file.len(), 132);
-    assert_eq!(rt; segments[0].bytes(), &file[84..]);
+    assert_same(&rt, image.base(), 0x20000);
+    assert_same(&rt, image.entry(), 0x20ff4);
+    assert_same(&rt, file.len(), 132);
+    assert_segment(&rt, &image, 0x20ff0, 48, &file);
 }
 
 #[test]
 fn each_prefix_has_its_fault(rt: HostRuntime) {
     let file = changed(&rt, rt.alloc(), &[], &[]);
-    assert_eq!(rt; file.len(), 132);
+    assert!(rt; file.len() == 132);
     for length in 0..133 {
         let want = match length {
             0..52 => Some(ImageKind::Short),
@@ -172,10 +180,7 @@ fn a_long_file_is_loaded(rt: HostRuntime) {
     for i in file.len()..84 + 70_000 {
         file.push((i % 251) as u8).expect(&rt, "memory");
     }
-    assert_eq!(rt; file.len(), 70_084);
+    assert_same(&rt, file.len(), 70_084);
     let image = load(alloc, &file).expect(&rt, "an image");
-    let segments = image.segments();
-    assert_eq!(rt; segments.len(), 1);
-    assert_eq!(rt; segments[0].size(), 70_000);
-    assert!(rt; segments[0].bytes() == &file[84..]);
+    assert_segment(&rt, &image, 0x10000, 70_000, &file);
 }

@@ -2,6 +2,7 @@
 
 ghost use Rattle.std.specs.Prelude.{◌≤◌};
 
+use crate::asserts::assert_same;
 use epoch_cut::{CutFault, cuts};
 use std::alloc::Global;
 use std::process::Abort;
@@ -36,21 +37,30 @@ fn count(steps: u64, length: u64) -> Result<u32, u64>
 #[test]
 fn epochs_are_as_long_as_said(rt: HostRuntime) {
     let alloc = rt.alloc();
-    assert_eq!(rt; epochs(&rt, alloc, 0, 6).as_slice(), [(0, 0, 0)].as_slice());
-    assert_eq!(rt; epochs(&rt, alloc, 1, 6).as_slice(), [(0, 0, 1)].as_slice());
-    assert_eq!(rt;
+    assert_same(
+        &rt,
+        epochs(&rt, alloc, 0, 6).as_slice(),
+        [(0, 0, 0)].as_slice(),
+    );
+    assert_same(
+        &rt,
+        epochs(&rt, alloc, 1, 6).as_slice(),
+        [(0, 0, 1)].as_slice(),
+    );
+    assert_same(
+        &rt,
         epochs(&rt, alloc, 12, 6).as_slice(),
-        [(0, 0, 6), (1, 6, 12)].as_slice()
+        [(0, 0, 6), (1, 6, 12)].as_slice(),
     );
     let uneven = [(0, 0, 7), (1, 7, 14), (2, 14, 18)];
-    assert_eq!(rt; epochs(&rt, alloc, 18, 7).as_slice(), uneven.as_slice());
+    assert_same(&rt, epochs(&rt, alloc, 18, 7).as_slice(), uneven.as_slice());
 }
 
 #[test]
 fn epochs_are_counted(rt: HostRuntime) {
-    assert_eq!(rt; count(12, 1), Ok(12));
-    assert_eq!(rt; count(4097, 1), Err(4097));
-    assert_eq!(rt; count(4097, 2), Ok(2049));
-    assert_eq!(rt; count(LONG, 1 << 28), Ok(4096));
-    assert_eq!(rt; count(LONG, (1 << 28) - 1), Err(4097));
+    assert_same(&rt, count(12, 1), Ok(12));
+    assert_same(&rt, count(4097, 1), Err(4097));
+    assert_same(&rt, count(4097, 2), Ok(2049));
+    assert_same(&rt, count(LONG, 1 << 28), Ok(4096));
+    assert_same(&rt, count(LONG, (1 << 28) - 1), Err(4097));
 }

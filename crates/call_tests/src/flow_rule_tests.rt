@@ -2,6 +2,7 @@
 
 ghost use Rattle.std.specs.Prelude.{◌<◌, length};
 
+use crate::asserts::assert_same;
 use flow_rule::*;
 use isa::{CallKind, Instr};
 
@@ -617,7 +618,7 @@ fn first_wrong(cases: &[Case]) -> Option<usize> {
 
 #[test]
 fn instructions_have_their_rows_under_each_rule(rt: HostRuntime) {
-    assert_eq!(rt; first_wrong(CASES), None);
+    assert_same(&rt, first_wrong(CASES), None);
 }
 
 /// Whether an instruction may keep lanes whole though it computes.

@@ -1,5 +1,6 @@
 //! Each name stands for its instruction, in a file of the form that loaders take.
 
+use crate::asserts::assert_same;
 use guest_assembler::{code, program};
 
 /// Words as LLVM's assembler writes them, of the instructions in `each_name_is_its_instruction`.
@@ -135,9 +136,10 @@ fn each_name_is_its_instruction(rt: HostRuntime) {
 fn a_program_has_its_size_and_no_word_for_what_does_not_fit(rt: HostRuntime) {
     let file = program(rt.alloc(), &code![ecall(), li(x1, 2048), ecall()]).expect(&rt, "memory");
     assert_eq!(rt; file.len(), 96);
-    assert_eq!(rt; &file[68..76], [12, 0, 0, 0, 12, 0, 0, 0].as_slice());
-    assert_eq!(rt;
+    assert_same(&rt, &file[68..76], [12, 0, 0, 0, 12, 0, 0, 0].as_slice());
+    assert_same(
+        &rt,
         &file[84..],
-        [0x73, 0, 0, 0, 0, 0, 0, 0, 0x73, 0, 0, 0].as_slice()
+        [0x73, 0, 0, 0, 0, 0, 0, 0, 0x73, 0, 0, 0].as_slice(),
     );
 }

@@ -1,5 +1,6 @@
 //! Instructions as text.
 
+use crate::asserts::assert_same;
 use instruction_text::push_instruction;
 use rv_decode::decode;
 use std::process::Abort;
@@ -33,6 +34,6 @@ fn each_word_is_a_line_of_the_assembler(rt: HostRuntime) {
             rt.abort()
         };
         push_instruction(&mut out, &instr).expect(&rt, "memory");
-        assert_eq!(rt; out.as_slice(), line.as_bytes());
+        assert_same(&rt, out.as_slice(), line.as_bytes());
     }
 }

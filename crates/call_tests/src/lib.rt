@@ -4,6 +4,8 @@
 #![tactic(auto)]
 
 #[cfg(test)]
+mod asserts;
+#[cfg(test)]
 mod call_list_tests;
 #[cfg(test)]
 mod elf_image_tests;

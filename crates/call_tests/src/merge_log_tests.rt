@@ -2,6 +2,7 @@
 
 ghost use Rattle.merge_log.specs.Log.{IsNode};
 
+use crate::asserts::assert_same;
 use crate::source_runs_tests::{FROM_3, UP_TO_3};
 use flow_model::{Loc, SourceByte};
 use merge_log::{Leaf, ManyTerms, MergeLog, Node, TermsReader};
@@ -119,9 +120,9 @@ fn node_of(rt: &impl Abort, log: &mut MergeLog, asked: &Asked) -> Node
 fn compare(rt: &impl Abort, alloc: Global, log: &mut MergeLog, case: &Case) {
     let (asked, want, leaves) = case;
     let node = node_of(rt, log, asked);
-    assert_eq!(rt; node, *want);
+    assert_same(rt, node, *want);
     let found = log.terms(alloc, node).expect(rt, "memory");
-    assert_eq!(rt; found.as_slice(), *leaves);
+    assert_same(rt, found.as_slice(), *leaves);
 }
 
 /// The log of the first cases and then of these, in turn.
@@ -131,39 +132,40 @@ fn log_of(rt: &impl Abort, alloc: Global, cases: &[Case]) -> MergeLog {
         compare(rt, alloc, &mut log, case);
     }
     let none = log.terms(alloc, 0).expect(rt, "memory");
-    assert_eq!(rt; none.len(), 0);
+    assert_same(rt, none.len(), 0);
     log
 }
 
 #[test]
 fn equal_nodes_are_one(rt: HostRuntime) {
     let log = log_of(&rt, rt.alloc(), &UNION_CASES);
-    assert_eq!(rt; log.size(), 7);
+    assert_same(&rt, log.size(), 7);
 }
 
 #[test]
 fn a_union_absorbs_its_operands(rt: HostRuntime) {
     let log = log_of(&rt, rt.alloc(), &ABSORBING_CASES);
-    assert_eq!(rt; log.size(), 6);
+    assert_same(&rt, log.size(), 6);
 }
 
 #[test]
 fn runs_are_read_as_their_bytes(rt: HostRuntime) {
     let log = log_of(&rt, rt.alloc(), &RUN_CASES);
-    assert_eq!(rt; log.size(), 9);
+    assert_same(&rt, log.size(), 9);
     for case in &RUN_CASES {
         let (_, node, leaves) = case;
         let found = leaves_between(&rt, rt.alloc(), &log, 6, *node, 4);
-        assert_eq!(rt; found.as_slice(), *leaves);
+        assert_same(&rt, found.as_slice(), *leaves);
     }
     let mut reader = TermsReader::new(rt.alloc());
     reader.read_run(FROM_3).expect(&rt, "memory");
     let leaves = reader.leaves(rt.alloc()).expect(&rt, "memory");
-    assert_eq!(rt;
+    assert_same(
+        &rt,
         leaves.as_slice(),
-        [Leaf::Source(THIRD), Leaf::Source(FOURTH)].as_slice()
+        [Leaf::Source(THIRD), Leaf::Source(FOURTH)].as_slice(),
     );
-    assert_eq!(rt; reader.runs(), [FROM_3].as_slice());
+    assert_same(&rt, reader.runs(), [FROM_3].as_slice());
 }
 
 /// A log of 70,000 source bytes has a node for each, in their order.
@@ -174,9 +176,9 @@ fn a_long_log_has_its_nodes(rt: HostRuntime) {
     for offset in 0..70_000 {
         let byte = SourceByte { channel: 0, offset };
         let leaf = log.leaf_source(byte).expect(&rt, "memory");
-        assert_eq!(rt; leaf, u64::from(offset) + 1);
+        assert_same(&rt, leaf, u64::from(offset) + 1);
     }
-    assert_eq!(rt; log.size(), 70_001);
+    assert_same(&rt, log.size(), 70_001);
 }
 
 /// The leaves of a node, which one walk reads with two other nodes.
@@ -204,6 +206,6 @@ fn one_walk_reads_several_nodes(rt: HostRuntime) {
     for case in FIRST_CASES.iter().chain(&UNION_CASES) {
         let (_, node, leaves) = case;
         let found = leaves_between(&rt, rt.alloc(), &log, 6, *node, 4);
-        assert_eq!(rt; found.as_slice(), *leaves);
+        assert_same(&rt, found.as_slice(), *leaves);
     }
 }

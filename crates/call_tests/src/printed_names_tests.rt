@@ -1,5 +1,6 @@
 //! Names, and bytes in quotes.
 
+use crate::asserts::assert_same;
 use flow_model::{InnerSink, Loc, SinkByte, SinkPoint, SourceByte};
 use printed_names::{
     Names, SourceName, push_byte, push_lines_end, push_location, push_pc, push_point, push_quoted,
@@ -37,9 +38,10 @@ fn push_names(rt: &impl Abort, out: &mut Vec<u8>) {
 fn names_are_those_of_reports(rt: HostRuntime) {
     let mut out = Vec::new(rt.alloc());
     push_names(&rt, &mut out);
-    assert_eq!(rt;
+    assert_same(
+        &rt,
         out.as_slice(),
-        b"15:4294967295 r:31.3 m:65792 r:31.3@6 1:0 0x80010a0c".as_slice()
+        b"15:4294967295 r:31.3 m:65792 r:31.3@6 1:0 0x80010a0c".as_slice(),
     );
 }
 
@@ -69,10 +71,10 @@ fn a_name_goes_to_the_next_byte(rt: HostRuntime) {
         channel: 0,
         offset: 7,
     });
-    assert_eq!(rt; name.as_bytes(), b" 0:7".as_slice());
+    assert_same(&rt, name.as_bytes(), b" 0:7".as_slice());
     for &(channel, offset, text) in BYTES {
         name.go_to(SourceByte { channel, offset });
-        assert_eq!(rt; name.as_bytes(), text.as_bytes());
+        assert_same(&rt, name.as_bytes(), text.as_bytes());
     }
 }
 
@@ -98,7 +100,7 @@ fn ten_names_are_written_at_once(rt: HostRuntime) {
     let mut names = Names::new();
     for &(channel, offset, text) in TENS {
         names.write_ten(channel, offset);
-        assert_eq!(rt; names.as_bytes(), text.as_bytes());
+        assert_same(&rt, names.as_bytes(), text.as_bytes());
     }
 }
 
@@ -119,7 +121,7 @@ fn bytes_are_quoted(rt: HostRuntime) {
     for (bytes, text) in QUOTED {
         let mut out = Vec::new(rt.alloc());
         push_quoted(&mut out, bytes).expect(&rt, "memory");
-        assert_eq!(rt; out.as_slice(), text.as_bytes());
+        assert_same(&rt, out.as_slice(), text.as_bytes());
     }
 }
 
@@ -129,8 +131,9 @@ fn a_byte_of_any_channel_has_a_name(rt: HostRuntime) {
     push_wide_byte(&mut out, 4294967295, 18446744073709551615).expect(&rt, "memory");
     out.push(b'\n').expect(&rt, "memory");
     push_lines_end(&mut out, 1).expect(&rt, "memory");
-    assert_eq!(rt;
+    assert_same(
+        &rt,
         out.as_slice(),
-        b"4294967295:18446744073709551615\nend 1\n".as_slice()
+        b"4294967295:18446744073709551615\nend 1\n".as_slice(),
     );
 }

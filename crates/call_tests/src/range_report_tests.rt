@@ -2,6 +2,7 @@
 
 ghost use Rattle.std.specs.Prelude.{◌≡◌};
 
+use crate::asserts::assert_same;
 use crate::source_ranges_tests::BYTES;
 use flow_model::{InnerSink, Loc, SinkByte, SinkPoint, SourceByte};
 use range_report::shown;
@@ -130,7 +131,7 @@ fn shared_and_changed(rt: &impl Abort, alloc: Global) -> Report {
 /// A report in runs has this text.
 fn assert_shown(rt: &impl Abort, alloc: Global, log: &Log, report: &Report, lines: &str) {
     let text = shown(alloc, report, log).expect(rt, "memory");
-    assert_eq!(rt; text.as_slice(), lines.as_bytes());
+    assert_same(rt, text.as_slice(), lines.as_bytes());
 }
 
 #[test]

@@ -2,6 +2,7 @@
 
 mod texts;
 
+use crate::asserts::assert_same;
 use replay_log::{
     CallRecord, HEADER_LENGTH, Log, RunEnd, can_write, end_length, read_log, share, write_log,
 };
@@ -43,11 +44,11 @@ fn assert_written(
     length: u64,
     same: Option<bool>,
 ) {
-    assert_eq!(rt; can_write(log), same.is_some());
+    assert!(rt; can_write(log) == same.is_some());
     if can_write(log) {
         let text = write_log(alloc, log).expect(rt, "memory");
-        assert_eq!(rt; text.len() as u64, length);
-        assert_eq!(rt; Some(text.as_slice() == bytes), same);
+        assert_same(rt, text.len() as u64, length);
+        assert!(rt; Some(text.as_slice() == bytes) == same);
     }
 }
 
@@ -56,14 +57,14 @@ fn assert_read(rt: &impl Abort, alloc: Global, bytes: &[u8], want: Want) {
     assert!(rt; bytes.len() <= 1 << 26);
     match (read_log(alloc, bytes), want) {
         (Ok(log), Want::Log(calls, end, length, same)) => {
-            assert_eq!(rt; log.records().len(), calls);
-            assert_eq!(rt; log.end(), end);
-            assert_eq!(rt; length_of(&log), length);
+            assert_same(rt, log.records().len(), calls);
+            assert_same(rt, log.end(), end);
+            assert_same(rt, length_of(&log), length);
             assert_written(rt, alloc, bytes, &log, length, same);
         }
         (Err(fault), Fault(text)) => {
             let said = format!(in alloc; "{fault}").expect(rt, "memory");
-            assert_eq!(rt; said.as_str(), text);
+            assert_same(rt, said.as_str(), text);
         }
         _ => rt.abort(),
     }
@@ -251,9 +252,9 @@ fn a_log_has_its_parts(rt: HostRuntime) {
     let alloc = rt.alloc();
     let records = vec![in alloc; CallRecord::Other { at: 4, number: 42 }].expect(&rt, "memory");
     let log = Log::from_parts(1, 0, [7; 32], records, RunEnd::Limit { at: 9 }, 70);
-    assert_eq!(rt; log.pages(), 1);
-    assert_eq!(rt; log.inputs(), 0);
-    assert_eq!(rt; log.size(), 70);
+    assert_same(&rt, log.pages(), 1);
+    assert_same(&rt, log.inputs(), 0);
+    assert_same(&rt, log.size(), 70);
     assert!(rt; log.digest() == [7; 32]);
     assert_written(&rt, alloc, &OTHER, &log, 70, Some(true));
 }

@@ -1,5 +1,6 @@
 //! The bytes that were moved on a channel.
 
+use crate::asserts::assert_same;
 use crate::call_list_tests::{ALL_CALLS, log_of};
 use log_model::CallRecord;
 use run_output::{input_on, output_on};
@@ -16,9 +17,9 @@ fn assert_moved(
     written: &[u8],
 ) {
     let input = input_on(alloc, calls, channel).expect(rt, "memory");
-    assert_eq!(rt; input.as_slice(), read);
+    assert_same(rt, input.as_slice(), read);
     let output = output_on(alloc, calls, channel).expect(rt, "memory");
-    assert_eq!(rt; output.as_slice(), written);
+    assert_same(rt, output.as_slice(), written);
 }
 
 #[test]

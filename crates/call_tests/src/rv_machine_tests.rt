@@ -2,6 +2,7 @@
 
 ghost use Rattle.std.specs.Prelude.{◌≡◌, false};
 
+use crate::asserts::assert_same;
 use elf_image::load;
 use guest_assembler::{code, program};
 use rv_machine::{Call, CallKind, Instr, Machine, MachineState, Stepped};
@@ -129,8 +130,8 @@ fn programs_trap(rt: HostRuntime) {
         else {
             rt.abort()
         };
-        assert_eq!(rt; seen_kind, kind);
-        assert_eq!(rt; seen_pc, pc);
+        assert_same(&rt, seen_kind, kind);
+        assert_same(&rt, seen_pc, pc);
     }
 }
 

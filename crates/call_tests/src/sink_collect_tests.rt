@@ -3,6 +3,7 @@
 ghost use Rattle.std.specs.Prelude.{◌≡◌};
 ghost use Rattle.report_model.specs.Text.{report_text};
 
+use crate::asserts::assert_same;
 use flow_model::{InnerSink, Loc, SinkByte, SinkPoint, SourceByte};
 use outer_io::{Buffer, InPieces, MemorySink, Pieces, write_in_pieces};
 use query_lang::{Query, parse};
@@ -74,15 +75,15 @@ fn report(rt: &impl Abort, alloc: Global) -> Report {
 /// The report has this text.
 fn assert_text(rt: &impl Abort, alloc: Global, report: &Report, lines: &str) {
     let written = text(alloc, report).expect(rt, "memory");
-    assert_eq!(rt; written.as_slice(), lines.as_bytes());
+    assert_same(rt, written.as_slice(), lines.as_bytes());
 }
 
 /// The output bytes come first, by channel and then offset.
 #[test]
 fn rows_come_in_their_order(rt: HostRuntime) {
     let report = report(&rt, rt.alloc());
-    assert_eq!(rt; report.lines(), 5);
-    assert_eq!(rt; report.pairs(), 6);
+    assert_same(&rt, report.lines(), 5);
+    assert_same(&rt, report.pairs(), 6);
     let lines =
         "1:70000 0:7 15:2\n2:9\n2:10 0:4294967295 15:2\nr:10.3@6\nm:65792@6 0:7 15:2\nend 5\n";
     assert_text(&rt, rt.alloc(), &report, lines);
@@ -112,18 +113,20 @@ fn rows_are_turned_round(rt: HostRuntime) {
     let alloc = rt.alloc();
     let report = report(&rt, alloc);
     let influence = turn_round(alloc, &report, &chosen(&rt, alloc)).expect(&rt, "memory");
-    assert_eq!(rt; influence.lines(), 3);
+    assert_same(&rt, influence.lines(), 3);
     let lines = influence_text(alloc, &influence).expect(&rt, "memory");
-    assert_eq!(rt;
+    assert_same(
+        &rt,
         lines.as_slice(),
-        b"0:7 1:70000 m:65792@6\n0:8\n15:2 1:70000 2:10 m:65792@6\nend 3\n".as_slice()
+        b"0:7 1:70000 m:65792@6\n0:8\n15:2 1:70000 2:10 m:65792@6\nend 3\n".as_slice(),
     );
     let mut out = Vec::new(alloc);
     put_numbered(&mut out, b"query ", 16).expect(&rt, "memory");
     put_influence(&mut out, &influence).expect(&rt, "memory");
-    assert_eq!(rt;
+    assert_same(
+        &rt,
         out.as_slice(),
-        b"query 16\n0:7 1:70000 m:65792@6\n0:8\n15:2 1:70000 2:10 m:65792@6\nend 3\n".as_slice()
+        b"query 16\n0:7 1:70000 m:65792@6\n0:8\n15:2 1:70000 2:10 m:65792@6\nend 3\n".as_slice(),
     );
 }
 
@@ -171,7 +174,7 @@ fn assert_pieces(rt: &impl Abort, alloc: Global, lines: &Lines, room: usize, fai
     let buffer = Buffer::new(alloc, room).expect(rt, "memory");
     let written = write_in_pieces(&mut sink, buffer, lines);
     if written.is_ok() {
-        assert_eq!(rt; sink.bytes(), whole.as_slice());
+        assert_same(rt, sink.bytes(), whole.as_slice());
     } else {
         assert!(rt; sink.bytes().len() < whole.len());
         assert!(rt; whole.as_slice().starts_with(sink.bytes()));

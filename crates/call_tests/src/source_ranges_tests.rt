@@ -1,5 +1,6 @@
 //! Ranges of source bytes, and sets that are kept as such.
 
+use crate::asserts::assert_same;
 use flow_model::SourceByte;
 use source_ranges::{SourceSet, push_range, ranges_of};
 
@@ -35,9 +36,10 @@ fn ranges_are_as_long_as_can_be(rt: HostRuntime) {
         push_range(&mut names, *range).expect(&rt, "memory");
         names.push(b' ').expect(&rt, "memory");
     }
-    assert_eq!(rt;
+    assert_same(
+        &rt,
         names.as_slice(),
-        b"0:2-4 0:6-7 0:4294967295-4294967296 1:7-8 ".as_slice()
+        b"0:2-4 0:6-7 0:4294967295-4294967296 1:7-8 ".as_slice(),
     );
 }
 

@@ -1,5 +1,6 @@
 //! Runs of source bytes.
 
+use crate::asserts::assert_same;
 use flow_model::SourceByte;
 use source_runs::{SourceRun, settle};
 use std::alloc::Global;
@@ -29,7 +30,7 @@ fn runs_in_any_order_are_a_set(rt: HostRuntime) {
     settle(&mut all, &mut spare).expect(&rt, "memory");
     let mut sorted = runs(&rt, alloc, &[(0, 4), (0, 5), (0, 6), (0, 9), (1, 7)]);
     settle(&mut sorted, &mut spare).expect(&rt, "memory");
-    assert_eq!(rt; all.len(), 3);
+    assert_same(&rt, all.len(), 3);
     assert!(rt; all.as_slice() == sorted.as_slice());
 }
 
@@ -71,5 +72,9 @@ fn runs_settle_to_those_of_their_bytes(rt: HostRuntime) {
         runs.push(run).expect(&rt, "memory");
     }
     settle(&mut runs, &mut Vec::new(alloc)).expect(&rt, "memory");
-    assert_eq!(rt; runs.as_slice(), [UP_TO_4, LATER, OTHER_CHANNEL].as_slice());
+    assert_same(
+        &rt,
+        runs.as_slice(),
+        [UP_TO_4, LATER, OTHER_CHANNEL].as_slice(),
+    );
 }
