@@ -3,6 +3,7 @@
 mod disk;
 
 use disk::{Disk, Told};
+use memory_outside::*;
 use no_memory::Fault;
 use outer_io::*;
 use std::alloc::Global;
@@ -171,11 +172,12 @@ fn a_failing_disk_is_a_fault(rt: HostRuntime) {
 }
 
 /// What is told of a name, what is read there, and whether it may be replaced.
-const REPLACED: [(Told, Option<&[u8]>, bool); 10] = [
+const REPLACED: [(Told, Option<&[u8]>, bool); 11] = [
     (Told::Missing, None, true),
     (Told::Device, None, true),
     (Told::Unknown, Some(b"MARK"), false),
     (Told::Regular, None, false),
+    (Told::Locked, Some(b"MARK"), false),
     (Told::Regular, Some(b""), true),
     (Told::Regular, Some(b"MARK"), true),
     (Told::Regular, Some(b"MARKED"), true),

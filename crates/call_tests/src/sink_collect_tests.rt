@@ -5,7 +5,8 @@ ghost use Rattle.report_model.specs.Text.{report_text};
 
 use crate::asserts::assert_same;
 use flow_model::{InnerSink, Loc, SinkByte, SinkPoint, SourceByte};
-use outer_io::{Buffer, InPieces, MemorySink, Pieces, write_in_pieces};
+use memory_outside::MemorySink;
+use outer_io::{Buffer, InPieces, Pieces, write_in_pieces};
 use query_lang::{Query, parse};
 use sink_collect::{
     Report, SinkSet, gather, influence_text, put_influence, put_numbered, put_text, text,

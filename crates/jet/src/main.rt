@@ -3,21 +3,15 @@
 //! What each status says is told by the contract of `jet_cli::jet`.
 #![tactic(auto)]
 
-ghost use Rattle.std.specs.Prelude.{◌≤◌, length};
-
 use jet_cli::jet;
 use jet_refusal::Refusal;
-use jet_work::conclude;
+use jet_work::{conclude, mark_for};
 use no_memory::NoMemory;
 use outer_io::{FileStore, MachineClock, OpenGate, OutSink};
-use page_text::mark as page_mark;
 use std::alloc::AllocError;
 use std::env;
 use std::io::ErrorKind;
 use std::process::ExitCode;
-
-/// What each log begins with.
-const LOG_MARK: &[u8] = b"JETLOG";
 
 /// The words of the command line, of which the first is the program's name. A word that isn't UTF-8 is no word of a
 /// command.
@@ -34,16 +28,6 @@ fn words_of(rt: HostRuntime) -> Result<Vec<String>, Refusal> {
     Ok(words)
 }
 
-/// What a file begins with that the command of these words may replace: a page by a page, and a log by a log.
-fn mark_of(words: &[String]) -> &'static [u8]
-    ensures { length result.now ≤ 16 }
-{
-    match words.get(1) {
-        Some(word) if word.as_str() == "page" => page_mark(),
-        _ => LOG_MARK,
-    }
-}
-
 /// Makes the real outside, calls `jet` and ends with its status.
 fn main(rt: HostRuntime) -> ExitCode {
     let mut err = OutSink::new(rt.stderr());
@@ -51,7 +35,13 @@ fn main(rt: HostRuntime) -> ExitCode {
         Ok(words) => words,
         Err(refusal) => return ExitCode::from(conclude(&mut err, Err(refusal))),
     };
-    let mut store = FileStore::new(rt, mark_of(&words));
+    let mark = match mark_for(rt.alloc(), &words) {
+        Ok(mark) => mark,
+        Err(no_memory) => {
+            return ExitCode::from(conclude(&mut err, Err(Refusal::NoMemory(no_memory))));
+        }
+    };
+    let mut store = FileStore::new(rt, mark);
     let mut out = OutSink::new(rt.stdout());
     let mut clock = MachineClock::new(rt);
     let status = jet(

@@ -149,7 +149,7 @@ found-always P (Some files) p = record { found = p }
 -- what work comes to is what the files come to, whatever they are
 pub follows-always : {A : Type 0} (Q : Result A Refusal → Type 0) (f : StoreShown) (outcome : Result A Refusal) → IsWorkOf Q outcome
     → Follows (λ (file : Contents). Q) f f outcome
-follows-always Q f (Ok x) work = found-always (Q (Ok x)) f.files work
+follows-always Q f (Ok x) work = (refl, found-always (Q (Ok x)) f.files work)
 follows-always Q f (Err r) work =
     IsOwedTo-map (by_reading (Q (Err r)) ⊥) (by_reading (Tells f.files f.files (Found (λ file. Q (Err r)))) (Rose f.faults f.faults))
     (λ p. p) (found-always (Q (Err r)) f.files) (λ p. absurd p) (λ p. p) r work

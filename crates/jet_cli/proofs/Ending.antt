@@ -16,7 +16,7 @@ use Rattle.workload_model.proofs.Outcomes.{one_answer as one_bench_answer, answe
 use Rattle.jet_files.specs.Outcome.{Found}
 use Rattle.jet_work.specs.Targets.{Target, ToOutput, ToFile, target_of}
 use Rattle.jet_work.specs.Answers.{IsAnswer, given_by, decisions_by, made_by, named, limits_of, workload_length}
-use Rattle.jet_work.specs.Outside.{Change, Told, IsUndisturbed}
+use Rattle.outer_io.specs.Outside.{Change, Told, IsUndisturbed}
 use Rattle.jet_work.specs.Writing.{FailsToWrite}
 use Rattle.jet_work.specs.Ending.{IsText, WritesWhole, WritesPart, Ends, IsUnasked, causes_of, status_after}
 use Rattle.jet_cli.specs.Statuses.{IsWanted, IsDone, IsDoneInPart, IsRefused, IsHeard, IsDecided, AreWithinLimits, IsComplete}
@@ -84,7 +84,7 @@ no_zero r e = let range = status_of-range r in omega (arith, e, range.0)
 
 pub done : (command : Option CommandOf) (change : Change) (r : Result (Unit {0}) Refusal) → Ends command change r → status_after r ≡ 0 → IsDone command change
 done None change (Ok x) h e = absurd h
-done (Some command) change (Ok x) h e = whole command change h
+done (Some command) change (Ok x) h e = (h.0, whole command change h.1)
 done command change (Err r) h e = absurd (no_zero r e)
 
 pub part : (command : Option CommandOf) (change : Change) (r : Result (Unit {0}) Refusal) → Ends command change r → status_after r ≡ 8 → IsDoneInPart command change
@@ -124,7 +124,7 @@ module _ (command : CommandOf) (change : Change) (u : IsUndisturbed change) (tol
       ap status_after (one_answer change u.told.file command (Ok end.1.text) answer told end.1.is_wanted is)
 
   pub decided-some : (r : Result (Unit {0}) Refusal) → Ends (Some command) change r → (status_after r ≡ status_after answer) ⊎ (status_after r ≡ 10)
-  decided-some (Ok x) h = inl (by_text h)
+  decided-some (Ok x) h = inl (by_text h.1)
   decided-some (Err r) h =
       let Goal : Type 0 = (status_of r ≡ status_after answer) ⊎ (status_of r ≡ 10) in
       of_any_cause Goal r (λ e. inr e)

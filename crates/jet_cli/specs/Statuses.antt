@@ -13,14 +13,14 @@ use Rattle.page_model.specs.Page.{page_report}
 use Rattle.workload_model.specs.Answer.{IsBenchOf}
 use Rattle.jet_work.specs.Answers.{IsAnswer, Hears, given_by, decisions_by, made_by, named, limits_of, workload_length}
 use Rattle.jet_work.specs.Targets.{Unless, plan_of}
-use Rattle.jet_work.specs.Outside.{Change, Told, IsUndisturbed}
+use Rattle.outer_io.specs.Outside.{Change, Told, IsFaultless, IsUndisturbed}
 use Rattle.jet_work.specs.Ending.{WritesWhole, WritesPart, IsUnasked, causes_of, status_after}
 
 -- the program ends with 0, or with one of 2 to 11
 abbrev pub IsStatus : ℕ → Type 0
 IsStatus status = (status ≡ 0) ⊎ ((2 ≤ status) × (status ≤ 11))
 
--- ---- 0: the text that the words want was written whole
+-- ---- 0: nothing failed, and the text that the words want was written whole
 
 -- the text is what a query gives of a run, as its report, its decisions, or its page; what is made of a run, as its
 -- numbers; the log of a run, by the clock's answers; a log in version 2; the reports of several queries; or the numbers
@@ -40,7 +40,7 @@ IsWanted (BenchOf seed steps pipeline) change file text = IsBenchOf seed steps (
 
 abbrev pub IsDone : Option CommandOf → Change → Type 0
 IsDone None change = ⊥
-IsDone (Some command) change = Told change (WritesWhole command change (IsWanted command change))
+IsDone (Some command) change = IsFaultless change × Told change (WritesWhole command change (IsWanted command change))
 
 -- at most its first bytes were
 abbrev pub IsDoneInPart : Option CommandOf → Change → Type 0

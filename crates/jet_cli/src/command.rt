@@ -5,7 +5,7 @@ ghost use Rattle.jet_refusal.specs.Faults.{IsOutOfMemory};
 ghost use Rattle.jet_words.specs.CommandLine.{jet_app};
 ghost use Rattle.jet_words.specs.Commands.{plain_command, IsInRange};
 ghost use Rattle.jet_work.specs.Targets.{command_in, target_of, target_in, files_of, IfFile, IfUntimed, IfUntimedIn};
-ghost use Rattle.jet_work.specs.Outside.{change};
+ghost use Rattle.outer_io.specs.Outside.{change};
 ghost use Rattle.jet_work.specs.Keeping.{OpensAll, OpensFirst, KeepsAll, KeepsBut};
 ghost use Rattle.jet_work.specs.Ending.{Ends, IsUnasked, IsUnwritten, status_after};
 

@@ -11,7 +11,6 @@ mod answer;
 mod bench;
 mod command;
 mod engine;
-pub mod laws;
 mod parts;
 mod run;
 mod work;

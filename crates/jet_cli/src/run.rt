@@ -3,7 +3,7 @@ ghost use Rattle.std.specs.Prelude.{◌≡◌, ◌⊎◌, ◌≤◌, false, map,
 ghost use Rattle.clap.specs.Words.{takes};
 ghost use Rattle.jet_words.specs.CommandLine.{jet_app};
 ghost use Rattle.jet_work.specs.Targets.{command_in, target_in, files_of, IfFile, IfUntimedIn};
-ghost use Rattle.jet_work.specs.Outside.{change};
+ghost use Rattle.outer_io.specs.Outside.{change};
 ghost use Rattle.jet_work.specs.Keeping.{OpensAll, OpensFirst, KeepsAll, KeepsBut};
 ghost use Rattle.jet_work.specs.Ending.{IsUnwritten, Says};
 ghost use Rattle.jet_cli.specs.Statuses.{IsStatus, IsDone, IsDoneInPart, IsRefused, IsDecided, IsComplete};

@@ -39,12 +39,14 @@ found-kept fact R f g step told keeps =
 pub follows-then : {A B : Type 0} {names more : List Text} {one two : Bool} (R : Contents → Result A Refusal → Type 0) (Q T : Contents → Result B Refusal → Type 0) (x : A) (f g h : StoreShown)
     → ((file : Contents) (outcome : Result B Refusal) → R file (Ok x) → Q file outcome → T file outcome)
     → Follows R f g (Ok x) → Reads names one f g → Reads more two g h → (outcome : Result B Refusal) → Follows Q g h outcome → Follows T f h outcome
-follows-then R Q T x f g h step first reads after (Ok y) next =
-    found-then (λ file. R file (Ok x)) (λ file. Q file (Ok y)) (λ file. T file (Ok y)) f.files g.files h.files (λ file. step file (Ok y)) first reads.keeps next
+follows-then R Q T x f g h step first reads after (Ok y) next = (
+  next.0 ∙ first.0,
+  found-then (λ file. R file (Ok x)) (λ file. Q file (Ok y)) (λ file. T file (Ok y)) f.files g.files h.files (λ file. step file (Ok y)) first.1 reads.keeps next.1,
+)
 follows-then R Q T x f g h step first reads after (Err r) next =
     IsOwedTo-map (by_reading (Tells g.files h.files (Found (λ file. Q file (Err r)))) (Rose g.faults h.faults))
     (by_reading (Tells f.files h.files (Found (λ file. T file (Err r)))) (Rose f.faults h.faults))
-    (λ p. p) (found-then (λ file. R file (Ok x)) (λ file. Q file (Err r)) (λ file. T file (Err r)) f.files g.files h.files (λ file. step file (Err r)) first reads.keeps)
+    (λ p. p) (found-then (λ file. R file (Ok x)) (λ file. Q file (Err r)) (λ file. T file (Err r)) f.files g.files h.files (λ file. step file (Err r)) first.1 reads.keeps)
     (λ rose. rose-earlier f.faults g.faults h.faults reads.later rose after.later) (λ p. p) r next
 
 -- a refusal of the first calls is one of all
@@ -59,15 +61,16 @@ follows-stops R T f g r step first =
 pub follows-work : {A B : Type 0} (R : Contents → Result A Refusal → Type 0) (T : Contents → Result B Refusal → Type 0) (x : A) (answer : Result B Refusal) (f g : StoreShown)
     → ((file : Contents) (outcome : Result B Refusal) → R file (Ok x) → answer ≡ outcome → T file outcome)
     → Follows R f g (Ok x) → (outcome : Result B Refusal) → IsWork answer outcome → Follows T f g outcome
-follows-work R T x answer f g step first (Ok y) work = found-map (λ file. R file (Ok x)) (λ file. T file (Ok y)) f.files g.files (λ file is. step file (Ok y) is work) first
+follows-work R T x answer f g step first (Ok y) work =
+    (first.0, found-map (λ file. R file (Ok x)) (λ file. T file (Ok y)) f.files g.files (λ file is. step file (Ok y) is work) first.1)
 follows-work R T x answer f g step first (Err r) work =
     IsOwedTo-map (by_reading (answer ≡ Err r) ⊥) (by_reading (Tells f.files g.files (Found (λ file. T file (Err r)))) (Rose f.faults g.faults))
-    (λ p. p) (λ e. found-map (λ file. R file (Ok x)) (λ file. T file (Err r)) f.files g.files (λ file is. step file (Err r) is e) first) (λ p. absurd p) (λ p. p) r work
+    (λ p. p) (λ e. found-map (λ file. R file (Ok x)) (λ file. T file (Err r)) f.files g.files (λ file is. step file (Err r) is e) first.1) (λ p. absurd p) (λ p. p) r work
 
 -- what follows in one way follows in another
 pub follows-map : {A : Type 0} (R T : Contents → Result A Refusal → Type 0) (f g : StoreShown)
     → ((file : Contents) (outcome : Result A Refusal) → R file outcome → T file outcome) → (outcome : Result A Refusal) → Follows R f g outcome → Follows T f g outcome
-follows-map R T f g step (Ok y) h = found-map (λ file. R file (Ok y)) (λ file. T file (Ok y)) f.files g.files (λ file. step file (Ok y)) h
+follows-map R T f g step (Ok y) h = (h.0, found-map (λ file. R file (Ok y)) (λ file. T file (Ok y)) f.files g.files (λ file. step file (Ok y)) h.1)
 follows-map R T f g step (Err r) h = follows-stops R T f g r (λ file. step file (Err r)) h
 
 -- ---- outcomes that are what the files come to

@@ -49,15 +49,17 @@ module _ (name : List ℕ) (f g : StoreShown) where
       (λ file e. alike-refusal r (query_at file name) (and_then-err (file_at file name) query_in r e)) first
 
   pub query_read : (bytes : List ℕ) (kept : Query) → StandsFor bytes kept → Comes (λ file. file_at file name) f g (Ok bytes) → Follows (λ file kept. AreAlike kept (query_at file name)) f g (Ok kept)
-  query_read bytes kept s first =
-      found-map (λ file. file_at file name ≡ Ok bytes) (λ file. AreAlike (Ok kept) (query_at file name)) f.files g.files
-      (λ file e. alike-query kept s.written (query_at file name) (and_then-ok (file_at file name) query_in bytes e ∙ query_in-query bytes s.written s.stands) s.alike) first
+  query_read bytes kept s first = (
+    first.0,
+    found-map (λ file. file_at file name ≡ Ok bytes) (λ file. AreAlike (Ok kept) (query_at file name)) f.files g.files
+        (λ file e. alike-query kept s.written (query_at file name) (and_then-ok (file_at file name) query_in bytes e ∙ query_in-query bytes s.written s.stands) s.alike) first.1,
+  )
 
   pub no_query : (bytes : List ℕ) (fault : Fault FaultInQuery) (r : Refusal) → IsCausedBy (IsTold bytes) fault → IsRefusalOf (λ at given. given ≡ refusal.Query at.line at.kind) fault r
       → Comes (λ file. file_at file name) f g (Ok bytes) → Follows (λ file kept. AreAlike kept (query_at file name)) f g (Err r)
   no_query bytes (At at) r e gives first = rw gives
       (found-map (λ file. file_at file name ≡ Ok bytes) (λ file. AreAlike (Err (refusal.Query at.line at.kind)) (query_at file name)) f.files g.files
-      (λ file is. alike-refusal (refusal.Query at.line at.kind) (query_at file name) (and_then-ok (file_at file name) query_in bytes is ∙ query_in-fault bytes at.line at.kind e)) first)
+      (λ file is. alike-refusal (refusal.Query at.line at.kind) (query_at file name) (and_then-ok (file_at file name) query_in bytes is ∙ query_in-fault bytes at.line at.kind e)) first.1)
   no_query bytes (NoMemory no_memory) r e gives first = rw gives tt
 
 -- ---- one of several queries
@@ -69,13 +71,15 @@ module _ (number : ℕ) (name : List ℕ) (f g : StoreShown) where
       (λ file e. alike-refusal r (numbered_query_at file number name) (and_then-err (file_at file name) (numbered_query_in number) r e)) first
 
   pub numbered_read : (bytes : List ℕ) (kept : Query) → StandsFor bytes kept → Comes (λ file. file_at file name) f g (Ok bytes) → Follows (λ file kept. AreAlike kept (numbered_query_at file number name)) f g (Ok kept)
-  numbered_read bytes kept s first =
-      found-map (λ file. file_at file name ≡ Ok bytes) (λ file. AreAlike (Ok kept) (numbered_query_at file number name)) f.files g.files
-      (λ file e. alike-query kept s.written (numbered_query_at file number name) (and_then-ok (file_at file name) (numbered_query_in number) bytes e ∙ numbered_query_in-query number bytes s.written s.stands) s.alike) first
+  numbered_read bytes kept s first = (
+    first.0,
+    found-map (λ file. file_at file name ≡ Ok bytes) (λ file. AreAlike (Ok kept) (numbered_query_at file number name)) f.files g.files
+        (λ file e. alike-query kept s.written (numbered_query_at file number name) (and_then-ok (file_at file name) (numbered_query_in number) bytes e ∙ numbered_query_in-query number bytes s.written s.stands) s.alike) first.1,
+  )
 
   pub no_numbered : (bytes : List ℕ) (fault : Fault FaultInQuery) → IsCausedBy (IsTold bytes) fault → Comes (λ file. file_at file name) f g (Ok bytes)
       → Follows (λ file kept. AreAlike kept (numbered_query_at file number name)) f g (Err (numbered_query_refusal number fault))
   no_numbered bytes (At at) e first =
       found-map (λ file. file_at file name ≡ Ok bytes) (λ file. AreAlike (Err (refusal.QueryOf number at.line at.kind)) (numbered_query_at file number name)) f.files g.files
-      (λ file is. alike-refusal (refusal.QueryOf number at.line at.kind) (numbered_query_at file number name) (and_then-ok (file_at file name) (numbered_query_in number) bytes is ∙ numbered_query_in-fault number bytes at.line at.kind e)) first
+      (λ file is. alike-refusal (refusal.QueryOf number at.line at.kind) (numbered_query_at file number name) (and_then-ok (file_at file name) (numbered_query_in number) bytes is ∙ numbered_query_in-fault number bytes at.line at.kind e)) first.1
   no_numbered bytes (NoMemory no_memory) e first = tt

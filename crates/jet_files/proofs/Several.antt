@@ -46,10 +46,10 @@ inputs_more names i d inputs more input f g h inside e found reads next =
     let x : Text = (get_or names i d).now in
     let contents : List (List ℕ) = items_of inputs in
     let here : items_of more ≡ contents ++ input.items ∷ [] = ap items_of e ∙ map-append (λ (v : Vec ℕ Global). v.items) inputs (input ∷ []) in
+    let told = found-then (λ file. inputs_at file front ≡ Ok contents) (λ file. file_at file x ≡ Ok input.items) (λ file. inputs_at file (front ++ x ∷ []) ≡ Ok (contents ++ input.items ∷ [])) f.files g.files h.files
+    (λ file one two. each-push (λ number. file_at file) 1 front x contents input.items one two) found.1 reads.keeps next.1 in
     subst (λ (w : List Text). Comes (λ file. inputs_at file w) f h (Ok (items_of more))) (texts-more names i d inside)
-    (subst (λ (w : List (List ℕ)). Comes (λ file. inputs_at file (front ++ x ∷ [])) f h (Ok w)) (sym here)
-    (found-then (λ file. inputs_at file front ≡ Ok contents) (λ file. file_at file x ≡ Ok input.items) (λ file. inputs_at file (front ++ x ∷ []) ≡ Ok (contents ++ input.items ∷ [])) f.files g.files h.files
-    (λ file one two. each-push (λ number. file_at file) 1 front x contents input.items one two) found reads.keeps next))
+    (subst (λ (w : List (List ℕ)). Comes (λ file. inputs_at file (front ++ x ∷ [])) f h (Ok w)) (sym here) (next.0 ∙ found.0, told))
 
 -- the first file that is refused
 pub inputs_stop : (names : List (Bor (List ℕ))) (i : ℕ) (d : Bor (List ℕ)) (contents : List (List ℕ)) (f g h : StoreShown) (r : Refusal)
@@ -105,15 +105,15 @@ pub queries_more : (names : List (Bor (List ℕ))) (i number : ℕ) (d : Bor (Li
 queries_more names i number d kept more q f g h inside n e found reads next =
     let front = texts (take i names) in
     let x : Text = (get_or names i d).now in
-    subst (λ (w : List Text). Follows (λ file found. AreAllAlike found (queries_at file w)) f h (Ok more)) (texts-more names i d inside)
-    (subst (λ (w : List Query). Follows (λ file found. AreAllAlike found (queries_at file (front ++ x ∷ []))) f h (Ok w)) (sym e)
-    (found-then (λ file. AreAllAlike (Ok kept) (queries_at file front)) (λ file. AreAlike (Ok q) (numbered_query_at file number x)) (λ file. AreAllAlike (Ok (kept ++ q ∷ [])) (queries_at file (front ++ x ∷ []))) f.files g.files h.files
+    let told = found-then (λ file. AreAllAlike (Ok kept) (queries_at file front)) (λ file. AreAlike (Ok q) (numbered_query_at file number x)) (λ file. AreAllAlike (Ok (kept ++ q ∷ [])) (queries_at file (front ++ x ∷ []))) f.files g.files h.files
     (λ file one two.
     let a = kept-is AskAlike kept (queries_at file front) one in
     let here = numbered-there names i x (Ok q) file inside (subst (λ (k : ℕ). AreAlike (Ok q) (numbered_query_at file k x)) n two) in
     let b = kept-is Alike q (numbered_query_at file (1 + length front) x) here in
     keeps-ok AskAlike (kept ++ q ∷ []) (a.0 ++ b.0 ∷ []) (queries_at file (front ++ x ∷ []))
-    (each-push (numbered_query_at file) 1 front x a.0 b.0 a.1 b.1) (ask-push kept a.0 q b.0 a.2 b.2)) found reads.keeps next))
+    (each-push (numbered_query_at file) 1 front x a.0 b.0 a.1 b.1) (ask-push kept a.0 q b.0 a.2 b.2)) found.1 reads.keeps next.1 in
+    subst (λ (w : List Text). Follows (λ file found. AreAllAlike found (queries_at file w)) f h (Ok more)) (texts-more names i d inside)
+    (subst (λ (w : List Query). Follows (λ file found. AreAllAlike found (queries_at file (front ++ x ∷ []))) f h (Ok w)) (sym e) (next.0 ∙ found.0, told))
 
 -- the first query that is refused
 pub queries_stop : (names : List (Bor (List ℕ))) (i number : ℕ) (d : Bor (List ℕ)) (kept : List Query) (f g h : StoreShown) (r : Refusal)

@@ -19,9 +19,9 @@ abbrev pub by_reading : Type 0 → Type 0 → Causes
 by_reading refused failed = record { usage = ⊥; files = refused; read = failed; write = ⊥ }
 
 -- The outcome follows from the files. `before` and `after` are what the store showed. Where it tells its files, the relation holds of
--- them and the outcome; or the store failed; or memory is out.
+-- them and the outcome; or the store failed; or memory is out. Where the outcome is a value, no call of the store failed.
 abbrev pub Follows : {A : Type 0} → (Contents → Result A Refusal → Type 0) → StoreShown → StoreShown → Result A Refusal → Type 0
-Follows relation before after (Ok x) = Tells before.files after.files (Found (λ file. relation file (Ok x)))
+Follows relation before after (Ok x) = (after.faults ≡ before.faults) × Tells before.files after.files (Found (λ file. relation file (Ok x)))
 Follows relation before after (Err r) =
     IsOwedTo (by_reading (Tells before.files after.files (Found (λ file. relation file (Err r)))) (Rose before.faults after.faults)) r
 

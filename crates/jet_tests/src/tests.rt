@@ -26,7 +26,8 @@ use guests::{
     MULTIPLY_WORDS, OVERWRITE, UNALIGNED, XOR_WORDS,
 };
 use jet_cli::jet;
-use outer_io::{Gate, ListClock, MemoryFile, MemorySink, MemoryStore, OpenGate, Sink, Store};
+use memory_outside::{ListClock, MemoryFile, MemorySink, MemoryStore};
+use outer_io::{Gate, OpenGate, Sink, Store};
 use sha2::{Digest, Sha256};
 use std::alloc::Global;
 use std::process::Abort;

@@ -1,11 +1,12 @@
 -- From the answer of a command's files, and the delivery of its text, to the end of the command.
-use Rattle.std.proofs.Common.{◌≡◌, ◌∙◌, sym, subst, ℕ, ◌≤◌, inl, inr, List, Option, Some, None, Ok, Err}
-use Rattle.outer_io.specs.Faults.{Rose}
+use Rattle.std.proofs.Common.{◌≡◌, ◌∙◌, sym, subst, refl, ℕ, ◌≤◌, inl, inr, List, Option, Some, None, Result, Ok, Err, OnOk, OnErr}
+use Rattle.std.proofs.Math.Seq.{take-length}
+use Rattle.outer_io.specs.Faults.{Rose, HasCause}
 use Rattle.outer_io.specs.Shown.{StoreShown, SinkShown}
-use Rattle.outer_io.specs.Tells.{Tells}
+use Rattle.outer_io.specs.Tells.{Tells, Gains, GainsPrefix}
 use Rattle.outer_io.specs.Files.{Files, Text, KeepsFiles}
 use Rattle.outer_io.specs.WriteFile.{PutsPart}
-use Rattle.outer_io.proofs.TellsLemmas.{tells-then, tells-both, rose-earlier}
+use Rattle.outer_io.proofs.TellsLemmas.{tells-then, tells-map, tells-both, rose-earlier}
 use Rattle.jet_words.specs.Commands.{CommandOf}
 use Rattle.jet_refusal.specs.declared.refusal.Refusal.{Refusal}
 use Rattle.jet_refusal.specs.declared.refusal.Refusal.TheVariants as refusal
@@ -14,9 +15,33 @@ use Rattle.jet_refusal.proofs.Causes.{IsOwedTo-map}
 use Rattle.jet_files.specs.Outcome.{Found, Follows, by_reading}
 use Rattle.jet_work.specs.Targets.{Target, ToOutput, ToFile, target_of}
 use Rattle.jet_work.specs.Answers.{IsAnswer}
-use Rattle.jet_work.specs.Outside.{Change}
+use Rattle.outer_io.specs.Outside.{Change}
 use Rattle.jet_work.specs.Writing.{Delivers, DeliversPart, FailsToWrite}
-use Rattle.jet_work.specs.Ending.{IsText, WritesWhole, WritesPart, IsDelivered, causes_of}
+use Rattle.jet_work.specs.Ending.{IsText, WritesWhole, WritesPart, IsDelivered, Says, causes_of}
+
+-- what is well failed nowhere
+pub stood : {T E : Type 0} (before now : ℕ) (r : Result T E) → HasCause before now r → OnOk r (now ≡ before)
+stood before now (Ok x) cause = cause.stood refl
+stood before now (Err e) cause = tt
+
+-- nor did what was not called
+pub untouched : {T E : Type 0} (count : ℕ) (r : Result T E) → OnOk r (count ≡ count)
+untouched count (Ok x) = refl
+untouched count (Err e) = tt
+
+-- a line that is written is said
+pub says : {T E : Type 0} (old new : SinkShown) (line : List ℕ) (r : Result T E) → HasCause old.faults new.faults r
+    → OnOk r (Tells old.written new.written (Gains line)) → OnErr r (Tells old.written new.written (GainsPrefix line)) → Says old new line
+says old new line (Ok x) cause whole part = record {
+  later = cause.later;
+  part = tells-map old.written new.written (Gains line) (GainsPrefix line) (λ x y gains. record { gained = line; is_prefix = take-length line; gains = gains }) whole;
+  whole = λ still. whole;
+}
+says old new line (Err e) cause whole part = record {
+  later = cause.later;
+  part = part;
+  whole = λ still. absurd (still (cause.failed refl));
+}
 
 -- words that stand for no command
 pub no_command : (command : Option CommandOf) (change : Change) → command ≡ None → IsOwedTo (causes_of command change refusal.Usage) refusal.Usage
@@ -54,12 +79,15 @@ module _ (command : CommandOf) (f g h : StoreShown) (o n : SinkShown) (heard hea
     Read x y = Found (λ file. IsAnswer command heard heard_after file (Ok text)) x y × KeepsFiles x y
 
     was_read : Tells f.files g.files Read
-    was_read = tells-both f.files g.files (Found (λ file. IsAnswer command heard heard_after file (Ok text))) KeepsFiles answer keeps
+    was_read = tells-both f.files g.files (Found (λ file. IsAnswer command heard heard_after file (Ok text))) KeepsFiles answer.1 keeps
 
     -- the text was written
-    pub delivered : Tells g.files h.files (Delivers (target_of command) o n text) → IsDelivered (Some command) between
-    delivered = tells-then f.files g.files h.files Read (Delivers (target_of command) o n text) (WritesWhole command between (IsText command between))
-        (λ x y z p d. record { text = text; is_wanted = p.0.found; delivered = delivers-earlier (target_of command) text o n x y z d }) was_read
+    pub delivered : h.faults ≡ g.faults → n.faults ≡ o.faults → Tells g.files h.files (Delivers (target_of command) o n text) → IsDelivered (Some command) between
+    delivered store output written = (
+      record { store = store ∙ answer.0; output = output },
+      tells-then f.files g.files h.files Read (Delivers (target_of command) o n text) (WritesWhole command between (IsText command between))
+          (λ x y z p d. record { text = text; is_wanted = p.0.found; delivered = delivers-earlier (target_of command) text o n x y z d }) was_read written,
+    )
 
     -- it was not written whole
     pub not_delivered : Tells g.files h.files (DeliversPart (target_of command) o n text) → FailsToWrite (target_of command) g h o n

@@ -55,10 +55,10 @@ pub follows-answer : {A B : Type 0} (R : Contents → Result A Refusal → Type 
     → ((file : Contents) (outcome : Result B Refusal) → R file (Ok x) → Q outcome → T file outcome)
     → Follows R f g (Ok x) → (outcome : Result B Refusal) → IsWorkOf Q outcome → Follows T f g outcome
 follows-answer R Q T x f g step first (Ok y) work =
-    tells-map f.files g.files (Found (λ file. R file (Ok x))) (Found (λ file. T file (Ok y))) (λ o n d. record { found = step o.file (Ok y) d.found work }) first
+    (first.0, tells-map f.files g.files (Found (λ file. R file (Ok x))) (Found (λ file. T file (Ok y))) (λ o n d. record { found = step o.file (Ok y) d.found work }) first.1)
 follows-answer R Q T x f g step first (Err r) work =
     IsOwedTo-map (by_reading (Q (Err r)) ⊥) (by_reading (Tells f.files g.files (Found (λ file. T file (Err r)))) (Rose f.faults g.faults))
-    (λ p. p) (λ q. tells-map f.files g.files (Found (λ file. R file (Ok x))) (Found (λ file. T file (Err r))) (λ o n d. record { found = step o.file (Err r) d.found q }) first)
+    (λ p. p) (λ q. tells-map f.files g.files (Found (λ file. R file (Ok x))) (Found (λ file. T file (Err r))) (λ o n d. record { found = step o.file (Err r) d.found q }) first.1)
     (λ p. absurd p) (λ p. p) r work
 
 -- ---- a query that was read

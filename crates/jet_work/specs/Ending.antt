@@ -1,8 +1,8 @@
 -- How a command ends.
-use Rattle.std.specs.Prelude.{◌≡◌, ◌⊎◌, ℕ, List, [], Option, Some, None, Result, Ok, Err}
+use Rattle.std.specs.Prelude.{◌≡◌, ◌≤◌, ◌⊎◌, ℕ, List, [], Option, Some, None, Result, Ok, Err}
 use Rattle.outer_io.specs.Faults.{Rose}
 use Rattle.outer_io.specs.Shown.{SinkShown}
-use Rattle.outer_io.specs.Tells.{Tells, Gains}
+use Rattle.outer_io.specs.Tells.{Tells, Gains, GainsPrefix}
 use Rattle.outer_io.specs.Files.{Files}
 use Rattle.jet_words.specs.Commands.{CommandOf}
 use Rattle.jet_refusal.specs.declared.refusal.Refusal.{Refusal}
@@ -14,7 +14,7 @@ use Rattle.jet_model.specs.Contents.{Contents}
 use Rattle.jet_files.specs.Outcome.{Found}
 use Rattle.jet_work.specs.Targets.{target_of}
 use Rattle.jet_work.specs.Answers.{IsAnswer}
-use Rattle.jet_work.specs.Outside.{Change, Told}
+use Rattle.outer_io.specs.Outside.{Change, Told, IsFaultless}
 use Rattle.jet_work.specs.Writing.{Delivers, DeliversPart, FailsToWrite}
 
 -- the files as they were come to some text, which was so delivered
@@ -47,10 +47,10 @@ causes_of (Some command) change refusal = record {
       × Told change (WritesPart command change (IsText command change));
 }
 
--- the text was written whole; there is no text where there is no command
+-- nothing failed, and the text was written whole; there is no text where there is no command
 abbrev pub IsDelivered : Option CommandOf → Change → Type 0
 IsDelivered None change = ⊥
-IsDelivered (Some command) change = Told change (WritesWhole command change (IsText command change))
+IsDelivered (Some command) change = IsFaultless change × Told change (WritesWhole command change (IsText command change))
 
 -- how a command ended: its text was written whole, or it was refused
 abbrev pub Ends : Option CommandOf → Change → Result (Unit {0}) Refusal → Type 0
@@ -63,9 +63,11 @@ abbrev pub status_after : {A : Type 0} → Result A Refusal → ℕ
 status_after (Ok done) = 0
 status_after (Err refusal) = status_of refusal
 
--- where the error output tells what was written, and didn't fail, it gained this line
-abbrev pub Says : SinkShown → SinkShown → List ℕ → Type 0
-Says old new line = (Rose old.faults new.faults → ⊥) → Tells old.written new.written (Gains line)
+-- where the error output tells what was written, it gained a beginning of this line, and where it didn't fail the whole line
+pub record Says (old new : SinkShown) (line : List ℕ) : Type 0 where
+  pub later : old.faults ≤ new.faults
+  pub part : Tells old.written new.written (GainsPrefix line)
+  pub whole : (Rose old.faults new.faults → ⊥) → Tells old.written new.written (Gains line)
 
 -- ---- what was not done
 

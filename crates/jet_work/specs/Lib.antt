@@ -1,7 +1,7 @@
 pub mod Targets
 pub mod Texts
 pub mod Answers
-pub mod Outside
+pub mod Marks
 pub mod Keeping
 pub mod Writing
 pub mod Ending

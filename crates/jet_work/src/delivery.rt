@@ -13,8 +13,8 @@ use jet_words::Command;
 use outer_io::{Buffer, Sink, Store, WriteFault, write_file, write_in_pieces};
 
 /// Writes what a command gives: a log or a page into its file, and every other text to the output, in pieces that go through
-/// the buffer. It takes no memory.
-#[tactic(auto, using(crate::proofs::KeepingLemmas::keeps))]
+/// the buffer. It takes no memory. Where it answers Ok, neither the store nor the output failed.
+#[tactic(auto, using(crate::proofs::KeepingLemmas::keeps, crate::proofs::Delivered::stood, crate::proofs::Delivered::untouched))]
 pub fn deliver<S: Store, O: Sink>(
     store: &mut S,
     out: &mut O,
@@ -35,6 +35,8 @@ pub fn deliver<S: Store, O: Sink>(
         (S.shown store.new) }
     ensures aside { IfFile (target_of (plain_command command.now)) (out.new ≡ out.old) }
     ensures later { (S.shown store.old).faults ≤ (S.shown store.new).faults }
+    ensures store { OnOk result ((S.shown store.new).faults ≡ (S.shown store.old).faults) }
+    ensures output { OnOk result ((O.shown out.new).faults ≡ (O.shown out.old).faults) }
 {
     match command {
         Command::Analysis { .. } => write_in_pieces(out, buffer, answer),

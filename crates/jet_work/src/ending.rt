@@ -6,7 +6,7 @@ ghost use Rattle.jet_work.specs.Ending.{status_after, Says};
 use jet_refusal::Refusal;
 use outer_io::{Sink, write_whole};
 
-/// Says on standard error why a command gave up. That it can't be said changes nothing.
+/// Says on standard error why a command gave up: the line, or a beginning of it where that fails, which changes nothing.
 fn say<E: Sink>(err: &mut E, refusal: &Refusal)
     ensures { Says (E.shown err.old) (E.shown err.new) (line_of refusal.now) }
 {

@@ -7,13 +7,14 @@
 //!
 //! Crates above rest on this: a run's log is fitted to its program, and a text comes of it, or a refusal that the files come
 //! to; `deliver` writes a text whole, or the output or the store failed; `conclude` gives the status of what came of a
-//! command, and says its line.
+//! command, and says its line; `mark_for` gives what a file begins with that the command of the words may replace.
 #![tactic(auto)]
 
 mod answer;
 mod delivery;
 mod ending;
 mod influence;
+mod mark;
 mod path;
 mod pieces;
 mod recorded;
@@ -23,6 +24,7 @@ mod work;
 pub use answer::{convert, decisions, run_product};
 pub use delivery::deliver;
 pub use ending::conclude;
+pub use mark::mark_for;
 pub use pieces::Answer;
 pub use recorded::{Limits, record};
 pub use reports::{own_parts, union_of};

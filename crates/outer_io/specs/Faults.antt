@@ -1,5 +1,5 @@
 -- A count of faults, and the answers that it allows.
-use Rattle.std.specs.Prelude.{◌<◌, ◌≤◌, ◌+◌, ◌-◌, ◌^◌, min, ℕ, Result, IsErr}
+use Rattle.std.specs.Prelude.{◌≡◌, ◌<◌, ◌≤◌, ◌+◌, ◌-◌, ◌^◌, min, ℕ, Result, IsOk, IsErr}
 
 -- one more, of a count that stands still at its last value
 abbrev pub count_on : ℕ → ℕ
@@ -13,7 +13,8 @@ shown_count n = min n (2 ^ 64 - 1)
 abbrev pub Rose : ℕ → ℕ → Type 0
 Rose before now = before < 2 ^ 64 - 1 → before < now
 
--- the count never falls, and an error comes only where it rose
+-- the count never falls, an error comes only where it rose, and any other answer only where it didn't
 pub record HasCause {T E : Type 0} (before now : ℕ) (result : Result T E) : Type 0 where
   pub later : before ≤ now
   pub failed : IsErr result → Rose before now
+  pub stood : IsOk result → now ≡ before

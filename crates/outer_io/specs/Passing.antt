@@ -1,10 +1,10 @@
 -- How a text goes to a sink through a buffer.
 use Rattle.std.specs.Prelude.{◌≡◌, ◌≤◌, ℕ, List, [], ◌++◌, length, drop, refl}
-use Rattle.std.proofs.Common.{◌∙◌, ap, sym, arith, append_assoc, append-nil}
+use Rattle.std.proofs.Common.{◌∙◌, ap, sym, subst, append_assoc, append-nil}
 use Rattle.outer_io.specs.Faults.{Rose}
 use Rattle.outer_io.specs.Shown.{SinkShown}
 use Rattle.outer_io.specs.Tells.{Tells, GainsPrefix}
-use Rattle.outer_io.specs.TellsLaws.{tells-then, tells-map, tells-same, rose-earlier, prefix-front, prefix-rest}
+use Rattle.outer_io.specs.TellsLaws.{tells-then, tells-map, tells-same, prefix-front, prefix-rest}
 use Rattle.outer_io.specs.Pieces.{Putting, Laws}
 use Rattle.outer_io.specs.declared.pieces.BufferedSink.{BufferedSink}
 
@@ -14,9 +14,9 @@ pub record Passes (waited text waits : List ℕ) (old new : List ℕ) : Type 0 w
   pub gains : new ≡ old ++ gone
   pub rest : gone ++ waits ≡ waited ++ text
 
--- the same of what a sink shows
+-- the same of what a sink shows, which didn't fail
 pub record PassesOn (old new : SinkShown) (waited text waits : List ℕ) : Type 0 where
-  pub later : old.faults ≤ new.faults
+  pub stood : new.faults ≡ old.faults
   pub told : Tells old.written new.written (Passes waited text waits)
 
 -- the sink failed, and at most the first of what waited and of the text went out
@@ -73,11 +73,11 @@ part-longer waited xs ys x z q =
 module _ {O : Type 0} (shown : O → SinkShown) where
   pub through_laws : Laws (through shown)
   through_laws = record {
-    nothing = λ s. (refl, record { later = omega arith; told = tells-same (shown s.sink.now).written _ (passes-nothing s.buffer.bytes) });
+    nothing = λ s. (refl, record { stood = refl; told = tells-same (shown s.sink.now).written _ (passes-nothing s.buffer.bytes) });
     whole_then = λ s t u xs ys p q. (
       q.0 ∙ p.0,
       record {
-        later = omega (arith, p.1.later, q.1.later);
+        stood = q.1.stood ∙ p.1.stood;
         told = tells-then (shown s.sink.now).written (shown t.sink.now).written (shown u.sink.now).written
             (Passes s.buffer.bytes xs t.buffer.bytes) (Passes t.buffer.bytes ys u.buffer.bytes) (Passes s.buffer.bytes (xs ++ ys) u.buffer.bytes)
             (λ x y z a b. passes-then s.buffer.bytes xs t.buffer.bytes ys x y z a u.buffer.bytes b) p.1.told q.1.told;
@@ -86,8 +86,8 @@ module _ {O : Type 0} (shown : O → SinkShown) where
     part_then = λ s t u xs ys p q. (
       q.0 ∙ p.0,
       record {
-        later = omega (arith, p.1.later, q.1.later);
-        rose = rose-earlier (shown s.sink.now).faults (shown t.sink.now).faults (shown u.sink.now).faults p.1.later q.1.rose q.1.later;
+        later = subst (λ (n : ℕ). n ≤ (shown u.sink.now).faults) p.1.stood q.1.later;
+        rose = subst (λ (n : ℕ). Rose n (shown u.sink.now).faults) p.1.stood q.1.rose;
         told = tells-then (shown s.sink.now).written (shown t.sink.now).written (shown u.sink.now).written
             (Passes s.buffer.bytes xs t.buffer.bytes) (GainsPrefix (t.buffer.bytes ++ ys)) (GainsPrefix (s.buffer.bytes ++ (xs ++ ys)))
             (λ x y z a b. part-then s.buffer.bytes xs t.buffer.bytes ys x y z a b) p.1.told q.1.told;

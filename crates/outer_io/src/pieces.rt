@@ -6,7 +6,7 @@ ghost use Rattle.outer_io.specs.Tells.{Tells, Gains, GainsPrefix};
 ghost use Rattle.outer_io.specs.Pieces.{Putting, Puts, Laws, at_end, at_end_laws};
 ghost use Rattle.outer_io.specs.Passing.{through, through_laws};
 
-use crate::memory::Buffer;
+use crate::buffer::Buffer;
 use crate::sink::Sink;
 use crate::whole::{WriteFault, write_whole};
 use no_memory::NoMemory;
@@ -127,7 +127,7 @@ fn put_through<O: Sink, X: InPieces>(
 /// Writes a text as it is made, in pieces as long as the buffer has room. It takes no memory.
 ///
 /// It fails where the sink failed; its count of faults then rose, or stands at 2^64 - 1, and what
-/// went out is a prefix of the text.
+/// went out is a prefix of the text. Else no put failed.
 pub fn write_in_pieces<O: Sink, X: InPieces>(
     sink: &mut O,
     buffer: Buffer,

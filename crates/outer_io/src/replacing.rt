@@ -1,7 +1,7 @@
 //! Which of the machine's files may be replaced.
 
-ghost use Rattle.std.specs.Prelude.{◌≡◌, ◌⊎◌, ◌≤◌, ◌↔◌, [], IsTrue, IfSome, length};
-ghost use Rattle.outer_io.specs.Tells.{IsPrefix};
+ghost use Rattle.std.specs.Prelude.{◌≤◌, ◌↔◌, IsTrue, IfSome, length};
+ghost use Rattle.outer_io.specs.Replacing.{IsReplaceable};
 
 use std::fs;
 use std::io::{ErrorKind, Read};
@@ -10,11 +10,33 @@ use std::rt::Files;
 /// How many bytes a mark has at most.
 pub(crate) const LONGEST_MARK: usize = 16;
 
-/// Whether a regular file may be replaced that begins with these bytes: one that is empty, or begins with the mark.
-pub fn may_replace(front: &[u8], mark: &[u8]) -> bool
-    ensures { IsTrue result ↔ ((front.now ≡ []) ⊎ IsPrefix mark.now front.now) }
+/// What is known of a name, as far as the file system tells it.
+#[derive(Clone, Copy)]
+pub enum FileKind<'a> {
+    /// No file has it.
+    Missing,
+    /// A regular file has it, through links, which begins with these bytes.
+    Regular(&'a [u8]),
+    /// A regular file has it that can't be opened or read.
+    Unreadable,
+    /// It is that of no regular file, as of a device or a pipe.
+    Other,
+    /// The file system doesn't tell.
+    Unknown,
+}
+
+/// Whether the name may be written: no file has it, or one that is no regular file, or a regular one that is empty, or
+/// begins with the mark.
+pub fn may_replace(kind: FileKind<'_>, mark: &[u8]) -> bool
+    ensures { IsTrue result ↔ IsReplaceable kind.entry mark.now }
 {
-    front.is_empty() || front.starts_with(mark)
+    match kind {
+        FileKind::Missing => true,
+        FileKind::Regular(front) => front.is_empty() || front.starts_with(mark),
+        FileKind::Unreadable => false,
+        FileKind::Other => true,
+        FileKind::Unknown => false,
+    }
 }
 
 /// Reads the file's first bytes into the front of the buffer, until it is full or the file ends, and answers how many;
@@ -33,28 +55,31 @@ fn read_front<F: Read>(file: &mut F, into: &mut [u8]) -> Option<usize>
     Some(count)
 }
 
-/// Whether the regular file of this name can be read, and may be replaced.
-fn has_mark<R: Files>(files: &R, name: &str, mark: &[u8]) -> bool
-    requires { length mark.now ≤ 16 }
-{
+/// What is known of a regular file. As many of its first bytes are read as there is room for.
+fn regular_kind<'a, R: Files>(files: &R, name: &str, front: &'a mut [u8]) -> FileKind<'a> {
     let Ok(mut file) = fs::open(files, name) else {
-        return false;
+        return FileKind::Unreadable;
     };
-    let mut front = [0u8; LONGEST_MARK];
-    match read_front(&mut file, &mut front[..mark.len()]) {
-        Some(count) => may_replace(&front[..count], mark),
-        None => false,
+    match read_front(&mut file, front) {
+        Some(count) => FileKind::Regular(&front[..count]),
+        None => FileKind::Unreadable,
     }
 }
 
-/// Whether the name may be written: no file has it, or it is one that is no regular file, as a device or a pipe, or a
-/// regular one, through links, that can be read and may be replaced. Only a regular file is opened.
+/// What is known of a name. Only a regular file is opened, of which as many first bytes are read as there is room for.
+fn file_kind<'a, R: Files>(files: &R, name: &str, front: &'a mut [u8]) -> FileKind<'a> {
+    match fs::metadata(files, name) {
+        Ok(metadata) if metadata.is_file() => regular_kind(files, name, front),
+        Ok(_) => FileKind::Other,
+        Err(error) if error.kind() == ErrorKind::NotFound => FileKind::Missing,
+        Err(_) => FileKind::Unknown,
+    }
+}
+
+/// Whether the name may be written, by what the file system tells of it.
 pub(crate) fn may_write<R: Files>(files: &R, name: &str, mark: &[u8]) -> bool
     requires { length mark.now ≤ 16 }
 {
-    match fs::metadata(files, name) {
-        Ok(metadata) if metadata.is_file() => has_mark(files, name, mark),
-        Ok(_) => true,
-        Err(error) => error.kind() == ErrorKind::NotFound,
-    }
+    let mut front = [0u8; LONGEST_MARK];
+    may_replace(file_kind(files, name, &mut front[..mark.len()]), mark)
 }

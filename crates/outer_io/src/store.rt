@@ -20,7 +20,7 @@ pub struct Failed;
 /// place reached, in its new bytes: what was taken then stands as it was, and where the new content
 /// is no longer than that, the file is at its end.
 ///
-/// After a call that failed the bytes taken and the bytes put are as before it.
+/// After a call that failed the bytes taken and the bytes put are as before it; after any other the count of faults is.
 pub trait Store {
     /// What the store shows: its files (the content of each name's file, the name being read and the
     /// bytes taken since `begin_read`, the name being written and the bytes put since `create`), the

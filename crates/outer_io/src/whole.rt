@@ -2,7 +2,7 @@
 
 ghost use Rattle.std.specs.Prelude.{◌≡◌, ◌≤◌, ◌+◌, ◌-◌, ◌^◌, ◌∷◌, [], true, vec_len, IsTrue, IfOk, IfErr, OnOk, OnErr};
 ghost use Rattle.no_memory.specs.Faults.{IsCausedBy};
-ghost use Rattle.outer_io.specs.Faults.{HasCause, Rose};
+ghost use Rattle.outer_io.specs.Faults.{HasCause};
 ghost use Rattle.outer_io.specs.Tells.{Tells, Gains, GainsPrefix};
 ghost use Rattle.outer_io.specs.Files.{Puts};
 ghost use Rattle.outer_io.specs.Reads.{Reads};
@@ -40,7 +40,7 @@ const PIECE: usize = 65536;
 /// Reads the file of this name to its end. `max` is how many bytes it may have, at most 2^26.
 ///
 /// It asks the store for this name alone, once, and then reads pieces of at most 65,536 bytes, and
-/// at most `max + 1` bytes in all.
+/// at most `max + 1` bytes in all. Where it answers the bytes, no call failed.
 ///
 /// - `ReadFault`: the store failed, before more than `max` bytes were taken; its count of faults rose, or stands at
 ///   2^64 - 1.
@@ -60,6 +60,7 @@ pub fn read_whole<S: Store>(
     ensures pieces { ComesByReads S.begin_read_gives S.read_gives name.now 65536 store.old store.new }
     ensures reads { Reads (name.now ∷ []) true (S.shown store.old) (S.shown store.new) }
     ensures created { S.is_created store.new ≡ S.is_created store.old }
+    ensures stood { OnOk result ((S.shown store.new).faults ≡ (S.shown store.old).faults) }
 {
     let Ok(()) = store.begin_read(name) else {
         return Err(Fault::At(Unread::ReadFault));
@@ -83,7 +84,7 @@ pub fn read_whole<S: Store>(
 /// Writes all the bytes.
 ///
 /// It fails where the sink failed; its count of faults then rose, or stands at 2^64 - 1, and what
-/// went out is a prefix of the bytes.
+/// went out is a prefix of the bytes. Else no put failed.
 pub fn write_whole<O: Sink>(sink: &mut O, bytes: &[u8]) -> Result<(), WriteFault>
     ensures cause { HasCause (O.shown sink.old).faults (O.shown sink.new).faults result }
     ensures ok { OnOk result (Tells (O.shown sink.old).written (O.shown sink.new).written (Gains bytes.now)) }
@@ -104,10 +105,9 @@ fn put_whole<S: Store>(store: &mut S, bytes: &[u8]) -> Result<(), WriteFault>
     requires { IsTrue (S.is_created store.old) }
     ensures whole { OnOk result (Tells (S.shown store.old).files (S.shown store.new).files (Puts bytes.now)) }
     ensures part { OnErr result (Tells (S.shown store.old).files (S.shown store.new).files (PutsFront bytes.now)) }
-    ensures fault { OnErr result (Rose (S.shown store.old).faults (S.shown store.new).faults) }
+    ensures cause { HasCause (S.shown store.old).faults (S.shown store.new).faults result }
     ensures created { S.is_created store.new ≡ S.is_created store.old }
     ensures opened { Tells (S.shown store.old).opened (S.shown store.new).opened (Gains []) }
-    ensures later { (S.shown store.old).faults ≤ (S.shown store.new).faults }
 {
     let mut rest = bytes;
     while !rest.is_empty() {
@@ -122,16 +122,15 @@ fn put_whole<S: Store>(store: &mut S, bytes: &[u8]) -> Result<(), WriteFault>
 /// Makes the file of this name these bytes.
 ///
 /// It fails where the store failed; its count of faults then rose, or stands at 2^64 - 1, the file may
-/// be anything, and what was put is a prefix of the bytes.
+/// be anything, and what was put is a prefix of the bytes. Else no call failed.
 pub fn write_file<S: Store>(store: &mut S, name: &str, bytes: &[u8]) -> Result<(), WriteFault>
     ensures whole { OnOk result
         (Tells (S.shown store.old).files (S.shown store.new).files (IsWritten name.now bytes.now)) }
     ensures part { OnErr result
         (Tells (S.shown store.old).files (S.shown store.new).files (PutsPart name.now bytes.now)) }
-    ensures fault { OnErr result (Rose (S.shown store.old).faults (S.shown store.new).faults) }
+    ensures cause { HasCause (S.shown store.old).faults (S.shown store.new).faults result }
     ensures others { Tells (S.shown store.old).files (S.shown store.new).files (KeepsOtherFiles name.now) }
     ensures opened { Tells (S.shown store.old).opened (S.shown store.new).opened (Gains (name.now ∷ [])) }
-    ensures later { (S.shown store.old).faults ≤ (S.shown store.new).faults }
 {
     let Ok(()) = store.create(name) else {
         return Err(WriteFault);

@@ -1,16 +1,16 @@
 //! The constant texts of a page. Made from page/page.html by page/make_text.
 
-ghost use Rattle.std.specs.Prelude.{◌≡◌, ◌≤◌, ◌++◌, length, take, OnOk};
-ghost use Rattle.page_text.specs.Texts.{head, tail};
+ghost use Rattle.std.specs.Prelude.{◌≡◌, ◌≤◌, ◌++◌, length, OnOk};
+ghost use Rattle.page_text.specs.Texts.{head, tail, mark};
 
 use crate::{head0, tail0, tail1, tail2, tail3};
 use no_memory::NoMemory;
 
 /// What each page begins with, and no other file: at most 16 bytes.
-#[tactic(auto, unfolding(crate::specs::Texts::head, crate::specs::Head0::head0))]
+#[tactic(auto, unfolding(crate::specs::Texts::mark, crate::specs::Texts::head, crate::specs::Head0::head0))]
 pub fn mark() -> &'static [u8]
     ensures short { length result.now ≤ 16 }
-    ensures begins { take (length result.now) head ≡ result.now }
+    ensures mark { result.now ≡ mark }
 {
     b"<!--jet page-->"
 }

@@ -17,6 +17,8 @@ pub enum Told {
     Device,
     /// A regular file.
     Regular,
+    /// A regular file that can't be opened to be read.
+    Locked,
     /// That it can't be told.
     Unknown,
 }
@@ -109,7 +111,11 @@ impl Files for Disk {
 
     type Dir = DiskFile;
 
-    fn open_file(&self, _how: &OpenOptions, _path: &str) -> io::Result<DiskFile> {
+    fn open_file(&self, how: &OpenOptions, _path: &str) -> io::Result<DiskFile> {
+        match self.told {
+            Told::Locked if how.asks_read() => return broken(),
+            _ => {}
+        }
         Ok(DiskFile {
             bytes: self.bytes,
             wanted: self.wanted,
@@ -125,6 +131,7 @@ impl Files for Disk {
             Told::Missing => Err(io::Error::from(io::ErrorKind::NotFound)),
             Told::Device => Ok(Metadata::of_dir()),
             Told::Regular => Ok(Metadata::of_file(0)),
+            Told::Locked => Ok(Metadata::of_file(0)),
             Told::Unknown => broken(),
         }
     }

@@ -1,7 +1,7 @@
 //! The workload's run: its numbers, and its limits.
 
 use super::{Ending, Line, assert_ends, store_of};
-use outer_io::MemoryStore;
+use memory_outside::MemoryStore;
 use std::alloc::Global;
 use std::process::Abort;
 use std::sync::Wait;

@@ -9,7 +9,7 @@ use super::{
     COPY, Ending, Line, NEVER, assert_ends, files, log_of, program, store_of, wide_log_of,
 };
 use jet_files::read_file;
-use outer_io::MemoryStore;
+use memory_outside::MemoryStore;
 use std::alloc::Global;
 use std::process::Abort;
 use std::sync::Wait;

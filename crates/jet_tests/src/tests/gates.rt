@@ -6,12 +6,12 @@ use super::{
     sink, status_by, store_of,
 };
 use guest_assembler::{Instr, code};
-use outer_io::{Gate, MemoryStore};
+use memory_outside::{CountingGate, MeetingGate, MemoryStore};
+use outer_io::Gate;
 use std::alloc::Global;
 use std::process::Abort;
 use std::sync::Wait;
 use std::thread::Threads;
-use test_gates::{CountingGate, MeetingGate};
 
 /// The query over the four-byte copy in two epochs, which two workers turn.
 const BY_TWO: Line = &[

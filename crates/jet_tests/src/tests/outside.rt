@@ -11,7 +11,7 @@ use super::{
     COPIED, COPY, Ending, Line, NEVER, QUERY, assert_ends, assert_puts, files, log_with,
     program_of, status_of, store_of,
 };
-use outer_io::{MemoryFile, MemoryStore, SureSink, SureStore};
+use memory_outside::{MemoryFile, MemoryStore, SureSink, SureStore};
 use std::alloc::Global;
 use std::process::Abort;
 use std::sync::Wait;

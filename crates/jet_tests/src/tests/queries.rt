@@ -6,7 +6,7 @@ use super::{
     COMPUTE, COPY, Ending, KEEP, Line, NEVER, assert_ends, log_with, program_of, push_file,
     store_of,
 };
-use outer_io::MemoryFile;
+use memory_outside::MemoryFile;
 use std::alloc::Global;
 use std::process::Abort;
 use std::sync::Wait;

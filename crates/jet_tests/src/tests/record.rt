@@ -11,7 +11,7 @@ use super::{
 };
 use guest_assembler::{Instr, code};
 use jet_files::read_file;
-use outer_io::{MemoryFile, MemoryStore};
+use memory_outside::{MemoryFile, MemoryStore};
 use std::alloc::Global;
 use std::process::Abort;
 use std::sync::Wait;

@@ -2,12 +2,12 @@
 
 use super::{ALONE, COPIED, COPY, Line, answer_by_rounds, answer_of, assert_text, query_of};
 use crate::guests::copy_four;
+use memory_outside::{CountingGate, MeetingGate};
 use replayer::Job;
 use std::alloc::Global;
 use std::process::Abort;
 use std::sync::Wait;
 use std::thread::Threads;
-use test_gates::{CountingGate, MeetingGate};
 
 /// Each of so many epochs of a length enters the gate once, where so many workers turn them.
 fn assert_each_enters_once<R: Threads + Wait + Abort + Sync>(

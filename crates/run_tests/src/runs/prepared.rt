@@ -5,6 +5,7 @@ use crate::guests::{Recorded, copy_four, copy_four_recorded};
 use epoch_cut::cuts;
 use epoch_cut::laws::cut_times_are_cutting;
 use epoch_link::Capacity;
+use memory_outside::CountingGate;
 use outer_io::{Gate, OpenGate};
 use query_lang::Query;
 use replayer::steps_of;
@@ -14,7 +15,6 @@ use std::alloc::Global;
 use std::process::Abort;
 use std::sync::Wait;
 use std::thread::Threads;
-use test_gates::CountingGate;
 
 /// What a query answers over the copy of four bytes, by what was prepared while its log was checked.
 fn answer_prepared<G: Gate, R: Threads + Wait + Abort + Sync>(

@@ -73,7 +73,8 @@ returns-in-Ok-clause-ends g c =
     let heard = g.K.Clock.answers c.args.clock.now in
     let heard_after = g.K.Clock.answers c.answer.new.clock in
     let text : List ℕ = text_of c.in_ok-given.given in
-    delivered command f read h (g.O.Sink.shown c.args.out.now) (g.O.Sink.shown c.deliver.new.out) heard heard_after text c.in_ok-given.ensures.answer c.answer.ensures.reads.keeps c.in-Ok.ensures.whole
+    delivered command f read h (g.O.Sink.shown c.args.out.now) (g.O.Sink.shown c.deliver.new.out) heard heard_after text c.in_ok-given.ensures.answer c.answer.ensures.reads.keeps
+    c.in-Ok.ensures.store c.in-Ok.ensures.output c.in-Ok.ensures.whole
 
 pub returns-in-Ok-clause-keeps : goal.returns-in-Ok-clause-keeps
 returns-in-Ok-clause-keeps g c = keeps-then (target_of (plain_command c.args.command.now)) _ _ _ c.answer.ensures.reads.keeps c.deliver.ensures.keeps

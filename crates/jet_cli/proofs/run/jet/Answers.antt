@@ -1,6 +1,6 @@
 use Rattle.std.proofs.Common.{◌∙◌, sym, subst}
 use Rattle.jet_work.specs.Targets.{command_in}
-use Rattle.jet_work.specs.Outside.{change}
+use Rattle.outer_io.specs.Outside.{change}
 use Rattle.jet_work.specs.Ending.{Says}
 use Rattle.jet_cli.specs.Statuses.{IsStatus}
 use Rattle.jet_cli.proofs.Ending as ending

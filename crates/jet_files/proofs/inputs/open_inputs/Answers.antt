@@ -18,7 +18,7 @@ loop-name-init g c =
     let none : inputs ≡ [] = c.new-inputs.ensures.items in
     record {
       outcome = subst (λ (w : List (Vec ℕ Global)). Comes (λ file. inputs_at file []) shown shown (Ok (items_of w))) (sym none)
-          (tells-same shown.files (Found (λ file. inputs_at file [] ≡ Ok [])) (λ x. record { found = refl }));
+          (refl, tells-same shown.files (Found (λ file. inputs_at file [] ≡ Ok [])) (λ x. record { found = refl }));
       many = ap length none;
       short = All-same (λ (v : Vec ℕ Global). length v.items ≤ 2 ^ 26) inputs [] none (All-nil (λ (v : Vec ℕ Global). length v.items ≤ 2 ^ 26));
       reads = reads-none shown;

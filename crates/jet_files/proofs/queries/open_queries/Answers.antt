@@ -17,7 +17,7 @@ loop-name-init g c =
     let none : queries ≡ [] = c.new-queries.ensures.items in
     record {
       outcome = subst (λ (w : List Query). Follows (λ file kept. AreAllAlike kept (queries_at file [])) shown shown (Ok w)) (sym none)
-          (tells-same shown.files (Found (λ file. AreAllAlike (Ok []) (queries_at file []))) (λ x. record { found = tt }));
+          (refl, tells-same shown.files (Found (λ file. AreAllAlike (Ok []) (queries_at file []))) (λ x. record { found = tt }));
       many = ap length none;
       number = refl;
       reads = reads-none shown;

@@ -14,9 +14,11 @@ use Rattle.jet_files.proofs.reading.read_file.Goals as goal
 pub returns-in-Ok-clause-outcome : goal.returns-in-Ok-clause-outcome
 returns-in-Ok-clause-outcome g c =
     let name = c.args.name.now in
-    let bytes = c.in-Ok.bytes.items in
-    found-kept (λ file. file_at file name ≡ Ok bytes) (HasContent name bytes) (g.S.Store.shown c.args.store.now).files (g.S.Store.shown c.read_whole.new.store).files
-    (λ x y there. file_at-there y.file name bytes there (omega (arith, c.in-Ok.ensures.short, c.in-Ok.bytes.ok))) c.in-Ok.ensures.content c.read_whole.ensures.reads.keeps
+    let bytes = c.in-Ok.bytes.items in (
+      c.in-Ok.ensures.stood,
+      found-kept (λ file. file_at file name ≡ Ok bytes) (HasContent name bytes) (g.S.Store.shown c.args.store.now).files (g.S.Store.shown c.read_whole.new.store).files
+          (λ x y there. file_at-there y.file name bytes there (omega (arith, c.in-Ok.ensures.short, c.in-Ok.bytes.ok))) c.in-Ok.ensures.content c.read_whole.ensures.reads.keeps,
+    )
 
 pub returns-in-Ok-clause-short : goal.returns-in-Ok-clause-short
 returns-in-Ok-clause-short g c = omega (arith, c.in-Ok.ensures.short, c.in-Ok.bytes.ok)

@@ -13,6 +13,7 @@ loop-piece-init g c = record {
   buffer = search rules;
   open_now = c.in-Ok.ensures.open;
   created = c.begin_read.ensures.created;
+  stood = c.in-Ok.ensures.cause.stood refl;
   pieces = record { begun = _; went = _; begins_so = c.begin_read.ensures.gives; calls = []; are_reads = refl };
   reads = record {
     keeps = tells-map _ _ (BeginsRead c.args.name.now) KeepsFiles (λ x y p. p.keeps) c.in-Ok.ensures.ok;
@@ -47,6 +48,7 @@ loop-piece-preserved g c =
       buffer = omega (arith, length-append into (drop room c.loop-piece.piece), length-drop room c.loop-piece.piece, taken, c.read.auto.into);
       open_now = ◌∙◌ {A = Bool} c.in-Ok-read.ensures.open c.loop-piece.invariant.open_now;
       created = ◌∙◌ {A = Bool} c.in-Ok-read.ensures.created c.loop-piece.invariant.created;
+      stood = ◌∙◌ {A = ℕ} (c.in-Ok-read.ensures.cause.stood refl) c.loop-piece.invariant.stood;
       pieces = comes-on _ _ name _ _ _ _ _ _ c.loop-piece.invariant.pieces (omega (arith, taken)) c.read.ensures.gives;
       reads = reads-on (Takes _ (take n into)) (λ x y p. p.keeps) c.loop-piece.invariant.reads c.in-Ok-read.ensures.ok c.read.ensures.opened c.read.ensures.cause.later;
       told = rw items (tells-then _ _ _ (IsReading name bytes) _ (IsReading name (bytes ++ take n into))
@@ -186,3 +188,61 @@ returns-clause-most g c =
     tells-map (g.S.Store.shown c.args.store.now).files (g.S.Store.shown c.loop-piece.store).files
     (IsReading name c.loop-piece.bytes.items) (TakesAtMost name (c.args.max + 1))
     (λ x y. most-read name c.loop-piece.bytes.items (c.args.max + 1) x y w.small) w.told
+
+-- ---- what holds of the other answer, and what was made
+
+pub returns-in_default-clause-short : goal.returns-in_default-clause-short
+returns-in_default-clause-short g c = tt
+
+pub returns-in_default-clause-content : goal.returns-in_default-clause-content
+returns-in_default-clause-content g c = tt
+
+pub returns-in_default-clause-created : goal.returns-in_default-clause-created
+returns-in_default-clause-created g c = c.begin_read.ensures.created
+
+pub returns-in_err-buffer-clause-created : goal.returns-in_err-buffer-clause-created
+returns-in_err-buffer-clause-created g c = c.begin_read.ensures.created
+
+pub returns-in_default-read-clause-short : goal.returns-in_default-read-clause-short
+returns-in_default-read-clause-short g c = tt
+
+pub returns-in_default-read-clause-content : goal.returns-in_default-read-clause-content
+returns-in_default-read-clause-content g c = tt
+
+pub returns-in_default-read-clause-created : goal.returns-in_default-read-clause-created
+returns-in_default-read-clause-created g c = ◌∙◌ {A = Bool} c.read.ensures.created c.loop-piece.invariant.created
+
+pub returns-then-count-eq0-clause-cause : goal.returns-then-count-eq0-clause-cause
+returns-then-count-eq0-clause-cause g c = tt
+
+pub returns-then-count-eq0-clause-created : goal.returns-then-count-eq0-clause-created
+returns-then-count-eq0-clause-created g c = ◌∙◌ {A = Bool} c.in-Ok-read.ensures.created c.loop-piece.invariant.created
+
+pub returns-clause-short : goal.returns-clause-short
+returns-clause-short g c = tt
+
+pub returns-clause-content : goal.returns-clause-content
+returns-clause-content g c = tt
+
+pub returns-clause-pieces : goal.returns-clause-pieces
+returns-clause-pieces g c = c.loop-piece.invariant.pieces
+
+pub returns-clause-reads : goal.returns-clause-reads
+returns-clause-reads g c = c.loop-piece.invariant.reads
+
+pub returns-clause-created : goal.returns-clause-created
+returns-clause-created g c = c.loop-piece.invariant.created
+
+-- ---- no call failed
+
+pub returns-in_default-clause-stood : goal.returns-in_default-clause-stood
+returns-in_default-clause-stood g c = tt
+
+pub returns-in_default-read-clause-stood : goal.returns-in_default-read-clause-stood
+returns-in_default-read-clause-stood g c = tt
+
+pub returns-then-count-eq0-clause-stood : goal.returns-then-count-eq0-clause-stood
+returns-then-count-eq0-clause-stood g c = ◌∙◌ {A = ℕ} (c.in-Ok-read.ensures.cause.stood refl) c.loop-piece.invariant.stood
+
+pub returns-clause-stood : goal.returns-clause-stood
+returns-clause-stood g c = tt

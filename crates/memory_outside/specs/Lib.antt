@@ -1,0 +1,9 @@
+pub mod Calls
+pub mod Names
+pub mod NamesRoom
+pub mod Held
+pub mod FilesRoom
+pub mod MemoryStores
+pub mod SureStores
+pub mod MemorySinks
+pub mod ListClock
