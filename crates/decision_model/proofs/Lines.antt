@@ -74,7 +74,8 @@ or_second false = refl
 from_one : (ds : List Decision) (b : SourceByte) → has source_cmp b (sources_of ds) ≡ true → Some_in (λ d. Contains d.sources b) ds
 from_one [] b e = absurd cc
 from_one (d ∷ ds) b e = by (from_one ds b) (or_cases (has source_cmp b d.sources) (has source_cmp b (sources_of ds)) (sym (has-union source_total d.sources (sources_of ds) b) ∙ e)) where
-  by : (has source_cmp b (sources_of ds) ≡ true → Some_in (λ d. Contains d.sources b) ds) → (has source_cmp b d.sources ≡ true) ⊎ (has source_cmp b (sources_of ds) ≡ true) → Some_in (λ d. Contains d.sources b) (d ∷ ds)
+  by : (has source_cmp b (sources_of ds) ≡ true → Some_in (λ d. Contains d.sources b) ds)
+      → (has source_cmp b d.sources ≡ true) ⊎ (has source_cmp b (sources_of ds) ≡ true) → Some_in (λ d. Contains d.sources b) (d ∷ ds)
   by ih (inl here) = inl (Contains-has source_total source_same d.sources b here)
   by ih (inr later) = inr (ih later)
 
@@ -258,7 +259,8 @@ texts_tell_decisions ds = record {
 
     to : (p : Place) → (x : PlaceLine) × Contains lines x × (x.place ≡ p) → HasDecision ds p
     to p h =
-        let among = some-map (λ q. q ≡ p) (λ (x : PlaceLine). x.place) lines (some-each (λ x. x ≡ h.0) (λ x. x.place ≡ p) (λ x e. ap (λ (z : PlaceLine). z.place) e ∙ h.2) lines (some-Contains lines h.0 h.1)) in
+        let at_p = some-each (λ x. x ≡ h.0) (λ x. x.place ≡ p) (λ x e. ap (λ (z : PlaceLine). z.place) e ∙ h.2) lines (some-Contains lines h.0 h.1) in
+        let among = some-map (λ q. q ≡ p) (λ (x : PlaceLine). x.place) lines at_p in
         with_decision ds p (subst (λ (qs : List Place). Contains qs p) named (Contains-some (map (λ (x : PlaceLine). x.place) lines) p among))
 
     from : (p : Place) → HasDecision ds p → (x : PlaceLine) × Contains lines x × (x.place ≡ p)
