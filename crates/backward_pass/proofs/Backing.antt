@@ -68,7 +68,7 @@ pop_by true refused first e a next = pop_ask refused first e a next
 pop_by false refused first e a next = drop_ask a next
 
 module _ (v : BackView) (links : Links) (got sent : List Message) (o : v.over ≡ false) (q : IsQuiet v) where
-  at_pop : (b : Bool) → v.whole ≡ b → is_ended got ≡ false → asking_event v.first (knows v) links (asking_of v got sent) ≡ pop_by b links.is_refused v.first (knows v) (asking_of v got sent) links.next
+  at_pop : (b : Bool) → v.whole ≡ b → is_ended got ≡ false → asking_event v.first (knows v) links (asking_of v got sent) ≡ pop_by b links.is_refused v.first (knows v) (asking_of v got sent) links.item
   at_pop true w h =
       quiet_event v.first (knows v) links (asking_of v got sent) o w (q w).0 (q w).1
       ∙ ap (λ (b : Bool). whole_asking v.first (knows v) links (asking_of v got sent) [] [] b) h
@@ -116,7 +116,7 @@ module _ (v : BackView) (got sent : Option (List Message)) (k : Keeps v got sent
       → ((got : List Message) → is_ended got ≡ false → Keeps v (Some got) sent → Keeps new (Some (got ++ m ∷ [])) sent)
       → IsEvent backwards v got sent new later sent Moved
   taken_next refused new later m r e o same took keeps = record {
-    happens = record { links = links_of true (Some m) refused; went = (refl, refl); is = by got (sym k.heard ∙ r.ended) e };
+    happens = record { links = links_of true (Some m) refused; could_move = (refl, refl); is = by got (sym k.heard ∙ r.ended) e };
     keeps = kept got k (sym k.heard ∙ r.ended) e;
     same = same;
     over = tt;
@@ -241,7 +241,7 @@ module _ (v : BackView) (got sent : Option (List Message)) (k : Keeps v got sent
     by true = record {
       happens = record {
         links = free true;
-        went = (refl, refl);
+        could_move = (refl, refl);
         is = ap (λ (ms : List Message). record (state v got sent) { asked = []; sent = ms; is_whole = false }) (sent_same v.over v.over false v.whole m.running m.running sent)
             ∙ sym (at (free true));
       };
@@ -258,7 +258,7 @@ module _ (v : BackView) (got sent : Option (List Message)) (k : Keeps v got sent
       not_yet = tt;
     }
     by false = record {
-      happens = record { links = free false; went = (refl, refl); is = sym (at (free false)) };
+      happens = record { links = free false; could_move = (refl, refl); is = sym (at (free false)) };
       keeps = record {
         fits = record {
           known = k.fits.known;
@@ -283,7 +283,7 @@ module _ (v : BackView) (got sent : Option (List Message)) (k : Keeps v got sent
   push_next new later m s e n =
       subst (λ new. IsEvent backwards v got sent new got later Moved) (sym n)
       (record {
-        happens = record { links = free false; went = (refl, refl); is = by sent k.alone (e ∙ ap (λ m. with m sent) s.is) };
+        happens = record { links = free false; could_move = (refl, refl); is = by sent k.alone (e ∙ ap (λ m. with m sent) s.is) };
         keeps = keeps_push v (v.pushed + 1) v.over got sent later m e k;
         same = record { summary = refl; first = refl; last = refl };
         over = tt;
@@ -332,7 +332,7 @@ module _ (v : BackView) (got sent : Option (List Message)) (k : Keeps v got sent
         subst (λ u. later ≡ with (End u.whole) sent → IsEvent backwards v got sent (record u { over = true }) got later Over) (sym is)
         (λ e.
         record {
-          happens = record { links = free false; went = tt; is = by sent e };
+          happens = record { links = free false; could_move = tt; is = by sent e };
           keeps = keeps_push v v.pushed true got sent later (End v.whole) e k;
           same = record { summary = refl; first = refl; last = refl };
           over = refl;

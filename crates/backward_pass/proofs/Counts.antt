@@ -19,7 +19,7 @@ use Rattle.pass_parts.specs.Requests.{IsCounted, AreCounted}
 use Rattle.pass_parts.proofs.Counted.{within_more, counts_stay}
 use Rattle.backward_pass.specs.Backward.{AreAsked, HasAsked, IsWalked}
 use Rattle.backward_pass.proofs.Starts.{within_added, all_asked}
-use Rattle.backward_pass.proofs.Lists.{sink_behind}
+use Rattle.backward_pass.proofs.Lists.{sink_after}
 
 -- ---- what is asked more
 
@@ -75,7 +75,7 @@ pub shared_sink : (asked : List Loc) (ks : List SinkTerms) (n : ℕ) → 0 < n �
     → AreAsked asked (take n ks) → IsWalked false ks n asked asked
 shared_sink asked ks n some within same all =
     let last = last_asked asked ks n some (omega (arith, within)) all in
-    let next = sink_behind ks n last.0 (same ∙ last.1) in
+    let next = sink_after ks n last.0 (same ∙ last.1) in
     record {
       sink = next.0;
       is = next.2;

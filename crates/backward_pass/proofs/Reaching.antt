@@ -18,7 +18,7 @@ use Rattle.backward_pass.specs.Backward.{BackView, knows, new_back, state, begin
 event_whole : (first : Bool) (e : EpochSummary) (links : Links) (a : Asking) → a.is_whole ≡ false → (asking_event first e links a).is_whole ≡ false
 event_whole first e links a w = by a.is_over where
   ended : (b : Bool) → (broken_asking links a b).is_whole ≡ false
-  ended false = by links.next where
+  ended false = by links.item where
     by : (next : Option Message) → (drop_ask a next).is_whole ≡ false
     by None = w
     by (Some m) = w

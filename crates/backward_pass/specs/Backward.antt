@@ -16,9 +16,9 @@ use Rattle.pass_parts.specs.declared.requests.Request.{Request}
 use Rattle.pass_parts.specs.Ends.{got_by, sent_by, EndsWhole}
 use Rattle.pass_parts.specs.Known.{known}
 use Rattle.pass_parts.specs.Requests.{locations, IsCounted, AreCounted}
-use Rattle.pass_parts.specs.Knowing.{is_whole, summary_in}
+use Rattle.pass_parts.specs.PassSummaries.{is_whole, summary_in}
 use Rattle.pass_parts.specs.Events.{Events, Happened, IsNext}
-use Rattle.pass_parts.specs.declared.next.Next.{Next}
+use Rattle.pass_parts.specs.declared.next.PassStep.{PassStep}
 use Rattle.backward_pass.specs.declared.back.Back.{Back}
 
 -- the pass, where the ends don't stand in it
@@ -198,7 +198,7 @@ abbrev pub IsQuiet : BackView → Type 0
 IsQuiet v = v.whole ≡ true → (drop v.pushed v.asked ≡ []) × (v.left ≡ [])
 
 -- what is next
-abbrev pub IsNextBack : Next → BackView → BackView → Type 0
+abbrev pub IsNextBack : PassStep → BackView → BackView → Type 0
 IsNextBack next new old = IsNext backwards Moves Sends IsQuiet next new old
 
 -- a request for the location is noted, with its count where it is not the first node

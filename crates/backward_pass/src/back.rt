@@ -3,24 +3,24 @@
 ghost use Rattle.std.specs.Prelude.{◌≡◌, [], true, false};
 ghost use Rattle.pass_parts.specs.Ends.{IsEndFrom, Seen, fresh_end};
 ghost use Rattle.pass_parts.specs.Events.{IsEventOver, HasWaited};
-ghost use Rattle.pass_parts.specs.Knowing.{IsOfEpoch};
+ghost use Rattle.pass_parts.specs.PassSummaries.{IsOfEpoch};
 
 use crate::asking::{add_request, add_sink};
 use epoch_link::{Inlet, Outlet};
 use epoch_summary::{Asked, Summary, TermsAhead};
 use flow_model::Message;
 use merge_log::TermsReader;
-use pass_parts::{Knowledge, Next, PassTurn, Requests, pop_message, push_message};
+use pass_parts::{PassStep, PassSummary, PassTurn, Requests, pop_message, push_message};
 use std::alloc::Global;
 
-/// Asks the node before for what the epoch's sinks and the requests of the node behind need.
+/// Asks the previous node for what the epoch's sinks and the requests of the next one need.
 ///
 /// It is broken where there is no summary, once it was refused memory, and once a broken End came. Then it asks
 /// nothing more, takes what comes, and ends, not whole. Only an event that walks a sink or takes a request takes
 /// memory, and only while it is whole.
 pub struct Back {
     alloc: Global,
-    epoch: Knowledge,
+    epoch: PassSummary,
     // The first node asks nothing: nothing flows from the run's start.
     first: bool,
     last: bool,
@@ -60,7 +60,7 @@ impl Back {
     {
         Back {
             alloc,
-            epoch: Knowledge::new(summary, true),
+            epoch: PassSummary::new(summary, true),
             first,
             last,
             reader: TermsReader::new(alloc),
@@ -117,7 +117,7 @@ impl Back {
         ensures none { result ≡ false → (self.new ≡ self.old) × HasWalked (back_of self.old) }
         ensures walked { result ≡ true → Walks (back_of self.old) (back_of self.new) }
     {
-        let Knowledge::Whole(summary) = &self.epoch else {
+        let PassSummary::Whole(summary) = &self.epoch else {
             return false;
         };
         if self.walked >= summary.sink_count() {
@@ -145,7 +145,7 @@ impl Back {
     {
         match message {
             Message::Ask(loc) => {
-                if let Knowledge::Whole(summary) = &self.epoch {
+                if let PassSummary::Whole(summary) = &self.epoch {
                     let Ok(()) = add_request(
                         summary,
                         &mut self.ahead,
@@ -172,20 +172,24 @@ impl Back {
     }
 
     /// What the pass does next. What needs no link is done.
-    fn next(&mut self) -> Next
+    fn next(&mut self) -> PassStep
         requires { IsFit (back_of self.old) }
         ensures { IsNextBack result (back_of self.new) (back_of self.old) }
     {
         if self.over {
-            return Next::Over;
+            return PassStep::Over;
         }
         if self.pushed < self.asked.count() {
-            return Next::Send(Message::Ask(self.asked.get(self.pushed)));
+            return PassStep::Send(Message::Ask(self.asked.get(self.pushed)));
         }
         if self.walk() {
-            return Next::Moved;
+            return PassStep::Moved;
         }
-        if self.heard { Next::End } else { Next::Receive }
+        if self.heard {
+            PassStep::End
+        } else {
+            PassStep::Receive
+        }
     }
 
     /// The next event. It is NotYet only where the one link that it needs refused in this call, and then nothing
@@ -205,22 +209,22 @@ impl Back {
             inlet.new outlet.new result }
     {
         match self.next() {
-            Next::Moved => PassTurn::Moved,
-            Next::Send(message) => {
+            PassStep::Moved => PassTurn::Moved,
+            PassStep::Send(message) => {
                 if !push_message(outlet, message) {
                     return PassTurn::NotYet;
                 }
                 self.pushed += 1;
                 PassTurn::Moved
             }
-            Next::Receive => {
+            PassStep::Receive => {
                 let Some(message) = pop_message(inlet) else {
                     return PassTurn::NotYet;
                 };
                 self.take(message);
                 PassTurn::Moved
             }
-            Next::End => {
+            PassStep::End => {
                 let whole = self.whole();
                 let end = Message::End { whole };
                 if !push_message(outlet, end) {
@@ -229,7 +233,7 @@ impl Back {
                 self.over = true;
                 PassTurn::Over
             }
-            Next::Over => PassTurn::Over,
+            PassStep::Over => PassTurn::Over,
         }
     }
 }

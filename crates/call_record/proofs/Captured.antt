@@ -28,7 +28,7 @@ use Rattle.call_record.specs.declared.source.Source.{Source}
 use Rattle.call_record.specs.declared.tape.Tape.{Tape}
 use Rattle.record_model.specs.declared.Unrecorded.{Unrecorded}
 use Rattle.record_model.specs.declared.Unrecorded.TheVariants.{Window, LogTooLong}
-use Rattle.record_model.proofs.Found.{sha256_bytes}
+use Rattle.record_model.proofs.RecordedRuns.{sha256_bytes}
 use Rattle.no_memory.specs.declared.Fault.{Fault}
 use Rattle.no_memory.specs.declared.Fault.TheVariants.{At, NoMemory}
 use Rattle.no_memory.specs.Faults.{IsCausedBy}

@@ -10,7 +10,7 @@ use std::alloc::Global;
 
 /// What a guest call got, before it is kept: the bytes are lent. `at` is the number of steps done before it.
 #[derive(Clone, Copy)]
-pub(crate) enum Entry<'a> {
+pub(crate) enum LentRecord<'a> {
     Read {
         at: u64,
         args: [u32; 3],
@@ -33,7 +33,7 @@ pub(crate) enum Entry<'a> {
     },
 }
 
-impl Entry<'_> {
+impl LentRecord<'_> {
     /// How many bytes the call adds to the text of a log with so many input channels: its record, and what its
     /// channel keeps of a read.
     pub(crate) fn share(&self, inputs: u32) -> u64
@@ -41,16 +41,16 @@ impl Entry<'_> {
         ensures { result ≡ share inputs (record_of self.now) }
     {
         match self {
-            Entry::Read { args, bytes, .. } => {
+            LentRecord::Read { args, bytes, .. } => {
                 if args[0] < inputs {
                     25 + bytes.len() as u64
                 } else {
                     25
                 }
             }
-            Entry::Write { bytes, .. } => 25 + bytes.len() as u64,
-            Entry::Clock { .. } => 17,
-            Entry::Other { .. } => 13,
+            LentRecord::Write { bytes, .. } => 25 + bytes.len() as u64,
+            LentRecord::Clock { .. } => 17,
+            LentRecord::Other { .. } => 13,
         }
     }
 
@@ -59,7 +59,7 @@ impl Entry<'_> {
         ensures { IfOk result (λ r. r ≡ record_of self.entry) }
     {
         match self {
-            Entry::Read {
+            LentRecord::Read {
                 at,
                 args,
                 result: outcome,
@@ -73,7 +73,7 @@ impl Entry<'_> {
                     bytes,
                 })
             }
-            Entry::Write {
+            LentRecord::Write {
                 at,
                 args,
                 result: outcome,
@@ -87,8 +87,8 @@ impl Entry<'_> {
                     bytes,
                 })
             }
-            Entry::Clock { at, value } => Ok(CallRecord::Clock { at, value }),
-            Entry::Other { at, number } => Ok(CallRecord::Other { at, number }),
+            LentRecord::Clock { at, value } => Ok(CallRecord::Clock { at, value }),
+            LentRecord::Other { at, number } => Ok(CallRecord::Other { at, number }),
         }
     }
 }

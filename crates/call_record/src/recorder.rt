@@ -8,7 +8,7 @@ ghost use Rattle.call_record.specs.Sources.{IsSource};
 ghost use Rattle.call_record.specs.Steps.{point_of, IsSafe, IsCalled, WaitsFor, Keeps, Records, IsStepOf, Gained};
 ghost use Rattle.call_record.specs.Runs.{IsFresh, IsWhole};
 
-use crate::entry::Entry;
+use crate::entry::LentRecord;
 use crate::source::Source;
 use crate::tape::Tape;
 use crate::transfer::Transfer;
@@ -94,7 +94,7 @@ impl Recorder {
         count(&mut self.counts, call.args[0], transfer.bytes.len());
         self.tape.add(
             alloc,
-            Entry::Read {
+            LentRecord::Read {
                 at,
                 args: call.args,
                 result: transfer.outcome,
@@ -130,7 +130,7 @@ impl Recorder {
         let outcome = transfer.outcome;
         self.tape.add(
             alloc,
-            Entry::Write {
+            LentRecord::Write {
                 at,
                 args: call.args,
                 result: outcome,
@@ -148,7 +148,7 @@ impl Recorder {
         requires early { at < 2 ^ 40 }
         ensures { OnOk result (Keeps (ClockOf at value) (point_of self.old) self.new) }
     {
-        self.tape.add(alloc, Entry::Clock { at, value })?;
+        self.tape.add(alloc, LentRecord::Clock { at, value })?;
         self.machine.answer(Reply::Clock { value });
         Ok(())
     }
@@ -160,7 +160,7 @@ impl Recorder {
         requires early { at < 2 ^ 40 }
         ensures { OnOk result (Keeps (OtherOf at number) (point_of self.old) self.new) }
     {
-        self.tape.add(alloc, Entry::Other { at, number })?;
+        self.tape.add(alloc, LentRecord::Other { at, number })?;
         self.machine.answer(Reply::Other);
         Ok(())
     }

@@ -7,7 +7,7 @@ ghost use Rattle.no_memory.specs.Faults.{IsCausedBy};
 ghost use Rattle.call_record.specs.Entries.{record_of};
 ghost use Rattle.call_record.specs.Tapes.{Adds, IsTooLongWith, log_of, IsComplete};
 
-use crate::entry::Entry;
+use crate::entry::LentRecord;
 use crate::fault::CaptureFault;
 use log_model::{CallRecord, RunEnd};
 use no_memory::{Fault, NoMemory};
@@ -44,7 +44,7 @@ impl Tape {
     }
 
     /// Adds the record of a call.
-    pub(crate) fn add(&mut self, alloc: Global, entry: Entry<'_>) -> Result<(), NoMemory>
+    pub(crate) fn add(&mut self, alloc: Global, entry: LentRecord<'_>) -> Result<(), NoMemory>
         requires { IsRecord (record_of entry) }
         ensures { OnOk result (Adds self.old (record_of entry.entry) self.new) }
     {

@@ -2,7 +2,7 @@
 
 use crate::asserts::assert_same;
 use flow_model::SourceByte;
-use source_runs::{SourceRun, settle};
+use source_runs::{SourceRun, normalise};
 use std::alloc::Global;
 use std::process::Abort;
 
@@ -27,9 +27,9 @@ fn runs_in_any_order_are_a_set(rt: HostRuntime) {
     let alloc = rt.alloc();
     let mut spare = Vec::new(alloc);
     let mut all = runs(&rt, alloc, BYTES);
-    settle(&mut all, &mut spare).expect(&rt, "memory");
+    normalise(&mut all, &mut spare).expect(&rt, "memory");
     let mut sorted = runs(&rt, alloc, &[(0, 4), (0, 5), (0, 6), (0, 9), (1, 7)]);
-    settle(&mut sorted, &mut spare).expect(&rt, "memory");
+    normalise(&mut sorted, &mut spare).expect(&rt, "memory");
     assert_same(&rt, all.len(), 3);
     assert!(rt; all.as_slice() == sorted.as_slice());
 }
@@ -65,13 +65,13 @@ const OTHER_CHANNEL: SourceRun = SourceRun {
 };
 
 #[test]
-fn runs_settle_to_those_of_their_bytes(rt: HostRuntime) {
+fn normalised_runs_are_those_of_their_bytes(rt: HostRuntime) {
     let alloc = rt.alloc();
     let mut runs = Vec::new(alloc);
     for run in [LATER, FROM_3, OTHER_CHANNEL, UP_TO_3] {
         runs.push(run).expect(&rt, "memory");
     }
-    settle(&mut runs, &mut Vec::new(alloc)).expect(&rt, "memory");
+    normalise(&mut runs, &mut Vec::new(alloc)).expect(&rt, "memory");
     assert_same(
         &rt,
         runs.as_slice(),

@@ -9,7 +9,7 @@ use crate::pages::Pages;
 use crate::paging::split;
 use crate::touched::Touched;
 use no_memory::NoMemory;
-use replayer::Stand;
+use replayer::Position;
 use std::alloc::Global;
 use std::marker::Model;
 
@@ -66,7 +66,7 @@ impl Taken {
     pub fn add(
         &mut self,
         alloc: Global,
-        at: &Stand<'_, '_>,
+        at: &Position<'_, '_>,
         touched: &Touched,
     ) -> Result<(), NoMemory>
         ensures count { OnOk result (length self.new.points ≡ length self.old.points + 1) }

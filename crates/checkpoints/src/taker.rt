@@ -15,7 +15,7 @@ use crate::touched::{Span, Touched, stored, written};
 use epoch_cut::Cuts;
 use flow_model::StepSeen;
 use no_memory::NoMemory;
-use replayer::{Job, PlainStep, Stand, Watcher};
+use replayer::{Job, PlainStep, Position, Watcher};
 use std::alloc::Global;
 use std::marker::Model;
 
@@ -61,7 +61,7 @@ impl CheckpointTaker {
     }
 
     /// Takes the checkpoint that is due where the run stands. At the run's end there is none.
-    fn take_here(&mut self, at: &Stand<'_, '_>)
+    fn take_here(&mut self, at: &Position<'_, '_>)
         ensures cuts { self.new.cuts ≡ self.old.cuts }
         ensures out { self.new.is_out ≡ false → self.old.is_out ≡ false }
         ensures taken { IsDueTaken at.now self.old self.new }
@@ -81,7 +81,7 @@ impl CheckpointTaker {
 
     /// Notes the bytes that a step wrote, and takes a checkpoint if one is due where the run stands after it.
     #[inline(always)]
-    fn note(&mut self, bytes: Span, after: &Stand<'_, '_>)
+    fn note(&mut self, bytes: Span, after: &Position<'_, '_>)
         ensures { (step : Step) → bytes ≡ written step → IsToldOf HasSeen step after.now self.old self.new }
     {
         self.touched.note(bytes);
@@ -109,7 +109,7 @@ impl Watcher for CheckpointTaker {
 
     ghost seen = { HasSeen };
 
-    fn begin(&mut self, at: &Stand<'_, '_>) {
+    fn begin(&mut self, at: &Position<'_, '_>) {
         self.next = 0;
         self.taken = Taken::none(self.alloc);
         let (window, rest) = at.parts();
@@ -123,11 +123,11 @@ impl Watcher for CheckpointTaker {
     }
 
     #[inline(always)]
-    fn plain(&mut self, _time: u64, step: PlainStep, after: &Stand<'_, '_>) {
+    fn plain(&mut self, _time: u64, step: PlainStep, after: &Position<'_, '_>) {
         self.note(stored(step.instr, step.place), after);
     }
 
-    fn step(&mut self, step: &StepSeen, after: &Stand<'_, '_>) {
+    fn step(&mut self, step: &StepSeen, after: &Position<'_, '_>) {
         self.note(written(step), after);
     }
 }

@@ -19,7 +19,7 @@ use Rattle.taint_shadow.proofs.Meaning.{holds_kept}
 use Rattle.decision_model.specs.Decides.{deciding_rule}
 use Rattle.decision_model.specs.Decisions.{Decision, decisions, decided_at, decided_from, moments_seen, instr_of, fetched_from}
 use Rattle.decision_find.specs.declared.looks.Look.{Look}
-use Rattle.decision_find.specs.declared.tracking.Tracking.{Tracking}
+use Rattle.decision_find.specs.declared.tracking.DecisionTracking.{DecisionTracking}
 use Rattle.source_labels.specs.Words.{label_words}
 use Rattle.source_labels.specs.Laws.{label_laws}
 use Rattle.source_labels.proofs.Origins.{origins_later}
@@ -58,11 +58,11 @@ look_lists policy trace m look is =
 -- ---- a tracking after one look more
 
 -- what is tracked is kept where a look is noted: the decisions of its moment are counted too
-module _ (q : Query) (job : Job) (t : ℕ) (look : Look) (old mid : Tracking) (h : IsTracked q job t old) (is : IsLookAt (moment_of job t) look) (time : look.time ≡ t)
+module _ (q : Query) (job : Job) (t : ℕ) (look : Look) (old mid : DecisionTracking) (h : IsTracked q job t old) (is : IsLookAt (moment_of job t) look) (time : look.time ≡ t)
     (noted : Notes look (looked_at old.rule look) old mid) where
   pub holds_still : Holds label_words mid.labels mid.places (origins (deciding_policy q) (trace_of job) t)
   holds_still =
-      let same : mid.places ≡ old.places = ap (λ (x : Tracking). x.places) noted.rest in
+      let same : mid.places ≡ old.places = ap (λ (x : DecisionTracking). x.places) noted.rest in
       subst (λ (p : Places). Holds label_words mid.labels p (origins (deciding_policy q) (trace_of job) t)) (sym same)
       (holds_kept label_words old.labels mid.labels old.places (origins (deciding_policy q) (trace_of job) t) noted.keeps h.sound.locations h.holds)
 
@@ -83,7 +83,7 @@ module _ (q : Query) (job : Job) (t : ℕ) (look : Look) (old mid : Tracking) (h
 abbrev policy_with : Rule → Query → Policy
 policy_with rule q = record { rule = rule; introduces = has_source q }
 
-pub step_followed : (q : Query) (job : Job) (pc : ℕ) (s : StepSeen) (old mid new : Tracking) → IsStepOf job pc s → IsTracked q job s.number old
+pub step_followed : (q : Query) (job : Job) (pc : ℕ) (s : StepSeen) (old mid new : DecisionTracking) → IsStepOf job pc s → IsTracked q job s.number old
     → Notes (look_at_step pc s) (looked_at old.rule (look_at_step pc s)) old mid → IsTurned s mid new → IsSound new → IsTracked q job (s.number + 1) new
 step_followed q job pc s old mid new is h noted turned sound =
     let t = s.number in
@@ -91,16 +91,16 @@ step_followed q job pc s old mid new is h noted turned sound =
     let trace = trace_of job in
     let look = look_at_step pc s in
     let seen = looks_at_step job pc s is in
-    let query : mid.query.now ≡ q = ap (λ (x : Tracking). x.query.now) noted.rest ∙ h.query in
-    let rule : mid.rule ≡ deciding_rule q.rule = ap (λ (x : Tracking). x.rule) noted.rest ∙ h.rule in
+    let query : mid.query.now ≡ q = ap (λ (x : DecisionTracking). x.query.now) noted.rest ∙ h.query in
+    let rule : mid.rule ≡ deciding_rule q.rule = ap (λ (x : DecisionTracking). x.rule) noted.rest ∙ h.rule in
     let policy : policy_with mid.rule mid.query.now ≡ p = ap₂ policy_with rule query in
     let becomes = turned.labels.holds (origins p trace t) (holds_still q job t look old mid h seen refl noted) in
     let by_policy = subst (λ (x : Policy). Holds label_words new.labels new.places (after label_words x s s.call (origins p trace t))) policy becomes in
     let groups = groups_kept mid.labels new.labels turned.labels.keeps _ mid.groups (groups_more q job t look old mid h seen refl noted) in
-    let same : new.groups ≡ mid.groups = ap (λ (x : Tracking). x.groups) turned.rest in
+    let same : new.groups ≡ mid.groups = ap (λ (x : DecisionTracking). x.groups) turned.rest in
     record {
-      query = ap (λ (x : Tracking). x.query.now) turned.rest ∙ query;
-      rule = ap (λ (x : Tracking). x.rule) turned.rest ∙ rule;
+      query = ap (λ (x : DecisionTracking). x.query.now) turned.rest ∙ query;
+      rule = ap (λ (x : DecisionTracking). x.rule) turned.rest ∙ rule;
       sound = sound;
       holds = record { at = λ l here. by_policy.at l here ∙ origins_later p trace t s l is.step };
       groups = subst (AreGroups new.labels _) (sym same) groups;
@@ -108,7 +108,7 @@ step_followed q job pc s old mid new is h noted turned sound =
 
 -- ---- the beginning and the end
 
-pub begun : (q : Query) (job : Job) (t : Tracking) → t.query.now ≡ q → t.rule ≡ deciding_rule q.rule → AreKept t.places start_label
+pub begun : (q : Query) (job : Job) (t : DecisionTracking) → t.query.now ≡ q → t.rule ≡ deciding_rule q.rule → AreKept t.places start_label
     → HaveLabels t.labels t.groups → AreGroups t.labels [] t.groups → IsTracked q job 0 t
 begun q job t query rule kept groups none = record {
   query = query;
@@ -122,14 +122,14 @@ begun q job t query rule kept groups none = record {
 }
 
 -- a run that doesn't trap is seen at each of its steps
-pub seen_at_steps : (q : Query) (job : Job) (t : Tracking) → moments_seen job.log.end ≡ steps job.log → IsTracked q job (steps job.log) t → HasDecisions q job t
+pub seen_at_steps : (q : Query) (job : Job) (t : DecisionTracking) → moments_seen job.log.end ≡ steps job.log → IsTracked q job (steps job.log) t → HasDecisions q job t
 seen_at_steps q job t e h = record {
   sound = h.sound.groups;
   groups = subst (λ (n : ℕ). AreGroups t.labels (decided_from (deciding_policy q) (trace_of job) n (start job.start job.log)) t.groups) (sym e) h.groups;
 }
 
 -- and one that traps there too
-pub seen_at_trap : (q : Query) (job : Job) (look : Look) (old new : Tracking) → IsLookAt (moment_of job (steps job.log)) look → look.time ≡ steps job.log
+pub seen_at_trap : (q : Query) (job : Job) (look : Look) (old new : DecisionTracking) → IsLookAt (moment_of job (steps job.log)) look → look.time ≡ steps job.log
     → moments_seen job.log.end ≡ steps job.log + 1 → Notes look (looked_at old.rule look) old new → HaveLabels new.labels new.groups
     → IsTracked q job (steps job.log) old → HasDecisions q job new
 seen_at_trap q job look old new is time e noted sound h = record {

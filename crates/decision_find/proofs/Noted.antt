@@ -16,7 +16,7 @@ use Rattle.decision_model.specs.Decisions.{Decision, is_some_byte}
 use Rattle.source_labels.specs.declared.labels.SourceLabels.{SourceLabels}
 use Rattle.decision_find.specs.declared.groups.Groups.{Groups}
 use Rattle.decision_find.specs.declared.looks.Look.{Look}
-use Rattle.decision_find.specs.declared.tracking.Tracking.{Tracking}
+use Rattle.decision_find.specs.declared.tracking.DecisionTracking.{DecisionTracking}
 use Rattle.source_labels.specs.Words.{label_words}
 use Rattle.decision_find.specs.Looks.{decision_of, listed}
 use Rattle.decision_find.specs.Groups.{AreGroups, HaveLabels}
@@ -28,7 +28,7 @@ listed-append look f ls ms =
     ∙ filter-append (λ d. is_some_byte d.sources) (map (decision_of look f) ls) (map (decision_of look f) ms)
 
 -- nothing is noted at no location
-pub nothing_noted : (look : Look) (t : Tracking) → Notes look [] t t
+pub nothing_noted : (look : Look) (t : DecisionTracking) → Notes look [] t t
 nothing_noted look t = record {
   keeps = keeps_itself label_words t.labels;
   rest = refl;
@@ -36,21 +36,21 @@ nothing_noted look t = record {
 }
 
 -- some locations, and then some more
-pub noted_then : (look : Look) (ls ms : List Loc) (a b c : Tracking) → AreStanding label_words a.labels a.places → Notes look ls a b → Notes look ms b c → Notes look (ls ++ ms) a c
+pub noted_then : (look : Look) (ls ms : List Loc) (a b c : DecisionTracking) → AreStanding label_words a.labels a.places → Notes look ls a b → Notes look ms b c → Notes look (ls ++ ms) a c
 noted_then look ls ms a b c standing first second = record {
   keeps = keeps_then label_words a.labels b.labels c.labels first.keeps second.keeps;
-  rest = second.rest ∙ ap (λ (t : Tracking). record t { labels = c.labels; groups = c.groups }) first.rest;
+  rest = second.rest ∙ ap (λ (t : DecisionTracking). record t { labels = c.labels; groups = c.groups }) first.rest;
   groups = λ f ds holds h.
-      let same : b.places ≡ a.places = ap (λ (t : Tracking). t.places) first.rest in
+      let same : b.places ≡ a.places = ap (λ (t : DecisionTracking). t.places) first.rest in
       let later = subst (λ (p : Places). Holds label_words b.labels p f) (sym same) (holds_kept label_words a.labels b.labels a.places f first.keeps standing holds) in
       let both = second.groups f (ds ++ listed look f ls) later (first.groups f ds holds h) in
       subst (λ (xs : List Decision). AreGroups c.labels xs c.groups) (append_assoc ds (listed look f ls) (listed look f ms) ∙ ap (λ (xs : List Decision). ds ++ xs) (sym (listed-append look f ls ms))) both;
 }
 
 -- after some locations were noted all is sound
-pub sound_after : (look : Look) (ls : List Loc) (a b : Tracking) → IsSound a → Notes look ls a b → HaveLabels b.labels b.groups → IsSound b
+pub sound_after : (look : Look) (ls : List Loc) (a b : DecisionTracking) → IsSound a → Notes look ls a b → HaveLabels b.labels b.groups → IsSound b
 sound_after look ls a b sound h groups =
-    let same : b.places ≡ a.places = ap (λ (t : Tracking). t.places) h.rest in
+    let same : b.places ≡ a.places = ap (λ (t : DecisionTracking). t.places) h.rest in
     record {
       locations = subst (AreStanding label_words b.labels) (sym same) (standing_kept label_words a.labels b.labels a.places h.keeps sound.locations);
       groups = groups;
@@ -62,7 +62,7 @@ some_is : (bs : List SourceByte) → 0 < length bs → is_some_byte bs ≡ true
 some_is [] h = absurd (omega (arith, h))
 some_is (b ∷ bs) h = refl
 
-module _ (look : Look) (t : Tracking) (loc : Loc) (here : IsLocation loc) where
+module _ (look : Look) (t : DecisionTracking) (loc : Loc) (here : IsLocation loc) where
   listed_if : (f : Loc → List SourceByte) (b : Bool) → is_some_byte (f loc) ≡ b → listed look f (loc ∷ []) ≡ cond b (decision_of look f loc ∷ []) []
   listed_if f b e = ap (λ (x : Bool). cond x (decision_of look f loc ∷ []) []) e
 

@@ -7,7 +7,7 @@ ghost use Rattle.decision_model.specs.Text.{decisions_report};
 ghost use Rattle.decision_find.specs.Following.{IsSound, IsTracked, HasDecisions};
 
 use crate::looks::Look;
-use crate::tracking::Tracking;
+use crate::tracking::DecisionTracking;
 use crate::writing::text;
 use isa::CallKind;
 use log_model::RunEnd;
@@ -28,10 +28,10 @@ pub fn decisions(alloc: Global, job: &Job, query: &Query) -> Result<Vec<u8>, NoM
 }
 
 /// Follows all steps of a job's run, and looks once more where it traps.
-fn follow<'q>(alloc: Global, job: &Job, query: &'q Query) -> Result<Tracking<'q>, NoMemory>
+fn follow<'q>(alloc: Global, job: &Job, query: &'q Query) -> Result<DecisionTracking<'q>, NoMemory>
     ensures { IfOk result (HasDecisions query.now job.now) }
 {
-    let mut tracking = Tracking::begin(alloc, query)?;
+    let mut tracking = DecisionTracking::begin(alloc, query)?;
     match follow_all(alloc, job, &mut tracking) {
         Ok(()) => Ok(tracking),
         Err(error) => {
@@ -42,7 +42,7 @@ fn follow<'q>(alloc: Global, job: &Job, query: &'q Query) -> Result<Tracking<'q>
 }
 
 /// The same with a tracking that has not begun.
-fn follow_all(alloc: Global, job: &Job, tracking: &mut Tracking) -> Result<(), NoMemory>
+fn follow_all(alloc: Global, job: &Job, tracking: &mut DecisionTracking) -> Result<(), NoMemory>
     requires { IsTracked tracking.old.query.now job.now 0 tracking.old }
     ensures { OnOk result (HasDecisions tracking.old.query.now job.now tracking.new) }
 {
@@ -56,7 +56,7 @@ fn follow_all(alloc: Global, job: &Job, tracking: &mut Tracking) -> Result<(), N
 fn follow_from_start(
     job: &Job,
     cursor: &mut Cursor,
-    tracking: &mut Tracking,
+    tracking: &mut DecisionTracking,
 ) -> Result<(), NoMemory>
     requires begun { cursor.old ≡ record { job = job.now; time = 0 } }
     requires tracked { IsTracked tracking.old.query.now job.now 0 tracking.old }
@@ -72,7 +72,7 @@ fn follow_from_start(
 }
 
 /// Where all steps of a run are followed, and it traps, looks at the instruction that traps.
-fn look_at_end(job: &Job, cursor: &Cursor, tracking: &mut Tracking) -> Result<(), NoMemory>
+fn look_at_end(job: &Job, cursor: &Cursor, tracking: &mut DecisionTracking) -> Result<(), NoMemory>
     requires job { cursor.now.job ≡ job.now }
     requires done { cursor.now.time ≡ steps job.now.log }
     requires sound { IsSound tracking.old }

@@ -5,7 +5,7 @@ ghost use Rattle.flow_model.specs.Ranges.{IsInRange, IsLocation, AreLocations};
 ghost use Rattle.replayer.specs.Jobs.{Job as JobOf};
 ghost use Rattle.decision_model.specs.Decisions.{decides_fetched};
 ghost use Rattle.decision_find.specs.Looks.{looked_at, HasFitting};
-ghost use Rattle.decision_find.specs.Following.{IsSound, IsTracked, Notes, IsTurned, Follows};
+ghost use Rattle.decision_find.specs.Following.{IsSound, IsTracked, Notes, IsTurned, TracksStep};
 
 use crate::groups::Groups;
 use crate::looks::Look;
@@ -19,7 +19,7 @@ use taint_shadow::{Places, plain_step};
 
 /// What is known of a run after some of its steps: the label of each location, and the decisions so far.
 #[derive(Drop)]
-pub struct Tracking<'q> {
+pub struct DecisionTracking<'q> {
     query: &'q Query,
     rule: Rule,
     pub(crate) labels: SourceLabels,
@@ -27,12 +27,12 @@ pub struct Tracking<'q> {
     pub(crate) groups: Groups,
 }
 
-impl<'q> Tracking<'q> {
+impl<'q> DecisionTracking<'q> {
     /// Before the first step of a run.
-    pub(crate) fn begin(alloc: Global, query: &'q Query) -> Result<Tracking<'q>, NoMemory>
+    pub(crate) fn begin(alloc: Global, query: &'q Query) -> Result<DecisionTracking<'q>, NoMemory>
         ensures { IfOk result (λ t. (job : JobOf) → IsTracked query.now job 0 t) }
     {
-        Ok(Tracking {
+        Ok(DecisionTracking {
             query,
             rule: deciding_rule(query.rule()),
             labels: SourceLabels::new(alloc),
@@ -46,7 +46,7 @@ impl<'q> Tracking<'q> {
         requires in_range { IsInRange step.now }
         requires sound { IsSound self.old }
         ensures sound { OnOk result (IsSound self.new) }
-        ensures followed { OnOk result (Follows pc step.now self.old self.new) }
+        ensures followed { OnOk result (TracksStep pc step.now self.old self.new) }
     {
         self.note(&Look::before(pc, step))?;
         self.turn(step)?;

@@ -7,7 +7,7 @@ ghost use Rattle.decision_model.specs.Text.{mnemonic_text, ranges_text, place_te
 ghost use Rattle.decision_find.specs.Groups.{AreGroups, HaveLabels};
 
 use crate::groups::Group;
-use crate::tracking::Tracking;
+use crate::tracking::DecisionTracking;
 use decision_model::Place;
 use instruction_text::mnemonic;
 use isa::Instr;
@@ -21,7 +21,7 @@ use std::alloc::Global;
 use taint_shadow::Label;
 
 /// The text of the decisions of a run: a line for each place, and `end N`.
-pub(crate) fn text(alloc: Global, tracking: &Tracking) -> Result<Vec<u8>, NoMemory>
+pub(crate) fn text(alloc: Global, tracking: &DecisionTracking) -> Result<Vec<u8>, NoMemory>
     requires { HaveLabels tracking.now.labels tracking.now.groups }
     ensures { IfOk result (λ text. (ds : List Decision) → AreGroups tracking.now.labels ds tracking.now.groups
         → text.items ≡ decisions_text ds) }

@@ -12,7 +12,7 @@ use isa::{CallKind, Instr};
 
 /// At most sixteen locations, ascending and each once: lanes of two registers at most, or what a call asks.
 #[derive(Clone, Copy)]
-pub enum Deciding {
+pub enum DecidingLocations {
     Few(Locations),
     /// The number alone.
     Number([Loc; 4]),
@@ -22,22 +22,22 @@ pub enum Deciding {
     Arguments([Loc; 16]),
 }
 
-impl Deciding {
+impl DecidingLocations {
     pub fn as_slice(&self) -> &[Loc]
         ensures value { result.now ≡ deciding_locs self.now }
         ensures short { length result.now ≤ 16 }
     {
         match self {
-            Deciding::Few(locs) => locs.as_slice(),
-            Deciding::Number(locs) => locs,
-            Deciding::Code(locs) => locs,
-            Deciding::Arguments(locs) => locs,
+            DecidingLocations::Few(locs) => locs.as_slice(),
+            DecidingLocations::Number(locs) => locs,
+            DecidingLocations::Code(locs) => locs,
+            DecidingLocations::Arguments(locs) => locs,
         }
     }
 }
 
 /// What decides where an instruction goes, where a call would be of this kind.
-pub fn decisions_of(rule: Rule, kind: CallKind, instr: &Instr) -> Deciding
+pub fn decisions_of(rule: Rule, kind: CallKind, instr: &Instr) -> DecidingLocations
     ensures { deciding_locs result ≡ model.decides rule kind instr.now }
 {
     match *instr {
@@ -46,16 +46,16 @@ pub fn decisions_of(rule: Rule, kind: CallKind, instr: &Instr) -> Deciding
         | Instr::Blt { rs1, rs2, .. }
         | Instr::Bge { rs1, rs2, .. }
         | Instr::Bltu { rs1, rs2, .. }
-        | Instr::Bgeu { rs1, rs2, .. } => Deciding::Few(Locations::all_lanes(rs1, rs2)),
+        | Instr::Bgeu { rs1, rs2, .. } => DecidingLocations::Few(Locations::all_lanes(rs1, rs2)),
         Instr::Jalr { rs1, .. }
         | Instr::Sb { rs1, .. }
         | Instr::Sh { rs1, .. }
-        | Instr::Sw { rs1, .. } => Deciding::Few(Locations::lanes(rs1)),
+        | Instr::Sw { rs1, .. } => DecidingLocations::Few(Locations::lanes(rs1)),
         Instr::Lb { rs1, .. }
         | Instr::Lh { rs1, .. }
         | Instr::Lw { rs1, .. }
         | Instr::Lbu { rs1, .. }
-        | Instr::Lhu { rs1, .. } => Deciding::Few(base_of_load(rule, rs1)),
+        | Instr::Lhu { rs1, .. } => DecidingLocations::Few(base_of_load(rule, rs1)),
         Instr::Ecall => asked(kind),
         Instr::Lui { .. }
         | Instr::Auipc { .. }
@@ -88,7 +88,7 @@ pub fn decisions_of(rule: Rule, kind: CallKind, instr: &Instr) -> Deciding
         | Instr::Rem { .. }
         | Instr::Remu { .. }
         | Instr::Fence { .. }
-        | Instr::Ebreak => Deciding::Few(Locations::Empty),
+        | Instr::Ebreak => DecidingLocations::Few(Locations::Empty),
     }
 }
 
@@ -103,11 +103,11 @@ fn base_of_load(rule: Rule, rs1: u8) -> Locations
 }
 
 /// The registers of a call.
-fn asked(kind: CallKind) -> Deciding
+fn asked(kind: CallKind) -> DecidingLocations
     ensures { deciding_locs result ≡ model.asked kind }
 {
     match kind {
-        CallKind::Read | CallKind::Write => Deciding::Arguments([
+        CallKind::Read | CallKind::Write => DecidingLocations::Arguments([
             lane(10, 0),
             lane(10, 1),
             lane(10, 2),
@@ -125,7 +125,7 @@ fn asked(kind: CallKind) -> Deciding
             lane(17, 2),
             lane(17, 3),
         ]),
-        CallKind::Exit => Deciding::Code([
+        CallKind::Exit => DecidingLocations::Code([
             lane(10, 0),
             lane(10, 1),
             lane(10, 2),
@@ -135,7 +135,7 @@ fn asked(kind: CallKind) -> Deciding
             lane(17, 2),
             lane(17, 3),
         ]),
-        CallKind::Clock | CallKind::Other => Deciding::Number([
+        CallKind::Clock | CallKind::Other => DecidingLocations::Number([
             lane(17, 0),
             lane(17, 1),
             lane(17, 2),

@@ -8,5 +8,5 @@
 mod deciding;
 mod rule;
 
-pub use deciding::{Deciding, decisions_of};
+pub use deciding::{DecidingLocations, decisions_of};
 pub use rule::deciding_rule;

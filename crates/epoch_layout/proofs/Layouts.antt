@@ -44,7 +44,7 @@ module _ (capacity : ℕ) (run : CutRun) where
 
 -- ---- one node more
 
--- the links behind the last of some nodes, each of which has links behind it
+-- the links after the last of some nodes, each of which has links after it
 abbrev pub last_of : Option Links → List Links → Option Links
 last_of b [] = b
 last_of b (l ∷ ls) = last_of (Some l) ls
@@ -54,7 +54,7 @@ last_push b [] l = refl
 last_push b (k ∷ ls) l = last_push (Some k) ls l
 
 module _ (capacity : ℕ) (run : CutRun) where
-  -- the new nodes of these epochs, each with the next of the links behind it
+  -- the new nodes of these epochs, each with the next of the links after it
   abbrev pub opened : Option Links → List NumberedEpoch → List Links → List NodeView
   opened before [] ls = []
   opened before (e ∷ es) [] = []

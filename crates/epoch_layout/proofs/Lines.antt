@@ -7,9 +7,9 @@ use Rattle.flow_model.specs.declared.Message.{Message}
 use Rattle.epoch_cut.specs.Numbered.{NumberedEpoch}
 use Rattle.epoch_link.specs.Link.{EndView}
 use Rattle.epoch_link.specs.Ends.{Producing, Consuming, producer_end, consumer_end, new_producer, new_consumer}
-use Rattle.epoch_node.specs.Cores.{Given}
+use Rattle.epoch_node.specs.Cores.{CoreSetup}
 use Rattle.epoch_node.specs.Nodes.{NodeView, IsLedFrom, IsEndLater, IsInletLater, IsOutletLater}
-use Rattle.epoch_layout.specs.Layouts.{CutRun, epochs_of, given_at, Links, before_end, after_end, node_between, laid_out, IsRunOf}
+use Rattle.epoch_layout.specs.Layouts.{CutRun, epochs_of, setup_at, Links, before_end, after_end, node_between, laid_out, IsRunOf}
 use Rattle.epoch_layout.specs.Lines.{IsOneLink}
 
 -- ---- the same ends, later
@@ -39,8 +39,8 @@ mates capacity l (Some p) (Some c) a b = a.0 ∙ sym b.0
 -- ---- a line
 
 -- the node is that of the epoch, and has links where it has neighbours
-pub record StandsAt (i : Given) (n : NodeView) : Type 0 where
-  pub given : n.core.given ≡ i
+pub record StandsAt (i : CoreSetup) (n : NodeView) : Type 0 where
+  pub setup : n.core.setup ≡ i
   pub ask_in : is_none n.ends.ask_in ≡ i.last
   pub ask_out : is_none n.ends.ask_out ≡ i.first
   pub answer_in : is_none n.ends.answer_in ≡ i.first
@@ -57,8 +57,8 @@ module _ (run : CutRun) where
   IsLine first [] [] = Unit {0}
   IsLine first [] (n ∷ ns) = ⊥
   IsLine first (e ∷ es) [] = ⊥
-  IsLine first (e ∷ es) (n ∷ []) = StandsAt (given_at run e first true) n × (es ≡ [])
-  IsLine first (e ∷ es) (n ∷ m ∷ ns) = StandsAt (given_at run e first false) n × AreJoined n m × IsLine false es (m ∷ ns)
+  IsLine first (e ∷ es) (n ∷ []) = StandsAt (setup_at run e first true) n × (es ≡ [])
+  IsLine first (e ∷ es) (n ∷ m ∷ ns) = StandsAt (setup_at run e first false) n × AreJoined n m × IsLine false es (m ∷ ns)
 
   -- a later part of it is one
   pub record IsPart (ns : List NodeView) : Type 0 where
@@ -74,9 +74,9 @@ module _ (run : CutRun) where
   part first (e ∷ es) (f ∷ g ∷ front) ns h = part false es (g ∷ front) ns h.2
 
   module _ (capacity : ℕ) where
-    stands : (e : NumberedEpoch) (b a : Option Links) (n : NodeView) → IsLedFrom n (node_between capacity run e b a) → StandsAt (given_at run e (is_none b) (is_none a)) n
+    stands : (e : NumberedEpoch) (b a : Option Links) (n : NodeView) → IsLedFrom n (node_between capacity run e b a) → StandsAt (setup_at run e (is_none b) (is_none a)) n
     stands e b a n h = record {
-      given = h.given;
+      setup = h.setup;
       ask_in = stays_inlet n.ends.ask_in _ h.ends.ask_in ∙ none_mapped (λ x. x.ask_in) (after_end capacity) a;
       ask_out = stays_outlet n.ends.ask_out _ h.ends.ask_out ∙ none_mapped (λ x. x.ask_out) (before_end capacity) b;
       answer_in = stays_inlet n.ends.answer_in _ h.ends.answer_in ∙ none_mapped (λ x. x.answer_in) (before_end capacity) b;

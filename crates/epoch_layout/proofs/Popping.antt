@@ -8,21 +8,21 @@ use Rattle.report_model.specs.Rows.{Row}
 use Rattle.epoch_cut.specs.Numbered.{NumberedEpoch}
 use Rattle.sink_collect.specs.Pairs.{capped}
 use Rattle.epoch_link.specs.Ends.{Producing, Consuming}
-use Rattle.epoch_node.specs.Cores.{Given, asked_at}
+use Rattle.epoch_node.specs.Cores.{CoreSetup, asked_at}
 use Rattle.epoch_node.specs.Keeping.{HasDone, HasCounted}
 use Rattle.epoch_node.specs.Events.{IsMore}
-use Rattle.epoch_node.specs.Nodes.{NodeView, told_by}
-use Rattle.epoch_layout.specs.Layouts.{CutRun, given_at}
+use Rattle.epoch_node.specs.Nodes.{NodeView, traffic_of}
+use Rattle.epoch_layout.specs.Layouts.{CutRun, setup_at}
 use Rattle.epoch_layout.specs.Lines.{IsOneLink, HasDelivered}
-use Rattle.epoch_layout.specs.DoneLines.{DoneNode, IsPlaced, AreTold, IsDoneLine}
+use Rattle.epoch_layout.specs.DoneLines.{DoneNode, IsPlaced, GotWasSent, IsDoneLine}
 use Rattle.epoch_layout.proofs.Lines.{StandsAt, AreJoined, IsLine, IsPart}
 
 -- a node that is done and not broken, and its rows
 pub record Finished : Type 0 where
   pub view : NodeView
   pub rows : List Row
-  pub done : HasDone view.core.given (told_by view.ends) (asked_at view.core.stage) rows
-  pub counted : HasCounted view.core.given (told_by view.ends) (asked_at view.core.stage) rows view.core.events
+  pub done : HasDone view.core.setup (traffic_of view.ends) (asked_at view.core.stage) rows
+  pub counted : HasCounted view.core.setup (traffic_of view.ends) (asked_at view.core.stage) rows view.core.events
 
 abbrev pub views : List Finished → List NodeView
 views fs = map (λ f. f.view) fs
@@ -30,8 +30,8 @@ views fs = map (λ f. f.view) fs
 -- but for its ends
 abbrev pub node_of : Finished → DoneNode
 node_of f = record {
-  given = f.view.core.given;
-  told = told_by f.view.ends;
+  setup = f.view.core.setup;
+  traffic = traffic_of f.view.ends;
   asked = asked_at f.view.core.stage;
   rows = f.rows;
   events = f.view.core.events;
@@ -42,7 +42,7 @@ node_of f = record {
 abbrev pub nodes : List Finished → List DoneNode
 nodes fs = map node_of fs
 
--- the ends that the first of these has towards the node before it
+-- the ends that the first of these has towards the previous node
 abbrev pub Faces : List Finished → Option (Producing Message) → Option (Consuming Message) → Type 0
 Faces [] ask_out answer_in = (ask_out ≡ None) × (answer_in ≡ None)
 Faces (d ∷ ds) ask_out answer_in = (ask_out ≡ d.view.ends.ask_out) × (answer_in ≡ d.view.ends.answer_in)
@@ -77,7 +77,7 @@ no_inlet_link None h = tt
 no_inlet_link (Some c) h = cc
 
 module _ (run : CutRun) where
-  -- the links behind a node are those before the next one
+  -- the links after a node are those before the next one
   pub links_are : (n : NodeView) (done : List Finished) (ask_out : Option (Producing Message)) (answer_in : Option (Consuming Message)) → IsPart run (n ∷ views done) → Faces done ask_out answer_in
       → IsOneLink ask_out n.ends.ask_in × IsOneLink n.ends.answer_out answer_in
   links_are n done ask_out answer_in p f = by p.first p.epochs done p.line f where
@@ -106,25 +106,25 @@ one_more f (d ∷ ds) ask_out answer_in faces c asks answers = (
 -- ---- all of them
 
 -- the two ends of a link that is closed
-told : (p : Option (Producing Message)) (c : Option (Consuming Message)) → IsOneLink p c → HasDelivered p c → IsMore (option_map (λ (x : Consuming Message). x.got) c) (option_map (λ (x : Producing Message). x.sent) p)
-told None None one d = tt
-told (Some p) (Some c) one d = d
-told None (Some c) one d = absurd one
-told (Some p) None one d = absurd one
+delivered : (p : Option (Producing Message)) (c : Option (Consuming Message)) → IsOneLink p c → HasDelivered p c → IsMore (option_map (λ (x : Consuming Message). x.got) c) (option_map (λ (x : Producing Message). x.sent) p)
+delivered None None one d = tt
+delivered (Some p) (Some c) one d = d
+delivered None (Some c) one d = absurd one
+delivered (Some p) None one d = absurd one
 
-are_told : (a b : Finished) → AreJoined a.view b.view → HasDelivered b.view.ends.ask_out a.view.ends.ask_in → HasDelivered a.view.ends.answer_out b.view.ends.answer_in → AreTold (node_of a) (node_of b)
-are_told a b j asks answers = record {
-  asks = told b.view.ends.ask_out a.view.ends.ask_in j.ask asks;
-  answers = told a.view.ends.answer_out b.view.ends.answer_in j.answer answers;
+got_was_sent : (a b : Finished) → AreJoined a.view b.view → HasDelivered b.view.ends.ask_out a.view.ends.ask_in → HasDelivered a.view.ends.answer_out b.view.ends.answer_in → GotWasSent (node_of a) (node_of b)
+got_was_sent a b j asks answers = record {
+  asks = delivered b.view.ends.ask_out a.view.ends.ask_in j.ask asks;
+  answers = delivered a.view.ends.answer_out b.view.ends.answer_in j.answer answers;
 }
 
 mapped_none : {A B : Type 0} (f : A → B) (o : Option A) → is_none (option_map f o) ≡ is_none o
 mapped_none f None = refl
 mapped_none f (Some x) = refl
 
-placed : (i : Given) (f : Finished) → StandsAt i f.view → IsPlaced i (node_of f)
+placed : (i : CoreSetup) (f : Finished) → StandsAt i f.view → IsPlaced i (node_of f)
 placed i f s = record {
-  given = s.given;
+  setup = s.setup;
   links = record {
     asks_got = mapped_none (λ (c : Consuming Message). c.got) f.view.ends.ask_in ∙ s.ask_in;
     asks_sent = mapped_none (λ (p : Producing Message). p.sent) f.view.ends.ask_out ∙ s.ask_out;
@@ -137,8 +137,8 @@ pub done_line : (run : CutRun) (first : Bool) (es : List NumberedEpoch) (fs : Li
 done_line run first [] [] line c = tt
 done_line run first [] (f ∷ fs) line c = absurd line
 done_line run first (e ∷ es) [] line c = absurd line
-done_line run first (e ∷ es) (f ∷ []) line c = (placed (given_at run e first true) f line.0, line.1)
-done_line run first (e ∷ es) (f ∷ g ∷ fs) line c = (placed (given_at run e first false) f line.0, are_told f g line.1 c.0 c.1, done_line run false es (g ∷ fs) line.2 c.2)
+done_line run first (e ∷ es) (f ∷ []) line c = (placed (setup_at run e first true) f line.0, line.1)
+done_line run first (e ∷ es) (f ∷ g ∷ fs) line c = (placed (setup_at run e first false) f line.0, got_was_sent f g line.1 c.0 c.1, done_line run false es (g ∷ fs) line.2 c.2)
 
 -- the count of one node more
 pub capped_more : (events moved sum added total all : ℕ) → events ≡ capped sum → added ≡ moved → total ≡ min (events + added) (2 ^ 64 - 1) → all ≡ moved + sum → total ≡ capped all

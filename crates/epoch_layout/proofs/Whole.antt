@@ -19,19 +19,19 @@ use Rattle.pass_parts.specs.Ends.{got_by, sent_by, EndsWhole}
 use Rattle.pass_parts.proofs.Whole.{ended_whole}
 use Rattle.stream_model.specs.Streams.{requests, Node, IsDone, AreDone, AreAllDone, summaries}
 use Rattle.stream_model.specs.StreamLaws.{EndsLast, LinksCarry}
-use Rattle.stream_model.specs.Work.{node_work, work_in_all, asked_at, EndsBehind, EndsOutside}
+use Rattle.stream_model.specs.Work.{node_work, work_in_all, asked_at, EndsPastLast, EndsOutside}
 use Rattle.stream_model.proofs.Growing.{asks_end_last, answers_end_last}
 use Rattle.stream_model.proofs.Meeting.{done_nodes_meet}
 use Rattle.stream_model.proofs.Running.{all_got}
 use Rattle.stream_model.proofs.NodeWork.{done_nodes_work}
-use Rattle.epoch_node.specs.Cores.{Given}
+use Rattle.epoch_node.specs.Cores.{CoreSetup}
 use Rattle.epoch_node.specs.Keeping.{node_by, IsFound}
 use Rattle.epoch_node.specs.Events.{IsMore}
-use Rattle.epoch_layout.specs.Layouts.{CutRun, epochs_of, given_at}
-use Rattle.epoch_layout.specs.DoneLines.{DoneNode, IsPlaced, AreTold, IsDoneLine, crossed, DoneLinesCome}
+use Rattle.epoch_layout.specs.Layouts.{CutRun, epochs_of, setup_at}
+use Rattle.epoch_layout.specs.DoneLines.{DoneNode, IsPlaced, GotWasSent, IsDoneLine, crossed, DoneLinesCome}
 
 abbrev pub stream_of : DoneNode → Node
-stream_of d = node_by d.done.summary d.told d.asked d.rows
+stream_of d = node_by d.done.summary d.traffic d.asked d.rows
 
 abbrev pub streams : List DoneNode → List Node
 streams ds = map stream_of ds
@@ -50,15 +50,15 @@ none_got (Some got) h = cc
 
 -- ---- all of them
 
-done_at : (i : Given) (d : DoneNode) → IsPlaced i d → IsDone i.first i.last (stream_of d)
-done_at i d s = subst (λ (g : Given). IsDone g.first g.last (stream_of d)) s.given d.done.done
+done_at : (i : CoreSetup) (d : DoneNode) → IsPlaced i d → IsDone i.first i.last (stream_of d)
+done_at i d s = subst (λ (g : CoreSetup). IsDone g.first g.last (stream_of d)) s.setup d.done.done
 
 -- the two links between a node and the next one
-links_closed : (i k : Given) (a b : DoneNode) → IsPlaced i a → IsPlaced k b → i.last ≡ false → k.first ≡ false → AreTold a b
+links_closed : (i k : CoreSetup) (a b : DoneNode) → IsPlaced i a → IsPlaced k b → i.last ≡ false → k.first ≡ false → GotWasSent a b
     → ((stream_of a).asks_got ≡ (stream_of b).asks_sent) × ((stream_of b).answers_got ≡ (stream_of a).answers_sent)
 links_closed i k a b x y last first t = (
-  closed a.told.asks_got b.told.asks_sent t.asks (x.links.asks_got ∙ last) (subst EndsLast (sym ((done_at k b y).asks first)) (asks_end_last b.done.summary (stream_of b).asks_got)) a.done.asks_end,
-  closed b.told.answers_got a.told.answers_sent t.answers (y.links.answers_got ∙ first)
+  closed a.traffic.asks_got b.traffic.asks_sent t.asks (x.links.asks_got ∙ last) (subst EndsLast (sym ((done_at k b y).asks first)) (asks_end_last b.done.summary (stream_of b).asks_got)) a.done.asks_end,
+  closed b.traffic.answers_got a.traffic.answers_sent t.answers (y.links.answers_got ∙ first)
       (subst EndsLast (sym ((done_at i a x).answers last)) (answers_end_last a.done.summary a.asked (requests (stream_of a).asks_got) (stream_of a).answers_got)) b.done.answers_end,
 )
 
@@ -67,7 +67,7 @@ module _ (run : CutRun) where
   record StandsFirst (first : Bool) (d : DoneNode) : Type 0 where
     epoch : NumberedEpoch
     last : Bool
-    placed : IsPlaced (given_at run epoch first last) d
+    placed : IsPlaced (setup_at run epoch first last) d
 
   stands_first : (first : Bool) (es : List NumberedEpoch) (d : DoneNode) (ds : List DoneNode) → IsDoneLine run first es (d ∷ ds) → StandsFirst first d
   stands_first first [] d ds line = absurd line
@@ -77,18 +77,18 @@ module _ (run : CutRun) where
   are_done : (first : Bool) (es : List NumberedEpoch) (ds : List DoneNode) → IsDoneLine run first es ds → AreDone first (streams ds)
   are_done first es [] line = tt
   are_done first [] (d ∷ ds) line = absurd line
-  are_done first (e ∷ es) (d ∷ []) line = (done_at (given_at run e first true) d line.0, none_got d.told.asks_got line.0.links.asks_got)
+  are_done first (e ∷ es) (d ∷ []) line = (done_at (setup_at run e first true) d line.0, none_got d.traffic.asks_got line.0.links.asks_got)
   are_done first (e ∷ es) (d ∷ b ∷ ds) line =
       let next = stands_first false es b ds line.2 in
-      let both = links_closed (given_at run e first false) (given_at run next.epoch false next.last) d b line.0 next.placed refl refl line.1 in
-      (done_at (given_at run e first false) d line.0, both.0, both.1, are_done false es (b ∷ ds) line.2)
+      let both = links_closed (setup_at run e first false) (setup_at run next.epoch false next.last) d b line.0 next.placed refl refl line.1 in
+      (done_at (setup_at run e first false) d line.0, both.0, both.1, are_done false es (b ∷ ds) line.2)
 
   all_done : (es : List NumberedEpoch) (ds : List DoneNode) → IsDoneLine run true es ds → AreAllDone (streams ds)
   all_done es [] line = tt
-  all_done es (d ∷ ds) line = (none_got d.told.answers_got (stands_first true es d ds line).placed.links.answers_got, are_done true es (d ∷ ds) line)
+  all_done es (d ∷ ds) line = (none_got d.traffic.answers_got (stands_first true es d ds line).placed.links.answers_got, are_done true es (d ∷ ds) line)
 
-  found_at : (i : Given) (d : DoneNode) → IsPlaced i d → IsFound i.query (trace_of i.points.job) i.epoch d.done.summary
-  found_at i d s = subst (λ (g : Given). IsFound g.query (trace_of g.points.job) g.epoch d.done.summary) s.given d.done.found
+  found_at : (i : CoreSetup) (d : DoneNode) → IsPlaced i d → IsFound i.query (trace_of i.points.job) i.epoch d.done.summary
+  found_at i d s = subst (λ (g : CoreSetup). IsFound g.query (trace_of g.points.job) g.epoch d.done.summary) s.setup d.done.found
 
   -- what they know is of the run's epochs, whose steps are in range
   record AreFound (s : ℕ) (cs : List ℕ) (ds : List DoneNode) : Type 0 where
@@ -100,11 +100,11 @@ module _ (run : CutRun) where
   are_found first k s [] (d ∷ ds) line = absurd line
   are_found first k s (c ∷ cs) [] line = absurd line
   are_found first k s (c ∷ []) (d ∷ []) line =
-      let f = found_at (given_at run (record { number = k; first = s; past_last = c }) first true) d line.0 in
+      let f = found_at (setup_at run (record { number = k; first = s; past_last = c }) first true) d line.0 in
       record { summaries = (f.summary, tt); in_range = (f.in_range, tt) }
   are_found first k s (c ∷ b ∷ cs) (d ∷ []) line = let no : length (numbered (suc k) (epochs c (b ∷ cs))) ≡ 0 = ap length line.1 in absurd (omega (arith, no))
   are_found first k s (c ∷ cs) (d ∷ b ∷ ds) line =
-      let f = found_at (given_at run (record { number = k; first = s; past_last = c }) first false) d line.0 in
+      let f = found_at (setup_at run (record { number = k; first = s; past_last = c }) first false) d line.0 in
       let rest = are_found false (suc k) c cs (b ∷ ds) line.2 in
       record { summaries = (f.summary, rest.summaries); in_range = (f.in_range, rest.in_range) }
 
@@ -114,19 +114,19 @@ nothing_asked : (sent : Option (List Message)) → is_none sent ≡ true → sen
 nothing_asked None h = refl
 nothing_asked (Some sent) h = cc
 
-counted_at : (i : Given) (d : DoneNode) → IsPlaced i d → d.events ≡ capped (node_work i.first i.last (stream_of d))
-counted_at i d s = subst (λ (g : Given). d.events ≡ capped (node_work g.first g.last (stream_of d))) s.given (d.counted d.done.summary)
+counted_at : (i : CoreSetup) (d : DoneNode) → IsPlaced i d → d.events ≡ capped (node_work i.first i.last (stream_of d))
+counted_at i d s = subst (λ (g : CoreSetup). d.events ≡ capped (node_work g.first g.last (stream_of d))) s.setup (d.counted d.done.summary)
 
 module _ (run : CutRun) where
-  ends_behind : (first : Bool) (es : List NumberedEpoch) (ds : List DoneNode) → IsDoneLine run first es ds → EndsBehind (streams ds)
-  ends_behind first es [] line = tt
-  ends_behind first [] (d ∷ ds) line = absurd line
-  ends_behind first (e ∷ es) (d ∷ []) line = nothing_asked d.told.answers_sent line.0.links.answers_sent
-  ends_behind first (e ∷ es) (d ∷ b ∷ ds) line = ends_behind false es (b ∷ ds) line.2
+  ends_past_last : (first : Bool) (es : List NumberedEpoch) (ds : List DoneNode) → IsDoneLine run first es ds → EndsPastLast (streams ds)
+  ends_past_last first es [] line = tt
+  ends_past_last first [] (d ∷ ds) line = absurd line
+  ends_past_last first (e ∷ es) (d ∷ []) line = nothing_asked d.traffic.answers_sent line.0.links.answers_sent
+  ends_past_last first (e ∷ es) (d ∷ b ∷ ds) line = ends_past_last false es (b ∷ ds) line.2
 
   ends_outside : (es : List NumberedEpoch) (ds : List DoneNode) → IsDoneLine run true es ds → EndsOutside (streams ds)
   ends_outside es [] line = tt
-  ends_outside es (d ∷ ds) line = (nothing_asked d.told.asks_sent (stands_first run true es d ds line).placed.links.asks_sent, ends_behind true es (d ∷ ds) line)
+  ends_outside es (d ∷ ds) line = (nothing_asked d.traffic.asks_sent (stands_first run true es d ds line).placed.links.asks_sent, ends_past_last true es (d ∷ ds) line)
 
   -- the sum of capped counts, capped, is the capped sum
   counted_all : (first : Bool) (es : List NumberedEpoch) (ds : List DoneNode) → IsDoneLine run first es ds
@@ -134,10 +134,10 @@ module _ (run : CutRun) where
   counted_all first es [] line = refl
   counted_all first [] (d ∷ ds) line = absurd line
   counted_all first (e ∷ es) (d ∷ []) line =
-      let own = counted_at (given_at run e first true) d line.0 in
+      let own = counted_at (setup_at run e first true) d line.0 in
       omega (arith, own, sum_by-cons (λ (d : DoneNode). d.events) d [])
   counted_all first (e ∷ es) (d ∷ b ∷ ds) line =
-      let own = counted_at (given_at run e first false) d line.0 in
+      let own = counted_at (setup_at run e first false) d line.0 in
       let rest = counted_all false es (b ∷ ds) line.2 in
       omega (arith, own, rest, sum_by-cons (λ (d : DoneNode). d.events) d (b ∷ ds))
 

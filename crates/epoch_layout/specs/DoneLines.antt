@@ -10,39 +10,39 @@ use Rattle.sink_collect.specs.Pairs.{capped}
 use Rattle.epoch_model.specs.Cutting.{IsCutting}
 use Rattle.epoch_cut.specs.Numbered.{NumberedEpoch}
 use Rattle.stream_model.specs.Work.{asked_at, run_work}
-use Rattle.epoch_node.specs.Cores.{Given}
-use Rattle.epoch_node.specs.Keeping.{Told, HasLinks, HasDone, HasCounted}
+use Rattle.epoch_node.specs.Cores.{CoreSetup}
+use Rattle.epoch_node.specs.Keeping.{Traffic, HasLinks, HasDone, HasCounted}
 use Rattle.epoch_node.specs.Events.{IsMore}
-use Rattle.epoch_layout.specs.Layouts.{CutRun, epochs_of, given_at}
+use Rattle.epoch_layout.specs.Layouts.{CutRun, epochs_of, setup_at}
 
 -- a node that is done and not broken: what it was given, what went through its links, what it asked, its rows, and its
 -- count of events
 pub record DoneNode : Type 0 where
-  pub given : Given
-  pub told : Told
+  pub setup : CoreSetup
+  pub traffic : Traffic
   pub asked : List Loc
   pub rows : List Row
   pub events : ℕ
-  pub done : HasDone given told asked rows
-  pub counted : HasCounted given told asked rows events
+  pub done : HasDone setup traffic asked rows
+  pub counted : HasCounted setup traffic asked rows events
 
 -- the node is that of the epoch, and has links where it has neighbours
-pub record IsPlaced (i : Given) (n : DoneNode) : Type 0 where
-  pub given : n.given ≡ i
-  pub links : HasLinks i n.told
+pub record IsPlaced (i : CoreSetup) (n : DoneNode) : Type 0 where
+  pub setup : n.setup ≡ i
+  pub links : HasLinks i n.traffic
 
 -- on the two links between the nodes n and m, what the one got is a part of what the other sent
-pub record AreTold (n m : DoneNode) : Type 0 where
-  pub asks : IsMore n.told.asks_got m.told.asks_sent
-  pub answers : IsMore m.told.answers_got n.told.answers_sent
+pub record GotWasSent (n m : DoneNode) : Type 0 where
+  pub asks : IsMore n.traffic.asks_got m.traffic.asks_sent
+  pub answers : IsMore m.traffic.answers_got n.traffic.answers_sent
 
 -- the nodes of these epochs, one by one, each with links to the next
 abbrev pub IsDoneLine : CutRun → Bool → List NumberedEpoch → List DoneNode → Type 0
 IsDoneLine run first [] [] = Unit {0}
 IsDoneLine run first [] (n ∷ ns) = ⊥
 IsDoneLine run first (e ∷ es) [] = ⊥
-IsDoneLine run first (e ∷ es) (n ∷ []) = IsPlaced (given_at run e first true) n × (es ≡ [])
-IsDoneLine run first (e ∷ es) (n ∷ m ∷ ns) = IsPlaced (given_at run e first false) n × AreTold n m × IsDoneLine run false es (m ∷ ns)
+IsDoneLine run first (e ∷ es) (n ∷ []) = IsPlaced (setup_at run e first true) n × (es ≡ [])
+IsDoneLine run first (e ∷ es) (n ∷ m ∷ ns) = IsPlaced (setup_at run e first false) n × GotWasSent n m × IsDoneLine run false es (m ∷ ns)
 
 -- what the nodes of a run asked, but for the first, which asks nothing
 abbrev pub crossed : List DoneNode → List (List Loc)

@@ -3,7 +3,7 @@ use Rattle.std.specs.Prelude.{◌≡◌, ◌+◌, ◌-◌, ◌^◌, List, [], �
 use Rattle.report_model.specs.Rows.{Row}
 use Rattle.epoch_node.specs.Cores.{asked_at}
 use Rattle.epoch_node.specs.Keeping.{HasDone, HasCounted}
-use Rattle.epoch_node.specs.Nodes.{NodeView, told_by}
+use Rattle.epoch_node.specs.Nodes.{NodeView, traffic_of}
 use Rattle.epoch_layout.specs.declared.collecting.Gathering.{Gathering}
 use Rattle.epoch_layout.specs.Lines.{HasDelivered}
 
@@ -19,8 +19,8 @@ pub record HasNothing (g : Gathering) : Type 0 where
 -- are closed
 pub record HasTaken (n : NodeView) (old new : Gathering) : Type 0 where
   pub rows : List Row
-  pub done : HasDone n.core.given (told_by n.ends) (asked_at n.core.stage) rows
-  pub counted : HasCounted n.core.given (told_by n.ends) (asked_at n.core.stage) rows n.core.events
+  pub done : HasDone n.core.setup (traffic_of n.ends) (asked_at n.core.stage) rows
+  pub counted : HasCounted n.core.setup (traffic_of n.ends) (asked_at n.core.stage) rows n.core.events
   pub sets : new.sets.items ≡ old.sets.items ++ rows ∷ []
   pub asked : new.asked.items ≡ old.asked.items ++ asked_at n.core.stage ∷ []
   pub events : new.events ≡ min (old.events + n.core.events) (2 ^ 64 - 1)

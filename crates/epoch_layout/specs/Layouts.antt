@@ -10,7 +10,7 @@ use Rattle.replayer.specs.Jobs.{Job}
 use Rattle.checkpoints.specs.Points.{CheckpointsAt, beginnings}
 use Rattle.epoch_link.specs.Ends.{new_producer, new_consumer}
 use Rattle.epoch_node.specs.declared.ends.Ends.{Ends}
-use Rattle.epoch_node.specs.Cores.{Given}
+use Rattle.epoch_node.specs.Cores.{CoreSetup}
 use Rattle.epoch_node.specs.Nodes.{NodeView, new_node, IsLedFrom}
 use Rattle.epoch_layout.specs.declared.ends.Before.{Before}
 use Rattle.epoch_layout.specs.declared.ends.After.{After}
@@ -30,8 +30,8 @@ abbrev pub epochs_of : CutRun → List NumberedEpoch
 epochs_of run = numbered 0 (epochs 0 run.cuts)
 
 -- what the core of an epoch is given, whether it is the first or the last
-abbrev pub given_at : CutRun → NumberedEpoch → Bool → Bool → Given
-given_at run e first last = record { points = points_of run; query = run.query; epoch = e; first = first; last = last }
+abbrev pub setup_at : CutRun → NumberedEpoch → Bool → Bool → CoreSetup
+setup_at run e first last = record { points = points_of run; query = run.query; epoch = e; first = first; last = last }
 
 -- ---- ends of links
 
@@ -59,11 +59,11 @@ pub record Links : Type 0 where
   pub answer : TableId
 
 module _ (capacity : ℕ) where
-  -- their new ends at the node behind
+  -- their new ends at the next node
   abbrev pub before_end : Links → Before
   before_end l = record { ask_out = new_producer l.ask capacity; answer_in = new_consumer l.answer capacity }
 
-  -- and at the node before
+  -- and at the previous node
   abbrev pub after_end : Links → After
   after_end l = record { ask_in = new_consumer l.ask capacity; answer_out = new_producer l.answer capacity }
 
@@ -74,9 +74,9 @@ module _ (capacity : ℕ) where
   module _ (run : CutRun) where
     -- the new node of an epoch between these links
     abbrev pub node_between : NumberedEpoch → Option Links → Option Links → NodeView
-    node_between e before after = new_node (given_at run e (is_none before) (is_none after)) (ends_between before after)
+    node_between e before after = new_node (setup_at run e (is_none before) (is_none after)) (ends_between before after)
 
-    -- the new nodes of these epochs: `before` are the links before the first, and behind each but the last are the next of
+    -- the new nodes of these epochs: `before` are the links before the first, and after each but the last are the next of
     -- the links
     abbrev pub laid_out : Option Links → List NumberedEpoch → List Links → List NodeView
     laid_out before [] ls = []

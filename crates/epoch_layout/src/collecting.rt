@@ -74,7 +74,7 @@ pub struct Gathering {
     pub asked: Vec<Asked>,
     /// How many events of them moved, or 2^64 - 1 where they are more.
     pub events: u64,
-    /// The end of the link through which the last of them asks the node before it.
+    /// The end of the link through which the last of them asks the previous node.
     pub ask_out: Option<Producer<Message>>,
     /// The end of the link through which it gets the answers.
     pub answer_in: Option<Consumer<Message>>,
@@ -124,7 +124,7 @@ impl Gathering {
     }
 
     /// Closes the two links between the nodes that were taken in and the node with these ends, and keeps its ends of the
-    /// links to the node before it.
+    /// links to the previous node.
     fn close_links(&mut self, ends: Ends)
         requires ask { IsOneLink self.old.ask_out ends.ask_in }
         requires answer { IsOneLink ends.answer_out self.old.answer_in }

@@ -9,21 +9,21 @@ use flow_model::Message;
 use no_memory::NoMemory;
 use std::alloc::Global;
 
-/// A node's ends of the two links to the node before it.
+/// A node's ends of the two links to the previous node.
 #[derive(Drop)]
 pub struct Before {
     pub ask_out: Producer<Message>,
     pub answer_in: Consumer<Message>,
 }
 
-/// A node's ends of the two links to the node behind it.
+/// A node's ends of the two links to the next node.
 #[derive(Drop)]
 pub struct After {
     pub ask_in: Consumer<Message>,
     pub answer_out: Producer<Message>,
 }
 
-/// The ends of two new links between neighbours: those of the node before, and those of the node behind. It gives up with
+/// The ends of two new links between neighbours: those of the previous node, and of the next one. It gives up with
 /// NoMemory alone.
 pub(crate) fn join_two(alloc: Global, capacity: Capacity) -> Result<(After, Before), NoMemory>
     ensures { IfOk result (λ ends.

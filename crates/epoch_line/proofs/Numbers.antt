@@ -19,14 +19,14 @@ module _ (capacity : ℕ) (run : CutRun) where
   length_laid b (e ∷ es) (l ∷ ls) n = ap suc (length_laid (Some l) es ls (omega (arith, n)))
 
   numbers_laid : (b : Option Links) (k s : ℕ) (cs : List ℕ) (ls : List Links) → length ls + 1 ≡ length (numbered k (epochs s cs))
-      → map (λ (n : NodeView). n.core.given.epoch.number) (laid_out capacity run b (numbered k (epochs s cs)) ls) ≡ range_with_len k (length cs)
+      → map (λ (n : NodeView). n.core.setup.epoch.number) (laid_out capacity run b (numbered k (epochs s cs)) ls) ≡ range_with_len k (length cs)
   numbers_laid b k s [] ls n = absurd (omega (arith, n))
   numbers_laid b k s (c ∷ []) [] n = refl
   numbers_laid b k s (c ∷ d ∷ cs) [] n = absurd (omega (arith, n))
   numbers_laid b k s (c ∷ cs) (l ∷ ls) n = ap (λ ks. k ∷ ks) (numbers_laid (Some l) (suc k) c cs ls (omega (arith, n)) ∙ ap (λ j. range_with_len j (length cs)) (sym (add-one k)))
 
   abbrev IsOfJob : NodeView → Type 0
-  IsOfJob n = n.core.given.points.job ≡ run.job
+  IsOfJob n = n.core.setup.points.job ≡ run.job
 
   of_job : (b : Option Links) (es : List NumberedEpoch) (ls : List Links) → AreOfJob run.job (laid_out capacity run b es ls)
   of_job b [] ls = All-nil IsOfJob
@@ -36,9 +36,9 @@ module _ (capacity : ℕ) (run : CutRun) where
 pub layout_length : (capacity : ℕ) (run : CutRun) (nodes : List NodeView) → IsLayout capacity run nodes → length nodes ≡ length run.cuts
 layout_length capacity run nodes h = ap length h.are ∙ length_laid capacity run _ (epochs_of run) h.links h.count ∙ length-numbered 0 0 run.cuts
 
-pub layout_numbers : (capacity : ℕ) (run : CutRun) (nodes : List NodeView) → IsLayout capacity run nodes → AreNumbered (λ (n : NodeView). n.core.given.epoch.number) nodes
+pub layout_numbers : (capacity : ℕ) (run : CutRun) (nodes : List NodeView) → IsLayout capacity run nodes → AreNumbered (λ (n : NodeView). n.core.setup.epoch.number) nodes
 layout_numbers capacity run nodes h =
-    ap (map (λ (n : NodeView). n.core.given.epoch.number)) h.are
+    ap (map (λ (n : NodeView). n.core.setup.epoch.number)) h.are
     ∙ numbers_laid capacity run _ 0 0 run.cuts h.links h.count
     ∙ ap (range_with_len 0) (sym (layout_length capacity run nodes h))
 

@@ -24,10 +24,10 @@ module _ {T : Type 0} where
   item-past (x ∷ xs) zero h = absurd (omega arith)
   item-past (x ∷ xs) (suc p) h = item-past xs p (omega arith)
 
-  pub item-behind : (l m : List T) (p k : ℕ) → p ≡ length l + k → item_at (l ++ m) p ≡ item_at m k
-  item-behind [] m p k e = let q : p ≡ k = omega (arith, e) in ap (item_at m) q
-  item-behind (x ∷ xs) m zero k e = absurd (omega (arith, e))
-  item-behind (x ∷ xs) m (suc p) k e = item-behind xs m p k (omega (arith, e))
+  pub item-after : (l m : List T) (p k : ℕ) → p ≡ length l + k → item_at (l ++ m) p ≡ item_at m k
+  item-after [] m p k e = let q : p ≡ k = omega (arith, e) in ap (item_at m) q
+  item-after (x ∷ xs) m zero k e = absurd (omega (arith, e))
+  item-after (x ∷ xs) m (suc p) k e = item-after xs m p k (omega (arith, e))
 
   pub front : (ahead : List T) (x : T) → item_at ahead 0 ≡ Some x → (rest : List T) × (ahead ≡ x ∷ rest)
   front [] x e = absurd (none-some x e)

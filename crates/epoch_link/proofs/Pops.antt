@@ -12,7 +12,7 @@ use Rattle.atomic_table.proofs.Lists.{at_set, set_here, set_else, one_turn}
 use Rattle.epoch_link.specs.declared.ring_link.view.View.{View}
 use Rattle.epoch_link.specs.Words.{word_of}
 use Rattle.epoch_link.specs.Ring.{item_at, Produces, Consumes, Seats, Ring, listed, Remains, seen_tail, saw_tail, got_one}
-use Rattle.epoch_link.proofs.Items.{item-past, item-behind, front, one_slot}
+use Rattle.epoch_link.proofs.Items.{item-past, item-after, front, one_slot}
 use Rattle.epoch_link.proofs.Pushes.{long, lt_of_le_ne, keeps_producer, keeps_consumer}
 
 module _ {T : Type 0} where
@@ -35,7 +35,7 @@ module _ {T : Type 0} where
 
   -- the item at the next position to get
   first_is : (n : ℕ) (s : State (Option T) (View T)) (r : Ring n s) → item_at r.sent (length r.got) ≡ item_at r.delivered.held 0
-  first_is n s r = ap (λ (l : List T). item_at l (length r.got)) r.delivered.in_order ∙ item-behind r.got r.delivered.held (length r.got) 0 (omega arith)
+  first_is n s r = ap (λ (l : List T). item_at l (length r.got)) r.delivered.in_order ∙ item-after r.got r.delivered.held (length r.got) 0 (omega arith)
 
   pub sees_tail : (n id : ℕ) (me : Me (Option T) (View T)) → me.0.consumes ≡ true → me.0.next ≡ None → Allows (Ring n) n id me 0 (λ y. y) (saw_tail (step n 0 0 0 none) me)
   sees_tail n id me mine idle s r wide at small =

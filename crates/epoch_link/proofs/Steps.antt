@@ -12,13 +12,13 @@ use Rattle.epoch_link.proofs.Pushes.{sees_head, sends}
 use Rattle.epoch_link.proofs.Pops.{sees_tail, gets}
 
 -- A table t with this key, found where the seat of an end says that its table is.
-pub record Found (seat t : TableId) (key capacity : ℕ) : Type 0 where
+pub record IsOwnTable (seat t : TableId) (key capacity : ℕ) : Type 0 where
   pub same : seat ≡ t
   pub words : t.words ≡ 2
   pub slots : t.slots ≡ capacity
   pub keyed : t.slots ≡ key
 
-pub found : (seat own t : TableId) (own_key key capacity : ℕ) → seat ≡ own → (seat.words ≡ 2) × (seat.slots ≡ capacity) × (own_key ≡ capacity) → t ≡ own → key ≡ own_key → Found seat t key capacity
+pub found : (seat own t : TableId) (own_key key capacity : ℕ) → seat ≡ own → (seat.words ≡ 2) × (seat.slots ≡ capacity) × (own_key ≡ capacity) → t ≡ own → key ≡ own_key → IsOwnTable seat t key capacity
 found seat own t own_key key capacity seated sized t_is key_is =
     let same : seat ≡ t = seated ∙ sym t_is in
     let slots : t.slots ≡ capacity = ap (λ (z : TableId). z.slots) (sym same) ∙ sized.1 in

@@ -3,7 +3,7 @@ use Rattle.std.specs.Prelude.{◌≡◌, ℕ, ◌-◌, ◌≤◌, nat_lt, Some, 
 use Rattle.atomic_table.specs.Seated.{TableId}
 use Rattle.atomic_table.specs.Table.{Me, Step}
 use Rattle.epoch_link.specs.Link.{EndView}
-use Rattle.epoch_link.specs.declared.list_link.Told.{Told}
+use Rattle.epoch_link.specs.declared.list_link.History.{History}
 
 pub record BothEnds (T : Type 0) : Type 0 where
   pub link : TableId
@@ -43,15 +43,15 @@ module _ {T : Type 0} where
     ready = Some (nat_lt 0 (held_count l));
   }
 
-  abbrev pub told : List T → List T → Told T
-  told s g = record { sent = s; got = g }
+  abbrev pub history : List T → List T → History T
+  history s g = record { sent = s; got = g }
 
   -- a step at which a seat gains what was sent and what was got
-  abbrev pub Gains : List T → List T → Step (Unit {0}) → Me (Unit {0}) (Told T) → ℕ → Me (Unit {0}) (Told T) → Type 0
-  Gains sent got st m n w = w ≡ (told (m.0.sent ++ sent) (m.0.got ++ got), m.1)
+  abbrev pub Gains : List T → List T → Step (Unit {0}) → Me (Unit {0}) (History T) → ℕ → Me (Unit {0}) (History T) → Type 0
+  Gains sent got st m n w = w ≡ (history (m.0.sent ++ sent) (m.0.got ++ got), m.1)
 
   -- What a link keeps: the view of its seat, the items that it holds, and the room for them.
-  pub record Keeps (table seat : TableId) (view : Told T) (items : List T) (capacity room : ℕ) : Type 0 where
+  pub record Keeps (table seat : TableId) (view : History T) (items : List T) (capacity room : ℕ) : Type 0 where
     pub seated : seat ≡ table
     pub one_word : table.words ≡ 1
     pub in_order : view.sent ≡ view.got ++ items

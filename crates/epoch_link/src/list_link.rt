@@ -3,7 +3,7 @@ ghost use Rattle.std.specs.Prelude.{◌≡◌, ◌<◌, ◌≤◌, [], ◌∷◌
 ghost use Rattle.std.specs.VecDeque.{deque_capacity};
 ghost use Rattle.epoch_link.specs.Capacity.{IsCapacity};
 ghost use Rattle.epoch_link.specs.Link.{OnDone, OnFull, IfFull, OnItem, IfItem, OnEmpty, Rose, Delivered};
-ghost use Rattle.epoch_link.specs.ListLink.{told, new_link, held_count};
+ghost use Rattle.epoch_link.specs.ListLink.{history, new_link, held_count};
 
 use crate::capacity::Capacity;
 use crate::link::{Inlet, Outlet, Popped, Pushed};
@@ -14,8 +14,8 @@ use std::collections::{LinkedList, VecDeque};
 use std::marker::{Brand, Model, PhantomData};
 use std::slice;
 
-// What the one seat knows. No value of it is made.
-pub struct Told<T> {
+// All that was sent and got, which the one seat knows. No value of it is made.
+pub struct History<T> {
     pub sent: LinkedList<T>,
     pub got: LinkedList<T>,
 }
@@ -23,7 +23,7 @@ pub struct Told<T> {
 // The rule of the table, which allows every view.
 pub struct AnyView;
 
-impl<T> TableRule<(), Told<T>, ()> for AnyView {
+impl<T> TableRule<(), History<T>, ()> for AnyView {
     ghost use Rattle.std.specs.Prelude.{[]};
 
     ghost holds = { λ _ _. Unit {0} };
@@ -53,22 +53,22 @@ pub struct Note<B> {
     marker: PhantomData<B>,
 }
 
-impl<T, B: Moves<T>> Play<(), Told<T>> for Note<B> {
+impl<T, B: Moves<T>> Play<(), History<T>> for Note<B> {
     ghost use Rattle.epoch_link.specs.ListLink.{Gains};
 
     ghost then = { Gains B.sent B.got };
 }
 
-type ListTable<T> = Table<(), Told<T>, (), AnyView, Global>;
+type ListTable<T> = Table<(), History<T>, (), AnyView, Global>;
 
-type ListSeat<T> = Seat<(), Told<T>>;
+type ListSeat<T> = Seat<(), History<T>>;
 
 // The one load of a call, at which the view gains these items. The proof alone reads the slices.
 fn look<T, B: Moves<T>>(table: &ListTable<T>, seat: &mut ListSeat<T>, sent: &[T], got: &[T])
     requires seat { (seat.old.table_id ≡ table.now.shared.table_id) × (table.now.shared.table_id.words ≡ 1) }
     requires items { (B.sent ≡ sent.now) × (B.got ≡ got.now) }
     ensures same { seat.new.table_id ≡ seat.old.table_id }
-    ensures view { seat.new.me.0 ≡ told (seat.old.me.0.sent ++ sent.now) (seat.old.me.0.got ++ got.now) }
+    ensures view { seat.new.me.0 ≡ history (seat.old.me.0.sent ++ sent.now) (seat.old.me.0.got ++ got.now) }
 {
     let _ = sent;
     let _ = got;

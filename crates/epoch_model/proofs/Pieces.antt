@@ -42,11 +42,11 @@ stretches_are_their_steps policy trace s other r n l h = (past_by_steps policy.r
 
 -- ---- two pieces
 
-step_behind : (xs ys : List StepSeen) (i : ℕ) → step_at (xs ++ ys) (length xs + i) ≡ step_at ys i
-step_behind [] ys i = let none : 0 + i ≡ i = omega arith in ap (step_at ys) none
-step_behind (x ∷ xs) ys i =
+step_after : (xs ys : List StepSeen) (i : ℕ) → step_at (xs ++ ys) (length xs + i) ≡ step_at ys i
+step_after [] ys i = let none : 0 + i ≡ i = omega arith in ap (step_at ys) none
+step_after (x ∷ xs) ys i =
     let more : length (x ∷ xs) + i ≡ suc (length xs + i) = omega arith in
-    ap (step_at (x ∷ (xs ++ ys))) more ∙ step_behind xs ys i
+    ap (step_at (x ∷ (xs ++ ys))) more ∙ step_after xs ys i
 
 step_before : (xs ys : List StepSeen) (i : ℕ) → i < length xs → step_at (xs ++ ys) i ≡ step_at xs i
 step_before [] ys i h = absurd (omega (arith, h))
@@ -67,7 +67,7 @@ origins_by_steps policy trace other (suc t) h l =
 pub pieces_compose : PiecesCompose
 pieces_compose policy xs ys n l =
     let same = stretches_are_their_steps policy (xs ++ ys) (length xs) ys 0 n l
-    (λ i less. let none : i ≡ 0 + i = omega arith in step_behind xs ys i ∙ ap (step_at ys) none) in
+    (λ i less. let none : i ≡ 0 + i = omega arith in step_after xs ys i ∙ ap (step_at ys) none) in
     origins_compose policy (xs ++ ys) (length xs) n l
     ∙ ap₂ (union source_cmp) same.1
     (ap (union_over (origins policy (xs ++ ys) (length xs))) same.0

@@ -21,8 +21,8 @@ use Rattle.pass_parts.specs.Known.{known}
 use Rattle.pass_parts.specs.Requests.{locations}
 use Rattle.backward_pass.specs.Backward.{BackView, new_back, knows, state}
 use Rattle.forward_pass.specs.Forward.{ForeView, known_by, fore_state, ForeKeeps, ForeReached}
-use Rattle.epoch_node.specs.Cores.{Given, StageView}
-use Rattle.epoch_node.specs.Keeping.{Told, fresh_told, KnowsEpoch, IsBegun, IsAsking, requests_if, CanSettle, IsSettled, IsAnswering, HasDone}
+use Rattle.epoch_node.specs.Cores.{CoreSetup, StageView}
+use Rattle.epoch_node.specs.Keeping.{Traffic, fresh_traffic, KnowsEpoch, IsBegun, IsAsking, requests_if, CanSettle, IsSettled, IsAnswering, HasDone}
 use Rattle.epoch_node.specs.Events.{IsMore, BackActs, ForeActs}
 
 -- ---- what went through the ends
@@ -74,7 +74,7 @@ begins_state (Some s) false true = refl
 begins_state (Some s) false false = refl
 
 -- what is not over has only part of what is to be sent
-pub begun_asking : (i : Given) (v : BackView) → IsBegun i v → IsAsking i v (fresh_told i.first i.last)
+pub begun_asking : (i : CoreSetup) (v : BackView) → IsBegun i v → IsAsking i v (fresh_traffic i.first i.last)
 begun_asking i v b = record {
   summary = b.summary;
   first = ap (λ v. v.first) b.new;
@@ -98,7 +98,7 @@ begun_asking i v b = record {
   unsent : sent_by v.over v.whole (fresh_end i.first) ≡ []
   unsent = unsent_yet v.over v.whole i.first running
 
-module _ (i : Given) (v : BackView) (w : Told) (a : IsAsking i v w) (next : StageView) (got' sent' : Option (List Message)) (turn : PassTurn)
+module _ (i : CoreSetup) (v : BackView) (w : Traffic) (a : IsAsking i v w) (next : StageView) (got' sent' : Option (List Message)) (turn : PassTurn)
     (x : BackActs v w.asks_got w.asks_sent next got' sent' turn) where
   asks_moved : AskMoved x.happens.links (state v w.asks_got w.asks_sent) (state x.back got' sent')
   asks_moved =
@@ -184,7 +184,7 @@ module _ (i : Given) (v : BackView) (w : Told) (a : IsAsking i v w) (next : Stag
 
 -- ---- the pass forwards
 
-module _ (i : Given) (f : ForeView) (w : Told) (a : IsAnswering i f w) (next : StageView) (got' sent' : Option (List Message)) (turn : PassTurn)
+module _ (i : CoreSetup) (f : ForeView) (w : Traffic) (a : IsAnswering i f w) (next : StageView) (got' sent' : Option (List Message)) (turn : PassTurn)
     (x : ForeActs f w.answers_got w.answers_sent next got' sent' turn) where
   answers_moved : AnswerMoved x.happens.links (fore_state f w.answers_got w.answers_sent) (fore_state x.fore got' sent')
   answers_moved =
@@ -219,10 +219,10 @@ module _ (i : Given) (f : ForeView) (w : Told) (a : IsAnswering i f w) (next : S
 -- ---- at the end
 
 -- where the pass forwards is whole, the pass backwards ended whole
-pub began_whole : (i : Given) (f : ForeView) (w : Told) (a : IsAnswering i f w) → f.whole ≡ true → a.asking.is_whole ≡ true
+pub began_whole : (i : CoreSetup) (f : ForeView) (w : Traffic) (a : IsAnswering i f w) → f.whole ≡ true → a.asking.is_whole ≡ true
 began_whole i f w a t = begun_whole (known_by f) f.asked a.reached.schedule (answering_start a.asking.is_whole i.first a.noted) (sym (ap (λ (s : AnsweringState). s.is_whole) a.reached.is) ∙ t)
 
-pub has_done : (i : Given) (f : ForeView) (w : Told) → IsAnswering i f w → f.over ≡ true → f.whole ≡ true → (asked : List Loc) (rows : List Row) → asked ≡ f.asked → rows ≡ rows_or_none f.rows → HasDone i w asked rows
+pub has_done : (i : CoreSetup) (f : ForeView) (w : Traffic) → IsAnswering i f w → f.over ≡ true → f.whole ≡ true → (asked : List Loc) (rows : List Row) → asked ≡ f.asked → rows ≡ rows_or_none f.rows → HasDone i w asked rows
 has_done i f w a o t asked rows asked_is rows_is = record {
   summary = known_by f;
   found = a.summary (a.keeps.known t);

@@ -15,16 +15,16 @@ use Rattle.pass_parts.specs.Ends.{got_by, sent_by, fresh_end}
 use Rattle.pass_parts.specs.Requests.{locations}
 use Rattle.backward_pass.specs.Backward.{BackView, knows, state}
 use Rattle.forward_pass.specs.Forward.{ForeView, new_fore, known_by, fore_state}
-use Rattle.epoch_node.specs.Cores.{Given, StageView, Fresh, Asking, Answering, Done, Between}
-use Rattle.epoch_node.specs.Keeping.{Told, requests_if, IsAsking, AtStage}
-use Rattle.epoch_node.specs.Events.{got_at, sent_at, told_at, settled_by as settled_stage, answered_by, Begins, Asks as AsksOn, Answers as AnswersOn, Steps}
+use Rattle.epoch_node.specs.Cores.{CoreSetup, StageView, Fresh, Asking, Answering, Done, Between}
+use Rattle.epoch_node.specs.Keeping.{Traffic, requests_if, IsAsking, AtStage}
+use Rattle.epoch_node.specs.Events.{got_at, sent_at, traffic_after, settled_by as settled_stage, answered_by, Begins, Asks as AsksOn, Answers as AnswersOn, Steps}
 use Rattle.epoch_node.specs.Phases.{event_with, NodeEventIsByLinks, IsAlikeAsking, IsAlikeAnswering, HasEnded, IsAnsweringIn, IsIn, IsKnown, EventsAreOfNodes}
 use Rattle.epoch_node.proofs.Acting.{unsent_yet}
 
 pub node_event_is_by_links : NodeEventIsByLinks
-node_event_is_by_links capacity refused before behind e NotBegun = refl
-node_event_is_by_links capacity refused before behind e (Asks a) = refl
-node_event_is_by_links capacity refused before behind e (Answers a f) = refl
+node_event_is_by_links capacity refused previous next e NotBegun = refl
+node_event_is_by_links capacity refused previous next e (Asks a) = refl
+node_event_is_by_links capacity refused previous next e (Answers a f) = refl
 
 -- ---- asking
 
@@ -33,7 +33,7 @@ same_asking a b e = record { got = ap (λ (a : AskingState). a.got) e; sent = ap
 
 module _ (links : Links) (a b : AskingState) (h : IsAlikeAsking a b) (w : a.is_whole ≡ false) where
   broken_alike : (ended : Bool) → IsAlikeAsking (broken_asking links a ended) (broken_asking links b ended)
-  broken_alike false = by links.next where
+  broken_alike false = by links.item where
     by : (next : Option Message) → IsAlikeAsking (drop_ask a next) (drop_ask b next)
     by None = h
     by (Some m) = record { got = ap (λ ms. ms ++ m ∷ []) h.got; sent = h.sent; whole = h.whole; over = h.over; same = λ t. true-false (sym t ∙ w) }
@@ -63,7 +63,7 @@ same_answering f g e = record { got = ap (λ (f : AnsweringState). f.got) e; sen
 
 module _ (links : Links) (f g : AnsweringState) (h : IsAlikeAnswering f g) (w : f.is_whole ≡ false) where
   broken_answering_alike : (ended : Bool) → IsAlikeAnswering (broken_answering links f ended) (broken_answering links g ended)
-  broken_answering_alike false = by links.next where
+  broken_answering_alike false = by links.item where
     by : (next : Option Message) → IsAlikeAnswering (drop_answer f next) (drop_answer g next)
     by None = h
     by (Some m) = record { got = ap (λ ms. ms ++ m ∷ []) h.got; sent = h.sent; whole = h.whole; over = h.over; same = λ t. true-false (sym t ∙ w) }
@@ -120,13 +120,13 @@ settled_alike first last b v got answers_got answers_sent g w r fresh_got fresh_
       ∙ ap₂ (λ got sent. make (locations (requests_if v.whole v.requests)) got sent b.is_whole) got_is sent_is
       ∙ ap (make (locations (requests_if v.whole v.requests)) (got_by answers_got) (sent_by false v.whole answers_sent)) w
 
-module _ (i : Given) (e : EpochSummary) (w : Told) (got' sent' : Option (List Message)) (turn : Turn) (next : StageView) where
+module _ (i : CoreSetup) (e : EpochSummary) (w : Traffic) (got' sent' : Option (List Message)) (turn : Turn) (next : StageView) where
   -- a node begins
   begins_in : (p : Phase) → IsIn (Fresh i.epoch) w p → Begins i w.asks_got w.asks_sent next got' sent' turn → IsKnown e next
       → (links : Links) × IsIn next (record w { asks_got = got'; asks_sent = sent' }) (event_with i.first i.last e links p)
   begins_in NotBegun h x k =
       let known = subst (IsKnown e) x.is k in (
-        record { has_room = true; next = None; is_refused = is_none x.back.summary },
+        record { has_room = true; item = None; is_refused = is_none x.back.summary },
         subst (λ n. IsIn n (record w { asks_got = got'; asks_sent = sent' }) (Asks (begun (is_none x.back.summary) i.last e))) (sym x.is)
             (begun_alike (is_none x.back.summary) i.last e x.back got' sent' x.begins known),
       )
@@ -140,7 +140,7 @@ module _ (i : Given) (e : EpochSummary) (w : Told) (got' sent' : Option (List Me
   asks_in v at (Answers a f) h x k = absurd h
   asks_in v at (Asks a) h x k =
       (links, subst (λ n. IsIn n later (settled_by b.is_over i.first b)) (sym x.is) (subst (λ o. IsIn (settled_stage x.back.over i x.back) later (settled_by o i.first b)) (sym alike.over) (by x.back.over refl))) where
-        later : Told
+        later : Traffic
         later = record w { asks_got = got'; asks_sent = sent' }
 
         links : Links
@@ -171,7 +171,7 @@ module _ (i : Given) (e : EpochSummary) (w : Told) (got' sent' : Option (List Me
   answers_in f (Asks a) h x k = absurd h
   answers_in f (Answers a g) h x k =
       (links, subst (λ n. IsIn n later (Answers a (answering_event e a.asked links g))) (sym x.is) (by x.fore.over)) where
-        later : Told
+        later : Traffic
         later = record w { answers_got = got'; answers_sent = sent' }
 
         links : Links
@@ -191,21 +191,21 @@ module _ (i : Given) (e : EpochSummary) (w : Told) (got' sent' : Option (List Me
         by false = (ended, alike)
 
 -- nothing more happens to a node that is done
-done_in : (i : Given) (e : EpochSummary) (f : ForeView) (w later : Told) (next : StageView) (p : Phase) → f.over ≡ true → next ≡ Done f → later ≡ w → IsAnsweringIn f w p
+done_in : (i : CoreSetup) (e : EpochSummary) (f : ForeView) (w later : Traffic) (next : StageView) (p : Phase) → f.over ≡ true → next ≡ Done f → later ≡ w → IsAnsweringIn f w p
     → (links : Links) × IsIn next later (event_with i.first i.last e links p)
 done_in i e f w later next NotBegun o is same h = absurd h
 done_in i e f w later next (Asks a) o is same h = absurd h
 done_in i e f w later next (Answers a g) o is same h =
-    let links : Links = record { has_room = true; next = None; is_refused = false } in
+    let links : Links = record { has_room = true; item = None; is_refused = false } in
     let still : answering_event e a.asked links g ≡ g = ap (λ over. answering_by e a.asked links g over g.is_whole) (h.1.over ∙ o) in (
       links,
       subst (λ n. IsIn n later (Answers a (answering_event e a.asked links g))) (sym is)
           (subst (λ w. IsAnsweringIn f w (Answers a (answering_event e a.asked links g))) (sym same) (subst (λ g. IsAnsweringIn f w (Answers a g)) (sym still) h)),
     )
 
-events_at : (i : Given) (s next : StageView) (w : Told) (got' sent' : Option (List Message)) (turn : Turn) (e : EpochSummary) (p : Phase) → AtStage i s w
+events_at : (i : CoreSetup) (s next : StageView) (w : Traffic) (got' sent' : Option (List Message)) (turn : Turn) (e : EpochSummary) (p : Phase) → AtStage i s w
     → Steps i s (got_at s w) (sent_at s w) next got' sent' turn → IsKnown e s → IsKnown e next → IsIn s w p
-    → (links : Links) × IsIn next (told_at s got' sent' w) (event_with i.first i.last e links p)
+    → (links : Links) × IsIn next (traffic_after s got' sent' w) (event_with i.first i.last e links p)
 events_at i (Fresh t) next w got' sent' turn e p at x k l h = begins_in i e w got' sent' turn next p (fresh p h) x l where
   fresh : (p : Phase) → IsIn (Fresh t) w p → IsIn (Fresh i.epoch) w p
   fresh NotBegun h = h
@@ -219,5 +219,5 @@ events_at i Between next w got' sent' turn e p at x k l h = absurd x
 
 pub events_are_of_nodes : EventsAreOfNodes
 events_are_of_nodes old new w got' sent' turn e p k x known later h =
-    let r = events_at old.given old.stage new.stage w got' sent' turn e p k.stage x known later h in
+    let r = events_at old.setup old.stage new.stage w got' sent' turn e p k.stage x known later h in
     record { links = r.0; is_in = r.1 }

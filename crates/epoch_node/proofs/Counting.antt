@@ -24,9 +24,9 @@ use Rattle.pass_parts.specs.Known.{known}
 use Rattle.pass_parts.specs.Requests.{locations}
 use Rattle.backward_pass.specs.Backward.{BackView, knows, state, begins, Reached}
 use Rattle.forward_pass.specs.Forward.{ForeView, known_by, fore_state, ForeReached}
-use Rattle.epoch_node.specs.Cores.{Given, StageView, Fresh, Asking, Answering, Done, Between, CoreView, whole_at}
-use Rattle.epoch_node.specs.Keeping.{Told, fresh_told, HasLinks, IsBegun, IsAsking, requests_if, IsSettled, IsAnswering, AtStage, HasAsked, HasAnswered, MovedAt, Counts, node_by, HasCounted}
-use Rattle.epoch_node.specs.Events.{got_at, sent_at, told_at, Went, went_at, one_more, BackActs, ForeActs, Acts, Advances}
+use Rattle.epoch_node.specs.Cores.{CoreSetup, StageView, Fresh, Asking, Answering, Done, Between, CoreView, whole_at}
+use Rattle.epoch_node.specs.Keeping.{Traffic, fresh_traffic, HasLinks, IsBegun, IsAsking, requests_if, IsSettled, IsAnswering, AtStage, HasAsked, HasAnswered, MovedAt, Counts, node_by, HasCounted}
+use Rattle.epoch_node.specs.Events.{got_at, sent_at, traffic_after, PhaseTraffic, traffic_at, one_more, BackActs, ForeActs, Acts, Advances}
 use Rattle.epoch_node.proofs.Acting.{unsent_yet}
 
 -- a count stands still at its type's end, and so does one more
@@ -46,7 +46,7 @@ none_got_yet false = refl
 
 -- ---- the pass backwards
 
-begun_counted : (i : Given) (v : BackView) → IsBegun i v → HasAsked i v (fresh_told i.first i.last) 1
+begun_counted : (i : CoreSetup) (v : BackView) → IsBegun i v → HasAsked i v (fresh_traffic i.first i.last) 1
 begun_counted i v b =
     let left : length v.left ≡ length (knows v).sinks = ap (λ (v : BackView). length v.left) b.new in
     let sent : length (sent_by v.over v.whole (fresh_end i.first)) ≡ 0 = ap length (unsent_yet v.over v.whole i.first (ap (λ (v : BackView). v.over) b.new)) in
@@ -62,7 +62,7 @@ walked_all v got sent r o t =
     start true t = true-false (sym t)
     start false t = asking_starts v.first v.last (knows v)
 
-module _ (i : Given) (v : BackView) (w : Told) (a : IsAsking i v w) (l : HasLinks i w) (next : StageView) (got' sent' : Option (List Message)) (turn : PassTurn)
+module _ (i : CoreSetup) (v : BackView) (w : Traffic) (a : IsAsking i v w) (l : HasLinks i w) (next : StageView) (got' sent' : Option (List Message)) (turn : PassTurn)
     (x : BackActs v w.asks_got w.asks_sent next got' sent' turn) (n : is_none got' ≡ is_none w.asks_got) (t : x.back.whole ≡ true) where
   abbrev old_asking : AskingState
   old_asking = state v w.asks_got w.asks_sent
@@ -84,7 +84,7 @@ module _ (i : Given) (v : BackView) (w : Told) (a : IsAsking i v w) (l : HasLink
       omega (arith, h, count, sinks, before, after)
 
 -- a pass forwards that is new has no more moves than the pass backwards before it
-settled_counted : (i : Given) (v : BackView) (f : ForeView) (w : Told) → IsSettled i.first i.last v f → v.over ≡ true → v.whole ≡ true → length v.left ≡ 0 → locations v.requests ≡ requests (got_by w.asks_got)
+settled_counted : (i : CoreSetup) (v : BackView) (f : ForeView) (w : Traffic) → IsSettled i.first i.last v f → v.over ≡ true → v.whole ≡ true → length v.left ≡ 0 → locations v.requests ≡ requests (got_by w.asks_got)
     → w.answers_got ≡ fresh_end i.first → w.answers_sent ≡ fresh_end i.last → (moved : ℕ) → HasAsked i v w moved → HasAnswered i f w moved
 settled_counted i v f w s over whole walked requested fresh_got fresh_sent moved h =
     let left : length f.left ≡ length (requests (got_by w.asks_got)) =
@@ -108,7 +108,7 @@ answered_all first whole ls f got sent r o t =
     sym (length-map f.left (λ (r : Request). r.loc)) ∙ ap (λ (s : AnsweringState). length s.left) r.is
     ∙ ap length (holds.over (ap (λ (s : AnsweringState). s.is_over) (sym r.is) ∙ o)).3
 
-module _ (i : Given) (f : ForeView) (w : Told) (a : IsAnswering i f w) (l : HasLinks i w) (next : StageView) (got' sent' : Option (List Message)) (turn : PassTurn)
+module _ (i : CoreSetup) (f : ForeView) (w : Traffic) (a : IsAnswering i f w) (l : HasLinks i w) (next : StageView) (got' sent' : Option (List Message)) (turn : PassTurn)
     (x : ForeActs f w.answers_got w.answers_sent next got' sent' turn) (n : is_none got' ≡ is_none w.answers_got) (t : x.fore.whole ≡ true) where
   abbrev old_answering : AnsweringState
   old_answering = fore_state f w.answers_got w.answers_sent
@@ -135,52 +135,52 @@ module _ (i : Given) (f : ForeView) (w : Told) (a : IsAnswering i f w) (l : HasL
 -- ---- an event of a core
 
 -- a core that is whole after an event was whole before it, and one event more moved
-pub record MovesOn (i : Given) (s : StageView) (w : Told) (after : StageView) (w' : Told) : Type 0 where
+pub record MovesOn (i : CoreSetup) (s : StageView) (w : Traffic) (after : StageView) (w' : Traffic) : Type 0 where
   pub whole : whole_at s ≡ true
   pub more : (moved : ℕ) → MovedAt i s w moved → MovedAt i after w' (moved + 1)
 
-moved_at : (i : Given) (s next : StageView) (w : Told) (on' : Went) → HasLinks i w → is_none on'.got ≡ is_none (got_at s w)
-    → AtStage i s w → Acts s (went_at s w) next on' pass_turn.Moved → whole_at next ≡ true → MovesOn i s w next (told_at s on'.got on'.sent w)
+moved_at : (i : CoreSetup) (s next : StageView) (w : Traffic) (on' : PhaseTraffic) → HasLinks i w → is_none on'.got ≡ is_none (got_at s w)
+    → AtStage i s w → Acts s (traffic_at s w) next on' pass_turn.Moved → whole_at next ≡ true → MovesOn i s w next (traffic_after s on'.got on'.sent w)
 moved_at i (Fresh t) next w on' l n at x h = absurd (not_over x.2) where
   not_over : pass_turn.Moved ≡ pass_turn.Over → ⊥
   not_over e = cc
 moved_at i (Asking v) next w on' l n at x h =
     let t = ap whole_at (sym x.is) ∙ h in
-    let met = asking_moves_on x.happens.links (state v w.asks_got w.asks_sent) at.running x.happens.went.0 x.happens.went.1 in
+    let met = asking_moves_on x.happens.links (state v w.asks_got w.asks_sent) at.running x.happens.could_move.0 x.happens.could_move.1 in
     record {
       whole = whole_back i v w at l next on'.got on'.sent pass_turn.Moved x n t;
-      more = λ moved m. subst (λ n. MovedAt i n (told_at (Asking v) on'.got on'.sent w) (moved + 1)) (sym x.is) (asks_counted i v w at l next on'.got on'.sent pass_turn.Moved x n t met moved m);
+      more = λ moved m. subst (λ n. MovedAt i n (traffic_after (Asking v) on'.got on'.sent w) (moved + 1)) (sym x.is) (asks_counted i v w at l next on'.got on'.sent pass_turn.Moved x n t met moved m);
     }
 moved_at i (Answering f) next w on' l n at x h =
     let t = ap whole_at (sym x.is) ∙ h in
-    let met = answering_moves_on (known_by f) f.asked x.happens.links (fore_state f w.answers_got w.answers_sent) at.1 x.happens.went.0 x.happens.went.1 in
+    let met = answering_moves_on (known_by f) f.asked x.happens.links (fore_state f w.answers_got w.answers_sent) at.1 x.happens.could_move.0 x.happens.could_move.1 in
     record {
       whole = whole_fore i f w at.0 l next on'.got on'.sent pass_turn.Moved x n t;
-      more = λ moved m. subst (λ n. MovedAt i n (told_at (Answering f) on'.got on'.sent w) (moved + 1)) (sym x.is) (answers_counted i f w at.0 l next on'.got on'.sent pass_turn.Moved x n t met moved m);
+      more = λ moved m. subst (λ n. MovedAt i n (traffic_after (Answering f) on'.got on'.sent w) (moved + 1)) (sym x.is) (answers_counted i f w at.0 l next on'.got on'.sent pass_turn.Moved x n t met moved m);
     }
 moved_at i (Done f) next w on' l n at x h = absurd x
 moved_at i Between next w on' l n at x h = absurd x
 
-over_moved_at : (i : Given) (s next after : StageView) (w : Told) (on' : Went) → HasLinks i w → is_none on'.got ≡ is_none (got_at s w)
-    → AtStage i s w → Acts s (went_at s w) next on' pass_turn.Over → Advances i next after → whole_at after ≡ true → MovesOn i s w after (told_at s on'.got on'.sent w)
+over_moved_at : (i : CoreSetup) (s next after : StageView) (w : Traffic) (on' : PhaseTraffic) → HasLinks i w → is_none on'.got ≡ is_none (got_at s w)
+    → AtStage i s w → Acts s (traffic_at s w) next on' pass_turn.Over → Advances i next after → whole_at after ≡ true → MovesOn i s w after (traffic_after s on'.got on'.sent w)
 over_moved_at i (Fresh t) next after w on' l n at x v h =
     let y = subst (λ n. Advances i n after) x.0 v in
-    let told : told_at (Fresh t) on'.got on'.sent w ≡ fresh_told i.first i.last = ap (λ (o : Went). record w { asks_got = o.got; asks_sent = o.sent }) x.1 ∙ at.2 in
+    let traffic : traffic_after (Fresh t) on'.got on'.sent w ≡ fresh_traffic i.first i.last = ap (λ (o : PhaseTraffic). record w { asks_got = o.got; asks_sent = o.sent }) x.1 ∙ at.2 in
     record {
       whole = refl;
-      more = λ moved m. subst (λ n. MovedAt i n (told_at (Fresh t) on'.got on'.sent w) (moved + 1)) (sym y.is)
-          (subst (λ w. HasAsked i y.back w (moved + 1)) (sym told) (subst (λ (k : ℕ). HasAsked i y.back (fresh_told i.first i.last) (k + 1)) (sym m) (begun_counted i y.back y.begun)));
+      more = λ moved m. subst (λ n. MovedAt i n (traffic_after (Fresh t) on'.got on'.sent w) (moved + 1)) (sym y.is)
+          (subst (λ w. HasAsked i y.back w (moved + 1)) (sym traffic) (subst (λ (k : ℕ). HasAsked i y.back (fresh_traffic i.first i.last) (k + 1)) (sym m) (begun_counted i y.back y.begun)));
     }
 over_moved_at i (Asking v) next after w on' l n at x a h =
     let y = subst (λ n. Advances i n after) x.is a in
     let t : x.back.whole ≡ true = sym (ap (λ (f : ForeView). f.whole) y.settled.new) ∙ ap whole_at (sym y.is) ∙ h in
     let met =
     asking_moves_over v.first (knows v) x.happens.links (state v w.asks_got w.asks_sent) at.running (ap (λ (s : AskingState). s.is_over) (sym x.happens.is) ∙ x.over) in
-    let told : Told = record w { asks_got = on'.got; asks_sent = on'.sent } in
+    let traffic : Traffic = record w { asks_got = on'.got; asks_sent = on'.sent } in
     record {
       whole = whole_back i v w at l next on'.got on'.sent pass_turn.Over x n t;
-      more = λ moved m. subst (λ n. MovedAt i n told (moved + 1)) (sym y.is)
-          (settled_counted i x.back y.fore told y.settled x.over t (walked_all x.back on'.got on'.sent x.reached x.over t) (x.keeps.requested t) at.answers_got at.answers_sent (moved + 1)
+      more = λ moved m. subst (λ n. MovedAt i n traffic (moved + 1)) (sym y.is)
+          (settled_counted i x.back y.fore traffic y.settled x.over t (walked_all x.back on'.got on'.sent x.reached x.over t) (x.keeps.requested t) at.answers_got at.answers_sent (moved + 1)
           (asks_counted i v w at l next on'.got on'.sent pass_turn.Over x n t met moved m));
     }
 over_moved_at i (Answering f) next after w on' l n at x a h =
@@ -190,16 +190,16 @@ over_moved_at i (Answering f) next after w on' l n at x a h =
     answering_moves_over (known_by f) f.asked x.happens.links (fore_state f w.answers_got w.answers_sent) at.1 (ap (λ (s : AnsweringState). s.is_over) (sym x.happens.is) ∙ x.over) in
     record {
       whole = whole_fore i f w at.0 l next on'.got on'.sent pass_turn.Over x n t;
-      more = λ moved m. subst (λ n. MovedAt i n (told_at (Answering f) on'.got on'.sent w) (moved + 1)) (sym y) (answers_counted i f w at.0 l next on'.got on'.sent pass_turn.Over x n t met moved m);
+      more = λ moved m. subst (λ n. MovedAt i n (traffic_after (Answering f) on'.got on'.sent w) (moved + 1)) (sym y) (answers_counted i f w at.0 l next on'.got on'.sent pass_turn.Over x n t met moved m);
     }
 over_moved_at i (Done f) next after w on' l n at x a h = absurd x
 over_moved_at i Between next after w on' l n at x a h = absurd x
 
 -- ---- the count
 
-module _ (c d : CoreView) (same : d.given ≡ c.given) (w w' : Told) (after : StageView) (is : d.stage ≡ after) where
+module _ (c d : CoreView) (same : d.setup ≡ c.setup) (w w' : Traffic) (after : StageView) (is : d.stage ≡ after) where
   -- of a core after an event that moved
-  pub counts_one : d.events ≡ one_more c.events → (whole_at c.stage ≡ true → Counts c w) → (whole_at after ≡ true → MovesOn c.given c.stage w after w') → whole_at d.stage ≡ true → Counts d w'
+  pub counts_one : d.events ≡ one_more c.events → (whole_at c.stage ≡ true → Counts c w) → (whole_at after ≡ true → MovesOn c.setup c.stage w after w') → whole_at d.stage ≡ true → Counts d w'
   counts_one e k m h =
       let on = m (ap whole_at (sym is) ∙ h) in
       let old = k on.whole in
@@ -210,7 +210,7 @@ module _ (c d : CoreView) (same : d.given ≡ c.given) (w w' : Told) (after : St
       }
 
 -- where the event did not happen nothing did
-pub still_at : (s next : StageView) (on on' : Went) → Acts s on next on' pass_turn.NotYet → (next ≡ s) × (on' ≡ on)
+pub still_at : (s next : StageView) (on on' : PhaseTraffic) → Acts s on next on' pass_turn.NotYet → (next ≡ s) × (on' ≡ on)
 still_at (Fresh t) next on on' x = absurd (not_over x.2) where
   not_over : pass_turn.NotYet ≡ pass_turn.Over → ⊥
   not_over e = cc
@@ -220,12 +220,12 @@ still_at (Done f) next on on' x = absurd x
 still_at Between next on on' x = absurd x
 
 -- what goes through the links of a phase where nothing more does
-pub told_still : (s : StageView) (w : Told) → told_at s (got_at s w) (sent_at s w) w ≡ w
-told_still (Fresh t) w = refl
-told_still (Asking v) w = refl
-told_still (Answering f) w = refl
-told_still (Done f) w = refl
-told_still Between w = refl
+pub traffic_still : (s : StageView) (w : Traffic) → traffic_after s (got_at s w) (sent_at s w) w ≡ w
+traffic_still (Fresh t) w = refl
+traffic_still (Asking v) w = refl
+traffic_still (Answering f) w = refl
+traffic_still (Done f) w = refl
+traffic_still Between w = refl
 
 -- the count after an event in which a pass came to this
 abbrev pub counted_by : PassTurn → ℕ → ℕ
@@ -233,30 +233,30 @@ counted_by pass_turn.Moved events = one_more events
 counted_by pass_turn.NotYet events = events
 counted_by pass_turn.Over events = one_more events
 
-module _ (c d : CoreView) (same : d.given ≡ c.given) (w : Told) (on' : Went) (l : HasLinks c.given w) (n : is_none on'.got ≡ is_none (got_at c.stage w))
-    (at : AtStage c.given c.stage w) (k : whole_at c.stage ≡ true → Counts c w) (next : StageView) where
-  pub counts_open : (turn : PassTurn) → (turn ≡ pass_turn.Over → ⊥) → Acts c.stage (went_at c.stage w) next on' turn → d.stage ≡ next → d.events ≡ counted_by turn c.events
-      → whole_at d.stage ≡ true → Counts d (told_at c.stage on'.got on'.sent w)
-  counts_open pass_turn.Moved o x is e = counts_one c d same w (told_at c.stage on'.got on'.sent w) next is e k (moved_at c.given c.stage next w on' l n at x)
+module _ (c d : CoreView) (same : d.setup ≡ c.setup) (w : Traffic) (on' : PhaseTraffic) (l : HasLinks c.setup w) (n : is_none on'.got ≡ is_none (got_at c.stage w))
+    (at : AtStage c.setup c.stage w) (k : whole_at c.stage ≡ true → Counts c w) (next : StageView) where
+  pub counts_open : (turn : PassTurn) → (turn ≡ pass_turn.Over → ⊥) → Acts c.stage (traffic_at c.stage w) next on' turn → d.stage ≡ next → d.events ≡ counted_by turn c.events
+      → whole_at d.stage ≡ true → Counts d (traffic_after c.stage on'.got on'.sent w)
+  counts_open pass_turn.Moved o x is e = counts_one c d same w (traffic_after c.stage on'.got on'.sent w) next is e k (moved_at c.setup c.stage next w on' l n at x)
   counts_open pass_turn.NotYet o x is e = λ h.
-      let still = still_at c.stage next (went_at c.stage w) on' x in
-      let told : told_at c.stage on'.got on'.sent w ≡ w = ap (λ (o : Went). told_at c.stage o.got o.sent w) still.1 ∙ told_still c.stage w in
+      let still = still_at c.stage next (traffic_at c.stage w) on' x in
+      let traffic : traffic_after c.stage on'.got on'.sent w ≡ w = ap (λ (o : PhaseTraffic). traffic_after c.stage o.got o.sent w) still.1 ∙ traffic_still c.stage w in
       let stage = is ∙ still.0 in
       let old = k (ap whole_at (sym stage) ∙ h) in
       record {
         moved = old.moved;
-        at_stage = subst₂ (λ i s. MovedAt i s (told_at c.stage on'.got on'.sent w) old.moved) (sym same) (sym stage) (subst (λ w. MovedAt c.given c.stage w old.moved) (sym told) old.at_stage);
+        at_stage = subst₂ (λ i s. MovedAt i s (traffic_after c.stage on'.got on'.sent w) old.moved) (sym same) (sym stage) (subst (λ w. MovedAt c.setup c.stage w old.moved) (sym traffic) old.at_stage);
         is = e ∙ old.is;
       }
   counts_open pass_turn.Over o x is e = absurd (o refl)
 
-  pub counts_over : Acts c.stage (went_at c.stage w) next on' pass_turn.Over → Advances c.given next d.stage → d.events ≡ one_more c.events
-      → whole_at d.stage ≡ true → Counts d (told_at c.stage on'.got on'.sent w)
-  counts_over x a e = counts_one c d same w (told_at c.stage on'.got on'.sent w) d.stage refl e k (over_moved_at c.given c.stage next d.stage w on' l n at x a)
+  pub counts_over : Acts c.stage (traffic_at c.stage w) next on' pass_turn.Over → Advances c.setup next d.stage → d.events ≡ one_more c.events
+      → whole_at d.stage ≡ true → Counts d (traffic_after c.stage on'.got on'.sent w)
+  counts_over x a e = counts_one c d same w (traffic_after c.stage on'.got on'.sent w) d.stage refl e k (over_moved_at c.setup c.stage next d.stage w on' l n at x a)
 
 -- ---- at the end
 
-pub has_counted : (i : Given) (f : ForeView) (w : Told) → IsAnswering i f w → f.over ≡ true → f.whole ≡ true → (moved : ℕ) → HasAnswered i f w moved → (asked : List Loc) (rows : List Row) (events : ℕ) → rows ≡ rows_or_none f.rows
+pub has_counted : (i : CoreSetup) (f : ForeView) (w : Traffic) → IsAnswering i f w → f.over ≡ true → f.whole ≡ true → (moved : ℕ) → HasAnswered i f w moved → (asked : List Loc) (rows : List Row) (events : ℕ) → rows ≡ rows_or_none f.rows
     → events ≡ capped moved → HasCounted i w asked rows events
 has_counted i f w a o t moved h asked rows events rows_is e = λ epoch. e ∙ ap capped (work epoch) where
   resolved : f.rows ≡ Some (rows_of (known_by f) (heard f.asked (got_by w.answers_got)))

@@ -15,14 +15,14 @@ use Rattle.backward_pass.specs.Backward.{knows, state}
 use Rattle.forward_pass.specs.Forward.{known_by, fore_state}
 use Rattle.epoch_node.specs.declared.stage.Phase.{Phase}
 use Rattle.epoch_node.specs.declared.stage.Phase.TheVariants as phase
-use Rattle.epoch_node.specs.Cores.{Given, StageView, Fresh, Asking, Answering, Done, Between, phase_of, whole_at}
+use Rattle.epoch_node.specs.Cores.{CoreSetup, StageView, Fresh, Asking, Answering, Done, Between, phase_of, whole_at}
 use Rattle.epoch_node.specs.Events.{settled_by, answered_by, Steps, counted, one_more}
 use Rattle.epoch_node.specs.Nodes.{NodeView, Progress, progress_of, HasEvents, HasMoved, IsLedFrom, BrokenStays, DoneStays}
 
 -- ---- what events keep
 
 -- a core that is whole after an event was whole before it
-whole_before : (i : Given) (s next : StageView) (got sent got' sent' : Option (List Message)) (answer : Turn) → Steps i s got sent next got' sent' answer → whole_at next ≡ true → whole_at s ≡ true
+whole_before : (i : CoreSetup) (s next : StageView) (got sent got' sent' : Option (List Message)) (answer : Turn) → Steps i s got sent next got' sent' answer → whole_at next ≡ true → whole_at s ≡ true
 whole_before i (Fresh t) next got sent got' sent' answer x w = refl
 whole_before i (Asking v) next got sent got' sent' answer x w =
     whole_asking_before v.first (knows v) x.happens.links (state v got sent) (ap (λ (a : AskingState). a.is_whole) (sym x.happens.is) ∙ by x.back.over (ap whole_at (sym x.is) ∙ w)) where
@@ -40,7 +40,7 @@ whole_before i Between next got sent got' sent' answer x w = absurd x
 whole_at_first : (old new : Progress) (between : List Progress) → HasEvents old between new → whole_at new.core.stage ≡ true → whole_at old.core.stage ≡ true
 whole_at_first old new [] h w = ap (λ (p : Progress). whole_at p.core.stage) (sym h) ∙ w
 whole_at_first old new (next ∷ later) h w =
-    whole_before old.core.given old.core.stage next.core.stage _ _ _ _ h.0.answer h.0.event.steps (whole_at_first next new later h.1 w)
+    whole_before old.core.setup old.core.stage next.core.stage _ _ _ _ h.0.answer h.0.event.steps (whole_at_first next new later h.1 w)
 
 pub broken_stays : BrokenStays
 broken_stays new old led broken = by (whole_at new.core.stage) refl where
@@ -49,7 +49,7 @@ broken_stays new old led broken = by (whole_at new.core.stage) refl where
   by false w = w
 
 -- a core that is done stays as it is
-done_after : (i : Given) (s next : StageView) (got sent got' sent' : Option (List Message)) (answer : Turn) → Steps i s got sent next got' sent' answer → phase_of s ≡ phase.Done → phase_of next ≡ phase.Done
+done_after : (i : CoreSetup) (s next : StageView) (got sent got' sent' : Option (List Message)) (answer : Turn) → Steps i s got sent next got' sent' answer → phase_of s ≡ phase.Done → phase_of next ≡ phase.Done
 done_after i (Fresh t) next got sent got' sent' answer x d = cc
 done_after i (Asking v) next got sent got' sent' answer x d = cc
 done_after i (Answering f) next got sent got' sent' answer x d = cc
@@ -59,13 +59,13 @@ done_after i Between next got sent got' sent' answer x d = absurd x
 done_at_last : (old new : Progress) (between : List Progress) → HasEvents old between new → phase_of old.core.stage ≡ phase.Done → phase_of new.core.stage ≡ phase.Done
 done_at_last old new [] h d = ap (λ (p : Progress). phase_of p.core.stage) h ∙ d
 done_at_last old new (next ∷ later) h d =
-    done_at_last next new later h.1 (done_after old.core.given old.core.stage next.core.stage _ _ _ _ h.0.answer h.0.event.steps d)
+    done_at_last next new later h.1 (done_after old.core.setup old.core.stage next.core.stage _ _ _ _ h.0.answer h.0.event.steps d)
 
 pub done_stays : DoneStays
 done_stays new old led done = done_at_last (progress_of old) (progress_of new) led.came.0 led.came.1 done
 
 -- after an event the core has begun
-pub begun_by : (i : Given) (s next : StageView) (got sent got' sent' : Option (List Message)) (answer : Turn) → Steps i s got sent next got' sent' answer → ¬ (phase_of next ≡ phase.Fresh)
+pub begun_by : (i : CoreSetup) (s next : StageView) (got sent got' sent' : Option (List Message)) (answer : Turn) → Steps i s got sent next got' sent' answer → ¬ (phase_of next ≡ phase.Fresh)
 begun_by i (Fresh t) next got sent got' sent' answer x = λ h. let fresh : phase.Asking ≡ phase.Fresh = ap phase_of (sym x.is) ∙ h in cc
 begun_by i (Asking v) next got sent got' sent' answer x = λ h. by x.back.over (ap phase_of (sym x.is) ∙ h) where
   by : (over : Bool) → phase_of (settled_by over i x.back) ≡ phase.Fresh → ⊥

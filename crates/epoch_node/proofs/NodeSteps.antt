@@ -16,10 +16,10 @@ use Rattle.backward_pass.specs.Backward.{BackView, knows}
 use Rattle.forward_pass.specs.Forward.{ForeView, known_by}
 use Rattle.epoch_node.specs.declared.stage.Phase.TheVariants as phase
 use Rattle.epoch_node.specs.declared.ends.Ends.{Ends}
-use Rattle.epoch_node.specs.Cores.{Given, StageView, Fresh, Asking, Answering, Done, Between, CoreView, phase_of, whole_at, asked_at}
-use Rattle.epoch_node.specs.Keeping.{Told, HasLinks, IsOfEpoch, IsAsking, IsAnswering, AtStage, KeepsCore}
-use Rattle.epoch_node.specs.Events.{got_at, sent_at, told_at, went, IsMore, IsEvent}
-use Rattle.epoch_node.specs.Nodes.{told_by, Progress, HasEvent, IsEndLater, later_refl, IsInletLater, IsOutletLater, IsLedFrom, SendsDue}
+use Rattle.epoch_node.specs.Cores.{CoreSetup, StageView, Fresh, Asking, Answering, Done, Between, CoreView, phase_of, whole_at, asked_at}
+use Rattle.epoch_node.specs.Keeping.{Traffic, HasLinks, IsOfEpoch, IsAsking, IsAnswering, AtStage, KeepsCore}
+use Rattle.epoch_node.specs.Events.{got_at, sent_at, traffic_after, phase_traffic, IsMore, IsEvent}
+use Rattle.epoch_node.specs.Nodes.{traffic_of, Progress, HasEvent, IsEndLater, later_refl, IsInletLater, IsOutletLater, IsLedFrom, SendsDue}
 use Rattle.epoch_node.proofs.Acting.{began_whole}
 
 -- ---- later
@@ -40,14 +40,14 @@ outlet_same p = later_refl producer_end p
 -- ---- an event on the links of its phase
 
 -- these are the links of the asks
-record AreAsks (s : StageView) (w : Told) : Type 0 where
+record AreAsks (s : StageView) (w : Traffic) : Type 0 where
   got : got_at s w ≡ w.asks_got
   sent : sent_at s w ≡ w.asks_sent
-  told : (got sent : Option (List Message)) → told_at s got sent w ≡ record w { asks_got = got; asks_sent = sent }
+  traffic : (got sent : Option (List Message)) → traffic_after s got sent w ≡ record w { asks_got = got; asks_sent = sent }
 
-are_asks : (s : StageView) (w : Told) → (phase_of s ≡ phase.Fresh) ⊎ (phase_of s ≡ phase.Asking) → AreAsks s w
-are_asks (Fresh t) w h = record { got = refl; sent = refl; told = λ g s. refl }
-are_asks (Asking v) w h = record { got = refl; sent = refl; told = λ g s. refl }
+are_asks : (s : StageView) (w : Traffic) → (phase_of s ≡ phase.Fresh) ⊎ (phase_of s ≡ phase.Asking) → AreAsks s w
+are_asks (Fresh t) w h = record { got = refl; sent = refl; traffic = λ g s. refl }
+are_asks (Asking v) w h = record { got = refl; sent = refl; traffic = λ g s. refl }
 are_asks (Answering f) w (inl e) = cc
 are_asks (Answering f) w (inr e) = cc
 are_asks (Done f) w (inl e) = cc
@@ -56,35 +56,35 @@ are_asks Between w (inl e) = cc
 are_asks Between w (inr e) = cc
 
 -- these are the links of the answers
-record AreAnswers (s : StageView) (w : Told) : Type 0 where
+record AreAnswers (s : StageView) (w : Traffic) : Type 0 where
   got : got_at s w ≡ w.answers_got
   sent : sent_at s w ≡ w.answers_sent
-  told : (got sent : Option (List Message)) → told_at s got sent w ≡ record w { answers_got = got; answers_sent = sent }
+  traffic : (got sent : Option (List Message)) → traffic_after s got sent w ≡ record w { answers_got = got; answers_sent = sent }
 
-are_answers : (s : StageView) (w : Told) → phase_of s ≡ phase.Answering → AreAnswers s w
+are_answers : (s : StageView) (w : Traffic) → phase_of s ≡ phase.Answering → AreAnswers s w
 are_answers (Fresh t) w e = cc
 are_answers (Asking v) w e = cc
-are_answers (Answering f) w e = record { got = refl; sent = refl; told = λ g s. refl }
+are_answers (Answering f) w e = record { got = refl; sent = refl; traffic = λ g s. refl }
 are_answers (Done f) w e = cc
 are_answers Between w e = cc
 
 module _ (c d : CoreView) (e : Ends) (inlet : Option (Consuming Message)) (outlet : Option (Producing Message)) (answer : Turn) where
   -- after an event on the links of the asks
   pub asks_lead : (phase_of c.stage ≡ phase.Fresh) ⊎ (phase_of c.stage ≡ phase.Asking)
-      → IsEvent c (went consumer_end producer_end e.ask_in e.ask_out) d (went consumer_end producer_end inlet outlet) answer
+      → IsEvent c (phase_traffic consumer_end producer_end e.ask_in e.ask_out) d (phase_traffic consumer_end producer_end inlet outlet) answer
       → IsEndFrom consumer_end inlet e.ask_in → IsEndFrom producer_end outlet e.ask_out
       → IsLedFrom (record { core = d; ends = record e { ask_in = inlet; ask_out = outlet } }) (record { core = c; ends = e })
   asks_lead h x i o =
-      let are = are_asks c.stage (told_by e) h in
-      let after : Progress = record { core = d; told = record (told_by e) { asks_got = through consumer_end inlet; asks_sent = through producer_end outlet } } in
-      let event : HasEvent (record { core = c; told = told_by e }) after = record {
-        on = went consumer_end producer_end inlet outlet;
+      let are = are_asks c.stage (traffic_of e) h in
+      let after : Progress = record { core = d; traffic = record (traffic_of e) { asks_got = through consumer_end inlet; asks_sent = through producer_end outlet } } in
+      let event : HasEvent (record { core = c; traffic = traffic_of e }) after = record {
+        on = phase_traffic consumer_end producer_end inlet outlet;
         answer = answer;
-        event = subst₂ (λ g s. IsEvent c (record { got = g; sent = s }) d (went consumer_end producer_end inlet outlet) answer) (sym are.got) (sym are.sent) x;
-        told = sym (are.told (through consumer_end inlet) (through producer_end outlet));
+        event = subst₂ (λ g s. IsEvent c (record { got = g; sent = s }) d (phase_traffic consumer_end producer_end inlet outlet) answer) (sym are.got) (sym are.sent) x;
+        traffic = sym (are.traffic (through consumer_end inlet) (through producer_end outlet));
       } in
       record {
-        given = x.given;
+        setup = x.setup;
         ends = record {
           ask_in = later_end consumer_end inlet e.ask_in i x.more_got;
           ask_out = later_end producer_end outlet e.ask_out o x.more_sent;
@@ -95,28 +95,28 @@ module _ (c d : CoreView) (e : Ends) (inlet : Option (Consuming Message)) (outle
       }
 
   pub asks_keep : (phase_of c.stage ≡ phase.Fresh) ⊎ (phase_of c.stage ≡ phase.Asking)
-      → IsEvent c (went consumer_end producer_end e.ask_in e.ask_out) d (went consumer_end producer_end inlet outlet) answer
-      → KeepsCore c (told_by e) → KeepsCore d (told_by (record e { ask_in = inlet; ask_out = outlet }))
+      → IsEvent c (phase_traffic consumer_end producer_end e.ask_in e.ask_out) d (phase_traffic consumer_end producer_end inlet outlet) answer
+      → KeepsCore c (traffic_of e) → KeepsCore d (traffic_of (record e { ask_in = inlet; ask_out = outlet }))
   asks_keep h x k =
-      let are = are_asks c.stage (told_by e) h in
-      subst (KeepsCore d) (are.told (through consumer_end inlet) (through producer_end outlet)) (x.keeps (told_by e) are.got are.sent k)
+      let are = are_asks c.stage (traffic_of e) h in
+      subst (KeepsCore d) (are.traffic (through consumer_end inlet) (through producer_end outlet)) (x.keeps (traffic_of e) are.got are.sent k)
 
   -- after one on those of the answers
   pub answers_lead : phase_of c.stage ≡ phase.Answering
-      → IsEvent c (went consumer_end producer_end e.answer_in e.answer_out) d (went consumer_end producer_end inlet outlet) answer
+      → IsEvent c (phase_traffic consumer_end producer_end e.answer_in e.answer_out) d (phase_traffic consumer_end producer_end inlet outlet) answer
       → IsEndFrom consumer_end inlet e.answer_in → IsEndFrom producer_end outlet e.answer_out
       → IsLedFrom (record { core = d; ends = record e { answer_in = inlet; answer_out = outlet } }) (record { core = c; ends = e })
   answers_lead h x i o =
-      let are = are_answers c.stage (told_by e) h in
-      let after : Progress = record { core = d; told = record (told_by e) { answers_got = through consumer_end inlet; answers_sent = through producer_end outlet } } in
-      let event : HasEvent (record { core = c; told = told_by e }) after = record {
-        on = went consumer_end producer_end inlet outlet;
+      let are = are_answers c.stage (traffic_of e) h in
+      let after : Progress = record { core = d; traffic = record (traffic_of e) { answers_got = through consumer_end inlet; answers_sent = through producer_end outlet } } in
+      let event : HasEvent (record { core = c; traffic = traffic_of e }) after = record {
+        on = phase_traffic consumer_end producer_end inlet outlet;
         answer = answer;
-        event = subst₂ (λ g s. IsEvent c (record { got = g; sent = s }) d (went consumer_end producer_end inlet outlet) answer) (sym are.got) (sym are.sent) x;
-        told = sym (are.told (through consumer_end inlet) (through producer_end outlet));
+        event = subst₂ (λ g s. IsEvent c (record { got = g; sent = s }) d (phase_traffic consumer_end producer_end inlet outlet) answer) (sym are.got) (sym are.sent) x;
+        traffic = sym (are.traffic (through consumer_end inlet) (through producer_end outlet));
       } in
       record {
-        given = x.given;
+        setup = x.setup;
         ends = record {
           ask_in = inlet_same e.ask_in;
           ask_out = outlet_same e.ask_out;
@@ -127,11 +127,11 @@ module _ (c d : CoreView) (e : Ends) (inlet : Option (Consuming Message)) (outle
       }
 
   pub answers_keep : phase_of c.stage ≡ phase.Answering
-      → IsEvent c (went consumer_end producer_end e.answer_in e.answer_out) d (went consumer_end producer_end inlet outlet) answer
-      → KeepsCore c (told_by e) → KeepsCore d (told_by (record e { answer_in = inlet; answer_out = outlet }))
+      → IsEvent c (phase_traffic consumer_end producer_end e.answer_in e.answer_out) d (phase_traffic consumer_end producer_end inlet outlet) answer
+      → KeepsCore c (traffic_of e) → KeepsCore d (traffic_of (record e { answer_in = inlet; answer_out = outlet }))
   answers_keep h x k =
-      let are = are_answers c.stage (told_by e) h in
-      subst (KeepsCore d) (are.told (through consumer_end inlet) (through producer_end outlet)) (x.keeps (told_by e) are.got are.sent k)
+      let are = are_answers c.stage (traffic_of e) h in
+      subst (KeepsCore d) (are.traffic (through consumer_end inlet) (through producer_end outlet)) (x.keeps (traffic_of e) are.got are.sent k)
 
 -- ---- what is sent
 
@@ -146,13 +146,13 @@ part_sent : (over whole first : Bool) (sent : Option (List Message)) (all : List
 part_sent over whole first None all n p = tt
 part_sent over whole first (Some sent) all n p = p (sym n)
 
-record Sends (i : Given) (asked : List Loc) (w : Told) : Type 0 where
+record Sends (i : CoreSetup) (asked : List Loc) (w : Traffic) : Type 0 where
   summary : EpochSummary
   of_epoch : IsOfEpoch i summary
   asks : IfSome w.asks_sent (λ sent. IsPrefix sent (asks_for summary (got_by w.asks_got)))
   answers : IfSome w.answers_sent (λ sent. IsPrefix sent (answers_for summary asked (requests (got_by w.asks_got)) (got_by w.answers_got)))
 
-asking_sends : (i : Given) (v : BackView) (w : Told) → HasLinks i w → IsAsking i v w → v.whole ≡ true → Sends i v.asked w
+asking_sends : (i : CoreSetup) (v : BackView) (w : Traffic) → HasLinks i w → IsAsking i v w → v.whole ≡ true → Sends i v.asked w
 asking_sends i v w l a t = record {
   summary = knows v;
   of_epoch = (a.summary (a.keeps.fits.known t)).summary;
@@ -160,7 +160,7 @@ asking_sends i v w l a t = record {
   answers = nothing_sent i.last w.answers_sent (answers_for (knows v) v.asked (requests (got_by w.asks_got)) (got_by w.answers_got)) a.answers_sent;
 }
 
-answering_sends : (i : Given) (f : ForeView) (w : Told) → HasLinks i w → IsAnswering i f w → f.whole ≡ true → Sends i f.asked w
+answering_sends : (i : CoreSetup) (f : ForeView) (w : Traffic) → HasLinks i w → IsAnswering i f w → f.whole ≡ true → Sends i f.asked w
 answering_sends i f w l a t =
     let began = began_whole i f w a t in
     record {
@@ -171,7 +171,7 @@ answering_sends i f w l a t =
           (λ n. subst (λ noted. IsPrefix (sent_by f.over f.whole w.answers_sent) (answers_for (known_by f) f.asked noted (got_by w.answers_got))) (a.noted_is began) (a.sends t).part);
     }
 
-sends_at : (i : Given) (s : StageView) (w : Told) → HasLinks i w → AtStage i s w → whole_at s ≡ true → Sends i (asked_at s) w
+sends_at : (i : CoreSetup) (s : StageView) (w : Traffic) → HasLinks i w → AtStage i s w → whole_at s ≡ true → Sends i (asked_at s) w
 sends_at i (Fresh t) w l at h =
     let e = summary_of i.query (trace_of i.points.job) i.epoch.first (i.epoch.past_last - i.epoch.first) in
     record {
@@ -189,9 +189,9 @@ at_end : {E : Type 0} (list : E → List Message) (all : List Message) (o : Opti
 at_end list all None h = tt
 at_end list all (Some x) h = h
 
-pub sends_due : (c : CoreView) (e : Ends) → KeepsCore c (told_by e) → whole_at c.stage ≡ true → SendsDue (record { core = c; ends = e })
+pub sends_due : (c : CoreView) (e : Ends) → KeepsCore c (traffic_of e) → whole_at c.stage ≡ true → SendsDue (record { core = c; ends = e })
 sends_due c e k h =
-    let s = sends_at c.given c.stage (told_by e) k.links k.stage h in
+    let s = sends_at c.setup c.stage (traffic_of e) k.links k.stage h in
     record {
       summary = s.summary;
       of_epoch = s.of_epoch;

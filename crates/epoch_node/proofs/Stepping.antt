@@ -13,13 +13,13 @@ use Rattle.backward_pass.specs.Backward.{state}
 use Rattle.epoch_node.specs.declared.stage.Phase.{Phase}
 use Rattle.epoch_node.specs.declared.stage.Phase.TheVariants as phase
 use Rattle.epoch_node.specs.declared.stage.Stage.{Stage}
-use Rattle.epoch_node.specs.Cores.{Given, stage_of, StageView, Fresh, Asking, Answering, Done, Between, CoreView, phase_of, whole_at}
-use Rattle.epoch_node.specs.Keeping.{Told, fresh_told, HasLinks, AtStage, Counts, KeepsCore}
-use Rattle.epoch_node.specs.Events.{got_at, sent_at, told_at, Went, went_at, one_more, IsReady, IsMore, settled_by, answered_by, asks_turn, answers_turn, Steps, WhenNotYet, counted, IsEvent, Acts, Advances}
+use Rattle.epoch_node.specs.Cores.{CoreSetup, stage_of, StageView, Fresh, Asking, Answering, Done, Between, CoreView, phase_of, whole_at}
+use Rattle.epoch_node.specs.Keeping.{Traffic, fresh_traffic, HasLinks, AtStage, Counts, KeepsCore}
+use Rattle.epoch_node.specs.Events.{got_at, sent_at, traffic_after, PhaseTraffic, traffic_at, one_more, IsReady, IsMore, settled_by, answered_by, asks_turn, answers_turn, Steps, WhenNotYet, counted, IsEvent, Acts, Advances}
 use Rattle.epoch_node.proofs.Acting.{begins_state, more_still, begun_asking, asks_got_more, asks_sent_more, still_asking, begins_to_answer, answers_got_more, answers_sent_more, still_answering}
-use Rattle.epoch_node.proofs.Counting.{still_at, told_still, counted_by, counts_open, counts_over}
+use Rattle.epoch_node.proofs.Counting.{still_at, traffic_still, counted_by, counts_open, counts_over}
 
-pub acts_of : {s t : Stage} → s ≡ t → (next : StageView) (on on' : Went) (turn : PassTurn) → Acts (stage_of s) on next on' turn → Acts (stage_of t) on next on' turn
+pub acts_of : {s t : Stage} → s ≡ t → (next : StageView) (on on' : PhaseTraffic) (turn : PassTurn) → Acts (stage_of s) on next on' turn → Acts (stage_of t) on next on' turn
 acts_of e next on on' turn x = subst (λ s. Acts (stage_of s) on next on' turn) e x
 
 -- the event happened or not, and the pass is not over
@@ -37,50 +37,50 @@ not_yet_open = record { running = λ P x. x; not_over = not_over } where
   not_over : pass_turn.NotYet ≡ pass_turn.Over → ⊥
   not_over e = cc
 
-links_at : (i : Given) (s : StageView) (w : Told) (got' sent' : Option (List Message)) → is_none got' ≡ is_none (got_at s w) → is_none sent' ≡ is_none (sent_at s w) → HasLinks i w → HasLinks i (told_at s got' sent' w)
+links_at : (i : CoreSetup) (s : StageView) (w : Traffic) (got' sent' : Option (List Message)) → is_none got' ≡ is_none (got_at s w) → is_none sent' ≡ is_none (sent_at s w) → HasLinks i w → HasLinks i (traffic_after s got' sent' w)
 links_at i (Fresh t) w got' sent' g s h = record { asks_got = g ∙ h.asks_got; asks_sent = s ∙ h.asks_sent; answers_got = h.answers_got; answers_sent = h.answers_sent }
 links_at i (Asking v) w got' sent' g s h = record { asks_got = g ∙ h.asks_got; asks_sent = s ∙ h.asks_sent; answers_got = h.answers_got; answers_sent = h.answers_sent }
 links_at i (Answering f) w got' sent' g s h = record { asks_got = h.asks_got; asks_sent = h.asks_sent; answers_got = g ∙ h.answers_got; answers_sent = s ∙ h.answers_sent }
 links_at i (Done f) w got' sent' g s h = record { asks_got = h.asks_got; asks_sent = h.asks_sent; answers_got = g ∙ h.answers_got; answers_sent = s ∙ h.answers_sent }
 links_at i Between w got' sent' g s h = record { asks_got = h.asks_got; asks_sent = h.asks_sent; answers_got = g ∙ h.answers_got; answers_sent = s ∙ h.answers_sent }
 
-open_at : (i : Given) (s next : StageView) (w : Told) (on' : Went) (turn : PassTurn) → IsOpenTurn turn
-    → AtStage i s w → Acts s (went_at s w) next on' turn → AtStage i next (told_at s on'.got on'.sent w)
+open_at : (i : CoreSetup) (s next : StageView) (w : Traffic) (on' : PhaseTraffic) (turn : PassTurn) → IsOpenTurn turn
+    → AtStage i s w → Acts s (traffic_at s w) next on' turn → AtStage i next (traffic_after s on'.got on'.sent w)
 open_at i (Fresh t) next w on' turn o at x = absurd (o.not_over x.2)
 open_at i (Asking v) next w on' turn o at x =
-    subst (λ n. AtStage i n (told_at (Asking v) on'.got on'.sent w)) (sym x.is) (still_asking i v w at next on'.got on'.sent turn x (o.running (x.back.over ≡ false) x.running))
+    subst (λ n. AtStage i n (traffic_after (Asking v) on'.got on'.sent w)) (sym x.is) (still_asking i v w at next on'.got on'.sent turn x (o.running (x.back.over ≡ false) x.running))
 open_at i (Answering f) next w on' turn o at x =
-    subst (λ n. AtStage i n (told_at (Answering f) on'.got on'.sent w)) (sym x.is) (still_answering i f w at.0 next on'.got on'.sent turn x, o.running (x.fore.over ≡ false) x.running)
+    subst (λ n. AtStage i n (traffic_after (Answering f) on'.got on'.sent w)) (sym x.is) (still_answering i f w at.0 next on'.got on'.sent turn x, o.running (x.fore.over ≡ false) x.running)
 open_at i (Done f) next w on' turn o at x = absurd x
 open_at i Between next w on' turn o at x = absurd x
 
-over_at : (i : Given) (s next after : StageView) (w : Told) (on' : Went)
-    → AtStage i s w → Acts s (went_at s w) next on' pass_turn.Over → Advances i next after → AtStage i after (told_at s on'.got on'.sent w)
+over_at : (i : CoreSetup) (s next after : StageView) (w : Traffic) (on' : PhaseTraffic)
+    → AtStage i s w → Acts s (traffic_at s w) next on' pass_turn.Over → Advances i next after → AtStage i after (traffic_after s on'.got on'.sent w)
 over_at i (Fresh t) next after w on' at x v =
     let y = subst (λ n. Advances i n after) x.0 v in
-    let told : told_at (Fresh t) on'.got on'.sent w ≡ fresh_told i.first i.last = ap (λ (o : Went). record w { asks_got = o.got; asks_sent = o.sent }) x.1 ∙ at.2 in
-    subst (AtStage i after) (sym told) (subst (λ n. AtStage i n (fresh_told i.first i.last)) (sym y.is) (begun_asking i y.back y.begun))
+    let traffic : traffic_after (Fresh t) on'.got on'.sent w ≡ fresh_traffic i.first i.last = ap (λ (o : PhaseTraffic). record w { asks_got = o.got; asks_sent = o.sent }) x.1 ∙ at.2 in
+    subst (AtStage i after) (sym traffic) (subst (λ n. AtStage i n (fresh_traffic i.first i.last)) (sym y.is) (begun_asking i y.back y.begun))
 over_at i (Asking v) next after w on' at x a =
     let y = subst (λ n. Advances i n after) x.is a in
-    subst (λ n. AtStage i n (told_at (Asking v) on'.got on'.sent w)) (sym y.is)
+    subst (λ n. AtStage i n (traffic_after (Asking v) on'.got on'.sent w)) (sym y.is)
     (begins_to_answer i v w at next on'.got on'.sent pass_turn.Over x x.over y.fore y.settled, ap (λ f. f.over) y.settled.new)
 over_at i (Answering f) next after w on' at x a =
     let y = subst (λ n. Advances i n after) x.is a in
-    subst (λ n. AtStage i n (told_at (Answering f) on'.got on'.sent w)) (sym y) (still_answering i f w at.0 next on'.got on'.sent pass_turn.Over x, x.over)
+    subst (λ n. AtStage i n (traffic_after (Answering f) on'.got on'.sent w)) (sym y) (still_answering i f w at.0 next on'.got on'.sent pass_turn.Over x, x.over)
 over_at i (Done f) next after w on' at x a = absurd x
 over_at i Between next after w on' at x a = absurd x
 
-more_got_at : (i : Given) (s next : StageView) (w : Told) (on' : Went) (turn : PassTurn) → is_none on'.got ≡ is_none (got_at s w)
-    → AtStage i s w → Acts s (went_at s w) next on' turn → IsMore (got_at s w) on'.got
-more_got_at i (Fresh t) next w on' turn n at x = more_still w.asks_got on'.got (ap (λ (o : Went). o.got) x.1)
+more_got_at : (i : CoreSetup) (s next : StageView) (w : Traffic) (on' : PhaseTraffic) (turn : PassTurn) → is_none on'.got ≡ is_none (got_at s w)
+    → AtStage i s w → Acts s (traffic_at s w) next on' turn → IsMore (got_at s w) on'.got
+more_got_at i (Fresh t) next w on' turn n at x = more_still w.asks_got on'.got (ap (λ (o : PhaseTraffic). o.got) x.1)
 more_got_at i (Asking v) next w on' turn n at x = asks_got_more i v w at next on'.got on'.sent turn x n
 more_got_at i (Answering f) next w on' turn n at x = answers_got_more i f w at.0 next on'.got on'.sent turn x n
 more_got_at i (Done f) next w on' turn n at x = absurd x
 more_got_at i Between next w on' turn n at x = absurd x
 
-more_sent_at : (i : Given) (s next : StageView) (w : Told) (on' : Went) (turn : PassTurn) → is_none on'.sent ≡ is_none (sent_at s w)
-    → AtStage i s w → Acts s (went_at s w) next on' turn → IsMore (sent_at s w) on'.sent
-more_sent_at i (Fresh t) next w on' turn n at x = more_still w.asks_sent on'.sent (ap (λ (o : Went). o.sent) x.1)
+more_sent_at : (i : CoreSetup) (s next : StageView) (w : Traffic) (on' : PhaseTraffic) (turn : PassTurn) → is_none on'.sent ≡ is_none (sent_at s w)
+    → AtStage i s w → Acts s (traffic_at s w) next on' turn → IsMore (sent_at s w) on'.sent
+more_sent_at i (Fresh t) next w on' turn n at x = more_still w.asks_sent on'.sent (ap (λ (o : PhaseTraffic). o.sent) x.1)
 more_sent_at i (Asking v) next w on' turn n at x = asks_sent_more i v w at next on'.got on'.sent turn x n
 more_sent_at i (Answering f) next w on' turn n at x = answers_sent_more i f w at.0 next on'.got on'.sent turn x n
 more_sent_at i (Done f) next w on' turn n at x = absurd x
@@ -92,7 +92,7 @@ same_turn pass_turn.Moved o = refl
 same_turn pass_turn.NotYet o = refl
 same_turn pass_turn.Over o = absurd (o refl)
 
-open_steps : (i : Given) (s next : StageView) (on on' : Went) (turn : PassTurn) → IsOpenTurn turn → Acts s on next on' turn → Steps i s on.got on.sent next on'.got on'.sent (asks_turn turn)
+open_steps : (i : CoreSetup) (s next : StageView) (on on' : PhaseTraffic) (turn : PassTurn) → IsOpenTurn turn → Acts s on next on' turn → Steps i s on.got on.sent next on'.got on'.sent (asks_turn turn)
 open_steps i (Fresh t) next on on' turn o x = absurd (o.not_over x.2)
 open_steps i (Asking v) next on on' turn o x = record {
   back = x.back;
@@ -118,7 +118,7 @@ open_steps i (Answering f) next on on' turn o x = record {
 open_steps i (Done f) next on on' turn o x = absurd x
 open_steps i Between next on on' turn o x = absurd x
 
-open_phase : (s next : StageView) (on on' : Went) (turn : PassTurn) → IsOpenTurn turn → Acts s on next on' turn → phase_of next ≡ phase.Done → ⊥
+open_phase : (s next : StageView) (on on' : PhaseTraffic) (turn : PassTurn) → IsOpenTurn turn → Acts s on next on' turn → phase_of next ≡ phase.Done → ⊥
 open_phase (Fresh t) next on on' turn o x e = absurd (o.not_over x.2)
 open_phase (Asking v) next on on' turn o x e = let asking : phase.Asking ≡ phase.Done = sym (ap phase_of x.is) ∙ e in cc
 open_phase (Answering f) next on on' turn o x e = let answering : phase.Answering ≡ phase.Done = sym (ap phase_of x.is) ∙ e in cc
@@ -163,16 +163,16 @@ ended_counted phase.Done phase.Answering events n = refl
 ended_counted phase.Done phase.Done events n = absurd (n refl)
 
 -- the event in which a phase ends
-over_steps : (i : Given) (s next after : StageView) (w : Told) (on' : Went)
-    → AtStage i s w → Acts s (went_at s w) next on' pass_turn.Over → Advances i next after → Steps i s (got_at s w) (sent_at s w) after on'.got on'.sent (ended_turn (phase_of after))
+over_steps : (i : CoreSetup) (s next after : StageView) (w : Traffic) (on' : PhaseTraffic)
+    → AtStage i s w → Acts s (traffic_at s w) next on' pass_turn.Over → Advances i next after → Steps i s (got_at s w) (sent_at s w) after on'.got on'.sent (ended_turn (phase_of after))
 over_steps i (Fresh t) next after w on' at x a =
     let y = subst (λ n. Advances i n after) x.0 a in
     record {
       back = y.back;
       is = y.is;
-      begins = ap (λ (o : Went). state y.back o.got o.sent) x.1 ∙ ap (λ (w : Told). state y.back w.asks_got w.asks_sent) at.2 ∙ ap (λ v. state v (fresh_end i.last) (fresh_end i.first)) y.begun.new ∙ begins_state y.back.summary i.first i.last;
-      got_same = ap (λ (o : Went). o.got) x.1;
-      sent_same = ap (λ (o : Went). o.sent) x.1;
+      begins = ap (λ (o : PhaseTraffic). state y.back o.got o.sent) x.1 ∙ ap (λ (w : Traffic). state y.back w.asks_got w.asks_sent) at.2 ∙ ap (λ v. state v (fresh_end i.last) (fresh_end i.first)) y.begun.new ∙ begins_state y.back.summary i.first i.last;
+      got_same = ap (λ (o : PhaseTraffic). o.got) x.1;
+      sent_same = ap (λ (o : PhaseTraffic). o.sent) x.1;
       answered = ap (λ n. ended_turn (phase_of n)) y.is;
     }
 over_steps i (Asking v) next after w on' at x a =
@@ -204,36 +204,36 @@ over_steps i (Done f) next after w on' at x a = absurd x
 over_steps i Between next after w on' at x a = absurd x
 
 -- where nothing more went through the links of its phase, a core keeps what it kept
-told_same : (s : StageView) (w : Told) (got sent : Option (List Message)) → got_at s w ≡ got → sent_at s w ≡ sent → w ≡ told_at s got sent w
-told_same s w got sent g e = sym (told_still s w) ∙ ap₂ (λ got sent. told_at s got sent w) g e
+traffic_same : (s : StageView) (w : Traffic) (got sent : Option (List Message)) → got_at s w ≡ got → sent_at s w ≡ sent → w ≡ traffic_after s got sent w
+traffic_same s w got sent g e = sym (traffic_still s w) ∙ ap₂ (λ got sent. traffic_after s got sent w) g e
 
 -- ---- the same of a core whose links of its phase are these
 
-module _ (c : CoreView) (next : StageView) (on on' : Went) (came_to : PassTurn) (x : Acts c.stage on next on' came_to) (ready : IsReady c on)
-    (no_got : is_none on'.got ≡ is_none on.got) (no_sent : is_none on'.sent ≡ is_none on.sent) (d : CoreView) (same : d.given ≡ c.given) where
-  acts_at : (w : Told) → got_at c.stage w ≡ on.got → sent_at c.stage w ≡ on.sent → Acts c.stage (went_at c.stage w) next on' came_to
+module _ (c : CoreView) (next : StageView) (on on' : PhaseTraffic) (came_to : PassTurn) (x : Acts c.stage on next on' came_to) (ready : IsReady c on)
+    (no_got : is_none on'.got ≡ is_none on.got) (no_sent : is_none on'.sent ≡ is_none on.sent) (d : CoreView) (same : d.setup ≡ c.setup) where
+  acts_at : (w : Traffic) → got_at c.stage w ≡ on.got → sent_at c.stage w ≡ on.sent → Acts c.stage (traffic_at c.stage w) next on' came_to
   acts_at w g s = subst₂ (λ got sent. Acts c.stage (record { got = got; sent = sent }) next on' came_to) (sym g) (sym s) x
 
-  acts_ready : Acts c.stage (went_at c.stage ready.told) next on' came_to
-  acts_ready = acts_at ready.told ready.got_is ready.sent_is
+  acts_ready : Acts c.stage (traffic_at c.stage ready.traffic) next on' came_to
+  acts_ready = acts_at ready.traffic ready.got_is ready.sent_is
 
   got_more : IsMore on.got on'.got
   got_more =
       subst (λ g. IsMore g on'.got) ready.got_is
-      (more_got_at c.given c.stage next ready.told on' came_to (no_got ∙ ap is_none (sym ready.got_is)) ready.keeps.stage acts_ready)
+      (more_got_at c.setup c.stage next ready.traffic on' came_to (no_got ∙ ap is_none (sym ready.got_is)) ready.keeps.stage acts_ready)
 
   sent_more : IsMore on.sent on'.sent
   sent_more =
       subst (λ s. IsMore s on'.sent) ready.sent_is
-      (more_sent_at c.given c.stage next ready.told on' came_to (no_sent ∙ ap is_none (sym ready.sent_is)) ready.keeps.stage acts_ready)
+      (more_sent_at c.setup c.stage next ready.traffic on' came_to (no_sent ∙ ap is_none (sym ready.sent_is)) ready.keeps.stage acts_ready)
 
-  keeps_at : (w : Told) → got_at c.stage w ≡ on.got → sent_at c.stage w ≡ on.sent → KeepsCore c w → AtStage c.given d.stage (told_at c.stage on'.got on'.sent w)
-      → (whole_at d.stage ≡ true → Counts d (told_at c.stage on'.got on'.sent w)) → KeepsCore d (told_at c.stage on'.got on'.sent w)
+  keeps_at : (w : Traffic) → got_at c.stage w ≡ on.got → sent_at c.stage w ≡ on.sent → KeepsCore c w → AtStage c.setup d.stage (traffic_after c.stage on'.got on'.sent w)
+      → (whole_at d.stage ≡ true → Counts d (traffic_after c.stage on'.got on'.sent w)) → KeepsCore d (traffic_after c.stage on'.got on'.sent w)
   keeps_at w g s k at counts =
-      let links = links_at c.given c.stage w on'.got on'.sent (no_got ∙ ap is_none (sym g)) (no_sent ∙ ap is_none (sym s)) k.links in
+      let links = links_at c.setup c.stage w on'.got on'.sent (no_got ∙ ap is_none (sym g)) (no_sent ∙ ap is_none (sym s)) k.links in
       record {
-        links = subst (λ i. HasLinks i (told_at c.stage on'.got on'.sent w)) (sym same) links;
-        stage = subst (λ i. AtStage i d.stage (told_at c.stage on'.got on'.sent w)) (sym same) at;
+        links = subst (λ i. HasLinks i (traffic_after c.stage on'.got on'.sent w)) (sym same) links;
+        stage = subst (λ i. AtStage i d.stage (traffic_after c.stage on'.got on'.sent w)) (sym same) at;
         counts = counts;
       }
 
@@ -243,8 +243,8 @@ module _ (c : CoreView) (next : StageView) (on on' : Went) (came_to : PassTurn) 
     by pass_turn.Moved x e = tt
     by pass_turn.NotYet x e =
         let still = still_at c.stage next on on' x in
-        let with_events : (events : ℕ) → d.events ≡ events → d ≡ record { given = c.given; stage = c.stage; events = events } =
-        λ events e. ap₂ (λ (i : Given) (s : StageView). record { given = i; stage = s; events = d.events }) same (is ∙ still.0) ∙ ap (λ (n : ℕ). record { given = c.given; stage = c.stage; events = n }) e in
+        let with_events : (events : ℕ) → d.events ≡ events → d ≡ record { setup = c.setup; stage = c.stage; events = events } =
+        λ events e. ap₂ (λ (i : CoreSetup) (s : StageView). record { setup = i; stage = s; events = d.events }) same (is ∙ still.0) ∙ ap (λ (n : ℕ). record { setup = c.setup; stage = c.stage; events = n }) e in
         (with_events c.events e, still.1)
     by pass_turn.Over x e = tt
 
@@ -260,12 +260,12 @@ module _ (c : CoreView) (next : StageView) (on on' : Went) (came_to : PassTurn) 
 
   pub open_event : IsOpenTurn came_to → d.stage ≡ next → d.events ≡ counted_by came_to c.events → IsEvent c on d on' (asks_turn came_to)
   open_event o is e = record {
-    steps = subst (λ n. Steps c.given c.stage on.got on.sent n on'.got on'.sent (asks_turn came_to)) (sym is) (open_steps c.given c.stage next on on' came_to o x);
+    steps = subst (λ n. Steps c.setup c.stage on.got on.sent n on'.got on'.sent (asks_turn came_to)) (sym is) (open_steps c.setup c.stage next on on' came_to o x);
     keeps = λ w g s k.
         keeps_at w g s k
-        (subst (λ n. AtStage c.given n (told_at c.stage on'.got on'.sent w)) (sym is) (open_at c.given c.stage next w on' came_to o k.stage (acts_at w g s)))
+        (subst (λ n. AtStage c.setup n (traffic_after c.stage on'.got on'.sent w)) (sym is) (open_at c.setup c.stage next w on' came_to o k.stage (acts_at w g s)))
         (counts_open c d same w on' k.links (no_got ∙ ap is_none (sym g)) k.stage k.counts next came_to o.not_over (acts_at w g s) is e);
-    given = same;
+    setup = same;
     more_got = got_more;
     more_sent = sent_more;
     done = open_done came_to (λ p. open_phase c.stage next on on' came_to o x (sym (ap phase_of is) ∙ p));
@@ -273,16 +273,16 @@ module _ (c : CoreView) (next : StageView) (on on' : Went) (came_to : PassTurn) 
     count = e ∙ sym (open_counted came_to o.not_over);
   }
 
-  pub over_event : came_to ≡ pass_turn.Over → (phase_of c.stage ≡ phase.Done → ⊥) → Advances c.given next d.stage → d.events ≡ one_more c.events → IsEvent c on d on' (ended_turn (phase_of d.stage))
+  pub over_event : came_to ≡ pass_turn.Over → (phase_of c.stage ≡ phase.Done → ⊥) → Advances c.setup next d.stage → d.events ≡ one_more c.events → IsEvent c on d on' (ended_turn (phase_of d.stage))
   over_event o n a e = record {
-    steps = subst₂ (λ got sent. Steps c.given c.stage got sent d.stage on'.got on'.sent (ended_turn (phase_of d.stage))) ready.got_is ready.sent_is
-        (over_steps c.given c.stage next d.stage ready.told on' ready.keeps.stage (subst (Acts c.stage (went_at c.stage ready.told) next on') o acts_ready) a);
+    steps = subst₂ (λ got sent. Steps c.setup c.stage got sent d.stage on'.got on'.sent (ended_turn (phase_of d.stage))) ready.got_is ready.sent_is
+        (over_steps c.setup c.stage next d.stage ready.traffic on' ready.keeps.stage (subst (Acts c.stage (traffic_at c.stage ready.traffic) next on') o acts_ready) a);
     keeps = λ w g s k.
-        let y = subst (Acts c.stage (went_at c.stage w) next on') o (acts_at w g s) in
+        let y = subst (Acts c.stage (traffic_at c.stage w) next on') o (acts_at w g s) in
         keeps_at w g s k
-        (over_at c.given c.stage next d.stage w on' k.stage y a)
+        (over_at c.setup c.stage next d.stage w on' k.stage y a)
         (counts_over c d same w on' k.links (no_got ∙ ap is_none (sym g)) k.stage k.counts next y a e);
-    given = same;
+    setup = same;
     more_got = got_more;
     more_sent = sent_more;
     done = ended_answers (phase_of d.stage);
@@ -291,18 +291,18 @@ module _ (c : CoreView) (next : StageView) (on on' : Went) (came_to : PassTurn) 
   }
 
 -- nothing happens to a core that is done
-pub rest_event : (c : CoreView) (on : Went) → IsReady c on → phase_of c.stage ≡ phase.Done → IsEvent c on c on turn.Done
+pub rest_event : (c : CoreView) (on : PhaseTraffic) → IsReady c on → phase_of c.stage ≡ phase.Done → IsEvent c on c on turn.Done
 rest_event c on ready e = record {
   steps = rests c.stage e ready.keeps.stage;
-  keeps = λ w g s k. subst (KeepsCore c) (told_same c.stage w on.got on.sent g s) k;
-  given = refl;
+  keeps = λ w g s k. subst (KeepsCore c) (traffic_same c.stage w on.got on.sent g s) k;
+  setup = refl;
   more_got = more_still on.got on.got refl;
   more_sent = more_still on.sent on.sent refl;
   done = e;
   not_yet = tt;
   count = sym (ap (λ p. counted turn.Done p c.events) e);
 } where
-  rests : (s : StageView) → phase_of s ≡ phase.Done → AtStage c.given s ready.told → Steps c.given s on.got on.sent s on.got on.sent turn.Done
+  rests : (s : StageView) → phase_of s ≡ phase.Done → AtStage c.setup s ready.traffic → Steps c.setup s on.got on.sent s on.got on.sent turn.Done
   rests (Fresh t) e at = cc
   rests (Asking v) e at = cc
   rests (Answering f) e at = cc

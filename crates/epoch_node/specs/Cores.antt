@@ -15,7 +15,7 @@ use Rattle.epoch_node.specs.declared.node_core.Core.{Core}
 
 -- what a core is given, which no event changes: the checkpoints of the job, the query, its epoch, and whether it is the
 -- first or the last
-pub record Given : Type 0 where
+pub record CoreSetup : Type 0 where
   pub points : CheckpointsAt
   pub query : Query
   pub epoch : NumberedEpoch
@@ -31,7 +31,7 @@ pub data StageView : Type 0 where
   Between : StageView
 
 pub record CoreView : Type 0 where
-  pub given : Given
+  pub setup : CoreSetup
   pub stage : StageView
   -- how many events moved. The count stands still at 2 ^ 64 - 1
   pub events : ℕ
@@ -45,7 +45,7 @@ stage_of stage.Between = Between
 
 abbrev pub core_of : {G : Type 0} → Core G → CoreView
 core_of c = record {
-  given = record {
+  setup = record {
     points = c.start.value;
     query = c.query.now;
     epoch = record { number = c.number; first = c.first_step; past_last = c.past_last };
@@ -63,8 +63,8 @@ phase_of (Answering f) = phase.Answering
 phase_of (Done f) = phase.Done
 phase_of Between = phase.Done
 
-abbrev pub new_core : Given → CoreView
-new_core i = record { given = i; stage = Fresh i.epoch; events = 0 }
+abbrev pub new_core : CoreSetup → CoreView
+new_core i = record { setup = i; stage = Fresh i.epoch; events = 0 }
 
 -- there is a checkpoint where the epoch begins, and the run has the steps of the epoch
 pub record CanStart (points : CheckpointsAt) (epoch : NumberedEpoch) : Type 0 where

@@ -20,20 +20,20 @@ use Rattle.backward_pass.specs.Backward.{BackView, knows, state, Keeps, Reached,
 use Rattle.forward_pass.specs.Forward.{ForeView, new_fore, known_by, fore_state, ForeKeeps, ForeReached, ForeSends, IsSameFore, ForeHappens}
 use Rattle.epoch_node.specs.declared.stage.Phase.{Phase}
 use Rattle.epoch_node.specs.declared.stage.Phase.TheVariants as phase
-use Rattle.epoch_node.specs.Cores.{Given, StageView, Fresh, Asking, Answering, Done, Between, CoreView, phase_of, CanStart}
-use Rattle.epoch_node.specs.Keeping.{Told, KeepsCore, IsBegun, CanSettle, IsSettled, requests_if}
+use Rattle.epoch_node.specs.Cores.{CoreSetup, StageView, Fresh, Asking, Answering, Done, Between, CoreView, phase_of, CanStart}
+use Rattle.epoch_node.specs.Keeping.{Traffic, KeepsCore, IsBegun, CanSettle, IsSettled, requests_if}
 
 -- ---- the links of a phase
 
 -- what was got and sent on the two links of the phase: those of the asks, and then those of the answers
-abbrev pub got_at : StageView → Told → Option (List Message)
+abbrev pub got_at : StageView → Traffic → Option (List Message)
 got_at (Fresh t) w = w.asks_got
 got_at (Asking v) w = w.asks_got
 got_at (Answering f) w = w.answers_got
 got_at (Done f) w = w.answers_got
 got_at Between w = w.answers_got
 
-abbrev pub sent_at : StageView → Told → Option (List Message)
+abbrev pub sent_at : StageView → Traffic → Option (List Message)
 sent_at (Fresh t) w = w.asks_sent
 sent_at (Asking v) w = w.asks_sent
 sent_at (Answering f) w = w.answers_sent
@@ -41,41 +41,41 @@ sent_at (Done f) w = w.answers_sent
 sent_at Between w = w.answers_sent
 
 -- once this was got and sent on them
-abbrev pub told_at : StageView → Option (List Message) → Option (List Message) → Told → Told
-told_at (Fresh t) got sent w = record w { asks_got = got; asks_sent = sent }
-told_at (Asking v) got sent w = record w { asks_got = got; asks_sent = sent }
-told_at (Answering f) got sent w = record w { answers_got = got; answers_sent = sent }
-told_at (Done f) got sent w = record w { answers_got = got; answers_sent = sent }
-told_at Between got sent w = record w { answers_got = got; answers_sent = sent }
+abbrev pub traffic_after : StageView → Option (List Message) → Option (List Message) → Traffic → Traffic
+traffic_after (Fresh t) got sent w = record w { asks_got = got; asks_sent = sent }
+traffic_after (Asking v) got sent w = record w { asks_got = got; asks_sent = sent }
+traffic_after (Answering f) got sent w = record w { answers_got = got; answers_sent = sent }
+traffic_after (Done f) got sent w = record w { answers_got = got; answers_sent = sent }
+traffic_after Between got sent w = record w { answers_got = got; answers_sent = sent }
 
 -- what went through two links, an inlet and an outlet, where there are any
-pub record Went : Type 0 where
+pub record PhaseTraffic : Type 0 where
   pub got : Option (List Message)
   pub sent : Option (List Message)
 
-abbrev pub went : {I O : Type 0} → (I → EndView Message) → (O → EndView Message) → Option I → Option O → Went
-went inlet_end outlet_end inlet outlet = record { got = through inlet_end inlet; sent = through outlet_end outlet }
+abbrev pub phase_traffic : {I O : Type 0} → (I → EndView Message) → (O → EndView Message) → Option I → Option O → PhaseTraffic
+phase_traffic inlet_end outlet_end inlet outlet = record { got = through inlet_end inlet; sent = through outlet_end outlet }
 
 -- what went through the two links of the phase
-abbrev pub went_at : StageView → Told → Went
-went_at s w = record { got = got_at s w; sent = sent_at s w }
+abbrev pub traffic_at : StageView → Traffic → PhaseTraffic
+traffic_at s w = record { got = got_at s w; sent = sent_at s w }
 
 -- the links of the core's phase are those, of four through which went what the core keeps
-pub record IsReady (c : CoreView) (on : Went) : Type 0 where
-  pub told : Told
-  pub got_is : got_at c.stage told ≡ on.got
-  pub sent_is : sent_at c.stage told ≡ on.sent
-  pub keeps : KeepsCore c told
+pub record IsReady (c : CoreView) (on : PhaseTraffic) : Type 0 where
+  pub traffic : Traffic
+  pub got_is : got_at c.stage traffic ≡ on.got
+  pub sent_is : sent_at c.stage traffic ≡ on.sent
+  pub keeps : KeepsCore c traffic
 
 -- what the core keeps of its four links is kept, whatever went through the two that are not of its phase
-abbrev pub StillKeeps : CoreView → Went → CoreView → Went → Type 0
+abbrev pub StillKeeps : CoreView → PhaseTraffic → CoreView → PhaseTraffic → Type 0
 StillKeeps old on new on' =
-    (w : Told) → got_at old.stage w ≡ on.got → sent_at old.stage w ≡ on.sent → KeepsCore old w → KeepsCore new (told_at old.stage on'.got on'.sent w)
+    (w : Traffic) → got_at old.stage w ≡ on.got → sent_at old.stage w ≡ on.sent → KeepsCore old w → KeepsCore new (traffic_after old.stage on'.got on'.sent w)
 
 -- ---- events
 
 -- where the pass backwards is over, the pass forwards begins
-abbrev pub settled_by : Bool → Given → BackView → StageView
+abbrev pub settled_by : Bool → CoreSetup → BackView → StageView
 settled_by true i v = Answering (new_fore v.summary v.asked (requests_if v.whole v.requests) v.whole i.first)
 settled_by false i v = Asking v
 
@@ -96,7 +96,7 @@ answers_turn pass_turn.NotYet = turn.NotYet
 answers_turn pass_turn.Over = turn.Done
 
 -- the epoch is analysed, and the pass backwards begins, broken where a growth was refused
-pub record Begins (i : Given) (got sent : Option (List Message)) (next : StageView) (got' sent' : Option (List Message)) (answer : Turn) : Type 0 where
+pub record Begins (i : CoreSetup) (got sent : Option (List Message)) (next : StageView) (got' sent' : Option (List Message)) (answer : Turn) : Type 0 where
   pub back : BackView
   pub is : next ≡ Asking back
   pub begins : state back got' sent' ≡ begun (is_none back.summary) i.last (knows back)
@@ -105,7 +105,7 @@ pub record Begins (i : Given) (got sent : Option (List Message)) (next : StageVi
   pub answered : answer ≡ turn.Moved
 
 -- an event of the pass backwards
-pub record Asks (i : Given) (v : BackView) (got sent : Option (List Message)) (next : StageView) (got' sent' : Option (List Message)) (answer : Turn) : Type 0 where
+pub record Asks (i : CoreSetup) (v : BackView) (got sent : Option (List Message)) (next : StageView) (got' sent' : Option (List Message)) (answer : Turn) : Type 0 where
   pub back : BackView
   pub came_to : PassTurn
   pub happens : Happens v got sent back got' sent' came_to
@@ -136,7 +136,7 @@ pub record Rests (f : ForeView) (got sent : Option (List Message)) (next : Stage
 
 -- the event is that of the definitions: a node begins, then its pass backwards has events until it is over, then its
 -- pass forwards; then it is done
-abbrev pub Steps : Given → StageView → Option (List Message) → Option (List Message) → StageView → Option (List Message) → Option (List Message) → Turn → Type 0
+abbrev pub Steps : CoreSetup → StageView → Option (List Message) → Option (List Message) → StageView → Option (List Message) → Option (List Message) → Turn → Type 0
 Steps i (Fresh t) got sent next got' sent' answer = Begins i got sent next got' sent' answer
 Steps i (Asking v) got sent next got' sent' answer = Asks i v got sent next got' sent' answer
 Steps i (Answering f) got sent next got' sent' answer = Answers f got sent next got' sent' answer
@@ -152,7 +152,7 @@ need_at (Done f) got sent = need.Over
 need_at Between got sent = need.Over
 
 -- of what the links say when they refuse, this is what the one link says that the next event needs
-abbrev pub WaitsAt : StageView → Went → Type 0 → Type 0 → Type 0
+abbrev pub WaitsAt : StageView → PhaseTraffic → Type 0 → Type 0 → Type 0
 WaitsAt s on pops pushes = Waits (need_at s on.got on.sent) pops pushes
 
 -- ---- what the answer of an event says
@@ -191,11 +191,11 @@ IsMore None (Some new) = ⊥
 IsMore (Some old) None = ⊥
 
 -- an event of a core, on the links of its phase, through which so much went before it and after it
-pub record IsEvent (old : CoreView) (on : Went) (new : CoreView) (on' : Went) (answer : Turn) : Type 0 where
+pub record IsEvent (old : CoreView) (on : PhaseTraffic) (new : CoreView) (on' : PhaseTraffic) (answer : Turn) : Type 0 where
   -- it is that of the definitions
-  pub steps : Steps old.given old.stage on.got on.sent new.stage on'.got on'.sent answer
+  pub steps : Steps old.setup old.stage on.got on.sent new.stage on'.got on'.sent answer
   pub keeps : StillKeeps old on new on'
-  pub given : new.given ≡ old.given
+  pub setup : new.setup ≡ old.setup
   pub more_got : IsMore on.got on'.got
   pub more_sent : IsMore on.sent on'.sent
   pub done : AnswersEnded answer (phase_of new.stage ≡ phase.Done)
@@ -206,7 +206,7 @@ pub record IsEvent (old : CoreView) (on : Went) (new : CoreView) (on' : Went) (a
 -- ---- parts of an event
 
 -- what the pass of a stage needs
-abbrev pub CanAct : StageView → Went → Type 0
+abbrev pub CanAct : StageView → PhaseTraffic → Type 0
 CanAct (Fresh t) on = Unit {0}
 CanAct (Asking v) on = Keeps v on.got on.sent × Reached v on.got on.sent
 CanAct (Answering f) on = ForeKeeps f on.got on.sent
@@ -239,7 +239,7 @@ pub record ForeActs (f : ForeView) (got sent : Option (List Message)) (next : St
   pub running : OnOpen turn (fore.over ≡ false)
   pub not_yet : OnNotYet turn ((fore ≡ f) × (got' ≡ got) × (sent' ≡ sent))
 
-abbrev pub Acts : StageView → Went → StageView → Went → PassTurn → Type 0
+abbrev pub Acts : StageView → PhaseTraffic → StageView → PhaseTraffic → PassTurn → Type 0
 Acts (Fresh t) on next on' turn = (next ≡ Fresh t) × (on' ≡ on) × (turn ≡ pass_turn.Over)
 Acts (Asking v) on next on' turn = BackActs v on.got on.sent next on'.got on'.sent turn
 Acts (Answering f) on next on' turn = ForeActs f on.got on.sent next on'.got on'.sent turn
@@ -247,25 +247,25 @@ Acts (Done f) on next on' turn = ⊥
 Acts Between on next on' turn = ⊥
 
 -- what the stage needs to go on to the next
-abbrev pub CanAdvance : Given → StageView → Type 0
+abbrev pub CanAdvance : CoreSetup → StageView → Type 0
 CanAdvance i (Fresh t) = (t ≡ i.epoch) × CanStart i.points t
 CanAdvance i (Asking v) = CanSettle i.first i.last v
 CanAdvance i (Answering f) = Unit {0}
 CanAdvance i (Done f) = ⊥
 CanAdvance i Between = ⊥
 
-pub record BeginsToAsk (i : Given) (next : StageView) : Type 0 where
+pub record BeginsToAsk (i : CoreSetup) (next : StageView) : Type 0 where
   pub back : BackView
   pub is : next ≡ Asking back
   pub begun : IsBegun i back
 
-pub record BeginsToAnswer (i : Given) (v : BackView) (next : StageView) : Type 0 where
+pub record BeginsToAnswer (i : CoreSetup) (v : BackView) (next : StageView) : Type 0 where
   pub fore : ForeView
   pub is : next ≡ Answering fore
   pub settled : IsSettled i.first i.last v fore
 
 -- the stage after it
-abbrev pub Advances : Given → StageView → StageView → Type 0
+abbrev pub Advances : CoreSetup → StageView → StageView → Type 0
 Advances i (Fresh t) next = BeginsToAsk i next
 Advances i (Asking v) next = BeginsToAnswer i v next
 Advances i (Answering f) next = next ≡ Done f

@@ -22,32 +22,32 @@ use Rattle.pass_parts.specs.Known.{known}
 use Rattle.pass_parts.specs.Requests.{locations}
 use Rattle.backward_pass.specs.Backward.{BackView, new_back, knows, state, Keeps, Reached, SendsFor}
 use Rattle.forward_pass.specs.Forward.{ForeView, new_fore, known_by, fore_state, ForeKeeps, ForeReached, ForeSends}
-use Rattle.epoch_node.specs.Cores.{Given, StageView, Fresh, Asking, Answering, Done, Between, CoreView, CanStart, whole_at}
+use Rattle.epoch_node.specs.Cores.{CoreSetup, StageView, Fresh, Asking, Answering, Done, Between, CoreView, CanStart, whole_at}
 
 -- what went through the four links of a node, where there are any
-pub record Told : Type 0 where
+pub record Traffic : Type 0 where
   pub asks_got : Option (List Message)
   pub asks_sent : Option (List Message)
   pub answers_got : Option (List Message)
   pub answers_sent : Option (List Message)
 
--- nothing yet. The first node has no links to a node before it, the last none to a node behind it
-abbrev pub fresh_told : Bool → Bool → Told
-fresh_told first last = record {
+-- nothing yet. The first node has no links to a previous one, the last none to a next one
+abbrev pub fresh_traffic : Bool → Bool → Traffic
+fresh_traffic first last = record {
   asks_got = fresh_end last;
   asks_sent = fresh_end first;
   answers_got = fresh_end first;
   answers_sent = fresh_end last;
 }
 
-pub record HasLinks (i : Given) (w : Told) : Type 0 where
+pub record HasLinks (i : CoreSetup) (w : Traffic) : Type 0 where
   pub asks_got : is_none w.asks_got ≡ i.last
   pub asks_sent : is_none w.asks_sent ≡ i.first
   pub answers_got : is_none w.answers_got ≡ i.first
   pub answers_sent : is_none w.answers_sent ≡ i.last
 
 -- it is the summary of the core's epoch
-abbrev pub IsOfEpoch : Given → EpochSummary → Type 0
+abbrev pub IsOfEpoch : CoreSetup → EpochSummary → Type 0
 IsOfEpoch i e = IsSummary i.query (trace_of i.points.job) i.epoch.first (i.epoch.past_last - i.epoch.first) e
 
 -- an analysis found the summary of the epoch, and that its steps are in range
@@ -56,22 +56,22 @@ pub record IsFound (q : Query) (trace : List StepSeen) (epoch : NumberedEpoch) (
   pub in_range : AreInRange trace epoch.first (epoch.past_last - epoch.first)
 
 -- it is found of the core's epoch
-abbrev pub IsFoundOf : Given → EpochSummary → Type 0
+abbrev pub IsFoundOf : CoreSetup → EpochSummary → Type 0
 IsFoundOf i e = IsFound i.query (trace_of i.points.job) i.epoch e
 
 -- the summary of a pass, where there is one, is found of the epoch
-abbrev pub KnowsEpoch : Given → Option Summary → Type 0
+abbrev pub KnowsEpoch : CoreSetup → Option Summary → Type 0
 KnowsEpoch i s = is_some s ≡ true → IsFoundOf i (known s)
 
 -- a pass backwards that is new. Where a growth was refused it has no summary
-pub record IsBegun (i : Given) (v : BackView) : Type 0 where
+pub record IsBegun (i : CoreSetup) (v : BackView) : Type 0 where
   pub new : v ≡ new_back v.summary i.first i.last
   pub summary : KnowsEpoch i v.summary
   pub keeps : Keeps v (fresh_end i.last) (fresh_end i.first)
   pub reached : Reached v (fresh_end i.last) (fresh_end i.first)
 
 -- the pass backwards, as far as it has come. Nothing was answered yet
-pub record IsAsking (i : Given) (v : BackView) (w : Told) : Type 0 where
+pub record IsAsking (i : CoreSetup) (v : BackView) (w : Traffic) : Type 0 where
   pub summary : KnowsEpoch i v.summary
   pub first : v.first ≡ i.first
   pub last : v.last ≡ i.last
@@ -103,7 +103,7 @@ pub record IsSettled (first last : Bool) (v : BackView) (f : ForeView) : Type 0 
   pub reached : ForeReached first (locations (requests_if v.whole v.requests)) v.whole f (fresh_end first) (fresh_end last)
 
 -- the pass forwards, as far as it has come, and the state in which the pass backwards ended
-pub record IsAnswering (i : Given) (f : ForeView) (w : Told) : Type 0 where
+pub record IsAnswering (i : CoreSetup) (f : ForeView) (w : Traffic) : Type 0 where
   pub summary : KnowsEpoch i f.summary
   pub asking : AskingState
   pub got : asking.got ≡ got_by w.asks_got
@@ -120,8 +120,8 @@ pub record IsAnswering (i : Given) (f : ForeView) (w : Told) : Type 0 where
   pub unended : f.over ≡ false → (is_ended (fore_state f w.answers_got w.answers_sent).sent ≡ false) × (is_ended f.sending ≡ false)
   pub ended : f.over ≡ true → (is_ended (fore_state f w.answers_got w.answers_sent).sent ≡ true) × (is_ended (got_by w.answers_got) ≡ true)
 
-abbrev pub AtStage : Given → StageView → Told → Type 0
-AtStage i (Fresh t) w = (t ≡ i.epoch) × CanStart i.points t × (w ≡ fresh_told i.first i.last)
+abbrev pub AtStage : CoreSetup → StageView → Traffic → Type 0
+AtStage i (Fresh t) w = (t ≡ i.epoch) × CanStart i.points t × (w ≡ fresh_traffic i.first i.last)
 AtStage i (Asking v) w = IsAsking i v w
 AtStage i (Answering f) w = IsAnswering i f w × (f.over ≡ false)
 AtStage i (Done f) w = IsAnswering i f w × (f.over ≡ true)
@@ -130,13 +130,13 @@ AtStage i Between w = ⊥
 -- ---- how many events moved
 
 -- in a pass backwards that is whole: in one the node began, and the others walked sinks, and sent and got messages
-abbrev pub HasAsked : Given → BackView → Told → ℕ → Type 0
+abbrev pub HasAsked : CoreSetup → BackView → Traffic → ℕ → Type 0
 HasAsked i v w moved =
     moved + length v.left ≡ 1 + length (knows v).sinks + length (sent_by v.over v.whole w.asks_sent) + many_got i.last (got_by w.asks_got)
 
 -- in a pass forwards that is whole, after a pass backwards that walked all sinks: the others built the answers to the
 -- requests, sent and got messages, and resolved the rows
-abbrev pub HasAnswered : Given → ForeView → Told → ℕ → Type 0
+abbrev pub HasAnswered : CoreSetup → ForeView → Traffic → ℕ → Type 0
 HasAnswered i f w moved =
     moved + length f.left
     ≡ 1 + length (known_by f).sinks + length (sent_by true true w.asks_sent) + many_got i.last (got_by w.asks_got)
@@ -144,7 +144,7 @@ HasAnswered i f w moved =
     + length (sent_by f.over f.whole w.answers_sent) + many_got i.first (got_by w.answers_got)
     + one_if (is_some f.rows)
 
-abbrev pub MovedAt : Given → StageView → Told → ℕ → Type 0
+abbrev pub MovedAt : CoreSetup → StageView → Traffic → ℕ → Type 0
 MovedAt i (Fresh t) w moved = moved ≡ 0
 MovedAt i (Asking v) w moved = HasAsked i v w moved
 MovedAt i (Answering f) w moved = HasAnswered i f w moved
@@ -152,21 +152,21 @@ MovedAt i (Done f) w moved = HasAnswered i f w moved
 MovedAt i Between w moved = ⊥
 
 -- the count of a core that is whole is that of the events that moved
-pub record Counts (c : CoreView) (w : Told) : Type 0 where
+pub record Counts (c : CoreView) (w : Traffic) : Type 0 where
   pub moved : ℕ
-  pub at_stage : MovedAt c.given c.stage w moved
+  pub at_stage : MovedAt c.setup c.stage w moved
   pub is : c.events ≡ capped moved
 
 -- what a core keeps of what went through its links
-pub record KeepsCore (c : CoreView) (w : Told) : Type 0 where
-  pub links : HasLinks c.given w
-  pub stage : AtStage c.given c.stage w
+pub record KeepsCore (c : CoreView) (w : Traffic) : Type 0 where
+  pub links : HasLinks c.setup w
+  pub stage : AtStage c.setup c.stage w
   pub counts : whole_at c.stage ≡ true → Counts c w
 
 -- ---- at the end
 
 -- a node with this summary, once all is sent and no End was broken
-abbrev pub node_by : EpochSummary → Told → List Loc → List Row → Node
+abbrev pub node_by : EpochSummary → Traffic → List Loc → List Row → Node
 node_by e w asked rows = record {
   summary = e;
   asks_got = got_by w.asks_got;
@@ -179,7 +179,7 @@ node_by e w asked rows = record {
 
 -- the core has sent all that it is to send for what it got, this is what it asked, and these are its rows; and what it
 -- got ends whole
-pub record HasDone (i : Given) (w : Told) (asked : List Loc) (rows : List Row) : Type 0 where
+pub record HasDone (i : CoreSetup) (w : Traffic) (asked : List Loc) (rows : List Row) : Type 0 where
   pub summary : EpochSummary
   pub found : IsFoundOf i summary
   pub done : IsDone i.first i.last (node_by summary w asked rows)
@@ -187,5 +187,5 @@ pub record HasDone (i : Given) (w : Told) (asked : List Loc) (rows : List Row) :
   pub answers_end : EndsWhole (got_by w.answers_got)
 
 -- the count of a core that has done so: the events that moved in a node that is done, whatever it knows of its epoch
-abbrev pub HasCounted : Given → Told → List Loc → List Row → ℕ → Type 0
+abbrev pub HasCounted : CoreSetup → Traffic → List Loc → List Row → ℕ → Type 0
 HasCounted i w asked rows events = (e : EpochSummary) → events ≡ capped (node_work i.first i.last (node_by e w asked rows))

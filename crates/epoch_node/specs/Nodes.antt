@@ -15,9 +15,9 @@ use Rattle.pass_parts.specs.Turns.{Waits}
 use Rattle.epoch_node.specs.declared.stage.Phase.{Phase}
 use Rattle.epoch_node.specs.declared.stage.Phase.TheVariants.{Fresh, Asking, Answering, Done}
 use Rattle.epoch_node.specs.declared.ends.Ends.{Ends}
-use Rattle.epoch_node.specs.Cores.{Given, CoreView, new_core, phase_of, whole_at, asked_at}
-use Rattle.epoch_node.specs.Keeping.{Told, IsOfEpoch}
-use Rattle.epoch_node.specs.Events.{got_at, sent_at, told_at, Went, went_at, need_at, IsEvent}
+use Rattle.epoch_node.specs.Cores.{CoreSetup, CoreView, new_core, phase_of, whole_at, asked_at}
+use Rattle.epoch_node.specs.Keeping.{Traffic, IsOfEpoch}
+use Rattle.epoch_node.specs.Events.{got_at, sent_at, traffic_after, PhaseTraffic, traffic_at, need_at, IsEvent}
 
 -- its core, and its ends of the links
 pub record NodeView : Type 0 where
@@ -25,20 +25,20 @@ pub record NodeView : Type 0 where
   pub ends : Ends
 
 -- what went through the ends
-abbrev pub told_by : Ends → Told
-told_by e = record {
+abbrev pub traffic_of : Ends → Traffic
+traffic_of e = record {
   asks_got = through consumer_end e.ask_in;
   asks_sent = through producer_end e.ask_out;
   answers_got = through consumer_end e.answer_in;
   answers_sent = through producer_end e.answer_out;
 }
 
-abbrev pub new_node : Given → Ends → NodeView
+abbrev pub new_node : CoreSetup → Ends → NodeView
 new_node i e = record { core = new_core i; ends = e }
 
 -- what its next event needs
 abbrev pub need_of : NodeView → Need
-need_of n = need_at n.core.stage (got_at n.core.stage (told_by n.ends)) (sent_at n.core.stage (told_by n.ends))
+need_of n = need_at n.core.stage (got_at n.core.stage (traffic_of n.ends)) (sent_at n.core.stage (traffic_of n.ends))
 
 -- its epoch was analysed
 abbrev pub HasBegun : NodeView → Type 0
@@ -53,17 +53,17 @@ IsBroken n = whole_at n.core.stage ≡ false
 -- how far a node has come: its core, and what went through its links
 pub record Progress : Type 0 where
   pub core : CoreView
-  pub told : Told
+  pub traffic : Traffic
 
 abbrev pub progress_of : NodeView → Progress
-progress_of n = record { core = n.core; told = told_by n.ends }
+progress_of n = record { core = n.core; traffic = traffic_of n.ends }
 
 -- the core had an event on the two links of its phase, and nothing went through the others
 pub record HasEvent (old new : Progress) : Type 0 where
-  pub on : Went
+  pub on : PhaseTraffic
   pub answer : Turn
-  pub event : IsEvent old.core (went_at old.core.stage old.told) new.core on answer
-  pub told : new.told ≡ told_at old.core.stage on.got on.sent old.told
+  pub event : IsEvent old.core (traffic_at old.core.stage old.traffic) new.core on answer
+  pub traffic : new.traffic ≡ traffic_after old.core.stage on.got on.sent old.traffic
 
 -- the core had one event after another, and came to each of these in turn
 abbrev pub HasEvents : Progress → List Progress → Progress → Type 0
@@ -119,13 +119,13 @@ pub record AreEndsLater (new old : Ends) : Type 0 where
 -- turns lead from the old node to the new: what it was given is the same, and so are its links; what was sent and got
 -- then is a part of what was sent and got now; and it came there by events of its core alone
 pub record IsLedFrom (new old : NodeView) : Type 0 where
-  pub given : new.core.given ≡ old.core.given
+  pub setup : new.core.setup ≡ old.core.setup
   pub ends : AreEndsLater new.ends old.ends
   pub came : CameByEvents (progress_of new) (progress_of old)
 
 pub led_refl : (n : NodeView) → IsLedFrom n n
 led_refl n = record {
-  given = refl;
+  setup = refl;
   ends = record {
     ask_in = later_refl consumer_end n.ends.ask_in;
     ask_out = later_refl producer_end n.ends.ask_out;
@@ -137,7 +137,7 @@ led_refl n = record {
 
 pub led_trans : (a b c : NodeView) → IsLedFrom b a → IsLedFrom c b → IsLedFrom c a
 led_trans a b c f g = record {
-  given = g.given ∙ f.given;
+  setup = g.setup ∙ f.setup;
   ends = record {
     ask_in = later_trans consumer_end a.ends.ask_in b.ends.ask_in c.ends.ask_in f.ends.ask_in g.ends.ask_in;
     ask_out = later_trans producer_end a.ends.ask_out b.ends.ask_out c.ends.ask_out f.ends.ask_out g.ends.ask_out;
@@ -182,6 +182,6 @@ pub record HasWaited (new old : NodeView) : Type 0 where
 -- on each outlet it has sent a part of what is to be sent for what it got
 pub record SendsDue (n : NodeView) : Type 0 where
   pub summary : EpochSummary
-  pub of_epoch : IsOfEpoch n.core.given summary
-  pub asks : IfSome n.ends.ask_out (λ p. IsPrefix p.sent (asks_for summary (got_by (told_by n.ends).asks_got)))
-  pub answers : IfSome n.ends.answer_out (λ p. IsPrefix p.sent (answers_for summary (asked_at n.core.stage) (requests (got_by (told_by n.ends).asks_got)) (got_by (told_by n.ends).answers_got)))
+  pub of_epoch : IsOfEpoch n.core.setup summary
+  pub asks : IfSome n.ends.ask_out (λ p. IsPrefix p.sent (asks_for summary (got_by (traffic_of n.ends).asks_got)))
+  pub answers : IfSome n.ends.answer_out (λ p. IsPrefix p.sent (answers_for summary (asked_at n.core.stage) (requests (got_by (traffic_of n.ends).asks_got)) (got_by (traffic_of n.ends).answers_got)))

@@ -9,8 +9,8 @@ use Rattle.pass_parts.specs.Ends.{got_by, sent_by}
 use Rattle.backward_pass.specs.Backward.{knows, state}
 use Rattle.forward_pass.specs.Forward.{ForeView, known_by, fore_state}
 use Rattle.epoch_node.specs.Cores.{StageView, Fresh, Asking, Answering, Done, Between, CoreView}
-use Rattle.epoch_node.specs.Keeping.{Told, KeepsCore}
-use Rattle.epoch_node.specs.Events.{got_at, sent_at, told_at, Steps}
+use Rattle.epoch_node.specs.Keeping.{Traffic, KeepsCore}
+use Rattle.epoch_node.specs.Events.{got_at, sent_at, traffic_after, Steps}
 
 -- ---- a node by itself
 
@@ -20,16 +20,16 @@ event_with first last e links NotBegun = Asks (begun links.is_refused last e)
 event_with first last e links (Asks a) = settled first (asking_event first e links a)
 event_with first last e links (Answers a f) = Answers a (answering_event e a.asked links f)
 
--- what they do between the nodes before and behind it
+-- what they do between the previous and the next node
 abbrev pub links_of : ℕ → Bool → Option Phase → Option Phase → Phase → Links
-links_of capacity refused before behind NotBegun = record { has_room = true; next = None; is_refused = refused }
-links_of capacity refused before behind (Asks a) = asking_links capacity refused before behind a
-links_of capacity refused before behind (Answers a f) = answering_links capacity refused before behind f
+links_of capacity refused previous next NotBegun = record { has_room = true; item = None; is_refused = refused }
+links_of capacity refused previous next (Asks a) = asking_links capacity refused previous next a
+links_of capacity refused previous next (Answers a f) = answering_links capacity refused previous next f
 
 -- the event of a node in a row is its event for what its links do there
 abbrev pub NodeEventIsByLinks : Type 0
-NodeEventIsByLinks = (capacity : ℕ) (refused : Bool) (before behind : Option Phase) (e : EpochSummary) (p : Phase)
-    → node_event capacity refused before behind e p ≡ event_with (is_none before) (is_none behind) e (links_of capacity refused before behind p) p
+NodeEventIsByLinks = (capacity : ℕ) (refused : Bool) (previous next : Option Phase) (e : EpochSummary) (p : Phase)
+    → node_event capacity refused previous next e p ≡ event_with (is_none previous) (is_none next) e (links_of capacity refused previous next p) p
 
 -- ---- a core in a phase
 
@@ -49,19 +49,19 @@ pub record IsAlikeAnswering (f g : AnsweringState) : Type 0 where
   pub same : f.is_whole ≡ true → f ≡ g
 
 -- the pass backwards ended in this state
-pub record HasEnded (a : AskingState) (f : ForeView) (w : Told) : Type 0 where
+pub record HasEnded (a : AskingState) (f : ForeView) (w : Traffic) : Type 0 where
   pub got : a.got ≡ got_by w.asks_got
   pub sent : a.sent ≡ sent_by true a.is_whole w.asks_sent
   pub over : a.is_over ≡ true
   pub asked : f.whole ≡ true → a.asked ≡ f.asked
 
-abbrev pub IsAnsweringIn : ForeView → Told → Phase → Type 0
+abbrev pub IsAnsweringIn : ForeView → Traffic → Phase → Type 0
 IsAnsweringIn f w NotBegun = ⊥
 IsAnsweringIn f w (Asks a) = ⊥
 IsAnsweringIn f w (Answers a g) = HasEnded a f w × IsAlikeAnswering g (fore_state f w.answers_got w.answers_sent)
 
 -- the core is in this phase of the definitions, but for what a broken pass drops
-abbrev pub IsIn : StageView → Told → Phase → Type 0
+abbrev pub IsIn : StageView → Traffic → Phase → Type 0
 IsIn (Fresh t) w NotBegun = Unit {0}
 IsIn (Fresh t) w (Asks a) = ⊥
 IsIn (Fresh t) w (Answers a g) = ⊥
@@ -81,13 +81,13 @@ IsKnown e (Done f) = f.whole ≡ true → e ≡ known_by f
 IsKnown e Between = ⊥
 
 -- an event leads a core from a phase of the definitions to that of their event, for some links
-pub record IsEventIn (old new : CoreView) (e : EpochSummary) (p : Phase) (later : Told) : Type 0 where
+pub record IsEventIn (old new : CoreView) (e : EpochSummary) (p : Phase) (later : Traffic) : Type 0 where
   pub links : Links
-  pub is_in : IsIn new.stage later (event_with old.given.first old.given.last e links p)
+  pub is_in : IsIn new.stage later (event_with old.setup.first old.setup.last e links p)
 
 abbrev pub EventsAreOfNodes : Type 0
-EventsAreOfNodes = (old new : CoreView) (w : Told) (got' sent' : Option (List Message)) (turn : Turn) (e : EpochSummary) (p : Phase)
+EventsAreOfNodes = (old new : CoreView) (w : Traffic) (got' sent' : Option (List Message)) (turn : Turn) (e : EpochSummary) (p : Phase)
     → KeepsCore old w
-    → Steps old.given old.stage (got_at old.stage w) (sent_at old.stage w) new.stage got' sent' turn
+    → Steps old.setup old.stage (got_at old.stage w) (sent_at old.stage w) new.stage got' sent' turn
     → IsKnown e old.stage → IsKnown e new.stage → IsIn old.stage w p
-    → IsEventIn old new e p (told_at old.stage got' sent' w)
+    → IsEventIn old new e p (traffic_after old.stage got' sent' w)

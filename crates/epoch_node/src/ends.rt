@@ -3,15 +3,15 @@
 use epoch_link::{Consumer, Producer};
 use flow_model::Message;
 
-/// The ends of a node's four links. The first node has no links to a node before it, the last none to a node behind it.
+/// The ends of a node's four links. The first node has no links to a previous one, the last none to a next one.
 #[derive(Drop)]
 pub struct Ends {
-    /// What the node behind asks.
+    /// What the next node asks.
     pub ask_in: Option<Consumer<Message>>,
-    /// What the node before is asked.
+    /// What the previous node is asked.
     pub ask_out: Option<Producer<Message>>,
-    /// What the node before answers.
+    /// What the previous node answers.
     pub answer_in: Option<Consumer<Message>>,
-    /// What the node behind is answered.
+    /// What the next node is answered.
     pub answer_out: Option<Producer<Message>>,
 }

@@ -3,9 +3,9 @@
 ghost use Rattle.std.specs.Prelude.{◌≡◌, ◌+◌, ◌≤◌, is_ok, true, IfOk, IfSome};
 ghost use Rattle.run_board.specs.Turns.{AnswersEnded};
 ghost use Rattle.epoch_node.specs.Cores.{core_of, new_core, phase_of, whole_at, asked_at, CanStart};
-ghost use Rattle.epoch_node.specs.Keeping.{fresh_told, HasDone, HasCounted};
+ghost use Rattle.epoch_node.specs.Keeping.{fresh_traffic, HasDone, HasCounted};
 ghost use Rattle.epoch_node.specs.Events.{WhenMoved, WhenNotYet, counted};
-ghost use Rattle.epoch_node.specs.Nodes.{told_by, new_node, HasBegun, IsLedFrom, HasMoved, HasWaited, SendsDue};
+ghost use Rattle.epoch_node.specs.Nodes.{traffic_of, new_node, HasBegun, IsLedFrom, HasMoved, HasWaited, SendsDue};
 
 use crate::ends::Ends;
 use crate::node_core::{Broken, Core};
@@ -28,7 +28,7 @@ pub struct Finished {
     pub number: u32,
     /// The rows of the epoch's sinks, unless the node is broken.
     pub sets: Result<SinkSets, Broken>,
-    /// What it asked the node before it.
+    /// What it asked the previous node.
     pub asked: Asked,
     /// How many events moved.
     pub events: u64,
@@ -55,23 +55,23 @@ impl<'a, G> Drop for Node<'a, G> {
 impl<'a, G> Model for Node<'a, G> {
     ghost use Rattle.epoch_node.specs.Cores.{core_of};
     ghost use Rattle.epoch_node.specs.Keeping.{KeepsCore};
-    ghost use Rattle.epoch_node.specs.Nodes.{NodeView, told_by};
+    ghost use Rattle.epoch_node.specs.Nodes.{NodeView, traffic_of};
 
     ghost Value = { NodeView };
 
     ghost view = { λ n. record { core = core_of n.core; ends = n.ends } };
 
-    ghost invariant = { λ n. KeepsCore (core_of n.core) (told_by n.ends) };
+    ghost invariant = { λ n. KeepsCore (core_of n.core) (traffic_of n.ends) };
 }
 
 impl<'a, G> Node<'a, G> {
-    /// A node of a core that hasn't begun, and of new ends: none to a node before the first, and none to a node behind
-    /// the last.
+    /// A node of a core that hasn't begun, and of new ends: the first has none to a previous node, and the last
+    /// none to a next one.
     pub fn new(core: Core<'a, G>, ends: Ends) -> Node<'a, G>
-        requires fresh { core_of core ≡ new_core (core_of core).given }
-        requires starts { CanStart (core_of core).given.points (core_of core).given.epoch }
-        requires ends { told_by ends ≡ fresh_told (core_of core).given.first (core_of core).given.last }
-        ensures { result ≡ new_node (core_of core.entry).given ends }
+        requires fresh { core_of core ≡ new_core (core_of core).setup }
+        requires starts { CanStart (core_of core).setup.points (core_of core).setup.epoch }
+        requires ends { traffic_of ends ≡ fresh_traffic (core_of core).setup.first (core_of core).setup.last }
+        ensures { result ≡ new_node (core_of core.entry).setup ends }
     {
         Node { core, ends }
     }
@@ -86,7 +86,7 @@ impl<'a, G> Node<'a, G> {
 
     /// Takes a cursor of its job, if there is one, from which its analysis begins if it stands where the epoch begins.
     pub fn hand_cursor(&mut self, cursor: Option<Cursor<'a>>)
-        requires { IfSome cursor (λ c. c.job ≡ self.old.core.given.points.job) }
+        requires { IfSome cursor (λ c. c.job ≡ self.old.core.setup.points.job) }
         ensures { self.new ≡ self.old }
     {
         self.core.hand_cursor(cursor);
@@ -95,7 +95,7 @@ impl<'a, G> Node<'a, G> {
     /// Gives the cursor that it has: after its analysis, where that went well and it was handed a cursor or none before, one
     /// that stands at the epoch's end.
     pub fn take_cursor(&mut self) -> Option<Cursor<'a>>
-        ensures job { IfSome result (λ c. c.job ≡ self.old.core.given.points.job) }
+        ensures job { IfSome result (λ c. c.job ≡ self.old.core.setup.points.job) }
         ensures same { self.new ≡ self.old }
     {
         self.core.take_cursor()
@@ -183,15 +183,15 @@ impl<'a, G> Node<'a, G> {
     /// What is left of a node that is done. Rows that are due are made, which gives up with NoMemory alone.
     pub fn finish(self) -> Result<Finished, NoMemory>
         requires { phase_of self.core.stage ≡ Phase.Done }
-        ensures number { IfOk result (λ f. f.number ≡ self.entry.core.given.epoch.number) }
+        ensures number { IfOk result (λ f. f.number ≡ self.entry.core.setup.epoch.number) }
         ensures events { IfOk result (λ f. f.events ≡ self.entry.core.events) }
         ensures ends { IfOk result (λ f. f.ends ≡ self.entry.ends) }
         ensures asked { IfOk result (λ f. f.asked ≡ asked_at self.entry.core.stage) }
         ensures whole { IfOk result (λ f. is_ok f.sets ≡ whole_at self.entry.core.stage) }
         ensures done { IfOk result (λ f.
-            IfOk f.sets (λ rows. HasDone self.entry.core.given (told_by self.entry.ends) f.asked rows)) }
+            IfOk f.sets (λ rows. HasDone self.entry.core.setup (traffic_of self.entry.ends) f.asked rows)) }
         ensures counted { IfOk result (λ f.
-            IfOk f.sets (λ rows. HasCounted self.entry.core.given (told_by self.entry.ends) f.asked rows
+            IfOk f.sets (λ rows. HasCounted self.entry.core.setup (traffic_of self.entry.ends) f.asked rows
             f.events)) }
     {
         let Node { core, ends } = self;
@@ -214,7 +214,7 @@ impl<'a, G: Gate> Numbered for Node<'a, G> {
     ghost use Rattle.epoch_node.specs.Nodes.{IsLedFrom};
 
     ghost words = { record {
-      number = λ n. n.core.given.epoch.number;
+      number = λ n. n.core.setup.epoch.number;
       led_from = IsLedFrom;
       ended = λ n. phase_of n.core.stage ≡ Done;
     } };
@@ -236,7 +236,7 @@ impl<'a, G: Gate> Task for Node<'a, G> {
     /// link that the next event needs refused in this call.
     fn turn(&mut self) -> Turn
         ensures led { IsLedFrom self.new self.old }
-        ensures number { self.new.core.given.epoch.number ≡ self.old.core.given.epoch.number }
+        ensures number { self.new.core.setup.epoch.number ≡ self.old.core.setup.epoch.number }
         ensures few { self.new.core.events ≤ self.old.core.events + MOST_EVENTS }
         ensures done { AnswersEnded result (phase_of self.new.core.stage ≡ Done) }
         ensures moved { WhenMoved result (HasMoved self.new self.old) }

@@ -3,8 +3,8 @@
 ghost use Rattle.std.specs.Prelude.{◌≡◌, is_ok, IfOk, IfSome};
 ghost use Rattle.pass_parts.specs.Ends.{IsEndFrom, IsRefused};
 ghost use Rattle.epoch_node.specs.Cores.{core_of, stage_of, new_core, phase_of, whole_at, asked_at, CanStart};
-ghost use Rattle.epoch_node.specs.Keeping.{Told, KeepsCore, HasDone, HasCounted, fresh_told};
-ghost use Rattle.epoch_node.specs.Events.{went, IsReady, IsEvent, WaitsAt, WhenNotYet, one_more, CanAdvance, Advances};
+ghost use Rattle.epoch_node.specs.Keeping.{Traffic, KeepsCore, HasDone, HasCounted, fresh_traffic};
+ghost use Rattle.epoch_node.specs.Events.{phase_traffic, IsReady, IsEvent, WaitsAt, WhenNotYet, one_more, CanAdvance, Advances};
 
 use crate::beginning::begin;
 use crate::settling::settle;
@@ -48,7 +48,7 @@ pub struct Core<'a, G> {
     // The steps of the epoch, as its ticket has them.
     first_step: u64,
     past_last: u64,
-    // There is no node before it, and none behind it.
+    // There is no previous node, and no next one.
     first: bool,
     last: bool,
     // How many events moved.
@@ -96,7 +96,7 @@ impl<'a, G> Core<'a, G> {
           first = first;
           last = last;
         })) }
-        ensures keeps { IfOk result (λ core. KeepsCore (core_of core) (fresh_told first last)) }
+        ensures keeps { IfOk result (λ core. KeepsCore (core_of core) (fresh_traffic first last)) }
     {
         let number = ticket.number();
         let first_step = ticket.first();
@@ -118,7 +118,7 @@ impl<'a, G> Core<'a, G> {
 
     /// The number of its epoch: 0 for the first.
     pub fn number(&self) -> u32
-        ensures { result ≡ (core_of self.now).given.epoch.number }
+        ensures { result ≡ (core_of self.now).setup.epoch.number }
     {
         self.number
     }
@@ -139,7 +139,7 @@ impl<'a, G> Core<'a, G> {
 
     /// Takes a cursor of its job, if there is one, from which its analysis begins if it stands where the epoch begins.
     pub(crate) fn hand_cursor(&mut self, cursor: Option<Cursor<'a>>)
-        requires { IfSome cursor (λ c. c.job ≡ (core_of self.old).given.points.job) }
+        requires { IfSome cursor (λ c. c.job ≡ (core_of self.old).setup.points.job) }
         ensures { core_of self.new ≡ core_of self.old }
     {
         self.start.hand(cursor);
@@ -147,7 +147,7 @@ impl<'a, G> Core<'a, G> {
 
     /// Gives the cursor that it has: after its analysis, where that went well, one that stands at the epoch's end.
     pub(crate) fn take_cursor(&mut self) -> Option<Cursor<'a>>
-        ensures job { IfSome result (λ c. c.job ≡ (core_of self.old).given.points.job) }
+        ensures job { IfSome result (λ c. c.job ≡ (core_of self.old).setup.points.job) }
         ensures same { core_of self.new ≡ core_of self.old }
     {
         self.start.take()
@@ -167,8 +167,8 @@ impl<'a, G> Core<'a, G> {
 
     /// The stage that comes after this one.
     fn stage_after(&mut self, stage: Stage) -> Stage
-        requires { CanAdvance (core_of self.old).given (stage_of stage) }
-        ensures advances { Advances (core_of self.old).given (stage_of stage) (stage_of result) }
+        requires { CanAdvance (core_of self.old).setup (stage_of stage) }
+        ensures advances { Advances (core_of self.old).setup (stage_of stage) (stage_of result) }
         ensures same { core_of self.new ≡ core_of self.old }
     {
         match stage {
@@ -191,9 +191,9 @@ impl<'a, G> Core<'a, G> {
 
     /// Goes on to the next phase.
     fn advance(&mut self)
-        requires { CanAdvance (core_of self.old).given (core_of self.old).stage }
-        ensures advances { Advances (core_of self.old).given (core_of self.old).stage (core_of self.new).stage }
-        ensures given { (core_of self.new).given ≡ (core_of self.old).given }
+        requires { CanAdvance (core_of self.old).setup (core_of self.old).stage }
+        ensures advances { Advances (core_of self.old).setup (core_of self.old).stage (core_of self.new).stage }
+        ensures setup { (core_of self.new).setup ≡ (core_of self.old).setup }
         ensures events { (core_of self.new).events ≡ (core_of self.old).events }
     {
         let stage = mem::replace(&mut *self.stage, Stage::Between);
@@ -208,12 +208,12 @@ impl<'a, G> Core<'a, G> {
         inlet: &mut Option<I>,
         outlet: &mut Option<O>,
     ) -> Turn
-        requires ready { IsReady (core_of self.old) (went I.end O.end inlet.old outlet.old) }
-        ensures event { IsEvent (core_of self.old) (went I.end O.end inlet.old outlet.old)
-            (core_of self.new) (went I.end O.end inlet.new outlet.new) result }
+        requires ready { IsReady (core_of self.old) (phase_traffic I.end O.end inlet.old outlet.old) }
+        ensures event { IsEvent (core_of self.old) (phase_traffic I.end O.end inlet.old outlet.old)
+            (core_of self.new) (phase_traffic I.end O.end inlet.new outlet.new) result }
         ensures inlet { IsEndFrom I.end inlet.new inlet.old }
         ensures outlet { IsEndFrom O.end outlet.new outlet.old }
-        ensures waits { WhenNotYet result (WaitsAt (core_of self.old).stage (went I.end O.end inlet.old outlet.old)
+        ensures waits { WhenNotYet result (WaitsAt (core_of self.old).stage (phase_traffic I.end O.end inlet.old outlet.old)
             (IsRefused I.end inlet.old inlet.new) (IsRefused O.end outlet.old outlet.new)) }
     {
         if self.phase() == Phase::Done {
@@ -252,10 +252,10 @@ impl<'a, G> Core<'a, G> {
         ensures whole { IfOk result (λ r. is_ok r.0 ≡ whole_at (core_of self.entry).stage) }
         ensures asked { IfOk result (λ r. r.1 ≡ asked_at (core_of self.entry).stage) }
         ensures events { IfOk result (λ r. r.2 ≡ (core_of self.entry).events) }
-        ensures done { (w : Told) → KeepsCore (core_of self.entry) w
-            → IfOk result (λ r. IfOk r.0 (λ rows. HasDone (core_of self.entry).given w r.1 rows)) }
-        ensures counted { (w : Told) → KeepsCore (core_of self.entry) w
-            → IfOk result (λ r. IfOk r.0 (λ rows. HasCounted (core_of self.entry).given w r.1 rows r.2)) }
+        ensures done { (w : Traffic) → KeepsCore (core_of self.entry) w
+            → IfOk result (λ r. IfOk r.0 (λ rows. HasDone (core_of self.entry).setup w r.1 rows)) }
+        ensures counted { (w : Traffic) → KeepsCore (core_of self.entry) w
+            → IfOk result (λ r. IfOk r.0 (λ rows. HasCounted (core_of self.entry).setup w r.1 rows r.2)) }
     {
         let Core {
             alloc,
@@ -290,12 +290,12 @@ impl<'a, G: Gate> Core<'a, G> {
         inlet: &mut Option<I>,
         outlet: &mut Option<O>,
     ) -> Turn
-        requires ready { IsReady (core_of self.old) (went I.end O.end inlet.old outlet.old) }
-        ensures event { IsEvent (core_of self.old) (went I.end O.end inlet.old outlet.old)
-            (core_of self.new) (went I.end O.end inlet.new outlet.new) result }
+        requires ready { IsReady (core_of self.old) (phase_traffic I.end O.end inlet.old outlet.old) }
+        ensures event { IsEvent (core_of self.old) (phase_traffic I.end O.end inlet.old outlet.old)
+            (core_of self.new) (phase_traffic I.end O.end inlet.new outlet.new) result }
         ensures inlet { IsEndFrom I.end inlet.new inlet.old }
         ensures outlet { IsEndFrom O.end outlet.new outlet.old }
-        ensures waits { WhenNotYet result (WaitsAt (core_of self.old).stage (went I.end O.end inlet.old outlet.old)
+        ensures waits { WhenNotYet result (WaitsAt (core_of self.old).stage (phase_traffic I.end O.end inlet.old outlet.old)
             (IsRefused I.end inlet.old inlet.new) (IsRefused O.end outlet.old outlet.new)) }
     {
         if self.phase() == Phase::Fresh {

@@ -5,7 +5,7 @@ ghost use Rattle.pass_parts.specs.Ends.{IsEndFrom, IsRefused};
 ghost use Rattle.pass_parts.specs.Turns.{OnNotYet};
 ghost use Rattle.forward_pass.specs.Forward.{fore_of};
 ghost use Rattle.epoch_node.specs.Cores.{stage_of, phase_of, StageView as view};
-ghost use Rattle.epoch_node.specs.Events.{went, CanAct, Acts, WaitsAt};
+ghost use Rattle.epoch_node.specs.Events.{phase_traffic, CanAct, Acts, WaitsAt};
 
 use backward_pass::Back;
 use epoch_cut::EpochTicket;
@@ -19,9 +19,9 @@ use pass_parts::PassTurn;
 pub enum Phase {
     /// It hasn't begun.
     Fresh,
-    /// It asks the node before it for what its epoch needs.
+    /// It asks the previous node for what its epoch needs.
     Asking,
-    /// It answers the node behind it.
+    /// It answers the next node.
     Answering,
     /// Its last End is sent.
     Done,
@@ -58,12 +58,12 @@ impl Stage {
         inlet: &mut Option<I>,
         outlet: &mut Option<O>,
     ) -> PassTurn
-        requires { CanAct (stage_of self.old) (went I.end O.end inlet.old outlet.old) }
-        ensures acts { Acts (stage_of self.old) (went I.end O.end inlet.old outlet.old)
-            (stage_of self.new) (went I.end O.end inlet.new outlet.new) result }
+        requires { CanAct (stage_of self.old) (phase_traffic I.end O.end inlet.old outlet.old) }
+        ensures acts { Acts (stage_of self.old) (phase_traffic I.end O.end inlet.old outlet.old)
+            (stage_of self.new) (phase_traffic I.end O.end inlet.new outlet.new) result }
         ensures inlet { IsEndFrom I.end inlet.new inlet.old }
         ensures outlet { IsEndFrom O.end outlet.new outlet.old }
-        ensures waits { OnNotYet result (WaitsAt (stage_of self.old) (went I.end O.end inlet.old outlet.old)
+        ensures waits { OnNotYet result (WaitsAt (stage_of self.old) (phase_traffic I.end O.end inlet.old outlet.old)
             (IsRefused I.end inlet.old inlet.new) (IsRefused O.end outlet.old outlet.new)) }
     {
         match self {

@@ -7,15 +7,15 @@ use Rattle.flow_model.specs.declared.Message.TheVariants.{End}
 use Rattle.epoch_cut.specs.Numbered.{NumberedEpoch}
 use Rattle.run_board.specs.declared.task.Turn.{Turn}
 use Rattle.pass_parts.specs.Ends.{fresh_end}
-use Rattle.epoch_node.specs.Cores.{Given, StageView, Fresh, Asking, Answering, Done, Between, CoreView, CanStart, new_core}
-use Rattle.epoch_node.specs.Keeping.{fresh_told, HasLinks}
+use Rattle.epoch_node.specs.Cores.{CoreSetup, StageView, Fresh, Asking, Answering, Done, Between, CoreView, CanStart, new_core}
+use Rattle.epoch_node.specs.Keeping.{fresh_traffic, HasLinks}
 use Rattle.epoch_node.specs.Events.{Steps}
-use Rattle.epoch_layout.specs.Layouts.{CutRun, points_of, epochs_of, given_at}
+use Rattle.epoch_layout.specs.Layouts.{CutRun, points_of, epochs_of, setup_at}
 use Rattle.epoch_layout.proofs.Tickets.{all_can_start}
 use Rattle.epoch_rounds.specs.declared.joints.Joint.{Joint}
-use Rattle.epoch_rounds.specs.Joints.{no_joint, IsNewJoint, got_on, sent_on, told_between}
+use Rattle.epoch_rounds.specs.Joints.{no_joint, IsNewJoint, got_on, sent_on, traffic_between}
 use Rattle.epoch_rounds.specs.Turns.{TurnsIn, TurnsBetween, TurnsAt}
-use Rattle.epoch_rounds.specs.Lines.{Plan, new_cores, IsLaidOut, IsLinkOf, StandsBetween, Stand, IsLineOf}
+use Rattle.epoch_rounds.specs.Lines.{Plan, new_cores, IsLaidOut, IsLinkOf, StandsBetween, AllStand, IsLineOf}
 use Rattle.epoch_rounds.specs.Streams.{summary_at, summaries_of, all_asks, all_answers, HasSentPart, HasBegun, AllSendPart, AreParts}
 use Rattle.epoch_rounds.proofs.Standing.{inlet_sent}
 
@@ -25,26 +25,26 @@ no_end_none : (b : Bool) → is_none (fresh_end b) ≡ b
 no_end_none true = refl
 no_end_none false = refl
 
-fresh_links : (g : Given) → HasLinks g (fresh_told g.first g.last)
+fresh_links : (g : CoreSetup) → HasLinks g (fresh_traffic g.first g.last)
 fresh_links g = record { asks_got = no_end_none g.last; asks_sent = no_end_none g.first; answers_got = no_end_none g.first; answers_sent = no_end_none g.last }
 
 -- nothing went through links before a core that is the first or not
-record IsFreshBefore (first : Bool) (j : Joint) : Type 0 where
+record IsFreshToPrevious (first : Bool) (j : Joint) : Type 0 where
   sent : sent_on j.ask ≡ fresh_end first
   got : got_on j.answer ≡ fresh_end first
 
--- and behind one that is the last or not
-record IsFreshBehind (capacity : ℕ) (last : Bool) (i : Joint) : Type 0 where
+-- and after one that is the last or not
+record IsFreshToNext (capacity : ℕ) (last : Bool) (i : Joint) : Type 0 where
   got : got_on i.ask ≡ fresh_end last
   sent : sent_on i.answer ≡ fresh_end last
   ask : IsLinkOf capacity i.ask
   answer : IsLinkOf capacity i.answer
 
-new_before : (capacity : ℕ) (i : Joint) → IsNewJoint capacity i → IsFreshBefore false i
-new_before capacity i n = record { sent = ap (λ (i : Joint). sent_on i.ask) n.is; got = ap (λ (i : Joint). got_on i.answer) n.is }
+new_to_previous : (capacity : ℕ) (i : Joint) → IsNewJoint capacity i → IsFreshToPrevious false i
+new_to_previous capacity i n = record { sent = ap (λ (i : Joint). sent_on i.ask) n.is; got = ap (λ (i : Joint). got_on i.answer) n.is }
 
-new_behind : (capacity : ℕ) (i : Joint) → IsNewJoint capacity i → IsFreshBehind capacity false i
-new_behind capacity i n = record {
+new_to_next : (capacity : ℕ) (i : Joint) → IsNewJoint capacity i → IsFreshToNext capacity false i
+new_to_next capacity i n = record {
   got = ap (λ (i : Joint). got_on i.ask) n.is;
   sent = ap (λ (i : Joint). sent_on i.answer) n.is;
   ask = subst (λ (i : Joint). IsLinkOf capacity i.ask) (sym n.is) (refl, record { held = []; in_order = refl; fits = omega arith });
@@ -52,31 +52,31 @@ new_behind capacity i n = record {
 }
 
 module _ (p : Plan) where
-  new_stands : (first : Bool) (e : NumberedEpoch) (last : Bool) (j i : Joint) → CanStart (points_of p.run) e → IsFreshBefore first j → IsFreshBehind p.capacity last i
-      → StandsBetween p.capacity (given_at p.run e first last) (new_core (given_at p.run e first last)) j i
+  new_stands : (first : Bool) (e : NumberedEpoch) (last : Bool) (j i : Joint) → CanStart (points_of p.run) e → IsFreshToPrevious first j → IsFreshToNext p.capacity last i
+      → StandsBetween p.capacity (setup_at p.run e first last) (new_core (setup_at p.run e first last)) j i
   new_stands first e last j i s b d =
-      let g = given_at p.run e first last in
-      let told : told_between j i ≡ fresh_told first last =
+      let g = setup_at p.run e first last in
+      let traffic : traffic_between j i ≡ fresh_traffic first last =
       ap₂ (λ (a b : Option (List Message)). record { asks_got = a; asks_sent = b; answers_got = got_on j.answer; answers_sent = sent_on i.answer }) d.got b.sent
       ∙ ap₂ (λ (a b : Option (List Message)). record { asks_got = fresh_end last; asks_sent = fresh_end first; answers_got = a; answers_sent = b }) b.got d.sent in
       record {
-        given = refl;
-        keeps = record { links = subst (HasLinks g) (sym told) (fresh_links g); stage = (refl, s, told); counts = λ t. record { moved = 0; at_stage = refl; is = refl } };
+        setup = refl;
+        keeps = record { links = subst (HasLinks g) (sym traffic) (fresh_links g); stage = (refl, s, traffic); counts = λ t. record { moved = 0; at_stage = refl; is = refl } };
         settled = tt;
         ask = d.ask;
         answer = d.answer;
       }
 
-  all_stand : (first : Bool) (es : List NumberedEpoch) (j : Joint) (inner : List Joint) → AllByRecursion (CanStart (points_of p.run)) es → IsFreshBefore first j → AllByRecursion (IsNewJoint p.capacity) inner
-      → length inner + 1 ≡ length es → Stand p first es (new_cores p.run first es) (j ∷ (inner ++ no_joint ∷ []))
+  all_stand : (first : Bool) (es : List NumberedEpoch) (j : Joint) (inner : List Joint) → AllByRecursion (CanStart (points_of p.run)) es → IsFreshToPrevious first j → AllByRecursion (IsNewJoint p.capacity) inner
+      → length inner + 1 ≡ length es → AllStand p first es (new_cores p.run first es) (j ∷ (inner ++ no_joint ∷ []))
   all_stand first [] j inner s b n count = absurd (omega (arith, count))
   all_stand first (e ∷ []) j [] s b n count =
       (new_stands first e true j no_joint s.0 b (record { got = refl; sent = refl; ask = tt; answer = tt }), tt)
   all_stand first (e ∷ []) j (i ∷ inner) s b n count = absurd (omega (arith, count))
   all_stand first (e ∷ d ∷ es) j [] s b n count = absurd (omega (arith, count))
   all_stand first (e ∷ d ∷ es) j (i ∷ inner) s b n count = (
-    new_stands first e false j i s.0 b (new_behind p.capacity i n.0),
-    all_stand false (d ∷ es) i inner s.1 (new_before p.capacity i n.0) n.1 (omega (arith, count)),
+    new_stands first e false j i s.0 b (new_to_next p.capacity i n.0),
+    all_stand false (d ∷ es) i inner s.1 (new_to_previous p.capacity i n.0) n.1 (omega (arith, count)),
   )
 
 new_count : (run : CutRun) (first : Bool) (es : List NumberedEpoch) → length (new_cores run first es) ≡ length es
@@ -90,7 +90,7 @@ laid_out_stands p cs js h =
       cutting = h.cutting;
       located = h.located;
       holds_some = h.holds_some;
-      stand = subst₂ (Stand p true (epochs_of p.run)) (sym h.cores_are) (sym h.joints_are)
+      stand = subst₂ (AllStand p true (epochs_of p.run)) (sym h.cores_are) (sym h.joints_are)
           (all_stand p true (epochs_of p.run) no_joint h.inner (all_can_start p.run h.cutting) (record { sent = refl; got = refl }) h.new count);
     }
 
@@ -140,10 +140,10 @@ module _ (c : CoreView) (j i : Joint) (c' : CoreView) (j' i' : Joint) (answer : 
   begins = by c.stage refl t.event fresh where
     by : (s : StageView) → c.stage ≡ s → TurnsIn s c c' j i j' i' answer → IsFresh s → HasBegun c'.stage × IsSilent j' × IsSilent i'
     by (Fresh n) e x f =
-        let steps = subst (λ s. Steps c.given s (got_on i.ask) (sent_on j.ask) c'.stage (got_on i'.ask) (sent_on j'.ask) answer) e x.on.event.steps in (
+        let steps = subst (λ s. Steps c.setup s (got_on i.ask) (sent_on j.ask) c'.stage (got_on i'.ask) (sent_on j'.ask) answer) e x.on.event.steps in (
           subst HasBegun (sym steps.is) tt,
-          (subst IsNothing (sym steps.sent_same) a.0, subst IsNothing (sym (ap sent_on x.before_answer)) a.1),
-          (subst IsNothing (sym (inlet_sent i'.ask i.ask x.on.same_inlet)) b.0, subst IsNothing (sym (ap sent_on x.behind_answer)) b.1),
+          (subst IsNothing (sym steps.sent_same) a.0, subst IsNothing (sym (ap sent_on x.previous_answer)) a.1),
+          (subst IsNothing (sym (inlet_sent i'.ask i.ask x.on.same_inlet)) b.0, subst IsNothing (sym (ap sent_on x.next_answer)) b.1),
         )
     by (Asking v) e x f = absurd f
     by (Answering v) e x f = absurd f
@@ -156,7 +156,7 @@ begin_next place [] js cs' js' b s t = absurd t
 begin_next place (c ∷ cs) [] cs' js' b s t = absurd t
 begin_next place (c ∷ cs) (j ∷ []) cs' js' b s t = absurd t
 begin_next zero (c ∷ cs) (j ∷ i ∷ js) cs' js' b s t =
-    let r = begins c j i t.core t.before t.behind t.answer t.turns b.0 s.0 s.1.0 in
+    let r = begins c j i t.core t.previous t.next t.answer t.turns b.0 s.0 s.1.0 in
     (subst (BegunTo 1) (sym t.cores_are) (r.0, b.1), subst (AllByRecursion IsSilent) (sym t.joints_are) (r.1, (r.2, s.1.1)))
 begin_next (suc place) (c ∷ cs) (j ∷ i ∷ js) cs' js' b s t =
     let r = begin_next place cs (i ∷ js) t.cores t.joints b.1 s.1 t.later in
@@ -170,7 +170,7 @@ nothing_part : (all : List Message) (sent : Option (List Message)) → IsNothing
 nothing_part all None n = tt
 nothing_part all (Some sent) n = inl (all, ap (λ (xs : List Message). xs ++ all) n)
 
-begun_parts : (p : Plan) (first : Bool) (es : List NumberedEpoch) (answered : List Message) (cs : List CoreView) (js : List Joint) → Stand p first es cs js → BegunTo (length cs) cs → AllByRecursion IsSilent js → AllSendPart first answered cs js
+begun_parts : (p : Plan) (first : Bool) (es : List NumberedEpoch) (answered : List Message) (cs : List CoreView) (js : List Joint) → AllStand p first es cs js → BegunTo (length cs) cs → AllByRecursion IsSilent js → AllSendPart first answered cs js
 begun_parts p first es answered [] js s b n = tt
 begun_parts p first [] answered (c ∷ cs) js s b n = absurd s
 begun_parts p first (e ∷ es) answered (c ∷ cs) [] s b n = absurd s

@@ -21,8 +21,8 @@ use Rattle.pass_parts.specs.Requests.{locations}
 use Rattle.pass_parts.specs.Turns.{OnOver, OnMoved}
 use Rattle.backward_pass.specs.Backward.{BackView, knows, state}
 use Rattle.forward_pass.specs.Forward.{ForeView, new_fore, known_by, fore_state}
-use Rattle.epoch_node.specs.Cores.{Given, StageView, Asking, Answering}
-use Rattle.epoch_node.specs.Keeping.{Told, HasLinks, IsAsking, IsAnswering, AtStage, requests_if}
+use Rattle.epoch_node.specs.Cores.{CoreSetup, StageView, Asking, Answering}
+use Rattle.epoch_node.specs.Keeping.{Traffic, HasLinks, IsAsking, IsAnswering, AtStage, requests_if}
 use Rattle.epoch_node.specs.Events.{settled_by, answered_by, asks_turn, answers_turn, Asks as AsksOn, Answers as AnswersOn}
 use Rattle.epoch_rounds.specs.Lines.{HasSettled}
 use Rattle.epoch_rounds.specs.Streams.{all_asks, all_answers, HasSentPart}
@@ -72,9 +72,9 @@ sent_on_broken all o o' whole whole' (Some s) (Some s') n p e = broken_part all 
 
 -- ---- an event of the pass backwards
 
-module _ (i : Given) (v : BackView) (w : Told) (at : IsAsking i v w) (next : StageView) (got' sent' : Option (List Message)) (turn : Turn) (x : AsksOn i v w.asks_got w.asks_sent next got' sent' turn)
+module _ (i : CoreSetup) (v : BackView) (w : Traffic) (at : IsAsking i v w) (next : StageView) (got' sent' : Option (List Message)) (turn : Turn) (x : AsksOn i v w.asks_got w.asks_sent next got' sent' turn)
     (es : List Summary) where
-  abbrev after : Told
+  abbrev after : Traffic
   after = record w { asks_got = got'; asks_sent = sent' }
 
   forward : AsksForward (state v w.asks_got w.asks_sent) (state x.back got' sent') (is_met (asking_need (state v w.asks_got w.asks_sent)) x.happens.links)
@@ -112,8 +112,8 @@ module _ (i : Given) (v : BackView) (w : Told) (at : IsAsking i v w) (next : Sta
 
   met : (c : PassTurn) → x.came_to ≡ c → (turn ≡ NotYet → ⊥) → x.back.over ≡ false → is_met (asking_need (state v w.asks_got w.asks_sent)) x.happens.links ≡ true
   met pass_turn.Moved e not_still o =
-      let went = subst (λ c. OnMoved c ((x.happens.links.has_room ≡ true) × IsSome x.happens.links.next)) e x.happens.went in
-      asking_met x.happens.links went.0 went.1 (state v w.asks_got w.asks_sent) at.running
+      let could_move = subst (λ c. OnMoved c ((x.happens.links.has_room ≡ true) × IsSome x.happens.links.item)) e x.happens.could_move in
+      asking_met x.happens.links could_move.0 could_move.1 (state v w.asks_got w.asks_sent) at.running
   met pass_turn.NotYet e not_still o = absurd (not_still (x.answered ∙ ap asks_turn e))
   met pass_turn.Over e not_still o = true-false (sym (subst (λ c. OnOver c (x.back.over ≡ true)) e x.over) ∙ o)
 
@@ -126,7 +126,7 @@ module _ (i : Given) (v : BackView) (w : Told) (at : IsAsking i v w) (next : Sta
         more_sent = prefix_length _ _ (sent_part x.happens.links.has_room _ _ moved.sent)
 
         more_got : length (got_by w.asks_got) ≤ length (got_by got')
-        more_got = shorter (got_by w.asks_got) (got_by got') x.happens.links.next moved.got
+        more_got = shorter (got_by w.asks_got) (got_by got') x.happens.links.item moved.got
 
         settled : (whole : Bool) → x.back.whole ≡ whole → length (locations (requests_if whole x.back.requests)) ≤ length (all_asks es) + 1
         settled false t = omega arith
@@ -163,9 +163,9 @@ module _ (i : Given) (v : BackView) (w : Told) (at : IsAsking i v w) (next : Sta
 
 -- ---- an event of the pass forwards
 
-module _ (i : Given) (f : ForeView) (w : Told) (at : IsAnswering i f w) (running : f.over ≡ false) (next : StageView) (got' sent' : Option (List Message)) (turn : Turn)
+module _ (i : CoreSetup) (f : ForeView) (w : Traffic) (at : IsAnswering i f w) (running : f.over ≡ false) (next : StageView) (got' sent' : Option (List Message)) (turn : Turn)
     (x : AnswersOn f w.answers_got w.answers_sent next got' sent' turn) (es : List Summary) where
-  abbrev answered_after : Told
+  abbrev answered_after : Traffic
   answered_after = record w { answers_got = got'; answers_sent = sent' }
 
   answer_forward : AnswersForward (fore_state f w.answers_got w.answers_sent) (fore_state x.fore got' sent') (is_met (answering_need (known_by f) f.asked (fore_state f w.answers_got w.answers_sent)) x.happens.links)
@@ -210,8 +210,8 @@ module _ (i : Given) (f : ForeView) (w : Told) (at : IsAnswering i f w) (running
 
   answer_met : (c : PassTurn) → x.came_to ≡ c → (turn ≡ NotYet → ⊥) → x.fore.over ≡ false → is_met (answering_need (known_by f) f.asked (fore_state f w.answers_got w.answers_sent)) x.happens.links ≡ true
   answer_met pass_turn.Moved e not_still o =
-      let went = subst (λ c. OnMoved c ((x.happens.links.has_room ≡ true) × IsSome x.happens.links.next)) e x.happens.went in
-      answering_met x.happens.links went.0 went.1 (known_by f) f.asked (fore_state f w.answers_got w.answers_sent) running
+      let could_move = subst (λ c. OnMoved c ((x.happens.links.has_room ≡ true) × IsSome x.happens.links.item)) e x.happens.could_move in
+      answering_met x.happens.links could_move.0 could_move.1 (known_by f) f.asked (fore_state f w.answers_got w.answers_sent) running
   answer_met pass_turn.NotYet e not_still o = absurd (not_still (x.answered ∙ ap answers_turn e))
   answer_met pass_turn.Over e not_still o = true-false (sym (subst (λ c. OnOver c (x.fore.over ≡ true)) e x.over) ∙ o)
 
@@ -229,7 +229,7 @@ module _ (i : Given) (f : ForeView) (w : Told) (at : IsAnswering i f w) (running
             (length (locations f.left)) (length (locations x.fore.left)) (one_if f.whole) (one_if x.fore.whole) (unresolved f.rows) (unresolved x.fore.rows) (one_unless f.over) (one_unless x.fore.over)
             (length (got_by w.answers_got)) (length (got_by got')) (length (sent_by f.over f.whole w.answers_sent)) (length (sent_by x.fore.over x.fore.whole sent')) m n
             h d e (got_length answered got' g) (sent_length answers x.fore.over x.fore.whole sent' p)
-            (shorter (got_by w.answers_got) (got_by got') x.happens.links.next answer_moved.got) (prefix_length _ _ (sent_part x.happens.links.has_room _ _ answer_moved.sent))
+            (shorter (got_by w.answers_got) (got_by got') x.happens.links.item answer_moved.got) (prefix_length _ _ (sent_part x.happens.links.has_room _ _ answer_moved.sent))
 
         by : (over : Bool) → x.fore.over ≡ over → core_left asks requests answered answers (phase_in (answered_by over x.fore) answered_after) < core_left asks requests answered answers (phase_in (Answering f) w)
         by false o =

@@ -7,13 +7,13 @@ use Rattle.epoch_cut.specs.Numbered.{NumberedEpoch}
 use Rattle.stream_model.specs.Schedules.{Phase, NodeState, moves_at, is_done}
 use Rattle.stream_model.proofs.NeverStill.{AllDone, Moves, goes_on}
 use Rattle.epoch_node.specs.declared.stage.Phase.TheVariants as phase
-use Rattle.epoch_node.specs.Cores.{Given, StageView, Fresh, Asking, Answering, Done, Between, CoreView, phase_of}
+use Rattle.epoch_node.specs.Cores.{CoreSetup, StageView, Fresh, Asking, Answering, Done, Between, CoreView, phase_of}
 use Rattle.epoch_node.specs.Keeping.{AtStage}
 use Rattle.epoch_layout.specs.Layouts.{epochs_of}
 use Rattle.epoch_rounds.specs.declared.joints.Joint.{Joint}
-use Rattle.epoch_rounds.specs.Joints.{Link, got_on, sent_on, told_between}
+use Rattle.epoch_rounds.specs.Joints.{Link, got_on, sent_on, traffic_between}
 use Rattle.epoch_rounds.specs.Turns.{TurnsAt}
-use Rattle.epoch_rounds.specs.Lines.{Plan, AreDone, Stand, IsLineOf}
+use Rattle.epoch_rounds.specs.Lines.{Plan, AreDone, AllStand, IsLineOf}
 use Rattle.epoch_rounds.specs.Streams.{AreParts}
 use Rattle.epoch_rounds.specs.Left.{phase_in, row_left, states, work_left}
 use Rattle.epoch_rounds.proofs.Parts.{IsSource}
@@ -32,7 +32,7 @@ line_on p place cs js cs' js' h t = record {
 }
 
 -- before the first core there are no links
-comes_first : (p : Plan) (es : List NumberedEpoch) (cs : List CoreView) (js : List Joint) → Stand p true es cs js → ComesBefore p.capacity true None js
+comes_first : (p : Plan) (es : List NumberedEpoch) (cs : List CoreView) (js : List Joint) → AllStand p true es cs js → ComesBefore p.capacity true None js
 comes_first p [] [] [] s = absurd s
 comes_first p [] [] (j ∷ js) s = refl
 comes_first p [] (c ∷ cs) js s = absurd s
@@ -40,11 +40,11 @@ comes_first p (e ∷ es) [] js s = absurd s
 comes_first p (e ∷ es) (c ∷ cs) [] s = absurd s
 comes_first p (e ∷ es) (c ∷ cs) (j ∷ js) s = refl
 
-answered_first : (p : Plan) (es : List NumberedEpoch) (c : CoreView) (cs : List CoreView) (js : List Joint) → Stand p true es (c ∷ cs) js → IsAnswered (End true ∷ []) js
+answered_first : (p : Plan) (es : List NumberedEpoch) (c : CoreView) (cs : List CoreView) (js : List Joint) → AllStand p true es (c ∷ cs) js → IsAnswered (End true ∷ []) js
 answered_first p [] c cs js s = absurd s
 answered_first p (e ∷ es) c cs [] s = absurd s
 answered_first p (e ∷ es) c cs (j ∷ []) s = absurd s
-answered_first p (e ∷ es) c cs (j ∷ i ∷ js) s = by j.answer (s.0.keeps.links.answers_got ∙ ap (λ (g : Given). g.first) s.0.given) where
+answered_first p (e ∷ es) c cs (j ∷ i ∷ js) s = by j.answer (s.0.keeps.links.answers_got ∙ ap (λ (g : CoreSetup). g.first) s.0.setup) where
   by : (link : Link) → is_none (got_on link) ≡ true → IsSource (End true ∷ []) (sent_on link)
   by None n = refl
   by (Some l) n = true-false (sym n)
@@ -99,31 +99,31 @@ round_on p place cs js cs' js' cs'' js'' h r t = let l = parts_on p place cs' js
 -- ---- after a round
 
 -- only nodes that are there move
-beyond : (capacity k : ℕ) (before : Option Phase) (ns : List NodeState) → length ns ≤ k → moves_at capacity k before ns ≡ false
-beyond capacity k before [] h = refl
-beyond capacity zero before (n ∷ ns) h = absurd (omega (arith, h))
-beyond capacity (suc k) before (n ∷ ns) h = beyond capacity k (Some n.phase) ns (omega (arith, h))
+beyond : (capacity k : ℕ) (previous : Option Phase) (ns : List NodeState) → length ns ≤ k → moves_at capacity k previous ns ≡ false
+beyond capacity k previous [] h = refl
+beyond capacity zero previous (n ∷ ns) h = absurd (omega (arith, h))
+beyond capacity (suc k) previous (n ∷ ns) h = beyond capacity k (Some n.phase) ns (omega (arith, h))
 
-states_count : (p : Plan) (first : Bool) (es : List NumberedEpoch) (cs : List CoreView) (js : List Joint) → Stand p first es cs js → length (states cs js) ≡ length cs
+states_count : (p : Plan) (first : Bool) (es : List NumberedEpoch) (cs : List CoreView) (js : List Joint) → AllStand p first es cs js → length (states cs js) ≡ length cs
 states_count p first es [] js s = refl
 states_count p first [] (c ∷ cs) js s = absurd s
 states_count p first (e ∷ es) (c ∷ cs) [] s = absurd s
 states_count p first (e ∷ es) (c ∷ cs) (j ∷ []) s = absurd s
 states_count p first (e ∷ es) (c ∷ cs) (j ∷ i ∷ js) s = ap suc (states_count p false es cs (i ∷ js) s.1)
 
-done_core : (g : Given) (j i : Joint) (s : StageView) → AtStage g s (told_between j i) → is_done (phase_in s (told_between j i)) ≡ true → phase_of s ≡ phase.Done
+done_core : (g : CoreSetup) (j i : Joint) (s : StageView) → AtStage g s (traffic_between j i) → is_done (phase_in s (traffic_between j i)) ≡ true → phase_of s ≡ phase.Done
 done_core g j i (Fresh t) at d = true-false (sym d)
 done_core g j i (Asking v) at d = true-false (sym d)
 done_core g j i (Answering f) at d = true-false (sym d ∙ at.1)
 done_core g j i (Done f) at d = refl
 done_core g j i Between at d = absurd at
 
-done_cores : (p : Plan) (first : Bool) (es : List NumberedEpoch) (cs : List CoreView) (js : List Joint) → Stand p first es cs js → AllDone (states cs js) → AreDone cs
+done_cores : (p : Plan) (first : Bool) (es : List NumberedEpoch) (cs : List CoreView) (js : List Joint) → AllStand p first es cs js → AllDone (states cs js) → AreDone cs
 done_cores p first es [] js s d = tt
 done_cores p first [] (c ∷ cs) js s d = absurd s
 done_cores p first (e ∷ es) (c ∷ cs) [] s d = absurd s
 done_cores p first (e ∷ es) (c ∷ cs) (j ∷ []) s d = absurd s
-done_cores p first (e ∷ es) (c ∷ cs) (j ∷ i ∷ js) s d = (done_core c.given j i c.stage s.0.keeps.stage d.0, done_cores p false es cs (i ∷ js) s.1 d.1)
+done_cores p first (e ∷ es) (c ∷ cs) (j ∷ i ∷ js) s d = (done_core c.setup j i c.stage s.0.keeps.stage d.0, done_cores p false es cs (i ∷ js) s.1 d.1)
 
 -- while not all are done, less is left
 pub round_less : (p : Plan) (cs : List CoreView) (js : List Joint) (cs' : List CoreView) (js' : List Joint) → IsLineOf p cs js → RoundTo p (length cs) cs js cs' js' → (AreDone cs → ⊥) → work_left cs' js' < work_left cs js

@@ -11,16 +11,16 @@ use Rattle.stream_model.specs.Streams.{is_ended}
 use Rattle.stream_model.specs.StreamLaws.{IsPrefix}
 use Rattle.stream_model.specs.Passes.{Links}
 use Rattle.stream_model.specs.Schedules.{Phase, Need, Room, Item, Nothing, Over, is_met, asks_sent_in, asks_got_in, answers_sent_in, answers_got_in, first_of, next_item, has_room_for, room_to, item_from, phase_of_first}
-use Rattle.stream_model.proofs.Moving.{PhaseHolds, LinkHolds, FirstHolds, LastHolds, BeforeHolds, NodesHold}
+use Rattle.stream_model.proofs.Moving.{PhaseHolds, LinkHolds, FirstHolds, LastHolds, PreviousHolds, NodesHold}
 use Rattle.pass_parts.specs.Ends.{got_by, sent_by, fresh_end}
 use Rattle.pass_parts.specs.Turns.{Waits}
-use Rattle.epoch_node.specs.Cores.{Given, StageView, Fresh, Asking, Answering, Done, Between, CoreView}
-use Rattle.epoch_node.specs.Keeping.{Told, AtStage}
-use Rattle.epoch_layout.specs.Layouts.{given_at}
+use Rattle.epoch_node.specs.Cores.{CoreSetup, StageView, Fresh, Asking, Answering, Done, Between, CoreView}
+use Rattle.epoch_node.specs.Keeping.{Traffic, AtStage}
+use Rattle.epoch_layout.specs.Layouts.{setup_at}
 use Rattle.epoch_rounds.specs.declared.joints.Joint.{Joint}
-use Rattle.epoch_rounds.specs.Joints.{Link, got_on, sent_on, told_between}
+use Rattle.epoch_rounds.specs.Joints.{Link, got_on, sent_on, traffic_between}
 use Rattle.epoch_rounds.specs.Turns.{IsPopRefused, IsPushRefused}
-use Rattle.epoch_rounds.specs.Lines.{Plan, is_last, IsLinkOf, HasSettled, StandsBetween, Stand}
+use Rattle.epoch_rounds.specs.Lines.{Plan, is_last, IsLinkOf, HasSettled, StandsBetween, AllStand}
 use Rattle.epoch_rounds.specs.Left.{phase_in, states}
 
 -- ---- what a core's phase says of the links beside it
@@ -30,8 +30,8 @@ pub record Meets (p : Phase) (j : Joint) : Type 0 where
   pub ask : (l : BothEnds Message) → j.ask ≡ Some l → asks_got_in p ≡ l.got
   pub answer : (l : BothEnds Message) → j.answer ≡ Some l → answers_sent_in p ≡ l.sent
 
--- and the phase behind them
-pub record MeetsBehind (p : Phase) (j : Joint) : Type 0 where
+-- and the phase after them
+pub record MeetsNext (p : Phase) (j : Joint) : Type 0 where
   pub ask : (l : BothEnds Message) → j.ask ≡ Some l → asks_sent_in p ≡ l.sent
   pub answer : (l : BothEnds Message) → j.answer ≡ Some l → answers_got_in p ≡ l.got
 
@@ -51,29 +51,29 @@ got_fresh b link l e f = fresh_list b (got_on link) l.got (ap got_on e) f
 sent_fresh : (b : Bool) (link : Link) (l : BothEnds Message) → link ≡ Some l → sent_on link ≡ fresh_end b → [] ≡ l.sent
 sent_fresh b link l e f = fresh_list b (sent_on link) l.sent (ap sent_on e) f
 
-module _ (g : Given) (j i : Joint) where
-  pub meets : (s : StageView) → AtStage g s (told_between j i) → Meets (phase_in s (told_between j i)) i
+module _ (g : CoreSetup) (j i : Joint) where
+  pub meets : (s : StageView) → AtStage g s (traffic_between j i) → Meets (phase_in s (traffic_between j i)) i
   meets (Fresh t) at = record {
-    ask = λ l e. got_fresh g.last i.ask l e (ap (λ (w : Told). w.asks_got) at.2);
-    answer = λ l e. sent_fresh g.last i.answer l e (ap (λ (w : Told). w.answers_sent) at.2);
+    ask = λ l e. got_fresh g.last i.ask l e (ap (λ (w : Traffic). w.asks_got) at.2);
+    answer = λ l e. sent_fresh g.last i.answer l e (ap (λ (w : Traffic). w.answers_sent) at.2);
   }
   meets (Asking v) at = record { ask = λ l e. got_some i.ask l e; answer = λ l e. sent_fresh g.last i.answer l e at.answers_sent }
   meets (Answering f) at = record { ask = λ l e. got_some i.ask l e; answer = λ l e. sent_some f.over f.whole i.answer l e }
   meets (Done f) at = record { ask = λ l e. got_some i.ask l e; answer = λ l e. sent_some f.over f.whole i.answer l e }
   meets Between at = absurd at
 
-  pub meets_behind : (s : StageView) → AtStage g s (told_between j i) → MeetsBehind (phase_in s (told_between j i)) j
-  meets_behind (Fresh t) at = record {
-    ask = λ l e. sent_fresh g.first j.ask l e (ap (λ (w : Told). w.asks_sent) at.2);
-    answer = λ l e. got_fresh g.first j.answer l e (ap (λ (w : Told). w.answers_got) at.2);
+  pub meets_next : (s : StageView) → AtStage g s (traffic_between j i) → MeetsNext (phase_in s (traffic_between j i)) j
+  meets_next (Fresh t) at = record {
+    ask = λ l e. sent_fresh g.first j.ask l e (ap (λ (w : Traffic). w.asks_sent) at.2);
+    answer = λ l e. got_fresh g.first j.answer l e (ap (λ (w : Traffic). w.answers_got) at.2);
   }
-  meets_behind (Asking v) at = record { ask = λ l e. sent_some v.over v.whole j.ask l e; answer = λ l e. got_fresh g.first j.answer l e at.answers_got }
-  meets_behind (Answering f) at = record { ask = λ l e. sent_some true true j.ask l e; answer = λ l e. got_some j.answer l e }
-  meets_behind (Done f) at = record { ask = λ l e. sent_some true true j.ask l e; answer = λ l e. got_some j.answer l e }
-  meets_behind Between at = absurd at
+  meets_next (Asking v) at = record { ask = λ l e. sent_some v.over v.whole j.ask l e; answer = λ l e. got_fresh g.first j.answer l e at.answers_got }
+  meets_next (Answering f) at = record { ask = λ l e. sent_some true true j.ask l e; answer = λ l e. got_some j.answer l e }
+  meets_next (Done f) at = record { ask = λ l e. sent_some true true j.ask l e; answer = λ l e. got_some j.answer l e }
+  meets_next Between at = absurd at
 
   -- the phase by itself
-  pub phase_holds : (s : StageView) → AtStage g s (told_between j i) → HasSettled s (told_between j i) → PhaseHolds (phase_in s (told_between j i))
+  pub phase_holds : (s : StageView) → AtStage g s (traffic_between j i) → HasSettled s (traffic_between j i) → PhaseHolds (phase_in s (traffic_between j i))
   phase_holds (Fresh t) at h = tt
   phase_holds (Asking v) at h = (at.running, at.unended)
   phase_holds (Answering f) at h = (h.1, h.0, record { running = at.0.unended; over = at.0.ended })
@@ -84,14 +84,14 @@ module _ (g : Given) (j i : Joint) where
   no_got None n = refl
   no_got (Some l) n = true-false (sym n)
 
-  pub first_holds : (s : StageView) → is_none (got_on j.answer) ≡ true → FirstHolds (phase_in s (told_between j i))
+  pub first_holds : (s : StageView) → is_none (got_on j.answer) ≡ true → FirstHolds (phase_in s (traffic_between j i))
   first_holds (Fresh t) n = tt
   first_holds (Asking v) n = tt
   first_holds (Answering f) n = no_got j.answer n
   first_holds (Done f) n = no_got j.answer n
   first_holds Between n = tt
 
-  pub last_holds : (s : StageView) → is_none (got_on i.ask) ≡ true → LastHolds (phase_in s (told_between j i))
+  pub last_holds : (s : StageView) → is_none (got_on i.ask) ≡ true → LastHolds (phase_in s (traffic_between j i))
   last_holds (Fresh t) n = tt
   last_holds (Asking v) n = no_got i.ask n
   last_holds (Answering f) n = tt
@@ -108,7 +108,7 @@ none_same : (link : Link) → is_none (sent_on link) ≡ is_none (got_on link)
 none_same None = refl
 none_same (Some l) = refl
 
-link_holds : (capacity : ℕ) (p q : Phase) (j : Joint) → Meets p j → MeetsBehind q j → is_none (got_on j.ask) ≡ false → is_none (got_on j.answer) ≡ false → IsLinkOf capacity j.ask → IsLinkOf capacity j.answer → LinkHolds p q
+link_holds : (capacity : ℕ) (p q : Phase) (j : Joint) → Meets p j → MeetsNext q j → is_none (got_on j.ask) ≡ false → is_none (got_on j.answer) ≡ false → IsLinkOf capacity j.ask → IsLinkOf capacity j.answer → LinkHolds p q
 link_holds capacity p q j m b n k a l =
     let ask = some_link capacity j.ask n a in
     let answer = some_link capacity j.answer k l in
@@ -127,7 +127,7 @@ pub record IsMet (capacity : ℕ) (p : Phase) (j : Joint) : Type 0 where
   pub answer : IsLinkOf capacity j.answer
 
 abbrev pub ComesBefore : ℕ → Bool → Option Phase → List Joint → Type 0
-ComesBefore capacity first before [] = ⊥
+ComesBefore capacity first previous [] = ⊥
 ComesBefore capacity first None (j ∷ js) = first ≡ true
 ComesBefore capacity first (Some p) (j ∷ js) = (first ≡ false) × IsMet capacity p j
 
@@ -138,35 +138,35 @@ EndsAt (Some p) (e ∷ es) = Unit {0}
 
 module _ (p : Plan) where
   -- the core of an epoch, and what stands before the next
-  pub next_before : (first : Bool) (e : NumberedEpoch) (es : List NumberedEpoch) (c : CoreView) (j i : Joint) (js : List Joint) → StandsBetween p.capacity (given_at p.run e first (is_last es)) c j i
-      → ComesBefore p.capacity false (Some (phase_in c.stage (told_between j i))) (i ∷ js)
-  next_before first e es c j i js s = (refl, record { meets = meets c.given j i c.stage s.keeps.stage; ask = s.ask; answer = s.answer })
+  pub next_before : (first : Bool) (e : NumberedEpoch) (es : List NumberedEpoch) (c : CoreView) (j i : Joint) (js : List Joint) → StandsBetween p.capacity (setup_at p.run e first (is_last es)) c j i
+      → ComesBefore p.capacity false (Some (phase_in c.stage (traffic_between j i))) (i ∷ js)
+  next_before first e es c j i js s = (refl, record { meets = meets c.setup j i c.stage s.keeps.stage; ask = s.ask; answer = s.answer })
 
-  pub next_ends : (first : Bool) (e : NumberedEpoch) (es : List NumberedEpoch) (c : CoreView) (j i : Joint) → StandsBetween p.capacity (given_at p.run e first (is_last es)) c j i
-      → EndsAt (Some (phase_in c.stage (told_between j i))) es
-  next_ends first e [] c j i s = last_holds c.given j i c.stage (s.keeps.links.asks_got ∙ ap (λ (g : Given). g.last) s.given)
+  pub next_ends : (first : Bool) (e : NumberedEpoch) (es : List NumberedEpoch) (c : CoreView) (j i : Joint) → StandsBetween p.capacity (setup_at p.run e first (is_last es)) c j i
+      → EndsAt (Some (phase_in c.stage (traffic_between j i))) es
+  next_ends first e [] c j i s = last_holds c.setup j i c.stage (s.keeps.links.asks_got ∙ ap (λ (g : CoreSetup). g.last) s.setup)
   next_ends first e (d ∷ es) c j i s = tt
 
-  before_holds : (first last : Bool) (before : Option Phase) (e : NumberedEpoch) (c : CoreView) (j i : Joint) (js : List Joint) → ComesBefore p.capacity first before (j ∷ js)
-      → StandsBetween p.capacity (given_at p.run e first last) c j i → BeforeHolds before (phase_in c.stage (told_between j i))
-  before_holds first last None e c j i js b s = first_holds c.given j i c.stage (s.keeps.links.answers_got ∙ ap (λ (g : Given). g.first) s.given ∙ b)
-  before_holds first last (Some q) e c j i js b s =
-      link_holds p.capacity q (phase_in c.stage (told_between j i)) j b.1.meets (meets_behind c.given j i c.stage s.keeps.stage)
-      (sym (none_same j.ask) ∙ s.keeps.links.asks_sent ∙ ap (λ (g : Given). g.first) s.given ∙ b.0)
-      (s.keeps.links.answers_got ∙ ap (λ (g : Given). g.first) s.given ∙ b.0) b.1.ask b.1.answer
+  previous_holds : (first last : Bool) (previous : Option Phase) (e : NumberedEpoch) (c : CoreView) (j i : Joint) (js : List Joint) → ComesBefore p.capacity first previous (j ∷ js)
+      → StandsBetween p.capacity (setup_at p.run e first last) c j i → PreviousHolds previous (phase_in c.stage (traffic_between j i))
+  previous_holds first last None e c j i js b s = first_holds c.setup j i c.stage (s.keeps.links.answers_got ∙ ap (λ (g : CoreSetup). g.first) s.setup ∙ b)
+  previous_holds first last (Some q) e c j i js b s =
+      link_holds p.capacity q (phase_in c.stage (traffic_between j i)) j b.1.meets (meets_next c.setup j i c.stage s.keeps.stage)
+      (sym (none_same j.ask) ∙ s.keeps.links.asks_sent ∙ ap (λ (g : CoreSetup). g.first) s.setup ∙ b.0)
+      (s.keeps.links.answers_got ∙ ap (λ (g : CoreSetup). g.first) s.setup ∙ b.0) b.1.ask b.1.answer
 
-  pub nodes_hold : (first : Bool) (before : Option Phase) (es : List NumberedEpoch) (cs : List CoreView) (js : List Joint) → Stand p first es cs js → ComesBefore p.capacity first before js → EndsAt before es
-      → NodesHold before (states cs js)
+  pub nodes_hold : (first : Bool) (previous : Option Phase) (es : List NumberedEpoch) (cs : List CoreView) (js : List Joint) → AllStand p first es cs js → ComesBefore p.capacity first previous js → EndsAt previous es
+      → NodesHold previous (states cs js)
   nodes_hold first None [] [] js s b d = tt
   nodes_hold first (Some q) [] [] js s b d = d
-  nodes_hold first before [] (c ∷ cs) js s b d = absurd s
-  nodes_hold first before (e ∷ es) [] js s b d = absurd s
-  nodes_hold first before (e ∷ es) (c ∷ cs) [] s b d = absurd s
-  nodes_hold first before (e ∷ es) (c ∷ cs) (j ∷ []) s b d = absurd s
-  nodes_hold first before (e ∷ es) (c ∷ cs) (j ∷ i ∷ js) s b d = (
-    phase_holds c.given j i c.stage s.0.keeps.stage s.0.settled,
-    before_holds first (is_last es) before e c j i (i ∷ js) b s.0,
-    nodes_hold false (Some (phase_in c.stage (told_between j i))) es cs (i ∷ js) s.1 (next_before first e es c j i js s.0) (next_ends first e es c j i s.0),
+  nodes_hold first previous [] (c ∷ cs) js s b d = absurd s
+  nodes_hold first previous (e ∷ es) [] js s b d = absurd s
+  nodes_hold first previous (e ∷ es) (c ∷ cs) [] s b d = absurd s
+  nodes_hold first previous (e ∷ es) (c ∷ cs) (j ∷ []) s b d = absurd s
+  nodes_hold first previous (e ∷ es) (c ∷ cs) (j ∷ i ∷ js) s b d = (
+    phase_holds c.setup j i c.stage s.0.keeps.stage s.0.settled,
+    previous_holds first (is_last es) previous e c j i (i ∷ js) b s.0,
+    nodes_hold false (Some (phase_in c.stage (traffic_between j i))) es cs (i ∷ js) s.1 (next_before first e es c j i js s.0) (next_ends first e es c j i s.0),
   )
 
 -- ---- a link that refused
@@ -230,44 +230,44 @@ of_link capacity link l e h = subst (IsLinkOf capacity) e h
 some_got : (link : Link) (l : BothEnds Message) → link ≡ Some l → is_none (got_on link) ≡ false
 some_got link l e = ap (λ (x : Link). is_none (got_on x)) e
 
-module _ (p : Plan) (first : Bool) (e : NumberedEpoch) (es : List NumberedEpoch) (c : CoreView) (j i : Joint) (s : StandsBetween p.capacity (given_at p.run e first (is_last es)) c j i) where
-  is_first : (l : BothEnds Message) (link : Link) → is_none (got_on link) ≡ c.given.first → link ≡ Some l → first ≡ false
-  is_first l link n e = sym (ap (λ (g : Given). g.first) s.given) ∙ sym n ∙ some_got link l e
+module _ (p : Plan) (first : Bool) (e : NumberedEpoch) (es : List NumberedEpoch) (c : CoreView) (j i : Joint) (s : StandsBetween p.capacity (setup_at p.run e first (is_last es)) c j i) where
+  is_first : (l : BothEnds Message) (link : Link) → is_none (got_on link) ≡ c.setup.first → link ≡ Some l → first ≡ false
+  is_first l link n e = sym (ap (λ (g : CoreSetup). g.first) s.setup) ∙ sym n ∙ some_got link l e
 
-  is_end : (l : BothEnds Message) (link : Link) → is_none (got_on link) ≡ c.given.last → link ≡ Some l → is_last es ≡ false
-  is_end l link n e = sym (ap (λ (g : Given). g.last) s.given) ∙ sym n ∙ some_got link l e
+  is_end : (l : BothEnds Message) (link : Link) → is_none (got_on link) ≡ c.setup.last → link ≡ Some l → is_last es ≡ false
+  is_end l link n e = sym (ap (λ (g : CoreSetup). g.last) s.setup) ∙ sym n ∙ some_got link l e
 
-  module _ (before : Option Phase) (js : List Joint) (b : ComesBefore p.capacity first before (j ∷ js)) where
-    pub before_ask : (l : BothEnds Message) → j.ask ≡ Some l → IsOther p.capacity true asks_got_in before l
-    before_ask l e = by before b (is_first l j.ask (sym (none_same j.ask) ∙ s.keeps.links.asks_sent) e) where
-      by : (before : Option Phase) → ComesBefore p.capacity first before (j ∷ js) → first ≡ false → IsOther p.capacity true asks_got_in before l
+  module _ (previous : Option Phase) (js : List Joint) (b : ComesBefore p.capacity first previous (j ∷ js)) where
+    pub previous_ask : (l : BothEnds Message) → j.ask ≡ Some l → IsOther p.capacity true asks_got_in previous l
+    previous_ask l e = by previous b (is_first l j.ask (sym (none_same j.ask) ∙ s.keeps.links.asks_sent) e) where
+      by : (previous : Option Phase) → ComesBefore p.capacity first previous (j ∷ js) → first ≡ false → IsOther p.capacity true asks_got_in previous l
       by None b f = true-false (sym b ∙ f)
       by (Some q) b f = record { phase = q; is = refl; list_is = b.1.meets.ask l e; of_link = of_link p.capacity j.ask l e b.1.ask }
 
-    pub before_answer : (l : BothEnds Message) → j.answer ≡ Some l → IsOther p.capacity false answers_sent_in before l
-    before_answer l e = by before b (is_first l j.answer s.keeps.links.answers_got e) where
-      by : (before : Option Phase) → ComesBefore p.capacity first before (j ∷ js) → first ≡ false → IsOther p.capacity false answers_sent_in before l
+    pub previous_answer : (l : BothEnds Message) → j.answer ≡ Some l → IsOther p.capacity false answers_sent_in previous l
+    previous_answer l e = by previous b (is_first l j.answer s.keeps.links.answers_got e) where
+      by : (previous : Option Phase) → ComesBefore p.capacity first previous (j ∷ js) → first ≡ false → IsOther p.capacity false answers_sent_in previous l
       by None b f = true-false (sym b ∙ f)
       by (Some q) b f = record { phase = q; is = refl; list_is = b.1.meets.answer l e; of_link = of_link p.capacity j.answer l e b.1.answer }
 
-  behind_is : (es : List NumberedEpoch) (cs : List CoreView) (js : List Joint) → is_last es ≡ false → Stand p false es cs (i ∷ js) → (q : Phase) × (phase_of_first (states cs (i ∷ js)) ≡ Some q) × MeetsBehind q i
-  behind_is [] cs js n h = true-false n
-  behind_is (d ∷ ds) [] js n h = absurd h
-  behind_is (d ∷ ds) (c ∷ cs) [] n h = absurd h
-  behind_is (d ∷ ds) (c ∷ cs) (k ∷ js) n h = (phase_in c.stage (told_between i k), refl, meets_behind c.given i k c.stage h.0.keeps.stage)
+  next_is : (es : List NumberedEpoch) (cs : List CoreView) (js : List Joint) → is_last es ≡ false → AllStand p false es cs (i ∷ js) → (q : Phase) × (phase_of_first (states cs (i ∷ js)) ≡ Some q) × MeetsNext q i
+  next_is [] cs js n h = true-false n
+  next_is (d ∷ ds) [] js n h = absurd h
+  next_is (d ∷ ds) (c ∷ cs) [] n h = absurd h
+  next_is (d ∷ ds) (c ∷ cs) (k ∷ js) n h = (phase_in c.stage (traffic_between i k), refl, meets_next c.setup i k c.stage h.0.keeps.stage)
 
-  module _ (cs : List CoreView) (js : List Joint) (h : Stand p false es cs (i ∷ js)) where
-    pub behind_ask : (l : BothEnds Message) → i.ask ≡ Some l → IsOther p.capacity false asks_sent_in (phase_of_first (states cs (i ∷ js))) l
-    behind_ask l e =
-        let q = behind_is es cs js (is_end l i.ask s.keeps.links.asks_got e) h in
+  module _ (cs : List CoreView) (js : List Joint) (h : AllStand p false es cs (i ∷ js)) where
+    pub next_ask : (l : BothEnds Message) → i.ask ≡ Some l → IsOther p.capacity false asks_sent_in (phase_of_first (states cs (i ∷ js))) l
+    next_ask l e =
+        let q = next_is es cs js (is_end l i.ask s.keeps.links.asks_got e) h in
         record { phase = q.0; is = q.1; list_is = q.2.ask l e; of_link = of_link p.capacity i.ask l e s.ask }
 
-    pub behind_answer : (l : BothEnds Message) → i.answer ≡ Some l → IsOther p.capacity true answers_got_in (phase_of_first (states cs (i ∷ js))) l
-    behind_answer l e =
-        let q = behind_is es cs js (is_end l i.answer (sym (none_same i.answer) ∙ s.keeps.links.answers_sent) e) h in
+    pub next_answer : (l : BothEnds Message) → i.answer ≡ Some l → IsOther p.capacity true answers_got_in (phase_of_first (states cs (i ∷ js))) l
+    next_answer l e =
+        let q = next_is es cs js (is_end l i.answer (sym (none_same i.answer) ∙ s.keeps.links.answers_sent) e) h in
         record { phase = q.0; is = q.1; list_is = q.2.answer l e; of_link = of_link p.capacity i.answer l e s.answer }
 
-pub not_met : (need : Need) (links : Links) (pops pushes : Type 0) → Waits need pops pushes → (pops → is_some links.next ≡ false) → (pushes → links.has_room ≡ false) → is_met need links ≡ false
+pub not_met : (need : Need) (links : Links) (pops pushes : Type 0) → Waits need pops pushes → (pops → is_some links.item ≡ false) → (pushes → links.has_room ≡ false) → is_met need links ≡ false
 not_met Room links pops pushes w f g = g w
 not_met Item links pops pushes w f g = f w
 not_met Nothing links pops pushes w f g = absurd w

@@ -5,7 +5,7 @@ use Rattle.run_board.specs.declared.task.Turn.{Turn}
 use Rattle.epoch_node.specs.Cores.{CoreView}
 use Rattle.epoch_node.specs.Keeping.{KeepsCore}
 use Rattle.epoch_rounds.specs.declared.joints.Joint.{Joint}
-use Rattle.epoch_rounds.specs.Joints.{no_joint, joint_at, told_between}
+use Rattle.epoch_rounds.specs.Joints.{no_joint, joint_at, traffic_between}
 use Rattle.epoch_rounds.specs.Turns.{TurnsBetween, TurnsOne, KeepsAt, TurnsAt}
 
 -- what was taken out at two places is put back
@@ -33,12 +33,12 @@ map_length f [] = refl
 map_length f (x ∷ l) = ap suc (map_length f l)
 
 pub keeps_placed : (place : ℕ) (cs : List CoreView) (js : List Joint) (c : CoreView) (j i : Joint) → KeepsAt place cs js → get_or cs place c ≡ c → get_or js place j ≡ j → get_or js (suc place) i ≡ i
-    → KeepsCore c (told_between j i)
+    → KeepsCore c (traffic_between j i)
 keeps_placed place [] js c j i k a b d = absurd k
 keeps_placed place (c₀ ∷ cs) [] c j i k a b d = absurd k
 keeps_placed place (c₀ ∷ cs) (j₀ ∷ []) c j i k a b d = absurd k
 keeps_placed zero (c₀ ∷ cs) (j₀ ∷ i₀ ∷ js) c j i k a b d =
-    subst (λ (c : CoreView). KeepsCore c (told_between j i)) a (subst₂ (λ (j i : Joint). KeepsCore c₀ (told_between j i)) b d k)
+    subst (λ (c : CoreView). KeepsCore c (traffic_between j i)) a (subst₂ (λ (j i : Joint). KeepsCore c₀ (traffic_between j i)) b d k)
 keeps_placed (suc place) (c₀ ∷ cs) (j₀ ∷ i₀ ∷ js) c j i k a b d = keeps_placed place cs (i₀ ∷ js) c j i k a b d
 
 pub turns_placed : (place : ℕ) (cs : List CoreView) (js : List Joint) (c : CoreView) (j i : Joint) (c' : CoreView) (j' i' : Joint) (answer : Turn) → KeepsAt place cs js
@@ -49,8 +49,8 @@ turns_placed place (c₀ ∷ cs) [] c j i c' j' i' answer k a b d t = absurd k
 turns_placed place (c₀ ∷ cs) (j₀ ∷ []) c j i c' j' i' answer k a b d t = absurd k
 turns_placed zero (c₀ ∷ cs) (j₀ ∷ i₀ ∷ js) c j i c' j' i' answer k a b d t = record {
   core = c';
-  before = j';
-  behind = i';
+  previous = j';
+  next = i';
   answer = answer;
   cores_are = refl;
   joints_are = refl;
@@ -87,31 +87,31 @@ at_itself [] p d = refl
 at_itself (x ∷ l) zero d = refl
 at_itself (x ∷ l) (suc p) d = at_itself l p d
 
-pub keeps_one : (place : ℕ) (cs : List CoreView) (js : List Joint) (c : CoreView) → KeepsAt place cs js → get_or cs place c ≡ c → KeepsCore c (told_between (joint_at js place) (joint_at js (place + 1)))
+pub keeps_one : (place : ℕ) (cs : List CoreView) (js : List Joint) (c : CoreView) → KeepsAt place cs js → get_or cs place c ≡ c → KeepsCore c (traffic_between (joint_at js place) (joint_at js (place + 1)))
 keeps_one place cs js c k a =
-    subst (λ (q : ℕ). KeepsCore c (told_between (joint_at js place) (joint_at js q))) (sym (add-one place))
+    subst (λ (q : ℕ). KeepsCore c (traffic_between (joint_at js place) (joint_at js q))) (sym (add-one place))
     (keeps_placed place cs js c (joint_at js place) (joint_at js (suc place)) k a (at_itself js place no_joint) (at_itself js (suc place) no_joint))
 
 pub turns_one : (place : ℕ) (cs : List CoreView) (js : List Joint) (c c' : CoreView) (js' : List Joint) → KeepsAt place cs js → get_or cs place c ≡ c → TurnsOne c js place c' js' → TurnsAt place cs js (set cs place c') js'
 turns_one place cs js c c' js' k a t =
-    subst (λ (ks : List Joint). TurnsAt place cs js (set cs place c') ks) (sym (t.joints_are ∙ ap (λ (q : ℕ). set (set js place t.before) q t.behind) (add-one place)))
-    (turns_placed place cs js c (joint_at js place) (joint_at js (suc place)) c' t.before t.behind t.answer k a (at_itself js place no_joint) (at_itself js (suc place) no_joint)
-    (subst (λ (q : ℕ). TurnsBetween c (joint_at js place) (joint_at js q) c' t.before t.behind t.answer) (add-one place) t.turns))
+    subst (λ (ks : List Joint). TurnsAt place cs js (set cs place c') ks) (sym (t.joints_are ∙ ap (λ (q : ℕ). set (set js place t.previous) q t.next) (add-one place)))
+    (turns_placed place cs js c (joint_at js place) (joint_at js (suc place)) c' t.previous t.next t.answer k a (at_itself js place no_joint) (at_itself js (suc place) no_joint)
+    (subst (λ (q : ℕ). TurnsBetween c (joint_at js place) (joint_at js q) c' t.previous t.next t.answer) (add-one place) t.turns))
 
--- the core behind these
-behind_these : (front rest : List CoreView) (c : CoreView) → get_or (front ++ c ∷ rest) (length front) c ≡ c
-behind_these [] rest c = refl
-behind_these (d ∷ front) rest c = behind_these front rest c
+-- the core after these
+core_after : (front rest : List CoreView) (c : CoreView) → get_or (front ++ c ∷ rest) (length front) c ≡ c
+core_after [] rest c = refl
+core_after (d ∷ front) rest c = core_after front rest c
 
-set_behind : (front rest : List CoreView) (c c' : CoreView) → set (front ++ c ∷ rest) (length front) c' ≡ front ++ c' ∷ rest
-set_behind [] rest c c' = refl
-set_behind (d ∷ front) rest c c' = ap (λ cs. d ∷ cs) (set_behind front rest c c')
+set_after : (front rest : List CoreView) (c c' : CoreView) → set (front ++ c ∷ rest) (length front) c' ≡ front ++ c' ∷ rest
+set_after [] rest c c' = refl
+set_after (d ∷ front) rest c c' = ap (λ cs. d ∷ cs) (set_after front rest c c')
 
 module _ (front rest : List CoreView) (c : CoreView) (place : ℕ) (e : place ≡ length front) (js : List Joint) (k : KeepsAt (length front) (front ++ c ∷ rest) js) where
-  pub keeps_next : KeepsCore c (told_between (joint_at js place) (joint_at js (place + 1)))
-  keeps_next = subst (λ (n : ℕ). KeepsCore c (told_between (joint_at js n) (joint_at js (n + 1)))) (sym e) (keeps_one (length front) (front ++ c ∷ rest) js c k (behind_these front rest c))
+  pub keeps_next : KeepsCore c (traffic_between (joint_at js place) (joint_at js (place + 1)))
+  keeps_next = subst (λ (n : ℕ). KeepsCore c (traffic_between (joint_at js n) (joint_at js (n + 1)))) (sym e) (keeps_one (length front) (front ++ c ∷ rest) js c k (core_after front rest c))
 
   pub turns_next : (c' : CoreView) (js' : List Joint) → TurnsOne c js place c' js' → TurnsAt (length front) (front ++ c ∷ rest) js (front ++ c' ∷ rest) js'
   turns_next c' js' t =
-      subst (λ (cs : List CoreView). TurnsAt (length front) (front ++ c ∷ rest) js cs js') (set_behind front rest c c')
-      (turns_one (length front) (front ++ c ∷ rest) js c c' js' k (behind_these front rest c) (subst (λ (n : ℕ). TurnsOne c js n c' js') e t))
+      subst (λ (cs : List CoreView). TurnsAt (length front) (front ++ c ∷ rest) js cs js') (set_after front rest c c')
+      (turns_one (length front) (front ++ c ∷ rest) js c c' js' k (core_after front rest c) (subst (λ (n : ℕ). TurnsOne c js n c' js') e t))

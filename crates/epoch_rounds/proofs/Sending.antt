@@ -13,8 +13,8 @@ use Rattle.pass_parts.specs.Ends.{got_by, sent_by}
 use Rattle.pass_parts.proofs.Whole.{ended_whole}
 use Rattle.backward_pass.specs.Backward.{BackView, knows}
 use Rattle.forward_pass.specs.Forward.{ForeView, known_by}
-use Rattle.epoch_node.specs.Cores.{Given}
-use Rattle.epoch_node.specs.Keeping.{Told, HasLinks, IsAsking, IsAnswering}
+use Rattle.epoch_node.specs.Cores.{CoreSetup}
+use Rattle.epoch_node.specs.Keeping.{Traffic, HasLinks, IsAsking, IsAnswering}
 use Rattle.epoch_rounds.specs.Streams.{all_asks, all_answers, HasSentPart}
 use Rattle.epoch_rounds.proofs.Parts.{HasGotPart, got_whole, all_of_it, asks_last}
 
@@ -29,7 +29,7 @@ asks_within e got all p = subst (λ (ms : List Message). IsPrefix (asks_for e go
 answers_within : (e : Summary) (asked ls : List Loc) (got all : List Message) → IsPrefix got all → IsPrefix (answers_for e asked ls got) (answers_for e asked ls all)
 answers_within e asked ls got all p = subst (λ (ms : List Message). IsPrefix (answers_for e asked ls got) (answers_for e asked ls ms)) p.1 (answers_grow e asked ls got p.0)
 
-module _ (i : Given) (w : Told) (links : HasLinks i w) (es : List Summary) where
+module _ (i : CoreSetup) (w : Traffic) (links : HasLinks i w) (es : List Summary) where
   -- while it asks
   pub asking_part : (v : BackView) → IsAsking i v w → v.whole ≡ true → HasGotPart (all_asks es) w.asks_got → HasSentPart (all_asks (knows v ∷ es)) w.asks_sent
   asking_part v at t g = sent_part (all_asks (knows v ∷ es)) v.over v.whole w.asks_sent (λ some.

@@ -4,7 +4,7 @@ use Rattle.atomic_table.specs.Seated.{TableId}
 use Rattle.flow_model.specs.declared.Message.{Message}
 use Rattle.epoch_link.specs.Link.{Delivered}
 use Rattle.epoch_link.specs.ListLink.{BothEnds, new_link}
-use Rattle.epoch_node.specs.Keeping.{Told}
+use Rattle.epoch_node.specs.Keeping.{Traffic}
 use Rattle.epoch_rounds.specs.declared.joints.Joint.{Joint}
 
 abbrev pub Link : Type 0
@@ -35,10 +35,10 @@ abbrev pub sent_on : Link → Option (List Message)
 sent_on link = option_map (λ l. l.sent) link
 
 -- what went through the links of a core
-abbrev pub told_between : Joint → Joint → Told
-told_between before behind = record {
-  asks_got = got_on behind.ask;
-  asks_sent = sent_on before.ask;
-  answers_got = got_on before.answer;
-  answers_sent = sent_on behind.answer;
+abbrev pub traffic_between : Joint → Joint → Traffic
+traffic_between previous next = record {
+  asks_got = got_on next.ask;
+  asks_sent = sent_on previous.ask;
+  answers_got = got_on previous.answer;
+  answers_sent = sent_on next.answer;
 }

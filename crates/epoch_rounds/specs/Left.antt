@@ -10,15 +10,15 @@ use Rattle.pass_parts.specs.Ends.{got_by, sent_by}
 use Rattle.backward_pass.specs.Backward.{state}
 use Rattle.forward_pass.specs.Forward.{ForeView, fore_state}
 use Rattle.epoch_node.specs.Cores.{StageView, Fresh, Asking, Answering, Done, Between, CoreView}
-use Rattle.epoch_node.specs.Keeping.{Told}
+use Rattle.epoch_node.specs.Keeping.{Traffic}
 use Rattle.epoch_rounds.specs.declared.joints.Joint.{Joint}
-use Rattle.epoch_rounds.specs.Joints.{told_between}
+use Rattle.epoch_rounds.specs.Joints.{traffic_between}
 use Rattle.epoch_rounds.specs.Streams.{summary_at, all_asks, all_answers}
 
 -- ---- the phase of the definitions that a core is in
 
 -- a pass backwards that is over, and sent this
-abbrev pub over_asking : ForeView → Told → AskingState
+abbrev pub over_asking : ForeView → Traffic → AskingState
 over_asking f w = record {
   left = [];
   asked = f.asked;
@@ -29,7 +29,7 @@ over_asking f w = record {
   is_over = true;
 }
 
-abbrev pub phase_in : StageView → Told → Phase
+abbrev pub phase_in : StageView → Traffic → Phase
 phase_in (Fresh t) w = NotBegun
 phase_in (Asking v) w = Asks (state v w.asks_got w.asks_sent)
 phase_in (Answering f) w = Answers (over_asking f w) (fore_state f w.answers_got w.answers_sent)
@@ -74,7 +74,7 @@ abbrev pub states : List CoreView → List Joint → List NodeState
 states [] js = []
 states (c ∷ cs) [] = []
 states (c ∷ cs) (j ∷ []) = []
-states (c ∷ cs) (j ∷ i ∷ js) = record { summary = summary_at c.stage; phase = phase_in c.stage (told_between j i) } ∷ states cs (i ∷ js)
+states (c ∷ cs) (j ∷ i ∷ js) = record { summary = summary_at c.stage; phase = phase_in c.stage (traffic_between j i) } ∷ states cs (i ∷ js)
 
 -- of a line. Before the first core there is an End alone
 abbrev pub work_left : List CoreView → List Joint → ℕ

@@ -9,11 +9,11 @@ use Rattle.epoch_link.specs.Link.{Delivered}
 use Rattle.stream_model.specs.Streams.{is_ended}
 use Rattle.pass_parts.specs.Ends.{got_by, sent_by}
 use Rattle.epoch_node.specs.declared.stage.Phase.TheVariants as phase
-use Rattle.epoch_node.specs.Cores.{Given, StageView, Fresh, Asking, Answering, Done, Between, CoreView, phase_of, new_core}
-use Rattle.epoch_node.specs.Keeping.{Told, KeepsCore}
-use Rattle.epoch_layout.specs.Layouts.{CutRun, epochs_of, given_at}
+use Rattle.epoch_node.specs.Cores.{CoreSetup, StageView, Fresh, Asking, Answering, Done, Between, CoreView, phase_of, new_core}
+use Rattle.epoch_node.specs.Keeping.{Traffic, KeepsCore}
+use Rattle.epoch_layout.specs.Layouts.{CutRun, epochs_of, setup_at}
 use Rattle.epoch_rounds.specs.declared.joints.Joint.{Joint}
-use Rattle.epoch_rounds.specs.Joints.{Link, no_joint, IsNewJoint, told_between}
+use Rattle.epoch_rounds.specs.Joints.{Link, no_joint, IsNewJoint, traffic_between}
 
 -- what a line works on, and how many messages each of its links holds
 pub record Plan : Type 0 where
@@ -37,7 +37,7 @@ module _ (run : CutRun) where
   -- new cores of these epochs, the last of which is the last of the run or not
   abbrev pub new_cores : Bool → List NumberedEpoch → List CoreView
   new_cores first [] = []
-  new_cores first (e ∷ es) = new_core (given_at run e first (is_last es)) ∷ new_cores false es
+  new_cores first (e ∷ es) = new_core (setup_at run e first (is_last es)) ∷ new_cores false es
 
 -- these are new cores of the run's epochs, in order, and new links between neighbours
 pub record IsLaidOut (p : Plan) (cs : List CoreView) (js : List Joint) : Type 0 where
@@ -58,7 +58,7 @@ IsLinkOf capacity None = Unit {0}
 IsLinkOf capacity (Some l) = (l.capacity ≡ capacity) × Delivered l.sent l.got l.capacity
 
 -- who answers got an End of the asks, and sent one
-abbrev pub HasSettled : StageView → Told → Type 0
+abbrev pub HasSettled : StageView → Traffic → Type 0
 HasSettled (Fresh t) w = Unit {0}
 HasSettled (Asking v) w = Unit {0}
 HasSettled (Answering f) w = (is_ended (got_by w.asks_got) ≡ true) × (is_ended (sent_by true true w.asks_sent) ≡ true)
@@ -66,28 +66,28 @@ HasSettled (Done f) w = (is_ended (got_by w.asks_got) ≡ true) × (is_ended (se
 HasSettled Between w = ⊥
 
 -- a core stands between its links
-pub record StandsBetween (capacity : ℕ) (i : Given) (c : CoreView) (before behind : Joint) : Type 0 where
-  pub given : c.given ≡ i
-  pub keeps : KeepsCore c (told_between before behind)
-  pub settled : HasSettled c.stage (told_between before behind)
-  pub ask : IsLinkOf capacity behind.ask
-  pub answer : IsLinkOf capacity behind.answer
+pub record StandsBetween (capacity : ℕ) (i : CoreSetup) (c : CoreView) (previous next : Joint) : Type 0 where
+  pub setup : c.setup ≡ i
+  pub keeps : KeepsCore c (traffic_between previous next)
+  pub settled : HasSettled c.stage (traffic_between previous next)
+  pub ask : IsLinkOf capacity next.ask
+  pub answer : IsLinkOf capacity next.answer
 
 module _ (p : Plan) where
   -- the cores of these epochs, each between its links
-  abbrev pub Stand : Bool → List NumberedEpoch → List CoreView → List Joint → Type 0
-  Stand first [] [] (j ∷ []) = Unit {0}
-  Stand first [] [] [] = ⊥
-  Stand first [] [] (j ∷ i ∷ js) = ⊥
-  Stand first [] (c ∷ cs) js = ⊥
-  Stand first (e ∷ es) [] js = ⊥
-  Stand first (e ∷ es) (c ∷ cs) [] = ⊥
-  Stand first (e ∷ es) (c ∷ cs) (j ∷ []) = ⊥
-  Stand first (e ∷ es) (c ∷ cs) (j ∷ i ∷ js) = StandsBetween p.capacity (given_at p.run e first (is_last es)) c j i × Stand false es cs (i ∷ js)
+  abbrev pub AllStand : Bool → List NumberedEpoch → List CoreView → List Joint → Type 0
+  AllStand first [] [] (j ∷ []) = Unit {0}
+  AllStand first [] [] [] = ⊥
+  AllStand first [] [] (j ∷ i ∷ js) = ⊥
+  AllStand first [] (c ∷ cs) js = ⊥
+  AllStand first (e ∷ es) [] js = ⊥
+  AllStand first (e ∷ es) (c ∷ cs) [] = ⊥
+  AllStand first (e ∷ es) (c ∷ cs) (j ∷ []) = ⊥
+  AllStand first (e ∷ es) (c ∷ cs) (j ∷ i ∷ js) = StandsBetween p.capacity (setup_at p.run e first (is_last es)) c j i × AllStand false es cs (i ∷ js)
 
 -- these are the cores of the run, in order, each between its links
 pub record IsLineOf (p : Plan) (cs : List CoreView) (js : List Joint) : Type 0 where
   pub cutting : IsCutting (steps p.run.job.log) p.run.cuts
   pub located : AreLocated p.run.query.points
   pub holds_some : 0 < p.capacity
-  pub stand : Stand p true (epochs_of p.run) cs js
+  pub stand : AllStand p true (epochs_of p.run) cs js

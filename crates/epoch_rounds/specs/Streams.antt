@@ -23,12 +23,12 @@ summary_at Between = known None
 abbrev pub summaries_of : List CoreView → List Summary
 summaries_of cs = map (λ c. summary_at c.stage) cs
 
--- all that the first of these asks, from the last to the first. Behind the last there is an End alone
+-- all that the first of these asks, from the last to the first. After the last there is an End alone
 abbrev pub all_asks : List Summary → List Message
 all_asks [] = End true ∷ []
 all_asks (e ∷ es) = asks_for e (all_asks es)
 
--- all that a core answers those behind it, where this is all that it is answered
+-- all that a core answers those after it, where this is all that it is answered
 abbrev pub all_answers : Bool → Summary → List Summary → List Message → List Message
 all_answers first e es answered =
     let asked = requests (all_asks es) in
@@ -57,10 +57,10 @@ HasBegun (Done f) = Unit {0}
 HasBegun Between = ⊥
 
 -- what one core has sent
-pub record SendsPart (first : Bool) (answered : List Message) (c : CoreView) (cs : List CoreView) (before behind : Joint) : Type 0 where
+pub record SendsPart (first : Bool) (answered : List Message) (c : CoreView) (cs : List CoreView) (previous next : Joint) : Type 0 where
   pub begun : HasBegun c.stage
-  pub asks : HasSentPart (all_asks (summaries_of (c ∷ cs))) (sent_on before.ask)
-  pub answers : HasSentPart (all_answers first (summary_at c.stage) (summaries_of cs) answered) (sent_on behind.answer)
+  pub asks : HasSentPart (all_asks (summaries_of (c ∷ cs))) (sent_on previous.ask)
+  pub answers : HasSentPart (all_answers first (summary_at c.stage) (summaries_of cs) answered) (sent_on next.answer)
 
 -- what each of these has sent, where the first is answered this in all
 abbrev pub AllSendPart : Bool → List Message → List CoreView → List Joint → Type 0

@@ -5,9 +5,9 @@ use Rattle.epoch_link.specs.ListLink.{inlet_end, outlet_end}
 use Rattle.pass_parts.specs.Ends.{IsEndFrom, IsRefused}
 use Rattle.epoch_node.specs.Cores.{StageView, Fresh, Asking, Answering, Done, Between, CoreView}
 use Rattle.epoch_node.specs.Keeping.{KeepsCore}
-use Rattle.epoch_node.specs.Events.{Went, IsEvent, WaitsAt, WhenNotYet}
+use Rattle.epoch_node.specs.Events.{PhaseTraffic, IsEvent, WaitsAt, WhenNotYet}
 use Rattle.epoch_rounds.specs.declared.joints.Joint.{Joint}
-use Rattle.epoch_rounds.specs.Joints.{Link, got_on, sent_on, IsSound, joint_at, told_between}
+use Rattle.epoch_rounds.specs.Joints.{Link, got_on, sent_on, IsSound, joint_at, traffic_between}
 
 -- the link is the same, and what the core at its other end sees of it
 abbrev pub IsInletFrom : Link → Link → Type 0
@@ -24,54 +24,54 @@ abbrev pub IsPushRefused : Link → Link → Type 0
 IsPushRefused old new = IsRefused outlet_end old new
 
 -- what went through the two links of a phase
-abbrev pub went_on : Link → Link → Went
-went_on inlet outlet = record { got = got_on inlet; sent = sent_on outlet }
+abbrev pub traffic_on : Link → Link → PhaseTraffic
+traffic_on inlet outlet = record { got = got_on inlet; sent = sent_on outlet }
 
 -- the core had its event on the two links of its phase
 pub record TurnsOn (old new : CoreView) (inlet outlet inlet' outlet' : Link) (answer : Turn) : Type 0 where
-  pub event : IsEvent old (went_on inlet outlet) new (went_on inlet' outlet') answer
+  pub event : IsEvent old (traffic_on inlet outlet) new (traffic_on inlet' outlet') answer
   pub same_inlet : IsInletFrom inlet' inlet
   pub same_outlet : IsOutletFrom outlet' outlet
-  pub waits : WhenNotYet answer (WaitsAt old.stage (went_on inlet outlet) (IsPopRefused inlet inlet') (IsPushRefused outlet outlet'))
+  pub waits : WhenNotYet answer (WaitsAt old.stage (traffic_on inlet outlet) (IsPopRefused inlet inlet') (IsPushRefused outlet outlet'))
 
 -- which links these are, and that the others stay
-pub record TurnsAsking (old new : CoreView) (before behind before' behind' : Joint) (answer : Turn) : Type 0 where
-  pub on : TurnsOn old new behind.ask before.ask behind'.ask before'.ask answer
-  pub before_answer : before'.answer ≡ before.answer
-  pub behind_answer : behind'.answer ≡ behind.answer
+pub record TurnsAsking (old new : CoreView) (previous next previous' next' : Joint) (answer : Turn) : Type 0 where
+  pub on : TurnsOn old new next.ask previous.ask next'.ask previous'.ask answer
+  pub previous_answer : previous'.answer ≡ previous.answer
+  pub next_answer : next'.answer ≡ next.answer
 
-pub record TurnsAnswering (old new : CoreView) (before behind before' behind' : Joint) (answer : Turn) : Type 0 where
-  pub on : TurnsOn old new before.answer behind.answer before'.answer behind'.answer answer
-  pub before_ask : before'.ask ≡ before.ask
-  pub behind_ask : behind'.ask ≡ behind.ask
+pub record TurnsAnswering (old new : CoreView) (previous next previous' next' : Joint) (answer : Turn) : Type 0 where
+  pub on : TurnsOn old new previous.answer next.answer previous'.answer next'.answer answer
+  pub previous_ask : previous'.ask ≡ previous.ask
+  pub next_ask : next'.ask ≡ next.ask
 
-pub record Stays (old new : CoreView) (before behind before' behind' : Joint) : Type 0 where
+pub record Stays (old new : CoreView) (previous next previous' next' : Joint) : Type 0 where
   pub core : new ≡ old
-  pub before_same : before' ≡ before
-  pub behind_same : behind' ≡ behind
+  pub previous_same : previous' ≡ previous
+  pub next_same : next' ≡ next
 
 abbrev pub TurnsIn : StageView → CoreView → CoreView → Joint → Joint → Joint → Joint → Turn → Type 0
-TurnsIn (Fresh t) old new before behind before' behind' answer = TurnsAsking old new before behind before' behind' answer
-TurnsIn (Asking v) old new before behind before' behind' answer = TurnsAsking old new before behind before' behind' answer
-TurnsIn (Answering f) old new before behind before' behind' answer = TurnsAnswering old new before behind before' behind' answer
-TurnsIn (Done f) old new before behind before' behind' answer = Stays old new before behind before' behind'
-TurnsIn Between old new before behind before' behind' answer = ⊥
+TurnsIn (Fresh t) old new previous next previous' next' answer = TurnsAsking old new previous next previous' next' answer
+TurnsIn (Asking v) old new previous next previous' next' answer = TurnsAsking old new previous next previous' next' answer
+TurnsIn (Answering f) old new previous next previous' next' answer = TurnsAnswering old new previous next previous' next' answer
+TurnsIn (Done f) old new previous next previous' next' answer = Stays old new previous next previous' next'
+TurnsIn Between old new previous next previous' next' answer = ⊥
 
 -- a core had its event between these links
-pub record TurnsBetween (old : CoreView) (before behind : Joint) (new : CoreView) (before' behind' : Joint) (answer : Turn) : Type 0 where
-  pub event : TurnsIn old.stage old new before behind before' behind' answer
-  pub before_ask : IsSound before'.ask
-  pub before_answer : IsSound before'.answer
-  pub behind_ask : IsSound behind'.ask
-  pub behind_answer : IsSound behind'.answer
+pub record TurnsBetween (old : CoreView) (previous next : Joint) (new : CoreView) (previous' next' : Joint) (answer : Turn) : Type 0 where
+  pub event : TurnsIn old.stage old new previous next previous' next' answer
+  pub previous_ask : IsSound previous'.ask
+  pub previous_answer : IsSound previous'.answer
+  pub next_ask : IsSound next'.ask
+  pub next_answer : IsSound next'.answer
 
 -- a core had its event on the links at this place of a line and at the next
 pub record TurnsOne (old : CoreView) (js : List Joint) (place : ℕ) (new : CoreView) (js' : List Joint) : Type 0 where
-  pub before : Joint
-  pub behind : Joint
+  pub previous : Joint
+  pub next : Joint
   pub answer : Turn
-  pub joints_are : js' ≡ set (set js place before) (place + 1) behind
-  pub turns : TurnsBetween old (joint_at js place) (joint_at js (place + 1)) new before behind answer
+  pub joints_are : js' ≡ set (set js place previous) (place + 1) next
+  pub turns : TurnsBetween old (joint_at js place) (joint_at js (place + 1)) new previous next answer
 
 -- ---- in a line, where the links before the first core come first
 
@@ -80,17 +80,17 @@ abbrev pub KeepsAt : ℕ → List CoreView → List Joint → Type 0
 KeepsAt place [] js = ⊥
 KeepsAt place (c ∷ cs) [] = ⊥
 KeepsAt place (c ∷ cs) (j ∷ []) = ⊥
-KeepsAt zero (c ∷ cs) (j ∷ i ∷ js) = KeepsCore c (told_between j i)
+KeepsAt zero (c ∷ cs) (j ∷ i ∷ js) = KeepsCore c (traffic_between j i)
 KeepsAt (suc place) (c ∷ cs) (j ∷ i ∷ js) = KeepsAt place cs (i ∷ js)
 
 pub record TurnsHere (c : CoreView) (cs : List CoreView) (j i : Joint) (js : List Joint) (cs' : List CoreView) (js' : List Joint) : Type 0 where
   pub core : CoreView
-  pub before : Joint
-  pub behind : Joint
+  pub previous : Joint
+  pub next : Joint
   pub answer : Turn
   pub cores_are : cs' ≡ core ∷ cs
-  pub joints_are : js' ≡ before ∷ behind ∷ js
-  pub turns : TurnsBetween c j i core before behind answer
+  pub joints_are : js' ≡ previous ∷ next ∷ js
+  pub turns : TurnsBetween c j i core previous next answer
 
 pub record TurnsLater (Later : List CoreView → List Joint → Type 0) (c : CoreView) (j : Joint) (cs' : List CoreView) (js' : List Joint) : Type 0 where
   pub cores : List CoreView

@@ -8,12 +8,12 @@ use flow_model::Message;
 use no_memory::NoMemory;
 use std::alloc::Global;
 
-/// The two links between neighbours. There are none before the first core, and none behind the last.
+/// The two links between neighbours. There are none before the first core, and none after the last.
 #[derive(Drop)]
 pub struct Joint {
-    /// What the core before is asked.
+    /// What the previous core is asked.
     pub ask: Option<ListLink<Message>>,
-    /// What the core behind is answered.
+    /// What the next core is answered.
     pub answer: Option<ListLink<Message>>,
 }
 

@@ -16,7 +16,7 @@ use no_memory::NoMemory;
 use query_lang::Query;
 use std::alloc::Global;
 
-/// The cores of a run in order, and the links before the first, between neighbours, and behind the last.
+/// The cores of a run in order, and the links before the first, between neighbours, and after the last.
 #[derive(Drop)]
 pub struct Line<'a, G> {
     pub cores: Vec<Core<'a, G>>,

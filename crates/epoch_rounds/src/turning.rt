@@ -3,7 +3,7 @@
 ghost use Rattle.std.specs.Prelude.{◌+◌, ◌<◌, length};
 ghost use Rattle.epoch_node.specs.Cores.{core_of};
 ghost use Rattle.epoch_node.specs.Keeping.{KeepsCore};
-ghost use Rattle.epoch_rounds.specs.Joints.{told_between, joint_at};
+ghost use Rattle.epoch_rounds.specs.Joints.{traffic_between, joint_at};
 ghost use Rattle.epoch_rounds.specs.Turns.{TurnsIn, TurnsBetween, TurnsOne};
 
 use crate::joints::Joint;
@@ -12,32 +12,32 @@ use outer_io::Gate;
 use run_board::Turn;
 use std::mem;
 
-/// One event of a core, on the links of its phase among those before it and those behind it. A core that is done has none.
+/// One event of a core, on the links of its phase, among those to the cores on both sides. A core that is done has none.
 fn turn_in_phase<'a, G: Gate>(
     core: &mut Core<'a, G>,
-    before: &mut Joint,
-    behind: &mut Joint,
+    previous: &mut Joint,
+    next: &mut Joint,
 ) -> Turn
-    requires { KeepsCore (core_of core.old) (told_between before.old behind.old) }
+    requires { KeepsCore (core_of core.old) (traffic_between previous.old next.old) }
     ensures { TurnsIn (core_of core.old).stage (core_of core.old)
-        (core_of core.new) before.old behind.old before.new behind.new result }
+        (core_of core.new) previous.old next.old previous.new next.new result }
 {
     match core.phase() {
-        Phase::Fresh => core.event(&mut behind.ask, &mut before.ask),
-        Phase::Asking => core.event(&mut behind.ask, &mut before.ask),
-        Phase::Answering => core.event(&mut before.answer, &mut behind.answer),
+        Phase::Fresh => core.event(&mut next.ask, &mut previous.ask),
+        Phase::Asking => core.event(&mut next.ask, &mut previous.ask),
+        Phase::Answering => core.event(&mut previous.answer, &mut next.answer),
         Phase::Done => Turn::Done,
     }
 }
 
 /// The same, and what is true of the links then.
-fn turn_between<'a, G: Gate>(core: &mut Core<'a, G>, before: &mut Joint, behind: &mut Joint) -> Turn
-    requires { KeepsCore (core_of core.old) (told_between before.old behind.old) }
-    ensures { TurnsBetween (core_of core.old) before.old behind.old (core_of core.new) before.new behind.new result }
+fn turn_between<'a, G: Gate>(core: &mut Core<'a, G>, previous: &mut Joint, next: &mut Joint) -> Turn
+    requires { KeepsCore (core_of core.old) (traffic_between previous.old next.old) }
+    ensures { TurnsBetween (core_of core.old) previous.old next.old (core_of core.new) previous.new next.new result }
 {
-    let turn = turn_in_phase(core, before, behind);
-    before.form();
-    behind.form();
+    let turn = turn_in_phase(core, previous, next);
+    previous.form();
+    next.form();
     turn
 }
 
@@ -45,12 +45,12 @@ fn turn_between<'a, G: Gate>(core: &mut Core<'a, G>, before: &mut Joint, behind:
 pub(crate) fn turn_at<'a, G: Gate>(core: &mut Core<'a, G>, joints: &mut Vec<Joint>, place: usize)
     requires inside { place + 1 < length joints.old.items }
     requires keeps { KeepsCore (core_of core.old)
-        (told_between (joint_at joints.old.items place) (joint_at joints.old.items (place + 1))) }
+        (traffic_between (joint_at joints.old.items place) (joint_at joints.old.items (place + 1))) }
     ensures { TurnsOne (core_of core.old) joints.old.items place (core_of core.new) joints.new.items }
 {
-    let mut before = mem::replace(&mut joints[place], Joint::none());
-    let mut behind = mem::replace(&mut joints[place + 1], Joint::none());
-    turn_between(core, &mut before, &mut behind);
-    joints[place] = before;
-    joints[place + 1] = behind;
+    let mut previous = mem::replace(&mut joints[place], Joint::none());
+    let mut next = mem::replace(&mut joints[place + 1], Joint::none());
+    turn_between(core, &mut previous, &mut next);
+    joints[place] = previous;
+    joints[place + 1] = next;
 }

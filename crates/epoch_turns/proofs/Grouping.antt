@@ -26,7 +26,7 @@ pub same_numbers : (new old : List NodeView) → AllZip IsLedFrom new old → ma
 same_numbers [] [] h = refl
 same_numbers [] (o ∷ old) h = absurd h
 same_numbers (n ∷ new) [] h = absurd h
-same_numbers (n ∷ new) (o ∷ old) h = ap₂ (λ (k : ℕ) (ks : List ℕ). k ∷ ks) (ap (λ i. i.epoch.number) h.0.given) (same_numbers new old h.1)
+same_numbers (n ∷ new) (o ∷ old) h = ap₂ (λ (k : ℕ) (ks : List ℕ). k ∷ ks) (ap (λ i. i.epoch.number) h.0.setup) (same_numbers new old h.1)
 
 pub stay_numbered : (new old : List NodeView) → AllZip IsLedFrom new old → AreNumbered number_of old → AreNumbered number_of new
 stay_numbered new old led numbers = same_numbers new old led ∙ numbers ∙ ap (range_with_len 0) (sym (length_all_zip IsLedFrom new old led))

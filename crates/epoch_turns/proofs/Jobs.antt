@@ -10,7 +10,7 @@ use Rattle.epoch_turns.specs.Groups.{AreOfJob, AreOfOneJob}
 use Rattle.epoch_turns.proofs.Lists.{all_front, all_rest, all_last, all_reverse, all_back}
 
 abbrev IsOf : Job → NodeView → Type 0
-IsOf job n = n.core.given.points.job ≡ job
+IsOf job n = n.core.setup.points.job ≡ job
 
 -- ---- nodes of one job
 
@@ -19,7 +19,7 @@ led_of_job job [] [] h a = a
 led_of_job job [] (o ∷ old) h a = absurd h
 led_of_job job (n ∷ new) [] h a = absurd h
 led_of_job job (n ∷ new) (o ∷ old) h a =
-    All-cons (IsOf job) n new (ap (λ i. i.points.job) h.0.given ∙ All-head (IsOf job) o old a) (led_of_job job new old h.1 (All-tail (IsOf job) o old a))
+    All-cons (IsOf job) n new (ap (λ i. i.points.job) h.0.setup ∙ All-head (IsOf job) o old a) (led_of_job job new old h.1 (All-tail (IsOf job) o old a))
 
 pub stays_one_job : (new old : List NodeView) → AllZip IsLedFrom new old → AreOfOneJob old → AreOfOneJob new
 stays_one_job new old led a = (a.0, led_of_job a.0 new old led a.1)
@@ -52,17 +52,17 @@ same_job job other None e h = tt
 same_job job other (Some c) e h = h ∙ e
 
 -- the node on top is of its job
-pub may_take : (from rest : List NodeView) (cursor : Option CursorAt) (n : NodeView) → IsOnItsWay from cursor → from ≡ rest ++ n ∷ [] → IfSome cursor (λ c. c.job ≡ n.core.given.points.job)
+pub may_take : (from rest : List NodeView) (cursor : Option CursorAt) (n : NodeView) → IsOnItsWay from cursor → from ≡ rest ++ n ∷ [] → IfSome cursor (λ c. c.job ≡ n.core.setup.points.job)
 may_take from rest cursor n w e =
-    same_job w.job n.core.given.points.job cursor (sym (all_last (IsOf w.job) rest n (subst (AreOfJob w.job) e w.nodes))) w.of_job
+    same_job w.job n.core.setup.points.job cursor (sym (all_last (IsOf w.job) rest n (subst (AreOfJob w.job) e w.nodes))) w.of_job
 
 -- what that node has after its turn goes on
 pub goes_on : (from rest : List NodeView) (cursor next : Option CursorAt) (n later : NodeView) → IsOnItsWay from cursor → from ≡ rest ++ n ∷ [] → IsLedFrom later n
-    → IfSome next (λ c. c.job ≡ later.core.given.points.job) → IsOnItsWay rest next
+    → IfSome next (λ c. c.job ≡ later.core.setup.points.job) → IsOnItsWay rest next
 goes_on from rest cursor next n later w e led h =
     let all = subst (AreOfJob w.job) e w.nodes in
     record {
       job = w.job;
       nodes = all_front (IsOf w.job) rest (n ∷ []) all;
-      of_job = same_job later.core.given.points.job w.job next (ap (λ i. i.points.job) led.given ∙ all_last (IsOf w.job) rest n all) h;
+      of_job = same_job later.core.setup.points.job w.job next (ap (λ i. i.points.job) led.setup ∙ all_last (IsOf w.job) rest n all) h;
     }

@@ -11,7 +11,7 @@ pub record GroupView : Type 0 where
   pub nodes : List NodeView
 
 abbrev pub number_of : NodeView → ℕ
-number_of n = n.core.given.epoch.number
+number_of n = n.core.setup.epoch.number
 
 -- all nodes are done
 abbrev pub IsGroupEnded : GroupView → Type 0
@@ -19,7 +19,7 @@ IsGroupEnded g = All IsDone g.nodes
 
 -- the checkpoints that the nodes were given are all of one job
 abbrev pub AreOfJob : Job → List NodeView → Type 0
-AreOfJob job nodes = All (λ n. n.core.given.points.job ≡ job) nodes
+AreOfJob job nodes = All (λ n. n.core.setup.points.job ≡ job) nodes
 
 abbrev pub AreOfOneJob : List NodeView → Type 0
 AreOfOneJob nodes = (job : Job) × AreOfJob job nodes

@@ -52,17 +52,17 @@ abbrev pub put_at : State → ℕ → ℕ → List ℕ → State
 put_at s p a bytes = record s { pc = p; memory = overwritten s.memory (a - s.base) bytes }
 
 -- a place among those of a table of bytes, or none of them
-pub data Found (a k n : ℕ) (origins : ℕ → List Loc) (q : ℕ) (ls : List Loc) : Type 0 where
-  Hit : (i : ℕ) → k ≤ i → i < k + n → q ≡ a + i → ls ≡ origins i → Found a k n origins q ls
-  Miss : (q < a + k) ⊎ (a + k + n ≤ q) → ls ≡ Mem q ∷ [] → Found a k n origins q ls
+pub data Lookup (a k n : ℕ) (origins : ℕ → List Loc) (q : ℕ) (ls : List Loc) : Type 0 where
+  Hit : (i : ℕ) → k ≤ i → i < k + n → q ≡ a + i → ls ≡ origins i → Lookup a k n origins q ls
+  Miss : (q < a + k) ⊎ (a + k + n ≤ q) → ls ≡ Mem q ∷ [] → Lookup a k n origins q ls
 
 abbrev table : ℕ → (ℕ → List Loc) → ℕ → ℕ → List Target
 table a origins k n = map (λ i. record { loc = Mem (wrap (a + i)); origins = origins i }) (range_with_len k n)
 
-find_from : (a k n : ℕ) (origins : ℕ → List Loc) (q : ℕ) → a + k + n ≤ 2 ^ 32 → Found a k n origins q (origins_by (table a origins k n) (Mem q))
+find_from : (a k n : ℕ) (origins : ℕ → List Loc) (q : ℕ) → a + k + n ≤ 2 ^ 32 → Lookup a k n origins q (origins_by (table a origins k n) (Mem q))
 find_from a k zero origins q h = by (cases_lt q (a + k))
   where
-    by : (q < a + k) ⊎ (a + k ≤ q) → Found a k zero origins q (Mem q ∷ [])
+    by : (q < a + k) ⊎ (a + k ≤ q) → Lookup a k zero origins q (Mem q ∷ [])
     by (inl g) = Miss (inl g) refl
     by (inr g) = Miss (inr (omega arith)) refl
 find_from a k (suc n) origins q h = by (find_from a (k + 1) n origins q (omega arith)) (wrap (a + k) == q) refl
@@ -70,12 +70,12 @@ find_from a k (suc n) origins q h = by (find_from a (k + 1) n origins q (omega a
     whole : wrap (a + k) ≡ a + k
     whole = mod-eq_of_lt (omega arith)
 
-    wider : (ls : List Loc) → (a + k ≡ q → ⊥) → Found a (k + 1) n origins q ls → Found a k (suc n) origins q ls
+    wider : (ls : List Loc) → (a + k ≡ q → ⊥) → Lookup a (k + 1) n origins q ls → Lookup a k (suc n) origins q ls
     wider ls d (Hit i x y e f) = Hit i (omega arith) (omega arith) e f
     wider ls d (Miss (inl x) f) = Miss (inl (omega (arith, d))) f
     wider ls d (Miss (inr x) f) = Miss (inr (omega arith)) f
 
-    by : Found a (k + 1) n origins q (origins_by (table a origins (k + 1) n) (Mem q)) → (b : Bool) → (wrap (a + k) == q) ≡ b → Found a k (suc n) origins q (cond b (origins k) (origins_by (table a origins (k + 1) n) (Mem q)))
+    by : Lookup a (k + 1) n origins q (origins_by (table a origins (k + 1) n) (Mem q)) → (b : Bool) → (wrap (a + k) == q) ≡ b → Lookup a k (suc n) origins q (cond b (origins k) (origins_by (table a origins (k + 1) n) (Mem q)))
     by ih true t = Hit k (omega arith) (omega arith) (sym (eqb-true (wrap (a + k)) q t) ∙ whole) refl
     by ih false t = wider _ (λ e. eqb-false (wrap (a + k)) q t (whole ∙ e)) ih
 
@@ -145,7 +145,7 @@ module _ {s t : State} {rule : Rule} {P : List Loc → ℕ → ℕ → Type 0} (
       hy : Holds t.base (length t.memory) a (length ys)
       hy = subst (Holds t.base (length t.memory) a) (sym ey) ht
 
-      by : (ls : List Loc) → Found a 0 n origins m ls → P ls (byte_in s.base (overwritten s.memory (a - s.base) xs) m) (byte_in t.base (overwritten t.memory (a - t.base) ys) m)
+      by : (ls : List Loc) → Lookup a 0 n origins m ls → P ls (byte_in s.base (overwritten s.memory (a - s.base) xs) m) (byte_in t.base (overwritten t.memory (a - t.base) ys) m)
       by ls (Hit i x y e f) = subst (λ (ms : List Loc). P ms (byte_in s.base (overwritten s.memory (a - s.base) xs) m) (byte_in t.base (overwritten t.memory (a - t.base) ys) m)) (sym f) (carry (origins i) (byte_in s.base (overwritten s.memory (a - s.base) xs) m) (get_or xs i 0) (byte_in t.base (overwritten t.memory (a - t.base) ys) m) (get_or ys i 0) (put_in s.base s.memory a xs m i hx e (omega arith)) (put_in t.base t.memory a ys m i hy e (omega arith)) (each i (omega arith)))
       by ls (Miss o f) = subst (λ (ms : List Loc). P ms (byte_in s.base (overwritten s.memory (a - s.base) xs) m) (byte_in t.base (overwritten t.memory (a - t.base) ys) m)) (sym f) (carry (Mem m ∷ []) (byte_in s.base (overwritten s.memory (a - s.base) xs) m) (byte_in s.base s.memory m) (byte_in t.base (overwritten t.memory (a - t.base) ys) m) (byte_in t.base t.memory m) (put_out s.base s.memory a xs m hx (out (length xs) ex o)) (put_out t.base t.memory a ys m hy (out (length ys) ey o)) (c.self (Mem m)))
         where

@@ -14,7 +14,7 @@ use Rattle.flow_model.specs.Origins.{byte_at, step_at}
 use Rattle.flow_model.specs.Ranges.{IsLocation, AreLocations, IsTable, IsInRange}
 use Rattle.flow_model.proofs.Located.{flow_table, cleared_table}
 use Rattle.path_model.specs.declared.Arrival.{Arrival}
-use Rattle.path_model.specs.Paths.{is_target, puts_by, puts, brings, first_of, behind, arrived, path_if_put, path_after, path}
+use Rattle.path_model.specs.Paths.{is_target, puts_by, puts, brings, first_of, earlier_path, arrived, path_if_put, path_after, path}
 use Rattle.flow_path.specs.declared.nodes.Node.{Node}
 use Rattle.flow_path.specs.declared.carriers.Carriers.{Carriers}
 use Rattle.flow_path.specs.declared.trail.Trail.{Trail}
@@ -41,7 +41,7 @@ put_by rule s step f l call =
 
 put_is : (rule : Rule) (s : SourceByte) (step : StepSeen) (f : Paths) (l : Loc) → path_if_put (puts rule step l) rule s step.number step f l ≡ put_by rule s step f l step.call
 put_is rule s step f l = by (puts rule step l) where
-  by : (b : Bool) → path_if_put b rule s step.number step f l ≡ (if b then arrived step.number l (behind rule s step f l) else f l)
+  by : (b : Bool) → path_if_put b rule s step.number step f l ≡ (if b then arrived step.number l (earlier_path rule s step f l) else f l)
   by true = refl
   by false = refl
 

@@ -3,13 +3,13 @@ use Rattle.std.specs.Prelude.{ℕ, suc, ◌<◌, List, [], ◌∷◌, ◌++◌, 
 use Rattle.path_model.specs.declared.Arrival.{Arrival}
 use Rattle.flow_path.specs.declared.nodes.Node.{Node}
 
--- the path of the node behind, if there is one
-abbrev pub path_behind : List (List Arrival) → Option ℕ → List Arrival
-path_behind paths None = []
-path_behind paths (Some i) = slice_index_or paths i []
+-- the path of the previous node, if there is one
+abbrev pub previous_path : List (List Arrival) → Option ℕ → List Arrival
+previous_path paths None = []
+previous_path paths (Some i) = slice_index_or paths i []
 
 abbrev pub path_of_node : List (List Arrival) → Node → List Arrival
-path_of_node paths n = n.arrival ∷ path_behind paths n.behind
+path_of_node paths n = n.arrival ∷ previous_path paths n.previous
 
 -- the paths of nodes that are made after those of these paths
 abbrev pub paths_from : List (List Arrival) → List Node → List (List Arrival)
@@ -20,12 +20,12 @@ paths_from paths (n ∷ ns) = paths_from (paths ++ path_of_node paths n ∷ []) 
 abbrev pub paths_of : List Node → List (List Arrival)
 paths_of nodes = paths_from [] nodes
 
--- the node behind has a lower number
-abbrev pub IsBehind : ℕ → Option ℕ → Type 0
-IsBehind n None = Unit {0}
-IsBehind n (Some i) = i < n
+-- the previous node has a lower number
+abbrev pub IsEarlier : ℕ → Option ℕ → Type 0
+IsEarlier n None = Unit {0}
+IsEarlier n (Some i) = i < n
 
 -- so it is with each node, where the first of them has the number n
-abbrev pub AreBehind : ℕ → List Node → Type 0
-AreBehind n [] = Unit {0}
-AreBehind n (x ∷ xs) = IsBehind n x.behind × AreBehind (suc n) xs
+abbrev pub AreEarlier : ℕ → List Node → Type 0
+AreEarlier n [] = Unit {0}
+AreEarlier n (x ∷ xs) = IsEarlier n x.previous × AreEarlier (suc n) xs

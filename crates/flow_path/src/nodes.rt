@@ -1,4 +1,4 @@
-//! The arrivals of one source byte, each with the one behind it.
+//! The arrivals of one source byte, each with the previous one.
 
 ghost use Rattle.std.specs.Prelude.{◌≡◌, ◌<◌, [], length, slice_index_or, IfOk};
 ghost use Rattle.std.specs.Option.{option_map};
@@ -12,11 +12,11 @@ use path_model::Arrival;
 use std::alloc::Global;
 use std::marker::Model;
 
-/// An arrival, and the number of the node of the one behind it, where there is one.
+/// An arrival, and the number of the node of the previous one, where there is one.
 #[derive(Clone, Copy)]
 pub(crate) struct Node {
     arrival: Arrival,
-    behind: Option<u32>,
+    previous: Option<u32>,
 }
 
 /// What a location has of the source byte: nothing; the byte itself, which the step at hand read; or what came in the
@@ -41,7 +41,7 @@ impl Label {
     }
 }
 
-/// Nodes, in the order of making. The one behind a node stands before it.
+/// Nodes, in the order of making. The previous one of a node stands before it.
 #[derive(Drop)]
 pub(crate) struct Nodes {
     nodes: Vec<Node>,
@@ -53,13 +53,13 @@ const MOST_NODES: usize = u32::MAX as usize;
 impl Model for Nodes {
     ghost use Rattle.std.specs.Prelude.{List};
     ghost use Rattle.flow_path.specs.declared.nodes.Node.{Node};
-    ghost use Rattle.flow_path.specs.Nodes.{AreBehind};
+    ghost use Rattle.flow_path.specs.Nodes.{AreEarlier};
 
     ghost Value = { List Node };
 
     ghost view = { λ n. n.nodes.items };
 
-    ghost invariant = { λ n. AreBehind 0 n.nodes.items };
+    ghost invariant = { λ n. AreEarlier 0 n.nodes.items };
 }
 
 impl Nodes {
@@ -79,7 +79,7 @@ impl Nodes {
         ensures made { IfOk result (MakesLabel self.new (arrived number loc (path_at self.old label))) }
         ensures keeps { KeepsLabels self.old self.new }
     {
-        let behind = match label {
+        let previous = match label {
             Label::Nothing => return Ok(Label::Nothing),
             Label::Read => None,
             Label::At(node) => Some(node),
@@ -89,7 +89,7 @@ impl Nodes {
             return Err(NoMemory::past_count(Limit::PathNodes, size as u64));
         }
         let arrival = Arrival { number, loc };
-        self.nodes.push(Node { arrival, behind })?;
+        self.nodes.push(Node { arrival, previous })?;
         Ok(Label::At(size as u32))
     }
 
@@ -108,7 +108,7 @@ impl Nodes {
         }
     }
 
-    /// The arrivals of a node and of those behind it, the latest first.
+    /// The arrivals of a node and of those before it, the latest first.
     fn walk(&self, alloc: Global, last: u32) -> Result<Vec<Arrival>, NoMemory>
         requires { last < length self.now }
         ensures { IfOk result (λ v. v.items ≡ slice_index_or (paths_of self.now) last []) }
@@ -118,7 +118,7 @@ impl Nodes {
         while let Some(index) = next {
             let node = self.nodes[index as usize];
             arrivals.push(node.arrival)?;
-            next = node.behind;
+            next = node.previous;
         }
         Ok(arrivals)
     }

@@ -20,7 +20,7 @@ use Rattle.pass_parts.specs.Ends.{got_by, unsent, sent_by, with}
 use Rattle.pass_parts.specs.Events.{IsEvent, IsAtRest}
 use Rattle.pass_parts.proofs.Events.{links_of, free, stuck, sent_same, still_none, refused, was_over}
 use Rattle.pass_parts.specs.Requests.{locations, AreCounted}
-use Rattle.forward_pass.specs.Came.{is_answerable}
+use Rattle.forward_pass.specs.Received.{is_answerable}
 use Rattle.forward_pass.specs.Rest.{rest_of}
 use Rattle.forward_pass.specs.Forward.{ForeView, known_by, answering_of, fore_state, ForeKeeps, IsSameFore, forwards}
 use Rattle.forward_pass.specs.Steps.{with_answer, with_rows, Builds, Resolves, CannotAnswer, is_whole_after, Takes, Moves, Sends, IsQuiet}
@@ -85,26 +85,26 @@ whole_end (Byte x) w h = true-false (sym h)
 whole_end (Close l) w h = true-false (sym h)
 whole_end (End x) w h = ap (λ (b : Bool). End b) w
 
-keeps_pop : (v new : ForeView) (got sent later : Option (List Message)) (m : Message) → v.came.is_ended ≡ false → ForeKeeps v got sent → later ≡ with m got → Takes m v new
+keeps_pop : (v new : ForeView) (got sent later : Option (List Message)) (m : Message) → v.received.is_ended ≡ false → ForeKeeps v got sent → later ≡ with m got → Takes m v new
     → ForeKeeps new later sent
 keeps_pop v new None sent later m o k e t = true-false (sym k.heard ∙ o)
 keeps_pop v new (Some got) sent later m o k e t =
-    subst (λ n. ForeKeeps n later sent) (sym t.is) (subst (λ g. ForeKeeps (record v { came = new.came; whole = new.whole }) g sent) (sym e) kept) where
+    subst (λ n. ForeKeeps n later sent) (sym t.is) (subst (λ g. ForeKeeps (record v { received = new.received; whole = new.whole }) g sent) (sym e) kept) where
       running : is_ended got ≡ false
       running = sym k.heard ∙ o
 
-      ended : new.came.is_ended ≡ is_ended (m ∷ [])
+      ended : new.received.is_ended ≡ is_ended (m ∷ [])
       ended = t.ended ∙ ap (λ (b : Bool). is_ended (m ∷ []) || b) o ∙ or-false (is_ended (m ∷ []))
 
       was : new.whole ≡ true → (v.whole ≡ true) × (is_whole_message m ≡ true)
       was w = was_whole v.whole t.is_refused m (sym t.whole ∙ w)
 
-      kept : ForeKeeps (record v { came = new.came; whole = new.whole }) (Some (got ++ m ∷ [])) sent
+      kept : ForeKeeps (record v { received = new.received; whole = new.whole }) (Some (got ++ m ∷ [])) sent
       kept = record {
         known = λ w. k.known (was w).0;
         heard = ended ∙ sym (ended_after got (m ∷ []) running);
         alone = k.alone;
-        received = λ w. from_more m got v.asked v.came new.came o (t.came w) (k.received (was w).0);
+        received = λ w. from_more m got v.asked v.received new.received o (t.received w) (k.received (was w).0);
         counted = λ w _. k.counted (was w).0 o;
         ends = λ w h. (got, ap (λ (x : Message). got ++ x ∷ []) (whole_end m (was w).1 (sym ended ∙ h)));
       }
@@ -131,9 +131,9 @@ keeps_push v sending over got sent later m e alone k = record {
 
 module _ (v : ForeView) (got sent : Option (List Message)) (k : ForeKeeps v got sent) where
   request_is : (r : Request) (left : List Request) → v.whole ≡ true → v.left ≡ r ∷ left
-      → is_answerable v.came r ≡ is_resolvable v.asked (got_by got) ((known_by v).ends r.loc)
+      → is_answerable v.received r ≡ is_resolvable v.asked (got_by got) ((known_by v).ends r.loc)
   request_is r left w d =
-      answerable_is (known_by v) (got_by got) v.asked v.came r left k.heard (k.received w) (λ o. subst (AreCounted v.asked (known_by v)) d (k.counted w o))
+      answerable_is (known_by v) (got_by got) v.asked v.received r left k.heard (k.received w) (λ o. subst (AreCounted v.asked (known_by v)) d (k.counted w o))
 
   -- a growth is refused
   breaks : v.over ≡ false → answering_event (known_by v) v.asked (free true) (fore_state v got sent) ≡ record (fore_state v got sent) { is_whole = false }
@@ -141,7 +141,7 @@ module _ (v : ForeView) (got sent : Option (List Message)) (k : ForeKeeps v got 
   breaks o h = record {
     happens = record {
       links = free true;
-      went = (refl, refl);
+      could_move = (refl, refl);
       is = ap (λ (ms : List Message). record (fore_state v got sent) { sent = ms; is_whole = false }) (sent_same v.over v.over false v.whole o o sent) ∙ sym h;
     };
     keeps = record { known = λ t. true-false (sym t); heard = k.heard; alone = k.alone; received = λ t. true-false (sym t); counted = λ t. true-false (sym t); ends = λ t. true-false (sym t) };
@@ -168,9 +168,9 @@ module _ (v : ForeView) (got sent : Option (List Message)) (k : ForeKeeps v got 
     by false = record {
       happens = record {
         links = free false;
-        went = (refl, refl);
+        could_move = (refl, refl);
         is = ap (λ (source : Loc → List SourceByte). record (fore_state v got sent) { left = locations b.left; sending = answer b.request.loc (resolved source ((known_by v).ends b.request.loc)) })
-            (heard_is (got_by got) v.asked v.came (k.received w)) ∙ sym (at (free false));
+            (heard_is (got_by got) v.asked v.received (k.received w)) ∙ sym (at (free false));
       };
       keeps = record {
         known = k.known;
@@ -199,9 +199,9 @@ module _ (v : ForeView) (got sent : Option (List Message)) (k : ForeKeeps v got 
     by false = record {
       happens = record {
         links = free false;
-        went = (refl, refl);
+        could_move = (refl, refl);
         is = ap (λ (source : Loc → List SourceByte). record (fore_state v got sent) { rows = Some (rows_of (known_by v) source) })
-            (heard_is (got_by got) v.asked v.came (k.received w)) ∙ sym (at (free false));
+            (heard_is (got_by got) v.asked v.received (k.received w)) ∙ sym (at (free false));
       };
       keeps = record { known = k.known; heard = k.heard; alone = k.alone; received = k.received; counted = k.counted; ends = k.ends };
       same = record { summary = refl; asked = refl };
@@ -215,14 +215,14 @@ module _ (v : ForeView) (got sent : Option (List Message)) (k : ForeKeeps v got 
 
   -- nothing can be done without a link: a message is taken
   on_pop : (links : Links) → IsAtRest forwards IsQuiet false v → (b : Bool) → v.whole ≡ b → (left : List Request) → v.left ≡ left
-      → answering_event (known_by v) v.asked links (fore_state v got sent) ≡ pop_by b links.is_refused (fore_state v got sent) links.next
+      → answering_event (known_by v) v.asked links (fore_state v got sent) ≡ pop_by b links.is_refused (fore_state v got sent) links.item
   on_pop links r false w left d = on_broken (known_by v) v.asked links (fore_state v got sent) r.running w ∙ ap (broken_answering links (fore_state v got sent)) (sym k.heard ∙ r.ended)
   on_pop links r true w [] d =
       on_last (known_by v) v.asked links (fore_state v got sent) r.running w (r.idle w).sending (ap locations d) ∙ ap (pop_or_end (known_by v) v.asked links (fore_state v got sent)) (sym k.heard ∙ r.ended)
   on_pop links r true w (q ∷ left) d =
       on_request (known_by v) v.asked links (fore_state v got sent) q.loc (locations left) r.running w (r.idle w).sending (ap locations d)
       ∙ ap (λ (b : Bool). build_or_pop b (known_by v) v.asked links (fore_state v got sent) q.loc (locations left))
-      (sym (request_is q left w d) ∙ subst (CannotAnswer v.came) d (r.idle w).requests)
+      (sym (request_is q left w d) ∙ subst (CannotAnswer v.received) d (r.idle w).requests)
 
   -- or the End is sent
   on_end : (links : Links) → IsAtRest forwards IsQuiet true v → (b : Bool) → v.whole ≡ b → (left : List Request) → v.left ≡ left
@@ -232,16 +232,16 @@ module _ (v : ForeView) (got sent : Option (List Message)) (k : ForeKeeps v got 
       on_last (known_by v) v.asked links (fore_state v got sent) r.running w (r.idle w).sending (ap locations d) ∙ ap (pop_or_end (known_by v) v.asked links (fore_state v got sent)) (sym k.heard ∙ r.ended)
       ∙ ap (resolve_or_end (known_by v) v.asked links (fore_state v got sent)) (some_is v.rows ((r.idle w).sinks d r.ended)).1
   on_end links r true w (q ∷ left) d =
-      true-false (sym (answerable q) ∙ subst (CannotAnswer v.came) d (r.idle w).requests) where
-        answerable : (q : Request) → is_answerable v.came q ≡ true
-        answerable q = ap (λ (b : Bool). b || nat_le q.needed_first (length v.came.answers)) r.ended
+      true-false (sym (answerable q) ∙ subst (CannotAnswer v.received) d (r.idle w).requests) where
+        answerable : (q : Request) → is_answerable v.received q ≡ true
+        answerable q = ap (λ (b : Bool). b || nat_le q.needed_first (length v.received.answers)) r.ended
 
   -- an event that takes a message needs one
   pub needs_item : IsAtRest forwards IsQuiet false v → answering_need (known_by v) v.asked (fore_state v got sent) ≡ Item
   needs_item r = ap₂ (answering_need_by (known_by v) v.asked (fore_state v got sent)) r.running refl ∙ by v.whole refl where
     at : v.whole ≡ true → (left : List Request) → v.left ≡ left → whole_answering_need (known_by v) v.asked (fore_state v got sent) [] (locations left) ≡ Item
     at w [] d = ap (λ (b : Bool). last_need b v.rows) (sym k.heard ∙ r.ended)
-    at w (q ∷ left) d = ap nothing_or_item (sym (request_is q left w d) ∙ subst (CannotAnswer v.came) d (r.idle w).requests)
+    at w (q ∷ left) d = ap nothing_or_item (sym (request_is q left w d) ∙ subst (CannotAnswer v.received) d (r.idle w).requests)
 
     by : (b : Bool) → v.whole ≡ b → answering_need_by (known_by v) v.asked (fore_state v got sent) false b ≡ Item
     by true w = ap (λ (ms : List Message). whole_answering_need (known_by v) v.asked (fore_state v got sent) ms (locations v.left)) (r.idle w).sending ∙ at w v.left refl
@@ -252,7 +252,7 @@ module _ (v : ForeView) (got sent : Option (List Message)) (k : ForeKeeps v got 
   push_next new later m s e n =
       subst (λ new. IsEvent forwards v got sent new got later Moved) (sym n)
       (record {
-        happens = record { links = free false; went = (refl, refl); is = by sent k.alone e };
+        happens = record { links = free false; could_move = (refl, refl); is = by sent k.alone e };
         keeps = keeps_push v (rest_of v.sending) v.over got sent later m e (λ a. (a.0, ap rest_of a.1)) k;
         same = record { summary = refl; asked = refl };
         over = tt;
@@ -288,7 +288,7 @@ module _ (v : ForeView) (got sent : Option (List Message)) (k : ForeKeeps v got 
     pub pop_next : (new : ForeView) (later : Option (List Message)) (m : Message) → IsAtRest forwards IsQuiet false v → later ≡ with m got → Takes m seen new
         → IsEvent forwards v got sent new later sent Moved
     pop_next new later m r e from_seen = record {
-      happens = record { links = links_of true (Some m) t.is_refused; went = (refl, refl); is = by got e (sym k.heard ∙ r.ended) (on_pop (links_of true (Some m) t.is_refused) r v.whole refl v.left refl) };
+      happens = record { links = links_of true (Some m) t.is_refused; could_move = (refl, refl); is = by got e (sym k.heard ∙ r.ended) (on_pop (links_of true (Some m) t.is_refused) r v.whole refl v.left refl) };
       keeps = keeps_pop v new got sent later m r.ended k e t;
       same = subst (λ n. IsSameFore n v) (sym t.is) (record { summary = refl; asked = refl });
       over = tt;
@@ -323,7 +323,7 @@ module _ (v : ForeView) (got sent : Option (List Message)) (k : ForeKeeps v got 
         subst (λ u. later ≡ with (End u.whole) sent → IsEvent forwards v got sent (record u { over = true }) got later Over) (sym is)
         (λ e.
         record {
-          happens = record { links = free false; went = tt; is = by sent e (on_end (free false) r v.whole refl v.left refl) };
+          happens = record { links = free false; could_move = tt; is = by sent e (on_end (free false) r v.whole refl v.left refl) };
           keeps = keeps_push v v.sending true got sent later (End v.whole) e (λ a. a) k;
           same = record { summary = refl; asked = refl };
           over = refl;

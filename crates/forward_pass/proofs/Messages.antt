@@ -13,16 +13,16 @@ use Rattle.stream_model.specs.Streams.{is_ended, answers_in, heard, is_answered,
 use Rattle.pass_parts.specs.declared.requests.Request.{Request}
 use Rattle.pass_parts.specs.Requests.{IsCounted, AreCounted}
 use Rattle.pass_parts.proofs.Counted.{answerable_by_count}
-use Rattle.forward_pass.specs.Came.{Came, came_with, CameFrom, is_answerable}
+use Rattle.forward_pass.specs.Received.{ReceivedView, received_with, IsReceivedFrom, is_answerable}
 
 -- one message more
-pub from_more : (m : Message) (got : List Message) (asked : List Loc) (old new : Came) → old.is_ended ≡ false → new ≡ came_with old m
-    → CameFrom got asked old → CameFrom (got ++ m ∷ []) asked new
-from_more m got asked old new o e r = subst (CameFrom (got ++ m ∷ []) asked) (sym e) (by m) where
+pub from_more : (m : Message) (got : List Message) (asked : List Loc) (old new : ReceivedView) → old.is_ended ≡ false → new ≡ received_with old m
+    → IsReceivedFrom got asked old → IsReceivedFrom (got ++ m ∷ []) asked new
+from_more m got asked old new o e r = subst (IsReceivedFrom (got ++ m ∷ []) asked) (sym e) (by m) where
   goes_on : (m : Message) (more : List Message) → answers_in [] ((got ++ m ∷ []) ++ more) ≡ old.answers ++ answers_in old.so_far (m ∷ more)
   goes_on m more = ap (answers_in []) (append_assoc got (m ∷ []) more) ∙ r.running o (m ∷ more)
 
-  by : (m : Message) → CameFrom (got ++ m ∷ []) asked (came_with old m)
+  by : (m : Message) → IsReceivedFrom (got ++ m ∷ []) asked (received_with old m)
   by (Ask l) = record { running = λ _. goes_on (Ask l); ended = λ t. true-false (sym t ∙ o) }
   by (Byte b) = record { running = λ _. goes_on (Byte b); ended = λ t. true-false (sym t ∙ o) }
   by (Close l) = record {
@@ -35,18 +35,18 @@ from_more m got asked old new o e r = subst (CameFrom (got ++ m ∷ []) asked) (
   }
 
 -- until the End, what came are the answers in what was got
-running_answers : (got : List Message) (asked : List Loc) (c : Came) → CameFrom got asked c → c.is_ended ≡ false → c.answers ≡ answers_in [] got
+running_answers : (got : List Message) (asked : List Loc) (c : ReceivedView) → IsReceivedFrom got asked c → c.is_ended ≡ false → c.answers ≡ answers_in [] got
 running_answers got asked c r o = sym (append-nil c.answers) ∙ sym (r.running o []) ∙ ap (answers_in []) (append-nil got)
 
-pub heard_is : (got : List Message) (asked : List Loc) (c : Came) → CameFrom got asked c → answer_to asked c.answers ≡ heard asked got
+pub heard_is : (got : List Message) (asked : List Loc) (c : ReceivedView) → IsReceivedFrom got asked c → answer_to asked c.answers ≡ heard asked got
 heard_is got asked c r = by c.is_ended refl where
   by : (b : Bool) → c.is_ended ≡ b → answer_to asked c.answers ≡ heard asked got
   by true e = λ i l. r.ended e l i
   by false e = ap (answer_to asked) (running_answers got asked c r e)
 
 -- the count tells whether the terms of the request are resolvable
-pub answerable_is : (e : EpochSummary) (got : List Message) (asked : List Loc) (c : Came) (r : Request) (left : List Request)
-    → c.is_ended ≡ is_ended got → CameFrom got asked c → (c.is_ended ≡ false → AreCounted asked e (r ∷ left))
+pub answerable_is : (e : EpochSummary) (got : List Message) (asked : List Loc) (c : ReceivedView) (r : Request) (left : List Request)
+    → c.is_ended ≡ is_ended got → IsReceivedFrom got asked c → (c.is_ended ≡ false → AreCounted asked e (r ∷ left))
     → is_answerable c r ≡ is_resolvable asked got (e.ends r.loc)
 answerable_is e got asked c r left h f counted = by c.is_ended refl where
   by : (b : Bool) → c.is_ended ≡ b → is_answerable c r ≡ is_resolvable asked got (e.ends r.loc)

@@ -20,19 +20,19 @@ use Rattle.lists.proofs.Places.{rising}
 use Rattle.answer_sets.proofs.Members.{compared, order_is}
 
 module _ {K : Type 0} {R : K → K → Ordering} (o : IsTotalOrder R) where
-  -- it comes before the member at i, and behind all that stand before that
+  -- it comes before the member at i, and after all that stand before that
   pub inserted_at : (x : K) (xs : List K) (i : ℕ) → i ≤ length xs
       → ((j : ℕ) (d : K) → j < i → R (get_or xs j d) x ≡ Less)
       → ((d : K) → i < length xs → R (get_or xs i d) x ≡ Greater)
       → inserted R x xs ≡ take i xs ++ x ∷ drop i xs
-  inserted_at x [] zero h before behind = refl
-  inserted_at x [] (suc i) h before behind = absurd (omega arith)
-  inserted_at x (y ∷ ys) zero h before behind = ap (λ (r : Ordering). placed r x y ys (inserted R x ys)) (greater_turned o y x (behind x (omega arith)))
-  inserted_at x (y ∷ ys) (suc i) h before behind =
+  inserted_at x [] zero h before after = refl
+  inserted_at x [] (suc i) h before after = absurd (omega arith)
+  inserted_at x (y ∷ ys) zero h before after = ap (λ (r : Ordering). placed r x y ys (inserted R x ys)) (greater_turned o y x (after x (omega arith)))
+  inserted_at x (y ∷ ys) (suc i) h before after =
       ap (λ (r : Ordering). placed r x y ys (inserted R x ys)) (less_turned o y x (before 0 x (omega arith)))
-      ∙ ap (λ (zs : List K). y ∷ zs) (inserted_at x ys i (omega arith) (λ j d k. before (suc j) d (omega arith)) (λ d k. behind d (omega arith)))
+      ∙ ap (λ (zs : List K). y ∷ zs) (inserted_at x ys i (omega arith) (λ j d k. before (suc j) d (omega arith)) (λ d k. after d (omega arith)))
 
-  -- behind the last member, it comes behind all
+  -- after the last member, it comes after all
   pub inserted_last : (x last : K) (xs : List K) → Ascends R xs → slice_get xs (length xs - 1) ≡ Some last → R last x ≡ Less
       → inserted R x xs ≡ xs ++ x ∷ []
   inserted_last x last xs a at less =

@@ -18,7 +18,7 @@ use Rattle.pass_parts.specs.Ends.{EndsWhole, got_by, fresh_end}
 use Rattle.pass_parts.specs.Known.{known}
 use Rattle.pass_parts.specs.Requests.{locations, AreCounted}
 use Rattle.epoch_model.specs.Join.{answer_to}
-use Rattle.forward_pass.specs.Came.{CameFrom}
+use Rattle.forward_pass.specs.Received.{IsReceivedFrom}
 use Rattle.forward_pass.specs.Forward.{ForeView, new_fore, known_by, ForeKeeps, IsSameFore, ForeHappens, ForeReached, ForeSends}
 
 after_one_more : (e : EpochSummary) (asked : List Loc) (schedule : List Links) (links : Links) (f : Answering)
@@ -76,7 +76,7 @@ module _ (s : Option Summary) (asked : List Loc) (requests : List Request) (whol
           by true = refl
           by false = sym (no_answer ls l)
 
-        received : (b : Bool) → CameFrom (got_by (fresh_end b)) asked (record { answers = []; so_far = []; is_ended = b })
+        received : (b : Bool) → IsReceivedFrom (got_by (fresh_end b)) asked (record { answers = []; so_far = []; is_ended = b })
         received true = record { running = λ t. true-false t; ended = λ _. nothing asked }
         received false = record { running = λ _ more. refl; ended = λ t. true-false (sym t) }
 

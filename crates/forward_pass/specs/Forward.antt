@@ -14,10 +14,10 @@ use Rattle.pass_parts.specs.declared.requests.Request.{Request}
 use Rattle.pass_parts.specs.Ends.{EndsWhole, got_by, sent_by}
 use Rattle.pass_parts.specs.Known.{known}
 use Rattle.pass_parts.specs.Requests.{locations, AreCounted}
-use Rattle.pass_parts.specs.Knowing.{is_whole, summary_in}
+use Rattle.pass_parts.specs.PassSummaries.{is_whole, summary_in}
 use Rattle.pass_parts.specs.Events.{Events, Happened}
 use Rattle.forward_pass.specs.declared.state.Fore.{Fore}
-use Rattle.forward_pass.specs.Came.{Came, CameFrom}
+use Rattle.forward_pass.specs.Received.{ReceivedView, IsReceivedFrom}
 use Rattle.forward_pass.specs.Rows.{rows_by, rows_in}
 
 pub record ForeView : Type 0 where
@@ -26,7 +26,7 @@ pub record ForeView : Type 0 where
   -- the requests that are not answered yet, and the rest of the answer that is being sent
   pub left : List Request
   pub sending : List Message
-  pub came : Came
+  pub received : ReceivedView
   -- the rows of the sinks, once they are resolved
   pub rows : Option (List Row)
   pub whole : Bool
@@ -39,7 +39,7 @@ fore_of f = record {
   asked = f.asked;
   left = drop f.answered f.requests.items;
   sending = f.sending.left;
-  came = f.received;
+  received = f.received;
   rows = rows_in f.rows (rows_by (summary_in f.epoch) f.asked f.received.answers);
   whole = is_whole f.epoch;
   over = f.over;
@@ -51,7 +51,7 @@ new_fore s asked requests whole first = record {
   asked = asked;
   left = requests;
   sending = [];
-  came = record { answers = []; so_far = []; is_ended = first };
+  received = record { answers = []; so_far = []; is_ended = first };
   rows = None;
   whole = whole;
   over = false;
@@ -79,12 +79,12 @@ fore_state v got sent = answering_of v (got_by got) (sent_by v.over v.whole sent
 pub record ForeKeeps (v : ForeView) (got sent : Option (List Message)) : Type 0 where
   pub known : v.whole ≡ true → IsSome v.summary
   -- the End came through the inlet, or there is none
-  pub heard : v.came.is_ended ≡ is_ended (got_by got)
+  pub heard : v.received.is_ended ≡ is_ended (got_by got)
   -- the last node answers nothing
   pub alone : IfNone sent ((v.left ≡ []) × (v.sending ≡ []))
-  pub received : v.whole ≡ true → CameFrom (got_by got) v.asked v.came
-  pub counted : v.whole ≡ true → v.came.is_ended ≡ false → AreCounted v.asked (known_by v) v.left
-  pub ends : v.whole ≡ true → v.came.is_ended ≡ true → EndsWhole (got_by got)
+  pub received : v.whole ≡ true → IsReceivedFrom (got_by got) v.asked v.received
+  pub counted : v.whole ≡ true → v.received.is_ended ≡ false → AreCounted v.asked (known_by v) v.left
+  pub ends : v.whole ≡ true → v.received.is_ended ≡ true → EndsWhole (got_by got)
 
 -- what no event changes
 pub record IsSameFore (new old : ForeView) : Type 0 where
@@ -99,7 +99,7 @@ forwards = record {
   Keeps = ForeKeeps;
   IsSame = IsSameFore;
   is_over = λ v. v.over;
-  is_ended = λ v. v.came.is_ended;
+  is_ended = λ v. v.received.is_ended;
 }
 
 -- the event is that of the definitions

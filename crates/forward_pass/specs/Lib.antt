@@ -1,4 +1,4 @@
-pub mod Came
+pub mod Received
 pub mod Rest
 pub mod Rows
 pub mod Forward

@@ -24,7 +24,8 @@ use flow_model::{Loc, Message, SourceByte};
 use merge_log::TermsReader;
 use no_memory::NoMemory;
 use pass_parts::{
-    Knowledge, Next, PassTurn, Requests, pop_message, push_message, read_end_terms, share_end_terms,
+    PassStep, PassSummary, PassTurn, Requests, pop_message, push_message, read_end_terms,
+    share_end_terms,
 };
 use std::alloc::Global;
 use std::mem;
@@ -93,7 +94,7 @@ impl Fore {
             (fresh_end last) }
     {
         Fore {
-            epoch: Knowledge::new(summary, whole),
+            epoch: PassSummary::new(summary, whole),
             asked,
             requests,
             answered: 0,
@@ -146,22 +147,22 @@ impl Fore {
             inlet.new outlet.new result }
     {
         match self.next() {
-            Next::Moved => PassTurn::Moved,
-            Next::Send(message) => {
+            PassStep::Moved => PassTurn::Moved,
+            PassStep::Send(message) => {
                 if !push_message(outlet, message) {
                     return PassTurn::NotYet;
                 }
                 self.sending.advance();
                 PassTurn::Moved
             }
-            Next::Receive => {
+            PassStep::Receive => {
                 let Some(message) = pop_message(inlet) else {
                     return PassTurn::NotYet;
                 };
                 self.take(message);
                 PassTurn::Moved
             }
-            Next::End => {
+            PassStep::End => {
                 let whole = self.whole();
                 let end = Message::End { whole };
                 if !push_message(outlet, end) {
@@ -170,30 +171,30 @@ impl Fore {
                 self.over = true;
                 PassTurn::Over
             }
-            Next::Over => PassTurn::Over,
+            PassStep::Over => PassTurn::Over,
         }
     }
 
     /// What the pass does next. What needs no link is done.
-    fn next(&mut self) -> Next
+    fn next(&mut self) -> PassStep
         ensures { IsNextFore result (fore_of self.new) (fore_of self.old) }
     {
         if self.over {
-            return Next::Over;
+            return PassStep::Over;
         }
         if let Some(message) = self.waiting() {
-            return Next::Send(message);
+            return PassStep::Send(message);
         }
         if self.build() {
-            return Next::Moved;
+            return PassStep::Moved;
         }
         if self.resolve() {
-            return Next::Moved;
+            return PassStep::Moved;
         }
         if self.received.ended() {
-            Next::End
+            PassStep::End
         } else {
-            Next::Receive
+            PassStep::Receive
         }
     }
 
@@ -215,7 +216,7 @@ impl Fore {
         ensures none { result ≡ false → (fore_of self.new ≡ fore_of self.old) × HasBuilt (fore_of self.old) }
         ensures built { result ≡ true → Builds (fore_of self.old) (fore_of self.new) }
     {
-        let Knowledge::Whole(summary) = &self.epoch else {
+        let PassSummary::Whole(summary) = &self.epoch else {
             return false;
         };
         if self.answered >= self.requests.len() {
@@ -270,7 +271,7 @@ impl Fore {
 
     /// Takes a message. Where a growth is refused, or an End isn't whole, the pass is broken.
     fn take(&mut self, message: Message)
-        requires { (fore_of self.old).came.is_ended ≡ false }
+        requires { (fore_of self.old).received.is_ended ≡ false }
         ensures { Takes message (fore_of self.old) (fore_of self.new) }
     {
         self.last = None;

@@ -24,7 +24,7 @@ pub(crate) fn insert<T: Ord + Copy>(set: &mut Vec<T>, member: T) -> Result<(), N
     Ok(())
 }
 
-/// Whether a member comes behind all of a set.
+/// Whether a member comes after all of a set.
 fn is_above<T: Ord>(member: &T, set: &[T]) -> bool
     requires { Ascends T.cmp set.now }
     ensures { result ≡ true → inserted T.cmp member.now set.now ≡ set.now ++ member.now ∷ [] }

@@ -3,7 +3,7 @@
 ghost use Rattle.std.specs.Prelude.{◌≡◌, ◌||◌, [], ◌∷◌, OnOk};
 ghost use Rattle.flow_model.specs.declared.Message.TheVariants.{Byte};
 ghost use Rattle.stream_model.specs.Streams.{is_ended};
-ghost use Rattle.forward_pass.specs.Came.{closed, came_with, is_answerable};
+ghost use Rattle.forward_pass.specs.Received.{closed, received_with, is_answerable};
 
 use crate::inserting::insert;
 use answer_sets::Answers;
@@ -25,9 +25,9 @@ pub(crate) struct Received {
 impl Model for Received {
     ghost use Rattle.lists.specs.Sets.{Ascends};
     ghost use Rattle.flow_model.specs.Orders.{source_cmp};
-    ghost use Rattle.forward_pass.specs.Came.{Came};
+    ghost use Rattle.forward_pass.specs.Received.{ReceivedView};
 
-    ghost Value = { Came };
+    ghost Value = { ReceivedView };
 
     ghost view = { λ r. record { answers = r.answers; so_far = r.so_far.items; is_ended = r.ended } };
 
@@ -82,7 +82,7 @@ impl Received {
     /// Takes a message: a source byte into the answer that is open, and the end of an answer. An End is noted even when
     /// out of memory.
     pub(crate) fn take(&mut self, message: Message) -> Result<(), NoMemory>
-        ensures taken { OnOk result (self.new ≡ came_with self.old message) }
+        ensures taken { OnOk result (self.new ≡ received_with self.old message) }
         ensures ended { self.new.is_ended ≡ (is_ended (message ∷ []) || self.old.is_ended) }
     {
         match message {
@@ -105,7 +105,7 @@ impl Received {
 
     /// Adds a source byte to the answer that is open.
     fn add(&mut self, byte: SourceByte) -> Result<(), NoMemory>
-        ensures taken { OnOk result (self.new ≡ came_with self.old (Byte byte)) }
+        ensures taken { OnOk result (self.new ≡ received_with self.old (Byte byte)) }
         ensures ended { self.new.is_ended ≡ self.old.is_ended }
     {
         insert(&mut self.so_far, byte)

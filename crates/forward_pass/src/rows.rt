@@ -2,14 +2,14 @@
 
 ghost use Rattle.std.specs.Prelude.{◌≡◌, true, false, is_none, [], List, IfOk, IfSome, IfNone, Some, None};
 ghost use Rattle.report_model.specs.Rows.{Row};
-ghost use Rattle.pass_parts.specs.Knowing.{summary_in};
+ghost use Rattle.pass_parts.specs.PassSummaries.{summary_in};
 ghost use Rattle.forward_pass.specs.Rows.{is_due, rows_by, rows_in};
 
 use answer_sets::{Answers, rows};
 use epoch_summary::{Asked, Summary};
 use merge_log::TermsReader;
 use no_memory::NoMemory;
-use pass_parts::Knowledge;
+use pass_parts::PassSummary;
 use sink_collect::SinkSets;
 use std::alloc::Global;
 
@@ -51,13 +51,13 @@ impl SinkRows {
 }
 
 /// The summary that a pass has. A broken one may have none.
-fn summary_of(epoch: &Knowledge) -> Option<&Summary>
+fn summary_of(epoch: &PassSummary) -> Option<&Summary>
     ensures some { IfSome result (λ s. summary_in epoch.now ≡ Some s.now) }
     ensures none { IfNone result (summary_in epoch.now ≡ None) }
 {
     match epoch {
-        Knowledge::Whole(summary) => Some(summary),
-        Knowledge::Broken(summary) => summary.as_ref(),
+        PassSummary::Whole(summary) => Some(summary),
+        PassSummary::Broken(summary) => summary.as_ref(),
     }
 }
 
@@ -65,7 +65,7 @@ fn summary_of(epoch: &Knowledge) -> Option<&Summary>
 pub(crate) fn make_rows(
     alloc: Global,
     reader: &mut TermsReader,
-    epoch: &Knowledge,
+    epoch: &PassSummary,
     asked: &Asked,
     answers: &Answers,
 ) -> Result<SinkSets, NoMemory>

@@ -4,7 +4,7 @@ ghost use Rattle.std.specs.Prelude.{◌≡◌, true};
 ghost use Rattle.std.specs.Option.{ForSome};
 ghost use Rattle.epoch_model.specs.Join.{answer_to, resolved};
 ghost use Rattle.pass_parts.specs.Known.{known};
-ghost use Rattle.pass_parts.specs.Knowing.{IsOfEpoch, summary_in};
+ghost use Rattle.pass_parts.specs.PassSummaries.{IsOfEpoch, summary_in};
 ghost use Rattle.forward_pass.specs.Rows.{is_due};
 
 use crate::received::Received;
@@ -14,15 +14,15 @@ use epoch_summary::{Asked, TermsAhead};
 use flow_model::Loc;
 use merge_log::TermsReader;
 use no_memory::NoMemory;
-use pass_parts::{Knowledge, Requests};
+use pass_parts::{PassSummary, Requests};
 use sink_collect::SinkSets;
 
-/// Answers what the node behind asked, and resolves the sinks of the epoch.
+/// Answers what the next node asked, and resolves the sinks of the epoch.
 ///
 /// It is broken from where a growth is refused or an End comes that isn't whole. A broken pass takes no memory, sends
 /// nothing of what waits, and ends, not whole.
 pub struct Fore {
-    pub(crate) epoch: Knowledge,
+    pub(crate) epoch: PassSummary,
     pub(crate) asked: Asked,
     pub(crate) requests: Requests,
     // How many of the requests are answered, the one whose answer is being sent among them.

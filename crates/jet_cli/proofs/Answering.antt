@@ -5,7 +5,7 @@ use Rattle.outer_io.specs.Reads.{Reads}
 use Rattle.jet_refusal.specs.declared.refusal.Refusal.{Refusal}
 use Rattle.jet_words.specs.declared.command.Command.{Command}
 use Rattle.jet_words.specs.Commands.{CommandOf, plain_command}
-use Rattle.jet_files.specs.Outcome.{Follows}
+use Rattle.jet_files.specs.Outcome.{IsOutcomeBy}
 use Rattle.jet_work.specs.Targets.{Target, ToOutput, ToFile, sources_of, IfFile, Unless}
 use Rattle.jet_work.specs.Texts.{IsWhole}
 use Rattle.jet_work.specs.Answers.{IsAnswer}
@@ -17,9 +17,9 @@ by_arm P {given} {arm} e p = subst (λ (command : Command). P (plain_command com
 
 -- the answer is that of the text that was made
 pub answers-as : (heard heard_after : Option (List ℕ)) (f h : StoreShown) (told made : Result (List ℕ) Refusal) {given arm : Command} → given ≡ arm → told ≡ made
-    → Follows (IsAnswer (plain_command arm) heard heard_after) f h made → Follows (IsAnswer (plain_command given) heard heard_after) f h told
+    → IsOutcomeBy (IsAnswer (plain_command arm) heard heard_after) f h made → IsOutcomeBy (IsAnswer (plain_command given) heard heard_after) f h told
 answers-as heard heard_after f h told made {given} {arm} e same p =
-    by_arm (λ command. Follows (IsAnswer command heard heard_after) f h told) e (subst (Follows (IsAnswer (plain_command arm) heard heard_after) f h) (sym same) p)
+    by_arm (λ command. IsOutcomeBy (IsAnswer command heard heard_after) f h told) e (subst (IsOutcomeBy (IsAnswer (plain_command arm) heard heard_after) f h) (sym same) p)
 
 -- so is what was read
 pub reads-as : (f h : StoreShown) (told made : Bool) {given arm : Command} → given ≡ arm → told ≡ made → Reads (sources_of (plain_command arm)) made f h → Reads (sources_of (plain_command given)) told f h

@@ -46,7 +46,7 @@ use Rattle.no_memory.specs.declared.Fault.TheVariants as fault
 use Rattle.no_memory.specs.Faults.{IsCausedBy}
 use Rattle.jet_refusal.specs.Faults.{unrecorded_refusal, IsRefusalOf}
 use Rattle.order_gateway.specs.Recordings.{IsTooLong, IsCause}
-use Rattle.jet_files.specs.Outcome.{Found, Follows, IsWork, by_reading}
+use Rattle.jet_files.specs.Outcome.{HeldBefore, IsOutcomeBy, IsWork, by_reading}
 use Rattle.jet_work.specs.Answers.{IsWorkOf}
 use Rattle.jet_cli.specs.Bench.{IsWorkloadJob, asked_in_all}
 use Rattle.jet_work.proofs.Fitting.{fitting_start-ok}
@@ -142,14 +142,14 @@ module _ (seed n epoch : ℕ) (job : Job) (is : IsWorkloadJob seed n job) where
 
 -- ---- no file is read
 
-found-always : (P : Type 0) (f : Option Files) → P → Tells f f (Found (λ file. P))
-found-always P None p = tt
-found-always P (Some files) p = record { found = p }
+held-always : (P : Type 0) (f : Option Files) → P → Tells f f (HeldBefore (λ file. P))
+held-always P None p = tt
+held-always P (Some files) p = record { held = p }
 
 -- what work comes to is what the files come to, whatever they are
-pub follows-always : {A : Type 0} (Q : Result A Refusal → Type 0) (f : StoreShown) (outcome : Result A Refusal) → IsWorkOf Q outcome
-    → Follows (λ (file : Contents). Q) f f outcome
-follows-always Q f (Ok x) work = (refl, found-always (Q (Ok x)) f.files work)
-follows-always Q f (Err r) work =
-    IsOwedTo-map (by_reading (Q (Err r)) ⊥) (by_reading (Tells f.files f.files (Found (λ file. Q (Err r)))) (Rose f.faults f.faults))
-    (λ p. p) (found-always (Q (Err r)) f.files) (λ p. absurd p) (λ p. p) r work
+pub outcome_by-always : {A : Type 0} (Q : Result A Refusal → Type 0) (f : StoreShown) (outcome : Result A Refusal) → IsWorkOf Q outcome
+    → IsOutcomeBy (λ (file : Contents). Q) f f outcome
+outcome_by-always Q f (Ok x) work = (refl, held-always (Q (Ok x)) f.files work)
+outcome_by-always Q f (Err r) work =
+    IsOwedTo-map (by_reading (Q (Err r)) ⊥) (by_reading (Tells f.files f.files (HeldBefore (λ file. Q (Err r)))) (Rose f.faults f.faults))
+    (λ p. p) (held-always (Q (Err r)) f.files) (λ p. absurd p) (λ p. p) r work

@@ -13,10 +13,10 @@ use Rattle.jet_model.specs.Answer.{IsRecordAnswer}
 use Rattle.jet_model.proofs.Headline.{answer-is_given, given-is_answer, reports-are_given, given-are_reports, run_answer-is_given, given-is_run_answer, convert-is_given, given-is_convert, record_answer-is_recording, recording-is_record_answer, one_record_answer}
 use Rattle.page_model.specs.Page.{page_report}
 use Rattle.workload_model.proofs.Outcomes.{one_answer as one_bench_answer, answer-is_lines, lines-are_answer}
-use Rattle.jet_files.specs.Outcome.{Found}
+use Rattle.jet_files.specs.Outcome.{HeldBefore}
 use Rattle.jet_work.specs.Targets.{Target, ToOutput, ToFile, target_of}
 use Rattle.jet_work.specs.Answers.{IsAnswer, given_by, decisions_by, made_by, named, limits_of, workload_length}
-use Rattle.outer_io.specs.Outside.{Change, Told, IsUndisturbed}
+use Rattle.outer_io.specs.Outside.{Change, IfTold, IsUndisturbed}
 use Rattle.jet_work.specs.Writing.{FailsToWrite}
 use Rattle.jet_work.specs.Ending.{IsText, WritesWhole, WritesPart, Ends, IsUnasked, causes_of, status_after}
 use Rattle.jet_cli.specs.Statuses.{IsWanted, IsDone, IsDoneInPart, IsRefused, IsHeard, IsDecided, AreWithinLimits, IsComplete}
@@ -71,11 +71,11 @@ module _ (change : Change) (file : Contents) where
 
 -- ---- 0, and 8
 
-whole : (command : CommandOf) (change : Change) → Told change (WritesWhole command change (IsText command change)) → Told change (WritesWhole command change (IsWanted command change))
+whole : (command : CommandOf) (change : Change) → IfTold change (WritesWhole command change (IsText command change)) → IfTold change (WritesWhole command change (IsWanted command change))
 whole command change = tells-map change.before.store.files change.after.store.files (WritesWhole command change (IsText command change)) (WritesWhole command change (IsWanted command change))
     (λ x y w. record { text = w.text; is_wanted = wanted change x.file command w.text w.is_wanted; delivered = w.delivered })
 
-in_part : (command : CommandOf) (change : Change) → Told change (WritesPart command change (IsText command change)) → Told change (WritesPart command change (IsWanted command change))
+in_part : (command : CommandOf) (change : Change) → IfTold change (WritesPart command change (IsText command change)) → IfTold change (WritesPart command change (IsWanted command change))
 in_part command change = tells-map change.before.store.files change.after.store.files (WritesPart command change (IsText command change)) (WritesPart command change (IsWanted command change))
     (λ x y w. record { text = w.text; is_wanted = wanted change x.file command w.text w.is_wanted; delivered = w.delivered })
 
@@ -113,12 +113,12 @@ no_fault (ToFile name) change u rose = omega (arith, rose u.store_room, u.store_
 
 module _ (command : CommandOf) (change : Change) (u : IsUndisturbed change) (told : IsHeard command change) (answer : Result (List ℕ) Refusal)
     (is : IsAnswer command change.before.heard change.after.heard u.told.file answer) where
-  by_files : (outcome : Result (List ℕ) Refusal) → Told change (Found (λ file. IsAnswer command change.before.heard change.after.heard file outcome)) → status_after outcome ≡ status_after answer
+  by_files : (outcome : Result (List ℕ) Refusal) → IfTold change (HeldBefore (λ file. IsAnswer command change.before.heard change.after.heard file outcome)) → status_after outcome ≡ status_after answer
   by_files outcome found =
-      let end = while_told change.before.store.files change.after.store.files u.told (Found (λ file. IsAnswer command change.before.heard change.after.heard file outcome)) u.tells u.still_tells found in
-      ap status_after (one_answer change u.told.file command outcome answer told end.1.found is)
+      let end = while_told change.before.store.files change.after.store.files u.told (HeldBefore (λ file. IsAnswer command change.before.heard change.after.heard file outcome)) u.tells u.still_tells found in
+      ap status_after (one_answer change u.told.file command outcome answer told end.1.held is)
 
-  by_text : Told change (WritesWhole command change (IsText command change)) → 0 ≡ status_after answer
+  by_text : IfTold change (WritesWhole command change (IsText command change)) → 0 ≡ status_after answer
   by_text written =
       let end = while_told change.before.store.files change.after.store.files u.told (WritesWhole command change (IsText command change)) u.tells u.still_tells written in
       ap status_after (one_answer change u.told.file command (Ok end.1.text) answer told end.1.is_wanted is)

@@ -11,9 +11,9 @@ use Rattle.jet_model.specs.Contents.{Contents}
 use Rattle.jet_model.specs.Headline.{IsGivenByQuery, AreReportsOf, IsGivenBy, IsConversionOf, IsRecordingOf, IsShort, AreShort, AreAllShort, HasFewEpochs, HasFewIfTold}
 use Rattle.page_model.specs.Page.{page_report}
 use Rattle.workload_model.specs.Answer.{IsBenchOf}
-use Rattle.jet_work.specs.Answers.{IsAnswer, Hears, given_by, decisions_by, made_by, named, limits_of, workload_length}
+use Rattle.jet_work.specs.Answers.{IsAnswer, OfClockAnswers, given_by, decisions_by, made_by, named, limits_of, workload_length}
 use Rattle.jet_work.specs.Targets.{Unless, plan_of}
-use Rattle.outer_io.specs.Outside.{Change, Told, IsFaultless, IsUndisturbed}
+use Rattle.outer_io.specs.Outside.{Change, IfTold, IsFaultless, IsUndisturbed}
 use Rattle.jet_work.specs.Ending.{WritesWhole, WritesPart, IsUnasked, causes_of, status_after}
 
 -- the program ends with 0, or with one of 2 to 11
@@ -33,19 +33,19 @@ IsWanted (DecisionsOf program log query) change file text = IsGivenByQuery decis
 IsWanted (PageOf program log query page pipeline) change file text =
     IsGivenByQuery page_report file (named program log query) text
 IsWanted (RecordOf program log inputs pages piece steps) change file text =
-    Hears change.before.heard change.after.heard (λ answers. IsRecordingOf file program inputs (limits_of pages piece steps) answers text)
+    OfClockAnswers change.before.heard change.after.heard (λ answers. IsRecordingOf file program inputs (limits_of pages piece steps) answers text)
 IsWanted (ConvertOf program log new) change file text = IsConversionOf file program log text
 IsWanted (QueriesOf program log queries pipeline) change file text = AreReportsOf file program log queries text
 IsWanted (BenchOf seed steps pipeline) change file text = IsBenchOf seed steps (workload_length pipeline) text
 
 abbrev pub IsDone : Option CommandOf → Change → Type 0
 IsDone None change = ⊥
-IsDone (Some command) change = IsFaultless change × Told change (WritesWhole command change (IsWanted command change))
+IsDone (Some command) change = IsFaultless change × IfTold change (WritesWhole command change (IsWanted command change))
 
 -- at most its first bytes were
 abbrev pub IsDoneInPart : Option CommandOf → Change → Type 0
 IsDoneInPart None change = ⊥
-IsDoneInPart (Some command) change = Told change (WritesPart command change (IsWanted command change))
+IsDoneInPart (Some command) change = IfTold change (WritesPart command change (IsWanted command change))
 
 -- ---- 2 to 11: the command is refused
 

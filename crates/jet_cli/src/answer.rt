@@ -3,10 +3,10 @@ ghost use Rattle.std.specs.Prelude.{◌≡◌, ◌≤◌, ◌∷◌, [], length,
 ghost use Rattle.outer_io.specs.Reads.{Reads};
 ghost use Rattle.jet_model.specs.Answer.{query_answer, queries_answer};
 ghost use Rattle.jet_words.specs.Commands.{plain_command, IsPipeline, IsInRange};
-ghost use Rattle.jet_files.specs.Outcome.{Comes, Follows, seen_by, bytes_of};
+ghost use Rattle.jet_files.specs.Outcome.{IsOutcomeOf, IsOutcomeBy, seen_by, bytes_of};
 ghost use Rattle.jet_work.specs.Targets.{sources_of, target_of, IfFile, IfUntimed};
 ghost use Rattle.jet_work.specs.Texts.{text_of, IsWhole};
-ghost use Rattle.jet_work.specs.Answers.{IsAnswer, IsPageWhole, telling_text, named};
+ghost use Rattle.jet_work.specs.Answers.{IsAnswer, IsPageWhole, format_text, named};
 ghost use Rattle.jet_work.specs.Ending.{IsUnasked};
 
 use crate::bench::bench;
@@ -15,7 +15,7 @@ use crate::work::{reports, tell};
 use jet_files::{open_queries, open_query, open_run};
 use jet_refusal::Refusal;
 use jet_words::{Command, Pipeline};
-use jet_work::{Answer, Limits, Telling, convert, decisions, record, run_product};
+use jet_work::{Answer, Format, Limits, convert, decisions, record, run_product};
 use outer_io::{Clock, Gate, Store};
 use std::sync::Wait;
 use std::thread::Threads;
@@ -27,20 +27,20 @@ fn analysis<R: Threads + Wait + Sync, S: Store, G: Gate>(
     program: &str,
     log: &str,
     query: &str,
-    telling: Telling,
+    format: Format,
     pipeline: Pipeline,
 ) -> Result<Answer, Refusal>
     requires { IsPipeline pipeline }
-    ensures answer { Comes
-        (λ file. query_answer (telling_text telling) pipeline.epoch file (named program.now log.now query.now))
+    ensures answer { IsOutcomeOf
+        (λ file. query_answer (format_text format) pipeline.epoch file (named program.now log.now query.now))
         (S.shown store.old) (S.shown store.new) (seen_by text_of result) }
-    ensures whole { IfOk result (IsPageWhole telling) }
+    ensures whole { IfOk result (IsPageWhole format) }
     ensures reads { Reads (program.now ∷ log.now ∷ query.now ∷ []) (is_ok result) (S.shown store.old)
         (S.shown store.new) }
 {
     let run = open_run(engine.alloc, store, program, log)?;
     let query = open_query(engine.alloc, store, query)?;
-    tell(engine, run, &query, telling, pipeline)
+    tell(engine, run, &query, format, pipeline)
 }
 
 /// The reports of several queries.
@@ -55,7 +55,7 @@ fn queries<R: Threads + Wait + Sync, S: Store, G: Gate>(
     requires some { 1 ≤ length names.now }
     requires few { length names.now ≤ 16 }
     requires pipeline { IsPipeline pipeline }
-    ensures answer { Comes
+    ensures answer { IsOutcomeOf
         (λ file. queries_answer pipeline.epoch file program.now log.now (map (λ name. name.now) names.now))
         (S.shown store.old) (S.shown store.new) (seen_by text_of result) }
     ensures reads { Reads (program.now ∷ log.now ∷ map (λ name. name.now) names.now) (is_ok result) (S.shown store.old)
@@ -88,7 +88,7 @@ pub fn answer<R: Threads + Wait + Sync, S: Store, K: Clock, G: Gate>(
     command: &Command,
 ) -> Result<Answer, Refusal>
     requires ranges { IsInRange (plain_command command.now) }
-    ensures answer { Follows (IsAnswer (plain_command command.now) (K.answers clock.old) (K.answers clock.new))
+    ensures answer { IsOutcomeBy (IsAnswer (plain_command command.now) (K.answers clock.old) (K.answers clock.new))
         (S.shown store.old) (S.shown store.new) (seen_by text_of result) }
     ensures whole { IfOk result (λ answer. IfFile (target_of (plain_command command.now)) (IsWhole answer)) }
     ensures reads { Reads (sources_of (plain_command command.now)) (is_ok result) (S.shown store.old)
@@ -105,8 +105,8 @@ pub fn answer<R: Threads + Wait + Sync, S: Store, K: Clock, G: Gate>(
             query,
             pipeline,
         } => {
-            let telling = Telling::Listed(*listing);
-            analysis(engine, store, program, log, query, telling, *pipeline)
+            let format = Format::Listed(*listing);
+            analysis(engine, store, program, log, query, format, *pipeline)
         }
         Command::Product {
             product,
@@ -124,7 +124,7 @@ pub fn answer<R: Threads + Wait + Sync, S: Store, K: Clock, G: Gate>(
             query,
             pipeline,
             ..
-        } => analysis(engine, store, program, log, query, Telling::Page, *pipeline),
+        } => analysis(engine, store, program, log, query, Format::Page, *pipeline),
         Command::Record {
             program,
             inputs,

@@ -7,7 +7,7 @@ ghost use Rattle.jet_words.specs.Commands.{IsPipeline};
 ghost use Rattle.jet_model.specs.Answer.{told_check};
 ghost use Rattle.jet_files.specs.Outcome.{IsWork, seen_by};
 ghost use Rattle.jet_files.specs.Views.{run_of};
-ghost use Rattle.jet_work.specs.Answers.{IsWorkOf, IsGivenAlike, AreGivenAlike, fits_and_is_cut, telling_text, IsPageWhole};
+ghost use Rattle.jet_work.specs.Answers.{IsWorkOf, IsGivenAlike, AreGivenAlike, fits_and_is_cut, format_text, IsPageWhole};
 ghost use Rattle.jet_work.specs.Texts.{text_of};
 
 use crate::engine::Engine;
@@ -16,7 +16,7 @@ use epoch_link::Capacity;
 use jet_files::Run;
 use jet_refusal::Refusal;
 use jet_words::Pipeline;
-use jet_work::{Answer, Telling, fitted, own_parts, told, union_of};
+use jet_work::{Answer, Format, fitted, own_parts, told, union_of};
 use outer_io::Gate;
 use page_model::laws::alike_have_same_data;
 use query_lang::Query;
@@ -68,17 +68,17 @@ pub fn tell<R: Threads + Wait + Sync, G: Gate>(
     engine: &Engine<R, G>,
     run: Run,
     query: &Query,
-    telling: Telling,
+    format: Format,
     pipeline: Pipeline,
 ) -> Result<Answer, Refusal>
     requires pipeline { IsPipeline pipeline }
-    ensures answer { IsWorkOf (IsGivenAlike (telling_text telling) pipeline.epoch (run_of run) query.now)
+    ensures answer { IsWorkOf (IsGivenAlike (format_text format) pipeline.epoch (run_of run) query.now)
         (seen_by text_of result) }
-    ensures whole { IfOk result (IsPageWhole telling) }
+    ensures whole { IfOk result (IsPageWhole format) }
 {
     let (job, report) = analysed_run(engine, run, query, pipeline)?;
     alike_have_same_data();
-    let answer = told(engine.alloc, &job, query, report, telling)?;
+    let answer = told(engine.alloc, &job, query, report, format)?;
     Ok(answer)
 }
 

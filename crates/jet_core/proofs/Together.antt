@@ -11,7 +11,7 @@ use Rattle.epoch_cut.specs.Numbered.{NumberedEpoch, numbered}
 use Rattle.checkpoints.specs.Points.{CheckpointsAt, beginnings}
 use Rattle.log_model.specs.Logs.{steps}
 use Rattle.replayer.specs.Jobs.{Job, trace_of}
-use Rattle.epoch_summary.specs.declared.summary.Summary.{Summary as Found}
+use Rattle.epoch_summary.specs.declared.summary.Summary.{Summary as TaintSummary}
 use Rattle.epoch_summary.specs.Summaries.{summary_of}
 use Rattle.jet_core.specs.Asking.{AreOfOneTrace}
 use Rattle.jet_core.specs.Tickets.{AreFound}
@@ -19,14 +19,14 @@ use Rattle.local_taint.proofs.Range.{trace_long}
 use Rattle.jet_core.proofs.Tickets.{found_summaries, found_in_range}
 
 -- with the checkpoints and tickets of a cutting
-pub found_at : (job : Job) (q : Query) (cuts : List ℕ) (es : List Found) (points : CheckpointsAt) (tickets : List NumberedEpoch)
+pub found_at : (job : Job) (q : Query) (cuts : List ℕ) (es : List TaintSummary) (points : CheckpointsAt) (tickets : List NumberedEpoch)
     → points ≡ record { job = job; times = beginnings cuts } → tickets ≡ numbered 0 (epochs 0 cuts)
     → AreFound q (trace_of points.job) tickets es → AreFound q (trace_of job) (numbered 0 (epochs 0 cuts)) es
 found_at job q cuts es points tickets taken given a =
     subst (λ (ts : List NumberedEpoch). AreFound q (trace_of job) ts es) given
     (subst (λ (j : Job). AreFound q (trace_of j) tickets es) (ap (λ p. p.job) taken) a)
 
-module _ (job : Job) (q : Query) (cuts : List ℕ) (es : List Found) (points : AreLocated q.points) (h : IsCutting (steps job.log) cuts)
+module _ (job : Job) (q : Query) (cuts : List ℕ) (es : List TaintSummary) (points : AreLocated q.points) (h : IsCutting (steps job.log) cuts)
     (a : AreFound q (trace_of job) (numbered 0 (epochs 0 cuts)) es) where
   cut : IsCutting (length (trace_of job)) cuts
   cut = subst (λ n. IsCutting n cuts) (sym (trace_long job)) h

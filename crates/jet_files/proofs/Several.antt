@@ -10,8 +10,8 @@ use Rattle.jet_refusal.specs.declared.refusal.Refusal.{Refusal}
 use Rattle.report_model.specs.Query.{Query, Alike}
 use Rattle.jet_model.specs.Contents.{Contents, file_at, inputs_at, numbered_query_at, queries_at}
 use Rattle.jet_model.proofs.Files.{each-push, each-stops}
-use Rattle.jet_files.specs.Outcome.{Follows, Comes, AskAlike, IsKeptFor, AreAlike, AreAllAlike}
-use Rattle.jet_files.proofs.Composing.{found-then, follows-then, follows-stops}
+use Rattle.jet_files.specs.Outcome.{IsOutcomeBy, IsOutcomeOf, AskAlike, IsKeptFor, AreAlike, AreAllAlike}
+use Rattle.jet_files.proofs.Composing.{held-then, outcome_by-then, outcome_by-stops}
 
 -- the names that are lent
 abbrev pub texts : List (Bor (List ℕ)) → List Text
@@ -39,30 +39,30 @@ texts-split names i d inside =
 -- one more file
 pub inputs_more : (names : List (Bor (List ℕ))) (i : ℕ) (d : Bor (List ℕ)) (inputs more : List (Vec ℕ Global)) (input : Vec ℕ Global) (f g h : StoreShown)
     → i < length names → more ≡ inputs ++ input ∷ []
-    → Comes (λ file. inputs_at file (texts (take i names))) f g (Ok (items_of inputs)) → Reads (texts (take i names)) true f g → Comes (λ file. file_at file (get_or names i d).now) g h (Ok input.items)
-    → Comes (λ file. inputs_at file (texts (take (i + 1) names))) f h (Ok (items_of more))
+    → IsOutcomeOf (λ file. inputs_at file (texts (take i names))) f g (Ok (items_of inputs)) → Reads (texts (take i names)) true f g → IsOutcomeOf (λ file. file_at file (get_or names i d).now) g h (Ok input.items)
+    → IsOutcomeOf (λ file. inputs_at file (texts (take (i + 1) names))) f h (Ok (items_of more))
 inputs_more names i d inputs more input f g h inside e found reads next =
     let front = texts (take i names) in
     let x : Text = (get_or names i d).now in
     let contents : List (List ℕ) = items_of inputs in
     let here : items_of more ≡ contents ++ input.items ∷ [] = ap items_of e ∙ map-append (λ (v : Vec ℕ Global). v.items) inputs (input ∷ []) in
-    let told = found-then (λ file. inputs_at file front ≡ Ok contents) (λ file. file_at file x ≡ Ok input.items) (λ file. inputs_at file (front ++ x ∷ []) ≡ Ok (contents ++ input.items ∷ [])) f.files g.files h.files
+    let told = held-then (λ file. inputs_at file front ≡ Ok contents) (λ file. file_at file x ≡ Ok input.items) (λ file. inputs_at file (front ++ x ∷ []) ≡ Ok (contents ++ input.items ∷ [])) f.files g.files h.files
     (λ file one two. each-push (λ number. file_at file) 1 front x contents input.items one two) found.1 reads.keeps next.1 in
-    subst (λ (w : List Text). Comes (λ file. inputs_at file w) f h (Ok (items_of more))) (texts-more names i d inside)
-    (subst (λ (w : List (List ℕ)). Comes (λ file. inputs_at file (front ++ x ∷ [])) f h (Ok w)) (sym here) (next.0 ∙ found.0, told))
+    subst (λ (w : List Text). IsOutcomeOf (λ file. inputs_at file w) f h (Ok (items_of more))) (texts-more names i d inside)
+    (subst (λ (w : List (List ℕ)). IsOutcomeOf (λ file. inputs_at file (front ++ x ∷ [])) f h (Ok w)) (sym here) (next.0 ∙ found.0, told))
 
 -- the first file that is refused
 pub inputs_stop : (names : List (Bor (List ℕ))) (i : ℕ) (d : Bor (List ℕ)) (contents : List (List ℕ)) (f g h : StoreShown) (r : Refusal)
-    → i < length names → Comes (λ file. inputs_at file (texts (take i names))) f g (Ok contents) → Reads (texts (take i names)) true f g → Reads ((get_or names i d).now ∷ []) true g h
-    → Comes (λ file. file_at file (get_or names i d).now) g h (Err r) → Comes (λ file. inputs_at file (texts names)) f h (Err r)
+    → i < length names → IsOutcomeOf (λ file. inputs_at file (texts (take i names))) f g (Ok contents) → Reads (texts (take i names)) true f g → Reads ((get_or names i d).now ∷ []) true g h
+    → IsOutcomeOf (λ file. file_at file (get_or names i d).now) g h (Err r) → IsOutcomeOf (λ file. inputs_at file (texts names)) f h (Err r)
 inputs_stop names i d contents f g h r inside found reads after next =
     let front = texts (take i names) in
     let x : Text = (get_or names i d).now in
     let rest = texts (drop (i + 1) names) in
-    let refused : Follows (λ file (answer : Result (List (List ℕ)) Refusal). file_at file x ≡ Err r) g h (Err r) =
-    follows-stops (λ file answer. file_at file x ≡ answer) (λ file (answer : Result (List (List ℕ)) Refusal). file_at file x ≡ Err r) g h r (λ file e. e) next in
-    subst (λ (whole : List Text). Comes (λ file. inputs_at file whole) f h (Err r)) (texts-split names i d inside)
-    (follows-then (λ file answer. inputs_at file front ≡ answer) (λ file (answer : Result (List (List ℕ)) Refusal). file_at file x ≡ Err r)
+    let refused : IsOutcomeBy (λ file (answer : Result (List (List ℕ)) Refusal). file_at file x ≡ Err r) g h (Err r) =
+    outcome_by-stops (λ file answer. file_at file x ≡ answer) (λ file (answer : Result (List (List ℕ)) Refusal). file_at file x ≡ Err r) g h r (λ file e. e) next in
+    subst (λ (whole : List Text). IsOutcomeOf (λ file. inputs_at file whole) f h (Err r)) (texts-split names i d inside)
+    (outcome_by-then (λ file answer. inputs_at file front ≡ answer) (λ file (answer : Result (List (List ℕ)) Refusal). file_at file x ≡ Err r)
     (λ file (answer : Result (List (List ℕ)) Refusal). inputs_at file (front ++ x ∷ rest) ≡ Err r) contents f g h
     (λ file answer one two. each-stops (λ number. file_at file) 1 front x rest contents r one two) found reads after (Err r) refused)
 
@@ -99,36 +99,36 @@ numbered-there names i name kept file inside h = subst (λ (n : ℕ). AreAlike k
 -- one more query
 pub queries_more : (names : List (Bor (List ℕ))) (i number : ℕ) (d : Bor (List ℕ)) (kept more : List Query) (q : Query) (f g h : StoreShown)
     → i < length names → number ≡ i + 1 → more ≡ kept ++ q ∷ []
-    → Follows (λ file found. AreAllAlike found (queries_at file (texts (take i names)))) f g (Ok kept) → Reads (texts (take i names)) true f g
-    → Follows (λ file found. AreAlike found (numbered_query_at file number (get_or names i d).now)) g h (Ok q)
-    → Follows (λ file found. AreAllAlike found (queries_at file (texts (take (i + 1) names)))) f h (Ok more)
+    → IsOutcomeBy (λ file found. AreAllAlike found (queries_at file (texts (take i names)))) f g (Ok kept) → Reads (texts (take i names)) true f g
+    → IsOutcomeBy (λ file found. AreAlike found (numbered_query_at file number (get_or names i d).now)) g h (Ok q)
+    → IsOutcomeBy (λ file found. AreAllAlike found (queries_at file (texts (take (i + 1) names)))) f h (Ok more)
 queries_more names i number d kept more q f g h inside n e found reads next =
     let front = texts (take i names) in
     let x : Text = (get_or names i d).now in
-    let told = found-then (λ file. AreAllAlike (Ok kept) (queries_at file front)) (λ file. AreAlike (Ok q) (numbered_query_at file number x)) (λ file. AreAllAlike (Ok (kept ++ q ∷ [])) (queries_at file (front ++ x ∷ []))) f.files g.files h.files
+    let told = held-then (λ file. AreAllAlike (Ok kept) (queries_at file front)) (λ file. AreAlike (Ok q) (numbered_query_at file number x)) (λ file. AreAllAlike (Ok (kept ++ q ∷ [])) (queries_at file (front ++ x ∷ []))) f.files g.files h.files
     (λ file one two.
     let a = kept-is AskAlike kept (queries_at file front) one in
     let here = numbered-there names i x (Ok q) file inside (subst (λ (k : ℕ). AreAlike (Ok q) (numbered_query_at file k x)) n two) in
     let b = kept-is Alike q (numbered_query_at file (1 + length front) x) here in
     keeps-ok AskAlike (kept ++ q ∷ []) (a.0 ++ b.0 ∷ []) (queries_at file (front ++ x ∷ []))
     (each-push (numbered_query_at file) 1 front x a.0 b.0 a.1 b.1) (ask-push kept a.0 q b.0 a.2 b.2)) found.1 reads.keeps next.1 in
-    subst (λ (w : List Text). Follows (λ file found. AreAllAlike found (queries_at file w)) f h (Ok more)) (texts-more names i d inside)
-    (subst (λ (w : List Query). Follows (λ file found. AreAllAlike found (queries_at file (front ++ x ∷ []))) f h (Ok w)) (sym e) (next.0 ∙ found.0, told))
+    subst (λ (w : List Text). IsOutcomeBy (λ file found. AreAllAlike found (queries_at file w)) f h (Ok more)) (texts-more names i d inside)
+    (subst (λ (w : List Query). IsOutcomeBy (λ file found. AreAllAlike found (queries_at file (front ++ x ∷ []))) f h (Ok w)) (sym e) (next.0 ∙ found.0, told))
 
 -- the first query that is refused
 pub queries_stop : (names : List (Bor (List ℕ))) (i number : ℕ) (d : Bor (List ℕ)) (kept : List Query) (f g h : StoreShown) (r : Refusal)
-    → i < length names → number ≡ i + 1 → Follows (λ file found. AreAllAlike found (queries_at file (texts (take i names)))) f g (Ok kept) → Reads (texts (take i names)) true f g → Reads ((get_or names i d).now ∷ []) true g h
-    → Follows (λ file found. AreAlike found (numbered_query_at file number (get_or names i d).now)) g h (Err r)
-    → Follows (λ file found. AreAllAlike found (queries_at file (texts names))) f h (Err r)
+    → i < length names → number ≡ i + 1 → IsOutcomeBy (λ file found. AreAllAlike found (queries_at file (texts (take i names)))) f g (Ok kept) → Reads (texts (take i names)) true f g → Reads ((get_or names i d).now ∷ []) true g h
+    → IsOutcomeBy (λ file found. AreAlike found (numbered_query_at file number (get_or names i d).now)) g h (Err r)
+    → IsOutcomeBy (λ file found. AreAllAlike found (queries_at file (texts names))) f h (Err r)
 queries_stop names i number d kept f g h r inside n found reads after next =
     let front = texts (take i names) in
     let x : Text = (get_or names i d).now in
     let rest = texts (drop (i + 1) names) in
-    let refused : Follows (λ file (answer : Result (List Query) Refusal). numbered_query_at file (1 + length front) x ≡ Err r) g h (Err r) =
-    follows-stops (λ file answer. AreAlike answer (numbered_query_at file number x)) (λ file (answer : Result (List Query) Refusal). numbered_query_at file (1 + length front) x ≡ Err r) g h r
+    let refused : IsOutcomeBy (λ file (answer : Result (List Query) Refusal). numbered_query_at file (1 + length front) x ≡ Err r) g h (Err r) =
+    outcome_by-stops (λ file answer. AreAlike answer (numbered_query_at file number x)) (λ file (answer : Result (List Query) Refusal). numbered_query_at file (1 + length front) x ≡ Err r) g h r
     (λ file e. kept-refused Alike r (numbered_query_at file (1 + length front) x) (numbered-there names i x (Err r) file inside (subst (λ (k : ℕ). AreAlike (Err r) (numbered_query_at file k x)) n e))) next in
-    subst (λ (whole : List Text). Follows (λ file answer. AreAllAlike answer (queries_at file whole)) f h (Err r)) (texts-split names i d inside)
-    (follows-then (λ file answer. AreAllAlike answer (queries_at file front)) (λ file (answer : Result (List Query) Refusal). numbered_query_at file (1 + length front) x ≡ Err r)
+    subst (λ (whole : List Text). IsOutcomeBy (λ file answer. AreAllAlike answer (queries_at file whole)) f h (Err r)) (texts-split names i d inside)
+    (outcome_by-then (λ file answer. AreAllAlike answer (queries_at file front)) (λ file (answer : Result (List Query) Refusal). numbered_query_at file (1 + length front) x ≡ Err r)
     (λ file (answer : Result (List Query) Refusal). AreAllAlike (Err r) (queries_at file (front ++ x ∷ rest))) kept f g h
     (λ file answer one two. let a = kept-is AskAlike kept (queries_at file front) one in
     keeps-err AskAlike r (queries_at file (front ++ x ∷ rest)) (each-stops (numbered_query_at file) 1 front x rest a.0 r a.1 two)) found reads after (Err r) refused)

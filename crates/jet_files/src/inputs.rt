@@ -3,7 +3,7 @@ ghost use Rattle.std.specs.Prelude.{◌≡◌, ◌≤◌, ◌^◌, length, map, 
 ghost use Rattle.std.specs.List.{All};
 ghost use Rattle.outer_io.specs.Reads.{Reads};
 ghost use Rattle.jet_model.specs.Contents.{inputs_at};
-ghost use Rattle.jet_files.specs.Outcome.{Comes, seen_by, inputs_of};
+ghost use Rattle.jet_files.specs.Outcome.{IsOutcomeOf, seen_by, inputs_of};
 
 use crate::reading::read_file;
 use jet_refusal::Refusal;
@@ -17,7 +17,7 @@ pub fn open_inputs<S: Store>(
     store: &mut S,
     names: &[&str],
 ) -> Result<Vec<Vec<u8>>, Refusal>
-    ensures outcome { Comes (λ file. inputs_at file (map (λ name. name.now) names.now)) (S.shown store.old)
+    ensures outcome { IsOutcomeOf (λ file. inputs_at file (map (λ name. name.now) names.now)) (S.shown store.old)
         (S.shown store.new) (seen_by inputs_of result) }
     ensures many { IfOk result (λ inputs. length inputs.items ≡ length names.now) }
     ensures short { IfOk result (λ inputs. All (λ v. length v.items ≤ 2 ^ 26) inputs.items) }

@@ -2,7 +2,7 @@
 ghost use Rattle.std.specs.Prelude.{◌≡◌, ◌≤◌, ◌^◌, ◌∷◌, [], true, length, is_ok, IfOk};
 ghost use Rattle.outer_io.specs.Reads.{Reads};
 ghost use Rattle.jet_model.specs.Contents.{log_in, program_at, log_at, query_at, run_at};
-ghost use Rattle.jet_files.specs.Outcome.{Comes, Follows, IsWork, AreAlike, seen_by};
+ghost use Rattle.jet_files.specs.Outcome.{IsOutcomeOf, IsOutcomeBy, IsWork, AreAlike, seen_by};
 ghost use Rattle.jet_files.specs.Views.{program_of, run_of};
 
 use crate::reading::read_file;
@@ -30,7 +30,7 @@ fn log_of(alloc: Global, bytes: &[u8]) -> Result<Log, Refusal>
 
 /// Reads a program. It gives up as `read_file` does, or with `Image`, the first fault of a file that is none.
 pub fn open_program<S: Store>(alloc: Global, store: &mut S, name: &str) -> Result<Program, Refusal>
-    ensures outcome { Comes (λ file. program_at file name.now) (S.shown store.old) (S.shown store.new)
+    ensures outcome { IsOutcomeOf (λ file. program_at file name.now) (S.shown store.old) (S.shown store.new)
         (seen_by program_of result) }
     ensures short { IfOk result (λ p. length p.bytes.items ≤ 2 ^ 26) }
     ensures reads { Reads (name.now ∷ []) true (S.shown store.old) (S.shown store.new) }
@@ -42,7 +42,7 @@ pub fn open_program<S: Store>(alloc: Global, store: &mut S, name: &str) -> Resul
 
 /// Reads a log. It gives up as `read_file` does, or with `Log`, the first fault of bytes that are none.
 pub fn open_log<S: Store>(alloc: Global, store: &mut S, name: &str) -> Result<Log, Refusal>
-    ensures outcome { Comes (λ file. log_at file name.now) (S.shown store.old) (S.shown store.new) result }
+    ensures outcome { IsOutcomeOf (λ file. log_at file name.now) (S.shown store.old) (S.shown store.new) result }
     ensures reads { Reads (name.now ∷ []) true (S.shown store.old) (S.shown store.new) }
 {
     let bytes = read_file(alloc, store, name)?;
@@ -56,7 +56,7 @@ pub fn open_run<S: Store>(
     program: &str,
     log: &str,
 ) -> Result<Run, Refusal>
-    ensures outcome { Comes (λ file. run_at file program.now log.now) (S.shown store.old) (S.shown store.new)
+    ensures outcome { IsOutcomeOf (λ file. run_at file program.now log.now) (S.shown store.old) (S.shown store.new)
         (seen_by run_of result) }
     ensures short { IfOk result (λ run. length run.program.bytes.items ≤ 2 ^ 26) }
     ensures reads { Reads (program.now ∷ log.now ∷ []) (is_ok result) (S.shown store.old) (S.shown store.new) }
@@ -68,7 +68,7 @@ pub fn open_run<S: Store>(
 
 /// Reads a query. It gives up as `read_file` does, or with `Query`, the first fault of a text that is none.
 pub fn open_query<S: Store>(alloc: Global, store: &mut S, name: &str) -> Result<Query, Refusal>
-    ensures outcome { Follows (λ file kept. AreAlike kept (query_at file name.now)) (S.shown store.old)
+    ensures outcome { IsOutcomeBy (λ file kept. AreAlike kept (query_at file name.now)) (S.shown store.old)
         (S.shown store.new) result }
     ensures reads { Reads (name.now ∷ []) true (S.shown store.old) (S.shown store.new) }
 {

@@ -2,7 +2,7 @@
 ghost use Rattle.std.specs.Prelude.{◌≡◌, ◌≤◌, ◌∷◌, [], true, length, map, is_ok, IfOk};
 ghost use Rattle.outer_io.specs.Reads.{Reads};
 ghost use Rattle.jet_model.specs.Contents.{numbered_query_at, queries_at};
-ghost use Rattle.jet_files.specs.Outcome.{Follows, AreAlike, AreAllAlike, seen_by, queries_of};
+ghost use Rattle.jet_files.specs.Outcome.{IsOutcomeBy, AreAlike, AreAllAlike, seen_by, queries_of};
 ghost use Rattle.jet_files.specs.Faults.{numbered_query_refusal};
 
 use crate::reading::read_file;
@@ -34,7 +34,7 @@ fn open_numbered<S: Store>(
     number: u32,
     name: &str,
 ) -> Result<Query, Refusal>
-    ensures outcome { Follows (λ file kept. AreAlike kept (numbered_query_at file number name.now)) (S.shown store.old)
+    ensures outcome { IsOutcomeBy (λ file kept. AreAlike kept (numbered_query_at file number name.now)) (S.shown store.old)
         (S.shown store.new) result }
     ensures reads { Reads (name.now ∷ []) true (S.shown store.old) (S.shown store.new) }
 {
@@ -53,7 +53,7 @@ pub fn open_queries<S: Store>(
     names: &[&str],
 ) -> Result<Vec<Query>, Refusal>
     requires few { length names.now ≤ 16 }
-    ensures outcome { Follows (λ file kept. AreAllAlike kept (queries_at file (map (λ name. name.now) names.now)))
+    ensures outcome { IsOutcomeBy (λ file kept. AreAllAlike kept (queries_at file (map (λ name. name.now) names.now)))
         (S.shown store.old) (S.shown store.new) (seen_by queries_of result) }
     ensures many { IfOk result (λ queries. length queries.items ≡ length names.now) }
     ensures reads { Reads (map (λ name. name.now) names.now) (is_ok result) (S.shown store.old) (S.shown store.new) }

@@ -10,7 +10,7 @@ use Rattle.elf_model.specs.Window.{start_of}
 use Rattle.log_model.specs.Logs.{IsBytes}
 use Rattle.replay_model.specs.Fits.{start_in_image}
 use Rattle.record_model.specs.Recorded.{CanRecord, input_of}
-use Rattle.record_model.proofs.Found.{a_recording}
+use Rattle.record_model.proofs.RecordedRuns.{a_recording}
 use Rattle.jet_refusal.specs.declared.refusal.Refusal.{Refusal}
 use Rattle.jet_refusal.specs.declared.refusal.Refusal.TheVariants as refusal
 use Rattle.jet_model.specs.Outcomes.{and_then, AndThen}

@@ -12,7 +12,7 @@ use Rattle.jet_refusal.specs.declared.refusal.Refusal.{Refusal}
 use Rattle.jet_refusal.specs.declared.refusal.Refusal.TheVariants as refusal
 use Rattle.jet_refusal.specs.Causes.{IsOwedTo}
 use Rattle.jet_refusal.proofs.Causes.{IsOwedTo-map}
-use Rattle.jet_files.specs.Outcome.{Found, Follows, by_reading}
+use Rattle.jet_files.specs.Outcome.{HeldBefore, IsOutcomeBy, by_reading}
 use Rattle.jet_work.specs.Targets.{Target, ToOutput, ToFile, target_of}
 use Rattle.jet_work.specs.Answers.{IsAnswer}
 use Rattle.outer_io.specs.Outside.{Change}
@@ -70,23 +70,23 @@ module _ (command : CommandOf) (f g h : StoreShown) (o n : SinkShown) (heard hea
   between = record { before = record { store = f; output = o; heard = heard }; after = record { store = h; output = n; heard = heard_after } }
 
   -- the files are refused
-  pub not_answered : (r : Refusal) → Follows (IsAnswer command heard heard_after) f h (Err r) → IsOwedTo (causes_of (Some command) between r) r
-  not_answered r = IsOwedTo-map (by_reading (Tells f.files h.files (Found (λ file. IsAnswer command heard heard_after file (Err r)))) (Rose f.faults h.faults))
+  pub not_answered : (r : Refusal) → IsOutcomeBy (IsAnswer command heard heard_after) f h (Err r) → IsOwedTo (causes_of (Some command) between r) r
+  not_answered r = IsOwedTo-map (by_reading (Tells f.files h.files (HeldBefore (λ file. IsAnswer command heard heard_after file (Err r)))) (Rose f.faults h.faults))
       (causes_of (Some command) between r) (λ p. p) (λ p. p) (λ p. p) (λ p. absurd p) r
 
-  module _ (text : List ℕ) (answer : Follows (IsAnswer command heard heard_after) f g (Ok text)) (keeps : Tells f.files g.files KeepsFiles) where
+  module _ (text : List ℕ) (answer : IsOutcomeBy (IsAnswer command heard heard_after) f g (Ok text)) (keeps : Tells f.files g.files KeepsFiles) where
     abbrev Read : Files → Files → Type 0
-    Read x y = Found (λ file. IsAnswer command heard heard_after file (Ok text)) x y × KeepsFiles x y
+    Read x y = HeldBefore (λ file. IsAnswer command heard heard_after file (Ok text)) x y × KeepsFiles x y
 
     was_read : Tells f.files g.files Read
-    was_read = tells-both f.files g.files (Found (λ file. IsAnswer command heard heard_after file (Ok text))) KeepsFiles answer.1 keeps
+    was_read = tells-both f.files g.files (HeldBefore (λ file. IsAnswer command heard heard_after file (Ok text))) KeepsFiles answer.1 keeps
 
     -- the text was written
     pub delivered : h.faults ≡ g.faults → n.faults ≡ o.faults → Tells g.files h.files (Delivers (target_of command) o n text) → IsDelivered (Some command) between
     delivered store output written = (
       record { store = store ∙ answer.0; output = output },
       tells-then f.files g.files h.files Read (Delivers (target_of command) o n text) (WritesWhole command between (IsText command between))
-          (λ x y z p d. record { text = text; is_wanted = p.0.found; delivered = delivers-earlier (target_of command) text o n x y z d }) was_read written,
+          (λ x y z p d. record { text = text; is_wanted = p.0.held; delivered = delivers-earlier (target_of command) text o n x y z d }) was_read written,
     )
 
     -- it was not written whole
@@ -95,5 +95,5 @@ module _ (command : CommandOf) (f g h : StoreShown) (o n : SinkShown) (heard hea
     not_delivered part failed up down = (
       fails-earlier (target_of command) f g h o n up down failed,
       tells-then f.files g.files h.files Read (DeliversPart (target_of command) o n text) (WritesPart command between (IsText command between))
-          (λ x y z p d. record { text = text; is_wanted = p.0.found; delivered = part-earlier (target_of command) text o n x y z p.1 d }) was_read part,
+          (λ x y z p d. record { text = text; is_wanted = p.0.held; delivered = part-earlier (target_of command) text o n x y z p.1 d }) was_read part,
     )

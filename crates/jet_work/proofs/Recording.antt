@@ -27,11 +27,11 @@ use Rattle.jet_model.specs.Outcomes.{and_then, AndThen}
 use Rattle.jet_model.specs.Contents.{Contents, Program, program_at, inputs_at}
 use Rattle.jet_model.specs.Answer.{Limits, Source, source_at, setting_of, start_in, limited_text, IsCaptured as IsCapturedAs, IsCaptureAnswer}
 use Rattle.jet_model.proofs.AndThen.{AndThen-ok}
-use Rattle.jet_files.specs.Outcome.{Follows, Comes}
-use Rattle.jet_files.proofs.Composing.{follows-stops, comes-stops, comes-then, comes-work}
+use Rattle.jet_files.specs.Outcome.{IsOutcomeBy, IsOutcomeOf}
+use Rattle.jet_files.proofs.Composing.{outcome_by-stops, outcome_of-stops, outcome_of-then, outcome_of-work}
 use Rattle.jet_work.specs.Answers.{IsCapture, IsRecording, IsWorkOf}
 use Rattle.jet_work.specs.Ending.{IsUnasked}
-use Rattle.jet_work.proofs.Working.{follows-answer}
+use Rattle.jet_work.proofs.Working.{outcome_by-answer}
 
 -- ---- a run that was captured
 
@@ -105,24 +105,24 @@ module _ (program : List ℕ) (inputs : List (List ℕ)) (limits : Limits) (hear
   source_with p file = and_then (inputs_at file inputs) (λ contents. Ok (record { program = p; inputs = contents }))
 
   -- the source is refused, before the clock was read
-  refused-source : (f g : StoreShown) (r : Refusal) → Tells heard heard_after (Gains []) → Comes (λ file. source_at file program inputs) f g (Err r) → Follows Records f g (Err r)
-  refused-source f g r none = follows-stops (λ file answer. source_at file program inputs ≡ answer) Records f g r
+  refused-source : (f g : StoreShown) (r : Refusal) → Tells heard heard_after (Gains []) → IsOutcomeOf (λ file. source_at file program inputs) f g (Err r) → IsOutcomeBy Records f g (Err r)
+  refused-source f g r none = outcome_by-stops (λ file answer. source_at file program inputs ≡ answer) Records f g r
       (λ file e. record { answers = []; gained = none; holds = subst (λ (s : Result Source Refusal). AndThen s (λ source. IsCaptureAnswer source limits []) (Err r)) (sym e) refl })
 
-  pub refused-program : (f g : StoreShown) (r : Refusal) → Tells heard heard_after (Gains []) → Comes (λ file. program_at file program) f g (Err r) → Follows Records f g (Err r)
-  refused-program f g r none first = refused-source f g r none (comes-stops (λ file. program_at file program) source_with f g r first)
+  pub refused-program : (f g : StoreShown) (r : Refusal) → Tells heard heard_after (Gains []) → IsOutcomeOf (λ file. program_at file program) f g (Err r) → IsOutcomeBy Records f g (Err r)
+  refused-program f g r none first = refused-source f g r none (outcome_of-stops (λ file. program_at file program) source_with f g r first)
 
-  module _ (p : Program) (f g h : StoreShown) (first : Comes (λ file. program_at file program) f g (Ok p)) (reads : Reads (program ∷ []) true f g) (all : Bool) (after : Reads inputs all g h) where
-    pub refused-inputs : (r : Refusal) → Tells heard heard_after (Gains []) → Comes (λ file. inputs_at file inputs) g h (Err r) → Follows Records f h (Err r)
+  module _ (p : Program) (f g h : StoreShown) (first : IsOutcomeOf (λ file. program_at file program) f g (Ok p)) (reads : Reads (program ∷ []) true f g) (all : Bool) (after : Reads inputs all g h) where
+    pub refused-inputs : (r : Refusal) → Tells heard heard_after (Gains []) → IsOutcomeOf (λ file. inputs_at file inputs) g h (Err r) → IsOutcomeBy Records f h (Err r)
     refused-inputs r none second =
-        refused-source f h r none (comes-then (λ file. program_at file program) source_with p f g h first reads after (Err r)
-        (comes-stops (λ file. inputs_at file inputs) (λ contents file. Ok (record { program = p; inputs = contents })) g h r second))
+        refused-source f h r none (outcome_of-then (λ file. program_at file program) source_with p f g h first reads after (Err r)
+        (outcome_of-stops (λ file. inputs_at file inputs) (λ contents file. Ok (record { program = p; inputs = contents })) g h r second))
 
-    pub recorded : (contents : List (List ℕ)) → Comes (λ file. inputs_at file inputs) g h (Ok contents) → (outcome : Result (List ℕ) Refusal)
-        → IsWorkOf (IsCapture (record { program = p; inputs = contents }) limits heard heard_after) outcome → Follows Records f h outcome
+    pub recorded : (contents : List (List ℕ)) → IsOutcomeOf (λ file. inputs_at file inputs) g h (Ok contents) → (outcome : Result (List ℕ) Refusal)
+        → IsWorkOf (IsCapture (record { program = p; inputs = contents }) limits heard heard_after) outcome → IsOutcomeBy Records f h outcome
     recorded contents second =
         let source : Source = record { program = p; inputs = contents } in
-        follows-answer (λ file answer. source_at file program inputs ≡ answer) (IsCapture source limits heard heard_after) Records source f h
+        outcome_by-answer (λ file answer. source_at file program inputs ≡ answer) (IsCapture source limits heard heard_after) Records source f h
         (λ file outcome e w. record { answers = w.answers; gained = w.gained; holds = AndThen-ok (source_at file program inputs) (λ s. IsCaptureAnswer s limits w.answers) source outcome e w.holds })
-        (comes-then (λ file. program_at file program) source_with p f g h first reads after (Ok source)
-        (comes-work (λ file. inputs_at file inputs) (λ contents. Ok (record { program = p; inputs = contents })) contents g h second (Ok source) refl))
+        (outcome_of-then (λ file. program_at file program) source_with p f g h first reads after (Ok source)
+        (outcome_of-work (λ file. inputs_at file inputs) (λ contents. Ok (record { program = p; inputs = contents })) contents g h second (Ok source) refl))

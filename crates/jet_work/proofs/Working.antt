@@ -32,12 +32,12 @@ use Rattle.jet_model.specs.Contents.{Contents, Run, run_at, query_at}
 use Rattle.jet_model.specs.Report.{over_trace, reports_from, reports_of}
 use Rattle.jet_model.specs.Answer.{fitting_start, told_check, cut_answer, analysed_answer, query_answer, unless_other_rule, rules_check, text_answer, limited_text}
 use Rattle.jet_model.proofs.AndThen.{and_then-ok, and_then-err}
-use Rattle.jet_files.specs.Outcome.{AskAlike, AreAlike, IsKeptFor, Comes, Found, Follows, IsWork, by_reading}
-use Rattle.jet_files.proofs.Composing.{comes-then, comes-stops, follows-stops}
+use Rattle.jet_files.specs.Outcome.{AskAlike, AreAlike, IsKeptFor, IsOutcomeOf, HeldBefore, IsOutcomeBy, IsWork, by_reading}
+use Rattle.jet_files.proofs.Composing.{outcome_of-then, outcome_of-stops, outcome_by-stops}
 use Rattle.jet_files.proofs.Several.{kept-refused}
 use Rattle.jet_words.specs.declared.command.Listing.{Listing}
 use Rattle.jet_words.specs.declared.command.Listing.TheVariants.{BySink, BySource, ByPath, ByRange}
-use Rattle.jet_work.specs.Answers.{IsWorkOf, fits_and_is_cut, conversion_of, given_by, telling_text, decisions_by, IsGivenAlike, AreGivenAlike, named}
+use Rattle.jet_work.specs.Answers.{IsWorkOf, fits_and_is_cut, conversion_of, given_by, format_text, decisions_by, IsGivenAlike, AreGivenAlike, named}
 use Rattle.path_model.specs.Answer.{first_pair}
 use Rattle.path_find.specs.Answer.{pair_report, path_report}
 use Rattle.range_model.specs.Text.{ranges_report}
@@ -46,19 +46,19 @@ use Rattle.decision_model.specs.Decisions.{decided}
 use Rattle.decision_model.specs.Text.{decisions_text}
 use Rattle.page_text.specs.Texts.{head, tail}
 use Rattle.page_model.specs.PageLaws.{AlikeHaveSameData}
-use Rattle.jet_work.specs.declared.work.Telling.{Telling}
-use Rattle.jet_work.specs.declared.work.Telling.TheVariants.{Listed, Page}
+use Rattle.jet_work.specs.declared.work.Format.{Format}
+use Rattle.jet_work.specs.declared.work.Format.TheVariants.{Listed, Page}
 use Rattle.jet_work.proofs.Fitting.{fitting_start-ok}
 
 -- the first calls gave a value, and what the work on it says is that of all
-pub follows-answer : {A B : Type 0} (R : Contents → Result A Refusal → Type 0) (Q : Result B Refusal → Type 0) (T : Contents → Result B Refusal → Type 0) (x : A) (f g : StoreShown)
+pub outcome_by-answer : {A B : Type 0} (R : Contents → Result A Refusal → Type 0) (Q : Result B Refusal → Type 0) (T : Contents → Result B Refusal → Type 0) (x : A) (f g : StoreShown)
     → ((file : Contents) (outcome : Result B Refusal) → R file (Ok x) → Q outcome → T file outcome)
-    → Follows R f g (Ok x) → (outcome : Result B Refusal) → IsWorkOf Q outcome → Follows T f g outcome
-follows-answer R Q T x f g step first (Ok y) work =
-    (first.0, tells-map f.files g.files (Found (λ file. R file (Ok x))) (Found (λ file. T file (Ok y))) (λ o n d. record { found = step o.file (Ok y) d.found work }) first.1)
-follows-answer R Q T x f g step first (Err r) work =
-    IsOwedTo-map (by_reading (Q (Err r)) ⊥) (by_reading (Tells f.files g.files (Found (λ file. T file (Err r)))) (Rose f.faults g.faults))
-    (λ p. p) (λ q. tells-map f.files g.files (Found (λ file. R file (Ok x))) (Found (λ file. T file (Err r))) (λ o n d. record { found = step o.file (Err r) d.found q }) first.1)
+    → IsOutcomeBy R f g (Ok x) → (outcome : Result B Refusal) → IsWorkOf Q outcome → IsOutcomeBy T f g outcome
+outcome_by-answer R Q T x f g step first (Ok y) work =
+    (first.0, tells-map f.files g.files (HeldBefore (λ file. R file (Ok x))) (HeldBefore (λ file. T file (Ok y))) (λ o n d. record { held = step o.file (Ok y) d.held work }) first.1)
+outcome_by-answer R Q T x f g step first (Err r) work =
+    IsOwedTo-map (by_reading (Q (Err r)) ⊥) (by_reading (Tells f.files g.files (HeldBefore (λ file. T file (Err r)))) (Rose f.faults g.faults))
+    (λ p. p) (λ q. tells-map f.files g.files (HeldBefore (λ file. R file (Ok x))) (HeldBefore (λ file. T file (Err r))) (λ o n d. record { held = step o.file (Err r) d.held q }) first.1)
     (λ p. absurd p) (λ p. p) r work
 
 -- ---- a query that was read
@@ -70,24 +70,24 @@ kept_alike alike kept next outcome (Err r) h same = absurd h
 
 -- what is read after the run, of which something is kept that is alike, and the work on it
 module _ {A : Type 0} (alike : A → A → Type 0) (read : Contents → Result A Refusal) (next : A → Result (List ℕ) Refusal) (f g : StoreShown) where
-  abbrev Given : Contents → Result (List ℕ) Refusal → Type 0
-  Given file answer = and_then (read file) next ≡ answer
+  abbrev IsReadAnswer : Contents → Result (List ℕ) Refusal → Type 0
+  IsReadAnswer file answer = and_then (read file) next ≡ answer
 
-  pub kept-refused : (r : Refusal) → Follows (λ file kept. IsKeptFor alike kept (read file)) f g (Err r) → Follows Given f g (Err r)
-  kept-refused r = follows-stops (λ file kept. IsKeptFor alike kept (read file)) Given f g r
+  pub kept-refused : (r : Refusal) → IsOutcomeBy (λ file kept. IsKeptFor alike kept (read file)) f g (Err r) → IsOutcomeBy IsReadAnswer f g (Err r)
+  kept-refused r = outcome_by-stops (λ file kept. IsKeptFor alike kept (read file)) IsReadAnswer f g r
       (λ file h. and_then-err (read file) next r (kept-refused alike r (read file) h))
 
-  pub kept-given : (kept : A) → Follows (λ file kept. IsKeptFor alike kept (read file)) f g (Ok kept) → (outcome : Result (List ℕ) Refusal)
-      → IsWorkOf (λ answer. (q : A) → alike kept q → next q ≡ answer) outcome → Follows Given f g outcome
-  kept-given kept = follows-answer (λ file kept. IsKeptFor alike kept (read file)) (λ answer. (q : A) → alike kept q → next q ≡ answer) Given kept f g
+  pub kept-given : (kept : A) → IsOutcomeBy (λ file kept. IsKeptFor alike kept (read file)) f g (Ok kept) → (outcome : Result (List ℕ) Refusal)
+      → IsWorkOf (λ answer. (q : A) → alike kept q → next q ≡ answer) outcome → IsOutcomeBy IsReadAnswer f g outcome
+  kept-given kept = outcome_by-answer (λ file kept. IsKeptFor alike kept (read file)) (λ answer. (q : A) → alike kept q → next q ≡ answer) IsReadAnswer kept f g
       (λ file outcome h same. kept_alike alike kept next outcome (read file) h same)
 
 -- the run that was opened, and then what is read after it
 pub after_run : {A : Type 0} {names more : List Text} {one two : Bool} (program log : List ℕ) (read : Contents → Result A Refusal) (next : Run → A → Result (List ℕ) Refusal) (run : Run) (f g h : StoreShown)
-    → Comes (λ file. run_at file program log) f g (Ok run) → Reads names one f g → Reads more two g h
-    → (outcome : Result (List ℕ) Refusal) → Follows (λ file answer. and_then (read file) (next run) ≡ answer) g h outcome
-    → Comes (λ file. and_then (run_at file program log) (λ r. and_then (read file) (next r))) f h outcome
-after_run program log read next run = comes-then (λ file. run_at file program log) (λ r file. and_then (read file) (next r)) run
+    → IsOutcomeOf (λ file. run_at file program log) f g (Ok run) → Reads names one f g → Reads more two g h
+    → (outcome : Result (List ℕ) Refusal) → IsOutcomeBy (λ file answer. and_then (read file) (next run) ≡ answer) g h outcome
+    → IsOutcomeOf (λ file. and_then (run_at file program log) (λ r. and_then (read file) (next r))) f h outcome
+after_run program log read next run = outcome_of-then (λ file. run_at file program log) (λ r file. and_then (read file) (next r)) run
 
 -- what a run and a query come to
 module _ (given : Query → State → Log → List ℕ) (told : Option ℕ) (program log query : List ℕ) where
@@ -97,18 +97,18 @@ module _ (given : Query → State → Log → List ℕ) (told : Option ℕ) (pro
   abbrev next : Run → Query → Result (List ℕ) Refusal
   next run q = analysed_answer told run (given q)
 
-  pub run-refused : (f g : StoreShown) (r : Refusal) → Comes (λ file. run_at file program log) f g (Err r) → Comes Asks f g (Err r)
-  run-refused f g r = comes-stops (λ file. run_at file program log) (λ run file. and_then (query_at file query) (next run)) f g r
+  pub run-refused : (f g : StoreShown) (r : Refusal) → IsOutcomeOf (λ file. run_at file program log) f g (Err r) → IsOutcomeOf Asks f g (Err r)
+  run-refused f g r = outcome_of-stops (λ file. run_at file program log) (λ run file. and_then (query_at file query) (next run)) f g r
 
-  module _ {names more : List Text} {one two : Bool} (run : Run) (f g h : StoreShown) (first : Comes (λ file. run_at file program log) f g (Ok run))
+  module _ {names more : List Text} {one two : Bool} (run : Run) (f g h : StoreShown) (first : IsOutcomeOf (λ file. run_at file program log) f g (Ok run))
       (reads : Reads names one f g) (after : Reads more two g h) where
-    pub query-refused : (r : Refusal) → Follows (λ file kept. AreAlike kept (query_at file query)) g h (Err r) → Comes Asks f h (Err r)
+    pub query-refused : (r : Refusal) → IsOutcomeBy (λ file kept. AreAlike kept (query_at file query)) g h (Err r) → IsOutcomeOf Asks f h (Err r)
     query-refused r second =
         after_run program log (λ file. query_at file query) next run f g h first reads after (Err r)
         (kept-refused Alike (λ file. query_at file query) (next run) g h r second)
 
-    pub query-given : (kept : Query) → Follows (λ file kept. AreAlike kept (query_at file query)) g h (Ok kept) → (outcome : Result (List ℕ) Refusal)
-        → IsWorkOf (IsGivenAlike given told run kept) outcome → Comes Asks f h outcome
+    pub query-given : (kept : Query) → IsOutcomeBy (λ file kept. AreAlike kept (query_at file query)) g h (Ok kept) → (outcome : Result (List ℕ) Refusal)
+        → IsWorkOf (IsGivenAlike given told run kept) outcome → IsOutcomeOf Asks f h outcome
     query-given kept second outcome work =
         after_run program log (λ file. query_at file query) next run f g h first reads after outcome
         (kept-given Alike (λ file. query_at file query) (next run) g h kept second outcome work)
@@ -159,9 +159,9 @@ same_listing ByPath q p start log a = same_path q p start log a
 same_listing ByRange q p start log a = ap (ranges_report log) (same_rows q p (trace start log) a)
 
 -- and of a page
-pub same_telling : AlikeHaveSameData → (telling : Telling) (q p : Query) (start : State) (log : Log) → Alike q p → telling_text telling q start log ≡ telling_text telling p start log
-same_telling same_data (Listed listing) q p start log a = same_listing listing q p start log a
-same_telling same_data Page q p start log a = ap (λ (data_of : List ℕ). head ++ data_of ++ tail) (same_data q p start log a)
+pub same_format : AlikeHaveSameData → (format : Format) (q p : Query) (start : State) (log : Log) → Alike q p → format_text format q start log ≡ format_text format p start log
+same_format same_data (Listed listing) q p start log a = same_listing listing q p start log a
+same_format same_data Page q p start log a = ap (λ (data_of : List ℕ). head ++ data_of ++ tail) (same_data q p start log a)
 
 pub same_decisions : (q p : Query) (start : State) (log : Log) → Alike q p → decisions_by q start log ≡ decisions_by p start log
 same_decisions q p start log a = λ i. decisions_text (decided (record { rule = deciding_rule (a.rule i); introduces = λ b. a.sources b.channel b.offset i }) start log)

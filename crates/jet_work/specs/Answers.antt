@@ -33,8 +33,8 @@ use Rattle.call_list.specs.Calls.{calls_text}
 use Rattle.call_stack.specs.Stack.{stack_text}
 use Rattle.jet_work.specs.Texts.{IsWhole}
 use Rattle.jet_work.specs.declared.pieces.Answer.{Answer}
-use Rattle.jet_work.specs.declared.work.Telling.{Telling}
-use Rattle.jet_work.specs.declared.work.Telling.TheVariants.{Listed, Page}
+use Rattle.jet_work.specs.declared.work.Format.{Format}
+use Rattle.jet_work.specs.declared.work.Format.TheVariants.{Listed, Page}
 
 abbrev pub named : Text → Text → Text → Names
 named program log query = record { program = program; log = log; query = query }
@@ -43,19 +43,19 @@ abbrev pub limits_of : ℕ → ℕ → ℕ → Limits
 limits_of pages piece steps = record { pages = pages; piece = piece; steps = steps }
 
 -- the clock gave some answers, of which this holds; `heard` and `heard_after` are what it told before and after
-pub record Hears (heard heard_after : Option (List ℕ)) (of_answers : List ℕ → Type 0) : Type 0 where
+pub record OfClockAnswers (heard heard_after : Option (List ℕ)) (of_answers : List ℕ → Type 0) : Type 0 where
   pub answers : List ℕ
   pub gained : Tells heard heard_after (Gains answers)
   pub holds : of_answers answers
 
 -- a run that is captured comes to this answer
 abbrev pub IsCapture : Source → Limits → Option (List ℕ) → Option (List ℕ) → Result (List ℕ) Refusal → Type 0
-IsCapture source limits heard heard_after answer = Hears heard heard_after (λ answers. IsCaptureAnswer source limits answers answer)
+IsCapture source limits heard heard_after answer = OfClockAnswers heard heard_after (λ answers. IsCaptureAnswer source limits answers answer)
 
 -- the same of a program and inputs that are read
 abbrev pub IsRecording : Text → List Text → Limits → Option (List ℕ) → Option (List ℕ) → Contents → Result (List ℕ) Refusal → Type 0
 IsRecording program inputs limits heard heard_after file answer =
-    Hears heard heard_after (λ answers. IsRecordAnswer file program inputs limits answers answer)
+    OfClockAnswers heard heard_after (λ answers. IsRecordAnswer file program inputs limits answers answer)
 
 -- the length of the epochs of the workload's run
 abbrev pub workload_length : Pipeline → ℕ
@@ -70,12 +70,12 @@ given_by ByPath q start log = path_report start log q
 given_by ByRange q start log = ranges_report log (rows q (trace start log))
 
 -- what is told of the rows of a query: one of these texts, or the page
-abbrev pub telling_text : Telling → Query → State → Log → List ℕ
-telling_text (Listed listing) = given_by listing
-telling_text Page = page_report
+abbrev pub format_text : Format → Query → State → Log → List ℕ
+format_text (Listed listing) = given_by listing
+format_text Page = page_report
 
 -- the page is told as a text that is there
-abbrev pub IsPageWhole : Telling → Answer → Type 0
+abbrev pub IsPageWhole : Format → Answer → Type 0
 IsPageWhole (Listed listing) answer = Unit {0}
 IsPageWhole Page answer = IsWhole answer
 

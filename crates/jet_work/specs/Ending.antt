@@ -11,10 +11,10 @@ use Rattle.jet_refusal.specs.Refusals.{status_of}
 use Rattle.jet_refusal.specs.Causes.{Causes, IsOwedTo}
 use Rattle.jet_refusal.specs.Faults.{IsOutOfMemory}
 use Rattle.jet_model.specs.Contents.{Contents}
-use Rattle.jet_files.specs.Outcome.{Found}
+use Rattle.jet_files.specs.Outcome.{HeldBefore}
 use Rattle.jet_work.specs.Targets.{target_of}
 use Rattle.jet_work.specs.Answers.{IsAnswer}
-use Rattle.outer_io.specs.Outside.{Change, Told, IsFaultless}
+use Rattle.outer_io.specs.Outside.{Change, IfTold, IsFaultless}
 use Rattle.jet_work.specs.Writing.{Delivers, DeliversPart, FailsToWrite}
 
 -- the files as they were come to some text, which was so delivered
@@ -41,16 +41,16 @@ abbrev pub causes_of : Option CommandOf → Change → Refusal → Causes
 causes_of None change refusal = record { usage = Unit {0}; files = ⊥; read = ⊥; write = ⊥ }
 causes_of (Some command) change refusal = record {
   usage = ⊥;
-  files = Told change (Found (λ file. IsAnswer command change.before.heard change.after.heard file (Err refusal)));
+  files = IfTold change (HeldBefore (λ file. IsAnswer command change.before.heard change.after.heard file (Err refusal)));
   read = Rose change.before.store.faults change.after.store.faults;
   write = FailsToWrite (target_of command) change.before.store change.after.store change.before.output change.after.output
-      × Told change (WritesPart command change (IsText command change));
+      × IfTold change (WritesPart command change (IsText command change));
 }
 
 -- nothing failed, and the text was written whole; there is no text where there is no command
 abbrev pub IsDelivered : Option CommandOf → Change → Type 0
 IsDelivered None change = ⊥
-IsDelivered (Some command) change = IsFaultless change × Told change (WritesWhole command change (IsText command change))
+IsDelivered (Some command) change = IsFaultless change × IfTold change (WritesWhole command change (IsText command change))
 
 -- how a command ended: its text was written whole, or it was refused
 abbrev pub Ends : Option CommandOf → Change → Result (Unit {0}) Refusal → Type 0

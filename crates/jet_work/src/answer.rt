@@ -2,7 +2,7 @@
 ghost use Rattle.std.specs.Prelude.{◌≡◌, ◌∷◌, [], is_ok, None};
 ghost use Rattle.outer_io.specs.Reads.{Reads};
 ghost use Rattle.jet_model.specs.Answer.{query_answer, run_answer, convert_answer};
-ghost use Rattle.jet_files.specs.Outcome.{Comes, seen_by, bytes_of};
+ghost use Rattle.jet_files.specs.Outcome.{IsOutcomeOf, seen_by, bytes_of};
 ghost use Rattle.jet_work.specs.Answers.{decisions_by, made_by, named};
 
 use crate::work::{conversion, decide, make};
@@ -20,7 +20,7 @@ pub fn decisions<S: Store>(
     log: &str,
     query: &str,
 ) -> Result<Vec<u8>, Refusal>
-    ensures answer { Comes (λ file. query_answer decisions_by None file (named program.now log.now query.now))
+    ensures answer { IsOutcomeOf (λ file. query_answer decisions_by None file (named program.now log.now query.now))
         (S.shown store.old) (S.shown store.new) (seen_by bytes_of result) }
     ensures reads { Reads (program.now ∷ log.now ∷ query.now ∷ []) (is_ok result) (S.shown store.old)
         (S.shown store.new) }
@@ -38,7 +38,7 @@ pub fn run_product<S: Store>(
     log: &str,
     product: Product,
 ) -> Result<Vec<u8>, Refusal>
-    ensures answer { Comes (λ file. run_answer file program.now log.now (made_by product))
+    ensures answer { IsOutcomeOf (λ file. run_answer file program.now log.now (made_by product))
         (S.shown store.old) (S.shown store.new) (seen_by bytes_of result) }
     ensures reads { Reads (program.now ∷ log.now ∷ []) (is_ok result) (S.shown store.old) (S.shown store.new) }
 {
@@ -53,7 +53,7 @@ pub fn convert<S: Store>(
     program: &str,
     log: &str,
 ) -> Result<Vec<u8>, Refusal>
-    ensures answer { Comes (λ file. convert_answer file program.now log.now)
+    ensures answer { IsOutcomeOf (λ file. convert_answer file program.now log.now)
         (S.shown store.old) (S.shown store.new) (seen_by bytes_of result) }
     ensures reads { Reads (program.now ∷ log.now ∷ []) (is_ok result) (S.shown store.old) (S.shown store.new) }
 {

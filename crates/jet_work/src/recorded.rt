@@ -3,7 +3,7 @@ ghost use Rattle.std.specs.Prelude.{◌≡◌, ◌≤◌, ◌^◌, ◌∷◌, []
 ghost use Rattle.std.specs.List.{All};
 ghost use Rattle.outer_io.specs.Reads.{Reads};
 ghost use Rattle.call_record.specs.Sources.{contents};
-ghost use Rattle.jet_files.specs.Outcome.{Follows, seen_by, bytes_of};
+ghost use Rattle.jet_files.specs.Outcome.{IsOutcomeBy, seen_by, bytes_of};
 ghost use Rattle.jet_files.specs.Views.{program_of};
 ghost use Rattle.jet_work.specs.Answers.{limits_of, IsCapture, IsRecording, IsWorkOf};
 ghost use Rattle.jet_work.specs.Ending.{IsUnasked};
@@ -78,7 +78,7 @@ pub fn record<S: Store, K: Clock>(
     requires most { limits.pages ≤ 4096 }
     requires steps { limits.steps ≤ 2 ^ 40 }
     requires few { length inputs.now ≤ 16 }
-    ensures answer { Follows (IsRecording program.now (map (λ name. name.now) inputs.now)
+    ensures answer { IsOutcomeBy (IsRecording program.now (map (λ name. name.now) inputs.now)
         (limits_of limits.pages limits.piece limits.steps)
         (K.answers clock.old) (K.answers clock.new)) (S.shown store.old) (S.shown store.new) (seen_by bytes_of result) }
     ensures reads { Reads (program.now ∷ map (λ name. name.now) inputs.now) (is_ok result) (S.shown store.old)

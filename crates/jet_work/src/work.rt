@@ -7,7 +7,7 @@ ghost use Rattle.report_model.specs.Rows.{rows};
 ghost use Rattle.jet_model.specs.Answer.{fitting_start, text_answer};
 ghost use Rattle.jet_files.specs.Outcome.{IsWork, seen_by, bytes_of};
 ghost use Rattle.jet_files.specs.Views.{program_of, run_of};
-ghost use Rattle.jet_work.specs.Answers.{IsWorkOf, IsGivenAlike, telling_text, made_by};
+ghost use Rattle.jet_work.specs.Answers.{IsWorkOf, IsGivenAlike, format_text, made_by};
 ghost use Rattle.jet_work.specs.Answers.{conversion_of, decisions_by, IsPageWhole};
 ghost use Rattle.jet_work.specs.Texts.{text_of};
 
@@ -32,7 +32,7 @@ use std::alloc::Global;
 
 /// What is told of the rows of a query.
 #[derive(Clone, Copy)]
-pub enum Telling {
+pub enum Format {
     /// A text to read, line by line.
     Listed(Listing),
     /// The page of the query.
@@ -64,27 +64,27 @@ pub fn told(
     job: &Job,
     query: &Query,
     report: Report,
-    telling: Telling,
+    format: Format,
 ) -> Result<Answer, NoMemory>
     requires { report ≡ rows query.now (trace_of job.now) }
-    ensures text { IfOk result (λ answer. text_of answer ≡ telling_text telling query.now job.now.start job.now.log) }
-    ensures whole { IfOk result (IsPageWhole telling) }
+    ensures text { IfOk result (λ answer. text_of answer ≡ format_text format query.now job.now.start job.now.log) }
+    ensures whole { IfOk result (IsPageWhole format) }
 {
-    match telling {
-        Telling::Listed(Listing::BySink) => Ok(Answer::Rows(report)),
-        Telling::Listed(Listing::BySource) => {
+    match format {
+        Format::Listed(Listing::BySink) => Ok(Answer::Rows(report)),
+        Format::Listed(Listing::BySource) => {
             let influence = influence_of(alloc, job, query, &report)?;
             Ok(Answer::Turned(influence))
         }
-        Telling::Listed(Listing::ByPath) => {
+        Format::Listed(Listing::ByPath) => {
             let text = path_text(alloc, job, query, &report)?;
             Ok(Answer::Whole(text))
         }
-        Telling::Listed(Listing::ByRange) => {
+        Format::Listed(Listing::ByRange) => {
             let text = shown(alloc, &report, job.log())?;
             Ok(Answer::Whole(text))
         }
-        Telling::Page => {
+        Format::Page => {
             let text = page(alloc, job, query, &report)?;
             Ok(Answer::Whole(text))
         }

@@ -7,7 +7,7 @@ ghost use Rattle.replayer.specs.Jobs.{trace_of};
 ghost use Rattle.replayer.specs.Nexts.{ArePlain};
 ghost use Rattle.taint_shadow.specs.Steps.{AreStanding};
 ghost use Rattle.taint_tracking.specs.Sinks.{AreLabelled};
-ghost use Rattle.taint_tracking.specs.Following.{IsSound, Follows, due_of};
+ghost use Rattle.taint_tracking.specs.Following.{IsSound, TracksSteps, due_of};
 ghost use Rattle.epoch_summary.specs.Words.{label_words};
 ghost use Rattle.epoch_summary.specs.Summaries.{number_of, summary_of};
 ghost use Rattle.local_taint.specs.Following.{TracksFrom, IsSummaryOf, AreInRange};
@@ -123,7 +123,7 @@ fn follow_plain(
     ensures moved { OnOk result (cursor.new ≡ record { job = cursor.old.job; time = until }) }
     ensures sound { OnOk result (IsSound label_words tracking.new) }
     ensures followed { OnOk result
-        (Follows label_words (trace_of cursor.old.job) cursor.old.time until tracking.old tracking.new) }
+        (TracksSteps label_words (trace_of cursor.old.job) cursor.old.time until tracking.old tracking.new) }
 {
     let rule = tracking.rule();
     for time in cursor.time()..until {

@@ -3,7 +3,7 @@ use Rattle.std.specs.Prelude.{◌≡◌, ℕ, zero, suc, ◌<◌, ◌≤◌, ◌
 use Rattle.std.specs.Int.{bit_at}
 use Rattle.merge_log.specs.declared.nodes.Entry.{Entry}
 use Rattle.merge_log.specs.declared.reader.Leaf.{Leaf}
-use Rattle.merge_log.specs.declared.finding.Found.{Found}
+use Rattle.merge_log.specs.declared.finding.FoundLeaves.{FoundLeaves}
 use Rattle.merge_log.specs.declared.finding.Leaves.{Leaves}
 use Rattle.merge_log.specs.declared.finding.Leaves.TheVariants.{Run, Start}
 use Rattle.source_runs.specs.Runs.{bytes_of}
@@ -32,7 +32,7 @@ HasBit masks r m = bit_at (slice_index masks m) r ≡ 1
 -- ---- what was found
 
 -- the terms of the root r: none beyond the last
-abbrev pub found_at : List Found → ℕ → Terms
+abbrev pub found_at : List FoundLeaves → ℕ → Terms
 found_at [] r = no_terms
 found_at (f ∷ fs) zero = terms_of f
 found_at (f ∷ fs) (suc r) = found_at fs r
@@ -47,11 +47,11 @@ abbrev pub with_leaves : ℕ → Leaves → Terms → Terms
 with_leaves bit u t = if bit == 1 then and_leaves u t else t
 
 -- each root of the mask has the leaves too, and the others are as they were
-abbrev pub GivesLeaves : ℕ → Leaves → List Found → List Found → Type 0
+abbrev pub GivesLeaves : ℕ → Leaves → List FoundLeaves → List FoundLeaves → Type 0
 GivesLeaves mask u old new = (r : ℕ) → r < length old → found_at new r ≡ with_leaves (bit_at mask r) u (found_at old r)
 
 -- each root has the leaves that it had
-abbrev pub HaveLeavesOf : List Found → List Found → Type 0
+abbrev pub HaveLeavesOf : List FoundLeaves → List FoundLeaves → Type 0
 HaveLeavesOf old new = (r : ℕ) (q : Leaf) → has_leaf q (found_at new r) ≡ has_leaf q (found_at old r)
 
 -- the leaves under a root are those that were found, and those under the nodes that are left
@@ -65,12 +65,12 @@ abbrev pub IsLeftToo : List ℕ → ℕ → ℕ → ℕ → ℕ → Type 0
 IsLeftToo masks node mask r m = HasBit masks r m ⊎ ((m ≡ node) × (bit_at mask r ≡ 1))
 
 -- each root that was covered with that node is covered by what is left and found now
-abbrev pub KeepCovers : List Entry → ℕ → ℕ → List ℕ → List Found → List ℕ → List Found → Type 0
+abbrev pub KeepCovers : List Entry → ℕ → ℕ → List ℕ → List FoundLeaves → List ℕ → List FoundLeaves → Type 0
 KeepCovers log node mask masks found masks1 found1 =
     (r root : ℕ) → r < length found
     → IsCover log root (IsLeftToo masks node mask r) (found_at found r) → IsCover log root (HasBit masks1 r) (found_at found1 r)
 
 -- of each root its leaves are found
-abbrev pub AreFound : List Entry → List ℕ → List Found → Type 0
+abbrev pub AreFound : List Entry → List ℕ → List FoundLeaves → Type 0
 AreFound log roots found =
     (r : ℕ) (q : Leaf) → r < length roots → has_leaf q (found_at found r) ≡ has_leaf q (terms log (slice_index roots r))

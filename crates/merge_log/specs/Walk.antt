@@ -4,7 +4,7 @@ use Rattle.lists.specs.Sets.{has}
 use Rattle.flow_model.specs.Orders.{loc_cmp, source_cmp}
 use Rattle.merge_log.specs.declared.reader.Leaf.{Leaf}
 use Rattle.merge_log.specs.declared.reader.Leaf.TheVariants.{Source, Start}
-use Rattle.merge_log.specs.declared.finding.Found.{Found}
+use Rattle.merge_log.specs.declared.finding.FoundLeaves.{FoundLeaves}
 use Rattle.source_runs.specs.Runs.{all_bytes}
 use Rattle.merge_log.specs.Log.{Terms}
 
@@ -18,7 +18,7 @@ abbrev pub leaves_of : Terms → List Leaf
 leaves_of t = map Source t.sources ++ map Start t.starts
 
 -- what was found, as terms: the bytes of the runs, one run after another
-abbrev pub terms_of : Found → Terms
+abbrev pub terms_of : FoundLeaves → Terms
 terms_of found = record { sources = all_bytes found.runs.items; starts = found.starts.items }
 
 -- no mark is of a later round

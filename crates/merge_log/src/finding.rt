@@ -9,7 +9,7 @@ ghost use Rattle.merge_log.specs.declared.reader.Leaf.{Leaf as AnyLeaf};
 
 use flow_model::Loc;
 use no_memory::NoMemory;
-use source_runs::{SourceRun, settle};
+use source_runs::{SourceRun, normalise};
 use std::alloc::Global;
 
 /// The leaves of an entry that is no union.
@@ -21,18 +21,18 @@ pub enum Leaves {
 
 /// The leaves that a walk found: runs of source bytes, and start locations.
 #[derive(Drop)]
-pub struct Found {
+pub struct FoundLeaves {
     pub runs: Vec<SourceRun>,
     pub starts: Vec<Loc>,
 }
 
-impl Found {
+impl FoundLeaves {
     /// No leaf. It takes no memory.
-    pub fn new(alloc: Global) -> Found
+    pub fn new(alloc: Global) -> FoundLeaves
         ensures runs { result.runs.items ≡ [] }
         ensures starts { result.starts.items ≡ [] }
     {
-        Found {
+        FoundLeaves {
             runs: Vec::new(alloc),
             starts: Vec::new(alloc),
         }
@@ -59,12 +59,12 @@ impl Found {
     }
 
     /// Makes sets of the leaves: each once, ascending. Only the room of `spare` is used. When out of memory there may be others.
-    pub fn settle(&mut self, spare: &mut Vec<SourceRun>) -> Result<(), NoMemory>
+    pub fn normalise(&mut self, spare: &mut Vec<SourceRun>) -> Result<(), NoMemory>
         ensures members { OnOk result
             ((q : AnyLeaf) → has_leaf q (terms_of self.new) ≡ has_leaf q (terms_of self.old)) }
         ensures ascending { OnOk result (AreSets (terms_of self.new)) }
     {
-        settle(&mut self.runs, spare)?;
+        normalise(&mut self.runs, spare)?;
         ascend(&mut self.starts);
         Ok(())
     }

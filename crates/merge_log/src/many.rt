@@ -5,11 +5,11 @@ ghost use Rattle.merge_log.specs.Log.{IsNode, no_terms, terms};
 ghost use Rattle.merge_log.specs.Masks.{IsClearFrom, found_at};
 ghost use Rattle.merge_log.specs.Walk.{terms_of};
 
-use crate::finding::Found;
+use crate::finding::FoundLeaves;
 use crate::masks::Masks;
 use crate::nodes::{MergeLog, Node};
 use crate::reader::TermsReader;
-use crate::spread::{empty_sets, settle_all, walk_many};
+use crate::spread::{empty_sets, normalise_all, walk_many};
 use no_memory::NoMemory;
 use source_runs::SourceRun;
 use std::alloc::Global;
@@ -25,7 +25,7 @@ pub const MOST_ROOTS: usize = 64;
 pub struct ManyTerms {
     alloc: Global,
     masks: Masks,
-    found: Vec<Found>,
+    found: Vec<FoundLeaves>,
     spare: Vec<SourceRun>,
 }
 
@@ -83,7 +83,7 @@ fn find_all(
     log: &MergeLog,
     roots: &[Node],
     masks: &mut Masks,
-    found: &mut Vec<Found>,
+    found: &mut Vec<FoundLeaves>,
     spare: &mut Vec<SourceRun>,
 ) -> Result<(), NoMemory>
     requires few { length roots.now ≤ 64 }
@@ -96,6 +96,6 @@ fn find_all(
 {
     masks.fit(log.size() as usize)?;
     walk_many(log, roots, masks, found)?;
-    settle_all(found, spare)?;
+    normalise_all(found, spare)?;
     Ok(())
 }

@@ -6,7 +6,7 @@ ghost use Rattle.merge_log.specs.Log.{IsNode, AreSets, terms, no_terms, run_term
 ghost use Rattle.merge_log.specs.Walk.{leaves_of, terms_of};
 ghost use Rattle.merge_log.specs.declared.reader.Leaf.TheVariants as leaf;
 
-use crate::finding::Found;
+use crate::finding::FoundLeaves;
 use crate::nodes::{MergeLog, Node};
 use crate::walk::{Marks, walk};
 use flow_model::{Loc, SourceByte};
@@ -28,7 +28,7 @@ pub enum Leaf {
 pub struct TermsReader {
     marks: Marks,
     stack: Vec<u32>,
-    found: Found,
+    found: FoundLeaves,
     spare: Vec<SourceRun>,
 }
 
@@ -49,7 +49,7 @@ impl TermsReader {
         TermsReader {
             marks: Marks::new(alloc),
             stack: Vec::new(alloc),
-            found: Found::new(alloc),
+            found: FoundLeaves::new(alloc),
             spare: Vec::new(alloc),
         }
     }
@@ -102,7 +102,7 @@ impl TermsReader {
     }
 
     /// Takes what was found otherwise for what was read.
-    pub(crate) fn copy_found(&mut self, found: &Found) -> Result<(), NoMemory>
+    pub(crate) fn copy_found(&mut self, found: &FoundLeaves) -> Result<(), NoMemory>
         ensures { OnOk result (self.new ≡ terms_of found.now) }
     {
         self.found.clear();
@@ -131,7 +131,7 @@ impl TermsReader {
             &mut self.stack,
             &mut self.found,
         )?;
-        self.found.settle(&mut self.spare)?;
+        self.found.normalise(&mut self.spare)?;
         Ok(())
     }
 }

@@ -5,7 +5,7 @@ ghost use Rattle.std.specs.Int.{bit_at};
 ghost use Rattle.merge_log.specs.Log.{AreSets, IsNode, no_terms};
 ghost use Rattle.merge_log.specs.Masks.{HasBit, IsClearFrom, AreFound, GivesLeaves, HaveLeavesOf, KeepCovers, found_at};
 
-use crate::finding::{Found, Leaves};
+use crate::finding::{FoundLeaves, Leaves};
 use crate::masks::Masks;
 use crate::nodes::{Entry, MergeLog, Node};
 use no_memory::NoMemory;
@@ -18,7 +18,7 @@ pub fn walk_many(
     log: &MergeLog,
     roots: &[Node],
     masks: &mut Masks,
-    found: &mut Vec<Found>,
+    found: &mut Vec<FoundLeaves>,
 ) -> Result<(), NoMemory>
     requires few { length roots.now ≤ 64 }
     requires stand { All (IsNode log.now) roots.now }
@@ -69,7 +69,7 @@ fn spread(
     node: u32,
     mask: u64,
     masks: &mut Masks,
-    found: &mut Vec<Found>,
+    found: &mut Vec<FoundLeaves>,
 ) -> Result<(), NoMemory>
     requires above_0 { 0 < node }
     requires stands { IsNode log.now node }
@@ -119,7 +119,7 @@ fn bounds(mask: u64) -> (usize, usize)
 }
 
 /// Adds leaves to what was found of the roots of a mask.
-fn give(found: &mut Vec<Found>, mask: u64, leaves: Leaves) -> Result<(), NoMemory>
+fn give(found: &mut Vec<FoundLeaves>, mask: u64, leaves: Leaves) -> Result<(), NoMemory>
     requires { length found.old.items ≤ 64 }
     ensures sets { length found.new.items ≡ length found.old.items }
     ensures given { OnOk result (GivesLeaves mask leaves found.old.items found.new.items) }
@@ -134,19 +134,19 @@ fn give(found: &mut Vec<Found>, mask: u64, leaves: Leaves) -> Result<(), NoMemor
 }
 
 /// Makes so many empty sets. Those that are there are emptied, so that their memory is used again.
-pub fn empty_sets(alloc: Global, found: &mut Vec<Found>, count: usize) -> Result<(), NoMemory>
+pub fn empty_sets(alloc: Global, found: &mut Vec<FoundLeaves>, count: usize) -> Result<(), NoMemory>
     ensures sets { OnOk result (length found.new.items ≡ count) }
     ensures empty { OnOk result ((r : ℕ) → found_at found.new.items r ≡ no_terms) }
 {
     found.truncate(count);
     empty_all(found);
     for _ in found.len()..count {
-        found.push(Found::new(alloc))?;
+        found.push(FoundLeaves::new(alloc))?;
     }
     Ok(())
 }
 
-fn empty_all(found: &mut Vec<Found>)
+fn empty_all(found: &mut Vec<FoundLeaves>)
     ensures sets { length found.new.items ≡ length found.old.items }
     ensures empty { (r : ℕ) → found_at found.new.items r ≡ no_terms }
 {
@@ -156,13 +156,16 @@ fn empty_all(found: &mut Vec<Found>)
 }
 
 /// Makes a set of what was found of each root.
-pub fn settle_all(found: &mut Vec<Found>, spare: &mut Vec<SourceRun>) -> Result<(), NoMemory>
+pub fn normalise_all(
+    found: &mut Vec<FoundLeaves>,
+    spare: &mut Vec<SourceRun>,
+) -> Result<(), NoMemory>
     ensures sets { OnOk result (length found.new.items ≡ length found.old.items) }
     ensures members { OnOk result (HaveLeavesOf found.old.items found.new.items) }
     ensures ascending { OnOk result ((r : ℕ) → AreSets (found_at found.new.items r)) }
 {
     for root in 0..found.len() {
-        found[root].settle(spare)?;
+        found[root].normalise(spare)?;
     }
     Ok(())
 }

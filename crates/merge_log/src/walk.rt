@@ -5,7 +5,7 @@ ghost use Rattle.merge_log.specs.Log.{IsNode, terms};
 ghost use Rattle.merge_log.specs.Walk.{AreAtMost, has_leaf, terms_of, visited};
 ghost use Rattle.merge_log.specs.declared.reader.Leaf.{Leaf as AnyLeaf};
 
-use crate::finding::{Found, Leaves};
+use crate::finding::{FoundLeaves, Leaves};
 use crate::nodes::{Entry, MergeLog};
 use no_memory::NoMemory;
 use source_runs::SourceRun;
@@ -67,7 +67,7 @@ pub fn walk(
     root: u32,
     marks: &mut Marks,
     stack: &mut Vec<u32>,
-    found: &mut Found,
+    found: &mut FoundLeaves,
 ) -> Result<(), NoMemory>
     requires above_0 { 0 < root }
     requires stands { IsNode log.now root }

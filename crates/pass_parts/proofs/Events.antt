@@ -11,7 +11,7 @@ use Rattle.pass_parts.specs.Events.{Events, IsEvent}
 use Rattle.pass_parts.specs.Turns.{Waits}
 
 abbrev pub links_of : Bool → Option Message → Bool → Links
-links_of room next refused = record { has_room = room; next = next; is_refused = refused }
+links_of room next refused = record { has_room = room; item = next; is_refused = refused }
 
 -- what an event meets that needs no link, and one whose link refuses
 abbrev pub free : Bool → Links
@@ -38,7 +38,7 @@ module _ {V S : Type 0} (p : Events V S) (old new : V) (got sent : Option (List 
   refused got' sent' o g s h =
       subst (λ v. IsEvent p old got sent v got' sent' NotYet) (sym is)
       (record {
-        happens = record { links = stuck; went = tt; is = ap₂ (p.state old) g s ∙ sym h };
+        happens = record { links = stuck; could_move = tt; is = ap₂ (p.state old) g s ∙ sym h };
         keeps = subst (λ g. p.Keeps old g sent') (sym g) (subst (p.Keeps old got) (sym s) k);
         same = same;
         over = tt;
@@ -50,7 +50,7 @@ module _ {V S : Type 0} (p : Events V S) (old new : V) (got sent : Option (List 
   pub was_over : p.is_over old ≡ true → p.event old stuck (p.state old got sent) ≡ p.state old got sent → IsEvent p old got sent new got sent Over
   was_over o h =
       subst (λ v. IsEvent p old got sent v got sent Over) (sym is)
-      (record { happens = record { links = stuck; went = tt; is = sym h }; keeps = k; same = same; over = o; running = tt; not_yet = tt })
+      (record { happens = record { links = stuck; could_move = tt; is = sym h }; keeps = k; same = same; over = o; running = tt; not_yet = tt })
 
 -- what the link says that the event needs
 pub waits_at : {n m : Need} (P Q : Type 0) → n ≡ m → Waits m P Q → Waits n P Q

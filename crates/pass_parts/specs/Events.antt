@@ -5,8 +5,8 @@ use Rattle.epoch_link.specs.Link.{EndView}
 use Rattle.flow_model.specs.declared.Message.{Message}
 use Rattle.stream_model.specs.Passes.{Links}
 use Rattle.stream_model.specs.Schedules.{Need}
-use Rattle.pass_parts.specs.declared.next.Next.{Next}
-use Rattle.pass_parts.specs.declared.next.Next.TheVariants as next
+use Rattle.pass_parts.specs.declared.next.PassStep.{PassStep}
+use Rattle.pass_parts.specs.declared.next.PassStep.TheVariants as next
 use Rattle.pass_parts.specs.declared.pass_turn.PassTurn.{PassTurn}
 use Rattle.pass_parts.specs.Ends.{through, IsRefused}
 use Rattle.pass_parts.specs.Turns.{OnMoved, OnNotYet, OnOpen, OnOver, Waits}
@@ -32,7 +32,7 @@ module _ {V S : Type 0} (p : Events V S) (old : V) (got sent : Option (List Mess
   -- what a pop gave
   pub record Happened : Type 0 where
     pub links : Links
-    pub went : OnMoved turn ((links.has_room ≡ true) × IsSome links.next)
+    pub could_move : OnMoved turn ((links.has_room ≡ true) × IsSome links.item)
     pub is : p.state new got' sent' ≡ p.event old links (p.state old got sent)
 
   -- an event, and what its answer says
@@ -66,7 +66,7 @@ pub record IsAtRest {V S : Type 0} (p : Events V S) (IsIdle : V → Type 0) (has
 
 module _ {V S : Type 0} (p : Events V S) (Moves : V → V → Type 0) (Sends : Message → V → Type 0) (IsIdle : V → Type 0) where
   -- what is next, and that it is done where it needs no link
-  abbrev pub IsNext : Next → V → V → Type 0
+  abbrev pub IsNext : PassStep → V → V → Type 0
   IsNext next.Moved new old = Moves old new
   IsNext (next.Send m) new old = (new ≡ old) × Sends m old
   IsNext next.Receive new old = (new ≡ old) × IsAtRest p IsIdle false old

@@ -1,7 +1,7 @@
 pub mod Ends
 pub mod Turns
 pub mod Known
-pub mod Knowing
+pub mod PassSummaries
 pub mod Requests
 pub mod Events
 pub mod PartLaws

@@ -7,15 +7,15 @@
 
 mod end_terms;
 mod ends;
-mod knowledge;
 pub mod laws;
 mod next;
+mod pass_summary;
 mod pass_turn;
 mod requests;
 
 pub use end_terms::{read_end_terms, share_end_terms};
 pub use ends::{pop_message, push_message};
-pub use knowledge::Knowledge;
-pub use next::Next;
+pub use next::PassStep;
+pub use pass_summary::PassSummary;
 pub use pass_turn::PassTurn;
 pub use requests::{Request, Requests};

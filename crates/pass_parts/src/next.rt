@@ -4,7 +4,7 @@ use flow_model::Message;
 
 /// What a pass does in an event.
 #[derive(Clone, Copy)]
-pub enum Next {
+pub enum PassStep {
     /// It did it: that needed no link.
     Moved,
     /// It sends a message.

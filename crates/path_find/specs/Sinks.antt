@@ -12,7 +12,7 @@ use Rattle.flow_model.specs.Ranges.{IsLocation}
 use Rattle.report_model.specs.Rows.{Sink, sinks_of_step, point_sink}
 use Rattle.path_model.specs.declared.Pair.{Pair}
 use Rattle.path_model.specs.Answer.{PathTo}
-use Rattle.path_find.specs.declared.finding.Found.{Found}
+use Rattle.path_find.specs.declared.finding.SinkPath.{SinkPath}
 
 abbrev pub is_named : SinkPoint → Sink → Bool
 is_named name x = is_eq (point_cmp name x.name)
@@ -41,8 +41,8 @@ abbrev pub IsLocated : Pair → Type 0
 IsLocated pair = HasLocation pair.sink
 
 -- a path that was found
-abbrev pub path_of : Found → PathTo
+abbrev pub path_of : SinkPath → PathTo
 path_of f = record { sink = record { name = f.name; time = f.time; loc = f.loc }; arrivals = f.arrivals.items }
 
-abbrev pub shown_found : Option Found → Option PathTo
-shown_found o = option_map path_of o
+abbrev pub shown_path : Option SinkPath → Option PathTo
+shown_path o = option_map path_of o

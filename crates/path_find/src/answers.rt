@@ -10,7 +10,7 @@ ghost use Rattle.path_find.specs.Sinks.{IsLocated, path_of};
 ghost use Rattle.path_find.specs.Stops.{AreBefore};
 ghost use Rattle.path_find.specs.Answer.{found_report, pair_report, path_report};
 
-use crate::finding::{Found, find_path};
+use crate::finding::{SinkPath, find_path};
 use crate::passes::stops;
 use flow_model::Rule;
 use no_memory::NoMemory;
@@ -39,7 +39,7 @@ pub fn answer(alloc: Global, job: &Job, rule: Rule, pair: Option<Pair>) -> Resul
 }
 
 /// The text of a path that was found.
-fn found_text(alloc: Global, job: &Job, pair: Pair, found: &Found) -> Result<Vec<u8>, NoMemory>
+fn found_text(alloc: Global, job: &Job, pair: Pair, found: &SinkPath) -> Result<Vec<u8>, NoMemory>
     requires falls { AreBefore found.now.time found.now.arrivals.items }
     requires inside { found.now.time ≤ steps job.now.log }
     ensures { IfOk result (λ text. text.items ≡ found_report job.now pair.source (path_of found.now)) }

@@ -10,7 +10,7 @@ ghost use Rattle.replayer.specs.Jobs.{trace_of};
 ghost use Rattle.path_model.specs.Paths.{path};
 ghost use Rattle.path_model.specs.Answer.{sink_of, ended_in, path_to_sink};
 ghost use Rattle.flow_path.specs.Trails.{IsTrail, IsAfter};
-ghost use Rattle.path_find.specs.Sinks.{IsLocated, shown_found};
+ghost use Rattle.path_find.specs.Sinks.{IsLocated, shown_path};
 
 use crate::sinks::{sink_at_end, sink_in};
 use flow_model::{Loc, Rule, SinkPoint};
@@ -22,7 +22,7 @@ use std::alloc::Global;
 
 /// A path, the latest arrival first, and the sink that it ends in: the number of steps done before it, and its location.
 #[derive(Drop)]
-pub struct Found {
+pub struct SinkPath {
     pub name: SinkPoint,
     pub time: u64,
     pub loc: Loc,
@@ -36,18 +36,18 @@ fn path_here(
     name: SinkPoint,
     time: u64,
     loc: Loc,
-) -> Result<Option<Found>, NoMemory>
+) -> Result<Option<SinkPath>, NoMemory>
     requires location { IsLocation loc }
     requires trail { IsTrail trail.now }
     ensures path { IfOk result (λ f.
         (rule : RuleOfFlow) (s : Source) (trace : List Step) → IsAfter rule s trace time trail.now
-        → shown_found f ≡ ended_in (record { name = name; time = time; loc = loc }) (path rule s trace time loc)) }
+        → shown_path f ≡ ended_in (record { name = name; time = time; loc = loc }) (path rule s trace time loc)) }
     ensures time { IfOk result (λ f. IfSome f (λ x. x.time ≡ time)) }
 {
     let Some(arrivals) = trail.path(alloc, loc)? else {
         return Ok(None);
     };
-    Ok(Some(Found {
+    Ok(Some(SinkPath {
         name,
         time,
         loc,
@@ -62,9 +62,9 @@ pub fn find_path(
     job: &Job,
     rule: Rule,
     pair: Pair,
-) -> Result<Option<Found>, NoMemory>
+) -> Result<Option<SinkPath>, NoMemory>
     requires located { IsLocated pair }
-    ensures path { IfOk result (λ f. shown_found f ≡ path_to_sink rule pair.source (trace_of job.now)
+    ensures path { IfOk result (λ f. shown_path f ≡ path_to_sink rule pair.source (trace_of job.now)
         (sink_of (trace_of job.now) pair.sink)) }
 
     // The end of the path isn't after the run.

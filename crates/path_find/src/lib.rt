@@ -14,6 +14,6 @@ mod passes;
 mod sinks;
 
 pub use answers::answer;
-pub use finding::{Found, find_path};
+pub use finding::{SinkPath, find_path};
 pub use pairs::first_pair;
 pub use passes::stops;

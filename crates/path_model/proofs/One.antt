@@ -17,24 +17,24 @@ use Rattle.flow_model.specs.Flow.{from, is_received}
 use Rattle.flow_model.specs.Origins.{byte_at, step_at, origins}
 use Rattle.flow_model.proofs.Orders.{source_same}
 use Rattle.path_model.specs.declared.Arrival.{Arrival}
-use Rattle.path_model.specs.Paths.{puts, brings, IsLeft, IsLatest, IsRead, IsHop, IsPath, first_of, behind, arrived, path_if_put, path_after, path}
+use Rattle.path_model.specs.Paths.{puts, brings, IsLeft, IsLatest, IsRead, IsHop, IsPath, first_of, earlier_path, arrived, path_if_put, path_after, path}
 use Rattle.path_model.specs.PathLaws.{OnePathIsPath, BeginningIsPath, HopIsFromFirst, PathIsShort}
 use Rattle.path_model.proofs.Origins.{one_is}
 
 -- the location whose path is the first that there is
-record Found (f : Loc → Option (List Arrival)) (ls : List Loc) (p : List Arrival) : Type 0 where
+record FirstPath (f : Loc → Option (List Arrival)) (ls : List Loc) (p : List Arrival) : Type 0 where
   loc : Loc
   first : find (λ m. is_some (f m)) ls ≡ Some loc
   among : Contains ls loc
   has : f loc ≡ Some p
 
-found : (f : Loc → Option (List Arrival)) (ls : List Loc) (p : List Arrival) → first_of f ls ≡ Some p → Found f ls p
-found f [] p e = absurd cc
-found f (l ∷ ls) p e = by (found f ls p) (f l) refl e where
+first_path : (f : Loc → Option (List Arrival)) (ls : List Loc) (p : List Arrival) → first_of f ls ≡ Some p → FirstPath f ls p
+first_path f [] p e = absurd cc
+first_path f (l ∷ ls) p e = by (first_path f ls p) (f l) refl e where
   further : (m : Loc) (k : ℕ) → slice_index_or (l ∷ ls) (k + 1) m ≡ slice_index_or ls k m
   further m k = ap (λ (n : ℕ). slice_index_or (l ∷ ls) n m) (add-one k)
 
-  by : (first_of f ls ≡ Some p → Found f ls p) → (o : Option (List Arrival)) → f l ≡ o → option_or o (first_of f ls) ≡ Some p → Found f (l ∷ ls) p
+  by : (first_of f ls ≡ Some p → FirstPath f ls p) → (o : Option (List Arrival)) → f l ≡ o → option_or o (first_of f ls) ≡ Some p → FirstPath f (l ∷ ls) p
   by ih None was e =
       let more = ih e in
       record {
@@ -52,14 +52,14 @@ found f (l ∷ ls) p e = by (found f ls p) (f l) refl e where
 
 module _ (rule : Rule) (s : SourceByte) (trace : List StepSeen) where
   -- how the latest arrival of the one path came about
-  pub record Came (t : ℕ) (l : Loc) (a : Arrival) (rest : List Arrival) : Type 0 where
+  pub record LatestHop (t : ℕ) (l : Loc) (a : Arrival) (rest : List Arrival) : Type 0 where
     pub latest : IsLatest rule trace t l a
     pub step : StepSeen
     pub is_step : step_at trace a.number ≡ Some step
     pub is_put : puts rule step a.loc ≡ true
-    pub rest_is : behind rule s step (path rule s trace a.number) a.loc ≡ Some rest
+    pub rest_is : earlier_path rule s step (path rule s trace a.number) a.loc ≡ Some rest
 
-  later : (t : ℕ) (l : Loc) (a : Arrival) (rest : List Arrival) → IsLeft rule l (step_at trace t) → Came t l a rest → Came (suc t) l a rest
+  later : (t : ℕ) (l : Loc) (a : Arrival) (rest : List Arrival) → IsLeft rule l (step_at trace t) → LatestHop t l a rest → LatestHop (suc t) l a rest
   later t l a rest left c = record {
     latest = record {
       there = c.latest.there;
@@ -72,17 +72,17 @@ module _ (rule : Rule) (s : SourceByte) (trace : List StepSeen) where
     rest_is = c.rest_is;
   }
 
-  pub came : (t : ℕ) (l : Loc) (a : Arrival) (rest : List Arrival) → path rule s trace t l ≡ Some (a ∷ rest) → Came t l a rest
-  came zero l a rest e = absurd cc
-  came (suc t) l a rest e = by (came t l a rest) (step_at trace t) refl e where
-    now : (step : StepSeen) → step_at trace t ≡ Some step → puts rule step l ≡ true → (o : Option (List Arrival)) → behind rule s step (path rule s trace t) l ≡ o
-        → arrived t l o ≡ Some (a ∷ rest) → Came (suc t) l a rest
+  pub latest_hop : (t : ℕ) (l : Loc) (a : Arrival) (rest : List Arrival) → path rule s trace t l ≡ Some (a ∷ rest) → LatestHop t l a rest
+  latest_hop zero l a rest e = absurd cc
+  latest_hop (suc t) l a rest e = by (latest_hop t l a rest) (step_at trace t) refl e where
+    now : (step : StepSeen) → step_at trace t ≡ Some step → puts rule step l ≡ true → (o : Option (List Arrival)) → earlier_path rule s step (path rule s trace t) l ≡ o
+        → arrived t l o ≡ Some (a ∷ rest) → LatestHop (suc t) l a rest
     now step at put None was e = absurd cc
     now step at put (Some r) was e =
         let first : Arrival = record { number = t; loc = l } in
         let same : first ≡ a = cc in
         let tail : r ≡ rest = cc in
-        subst (λ (x : Arrival). Came (suc t) l x rest) same (record {
+        subst (λ (x : Arrival). LatestHop (suc t) l x rest) same (record {
           latest = record { there = refl; before = omega arith; still = λ u low high. absurd (omega arith) };
           step = step;
           is_step = at;
@@ -90,12 +90,12 @@ module _ (rule : Rule) (s : SourceByte) (trace : List StepSeen) where
           rest_is = was ∙ ap Some tail;
         })
 
-    by : (path rule s trace t l ≡ Some (a ∷ rest) → Came t l a rest) → (o : Option StepSeen) → step_at trace t ≡ o
-        → path_after rule s t o (path rule s trace t) l ≡ Some (a ∷ rest) → Came (suc t) l a rest
+    by : (path rule s trace t l ≡ Some (a ∷ rest) → LatestHop t l a rest) → (o : Option StepSeen) → step_at trace t ≡ o
+        → path_after rule s t o (path rule s trace t) l ≡ Some (a ∷ rest) → LatestHop (suc t) l a rest
     by ih None at e = later t l a rest (subst (IsLeft rule l) (sym at) tt) (ih e)
     by ih (Some step) at e = put (puts rule step l) refl e where
-      put : (b : Bool) → puts rule step l ≡ b → path_if_put b rule s t step (path rule s trace t) l ≡ Some (a ∷ rest) → Came (suc t) l a rest
-      put true is e = now step at is (behind rule s step (path rule s trace t) l) refl e
+      put : (b : Bool) → puts rule step l ≡ b → path_if_put b rule s t step (path rule s trace t) l ≡ Some (a ∷ rest) → LatestHop (suc t) l a rest
+      put true is e = now step at is (earlier_path rule s step (path rule s trace t) l) refl e
       put false is e = later t l a rest (subst (IsLeft rule l) (sym at) is) (ih e)
 
   never_nil : (t : ℕ) (l : Loc) → path rule s trace t l ≡ Some [] → ⊥
@@ -106,27 +106,27 @@ module _ (rule : Rule) (s : SourceByte) (trace : List StepSeen) where
     no_arrival (Some r) e = cc
 
     put : (path rule s trace t l ≡ Some [] → ⊥) → (step : StepSeen) (b : Bool) → path_if_put b rule s t step (path rule s trace t) l ≡ Some [] → ⊥
-    put ih step true e = no_arrival (behind rule s step (path rule s trace t) l) e
+    put ih step true e = no_arrival (earlier_path rule s step (path rule s trace t) l) e
     put ih step false e = ih e
 
     by : (path rule s trace t l ≡ Some [] → ⊥) → (o : Option StepSeen) → path_after rule s t o (path rule s trace t) l ≡ Some [] → ⊥
     by ih None e = ih e
     by ih (Some step) e = put ih step (puts rule step l) e
 
-  -- nothing is behind an arrival: a read brought s
-  read_alone : (t : ℕ) (step : StepSeen) (l : Loc) → behind rule s step (path rule s trace t) l ≡ Some [] → brings s step.call l ≡ true
+  -- nothing is before an arrival: a read brought s
+  read_alone : (t : ℕ) (step : StepSeen) (l : Loc) → earlier_path rule s step (path rule s trace t) l ≡ Some [] → brings s step.call l ≡ true
   read_alone t step l e = by (brings s step.call l) refl e where
     by : (b : Bool) → brings s step.call l ≡ b → option_or (if b then Some [] else None) (first_of (path rule s trace t) (from rule step l)) ≡ Some [] → brings s step.call l ≡ true
     by true is e = is
-    by false is e = let f = found (path rule s trace t) (from rule step l) [] e in absurd (never_nil t f.loc f.has)
+    by false is e = let f = first_path (path rule s trace t) (from rule step l) [] e in absurd (never_nil t f.loc f.has)
 
-  -- something is behind it: the path to the first location that has one
-  hop_behind : (t : ℕ) (step : StepSeen) (l : Loc) (b : Arrival) (bs : List Arrival) → behind rule s step (path rule s trace t) l ≡ Some (b ∷ bs)
-      → Found (path rule s trace t) (from rule step l) (b ∷ bs)
-  hop_behind t step l b bs e = by (brings s step.call l) e where
-    by : (c : Bool) → option_or (if c then Some [] else None) (first_of (path rule s trace t) (from rule step l)) ≡ Some (b ∷ bs) → Found (path rule s trace t) (from rule step l) (b ∷ bs)
+  -- something is before it: the path to the first location that has one
+  earlier_hop : (t : ℕ) (step : StepSeen) (l : Loc) (b : Arrival) (bs : List Arrival) → earlier_path rule s step (path rule s trace t) l ≡ Some (b ∷ bs)
+      → FirstPath (path rule s trace t) (from rule step l) (b ∷ bs)
+  earlier_hop t step l b bs e = by (brings s step.call l) e where
+    by : (c : Bool) → option_or (if c then Some [] else None) (first_of (path rule s trace t) (from rule step l)) ≡ Some (b ∷ bs) → FirstPath (path rule s trace t) (from rule step l) (b ∷ bs)
     by true e = absurd cc
-    by false e = found (path rule s trace t) (from rule step l) (b ∷ bs) e
+    by false e = first_path (path rule s trace t) (from rule step l) (b ∷ bs) e
 
   was_read : (a : Arrival) (step : StepSeen) → step_at trace a.number ≡ Some step → (c : Option CallSeen) → step.call ≡ c → brings s c a.loc ≡ true → IsRead s trace a
   was_read a step at None is e = absurd cc
@@ -142,24 +142,24 @@ module _ (rule : Rule) (s : SourceByte) (trace : List StepSeen) where
     }
     by false there e = absurd cc
 
-  -- the location that the first hop came from is that of the arrival behind it
-  hop_from : (t : ℕ) (l : Loc) (a b : Arrival) (bs : List Arrival) (c : Came t l a (b ∷ bs)) (f : Found (path rule s trace a.number) (from rule c.step a.loc) (b ∷ bs)) → b.loc ≡ f.loc
-  hop_from t l a b bs c f = (came a.number f.loc b bs f.has).latest.there
+  -- the location that the first hop came from is that of the previous arrival
+  hop_from : (t : ℕ) (l : Loc) (a b : Arrival) (bs : List Arrival) (c : LatestHop t l a (b ∷ bs)) (f : FirstPath (path rule s trace a.number) (from rule c.step a.loc) (b ∷ bs)) → b.loc ≡ f.loc
+  hop_from t l a b bs c f = (latest_hop a.number f.loc b bs f.has).latest.there
 
   pub beginning : (t : ℕ) (l : Loc) (a b : Arrival) (bs : List Arrival) → path rule s trace t l ≡ Some (a ∷ b ∷ bs) → path rule s trace a.number b.loc ≡ Some (b ∷ bs)
   beginning t l a b bs e =
-      let c = came t l a (b ∷ bs) e in
-      let f = hop_behind a.number c.step a.loc b bs c.rest_is in
+      let c = latest_hop t l a (b ∷ bs) e in
+      let f = earlier_hop a.number c.step a.loc b bs c.rest_is in
       ap (path rule s trace a.number) (hop_from t l a b bs c f) ∙ f.has
 
   pub is_path : (p : List Arrival) (t : ℕ) (l : Loc) → path rule s trace t l ≡ Some p → IsPath rule s trace t l p
   is_path [] t l e = never_nil t l e
   is_path (a ∷ []) t l e =
-      let c = came t l a [] e in
+      let c = latest_hop t l a [] e in
       (c.latest, was_read a c.step c.is_step c.step.call refl (read_alone a.number c.step a.loc c.rest_is))
   is_path (a ∷ b ∷ bs) t l e =
-      let c = came t l a (b ∷ bs) e in
-      let f = hop_behind a.number c.step a.loc b bs c.rest_is in
+      let c = latest_hop t l a (b ∷ bs) e in
+      let f = earlier_hop a.number c.step a.loc b bs c.rest_is in
       let hop : IsHop rule trace a b = record {
         step = c.step;
         is_step = c.is_step;
@@ -181,9 +181,9 @@ find_same f g h (l ∷ ls) = ap (λ (b : Bool). if b then Some l else find f ls)
 pub hop_is_from_first : HopIsFromFirst
 hop_is_from_first policy s trace t l a b bs step chosen e at =
     let rule = policy.rule in
-    let c = came rule s trace t l a (b ∷ bs) e in
+    let c = latest_hop rule s trace t l a (b ∷ bs) e in
     let same : c.step ≡ step = same_Some c.step step (sym c.is_step ∙ at) in
-    let f = hop_behind rule s trace a.number c.step a.loc b bs c.rest_is in
+    let f = earlier_hop rule s trace a.number c.step a.loc b bs c.rest_is in
     ap (λ (x : StepSeen). find (λ m. has source_cmp s (origins policy trace a.number m)) (from rule x a.loc)) (sym same)
     ∙ find_same _ _ (λ m. sym (one_is policy s chosen trace a.number m)) (from rule c.step a.loc)
     ∙ f.first ∙ ap Some (sym (hop_from rule s trace t l a b bs c f))

@@ -21,7 +21,7 @@ use Rattle.flow_model.specs.Origins.{Policy, introduced, byte_at, fresh, fresh_b
 use Rattle.flow_model.proofs.Orders.{source_total, source_same}
 use Rattle.flow_model.proofs.Members.{has-union_over}
 use Rattle.path_model.specs.declared.Arrival.{Arrival}
-use Rattle.path_model.specs.Paths.{puts, brings, IsPath, IsRead, IsLatest, first_of, behind, arrived, path_if_put, path_after, path}
+use Rattle.path_model.specs.Paths.{puts, brings, IsPath, IsRead, IsLatest, first_of, earlier_path, arrived, path_if_put, path_after, path}
 use Rattle.path_model.proofs.Still.{left_alone, still_keeps}
 
 -- ---- the origins after a step, as a test
@@ -69,9 +69,9 @@ read_some : (b : Bool) → is_some {T = List Arrival} (if b then Some [] else No
 read_some true = refl
 read_some false = refl
 
-behind_some : (rule : Rule) (s : SourceByte) (step : StepSeen) (before : Loc → Option (List Arrival)) (l : Loc)
-    → is_some (behind rule s step before l) ≡ (brings s step.call l || list_any (λ m. is_some (before m)) (from rule step l))
-behind_some rule s step before l =
+earlier_path_some : (rule : Rule) (s : SourceByte) (step : StepSeen) (before : Loc → Option (List Arrival)) (l : Loc)
+    → is_some (earlier_path rule s step before l) ≡ (brings s step.call l || list_any (λ m. is_some (before m)) (from rule step l))
+earlier_path_some rule s step before l =
     either_some (if brings s step.call l then Some [] else None) (first_of before (from rule step l))
     ∙ ap₂ ◌||◌ (read_some (brings s step.call l)) (first_some before (from rule step l))
 
@@ -86,7 +86,7 @@ module _ (policy : Policy) (s : SourceByte) (chosen : policy.introduces s ≡ tr
       put : (b : Bool) → puts policy.rule step l ≡ b
           → is_some (path_if_put b policy.rule s t step (path policy.rule s trace t) l) ≡ has source_cmp s (after_step policy (Some step) (origins policy trace t) l)
       put true e =
-          arrived_some t l (behind policy.rule s step (path policy.rule s trace t) l) ∙ behind_some policy.rule s step (path policy.rule s trace t) l
+          arrived_some t l (earlier_path policy.rule s step (path policy.rule s trace t) l) ∙ earlier_path_some policy.rule s step (path policy.rule s trace t) l
           ∙ ap (λ (b : Bool). brings s step.call l || b) (list_any-same _ _ ih (from policy.rule step l))
           ∙ sym (has_after policy s chosen step (origins policy trace t) l)
       put false e =

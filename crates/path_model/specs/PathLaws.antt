@@ -29,7 +29,7 @@ abbrev pub OnePathIsPath : Type 0
 OnePathIsPath = (rule : Rule) (s : SourceByte) (trace : List StepSeen) (t : ℕ) (l : Loc) (p : List Arrival)
     → path rule s trace t l ≡ Some p → IsPath rule s trace t l p
 
--- what is behind the latest arrival of the one path is the one path to where its hop came from, at the hop's time: so each
+-- what is before the latest arrival of the one path is the one path to where its hop came from, at the hop's time: so each
 -- beginning of the run's path is the path of an earlier time
 abbrev pub BeginningIsPath : Type 0
 BeginningIsPath = (rule : Rule) (s : SourceByte) (trace : List StepSeen) (t : ℕ) (l : Loc) (a b : Arrival) (bs : List Arrival)

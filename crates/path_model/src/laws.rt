@@ -10,7 +10,7 @@ pub fn paths_are_origins()
     ensures one { OnePathIsOrigin }
 {}
 
-/// The one path is a path; what is behind its latest arrival is the one path of an earlier time; and its hops come from the
+/// The one path is a path; what is before its latest arrival is the one path of an earlier time; and its hops come from the
 /// first location of the flow table that has the source byte among its origins.
 pub fn one_path_is_a_path()
     ensures path { OnePathIsPath }

@@ -8,8 +8,8 @@ use Rattle.query_lang.specs.declared.points.Points.{Points as PlainPoints}
 use Rattle.query_lang.specs.declared.points.Points.TheVariants.{Memory, Register}
 use Rattle.query_lang.specs.declared.statement.Statement.{Statement as PlainStatement}
 use Rattle.query_lang.specs.declared.statement.Statement.TheVariants as plain
-use Rattle.query_lang.specs.declared.statement.Operands.{Operands}
-use Rattle.query_lang.specs.declared.statement.Operands.TheVariants as operands
+use Rattle.query_lang.specs.declared.statement.RangeWords.{RangeWords}
+use Rattle.query_lang.specs.declared.statement.RangeWords.TheVariants as operands
 use Rattle.query_lang.specs.Choices.{choice_shown}
 
 -- the bytes from the first address to the last, or the lanes of the register
@@ -24,10 +24,10 @@ statement_shown (plain.Sink choice) = Sink (choice_shown choice)
 statement_shown (plain.Points points) = Points (points_shown points)
 
 -- the words after `source` or `sink`
-abbrev pub AreOperands : List (List ℕ) → Operands → Type 0
-AreOperands ws operands.All = (word : List ℕ) × (ws ≡ word ∷ []) × (is_all word ≡ true)
-AreOperands ws (operands.Channel channel) = (ws ≡ channel.now ∷ []) × (is_all channel.now ≡ false)
-AreOperands ws (operands.Range channel from past) = (ws ≡ channel.now ∷ from.now ∷ past.now ∷ []) × (is_all channel.now ≡ false)
+abbrev pub AreRangeWords : List (List ℕ) → RangeWords → Type 0
+AreRangeWords ws operands.All = (word : List ℕ) × (ws ≡ word ∷ []) × (is_all word ≡ true)
+AreRangeWords ws (operands.Channel channel) = (ws ≡ channel.now ∷ []) × (is_all channel.now ≡ false)
+AreRangeWords ws (operands.Range channel from past) = (ws ≡ channel.now ∷ from.now ∷ past.now ∷ []) × (is_all channel.now ≡ false)
 
 -- the word after `at`, where these are all the words
 abbrev pub after_at : List (List ℕ) → Result (List ℕ) QueryKind

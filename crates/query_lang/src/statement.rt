@@ -6,7 +6,7 @@ ghost use Rattle.report_model.specs.Grammar.{rule_named as rule_by_name, rule_of
 ghost use Rattle.report_model.specs.Grammar.{memory_at as memory_by_words, memory_of as memory_points, register_at as register_by_words, register_of as register_points, sink_of as sink_by_words};
 ghost use Rattle.report_model.specs.declared.QueryKind.TheVariants.{Channel, Count};
 ghost use Rattle.query_lang.specs.Choices.{choice_shown, span_choice, map_ok};
-ghost use Rattle.query_lang.specs.Statements.{statement_shown, points_shown, after_at, AreOperands};
+ghost use Rattle.query_lang.specs.Statements.{statement_shown, points_shown, after_at, AreRangeWords};
 
 use crate::choice::{Choice, Offsets, Span};
 use crate::number::{number_of, time_of};
@@ -29,7 +29,7 @@ pub enum Statement {
 
 /// The words after `source` or `sink`.
 #[derive(Clone, Copy)]
-pub enum Operands<'a> {
+pub enum RangeWords<'a> {
     All,
     Channel(&'a [u8]),
     Range {
@@ -73,24 +73,24 @@ fn rule_of(mut operands: Words<'_>) -> Result<Rule, QueryKind>
 }
 
 /// The words after `source` or `sink`, where they are as many as there may be.
-fn operands_of<'a>(mut operands: Words<'a>) -> Option<Operands<'a>>
+fn operands_of<'a>(mut operands: Words<'a>) -> Option<RangeWords<'a>>
     ensures { MatchOption result
         (choice_by_words (words operands.entry.rest.now) ≡ Err Count)
-        (AreOperands (words operands.entry.rest.now)) }
+        (AreRangeWords (words operands.entry.rest.now)) }
 {
     let first = operands.next()?;
     let is_all = first == b"all".as_slice();
     let Some(from) = operands.next() else {
         if is_all {
-            return Some(Operands::All);
+            return Some(RangeWords::All);
         }
-        return Some(Operands::Channel(first));
+        return Some(RangeWords::Channel(first));
     };
     let past = operands.next()?;
     match operands.next() {
         Some(_) => None,
         None if is_all => None,
-        None => Some(Operands::Range {
+        None => Some(RangeWords::Range {
             channel: first,
             from,
             past,
@@ -144,10 +144,10 @@ fn choice_of(operands: Words<'_>) -> Result<Choice, QueryKind>
 {
     match operands_of(operands) {
         None => Err(QueryKind::Count),
-        Some(Operands::All) => Ok(Choice::All),
-        Some(Operands::Channel(channel)) => Ok(Choice::Span(whole_channel(channel)?)),
+        Some(RangeWords::All) => Ok(Choice::All),
+        Some(RangeWords::Channel(channel)) => Ok(Choice::Span(whole_channel(channel)?)),
         Some(
-            Operands::Range {
+            RangeWords::Range {
                 channel,
                 from,
                 past,

@@ -9,7 +9,7 @@ use no_memory::NoMemory;
 use std::alloc::Global;
 use std::marker::Model;
 
-/// What the epoch behind a cut asked of the one before it.
+/// What the epoch after a cut asked of the previous one.
 ///
 /// Contracts see it as the cut's number and the list of locations.
 #[derive(Drop)]

@@ -11,4 +11,4 @@ mod prepared;
 
 pub use crossed::{Crossed, number};
 pub use part::Part;
-pub use prepared::{Found, Prepared, check_for};
+pub use prepared::{Prepared, PreparedEpochs, check_for};

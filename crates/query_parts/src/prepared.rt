@@ -18,16 +18,16 @@ use replayer::{CheckFault, Job};
 use seq_taint::{LabelledSinks, watching};
 use std::alloc::Global;
 
-/// Where a run is cut into epochs, and what was found of them for a query while the run's log was checked.
+/// Where a run is cut into epochs, and what was prepared of them for a query while the run's log was checked.
 #[derive(Drop)]
 pub struct Prepared {
     pub cuts: Cuts,
-    pub found: Found,
+    pub found: PreparedEpochs,
 }
 
-/// What was found of the epochs of a run.
+/// What was prepared of the epochs of a run.
 #[derive(Drop)]
-pub enum Found {
+pub enum PreparedEpochs {
     /// Of one epoch its sinks.
     Whole(LabelledSinks),
     /// Of several epochs where each begins.
@@ -54,11 +54,11 @@ pub fn check_for<G: Gate>(
     if cuts.count() == 1 {
         gate.enter(0);
         let (job, sinks) = check_whole(alloc, program, log, query)?;
-        let found = Found::Whole(sinks);
+        let found = PreparedEpochs::Whole(sinks);
         return Ok((job, Prepared { cuts, found }));
     }
     let (job, taker) = check_parts(alloc, program, log, &cuts)?;
-    let found = Found::Parts(taker);
+    let found = PreparedEpochs::Parts(taker);
     Ok((job, Prepared { cuts, found }))
 }
 

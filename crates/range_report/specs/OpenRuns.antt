@@ -8,8 +8,8 @@ use Rattle.source_ranges.specs.Ranges.{byte_on}
 use Rattle.range_model.specs.Runs.{is_moved, is_run}
 use Rattle.range_model.specs.Text.{sources_of}
 use Rattle.range_report.specs.declared.runs.MovedRun.{MovedRun}
-use Rattle.range_report.specs.declared.runs.Run.{Run}
-use Rattle.range_report.specs.declared.runs.Run.TheVariants.{One, Moved, Shared}
+use Rattle.range_report.specs.declared.runs.RowRun.{RowRun}
+use Rattle.range_report.specs.declared.runs.RowRun.TheVariants.{One, Moved, Shared}
 use Rattle.range_report.specs.declared.runs.Origin.{Origin}
 use Rattle.range_report.specs.declared.runs.Origin.TheVariants as origin
 
@@ -32,25 +32,25 @@ shared_rows c o bs (suc n) = row_of c o bs ∷ shared_rows c (o + 1) bs n
 abbrev pub rows_moved : MovedRun → List Row
 rows_moved m = moved_rows m.first.channel m.first.offset m.source.channel m.source.offset m.length
 
-abbrev pub rows_of : Run → List Row
+abbrev pub rows_of : RowRun → List Row
 rows_of (One byte sources) = row byte sources.now ∷ []
 rows_of (Moved m) = rows_moved m
 rows_of (Shared first sources length) = shared_rows first.channel first.offset sources.now length
 
 -- where it isn't one row, there are two at least, and no more than offsets tell apart
-abbrev pub IsOpen : Run → Type 0
+abbrev pub IsOpen : RowRun → Type 0
 IsOpen (One byte sources) = Unit {0}
 IsOpen (Moved m) = (2 ≤ m.length) × (m.length ≤ 2 ^ 32)
 IsOpen (Shared first sources length) = (2 ≤ length) × (length ≤ 2 ^ 32)
 
 -- a run has gone on with a row
-pub record IsWith (run : Run) (row : Row) (more : Run) : Type 0 where
+pub record IsWith (run : RowRun) (row : Row) (more : RowRun) : Type 0 where
   pub goes_on : is_run (rows_of run ++ row ∷ []) ≡ true
   pub rows : rows_of more ≡ rows_of run ++ row ∷ []
   pub fits : IsOpen more
 
 -- a run with one more row, where both together are a run
-abbrev pub GoesOn : Run → Row → Option Run → Type 0
+abbrev pub GoesOn : RowRun → Row → Option RowRun → Type 0
 GoesOn run row more = MatchOption more (is_run (rows_of run ++ row ∷ []) ≡ false) (IsWith run row)
 
 -- where the bytes of these rows came from

@@ -7,7 +7,7 @@ ghost use Rattle.range_report.specs.OpenRuns.{rows_moved, rows_of, IsOpen};
 
 use crate::channels::{byte_at, part};
 use crate::moved::MovedBytes;
-use crate::runs::{MovedRun, Origin, Run, above};
+use crate::runs::{MovedRun, Origin, RowRun, above};
 use itoa::Buffer;
 use no_memory::NoMemory;
 use printed_names::{push_point, push_quoted};
@@ -95,7 +95,7 @@ fn push_moved(out: &mut Vec<u8>, moved: &MovedBytes<'_>, run: &MovedRun) -> Resu
 }
 
 /// Appends the kind of a run, and the ranges of its source bytes.
-fn push_origin(out: &mut Vec<u8>, moved: &MovedBytes<'_>, run: &Run<'_>) -> Result<(), NoMemory>
+fn push_origin(out: &mut Vec<u8>, moved: &MovedBytes<'_>, run: &RowRun<'_>) -> Result<(), NoMemory>
     requires { IsOpen run.now }
     ensures { OnOk result (out.new.items ≡ out.old.items ++ codes " " ++
         kind_text (kind_of moved.now.calls.now (rows_of run.now)) ++
@@ -111,7 +111,7 @@ fn push_origin(out: &mut Vec<u8>, moved: &MovedBytes<'_>, run: &Run<'_>) -> Resu
 }
 
 /// Appends the line of a run.
-pub fn push_run(out: &mut Vec<u8>, moved: &MovedBytes<'_>, run: &Run<'_>) -> Result<(), NoMemory>
+pub fn push_run(out: &mut Vec<u8>, moved: &MovedBytes<'_>, run: &RowRun<'_>) -> Result<(), NoMemory>
     requires { IsOpen run.now }
     ensures { OnOk result
         (out.new.items ≡ out.old.items ++ run_line moved.now.calls.now (rows_of run.now)) }

@@ -9,7 +9,7 @@ ghost use Rattle.range_report.specs.Whole.{report_lines};
 
 use crate::lines::{push_end, push_row, push_run};
 use crate::moved::MovedBytes;
-use crate::runs::{Run, go_on};
+use crate::runs::{RowRun, go_on};
 use flow_model::{SinkByte, SinkPoint};
 use no_memory::NoMemory;
 use replay_log::Log;
@@ -17,10 +17,10 @@ use sink_collect::{Report, SinkSet};
 use source_ranges::SourceSet;
 use std::alloc::Global;
 
-/// The run that is open, if one is, and how many lines were told before it.
+/// How far a report has come: the run that is open, if one is, and how many lines were told before it.
 #[derive(Clone, Copy)]
-pub struct Told<'a> {
-    pub run: Option<Run<'a>>,
+pub struct Progress<'a> {
+    pub run: Option<RowRun<'a>>,
     pub lines: u64,
 }
 
@@ -44,46 +44,50 @@ fn output_of(row: &SinkSet) -> Option<(SinkByte, &SourceSet)>
 fn take_row<'a>(
     out: &mut Vec<u8>,
     moved: &MovedBytes<'_>,
-    told: Told<'a>,
+    progress: Progress<'a>,
     row: &'a SinkSet,
-) -> Result<Told<'a>, NoMemory>
-    requires fits { IsOpenIfAny told.run }
-    requires few { told.lines < 2 ^ 63 }
+) -> Result<Progress<'a>, NoMemory>
+    requires fits { IsOpenIfAny progress.run }
+    requires few { progress.lines < 2 ^ 63 }
     ensures { IfOk result
-        (IsTaken moved.now.calls.now out.old.items told.entry row.now out.new.items) }
+        (IsTaken moved.now.calls.now out.old.items progress.entry row.now out.new.items) }
 {
     let Some((byte, sources)) = output_of(row) else {
-        return Ok(told);
+        return Ok(progress);
     };
-    let next = go_on(told.run, byte, sources);
+    let next = go_on(progress.run, byte, sources);
     let run = Some(next.next);
     let Some(done) = next.done else {
-        return Ok(Told {
+        return Ok(Progress {
             run,
-            lines: told.lines,
+            lines: progress.lines,
         });
     };
     push_run(out, moved, &done)?;
-    Ok(Told {
+    Ok(Progress {
         run,
-        lines: told.lines + 1,
+        lines: progress.lines + 1,
     })
 }
 
 /// Appends the line of the run that is open, if one is, and gives how many lines were told.
-fn finish(out: &mut Vec<u8>, moved: &MovedBytes<'_>, told: Told<'_>) -> Result<u64, NoMemory>
-    requires fits { IsOpenIfAny told.run }
-    requires few { told.lines < 2 ^ 63 }
+fn finish(
+    out: &mut Vec<u8>,
+    moved: &MovedBytes<'_>,
+    progress: Progress<'_>,
+) -> Result<u64, NoMemory>
+    requires fits { IsOpenIfAny progress.run }
+    requires few { progress.lines < 2 ^ 63 }
     ensures text { OnOk result
-        (out.new.items ≡ out.old.items ++ lines_left moved.now.calls.now told.entry []) }
-    ensures count { IfOk result (λ lines. lines ≡ count_left told.entry []) }
-    ensures few { IfOk result (λ lines. lines ≤ told.entry.lines + 1) }
+        (out.new.items ≡ out.old.items ++ lines_left moved.now.calls.now progress.entry []) }
+    ensures count { IfOk result (λ lines. lines ≡ count_left progress.entry []) }
+    ensures few { IfOk result (λ lines. lines ≤ progress.entry.lines + 1) }
 {
-    let Some(run) = told.run else {
-        return Ok(told.lines);
+    let Some(run) = progress.run else {
+        return Ok(progress.lines);
     };
     push_run(out, moved, &run)?;
-    Ok(told.lines + 1)
+    Ok(progress.lines + 1)
 }
 
 /// Appends the lines of the runs of rows, and gives how many there are.
@@ -93,14 +97,14 @@ fn push_runs(out: &mut Vec<u8>, moved: &MovedBytes<'_>, rows: &[SinkSet]) -> Res
     ensures count { IfOk result (λ lines. lines ≡ length (runs (output_rows rows.now))) }
     ensures few { IfOk result (λ lines. lines ≤ length rows.now + 1) }
 {
-    let mut told = Told {
+    let mut progress = Progress {
         run: None,
         lines: 0,
     };
     for row in rows {
-        told = take_row(out, moved, told, row)?;
+        progress = take_row(out, moved, progress, row)?;
     }
-    finish(out, moved, told)
+    finish(out, moved, progress)
 }
 
 /// Whether a row is of a point and has a source.
@@ -169,7 +173,7 @@ pub fn shown(alloc: Global, report: &Report, log: &Log) -> Result<Vec<u8>, NoMem
     ensures { IfOk result (λ text. text.items ≡ ranges_report log.now report.now) }
 {
     let moved = MovedBytes::new(alloc, log.records())?;
-    let told = text_of(alloc, &moved, report.rows());
+    let text = text_of(alloc, &moved, report.rows());
     drop(moved);
-    told
+    text
 }

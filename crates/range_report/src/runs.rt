@@ -21,7 +21,7 @@ pub struct MovedRun {
 
 /// Rows of output bytes that go on as one run.
 #[derive(Clone, Copy)]
-pub enum Run<'a> {
+pub enum RowRun<'a> {
     /// One row.
     One {
         byte: SinkByte,
@@ -95,14 +95,14 @@ fn run_of_two<'a>(
     own: &'a SourceSet,
     byte: SinkByte,
     sources: &'a SourceSet,
-) -> Option<Run<'a>>
-    ensures { GoesOn (Run.One first own.entry) (row byte sources.now) result }
+) -> Option<RowRun<'a>>
+    ensures { GoesOn (RowRun.One first own.entry) (row byte sources.now) result }
 {
     if !sink_follows(byte, first, 0) {
         return None;
     }
     if let Some(source) = moved_source(own, sources) {
-        return Some(Run::Moved(MovedRun {
+        return Some(RowRun::Moved(MovedRun {
             first,
             source,
             length: 2,
@@ -111,26 +111,26 @@ fn run_of_two<'a>(
     if !own.equals(sources) {
         return None;
     }
-    Some(Run::Shared {
+    Some(RowRun::Shared {
         first,
         sources: own,
         length: 2,
     })
 }
 
-impl<'a> Run<'a> {
+impl<'a> RowRun<'a> {
     /// The run with one more row, where that goes on from it.
-    pub fn with(self, byte: SinkByte, sources: &'a SourceSet) -> Option<Run<'a>>
+    pub fn with(self, byte: SinkByte, sources: &'a SourceSet) -> Option<RowRun<'a>>
         requires { IsOpen self }
         ensures { GoesOn self.entry (row byte sources.now) result }
     {
         match self {
-            Run::One {
+            RowRun::One {
                 byte: first,
                 sources: own,
             } => run_of_two(first, own, byte, sources),
-            Run::Moved(run) => moved_with(run, byte, sources),
-            Run::Shared {
+            RowRun::Moved(run) => moved_with(run, byte, sources),
+            RowRun::Shared {
                 first,
                 sources: own,
                 length,
@@ -144,9 +144,9 @@ impl<'a> Run<'a> {
         ensures { result ≡ first_of (rows_of self.now) }
     {
         match self {
-            Run::One { byte, .. } => *byte,
-            Run::Moved(run) => run.first,
-            Run::Shared { first, .. } => *first,
+            RowRun::One { byte, .. } => *byte,
+            RowRun::Moved(run) => run.first,
+            RowRun::Shared { first, .. } => *first,
         }
     }
 
@@ -157,9 +157,9 @@ impl<'a> Run<'a> {
         ensures few { result ≤ 2 ^ 32 }
     {
         match self {
-            Run::One { .. } => 1,
-            Run::Moved(run) => run.length,
-            Run::Shared { length, .. } => *length,
+            RowRun::One { .. } => 1,
+            RowRun::Moved(run) => run.length,
+            RowRun::Shared { length, .. } => *length,
         }
     }
 
@@ -169,9 +169,9 @@ impl<'a> Run<'a> {
         ensures { IsOriginOf (rows_of self.now) result }
     {
         match self {
-            Run::One { byte, sources } => origin_of_one(*byte, sources),
-            Run::Moved(run) => Origin::Moved(*run),
-            Run::Shared { sources, .. } => Origin::Shared(sources),
+            RowRun::One { byte, sources } => origin_of_one(*byte, sources),
+            RowRun::Moved(run) => Origin::Moved(*run),
+            RowRun::Shared { sources, .. } => Origin::Shared(sources),
         }
     }
 }
@@ -191,15 +191,15 @@ fn origin_of_one(byte: SinkByte, sources: &SourceSet) -> Origin<'_>
 }
 
 /// A moved run with one more row, where that goes on from it.
-fn moved_with<'a>(run: MovedRun, byte: SinkByte, sources: &'a SourceSet) -> Option<Run<'a>>
-    requires { IsOpen (Run.Moved run) }
-    ensures { GoesOn (Run.Moved run) (row byte sources.now) result }
+fn moved_with<'a>(run: MovedRun, byte: SinkByte, sources: &'a SourceSet) -> Option<RowRun<'a>>
+    requires { IsOpen (RowRun.Moved run) }
+    ensures { GoesOn (RowRun.Moved run) (row byte sources.now) result }
 {
     let by = run.length - 1;
     if !sink_follows(byte, run.first, by) || !source_follows(sources, run.source, by) {
         return None;
     }
-    Some(Run::Moved(MovedRun {
+    Some(RowRun::Moved(MovedRun {
         length: run.length + 1,
         ..run
     }))
@@ -212,14 +212,14 @@ fn shared_with<'a>(
     length: u64,
     byte: SinkByte,
     sources: &'a SourceSet,
-) -> Option<Run<'a>>
-    requires { IsOpen (Run.Shared first own length) }
-    ensures { GoesOn (Run.Shared first own.entry length) (row byte sources.now) result }
+) -> Option<RowRun<'a>>
+    requires { IsOpen (RowRun.Shared first own length) }
+    ensures { GoesOn (RowRun.Shared first own.entry length) (row byte sources.now) result }
 {
     if !sink_follows(byte, first, length - 1) || !own.equals(sources) {
         return None;
     }
-    Some(Run::Shared {
+    Some(RowRun::Shared {
         first,
         sources: own,
         length: length + 1,
@@ -229,16 +229,16 @@ fn shared_with<'a>(
 /// One row on: the run that it ends, if it ends one, and the one that is open now.
 #[derive(Clone, Copy)]
 pub struct Step<'a> {
-    pub done: Option<Run<'a>>,
-    pub next: Run<'a>,
+    pub done: Option<RowRun<'a>>,
+    pub next: RowRun<'a>,
 }
 
 /// The run that is open, if one is, with one more row; or that run, done, and the row as one.
-pub fn go_on<'a>(last: Option<Run<'a>>, byte: SinkByte, sources: &'a SourceSet) -> Step<'a>
+pub fn go_on<'a>(last: Option<RowRun<'a>>, byte: SinkByte, sources: &'a SourceSet) -> Step<'a>
     requires { IsOpenIfAny last }
     ensures { IsStep last.entry (row byte sources.now) result }
 {
-    let one = Run::One { byte, sources };
+    let one = RowRun::One { byte, sources };
     let Some(run) = last else {
         return Step {
             done: None,

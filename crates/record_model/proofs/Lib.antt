@@ -4,5 +4,5 @@ pub mod Fronts
 pub mod Runs
 pub mod Unique
 mod States
-pub mod Found
+pub mod RecordedRuns
 mod Examples

@@ -15,7 +15,7 @@ ghost use Rattle.replayer.specs.Watching.{IsTold, AreWatched, IsStepTold};
 use crate::compare::{compare, event_in_place_of_a_step, is_limit, is_trap, kept_code, seen_code};
 use crate::cursor::PlainStep;
 use crate::difference::{Difference, compare_words};
-use crate::watcher::{Stand, Watcher};
+use crate::watcher::{Position, Watcher};
 use replay_log::Log;
 use replay_model::{Divergence, Field};
 use replay_run::{Expected, Run, time_of_end};
@@ -57,7 +57,7 @@ fn check_plain_step<W: Watcher>(run: &mut Run<'_>, watcher: &mut W) -> Result<()
     match run.step_inlined() {
         Stepped::Plain { instr, place } => {
             run.advance();
-            watcher.plain(time, PlainStep { instr, place }, &Stand { run });
+            watcher.plain(time, PlainStep { instr, place }, &Position { run });
             Ok(())
         }
         stepped => Err(event_in_place_of_a_step(&stepped).at_step(time)),
@@ -99,7 +99,7 @@ fn check_step<W: Watcher>(run: &mut Run<'_>, watcher: &mut W) -> Result<Checked,
         return Ok(Checked::Ended);
     }
     let step = run.finish(stepped);
-    watcher.step(&step, &Stand { run });
+    watcher.step(&step, &Position { run });
     match expected {
         Expected::End(_) => Ok(Checked::Ended),
         _ => Ok(Checked::Advanced),
@@ -120,7 +120,7 @@ pub(crate) fn first_divergence<W: Watcher>(
 {
     let last = time_of_end(log.end());
     let mut run = Run::start(machine, log);
-    watcher.begin(&Stand { run: &run });
+    watcher.begin(&Position { run: &run });
     for event in 0..last + 1 {
         match check_plain_steps(&mut run, watcher) {
             Ok(()) => {}

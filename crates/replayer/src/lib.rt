@@ -22,4 +22,4 @@ pub use flow_model::{CallSeen, StepSeen};
 pub use job::{CheckFault, Job, ReplaySummary, steps_of};
 pub use replay_model::{Divergence, Field, Misfit};
 pub use saved::{CursorState, Rest};
-pub use watcher::{Nobody, Stand, Watcher};
+pub use watcher::{Nobody, Position, Watcher};

@@ -7,7 +7,7 @@ ghost use Rattle.replayer.specs.Saved.{IsOfJob, position_of, rest_of, put_togeth
 
 use crate::cursor::Cursor;
 use crate::job::Job;
-use crate::watcher::Stand;
+use crate::watcher::Position;
 use no_memory::NoMemory;
 use replay_run::{Counters, Run};
 use rv_machine::{Machine, MachineState};
@@ -71,7 +71,7 @@ impl<'a> Cursor<'a> {
     }
 }
 
-impl<'r, 'a> Stand<'r, 'a> {
+impl<'r, 'a> Position<'r, 'a> {
     /// How many steps of the run are done.
     pub fn time(&self) -> u64
         ensures { result ≡ self.now.moment.time }

@@ -14,11 +14,11 @@ use std::marker::Model;
 
 /// Where a run stands, lent to a watcher.
 #[derive(Drop)]
-pub struct Stand<'r, 'a> {
+pub struct Position<'r, 'a> {
     pub(crate) run: &'r Run<'a>,
 }
 
-impl<'r, 'a> Model for Stand<'r, 'a> {
+impl<'r, 'a> Model for Position<'r, 'a> {
     ghost use Rattle.replay_run.specs.Runs.{RunAt};
 
     ghost Value = { RunAt };
@@ -37,16 +37,16 @@ pub trait Watcher {
     ghost seen: { Self → Self → Job → ℕ → Type 0 };
 
     /// The run stands at its beginning.
-    fn begin(&mut self, at: &Stand<'_, '_>)
+    fn begin(&mut self, at: &Position<'_, '_>)
         ensures { IsBegun seen at.now self.old self.new };
 
     /// After so many steps the run made this one, which is no call, and stands here now.
-    fn plain(&mut self, time: u64, step: PlainStep, after: &Stand<'_, '_>)
+    fn plain(&mut self, time: u64, step: PlainStep, after: &Position<'_, '_>)
         requires { Fits step.instr }
         ensures { IsToldOf seen (seen_at time step) after.now self.old self.new };
 
     /// The run made this step, and stands here now. It is a call, but for few steps.
-    fn step(&mut self, step: &StepSeen, after: &Stand<'_, '_>)
+    fn step(&mut self, step: &StepSeen, after: &Position<'_, '_>)
         requires { IsInRange step.now }
         ensures { IsToldOf seen step.now after.now self.old self.new };
 }
@@ -59,11 +59,11 @@ impl Watcher for Nobody {
     ghost seen = { λ _ _ _ _. Unit {0} };
 
     #[inline(always)]
-    fn begin(&mut self, _at: &Stand<'_, '_>) {}
+    fn begin(&mut self, _at: &Position<'_, '_>) {}
 
     #[inline(always)]
-    fn plain(&mut self, _time: u64, _step: PlainStep, _after: &Stand<'_, '_>) {}
+    fn plain(&mut self, _time: u64, _step: PlainStep, _after: &Position<'_, '_>) {}
 
     #[inline(always)]
-    fn step(&mut self, _step: &StepSeen, _after: &Stand<'_, '_>) {}
+    fn step(&mut self, _step: &StepSeen, _after: &Position<'_, '_>) {}
 }

@@ -2,19 +2,19 @@
 use Rattle.std.proofs.Common.{◌≡◌, ℕ, suc, ◌+◌, ◌<◌, List, [], ◌∷◌, ◌++◌, length, get_or, All, refl, ◌∙◌, arith}
 use Rattle.std.proofs.lemmas.List.Sums.{sum_by-cons, sum_by-append}
 use Rattle.run_board.specs.declared.worker.Worker.{Worker}
-use Rattle.run_board.specs.Workers.{Follows, KnowsStarts, view_of, shares_of}
+use Rattle.run_board.specs.Workers.{IsSameWorker, KnowsStarts, view_of, shares_of}
 
 module _ {T : Type 0} where
-  abbrev pub AllFollow : List (Worker T) → List (Worker T) → Type 0
-  AllFollow olds news = (k : ℕ) (d : Worker T) → k < length olds → Follows (get_or olds k d) (get_or news k d)
+  abbrev pub AreSameWorkers : List (Worker T) → List (Worker T) → Type 0
+  AreSameWorkers olds news = (k : ℕ) (d : Worker T) → k < length olds → IsSameWorker (get_or olds k d) (get_or news k d)
 
-  pub all_know : (olds news : List (Worker T)) → length news ≡ length olds → AllFollow olds news → (starts : List T) → All (KnowsStarts starts) olds → All (KnowsStarts starts) news
+  pub all_know : (olds news : List (Worker T)) → length news ≡ length olds → AreSameWorkers olds news → (starts : List T) → All (KnowsStarts starts) olds → All (KnowsStarts starts) news
   all_know olds news len f starts all k d lt = let lt' : k < length olds = omega arith in (f k d lt').starts ∙ all k d lt'
 
   abbrev share_count : Worker T → ℕ
   share_count worker = (view_of worker).shares
 
-  pub same_shares : (olds news : List (Worker T)) → length news ≡ length olds → AllFollow olds news → shares_of news ≡ shares_of olds
+  pub same_shares : (olds news : List (Worker T)) → length news ≡ length olds → AreSameWorkers olds news → shares_of news ≡ shares_of olds
   same_shares [] [] len f = refl
   same_shares [] (y ∷ ys) len f = absurd (omega arith)
   same_shares (x ∷ xs) [] len f = absurd (omega arith)

@@ -48,7 +48,7 @@ pub record IsReady {T : Type 0} (words : TaskWords T) (capacity : ℕ) (is_pass 
 abbrev pub HasRoomFor : {T : Type 0} → ℕ → Vec T Global → Type 0
 HasRoomFor capacity list = (list.items ≡ []) × (capacity ≤ vec_capacity list)
 
--- the worker has the shares that it had, and knows the same tasks
-pub record Follows {T : Type 0} (old new : Worker T) : Type 0 where
+-- it is the same worker: it has the shares that it had, and knows the same tasks
+pub record IsSameWorker {T : Type 0} (old new : Worker T) : Type 0 where
   pub shares : (view_of new).shares ≡ (view_of old).shares
   pub starts : (view_of new).starts ≡ (view_of old).starts

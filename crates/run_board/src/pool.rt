@@ -3,7 +3,7 @@
 ghost use Rattle.std.specs.Prelude.{◌≡◌, ◌+◌, ◌++◌, ◌<◌, ◌≤◌, [], List, All, length, vec_len, vec_capacity};
 ghost use Rattle.crossbeam_queue.specs.Passes.{view, IsPassOf, ruled_capacity};
 ghost use Rattle.run_board.specs.Views.{filled, whole_share};
-ghost use Rattle.run_board.specs.Workers.{IsReady, HasRoomFor, Follows, KnowsStarts, Agree, view_of, shares_of};
+ghost use Rattle.run_board.specs.Workers.{IsReady, HasRoomFor, IsSameWorker, KnowsStarts, Agree, view_of, shares_of};
 
 use crate::steps::{PutBack, Shares, TaskQueue, WorkerPass};
 use crate::task::Task;
@@ -71,7 +71,7 @@ fn turn_at_once<T: Task, R: Threads + Wait + Sync>(
         &|_: usize, worker: &mut Worker<T>|
             requires { IsReady T.words (ruled_capacity queue.now) (IsPassOf queue.now) worker.now }
             ensures { IsReady T.words (ruled_capacity queue.entry.now) (IsPassOf queue.entry.now) worker.new
-                × Follows worker.old worker.new }
+                × IsSameWorker worker.old worker.new }
         { turn_until_empty(rt, queue, worker) },
     );
 }

@@ -4,7 +4,7 @@ ghost use Rattle.std.specs.Prelude.{◌≡◌, ◌<◌, ◌≤◌, ℕ, length, 
 ghost use Rattle.crossbeam_queue.specs.Passes.{IsPassOf, ruled_capacity};
 ghost use Rattle.run_board.specs.Rule.{view_weight, whole_weight};
 ghost use Rattle.run_board.specs.Views.{whole_share};
-ghost use Rattle.run_board.specs.Workers.{HasTaken, IsReady, Follows, view_of};
+ghost use Rattle.run_board.specs.Workers.{HasTaken, IsReady, IsSameWorker, view_of};
 
 use crate::idle::Idle;
 use crate::steps::{PutBack, Take, TaskQueue};
@@ -20,7 +20,7 @@ fn put_back<T: Task, R: Wait>(rt: &R, queue: &TaskQueue<T>, worker: &mut Worker<
     requires few { length (view_of worker.old).starts ≤ ruled_capacity queue.now }
     requires room { ruled_capacity queue.now ≤ vec_capacity worker.old.finished }
     ensures ready { IsReady T.words (ruled_capacity queue.now) (IsPassOf queue.now) worker.new }
-    ensures follows { Follows worker.old worker.new }
+    ensures same_worker { IsSameWorker worker.old worker.new }
 {
     match queue.push_as::<PutBack, R>(rt, &mut worker.pass, task) {
         Ok(()) => {}
@@ -43,7 +43,7 @@ fn turn_once<T: Task, R: Wait>(
     requires room { ruled_capacity queue.now ≤ vec_capacity worker.old.finished }
     requires space { vec_len worker.old.finished < vec_capacity worker.old.finished }
     ensures ready { IsReady T.words (ruled_capacity queue.now) (IsPassOf queue.now) worker.new }
-    ensures follows { Follows worker.old worker.new }
+    ensures same_worker { IsSameWorker worker.old worker.new }
 {
     let answer = task.turn();
     idle.note(answer);
@@ -58,7 +58,7 @@ fn turn_once<T: Task, R: Wait>(
 pub fn turn_until_empty<T: Task, R: Wait>(rt: &R, queue: &TaskQueue<T>, worker: &mut Worker<T>)
     requires ready { IsReady T.words (ruled_capacity queue.now) (IsPassOf queue.now) worker.old }
     ensures ready { IsReady T.words (ruled_capacity queue.now) (IsPassOf queue.now) worker.new }
-    ensures follows { Follows worker.old worker.new }
+    ensures same_worker { IsSameWorker worker.old worker.new }
     ensures has_all { (view_of worker.new).shares ≡ whole_share → (weight : ℕ → ℕ)
         → view_weight weight (view_of worker.new) ≡ whole_weight (length (view_of worker.new).starts) weight }
 {

@@ -18,7 +18,7 @@ use epoch_link::Capacity;
 use no_memory::NoMemory;
 use outer_io::Gate;
 use query_lang::Query;
-use query_parts::{Crossed, Found, Prepared};
+use query_parts::{Crossed, Prepared, PreparedEpochs};
 use replayer::Job;
 use seq_taint::{LabelledSinks, sequential};
 use sink_collect::Report;
@@ -86,11 +86,11 @@ pub fn query_prepared<G: Gate, R: Threads + Wait + Sync>(
 {
     let Prepared { cuts, found } = prepared;
     match found {
-        Found::Whole(sinks) => {
+        PreparedEpochs::Whole(sinks) => {
             drop(cuts);
             answer_of_sinks(alloc, job, query, sinks)
         }
-        Found::Parts(taker) => {
+        PreparedEpochs::Parts(taker) => {
             answer_of_taken(rt, alloc, gate, job, taker, query, cuts, workers, capacity)
         }
     }

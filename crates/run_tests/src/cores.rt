@@ -4,7 +4,7 @@ ghost use Rattle.std.specs.Prelude.{◌≡◌, option_map, is_none};
 ghost use Rattle.checkpoints.specs.Points.{beginnings};
 ghost use Rattle.pass_parts.specs.Ends.{fresh_end};
 ghost use Rattle.epoch_node.specs.Cores.{core_of, CanStart};
-ghost use Rattle.epoch_node.specs.Keeping.{KeepsCore, fresh_told};
+ghost use Rattle.epoch_node.specs.Keeping.{KeepsCore, fresh_traffic};
 
 use crate::guests::copy_four;
 use crate::runs::{COPY, cuts_of, query_of};
@@ -57,9 +57,9 @@ struct Links {
 
 impl Model for Links {
     ghost use Rattle.std.specs.Prelude.{option_map};
-    ghost use Rattle.epoch_node.specs.Keeping.{Told};
+    ghost use Rattle.epoch_node.specs.Keeping.{Traffic};
 
-    ghost Value = { Told };
+    ghost Value = { Traffic };
 
     ghost view = { λ l. record {
       asks_got = option_map (λ i. i.got) l.ask_in;
@@ -74,10 +74,10 @@ struct Case {
     /// The number of its epoch, and how many steps an epoch has.
     number: u32,
     length: u64,
-    /// What the core behind it asks, and what the core before it answers, where there is one.
-    behind_asks: Option<&'static [Message]>,
-    before_answers: Option<&'static [Message]>,
-    /// What it asks the core before it, and what it answers the core behind it.
+    /// What the next core asks, and what the previous one answers, where there is one.
+    next_asks: Option<&'static [Message]>,
+    previous_answers: Option<&'static [Message]>,
+    /// What it asks the previous core, and what it answers the next one.
     asks: Option<&'static [Message]>,
     answers: Option<&'static [Message]>,
     /// The locations that it asked for.
@@ -87,28 +87,28 @@ struct Case {
 }
 
 impl Case {
-    /// Whether there is no core before it.
+    /// Whether there is no previous core.
     fn is_first(&self) -> bool
-        ensures { result ≡ is_none self.now.before_answers }
+        ensures { result ≡ is_none self.now.previous_answers }
     {
-        self.before_answers.is_none()
+        self.previous_answers.is_none()
     }
 
-    /// Whether there is no core behind it.
+    /// Whether there is no next core.
     fn is_last(&self) -> bool
-        ensures { result ≡ is_none self.now.behind_asks }
+        ensures { result ≡ is_none self.now.next_asks }
     {
-        self.behind_asks.is_none()
+        self.next_asks.is_none()
     }
 
     /// The links of its core, with all that its neighbours send.
     fn links(&self, rt: &impl Abort, alloc: Global) -> Links
-        ensures { result ≡ fresh_told (is_none self.now.before_answers) (is_none self.now.behind_asks) }
+        ensures { result ≡ fresh_traffic (is_none self.now.previous_answers) (is_none self.now.next_asks) }
     {
         Links {
-            ask_in: inlet(rt, alloc, self.behind_asks),
+            ask_in: inlet(rt, alloc, self.next_asks),
             ask_out: outlet(rt, alloc, self.is_first()),
-            answer_in: inlet(rt, alloc, self.before_answers),
+            answer_in: inlet(rt, alloc, self.previous_answers),
             answer_out: outlet(rt, alloc, self.is_last()),
         }
     }
@@ -275,8 +275,8 @@ const CASES: &[Case] = &[
     Case {
         number: 0,
         length: 6,
-        behind_asks: Some(ASKS),
-        before_answers: None,
+        next_asks: Some(ASKS),
+        previous_answers: None,
         asks: None,
         answers: Some(&[
             FIRST_BYTE,
@@ -296,8 +296,8 @@ const CASES: &[Case] = &[
     Case {
         number: 0,
         length: 6,
-        behind_asks: Some(&[Message::Ask(FIRST), Message::Ask(SECOND), BROKEN]),
-        before_answers: None,
+        next_asks: Some(&[Message::Ask(FIRST), Message::Ask(SECOND), BROKEN]),
+        previous_answers: None,
         asks: None,
         answers: Some(&[BROKEN]),
         asked: &[],
@@ -307,8 +307,8 @@ const CASES: &[Case] = &[
     Case {
         number: 0,
         length: 6,
-        behind_asks: Some(&[Message::Close(FIRST), END]),
-        before_answers: None,
+        next_asks: Some(&[Message::Close(FIRST), END]),
+        previous_answers: None,
         asks: None,
         answers: Some(&[END]),
         asked: &[],
@@ -318,8 +318,8 @@ const CASES: &[Case] = &[
     Case {
         number: 1,
         length: 6,
-        behind_asks: None,
-        before_answers: Some(&[FIRST_BYTE, Message::Close(FIRST), BROKEN]),
+        next_asks: None,
+        previous_answers: Some(&[FIRST_BYTE, Message::Close(FIRST), BROKEN]),
         asks: Some(ASKS),
         answers: None,
         asked: PLACES,
@@ -329,8 +329,8 @@ const CASES: &[Case] = &[
     Case {
         number: 1,
         length: 4,
-        behind_asks: Some(&[BROKEN]),
-        before_answers: Some(&[END]),
+        next_asks: Some(&[BROKEN]),
+        previous_answers: Some(&[END]),
         asks: Some(&[BROKEN]),
         answers: Some(&[BROKEN]),
         asked: &[],

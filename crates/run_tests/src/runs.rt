@@ -182,7 +182,7 @@ fn assert_case<R: Threads + Wait + Abort + Sync>(rt: &R, alloc: Global, job: &Jo
 /// Copies what it reads.
 pub const COPY: &[u8] = b"rule copy\nsource all\nsink all\n";
 
-/// Points of the copy of four bytes at a cut, behind it, and past the run's end.
+/// Points of the copy of four bytes at a cut, after it, and past the run's end.
 const POINTS: &[Case] = &[
     Case {
         query: b"rule copy\nsource all\nsink reg 10 at 6\nsink mem 65792 2 at 6\n",

@@ -12,7 +12,7 @@ use no_memory::NoMemory;
 
 /// Makes of runs in any order those of the same bytes, ascending, each byte once, and each run as long as can be. Only the room
 /// of `spare` is used. It fails only where there is no memory.
-pub fn settle(runs: &mut Vec<SourceRun>, spare: &mut Vec<SourceRun>) -> Result<(), NoMemory>
+pub fn normalise(runs: &mut Vec<SourceRun>, spare: &mut Vec<SourceRun>) -> Result<(), NoMemory>
     ensures members { OnOk result
         ((b : Source) → has source_cmp b (all_bytes runs.new.items) ≡ has source_cmp b (all_bytes runs.old.items)) }
     ensures ascending { OnOk result (Ascends source_cmp (all_bytes runs.new.items)) }

@@ -9,22 +9,22 @@ use Rattle.stream_model.specs.Schedules.{Phase, Fresh, Asks, Answers, NodeState,
 use Rattle.stream_model.specs.ScheduleLaws.{AreDelivered, NeverOverfull}
 use Rattle.stream_model.proofs.Moving.{IsSent, IsGot, AskMoved, asking_moves, AnswerMoved, answering_moves, PhaseHolds, NodesHold, nodes_keep, reached, started}
 
--- the two links between p and the node q behind it hold at most so many messages
+-- the two links between p and the next node q hold at most so many messages
 pub record AreFew (capacity : ℕ) (p q : Phase) : Type 0 where
   pub asks : length (asks_sent_in q) ≤ length (asks_got_in p) + capacity
   pub answers : length (answers_sent_in p) ≤ length (answers_got_in q) + capacity
 
-abbrev pub FewBefore : ℕ → Option Phase → Phase → Type 0
-FewBefore capacity None p = Unit {0}
-FewBefore capacity (Some before) p = AreFew capacity before p
+abbrev pub FewToPrevious : ℕ → Option Phase → Phase → Type 0
+FewToPrevious capacity None p = Unit {0}
+FewToPrevious capacity (Some previous) p = AreFew capacity previous p
 
-abbrev pub FewBehind : ℕ → Phase → Option Phase → Type 0
-FewBehind capacity p None = Unit {0}
-FewBehind capacity p (Some behind) = AreFew capacity p behind
+abbrev pub FewToNext : ℕ → Phase → Option Phase → Type 0
+FewToNext capacity p None = Unit {0}
+FewToNext capacity p (Some next) = AreFew capacity p next
 
 abbrev pub AllFew : ℕ → Option Phase → List NodeState → Type 0
-AllFew capacity before [] = Unit {0}
-AllFew capacity before (n ∷ ns) = FewBefore capacity before n.phase × AllFew capacity (Some n.phase) ns
+AllFew capacity previous [] = Unit {0}
+AllFew capacity previous (n ∷ ns) = FewToPrevious capacity previous n.phase × AllFew capacity (Some n.phase) ns
 
 -- ---- one event
 
@@ -41,70 +41,70 @@ got_more : (next : Option Message) (got new : List Message) → IsGot next got n
 got_more next got new (inl e) = let same = ap length e in omega arith
 got_more next got new (inr g) = let one = ap length g.2 in omega (arith, length-append got (g.0 ∷ []))
 
-record Stay (capacity : ℕ) (before behind : Option Phase) (p : Phase) : Type 0 where
-  early : FewBefore capacity before p
-  late : FewBehind capacity p behind
+record Stay (capacity : ℕ) (previous next : Option Phase) (p : Phase) : Type 0 where
+  early : FewToPrevious capacity previous p
+  late : FewToNext capacity p next
 
 module _ (capacity : ℕ) (refused : Bool) where
-  begun_few : (before behind : Option Phase) (e : Summary) → FewBefore capacity before Fresh → FewBehind capacity Fresh behind → (refused : Bool) → Stay capacity before behind (Asks (begun refused (is_none behind) e))
-  begun_few before behind e b l refused = record { early = early before b refused; late = late behind l refused } where
-    early : (before : Option Phase) → FewBefore capacity before Fresh → (refused : Bool) → FewBefore capacity before (Asks (begun refused (is_none behind) e))
+  begun_few : (previous next : Option Phase) (e : Summary) → FewToPrevious capacity previous Fresh → FewToNext capacity Fresh next → (refused : Bool) → Stay capacity previous next (Asks (begun refused (is_none next) e))
+  begun_few previous next e b l refused = record { early = early previous b refused; late = late next l refused } where
+    early : (previous : Option Phase) → FewToPrevious capacity previous Fresh → (refused : Bool) → FewToPrevious capacity previous (Asks (begun refused (is_none next) e))
     early None b refused = tt
     early (Some p) b true = record { asks = omega arith; answers = b.answers }
     early (Some p) b false = record { asks = omega arith; answers = b.answers }
 
-    late : (behind : Option Phase) → FewBehind capacity Fresh behind → (refused : Bool) → FewBehind capacity (Asks (begun refused (is_none behind) e)) behind
+    late : (next : Option Phase) → FewToNext capacity Fresh next → (refused : Bool) → FewToNext capacity (Asks (begun refused (is_none next) e)) next
     late None l refused = tt
     late (Some q) l true = record { asks = l.asks; answers = omega arith }
     late (Some q) l false = record { asks = l.asks; answers = omega arith }
 
-  asks_few : (before behind : Option Phase) (a b : Asking) → AskMoved (asking_links capacity refused before behind a) a b → FewBefore capacity before (Asks a) → FewBehind capacity (Asks a) behind
-      → (over : Bool) → Stay capacity before behind (settled_by over (is_none before) b)
-  asks_few before behind a b s x y over = record { early = early before s.sent x over; late = late behind s.got y over } where
-    early : (before : Option Phase) → IsSent (asking_links capacity refused before behind a).has_room a.sent b.sent → FewBefore capacity before (Asks a) → (over : Bool) → FewBefore capacity before (settled_by over (is_none before) b)
+  asks_few : (previous next : Option Phase) (a b : Asking) → AskMoved (asking_links capacity refused previous next a) a b → FewToPrevious capacity previous (Asks a) → FewToNext capacity (Asks a) next
+      → (over : Bool) → Stay capacity previous next (settled_by over (is_none previous) b)
+  asks_few previous next a b s x y over = record { early = early previous s.sent x over; late = late next s.got y over } where
+    early : (previous : Option Phase) → IsSent (asking_links capacity refused previous next a).has_room a.sent b.sent → FewToPrevious capacity previous (Asks a) → (over : Bool) → FewToPrevious capacity previous (settled_by over (is_none previous) b)
     early None t x over = tt
     early (Some p) t x true = record { asks = sent_fits capacity a.sent b.sent (asks_got_in p) t x.asks; answers = let h = x.answers in omega arith }
     early (Some p) t x false = record { asks = sent_fits capacity a.sent b.sent (asks_got_in p) t x.asks; answers = x.answers }
 
-    late : (behind : Option Phase) → IsGot (asking_links capacity refused before behind a).next a.got b.got → FewBehind capacity (Asks a) behind → (over : Bool) → FewBehind capacity (settled_by over (is_none before) b) behind
+    late : (next : Option Phase) → IsGot (asking_links capacity refused previous next a).item a.got b.got → FewToNext capacity (Asks a) next → (over : Bool) → FewToNext capacity (settled_by over (is_none previous) b) next
     late None g y over = tt
     late (Some q) g y true = record { asks = let more = got_more _ a.got b.got g in let h = y.asks in omega arith; answers = omega arith }
     late (Some q) g y false = record { asks = let more = got_more _ a.got b.got g in let h = y.asks in omega arith; answers = y.answers }
 
-  answers_few : (before behind : Option Phase) (a : Asking) (f g : Answering) → AnswerMoved (answering_links capacity refused before behind f) f g
-      → FewBefore capacity before (Answers a f) → FewBehind capacity (Answers a f) behind → Stay capacity before behind (Answers a g)
-  answers_few before behind a f g s x y = record { early = early before s.got x; late = late behind s.sent y } where
-    early : (before : Option Phase) → IsGot (answering_links capacity refused before behind f).next f.got g.got → FewBefore capacity before (Answers a f) → FewBefore capacity before (Answers a g)
+  answers_few : (previous next : Option Phase) (a : Asking) (f g : Answering) → AnswerMoved (answering_links capacity refused previous next f) f g
+      → FewToPrevious capacity previous (Answers a f) → FewToNext capacity (Answers a f) next → Stay capacity previous next (Answers a g)
+  answers_few previous next a f g s x y = record { early = early previous s.got x; late = late next s.sent y } where
+    early : (previous : Option Phase) → IsGot (answering_links capacity refused previous next f).item f.got g.got → FewToPrevious capacity previous (Answers a f) → FewToPrevious capacity previous (Answers a g)
     early None t x = tt
     early (Some p) t x = record { asks = x.asks; answers = let more = got_more _ f.got g.got t in let h = x.answers in omega arith }
 
-    late : (behind : Option Phase) → IsSent (answering_links capacity refused before behind f).has_room f.sent g.sent → FewBehind capacity (Answers a f) behind → FewBehind capacity (Answers a g) behind
+    late : (next : Option Phase) → IsSent (answering_links capacity refused previous next f).has_room f.sent g.sent → FewToNext capacity (Answers a f) next → FewToNext capacity (Answers a g) next
     late None t y = tt
     late (Some q) t y = record { asks = y.asks; answers = sent_fits capacity f.sent g.sent (answers_got_in q) t y.answers }
 
-  node_few : (before behind : Option Phase) (e : Summary) (p : Phase) → PhaseHolds p → FewBefore capacity before p → FewBehind capacity p behind → Stay capacity before behind (node_event capacity refused before behind e p)
-  node_few before behind e Fresh h x y = begun_few before behind e x y refused
-  node_few before behind e (Asks a) h x y =
-      let links = asking_links capacity refused before behind a in
-      asks_few before behind a (asking_event (is_none before) e links a) (asking_moves (is_none before) e links a h.0 h.1) x y _
-  node_few before behind e (Answers a f) h x y =
-      let links = answering_links capacity refused before behind f in
-      answers_few before behind a f (answering_event e a.asked links f) (answering_moves e a.asked links f h.2) x y
+  node_few : (previous next : Option Phase) (e : Summary) (p : Phase) → PhaseHolds p → FewToPrevious capacity previous p → FewToNext capacity p next → Stay capacity previous next (node_event capacity refused previous next e p)
+  node_few previous next e Fresh h x y = begun_few previous next e x y refused
+  node_few previous next e (Asks a) h x y =
+      let links = asking_links capacity refused previous next a in
+      asks_few previous next a (asking_event (is_none previous) e links a) (asking_moves (is_none previous) e links a h.0 h.1) x y _
+  node_few previous next e (Answers a f) h x y =
+      let links = answering_links capacity refused previous next f in
+      answers_few previous next a f (answering_event e a.asked links f) (answering_moves e a.asked links f h.2) x y
 
-  behind_few : (p : Phase) (ns : List NodeState) → AllFew capacity (Some p) ns → FewBehind capacity p (phase_of_first ns)
-  behind_few p [] h = tt
-  behind_few p (n ∷ ns) h = h.0
+  few_to_next : (p : Phase) (ns : List NodeState) → AllFew capacity (Some p) ns → FewToNext capacity p (phase_of_first ns)
+  few_to_next p [] h = tt
+  few_to_next p (n ∷ ns) h = h.0
 
-  with_few : (p q : Phase) (ns : List NodeState) → AllFew capacity (Some p) ns → FewBehind capacity q (phase_of_first ns) → AllFew capacity (Some q) ns
+  with_few : (p q : Phase) (ns : List NodeState) → AllFew capacity (Some p) ns → FewToNext capacity q (phase_of_first ns) → AllFew capacity (Some q) ns
   with_few p q [] h l = tt
   with_few p q (n ∷ ns) h l = (l, h.1)
 
-  few_keep : (k : ℕ) (before : Option Phase) (ns : List NodeState) → NodesHold before ns → AllFew capacity before ns → AllFew capacity before (event_at capacity refused k before ns)
-  few_keep k before [] h f = tt
-  few_keep zero before (n ∷ ns) h f =
-      let stay = node_few before (phase_of_first ns) n.summary n.phase h.0 f.0 (behind_few n.phase ns f.1) in
+  few_keep : (k : ℕ) (previous : Option Phase) (ns : List NodeState) → NodesHold previous ns → AllFew capacity previous ns → AllFew capacity previous (event_at capacity refused k previous ns)
+  few_keep k previous [] h f = tt
+  few_keep zero previous (n ∷ ns) h f =
+      let stay = node_few previous (phase_of_first ns) n.summary n.phase h.0 f.0 (few_to_next n.phase ns f.1) in
       (stay.early, with_few n.phase _ ns f.1 stay.late)
-  few_keep (suc k) before (n ∷ ns) h f = (f.0, few_keep k (Some n.phase) ns h.2 f.1)
+  few_keep (suc k) previous (n ∷ ns) h f = (f.0, few_keep k (Some n.phase) ns h.2 f.1)
 
 -- ---- a schedule
 
@@ -120,10 +120,10 @@ few_started : (capacity : ℕ) (es : List Summary) → AllFew capacity None (nod
 few_started capacity [] = tt
 few_started capacity (e ∷ es) = (tt, few_starts capacity es)
 
-delivered : (capacity : ℕ) (before : Option Phase) (ns : List NodeState) → NodesHold before ns → AllFew capacity before ns → AreDelivered capacity ns
-delivered capacity before [] h f = tt
-delivered capacity before (n ∷ []) h f = tt
-delivered capacity before (n ∷ m ∷ ns) h f =
+delivered : (capacity : ℕ) (previous : Option Phase) (ns : List NodeState) → NodesHold previous ns → AllFew capacity previous ns → AreDelivered capacity ns
+delivered capacity previous [] h f = tt
+delivered capacity previous (n ∷ []) h f = tt
+delivered capacity previous (n ∷ m ∷ ns) h f =
     let link = h.2.1 in
     let few = f.1.0 in
     (record { in_order = link.asks; few = few.asks }, record { in_order = link.answers; few = few.answers }, delivered capacity (Some n.phase) (m ∷ ns) h.2 f.1)

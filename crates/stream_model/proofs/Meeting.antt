@@ -152,8 +152,8 @@ record Known (q : Query) (trace : List StepSeen) (s : ℕ) (cs : List ℕ) (ns :
   pub all : flat_map (λ n. n.rows) ns ≡ map (row q trace) (sinks_of_epoch q trace s (length trace - s))
 
 -- each location that the node asks has the answer that are its origins at time s
-abbrev Hears : Query → List StepSeen → ℕ → Node → List Summary → Type 0
-Hears q trace s a es = (l : Loc) → has loc_cmp l (crossing (a.summary ∷ es)) ≡ true → heard a.asked a.answers_got l ≡ origins (policy_of q) trace s l
+abbrev HearsOrigins : Query → List StepSeen → ℕ → Node → List Summary → Type 0
+HearsOrigins q trace s a es = (l : Loc) → has loc_cmp l (crossing (a.summary ∷ es)) ≡ true → heard a.asked a.answers_got l ≡ origins (policy_of q) trace s l
 
 module _ (q : Query) (trace : List StepSeen) (steps : All IsInRange trace) (points : AreLocated q.points) where
   on_points : AllByRecursion (λ p. IsLocation p.loc) q.points
@@ -163,7 +163,7 @@ module _ (q : Query) (trace : List StepSeen) (steps : All IsInRange trace) (poin
   located = located-crossing q trace (recursion_from_All IsInRange trace steps) on_points
 
   -- the last node
-  known_last : (s c : ℕ) (first : Bool) (a : Node) → s ≤ c → c ≡ length trace → IsSummary q trace s (c - s) a.summary → AreDone first (a ∷ []) → Hears q trace s a []
+  known_last : (s c : ℕ) (first : Bool) (a : Node) → s ≤ c → c ≡ length trace → IsSummary q trace s (c - s) a.summary → AreDone first (a ∷ []) → HearsOrigins q trace s a []
       → Known q trace s (c ∷ []) (a ∷ [])
   known_last s c first a low end i d k =
       let before = heard a.asked a.answers_got in
@@ -185,7 +185,7 @@ module _ (q : Query) (trace : List StepSeen) (steps : All IsInRange trace) (poin
 
   known : (s c : ℕ) (cs : List ℕ) (first : Bool) (a : Node) (ns : List Node)
       → 0 < c → s ≤ c → RisesTo c cs (length trace) → AreSummaries q trace s (c ∷ cs) (summaries (a ∷ ns)) → AreDone first (a ∷ ns) → is_ended a.answers_got ≡ true
-      → Hears q trace s a (summaries ns)
+      → HearsOrigins q trace s a (summaries ns)
       → Known q trace s (c ∷ cs) (a ∷ ns)
   known s c [] first a [] pos low h i d e k = known_last s c first a low h i.0 d k
   known s c (x ∷ cs) first a [] pos low h i d e k = absurd i.1
@@ -226,7 +226,7 @@ module _ (q : Query) (trace : List StepSeen) (steps : All IsInRange trace) (poin
       }
 
   known_all : (n : ℕ) → n ≡ length trace → (cuts : List ℕ) (a : Node) (ns : List Node) → IsCutting n cuts → AreSummaries q trace 0 cuts (summaries (a ∷ ns)) → AreDone true (a ∷ ns)
-      → is_ended a.answers_got ≡ true → Hears q trace 0 a (summaries ns) → Known q trace 0 cuts (a ∷ ns)
+      → is_ended a.answers_got ≡ true → HearsOrigins q trace 0 a (summaries ns) → Known q trace 0 cuts (a ∷ ns)
   known_all zero is [] a ns h i d e k = absurd i
   known_all zero is (c ∷ []) a [] h i d e k = let none : c ≡ 0 = cc in known_last 0 c true a (omega arith) (none ∙ is) i.0 d k
   known_all zero is (c ∷ []) a (b ∷ ns) h i d e k = absurd i.1

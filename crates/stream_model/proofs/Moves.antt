@@ -20,7 +20,7 @@ one_longer xs x = length-append xs (x ∷ [])
 
 -- what the links do but for refusals
 abbrev pub freed : Links → Links
-freed links = record { has_room = links.has_room; next = links.next; is_refused = false }
+freed links = record { has_room = links.has_room; item = links.item; is_refused = false }
 
 -- ---- an event of asking
 
@@ -52,7 +52,7 @@ module _ (first : Bool) (e : Summary) (links : Links) (a : Asking) where
       → AskCount a (whole_asking first e links a waiting left ended) (is_met (whole_asking_need waiting left ended) (freed links))
   count_whole (l ∷ waiting) left w ended t = count_push links.has_room l
   count_whole [] (k ∷ left) w ended t = count_walk links.is_refused k left w t
-  count_whole [] [] w false t = count_pop links.is_refused links.next t
+  count_whole [] [] w false t = count_pop links.is_refused links.item t
   count_whole [] [] w true t = count_end links.has_room
 
   count_by : (over whole : Bool) → a.is_whole ≡ whole → (asking_by first e links a over whole).is_whole ≡ true → AskCount a (asking_by first e links a over whole) (is_met (asking_need_by a over whole) (freed links))
@@ -102,7 +102,7 @@ module _ (e : Summary) (asked : List Loc) (links : Links) (f : Answering) where
   count_request : (b : Bool) (l : Loc) (left : List Loc) → f.left ≡ l ∷ left → (build_or_pop b e asked links f l left).is_whole ≡ true
       → AnswerCount f (build_or_pop b e asked links f l left) (is_met (nothing_or_item b) (freed links))
   count_request true l left w t = count_build links.is_refused l left w t
-  count_request false l left w t = count_receive links.is_refused links.next t
+  count_request false l left w t = count_receive links.is_refused links.item t
 
   count_resolve : (refused : Bool) → f.rows ≡ None → (resolve refused e asked f).is_whole ≡ true → AnswerCount f (resolve refused e asked f) true
   count_resolve true r t = true-false (sym t)
@@ -118,7 +118,7 @@ module _ (e : Summary) (asked : List Loc) (links : Links) (f : Answering) where
 
   count_last : (ended : Bool) → (pop_or_end e asked links f ended).is_whole ≡ true → AnswerCount f (pop_or_end e asked links f ended) (is_met (last_need ended f.rows) (freed links))
   count_last true t = count_rows f.rows refl t
-  count_last false t = count_receive links.is_refused links.next t
+  count_last false t = count_receive links.is_refused links.item t
 
   count_answers : (sending : List Message) (left : List Loc) → f.left ≡ left → (whole_answering e asked links f sending left).is_whole ≡ true
       → AnswerCount f (whole_answering e asked links f sending left) (is_met (whole_answering_need e asked f sending left) (freed links))
@@ -144,7 +144,7 @@ goes Item = true
 goes Nothing = true
 goes Over = false
 
-met : (need : Need) (links : Links) → goes need ≡ true → links.has_room ≡ true → is_some links.next ≡ true → is_met need (freed links) ≡ true
+met : (need : Need) (links : Links) → goes need ≡ true → links.has_room ≡ true → is_some links.item ≡ true → is_met need (freed links) ≡ true
 met Room links g room next = room
 met Item links g room next = next
 met Nothing links g room next = refl
@@ -184,10 +184,10 @@ answering_goes e asked f false true o = by f.sending f.left where
   by [] (l ∷ left) = either (is_resolvable asked f.got (e.ends l))
   by [] [] = last (is_ended f.got)
 
-pub asking_moves_on : (links : Links) (a : Asking) → a.is_over ≡ false → links.has_room ≡ true → is_some links.next ≡ true → is_met (asking_need a) (freed links) ≡ true
+pub asking_moves_on : (links : Links) (a : Asking) → a.is_over ≡ false → links.has_room ≡ true → is_some links.item ≡ true → is_met (asking_need a) (freed links) ≡ true
 asking_moves_on links a o room next = met (asking_need a) links (asking_goes a a.is_over a.is_whole o) room next
 
-pub answering_moves_on : (e : Summary) (asked : List Loc) (links : Links) (f : Answering) → f.is_over ≡ false → links.has_room ≡ true → is_some links.next ≡ true → is_met (answering_need e asked f) (freed links) ≡ true
+pub answering_moves_on : (e : Summary) (asked : List Loc) (links : Links) (f : Answering) → f.is_over ≡ false → links.has_room ≡ true → is_some links.item ≡ true → is_met (answering_need e asked f) (freed links) ≡ true
 answering_moves_on e asked links f o room next = met (answering_need e asked f) links (answering_goes e asked f f.is_over f.is_whole o) room next
 
 same_met : (need : Need) (links : Links) → is_met need (freed links) ≡ is_met need links

@@ -73,7 +73,7 @@ ended_got next got new (inr g) h = ap is_ended g.2 ∙ ended_stays got (g.0 ∷ 
 
 pub record AskMoved (links : Links) (a b : Asking) : Type 0 where
   pub sent : IsSent links.has_room a.sent b.sent
-  pub got : IsGot links.next a.got b.got
+  pub got : IsGot links.item a.got b.got
   pub running : b.is_over ≡ false → is_ended b.sent ≡ false
   pub over : b.is_over ≡ true → (is_ended b.sent ≡ true) × (is_ended b.got ≡ true)
 
@@ -87,7 +87,7 @@ module _ (first : Bool) (e : Summary) (links : Links) (a : Asking) (o : a.is_ove
     over = λ t. true-false (sym t ∙ v ∙ o);
   }
 
-  ask_got : (m : Message) (b : Asking) → links.next ≡ Some m → b.sent ≡ a.sent → b.got ≡ a.got ++ m ∷ [] → b.is_over ≡ a.is_over → AskMoved links a b
+  ask_got : (m : Message) (b : Asking) → links.item ≡ Some m → b.sent ≡ a.sent → b.got ≡ a.got ++ m ∷ [] → b.is_over ≡ a.is_over → AskMoved links a b
   ask_got m b n s g v = record {
     sent = inl s;
     got = inr (m, n, g);
@@ -108,12 +108,12 @@ module _ (first : Bool) (e : Summary) (links : Links) (a : Asking) (o : a.is_ove
   ask_walked true k left = ask_within _ refl refl refl
   ask_walked false k left = ask_within _ refl refl refl
 
-  ask_popped : (refused : Bool) (next : Option Message) → links.next ≡ next → AskMoved links a (pop_ask refused first e a next)
+  ask_popped : (refused : Bool) (next : Option Message) → links.item ≡ next → AskMoved links a (pop_ask refused first e a next)
   ask_popped refused None n = ask_within a refl refl refl
   ask_popped true (Some m) n = ask_got m _ n refl refl refl
   ask_popped false (Some m) n = ask_got m _ n refl refl refl
 
-  ask_dropped : (next : Option Message) → links.next ≡ next → AskMoved links a (drop_ask a next)
+  ask_dropped : (next : Option Message) → links.item ≡ next → AskMoved links a (drop_ask a next)
   ask_dropped None n = ask_within a refl refl refl
   ask_dropped (Some m) n = ask_got m _ n refl refl refl
 
@@ -129,11 +129,11 @@ module _ (first : Bool) (e : Summary) (links : Links) (a : Asking) (o : a.is_ove
   ask_whole : (waiting : List Loc) (left : List SinkTerms) (ended : Bool) → is_ended a.got ≡ ended → AskMoved links a (whole_asking first e links a waiting left ended)
   ask_whole (l ∷ waiting) left ended d = ask_pushed links.has_room refl l
   ask_whole [] (k ∷ left) ended d = ask_walked links.is_refused k left
-  ask_whole [] [] false d = ask_popped links.is_refused links.next refl
+  ask_whole [] [] false d = ask_popped links.is_refused links.item refl
   ask_whole [] [] true d = ask_ended links.has_room refl d
 
   ask_broken : (ended : Bool) → is_ended a.got ≡ ended → AskMoved links a (broken_asking links a ended)
-  ask_broken false d = ask_dropped links.next refl
+  ask_broken false d = ask_dropped links.item refl
   ask_broken true d = ask_ended links.has_room refl d
 
   ask_by : (over whole : Bool) → AskMoved links a (asking_by first e links a over whole)
@@ -152,7 +152,7 @@ pub record AnswerFits (f : Answering) : Type 0 where
 
 pub record AnswerMoved (links : Links) (f g : Answering) : Type 0 where
   pub sent : IsSent links.has_room f.sent g.sent
-  pub got : IsGot links.next f.got g.got
+  pub got : IsGot links.item f.got g.got
   pub fits : AnswerFits g
 
 module _ (e : Summary) (asked : List Loc) (links : Links) (f : Answering) (h : AnswerFits f) where
@@ -168,7 +168,7 @@ module _ (e : Summary) (asked : List Loc) (links : Links) (f : Answering) (h : A
       fits = record { running = λ _. (ap is_ended s ∙ (h.running o).0, n); over = λ u. true-false (sym u ∙ v ∙ o) };
     }
 
-    answer_got : (m : Message) (g : Answering) → links.next ≡ Some m → g.sent ≡ f.sent → g.got ≡ f.got ++ m ∷ [] → g.sending ≡ f.sending → g.is_over ≡ f.is_over → AnswerMoved links f g
+    answer_got : (m : Message) (g : Answering) → links.item ≡ Some m → g.sent ≡ f.sent → g.got ≡ f.got ++ m ∷ [] → g.sending ≡ f.sending → g.is_over ≡ f.is_over → AnswerMoved links f g
     answer_got m g n s t k v = record {
       sent = inl s;
       got = inr (m, n, t);
@@ -186,12 +186,12 @@ module _ (e : Summary) (asked : List Loc) (links : Links) (f : Answering) (h : A
           fits = record { running = λ _. (ended_after f.sent (m ∷ []) (h.running o).0 ∙ parts.0, parts.1); over = λ u. true-false (sym u ∙ o) };
         }
 
-    answer_popped : (refused : Bool) (next : Option Message) → links.next ≡ next → AnswerMoved links f (pop_answer refused f next)
+    answer_popped : (refused : Bool) (next : Option Message) → links.item ≡ next → AnswerMoved links f (pop_answer refused f next)
     answer_popped refused None n = answer_within
     answer_popped true (Some m) n = answer_got m _ n refl refl refl refl
     answer_popped false (Some m) n = answer_got m _ n refl refl refl refl
 
-    answer_dropped : (next : Option Message) → links.next ≡ next → AnswerMoved links f (drop_answer f next)
+    answer_dropped : (next : Option Message) → links.item ≡ next → AnswerMoved links f (drop_answer f next)
     answer_dropped None n = answer_within
     answer_dropped (Some m) n = answer_got m _ n refl refl refl refl
 
@@ -201,7 +201,7 @@ module _ (e : Summary) (asked : List Loc) (links : Links) (f : Answering) (h : A
 
     answer_request : (b : Bool) (l : Loc) (left : List Loc) → AnswerMoved links f (build_or_pop b e asked links f l left)
     answer_request true l left = answer_built links.is_refused l left
-    answer_request false l left = answer_popped links.is_refused links.next refl
+    answer_request false l left = answer_popped links.is_refused links.item refl
 
     answer_resolved : (refused : Bool) → AnswerMoved links f (resolve refused e asked f)
     answer_resolved true = answer_kept _ refl refl (h.running o).1 refl
@@ -220,7 +220,7 @@ module _ (e : Summary) (asked : List Loc) (links : Links) (f : Answering) (h : A
     answer_rows (Some rows) d = answer_ended links.has_room refl d
 
     answer_last : (ended : Bool) → is_ended f.got ≡ ended → AnswerMoved links f (pop_or_end e asked links f ended)
-    answer_last false d = answer_popped links.is_refused links.next refl
+    answer_last false d = answer_popped links.is_refused links.item refl
     answer_last true d = answer_rows f.rows d
 
     answer_whole : (sending : List Message) → f.sending ≡ sending → (left : List Loc) → AnswerMoved links f (whole_answering e asked links f sending left)
@@ -229,7 +229,7 @@ module _ (e : Summary) (asked : List Loc) (links : Links) (f : Answering) (h : A
     answer_whole [] k [] = answer_last (is_ended f.got) refl
 
     answer_broken : (ended : Bool) → is_ended f.got ≡ ended → AnswerMoved links f (broken_answering links f ended)
-    answer_broken false d = answer_dropped links.next refl
+    answer_broken false d = answer_dropped links.item refl
     answer_broken true d = answer_ended links.has_room refl d
 
   answer_by : (over : Bool) → f.is_over ≡ over → (whole : Bool) → AnswerMoved links f (answering_by e asked links f over whole)
@@ -247,7 +247,7 @@ PhaseHolds Fresh = Unit {0}
 PhaseHolds (Asks a) = (a.is_over ≡ false) × (is_ended a.sent ≡ false)
 PhaseHolds (Answers a f) = (is_ended a.sent ≡ true) × (is_ended a.got ≡ true) × AnswerFits f
 
--- what was got is a part of what was sent, on the two links between p and the node q behind it
+-- what was got is a part of what was sent, on the two links between p and the next node q
 pub record LinkHolds (p q : Phase) : Type 0 where
   pub asks : IsPrefix (asks_got_in p) (asks_sent_in q)
   pub answers : IsPrefix (answers_got_in q) (answers_sent_in p)
@@ -263,104 +263,104 @@ LastHolds Fresh = Unit {0}
 LastHolds (Asks a) = is_ended a.got ≡ true
 LastHolds (Answers a f) = Unit {0}
 
-abbrev pub BeforeHolds : Option Phase → Phase → Type 0
-BeforeHolds None p = FirstHolds p
-BeforeHolds (Some before) p = LinkHolds before p
+abbrev pub PreviousHolds : Option Phase → Phase → Type 0
+PreviousHolds None p = FirstHolds p
+PreviousHolds (Some previous) p = LinkHolds previous p
 
-abbrev pub BehindHolds : Phase → Option Phase → Type 0
-BehindHolds p None = LastHolds p
-BehindHolds p (Some behind) = LinkHolds p behind
+abbrev pub NextHolds : Phase → Option Phase → Type 0
+NextHolds p None = LastHolds p
+NextHolds p (Some next) = LinkHolds p next
 
 abbrev pub EndHolds : Option Phase → Type 0
 EndHolds None = Unit {0}
 EndHolds (Some p) = LastHolds p
 
 abbrev pub NodesHold : Option Phase → List NodeState → Type 0
-NodesHold before [] = EndHolds before
-NodesHold before (n ∷ ns) = PhaseHolds n.phase × BeforeHolds before n.phase × NodesHold (Some n.phase) ns
+NodesHold previous [] = EndHolds previous
+NodesHold previous (n ∷ ns) = PhaseHolds n.phase × PreviousHolds previous n.phase × NodesHold (Some n.phase) ns
 
-record Kept (before behind : Option Phase) (p : Phase) : Type 0 where
+record Kept (previous next : Option Phase) (p : Phase) : Type 0 where
   pub phase : PhaseHolds p
-  pub early : BeforeHolds before p
-  pub late : BehindHolds p behind
+  pub early : PreviousHolds previous p
+  pub late : NextHolds p next
 
-begun_keeps : (refused : Bool) (before behind : Option Phase) (e : Summary) → BeforeHolds before Fresh → BehindHolds Fresh behind → Kept before behind (Asks (begun refused (is_none behind) e))
-begun_keeps refused before behind e b l = record { phase = phase refused; early = early refused before b; late = late refused behind l } where
-  phase : (refused : Bool) → PhaseHolds (Asks (begun refused (is_none behind) e))
+begun_keeps : (refused : Bool) (previous next : Option Phase) (e : Summary) → PreviousHolds previous Fresh → NextHolds Fresh next → Kept previous next (Asks (begun refused (is_none next) e))
+begun_keeps refused previous next e b l = record { phase = phase refused; early = early refused previous b; late = late refused next l } where
+  phase : (refused : Bool) → PhaseHolds (Asks (begun refused (is_none next) e))
   phase true = (refl, refl)
   phase false = (refl, refl)
 
-  early : (refused : Bool) (before : Option Phase) → BeforeHolds before Fresh → BeforeHolds before (Asks (begun refused (is_none behind) e))
+  early : (refused : Bool) (previous : Option Phase) → PreviousHolds previous Fresh → PreviousHolds previous (Asks (begun refused (is_none next) e))
   early refused None b = tt
   early true (Some p) b = record { asks = b.asks; answers = b.answers }
   early false (Some p) b = record { asks = b.asks; answers = b.answers }
 
-  late : (refused : Bool) (behind : Option Phase) → BehindHolds Fresh behind → BehindHolds (Asks (begun refused (is_none behind) e)) behind
+  late : (refused : Bool) (next : Option Phase) → NextHolds Fresh next → NextHolds (Asks (begun refused (is_none next) e)) next
   late true None l = refl
   late false None l = refl
   late true (Some q) l = record { asks = l.asks; answers = l.answers }
   late false (Some q) l = record { asks = l.asks; answers = l.answers }
 
 module _ (capacity : ℕ) (refused : Bool) where
-  asks_keep : (before behind : Option Phase) (a b : Asking) → AskMoved (asking_links capacity refused before behind a) a b → BeforeHolds before (Asks a) → BehindHolds (Asks a) behind
-      → (over : Bool) → b.is_over ≡ over → Kept before behind (settled_by over (is_none before) b)
-  asks_keep before behind a b s x y over o = record { phase = phase over o; early = early before x over; late = late behind s.got y over } where
-    phase : (over : Bool) → b.is_over ≡ over → PhaseHolds (settled_by over (is_none before) b)
+  asks_keep : (previous next : Option Phase) (a b : Asking) → AskMoved (asking_links capacity refused previous next a) a b → PreviousHolds previous (Asks a) → NextHolds (Asks a) next
+      → (over : Bool) → b.is_over ≡ over → Kept previous next (settled_by over (is_none previous) b)
+  asks_keep previous next a b s x y over o = record { phase = phase over o; early = early previous x over; late = late next s.got y over } where
+    phase : (over : Bool) → b.is_over ≡ over → PhaseHolds (settled_by over (is_none previous) b)
     phase false o = (o, s.running o)
     phase true o = ((s.over o).0, (s.over o).1, record { running = λ _. (refl, refl); over = λ t. true-false (sym t) })
 
-    early : (before : Option Phase) → BeforeHolds before (Asks a) → (over : Bool) → BeforeHolds before (settled_by over (is_none before) b)
+    early : (previous : Option Phase) → PreviousHolds previous (Asks a) → (over : Bool) → PreviousHolds previous (settled_by over (is_none previous) b)
     early None x true = refl
     early None x false = tt
     early (Some p) x true = record { asks = sent_longer _ (asks_got_in p) a.sent b.sent s.sent x.asks; answers = (answers_sent_in p, refl) }
     early (Some p) x false = record { asks = sent_longer _ (asks_got_in p) a.sent b.sent s.sent x.asks; answers = (answers_sent_in p, refl) }
 
-    late : (behind : Option Phase) → IsGot (asking_links capacity refused before behind a).next a.got b.got → BehindHolds (Asks a) behind → (over : Bool) → BehindHolds (settled_by over (is_none before) b) behind
+    late : (next : Option Phase) → IsGot (asking_links capacity refused previous next a).item a.got b.got → NextHolds (Asks a) next → (over : Bool) → NextHolds (settled_by over (is_none previous) b) next
     late None g y true = tt
     late None g y false = ended_got None a.got b.got g y
     late (Some q) g y true = record { asks = got_fits a.got b.got (asks_sent_in q) y.asks g; answers = y.answers }
     late (Some q) g y false = record { asks = got_fits a.got b.got (asks_sent_in q) y.asks g; answers = y.answers }
 
-  answers_keep : (before behind : Option Phase) (a : Asking) (f g : Answering) → AnswerMoved (answering_links capacity refused before behind f) f g
-      → PhaseHolds (Answers a f) → BeforeHolds before (Answers a f) → BehindHolds (Answers a f) behind → Kept before behind (Answers a g)
-  answers_keep before behind a f g s h x y = record { phase = (h.0, h.1, s.fits); early = early before s.got x; late = late behind y } where
-    early : (before : Option Phase) → IsGot (answering_links capacity refused before behind f).next f.got g.got → BeforeHolds before (Answers a f) → BeforeHolds before (Answers a g)
+  answers_keep : (previous next : Option Phase) (a : Asking) (f g : Answering) → AnswerMoved (answering_links capacity refused previous next f) f g
+      → PhaseHolds (Answers a f) → PreviousHolds previous (Answers a f) → NextHolds (Answers a f) next → Kept previous next (Answers a g)
+  answers_keep previous next a f g s h x y = record { phase = (h.0, h.1, s.fits); early = early previous s.got x; late = late next y } where
+    early : (previous : Option Phase) → IsGot (answering_links capacity refused previous next f).item f.got g.got → PreviousHolds previous (Answers a f) → PreviousHolds previous (Answers a g)
     early None t x = ended_got None f.got g.got t x
     early (Some p) t x = record { asks = x.asks; answers = got_fits f.got g.got (answers_sent_in p) x.answers t }
 
-    late : (behind : Option Phase) → BehindHolds (Answers a f) behind → BehindHolds (Answers a g) behind
+    late : (next : Option Phase) → NextHolds (Answers a f) next → NextHolds (Answers a g) next
     late None y = tt
     late (Some q) y = record { asks = y.asks; answers = sent_longer _ (answers_got_in q) f.sent g.sent s.sent y.answers }
 
-  node_keeps : (before behind : Option Phase) (e : Summary) (p : Phase) → PhaseHolds p → BeforeHolds before p → BehindHolds p behind → Kept before behind (node_event capacity refused before behind e p)
-  node_keeps before behind e Fresh h x y = begun_keeps refused before behind e x y
-  node_keeps before behind e (Asks a) h x y =
-      let links = asking_links capacity refused before behind a in
-      asks_keep before behind a (asking_event (is_none before) e links a) (asking_moves (is_none before) e links a h.0 h.1) x y _ refl
-  node_keeps before behind e (Answers a f) h x y =
-      let links = answering_links capacity refused before behind f in
-      answers_keep before behind a f (answering_event e a.asked links f) (answering_moves e a.asked links f h.2) h x y
+  node_keeps : (previous next : Option Phase) (e : Summary) (p : Phase) → PhaseHolds p → PreviousHolds previous p → NextHolds p next → Kept previous next (node_event capacity refused previous next e p)
+  node_keeps previous next e Fresh h x y = begun_keeps refused previous next e x y
+  node_keeps previous next e (Asks a) h x y =
+      let links = asking_links capacity refused previous next a in
+      asks_keep previous next a (asking_event (is_none previous) e links a) (asking_moves (is_none previous) e links a h.0 h.1) x y _ refl
+  node_keeps previous next e (Answers a f) h x y =
+      let links = answering_links capacity refused previous next f in
+      answers_keep previous next a f (answering_event e a.asked links f) (answering_moves e a.asked links f h.2) h x y
 
-  pub behind_of : (p : Phase) (ns : List NodeState) → NodesHold (Some p) ns → BehindHolds p (phase_of_first ns)
-  behind_of p [] h = h
-  behind_of p (n ∷ ns) h = h.1
+  pub next_of : (p : Phase) (ns : List NodeState) → NodesHold (Some p) ns → NextHolds p (phase_of_first ns)
+  next_of p [] h = h
+  next_of p (n ∷ ns) h = h.1
 
-  with_new : (p q : Phase) (ns : List NodeState) → NodesHold (Some p) ns → BehindHolds q (phase_of_first ns) → NodesHold (Some q) ns
+  with_new : (p q : Phase) (ns : List NodeState) → NodesHold (Some p) ns → NextHolds q (phase_of_first ns) → NodesHold (Some q) ns
   with_new p q [] h l = l
   with_new p q (n ∷ ns) h l = (h.0, l, h.2)
 
-  pub nodes_keep : (k : ℕ) (before : Option Phase) (ns : List NodeState) → NodesHold before ns → NodesHold before (event_at capacity refused k before ns)
-  nodes_keep k before [] h = h
-  nodes_keep zero before (n ∷ ns) h =
-      let kept = node_keeps before (phase_of_first ns) n.summary n.phase h.0 h.1 (behind_of n.phase ns h.2) in
+  pub nodes_keep : (k : ℕ) (previous : Option Phase) (ns : List NodeState) → NodesHold previous ns → NodesHold previous (event_at capacity refused k previous ns)
+  nodes_keep k previous [] h = h
+  nodes_keep zero previous (n ∷ ns) h =
+      let kept = node_keeps previous (phase_of_first ns) n.summary n.phase h.0 h.1 (next_of n.phase ns h.2) in
       (kept.phase, kept.early, with_new n.phase _ ns h.2 kept.late)
-  nodes_keep (suc k) before (n ∷ ns) h = (h.0, h.1, nodes_keep k (Some n.phase) ns h.2)
+  nodes_keep (suc k) previous (n ∷ ns) h = (h.0, h.1, nodes_keep k (Some n.phase) ns h.2)
 
-nodes_starts : (before : Option Phase) → ((q : Phase) → before ≡ Some q → q ≡ Fresh) → (es : List Summary) → NodesHold before (nodes_start es)
+nodes_starts : (previous : Option Phase) → ((q : Phase) → previous ≡ Some q → q ≡ Fresh) → (es : List Summary) → NodesHold previous (nodes_start es)
 nodes_starts None f [] = tt
 nodes_starts (Some p) f [] = subst LastHolds (sym (f p refl)) tt
-nodes_starts before f (e ∷ es) = (tt, by before f, nodes_starts (Some Fresh) (λ q same. cc) es) where
-  by : (before : Option Phase) → ((q : Phase) → before ≡ Some q → q ≡ Fresh) → BeforeHolds before Fresh
+nodes_starts previous f (e ∷ es) = (tt, by previous f, nodes_starts (Some Fresh) (λ q same. cc) es) where
+  by : (previous : Option Phase) → ((q : Phase) → previous ≡ Some q → q ≡ Fresh) → PreviousHolds previous Fresh
   by None f = tt
   by (Some p) f = subst (λ (q : Phase). LinkHolds q Fresh) (sym (f p refl)) (record { asks = ([], refl); answers = ([], refl) })
 

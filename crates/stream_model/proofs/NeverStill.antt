@@ -15,7 +15,7 @@ use Rattle.stream_model.specs.Passes.{Links, Asking, push_ask, pop_ask, drop_ask
 use Rattle.stream_model.specs.Schedules.{Phase, Fresh, Asks, Answers, NodeState, asks_sent_in, asks_got_in, answers_sent_in, answers_got_in, first_of, next_item, has_room_for, room_to, item_from, asking_links, answering_links, nodes_start, Need, is_met, item_or_room, whole_asking_need, asking_need_by, asking_need, nothing_or_room, last_need, nothing_or_item, whole_answering_need, answering_need_by, answering_need, node_moves, moves_at, is_done}
 use Rattle.stream_model.specs.ScheduleLaws.{NeverStill, StillAsking, StillAnswering}
 use Rattle.stream_model.proofs.Growing.{ended_stays}
-use Rattle.stream_model.proofs.Moving.{PhaseHolds, LinkHolds, BeforeHolds, BehindHolds, NodesHold, drop_front, reached, started}
+use Rattle.stream_model.proofs.Moving.{PhaseHolds, LinkHolds, PreviousHolds, NextHolds, NodesHold, drop_front, reached, started}
 
 -- ---- what a link gives
 
@@ -55,23 +55,23 @@ either_way true = inl refl
 either_way false = inr refl
 
 module _ (links : Links) where
-  item_goes : (ended : Bool) → (ended ≡ false → is_some links.next ≡ true) → Goes (item_or_room ended) links
+  item_goes : (ended : Bool) → (ended ≡ false → is_some links.item ≡ true) → Goes (item_or_room ended) links
   item_goes true n = either_way links.has_room
   item_goes false n = inl (n refl)
 
-  asking_whole_goes : (waiting : List Loc) (left : List SinkTerms) (ended : Bool) → (ended ≡ false → is_some links.next ≡ true) → Goes (whole_asking_need waiting left ended) links
+  asking_whole_goes : (waiting : List Loc) (left : List SinkTerms) (ended : Bool) → (ended ≡ false → is_some links.item ≡ true) → Goes (whole_asking_need waiting left ended) links
   asking_whole_goes (l ∷ waiting) left ended n = either_way links.has_room
   asking_whole_goes [] (k ∷ left) ended n = inl refl
   asking_whole_goes [] [] ended n = item_goes ended n
 
-  asking_goes : (a : Asking) → a.is_over ≡ false → (is_ended a.got ≡ false → is_some links.next ≡ true) → Goes (asking_need a) links
+  asking_goes : (a : Asking) → a.is_over ≡ false → (is_ended a.got ≡ false → is_some links.item ≡ true) → Goes (asking_need a) links
   asking_goes a o n = by a.is_over o a.is_whole where
     by : (over : Bool) → over ≡ false → (whole : Bool) → Goes (asking_need_by a over whole) links
     by true o whole = true-false o
     by false o true = asking_whole_goes (drop a.pushed a.asked) a.left (is_ended a.got) n
     by false o false = item_goes (is_ended a.got) n
 
-  answering_goes : (e : Summary) (asked : List Loc) (f : Answering) → f.is_over ≡ false → (is_ended f.got ≡ false → is_some links.next ≡ true) → Goes (answering_need e asked f) links
+  answering_goes : (e : Summary) (asked : List Loc) (f : Answering) → f.is_over ≡ false → (is_ended f.got ≡ false → is_some links.item ≡ true) → Goes (answering_need e asked f) links
   answering_goes e asked f o n = by f.is_over o f.is_whole where
     rows : (r : Option (List Row)) → Goes (nothing_or_room r) links
     rows None = inl refl
@@ -109,101 +109,101 @@ abbrev pub AllDone : List NodeState → Type 0
 AllDone ns = AllByRecursion (λ n. is_done n.phase ≡ true) ns
 
 abbrev pub Moves : ℕ → Option Phase → List NodeState → Type 0
-Moves capacity before ns = (k : ℕ) × (moves_at capacity k before ns ≡ true)
+Moves capacity previous ns = (k : ℕ) × (moves_at capacity k previous ns ≡ true)
 
 -- the node asks, and a full link to the one before stops it
 abbrev IsStopped : ℕ → Option Phase → Phase → Type 0
-IsStopped capacity before Fresh = ⊥
-IsStopped capacity before (Asks a) = room_to capacity asks_got_in a.sent before ≡ false
-IsStopped capacity before (Answers a f) = ⊥
+IsStopped capacity previous Fresh = ⊥
+IsStopped capacity previous (Asks a) = room_to capacity asks_got_in a.sent previous ≡ false
+IsStopped capacity previous (Answers a f) = ⊥
 
 abbrev Stopped : ℕ → Option Phase → List NodeState → Type 0
-Stopped capacity before [] = ⊥
-Stopped capacity before (n ∷ ns) = IsStopped capacity before n.phase
+Stopped capacity previous [] = ⊥
+Stopped capacity previous (n ∷ ns) = IsStopped capacity previous n.phase
 
 -- the node answers, is not done, and has something to get where it needs it
-abbrev Hears : Option Phase → Phase → Type 0
-Hears before Fresh = ⊥
-Hears before (Asks a) = ⊥
-Hears before (Answers a f) = (f.is_over ≡ false) × (is_ended f.got ≡ false → is_some (item_from answers_sent_in f.got before) ≡ true)
+abbrev CanAnswer : Option Phase → Phase → Type 0
+CanAnswer previous Fresh = ⊥
+CanAnswer previous (Asks a) = ⊥
+CanAnswer previous (Answers a f) = (f.is_over ≡ false) × (is_ended f.got ≡ false → is_some (item_from answers_sent_in f.got previous) ≡ true)
 
--- the node answers, and the link to the node behind it is full
+-- the node answers, and the link to the next node is full
 abbrev IsFull : ℕ → Option Phase → Phase → Type 0
-IsFull capacity behind Fresh = ⊥
-IsFull capacity behind (Asks a) = ⊥
-IsFull capacity behind (Answers a f) = room_to capacity answers_got_in f.sent behind ≡ false
+IsFull capacity next Fresh = ⊥
+IsFull capacity next (Asks a) = ⊥
+IsFull capacity next (Answers a f) = room_to capacity answers_got_in f.sent next ≡ false
 
 module _ (capacity : ℕ) (c : 0 < capacity) where
   -- a node before one that is stopped has an item to get
-  under_stopped : (before : Option Phase) (e : Summary) (p q : Phase) → PhaseHolds p → PhaseHolds q → LinkHolds p q → IsStopped capacity (Some p) q
-      → (node_moves capacity before (Some q) e p ≡ true) ⊎ IsStopped capacity before p
-  under_stopped before e p Fresh hp hq l s = absurd s
-  under_stopped before e p (Answers a f) hp hq l s = absurd s
-  under_stopped before e Fresh (Asks b) hp hq l s = inl refl
-  under_stopped before e (Asks a) (Asks b) hp hq l s =
-      asking_goes (asking_links capacity false before (Some (Asks b)) a) a hp.0 (λ running. full_waits a.got b.sent l.asks capacity c s)
-  under_stopped before e (Answers a f) (Asks b) hp hq l s = true-false (sym (end_was_sent a.got b.sent l.asks hp.1) ∙ hq.1)
+  under_stopped : (previous : Option Phase) (e : Summary) (p q : Phase) → PhaseHolds p → PhaseHolds q → LinkHolds p q → IsStopped capacity (Some p) q
+      → (node_moves capacity previous (Some q) e p ≡ true) ⊎ IsStopped capacity previous p
+  under_stopped previous e p Fresh hp hq l s = absurd s
+  under_stopped previous e p (Answers a f) hp hq l s = absurd s
+  under_stopped previous e Fresh (Asks b) hp hq l s = inl refl
+  under_stopped previous e (Asks a) (Asks b) hp hq l s =
+      asking_goes (asking_links capacity false previous (Some (Asks b)) a) a hp.0 (λ running. full_waits a.got b.sent l.asks capacity c s)
+  under_stopped previous e (Answers a f) (Asks b) hp hq l s = true-false (sym (end_was_sent a.got b.sent l.asks hp.1) ∙ hq.1)
 
   -- a node before one that answers, and the last one, has an End to get
-  under_answering : (before behind : Option Phase) (e : Summary) (p : Phase) → PhaseHolds p → BehindHolds p behind → ((q : Phase) → behind ≡ Some q → PhaseHolds q × IsAnswering q)
-      → (node_moves capacity before behind e p ≡ true) ⊎ (IsStopped capacity before p ⊎ IsAnswering p)
-  under_answering before behind e Fresh hp l w = inl refl
-  under_answering before behind e (Answers a f) hp l w = inr (inr tt)
-  under_answering before behind e (Asks a) hp l w = by (asking_goes (asking_links capacity false before behind a) a hp.0 (waits behind l w)) where
-    waits : (behind : Option Phase) → BehindHolds (Asks a) behind → ((q : Phase) → behind ≡ Some q → PhaseHolds q × IsAnswering q)
-        → is_ended a.got ≡ false → is_some (item_from asks_sent_in a.got behind) ≡ true
+  under_answering : (previous next : Option Phase) (e : Summary) (p : Phase) → PhaseHolds p → NextHolds p next → ((q : Phase) → next ≡ Some q → PhaseHolds q × IsAnswering q)
+      → (node_moves capacity previous next e p ≡ true) ⊎ (IsStopped capacity previous p ⊎ IsAnswering p)
+  under_answering previous next e Fresh hp l w = inl refl
+  under_answering previous next e (Answers a f) hp l w = inr (inr tt)
+  under_answering previous next e (Asks a) hp l w = by (asking_goes (asking_links capacity false previous next a) a hp.0 (waits next l w)) where
+    waits : (next : Option Phase) → NextHolds (Asks a) next → ((q : Phase) → next ≡ Some q → PhaseHolds q × IsAnswering q)
+        → is_ended a.got ≡ false → is_some (item_from asks_sent_in a.got next) ≡ true
     waits None l w running = true-false (sym l ∙ running)
     waits (Some Fresh) l w running = absurd (w Fresh refl).1
     waits (Some (Asks b)) l w running = absurd (w (Asks b) refl).1
     waits (Some (Answers b f)) l w running = end_waits a.got b.sent l.asks running (w (Answers b f) refl).0.0
 
-    by : Goes (asking_need a) (asking_links capacity false before behind a) → (node_moves capacity before behind e (Asks a) ≡ true) ⊎ (IsStopped capacity before (Asks a) ⊎ IsAnswering (Asks a))
+    by : Goes (asking_need a) (asking_links capacity false previous next a) → (node_moves capacity previous next e (Asks a) ≡ true) ⊎ (IsStopped capacity previous (Asks a) ⊎ IsAnswering (Asks a))
     by (inl m) = inl m
     by (inr s) = inr (inl s)
 
   -- some event moves, or the first of these nodes is stopped, or none asks
-  down : (before : Option Phase) (ns : List NodeState) → NodesHold before ns → Moves capacity before ns ⊎ (Stopped capacity before ns ⊎ AllAnswering ns)
-  down before [] h = inr (inr tt)
-  down before (n ∷ []) h = by (under_answering before None n.summary n.phase h.0 h.2 (λ q same. cc)) where
-    by : (node_moves capacity before None n.summary n.phase ≡ true) ⊎ (IsStopped capacity before n.phase ⊎ IsAnswering n.phase) → Moves capacity before (n ∷ []) ⊎ (Stopped capacity before (n ∷ []) ⊎ AllAnswering (n ∷ []))
+  down : (previous : Option Phase) (ns : List NodeState) → NodesHold previous ns → Moves capacity previous ns ⊎ (Stopped capacity previous ns ⊎ AllAnswering ns)
+  down previous [] h = inr (inr tt)
+  down previous (n ∷ []) h = by (under_answering previous None n.summary n.phase h.0 h.2 (λ q same. cc)) where
+    by : (node_moves capacity previous None n.summary n.phase ≡ true) ⊎ (IsStopped capacity previous n.phase ⊎ IsAnswering n.phase) → Moves capacity previous (n ∷ []) ⊎ (Stopped capacity previous (n ∷ []) ⊎ AllAnswering (n ∷ []))
     by (inl m) = inl (zero, m)
     by (inr (inl s)) = inr (inl s)
     by (inr (inr a)) = inr (inr (a, tt))
-  down before (n ∷ b ∷ ns) h = on (down (Some n.phase) (b ∷ ns) h.2) where
-    stopped : (node_moves capacity before (Some b.phase) n.summary n.phase ≡ true) ⊎ IsStopped capacity before n.phase → Moves capacity before (n ∷ b ∷ ns) ⊎ (Stopped capacity before (n ∷ b ∷ ns) ⊎ AllAnswering (n ∷ b ∷ ns))
+  down previous (n ∷ b ∷ ns) h = on (down (Some n.phase) (b ∷ ns) h.2) where
+    stopped : (node_moves capacity previous (Some b.phase) n.summary n.phase ≡ true) ⊎ IsStopped capacity previous n.phase → Moves capacity previous (n ∷ b ∷ ns) ⊎ (Stopped capacity previous (n ∷ b ∷ ns) ⊎ AllAnswering (n ∷ b ∷ ns))
     stopped (inl m) = inl (zero, m)
     stopped (inr s) = inr (inl s)
 
-    answering : AllAnswering (b ∷ ns) → (node_moves capacity before (Some b.phase) n.summary n.phase ≡ true) ⊎ (IsStopped capacity before n.phase ⊎ IsAnswering n.phase)
-        → Moves capacity before (n ∷ b ∷ ns) ⊎ (Stopped capacity before (n ∷ b ∷ ns) ⊎ AllAnswering (n ∷ b ∷ ns))
+    answering : AllAnswering (b ∷ ns) → (node_moves capacity previous (Some b.phase) n.summary n.phase ≡ true) ⊎ (IsStopped capacity previous n.phase ⊎ IsAnswering n.phase)
+        → Moves capacity previous (n ∷ b ∷ ns) ⊎ (Stopped capacity previous (n ∷ b ∷ ns) ⊎ AllAnswering (n ∷ b ∷ ns))
     answering a (inl m) = inl (zero, m)
     answering a (inr (inl s)) = inr (inl s)
     answering a (inr (inr x)) = inr (inr (x, a))
 
     on : Moves capacity (Some n.phase) (b ∷ ns) ⊎ (Stopped capacity (Some n.phase) (b ∷ ns) ⊎ AllAnswering (b ∷ ns))
-        → Moves capacity before (n ∷ b ∷ ns) ⊎ (Stopped capacity before (n ∷ b ∷ ns) ⊎ AllAnswering (n ∷ b ∷ ns))
+        → Moves capacity previous (n ∷ b ∷ ns) ⊎ (Stopped capacity previous (n ∷ b ∷ ns) ⊎ AllAnswering (n ∷ b ∷ ns))
     on (inl m) = inl (suc m.0, m.1)
-    on (inr (inl s)) = stopped (under_stopped before n.summary n.phase b.phase h.0 h.2.0 h.2.1 s)
-    on (inr (inr a)) = answering a (under_answering before (Some b.phase) n.summary n.phase h.0 h.2.1
+    on (inr (inl s)) = stopped (under_stopped previous n.summary n.phase b.phase h.0 h.2.0 h.2.1 s)
+    on (inr (inr a)) = answering a (under_answering previous (Some b.phase) n.summary n.phase h.0 h.2.1
         (λ q same. (subst PhaseHolds (inside same) h.2.0, subst IsAnswering (inside same) a.0))) where
           inside : {p q : Phase} → Some p ≡ Some q → p ≡ q
           inside same = cc
 
   -- ---- once all nodes answer
 
-  go_up : (before behind : Option Phase) (e : Summary) (p : Phase) → Hears before p → (node_moves capacity before behind e p ≡ true) ⊎ IsFull capacity behind p
-  go_up before behind e Fresh t = absurd t
-  go_up before behind e (Asks a) t = absurd t
-  go_up before behind e (Answers a f) t = answering_goes (answering_links capacity false before behind f) e a.asked f t.0 t.1
+  go_up : (previous next : Option Phase) (e : Summary) (p : Phase) → CanAnswer previous p → (node_moves capacity previous next e p ≡ true) ⊎ IsFull capacity next p
+  go_up previous next e Fresh t = absurd t
+  go_up previous next e (Asks a) t = absurd t
+  go_up previous next e (Answers a f) t = answering_goes (answering_links capacity false previous next f) e a.asked f t.0 t.1
 
-  -- the node behind a full link is not done, and has an item to get
-  hears_too : (before : Option Phase) (p q : Phase) → PhaseHolds p → PhaseHolds q → LinkHolds p q → Hears before p → IsAnswering q → IsFull capacity (Some q) p → Hears (Some p) q
-  hears_too before Fresh q hp hq l t x s = absurd t
-  hears_too before (Asks a) q hp hq l t x s = absurd t
-  hears_too before (Answers a f) Fresh hp hq l t x s = absurd x
-  hears_too before (Answers a f) (Asks b) hp hq l t x s = absurd x
-  hears_too before (Answers a f) (Answers b g) hp hq l t x s = by g.is_over refl where
-    by : (over : Bool) → g.is_over ≡ over → Hears (Some (Answers a f)) (Answers b g)
+  -- the next node after a full link is not done, and has an item to get
+  can_answer_too : (previous : Option Phase) (p q : Phase) → PhaseHolds p → PhaseHolds q → LinkHolds p q → CanAnswer previous p → IsAnswering q → IsFull capacity (Some q) p → CanAnswer (Some p) q
+  can_answer_too previous Fresh q hp hq l t x s = absurd t
+  can_answer_too previous (Asks a) q hp hq l t x s = absurd t
+  can_answer_too previous (Answers a f) Fresh hp hq l t x s = absurd x
+  can_answer_too previous (Answers a f) (Asks b) hp hq l t x s = absurd x
+  can_answer_too previous (Answers a f) (Answers b g) hp hq l t x s = by g.is_over refl where
+    by : (over : Bool) → g.is_over ≡ over → CanAnswer (Some (Answers a f)) (Answers b g)
     by true o = true-false (sym (end_was_sent g.got f.sent l.answers (hq.2.over o).1) ∙ (hp.2.running t.0).0)
     by false o = (o, λ running. full_waits g.got f.sent l.answers capacity c s)
 
@@ -212,45 +212,45 @@ module _ (capacity : ℕ) (c : 0 < capacity) where
   room_at_last (Asks a) s = s
   room_at_last (Answers a f) s = true-false s
 
-  up : (before : Option Phase) (n : NodeState) (ns : List NodeState) → NodesHold before (n ∷ ns) → Hears before n.phase → AllAnswering ns → Moves capacity before (n ∷ ns)
-  up before n [] h t all = by (go_up before None n.summary n.phase t) where
-    by : (node_moves capacity before None n.summary n.phase ≡ true) ⊎ IsFull capacity None n.phase → Moves capacity before (n ∷ [])
+  up : (previous : Option Phase) (n : NodeState) (ns : List NodeState) → NodesHold previous (n ∷ ns) → CanAnswer previous n.phase → AllAnswering ns → Moves capacity previous (n ∷ ns)
+  up previous n [] h t all = by (go_up previous None n.summary n.phase t) where
+    by : (node_moves capacity previous None n.summary n.phase ≡ true) ⊎ IsFull capacity None n.phase → Moves capacity previous (n ∷ [])
     by (inl m) = (zero, m)
     by (inr s) = absurd (room_at_last n.phase s)
-  up before n (b ∷ ns) h t all = by (go_up before (Some b.phase) n.summary n.phase t) (λ s. up (Some n.phase) b ns h.2 (hears_too before n.phase b.phase h.0 h.2.0 h.2.1 t all.0 s) all.1) where
-    by : (node_moves capacity before (Some b.phase) n.summary n.phase ≡ true) ⊎ IsFull capacity (Some b.phase) n.phase → (IsFull capacity (Some b.phase) n.phase → Moves capacity (Some n.phase) (b ∷ ns))
-        → Moves capacity before (n ∷ b ∷ ns)
+  up previous n (b ∷ ns) h t all = by (go_up previous (Some b.phase) n.summary n.phase t) (λ s. up (Some n.phase) b ns h.2 (can_answer_too previous n.phase b.phase h.0 h.2.0 h.2.1 t all.0 s) all.1) where
+    by : (node_moves capacity previous (Some b.phase) n.summary n.phase ≡ true) ⊎ IsFull capacity (Some b.phase) n.phase → (IsFull capacity (Some b.phase) n.phase → Moves capacity (Some n.phase) (b ∷ ns))
+        → Moves capacity previous (n ∷ b ∷ ns)
     by (inl m) rest = (zero, m)
     by (inr s) rest = let m = rest s in (suc m.0, m.1)
 
   -- a node that answers is done, or it hears, where what comes before it is done
-  done_or_hears : (before : Option Phase) (p : Phase) → PhaseHolds p → BeforeHolds before p → IsAnswering p → ((q : Phase) → before ≡ Some q → is_ended (answers_sent_in q) ≡ true)
-      → ((is_done p ≡ true) × (is_ended (answers_sent_in p) ≡ true)) ⊎ Hears before p
-  done_or_hears before Fresh h l x d = absurd x
-  done_or_hears before (Asks a) h l x d = absurd x
-  done_or_hears before (Answers a f) h l x d = by f.is_over refl where
-    waits : (before : Option Phase) → BeforeHolds before (Answers a f) → ((q : Phase) → before ≡ Some q → is_ended (answers_sent_in q) ≡ true)
-        → is_ended f.got ≡ false → is_some (item_from answers_sent_in f.got before) ≡ true
+  done_or_can_answer : (previous : Option Phase) (p : Phase) → PhaseHolds p → PreviousHolds previous p → IsAnswering p → ((q : Phase) → previous ≡ Some q → is_ended (answers_sent_in q) ≡ true)
+      → ((is_done p ≡ true) × (is_ended (answers_sent_in p) ≡ true)) ⊎ CanAnswer previous p
+  done_or_can_answer previous Fresh h l x d = absurd x
+  done_or_can_answer previous (Asks a) h l x d = absurd x
+  done_or_can_answer previous (Answers a f) h l x d = by f.is_over refl where
+    waits : (previous : Option Phase) → PreviousHolds previous (Answers a f) → ((q : Phase) → previous ≡ Some q → is_ended (answers_sent_in q) ≡ true)
+        → is_ended f.got ≡ false → is_some (item_from answers_sent_in f.got previous) ≡ true
     waits None l d running = true-false (sym l ∙ running)
     waits (Some q) l d running = end_waits f.got (answers_sent_in q) l.answers running (d q refl)
 
-    by : (over : Bool) → f.is_over ≡ over → ((f.is_over ≡ true) × (is_ended f.sent ≡ true)) ⊎ Hears before (Answers a f)
+    by : (over : Bool) → f.is_over ≡ over → ((f.is_over ≡ true) × (is_ended f.sent ≡ true)) ⊎ CanAnswer previous (Answers a f)
     by true o = inl (o, (h.2.over o).0)
-    by false o = inr (o, waits before l d)
+    by false o = inr (o, waits previous l d)
 
-  seek : (before : Option Phase) (ns : List NodeState) → NodesHold before ns → AllAnswering ns → ((q : Phase) → before ≡ Some q → is_ended (answers_sent_in q) ≡ true) → AllDone ns ⊎ Moves capacity before ns
-  seek before [] h all d = inl tt
-  seek before (n ∷ ns) h all d = by (done_or_hears before n.phase h.0 h.1 all.0 d) (seek (Some n.phase) ns h.2 all.1) where
-    rest : is_done n.phase ≡ true → AllDone ns ⊎ Moves capacity (Some n.phase) ns → AllDone (n ∷ ns) ⊎ Moves capacity before (n ∷ ns)
+  seek : (previous : Option Phase) (ns : List NodeState) → NodesHold previous ns → AllAnswering ns → ((q : Phase) → previous ≡ Some q → is_ended (answers_sent_in q) ≡ true) → AllDone ns ⊎ Moves capacity previous ns
+  seek previous [] h all d = inl tt
+  seek previous (n ∷ ns) h all d = by (done_or_can_answer previous n.phase h.0 h.1 all.0 d) (seek (Some n.phase) ns h.2 all.1) where
+    rest : is_done n.phase ≡ true → AllDone ns ⊎ Moves capacity (Some n.phase) ns → AllDone (n ∷ ns) ⊎ Moves capacity previous (n ∷ ns)
     rest x (inl all) = inl (x, all)
     rest x (inr m) = inr (suc m.0, m.1)
 
-    by : ((is_done n.phase ≡ true) × (is_ended (answers_sent_in n.phase) ≡ true)) ⊎ Hears before n.phase
-        → (((q : Phase) → Some n.phase ≡ Some q → is_ended (answers_sent_in q) ≡ true) → AllDone ns ⊎ Moves capacity (Some n.phase) ns) → AllDone (n ∷ ns) ⊎ Moves capacity before (n ∷ ns)
+    by : ((is_done n.phase ≡ true) × (is_ended (answers_sent_in n.phase) ≡ true)) ⊎ CanAnswer previous n.phase
+        → (((q : Phase) → Some n.phase ≡ Some q → is_ended (answers_sent_in q) ≡ true) → AllDone ns ⊎ Moves capacity (Some n.phase) ns) → AllDone (n ∷ ns) ⊎ Moves capacity previous (n ∷ ns)
     by (inl x) next = rest x.0 (next (λ q same. subst (λ (p : Phase). is_ended (answers_sent_in p) ≡ true) (inside same) x.1)) where
       inside : {p q : Phase} → Some p ≡ Some q → p ≡ q
       inside same = cc
-    by (inr t) next = inr (up before n ns h t all.1)
+    by (inr t) next = inr (up previous n ns h t all.1)
 
   room_at_first : (p : Phase) → IsStopped capacity None p → ⊥
   room_at_first Fresh s = s
@@ -291,11 +291,11 @@ module _ (first : Bool) (e : Summary) (links : Links) (a : Asking) where
   still_whole (l ∷ waiting) left ended s = still_push links.has_room l s
   still_whole [] (k ∷ left) ended s = true-false s
   still_whole [] [] true s = still_end links.has_room s
-  still_whole [] [] false s = still_item links.is_refused links.next s
+  still_whole [] [] false s = still_item links.is_refused links.item s
 
   still_broken : (ended : Bool) → is_met (item_or_room ended) links ≡ false → broken_asking links a ended ≡ a
   still_broken true s = still_end links.has_room s
-  still_broken false s = still_drop links.next s
+  still_broken false s = still_drop links.item s
 
   still_by : (over whole : Bool) → is_met (asking_need_by a over whole) links ≡ false → asking_by first e links a over whole ≡ a
   still_by true whole s = refl
@@ -328,11 +328,11 @@ module _ (e : Summary) (asked : List Loc) (links : Links) (f : Answering) where
 
   still_last : (ended : Bool) → is_met (last_need ended f.rows) links ≡ false → pop_or_end e asked links f ended ≡ f
   still_last true s = still_rows f.rows s
-  still_last false s = still_answer_item links.is_refused links.next s
+  still_last false s = still_answer_item links.is_refused links.item s
 
   still_request : (b : Bool) (l : Loc) (left : List Loc) → is_met (nothing_or_item b) links ≡ false → build_or_pop b e asked links f l left ≡ f
   still_request true l left s = true-false s
-  still_request false l left s = still_answer_item links.is_refused links.next s
+  still_request false l left s = still_answer_item links.is_refused links.item s
 
   still_answers : (sending : List Message) (left : List Loc) → is_met (whole_answering_need e asked f sending left) links ≡ false → whole_answering e asked links f sending left ≡ f
   still_answers (m ∷ sending) left s = still_answer_push links.has_room m sending s
@@ -341,7 +341,7 @@ module _ (e : Summary) (asked : List Loc) (links : Links) (f : Answering) where
 
   still_broken_answers : (ended : Bool) → is_met (item_or_room ended) links ≡ false → broken_answering links f ended ≡ f
   still_broken_answers true s = still_answer_end links.has_room s
-  still_broken_answers false s = still_answer_drop links.next s
+  still_broken_answers false s = still_answer_drop links.item s
 
   still_answers_by : (over whole : Bool) → is_met (answering_need_by e asked f over whole) links ≡ false → answering_by e asked links f over whole ≡ f
   still_answers_by true whole s = refl

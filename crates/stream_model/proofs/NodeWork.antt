@@ -16,7 +16,7 @@ use Rattle.epoch_model.specs.Crossing.{crossing_at}
 use Rattle.stream_model.specs.Streams.{requests, answer, Node, AreDone, summaries}
 use Rattle.stream_model.specs.StreamLaws.{answers_to, LinksCarry}
 use Rattle.stream_model.specs.Passes.{got_at_start}
-use Rattle.stream_model.specs.Work.{many_got, work_in_all, asked_in_all, listed, listed_in_all, EndsBehind, DoneNodesWork}
+use Rattle.stream_model.specs.Work.{many_got, work_in_all, asked_in_all, listed, listed_in_all, EndsPastLast, DoneNodesWork}
 use Rattle.stream_model.proofs.Meeting.{asks_back, done_nodes_meet}
 use Rattle.stream_model.proofs.Moves.{one_longer}
 
@@ -46,7 +46,7 @@ answers_length policy trace c (l ∷ ls) =
 -- ---- the sum
 
 module _ (q : Query) (trace : List StepSeen) where
-  total : (first : Bool) (s : ℕ) (cs : List ℕ) (n : Node) (ns : List Node) → AreDone first (n ∷ ns) → AreSummaries q trace s cs (summaries (n ∷ ns)) → LinksCarry q trace cs (n ∷ ns) → EndsBehind (n ∷ ns)
+  total : (first : Bool) (s : ℕ) (cs : List ℕ) (n : Node) (ns : List Node) → AreDone first (n ∷ ns) → AreSummaries q trace s cs (summaries (n ∷ ns)) → LinksCarry q trace cs (n ∷ ns) → EndsPastLast (n ∷ ns)
       → work_in_all first (n ∷ ns) + 3 ≡ length n.asks_sent + many_got first n.answers_got + 6 * length (n ∷ ns) + length (flat_map (λ m. m.rows) (n ∷ ns))
       + 5 * asked_in_all q trace cs + 2 * listed_in_all q trace cs
   total first s [] n ns d i l e = absurd i

@@ -24,7 +24,7 @@ use Rattle.stream_model.proofs.Growing.{prefix_same, prefix_trans, added_all_kee
 -- ---- parts of a list
 
 module _ {X : Type 0} where
-  -- the next item behind the first n
+  -- the next item after the first n
   one_more : (n : ℕ) (xs : List X) (x : X) (rest : List X) → drop n xs ≡ x ∷ rest → (take (n + 1) xs ≡ take n xs ++ x ∷ []) × (n + 1 ≤ length xs)
   one_more zero [] x rest e = cc
   one_more zero (y ∷ ys) x rest e =
@@ -153,11 +153,11 @@ module _ (first last : Bool) (e : Summary) (links : Links) (a : Asking) (h : Ask
       → (whole_asking first e links a waiting left ended).is_whole ≡ true → AskingHolds first last e (whole_asking first e links a waiting left ended)
   on_whole o (x ∷ waiting) w left l ended d t = on_push links.has_room x waiting o w
   on_whole o [] w (k ∷ left) l ended d t = on_walk links.is_refused k left o l t
-  on_whole o [] w [] l false d t = on_pop links.is_refused links.next o l d t
+  on_whole o [] w [] l false d t = on_pop links.is_refused links.item o l d t
   on_whole o [] w [] l true d t = on_end links.has_room o w l d
 
 pub stays_broken : (links : Links) (a : Asking) (ended : Bool) → (broken_asking links a ended).is_whole ≡ a.is_whole
-stays_broken links a false = by links.next where
+stays_broken links a false = by links.item where
   by : (next : Option Message) → (drop_ask a next).is_whole ≡ a.is_whole
   by None = refl
   by (Some m) = refl
@@ -291,7 +291,7 @@ module _ (first : Bool) (e : Summary) (asked ls : List Loc) (links : Links) (f :
 
   on_request : (b : Bool) (l : Loc) (left : List Loc) → f.is_over ≡ false → f.sending ≡ [] → f.left ≡ l ∷ left → is_resolvable asked f.got (e.ends l) ≡ b
       → (build_or_pop b e asked links f l left).is_whole ≡ true → AnsweringHolds first e asked ls (build_or_pop b e asked links f l left)
-  on_request false l left o s w r t = on_receive links.is_refused links.next o (or_parts (is_ended f.got) _ r).0 t
+  on_request false l left o s w r t = on_receive links.is_refused links.item o (or_parts (is_ended f.got) _ r).0 t
   on_request true l left o s w r t = on_build links.is_refused l left o s w r t
 
   on_resolve : (refused : Bool) → f.is_over ≡ false → is_ended f.got ≡ true → (resolve refused e asked f).is_whole ≡ true → AnsweringHolds first e asked ls (resolve refused e asked f)
@@ -325,7 +325,7 @@ module _ (first : Bool) (e : Summary) (asked ls : List Loc) (links : Links) (f :
     }
 
   on_end_or_pop : (b : Bool) → is_ended f.got ≡ b → f.is_over ≡ false → f.sending ≡ [] → f.left ≡ [] → (pop_or_end e asked links f b).is_whole ≡ true → AnsweringHolds first e asked ls (pop_or_end e asked links f b)
-  on_end_or_pop false d o s w t = on_receive links.is_refused links.next o d t
+  on_end_or_pop false d o s w t = on_receive links.is_refused links.item o d t
   on_end_or_pop true d o s w t = on_rows f.rows refl o s w d t
 
   on_whole_answering : f.is_over ≡ false → (sending : List Message) → f.sending ≡ sending → (left : List Loc) → f.left ≡ left
@@ -335,7 +335,7 @@ module _ (first : Bool) (e : Summary) (asked ls : List Loc) (links : Links) (f :
   on_whole_answering o [] s [] w t = on_end_or_pop (is_ended f.got) refl o s w t
 
 pub answering_stays_broken : (links : Links) (f : Answering) (ended : Bool) → (broken_answering links f ended).is_whole ≡ f.is_whole
-answering_stays_broken links f false = by links.next where
+answering_stays_broken links f false = by links.item where
   by : (next : Option Message) → (drop_answer f next).is_whole ≡ f.is_whole
   by None = refl
   by (Some m) = refl

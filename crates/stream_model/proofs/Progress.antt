@@ -62,11 +62,11 @@ module _ (first : Bool) (e : Summary) (links : Links) (a : Asking) where
   whole_on w (l ∷ waiting) left s ended = push_on links.has_room l
   whole_on w [] (k ∷ left) s ended = walk_on links.is_refused k left s w
   whole_on w [] [] s true = end_on links.has_room
-  whole_on w [] [] s false = pop_on links.is_refused links.next w
+  whole_on w [] [] s false = pop_on links.is_refused links.item w
 
   broken_on : (ended : Bool) → AsksForward a (broken_asking links a ended) (is_met (item_or_room ended) links)
   broken_on true = end_on links.has_room
-  broken_on false = drop_on links.next
+  broken_on false = drop_on links.item
 
   on_by : (over whole : Bool) → a.is_whole ≡ whole → AsksForward a (asking_by first e links a over whole) (is_met (asking_need_by a over whole) links)
   on_by true whole w = rest_on
@@ -103,11 +103,11 @@ module _ (first : Bool) (e : Summary) (links : Links) (a : Asking) where
   whole_no_more o t (l ∷ waiting) left ended = push_no_more links.has_room l t
   whole_no_more o t [] (k ∷ left) ended = walk_no_more links.is_refused k left
   whole_no_more o t [] [] true = end_no_more links.has_room o
-  whole_no_more o t [] [] false = pop_no_more links.is_refused links.next
+  whole_no_more o t [] [] false = pop_no_more links.is_refused links.item
 
   broken_no_more : a.is_over ≡ false → (ended : Bool) → AsksNoMore a (broken_asking links a ended)
   broken_no_more o true = end_no_more links.has_room o
-  broken_no_more o false = drop_no_more links.next
+  broken_no_more o false = drop_no_more links.item
 
   no_more_by : (over : Bool) → a.is_over ≡ over → (whole : Bool) → a.is_whole ≡ whole → AsksNoMore a (asking_by first e links a over whole)
   no_more_by true o whole t = λ w. inl refl
@@ -157,7 +157,7 @@ module _ (e : Summary) (asked : List Loc) (links : Links) (f : Answering) where
 
   answer_request : (b : Bool) (l : Loc) (left : List Loc) → f.left ≡ l ∷ left → f.is_whole ≡ true → AnswersForward f (build_or_pop b e asked links f l left) (is_met (nothing_or_item b) links)
   answer_request true l left s w = answer_build links.is_refused l left s w
-  answer_request false l left s w = answer_pop links.is_refused links.next w
+  answer_request false l left s w = answer_pop links.is_refused links.item w
 
   answer_resolve : (refused : Bool) → f.rows ≡ None → f.is_whole ≡ true → AnswersForward f (resolve refused e asked f) true
   answer_resolve true r w = let one = whole_counts f.is_whole w in omega (arith, one)
@@ -173,7 +173,7 @@ module _ (e : Summary) (asked : List Loc) (links : Links) (f : Answering) where
 
   answer_last : (ended : Bool) → f.is_whole ≡ true → AnswersForward f (pop_or_end e asked links f ended) (is_met (last_need ended f.rows) links)
   answer_last true w = answer_rows f.rows refl w
-  answer_last false w = answer_pop links.is_refused links.next w
+  answer_last false w = answer_pop links.is_refused links.item w
 
   answer_whole : f.is_whole ≡ true → (sending : List Message) (left : List Loc) → f.left ≡ left → AnswersForward f (whole_answering e asked links f sending left) (is_met (whole_answering_need e asked f sending left) links)
   answer_whole w (m ∷ sending) left s = answer_push links.has_room m sending
@@ -182,7 +182,7 @@ module _ (e : Summary) (asked : List Loc) (links : Links) (f : Answering) where
 
   answer_broken : (ended : Bool) → AnswersForward f (broken_answering links f ended) (is_met (item_or_room ended) links)
   answer_broken true = answer_end links.has_room
-  answer_broken false = answer_drop links.next
+  answer_broken false = answer_drop links.item
 
   answer_by : (over whole : Bool) → f.is_whole ≡ whole → AnswersForward f (answering_by e asked links f over whole) (is_met (answering_need_by e asked f over whole) links)
   answer_by true whole w = answer_rest
@@ -217,7 +217,7 @@ module _ (e : Summary) (asked : List Loc) (links : Links) (f : Answering) where
 
   silent_request : (b : Bool) (l : Loc) (left : List Loc) → AnswersNoMore f (build_or_pop b e asked links f l left)
   silent_request true l left = silent_build links.is_refused l left
-  silent_request false l left = silent_pop links.is_refused links.next
+  silent_request false l left = silent_pop links.is_refused links.item
 
   silent_resolve : (refused : Bool) → AnswersNoMore f (resolve refused e asked f)
   silent_resolve true w = inl refl
@@ -229,7 +229,7 @@ module _ (e : Summary) (asked : List Loc) (links : Links) (f : Answering) where
 
   silent_last : f.is_over ≡ false → (ended : Bool) → AnswersNoMore f (pop_or_end e asked links f ended)
   silent_last o true = silent_rows o f.rows
-  silent_last o false = silent_pop links.is_refused links.next
+  silent_last o false = silent_pop links.is_refused links.item
 
   silent_whole : f.is_over ≡ false → f.is_whole ≡ true → (sending : List Message) (left : List Loc) → AnswersNoMore f (whole_answering e asked links f sending left)
   silent_whole o t (m ∷ sending) left = silent_push links.has_room m sending t
@@ -238,7 +238,7 @@ module _ (e : Summary) (asked : List Loc) (links : Links) (f : Answering) where
 
   silent_broken : f.is_over ≡ false → (ended : Bool) → AnswersNoMore f (broken_answering links f ended)
   silent_broken o true = silent_end links.has_room o
-  silent_broken o false = silent_drop links.next
+  silent_broken o false = silent_drop links.item
 
   silent_by : (over : Bool) → f.is_over ≡ over → (whole : Bool) → f.is_whole ≡ whole → AnswersNoMore f (answering_by e asked links f over whole)
   silent_by true o whole t = λ w. inl refl
@@ -250,7 +250,7 @@ module _ (e : Summary) (asked : List Loc) (links : Links) (f : Answering) where
 
 -- ---- an event whose links have room and an item moves
 
-module _ (links : Links) (r : links.has_room ≡ true) (n : is_some links.next ≡ true) where
+module _ (links : Links) (r : links.has_room ≡ true) (n : is_some links.item ≡ true) where
   met_item_or_room : (ended : Bool) → is_met (item_or_room ended) links ≡ true
   met_item_or_room true = r
   met_item_or_room false = n

@@ -26,59 +26,59 @@ PassHolds first last e (Answers a f) =
     × (f.is_whole ≡ true → AnsweringHolds first e a.asked (requests a.got) f)
 
 abbrev pub RunHolds : Option Phase → List NodeState → Type 0
-RunHolds before [] = Unit {0}
-RunHolds before (n ∷ ns) = PassHolds (is_none before) (is_none (phase_of_first ns)) n.summary n.phase × RunHolds (Some n.phase) ns
+RunHolds previous [] = Unit {0}
+RunHolds previous (n ∷ ns) = PassHolds (is_none previous) (is_none (phase_of_first ns)) n.summary n.phase × RunHolds (Some n.phase) ns
 
 settled_keeps : (first last : Bool) (e : Summary) (b : Asking) → (b.is_whole ≡ true → AskingHolds first last e b) → (over : Bool) → b.is_over ≡ over → PassHolds first last e (settled_by over first b)
 settled_keeps first last e b kept true o = (o, (λ w. w), kept, λ w. answering_starts b.is_whole first e b.asked (requests b.got))
 settled_keeps first last e b kept false o = kept
 
 module _ (capacity : ℕ) (refused : Bool) where
-  pass_keeps : (before behind : Option Phase) (e : Summary) (p : Phase) → PassHolds (is_none before) (is_none behind) e p
-      → PassHolds (is_none before) (is_none behind) e (node_event capacity refused before behind e p)
-  pass_keeps before behind e Fresh h = by refused where
-    by : (b : Bool) → (begun b (is_none behind) e).is_whole ≡ true → AskingHolds (is_none before) (is_none behind) e (begun b (is_none behind) e)
+  pass_keeps : (previous next : Option Phase) (e : Summary) (p : Phase) → PassHolds (is_none previous) (is_none next) e p
+      → PassHolds (is_none previous) (is_none next) e (node_event capacity refused previous next e p)
+  pass_keeps previous next e Fresh h = by refused where
+    by : (b : Bool) → (begun b (is_none next) e).is_whole ≡ true → AskingHolds (is_none previous) (is_none next) e (begun b (is_none next) e)
     by true t = true-false (sym t)
-    by false t = asking_starts (is_none before) (is_none behind) e
-  pass_keeps before behind e (Asks a) h =
-      let links = asking_links capacity refused before behind a in
-      settled_keeps (is_none before) (is_none behind) e (asking_event (is_none before) e links a) (asking_keeps (is_none before) (is_none behind) e links a h) _ refl
-  pass_keeps before behind e (Answers a f) h =
-      let links = answering_links capacity refused before behind f in (
+    by false t = asking_starts (is_none previous) (is_none next) e
+  pass_keeps previous next e (Asks a) h =
+      let links = asking_links capacity refused previous next a in
+      settled_keeps (is_none previous) (is_none next) e (asking_event (is_none previous) e links a) (asking_keeps (is_none previous) (is_none next) e links a h) _ refl
+  pass_keeps previous next e (Answers a f) h =
+      let links = answering_links capacity refused previous next f in (
         h.0,
         (λ w. h.1 (begun_whole e a.asked (links ∷ []) f w)),
         h.2,
-        answering_keeps (is_none before) e a.asked (requests a.got) links f h.3,
+        answering_keeps (is_none previous) e a.asked (requests a.got) links f h.3,
       )
 
-  pub as_many : (k : ℕ) (before : Option Phase) (ns : List NodeState) → is_none (phase_of_first (event_at capacity refused k before ns)) ≡ is_none (phase_of_first ns)
-  as_many k before [] = refl
-  as_many zero before (n ∷ ns) = refl
-  as_many (suc k) before (n ∷ ns) = refl
+  pub as_many : (k : ℕ) (previous : Option Phase) (ns : List NodeState) → is_none (phase_of_first (event_at capacity refused k previous ns)) ≡ is_none (phase_of_first ns)
+  as_many k previous [] = refl
+  as_many zero previous (n ∷ ns) = refl
+  as_many (suc k) previous (n ∷ ns) = refl
 
   -- what stands before a node counts only where there is nothing
-  before_any : (p q : Phase) (ns : List NodeState) → RunHolds (Some p) ns → RunHolds (Some q) ns
-  before_any p q [] h = h
-  before_any p q (n ∷ ns) h = h
+  previous_any : (p q : Phase) (ns : List NodeState) → RunHolds (Some p) ns → RunHolds (Some q) ns
+  previous_any p q [] h = h
+  previous_any p q (n ∷ ns) h = h
 
-  run_keeps : (k : ℕ) (before : Option Phase) (ns : List NodeState) → RunHolds before ns → RunHolds before (event_at capacity refused k before ns)
-  run_keeps k before [] h = h
-  run_keeps zero before (n ∷ ns) h = (pass_keeps before (phase_of_first ns) n.summary n.phase h.0, before_any n.phase _ ns h.1)
-  run_keeps (suc k) before (n ∷ ns) h =
-      (subst (λ (last : Bool). PassHolds (is_none before) last n.summary n.phase) (sym (as_many k (Some n.phase) ns)) h.0, run_keeps k (Some n.phase) ns h.1)
+  run_keeps : (k : ℕ) (previous : Option Phase) (ns : List NodeState) → RunHolds previous ns → RunHolds previous (event_at capacity refused k previous ns)
+  run_keeps k previous [] h = h
+  run_keeps zero previous (n ∷ ns) h = (pass_keeps previous (phase_of_first ns) n.summary n.phase h.0, previous_any n.phase _ ns h.1)
+  run_keeps (suc k) previous (n ∷ ns) h =
+      (subst (λ (last : Bool). PassHolds (is_none previous) last n.summary n.phase) (sym (as_many k (Some n.phase) ns)) h.0, run_keeps k (Some n.phase) ns h.1)
 
-  same_summaries : (k : ℕ) (before : Option Phase) (ns : List NodeState) → summaries (map node_in (event_at capacity refused k before ns)) ≡ summaries (map node_in ns)
-  same_summaries k before [] = refl
-  same_summaries zero before (n ∷ ns) = refl
-  same_summaries (suc k) before (n ∷ ns) = ap (λ (es : List Summary). n.summary ∷ es) (same_summaries k (Some n.phase) ns)
+  same_summaries : (k : ℕ) (previous : Option Phase) (ns : List NodeState) → summaries (map node_in (event_at capacity refused k previous ns)) ≡ summaries (map node_in ns)
+  same_summaries k previous [] = refl
+  same_summaries zero previous (n ∷ ns) = refl
+  same_summaries (suc k) previous (n ∷ ns) = ap (λ (es : List Summary). n.summary ∷ es) (same_summaries k (Some n.phase) ns)
 
 pub run_holds : (capacity : ℕ) (schedule : List Event) (ns : List NodeState) → RunHolds None ns → RunHolds None (nodes_after capacity schedule ns)
 run_holds capacity [] ns h = h
 run_holds capacity (m ∷ ms) ns h = run_holds capacity ms (event_at capacity m.is_refused m.node None ns) (run_keeps capacity m.is_refused m.node None ns h)
 
-pub run_starts : (before : Option Phase) (es : List Summary) → RunHolds before (nodes_start es)
-run_starts before [] = tt
-run_starts before (e ∷ es) = (tt, run_starts (Some Fresh) es)
+pub run_starts : (previous : Option Phase) (es : List Summary) → RunHolds previous (nodes_start es)
+run_starts previous [] = tt
+run_starts previous (e ∷ es) = (tt, run_starts (Some Fresh) es)
 
 pub kept_summaries : (capacity : ℕ) (schedule : List Event) (ns : List NodeState) → summaries (map node_in (nodes_after capacity schedule ns)) ≡ summaries (map node_in ns)
 kept_summaries capacity [] ns = refl
@@ -140,12 +140,12 @@ AllDone ns = AllByRecursion (λ n. is_done n.phase ≡ true) ns
 abbrev pub AllWhole : List NodeState → Type 0
 AllWhole ns = AllByRecursion (λ n. is_whole_in n.phase ≡ true) ns
 
-pub are_done : (before : Option Phase) (n : NodeState) (ns : List NodeState) → NodesHold before (n ∷ ns) → RunHolds before (n ∷ ns) → AllDone (n ∷ ns) → AllWhole (n ∷ ns) → AreDone (is_none before) (map node_in (n ∷ ns))
-are_done before n [] h r d w = let x = facts (is_none before) true n.summary n.phase r.0 d.0 w.0 in (x.done, x.at_last refl)
-are_done before n (b ∷ ns) h r d w =
-    let x = facts (is_none before) false n.summary n.phase r.0 d.0 w.0 in
+pub are_done : (previous : Option Phase) (n : NodeState) (ns : List NodeState) → NodesHold previous (n ∷ ns) → RunHolds previous (n ∷ ns) → AllDone (n ∷ ns) → AllWhole (n ∷ ns) → AreDone (is_none previous) (map node_in (n ∷ ns))
+are_done previous n [] h r d w = let x = facts (is_none previous) true n.summary n.phase r.0 d.0 w.0 in (x.done, x.at_last refl)
+are_done previous n (b ∷ ns) h r d w =
+    let x = facts (is_none previous) false n.summary n.phase r.0 d.0 w.0 in
     let y = facts false (is_none (phase_of_first ns)) b.summary b.phase r.1.0 d.1.0 w.1.0 in
-    let both = linked (is_none before) (is_none (phase_of_first ns)) n b x y h.2.1 in
+    let both = linked (is_none previous) (is_none (phase_of_first ns)) n b x y h.2.1 in
     (x.done, both.0, both.1, are_done (Some n.phase) b ns h.2 r.1 d.1 w.1)
 
 pub all_are_done : (ns : List NodeState) → NodesHold None ns → RunHolds None ns → AllDone ns → AllWhole ns → AreAllDone (map node_in ns)

@@ -10,7 +10,7 @@ use Rattle.epoch_model.specs.Summary.{Summary, AreSummaries}
 use Rattle.epoch_model.specs.Join.{resolved_row}
 use Rattle.stream_model.specs.Streams.{requests, heard, answers_for, end_if}
 use Rattle.stream_model.specs.Passes.{Asking, got_at_start, asking_event, rows_or_none}
-use Rattle.stream_model.specs.Work.{node_work, work_in_all, EndsBehind, EndsOutside}
+use Rattle.stream_model.specs.Work.{node_work, work_in_all, EndsPastLast, EndsOutside}
 use Rattle.stream_model.specs.Schedules.{Phase, Fresh, Asks, Answers, NodeState, Event, asking_links, answering_links, begun, settled_by, node_event, phase_of_first, event_at, nodes_start, nodes_after, node_moves, moves_at, is_done, is_whole_in, node_in}
 use Rattle.stream_model.specs.ScheduleLaws.{one_if, moves_in, SameWork}
 use Rattle.stream_model.proofs.Passing.{begun_whole}
@@ -32,64 +32,64 @@ debt first last (Asks a) = length a.left + length (got_at_start last)
 debt first last (Answers a f) = length a.left + length (got_at_start last) + length f.left + length (got_at_start first)
 
 module _ (capacity : ℕ) (refused : Bool) where
-  node_count : (before behind : Option Phase) (e : Summary) (p : Phase) → is_whole_in (node_event capacity refused before behind e p) ≡ true
-      → gain e (node_event capacity refused before behind e p) + debt (is_none before) (is_none behind) p
-      ≡ gain e p + debt (is_none before) (is_none behind) (node_event capacity refused before behind e p) + one_if (node_moves capacity before behind e p)
-  node_count before behind e Fresh t = by refused t where
-    by : (b : Bool) → (begun b (is_none behind) e).is_whole ≡ true
-        → gain e (Asks (begun b (is_none behind) e)) + 0 ≡ 0 + debt (is_none before) (is_none behind) (Asks (begun b (is_none behind) e)) + 1
+  node_count : (previous next : Option Phase) (e : Summary) (p : Phase) → is_whole_in (node_event capacity refused previous next e p) ≡ true
+      → gain e (node_event capacity refused previous next e p) + debt (is_none previous) (is_none next) p
+      ≡ gain e p + debt (is_none previous) (is_none next) (node_event capacity refused previous next e p) + one_if (node_moves capacity previous next e p)
+  node_count previous next e Fresh t = by refused t where
+    by : (b : Bool) → (begun b (is_none next) e).is_whole ≡ true
+        → gain e (Asks (begun b (is_none next) e)) + 0 ≡ 0 + debt (is_none previous) (is_none next) (Asks (begun b (is_none next) e)) + 1
     by true t = true-false (sym t)
     by false t = omega arith
-  node_count before behind e (Asks a) t =
-      let links = asking_links capacity refused before behind a in
-      by (asking_event (is_none before) e links a) (λ w. count_asking (is_none before) e links a w) _ refl t where
-        by : (b : Asking) → (b.is_whole ≡ true → AskCount a b (node_moves capacity before behind e (Asks a))) → (over : Bool) → b.is_over ≡ over
-            → is_whole_in (settled_by over (is_none before) b) ≡ true
-            → gain e (settled_by over (is_none before) b) + debt (is_none before) (is_none behind) (Asks a)
-            ≡ gain e (Asks a) + debt (is_none before) (is_none behind) (settled_by over (is_none before) b) + one_if (node_moves capacity before behind e (Asks a))
+  node_count previous next e (Asks a) t =
+      let links = asking_links capacity refused previous next a in
+      by (asking_event (is_none previous) e links a) (λ w. count_asking (is_none previous) e links a w) _ refl t where
+        by : (b : Asking) → (b.is_whole ≡ true → AskCount a b (node_moves capacity previous next e (Asks a))) → (over : Bool) → b.is_over ≡ over
+            → is_whole_in (settled_by over (is_none previous) b) ≡ true
+            → gain e (settled_by over (is_none previous) b) + debt (is_none previous) (is_none next) (Asks a)
+            ≡ gain e (Asks a) + debt (is_none previous) (is_none next) (settled_by over (is_none previous) b) + one_if (node_moves capacity previous next e (Asks a))
         by b c true o t = let count = c t in omega (arith, count)
         by b c false o t = let count = c t in omega (arith, count)
-  node_count before behind e (Answers a f) t =
-      let count = count_answering e a.asked (answering_links capacity refused before behind f) f t in omega (arith, count)
+  node_count previous next e (Answers a f) t =
+      let count = count_answering e a.asked (answering_links capacity refused previous next f) f t in omega (arith, count)
 
-  node_whole : (before behind : Option Phase) (e : Summary) (p : Phase) → is_whole_in (node_event capacity refused before behind e p) ≡ true → is_whole_in p ≡ true
-  node_whole before behind e Fresh t = refl
-  node_whole before behind e (Asks a) t =
-      let links = asking_links capacity refused before behind a in
-      by (asking_event (is_none before) e links a) (whole_asking_before (is_none before) e links a) _ t where
-        by : (b : Asking) → (b.is_whole ≡ true → a.is_whole ≡ true) → (over : Bool) → is_whole_in (settled_by over (is_none before) b) ≡ true → a.is_whole ≡ true
+  node_whole : (previous next : Option Phase) (e : Summary) (p : Phase) → is_whole_in (node_event capacity refused previous next e p) ≡ true → is_whole_in p ≡ true
+  node_whole previous next e Fresh t = refl
+  node_whole previous next e (Asks a) t =
+      let links = asking_links capacity refused previous next a in
+      by (asking_event (is_none previous) e links a) (whole_asking_before (is_none previous) e links a) _ t where
+        by : (b : Asking) → (b.is_whole ≡ true → a.is_whole ≡ true) → (over : Bool) → is_whole_in (settled_by over (is_none previous) b) ≡ true → a.is_whole ≡ true
         by b c true t = c t
         by b c false t = c t
-  node_whole before behind e (Answers a f) t = begun_whole e a.asked (answering_links capacity refused before behind f ∷ []) f t
+  node_whole previous next e (Answers a f) t = begun_whole e a.asked (answering_links capacity refused previous next f ∷ []) f t
 
 abbrev gain_all : List NodeState → ℕ
 gain_all [] = 0
 gain_all (n ∷ ns) = gain n.summary n.phase + gain_all ns
 
 abbrev debt_all : Option Phase → List NodeState → ℕ
-debt_all before [] = 0
-debt_all before (n ∷ ns) = debt (is_none before) (is_none (phase_of_first ns)) n.phase + debt_all (Some n.phase) ns
+debt_all previous [] = 0
+debt_all previous (n ∷ ns) = debt (is_none previous) (is_none (phase_of_first ns)) n.phase + debt_all (Some n.phase) ns
 
 module _ (capacity : ℕ) where
-  whole_before : (refused : Bool) (k : ℕ) (before : Option Phase) (ns : List NodeState) → AllWhole (event_at capacity refused k before ns) → AllWhole ns
-  whole_before refused k before [] w = tt
-  whole_before refused zero before (n ∷ ns) w = (node_whole capacity refused before (phase_of_first ns) n.summary n.phase w.0, w.1)
-  whole_before refused (suc k) before (n ∷ ns) w = (w.0, whole_before refused k (Some n.phase) ns w.1)
+  whole_before : (refused : Bool) (k : ℕ) (previous : Option Phase) (ns : List NodeState) → AllWhole (event_at capacity refused k previous ns) → AllWhole ns
+  whole_before refused k previous [] w = tt
+  whole_before refused zero previous (n ∷ ns) w = (node_whole capacity refused previous (phase_of_first ns) n.summary n.phase w.0, w.1)
+  whole_before refused (suc k) previous (n ∷ ns) w = (w.0, whole_before refused k (Some n.phase) ns w.1)
 
-  any_before : (p q : Phase) (ns : List NodeState) → debt_all (Some p) ns ≡ debt_all (Some q) ns
-  any_before p q [] = refl
-  any_before p q (n ∷ ns) = refl
+  any_previous : (p q : Phase) (ns : List NodeState) → debt_all (Some p) ns ≡ debt_all (Some q) ns
+  any_previous p q [] = refl
+  any_previous p q (n ∷ ns) = refl
 
-  count_at : (refused : Bool) (k : ℕ) (before : Option Phase) (ns : List NodeState) → AllWhole (event_at capacity refused k before ns)
-      → gain_all (event_at capacity refused k before ns) + debt_all before ns ≡ gain_all ns + debt_all before (event_at capacity refused k before ns) + one_if (moves_at capacity k before ns)
-  count_at refused k before [] w = refl
-  count_at refused zero before (n ∷ ns) w =
-      let count = node_count capacity refused before (phase_of_first ns) n.summary n.phase w.0 in
-      let same = any_before n.phase (node_event capacity refused before (phase_of_first ns) n.summary n.phase) ns in
+  count_at : (refused : Bool) (k : ℕ) (previous : Option Phase) (ns : List NodeState) → AllWhole (event_at capacity refused k previous ns)
+      → gain_all (event_at capacity refused k previous ns) + debt_all previous ns ≡ gain_all ns + debt_all previous (event_at capacity refused k previous ns) + one_if (moves_at capacity k previous ns)
+  count_at refused k previous [] w = refl
+  count_at refused zero previous (n ∷ ns) w =
+      let count = node_count capacity refused previous (phase_of_first ns) n.summary n.phase w.0 in
+      let same = any_previous n.phase (node_event capacity refused previous (phase_of_first ns) n.summary n.phase) ns in
       omega (arith, count, same)
-  count_at refused (suc k) before (n ∷ ns) w =
+  count_at refused (suc k) previous (n ∷ ns) w =
       let count = count_at refused k (Some n.phase) ns w.1 in
-      let same = ap (λ (last : Bool). debt (is_none before) last n.phase) (as_many capacity refused k (Some n.phase) ns) in
+      let same = ap (λ (last : Bool). debt (is_none previous) last n.phase) (as_many capacity refused k (Some n.phase) ns) in
       omega (arith, count, same)
 
   all_whole_before : (schedule : List Event) (ns : List NodeState) → AllWhole (nodes_after capacity schedule ns) → AllWhole ns
@@ -109,9 +109,9 @@ nothing_gained : (es : List Summary) → gain_all (nodes_start es) ≡ 0
 nothing_gained [] = refl
 nothing_gained (e ∷ es) = let rest = nothing_gained es in omega (arith, rest)
 
-nothing_owed : (before : Option Phase) (es : List Summary) → debt_all before (nodes_start es) ≡ 0
-nothing_owed before [] = refl
-nothing_owed before (e ∷ es) = let rest = nothing_owed (Some Fresh) es in omega (arith, rest)
+nothing_owed : (previous : Option Phase) (es : List Summary) → debt_all previous (nodes_start es) ≡ 0
+nothing_owed previous [] = refl
+nothing_owed previous (e ∷ es) = let rest = nothing_owed (Some Fresh) es in omega (arith, rest)
 
 -- ---- at the end
 
@@ -128,26 +128,26 @@ done_work first last e (Answers a f) h d w =
     let rows : length (rows_or_none f.rows) ≡ length e.sinks = ap length x.done.rows ∙ length-map e.sinks (resolved_row (heard a.asked f.got)) in
     omega (arith, asks, answers, row, rows, seen last a.got x.at_last, seen first f.got x.at_first)
 
-all_work : (before : Option Phase) (ns : List NodeState) → RunHolds before ns → AllDone ns → AllWhole ns → gain_all ns ≡ work_in_all (is_none before) (map node_in ns) + debt_all before ns
-all_work before [] r d w = refl
-all_work before (n ∷ []) r d w = let own = done_work (is_none before) true n.summary n.phase r.0 d.0 w.0 in omega (arith, own)
-all_work before (n ∷ b ∷ ns) r d w =
-    let own = done_work (is_none before) false n.summary n.phase r.0 d.0 w.0 in
+all_work : (previous : Option Phase) (ns : List NodeState) → RunHolds previous ns → AllDone ns → AllWhole ns → gain_all ns ≡ work_in_all (is_none previous) (map node_in ns) + debt_all previous ns
+all_work previous [] r d w = refl
+all_work previous (n ∷ []) r d w = let own = done_work (is_none previous) true n.summary n.phase r.0 d.0 w.0 in omega (arith, own)
+all_work previous (n ∷ b ∷ ns) r d w =
+    let own = done_work (is_none previous) false n.summary n.phase r.0 d.0 w.0 in
     let rest = all_work (Some n.phase) (b ∷ ns) r.1 d.1 w.1 in
     omega (arith, own, rest)
 
-ends_behind : (before : Option Phase) (ns : List NodeState) → RunHolds before ns → AllDone ns → AllWhole ns → EndsBehind (map node_in ns)
-ends_behind before [] r d w = tt
-ends_behind before (n ∷ []) r d w =
-    let x = facts (is_none before) true n.summary n.phase r.0 d.0 w.0 in
+ends_past_last : (previous : Option Phase) (ns : List NodeState) → RunHolds previous ns → AllDone ns → AllWhole ns → EndsPastLast (map node_in ns)
+ends_past_last previous [] r d w = tt
+ends_past_last previous (n ∷ []) r d w =
+    let x = facts (is_none previous) true n.summary n.phase r.0 d.0 w.0 in
     x.sent_answers ∙ ap (λ (ms : List Message). answers_for n.summary (node_in n).asked (requests ms) (node_in n).answers_got) (x.at_last refl) ∙ ap end_if x.answers_end
-ends_behind before (n ∷ b ∷ ns) r d w = ends_behind (Some n.phase) (b ∷ ns) r.1 d.1 w.1
+ends_past_last previous (n ∷ b ∷ ns) r d w = ends_past_last (Some n.phase) (b ∷ ns) r.1 d.1 w.1
 
 ends_outside : (ns : List NodeState) → RunHolds None ns → AllDone ns → AllWhole ns → EndsOutside (map node_in ns)
 ends_outside [] r d w = tt
 ends_outside (n ∷ ns) r d w =
     let x = facts true (is_none (phase_of_first ns)) n.summary n.phase r.0 d.0 w.0 in
-    (x.sent_asks ∙ ap (λ (ls : List Loc). map Ask ls ++ End true ∷ []) x.done.asked, ends_behind None (n ∷ ns) r d w)
+    (x.sent_asks ∙ ap (λ (ls : List Loc). map Ask ls ++ End true ∷ []) x.done.asked, ends_past_last None (n ∷ ns) r d w)
 
 pub same_work : SameWork
 same_work q trace cuts capacity es schedule steps points c a d w =

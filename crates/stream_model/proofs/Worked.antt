@@ -47,7 +47,7 @@ later = summary_of copied run 2 2
 -- ---- one pass at a time
 
 abbrev free : Option Message → Links
-free next = record { has_room = true; next = next; is_refused = false }
+free next = record { has_room = true; item = next; is_refused = false }
 
 -- the second node walks its sink, asks for the register, and ends
 asking : asking_after false later (free None ∷ free None ∷ free None ∷ []) (asking_start true later)

@@ -16,7 +16,7 @@ use Rattle.stream_model.specs.Streams.{is_ended, heard, is_resolvable, answer}
 -- only where an event takes memory
 pub record Links : Type 0 where
   pub has_room : Bool
-  pub next : Option Message
+  pub item : Option Message
   pub is_refused : Bool
 
 -- where there is no link to get from, the End counts as seen
@@ -106,14 +106,14 @@ end_asks false a = a
 
 -- broken: what comes, then the End
 abbrev pub broken_asking : Links → Asking → Bool → Asking
-broken_asking links a false = drop_ask a links.next
+broken_asking links a false = drop_ask a links.item
 broken_asking links a true = end_asks links.has_room a
 
 -- whole: what waits to be asked, then the sinks, then what comes, then the End
 abbrev pub whole_asking : Bool → Summary → Links → Asking → List Loc → List SinkTerms → Bool → Asking
 whole_asking first e links a (l ∷ waiting) left ended = push_ask links.has_room a l
 whole_asking first e links a [] (k ∷ left) ended = walk links.is_refused first a k left
-whole_asking first e links a [] [] false = pop_ask links.is_refused first e a links.next
+whole_asking first e links a [] [] false = pop_ask links.is_refused first e a links.item
 whole_asking first e links a [] [] true = end_asks links.has_room a
 
 -- an event of a pass that is over or not, and whole or not
@@ -175,7 +175,7 @@ build false e asked f l left = record f { left = left; sending = answer l (resol
 
 abbrev pub build_or_pop : Bool → Summary → List Loc → Links → Answering → Loc → List Loc → Answering
 build_or_pop true e asked links f l left = build links.is_refused e asked f l left
-build_or_pop false e asked links f l left = pop_answer links.is_refused f links.next
+build_or_pop false e asked links f l left = pop_answer links.is_refused f links.item
 
 -- the rows of the sinks are made, unless a growth is refused
 abbrev pub resolve : Bool → Summary → List Loc → Answering → Answering
@@ -195,11 +195,11 @@ resolve_or_end e asked links f None = resolve links.is_refused e asked f
 resolve_or_end e asked links f (Some rows) = end_answers links.has_room f
 
 abbrev pub pop_or_end : Summary → List Loc → Links → Answering → Bool → Answering
-pop_or_end e asked links f false = pop_answer links.is_refused f links.next
+pop_or_end e asked links f false = pop_answer links.is_refused f links.item
 pop_or_end e asked links f true = resolve_or_end e asked links f f.rows
 
 abbrev pub broken_answering : Links → Answering → Bool → Answering
-broken_answering links f false = drop_answer f links.next
+broken_answering links f false = drop_answer f links.item
 broken_answering links f true = end_answers links.has_room f
 
 -- whole: what is being sent, then the next request as soon as its terms are resolvable, then what comes, then the rows

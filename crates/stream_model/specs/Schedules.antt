@@ -59,18 +59,18 @@ abbrev pub item_from : (Phase → List Message) → List Message → Option Phas
 item_from sent got None = None
 item_from sent got (Some neighbour) = next_item got (sent neighbour)
 
--- what a node meets between the nodes before and behind it
+-- what a node meets between the previous and the next node
 abbrev pub asking_links : ℕ → Bool → Option Phase → Option Phase → Asking → Links
-asking_links capacity refused before behind a = record {
-  has_room = room_to capacity asks_got_in a.sent before;
-  next = item_from asks_sent_in a.got behind;
+asking_links capacity refused previous next a = record {
+  has_room = room_to capacity asks_got_in a.sent previous;
+  item = item_from asks_sent_in a.got next;
   is_refused = refused;
 }
 
 abbrev pub answering_links : ℕ → Bool → Option Phase → Option Phase → Answering → Links
-answering_links capacity refused before behind f = record {
-  has_room = room_to capacity answers_got_in f.sent behind;
-  next = item_from answers_sent_in f.got before;
+answering_links capacity refused previous next f = record {
+  has_room = room_to capacity answers_got_in f.sent next;
+  item = item_from answers_sent_in f.got previous;
   is_refused = refused;
 }
 
@@ -90,22 +90,22 @@ abbrev pub settled : Bool → Asking → Phase
 settled first a = settled_by a.is_over first a
 
 abbrev pub node_event : ℕ → Bool → Option Phase → Option Phase → Summary → Phase → Phase
-node_event capacity refused before behind e Fresh = Asks (begun refused (is_none behind) e)
-node_event capacity refused before behind e (Asks a) =
-    settled (is_none before) (asking_event (is_none before) e (asking_links capacity refused before behind a) a)
-node_event capacity refused before behind e (Answers a f) =
-    Answers a (answering_event e a.asked (answering_links capacity refused before behind f) f)
+node_event capacity refused previous next e Fresh = Asks (begun refused (is_none next) e)
+node_event capacity refused previous next e (Asks a) =
+    settled (is_none previous) (asking_event (is_none previous) e (asking_links capacity refused previous next a) a)
+node_event capacity refused previous next e (Answers a f) =
+    Answers a (answering_event e a.asked (answering_links capacity refused previous next f) f)
 
 abbrev pub phase_of_first : List NodeState → Option Phase
 phase_of_first [] = None
 phase_of_first (n ∷ ns) = Some n.phase
 
--- the event of node k, where `before` stands before the first
+-- the event of node k, where `previous` stands before the first
 abbrev pub event_at : ℕ → Bool → ℕ → Option Phase → List NodeState → List NodeState
-event_at capacity refused k before [] = []
-event_at capacity refused zero before (n ∷ ns) =
-    record n { phase = node_event capacity refused before (phase_of_first ns) n.summary n.phase } ∷ ns
-event_at capacity refused (suc k) before (n ∷ ns) = n ∷ event_at capacity refused k (Some n.phase) ns
+event_at capacity refused k previous [] = []
+event_at capacity refused zero previous (n ∷ ns) =
+    record n { phase = node_event capacity refused previous (phase_of_first ns) n.summary n.phase } ∷ ns
+event_at capacity refused (suc k) previous (n ∷ ns) = n ∷ event_at capacity refused k (Some n.phase) ns
 
 -- which node has its event, and whether a growth is refused in it
 pub record Event : Type 0 where
@@ -130,7 +130,7 @@ pub data Need : Type 0 where
 
 abbrev pub is_met : Need → Links → Bool
 is_met Room links = links.has_room
-is_met Item links = is_some links.next
+is_met Item links = is_some links.item
 is_met Nothing links = true
 is_met Over links = false
 
@@ -177,14 +177,14 @@ abbrev pub answering_need : Summary → List Loc → Answering → Need
 answering_need e asked f = answering_need_by e asked f f.is_over f.is_whole
 
 abbrev pub node_moves : ℕ → Option Phase → Option Phase → Summary → Phase → Bool
-node_moves capacity before behind e Fresh = true
-node_moves capacity before behind e (Asks a) = is_met (asking_need a) (asking_links capacity false before behind a)
-node_moves capacity before behind e (Answers a f) = is_met (answering_need e a.asked f) (answering_links capacity false before behind f)
+node_moves capacity previous next e Fresh = true
+node_moves capacity previous next e (Asks a) = is_met (asking_need a) (asking_links capacity false previous next a)
+node_moves capacity previous next e (Answers a f) = is_met (answering_need e a.asked f) (answering_links capacity false previous next f)
 
 abbrev pub moves_at : ℕ → ℕ → Option Phase → List NodeState → Bool
-moves_at capacity k before [] = false
-moves_at capacity zero before (n ∷ ns) = node_moves capacity before (phase_of_first ns) n.summary n.phase
-moves_at capacity (suc k) before (n ∷ ns) = moves_at capacity k (Some n.phase) ns
+moves_at capacity k previous [] = false
+moves_at capacity zero previous (n ∷ ns) = node_moves capacity previous (phase_of_first ns) n.summary n.phase
+moves_at capacity (suc k) previous (n ∷ ns) = moves_at capacity k (Some n.phase) ns
 
 abbrev pub is_done : Phase → Bool
 is_done Fresh = false

@@ -69,7 +69,7 @@ PlacesStay = (asked more ls : List Loc)
     → is_within loc_cmp ls asked ≡ true
     → places_needed (asked ++ more) ls ≡ places_needed asked ls
 
--- a and b are the nodes before and behind the cut c, and the epochs from there on end at the cuts
+-- a and b are the nodes on both sides of the cut c, in order, and the epochs from there on end at the cuts
 pub record Carries (q : Query) (trace : List StepSeen) (c : ℕ) (cuts : List ℕ) (a b : Node) : Type 0 where
   pub asked : b.asked ≡ crossing_at q trace c cuts
   -- exactly what is needed was asked, each location once

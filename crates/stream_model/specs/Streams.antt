@@ -116,7 +116,7 @@ pub record IsDone (first last : Bool) (n : Node) : Type 0 where
   pub answers : last ≡ false → n.answers_sent ≡ answers_for n.summary n.asked (requests n.asks_got) n.answers_got
   pub rows : n.rows ≡ rows_of n.summary (heard n.asked n.answers_got)
 
--- all are done, and what one sent its neighbour got. Behind the last one there is no link: there the End counts as seen
+-- all are done, and what one sent its neighbour got. After the last one there is no link: there the End counts as seen
 abbrev pub AreDone : Bool → List Node → Type 0
 AreDone first [] = Unit {0}
 AreDone first (a ∷ []) = IsDone first true a × (a.asks_got ≡ End true ∷ [])

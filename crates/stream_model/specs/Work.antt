@@ -59,21 +59,21 @@ listed_in_all q trace (c ∷ []) = 0
 listed_in_all q trace (c ∷ d ∷ cs) = listed (policy_of q) trace c (crossing_at q trace c (d ∷ cs)) + listed_in_all q trace (d ∷ cs)
 
 -- for each epoch a node begins, resolves its rows, and sends two Ends and gets two, but for the one before the first node
--- and the one behind the last, which no one sent. A sink is walked for each row. Each location that is asked is sent and
+-- and the one after the last, which no one sent. A sink is walked for each row. Each location that is asked is sent and
 -- got, its answer is built, and its Close sent and got; and so is each of its origins
 abbrev pub run_work : Query → List StepSeen → List ℕ → ℕ
 run_work q trace cuts =
     (6 * length cuts + length (rows_as_written q trace) + 5 * asked_in_all q trace cuts + 2 * listed_in_all q trace cuts) - 2
 
--- where there is no link an End alone is sent: behind the last node, and before the first
-abbrev pub EndsBehind : List Node → Type 0
-EndsBehind [] = Unit {0}
-EndsBehind (n ∷ []) = n.answers_sent ≡ End true ∷ []
-EndsBehind (n ∷ m ∷ ns) = EndsBehind (m ∷ ns)
+-- where there is no link an End alone is sent: after the last node, and before the first
+abbrev pub EndsPastLast : List Node → Type 0
+EndsPastLast [] = Unit {0}
+EndsPastLast (n ∷ []) = n.answers_sent ≡ End true ∷ []
+EndsPastLast (n ∷ m ∷ ns) = EndsPastLast (m ∷ ns)
 
 abbrev pub EndsOutside : List Node → Type 0
 EndsOutside [] = Unit {0}
-EndsOutside (n ∷ ns) = (n.asks_sent ≡ End true ∷ []) × EndsBehind (n ∷ ns)
+EndsOutside (n ∷ ns) = (n.asks_sent ≡ End true ∷ []) × EndsPastLast (n ∷ ns)
 
 -- so many events moved in nodes that are done, whose summaries are those of the epochs
 abbrev pub DoneNodesWork : Type 0

@@ -19,7 +19,7 @@ use Rattle.taint_shadow.specs.declared.labels.Label.{Label}
 use Rattle.taint_shadow.specs.declared.lanes.Lanes.{Lanes}
 use Rattle.taint_shadow.specs.declared.places.Places.{Places}
 use Rattle.taint_shadow.specs.Labels.{LabelWords, Laws, MakesLabel, Makes, nothing_label}
-use Rattle.taint_shadow.specs.Lanes.{lane_at, alike, clean, chosen_label, shuffled, extended_lane, both_mean, Stand, MakesLanes}
+use Rattle.taint_shadow.specs.Lanes.{lane_at, alike, clean, chosen_label, shuffled, extended_lane, both_mean, LanesStand, MakesLanes}
 use Rattle.taint_shadow.specs.Places.{kept, origin_lane, origin_lanes}
 use Rattle.taint_shadow.specs.Steps.{meaning_at, AreStanding, united_over, based_mean}
 use Rattle.taint_shadow.proofs.Meaning.{AreHere, over_union, over_meaning, can_mean, either_here, lane_here, lane_made, lanes_mean, all_clean, lanes_here, union_here, each_of_four, alike_at, origins_at, keeps_itself, keeps_then, both_made, nothing_with}
@@ -57,7 +57,7 @@ module _ {A M : Type 0} (words : LabelWords A M) (laws : Laws words) where
   alike_made b m label made i h = subst (MakesLabel words b m) (sym (alike_at label i h)) made
 
   -- lanes that were cut off at a size stand
-  pub cut_stand : (a : A) (x y : Lanes) (n : ℕ) → Stand words a x → ((i : ℕ) → i < 4 → lane_at y i ≡ extended_lane x n false i) → Stand words a y
+  pub cut_stand : (a : A) (x y : Lanes) (n : ℕ) → LanesStand words a x → ((i : ℕ) → i < 4 → lane_at y i ≡ extended_lane x n false i) → LanesStand words a y
   cut_stand a x y n s cut = record { at = λ i h. subst (words.stands a) (sym (cut i h)) (by i h (nat_lt i n)) } where
     by : (i : ℕ) → i < 4 → (b : Bool) → words.stands a (if b then lane_at x i else nothing_label)
     by i h true = s.at i h
@@ -130,7 +130,7 @@ module _ {A M : Type 0} (words : LabelWords A M) (laws : Laws words) where
       by FirstLane = first (i == 0)
 
     -- x0 as a base adds nothing
-    pub no_base : (base n : ℕ) (x : Lanes) → base ≡ 0 → n ≤ 4 → Stand words a x → MakesLanes words a n (based_mean words a p base x) a x
+    pub no_base : (base n : ℕ) (x : Lanes) → base ≡ 0 → n ≤ 4 → LanesStand words a x → MakesLanes words a n (based_mean words a p base x) a x
     no_base base n x none few s = record {
       made = λ i h. let here = s.at i (omega (arith, h, few)) in record {
         stands = here;
@@ -141,7 +141,7 @@ module _ {A M : Type 0} (words : LabelWords A M) (laws : Laws words) where
     }
 
     -- the base's label is united with each lane
-    pub with_label : (b c : A) (base : ℕ) (label : Label) (x z : Lanes) → Stand words a x → Makes words a (united_over words (meaning_at words a p) (lanes base)) b label
+    pub with_label : (b c : A) (base : ℕ) (label : Label) (x z : Lanes) → LanesStand words a x → Makes words a (united_over words (meaning_at words a p) (lanes base)) b label
         → MakesLanes words b 4 (both_mean words b (alike label) x) c z → MakesLanes words a 4 (based_mean words a p base x) c z
     with_label b c base label x z s first second = record {
       made = λ i h. record {
@@ -164,7 +164,7 @@ module _ {A M : Type 0} (words : LabelWords A M) (laws : Laws words) where
     }
 
     -- the labels of a word's bytes stand
-    pub word_stands : (place : ℕ) (w : Lanes) → ((i : ℕ) → i < 4 → lane_at w i ≡ kept p (Mem (wrap (place + i)))) → Stand words a w
+    pub word_stands : (place : ℕ) (w : Lanes) → ((i : ℕ) → i < 4 → lane_at w i ≡ kept p (Mem (wrap (place + i)))) → LanesStand words a w
     word_stands place w is = record { at = λ i h. subst (words.stands a) (sym (is i h)) (standing.at (Mem (wrap (place + i))) (omega arith)) }
 
     -- what is loaded

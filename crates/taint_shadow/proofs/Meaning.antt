@@ -15,7 +15,7 @@ use Rattle.taint_shadow.specs.declared.labels.Label.{Label}
 use Rattle.taint_shadow.specs.declared.lanes.Lanes.{Lanes}
 use Rattle.taint_shadow.specs.declared.places.Places.{Places}
 use Rattle.taint_shadow.specs.Labels.{LabelWords, Laws, MakesLabel, KeepsLabels, Makes, nothing_label}
-use Rattle.taint_shadow.specs.Lanes.{lane_at, alike, clean, all_mean, both_mean, Stand, MakesLanes}
+use Rattle.taint_shadow.specs.Lanes.{lane_at, alike, clean, all_mean, both_mean, LanesStand, MakesLanes}
 use Rattle.taint_shadow.specs.Places.{kept, origin_lane, origin_lanes}
 use Rattle.taint_shadow.specs.Steps.{meaning_at, AreStanding, Holds, united_over}
 
@@ -87,14 +87,14 @@ module _ {A M : Type 0} (words : LabelWords A M) where
         keeps = keeps_then a c d (keeps_then a b c first.keeps second.keeps) third.keeps;
       }
 
-  pub alike_stand : (a : A) (l : Label) → words.stands a l → Stand words a (alike l)
+  pub alike_stand : (a : A) (l : Label) → words.stands a l → LanesStand words a (alike l)
   alike_stand a l s = record { at = λ i h. subst (words.stands a) (sym (alike_at l i h)) s }
 
-  pub stand_kept : (a b : A) (x : Lanes) → KeepsLabels words a b → Stand words a x → Stand words b x
+  pub stand_kept : (a b : A) (x : Lanes) → KeepsLabels words a b → LanesStand words a x → LanesStand words b x
   stand_kept a b x k s = record { at = λ i h. (k (lane_at x i) (s.at i h)).stands }
 
   -- what lanes mean stays
-  pub all_mean_kept : (a b : A) (x : Lanes) → KeepsLabels words a b → Stand words a x → all_mean words b x ≡ all_mean words a x
+  pub all_mean_kept : (a b : A) (x : Lanes) → KeepsLabels words a b → LanesStand words a x → all_mean words b x ≡ all_mean words a x
   all_mean_kept a b x k s = ap₂ words.united (k x.first (s.at 0 (omega arith))).means
       (ap₂ words.united (k x.second (s.at 1 (omega arith))).means (ap₂ words.united (k x.third (s.at 2 (omega arith))).means (k x.fourth (s.at 3 (omega arith))).means))
 
@@ -177,14 +177,14 @@ module _ {A M : Type 0} (words : LabelWords A M) where
         let once = laws.with_itself m (laws.of_label a l s) in
         ap (λ x. words.united m (words.united m x)) once ∙ ap (words.united m) once ∙ once
 
-    pub all_alike : (a : A) (x : Lanes) → Stand words a x → x ≡ alike x.first → all_mean words a x ≡ words.means a x.first
+    pub all_alike : (a : A) (x : Lanes) → LanesStand words a x → x ≡ alike x.first → all_mean words a x ≡ words.means a x.first
     all_alike a x s is = ap (all_mean words a) is ∙ alike_mean a x.first (s.at 0 (omega arith))
 
     pub all_clean : (a : A) (x : Lanes) → x ≡ clean → all_mean words a x ≡ words.nothing
     all_clean a x is = let none = laws.of_nothing a in ap (all_mean words a) is ∙ alike_mean a nothing_label none.stands ∙ none.means
 
     -- lanes that are all nothing add nothing
-    pub clean_left : (a : A) (x y : Lanes) → Stand words a y → x ≡ clean → MakesLanes words a 4 (both_mean words a x y) a y
+    pub clean_left : (a : A) (x y : Lanes) → LanesStand words a y → x ≡ clean → MakesLanes words a 4 (both_mean words a x y) a y
     clean_left a x y s is = record {
       made = λ i h. record {
         stands = s.at i h;
@@ -194,7 +194,7 @@ module _ {A M : Type 0} (words : LabelWords A M) where
       keeps = keeps_itself a;
     }
 
-    pub clean_right : (a : A) (x y : Lanes) → Stand words a x → y ≡ clean → MakesLanes words a 4 (both_mean words a x y) a x
+    pub clean_right : (a : A) (x y : Lanes) → LanesStand words a x → y ≡ clean → MakesLanes words a 4 (both_mean words a x y) a x
     clean_right a x y s is = record {
       made = λ i h. record {
         stands = s.at i h;
@@ -215,7 +215,7 @@ module _ {A M : Type 0} (words : LabelWords A M) where
         by true = laws.of_nothing a
         by false = record { stands = standing.at (Reg r i) (h, k); means = refl }
 
-      pub lanes_stand : (r : ℕ) (x : Lanes) → r < 32 → ((i : ℕ) → i < 4 → lane_at x i ≡ origin_lane p r i) → Stand words a x
+      pub lanes_stand : (r : ℕ) (x : Lanes) → r < 32 → ((i : ℕ) → i < 4 → lane_at x i ≡ origin_lane p r i) → LanesStand words a x
       lanes_stand r x h is = record { at = λ i k. (lane_made r i (lane_at x i) h k (is i k)).stands }
 
       pub lanes_mean : (r : ℕ) (x : Lanes) → r < 32 → ((i : ℕ) → i < 4 → lane_at x i ≡ origin_lane p r i) → all_mean words a x ≡ united_over words (meaning_at words a p) (lanes r)

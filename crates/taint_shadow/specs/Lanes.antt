@@ -38,7 +38,7 @@ extended_lane x n fills i = if nat_lt i n then lane_at x i else if fills then la
 
 module _ {A M : Type 0} (words : LabelWords A M) where
   -- the label of each lane stands
-  pub record Stand (labels : A) (x : Lanes) : Type 0 where
+  pub record LanesStand (labels : A) (x : Lanes) : Type 0 where
     pub at : (i : ℕ) → i < 4 → words.stands labels (lane_at x i)
 
   -- what four lanes mean together

@@ -2,7 +2,7 @@
 
 ghost use Rattle.std.specs.Prelude.{IfOk};
 ghost use Rattle.taint_shadow.specs.Labels.{Makes};
-ghost use Rattle.taint_shadow.specs.Lanes.{Stand, all_mean, both_mean, all_both_mean, MakesLanes};
+ghost use Rattle.taint_shadow.specs.Lanes.{LanesStand, all_mean, both_mean, all_both_mean, MakesLanes};
 
 use crate::labels::{Label, Labels};
 use crate::lanes::Lanes;
@@ -11,7 +11,7 @@ use no_memory::NoMemory;
 /// The label of what four lanes have together.
 #[inline(always)]
 pub(crate) fn unite_all<A: Labels>(labels: &mut A, lanes: Lanes) -> Result<Label, NoMemory>
-    requires { Stand A.words labels.old lanes }
+    requires { LanesStand A.words labels.old lanes }
     ensures { IfOk result (Makes A.words labels.old (all_mean A.words labels.old lanes) labels.new) }
 {
     if lanes.are_alike() {
@@ -28,8 +28,8 @@ pub(crate) fn unite_both<A: Labels>(
     one: Lanes,
     other: Lanes,
 ) -> Result<Label, NoMemory>
-    requires one { Stand A.words labels.old one }
-    requires other { Stand A.words labels.old other }
+    requires one { LanesStand A.words labels.old one }
+    requires other { LanesStand A.words labels.old other }
     ensures { IfOk result (Makes A.words labels.old (all_both_mean A.words labels.old one other) labels.new) }
 {
     let left = unite_all(labels, one)?;
@@ -43,8 +43,8 @@ pub(crate) fn unite_lanes<A: Labels>(
     one: Lanes,
     other: Lanes,
 ) -> Result<Lanes, NoMemory>
-    requires one { Stand A.words labels.old one }
-    requires other { Stand A.words labels.old other }
+    requires one { LanesStand A.words labels.old one }
+    requires other { LanesStand A.words labels.old other }
     ensures { IfOk result (MakesLanes A.words labels.old 4 (both_mean A.words labels.old one other) labels.new) }
 {
     if one.are_clean() {

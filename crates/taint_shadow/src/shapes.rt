@@ -3,7 +3,7 @@
 ghost use Rattle.std.specs.Prelude.{◌<◌, ◌≤◌, IfOk, OnOk};
 ghost use Rattle.flow_rule.specs.Shapes.{HasRegisters, HasSizes};
 ghost use Rattle.flow_model.specs.Flow.{each_lane, all_lanes, shifted_lanes};
-ghost use Rattle.taint_shadow.specs.Lanes.{Stand};
+ghost use Rattle.taint_shadow.specs.Lanes.{LanesStand};
 ghost use Rattle.taint_shadow.specs.Steps.{AreStanding, Turns, MakesBased, MakesOver, MakesFrom};
 
 use crate::labels::{Label, Labels};
@@ -172,7 +172,7 @@ fn add_base<A: Labels>(
 ) -> Result<Lanes, NoMemory>
     requires base { base < 32 }
     requires size { (1 ≤ size) × (size ≤ 4) }
-    requires lanes { Stand A.words labels.old lanes }
+    requires lanes { LanesStand A.words labels.old lanes }
     requires standing { AreStanding A.words labels.old places.now }
     ensures { IfOk result (MakesBased A.words labels.old places.now base size lanes labels.new) }
 {
@@ -190,7 +190,7 @@ fn based<A: Labels>(
     lanes: Lanes,
 ) -> Result<Lanes, NoMemory>
     requires base { base < 32 }
-    requires lanes { Stand A.words labels.old lanes }
+    requires lanes { LanesStand A.words labels.old lanes }
     requires standing { AreStanding A.words labels.old places.now }
     ensures { IfOk result (MakesBased A.words labels.old places.now base 4 lanes labels.new) }
 {

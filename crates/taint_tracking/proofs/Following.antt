@@ -24,7 +24,7 @@ use Rattle.taint_shadow.specs.declared.labels.SinkLabel.{SinkLabel}
 use Rattle.taint_tracking.specs.declared.tracking.Tracking.{Tracking}
 use Rattle.taint_tracking.specs.Courses.{IsCourse}
 use Rattle.taint_tracking.specs.Sinks.{Notes, chosen, meant, labelled, sinks_at}
-use Rattle.taint_tracking.specs.Following.{IsSound, IsTracked, IsTurned, AreNoted, NotesDue, FollowsQuiet, AreInRange, number_before}
+use Rattle.taint_tracking.specs.Following.{IsSound, IsTracked, IsTurned, AreNoted, NotesDue, TracksPlain, AreInRange, number_before}
 use Rattle.taint_tracking.proofs.Notes.{AreHere, no_notes}
 use Rattle.taint_tracking.proofs.Steps.{next_mean, one_in_range}
 use Rattle.taint_tracking.proofs.Between.{more_sinks, here_points}
@@ -127,7 +127,7 @@ module _ {A M : Type 0} (words : LabelWords A M) where
         (ap (λ (t : Tracking A). t.sinks.items) turn.rest) notes_due sound
 
   -- after a step that is no call and comes before the one after which the next point is due, nothing is noted
-  pub quiet_step : (step : PlainStep) (old new : Tracking A) → Fits step.instr → IsTurned words step old new → IsSound words new → FollowsQuiet words step old new
+  pub quiet_step : (step : PlainStep) (old new : Tracking A) → Fits step.instr → IsTurned words step old new → IsSound words new → TracksPlain words step old new
   quiet_step step old new fits turn sound number quiet trace at q first m course here =
       let same : new.due_after ≡ old.due_after = ap (λ (t : Tracking A). t.due_after) turn.rest in
       plain_step q trace first number m course old here step at fits new new turn

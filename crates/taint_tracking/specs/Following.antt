@@ -73,20 +73,20 @@ module _ {A M : Type 0} (words : LabelWords A M) where
       → IsTracked q trace first first m t
 
   -- where the steps up to one time were followed, those up to another are
-  abbrev pub Follows : List StepSeen → ℕ → ℕ → Tracking A → Tracking A → Type 0
-  Follows trace time until old new =
+  abbrev pub TracksSteps : List StepSeen → ℕ → ℕ → Tracking A → Tracking A → Type 0
+  TracksSteps trace time until old new =
       (q : Query) (first : ℕ) (m : ℕ → Loc → M) → IsCourse words (policy_of q) trace first m
       → IsTracked q trace first time m old → IsTracked q trace first until m new
 
   -- one step more is followed, of each trace that has it
-  abbrev pub FollowsStep : StepSeen → Tracking A → Tracking A → Type 0
-  FollowsStep step old new =
+  abbrev pub TracksStep : StepSeen → Tracking A → Tracking A → Type 0
+  TracksStep step old new =
       (trace : List StepSeen) → step_at trace step.number ≡ Some step
-      → Follows trace step.number (step.number + 1) old new
+      → TracksSteps trace step.number (step.number + 1) old new
 
   -- so is a plain step, of each number that comes before that of the step after which the next point is due
-  abbrev pub FollowsQuiet : PlainStep → Tracking A → Tracking A → Type 0
-  FollowsQuiet step old new = (number : ℕ) → number < due_of old → FollowsStep (seen_at number step) old new
+  abbrev pub TracksPlain : PlainStep → Tracking A → Tracking A → Type 0
+  TracksPlain step old new = (number : ℕ) → number < due_of old → TracksStep (seen_at number step) old new
 
   -- up to what time steps are followed, none of them had this number
   abbrev pub IsNotPassed : Tracking A → ℕ → Type 0

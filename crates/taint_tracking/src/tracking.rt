@@ -4,7 +4,7 @@ ghost use Rattle.std.specs.Prelude.{◌≡◌, IfOk, OnOk};
 ghost use Rattle.isa.specs.Encodings.{Fits};
 ghost use Rattle.flow_model.specs.Ranges.{IsInRange};
 ghost use Rattle.replayer.specs.Nexts.{seen_at};
-ghost use Rattle.taint_tracking.specs.Following.{IsSound, IsBegun, FollowsStep, FollowsQuiet, IsNotPassed, IsTurned, NotesDue, query_of, due_of, parts, number_before as number_of_first};
+ghost use Rattle.taint_tracking.specs.Following.{IsSound, IsBegun, TracksStep, TracksPlain, IsNotPassed, IsTurned, NotesDue, query_of, due_of, parts, number_before as number_of_first};
 
 use crate::points::{collect_due, collect_first};
 use crate::sinks::collect;
@@ -97,7 +97,7 @@ impl<'q, L: Labels + Drop> Tracking<'q, L> {
         ensures query { OnOk result (query_of self.new ≡ query_of self.old) }
         ensures due { OnOk result (due_of self.new ≡ due_of self.old) }
         ensures turned { OnOk result (IsTurned L.words step self.old self.new) }
-        ensures followed { OnOk result (FollowsQuiet L.words step self.old self.new) }
+        ensures followed { OnOk result (TracksPlain L.words step self.old self.new) }
     {
         let PlainStep { instr, place } = step;
         taint_shadow::plain_step(&mut self.labels, &mut self.places, &instr, place, rule)
@@ -109,7 +109,7 @@ impl<'q, L: Labels + Drop> Tracking<'q, L> {
         requires fits { Fits step.instr }
         requires sound { IsSound L.words self.old }
         ensures sound { OnOk result (IsSound L.words self.new) }
-        ensures followed { OnOk result (FollowsStep L.words (seen_at number step) self.old self.new) }
+        ensures followed { OnOk result (TracksStep L.words (seen_at number step) self.old self.new) }
     {
         self.turn(step, self.rule())?;
         self.note_due(number)?;
@@ -122,7 +122,7 @@ impl<'q, L: Labels + Drop> Tracking<'q, L> {
         requires in_range { IsInRange step.now }
         requires sound { IsSound L.words self.old }
         ensures sound { OnOk result (IsSound L.words self.new) }
-        ensures followed { OnOk result (FollowsStep L.words step.now self.old self.new) }
+        ensures followed { OnOk result (TracksStep L.words step.now self.old self.new) }
     {
         collect(&self.places, step, self.query, &mut self.sinks)?;
         taint_shadow::step(&mut self.labels, &mut self.places, step, self.query)?;

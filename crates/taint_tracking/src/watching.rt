@@ -8,7 +8,7 @@ ghost use Rattle.taint_tracking.specs.Watched.{HasBegun, Finds, has_seen};
 use crate::tracking::{Tracked, Tracking};
 use no_memory::NoMemory;
 use query_lang::Query;
-use replayer::{PlainStep, Stand, StepSeen, Watcher};
+use replayer::{PlainStep, Position, StepSeen, Watcher};
 use std::alloc::Global;
 use std::marker::Model;
 use taint_shadow::Labels;
@@ -63,10 +63,10 @@ impl<'q, L: Labels + Drop> Watcher for Watching<'q, L> {
     ghost seen = { has_seen L.words };
 
     #[inline(always)]
-    fn begin(&mut self, _at: &Stand<'_, '_>) {}
+    fn begin(&mut self, _at: &Position<'_, '_>) {}
 
     #[inline(always)]
-    fn plain(&mut self, time: u64, step: PlainStep, _at: &Stand<'_, '_>) {
+    fn plain(&mut self, time: u64, step: PlainStep, _at: &Position<'_, '_>) {
         if self.no_memory.is_some() {
             return;
         }
@@ -76,7 +76,7 @@ impl<'q, L: Labels + Drop> Watcher for Watching<'q, L> {
     }
 
     #[inline(always)]
-    fn step(&mut self, step: &StepSeen, _at: &Stand<'_, '_>) {
+    fn step(&mut self, step: &StepSeen, _at: &Position<'_, '_>) {
         if self.no_memory.is_some() {
             return;
         }

@@ -7,7 +7,7 @@ use Rattle.elf_model.specs.Image.{Image}
 use Rattle.log_model.specs.Logs.{IsBytes}
 use Rattle.replay_model.specs.Fits.{start_in_image}
 use Rattle.record_model.specs.Recorded.{CanRecord, IsRecorded, input_of}
-use Rattle.record_model.proofs.Found.{a_recording}
+use Rattle.record_model.proofs.RecordedRuns.{a_recording}
 use Rattle.workload_model.specs.Guest.{guest_file}
 use Rattle.workload_model.specs.Input.{next_state, bytes_after, input_length, input}
 use Rattle.workload_model.specs.Workload.{workload}

@@ -5,7 +5,7 @@ use Rattle.stream_model.specs.Passes.{asked_more}
 use Rattle.epoch_summary.specs.Summaries.{summary_of}
 use Rattle.backward_pass.specs.Backward.{IsWalked}
 use Rattle.backward_pass.proofs.Counts.{shared_sink}
-use Rattle.backward_pass.proofs.Lists.{sink_behind}
+use Rattle.backward_pass.proofs.Lists.{sink_after}
 use Rattle.backward_pass.proofs.asking.add_sink.Goals as goal
 use Rattle.backward_pass.proofs.asking.add_sink.Goals.{then-first-via-then-first, then-first-via-else-first+then-shares_terms}
 
@@ -24,7 +24,7 @@ returns-then-first-clause-walked c =
 
 pub returns-clause-walked : goal.returns-clause-walked
 returns-clause-walked c =
-    let next = sink_behind (summary_of c.args.summary.now).sinks c.args.number _ c.in_ok-sink_terms_ahead.ensures.read in
+    let next = sink_after (summary_of c.args.summary.now).sinks c.args.number _ c.in_ok-sink_terms_ahead.ensures.read in
     record {
       sink = next.0;
       is = next.2;

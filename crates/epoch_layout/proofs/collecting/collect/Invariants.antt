@@ -5,7 +5,7 @@ use Rattle.epoch_layout.specs.DoneLines.{DoneNode}
 use Rattle.epoch_layout.proofs.Popping.{Finished, views, nodes, Faces, AreClosed}
 use Rattle.epoch_layout.proofs.collecting.collect.Given as goal
 
--- the nodes that are done with, whose links behind them are closed
+-- the nodes that are done with, whose links to the next ones are closed
 abbrev pub invariant-loop-node : goal.invariant-loop-node
 invariant-loop-node g l = record {
   done : List Finished;

@@ -7,11 +7,11 @@ use Rattle.epoch_summary.specs.declared.summary.Summary.{Summary}
 use Rattle.epoch_summary.specs.Summaries.{summary_of}
 use Rattle.pass_parts.proofs.Known.{known_is_summary}
 use Rattle.backward_pass.specs.Backward.{new_back}
-use Rattle.epoch_node.specs.Cores.{Given}
+use Rattle.epoch_node.specs.Cores.{CoreSetup}
 use Rattle.epoch_node.specs.Keeping.{IsFoundOf, KnowsEpoch}
 use Rattle.epoch_node.proofs.beginning.begin.Goals as goal
 
-found_known : (i : Given) (r : Result Summary NoMemory) → IfOk r (λ e. IsFoundOf i (summary_of e)) → KnowsEpoch i (result_ok r)
+found_known : (i : CoreSetup) (r : Result Summary NoMemory) → IfOk r (λ e. IsFoundOf i (summary_of e)) → KnowsEpoch i (result_ok r)
 found_known i (Ok e) f = λ t. record {
   summary = known_is_summary i.query (trace_of i.points.job) i.epoch.first _ (summary_of e) f.summary;
   in_range = f.in_range;
@@ -20,7 +20,7 @@ found_known i (Err x) f = λ t. cc
 
 pub returns-clause-begun : goal.returns-clause-begun
 returns-clause-begun c =
-    let i : Given = record { points = c.args.start.now; query = c.args.query.now; epoch = c.args.ticket; first = c.args.first; last = c.args.last } in
+    let i : CoreSetup = record { points = c.args.start.now; query = c.args.query.now; epoch = c.args.ticket; first = c.args.first; last = c.args.last } in
     let summary = ap (λ v. v.summary) c.new.ensures.made in
     record {
       new = c.new.ensures.made ∙ ap (λ s. new_back s c.args.first c.args.last) (sym summary);

@@ -11,7 +11,7 @@ use Rattle.epoch_layout.specs.DoneLines.{DoneNode}
 use Rattle.epoch_layout.proofs.Layouts.{no_items}
 use Rattle.epoch_layout.proofs.Whole.{done_lines_come}
 use Rattle.epoch_layout.proofs.Popping.{capped_more}
-use Rattle.epoch_rounds.specs.Lines.{AreDone, Stand}
+use Rattle.epoch_rounds.specs.Lines.{AreDone, AllStand}
 use Rattle.epoch_rounds.proofs.Placing.{map_push}
 use Rattle.epoch_rounds.proofs.Doing.{done_each}
 use Rattle.epoch_rounds.proofs.Nodes.{AreNodesOf, next_core, done_line, rows_push, events_push}
@@ -42,10 +42,10 @@ loop-core-preserved g c =
     let rest = map (core_of {G = g.row.G.Denot}) (into_iter_items c.next.new.self) in
     let plan = c.requires.line.0 in
     let split = ap (λ cs. i.front ++ map (core_of {G = g.row.G.Denot}) cs) (sym c.in-Some.ensures.steps.0) ∙ i.split in
-    let next = next_core plan true (epochs_of plan.run) i.done i.front core rest c.args.line.joints.items (subst (λ cs. Stand plan true (epochs_of plan.run) cs c.args.line.joints.items) (sym split) c.requires.line.1.stand) i.are in
-    let has = subst (λ r. IfOk r (λ rows. HasDone core.given next.told c.in_ok-own.requests rows)) c.in-Ok.is (c.in_ok-own.ensures.done next.told next.keeps) in
-    let counted = subst (λ r. IfOk r (λ rows. HasCounted core.given next.told c.in_ok-own.requests rows c.in_ok-own.moved)) c.in-Ok.is (c.in_ok-own.ensures.counted next.told next.keeps) in
-    let n : DoneNode = record { given = core.given; told = next.told; asked = c.in_ok-own.requests; rows = c.in-Ok.own; events = c.in_ok-own.moved; done = has; counted = counted } in
+    let next = next_core plan true (epochs_of plan.run) i.done i.front core rest c.args.line.joints.items (subst (λ cs. AllStand plan true (epochs_of plan.run) cs c.args.line.joints.items) (sym split) c.requires.line.1.stand) i.are in
+    let has = subst (λ r. IfOk r (λ rows. HasDone core.setup next.traffic c.in_ok-own.requests rows)) c.in-Ok.is (c.in_ok-own.ensures.done next.traffic next.keeps) in
+    let counted = subst (λ r. IfOk r (λ rows. HasCounted core.setup next.traffic c.in_ok-own.requests rows c.in_ok-own.moved)) c.in-Ok.is (c.in_ok-own.ensures.counted next.traffic next.keeps) in
+    let n : DoneNode = record { setup = core.setup; traffic = next.traffic; asked = c.in_ok-own.requests; rows = c.in-Ok.own; events = c.in_ok-own.moved; done = has; counted = counted } in
     record {
       front = i.front ++ core ∷ [];
       done = i.done ++ n ∷ [];

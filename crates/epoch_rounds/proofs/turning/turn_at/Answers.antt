@@ -2,7 +2,7 @@ use Rattle.std.proofs.Common.{sym, subst₂, arith}
 use Rattle.epoch_node.specs.Cores.{core_of}
 use Rattle.epoch_node.specs.Keeping.{KeepsCore}
 use Rattle.epoch_rounds.specs.declared.joints.Joint.{Joint}
-use Rattle.epoch_rounds.specs.Joints.{no_joint, told_between}
+use Rattle.epoch_rounds.specs.Joints.{no_joint, traffic_between}
 use Rattle.epoch_rounds.specs.Turns.{TurnsBetween}
 use Rattle.epoch_rounds.proofs.Placing.{put_back_at, looked_up, looked_next}
 use Rattle.epoch_rounds.proofs.turning.turn_at.Goals as goal
@@ -11,9 +11,9 @@ pub turn_between-requires-after_bounds : goal.turn_between-requires-after_bounds
 turn_between-requires-after_bounds g c κs within =
     let joints = c.args.joints.now.items in
     let p = c.args.place in
-    subst₂ (λ (j i : Joint). KeepsCore (core_of {G = g.row.G.Denot} c.args.core.now) (told_between j i))
-    (sym (looked_up joints p c.replace-before.result c.index_mut.result.now no_joint c.replace-before.ensures.value c.index_mut.ensures.value (omega (arith, c.requires.inside))))
-    (sym (looked_next joints p c.replace-before.new.dest c.replace-behind.result c.index_mut-2.result.now no_joint c.replace-behind.ensures.value c.index_mut-2.ensures.value c.requires.inside))
+    subst₂ (λ (j i : Joint). KeepsCore (core_of {G = g.row.G.Denot} c.args.core.now) (traffic_between j i))
+    (sym (looked_up joints p c.replace-previous.result c.index_mut.result.now no_joint c.replace-previous.ensures.value c.index_mut.ensures.value (omega (arith, c.requires.inside))))
+    (sym (looked_next joints p c.replace-previous.new.dest c.replace-next.result c.index_mut-2.result.now no_joint c.replace-next.ensures.value c.index_mut-2.ensures.value c.requires.inside))
     c.requires.keeps
 
 pub returns : goal.returns
@@ -21,12 +21,12 @@ returns g c =
     let joints = c.args.joints.now.items in
     let p = c.args.place in
     record {
-      before = c.turn_between.new.before;
-      behind = c.turn_between.new.behind;
+      previous = c.turn_between.new.previous;
+      next = c.turn_between.new.next;
       answer = c.turn_between.result;
-      joints_are = put_back_at joints p c.replace-before.new.dest c.replace-behind.new.dest c.turn_between.new.before c.turn_between.new.behind;
-      turns = subst₂ (λ (j i : Joint). TurnsBetween (core_of {G = g.row.G.Denot} c.args.core.now) j i (core_of {G = g.row.G.Denot} c.turn_between.new.core) c.turn_between.new.before c.turn_between.new.behind c.turn_between.result)
-          (looked_up joints p c.replace-before.result c.index_mut.result.now no_joint c.replace-before.ensures.value c.index_mut.ensures.value (omega (arith, c.requires.inside)))
-          (looked_next joints p c.replace-before.new.dest c.replace-behind.result c.index_mut-2.result.now no_joint c.replace-behind.ensures.value c.index_mut-2.ensures.value c.requires.inside)
+      joints_are = put_back_at joints p c.replace-previous.new.dest c.replace-next.new.dest c.turn_between.new.previous c.turn_between.new.next;
+      turns = subst₂ (λ (j i : Joint). TurnsBetween (core_of {G = g.row.G.Denot} c.args.core.now) j i (core_of {G = g.row.G.Denot} c.turn_between.new.core) c.turn_between.new.previous c.turn_between.new.next c.turn_between.result)
+          (looked_up joints p c.replace-previous.result c.index_mut.result.now no_joint c.replace-previous.ensures.value c.index_mut.ensures.value (omega (arith, c.requires.inside)))
+          (looked_next joints p c.replace-previous.new.dest c.replace-next.result c.index_mut-2.result.now no_joint c.replace-next.ensures.value c.index_mut-2.ensures.value c.requires.inside)
           c.turn_between.ensures;
     }

@@ -1,6 +1,6 @@
 use Rattle.std.proofs.Common.{◌≡◌, refl, subst, map, is_ok, IfOk, List, ◌∷◌, ℕ, Bor}
 use Rattle.jet_words.specs.Commands.{plain_command}
-use Rattle.jet_files.specs.Outcome.{Comes, Follows, seen_by, bytes_of}
+use Rattle.jet_files.specs.Outcome.{IsOutcomeOf, IsOutcomeBy, seen_by, bytes_of}
 use Rattle.jet_model.specs.Answer.{queries_answer}
 use Rattle.jet_work.specs.Targets.{plan_of, target_of, IfFile, IfUntimed}
 use Rattle.jet_work.specs.Texts.{text_of, IsWhole}
@@ -11,7 +11,7 @@ use Rattle.workload_model.specs.Answer.{IsBenchAnswer}
 use Rattle.outer_io.specs.Reads.{Reads}
 use Rattle.outer_io.proofs.ReadsLemmas.{reads-none, reads-less}
 use Rattle.jet_cli.proofs.Answering.{by_arm, answers-as, reads-as, whole-always, whole-to_output, untimed-always, refusal-as}
-use Rattle.jet_cli.proofs.Benching.{follows-always}
+use Rattle.jet_cli.proofs.Benching.{outcome_by-always}
 use Rattle.jet_cli.proofs.answer.answer.Goals as goal
 
 pub returns-in-Analysis-clause-answer : goal.returns-in-Analysis-clause-answer
@@ -93,7 +93,7 @@ pub returns-in-Record-clause-answer : goal.returns-in-Record-clause-answer
 returns-in-Record-clause-answer g c =
     let r = c.in-Record in
     answers-as (g.K.Clock.answers c.args.clock.now) (g.K.Clock.answers c.record.new.clock) (g.S.Store.shown c.args.store.now) (g.S.Store.shown c.record.new.store) (seen_by text_of c.as_answer-in-Record.result) _ r.is c.as_answer-in-Record.ensures.same
-    (subst (λ (names : List (Bor (List ℕ))). Follows (IsRecording r.program.now (map (λ (s : Bor (List ℕ)). s.now) names) (limits_of r.pages r.piece r.steps) (g.K.Clock.answers c.args.clock.now) (g.K.Clock.answers c.record.new.clock)) (g.S.Store.shown c.args.store.now) (g.S.Store.shown c.record.new.store) (seen_by bytes_of c.record.result)) c.deref.ensures.value c.record.ensures.answer)
+    (subst (λ (names : List (Bor (List ℕ))). IsOutcomeBy (IsRecording r.program.now (map (λ (s : Bor (List ℕ)). s.now) names) (limits_of r.pages r.piece r.steps) (g.K.Clock.answers c.args.clock.now) (g.K.Clock.answers c.record.new.clock)) (g.S.Store.shown c.args.store.now) (g.S.Store.shown c.record.new.store) (seen_by bytes_of c.record.result)) c.deref.ensures.value c.record.ensures.answer)
 
 pub returns-in-Record-clause-whole : goal.returns-in-Record-clause-whole
 returns-in-Record-clause-whole g c = whole-always (target_of (plain_command c.args.command.now)) c.as_answer-in-Record.result c.as_answer-in-Record.ensures.whole
@@ -114,7 +114,7 @@ pub returns-in-Queries-clause-answer : goal.returns-in-Queries-clause-answer
 returns-in-Queries-clause-answer g c =
     let q = c.in-Queries in
     answers-as (g.K.Clock.answers c.args.clock.now) (g.K.Clock.answers c.args.clock.now) (g.S.Store.shown c.args.store.now) (g.S.Store.shown c.queries.new.store) (seen_by text_of c.queries.result) _ q.is refl
-    (subst (λ (names : List (Bor (List ℕ))). Comes (λ file. queries_answer q.pipeline.epoch file q.program.now q.log.now (map (λ (s : Bor (List ℕ)). s.now) names)) (g.S.Store.shown c.args.store.now) (g.S.Store.shown c.queries.new.store) (seen_by text_of c.queries.result)) c.deref-in-Queries.ensures.value c.queries.ensures.answer)
+    (subst (λ (names : List (Bor (List ℕ))). IsOutcomeOf (λ file. queries_answer q.pipeline.epoch file q.program.now q.log.now (map (λ (s : Bor (List ℕ)). s.now) names)) (g.S.Store.shown c.args.store.now) (g.S.Store.shown c.queries.new.store) (seen_by text_of c.queries.result)) c.deref-in-Queries.ensures.value c.queries.ensures.answer)
 
 pub returns-in-Queries-clause-whole : goal.returns-in-Queries-clause-whole
 returns-in-Queries-clause-whole g c = by_arm (λ command. IfOk c.queries.result (λ answer. IfFile (target_of command) (IsWhole answer))) c.in-Queries.is (whole-to_output c.queries.result)
@@ -135,7 +135,7 @@ pub returns-in-Bench-clause-answer : goal.returns-in-Bench-clause-answer
 returns-in-Bench-clause-answer g c =
     let b = c.in-Bench in
     answers-as (g.K.Clock.answers c.args.clock.now) (g.K.Clock.answers c.args.clock.now) (g.S.Store.shown c.args.store.now) (g.S.Store.shown c.args.store.now) (seen_by text_of c.as_answer-in-Bench.result) _ b.is c.as_answer-in-Bench.ensures.same
-    (follows-always (IsBenchAnswer b.seed b.steps (workload_length b.pipeline)) (g.S.Store.shown c.args.store.now) (seen_by bytes_of c.bench.result) c.bench.ensures)
+    (outcome_by-always (IsBenchAnswer b.seed b.steps (workload_length b.pipeline)) (g.S.Store.shown c.args.store.now) (seen_by bytes_of c.bench.result) c.bench.ensures)
 
 pub returns-in-Bench-clause-whole : goal.returns-in-Bench-clause-whole
 returns-in-Bench-clause-whole g c = whole-always (target_of (plain_command c.args.command.now)) c.as_answer-in-Bench.result c.as_answer-in-Bench.ensures.whole

@@ -5,9 +5,9 @@ use Rattle.report_model.specs.Query.{Query}
 use Rattle.jet_model.specs.Outcomes.{and_then}
 use Rattle.jet_model.specs.Contents.{Contents, run_at, queries_at}
 use Rattle.jet_model.specs.Answer.{queries_answer}
-use Rattle.jet_files.specs.Outcome.{AskAlike, Comes, seen_by}
+use Rattle.jet_files.specs.Outcome.{AskAlike, IsOutcomeOf, seen_by}
 use Rattle.jet_files.specs.Views.{run_of}
-use Rattle.jet_files.proofs.Composing.{comes-stops}
+use Rattle.jet_files.proofs.Composing.{outcome_of-stops}
 use Rattle.jet_work.specs.Texts.{text_of}
 use Rattle.jet_work.specs.Answers.{several_answer, IsWorkOf, AreGivenAlike}
 use Rattle.jet_work.proofs.Working.{after_run, kept-refused, kept-given}
@@ -17,8 +17,8 @@ pub returns-in_err-run-clause-answer : goal.returns-in_err-run-clause-answer
 returns-in_err-run-clause-answer g c =
     let a = c.args in
     let names : List (List ℕ) = map (λ (name : Bor (List ℕ)). name.now) a.names.now in
-    let refused : Comes (λ file. queries_answer a.pipeline.epoch file a.program.now a.log.now names) (g.S.Store.shown a.store.now) (g.S.Store.shown c.open_run.new.store) (Err c.in_err-run.field-0.0) =
-    comes-stops (λ (file : Contents). run_at file a.program.now a.log.now) (λ run file. and_then (queries_at file names) (several_answer a.pipeline.epoch run)) (g.S.Store.shown a.store.now) (g.S.Store.shown c.open_run.new.store) c.in_err-run.field-0.0 c.in_err-run.ensures.outcome in
+    let refused : IsOutcomeOf (λ file. queries_answer a.pipeline.epoch file a.program.now a.log.now names) (g.S.Store.shown a.store.now) (g.S.Store.shown c.open_run.new.store) (Err c.in_err-run.field-0.0) =
+    outcome_of-stops (λ (file : Contents). run_at file a.program.now a.log.now) (λ run file. and_then (queries_at file names) (several_answer a.pipeline.epoch run)) (g.S.Store.shown a.store.now) (g.S.Store.shown c.open_run.new.store) c.in_err-run.field-0.0 c.in_err-run.ensures.outcome in
     search rules
 
 pub returns-in_err-queries-clause-answer : goal.returns-in_err-queries-clause-answer

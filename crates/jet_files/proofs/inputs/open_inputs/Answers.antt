@@ -6,7 +6,7 @@ use Rattle.std.proofs.lemmas.Result.{err_from_is_err_and}
 use Rattle.outer_io.specs.Reads.{Reads}
 use Rattle.outer_io.proofs.TellsLemmas.{tells-same}
 use Rattle.jet_model.specs.Contents.{inputs_at}
-use Rattle.jet_files.specs.Outcome.{Found, Comes}
+use Rattle.jet_files.specs.Outcome.{HeldBefore, IsOutcomeOf}
 use Rattle.outer_io.proofs.ReadsLemmas.{reads-none}
 use Rattle.jet_files.proofs.Several.{texts, items_of, inputs_more, inputs_stop, reads_more, reads_some}
 use Rattle.jet_files.proofs.inputs.open_inputs.Goals as goal
@@ -17,8 +17,8 @@ loop-name-init g c =
     let inputs : List (Vec ℕ Global) = c.new-inputs.result.items in
     let none : inputs ≡ [] = c.new-inputs.ensures.items in
     record {
-      outcome = subst (λ (w : List (Vec ℕ Global)). Comes (λ file. inputs_at file []) shown shown (Ok (items_of w))) (sym none)
-          (refl, tells-same shown.files (Found (λ file. inputs_at file [] ≡ Ok [])) (λ x. record { found = refl }));
+      outcome = subst (λ (w : List (Vec ℕ Global)). IsOutcomeOf (λ file. inputs_at file []) shown shown (Ok (items_of w))) (sym none)
+          (refl, tells-same shown.files (HeldBefore (λ file. inputs_at file [] ≡ Ok [])) (λ x. record { held = refl }));
       many = ap length none;
       short = All-same (λ (v : Vec ℕ Global). length v.items ≤ 2 ^ 26) inputs [] none (All-nil (λ (v : Vec ℕ Global). length v.items ≤ 2 ^ 26));
       reads = reads-none shown;
@@ -74,7 +74,7 @@ returns-in_err-push-clause-reads g c =
 pub returns-clause-outcome : goal.returns-clause-outcome
 returns-clause-outcome g c =
     let contents = items_of c.loop-name.inputs.items in
-    subst (λ (w : List (Bor (List ℕ))). Comes (λ file. inputs_at file (texts w)) (g.S.Store.shown c.args.store.now) (g.S.Store.shown c.loop-name.store) (Ok contents))
+    subst (λ (w : List (Bor (List ℕ))). IsOutcomeOf (λ file. inputs_at file (texts w)) (g.S.Store.shown c.args.store.now) (g.S.Store.shown c.loop-name.store) (Ok contents))
     (take_all c.loop-name.name-index c.args.names.now c.loop-name-test.false) c.loop-name.invariant.outcome
 
 pub returns-clause-many : goal.returns-clause-many

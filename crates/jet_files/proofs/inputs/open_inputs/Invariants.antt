@@ -3,7 +3,7 @@ use Rattle.std.specs.declared.alloc.Global.{Global}
 use Rattle.std.specs.List.{All}
 use Rattle.outer_io.specs.Reads.{Reads}
 use Rattle.jet_model.specs.Contents.{inputs_at}
-use Rattle.jet_files.specs.Outcome.{Comes}
+use Rattle.jet_files.specs.Outcome.{IsOutcomeOf}
 use Rattle.jet_files.proofs.inputs.open_inputs.Given as goal
 
 -- the first files are read
@@ -13,7 +13,7 @@ invariant-loop-name g l =
     let now = g.S.Store.shown l.store in
     let texts = map (λ (name : Bor (List ℕ)). name.now) (take l.name-index l.names) in
     record {
-      outcome : Comes (λ file. inputs_at file texts) before now (Ok (map (λ (v : Vec ℕ Global). v.items) l.inputs.items));
+      outcome : IsOutcomeOf (λ file. inputs_at file texts) before now (Ok (map (λ (v : Vec ℕ Global). v.items) l.inputs.items));
       many : length l.inputs.items ≡ l.name-index;
       short : All (λ (v : Vec ℕ Global). length v.items ≤ 2 ^ 26) l.inputs.items;
       reads : Reads texts true before now;

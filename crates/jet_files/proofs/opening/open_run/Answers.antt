@@ -3,7 +3,7 @@ use Rattle.std.proofs.lemmas.Result.{err_from_is_err_and}
 use Rattle.outer_io.proofs.ReadsLemmas.{reads-then, reads-stops, reads-less}
 use Rattle.jet_model.specs.Contents.{program_at, log_at}
 use Rattle.jet_files.specs.Views.{program_of}
-use Rattle.jet_files.proofs.Composing.{comes-stops, comes-then, comes-work}
+use Rattle.jet_files.proofs.Composing.{outcome_of-stops, outcome_of-then, outcome_of-work}
 use Rattle.jet_files.proofs.Runs.{run_with, log_with}
 use Rattle.jet_files.proofs.opening.open_run.Goals as goal
 
@@ -11,7 +11,7 @@ pub returns-in_err-program-clause-outcome : goal.returns-in_err-program-clause-o
 returns-in_err-program-clause-outcome g c =
     let p = err_from_is_err_and c.from_residual.result c.from_residual.ensures.1 in
     rw (p.1, p.2)
-    (comes-stops (λ file. program_at file c.args.program.now) (run_with c.args.log.now) (g.S.Store.shown c.args.store.now) (g.S.Store.shown c.open_program.new.store) _ c.in_err-program.ensures.outcome)
+    (outcome_of-stops (λ file. program_at file c.args.program.now) (run_with c.args.log.now) (g.S.Store.shown c.args.store.now) (g.S.Store.shown c.open_program.new.store) _ c.in_err-program.ensures.outcome)
 
 pub returns-in_err-program-clause-reads : goal.returns-in_err-program-clause-reads
 returns-in_err-program-clause-reads g c =
@@ -26,8 +26,8 @@ returns-in_err-log-clause-outcome g c =
     let program = program_of c.in_ok-program.program in
     let p = err_from_is_err_and c.from_residual-in_err-log.result c.from_residual-in_err-log.ensures.1 in
     rw (p.1, p.2)
-    (comes-then (λ file. program_at file c.args.program.now) (run_with log) program (g.S.Store.shown c.args.store.now) between after c.in_ok-program.ensures.outcome c.in_ok-program.ensures.reads c.in_err-log.ensures.reads (Err c.in_err-log.field-0.0)
-    (comes-stops (λ file. log_at file log) (λ l file. log_with program l) between after _ c.in_err-log.ensures.outcome))
+    (outcome_of-then (λ file. program_at file c.args.program.now) (run_with log) program (g.S.Store.shown c.args.store.now) between after c.in_ok-program.ensures.outcome c.in_ok-program.ensures.reads c.in_err-log.ensures.reads (Err c.in_err-log.field-0.0)
+    (outcome_of-stops (λ file. log_at file log) (λ l file. log_with program l) between after _ c.in_err-log.ensures.outcome))
 
 pub returns-in_err-log-clause-reads : goal.returns-in_err-log-clause-reads
 returns-in_err-log-clause-reads g c = reads-less _ (reads-then c.in_ok-program.ensures.reads c.in_err-log.ensures.reads)
@@ -38,8 +38,8 @@ returns-clause-outcome g c =
     let after = g.S.Store.shown c.open_log.new.store in
     let log = c.args.log.now in
     let program = program_of c.in_ok-program.program in
-    comes-then (λ file. program_at file c.args.program.now) (run_with log) program (g.S.Store.shown c.args.store.now) between after c.in_ok-program.ensures.outcome c.in_ok-program.ensures.reads c.in_ok-log.ensures.reads (log_with program c.in_ok-log.log)
-    (comes-work (λ file. log_at file log) (log_with program) c.in_ok-log.log between after c.in_ok-log.ensures.outcome (log_with program c.in_ok-log.log) refl)
+    outcome_of-then (λ file. program_at file c.args.program.now) (run_with log) program (g.S.Store.shown c.args.store.now) between after c.in_ok-program.ensures.outcome c.in_ok-program.ensures.reads c.in_ok-log.ensures.reads (log_with program c.in_ok-log.log)
+    (outcome_of-work (λ file. log_at file log) (log_with program) c.in_ok-log.log between after c.in_ok-log.ensures.outcome (log_with program c.in_ok-log.log) refl)
 
 pub returns-clause-reads : goal.returns-clause-reads
 returns-clause-reads g c = reads-then c.in_ok-program.ensures.reads c.in_ok-log.ensures.reads

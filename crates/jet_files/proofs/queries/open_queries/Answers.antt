@@ -5,7 +5,7 @@ use Rattle.report_model.specs.Query.{Query}
 use Rattle.outer_io.specs.Reads.{Reads}
 use Rattle.outer_io.proofs.TellsLemmas.{tells-same}
 use Rattle.jet_model.specs.Contents.{queries_at}
-use Rattle.jet_files.specs.Outcome.{Found, Follows, AreAllAlike}
+use Rattle.jet_files.specs.Outcome.{HeldBefore, IsOutcomeBy, AreAllAlike}
 use Rattle.outer_io.proofs.ReadsLemmas.{reads-none}
 use Rattle.jet_files.proofs.Several.{texts, queries_more, queries_stop, reads_more, reads_some}
 use Rattle.jet_files.proofs.queries.open_queries.Goals as goal
@@ -16,8 +16,8 @@ loop-name-init g c =
     let queries : List Query = c.new-queries.result.items in
     let none : queries ≡ [] = c.new-queries.ensures.items in
     record {
-      outcome = subst (λ (w : List Query). Follows (λ file kept. AreAllAlike kept (queries_at file [])) shown shown (Ok w)) (sym none)
-          (refl, tells-same shown.files (Found (λ file. AreAllAlike (Ok []) (queries_at file []))) (λ x. record { found = tt }));
+      outcome = subst (λ (w : List Query). IsOutcomeBy (λ file kept. AreAllAlike kept (queries_at file [])) shown shown (Ok w)) (sym none)
+          (refl, tells-same shown.files (HeldBefore (λ file. AreAllAlike (Ok []) (queries_at file []))) (λ x. record { held = tt }));
       many = ap length none;
       number = refl;
       reads = reads-none shown;
@@ -72,7 +72,7 @@ returns-in_err-push-clause-reads g c =
 
 pub returns-clause-outcome : goal.returns-clause-outcome
 returns-clause-outcome g c =
-    subst (λ (w : List (Bor (List ℕ))). Follows (λ file kept. AreAllAlike kept (queries_at file (texts w))) (g.S.Store.shown c.args.store.now) (g.S.Store.shown c.loop-name.store) (Ok c.loop-name.queries.items))
+    subst (λ (w : List (Bor (List ℕ))). IsOutcomeBy (λ file kept. AreAllAlike kept (queries_at file (texts w))) (g.S.Store.shown c.args.store.now) (g.S.Store.shown c.loop-name.store) (Ok c.loop-name.queries.items))
     (take_all c.loop-name.name-index c.args.names.now c.loop-name-test.false) c.loop-name.invariant.outcome
 
 pub returns-clause-many : goal.returns-clause-many

@@ -1,7 +1,7 @@
 use Rattle.std.proofs.Common.{◌≡◌, ℕ, List, length, map, take, true, Ok, Bor}
 use Rattle.outer_io.specs.Reads.{Reads}
 use Rattle.jet_model.specs.Contents.{queries_at}
-use Rattle.jet_files.specs.Outcome.{Follows, AreAllAlike}
+use Rattle.jet_files.specs.Outcome.{IsOutcomeBy, AreAllAlike}
 use Rattle.jet_files.proofs.queries.open_queries.Given as goal
 
 -- the first files are read
@@ -11,7 +11,7 @@ invariant-loop-name g l =
     let now = g.S.Store.shown l.store in
     let texts = map (λ (name : Bor (List ℕ)). name.now) (take l.name-index l.names) in
     record {
-      outcome : Follows (λ file kept. AreAllAlike kept (queries_at file texts)) before now (Ok l.queries.items);
+      outcome : IsOutcomeBy (λ file kept. AreAllAlike kept (queries_at file texts)) before now (Ok l.queries.items);
       many : length l.queries.items ≡ l.name-index;
       number : l.number ≡ l.name-index;
       reads : Reads texts true before now;

@@ -6,7 +6,7 @@ use Rattle.outer_io.specs.declared.whole.Unread.{Unread}
 use Rattle.jet_refusal.specs.declared.refusal.Refusal.TheVariants as refusal
 use Rattle.jet_model.specs.Contents.{file_at}
 use Rattle.jet_model.proofs.Files.{file_at-there, file_at-long}
-use Rattle.jet_files.proofs.Composing.{found-kept}
+use Rattle.jet_files.proofs.Composing.{held-kept}
 use Rattle.jet_files.proofs.reading.read_file.Goals as goal
 
 -- ---- the file was read
@@ -16,7 +16,7 @@ returns-in-Ok-clause-outcome g c =
     let name = c.args.name.now in
     let bytes = c.in-Ok.bytes.items in (
       c.in-Ok.ensures.stood,
-      found-kept (λ file. file_at file name ≡ Ok bytes) (HasContent name bytes) (g.S.Store.shown c.args.store.now).files (g.S.Store.shown c.read_whole.new.store).files
+      held-kept (λ file. file_at file name ≡ Ok bytes) (HasContent name bytes) (g.S.Store.shown c.args.store.now).files (g.S.Store.shown c.read_whole.new.store).files
           (λ x y there. file_at-there y.file name bytes there (omega (arith, c.in-Ok.ensures.short, c.in-Ok.bytes.ok))) c.in-Ok.ensures.content c.read_whole.ensures.reads.keeps,
     )
 
@@ -44,7 +44,7 @@ returns-in-Err-At-TooLong-clause-outcome g c =
     let before = g.S.Store.shown c.args.store.now in
     let after = g.S.Store.shown c.read_whole.new.store in
     let cause = subst (λ (why : Fault Unread). IsCausedBy (ReadCause name (2 ^ 26) before after) why) c.in-Err-At-TooLong.field-0-is c.in-Err-At-TooLong.ensures.cause in
-    found-kept (λ file. file_at file name ≡ Err refusal.TooLong) (IsLonger name (2 ^ 26)) before.files after.files
+    held-kept (λ file. file_at file name ≡ Err refusal.TooLong) (IsLonger name (2 ^ 26)) before.files after.files
     (λ x y long. file_at-long y.file name long.content long.is_there long.longer) (rw c.in-Err-At-TooLong.field-0-0-is at cause).1 c.read_whole.ensures.reads.keeps
 
 pub returns-in-Err-At-TooLong-clause-reads : goal.returns-in-Err-At-TooLong-clause-reads

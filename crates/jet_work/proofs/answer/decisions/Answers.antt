@@ -2,7 +2,7 @@ use Rattle.std.proofs.Common.{rules, [], ◌∷◌, Err, None}
 use Rattle.std.proofs.lemmas.Result.{err_from_is_err_and}
 use Rattle.outer_io.proofs.ReadsLemmas.{reads-then, reads-stops, reads-less}
 use Rattle.jet_model.specs.Answer.{query_answer}
-use Rattle.jet_files.specs.Outcome.{Comes, seen_by, bytes_of}
+use Rattle.jet_files.specs.Outcome.{IsOutcomeOf, seen_by, bytes_of}
 use Rattle.jet_files.specs.Views.{run_of}
 use Rattle.jet_work.specs.Answers.{decisions_by, named}
 use Rattle.jet_work.proofs.Working.{run-refused, query-refused, query-given}
@@ -11,7 +11,7 @@ use Rattle.jet_work.proofs.answer.decisions.Goals as goal
 pub returns-in_err-run-clause-answer : goal.returns-in_err-run-clause-answer
 returns-in_err-run-clause-answer g c =
     let a = c.args in
-    let refused : Comes (λ file. query_answer decisions_by None file (named a.program.now a.log.now a.query.now)) (g.S.Store.shown a.store.now) (g.S.Store.shown c.open_run.new.store) (Err c.in_err-run.field-0.0) =
+    let refused : IsOutcomeOf (λ file. query_answer decisions_by None file (named a.program.now a.log.now a.query.now)) (g.S.Store.shown a.store.now) (g.S.Store.shown c.open_run.new.store) (Err c.in_err-run.field-0.0) =
     run-refused decisions_by None a.program.now a.log.now a.query.now (g.S.Store.shown a.store.now) (g.S.Store.shown c.open_run.new.store) c.in_err-run.field-0.0 c.in_err-run.ensures.outcome in
     search rules
 

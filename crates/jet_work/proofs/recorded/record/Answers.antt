@@ -4,7 +4,7 @@ use Rattle.outer_io.proofs.TellsLemmas.{tells-nothing}
 use Rattle.outer_io.proofs.ReadsLemmas.{reads-then, reads-stops, reads-less}
 use Rattle.std.proofs.lemmas.Result.{err_from_is_err_and}
 use Rattle.std.specs.Global.{Vec}
-use Rattle.jet_files.specs.Outcome.{Follows, seen_by, bytes_of}
+use Rattle.jet_files.specs.Outcome.{IsOutcomeBy, seen_by, bytes_of}
 use Rattle.jet_files.specs.Views.{program_of}
 use Rattle.jet_work.specs.Answers.{IsCapture, IsRecording, IsWorkOf, limits_of}
 use Rattle.jet_work.proofs.Recording.{refused-program, refused-inputs, recorded}
@@ -16,7 +16,7 @@ returns-in_err-program-clause-answer g c =
     let names : List (List ℕ) = map (λ (name : Bor (List ℕ)). name.now) a.inputs.now in
     let limits = limits_of a.limits.pages a.limits.piece a.limits.steps in
     let heard = g.K.Clock.answers a.clock.now in
-    let refused : Follows (IsRecording a.program.now names limits heard heard) (g.S.Store.shown a.store.now) (g.S.Store.shown c.open_program.new.store) (Err c.in_err-program.field-0.0) =
+    let refused : IsOutcomeBy (IsRecording a.program.now names limits heard heard) (g.S.Store.shown a.store.now) (g.S.Store.shown c.open_program.new.store) (Err c.in_err-program.field-0.0) =
     refused-program a.program.now names limits heard heard (g.S.Store.shown a.store.now) (g.S.Store.shown c.open_program.new.store) c.in_err-program.field-0.0 (tells-nothing heard) c.in_err-program.ensures.outcome in
     search rules
 
@@ -26,7 +26,7 @@ returns-in_err-inputs-clause-answer g c =
     let names : List (List ℕ) = map (λ (name : Bor (List ℕ)). name.now) a.inputs.now in
     let limits = limits_of a.limits.pages a.limits.piece a.limits.steps in
     let heard = g.K.Clock.answers a.clock.now in
-    let refused : Follows (IsRecording a.program.now names limits heard heard) (g.S.Store.shown a.store.now) (g.S.Store.shown c.open_inputs.new.store) (Err c.in_err-inputs.field-0.0) =
+    let refused : IsOutcomeBy (IsRecording a.program.now names limits heard heard) (g.S.Store.shown a.store.now) (g.S.Store.shown c.open_inputs.new.store) (Err c.in_err-inputs.field-0.0) =
     refused-inputs a.program.now names limits heard heard (program_of c.in_ok-program.program) (g.S.Store.shown a.store.now) (g.S.Store.shown c.open_program.new.store) (g.S.Store.shown c.open_inputs.new.store) c.in_ok-program.ensures.outcome c.in_ok-program.ensures.reads false c.in_err-inputs.ensures.reads c.in_err-inputs.field-0.0 (tells-nothing heard) c.in_err-inputs.ensures.outcome in
     search rules
 

@@ -4,7 +4,7 @@ use Rattle.flow_model.specs.Origins.{step_at}
 use Rattle.replayer.specs.Jobs.{Job, trace_of}
 use Rattle.replayer.specs.Positions.{CursorAt}
 use Rattle.report_model.specs.Query.{policy_of}
-use Rattle.taint_tracking.specs.Following.{Follows, query_of}
+use Rattle.taint_tracking.specs.Following.{TracksSteps, query_of}
 use Rattle.epoch_summary.specs.Words.{label_words}
 use Rattle.local_taint.specs.Following.{AreFollowed}
 use Rattle.local_taint.proofs.Terms.{terms_course}
@@ -48,7 +48,7 @@ loop-cursor-preserved c =
     let at : step_at trace until ≡ Some step = subst (λ (p : CursorAt). step_at (trace_of p.job) p.time ≡ Some step) stand made.step in
     let number : step.number ≡ until = made.number ∙ ap (λ (p : CursorAt). p.time) stand in
     let course = terms_course (policy_of q) trace start in
-    let followed = subst (λ (j : Job). Follows label_words (trace_of j) c.loop-cursor.cursor.time until c.loop-cursor.tracking tracking) before.same_job quiet.followed q start _ course before.here in
+    let followed = subst (λ (j : Job). TracksSteps label_words (trace_of j) c.loop-cursor.cursor.time until c.loop-cursor.tracking tracking) before.same_job quiet.followed q start _ course before.here in
     let one_more = c.in_ok-step.ensures.followed trace (subst (λ (t : ℕ). step_at trace t ≡ Some step) (sym number) at) q start _ course (subst (λ (t : ℕ). AreFollowed q trace start t tracking) (sym number) followed) in
     let time : c.next.new.self.time ≡ until + 1 = ap (λ (p : CursorAt). p.time) after in
     let last = c.quiet_until-until.ensures.last in

@@ -1,6 +1,6 @@
 use Rattle.std.proofs.Common.{◌≡◌, ◌≤◌}
 use Rattle.replayer.specs.Jobs.{trace_of}
-use Rattle.taint_tracking.specs.Following.{IsSound, Follows, query_of, due_of}
+use Rattle.taint_tracking.specs.Following.{IsSound, TracksSteps, query_of, due_of}
 use Rattle.epoch_summary.specs.Words.{label_words}
 use Rattle.local_taint.proofs.analysis.follow_plain.Given as goal
 
@@ -12,5 +12,5 @@ invariant-loop-time l = let job = l.initial.cursor.job in let start = l.initial.
   sound : IsSound label_words l.tracking;
   query : query_of l.tracking ≡ query_of l.initial.tracking;
   quiet : l.until ≤ due_of l.tracking;
-  followed : Follows label_words (trace_of job) start l.time l.initial.tracking l.tracking;
+  followed : TracksSteps label_words (trace_of job) start l.time l.initial.tracking l.tracking;
 }

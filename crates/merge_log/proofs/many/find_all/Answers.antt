@@ -9,5 +9,5 @@ pub returns-clause-found : goal.returns-clause-found
 returns-clause-found c =
     let log = c.args.log.now in
     let roots = c.args.roots.now in
-    map_found c.settle_all.new.found.items roots (terms log) (c.in_ok-settle_all.ensures.sets ∙ c.in_ok-walk_many.ensures.sets)
-    (λ r h. same_terms _ _ (c.in_ok-settle_all.ensures.ascending r) (ascend-terms log (slice_index roots r)) (λ q. c.in_ok-settle_all.ensures.members r q ∙ c.in_ok-walk_many.ensures.found r q h))
+    map_found c.normalise_all.new.found.items roots (terms log) (c.in_ok-normalise_all.ensures.sets ∙ c.in_ok-walk_many.ensures.sets)
+    (λ r h. same_terms _ _ (c.in_ok-normalise_all.ensures.ascending r) (ascend-terms log (slice_index roots r)) (λ q. c.in_ok-normalise_all.ensures.members r q ∙ c.in_ok-walk_many.ensures.found r q h))

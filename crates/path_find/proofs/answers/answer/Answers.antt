@@ -1,7 +1,7 @@
 use Rattle.std.proofs.Common.{ap, sym, ◌∙◌}
 use Rattle.replayer.specs.Jobs.{trace_of}
 use Rattle.path_model.specs.Answer.{sink_of}
-use Rattle.path_find.specs.Sinks.{path_of, shown_found}
+use Rattle.path_find.specs.Sinks.{path_of, shown_path}
 use Rattle.path_find.proofs.Passing.{found_falls}
 use Rattle.path_find.proofs.answers.answer.Goals as goal
 
@@ -10,4 +10,4 @@ found_text-requires-clause-falls c =
     let job = c.args.job.now in
     let pair = c.in-Some.pair in
     found_falls job c.args.rule pair.source (sink_of (trace_of job) pair.sink) (path_of c.in-Some-2.found)
-    (ap shown_found (sym c.in-Some-2.is) ∙ c.in_ok-find_path.ensures.path)
+    (ap shown_path (sym c.in-Some-2.is) ∙ c.in_ok-find_path.ensures.path)

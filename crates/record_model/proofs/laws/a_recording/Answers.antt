@@ -1,4 +1,4 @@
-use Rattle.record_model.proofs.Found.{a_recording}
+use Rattle.record_model.proofs.RecordedRuns.{a_recording}
 use Rattle.record_model.proofs.laws.a_recording.Goals as goal
 
 pub returns : goal.returns

@@ -29,19 +29,19 @@ turn_once-requires-clause-space g c κs within =
 
 pub loop-preserved : goal.loop-preserved
 loop-preserved g c =
-    let before = c.loop.invariant.follows in
+    let before = c.loop.invariant.same_worker in
     let told = c.in-Some-pop_as.ensures.rule.0 in
-    let after = c.turn_once.ensures.follows in
+    let after = c.turn_once.ensures.same_worker in
     record {
       ready = c.turn_once.ensures.ready;
-      follows = record {
+      same_worker = record {
         shares = after.shares ∙ ap (λ v. v.shares) told ∙ before.shares;
         starts = after.starts ∙ ap (λ v. v.starts) told ∙ before.starts;
       };
     }
 
 pub loop-init : goal.loop-init
-loop-init g c = record { ready = c.requires.ready; follows = record { shares = refl; starts = refl } }
+loop-init g c = record { ready = c.requires.ready; same_worker = record { shares = refl; starts = refl } }
 
 pub pop_as-requires-clause-queue : goal.pop_as-requires-clause-queue
 pop_as-requires-clause-queue g c = c.loop.invariant.ready.has_pass
@@ -72,10 +72,10 @@ returns-in-None-pop_as-clause-ready g c =
       room = i.room;
     }
 
-pub returns-in-None-pop_as-clause-follows : goal.returns-in-None-pop_as-clause-follows
-returns-in-None-pop_as-clause-follows g c =
+pub returns-in-None-pop_as-clause-same_worker : goal.returns-in-None-pop_as-clause-same_worker
+returns-in-None-pop_as-clause-same_worker g c =
     let V : Type 0 = WorkerView g.row.T.Denot in
-    let before = c.loop.invariant.follows in
+    let before = c.loop.invariant.same_worker in
     let knows = c.in-None-pop_as.ensures.rule.0 in
     record { shares = ap (λ (v : V). v.shares) knows ∙ before.shares; starts = ap (λ (v : V). v.starts) knows ∙ before.starts }
 

@@ -2,7 +2,7 @@ use Rattle.std.proofs.Common.{sym, subst, ◌∙◌}
 use Rattle.std.proofs.lemmas.Result.{IfOk-weaker}
 use Rattle.flow_model.specs.Flow.{lanes}
 use Rattle.taint_shadow.specs.Labels.{Makes}
-use Rattle.taint_shadow.specs.Lanes.{Stand, both_mean, MakesLanes}
+use Rattle.taint_shadow.specs.Lanes.{LanesStand, both_mean, MakesLanes}
 use Rattle.taint_shadow.specs.Steps.{united_over, meaning_at}
 use Rattle.taint_shadow.proofs.Meaning.{alike_stand, stand_kept, lanes_mean, lanes_stand}
 use Rattle.taint_shadow.proofs.Flows.{with_label}
@@ -12,7 +12,7 @@ pub unite_all-requires : goal.unite_all-requires
 unite_all-requires g c = lanes_stand g.A.Labels.words g.met.A.Labels.laws _ _ c.requires.standing c.args.base _ c.requires.base c.lanes.ensures
 
 pub unite_lanes-requires-clause-one : goal.unite_lanes-requires-clause-one
-unite_lanes-requires-clause-one g c = subst (Stand g.A.Labels.words _) (sym c.alike.ensures) (alike_stand g.A.Labels.words _ c.in_ok-label.label c.in_ok-label.ensures.made.stands)
+unite_lanes-requires-clause-one g c = subst (LanesStand g.A.Labels.words _) (sym c.alike.ensures) (alike_stand g.A.Labels.words _ c.in_ok-label.label c.in_ok-label.ensures.made.stands)
 
 pub unite_lanes-requires-clause-other : goal.unite_lanes-requires-clause-other
 unite_lanes-requires-clause-other g c = stand_kept g.A.Labels.words _ _ c.args.lanes c.in_ok-label.ensures.keeps c.requires.lanes

@@ -2,7 +2,7 @@ use Rattle.std.proofs.Common.{arith, ap, sym, subst, ◌∙◌}
 use Rattle.std.proofs.lemmas.Result.{IfOk-weaker}
 use Rattle.flow_model.specs.Flow.{lane, lanes, shifted_lanes}
 use Rattle.taint_shadow.specs.Steps.{MakesOver}
-use Rattle.taint_shadow.specs.Lanes.{all_mean, Stand}
+use Rattle.taint_shadow.specs.Lanes.{all_mean, LanesStand}
 use Rattle.taint_shadow.proofs.Meaning.{alike_mean, alike_stand, lane_here, lanes_here, lane_made, lanes_mean, lanes_stand, both_made}
 use Rattle.taint_shadow.proofs.shapes.shifted_label.Goals as goal
 
@@ -13,7 +13,7 @@ pub unite_both-requires-clause-other : goal.unite_both-requires-clause-other
 unite_both-requires-clause-other g c =
     let words = g.A.Labels.words in
     let low = lane_made words g.met.A.Labels.laws _ _ c.requires.standing c.args.rs2 0 c.lanes.result.first c.requires.registers.1 (omega arith) (c.lanes.ensures 0 (omega arith)) in
-    subst (Stand words c.args.labels.now) (sym c.alike-amount.ensures) (alike_stand words c.args.labels.now c.lanes.result.first low.stands)
+    subst (LanesStand words c.args.labels.now) (sym c.alike-amount.ensures) (alike_stand words c.args.labels.now c.lanes.result.first low.stands)
 
 pub returns : goal.returns
 returns g c =

@@ -2,7 +2,7 @@ use Rattle.std.proofs.Common.{◌+◌, true, take, drop, ap, subst, ◌∙◌, a
 use Rattle.lists.proofs.Lists.{drop-within}
 use Rattle.epoch_summary.specs.Summaries.{summary_of}
 use Rattle.pass_parts.specs.Known.{known}
-use Rattle.pass_parts.specs.Knowing.{is_whole, summary_in}
+use Rattle.pass_parts.specs.PassSummaries.{is_whole, summary_in}
 use Rattle.backward_pass.specs.Backward.{AreAsked}
 use Rattle.backward_pass.proofs.Counts.{first_asked}
 use Rattle.backward_pass.proofs.back.Back.walk.Goals as goal

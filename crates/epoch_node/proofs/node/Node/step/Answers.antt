@@ -2,7 +2,7 @@ use Rattle.std.proofs.Common.{◌≡◌, inl, inr, sym, subst, ◌∙◌}
 use Rattle.epoch_node.specs.declared.stage.Phase.TheVariants.{Fresh, Done}
 use Rattle.epoch_node.specs.Cores.{core_of, phase_of}
 use Rattle.epoch_node.specs.Keeping.{KeepsCore}
-use Rattle.epoch_node.specs.Nodes.{NodeView, told_by, IsLedFrom, led_refl}
+use Rattle.epoch_node.specs.Nodes.{NodeView, traffic_of, IsLedFrom, led_refl}
 use Rattle.epoch_node.proofs.Led.{begun_by}
 use Rattle.epoch_node.proofs.NodeSteps.{asks_lead, asks_keep, answers_lead, answers_keep}
 use Rattle.epoch_node.proofs.node.Node.step.Goals as goal
@@ -48,13 +48,13 @@ invariant_of-self g c =
     let core = core_of s.core in
     elim c.match-phase.branch [
       | in-Fresh w ↦
-          subst (λ n. KeepsCore (core_of n.core) (told_by n.ends)) (sym w.self-inside-is)
+          subst (λ n. KeepsCore (core_of n.core) (traffic_of n.ends)) (sym w.self-inside-is)
           (asks_keep core (core_of w.step.new.self) s.ends w.step.new.inlet w.step.new.outlet w.step.result (inl (sym c.phase.ensures ∙ w.in-Fresh.is)) w.step.ensures.event c.self.invariant)
       | in-Asking w ↦
-          subst (λ n. KeepsCore (core_of n.core) (told_by n.ends)) (sym w.self-inside-is)
+          subst (λ n. KeepsCore (core_of n.core) (traffic_of n.ends)) (sym w.self-inside-is)
           (asks_keep core (core_of w.step-in-Asking.new.self) s.ends w.step-in-Asking.new.inlet w.step-in-Asking.new.outlet w.step-in-Asking.result (inr (sym c.phase.ensures ∙ w.in-Asking.is)) w.step-in-Asking.ensures.event c.self.invariant)
       | in-Answering w ↦
-          subst (λ n. KeepsCore (core_of n.core) (told_by n.ends)) (sym w.self-inside-is)
+          subst (λ n. KeepsCore (core_of n.core) (traffic_of n.ends)) (sym w.self-inside-is)
           (answers_keep core (core_of w.step-in-Answering.new.self) s.ends w.step-in-Answering.new.inlet w.step-in-Answering.new.outlet w.step-in-Answering.result (sym c.phase.ensures ∙ w.in-Answering.is) w.step-in-Answering.ensures.event c.self.invariant)
-      | in-Done w ↦ subst (λ n. KeepsCore (core_of n.core) (told_by n.ends)) (sym w.self-inside-is) c.self.invariant
+      | in-Done w ↦ subst (λ n. KeepsCore (core_of n.core) (traffic_of n.ends)) (sym w.self-inside-is) c.self.invariant
     ]

@@ -18,7 +18,7 @@ returns-in-Moved-clause-event g c =
     let counted = ap (core_of {G = g.row.G.Denot}) c.count.ensures in
     open_event (core_of c.args.self.now) (stage_of c.act.new.self) _ _ Moved (acts_of c.deref_mut.ensures.value (stage_of c.act.new.self) _ _ _ e.acts) c.requires.ready
     (same_none g.I.Inlet.end _ _ e.inlet) (same_none g.O.Outlet.end _ _ e.outlet)
-    (core_of c.count.new.self) (ap (λ d. d.given) counted) moved_open (ap (λ d. d.stage) counted) (ap (λ d. d.events) counted)
+    (core_of c.count.new.self) (ap (λ d. d.setup) counted) moved_open (ap (λ d. d.stage) counted) (ap (λ d. d.events) counted)
 
 pub returns-in-NotYet-clause-event : goal.returns-in-NotYet-clause-event
 returns-in-NotYet-clause-event g c =
@@ -38,8 +38,8 @@ returns-then-eq-2-clause-event g c =
     subst (IsEvent (core_of c.args.self.now) _ after _) (ended_last (phase_of after.stage) done)
     (over_event (core_of c.args.self.now) (stage_of c.act.new.self) _ _ Over (acts_of c.deref_mut.ensures.value (stage_of c.act.new.self) _ _ _ e.acts) c.requires.ready
     (same_none g.I.Inlet.end _ _ e.inlet) (same_none g.O.Outlet.end _ _ e.outlet)
-    after (ap (λ d. d.given) counted ∙ c.advance.ensures.given) refl was_open
-    (subst (Advances (core_of c.args.self.now).given _) (sym stage) c.advance.ensures.advances) (ap (λ d. d.events) counted ∙ ap one_more c.advance.ensures.events))
+    after (ap (λ d. d.setup) counted ∙ c.advance.ensures.setup) refl was_open
+    (subst (Advances (core_of c.args.self.now).setup _) (sym stage) c.advance.ensures.advances) (ap (λ d. d.events) counted ∙ ap one_more c.advance.ensures.events))
 
 pub returns-else-eq-2-clause-event : goal.returns-else-eq-2-clause-event
 returns-else-eq-2-clause-event g c =
@@ -52,5 +52,5 @@ returns-else-eq-2-clause-event g c =
     subst (IsEvent (core_of c.args.self.now) _ after _) (ended_before (phase_of after.stage) open_still)
     (over_event (core_of c.args.self.now) (stage_of c.act.new.self) _ _ Over (acts_of c.deref_mut.ensures.value (stage_of c.act.new.self) _ _ _ e.acts) c.requires.ready
     (same_none g.I.Inlet.end _ _ e.inlet) (same_none g.O.Outlet.end _ _ e.outlet)
-    after (ap (λ d. d.given) counted ∙ c.advance.ensures.given) refl was_open
-    (subst (Advances (core_of c.args.self.now).given _) (sym stage) c.advance.ensures.advances) (ap (λ d. d.events) counted ∙ ap one_more c.advance.ensures.events))
+    after (ap (λ d. d.setup) counted ∙ c.advance.ensures.setup) refl was_open
+    (subst (Advances (core_of c.args.self.now).setup _) (sym stage) c.advance.ensures.advances) (ap (λ d. d.events) counted ∙ ap one_more c.advance.ensures.events))

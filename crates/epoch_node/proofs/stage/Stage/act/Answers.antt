@@ -8,7 +8,7 @@ use Rattle.backward_pass.proofs.Reaching.{reached_next, sends_for}
 use Rattle.forward_pass.specs.Forward.{ForeView, fore_of, forwards}
 use Rattle.forward_pass.proofs.Reaching.{reached_next as fore_reached, reached_sends}
 use Rattle.epoch_node.specs.Cores.{Asking, Answering, stage_of}
-use Rattle.epoch_node.specs.Events.{went, CanAct, BackActs, ForeActs}
+use Rattle.epoch_node.specs.Events.{phase_traffic, CanAct, BackActs, ForeActs}
 use Rattle.epoch_node.proofs.Stepping.{acts_of}
 use Rattle.epoch_node.proofs.stage.Stage.act.Goals as goal
 
@@ -45,7 +45,7 @@ module _ (got sent got' sent' : Option (List Message)) (turn : PassTurn) where
 
 pub returns-in-Asking-clause-acts : goal.returns-in-Asking-clause-acts
 returns-in-Asking-clause-acts g c =
-    let can = subst (λ s. CanAct (stage_of s) (went g.I.Inlet.end g.O.Outlet.end c.args.inlet.now c.args.outlet.now)) c.in-Asking.is c.requires in
+    let can = subst (λ s. CanAct (stage_of s) (phase_traffic g.I.Inlet.end g.O.Outlet.end c.args.inlet.now c.args.outlet.now)) c.in-Asking.is c.requires in
     acts_of (sym c.in-Asking.is) _ _ _ _ (back_acts _ _ _ _ _ (back_of c.in-Asking.back) (back_of c.event.new.self) can.1 c.event.ensures.event)
 
 pub returns-in-Answering-clause-acts : goal.returns-in-Answering-clause-acts

@@ -3,8 +3,8 @@ use Rattle.std.proofs.lemmas.Grind.{common_steps}
 use Rattle.epoch_model.specs.Join.{resolved}
 use Rattle.stream_model.specs.Streams.{answer}
 use Rattle.pass_parts.specs.Known.{known}
-use Rattle.pass_parts.specs.Knowing.{is_whole, summary_in}
-use Rattle.forward_pass.specs.Came.{is_answerable}
+use Rattle.pass_parts.specs.PassSummaries.{is_whole, summary_in}
+use Rattle.forward_pass.specs.Received.{is_answerable}
 use Rattle.forward_pass.specs.Rest.{BeingSent}
 use Rattle.forward_pass.specs.Forward.{fore_of, known_by}
 use Rattle.forward_pass.specs.Steps.{before}

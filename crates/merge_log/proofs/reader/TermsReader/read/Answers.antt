@@ -17,6 +17,6 @@ pub returns : goal.returns
 returns c =
     let log = c.args.log.now in
     let node = c.args.node in
-    let settled = terms_of c.settle.new.self in
-    let read : settled ≡ terms log node = same_terms settled (terms log node) c.in_ok-settle.ensures.ascending (ascend-terms log node) (λ q. c.in_ok-settle.ensures.members q ∙ c.in_ok-walk.ensures.found q) in
+    let normalised = terms_of c.normalise.new.self in
+    let read : normalised ≡ terms log node = same_terms normalised (terms log node) c.in_ok-normalise.ensures.ascending (ascend-terms log node) (λ q. c.in_ok-normalise.ensures.members q ∙ c.in_ok-walk.ensures.found q) in
     record { read = read; ascending = subst AreSets (sym read) (ascend-terms log node) }

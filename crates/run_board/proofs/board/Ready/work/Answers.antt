@@ -14,8 +14,8 @@ answer g c =
     let pool = c.make_pool-pool in
     let handed_in = c.self.inside.tasks.items in
     let known = subst (λ (s : List g.row.T.Denot). All (KnowsStarts s) pool.result.items) (ap (λ v. v.starts) c.fill.ensures.filled) pool.ensures.starts in
-    let shares = t.follows.shares ∙ w.shares ∙ pool.ensures.shares in
-    let starts = t.follows.starts ∙ w.starts handed_in known in
+    let shares = t.same_worker.shares ∙ w.shares ∙ pool.ensures.shares in
+    let starts = t.same_worker.starts ∙ w.starts handed_in known in
     let whole : (h : ℕ → ℕ) → view_weight h (view_of c.turn_until_empty.new.worker) ≡ whole_weight (length handed_in) h = λ h. t.has_all shares h ∙ ap (λ (s : List g.row.T.Denot). whole_weight (length s) h) starts in
     rw (← c.self.view_is) (is_answer g.T.Numbered.words (view_of c.turn_until_empty.new.worker) c.turn_until_empty.new.worker.finished.items c.in_order.result.items handed_in t.ready.keeps whole starts c.self.invariant.0 c.in_order.ensures.permutation c.in_order.ensures.sorted)
 
