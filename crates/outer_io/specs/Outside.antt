@@ -23,8 +23,8 @@ change store output heard s o k s' o' k' = record {
 }
 
 -- where the store tells its files to the end, those before and after are so related
-abbrev pub Told : Change → (Files → Files → Type 0) → Type 0
-Told change related = Tells change.before.store.files change.after.store.files related
+abbrev pub IfTold : Change → (Files → Files → Type 0) → Type 0
+IfTold change related = Tells change.before.store.files change.after.store.files related
 
 -- neither count of faults rose
 pub record IsFaultless (change : Change) : Type 0 where
