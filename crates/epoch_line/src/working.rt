@@ -1,6 +1,6 @@
 //! A run's line of nodes, from its layout to what it comes to.
 
-ghost use Rattle.std.specs.Prelude.{◌≡◌, IfOk};
+ghost use Rattle.std.specs.Prelude.{◌≡◌, ◌≤◌, IfOk};
 ghost use Rattle.log_model.specs.Logs.{steps};
 ghost use Rattle.report_model.specs.Rows.{rows_as_written};
 ghost use Rattle.epoch_model.specs.Cutting.{IsCutting};

@@ -34,7 +34,7 @@ use Rattle.jet_model.specs.Answer.{fitting_start, told_check, cut_answer, analys
 use Rattle.jet_model.proofs.AndThen.{and_then-ok, and_then-err}
 use Rattle.jet_files.specs.Outcome.{AskAlike, AreAlike, IsKeptFor, IsOutcomeOf, HeldBefore, IsOutcomeBy, IsWork, by_reading}
 use Rattle.jet_files.proofs.Composing.{outcome_of-then, outcome_of-stops, outcome_by-stops}
-use Rattle.jet_files.proofs.Several.{kept-refused}
+use Rattle.jet_files.proofs.Several.{kept-refused as refused-alike}
 use Rattle.jet_words.specs.declared.command.Listing.{Listing}
 use Rattle.jet_words.specs.declared.command.Listing.TheVariants.{BySink, BySource, ByPath, ByRange}
 use Rattle.jet_work.specs.Answers.{IsWorkOf, fits_and_is_cut, conversion_of, given_by, format_text, decisions_by, IsGivenAlike, AreGivenAlike, named}
@@ -75,7 +75,7 @@ module _ {A : Type 0} (alike : A → A → Type 0) (read : Contents → Result A
 
   pub kept-refused : (r : Refusal) → IsOutcomeBy (λ file kept. IsKeptFor alike kept (read file)) f g (Err r) → IsOutcomeBy IsReadAnswer f g (Err r)
   kept-refused r = outcome_by-stops (λ file kept. IsKeptFor alike kept (read file)) IsReadAnswer f g r
-      (λ file h. and_then-err (read file) next r (kept-refused alike r (read file) h))
+      (λ file h. and_then-err (read file) next r (refused-alike alike r (read file) h))
 
   pub kept-given : (kept : A) → IsOutcomeBy (λ file kept. IsKeptFor alike kept (read file)) f g (Ok kept) → (outcome : Result (List ℕ) Refusal)
       → IsWorkOf (λ answer. (q : A) → alike kept q → next q ≡ answer) outcome → IsOutcomeBy IsReadAnswer f g outcome
