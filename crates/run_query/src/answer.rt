@@ -1,6 +1,6 @@
 //! The answer of a query, of what was found of its run.
 
-ghost use Rattle.std.specs.Prelude.{◌≡◌, ◌<◌, ◌^◌, ℕ, List, length, IfOk};
+ghost use Rattle.std.specs.Prelude.{◌≡◌, ◌<◌, ◌≤◌, ◌^◌, ℕ, List, length, IfOk};
 ghost use Rattle.log_model.specs.Logs.{steps};
 ghost use Rattle.report_model.specs.Rows.{rows, rows_as_written};
 ghost use Rattle.epoch_model.specs.Cutting.{IsCutting};

@@ -1,6 +1,6 @@
 //! A query over the first steps of a run, which has the rows of the whole.
 
-ghost use Rattle.std.specs.Prelude.{◌≡◌, IfOk};
+ghost use Rattle.std.specs.Prelude.{◌≡◌, ◌≤◌, IfOk};
 ghost use Rattle.report_model.specs.Rows.{rows};
 ghost use Rattle.replayer.specs.Jobs.{trace_of};
 ghost use Rattle.query_parts.specs.Parts.{AreEnough};

@@ -1,6 +1,6 @@
 //! A log checked, and a query over its run.
 
-ghost use Rattle.std.specs.Prelude.{◌≡◌, IfOk, IfErr};
+ghost use Rattle.std.specs.Prelude.{◌≡◌, ◌≤◌, IfOk, IfErr};
 ghost use Rattle.report_model.specs.Rows.{rows};
 ghost use Rattle.no_memory.specs.Faults.{IsCausedBy};
 ghost use Rattle.replayer.specs.Checks.{IsChecked, IsMisfit};
