@@ -42,6 +42,8 @@ pub(crate) fn lay_out<'a, G>(
 {
     // The contract of this says that the points are at locations.
     let _points = query.points();
+    // And that of this, that a link holds something.
+    let _items = capacity.get();
     let mut tickets = cuts.tickets(alloc)?;
     let Some(last) = tickets.pop() else {
         unreachable!()

@@ -76,7 +76,7 @@ returns g c =
     record {
       cutting = c.requires.cuts;
       located = c.points-points.ensures.located;
-      holds_some = omega (arith, c.requires.capacity.0);
+      holds_some = omega (arith, c.get-items.ensures.number, c.get-items.ensures.range.0);
       cores_are = ap (map (core_of {G = g.row.G.Denot})) c.in_ok-push-4.ensures.items ∙ map_push (core_of {G = g.row.G.Denot}) c.loop-ticket.cores.items c.in_ok-new-3.field-0
           ∙ ap₂ (λ (cs : List CoreView) (d : CoreView). cs ++ d ∷ []) i.cores_are made ∙ sym (last_push run true i.done e) ∙ ap (new_cores run true) split;
       inner = i.inner;
