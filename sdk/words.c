@@ -1,6 +1,7 @@
 /* The words of a run: what main gets. They come on channel 15, where the run has so many inputs, as texts that each end
    with a 0: `arg TEXT` for each word, the program's name first, `env NAME=VALUE`, and `in C SIZE NAME` for a file that
-   is input channel C (files.c). jet-run makes them. Where there are none, main gets the word `prog` alone. */
+   is input channel C (files.c), the first of them an `arg`. jet-run makes them. Where there are none, main gets the word
+   `prog` alone. */
 #include <string.h>
 #include <unistd.h>
 #include "jet.h"
@@ -40,7 +41,8 @@ static char **texts(const char *key, int *count)
     return list;                    /* fresh memory is 0, and so is what ends the list */
 }
 
-static void take_all(void)
+/* Reads channel 15 to its end, or no further than shows that it has no words. */
+static int read_words(void)
 {
     enum { PIECE = 1024 };
     int count;
@@ -51,14 +53,21 @@ static void take_all(void)
             place += count;
             kit_words_size += count;
         }
-    } while (count > 0);
+    } while (count > 0 && !strncmp(kit_words, "arg ", 4));
     memory(4);                      /* a 0, should the last text have none */
-    char **list = texts("arg ", &count);
-    if (count > 0) {
-        kit_main_argc = count;
-        kit_main_argv = list;
+    return !strncmp(kit_words, "arg ", 4);
+}
+
+static void take_all(void)
+{
+    if (read_words()) {
+        kit_main_argv = texts("arg ", &kit_main_argc);
+        int count;
+        environ = texts("env ", &count);
+    } else {
+        kit_words = NULL;
+        kit_words_size = 0;
     }
-    environ = texts("env ", &count);
 }
 
 void kit_take_words(int *stack)
