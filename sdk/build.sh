@@ -18,11 +18,21 @@ fi
 # What is built is put in place whole, so that two builds at a time don't meet.
 made=$(mktemp -d)
 trap 'rm -r "$made"' EXIT
-for file in start.S calls.S streams.c system.c new.cc; do
-    riscv64-unknown-elf-gcc -march=rv32im -mabi=ilp32 --specs=./jet.specs -O2 -g -Wall -Wextra -ffunction-sections \
+for file in start.S calls.S words.c content.c files.c descriptors.c folders.c streams.c system.c lacks.c new.cc; do
+    riscv64-unknown-elf-gcc -march=rv32im -mabi=ilp32 --specs=./jet.specs -B./ -Os -g -Wall -Wextra -ffunction-sections \
         -fdebug-prefix-map="$PWD"=jet -c "$file" -o "$made/${file%.*}.o"
 done
-(cd "$made" && riscv64-unknown-elf-ar rcsD libjet.a calls.o streams.o system.o new.o)
+# What a program defines under one of these names goes before.
+(
+    cd "$made"
+    mv start.o start
+    for file in *.o; do
+        riscv64-unknown-elf-nm -g --defined-only "$file" | sed 's/.* //' >names
+        riscv64-unknown-elf-objcopy --weaken-symbols=names "$file"
+    done
+    riscv64-unknown-elf-ar rcsD libjet.a ./*.o
+    mv start start.o
+)
 for file in start.o libjet.a; do
     mv "$made/$file" "out/$file.$$"
     mv "out/$file.$$" "out/$file"

@@ -10,19 +10,15 @@ _start:
         la gp, __global_pointer$
         .option pop
         la tp, __tls_base
+        mv a0, sp
+        call kit_take_words             # what the run was handed
         call __libc_init_array          # constructors
-        li a0, 1                        # main(1, {"prog", NULL}): jet hands no words on
-        la a1, arguments
+        lw a0, kit_main_argc
+        lw a1, kit_main_argv
+        lw a2, environ
         call main
         call exit
         .size _start, . - _start
-
-        .section .rodata.name, "a", @progbits
-name:   .asciz "prog"
-        .section .data.arguments, "aw", @progbits
-        .balign 4
-arguments:
-        .word name, 0
 
 # A variable of the thread that has a value at the start: where there is none, the linker gives the others no room.
         .section .tdata.start, "awT", @progbits
