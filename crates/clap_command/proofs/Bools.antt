@@ -1,5 +1,5 @@
 -- Tests joined by `&&` and `||`.
-use Rattle.std.proofs.Common.{◌≡◌, refl, true, false, Bool, not, ◌&&◌, ◌||◌}
+use Rattle.std.proofs.Common.{◌≡◌, refl, true, false, Bool, ◌&&◌, ◌||◌}
 
 pub and_true : (a b : Bool) → a ≡ true → b ≡ true → (a && b) ≡ true
 and_true a b p q = rw (p, q) refl
@@ -14,7 +14,3 @@ right_true false b e = e
 pub or_false : (a b : Bool) → b ≡ false → (a || b) ≡ true → a ≡ true
 or_false true b n e = refl
 or_false false b n e = cc
-
-pub is_false : (b : Bool) → not b ≡ true → b ≡ false
-is_false true e = cc
-is_false false e = refl

@@ -7,7 +7,7 @@ use Rattle.std.specs.Option.{option_map_or}
 use Rattle.std.specs.Str.{bytes_eq}
 use Rattle.std.proofs.lemmas.Bool.Decides.{nat_tests}
 use Rattle.std.proofs.lemmas.Slice.Eq.{bytes_eq-Decides}
-use Rattle.std.proofs.lemmas.Bool.{and_parts}
+use Rattle.std.proofs.lemmas.Bool.{and_parts, not-true}
 use Rattle.clap.specs.Words.{IsUnsignedIn, Row, Text, one_of, read_as}
 use Rattle.clap.specs.Facts.{explicit_source, parser_of_value, unwrap_or_range}
 use Rattle.clap.specs.Values.{reading_of}
@@ -22,7 +22,7 @@ use Rattle.clap.specs.declared.parser.matches.ValueSource.TheVariants.{DefaultVa
 use Rattle.clap.proofs.ValueTestLemmas.{accepts-Accepts}
 use Rattle.clap_command.specs.Values.{numeral_of, number_in, number_of, optional_number_of, values_of}
 use Rattle.clap_command.specs.Plain.{is_plain_subcommand, no_values}
-use Rattle.clap_command.proofs.Bools.{is_false, left_true, or_false, right_true}
+use Rattle.clap_command.proofs.Bools.{left_true, or_false, right_true}
 use Rattle.clap_command.proofs.Fit.{at_new_row, fits, reads_as_written, row_fits, rows_fit, text_is_itself}
 
 -- ---- which rows are there
@@ -78,7 +78,7 @@ defaulted : (id : Text) (d : List Rule) (rows : List Row) → list_any (has_defa
 defaulted id [] rows e = cc
 defaulted id (a ∷ d) rows e =
     (elim (has_default id a) as (λ b. has_default id a ≡ b → (b || list_any (has_default id) d) ≡ true → has_row id (fold with_default (with_default rows a) d) ≡ true) [
-      | true ↦ λ is q. let p = and_parts _ _ is in all_stay id d _ (comes id a rows ((bytes_eq-Decides a.id id).0 p.0) (is_false _ p.1))
+      | true ↦ λ is q. let p = and_parts _ _ is in all_stay id d _ (comes id a rows ((bytes_eq-Decides a.id id).0 p.0) (not-true _ p.1))
       | false ↦ λ is q. defaulted id d (with_default rows a) q
     ]) refl e
 
@@ -265,7 +265,7 @@ module _ (s : Shape) (words : List Text) (plain : is_plain_subcommand s ≡ true
   rows = rows_after s.rules [] words
 
   all_fit : list_all (row_fits s.rules) rows ≡ true
-  all_fit = let p = and_parts _ _ plain in rows_fit s words false p.0 (is_false _ p.1) passes
+  all_fit = let p = and_parts _ _ plain in rows_fit s words false p.0 (not-true _ p.1) passes
 
   -- an argument that has to be there has a row
   has_required : (id : Text) (a : Rule) → Only s.rules id a → a.required ≡ true → has_row id rows ≡ true

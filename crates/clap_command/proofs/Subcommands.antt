@@ -5,14 +5,14 @@ use Rattle.std.specs.List.{find, list_all}
 use Rattle.std.specs.Option.{option_map_or}
 use Rattle.std.specs.Str.{bytes_eq}
 use Rattle.std.proofs.lemmas.Slice.Eq.{bytes_eq-Decides}
-use Rattle.std.proofs.lemmas.Bool.{and_parts}
+use Rattle.std.proofs.lemmas.Bool.{and_parts, not-true}
 use Rattle.clap.specs.Words.{Row, Text, takes, subcommand_of}
 use Rattle.clap.specs.Walk.{Names, Held, answers_to, finished, nothing_held, walk, walk_from}
 use Rattle.clap.specs.Simple.{App, Shape, argument_words, built, built_leaf, entered, help_shape, is_simple, label_of, names_of, rows_at}
 use Rattle.clap.specs.Faults.{is_simple_and_free}
 use Rattle.clap.specs.Takes.{default_passes, entered_passes, is_valid, level_passes, settle_passes, walk_passes}
 use Rattle.clap_command.specs.Plain.{is_plain_command, is_sound}
-use Rattle.clap_command.proofs.Bools.{is_false, or_false}
+use Rattle.clap_command.proofs.Bools.{or_false}
 use Rattle.clap_command.proofs.HelpRefused.{no_help, help-refused}
 
 -- what the subcommand leaves of any words that it takes: its name and the rows of its arguments
@@ -75,5 +75,5 @@ at_subcommand Q a words plain each e =
     let q = and_parts (list_all is_sound b.subs) _ (and_parts (is_sound b.top) _ (and_parts (is_simple_and_free a) _ plain).1).1 in
     let r = and_parts b.top.subcommand_required _ q.1 in
     let walks : walk_passes b.top (names_of b) (walk_from nothing_held) given ≡ true = (and_parts _ _ p.1).0 in
-    entered_at Q b stop (help-refused b.top (names_of b) (walk_from nothing_held) given (is_false _ r.1) refl walks) each p.0
+    entered_at Q b stop (help-refused b.top (names_of b) (walk_from nothing_held) given (not-true _ r.1) refl walks) each p.0
     (has_subcommand b.top (names_of b) nothing_held given _ r.0 p.1)

@@ -213,7 +213,8 @@ impl<'a, G> Core<'a, G> {
             (core_of self.new) (phase_traffic I.end O.end inlet.new outlet.new) result }
         ensures inlet { IsEndFrom I.end inlet.new inlet.old }
         ensures outlet { IsEndFrom O.end outlet.new outlet.old }
-        ensures waits { WhenNotYet result (WaitsAt (core_of self.old).stage (phase_traffic I.end O.end inlet.old outlet.old)
+        ensures waits { WhenNotYet result (WaitsAt (core_of self.old).stage
+            (phase_traffic I.end O.end inlet.old outlet.old)
             (IsRefused I.end inlet.old inlet.new) (IsRefused O.end outlet.old outlet.new)) }
     {
         if self.phase() == Phase::Done {
@@ -295,7 +296,8 @@ impl<'a, G: Gate> Core<'a, G> {
             (core_of self.new) (phase_traffic I.end O.end inlet.new outlet.new) result }
         ensures inlet { IsEndFrom I.end inlet.new inlet.old }
         ensures outlet { IsEndFrom O.end outlet.new outlet.old }
-        ensures waits { WhenNotYet result (WaitsAt (core_of self.old).stage (phase_traffic I.end O.end inlet.old outlet.old)
+        ensures waits { WhenNotYet result (WaitsAt (core_of self.old).stage
+            (phase_traffic I.end O.end inlet.old outlet.old)
             (IsRefused I.end inlet.old inlet.new) (IsRefused O.end outlet.old outlet.new)) }
     {
         if self.phase() == Phase::Fresh {

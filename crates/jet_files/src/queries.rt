@@ -34,8 +34,8 @@ fn open_numbered<S: Store>(
     number: u32,
     name: &str,
 ) -> Result<Query, Refusal>
-    ensures outcome { IsOutcomeBy (λ file kept. AreAlike kept (numbered_query_at file number name.now)) (S.shown store.old)
-        (S.shown store.new) result }
+    ensures outcome { IsOutcomeBy (λ file kept. AreAlike kept (numbered_query_at file number name.now))
+        (S.shown store.old) (S.shown store.new) result }
     ensures reads { Reads (name.now ∷ []) true (S.shown store.old) (S.shown store.new) }
 {
     let bytes = read_file(alloc, store, name)?;

@@ -4,7 +4,7 @@ use Rattle.std.specs.Prelude.{◌==◌, not, nat_lt, if◌then◌else◌, codes}
 use Rattle.std.specs.List.{list_all, AllByRecursion}
 use Rattle.std.specs.Fmt.{decimal, signed_decimal, digits, digits_onto, digit_glyph}
 use Rattle.std.specs.Int.{w32, to_be_bytes}
-use Rattle.std.proofs.lemmas.Bool.{and_parts}
+use Rattle.std.proofs.lemmas.Bool.{and_parts, not-true}
 use Rattle.std.proofs.lemmas.Bool.Decides.{nat_tests}
 use Rattle.hex.specs.Hex.{lower_digits, encode_with, encode_lower}
 use Rattle.flow_model.specs.declared.Loc.{Loc}
@@ -43,17 +43,13 @@ last_feed = record { whole = λ rest. refl }
 abbrev pub no_feeds : List ℕ → Bool
 no_feeds cs = list_all (λ c. not (c == 0x0a)) cs
 
-is_not : (b : Bool) → not b ≡ true → b ≡ false
-is_not true e = absurd cc
-is_not false e = refl
-
 pub plain : (text : List ℕ) → no_feeds text ≡ true → Reads Inside text Inside
 plain [] e = nothing Inside
-plain (c ∷ cs) e = let both = and_parts (not (c == 0x0a)) (no_feeds cs) e in stays c (is_not (c == 0x0a) both.0) ⨾ plain cs both.1
+plain (c ∷ cs) e = let both = and_parts (not (c == 0x0a)) (no_feeds cs) e in stays c (not-true (c == 0x0a) both.0) ⨾ plain cs both.1
 
 pub in_last : (text : List ℕ) → no_feeds text ≡ true → Reads InLast text InLast
 in_last [] e = nothing InLast
-in_last (c ∷ cs) e = let both = and_parts (not (c == 0x0a)) (no_feeds cs) e in stays_last c (is_not (c == 0x0a) both.0) ⨾ in_last cs both.1
+in_last (c ∷ cs) e = let both = and_parts (not (c == 0x0a)) (no_feeds cs) e in stays_last c (not-true (c == 0x0a) both.0) ⨾ in_last cs both.1
 
 -- a line that begins with this character and text
 pub first : (c : ℕ) (text : List ℕ) → (c == 0x0a) ≡ false → (c == 0x65) ≡ false → no_feeds text ≡ true → Reads AtStart (c ∷ text) Inside
