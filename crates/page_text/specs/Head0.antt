@@ -9,7 +9,7 @@ head0 =
     codes "<head>\n" ++
     codes "<meta charset=\"utf-8\">\n" ++
     codes "<meta name=\"viewport\" content=\"width=device-width, initial-scale=1\">\n" ++
-    codes "<meta http-equiv=\"Content-Security-Policy\" content=\"default-src 'none'; style-src 'sha256-hjRSBdPm2u8mXd6szVcLxlLyubolzY/leg9si9IqK8w='; script-src 'sha256-DyQxfE5hHUl62JDW5bVOl99mfzBumDlRDcE0SAk666w='; base-uri 'none'; form-action 'none'\">\n" ++
+    codes "<meta http-equiv=\"Content-Security-Policy\" content=\"default-src 'none'; style-src 'sha256-hjRSBdPm2u8mXd6szVcLxlLyubolzY/leg9si9IqK8w='; script-src 'sha256-sDPWDEi+QqeUuaNNjMhu123Lgln6S1af4ktOAOs/VFc='; base-uri 'none'; form-action 'none'\">\n" ++
     codes "<title>jet: where each output byte came from</title>\n" ++
     codes "<style>\n" ++
     codes "/* The script reads these as colors. */\n" ++

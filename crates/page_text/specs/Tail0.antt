@@ -258,7 +258,7 @@ tail0 =
     codes "  line: 'each line',\n" ++
     codes "  call: where.kind === 'in' ? 'each read' : 'each write',\n" ++
     codes "  size: 'so many bytes:',\n" ++
-    codes "  text: 'each that begins with:',\n" ++
+    codes "  text: 'each begins with:',\n" ++
     codes "});\n" ++
     codes "\n" ++
     codes "/**\n" ++

@@ -189,7 +189,7 @@ tail1 =
     codes "    this.lines.append(probe);\n" ++
     codes "    const columns = this.view.clientWidth / (probe.getBoundingClientRect().width / 100) - beside;\n" ++
     codes "    probe.remove();\n" ++
-    codes "    return [128, 96, 64, 48, 32, 24, 16, 8].find((n) => n * (hex ? 4 : 1) <= columns) ?? 4;\n" ++
+    codes "    return [128, 112, 96, 80, 64, 56, 48, 40, 32, 24, 16, 8].find((n) => n * (hex ? 4 : 1) <= columns) ?? 4;\n" ++
     codes "  }\n" ++
     codes "\n" ++
     codes "  /** Lays the lines out, where they are not as they were, and draws. */\n" ++

@@ -17,7 +17,7 @@ pub(crate) fn push(out: &mut Vec<u8>) -> Result<(), NoMemory>
 <head>
 <meta charset="utf-8">
 <meta name="viewport" content="width=device-width, initial-scale=1">
-<meta http-equiv="Content-Security-Policy" content="default-src 'none'; style-src 'sha256-hjRSBdPm2u8mXd6szVcLxlLyubolzY/leg9si9IqK8w='; script-src 'sha256-DyQxfE5hHUl62JDW5bVOl99mfzBumDlRDcE0SAk666w='; base-uri 'none'; form-action 'none'">
+<meta http-equiv="Content-Security-Policy" content="default-src 'none'; style-src 'sha256-hjRSBdPm2u8mXd6szVcLxlLyubolzY/leg9si9IqK8w='; script-src 'sha256-sDPWDEi+QqeUuaNNjMhu123Lgln6S1af4ktOAOs/VFc='; base-uri 'none'; form-action 'none'">
 <title>jet: where each output byte came from</title>
 <style>
 /* The script reads these as colors. */

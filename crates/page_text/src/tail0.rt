@@ -266,7 +266,7 @@ const recordWords = (where) => ({
   line: 'each line',
   call: where.kind === 'in' ? 'each read' : 'each write',
   size: 'so many bytes:',
-  text: 'each that begins with:',
+  text: 'each begins with:',
 });
 
 /**

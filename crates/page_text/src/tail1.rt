@@ -197,7 +197,7 @@ class Pane {
     this.lines.append(probe);
     const columns = this.view.clientWidth / (probe.getBoundingClientRect().width / 100) - beside;
     probe.remove();
-    return [128, 96, 64, 48, 32, 24, 16, 8].find((n) => n * (hex ? 4 : 1) <= columns) ?? 4;
+    return [128, 112, 96, 80, 64, 56, 48, 40, 32, 24, 16, 8].find((n) => n * (hex ? 4 : 1) <= columns) ?? 4;
   }
 
   /** Lays the lines out, where they are not as they were, and draws. */
