@@ -9,7 +9,7 @@ head0 =
     codes "<head>\n" ++
     codes "<meta charset=\"utf-8\">\n" ++
     codes "<meta name=\"viewport\" content=\"width=device-width, initial-scale=1\">\n" ++
-    codes "<meta http-equiv=\"Content-Security-Policy\" content=\"default-src 'none'; style-src 'sha256-AcS6iqu2zisymQNL82Sb6wgrD6AStUQzDsQHMYGuQY4='; script-src 'sha256-IvEIZvTos5tNwOGScQigy4xwlQlK1UthDVJvpZLwq5M='; base-uri 'none'; form-action 'none'\">\n" ++
+    codes "<meta http-equiv=\"Content-Security-Policy\" content=\"default-src 'none'; style-src 'sha256-hjRSBdPm2u8mXd6szVcLxlLyubolzY/leg9si9IqK8w='; script-src 'sha256-sDPWDEi+QqeUuaNNjMhu123Lgln6S1af4ktOAOs/VFc='; base-uri 'none'; form-action 'none'\">\n" ++
     codes "<title>jet: where each output byte came from</title>\n" ++
     codes "<style>\n" ++
     codes "/* The script reads these as colors. */\n" ++
@@ -48,6 +48,10 @@ head0 =
     codes "th, td { padding: 0.15rem 0.6rem 0.15rem 0; text-align: left; vertical-align: baseline; }\n" ++
     codes "th { font-weight: 600; border-bottom: 1px solid var(--edge); }\n" ++
     codes "#channels select { max-width: 6.5rem; }\n" ++
+    codes "#channels input:not([type]) { width: 8.5rem; }\n" ++
+    codes "@supports (field-sizing: content) {\n" ++
+    codes "  #channels select { field-sizing: content; max-width: 11rem; }\n" ++
+    codes "}\n" ++
     codes "td.number, th.number { text-align: right; font-variant-numeric: tabular-nums; }\n" ++
     codes "tr.foreign td { color: var(--foreign); }\n" ++
     codes "\n" ++
@@ -160,7 +164,7 @@ head0 =
     codes "<option>auto</option><option>4</option><option>8</option><option>16</option>\n" ++
     codes "<option>24</option><option>32</option><option>48</option><option>64</option>\n" ++
     codes "</select></label>\n" ++
-    codes "<label><input type=\"checkbox\" id=\"hex\" checked> hex</label>\n" ++
+    codes "<label><input type=\"checkbox\" id=\"hex\"> hex</label>\n" ++
     codes "<label><input type=\"checkbox\" id=\"broken\" checked> a line for each record</label>\n" ++
     codes "<label>Find\n" ++
     codes "<select id=\"what\">\n" ++
@@ -183,6 +187,7 @@ head0 =
     codes "<kbd>n</kbd> and <kbd>p</kbd> go to the next and the last of a foreign record, <kbd>/</kbd> to the search, Escape clears.\n" ++
     codes "Copying in a pane takes the report's lines of what is selected. A double click selects joined bytes, a click on\n" ++
     codes "<code>#</code> a record.</p>\n" ++
+    codes "<p>Where records begin with a text, each goes on up to the next line that begins with it.</p>\n" ++
     codes "</details>\n" ++
     codes "</form>\n" ++
     codes "<div id=\"told\" role=\"status\" aria-label=\"The chosen bytes\"></div>\n" ++

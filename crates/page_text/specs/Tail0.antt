@@ -17,7 +17,7 @@ tail0 =
     codes "const byId = (id) => document.getElementById(id);\n" ++
     codes "\n" ++
     codes "function place(kind, number, time) {\n" ++
-    codes "  return { kind, number, time, bytes: new Uint8Array(0), calls: [], runs: [], records: [0], own: [] };\n" ++
+    codes "  return { kind, number, time, bytes: new Uint8Array(0), calls: [], runs: [], records: [0], recordIs: '', own: [] };\n" ++
     codes "}\n" ++
     codes "\n" ++
     codes "function decoded(base64) {\n" ++
@@ -142,9 +142,18 @@ tail0 =
     codes "\n" ++
     codes "const sideName = (where) => ({ in: 'Input', out: 'Output' }[where.kind] ?? 'Point');\n" ++
     codes "\n" ++
+    codes "const isPrintable = (b) => b >= 0x20 && b <= 0x7e;\n" ++
+    codes "\n" ++
     codes "/** Bytes as text that is safe to show and always as long as they are: each that isn't printable ASCII is a dot. */\n" ++
     codes "function shown(bytes) {\n" ++
-    codes "  return Array.from(bytes, (b) => (b >= 0x20 && b <= 0x7e ? String.fromCharCode(b) : '\\u00b7')).join('');\n" ++
+    codes "  return Array.from(bytes, (b) => (isPrintable(b) ? String.fromCharCode(b) : '\\u00b7')).join('');\n" ++
+    codes "}\n" ++
+    codes "\n" ++
+    codes "/** Whether nearly all bytes of places, 19 of 20, are printable ASCII, tabs or ends of lines. */\n" ++
+    codes "function areText(places) {\n" ++
+    codes "  const inText = Uint8Array.from({ length: 256 }, (none, b) => isPrintable(b) || [9, 10, 13].includes(b));\n" ++
+    codes "  const count = (where) => where.bytes.reduce((sum, b) => sum + inText[b], 0);\n" ++
+    codes "  return total(places, count) * 20 >= total(places, (where) => where.bytes.length) * 19;\n" ++
     codes "}\n" ++
     codes "\n" ++
     codes "/** The first bytes of a span as text. */\n" ++
@@ -241,13 +250,37 @@ tail0 =
     codes "\n" ++
     codes "// ---- Records: where they begin, and which bytes came from another record than the own one.\n" ++
     codes "\n" ++
-    codes "/** Where the records of a channel begin: at each line, at each call that moved bytes, or every `size` bytes. */\n" ++
-    codes "function recordStarts(where, how, size) {\n" ++
+    codes "const encoded = (text) => [...new TextEncoder().encode(text)];\n" ++
+    codes "const standsAt = (where, at, wanted) => wanted.every((b, i) => where.bytes[at + i] === b);\n" ++
+    codes "\n" ++
+    codes "/** What the records of a channel may be, with the words for it; the last two take a number and a text. */\n" ++
+    codes "const recordWords = (where) => ({\n" ++
+    codes "  line: 'each line',\n" ++
+    codes "  call: where.kind === 'in' ? 'each read' : 'each write',\n" ++
+    codes "  size: 'so many bytes:',\n" ++
+    codes "  text: 'each begins with:',\n" ++
+    codes "});\n" ++
+    codes "\n" ++
+    codes "/**\n" ++
+    codes " * Where the records of a channel begin: at each line, at each call that moved bytes, every `size` bytes, or at each\n" ++
+    codes " * line that begins with a text. What stands before the first such line is a record too.\n" ++
+    codes " */\n" ++
+    codes "function recordStarts(where, how, size, text) {\n" ++
     codes "  if (how === 'call') return where.calls.map((call) => call.first);\n" ++
     codes "  const starts = [0];\n" ++
-    codes "  const next = (at) => (how === 'line' ? where.bytes.indexOf(10, at) + 1 : at + size) || Infinity;\n" ++
-    codes "  for (let at = next(0); at < where.bytes.length; at = next(at)) starts.push(at);\n" ++
+    codes "  const wanted = how === 'text' ? encoded(text) : [];\n" ++
+    codes "  const next = (at) => (how === 'size' ? at + size : where.bytes.indexOf(10, at) + 1) || Infinity;\n" ++
+    codes "  for (let at = next(0); at < where.bytes.length; at = next(at)) {\n" ++
+    codes "    if (standsAt(where, at, wanted)) starts.push(at);\n" ++
+    codes "  }\n" ++
     codes "  return starts;\n" ++
+    codes "}\n" ++
+    codes "\n" ++
+    codes "/** Sets what the records of a channel are, and with it the words that say what a record is. */\n" ++
+    codes "function setRecords(where, how, size, text) {\n" ++
+    codes "  where.records = recordStarts(where, how, size, text);\n" ++
+    codes "  const told = { size: `each piece of ${many(size, 'byte')}`, text: `each part that begins with \"${text}\"` };\n" ++
+    codes "  where.recordIs = { ...recordWords(where), ...told }[how === 'text' && text === '' ? 'line' : how];\n" ++
     codes "}\n" ++
     codes "\n" ++
     codes "/** Lines, where they are short and at least as many as the calls; else calls. */\n" ++
@@ -257,39 +290,4 @@ tail0 =
     codes "}\n" ++
     codes "\n" ++
     codes "const recordAt = (where, offset) => lastUpTo(offset, where.records);\n" ++
-    codes "const recordEnd = (where, k) => where.records[k + 1] ?? where.bytes.length;\n" ++
-    codes "const recordSpan = (where, k) => ({ place: where, from: where.records[k], past: recordEnd(where, k) });\n" ++
-    codes "\n" ++
-    codes "/**\n" ++
-    codes " * The parts of a place's runs that have sources, each within one record, with its source spans. Where a run moves, the\n" ++
-    codes " * first source span is within one record too.\n" ++
-    codes " */\n" ++
-    codes "function* partsOf(where) {\n" ++
-    codes "  for (const run of where.runs) {\n" ++
-    codes "    const end = run.spans.length > 0 ? run.first + run.count : run.first;\n" ++
-    codes "    for (let from = run.first, past; from < end; from = past) {\n" ++
-    codes "      const record = recordAt(where, from);\n" ++
-    codes "      past = Math.min(end, recordEnd(where, record));\n" ++
-    codes "      if (run.moves) {\n" ++
-    codes "        const source = sourceSpan(run, run.spans[0], from, from + 1);\n" ++
-    codes "        past = Math.min(past, from + recordEnd(source.place, recordAt(source.place, source.from)) - source.from);\n" ++
-    codes "      }\n" ++
-    codes "      const sources = run.spans.map((span) => sourceSpan(run, span, from, past));\n" ++
-    codes "      yield { span: { place: where, from, past }, record, moves: run.moves, sources };\n" ++
-    codes "    }\n" ++
-    codes "  }\n" ++
-    codes "}\n" ++
-    codes "\n" ++
-    codes "/** For each record of an output channel the newest record of each input channel that reached it. */\n" ++
-    codes "function newestRecords(where) {\n" ++
-    codes "  const newest = where.records.map(() => new Map());\n" ++
-    codes "  for (const { record, sources } of partsOf(where)) {\n" ++
-    codes "    for (const source of sources) {\n" ++
-    codes "      const last = recordAt(source.place, source.past - 1);\n" ++
-    codes "      if (last > (newest[record].get(source.place) ?? -1)) newest[record].set(source.place, last);\n" ++
-    codes "    }\n" ++
-    codes "  }\n" ++
-    codes "  return newest;\n" ++
-    codes "}\n" ++
-    codes "\n" ++
-    codes "/** How many records before the own one of a written record a source span begins; 0 where its channel is one record. */\n"
+    codes "const recordEnd = (where, k) => where.records[k + 1] ?? where.bytes.length;\n"

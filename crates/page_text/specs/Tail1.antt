@@ -3,6 +3,41 @@ use Rattle.std.specs.Prelude.{ℕ, List, codes, ◌++◌}
 
 unfoldable pub tail1 : List ℕ
 tail1 =
+    codes "const recordSpan = (where, k) => ({ place: where, from: where.records[k], past: recordEnd(where, k) });\n" ++
+    codes "\n" ++
+    codes "/**\n" ++
+    codes " * The parts of a place's runs that have sources, each within one record, with its source spans. Where a run moves, the\n" ++
+    codes " * first source span is within one record too.\n" ++
+    codes " */\n" ++
+    codes "function* partsOf(where) {\n" ++
+    codes "  for (const run of where.runs) {\n" ++
+    codes "    const end = run.spans.length > 0 ? run.first + run.count : run.first;\n" ++
+    codes "    for (let from = run.first, past; from < end; from = past) {\n" ++
+    codes "      const record = recordAt(where, from);\n" ++
+    codes "      past = Math.min(end, recordEnd(where, record));\n" ++
+    codes "      if (run.moves) {\n" ++
+    codes "        const source = sourceSpan(run, run.spans[0], from, from + 1);\n" ++
+    codes "        past = Math.min(past, from + recordEnd(source.place, recordAt(source.place, source.from)) - source.from);\n" ++
+    codes "      }\n" ++
+    codes "      const sources = run.spans.map((span) => sourceSpan(run, span, from, past));\n" ++
+    codes "      yield { span: { place: where, from, past }, record, moves: run.moves, sources };\n" ++
+    codes "    }\n" ++
+    codes "  }\n" ++
+    codes "}\n" ++
+    codes "\n" ++
+    codes "/** For each record of an output channel the newest record of each input channel that reached it. */\n" ++
+    codes "function newestRecords(where) {\n" ++
+    codes "  const newest = where.records.map(() => new Map());\n" ++
+    codes "  for (const { record, sources } of partsOf(where)) {\n" ++
+    codes "    for (const source of sources) {\n" ++
+    codes "      const last = recordAt(source.place, source.past - 1);\n" ++
+    codes "      if (last > (newest[record].get(source.place) ?? -1)) newest[record].set(source.place, last);\n" ++
+    codes "    }\n" ++
+    codes "  }\n" ++
+    codes "  return newest;\n" ++
+    codes "}\n" ++
+    codes "\n" ++
+    codes "/** How many records before the own one of a written record a source span begins; 0 where its channel is one record. */\n" ++
     codes "function recordsBack(where, record, source) {\n" ++
     codes "  if (source.place.records.length === 1) return 0;\n" ++
     codes "  return (where.own[record]?.get(source.place) ?? record) - recordAt(source.place, source.from);\n" ++
@@ -26,18 +61,21 @@ tail1 =
     codes "\n" ++
     codes "/**\n" ++
     codes " * How bytes flow between records: `patterns`, each a place in written records with the places in received records that\n" ++
-    codes " * it came from, and how often; how many `others` there were once they were many; and `mixed`, the spans of outputs that\n" ++
-    codes " * came from other records than their own, and of inputs that came there.\n" ++
+    codes " * it came from, and how often; how many `others` there were once they were many; `joined`, the channels of which bytes\n" ++
+    codes " * came from others or came there; and `mixed`, the spans of outputs that came from other records than their own, and of\n" ++
+    codes " * inputs that came there.\n" ++
     codes " */\n" ++
     codes "function analyse() {\n" ++
     codes "  const patterns = new Map();\n" ++
     codes "  let others = 0;\n" ++
+    codes "  const joined = new Set();\n" ++
     codes "  const mixed = { in: [], out: [] };\n" ++
     codes "  for (const where of data.outputs) {\n" ++
     codes "    where.own = newestRecords(where);\n" ++
     codes "    for (const { span, record, moves, sources } of partsOf(where)) {\n" ++
     codes "      const back = sources.map((source) => recordsBack(where, record, source));\n" ++
     codes "      const foreign = sources.filter((source, i) => back[i] !== 0);\n" ++
+    codes "      for (const { place: channel } of [span, ...sources]) joined.add(channel);\n" ++
     codes "      if (foreign.length > 0) mixed.out.push(span);\n" ++
     codes "      for (const source of foreign) mixed.in.push(source);\n" ++
     codes "\n" ++
@@ -50,7 +88,7 @@ tail1 =
     codes "      else patterns.set(key, { span, at, moves, cameFrom, back, isForeign: foreign.length > 0, count: 1 });\n" ++
     codes "    }\n" ++
     codes "  }\n" ++
-    codes "  return { patterns: [...patterns.values()], others, mixed: { in: merged(mixed.in), out: merged(mixed.out) } };\n" ++
+    codes "  return { patterns: [...patterns.values()], others, joined, mixed: { in: merged(mixed.in), out: merged(mixed.out) } };\n" ++
     codes "}\n" ++
     codes "\n" ++
     codes "// ---- Marks: a bit for each look of a byte, which are its classes.\n" ++
@@ -151,7 +189,7 @@ tail1 =
     codes "    this.lines.append(probe);\n" ++
     codes "    const columns = this.view.clientWidth / (probe.getBoundingClientRect().width / 100) - beside;\n" ++
     codes "    probe.remove();\n" ++
-    codes "    return [128, 96, 64, 48, 32, 24, 16, 8].find((n) => n * (hex ? 4 : 1) <= columns) ?? 4;\n" ++
+    codes "    return [128, 112, 96, 80, 64, 56, 48, 40, 32, 24, 16, 8].find((n) => n * (hex ? 4 : 1) <= columns) ?? 4;\n" ++
     codes "  }\n" ++
     codes "\n" ++
     codes "  /** Lays the lines out, where they are not as they were, and draws. */\n" ++
@@ -162,7 +200,7 @@ tail1 =
     codes "    const offset = longest((where) => byteName(where, where.bytes.length));\n" ++
     codes "    const width = Number(byId('width').value) || this.fitting(hex, record + offset + 4);\n" ++
     codes "    const broken = byId('broken').checked;\n" ++
-    codes "    const layout = `${width} ${hex} ${broken} ${this.places.map((where) => where.records.length)}`;\n" ++
+    codes "    const layout = `${width} ${hex} ${broken} ${this.places.map((where) => where.recordIs)}`;\n" ++
     codes "    if (layout !== this.layout) {\n" ++
     codes "      const top = this.topByte();\n" ++
     codes "      this.layout = layout;\n" ++
@@ -240,42 +278,4 @@ tail1 =
     codes "      return words('div', `channel ${where.number}: ${many(where.bytes.length, 'byte')} ${side}`, 'line title');\n" ++
     codes "    }\n" ++
     codes "    const from = where.starts[at];\n" ++
-    codes "    const past = where.starts[at + 1] ?? where.bytes.length;\n" ++
-    codes "    const record = recordAt(where, from);\n" ++
-    codes "    const bytes = Array.from(where.bytes.subarray(from, past));\n" ++
-    codes "    const made = element('div', { className: 'line' },\n" ++
-    codes "      words('span', where.records[record] === from ? `#${record}` : '', 'record'),\n" ++
-    codes "      words('span', byteName(where, from), 'offset'));\n" ++
-    codes "    const cells = (className, texts) => element('span', { className }, ...texts.map((text) => words('span', text)));\n" ++
-    codes "    if (byId('hex').checked) made.append(cells('hex', bytes.map((b) => b.toString(16).padStart(2, '0'))));\n" ++
-    codes "    made.append(cells('text', [...shown(bytes)]));\n" ++
-    codes "    made.span = { place: where, from, past };\n" ++
-    codes "    return made;\n" ++
-    codes "  }\n" ++
-    codes "\n" ++
-    codes "  paint(made) {\n" ++
-    codes "    if (!made.span) return;\n" ++
-    codes "    const { place: where, from } = made.span;\n" ++
-    codes "    for (const group of made.querySelectorAll('.hex, .text')) {\n" ++
-    codes "      let at = from;\n" ++
-    codes "      for (const cell of group.children) {\n" ++
-    codes "        const look = LOOKS[where.marks[at++]];\n" ++
-    codes "        if (cell.className !== look) cell.className = look;\n" ++
-    codes "      }\n" ++
-    codes "    }\n" ++
-    codes "  }\n" ++
-    codes "\n" ++
-    codes "  /** A strip of where in all lines the lit, the chosen and the foreign bytes stand. */\n" ++
-    codes "  drawMap() {\n" ++
-    codes "    const { map } = this;\n" ++
-    codes "    map.width = map.clientWidth;\n" ++
-    codes "    map.height = map.clientHeight;\n" ++
-    codes "    const pen = map.getContext('2d');\n" ++
-    codes "    const style = getComputedStyle(map);\n" ++
-    codes "    const strip = (spans, color, left, width) => {\n" ++
-    codes "      pen.fillStyle = style.getPropertyValue(color);\n" ++
-    codes "      let bottom = -1;\n" ++
-    codes "      for (const { place: where, from, past } of spans) {\n" ++
-    codes "        if (!this.places.includes(where)) continue;\n" ++
-    codes "        const top = Math.max(bottom, Math.floor((this.lineOf(where, from) / this.count) * map.height));\n" ++
-    codes "        bottom = Math.max(top + 2, Math.ceil(((this.lineOf(where, past - 1) + 1) / this.count) * map.height));\n"
+    codes "    const past = where.starts[at + 1] ?? where.bytes.length;\n"

@@ -3,6 +3,44 @@ use Rattle.std.specs.Prelude.{ℕ, List, codes, ◌++◌}
 
 unfoldable pub tail2 : List ℕ
 tail2 =
+    codes "    const record = recordAt(where, from);\n" ++
+    codes "    const bytes = Array.from(where.bytes.subarray(from, past));\n" ++
+    codes "    const made = element('div', { className: 'line' },\n" ++
+    codes "      words('span', where.records[record] === from ? `#${record}` : '', 'record'),\n" ++
+    codes "      words('span', byteName(where, from), 'offset'));\n" ++
+    codes "    const cells = (className, texts) => element('span', { className }, ...texts.map((text) => words('span', text)));\n" ++
+    codes "    if (byId('hex').checked) made.append(cells('hex', bytes.map((b) => b.toString(16).padStart(2, '0'))));\n" ++
+    codes "    made.append(cells('text', [...shown(bytes)]));\n" ++
+    codes "    made.span = { place: where, from, past };\n" ++
+    codes "    return made;\n" ++
+    codes "  }\n" ++
+    codes "\n" ++
+    codes "  paint(made) {\n" ++
+    codes "    if (!made.span) return;\n" ++
+    codes "    const { place: where, from } = made.span;\n" ++
+    codes "    for (const group of made.querySelectorAll('.hex, .text')) {\n" ++
+    codes "      let at = from;\n" ++
+    codes "      for (const cell of group.children) {\n" ++
+    codes "        const look = LOOKS[where.marks[at++]];\n" ++
+    codes "        if (cell.className !== look) cell.className = look;\n" ++
+    codes "      }\n" ++
+    codes "    }\n" ++
+    codes "  }\n" ++
+    codes "\n" ++
+    codes "  /** A strip of where in all lines the lit, the chosen and the foreign bytes stand. */\n" ++
+    codes "  drawMap() {\n" ++
+    codes "    const { map } = this;\n" ++
+    codes "    map.width = map.clientWidth;\n" ++
+    codes "    map.height = map.clientHeight;\n" ++
+    codes "    const pen = map.getContext('2d');\n" ++
+    codes "    const style = getComputedStyle(map);\n" ++
+    codes "    const strip = (spans, color, left, width) => {\n" ++
+    codes "      pen.fillStyle = style.getPropertyValue(color);\n" ++
+    codes "      let bottom = -1;\n" ++
+    codes "      for (const { place: where, from, past } of spans) {\n" ++
+    codes "        if (!this.places.includes(where)) continue;\n" ++
+    codes "        const top = Math.max(bottom, Math.floor((this.lineOf(where, from) / this.count) * map.height));\n" ++
+    codes "        bottom = Math.max(top + 2, Math.ceil(((this.lineOf(where, past - 1) + 1) / this.count) * map.height));\n" ++
     codes "        pen.fillRect(left, top, width, bottom - top);\n" ++
     codes "        bottom -= 1;\n" ++
     codes "      }\n" ++
@@ -260,50 +298,4 @@ tail2 =
     codes "    foreign.get(other) ? words('span', ' foreign', 'alarm') : ''));\n" ++
     codes "  byId('told').replaceChildren(\n" ++
     codes "    element('div', {}, `${sideName(span.place)} `, words('strong', spanName(span), 'mono'), ' ',\n" ++
-    codes "      words('code', preview(span)), ` ${describe(span)}`),\n" ++
-    codes "    words('div', `came ${isSource ? 'to' : 'from'} ${size === 0 ? 'nothing that is listed'\n" ++
-    codes "      : `${many(size, 'byte')} in ${many(linked.length, 'range')}:`}`),\n" ++
-    codes "    element('ul', {}, ...list),\n" ++
-    codes "    linked.length > MOST_TOLD ? `and ${many(linked.length - MOST_TOLD, 'more range')}` : '',\n" ++
-    codes "    pathLine(span));\n" ++
-    codes "}\n" ++
-    codes "\n" ++
-    codes "/** The report's lines of the chosen output bytes, or the influence's of the chosen input bytes. */\n" ++
-    codes "function reportLines() {\n" ++
-    codes "  if (!chosen) return '';\n" ++
-    codes "  const lines = [];\n" ++
-    codes "  for (let offset = chosen.from; offset < chosen.past && lines.length < 10000; offset++) {\n" ++
-    codes "    const names = [byteName(chosen.place, offset)];\n" ++
-    codes "    for (const span of linkedTo(byteSpan(chosen.place, offset))) {\n" ++
-    codes "      for (let o = span.from; o < span.past; o++) names.push(byteName(span.place, o));\n" ++
-    codes "    }\n" ++
-    codes "    lines.push(`${names.join(' ')}\\n`);\n" ++
-    codes "  }\n" ++
-    codes "  return lines.join('');\n" ++
-    codes "}\n" ++
-    codes "\n" ++
-    codes "// ---- Search: bytes by their text or hex digits, and bytes by name.\n" ++
-    codes "\n" ++
-    codes "const MOST_FOUND = 100000;\n" ++
-    codes "\n" ++
-    codes "let found = [];\n" ++
-    codes "let searched = '';\n" ++
-    codes "let nextFound = 0;\n" ++
-    codes "\n" ++
-    codes "function findBytes(wanted) {\n" ++
-    codes "  const spans = [];\n" ++
-    codes "  if (wanted.length === 0) return spans;\n" ++
-    codes "  for (const where of [...data.inputs, ...data.outputs]) {\n" ++
-    codes "    const next = (from) => where.bytes.indexOf(wanted[0], from);\n" ++
-    codes "    for (let at = next(0); at >= 0 && spans.length < MOST_FOUND; at = next(at + 1)) {\n" ++
-    codes "      const isThere = wanted.every((b, i) => where.bytes[at + i] === b);\n" ++
-    codes "      if (isThere) spans.push({ place: where, from: at, past: at + wanted.length });\n" ++
-    codes "    }\n" ++
-    codes "  }\n" ++
-    codes "  return spans;\n" ++
-    codes "}\n" ++
-    codes "\n" ++
-    codes "/** A byte `c:o` or a range `c:a-b` of a side. */\n" ++
-    codes "function findNamed(places, name) {\n" ++
-    codes "  const [, ...parts] = /^\\s*(\\d+):(\\d+)(?:-(\\d+))?\\s*$/.exec(name) ?? [];\n" ++
-    codes "  const [number, from, past = from + 1] = parts.filter((part) => part !== undefined).map(Number);\n"
+    codes "      words('code', preview(span)), ` ${describe(span)}`),\n"

@@ -3,13 +3,58 @@ use Rattle.std.specs.Prelude.{ℕ, List, codes, ◌++◌}
 
 unfoldable pub tail3 : List ℕ
 tail3 =
+    codes "    words('div', `came ${isSource ? 'to' : 'from'} ${size === 0 ? 'nothing that is listed'\n" ++
+    codes "      : `${many(size, 'byte')} in ${many(linked.length, 'range')}:`}`),\n" ++
+    codes "    element('ul', {}, ...list),\n" ++
+    codes "    linked.length > MOST_TOLD ? `and ${many(linked.length - MOST_TOLD, 'more range')}` : '',\n" ++
+    codes "    pathLine(span));\n" ++
+    codes "}\n" ++
+    codes "\n" ++
+    codes "/** The report's lines of the chosen output bytes, or the influence's of the chosen input bytes. */\n" ++
+    codes "function reportLines() {\n" ++
+    codes "  if (!chosen) return '';\n" ++
+    codes "  const lines = [];\n" ++
+    codes "  for (let offset = chosen.from; offset < chosen.past && lines.length < 10000; offset++) {\n" ++
+    codes "    const names = [byteName(chosen.place, offset)];\n" ++
+    codes "    for (const span of linkedTo(byteSpan(chosen.place, offset))) {\n" ++
+    codes "      for (let o = span.from; o < span.past; o++) names.push(byteName(span.place, o));\n" ++
+    codes "    }\n" ++
+    codes "    lines.push(`${names.join(' ')}\\n`);\n" ++
+    codes "  }\n" ++
+    codes "  return lines.join('');\n" ++
+    codes "}\n" ++
+    codes "\n" ++
+    codes "// ---- Search: bytes by their text or hex digits, and bytes by name.\n" ++
+    codes "\n" ++
+    codes "const MOST_FOUND = 100000;\n" ++
+    codes "\n" ++
+    codes "let found = [];\n" ++
+    codes "let searched = '';\n" ++
+    codes "let nextFound = 0;\n" ++
+    codes "\n" ++
+    codes "function findBytes(wanted) {\n" ++
+    codes "  const spans = [];\n" ++
+    codes "  if (wanted.length === 0) return spans;\n" ++
+    codes "  for (const where of [...data.inputs, ...data.outputs]) {\n" ++
+    codes "    const next = (from) => where.bytes.indexOf(wanted[0], from);\n" ++
+    codes "    for (let at = next(0); at >= 0 && spans.length < MOST_FOUND; at = next(at + 1)) {\n" ++
+    codes "      if (standsAt(where, at, wanted)) spans.push({ place: where, from: at, past: at + wanted.length });\n" ++
+    codes "    }\n" ++
+    codes "  }\n" ++
+    codes "  return spans;\n" ++
+    codes "}\n" ++
+    codes "\n" ++
+    codes "/** A byte `c:o` or a range `c:a-b` of a side. */\n" ++
+    codes "function findNamed(places, name) {\n" ++
+    codes "  const [, ...parts] = /^\\s*(\\d+):(\\d+)(?:-(\\d+))?\\s*$/.exec(name) ?? [];\n" ++
+    codes "  const [number, from, past = from + 1] = parts.filter((part) => part !== undefined).map(Number);\n" ++
     codes "  const where = places.find((p) => p.number === number);\n" ++
     codes "  return where && from < past && past <= where.bytes.length ? [{ place: where, from, past }] : [];\n" ++
     codes "}\n" ++
     codes "\n" ++
     codes "/** Bytes by their text, or by the pairs of hex digits that write them, or by name. */\n" ++
     codes "function wantedSpans(what, text) {\n" ++
-    codes "  if (what === 'text') return findBytes([...new TextEncoder().encode(text)]);\n" ++
+    codes "  if (what === 'text') return findBytes(encoded(text));\n" ++
     codes "  if (what !== 'hex') return findNamed(what === 'in' ? data.inputs : data.outputs, text);\n" ++
     codes "  const isHex = /^(\\s*[0-9a-f]{2})*\\s*$/i.test(text);\n" ++
     codes "  return findBytes(isHex ? Array.from(text.matchAll(/[0-9a-f]{2}/gi), ([pair]) => parseInt(pair, 16)) : []);\n" ++
@@ -89,23 +134,24 @@ tail3 =
     codes "\n" ++
     codes "/** What a channel's records are, to be chosen. */\n" ++
     codes "function recordChoice(where) {\n" ++
-    codes "  const options = { line: 'each line', call: where.kind === 'in' ? 'each read' : 'each write', size: 'so many bytes:' };\n" ++
     codes "  const how = element('select', { ariaLabel: `Records of ${sideName(where)} ${where.number}` },\n" ++
-    codes "    ...Object.entries(options).map(([value, textContent]) => element('option', { value, textContent })));\n" ++
+    codes "    ...Object.entries(recordWords(where)).map(([value, textContent]) => element('option', { value, textContent })));\n" ++
     codes "  const size = element('input', { type: 'number', min: 1, value: 16, ariaLabel: 'Bytes in a record' });\n" ++
+    codes "  const text = element('input', { ariaLabel: 'What the first line of a record begins with', spellcheck: false });\n" ++
     codes "  const count = element('span');\n" ++
     codes "  const set = () => {\n" ++
     codes "    size.hidden = how.value !== 'size';\n" ++
-    codes "    where.records = recordStarts(where, how.value, Math.max(1, Math.floor(Number(size.value)) || 1));\n" ++
+    codes "    text.hidden = how.value !== 'text';\n" ++
+    codes "    setRecords(where, how.value, Math.max(1, Math.floor(Number(size.value)) || 1), text.value);\n" ++
     codes "    count.textContent = `${decimal(where.records.length)}: `;\n" ++
     codes "  };\n" ++
     codes "  how.value = usualRecords(where);\n" ++
     codes "  set();\n" ++
-    codes "  how.onchange = size.onchange = () => {\n" ++
+    codes "  how.onchange = size.onchange = text.onchange = () => {\n" ++
     codes "    set();\n" ++
     codes "    showRecords();\n" ++
     codes "  };\n" ++
-    codes "  return element('td', {}, count, how, ' ', size);\n" ++
+    codes "  return element('td', {}, count, how, ' ', size, text);\n" ++
     codes "}\n" ++
     codes "\n" ++
     codes "function showChannels() {\n" ++
@@ -121,7 +167,7 @@ tail3 =
     codes "  const flows = analyse();\n" ++
     codes "  moveMark(FOREIGN, [...mixed.in, ...mixed.out], [...flows.mixed.in, ...flows.mixed.out]);\n" ++
     codes "  mixed = flows.mixed;\n" ++
-    codes "  showAlarm();\n" ++
+    codes "  showAlarm(flows.joined);\n" ++
     codes "  showPatterns(flows);\n" ++
     codes "  for (const pane of panes) pane.layOut();\n" ++
     codes "  light();\n" ++
@@ -136,16 +182,27 @@ tail3 =
     codes "  return records.size;\n" ++
     codes "}\n" ++
     codes "\n" ++
-    codes "function showAlarm() {\n" ++
+    codes "/** On what the headline rests: what a record is on the channels that bytes came from or came to. */\n" ++
+    codes "function premise(joined) {\n" ++
+    codes "  const channels = [...data.inputs, ...data.outputs].filter((where) => joined.has(where));\n" ++
+    codes "  const alike = Map.groupBy(channels, (where) => where.recordIs);\n" ++
+    codes "  const names = (places) => places.map((where) => `${sideName(where).toLowerCase()} ${where.number}`).join(' and ');\n" ++
+    codes "  const parts = Array.from(alike, ([is, places]) => (alike.size === 1 ? is : `${is} of ${names(places)}`));\n" ++
+    codes "  return `If ${parts.join(' and ')} is a record: `;\n" ++
+    codes "}\n" ++
+    codes "\n" ++
+    codes "function showAlarm(joined) {\n" ++
     codes "  const counted = (places, spans, text) => places.map((where) => [countRecords(where, spans), where])\n" ++
     codes "    .filter(([n]) => n > 0).map(([n, where]) => text(n, where)).join(' and ');\n" ++
     codes "  const written = counted(data.outputs, mixed.out,\n" ++
     codes "    (n, where) => `${decimal(n)} of ${many(where.records.length, 'record')} of output ${where.number}`);\n" ++
     codes "  const received = counted(data.inputs, mixed.in, (n, where) => `${many(n, 'record')} of input ${where.number}`);\n" ++
     codes "  byId('alarm').className = written ? 'alarm' : '';\n" ++
-    codes "  byId('alarm').textContent = written\n" ++
+    codes "  const headline = written\n" ++
     codes "    ? `${written} hold bytes that came from another input record than their own: from ${received}.`\n" ++
-    codes "    : 'No written record has bytes that came from another input record than its own.';\n" ++
+    codes "    : 'no written record has bytes that came from another input record than its own.';\n" ++
+    codes "  byId('alarm').textContent = joined.size > 0 ? premise(joined) + headline\n" ++
+    codes "    : 'No written byte that is asked for has a source byte.';\n" ++
     codes "  for (const id of ['before', 'after']) byId(id).disabled = !written;\n" ++
     codes "}\n" ++
     codes "\n" ++
@@ -194,6 +251,7 @@ tail3 =
     codes "  markRows();\n" ++
     codes "  showFacts();\n" ++
     codes "  showChannels();\n" ++
+    codes "  byId('hex').checked = !areText([...data.inputs, ...data.outputs]);\n" ++
     codes "  panes = [new Pane('in', data.inputs), new Pane('out', data.outputs)];\n" ++
     codes "  showPoints();\n" ++
     codes "  setTimeout(showRecords);\n" ++

@@ -17,7 +17,7 @@ pub(crate) fn push(out: &mut Vec<u8>) -> Result<(), NoMemory>
 <head>
 <meta charset="utf-8">
 <meta name="viewport" content="width=device-width, initial-scale=1">
-<meta http-equiv="Content-Security-Policy" content="default-src 'none'; style-src 'sha256-AcS6iqu2zisymQNL82Sb6wgrD6AStUQzDsQHMYGuQY4='; script-src 'sha256-IvEIZvTos5tNwOGScQigy4xwlQlK1UthDVJvpZLwq5M='; base-uri 'none'; form-action 'none'">
+<meta http-equiv="Content-Security-Policy" content="default-src 'none'; style-src 'sha256-hjRSBdPm2u8mXd6szVcLxlLyubolzY/leg9si9IqK8w='; script-src 'sha256-sDPWDEi+QqeUuaNNjMhu123Lgln6S1af4ktOAOs/VFc='; base-uri 'none'; form-action 'none'">
 <title>jet: where each output byte came from</title>
 <style>
 /* The script reads these as colors. */
@@ -56,6 +56,10 @@ caption { text-align: left; padding: 0.25rem 0; color: var(--faint); }
 th, td { padding: 0.15rem 0.6rem 0.15rem 0; text-align: left; vertical-align: baseline; }
 th { font-weight: 600; border-bottom: 1px solid var(--edge); }
 #channels select { max-width: 6.5rem; }
+#channels input:not([type]) { width: 8.5rem; }
+@supports (field-sizing: content) {
+  #channels select { field-sizing: content; max-width: 11rem; }
+}
 td.number, th.number { text-align: right; font-variant-numeric: tabular-nums; }
 tr.foreign td { color: var(--foreign); }
 
@@ -168,7 +172,7 @@ main:not([hidden]) { display: grid; grid-template-columns: minmax(0, 4fr) minmax
 <option>auto</option><option>4</option><option>8</option><option>16</option>
 <option>24</option><option>32</option><option>48</option><option>64</option>
 </select></label>
-<label><input type="checkbox" id="hex" checked> hex</label>
+<label><input type="checkbox" id="hex"> hex</label>
 <label><input type="checkbox" id="broken" checked> a line for each record</label>
 <label>Find
 <select id="what">
@@ -191,6 +195,7 @@ byte on the other side. <kbd>a</kbd> selects the bytes that are joined with this
 <kbd>n</kbd> and <kbd>p</kbd> go to the next and the last of a foreign record, <kbd>/</kbd> to the search, Escape clears.
 Copying in a pane takes the report's lines of what is selected. A double click selects joined bytes, a click on
 <code>#</code> a record.</p>
+<p>Where records begin with a text, each goes on up to the next line that begins with it.</p>
 </details>
 </form>
 <div id="told" role="status" aria-label="The chosen bytes"></div>

@@ -25,7 +25,7 @@ pub(crate) fn push(out: &mut Vec<u8>) -> Result<(), NoMemory>
 const byId = (id) => document.getElementById(id);
 
 function place(kind, number, time) {
-  return { kind, number, time, bytes: new Uint8Array(0), calls: [], runs: [], records: [0], own: [] };
+  return { kind, number, time, bytes: new Uint8Array(0), calls: [], runs: [], records: [0], recordIs: '', own: [] };
 }
 
 function decoded(base64) {
@@ -150,9 +150,18 @@ function spanName({ place: where, from, past }) {
 
 const sideName = (where) => ({ in: 'Input', out: 'Output' }[where.kind] ?? 'Point');
 
+const isPrintable = (b) => b >= 0x20 && b <= 0x7e;
+
 /** Bytes as text that is safe to show and always as long as they are: each that isn't printable ASCII is a dot. */
 function shown(bytes) {
-  return Array.from(bytes, (b) => (b >= 0x20 && b <= 0x7e ? String.fromCharCode(b) : '\u00b7')).join('');
+  return Array.from(bytes, (b) => (isPrintable(b) ? String.fromCharCode(b) : '\u00b7')).join('');
+}
+
+/** Whether nearly all bytes of places, 19 of 20, are printable ASCII, tabs or ends of lines. */
+function areText(places) {
+  const inText = Uint8Array.from({ length: 256 }, (none, b) => isPrintable(b) || [9, 10, 13].includes(b));
+  const count = (where) => where.bytes.reduce((sum, b) => sum + inText[b], 0);
+  return total(places, count) * 20 >= total(places, (where) => where.bytes.length) * 19;
 }
 
 /** The first bytes of a span as text. */
@@ -249,13 +258,37 @@ const linkedTo = (span) => (span.place.kind === 'in' ? reachOf(span) : sourcesOf
 
 // ---- Records: where they begin, and which bytes came from another record than the own one.
 
-/** Where the records of a channel begin: at each line, at each call that moved bytes, or every `size` bytes. */
-function recordStarts(where, how, size) {
+const encoded = (text) => [...new TextEncoder().encode(text)];
+const standsAt = (where, at, wanted) => wanted.every((b, i) => where.bytes[at + i] === b);
+
+/** What the records of a channel may be, with the words for it; the last two take a number and a text. */
+const recordWords = (where) => ({
+  line: 'each line',
+  call: where.kind === 'in' ? 'each read' : 'each write',
+  size: 'so many bytes:',
+  text: 'each begins with:',
+});
+
+/**
+ * Where the records of a channel begin: at each line, at each call that moved bytes, every `size` bytes, or at each
+ * line that begins with a text. What stands before the first such line is a record too.
+ */
+function recordStarts(where, how, size, text) {
   if (how === 'call') return where.calls.map((call) => call.first);
   const starts = [0];
-  const next = (at) => (how === 'line' ? where.bytes.indexOf(10, at) + 1 : at + size) || Infinity;
-  for (let at = next(0); at < where.bytes.length; at = next(at)) starts.push(at);
+  const wanted = how === 'text' ? encoded(text) : [];
+  const next = (at) => (how === 'size' ? at + size : where.bytes.indexOf(10, at) + 1) || Infinity;
+  for (let at = next(0); at < where.bytes.length; at = next(at)) {
+    if (standsAt(where, at, wanted)) starts.push(at);
+  }
   return starts;
+}
+
+/** Sets what the records of a channel are, and with it the words that say what a record is. */
+function setRecords(where, how, size, text) {
+  where.records = recordStarts(where, how, size, text);
+  const told = { size: `each piece of ${many(size, 'byte')}`, text: `each part that begins with "${text}"` };
+  where.recordIs = { ...recordWords(where), ...told }[how === 'text' && text === '' ? 'line' : how];
 }
 
 /** Lines, where they are short and at least as many as the calls; else calls. */
@@ -266,41 +299,6 @@ function usualRecords(where) {
 
 const recordAt = (where, offset) => lastUpTo(offset, where.records);
 const recordEnd = (where, k) => where.records[k + 1] ?? where.bytes.length;
-const recordSpan = (where, k) => ({ place: where, from: where.records[k], past: recordEnd(where, k) });
-
-/**
- * The parts of a place's runs that have sources, each within one record, with its source spans. Where a run moves, the
- * first source span is within one record too.
- */
-function* partsOf(where) {
-  for (const run of where.runs) {
-    const end = run.spans.length > 0 ? run.first + run.count : run.first;
-    for (let from = run.first, past; from < end; from = past) {
-      const record = recordAt(where, from);
-      past = Math.min(end, recordEnd(where, record));
-      if (run.moves) {
-        const source = sourceSpan(run, run.spans[0], from, from + 1);
-        past = Math.min(past, from + recordEnd(source.place, recordAt(source.place, source.from)) - source.from);
-      }
-      const sources = run.spans.map((span) => sourceSpan(run, span, from, past));
-      yield { span: { place: where, from, past }, record, moves: run.moves, sources };
-    }
-  }
-}
-
-/** For each record of an output channel the newest record of each input channel that reached it. */
-function newestRecords(where) {
-  const newest = where.records.map(() => new Map());
-  for (const { record, sources } of partsOf(where)) {
-    for (const source of sources) {
-      const last = recordAt(source.place, source.past - 1);
-      if (last > (newest[record].get(source.place) ?? -1)) newest[record].set(source.place, last);
-    }
-  }
-  return newest;
-}
-
-/** How many records before the own one of a written record a source span begins; 0 where its channel is one record. */
 "#,
     )?;
     Ok(())

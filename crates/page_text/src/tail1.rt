@@ -11,7 +11,42 @@ pub(crate) fn push(out: &mut Vec<u8>) -> Result<(), NoMemory>
     ensures { OnOk result (out.new.items ≡ out.old.items ++ tail1) }
 {
     out.extend_from_slice(
-        br#"function recordsBack(where, record, source) {
+        br#"const recordSpan = (where, k) => ({ place: where, from: where.records[k], past: recordEnd(where, k) });
+
+/**
+ * The parts of a place's runs that have sources, each within one record, with its source spans. Where a run moves, the
+ * first source span is within one record too.
+ */
+function* partsOf(where) {
+  for (const run of where.runs) {
+    const end = run.spans.length > 0 ? run.first + run.count : run.first;
+    for (let from = run.first, past; from < end; from = past) {
+      const record = recordAt(where, from);
+      past = Math.min(end, recordEnd(where, record));
+      if (run.moves) {
+        const source = sourceSpan(run, run.spans[0], from, from + 1);
+        past = Math.min(past, from + recordEnd(source.place, recordAt(source.place, source.from)) - source.from);
+      }
+      const sources = run.spans.map((span) => sourceSpan(run, span, from, past));
+      yield { span: { place: where, from, past }, record, moves: run.moves, sources };
+    }
+  }
+}
+
+/** For each record of an output channel the newest record of each input channel that reached it. */
+function newestRecords(where) {
+  const newest = where.records.map(() => new Map());
+  for (const { record, sources } of partsOf(where)) {
+    for (const source of sources) {
+      const last = recordAt(source.place, source.past - 1);
+      if (last > (newest[record].get(source.place) ?? -1)) newest[record].set(source.place, last);
+    }
+  }
+  return newest;
+}
+
+/** How many records before the own one of a written record a source span begins; 0 where its channel is one record. */
+function recordsBack(where, record, source) {
   if (source.place.records.length === 1) return 0;
   return (where.own[record]?.get(source.place) ?? record) - recordAt(source.place, source.from);
 }
@@ -34,18 +69,21 @@ const MOST_PATTERNS = 5000;
 
 /**
  * How bytes flow between records: `patterns`, each a place in written records with the places in received records that
- * it came from, and how often; how many `others` there were once they were many; and `mixed`, the spans of outputs that
- * came from other records than their own, and of inputs that came there.
+ * it came from, and how often; how many `others` there were once they were many; `joined`, the channels of which bytes
+ * came from others or came there; and `mixed`, the spans of outputs that came from other records than their own, and of
+ * inputs that came there.
  */
 function analyse() {
   const patterns = new Map();
   let others = 0;
+  const joined = new Set();
   const mixed = { in: [], out: [] };
   for (const where of data.outputs) {
     where.own = newestRecords(where);
     for (const { span, record, moves, sources } of partsOf(where)) {
       const back = sources.map((source) => recordsBack(where, record, source));
       const foreign = sources.filter((source, i) => back[i] !== 0);
+      for (const { place: channel } of [span, ...sources]) joined.add(channel);
       if (foreign.length > 0) mixed.out.push(span);
       for (const source of foreign) mixed.in.push(source);
 
@@ -58,7 +96,7 @@ function analyse() {
       else patterns.set(key, { span, at, moves, cameFrom, back, isForeign: foreign.length > 0, count: 1 });
     }
   }
-  return { patterns: [...patterns.values()], others, mixed: { in: merged(mixed.in), out: merged(mixed.out) } };
+  return { patterns: [...patterns.values()], others, joined, mixed: { in: merged(mixed.in), out: merged(mixed.out) } };
 }
 
 // ---- Marks: a bit for each look of a byte, which are its classes.
@@ -159,7 +197,7 @@ class Pane {
     this.lines.append(probe);
     const columns = this.view.clientWidth / (probe.getBoundingClientRect().width / 100) - beside;
     probe.remove();
-    return [128, 96, 64, 48, 32, 24, 16, 8].find((n) => n * (hex ? 4 : 1) <= columns) ?? 4;
+    return [128, 112, 96, 80, 64, 56, 48, 40, 32, 24, 16, 8].find((n) => n * (hex ? 4 : 1) <= columns) ?? 4;
   }
 
   /** Lays the lines out, where they are not as they were, and draws. */
@@ -170,7 +208,7 @@ class Pane {
     const offset = longest((where) => byteName(where, where.bytes.length));
     const width = Number(byId('width').value) || this.fitting(hex, record + offset + 4);
     const broken = byId('broken').checked;
-    const layout = `${width} ${hex} ${broken} ${this.places.map((where) => where.records.length)}`;
+    const layout = `${width} ${hex} ${broken} ${this.places.map((where) => where.recordIs)}`;
     if (layout !== this.layout) {
       const top = this.topByte();
       this.layout = layout;
@@ -249,44 +287,6 @@ class Pane {
     }
     const from = where.starts[at];
     const past = where.starts[at + 1] ?? where.bytes.length;
-    const record = recordAt(where, from);
-    const bytes = Array.from(where.bytes.subarray(from, past));
-    const made = element('div', { className: 'line' },
-      words('span', where.records[record] === from ? `#${record}` : '', 'record'),
-      words('span', byteName(where, from), 'offset'));
-    const cells = (className, texts) => element('span', { className }, ...texts.map((text) => words('span', text)));
-    if (byId('hex').checked) made.append(cells('hex', bytes.map((b) => b.toString(16).padStart(2, '0'))));
-    made.append(cells('text', [...shown(bytes)]));
-    made.span = { place: where, from, past };
-    return made;
-  }
-
-  paint(made) {
-    if (!made.span) return;
-    const { place: where, from } = made.span;
-    for (const group of made.querySelectorAll('.hex, .text')) {
-      let at = from;
-      for (const cell of group.children) {
-        const look = LOOKS[where.marks[at++]];
-        if (cell.className !== look) cell.className = look;
-      }
-    }
-  }
-
-  /** A strip of where in all lines the lit, the chosen and the foreign bytes stand. */
-  drawMap() {
-    const { map } = this;
-    map.width = map.clientWidth;
-    map.height = map.clientHeight;
-    const pen = map.getContext('2d');
-    const style = getComputedStyle(map);
-    const strip = (spans, color, left, width) => {
-      pen.fillStyle = style.getPropertyValue(color);
-      let bottom = -1;
-      for (const { place: where, from, past } of spans) {
-        if (!this.places.includes(where)) continue;
-        const top = Math.max(bottom, Math.floor((this.lineOf(where, from) / this.count) * map.height));
-        bottom = Math.max(top + 2, Math.ceil(((this.lineOf(where, past - 1) + 1) / this.count) * map.height));
 "#,
     )?;
     Ok(())

@@ -11,7 +11,45 @@ pub(crate) fn push(out: &mut Vec<u8>) -> Result<(), NoMemory>
     ensures { OnOk result (out.new.items ≡ out.old.items ++ tail2) }
 {
     out.extend_from_slice(
-        br#"        pen.fillRect(left, top, width, bottom - top);
+        br#"    const record = recordAt(where, from);
+    const bytes = Array.from(where.bytes.subarray(from, past));
+    const made = element('div', { className: 'line' },
+      words('span', where.records[record] === from ? `#${record}` : '', 'record'),
+      words('span', byteName(where, from), 'offset'));
+    const cells = (className, texts) => element('span', { className }, ...texts.map((text) => words('span', text)));
+    if (byId('hex').checked) made.append(cells('hex', bytes.map((b) => b.toString(16).padStart(2, '0'))));
+    made.append(cells('text', [...shown(bytes)]));
+    made.span = { place: where, from, past };
+    return made;
+  }
+
+  paint(made) {
+    if (!made.span) return;
+    const { place: where, from } = made.span;
+    for (const group of made.querySelectorAll('.hex, .text')) {
+      let at = from;
+      for (const cell of group.children) {
+        const look = LOOKS[where.marks[at++]];
+        if (cell.className !== look) cell.className = look;
+      }
+    }
+  }
+
+  /** A strip of where in all lines the lit, the chosen and the foreign bytes stand. */
+  drawMap() {
+    const { map } = this;
+    map.width = map.clientWidth;
+    map.height = map.clientHeight;
+    const pen = map.getContext('2d');
+    const style = getComputedStyle(map);
+    const strip = (spans, color, left, width) => {
+      pen.fillStyle = style.getPropertyValue(color);
+      let bottom = -1;
+      for (const { place: where, from, past } of spans) {
+        if (!this.places.includes(where)) continue;
+        const top = Math.max(bottom, Math.floor((this.lineOf(where, from) / this.count) * map.height));
+        bottom = Math.max(top + 2, Math.ceil(((this.lineOf(where, past - 1) + 1) / this.count) * map.height));
+        pen.fillRect(left, top, width, bottom - top);
         bottom -= 1;
       }
     };
@@ -269,52 +307,6 @@ function tell(span) {
   byId('told').replaceChildren(
     element('div', {}, `${sideName(span.place)} `, words('strong', spanName(span), 'mono'), ' ',
       words('code', preview(span)), ` ${describe(span)}`),
-    words('div', `came ${isSource ? 'to' : 'from'} ${size === 0 ? 'nothing that is listed'
-      : `${many(size, 'byte')} in ${many(linked.length, 'range')}:`}`),
-    element('ul', {}, ...list),
-    linked.length > MOST_TOLD ? `and ${many(linked.length - MOST_TOLD, 'more range')}` : '',
-    pathLine(span));
-}
-
-/** The report's lines of the chosen output bytes, or the influence's of the chosen input bytes. */
-function reportLines() {
-  if (!chosen) return '';
-  const lines = [];
-  for (let offset = chosen.from; offset < chosen.past && lines.length < 10000; offset++) {
-    const names = [byteName(chosen.place, offset)];
-    for (const span of linkedTo(byteSpan(chosen.place, offset))) {
-      for (let o = span.from; o < span.past; o++) names.push(byteName(span.place, o));
-    }
-    lines.push(`${names.join(' ')}\n`);
-  }
-  return lines.join('');
-}
-
-// ---- Search: bytes by their text or hex digits, and bytes by name.
-
-const MOST_FOUND = 100000;
-
-let found = [];
-let searched = '';
-let nextFound = 0;
-
-function findBytes(wanted) {
-  const spans = [];
-  if (wanted.length === 0) return spans;
-  for (const where of [...data.inputs, ...data.outputs]) {
-    const next = (from) => where.bytes.indexOf(wanted[0], from);
-    for (let at = next(0); at >= 0 && spans.length < MOST_FOUND; at = next(at + 1)) {
-      const isThere = wanted.every((b, i) => where.bytes[at + i] === b);
-      if (isThere) spans.push({ place: where, from: at, past: at + wanted.length });
-    }
-  }
-  return spans;
-}
-
-/** A byte `c:o` or a range `c:a-b` of a side. */
-function findNamed(places, name) {
-  const [, ...parts] = /^\s*(\d+):(\d+)(?:-(\d+))?\s*$/.exec(name) ?? [];
-  const [number, from, past = from + 1] = parts.filter((part) => part !== undefined).map(Number);
 "#,
     )?;
     Ok(())

@@ -11,13 +11,58 @@ pub(crate) fn push(out: &mut Vec<u8>) -> Result<(), NoMemory>
     ensures { OnOk result (out.new.items ≡ out.old.items ++ tail3) }
 {
     out.extend_from_slice(
-        br#"  const where = places.find((p) => p.number === number);
+        br#"    words('div', `came ${isSource ? 'to' : 'from'} ${size === 0 ? 'nothing that is listed'
+      : `${many(size, 'byte')} in ${many(linked.length, 'range')}:`}`),
+    element('ul', {}, ...list),
+    linked.length > MOST_TOLD ? `and ${many(linked.length - MOST_TOLD, 'more range')}` : '',
+    pathLine(span));
+}
+
+/** The report's lines of the chosen output bytes, or the influence's of the chosen input bytes. */
+function reportLines() {
+  if (!chosen) return '';
+  const lines = [];
+  for (let offset = chosen.from; offset < chosen.past && lines.length < 10000; offset++) {
+    const names = [byteName(chosen.place, offset)];
+    for (const span of linkedTo(byteSpan(chosen.place, offset))) {
+      for (let o = span.from; o < span.past; o++) names.push(byteName(span.place, o));
+    }
+    lines.push(`${names.join(' ')}\n`);
+  }
+  return lines.join('');
+}
+
+// ---- Search: bytes by their text or hex digits, and bytes by name.
+
+const MOST_FOUND = 100000;
+
+let found = [];
+let searched = '';
+let nextFound = 0;
+
+function findBytes(wanted) {
+  const spans = [];
+  if (wanted.length === 0) return spans;
+  for (const where of [...data.inputs, ...data.outputs]) {
+    const next = (from) => where.bytes.indexOf(wanted[0], from);
+    for (let at = next(0); at >= 0 && spans.length < MOST_FOUND; at = next(at + 1)) {
+      if (standsAt(where, at, wanted)) spans.push({ place: where, from: at, past: at + wanted.length });
+    }
+  }
+  return spans;
+}
+
+/** A byte `c:o` or a range `c:a-b` of a side. */
+function findNamed(places, name) {
+  const [, ...parts] = /^\s*(\d+):(\d+)(?:-(\d+))?\s*$/.exec(name) ?? [];
+  const [number, from, past = from + 1] = parts.filter((part) => part !== undefined).map(Number);
+  const where = places.find((p) => p.number === number);
   return where && from < past && past <= where.bytes.length ? [{ place: where, from, past }] : [];
 }
 
 /** Bytes by their text, or by the pairs of hex digits that write them, or by name. */
 function wantedSpans(what, text) {
-  if (what === 'text') return findBytes([...new TextEncoder().encode(text)]);
+  if (what === 'text') return findBytes(encoded(text));
   if (what !== 'hex') return findNamed(what === 'in' ? data.inputs : data.outputs, text);
   const isHex = /^(\s*[0-9a-f]{2})*\s*$/i.test(text);
   return findBytes(isHex ? Array.from(text.matchAll(/[0-9a-f]{2}/gi), ([pair]) => parseInt(pair, 16)) : []);
@@ -97,23 +142,24 @@ function showFacts() {
 
 /** What a channel's records are, to be chosen. */
 function recordChoice(where) {
-  const options = { line: 'each line', call: where.kind === 'in' ? 'each read' : 'each write', size: 'so many bytes:' };
   const how = element('select', { ariaLabel: `Records of ${sideName(where)} ${where.number}` },
-    ...Object.entries(options).map(([value, textContent]) => element('option', { value, textContent })));
+    ...Object.entries(recordWords(where)).map(([value, textContent]) => element('option', { value, textContent })));
   const size = element('input', { type: 'number', min: 1, value: 16, ariaLabel: 'Bytes in a record' });
+  const text = element('input', { ariaLabel: 'What the first line of a record begins with', spellcheck: false });
   const count = element('span');
   const set = () => {
     size.hidden = how.value !== 'size';
-    where.records = recordStarts(where, how.value, Math.max(1, Math.floor(Number(size.value)) || 1));
+    text.hidden = how.value !== 'text';
+    setRecords(where, how.value, Math.max(1, Math.floor(Number(size.value)) || 1), text.value);
     count.textContent = `${decimal(where.records.length)}: `;
   };
   how.value = usualRecords(where);
   set();
-  how.onchange = size.onchange = () => {
+  how.onchange = size.onchange = text.onchange = () => {
     set();
     showRecords();
   };
-  return element('td', {}, count, how, ' ', size);
+  return element('td', {}, count, how, ' ', size, text);
 }
 
 function showChannels() {
@@ -129,7 +175,7 @@ function showRecords() {
   const flows = analyse();
   moveMark(FOREIGN, [...mixed.in, ...mixed.out], [...flows.mixed.in, ...flows.mixed.out]);
   mixed = flows.mixed;
-  showAlarm();
+  showAlarm(flows.joined);
   showPatterns(flows);
   for (const pane of panes) pane.layOut();
   light();
@@ -144,16 +190,27 @@ function countRecords(where, spans) {
   return records.size;
 }
 
-function showAlarm() {
+/** On what the headline rests: what a record is on the channels that bytes came from or came to. */
+function premise(joined) {
+  const channels = [...data.inputs, ...data.outputs].filter((where) => joined.has(where));
+  const alike = Map.groupBy(channels, (where) => where.recordIs);
+  const names = (places) => places.map((where) => `${sideName(where).toLowerCase()} ${where.number}`).join(' and ');
+  const parts = Array.from(alike, ([is, places]) => (alike.size === 1 ? is : `${is} of ${names(places)}`));
+  return `If ${parts.join(' and ')} is a record: `;
+}
+
+function showAlarm(joined) {
   const counted = (places, spans, text) => places.map((where) => [countRecords(where, spans), where])
     .filter(([n]) => n > 0).map(([n, where]) => text(n, where)).join(' and ');
   const written = counted(data.outputs, mixed.out,
     (n, where) => `${decimal(n)} of ${many(where.records.length, 'record')} of output ${where.number}`);
   const received = counted(data.inputs, mixed.in, (n, where) => `${many(n, 'record')} of input ${where.number}`);
   byId('alarm').className = written ? 'alarm' : '';
-  byId('alarm').textContent = written
+  const headline = written
     ? `${written} hold bytes that came from another input record than their own: from ${received}.`
-    : 'No written record has bytes that came from another input record than its own.';
+    : 'no written record has bytes that came from another input record than its own.';
+  byId('alarm').textContent = joined.size > 0 ? premise(joined) + headline
+    : 'No written byte that is asked for has a source byte.';
   for (const id of ['before', 'after']) byId(id).disabled = !written;
 }
 
@@ -202,6 +259,7 @@ function start() {
   markRows();
   showFacts();
   showChannels();
+  byId('hex').checked = !areText([...data.inputs, ...data.outputs]);
   panes = [new Pane('in', data.inputs), new Pane('out', data.outputs)];
   showPoints();
   setTimeout(showRecords);
