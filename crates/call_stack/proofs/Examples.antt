@@ -1,9 +1,16 @@
 -- Worked examples, computed by the checker.
-use Rattle.std.proofs.Common.{◌≡◌, List, ℕ, [], ◌∷◌, pos, negsuc, refl}
+use Rattle.std.proofs.Common.{◌≡◌, List, ℕ, [], ◌∷◌, ◌++◌, pos, negsuc, replicate, refl}
+use Rattle.std.specs.Prelude.{codes}
+use Rattle.std.specs.Fmt.{digits}
+use Rattle.hex.specs.Hex.{encode_with}
+use Rattle.isa.specs.Machine.{State}
 use Rattle.isa.specs.declared.Instr.TheVariants.{Jal, Jalr, Lw}
+use Rattle.log_model.specs.declared.RunEnd.TheVariants.{Limit}
+use Rattle.log_model.specs.Logs.{Log}
 use Rattle.call_stack.specs.declared.hints.Hint.TheVariants.{Calls, Returns, ReturnsAndCalls, Neither}
 use Rattle.call_stack.specs.Hints.{hint_of}
 use Rattle.call_stack.specs.Stack.{after_return, after_hint}
+use Rattle.call_stack.specs.Stacks.{stacks_text}
 
 -- ---- hints
 
@@ -64,3 +71,38 @@ changed_over = refl
 
 last_address : after_return 0 (0xfffffffc ∷ 0x40 ∷ []) ≡ 0x40 ∷ []
 last_address = refl
+
+-- ---- the text of several times
+
+-- JAL x1, 8; EBREAK; JALR x0, 0(x1)
+abbrev begun : State
+begun = record {
+  pc = 0x10000;
+  registers = replicate 32 0;
+  base = 0x10000;
+  memory = 0xef ∷ 0x00 ∷ 0x80 ∷ 0x00 ∷ 0x73 ∷ 0x00 ∷ 0x10 ∷ 0x00 ∷ 0x67 ∷ 0x80 ∷ 0x00 ∷ 0x00 ∷ [];
+}
+
+-- the call and its return
+abbrev two_steps : Log
+two_steps = record { pages = 1; inputs = 0; digest = []; records = []; end = Limit 2 }
+
+-- a time past the run's steps, and one that stands twice
+parts : stacks_text begun two_steps (1 ∷ 9 ∷ 0 ∷ 1 ∷ []) ≡
+    codes "stack 1\n0x00010008\n0x00010000\nend 2\n" ++
+    codes "stack 9\nend 0\n" ++
+    codes "stack 0\n0x00010000\nend 1\n" ++
+    codes "stack 1\n0x00010008\n0x00010000\nend 2\n" ++
+    codes "end 13\n"
+unfolding digits encode_with
+parts = refl
+
+-- one time has no line of its own
+one_time : stacks_text begun two_steps (2 ∷ []) ≡ codes "0x00010004\nend 1\n"
+unfolding digits encode_with
+one_time = refl
+
+-- and none past the run's steps has any
+past_the_run : stacks_text begun two_steps (3 ∷ []) ≡ codes "end 0\n"
+unfolding digits
+past_the_run = refl

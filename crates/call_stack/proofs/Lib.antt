@@ -1,3 +1,5 @@
 mod Examples
 mod Returns
 mod Steps
+mod Parts
+mod Texts

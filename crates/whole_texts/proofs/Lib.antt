@@ -2,4 +2,5 @@ mod Reading
 mod Pieces
 mod Instructions
 mod Lines
+mod Parts
 mod Worked

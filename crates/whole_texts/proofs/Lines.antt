@@ -1,6 +1,7 @@
 -- The texts of commands, line by line: only the last line begins with `e`.
-use Rattle.std.proofs.Common.{ℕ, ◌+◌, List, [], ◌∷◌, ◌++◌, length, refl, Option, Some, None}
-use Rattle.std.specs.Prelude.{◌≡◌, ◌==◌, false, true, codes}
+use Rattle.std.proofs.Common.{ℕ, ◌+◌, Bool, List, [], ◌∷◌, ◌++◌, length, refl, Option, Some, None}
+use Rattle.std.specs.Prelude.{◌≡◌, ◌==◌, nat_le, false, true, codes}
+use Rattle.isa.specs.Machine.{State}
 use Rattle.isa.specs.declared.Instr.{Instr}
 use Rattle.log_model.specs.declared.CallRecord.{CallRecord}
 use Rattle.log_model.specs.declared.RunEnd.{RunEnd}
@@ -13,6 +14,7 @@ use Rattle.flow_model.specs.declared.Loc.TheVariants.{Mem}
 use Rattle.report_model.specs.Rows.{Row}
 use Rattle.report_model.specs.Text.{source_text, row_text, report_text}
 use Rattle.report_model.specs.Influence.{Reach, sink_text, reach_text, influence_text}
+use Rattle.replay_model.specs.Run.{start, moment_after}
 use Rattle.replay_model.specs.Summary.{calls, bytes_read, bytes_written}
 use Rattle.source_ranges.specs.Ranges.{ranges_of, range_text}
 use Rattle.printed_names.specs.Lines.{lines_end}
@@ -32,19 +34,20 @@ use Rattle.run_output.specs.declared.ways.Way.TheVariants.{Received, Written}
 use Rattle.run_output.specs.Summary.{number_line, end_line as numbers_end, summary_text}
 use Rattle.call_list.specs.Lines.{Line, MovedLine, RefusedLine, ClockLine, OtherLine, word_of, extent_text, line_text}
 use Rattle.call_list.specs.Calls.{lines, end_text, calls_text}
-use Rattle.call_stack.specs.Stack.{pc_line, pcs_text}
+use Rattle.call_stack.specs.Stack.{pc_line, pcs_text, calls_after, stack_within, stack_text}
+use Rattle.call_stack.specs.Stacks.{stack_part}
 use Rattle.whole_texts.proofs.Reading.{AtStart, Inside, InLast, Over, Reads, nothing, ◌⨾◌, each}
 use Rattle.whole_texts.proofs.Pieces.{no_feeds, plain, in_last, first, blank, feed, last_feed, number, number_first, number_last, signed_number, pc, pc_first, name, name_first, loc, point, point_first, span_first, range, quoted}
 use Rattle.whole_texts.proofs.Instructions.{mnemonic, instruction}
 
 -- the last line begins with `e`, and no other
 begins_last : Reads AtStart (0x65 ∷ []) InLast
-begins_last = record { whole = λ rest. refl }
+begins_last = record { whole = λ later rest. refl }
 
 end : Reads AtStart (codes "end ") InLast
 end = begins_last ⨾ in_last (codes "nd ") refl
 
-last : (n : ℕ) → Reads AtStart (lines_end n) Over
+pub last : (n : ℕ) → Reads AtStart (lines_end n) Over
 last n = end ⨾ number_last n ⨾ last_feed
 
 -- ---- reports, and the influence of source bytes
@@ -176,3 +179,15 @@ pub numbers : (log : Log) → Reads AtStart (summary_text log) Over
 numbers log =
     named 0x73 (codes "teps") refl refl refl (steps log) ⨾ named 0x63 (codes "alls") refl refl refl (calls log) ⨾ named 0x72 (codes "ead") refl refl refl (bytes_read log)
     ⨾ named 0x77 (codes "ritten") refl refl refl (bytes_written log) ⨾ numbers_last log.end
+
+-- ---- the calls in progress at several times
+
+stack_of : (inside : Bool) (s : State) (log : Log) (t : ℕ) → Reads AtStart (stack_within inside s log t) Over
+stack_of true s log t = stack ((moment_after t (start s log)).state.pc ∷ calls_after s log t)
+stack_of false s log t = stack []
+
+pub stack_alone : (s : State) (log : Log) (t : ℕ) → Reads AtStart (stack_text s log t) Over
+stack_alone s log t = stack_of (nat_le t (steps log)) s log t
+
+pub part : (s : State) (log : Log) (t : ℕ) → Reads AtStart (stack_part s log t) Over
+part s log t = named 0x73 (codes "tack") refl refl refl t ⨾ stack_alone s log t

@@ -22,21 +22,23 @@ use Rattle.whole_texts.proofs.Reading.{AtStart, Inside, InLast, Over, read, Read
 
 -- a reader stays inside a line at each character but a line feed
 stays : (c : ℕ) → (c == 0x0a) ≡ false → Reads Inside (c ∷ []) Inside
-stays c e = record { whole = λ rest. ap (λ (b : Bool). c ∷ read (if b then AtStart else Inside) rest) e }
+stays c e = record { whole = λ later rest. ap (λ (b : Bool). c ∷ read later (if b then AtStart else Inside) rest) e }
 
 stays_last : (c : ℕ) → (c == 0x0a) ≡ false → Reads InLast (c ∷ []) InLast
-stays_last c e = record { whole = λ rest. ap (λ (b : Bool). c ∷ read (if b then Over else InLast) rest) e }
+stays_last c e = record { whole = λ later rest. ap (λ (b : Bool). c ∷ read later (if b then Over else InLast) rest) e }
 
 begins : (c : ℕ) → (c == 0x0a) ≡ false → (c == 0x65) ≡ false → Reads AtStart (c ∷ []) Inside
 begins c e f = record {
-  whole = λ rest. ap (λ (b : Bool). c ∷ read (if b then AtStart else (if c == 0x65 then InLast else Inside)) rest) e ∙ ap (λ (b : Bool). c ∷ read (if b then InLast else Inside) rest) f;
+  whole = λ later rest.
+      ap (λ (b : Bool). c ∷ read later (if b then AtStart else (if c == 0x65 then InLast else Inside)) rest) e
+      ∙ ap (λ (b : Bool). c ∷ read later (if b then InLast else Inside) rest) f;
 }
 
 pub feed : Reads Inside (0x0a ∷ []) AtStart
-feed = record { whole = λ rest. refl }
+feed = record { whole = λ later rest. refl }
 
 pub last_feed : Reads InLast (0x0a ∷ []) Over
-last_feed = record { whole = λ rest. refl }
+last_feed = record { whole = λ later rest. refl }
 
 -- ---- texts without a line feed
 

@@ -2,11 +2,15 @@
 use Rattle.std.proofs.Common.{◌≡◌, replicate, refl, arith}
 use Rattle.std.specs.Prelude.{codes}
 use Rattle.whole_texts.specs.PrefixFree.{ArePrefixFree}
-use Rattle.whole_texts.proofs.Reading.{AtStart, read}
+use Rattle.whole_texts.proofs.Reading.{AtStart, read, stop}
+use Rattle.whole_texts.proofs.Parts.{read_parts}
 
 -- one dot is a beginning of two
 dots_are_not : ArePrefixFree (λ n. replicate n 0x2e) → ⊥
 dots_are_not free = free 2 1 1 (omega arith) refl
 
-no_further : read AtStart (codes "1:0 0:0\nend 1\n1:1\n") ≡ codes "1:0 0:0\nend 1\n"
+no_further : read stop AtStart (codes "1:0 0:0\nend 1\n1:1\n") ≡ codes "1:0 0:0\nend 1\n"
 no_further = refl
+
+no_further_than_parts : read_parts 3 (codes "stack 7\nend 0\nstack 0\n0x00010000\nend 1\nend 5\nstack 2\n") ≡ codes "stack 7\nend 0\nstack 0\n0x00010000\nend 1\nend 5\n"
+no_further_than_parts = refl

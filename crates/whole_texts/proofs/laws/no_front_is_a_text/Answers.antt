@@ -14,6 +14,7 @@ use Rattle.call_stack.specs.Stack.{pcs_text}
 use Rattle.run_output.specs.Summary.{summary_text}
 use Rattle.whole_texts.proofs.Reading.{are_prefix_free}
 use Rattle.whole_texts.proofs.Lines.{report, influence, ranges, path, decisions, calls_of, stack, numbers}
+use Rattle.whole_texts.proofs.Parts.{stacks}
 use Rattle.whole_texts.proofs.laws.no_front_is_a_text.Goals as goal
 
 pub returns : goal.returns
@@ -25,5 +26,6 @@ returns c = record {
   decisions = are_prefix_free decisions_text decisions;
   calls = are_prefix_free calls_text calls_of;
   stack = are_prefix_free pcs_text stack;
+  stacks = stacks;
   numbers = are_prefix_free summary_text numbers;
 }

@@ -1,7 +1,7 @@
 use Rattle.std.proofs.Common.{◌≡◌, take}
 use Rattle.std.specs.List.{flat_map}
 use Rattle.call_stack.specs.Stack.{pc_line}
-use Rattle.call_stack.proofs.walk.text_of.Given as goal
+use Rattle.call_stack.proofs.stack.text_of.Given as goal
 
 -- the lines so far
 abbrev pub invariant-loop-pc : goal.invariant-loop-pc
