@@ -1,0 +1,17 @@
+-- The registers of a note, one after another.
+use Rattle.std.proofs.Common.{◌≡◌, ℕ, ◌+◌, List, [], ◌∷◌, ◌++◌, map, sym, ap, ◌∙◌, arith}
+use Rattle.std.specs.List.{range_with_len}
+use Rattle.std.proofs.lemmas.List.{flat_map_more}
+use Rattle.std.proofs.lemmas.List.FromFn.{map-range_with_len_more}
+use Rattle.isa.specs.Machine.{State, reg}
+use Rattle.log_model.specs.Logs.{word32}
+use Rattle.core_model.specs.Headers.{words}
+
+-- the pc, and n registers from x1 on
+abbrev pub first_registers : State → ℕ → List ℕ
+first_registers s n = words (s.pc ∷ map (reg s) (range_with_len 1 n))
+
+pub one_more : (s : State) (n : ℕ) → first_registers s n ++ word32 (reg s (n + 1)) ≡ first_registers s (n + 1)
+one_more s n =
+    flat_map_more word32 [] (s.pc ∷ map (reg s) (range_with_len 1 n)) (reg s (n + 1))
+    ∙ ap (λ (rs : List ℕ). words (s.pc ∷ rs)) (sym (map-range_with_len_more (reg s) 1 n (n + 1) (omega arith)))
