@@ -1,6 +1,6 @@
 //! The whole file.
 
-ghost use Rattle.std.specs.Prelude.{◌≡◌, ◌≤◌, ◌++◌, length, IfOk, OnOk};
+ghost use Rattle.std.specs.Prelude.{◌≡◌, ◌+◌, ◌<◌, ◌≤◌, ◌++◌, length, IfOk, OnOk};
 ghost use Rattle.log_model.specs.Logs.{steps};
 ghost use Rattle.replayer.specs.Positions.{state_at};
 ghost use Rattle.core_model.specs.Headers.{core_mark as mark_of_cores, load_header, header_bytes};
@@ -28,12 +28,9 @@ pub fn core_mark() -> &'static [u8]
     ensures long { length result.now ≡ 84 }
 {
     &[
-        0x7f, 0x45, 0x4c, 0x46, 1, 1, 1, 0, 0, 0, 0, 0, 0, 0, 0, 0,
-        4, 0, 243, 0, 1, 0, 0, 0, 0, 0, 0, 0, 52, 0, 0, 0,
-        0, 0, 0, 0, 0, 0, 0, 0, 52, 0, 32, 0, 2, 0, 0, 0,
-        0, 0, 0, 0, 4, 0, 0, 0, 116, 0, 0, 0, 0, 0, 0, 0,
-        0, 0, 0, 0, 224, 0, 0, 0, 0, 0, 0, 0, 4, 0, 0, 0,
-        4, 0, 0, 0,
+        0x7f, 0x45, 0x4c, 0x46, 1, 1, 1, 0, 0, 0, 0, 0, 0, 0, 0, 0, 4, 0, 243, 0, 1, 0, 0, 0, 0, 0,
+        0, 0, 52, 0, 0, 0, 0, 0, 0, 0, 0, 0, 0, 0, 52, 0, 32, 0, 2, 0, 0, 0, 0, 0, 0, 0, 4, 0, 0,
+        0, 116, 0, 0, 0, 0, 0, 0, 0, 0, 0, 0, 0, 224, 0, 0, 0, 0, 0, 0, 0, 4, 0, 0, 0, 4, 0, 0, 0,
     ]
 }
 
@@ -62,6 +59,16 @@ fn file_of(alloc: Global, cursor: &Cursor<'_>, signal: u16) -> Result<Vec<u8>, N
     Ok(file)
 }
 
+/// Makes the next step of the run.
+fn make_step(cursor: &mut Cursor)
+    requires { cursor.old.time < steps cursor.old.job.log }
+    ensures { cursor.new ≡ record { job = cursor.old.job; time = cursor.old.time + 1 } }
+{
+    let Next::Step(_) = cursor.next() else {
+        unreachable!()
+    };
+}
+
 /// A cursor after so many steps of the run of a job.
 fn cursor_at<'a>(alloc: Global, job: &'a Job, time: u64) -> Result<Cursor<'a>, NoMemory>
     requires { time ≤ steps job.now.log }
@@ -69,9 +76,7 @@ fn cursor_at<'a>(alloc: Global, job: &'a Job, time: u64) -> Result<Cursor<'a>, N
 {
     let mut cursor = Cursor::start(alloc, job)?;
     for _step in 0..time {
-        let Next::Step(_) = cursor.next() else {
-            unreachable!()
-        };
+        make_step(&mut cursor);
     }
     Ok(cursor)
 }

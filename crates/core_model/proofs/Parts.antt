@@ -1,22 +1,25 @@
 -- The parts of a core file.
-use Rattle.std.proofs.Common.{◌≡◌, ℕ, zero, suc, ◌+◌, ◌*◌, ◌^◌, ◌<◌, ◌≤◌, List, [], ◌∷◌, ◌++◌, get_or, take, drop, length, map, replicate, w32, refl, ap, sym, ◌∙◌, absurd, arith}
+use Rattle.std.proofs.Common.{◌≡◌, ℕ, zero, suc, ◌+◌, ◌*◌, ◌^◌, ◌<◌, ◌≤◌, List, [], ◌∷◌, ◌++◌, get_or, take, drop, length, map, replicate, w32, refl, ap, sym, ◌∙◌, arith, Bool, false, length-append}
 use Rattle.std.specs.Int.{from_le_bytes}
-use Rattle.std.specs.Prelude.{min, codes}
+use Rattle.std.specs.Prelude.{min, nat_lt, if◌then◌else◌, Some}
 use Rattle.std.specs.List.{range_with_len}
+use Rattle.std.proofs.lemmas.Bool.{le-ltb}
 use Rattle.std.proofs.lemmas.List.{drop-drop}
 use Rattle.std.proofs.lemmas.List.FromFn.{get_or-map-range_with_len}
 use Rattle.std.proofs.lemmas.Nat.{from_le_bytes-to_le_bytes_4}
 use Rattle.isa.specs.Machine.{State, reg, wrap}
 use Rattle.lists.specs.Fields.{word_at}
-use Rattle.elf_model.specs.Image.{e_type, e_machine, program_headers}
+use Rattle.lists.proofs.FirstTrue.{first_true-some}
+use Rattle.elf_model.specs.declared.ImageKind.TheVariants.{Short, Kind}
+use Rattle.elf_model.specs.Image.{e_type, e_machine, program_headers, faults, unless_faulty}
 use Rattle.log_model.specs.Logs.{Log, steps, word32}
 use Rattle.replay_model.specs.Run.{start, moment_after}
 use Rattle.page_text.specs.Head0.{head0}
-use Rattle.page_text.specs.Texts as page
+use Rattle.page_text.specs.Texts.{mark, head}
 use Rattle.core_model.specs.Headers.{words, core_mark, note_header, load_header}
 use Rattle.core_model.specs.Note.{pr_reg, note}
 use Rattle.core_model.specs.CoreFile.{signal_after, state_within, core_of, core_file}
-use Rattle.core_model.specs.CoreLaws.{state_after, HasWindow, HasRegisters, IsElfCore, BeginsWithMark, MarkIsLong, IsNoLog, IsNoPage}
+use Rattle.core_model.specs.CoreLaws.{state_after, HasWindow, HasRegisters, IsElfCore, BeginsWithMark, MarkIsLong, IsNoProgram, IsNoLog, IsNoPage}
 use Rattle.core_model.proofs.Words.{word_again, word_among}
 
 -- up to the run's end the state is that of the moment
@@ -55,8 +58,7 @@ word_of signal s k h =
 pub has_registers : HasRegisters
 has_registers s log t h =
     let signal = signal_after log.end t in
-    let there = state_after s log t in
-    (
+    let there = state_after s log t in (
       ap (λ (bytes : List ℕ). word_at bytes 208) (within s log t h) ∙ word_of signal there 0 (omega arith),
       λ r from to. ap (λ (bytes : List ℕ). word_at bytes (208 + 4 * r)) (within s log t h) ∙ word_of signal there r to ∙ ap wrap (register_at there r from to),
     )
@@ -100,6 +102,13 @@ pub mark_is_long : MarkIsLong
 unfolding core_mark
 mark_is_long = refl
 
+pub is_no_program : IsNoProgram
+unfolding core_mark
+is_no_program rest =
+    let file = core_mark ++ rest in
+    let long : nat_lt (length file) 52 ≡ false = le-ltb (length file) 52 (omega (arith, length-append core_mark rest, mark_is_long)) in
+    ap (unless_faulty file) (first_true-some 4 (faults file) Kind (ap (λ (b : Bool). if b then Some Short else Some Kind) long))
+
 pub is_no_log : IsNoLog
 unfolding core_mark
 is_no_log rest other e =
@@ -107,7 +116,7 @@ is_no_log rest other e =
     omega (arith, first)
 
 pub is_no_page : IsNoPage
-unfolding core_mark page.mark page.head head0
+unfolding core_mark mark head head0
 is_no_page rest other e =
     let first : ◌≡◌ {A = ℕ} 0x7f 0x3c = ap (λ (bytes : List ℕ). get_or bytes 0 0) e in
     omega (arith, first)

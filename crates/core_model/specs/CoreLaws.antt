@@ -1,11 +1,12 @@
 -- What is always true of core files.
-use Rattle.std.specs.Prelude.{◌≡◌, ◌≢◌, ℕ, ◌+◌, ◌*◌, ◌^◌, ◌<◌, ◌≤◌, List, [], ◌∷◌, ◌++◌, length, take, drop, codes}
+use Rattle.std.specs.Prelude.{◌≡◌, ◌≢◌, ℕ, ◌+◌, ◌*◌, ◌^◌, ◌<◌, ◌≤◌, List, [], ◌∷◌, ◌++◌, length, take, drop, Err, codes}
 use Rattle.isa.specs.Machine.{State, wrap, reg}
 use Rattle.lists.specs.Fields.{word_at}
-use Rattle.elf_model.specs.Image.{e_type, e_machine, program_headers}
+use Rattle.elf_model.specs.declared.ImageKind.TheVariants.{Kind}
+use Rattle.elf_model.specs.Image.{e_type, e_machine, program_headers, image}
 use Rattle.log_model.specs.Logs.{Log, steps}
 use Rattle.replay_model.specs.Run.{start, moment_after}
-use Rattle.page_text.specs.Texts as page
+use Rattle.page_text.specs.Texts.{mark as page_mark}
 use Rattle.core_model.specs.Headers.{core_mark, note_header, load_header}
 use Rattle.core_model.specs.CoreFile.{state_within, core_file}
 
@@ -34,7 +35,7 @@ IsElfCore = (s : State) (log : Log) (t : ℕ)
     → (state_within s log t).base < 2 ^ 32 → length (state_within s log t).memory < 2 ^ 32
     → (e_type (core_file s log t) ≡ 4) × (e_machine (core_file s log t) ≡ 243)
     × (program_headers (core_file s log t)
-        ≡ note_header ∷ load_header (state_within s log t).base (length (state_within s log t).memory) ∷ [])
+    ≡ note_header ∷ load_header (state_within s log t).base (length (state_within s log t).memory) ∷ [])
 
 -- each core file begins with the same 84 bytes
 abbrev pub BeginsWithMark : Type 0
@@ -42,6 +43,10 @@ BeginsWithMark = (s : State) (log : Log) (t : ℕ) → take 84 (core_file s log 
 
 abbrev pub MarkIsLong : Type 0
 MarkIsLong = length core_mark ≡ 84
+
+-- no program does: a file that begins so is refused by its e_type
+abbrev pub IsNoProgram : Type 0
+IsNoProgram = (rest : List ℕ) → image (core_mark ++ rest) ≡ Err Kind
 
 -- no file that begins with these bytes begins so
 abbrev pub NoneBeginsWith : List ℕ → Type 0
@@ -52,4 +57,4 @@ abbrev pub IsNoLog : Type 0
 IsNoLog = NoneBeginsWith (codes "JETLOG")
 
 abbrev pub IsNoPage : Type 0
-IsNoPage = NoneBeginsWith page.mark
+IsNoPage = NoneBeginsWith page_mark

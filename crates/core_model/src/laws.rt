@@ -1,6 +1,6 @@
 //! Laws of the definitions: each is the contract of a function that does nothing.
 
-ghost use Rattle.core_model.specs.CoreLaws.{HasWindow, HasRegisters, EndsWithRun, IsElfCore, BeginsWithMark, MarkIsLong, IsNoLog, IsNoPage};
+ghost use Rattle.core_model.specs.CoreLaws.{HasWindow, HasRegisters, EndsWithRun, IsElfCore, BeginsWithMark, MarkIsLong, IsNoProgram, IsNoLog, IsNoPage};
 
 /// A core file has the window and the registers of the moment of its time, the moment that queries, paths and the
 /// calls in progress speak of.
@@ -19,10 +19,11 @@ pub fn core_is_elf()
     ensures { IsElfCore }
 {}
 
-/// All core files begin alike, and none as a log or a page does.
+/// All core files begin alike, and no program, no log and no page begins so.
 pub fn mark_is_of_cores_alone()
     ensures begins { BeginsWithMark }
     ensures long { MarkIsLong }
+    ensures program { IsNoProgram }
     ensures log { IsNoLog }
     ensures page { IsNoPage }
 {}
