@@ -11,10 +11,15 @@ type Part<'a> = (usize, &'a [u8]);
 
 /// Where the signal, the pc, x2, x10, the window and the byte at 0x10100 stand.
 const SIGNAL: usize = 148;
+
 const PC: usize = 208;
+
 const X2: usize = 216;
+
 const X10: usize = 248;
+
 const WINDOW: usize = 340;
+
 const READ: usize = 596;
 
 /// The core file of a run in a window of one page has these parts after so many steps.
