@@ -1,9 +1,9 @@
 //! The steps of a job's run, one by one.
 
-ghost use Rattle.std.specs.Prelude.{◌≡◌, IfOk, IfSome, MatchOption};
+ghost use Rattle.std.specs.Prelude.{◌≡◌, ◌+◌, ◌^◌, ◌<◌, ◌≤◌, length, IfOk, IfSome, MatchOption};
 ghost use Rattle.isa.specs.declared.Instr.{Instr as AnyInstr};
 ghost use Rattle.isa.specs.Encodings.{Fits};
-ghost use Rattle.isa.specs.Machine.{Fetched, fetch};
+ghost use Rattle.isa.specs.Machine.{reg, Fetched, fetch};
 ghost use Rattle.replay_model.specs.Run.{start, moment_after};
 ghost use Rattle.replayer.specs.Positions.{state_at};
 ghost use Rattle.replayer.specs.Nexts.{IsNext, IsStepAt, IsPlainAt, IsPlainUntil, seen_at};
@@ -86,6 +86,29 @@ impl<'a> Cursor<'a> {
         ensures { result ≡ (moment_after self.now.time (start self.now.job.start self.now.job.log)).state.pc }
     {
         self.run.machine().pc()
+    }
+
+    /// The value of a register where the run stands; that of x0 is 0.
+    pub fn register(&self, number: u8) -> u32
+        requires { number < 32 }
+        ensures { result ≡ reg (state_at self.now) number }
+    {
+        self.run.machine().register(number)
+    }
+
+    /// The bytes of the machine's window where the run stands, from [`Cursor::base`] on.
+    pub fn window(&self) -> &[u8]
+        ensures { result.now ≡ (state_at self.now).memory }
+    {
+        self.run.machine().window()
+    }
+
+    /// The lowest address of the window. The window ends at most at 2^32.
+    pub fn base(&self) -> u32
+        ensures is { result ≡ (state_at self.now).base }
+        ensures in_space { (state_at self.now).base + length (state_at self.now).memory ≤ 2 ^ 32 }
+    {
+        self.run.machine().base()
     }
 
     /// The instruction at the pc; None where the four bytes there stand for none, or don't all lie in the window.

@@ -1,12 +1,12 @@
 //! Replays of recorded runs: whether a log fits a program, and the steps of the run that it records.
 //!
-//! Crates above rest on this, in `replay_model`'s words: `Job::check` is Ok exactly where the log fits, else the first
-//! of digest, window and divergence, but for out of memory; with `Job::check_watched` a `Watcher` has then seen all steps
-//! in the same replay, and where the run stood after each; `Cursor::next` is the trace, step by step, then the end, and
-//! `next_plain` the same where the step is no call, as up to `plain_until`; `pc` and `fetched` are those of the state that
-//! it stands in; a cursor that is saved, or made of the parts that a watcher was lent, is as it was; a job that is taken
-//! `apart` is made `whole` again of its image and each log where nothing differs; `summary` are the run's numbers,
-//! `received` the bytes that it read.
+//! Crates above rest on this, in `replay_model`'s words: `Job::check` is Ok exactly where the log fits, else the
+//! first of digest, window and divergence, but for out of memory; with `Job::check_watched` a `Watcher` has then seen
+//! all steps in the same replay, and where the run stood after each; `Cursor::next` is the trace, step by step, then
+//! the end, and `next_plain` the same where the step is no call, as up to `plain_until`; `pc`, `register`, `window`,
+//! `base` and `fetched` are those of the state that it stands in; a cursor that is saved, or made of the parts that a
+//! watcher was lent, is as it was; a job that is taken `apart` is made `whole` again of its image and each log where
+//! nothing differs; `summary` are the run's numbers, `received` the bytes that it read.
 #![tactic(auto)]
 
 mod check;

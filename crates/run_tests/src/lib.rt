@@ -1,7 +1,10 @@
 //! Tests of runs that are cut into epochs: where these begin, each by itself, what its core sends, and all of them
-//! together, with what crosses the cuts between them. Paths over runs, decisions of runs, the calls in progress, and pages.
+//! together, with what crosses the cuts between them. Paths over runs, decisions of runs, the calls in progress, core
+//! files, and pages.
 #![tactic(auto)]
 
+#[cfg(test)]
+mod core_files;
 #[cfg(test)]
 mod cores;
 #[cfg(test)]

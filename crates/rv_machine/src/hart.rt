@@ -1,10 +1,10 @@
 //! The machine.
 
-ghost use Rattle.std.specs.Prelude.{◌≡◌, ℕ, ◌+◌, ◌^◌, ◌≤◌, Some, None, Err, IfOk, IfErr, IfSome, IsSome, MatchOption, ◌↔◌, IsTrue, ◌⊎◌, length, true, false};
+ghost use Rattle.std.specs.Prelude.{◌≡◌, ℕ, ◌+◌, ◌^◌, ◌≤◌, ◌<◌, Some, None, Err, IfOk, IfErr, IfSome, IsSome, MatchOption, ◌↔◌, IsTrue, ◌⊎◌, length, true, false};
 ghost use Rattle.elf_model.specs.Window.{start_of};
 ghost use Rattle.isa.specs.declared.Instr.{Instr as AnyInstr};
 ghost use Rattle.isa.specs.Encodings.{Fits};
-ghost use Rattle.isa.specs.Machine.{in_window, bytes_at, Fetched, fetch};
+ghost use Rattle.isa.specs.Machine.{reg, in_window, bytes_at, Fetched, fetch};
 ghost use Rattle.isa.specs.Calls.{refusal};
 ghost use Rattle.no_memory.specs.declared.Fault.TheVariants.{At};
 ghost use Rattle.no_memory.specs.Faults.{IsCausedBy};
@@ -170,6 +170,21 @@ impl Machine {
         ensures { result ≡ self.now.state.pc }
     {
         self.state.pc()
+    }
+
+    /// The value of a register; that of x0 is 0.
+    pub fn register(&self, number: u8) -> u32
+        requires { number < 32 }
+        ensures { result ≡ reg self.now.state number }
+    {
+        self.state.register(number)
+    }
+
+    /// All bytes of the window, from [`Machine::base`] on.
+    pub fn window(&self) -> &[u8]
+        ensures { result.now ≡ self.now.state.memory }
+    {
+        self.state.memory.as_slice()
     }
 
     /// The instruction at the pc, which the next step does; None where the four bytes there stand for none, or don't all

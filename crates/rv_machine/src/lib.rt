@@ -5,8 +5,8 @@
 //! is answered.
 //!
 //! Crates above rest on this: `Machine::new` is the start, or Window exactly where there is none; `step` and `answer`
-//! are one step of the definitions; `bytes` and `refusal` are theirs; a state that is taken out, or whose parts are
-//! lent, and put back is as it was.
+//! are one step of the definitions; `bytes`, `register`, `window` and `refusal` are theirs; a state that is taken
+//! out, or whose parts are lent, and put back is as it was.
 #![tactic(auto)]
 
 mod decoded;

@@ -96,7 +96,7 @@ impl HartState {
         self.base
     }
 
-    fn register(&self, number: u8) -> u32
+    pub fn register(&self, number: u8) -> u32
         requires { number < 32 }
         ensures { result ≡ reg self.now number }
     {

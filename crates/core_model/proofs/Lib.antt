@@ -1,0 +1,4 @@
+pub mod Words
+mod Parts
+mod Ends
+mod Examples

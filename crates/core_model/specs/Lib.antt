@@ -1,0 +1,4 @@
+pub mod Headers
+pub mod Note
+pub mod CoreFile
+pub mod CoreLaws
