@@ -1,5 +1,5 @@
 -- What the parts of an event keep.
-use Rattle.std.proofs.Common.{◌≡◌, inl, inr, List, [], ◌∷◌, ◌++◌, append-nil, refl, ap, ap₂, sym, subst, ◌∙◌, Bool, true, false}
+use Rattle.std.proofs.Common.{◌≡◌, inl, inr, List, [], ◌∷◌, ◌++◌, append-nil, refl, ap, ap₂, sym, subst, ◌∙◌, Bool, true, false, rules}
 use Rattle.std.specs.Prelude.{Option, Some, None, is_none}
 use Rattle.lists.proofs.Tests.{true-false}
 use Rattle.epoch_link.specs.Link.{EndView}
@@ -15,15 +15,27 @@ use Rattle.stream_model.specs.PassLaws.{AsksSent, AnswersSent}
 use Rattle.stream_model.specs.Schedules.{begun}
 use Rattle.stream_model.proofs.Moving.{sent_part, IsGot, AskMoved, asking_moves, AnswerMoved, answering_moves}
 use Rattle.stream_model.proofs.Passing.{begun_whole}
+use denote.Enum.Bare.{sameb, same_true, same_false}
 use Rattle.pass_parts.specs.declared.pass_turn.PassTurn.{PassTurn}
 use Rattle.pass_parts.specs.Ends.{through, IsEndFrom, got_by, sent_by, fresh_end}
 use Rattle.pass_parts.specs.Known.{known}
 use Rattle.pass_parts.specs.Requests.{locations}
 use Rattle.backward_pass.specs.Backward.{BackView, new_back, knows, state}
 use Rattle.forward_pass.specs.Forward.{ForeView, known_by, fore_state, ForeKeeps, ForeReached}
+use Rattle.epoch_node.specs.contracts.stage.Phase.{the_type}
+use Rattle.epoch_node.specs.declared.stage.Phase.{Phase}
+use Rattle.epoch_node.specs.declared.stage.Phase.TheVariants.{Done}
 use Rattle.epoch_node.specs.Cores.{CoreSetup, StageView}
 use Rattle.epoch_node.specs.Keeping.{Traffic, fresh_traffic, KnowsEpoch, IsBegun, IsAsking, requests_if, CanSettle, IsSettled, IsAnswering, HasDone}
 use Rattle.epoch_node.specs.Events.{IsMore, BackActs, ForeActs}
+
+-- ---- whether a phase is the last, by what `==` answers
+
+pub is_done : (p : Phase) → sameb the_type p Done ≡ true → p ≡ Done
+is_done p e = same_true the_type (search rules) p Done e
+
+pub not_done : (p : Phase) → sameb the_type p Done ≡ false → p ≡ Done → ⊥
+not_done p e = same_false the_type p Done e
 
 -- ---- what went through the ends
 
@@ -34,6 +46,11 @@ module _ {E : Type 0} (end : E → EndView Message) where
   same_none (Some n) (Some o) h = refl
   same_none None (Some o) h = absurd h
   same_none (Some n) None h = absurd h
+
+  -- an end that nothing used
+  pub same_end : (e : Option E) → IsEndFrom end e e
+  same_end None = tt
+  same_end (Some e) = record { link = refl; capacity = refl; other = refl }
 
 more_same : (list : Option (List Message)) → IsMore list list
 more_same None = tt

@@ -9,14 +9,15 @@ use Rattle.run_board.specs.declared.task.Turn.TheVariants as turn
 use Rattle.run_board.specs.Turns.{AnswersEnded}
 use Rattle.pass_parts.specs.Ends.{fresh_end}
 use Rattle.pass_parts.specs.Turns.{OnOpen}
-use Rattle.backward_pass.specs.Backward.{state}
+use Rattle.backward_pass.specs.Backward.{state, Keeps, Reached}
+use Rattle.forward_pass.specs.Forward.{ForeKeeps}
 use Rattle.epoch_node.specs.declared.stage.Phase.{Phase}
 use Rattle.epoch_node.specs.declared.stage.Phase.TheVariants as phase
 use Rattle.epoch_node.specs.declared.stage.Stage.{Stage}
 use Rattle.epoch_node.specs.Cores.{CoreSetup, stage_of, StageView, Fresh, Asking, Answering, Done, Between, CoreView, phase_of, whole_at}
 use Rattle.epoch_node.specs.Keeping.{Traffic, fresh_traffic, HasLinks, AtStage, Counts, KeepsCore}
-use Rattle.epoch_node.specs.Events.{got_at, sent_at, traffic_after, PhaseTraffic, traffic_at, one_more, IsReady, IsMore, settled_by, answered_by, asks_turn, answers_turn, Steps, WhenNotYet, counted, IsEvent, Acts, Advances}
-use Rattle.epoch_node.proofs.Acting.{begins_state, more_still, begun_asking, asks_got_more, asks_sent_more, still_asking, begins_to_answer, answers_got_more, answers_sent_more, still_answering}
+use Rattle.epoch_node.specs.Events.{got_at, sent_at, traffic_after, PhaseTraffic, traffic_at, one_more, IsReady, IsMore, settled_by, answered_by, asks_turn, answers_turn, Steps, WhenNotYet, counted, IsEvent, CanAct, Acts, CanAdvance, Advances}
+use Rattle.epoch_node.proofs.Acting.{begins_state, more_still, begun_asking, can_settle, asks_got_more, asks_sent_more, still_asking, begins_to_answer, answers_got_more, answers_sent_more, still_answering}
 use Rattle.epoch_node.proofs.Counting.{still_at, traffic_still, counted_by, counts_open, counts_over}
 
 pub acts_of : {s t : Stage} → s ≡ t → (next : StageView) (on on' : PhaseTraffic) (turn : PassTurn) → Acts (stage_of s) on next on' turn → Acts (stage_of t) on next on' turn
@@ -308,3 +309,27 @@ rest_event c on ready e = record {
   rests (Answering f) e at = cc
   rests (Done f) e at = record { is = refl; got_same = refl; sent_same = refl; answered = refl }
   rests Between e at = absurd at
+
+-- ---- what the parts of an event need
+
+pub can_act : (c : CoreView) (on : PhaseTraffic) → IsReady c on → (phase_of c.stage ≡ phase.Done → ⊥) → CanAct c.stage on
+can_act c on ready n = by c.stage ready.got_is ready.sent_is ready.keeps.stage n where
+  by : (s : StageView) → got_at s ready.traffic ≡ on.got → sent_at s ready.traffic ≡ on.sent → AtStage c.setup s ready.traffic → (phase_of s ≡ phase.Done → ⊥) → CanAct s on
+  by (Fresh t) g e at n = tt
+  by (Asking v) g e at n = (subst₂ (Keeps v) g e at.keeps, subst₂ (Reached v) g e at.reached)
+  by (Answering f) g e at n = subst₂ (ForeKeeps f) g e at.0.keeps
+  by (Done f) g e at n = absurd (n refl)
+  by Between g e at n = absurd at
+
+pub can_advance : (c : CoreView) (next : StageView) (on on' : PhaseTraffic) → Acts c.stage on next on' pass_turn.Over → IsReady c on → is_none on'.got ≡ is_none on.got → CanAdvance c.setup next
+can_advance c next on on' x ready n =
+    by c.stage ready.keeps.stage (n ∙ ap is_none (sym ready.got_is)) (subst₂ (λ got sent. Acts c.stage (record { got = got; sent = sent }) next on' pass_turn.Over) (sym ready.got_is) (sym ready.sent_is) x) where
+      w : Traffic
+      w = ready.traffic
+
+      by : (s : StageView) → AtStage c.setup s w → is_none on'.got ≡ is_none (got_at s w) → Acts s (traffic_at s w) next on' pass_turn.Over → CanAdvance c.setup next
+      by (Fresh t) at m x = subst (CanAdvance c.setup) (sym x.0) (at.0, at.1)
+      by (Asking v) at m x = subst (CanAdvance c.setup) (sym x.is) (can_settle c.setup v w at next on'.got on'.sent pass_turn.Over x ready.keeps.links.asks_got m)
+      by (Answering f) at m x = subst (CanAdvance c.setup) (sym x.is) tt
+      by (Done f) at m x = absurd x
+      by Between at m x = absurd x

@@ -1,13 +1,20 @@
 -- What holds of the items of lists, of lists that are appended, and of lists from the last to the first.
-use Rattle.std.proofs.Common.{inl, inr, ◌≡◌, ◌⊎◌, suc, List, [], ◌∷◌, ◌++◌, reverse, length, refl, subst, subst₂, sym, ◌∙◌, arith}
+use Rattle.std.proofs.Common.{inl, inr, ◌≡◌, ◌⊎◌, suc, List, [], ◌∷◌, ◌++◌, reverse, length, refl, ap, subst, subst₂, sym, ◌∙◌, append_assoc, arith}
 use Rattle.std.specs.Prelude.{All, Any, zip}
 use Rattle.std.specs.List.{AllZip}
-use Rattle.std.proofs.lemmas.List.{reverse-reverse, length-reverse}
+use Rattle.std.proofs.lemmas.List.{reverse-append, reverse-reverse, length-reverse}
 use Rattle.std.proofs.lemmas.List.Elements.{All-nil, All-cons, All-head, All-tail, All-push, AllZip-push}
 use Rattle.std.proofs.lemmas.Grind.{reverse_onto}
 
 pub one_before : {X : Type 0} (x : X) (xs : List X) → reverse xs ++ x ∷ [] ≡ reverse (x ∷ xs)
 one_before x xs = sym (reverse_onto xs x [])
+
+-- the last of these goes on top of a stack, and all stay in order
+pub goes_on_top : {X : Type 0} (items items' stack stack' all : List X) (x : X) → items ≡ items' ++ x ∷ [] → stack' ≡ stack ++ x ∷ []
+    → items ++ reverse stack ≡ all → items' ++ reverse stack' ≡ all
+goes_on_top items items' stack stack' all x i s h =
+    ap (λ xs. items' ++ reverse xs) s ∙ ap (λ xs. items' ++ xs) (reverse-append stack (x ∷ []))
+    ∙ sym (append_assoc items' (x ∷ []) (reverse stack)) ∙ ap (λ xs. xs ++ reverse stack) (sym i) ∙ h
 
 module _ {X : Type 0} (P : X → Type 0) where
   pub all_front : (xs ys : List X) → All P (xs ++ ys) → All P xs
