@@ -1,6 +1,2 @@
-mod Answering
-mod Benching
-mod Carrying
-mod Cutting
 mod Refusals
 mod Ending

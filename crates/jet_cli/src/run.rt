@@ -8,9 +8,14 @@ ghost use Rattle.jet_work.specs.Keeping.{OpensAll, OpensFirst, KeepsAll, KeepsBu
 ghost use Rattle.jet_work.specs.Ending.{IsUnwritten, Says};
 ghost use Rattle.jet_cli.specs.Statuses.{IsStatus, IsDone, IsDoneInPart, IsRefused, IsDecided, IsComplete};
 
-use crate::command::obey;
+use checkpoints::Checkpoints;
+use epoch_cut::Cuts;
+use epoch_engine::{ClosureEngine, Parallelism};
+use epoch_line::work;
+use jet_commands::obey;
 use jet_work::conclude;
 use outer_io::{Clock, Gate, Sink, Store};
+use query_lang::Query;
 use std::sync::Wait;
 use std::thread::Threads;
 
@@ -54,6 +59,13 @@ pub fn jet<R: Threads + Wait + Sync + AllocGlobal, S: Store, O: Sink, E: Sink, K
     ensures aside { IfFile (target_in (command_in words.now)) (out.new ≡ out.old) }
     ensures clock { IfUntimedIn (command_in words.now) (clock.new ≡ clock.old) }
 {
-    let outcome = obey(rt, rt.alloc(), words, store, out, clock, gate);
+    let alloc = rt.alloc();
+    let line = ClosureEngine {
+        gate,
+        work: |checkpoints: &Checkpoints<'_>, query: &Query, cuts: Cuts, parallelism: Parallelism| {
+            work(rt, alloc, gate, checkpoints, query, cuts, parallelism)
+        },
+    };
+    let outcome = obey(&line, alloc, words, store, out, clock);
     conclude(err, outcome)
 }

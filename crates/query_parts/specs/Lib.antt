@@ -1,3 +1,3 @@
 pub mod Crossings
-pub mod Preparing
+pub mod Checking
 pub mod Parts

@@ -1,64 +1,87 @@
 //! A log checked, and a query over its run.
 
-ghost use Rattle.std.specs.Prelude.{◌≡◌, ◌≤◌, IfOk, IfErr};
+ghost use Rattle.std.specs.Prelude.{◌≡◌, IfOk, IfErr};
+ghost use Rattle.log_model.specs.Logs.{steps};
 ghost use Rattle.report_model.specs.Rows.{rows};
+ghost use Rattle.epoch_model.specs.Cutting.{IsCutting};
 ghost use Rattle.no_memory.specs.Faults.{IsCausedBy};
 ghost use Rattle.replayer.specs.Checks.{IsChecked, IsMisfit};
 ghost use Rattle.replayer.specs.Jobs.{trace_of};
+ghost use Rattle.query_parts.specs.Checking.{AreTakenFor};
 ghost use Rattle.query_parts.specs.Parts.{IsEnough};
 
+use crate::answer::{answer_of_epochs, report_of};
 use crate::beginning::query_beginning;
-use crate::whole::query_prepared;
+use checkpoints::CheckpointTaker;
 use elf_image::Program;
-use epoch_link::Capacity;
-use outer_io::Gate;
+use epoch_cut::Cuts;
+use epoch_engine::{Engine, Parallelism};
+use no_memory::NoMemory;
 use query_lang::Query;
-use query_parts::{Part, check_for};
+use query_parts::{Part, check_parts, check_whole};
 use replay_log::Log;
 use replayer::{CheckFault, Job};
 use sink_collect::Report;
 use std::alloc::Global;
-use std::sync::Wait;
-use std::thread::Threads;
 
 /// Checks that a log fits a program, and gives the job of its run, and the report of a query over the run, of which this
-/// part is analysed. Of the whole run that is found in the replay that checks the log. Each
-/// epoch enters the gate as its analysis begins.
+/// part is analysed. Of the whole run that is found in the replay that checks the log. The engine enters each epoch as its
+/// analysis begins; one that is the whole run is analysed here.
 ///
-/// The fault is that of [`Job::check`]: the first misfit that holds, or out of memory. `workers` is 1 to 64. Each
-/// link holds at most `capacity` messages.
-pub fn check_and_query<G: Gate, R: Threads + Wait + Sync>(
-    rt: &R,
+/// The fault is that of [`Job::check`]: the first misfit that holds, or out of memory.
+pub fn check_and_query<E: Engine>(
+    engine: &E,
     alloc: Global,
-    gate: &G,
     program: Program,
     log: Log,
     query: &Query,
     part: Part,
-    workers: u32,
-    capacity: Capacity,
+    parallelism: Parallelism,
 ) -> Result<(Job, Report), CheckFault>
+    requires ready { E.ready engine.now }
     requires enough { IsEnough query.now log part }
-    requires workers { (1 ≤ workers) × (workers ≤ 64) }
     ensures checked { IfOk result (λ r. IsChecked program.bytes.items program.image log r.0) }
     ensures report { IfOk result (λ r. r.1 ≡ rows query.now (trace_of r.0)) }
     ensures fault { IfErr result (IsCausedBy (IsMisfit program.bytes.items program.image log)) }
 {
     match part {
         Part::Whole(cuts) => {
-            let (job, prepared) = check_for(alloc, gate, program, log, query, cuts)?;
-            let (report, _, _) = query_prepared(
-                rt, alloc, gate, &job, query, prepared, workers, capacity,
-            )?;
+            if cuts.count() == 1 {
+                engine.enter(0);
+                let (job, sinks) = check_whole(alloc, program, log, query)?;
+                let report = report_of(alloc, &job, query, sinks.rows(alloc)?)?;
+                return Ok((job, report));
+            }
+            let (job, taker) = check_parts(alloc, program, log, &cuts)?;
+            let report = report_of_taken(engine, alloc, &job, taker, query, cuts, parallelism)?;
             Ok((job, report))
         }
         Part::Beginning { steps, cuts } => {
             let Program { bytes, image } = program;
             let job = Job::check(alloc, &bytes, image, log)?;
-            let found = query_beginning(
-                rt, alloc, gate, job, query, steps, cuts, workers, capacity,
-            )?;
+            let found = query_beginning(engine, alloc, job, query, steps, cuts, parallelism)?;
             Ok(found)
         }
     }
+}
+
+/// The report of a run of several epochs, of the checkpoints that were taken where each begins. It gives up with NoMemory
+/// alone.
+fn report_of_taken<E: Engine>(
+    engine: &E,
+    alloc: Global,
+    job: &Job,
+    taker: CheckpointTaker,
+    query: &Query,
+    cuts: Cuts,
+    parallelism: Parallelism,
+) -> Result<Report, NoMemory>
+    requires ready { E.ready engine.now }
+    requires cuts { IsCutting (steps job.now.log) cuts }
+    requires taken { AreTakenFor cuts job.now taker }
+    ensures { IfOk result (λ report. report ≡ rows query.now (trace_of job.now)) }
+{
+    let checkpoints = taker.finish(job)?;
+    let answer = answer_of_epochs(engine, alloc, job, &checkpoints, query, cuts, parallelism)?;
+    Ok(answer.report)
 }

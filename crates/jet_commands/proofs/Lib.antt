@@ -1,0 +1,4 @@
+mod Answering
+mod Benching
+mod Carrying
+mod Cutting

@@ -1,0 +1,98 @@
+//! How much of a run is analysed for a query, and where it is cut into epochs.
+ghost use Rattle.std.specs.Prelude.{◌≡◌, ◌≤◌, IfOk};
+ghost use Rattle.log_model.specs.Logs.{steps};
+ghost use Rattle.epoch_model.specs.ByLength.{epoch_count, cut_times};
+ghost use Rattle.epoch_model.specs.Cutting.{IsCutting};
+ghost use Rattle.jet_words.specs.Commands.{IsPipeline};
+ghost use Rattle.jet_model.specs.Lengths.{epoch_length, cuts_by};
+ghost use Rattle.jet_model.specs.Answer.{epochs_check, told_check};
+ghost use Rattle.jet_files.specs.Outcome.{IsWork, seen_by};
+ghost use Rattle.query_parts.specs.Parts.{IsEnough};
+ghost use Rattle.jet_commands.specs.Parts.{part_by};
+
+use epoch_cut::laws::cut_times_are_cutting;
+use epoch_cut::{CutFault, Cuts, cuts};
+use jet_refusal::Refusal;
+use jet_words::Pipeline;
+use query_lang::Query;
+use query_need::needed_steps;
+use query_parts::Part;
+use replay_log::Log;
+use replayer::steps_of;
+
+/// An epoch has at least so many steps, but for the last one, unless the words tell its length.
+const LEAST_LENGTH: u64 = 262144;
+
+/// The length of the epochs of a run of so many steps: as the words tell it, or such that there is an epoch for each
+/// worker.
+fn epoch_length(told: Option<u64>, workers: u32, steps: u64) -> u64
+    requires { 1 ≤ workers }
+    ensures { result ≡ epoch_length told workers steps }
+{
+    match told {
+        Some(length) => length,
+        None => steps.div_ceil(u64::from(workers)).max(LEAST_LENGTH),
+    }
+}
+
+/// The cuts of a log's run into epochs of this length. It gives up with `TooManyEpochs`.
+pub fn cuts_of(log: &Log, epoch: u64) -> Result<Cuts, Refusal>
+    requires { 1 ≤ epoch }
+    ensures times { IfOk result (λ cuts. cuts ≡ cut_times (steps log.now) epoch) }
+    ensures check { IsWork (epochs_check epoch log.now) (seen_by (λ cuts. tt) result) }
+    ensures cutting { IfOk result (λ cuts. IsCutting (steps log.now) cuts) }
+{
+    cut_times_are_cutting();
+    match cuts(steps_of(log), epoch) {
+        Ok(cuts) => Ok(cuts),
+        Err(CutFault::TooMany(count)) => Err(Refusal::TooManyEpochs(count)),
+    }
+}
+
+/// The cuts of a log's run into epochs, as the words tell their length, or as there are workers. It gives up with
+/// `TooManyEpochs`, where a length is told.
+fn cuts_by(log: &Log, pipeline: Pipeline) -> Result<Cuts, Refusal>
+    requires { IsPipeline pipeline }
+    ensures times { IfOk result (λ cuts. cuts ≡ cuts_by pipeline.epoch pipeline.workers (steps log.now)) }
+    ensures check { IsWork (told_check pipeline.epoch log.now) (seen_by (λ cuts. tt) result) }
+    ensures cutting { IfOk result (λ cuts. IsCutting (steps log.now) cuts) }
+{
+    let length = epoch_length(pipeline.epoch, pipeline.workers, steps_of(log));
+    cuts_of(log, length)
+}
+
+/// The cuts of so many first steps of a run into epochs, as the words tell their length, or as there are workers.
+fn cuts_of_beginning(beginning: u64, pipeline: Pipeline) -> Cuts
+    requires pipeline { IsPipeline pipeline }
+    requires few { epoch_count beginning (epoch_length pipeline.epoch pipeline.workers beginning) ≤ 4096 }
+    ensures times { result ≡ cuts_by pipeline.epoch pipeline.workers beginning }
+    ensures cutting { IsCutting beginning result }
+{
+    cut_times_are_cutting();
+    let length = epoch_length(pipeline.epoch, pipeline.workers, beginning);
+    match cuts(beginning, length) {
+        Ok(cuts) => cuts,
+        Err(CutFault::TooMany(_)) => unreachable!(),
+    }
+}
+
+/// What of a log's run is analysed for a query: the whole run, where its rows need half of the steps, since the replay that
+/// checks the log can then serve the query too; else the steps alone that they need. It gives up with `TooManyEpochs`, where
+/// a length is told by which the whole run has too many.
+pub fn part_for(log: &Log, query: &Query, pipeline: Pipeline) -> Result<Part, Refusal>
+    requires { IsPipeline pipeline }
+    ensures part { IfOk result (λ part. part ≡ part_by pipeline.epoch pipeline.workers query.now log.now) }
+    ensures check { IsWork (told_check pipeline.epoch log.now) (seen_by (λ part. tt) result) }
+    ensures enough { IfOk result (IsEnough query.now log.now) }
+{
+    let whole = cuts_by(log, pipeline)?;
+    let needed = needed_steps(log, query);
+    if needed >= steps_of(log) / 2 {
+        return Ok(Part::Whole(whole));
+    }
+    let cuts = cuts_of_beginning(needed, pipeline);
+    Ok(Part::Beginning {
+        steps: needed,
+        cuts,
+    })
+}
