@@ -6,8 +6,6 @@
 #[cfg(test)]
 mod asserts;
 #[cfg(test)]
-mod call_list_tests;
-#[cfg(test)]
 mod elf_image_tests;
 #[cfg(test)]
 mod epoch_cut_tests;

@@ -18,11 +18,11 @@ use Rattle.flow_model.proofs.Orders.{source_total, source_same}
 use Rattle.taint_shadow.specs.declared.labels.Label.{Label}
 use Rattle.taint_shadow.specs.Labels.{KeepsLabels}
 use Rattle.taint_shadow.proofs.Meaning.{made_kept}
-use Rattle.decision_model.specs.declared.Place.{Place}
-use Rattle.decision_model.specs.Decisions.{Decision}
-use Rattle.decision_model.specs.Places.{place_cmp, place_of, places, is_at, decided_there, sources_of}
-use Rattle.decision_model.proofs.Orders.{place_total, place_same, place_compared, place_order_is}
-use Rattle.decision_model.proofs.Lines.{sources_ascend}
+use Rattle.decision_find.specs.declared.Place.{Place}
+use Rattle.decision_find.specs.Decisions.{Decision}
+use Rattle.decision_find.specs.Places.{place_cmp, place_of, places, is_at, decided_there, sources_of}
+use Rattle.decision_find.proofs.Orders.{place_total, place_same, place_compared, place_order_is}
+use Rattle.decision_find.proofs.Lines.{sources_ascend}
 use Rattle.source_labels.specs.declared.labels.SourceLabels.{SourceLabels}
 use Rattle.decision_find.specs.declared.looks.Look.{Look}
 use Rattle.decision_find.specs.declared.groups.Group.{Group}

@@ -16,8 +16,8 @@ use Rattle.taint_shadow.specs.Labels.{start_label}
 use Rattle.taint_shadow.specs.Places.{AreKept}
 use Rattle.taint_shadow.specs.Steps.{Holds, after}
 use Rattle.taint_shadow.proofs.Meaning.{holds_kept}
-use Rattle.decision_model.specs.Decides.{deciding_rule}
-use Rattle.decision_model.specs.Decisions.{Decision, decisions, decided_at, decided_from, moments_seen, instr_of, fetched_from}
+use Rattle.decision_find.specs.Decides.{deciding_rule}
+use Rattle.decision_find.specs.Decisions.{Decision, decisions, decided_at, decided_from, moments_seen, instr_of, fetched_from}
 use Rattle.decision_find.specs.declared.looks.Look.{Look}
 use Rattle.decision_find.specs.declared.tracking.DecisionTracking.{DecisionTracking}
 use Rattle.source_labels.specs.Words.{label_words}

@@ -1,3 +1,8 @@
+pub mod Orders
+pub mod Answered
+pub mod Lines
+mod Seen
+mod Worked
 mod Looking
 mod Counted
 mod Noted

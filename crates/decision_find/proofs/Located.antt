@@ -12,8 +12,8 @@ use Rattle.flow_model.specs.Flow.{lanes, all_lanes}
 use Rattle.flow_model.specs.Ranges.{AreLocations}
 use Rattle.flow_model.proofs.Located.{in-lanes}
 use Rattle.taint_shadow.proofs.Meaning.{AreHere, lanes_here, union_here}
-use Rattle.decision_model.specs.Decides.{base_of_load, used, asked, decides}
-use Rattle.decision_model.specs.Decisions.{fetched_from}
+use Rattle.decision_find.specs.Decides.{base_of_load, used, asked, decides}
+use Rattle.decision_find.specs.Decisions.{fetched_from}
 
 located : (ls : List Loc) → AreHere ls → AreLocations ls
 located [] h = tt

@@ -18,9 +18,9 @@ use Rattle.replay_model.proofs.Offsets.{step_at_from, steps_within}
 use Rattle.replay_model.proofs.Track.{on_track_at}
 use Rattle.replayer.specs.Jobs.{Job, IsJob}
 use Rattle.replayer.specs.Positions.{CursorAt, state_at}
-use Rattle.decision_model.specs.Decides.{decides}
-use Rattle.decision_model.specs.Decisions.{instr_of, decides_fetched}
-use Rattle.decision_model.proofs.Answered.{IsCallAt, IsDoneAt, done_at, traps_at}
+use Rattle.decision_find.specs.Decides.{decides}
+use Rattle.decision_find.specs.Decisions.{instr_of, decides_fetched}
+use Rattle.decision_find.proofs.Answered.{IsCallAt, IsDoneAt, done_at, traps_at}
 use Rattle.decision_find.specs.declared.looks.Look.{Look}
 use Rattle.decision_find.specs.Looks.{look_at_step, kind_seen, IsLookAt}
 use Rattle.decision_find.specs.Following.{IsStepOf, moment_of}

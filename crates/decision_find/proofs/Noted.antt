@@ -12,7 +12,7 @@ use Rattle.taint_shadow.specs.Labels.{KeepsLabels}
 use Rattle.taint_shadow.specs.Places.{kept}
 use Rattle.taint_shadow.specs.Steps.{AreStanding, Holds}
 use Rattle.taint_shadow.proofs.Meaning.{keeps_itself, keeps_then, holds_kept, standing_kept}
-use Rattle.decision_model.specs.Decisions.{Decision, is_some_byte}
+use Rattle.decision_find.specs.Decisions.{Decision, is_some_byte}
 use Rattle.source_labels.specs.declared.labels.SourceLabels.{SourceLabels}
 use Rattle.decision_find.specs.declared.groups.Groups.{Groups}
 use Rattle.decision_find.specs.declared.looks.Look.{Look}

@@ -10,11 +10,11 @@ use Rattle.std.proofs.lemmas.List.Elements.{recursion_from_All}
 use Rattle.isa.specs.declared.Instr.{Instr}
 use Rattle.flow_model.specs.declared.SourceByte.{SourceByte}
 use Rattle.printed_names.specs.Lines.{lines_end}
-use Rattle.decision_model.specs.declared.Place.{Place}
-use Rattle.decision_model.specs.Decisions.{Decision}
-use Rattle.decision_model.specs.Places.{place_cmp, places, decided_there}
-use Rattle.decision_model.specs.Text.{line_text, place_line, decisions_text}
-use Rattle.decision_model.proofs.Orders.{place_total, place_compared, place_order_is}
+use Rattle.decision_find.specs.declared.Place.{Place}
+use Rattle.decision_find.specs.Decisions.{Decision}
+use Rattle.decision_find.specs.Places.{place_cmp, places, decided_there}
+use Rattle.decision_find.specs.Text.{line_text, place_line, decisions_text}
+use Rattle.decision_find.proofs.Orders.{place_total, place_compared, place_order_is}
 use Rattle.source_labels.specs.declared.labels.SourceLabels.{SourceLabels}
 use Rattle.decision_find.specs.declared.groups.Group.{Group}
 use Rattle.decision_find.specs.declared.groups.Groups.{Groups}

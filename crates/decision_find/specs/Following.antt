@@ -10,9 +10,9 @@ use Rattle.replay_model.specs.Run.{Moment, start, moment_after}
 use Rattle.replayer.specs.Jobs.{Job, IsJob, trace_of}
 use Rattle.taint_shadow.specs.Labels.{KeepsLabels}
 use Rattle.taint_shadow.specs.Steps.{AreStanding, Holds, Becomes, after}
-use Rattle.decision_model.specs.Decides.{deciding_rule}
-use Rattle.decision_model.specs.Decisions.{Decision, decided_from}
-use Rattle.decision_model.specs.Text.{deciding_query, decided_by}
+use Rattle.decision_find.specs.Decides.{deciding_rule}
+use Rattle.decision_find.specs.Decisions.{Decision, decided_from}
+use Rattle.decision_find.specs.Text.{deciding_query, decided_by}
 use Rattle.decision_find.specs.declared.looks.Look.{Look}
 use Rattle.decision_find.specs.declared.tracking.DecisionTracking.{DecisionTracking}
 use Rattle.source_labels.specs.Words.{label_words}

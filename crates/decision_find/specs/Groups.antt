@@ -3,9 +3,9 @@ use Rattle.std.specs.Prelude.{◌≡◌, ◌+◌, List, [], ◌∷◌, length, m
 use Rattle.std.specs.BTreeMap.{get}
 use Rattle.taint_shadow.specs.declared.labels.Label.{Label}
 use Rattle.taint_shadow.specs.Labels.{KeepsLabels, MakesLabel, mean_together}
-use Rattle.decision_model.specs.declared.Place.{Place}
-use Rattle.decision_model.specs.Decisions.{Decision}
-use Rattle.decision_model.specs.Places.{place_cmp, places, decided_there, sources_of}
+use Rattle.decision_find.specs.declared.Place.{Place}
+use Rattle.decision_find.specs.Decisions.{Decision}
+use Rattle.decision_find.specs.Places.{place_cmp, places, decided_there, sources_of}
 use Rattle.source_labels.specs.declared.labels.SourceLabels.{SourceLabels}
 use Rattle.decision_find.specs.declared.looks.Look.{Look}
 use Rattle.decision_find.specs.declared.groups.Group.{Group}

@@ -1,3 +1,9 @@
+pub mod Deciding
+pub mod Decides
+pub mod Decisions
+pub mod Places
+pub mod Text
+pub mod TextLaws
 pub mod Looks
 pub mod Groups
 pub mod Following

@@ -12,7 +12,7 @@ use Rattle.flow_model.specs.declared.SourceByte.{SourceByte}
 use Rattle.flow_model.specs.declared.StepSeen.{StepSeen}
 use Rattle.flow_model.specs.declared.CallSeen.{CallSeen}
 use Rattle.replay_model.specs.Run.{Moment}
-use Rattle.decision_model.specs.Decisions.{Decision, is_some_byte, instr_of, decides_fetched, fetched_from}
+use Rattle.decision_find.specs.Decisions.{Decision, is_some_byte, instr_of, decides_fetched, fetched_from}
 use Rattle.decision_find.specs.declared.looks.Look.{Look}
 
 -- the kind of a step's call; where it is none, one that no look at it needs

@@ -3,7 +3,7 @@
 ghost use Rattle.std.specs.Prelude.{◌≡◌, IfOk, OnOk};
 ghost use Rattle.log_model.specs.Logs.{steps};
 ghost use Rattle.report_model.specs.Query.{Query as QueryOf};
-ghost use Rattle.decision_model.specs.Text.{decisions_report};
+ghost use Rattle.decision_find.specs.Text.{decisions_report};
 ghost use Rattle.decision_find.specs.Following.{IsSound, IsTracked, HasDecisions};
 
 use crate::looks::Look;

@@ -2,16 +2,16 @@
 
 ghost use Rattle.std.specs.Prelude.{◌≡◌, ◌∷◌, ◌++◌, [], List, IfOk, OnOk};
 ghost use Rattle.std.specs.BTreeMap.{get};
-ghost use Rattle.decision_model.specs.Decisions.{Decision};
-ghost use Rattle.decision_model.specs.Places.{place_cmp};
+ghost use Rattle.decision_find.specs.Decisions.{Decision};
+ghost use Rattle.decision_find.specs.Places.{place_cmp};
 ghost use Rattle.taint_shadow.specs.Labels.{KeepsLabels};
 ghost use Rattle.source_labels.specs.declared.labels.SourceLabels.{SourceLabels as AnyLabels};
 ghost use Rattle.source_labels.specs.Words.{label_words};
 ghost use Rattle.decision_find.specs.Looks.{decision_of};
 ghost use Rattle.decision_find.specs.Groups.{AreGroups, HaveLabels, Joins, Grows};
 
+use crate::Place;
 use crate::looks::Look;
-use decision_model::Place;
 use flow_model::Loc;
 use isa::Instr;
 use no_memory::{Limit, NoMemory};

@@ -3,7 +3,7 @@
 ghost use Rattle.std.specs.Prelude.{◌≡◌, ◌+◌};
 ghost use Rattle.isa.specs.Machine.{wrap};
 ghost use Rattle.flow_model.specs.declared.Loc.TheVariants.{Mem};
-ghost use Rattle.decision_model.specs.Decisions.{fetched_from};
+ghost use Rattle.decision_find.specs.Decisions.{fetched_from};
 ghost use Rattle.decision_find.specs.Looks.{look_at_step};
 
 use flow_model::{Loc, StepSeen};

@@ -3,13 +3,14 @@
 ghost use Rattle.std.specs.Prelude.{◌≡◌, ◌∷◌, [], IfOk, OnOk};
 ghost use Rattle.flow_model.specs.Ranges.{IsInRange, IsLocation, AreLocations};
 ghost use Rattle.replayer.specs.Jobs.{Job as JobOf};
-ghost use Rattle.decision_model.specs.Decisions.{decides_fetched};
+ghost use Rattle.decision_find.specs.Decisions.{decides_fetched};
 ghost use Rattle.decision_find.specs.Looks.{looked_at, HasFitting};
 ghost use Rattle.decision_find.specs.Following.{IsSound, IsTracked, Notes, IsTurned, TracksStep};
 
+use crate::deciding::decisions_of;
 use crate::groups::Groups;
 use crate::looks::Look;
-use decision_rule::{deciding_rule, decisions_of};
+use crate::rule::deciding_rule;
 use flow_model::{Loc, Rule, StepSeen};
 use no_memory::NoMemory;
 use query_lang::Query;

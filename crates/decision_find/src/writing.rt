@@ -1,14 +1,14 @@
 //! The text of decisions.
 
 ghost use Rattle.std.specs.Prelude.{◌≡◌, ◌++◌, List, IfOk, OnOk};
-ghost use Rattle.decision_model.specs.Decisions.{Decision};
+ghost use Rattle.decision_find.specs.Decisions.{Decision};
 ghost use Rattle.source_labels.specs.Words.{label_words};
-ghost use Rattle.decision_model.specs.Text.{mnemonic_text, ranges_text, place_text, line_text, decisions_text};
+ghost use Rattle.decision_find.specs.Text.{mnemonic_text, ranges_text, place_text, line_text, decisions_text};
 ghost use Rattle.decision_find.specs.Groups.{AreGroups, HaveLabels};
 
+use crate::Place;
 use crate::groups::Group;
 use crate::tracking::DecisionTracking;
-use decision_model::Place;
 use instruction_text::mnemonic;
 use isa::Instr;
 use itoa::Buffer;

@@ -11,8 +11,8 @@ use Rattle.jet_refusal.proofs.Causes.{IsOwedTo-map}
 use Rattle.jet_model.specs.Contents.{Contents}
 use Rattle.jet_model.specs.Answer.{IsRecordAnswer}
 use Rattle.jet_model.proofs.Headline.{answer-is_given, given-is_answer, reports-are_given, given-are_reports, run_answer-is_given, given-is_run_answer, convert-is_given, given-is_convert, record_answer-is_recording, recording-is_record_answer, one_record_answer}
-use Rattle.page_model.specs.Page.{page_report}
-use Rattle.workload_model.proofs.Outcomes.{one_answer as one_bench_answer, answer-is_lines, lines-are_answer}
+use Rattle.page_data.specs.Page.{page_report}
+use Rattle.order_gateway.proofs.Outcomes.{one_answer as one_bench_answer, answer-is_lines, lines-are_answer}
 use Rattle.jet_files.specs.Outcome.{HeldBefore}
 use Rattle.jet_work.specs.Targets.{Target, ToOutput, ToFile, target_of}
 use Rattle.jet_work.specs.Answers.{IsAnswer, given_by, decisions_by, made_by, named, limits_of, workload_length}

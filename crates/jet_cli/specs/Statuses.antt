@@ -9,8 +9,8 @@ use Rattle.jet_refusal.specs.Refusals.{status_of, line_of}
 use Rattle.jet_refusal.specs.Causes.{IsOwedTo}
 use Rattle.jet_model.specs.Contents.{Contents}
 use Rattle.jet_model.specs.Headline.{IsGivenByQuery, AreReportsOf, IsGivenBy, IsConversionOf, IsRecordingOf, IsShort, AreShort, AreAllShort, HasFewEpochs, HasFewIfTold}
-use Rattle.page_model.specs.Page.{page_report}
-use Rattle.workload_model.specs.Answer.{IsBenchOf}
+use Rattle.page_data.specs.Page.{page_report}
+use Rattle.order_gateway.specs.Answer.{IsBenchOf}
 use Rattle.jet_work.specs.Answers.{IsAnswer, OfClockAnswers, given_by, decisions_by, made_by, named, limits_of, workload_length}
 use Rattle.jet_work.specs.Targets.{Unless, plan_of}
 use Rattle.outer_io.specs.Outside.{Change, IfTold, IsFaultless, IsUndisturbed}

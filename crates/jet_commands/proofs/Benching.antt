@@ -33,12 +33,12 @@ use Rattle.jet_model.specs.Contents.{Contents}
 use Rattle.jet_model.specs.Report.{text_from}
 use Rattle.jet_model.specs.Answer.{fitting_start, epochs_check}
 use Rattle.jet_model.proofs.AndThen.{and_then-ok, and_then-err}
-use Rattle.workload_model.specs.Guest.{guest_file, guest_image}
-use Rattle.workload_model.specs.declared.Numbers.{Numbers}
-use Rattle.workload_model.specs.Lines.{numbers_of, bench_text}
-use Rattle.workload_model.specs.Answer.{lines_of, IsWorkloadLog, IsBenchAnswer}
-use Rattle.workload_model.proofs.Guests.{guest-image}
-use Rattle.workload_model.proofs.Outcomes.{short_log-outcome, long_log-outcome}
+use Rattle.order_gateway.specs.Guest.{guest_file, guest_image}
+use Rattle.order_gateway.specs.declared.Numbers.{Numbers}
+use Rattle.order_gateway.specs.Lines.{numbers_of, bench_text}
+use Rattle.order_gateway.specs.Answer.{lines_of, IsWorkloadLog, IsBenchAnswer}
+use Rattle.order_gateway.proofs.Guests.{guest-image}
+use Rattle.order_gateway.proofs.Outcomes.{short_log-outcome, long_log-outcome}
 use Rattle.record_model.specs.declared.Unrecorded.{Unrecorded}
 use Rattle.record_model.specs.declared.Unrecorded.TheVariants.{Window, LogTooLong}
 use Rattle.no_memory.specs.declared.Fault.{Fault}

@@ -6,8 +6,8 @@ use Rattle.replay_model.specs.Fits.{beginning}
 use Rattle.record_model.specs.Counts.{capped}
 use Rattle.replayer.specs.Jobs.{Job}
 use Rattle.query_parts.specs.Crossings.{CrossedAt}
-use Rattle.workload_model.specs.Guest.{guest_file}
-use Rattle.workload_model.specs.Answer.{IsWorkloadLog}
+use Rattle.order_gateway.specs.Guest.{guest_file}
+use Rattle.order_gateway.specs.Answer.{IsWorkloadLog}
 
 -- the job is of the guest and the log of its run, whose text is no longer than a log may be
 pub record IsWorkloadJob (seed steps : ℕ) (job : Job) : Type 0 where

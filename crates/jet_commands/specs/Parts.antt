@@ -3,7 +3,7 @@ use Rattle.std.specs.Prelude.{ℕ, ◌/◌, nat_le, if◌then◌else◌, Option}
 use Rattle.log_model.specs.Logs.{Log, steps}
 use Rattle.report_model.specs.Query.{Query}
 use Rattle.jet_model.specs.Lengths.{cuts_by}
-use Rattle.query_need.specs.Need.{needed_by_log}
+use Rattle.run_beginning.specs.Need.{needed_by_log}
 use Rattle.query_parts.specs.declared.part.Part.{Part}
 use Rattle.query_parts.specs.declared.part.Part.TheVariants.{Whole, Beginning}
 

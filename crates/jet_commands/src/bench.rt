@@ -3,8 +3,8 @@ ghost use Rattle.std.specs.Prelude.{◌≡◌, ◌≤◌, ℕ, Err, IfOk, IfErr}
 ghost use Rattle.log_model.specs.Logs.{steps as steps_of};
 ghost use Rattle.replayer.specs.Jobs.{trace_of};
 ghost use Rattle.epoch_model.specs.Cutting.{IsCutting};
-ghost use Rattle.workload_model.specs.Lines.{numbers_of, bench_text};
-ghost use Rattle.workload_model.specs.Answer.{IsBenchAnswer};
+ghost use Rattle.order_gateway.specs.Lines.{numbers_of, bench_text};
+ghost use Rattle.order_gateway.specs.Answer.{IsBenchAnswer};
 ghost use Rattle.jet_words.specs.Commands.{IsPipeline};
 ghost use Rattle.jet_files.specs.Outcome.{seen_by, bytes_of};
 ghost use Rattle.jet_work.specs.Answers.{IsWorkOf, workload_length};

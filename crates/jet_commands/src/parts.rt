@@ -15,10 +15,10 @@ use epoch_cut::{CutFault, Cuts, cuts};
 use jet_refusal::Refusal;
 use jet_words::Pipeline;
 use query_lang::Query;
-use query_need::needed_steps;
 use query_parts::Part;
 use replay_log::Log;
 use replayer::steps_of;
+use run_beginning::needed_steps;
 
 /// An epoch has at least so many steps, but for the last one, unless the words tell its length.
 const LEAST_LENGTH: u64 = 262144;

@@ -17,7 +17,7 @@ use jet_files::Run;
 use jet_refusal::Refusal;
 use jet_words::Pipeline;
 use jet_work::{Answer, Format, fitted, own_parts, told, union_of};
-use page_model::laws::alike_have_same_data;
+use page_data::laws::alike_have_same_data;
 use query_lang::Query;
 use replayer::Job;
 use run_query::check_and_query;

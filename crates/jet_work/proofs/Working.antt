@@ -38,14 +38,14 @@ use Rattle.jet_files.proofs.Several.{kept-refused as refused-alike}
 use Rattle.jet_words.specs.declared.command.Listing.{Listing}
 use Rattle.jet_words.specs.declared.command.Listing.TheVariants.{BySink, BySource, ByPath, ByRange}
 use Rattle.jet_work.specs.Answers.{IsWorkOf, fits_and_is_cut, conversion_of, given_by, format_text, decisions_by, IsGivenAlike, AreGivenAlike, named}
-use Rattle.path_model.specs.Answer.{first_pair}
+use Rattle.path_find.specs.FirstPair.{first_pair}
 use Rattle.path_find.specs.Answer.{pair_report, path_report}
-use Rattle.range_model.specs.Text.{ranges_report}
-use Rattle.decision_model.specs.Decides.{deciding_rule}
-use Rattle.decision_model.specs.Decisions.{decided}
-use Rattle.decision_model.specs.Text.{decisions_text}
+use Rattle.range_report.specs.Text.{ranges_report}
+use Rattle.decision_find.specs.Decides.{deciding_rule}
+use Rattle.decision_find.specs.Decisions.{decided}
+use Rattle.decision_find.specs.Text.{decisions_text}
 use Rattle.page_text.specs.Texts.{head, tail}
-use Rattle.page_model.specs.PageLaws.{AlikeHaveSameData}
+use Rattle.page_data.specs.PageLaws.{AlikeHaveSameData}
 use Rattle.jet_work.specs.declared.work.Format.{Format}
 use Rattle.jet_work.specs.declared.work.Format.TheVariants.{Listed, Page}
 use Rattle.jet_work.proofs.Fitting.{fitting_start-ok}

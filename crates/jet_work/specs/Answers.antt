@@ -19,18 +19,18 @@ use Rattle.jet_model.specs.Outcomes.{and_then}
 use Rattle.jet_model.specs.Contents.{Contents, Names, Run}
 use Rattle.jet_model.specs.Report.{over_trace, report_of, influence_of, reports_of}
 use Rattle.path_find.specs.Answer.{path_report}
-use Rattle.range_model.specs.Text.{ranges_report}
-use Rattle.decision_model.specs.Text.{decisions_report}
-use Rattle.page_model.specs.Page.{page_report}
+use Rattle.range_report.specs.Text.{ranges_report}
+use Rattle.decision_find.specs.Text.{decisions_report}
+use Rattle.page_data.specs.Page.{page_report}
 use Rattle.jet_model.specs.Answer.{Limits, Source, IsCaptureAnswer, IsRecordAnswer, analysed_answer, query_answer, rules_check, queries_answer, fitting_start, told_check, limited_text, run_answer, convert_answer}
-use Rattle.workload_model.specs.Answer.{IsBenchAnswer}
+use Rattle.order_gateway.specs.Answer.{IsBenchAnswer}
 use Rattle.jet_refusal.specs.Causes.{IsOwedTo}
 use Rattle.jet_files.specs.Outcome.{by_reading, AskAlike}
 use Rattle.run_output.specs.Summary.{summary_text}
 use Rattle.run_output.specs.Input.{input}
 use Rattle.run_output.specs.Output.{output}
-use Rattle.call_list.specs.Calls.{calls_text}
-use Rattle.call_stack.specs.Stack.{stack_text}
+use Rattle.run_output.specs.Calls.{calls_text}
+use Rattle.run_output.specs.Stack.{stack_text}
 use Rattle.jet_work.specs.Texts.{IsWhole}
 use Rattle.jet_work.specs.declared.pieces.Answer.{Answer}
 use Rattle.jet_work.specs.declared.work.Format.{Format}

@@ -5,8 +5,8 @@ ghost use Rattle.report_model.specs.Influence.{influence};
 ghost use Rattle.replayer.specs.Jobs.{trace_of};
 
 use no_memory::NoMemory;
+use page_data::sources_of;
 use query_lang::Query;
-use query_sources::sources_of;
 use replayer::Job;
 use sink_collect::{Influence, Report, turn_round};
 use std::alloc::Global;

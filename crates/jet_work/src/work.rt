@@ -14,8 +14,6 @@ ghost use Rattle.jet_work.specs.Texts.{text_of};
 use crate::influence::influence_of;
 use crate::path::path_text;
 use crate::pieces::Answer;
-use call_list::calls_text;
-use call_stack::stack_text;
 use decision_find::decisions;
 use jet_files::{LONGEST_FILE, Program, Run};
 use jet_refusal::Refusal;
@@ -26,7 +24,7 @@ use query_lang::Query;
 use range_report::shown;
 use replay_log::{Log, write_log};
 use replayer::Job;
-use run_output::{input_on, output_on, summary_text};
+use run_output::{calls_text, input_on, output_on, stack_text, summary_text};
 use sink_collect::Report;
 use std::alloc::Global;
 

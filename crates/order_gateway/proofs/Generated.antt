@@ -1,7 +1,7 @@
 -- The bytes of an input, one after another.
 use Rattle.std.proofs.Common.{◌≡◌, ℕ, zero, suc, ◌+◌, ◌-◌, ◌<◌, ◌≤◌, ◌^◌, List, [], ◌∷◌, ◌++◌, length, refl, ap, ap₂, ◌∙◌, arith}
 use Rattle.std.proofs.lemmas.List.{append_assoc}
-use Rattle.workload_model.specs.Input.{next_state, byte_of, bytes_after, input_length, input}
+use Rattle.order_gateway.specs.Input.{next_state, byte_of, bytes_after, input_length, input}
 
 -- one more byte goes from those that are left to those so far
 pub one_more : (n i s state byte : ℕ) (front items whole : List ℕ) → i < n

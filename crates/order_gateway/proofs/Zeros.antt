@@ -6,8 +6,8 @@ use Rattle.outer_io.specs.Tells.{Tells, Gains}
 use Rattle.log_model.specs.Logs.{Log}
 use Rattle.record_model.specs.Recorded.{Setting, IsRecorded}
 use Rattle.call_record.specs.Captures.{IsCaptured}
-use Rattle.workload_model.specs.Workload.{workload}
-use Rattle.workload_model.specs.Answer.{IsWorkloadLog}
+use Rattle.order_gateway.specs.Workload.{workload}
+use Rattle.order_gateway.specs.Answer.{IsWorkloadLog}
 use Rattle.order_gateway.specs.declared.clock.StoppedClock.{StoppedClock}
 use Rattle.order_gateway.specs.StoppedClock.{told_zeros}
 

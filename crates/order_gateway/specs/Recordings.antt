@@ -3,7 +3,7 @@ use Rattle.std.specs.Prelude.{◌≡◌, ℕ, ◌^◌, ◌<◌, length}
 use Rattle.log_model.specs.declared.Version.TheVariants.{Two}
 use Rattle.log_model.specs.Logs.{Log, log_text}
 use Rattle.record_model.specs.Counts.{capped}
-use Rattle.workload_model.specs.Answer.{IsWorkloadLog}
+use Rattle.order_gateway.specs.Answer.{IsWorkloadLog}
 use Rattle.record_model.specs.declared.Unrecorded.{Unrecorded}
 use Rattle.record_model.specs.declared.Unrecorded.TheVariants.{Window, LogTooLong}
 

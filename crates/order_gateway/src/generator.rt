@@ -1,7 +1,7 @@
 //! The bytes that the guest reads.
 
 ghost use Rattle.std.specs.Prelude.{◌≡◌, IfOk};
-ghost use Rattle.workload_model.specs.Input.{next_state, byte_of, input_length, input};
+ghost use Rattle.order_gateway.specs.Input.{next_state, byte_of, input_length, input};
 
 use no_memory::NoMemory;
 use std::alloc::Global;

@@ -1,7 +1,7 @@
 //! The guest, an order gateway.
 
 ghost use Rattle.std.specs.Prelude.{◌≡◌, IfOk};
-ghost use Rattle.workload_model.specs.Guest.{guest_file, guest_image};
+ghost use Rattle.order_gateway.specs.Guest.{guest_file, guest_image};
 
 use elf_image::Program;
 use guest_assembler::{Instr, code, program};

@@ -2,12 +2,12 @@
 
 ghost use Rattle.std.specs.Prelude.{◌≡◌, ◌++◌, codes, IfOk, OnOk};
 ghost use Rattle.hex.specs.Hex.{encode_lower};
-ghost use Rattle.workload_model.specs.Lines.{numbers_text, digest_line};
+ghost use Rattle.order_gateway.specs.Lines.{numbers_text, digest_line};
 
+use crate::Numbers;
 use no_memory::NoMemory;
 use run_output::push_number;
 use std::alloc::Global;
-use workload_model::Numbers;
 
 /// The length of the longest text: names, blanks and line feeds, six numbers of 20 digits, and a digest of 64.
 const MOST_BYTES: usize = 236;

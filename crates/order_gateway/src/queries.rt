@@ -2,7 +2,7 @@
 
 ghost use Rattle.std.specs.Prelude.{IfOk};
 ghost use Rattle.report_model.specs.Query.{Alike};
-ghost use Rattle.workload_model.specs.Workload.{workload_query};
+ghost use Rattle.order_gateway.specs.Workload.{workload_query};
 
 use no_memory::{Fault, NoMemory};
 use query_lang::{Query, parse};

@@ -3,8 +3,8 @@
 ghost use Rattle.std.specs.Prelude.{◌≡◌, ◌≤◌, ◌^◌, length, IfOk, IfErr};
 ghost use Rattle.log_model.specs.declared.Version.TheVariants.{Two};
 ghost use Rattle.log_model.specs.Logs.{CanHold, log_text};
-ghost use Rattle.workload_model.specs.Guest.{guest_file, guest_image};
-ghost use Rattle.workload_model.specs.Answer.{IsWorkloadLog};
+ghost use Rattle.order_gateway.specs.Guest.{guest_file, guest_image};
+ghost use Rattle.order_gateway.specs.Answer.{IsWorkloadLog};
 ghost use Rattle.no_memory.specs.Faults.{IsCausedBy};
 ghost use Rattle.order_gateway.specs.Recordings.{IsCause};
 

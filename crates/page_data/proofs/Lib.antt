@@ -1,1 +1,6 @@
+pub mod InputChannels
+pub mod Told
+pub mod Apart
+pub mod Small
+mod Worked
 mod MovedRanges

@@ -6,7 +6,7 @@ use Rattle.std.proofs.lemmas.Bool.{and_parts}
 use Rattle.std.proofs.lemmas.Bool.Decides.{nat_tests}
 use Rattle.std.proofs.lemmas.List.{length-map, get_or-map}
 use Rattle.flow_model.specs.declared.SourceByte.{SourceByte}
-use Rattle.page_model.specs.Rows.{is_moved, each_moved, are_moved}
+use Rattle.page_data.specs.Rows.{is_moved, each_moved, are_moved}
 use Rattle.source_ranges.specs.declared.SourceRange.{SourceRange}
 use Rattle.source_ranges.specs.Ranges.{byte_on, bytes_of, range_of, is_just_before, with_byte, ranges_of}
 use Rattle.source_ranges.proofs.Kept.{range, bytes-ranges}

@@ -3,7 +3,7 @@
 ghost use Rattle.std.specs.Prelude.{◌≡◌, ◌++◌, ◌∷◌, [], OnOk};
 ghost use Rattle.std.specs.Fmt.{decimal};
 ghost use Rattle.std.specs.List.{flat_map};
-ghost use Rattle.page_model.specs.Data.{moved_line, call_line};
+ghost use Rattle.page_data.specs.Data.{moved_line, call_line};
 
 use itoa::Buffer;
 use log_model::{CallRecord, Data};

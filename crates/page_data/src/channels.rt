@@ -4,7 +4,7 @@ ghost use Rattle.std.specs.Prelude.{◌≡◌, ◌++◌, IfOk, OnOk};
 ghost use Rattle.base64.specs.Engines.{standard};
 ghost use Rattle.base64.specs.GeneralPurpose.{encode_of};
 ghost use Rattle.run_output.specs.Ways.{moved};
-ghost use Rattle.page_model.specs.Data.{way_word, channel_line, channel_lines};
+ghost use Rattle.page_data.specs.Data.{way_word, channel_line, channel_lines};
 
 use crate::calls::push_decimal;
 use base64::engine::general_purpose::STANDARD;
@@ -69,7 +69,7 @@ fn push_channel(
 }
 
 /// Appends a line for each channel, with all that went this way on it.
-#[tactic(auto, unfolding(page_model::specs::Data::channel_lines))]
+#[tactic(auto, unfolding(crate::specs::Data::channel_lines))]
 pub(crate) fn push_channels(
     alloc: Global,
     out: &mut Vec<u8>,

@@ -2,15 +2,15 @@
 
 ghost use Rattle.std.specs.Prelude.{◌≡◌, ◌++◌, length, OnOk};
 ghost use Rattle.replayer.specs.Jobs.{trace_of};
-ghost use Rattle.page_model.specs.Data.{run_text, moved_text, asked, asked_text, told_text, data_text};
+ghost use Rattle.page_data.specs.Data.{run_text, moved_text, asked, asked_text, told_text, data_text};
 
 use crate::calls::push_calls;
 use crate::channels::push_channels;
 use crate::rows::{push_ranges, push_rows};
+use crate::sources::sources_of;
 use jet_refusal::rule_name;
 use no_memory::NoMemory;
 use query_lang::Query;
-use query_sources::sources_of;
 use replay_log::Log;
 use replayer::Job;
 use run_output::{Way, push_number, summary_text};
@@ -19,7 +19,7 @@ use source_ranges::SourceSet;
 use std::alloc::Global;
 
 /// Appends the digest of the program, and the run's numbers.
-#[tactic(auto, unfolding(page_model::specs::Data::run_text))]
+#[tactic(auto, unfolding(crate::specs::Data::run_text))]
 fn push_run(alloc: Global, out: &mut Vec<u8>, job: &Job) -> Result<(), NoMemory>
     ensures { OnOk result (out.new.items ≡ out.old.items ++ run_text job.now.log) }
 {
@@ -35,7 +35,7 @@ fn push_run(alloc: Global, out: &mut Vec<u8>, job: &Job) -> Result<(), NoMemory>
 }
 
 /// Appends what is told of a query that chooses these source bytes.
-#[tactic(auto, unfolding(page_model::specs::Data::asked_text))]
+#[tactic(auto, unfolding(crate::specs::Data::asked_text))]
 fn push_query(out: &mut Vec<u8>, query: &Query, sources: &SourceSet) -> Result<(), NoMemory>
     ensures { OnOk result (out.new.items ≡ out.old.items ++ asked_text (record {
       rule = query.now.rule;
@@ -54,7 +54,7 @@ fn push_query(out: &mut Vec<u8>, query: &Query, sources: &SourceSet) -> Result<(
 }
 
 /// Appends the bytes that a log's run moved, and the calls that moved them.
-#[tactic(auto, unfolding(page_model::specs::Data::moved_text))]
+#[tactic(auto, unfolding(crate::specs::Data::moved_text))]
 fn push_moved(alloc: Global, out: &mut Vec<u8>, log: &Log) -> Result<(), NoMemory>
     ensures { OnOk result (out.new.items ≡ out.old.items ++ moved_text log.now) }
 {
@@ -64,7 +64,7 @@ fn push_moved(alloc: Global, out: &mut Vec<u8>, log: &Log) -> Result<(), NoMemor
 }
 
 /// Appends what is told beside the rows.
-#[tactic(auto, unfolding(page_model::specs::Data::told_text))]
+#[tactic(auto, unfolding(crate::specs::Data::told_text))]
 fn push_told(alloc: Global, out: &mut Vec<u8>, job: &Job, query: &Query) -> Result<(), NoMemory>
     ensures { OnOk result (out.new.items ≡ out.old.items
         ++ told_text (asked query.now (trace_of job.now)) job.now.log) }

@@ -3,7 +3,7 @@
 ghost use Rattle.std.specs.Prelude.{◌≡◌, IfOk};
 ghost use Rattle.report_model.specs.Rows.{rows};
 ghost use Rattle.replayer.specs.Jobs.{trace_of};
-ghost use Rattle.page_model.specs.Page.{page_report};
+ghost use Rattle.page_data.specs.Page.{page_report};
 
 use crate::data::push_data;
 use no_memory::NoMemory;

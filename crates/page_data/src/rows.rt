@@ -2,7 +2,7 @@
 
 ghost use Rattle.std.specs.Prelude.{◌≡◌, ◌++◌, ◌↔◌, IsTrue, OnOk, Some};
 ghost use Rattle.std.specs.List.{flat_map};
-ghost use Rattle.page_model.specs.Rows.{
+ghost use Rattle.page_data.specs.Rows.{
   range_word,
   is_next_address,
   is_next,

@@ -13,7 +13,7 @@ use Rattle.flow_model.specs.declared.SinkPoint.TheVariants.{Out, At}
 use Rattle.flow_model.specs.declared.StepSeen.{StepSeen}
 use Rattle.flow_model.specs.Origins.{step_at}
 use Rattle.report_model.specs.Rows.{Sink, sinks_of_step, point_sink}
-use Rattle.path_model.specs.Answer.{written_from, sink_of}
+use Rattle.path_find.specs.FirstPair.{written_from, sink_of}
 use Rattle.path_find.specs.Sinks.{is_named, sink_here, sink_after}
 
 -- no step before t met it

@@ -11,7 +11,7 @@ use Rattle.flow_model.specs.declared.SinkPoint.TheVariants.{Out}
 use Rattle.replay_model.specs.Offsets.{call_at, AreWritesApart}
 use Rattle.report_model.specs.Rows.{Sink, sink_at, sinks_of_call, sinks_of_step}
 use Rattle.report_model.proofs.Members.{Some_in, some-Contains, map-some, some-append}
-use Rattle.path_model.specs.Answer.{written_from, IsWrittenOnce}
+use Rattle.path_find.specs.FirstPair.{written_from, IsWrittenOnce}
 
 -- an output byte is that of a write of the trace, where t steps are done before the trace
 record IsOfWrite (t : ℕ) (trace : List StepSeen) (y : Sink) : Type 0 where

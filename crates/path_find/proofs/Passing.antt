@@ -14,12 +14,12 @@ use Rattle.replayer.specs.Positions.{CursorAt}
 use Rattle.replayer.specs.Nexts.{IsNext}
 use Rattle.replayer.specs.declared.cursor.Next.{Next}
 use Rattle.replayer.specs.declared.cursor.Next.TheVariants.{Step, End}
-use Rattle.path_model.specs.declared.Arrival.{Arrival}
-use Rattle.path_model.specs.Paths.{IsPath, path}
-use Rattle.path_model.specs.Answer.{PathTo, ended_in, path_to_sink}
-use Rattle.path_model.proofs.One.{is_path}
+use Rattle.path_find.specs.declared.Arrival.{Arrival}
+use Rattle.path_find.specs.Paths.{IsPath, path}
+use Rattle.path_find.specs.FirstPair.{PathTo, ended_in, path_to_sink}
+use Rattle.path_find.proofs.One.{is_path}
 use Rattle.report_model.specs.Rows.{Sink}
-use Rattle.path_text.specs.declared.writing.Stop.{Stop}
+use Rattle.path_find.specs.declared.writing.Stop.{Stop}
 use Rattle.path_find.specs.Stops.{pc_at, stop_at, AreBefore}
 
 pub moved_on : (before after : CursorAt) (r : Next) → before.time < steps before.job.log → IsNext before r after → after ≡ record before { time = before.time + 1 }

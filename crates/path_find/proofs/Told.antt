@@ -19,14 +19,14 @@ use Rattle.report_model.specs.Rows.{Sink, rows}
 use Rattle.replay_model.specs.Run.{trace}
 use Rattle.replay_model.proofs.Offsets.{writes_apart}
 use Rattle.replayer.specs.Jobs.{Job}
-use Rattle.path_model.specs.declared.Arrival.{Arrival}
-use Rattle.path_model.specs.declared.Pair.{Pair}
-use Rattle.path_model.specs.Paths.{path}
-use Rattle.path_model.specs.Answer.{PathTo, sink_of, ended_in, path_to_sink, path_to, first_pair, NoneIsListed, FirstPairHasPath}
-use Rattle.path_model.proofs.One.{is_path}
-use Rattle.path_text.specs.declared.writing.Stop.{Stop}
-use Rattle.path_text.specs.declared.writing.End.{End}
-use Rattle.path_text.specs.Text.{no_path_text, path_text}
+use Rattle.path_find.specs.declared.Arrival.{Arrival}
+use Rattle.path_find.specs.declared.Pair.{Pair}
+use Rattle.path_find.specs.Paths.{path}
+use Rattle.path_find.specs.FirstPair.{PathTo, sink_of, ended_in, path_to_sink, path_to, first_pair, NoneIsListed, FirstPairHasPath}
+use Rattle.path_find.proofs.One.{is_path}
+use Rattle.path_find.specs.declared.writing.Stop.{Stop}
+use Rattle.path_find.specs.declared.writing.End.{End}
+use Rattle.path_find.specs.Text.{no_path_text, path_text}
 use Rattle.path_find.specs.Sinks.{HasLocation}
 use Rattle.path_find.specs.Stops.{stop_at}
 use Rattle.path_find.specs.Answer.{end_of, found_report, found_report_or, pair_report, path_report}

@@ -8,10 +8,10 @@ use Rattle.report_model.specs.Query.{Query}
 use Rattle.report_model.specs.Rows.{rows}
 use Rattle.replay_model.specs.Run.{trace}
 use Rattle.replayer.specs.Jobs.{Job, trace_of}
-use Rattle.path_model.specs.declared.Pair.{Pair}
-use Rattle.path_model.specs.Answer.{PathTo, sink_of, path_to_sink, first_pair}
-use Rattle.path_text.specs.declared.writing.End.{End}
-use Rattle.path_text.specs.Text.{no_path_text, path_text}
+use Rattle.path_find.specs.declared.Pair.{Pair}
+use Rattle.path_find.specs.FirstPair.{PathTo, sink_of, path_to_sink, first_pair}
+use Rattle.path_find.specs.declared.writing.End.{End}
+use Rattle.path_find.specs.Text.{no_path_text, path_text}
 use Rattle.path_find.specs.Stops.{pc_at, stop_at}
 
 -- the end of a path, with the pc there

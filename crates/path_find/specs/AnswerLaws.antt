@@ -5,9 +5,9 @@ use Rattle.log_model.specs.Logs.{Log}
 use Rattle.report_model.specs.Query.{Query, AreLocated}
 use Rattle.report_model.specs.Rows.{rows}
 use Rattle.replay_model.specs.Run.{trace}
-use Rattle.path_model.specs.declared.Pair.{Pair}
-use Rattle.path_model.specs.Answer.{first_pair}
-use Rattle.path_text.specs.Text.{no_path_text}
+use Rattle.path_find.specs.declared.Pair.{Pair}
+use Rattle.path_find.specs.FirstPair.{first_pair}
+use Rattle.path_find.specs.Text.{no_path_text}
 use Rattle.path_find.specs.Sinks.{IsLocated}
 use Rattle.path_find.specs.Answer.{path_report}
 

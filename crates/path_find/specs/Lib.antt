@@ -1,3 +1,11 @@
+pub mod Text
+pub mod Nodes
+pub mod Labels
+pub mod Carriers
+pub mod Trails
+pub mod Paths
+pub mod PathLaws
+pub mod FirstPair
 pub mod Sinks
 pub mod Stops
 pub mod Answer

@@ -10,8 +10,8 @@ use Rattle.flow_model.specs.declared.StepSeen.{StepSeen}
 use Rattle.flow_model.specs.Orders.{point_cmp}
 use Rattle.flow_model.specs.Ranges.{IsLocation}
 use Rattle.report_model.specs.Rows.{Sink, sinks_of_step, point_sink}
-use Rattle.path_model.specs.declared.Pair.{Pair}
-use Rattle.path_model.specs.Answer.{PathTo}
+use Rattle.path_find.specs.declared.Pair.{Pair}
+use Rattle.path_find.specs.FirstPair.{PathTo}
 use Rattle.path_find.specs.declared.finding.SinkPath.{SinkPath}
 
 abbrev pub is_named : SinkPoint → Sink → Bool

@@ -4,18 +4,18 @@ ghost use Rattle.std.specs.Prelude.{◌≡◌, ◌≤◌, IfOk, IfSome};
 ghost use Rattle.log_model.specs.Logs.{steps};
 ghost use Rattle.report_model.specs.Query.{Query as QueryOf};
 ghost use Rattle.report_model.specs.Rows.{rows};
-ghost use Rattle.path_model.specs.Answer.{first_pair};
+ghost use Rattle.path_find.specs.FirstPair.{first_pair};
 ghost use Rattle.replayer.specs.Jobs.{trace_of};
 ghost use Rattle.path_find.specs.Sinks.{IsLocated, path_of};
 ghost use Rattle.path_find.specs.Stops.{AreBefore};
 ghost use Rattle.path_find.specs.Answer.{found_report, pair_report, path_report};
 
+use crate::Pair;
 use crate::finding::{SinkPath, find_path};
 use crate::passes::stops;
+use crate::writing::{End, text, text_of_none};
 use flow_model::Rule;
 use no_memory::NoMemory;
-use path_model::Pair;
-use path_text::{End, text, text_of_none};
 use replayer::Job;
 use std::alloc::Global;
 

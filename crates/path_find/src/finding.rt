@@ -7,16 +7,16 @@ ghost use Rattle.flow_model.specs.declared.SourceByte.{SourceByte as Source};
 ghost use Rattle.flow_model.specs.declared.StepSeen.{StepSeen as Step};
 ghost use Rattle.flow_model.specs.Ranges.{IsLocation};
 ghost use Rattle.replayer.specs.Jobs.{trace_of};
-ghost use Rattle.path_model.specs.Paths.{path};
-ghost use Rattle.path_model.specs.Answer.{sink_of, ended_in, path_to_sink};
-ghost use Rattle.flow_path.specs.Trails.{IsTrail, IsAfter};
+ghost use Rattle.path_find.specs.Paths.{path};
+ghost use Rattle.path_find.specs.FirstPair.{sink_of, ended_in, path_to_sink};
+ghost use Rattle.path_find.specs.Trails.{IsTrail, IsAfter};
 ghost use Rattle.path_find.specs.Sinks.{IsLocated, shown_path};
 
 use crate::sinks::{sink_at_end, sink_in};
+use crate::trail::Trail;
+use crate::{Arrival, Pair};
 use flow_model::{Loc, Rule, SinkPoint};
-use flow_path::Trail;
 use no_memory::NoMemory;
-use path_model::{Arrival, Pair};
 use replayer::{Cursor, Job, Next};
 use std::alloc::Global;
 

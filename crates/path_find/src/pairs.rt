@@ -1,9 +1,9 @@
 //! The pair whose path is told.
 
 ghost use Rattle.std.specs.Prelude.{◌≡◌};
-ghost use Rattle.path_model.specs.Answer.{first_pair as first_of_rows};
+ghost use Rattle.path_find.specs.FirstPair.{first_pair as first_of_rows};
 
-use path_model::Pair;
+use crate::Pair;
 use sink_collect::SinkSet;
 
 /// The first pair of rows: the first row that lists a source byte, and the first byte that it lists. None where no row lists

@@ -5,9 +5,9 @@ use Rattle.std.specs.List.{flat_map, list_all}
 use Rattle.log_model.specs.declared.CallRecord.{CallRecord}
 use Rattle.report_model.specs.Rows.{Row}
 use Rattle.source_ranges.specs.Ranges.{byte_on}
-use Rattle.range_model.proofs.Texts.{one_range}
-use Rattle.range_model.specs.declared.RunKind.TheVariants.{Same, Changed, Shared}
-use Rattle.range_model.specs.Text.{byte_written, byte_received, holds_sources, kind_of, range_part, ranges_part, sources_of}
+use Rattle.range_report.proofs.Texts.{one_range}
+use Rattle.range_report.specs.declared.RunKind.TheVariants.{Same, Changed, Shared}
+use Rattle.range_report.specs.Text.{byte_written, byte_received, holds_sources, kind_of, range_part, ranges_part, sources_of}
 use Rattle.range_report.specs.OpenRuns.{moved_rows}
 use Rattle.range_report.proofs.Rows.{moved-is, moved-sources}
 

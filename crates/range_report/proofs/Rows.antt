@@ -14,8 +14,8 @@ use Rattle.sink_collect.proofs.Alike.{same_sources as equal_sources}
 use Rattle.source_ranges.specs.Ranges.{byte_on}
 use Rattle.source_ranges.proofs.Longest.{bytes_from}
 use Rattle.range_report.specs.OpenRuns.{row_of, moved_rows, shared_rows}
-use Rattle.range_model.specs.Text.{sources_of}
-use Rattle.range_model.specs.Runs.{is_next_sink, is_next_source, same_sources, go_on, has_one, is_moved, is_shared, is_run}
+use Rattle.range_report.specs.Text.{sources_of}
+use Rattle.range_report.specs.Runs.{is_next_sink, is_next_source, same_sources, go_on, has_one, is_moved, is_shared, is_run}
 
 -- ---- tests
 

@@ -5,8 +5,8 @@ use Rattle.flow_model.specs.declared.SinkByte.{SinkByte}
 use Rattle.flow_model.specs.declared.SinkPoint.TheVariants.{Out}
 use Rattle.report_model.specs.Rows.{Row}
 use Rattle.source_ranges.specs.Ranges.{byte_on}
-use Rattle.range_model.specs.Runs.{is_moved, is_run}
-use Rattle.range_model.specs.Text.{sources_of}
+use Rattle.range_report.specs.Runs.{is_moved, is_run}
+use Rattle.range_report.specs.Text.{sources_of}
 use Rattle.range_report.specs.declared.runs.MovedRun.{MovedRun}
 use Rattle.range_report.specs.declared.runs.RowRun.{RowRun}
 use Rattle.range_report.specs.declared.runs.RowRun.TheVariants.{One, Moved, Shared}

@@ -3,8 +3,8 @@ use Rattle.std.specs.Prelude.{◌≡◌, ℕ, ◌+◌, ◌≤◌, List, [], ◌�
 use Rattle.std.specs.List.{flat_map}
 use Rattle.log_model.specs.declared.CallRecord.{CallRecord}
 use Rattle.report_model.specs.Rows.{Row}
-use Rattle.range_model.specs.Runs.{output_rows, runs_after, runs}
-use Rattle.range_model.specs.Text.{run_line}
+use Rattle.range_report.specs.Runs.{output_rows, runs_after, runs}
+use Rattle.range_report.specs.Text.{run_line}
 use Rattle.range_report.specs.declared.runs.RowRun.{RowRun}
 use Rattle.range_report.specs.declared.runs.Step.{Step}
 use Rattle.range_report.specs.declared.report.Progress.{Progress}

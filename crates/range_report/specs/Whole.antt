@@ -2,8 +2,8 @@
 use Rattle.std.specs.Prelude.{ℕ, ◌+◌, List, ◌++◌, length}
 use Rattle.log_model.specs.declared.CallRecord.{CallRecord}
 use Rattle.report_model.specs.Rows.{Row}
-use Rattle.range_model.specs.Runs.{output_rows, point_rows, rows_without, runs}
-use Rattle.range_model.specs.Text.{run_lines, point_lines, end_line}
+use Rattle.range_report.specs.Runs.{output_rows, point_rows, rows_without, runs}
+use Rattle.range_report.specs.Text.{run_lines, point_lines, end_line}
 
 abbrev pub report_lines : List CallRecord → List Row → List ℕ
 report_lines calls rs =

@@ -2,16 +2,16 @@
 
 ghost use Rattle.std.specs.Prelude.{◌≡◌, ◌++◌, ◌+◌, ◌≤◌, ◌^◌, [], ◌∷◌, codes, OnOk};
 ghost use Rattle.std.specs.List.{list_all};
-ghost use Rattle.range_model.specs.Text.{kind_text, kind_of, holds_sources, range_part, ranges_part, sources_of, run_line, point_line, end_line};
+ghost use Rattle.range_report.specs.Text.{kind_text, kind_of, holds_sources, range_part, ranges_part, sources_of, run_line, point_line, end_line};
 ghost use Rattle.range_report.specs.OpenRuns.{rows_moved, rows_of, IsOpen};
 
+use crate::RunKind;
 use crate::channels::{byte_at, part};
 use crate::moved::MovedBytes;
 use crate::runs::{MovedRun, Origin, RowRun, above};
 use itoa::Buffer;
 use no_memory::NoMemory;
 use printed_names::{push_point, push_quoted};
-use range_model::RunKind;
 use sink_collect::SinkSet;
 use source_ranges::{SourceRange, SourceSet, push_range, push_span};
 

@@ -1,8 +1,8 @@
 //! A report in runs.
 
 ghost use Rattle.std.specs.Prelude.{◌≡◌, ◌++◌, ◌+◌, ◌<◌, ◌≤◌, ◌^◌, ◌&&◌, not, true, false, [], length, IfOk, OnOk, MatchOption};
-ghost use Rattle.range_model.specs.Runs.{is_output, has_any, output_rows, point_rows, rows_without, runs};
-ghost use Rattle.range_model.specs.Text.{run_lines, point_lines, ranges_report};
+ghost use Rattle.range_report.specs.Runs.{is_output, has_any, output_rows, point_rows, rows_without, runs};
+ghost use Rattle.range_report.specs.Text.{run_lines, point_lines, ranges_report};
 ghost use Rattle.range_report.specs.OpenRuns.{row as row_with};
 ghost use Rattle.range_report.specs.Steps.{IsOpenIfAny, IsTaken, lines_left, count_left};
 ghost use Rattle.range_report.specs.Whole.{report_lines};

@@ -3,8 +3,8 @@
 ghost use Rattle.std.specs.Prelude.{◌≡◌, ◌+◌, ◌<◌, ◌≤◌, ◌^◌, true, false, [], ◌∷◌, length, MatchOption};
 ghost use Rattle.flow_model.specs.declared.SinkPoint.TheVariants.{Out};
 ghost use Rattle.source_ranges.specs.Ranges.{byte_on};
-ghost use Rattle.range_model.specs.Runs.{is_next_sink, is_next_source};
-ghost use Rattle.range_model.specs.Text.{first_of};
+ghost use Rattle.range_report.specs.Runs.{is_next_sink, is_next_source};
+ghost use Rattle.range_report.specs.Text.{first_of};
 ghost use Rattle.range_report.specs.OpenRuns.{row, rows_of, IsOpen, GoesOn, IsOriginOf};
 ghost use Rattle.range_report.specs.Steps.{IsOpenIfAny, IsStep};
 

@@ -1,3 +1,7 @@
+mod Points
+mod CallNeeds
+mod Told
+mod Counting
 mod Fronts
 mod Sizes
 mod Moments

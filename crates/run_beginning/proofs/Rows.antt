@@ -3,7 +3,7 @@ use Rattle.std.proofs.Common.{◌∙◌, ap, arith}
 use Rattle.replay_model.specs.Run.{trace}
 use Rattle.report_model.specs.Rows.{rows}
 use Rattle.report_model.specs.Needed.{RowsOfBeginning}
-use Rattle.query_need.specs.NeedLaws.{LogTellsNeed}
+use Rattle.run_beginning.specs.NeedLaws.{LogTellsNeed}
 use Rattle.run_beginning.specs.BeginningLaws.{BeginningHasRows}
 use Rattle.run_beginning.proofs.Moments.{beginning_of_trace}
 

@@ -6,7 +6,7 @@ use Rattle.replay_model.specs.Run.{trace}
 use Rattle.replay_model.specs.Comparison.{divergence}
 use Rattle.report_model.specs.Query.{Query}
 use Rattle.report_model.specs.Rows.{rows}
-use Rattle.query_need.specs.Need.{needed_by_log}
+use Rattle.run_beginning.specs.Need.{needed_by_log}
 use Rattle.run_beginning.specs.Beginnings.{beginning}
 
 -- where nothing differs between a run and its log, nothing differs between the run and a beginning of the log

@@ -1,2 +1,4 @@
+pub mod Need
+pub mod NeedLaws
 pub mod Beginnings
 pub mod BeginningLaws

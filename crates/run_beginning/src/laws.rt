@@ -1,9 +1,14 @@
 //! Laws of the definitions: each is the contract of a function that does nothing.
 
+ghost use Rattle.run_beginning.specs.NeedLaws.{LogTellsNeed};
 ghost use Rattle.run_beginning.specs.BeginningLaws.{BeginningAgrees, BeginningOfTrace, BeginningHasRows};
 
-use query_need::laws::log_tells_need;
 use report_model::laws::rows_of_beginning;
+
+/// Where nothing differs between a log and its program, the log tells what the rows of the run need.
+pub fn log_tells_need()
+    ensures { LogTellsNeed }
+{}
 
 /// Where nothing differs between a run and its log, nothing differs between the run and a beginning of the log, and the
 /// steps of the beginning are the first of the run.

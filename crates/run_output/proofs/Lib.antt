@@ -1,1 +1,10 @@
+mod StackExamples
+mod Returns
+mod Steps
+mod Parts
+mod Texts
+mod CallExamples
+mod Lines
+mod Room
+mod Tiling
 mod Examples

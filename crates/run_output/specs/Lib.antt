@@ -1,3 +1,10 @@
+pub mod Hints
+pub mod Stack
+pub mod Stacks
+pub mod Lines
+pub mod Calls
+pub mod Pieces
+pub mod Counts
 pub mod Ways
 pub mod Output
 pub mod Input

@@ -2,9 +2,8 @@
 
 use crate::guests::copy_four;
 use crate::runs::query_of;
-use page_data::page;
+use page_data::{page, sources_of};
 use page_text::{push_head, push_tail};
-use query_sources::sources_of;
 use seq_taint::sequential;
 use sink_collect::gather;
 use std::alloc::Global;

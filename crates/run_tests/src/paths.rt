@@ -5,8 +5,7 @@ ghost use Rattle.path_find.specs.Sinks.{HasLocation};
 
 use crate::guests::{copy_in_two, copy_many, mask_and_shift};
 use flow_model::{InnerSink, Loc, Rule, SinkByte, SinkPoint, SourceByte};
-use path_find::answer;
-use path_model::Pair;
+use path_find::{Pair, answer};
 use replayer::Job;
 use std::alloc::Global;
 use std::process::Abort;

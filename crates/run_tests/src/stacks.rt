@@ -1,9 +1,9 @@
 //! The calls in progress at times of runs, as text.
 
 use crate::guests::{breaks_at, copy_in_two};
-use call_stack::stack_text;
 use guest_assembler::{Instr, code};
 use replayer::Job;
+use run_output::stack_text;
 use std::alloc::Global;
 use std::process::Abort;
 

@@ -18,24 +18,24 @@ use Rattle.replay_model.specs.Run.{start, moment_after}
 use Rattle.replay_model.specs.Summary.{calls, bytes_read, bytes_written}
 use Rattle.source_ranges.specs.Ranges.{ranges_of, range_text}
 use Rattle.printed_names.specs.Lines.{lines_end}
-use Rattle.range_model.specs.declared.RunKind.{RunKind}
-use Rattle.range_model.specs.declared.RunKind.TheVariants.{Same, Changed, Shared}
-use Rattle.range_model.specs.Runs.{output_rows, point_rows, rows_without, runs}
-use Rattle.range_model.specs.Text.{first_of, sources_of, written_in, received_in, kind_of, kind_text, range_part, ranges_part, run_line, point_line, end_line as ranges_end, ranges_report}
-use Rattle.path_text.specs.declared.writing.End.{End}
-use Rattle.path_text.specs.declared.writing.Stop.{Stop}
-use Rattle.path_text.specs.Text.{step_text, read_line, hop_line, hop_lines, end_word, end_line as sink_line, path_text}
-use Rattle.decision_model.specs.declared.Place.{Place}
-use Rattle.decision_model.specs.Decisions.{Decision}
-use Rattle.decision_model.specs.Places.{places, decided_there, sources_of as sources_of_decisions}
-use Rattle.decision_model.specs.Text.{mnemonic_text, place_line, decisions_text}
+use Rattle.range_report.specs.declared.RunKind.{RunKind}
+use Rattle.range_report.specs.declared.RunKind.TheVariants.{Same, Changed, Shared}
+use Rattle.range_report.specs.Runs.{output_rows, point_rows, rows_without, runs}
+use Rattle.range_report.specs.Text.{first_of, sources_of, written_in, received_in, kind_of, kind_text, range_part, ranges_part, run_line, point_line, end_line as ranges_end, ranges_report}
+use Rattle.path_find.specs.declared.writing.End.{End}
+use Rattle.path_find.specs.declared.writing.Stop.{Stop}
+use Rattle.path_find.specs.Text.{step_text, read_line, hop_line, hop_lines, end_word, end_line as sink_line, path_text}
+use Rattle.decision_find.specs.declared.Place.{Place}
+use Rattle.decision_find.specs.Decisions.{Decision}
+use Rattle.decision_find.specs.Places.{places, decided_there, sources_of as sources_of_decisions}
+use Rattle.decision_find.specs.Text.{mnemonic_text, place_line, decisions_text}
 use Rattle.run_output.specs.declared.ways.Way.{Way}
 use Rattle.run_output.specs.declared.ways.Way.TheVariants.{Received, Written}
 use Rattle.run_output.specs.Summary.{number_line, end_line as numbers_end, summary_text}
-use Rattle.call_list.specs.Lines.{Line, MovedLine, RefusedLine, ClockLine, OtherLine, word_of, extent_text, line_text}
-use Rattle.call_list.specs.Calls.{lines, end_text, calls_text}
-use Rattle.call_stack.specs.Stack.{pc_line, pcs_text, calls_after, stack_within, stack_text}
-use Rattle.call_stack.specs.Stacks.{stack_part}
+use Rattle.run_output.specs.Lines.{Line, MovedLine, RefusedLine, ClockLine, OtherLine, word_of, extent_text, line_text}
+use Rattle.run_output.specs.Calls.{lines, end_text, calls_text}
+use Rattle.run_output.specs.Stack.{pc_line, pcs_text, calls_after, stack_within, stack_text}
+use Rattle.run_output.specs.Stacks.{stack_part}
 use Rattle.whole_texts.proofs.Reading.{AtStart, Inside, InLast, Over, Reads, nothing, ◌⨾◌, each}
 use Rattle.whole_texts.proofs.Pieces.{no_feeds, plain, in_last, first, blank, feed, last_feed, number, number_first, number_last, signed_number, pc, pc_first, name, name_first, loc, point, point_first, span_first, range, quoted}
 use Rattle.whole_texts.proofs.Instructions.{mnemonic, instruction}

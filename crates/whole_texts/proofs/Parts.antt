@@ -6,8 +6,8 @@ use Rattle.std.proofs.lemmas.List.{append-nil}
 use Rattle.isa.specs.Machine.{State}
 use Rattle.log_model.specs.Logs.{Log, steps}
 use Rattle.printed_names.specs.Lines.{lines_end}
-use Rattle.call_stack.specs.Stack.{stack_within, stack_text}
-use Rattle.call_stack.specs.Stacks.{stack_part, line_count, stacks_text}
+use Rattle.run_output.specs.Stack.{stack_within, stack_text}
+use Rattle.run_output.specs.Stacks.{stack_part, line_count, stacks_text}
 use Rattle.whole_texts.specs.PrefixFree.{ArePrefixFree}
 use Rattle.whole_texts.proofs.Reading.{AtStart, Over, read, stop, Reads, no_front}
 use Rattle.whole_texts.proofs.Lines.{last, stack_alone, part}

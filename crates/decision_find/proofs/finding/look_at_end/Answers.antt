@@ -4,7 +4,7 @@ use Rattle.log_model.specs.declared.RunEnd.TheVariants.{Trap}
 use Rattle.log_model.specs.Logs.{Log, steps, steps_by}
 use Rattle.replayer.specs.Jobs.{Job}
 use Rattle.replayer.specs.Positions.{CursorAt}
-use Rattle.decision_model.specs.Decisions.{moments_seen}
+use Rattle.decision_find.specs.Decisions.{moments_seen}
 use Rattle.decision_find.specs.declared.looks.Look.{Look}
 use Rattle.decision_find.proofs.Looking.{looks_at_end}
 use Rattle.decision_find.proofs.Followed.{seen_at_trap}

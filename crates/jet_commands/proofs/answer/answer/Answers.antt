@@ -7,7 +7,7 @@ use Rattle.jet_work.specs.Texts.{text_of, IsWhole}
 use Rattle.jet_work.specs.Answers.{IsRecording, limits_of, workload_length}
 use Rattle.jet_work.specs.Ending.{IsUnasked}
 use Rattle.jet_work.proofs.KeepingLemmas.{unasked}
-use Rattle.workload_model.specs.Answer.{IsBenchAnswer}
+use Rattle.order_gateway.specs.Answer.{IsBenchAnswer}
 use Rattle.outer_io.specs.Reads.{Reads}
 use Rattle.outer_io.proofs.ReadsLemmas.{reads-none, reads-less}
 use Rattle.jet_commands.proofs.Answering.{by_arm, answers-as, reads-as, whole-always, whole-to_output, untimed-always, refusal-as}

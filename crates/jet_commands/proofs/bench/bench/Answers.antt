@@ -4,7 +4,7 @@ use Rattle.log_model.specs.Logs.{Log, steps}
 use Rattle.epoch_model.specs.ByLength.{cut_times}
 use Rattle.jet_model.specs.Answer.{epochs_check}
 use Rattle.jet_files.specs.Outcome.{IsWork}
-use Rattle.workload_model.specs.Answer.{IsBenchAnswer}
+use Rattle.order_gateway.specs.Answer.{IsBenchAnswer}
 use Rattle.jet_work.specs.Answers.{IsWorkOf, workload_length}
 use Rattle.jet_commands.proofs.Benching.{cuts-stop, lines-give}
 use Rattle.jet_commands.proofs.bench.bench.Goals as goal

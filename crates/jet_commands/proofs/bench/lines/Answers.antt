@@ -1,9 +1,9 @@
 use Rattle.std.proofs.Common.{◌∙◌, ap}
 use Rattle.std.proofs.lemmas.Result.{IfOk-weaker}
 use Rattle.replayer.specs.Jobs.{trace_of}
-use Rattle.workload_model.specs.Workload.{workload_query}
-use Rattle.workload_model.specs.Lines.{numbers_text}
-use Rattle.workload_model.proofs.SameNumbers.{same_numbers}
+use Rattle.order_gateway.specs.Workload.{workload_query}
+use Rattle.order_gateway.specs.Lines.{numbers_text}
+use Rattle.order_gateway.proofs.SameNumbers.{same_numbers}
 use Rattle.jet_commands.proofs.bench.lines.Goals as goal
 
 pub returns : goal.returns

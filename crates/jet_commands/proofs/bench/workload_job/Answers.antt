@@ -1,6 +1,6 @@
 use Rattle.std.proofs.Common.{Err}
 use Rattle.std.proofs.lemmas.Result.{IfOk-weaker, IfErr-weaker, err_from_is_err_and}
-use Rattle.workload_model.specs.Answer.{IsBenchAnswer}
+use Rattle.order_gateway.specs.Answer.{IsBenchAnswer}
 use Rattle.jet_commands.proofs.Benching.{checked-is_job, fitted-stops, recording-stops}
 use Rattle.jet_commands.proofs.bench.workload_job.Goals as goal
 

@@ -1,5 +1,5 @@
 use Rattle.std.proofs.Common.{◌≡◌, ◌-◌, ◌≤◌, ◌++◌, vec_len, vec_capacity}
-use Rattle.workload_model.specs.Input.{bytes_after, input}
+use Rattle.order_gateway.specs.Input.{bytes_after, input}
 use Rattle.order_gateway.proofs.generator.input.Given as goal
 
 -- the bytes so far, and those of the states that are left; and there is room for all

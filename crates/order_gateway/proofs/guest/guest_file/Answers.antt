@@ -1,5 +1,5 @@
-use Rattle.workload_model.specs.Guest.{guest_file}
-use Rattle.workload_model.proofs.Guests.{guest-has_words}
+use Rattle.order_gateway.specs.Guest.{guest_file}
+use Rattle.order_gateway.proofs.Guests.{guest-has_words}
 use Rattle.order_gateway.proofs.guest.guest_file.Goals as goal
 
 pub returns : goal.returns

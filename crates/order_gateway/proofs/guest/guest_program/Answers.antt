@@ -1,8 +1,8 @@
 use Rattle.std.proofs.Common.{◌≡◌, ◌∙◌, ap, subst, Ok, Err}
 use Rattle.elf_model.specs.Image.{image}
 use Rattle.no_memory.specs.Faults.{IsCausedBy}
-use Rattle.workload_model.specs.Guest.{guest_file, guest_image}
-use Rattle.workload_model.proofs.Guests.{guest-image}
+use Rattle.order_gateway.specs.Guest.{guest_file, guest_image}
+use Rattle.order_gateway.proofs.Guests.{guest-image}
 use Rattle.order_gateway.proofs.guest.guest_program.Goals as goal
 
 pub unreachable-requires : goal.unreachable-requires

@@ -4,7 +4,7 @@ use Rattle.elf_model.specs.Image.{image}
 use Rattle.elf_model.specs.Window.{start_of}
 use Rattle.record_model.specs.Recorded.{Setting}
 use Rattle.call_record.specs.Captures.{IsCaptured}
-use Rattle.workload_model.proofs.Guests.{window-holds_guest}
+use Rattle.order_gateway.proofs.Guests.{window-holds_guest}
 use Rattle.order_gateway.specs.StoppedClock.{told_zeros}
 use Rattle.order_gateway.specs.declared.clock.StoppedClock.{StoppedClock}
 use Rattle.order_gateway.proofs.Zeros.{captured-is_log}

@@ -1,6 +1,6 @@
 use Rattle.std.proofs.Common.{◌≡◌, ◌++◌, take}
 use Rattle.std.specs.List.{flat_map}
-use Rattle.page_model.specs.Data.{call_line}
+use Rattle.page_data.specs.Data.{call_line}
 use Rattle.page_data.proofs.calls.push_calls.Given as goal
 
 -- the lines of the calls so far

@@ -1,8 +1,8 @@
 use Rattle.std.proofs.Common.{◌≡◌, ◌∙◌, ap, sym, ℕ, ◌++◌, List, append_assoc}
 use Rattle.std.specs.List.{flat_map, range_with_len}
 use Rattle.run_output.specs.Ways.{moved}
-use Rattle.page_model.specs.Data.{channel_line}
-use Rattle.query_sources.proofs.Channels.{flat_map-one_more}
+use Rattle.page_data.specs.Data.{channel_line}
+use Rattle.page_data.proofs.InputChannels.{flat_map-one_more}
 use Rattle.page_data.proofs.channels.push_channels.Goals as goal
 
 pub loop-channel-preserved : goal.loop-channel-preserved

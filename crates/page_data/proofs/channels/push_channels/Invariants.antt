@@ -1,7 +1,7 @@
 use Rattle.std.proofs.Common.{◌≡◌, ◌++◌}
 use Rattle.std.specs.List.{flat_map, range_with_len}
 use Rattle.run_output.specs.Ways.{moved}
-use Rattle.page_model.specs.Data.{channel_line}
+use Rattle.page_data.specs.Data.{channel_line}
 use Rattle.page_data.proofs.channels.push_channels.Given as goal
 
 -- the lines of the channels so far

@@ -3,9 +3,9 @@ use Rattle.std.specs.Prelude.{codes}
 use Rattle.lists.proofs.Lists.{append-twice}
 use Rattle.report_model.specs.Rows.{Row}
 use Rattle.run_output.specs.Summary.{number_line}
-use Rattle.page_model.specs.Rows.{joined_rows}
+use Rattle.page_data.specs.Rows.{joined_rows}
 use Rattle.replayer.specs.Jobs.{trace_of}
-use Rattle.page_model.specs.Data.{asked, told_text}
+use Rattle.page_data.specs.Data.{asked, told_text}
 use Rattle.page_data.proofs.data.push_data.Goals as goal
 
 pub returns : goal.returns

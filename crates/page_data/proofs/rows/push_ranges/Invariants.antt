@@ -1,6 +1,6 @@
 use Rattle.std.proofs.Common.{◌≡◌, ◌++◌, take}
 use Rattle.std.specs.List.{flat_map}
-use Rattle.page_model.specs.Rows.{range_word}
+use Rattle.page_data.specs.Rows.{range_word}
 use Rattle.page_data.proofs.rows.push_ranges.Given as goal
 
 -- the ranges so far

@@ -1,6 +1,6 @@
 use Rattle.std.proofs.Common.{◌≡◌, ◌++◌, drop}
 use Rattle.std.specs.Prelude.{Some}
-use Rattle.page_model.specs.Rows.{rows_after, joined_rows}
+use Rattle.page_data.specs.Rows.{rows_after, joined_rows}
 use Rattle.page_data.proofs.rows.push_rows.Given as goal
 
 -- the rows so far, and those that are left

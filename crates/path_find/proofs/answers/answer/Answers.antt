@@ -1,6 +1,6 @@
 use Rattle.std.proofs.Common.{ap, sym, ◌∙◌}
 use Rattle.replayer.specs.Jobs.{trace_of}
-use Rattle.path_model.specs.Answer.{sink_of}
+use Rattle.path_find.specs.FirstPair.{sink_of}
 use Rattle.path_find.specs.Sinks.{path_of, shown_path}
 use Rattle.path_find.proofs.Passing.{found_falls}
 use Rattle.path_find.proofs.answers.answer.Goals as goal

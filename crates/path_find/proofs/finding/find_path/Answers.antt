@@ -6,8 +6,8 @@ use Rattle.flow_model.specs.Origins.{step_at}
 use Rattle.replay_model.specs.Run.{start}
 use Rattle.replay_model.proofs.Offsets.{length-steps_from}
 use Rattle.replayer.specs.Jobs.{Job, trace_of}
-use Rattle.path_model.specs.Answer.{path_to_sink}
-use Rattle.flow_path.specs.Trails.{IsAfter}
+use Rattle.path_find.specs.FirstPair.{path_to_sink}
+use Rattle.path_find.specs.Trails.{IsAfter}
 use Rattle.path_find.specs.Sinks.{sink_after}
 use Rattle.path_find.proofs.Meetings.{IsNotMet, not_met_first, not_met_yet, met_here, met_after}
 use Rattle.path_find.proofs.finding.find_path.Goals as goal

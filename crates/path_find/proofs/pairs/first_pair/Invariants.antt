@@ -1,5 +1,5 @@
 use Rattle.std.proofs.Common.{◌≡◌, drop}
-use Rattle.path_model.specs.Answer.{first_pair}
+use Rattle.path_find.specs.FirstPair.{first_pair}
 use Rattle.path_find.proofs.pairs.first_pair.Given as goal
 
 abbrev pub invariant-loop-row : goal.invariant-loop-row

@@ -4,8 +4,8 @@ use Rattle.log_model.specs.Logs.{steps}
 use Rattle.flow_model.specs.declared.Loc.TheVariants.{Reg}
 use Rattle.replayer.specs.Jobs.{Job}
 use Rattle.replayer.specs.Positions.{CursorAt}
-use Rattle.path_model.specs.declared.Arrival.{Arrival}
-use Rattle.path_text.specs.declared.writing.Stop.{Stop}
+use Rattle.path_find.specs.declared.Arrival.{Arrival}
+use Rattle.path_find.specs.declared.writing.Stop.{Stop}
 use Rattle.path_find.specs.Stops.{stop_at}
 use Rattle.path_find.proofs.Passing.{before_all, earlier, one_told}
 use Rattle.path_find.proofs.passes.stops.Goals as goal

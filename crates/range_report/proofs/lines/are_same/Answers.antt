@@ -1,6 +1,6 @@
 use Rattle.std.proofs.Common.{◌≡◌, ℕ, ◌+◌, ◌-◌, List, get_or, sym, ap, ap₂, ◌∙◌, arith}
 use Rattle.std.specs.List.{list_all}
-use Rattle.range_model.specs.Text.{byte_written, byte_received, holds_sources}
+use Rattle.range_report.specs.Text.{byte_written, byte_received, holds_sources}
 use Rattle.source_ranges.specs.Ranges.{byte_on}
 use Rattle.range_report.specs.OpenRuns.{moved_rows}
 use Rattle.range_report.proofs.MovedLines.{holds-first}

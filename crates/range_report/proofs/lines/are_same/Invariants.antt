@@ -1,6 +1,6 @@
 use Rattle.std.proofs.Common.{◌≡◌, ◌+◌, ◌-◌}
 use Rattle.std.specs.List.{list_all}
-use Rattle.range_model.specs.Text.{holds_sources}
+use Rattle.range_report.specs.Text.{holds_sources}
 use Rattle.range_report.specs.OpenRuns.{moved_rows, rows_moved}
 use Rattle.range_report.proofs.lines.are_same.Given as goal
 

@@ -1,9 +1,9 @@
 use Rattle.std.proofs.Common.{◌≡◌, ℕ, ◌+◌, Bool, true, false, List, [], ◌∷◌, ◌++◌, sym, ap, ap₂, ◌∙◌, subst, OnOk}
 use Rattle.std.specs.Prelude.{if◌then◌else◌}
 use Rattle.source_ranges.specs.declared.SourceRange.{SourceRange}
-use Rattle.range_model.specs.declared.RunKind.{RunKind}
-use Rattle.range_model.specs.declared.RunKind.TheVariants.{Same, Changed}
-use Rattle.range_model.specs.Text.{kind_text, kind_of, range_part, ranges_part, sources_of}
+use Rattle.range_report.specs.declared.RunKind.{RunKind}
+use Rattle.range_report.specs.declared.RunKind.TheVariants.{Same, Changed}
+use Rattle.range_report.specs.Text.{kind_text, kind_of, range_part, ranges_part, sources_of}
 use Rattle.range_report.specs.OpenRuns.{rows_moved}
 use Rattle.range_report.proofs.MovedLines.{moved-kind, moved-parts}
 use Rattle.range_report.proofs.lines.push_moved.Goals as goal

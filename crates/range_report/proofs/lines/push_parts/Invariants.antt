@@ -1,6 +1,6 @@
 use Rattle.std.proofs.Common.{◌≡◌, ◌++◌, take}
 use Rattle.std.specs.List.{flat_map}
-use Rattle.range_model.specs.Text.{range_part}
+use Rattle.range_report.specs.Text.{range_part}
 use Rattle.range_report.proofs.lines.push_parts.Given as goal
 
 -- the ranges so far

@@ -4,7 +4,7 @@ use Rattle.log_model.specs.Moved.{written}
 use Rattle.flow_model.specs.declared.SinkByte.{SinkByte}
 use Rattle.printed_names.specs.Quoted.{quoted_text}
 use Rattle.source_ranges.specs.Ranges.{span_text}
-use Rattle.range_model.specs.Text.{first_of, kind_text, kind_of, ranges_part, sources_of}
+use Rattle.range_report.specs.Text.{first_of, kind_text, kind_of, ranges_part, sources_of}
 use Rattle.range_report.specs.OpenRuns.{rows_of}
 use Rattle.range_report.proofs.lines.push_run.Goals as goal
 

@@ -1,5 +1,5 @@
 use Rattle.std.proofs.Common.{◌≡◌, ◌≤◌, length, take}
-use Rattle.range_model.specs.Runs.{rows_without}
+use Rattle.range_report.specs.Runs.{rows_without}
 use Rattle.range_report.proofs.report.count_without.Given as goal
 
 -- those of the rows so far

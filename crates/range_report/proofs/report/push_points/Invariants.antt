@@ -1,6 +1,6 @@
 use Rattle.std.proofs.Common.{◌≡◌, ◌≤◌, ◌++◌, length, take}
-use Rattle.range_model.specs.Runs.{point_rows}
-use Rattle.range_model.specs.Text.{point_lines}
+use Rattle.range_report.specs.Runs.{point_rows}
+use Rattle.range_report.specs.Text.{point_lines}
 use Rattle.range_report.proofs.report.push_points.Given as goal
 
 -- those of the rows so far

@@ -1,6 +1,6 @@
 use Rattle.std.proofs.Common.{◌≡◌, ◌≤◌, ◌++◌, length, drop}
-use Rattle.range_model.specs.Runs.{output_rows, runs}
-use Rattle.range_model.specs.Text.{run_lines}
+use Rattle.range_report.specs.Runs.{output_rows, runs}
+use Rattle.range_report.specs.Text.{run_lines}
 use Rattle.range_report.specs.Steps.{IsOpenIfAny, lines_left, count_left}
 use Rattle.range_report.proofs.report.push_runs.Given as goal
 

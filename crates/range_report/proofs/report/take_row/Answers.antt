@@ -1,8 +1,8 @@
 use Rattle.std.proofs.Common.{◌≡◌, ℕ, suc, ◌+◌, Bool, true, ◌&&◌, cond, List, ◌∷◌, ◌++◌, length, Option, Some, sym, ap, ◌∙◌, arith, append_assoc}
 use Rattle.std.specs.List.{flat_map}
 use Rattle.report_model.specs.Rows.{Row}
-use Rattle.range_model.specs.Runs.{is_output, has_any, output_rows}
-use Rattle.range_model.specs.Text.{run_line}
+use Rattle.range_report.specs.Runs.{is_output, has_any, output_rows}
+use Rattle.range_report.specs.Text.{run_line}
 use Rattle.range_report.specs.declared.runs.RowRun.{RowRun}
 use Rattle.range_report.specs.OpenRuns.{row, rows_of}
 use Rattle.range_report.specs.Steps.{rows_if_any, runs_from}

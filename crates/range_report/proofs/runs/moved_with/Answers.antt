@@ -5,8 +5,8 @@ use Rattle.flow_model.specs.declared.SinkByte.{SinkByte}
 use Rattle.flow_model.specs.declared.SinkPoint.TheVariants.{Out}
 use Rattle.report_model.specs.Rows.{Row}
 use Rattle.source_ranges.specs.Ranges.{byte_on}
-use Rattle.range_model.specs.Runs.{is_next_sink, is_next_source}
-use Rattle.range_model.proofs.Texts.{next_sink-is, next_source-is}
+use Rattle.range_report.specs.Runs.{is_next_sink, is_next_source}
+use Rattle.range_report.proofs.Texts.{next_sink-is, next_source-is}
 use Rattle.range_report.specs.OpenRuns.{row_of, row, moved_rows}
 use Rattle.range_report.proofs.Rows.{moved-test, moved-push}
 use Rattle.range_report.proofs.runs.moved_with.Goals as goal

@@ -2,8 +2,8 @@ use Rattle.std.proofs.Common.{◌≡◌, ℕ, ◌+◌, Bool, true, false, ◌&&�
 use Rattle.std.proofs.lemmas.Bool.{and_from, and_right, or_right, false≢true}
 use Rattle.flow_model.specs.declared.SinkPoint.TheVariants.{Out}
 use Rattle.report_model.specs.Rows.{Row}
-use Rattle.range_model.specs.Runs.{is_next_sink, is_next_source, same_sources}
-use Rattle.range_model.proofs.Texts.{next_sink-is}
+use Rattle.range_report.specs.Runs.{is_next_sink, is_next_source, same_sources}
+use Rattle.range_report.proofs.Texts.{next_sink-is}
 use Rattle.range_report.specs.OpenRuns.{row_of, row}
 use Rattle.range_report.proofs.Rows.{one-is_run, same-sources, differ, agree}
 use Rattle.range_report.proofs.runs.run_of_two.Goals as goal

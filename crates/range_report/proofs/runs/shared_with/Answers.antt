@@ -4,8 +4,8 @@ use Rattle.flow_model.specs.declared.SourceByte.{SourceByte}
 use Rattle.flow_model.specs.declared.SinkByte.{SinkByte}
 use Rattle.flow_model.specs.declared.SinkPoint.TheVariants.{Out}
 use Rattle.report_model.specs.Rows.{Row}
-use Rattle.range_model.specs.Runs.{is_next_sink, same_sources}
-use Rattle.range_model.proofs.Texts.{next_sink-is}
+use Rattle.range_report.specs.Runs.{is_next_sink, same_sources}
+use Rattle.range_report.proofs.Texts.{next_sink-is}
 use Rattle.range_report.specs.OpenRuns.{row_of, row, shared_rows}
 use Rattle.range_report.proofs.Rows.{shared-test, shared-push, same-sources, differ, agree}
 use Rattle.range_report.proofs.runs.shared_with.Goals as goal

@@ -4,13 +4,13 @@ use Rattle.report_model.specs.Rows.{Row}
 use Rattle.report_model.specs.Text.{report_text}
 use Rattle.report_model.specs.Influence.{influence_text}
 use Rattle.std.proofs.Common.{List}
-use Rattle.range_model.specs.Text.{ranges_report}
-use Rattle.path_text.specs.declared.writing.End.{End}
-use Rattle.path_text.specs.declared.writing.Stop.{Stop}
-use Rattle.path_text.specs.Text.{path_text}
-use Rattle.decision_model.specs.Text.{decisions_text}
-use Rattle.call_list.specs.Calls.{calls_text}
-use Rattle.call_stack.specs.Stack.{pcs_text}
+use Rattle.range_report.specs.Text.{ranges_report}
+use Rattle.path_find.specs.declared.writing.End.{End}
+use Rattle.path_find.specs.declared.writing.Stop.{Stop}
+use Rattle.path_find.specs.Text.{path_text}
+use Rattle.decision_find.specs.Text.{decisions_text}
+use Rattle.run_output.specs.Calls.{calls_text}
+use Rattle.run_output.specs.Stack.{pcs_text}
 use Rattle.run_output.specs.Summary.{summary_text}
 use Rattle.whole_texts.proofs.Reading.{are_prefix_free}
 use Rattle.whole_texts.proofs.Lines.{report, influence, ranges, path, decisions, calls_of, stack, numbers}

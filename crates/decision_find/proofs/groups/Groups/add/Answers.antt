@@ -1,4 +1,4 @@
-use Rattle.decision_model.specs.declared.Place.{Place}
+use Rattle.decision_find.specs.declared.Place.{Place}
 use Rattle.decision_find.proofs.Counted.{is_put, labels_added, groups_added}
 use Rattle.decision_find.proofs.groups.Groups.add.Goals as goal
 

@@ -1,5 +1,5 @@
 use Rattle.std.proofs.Common.{refl, ap, ◌∙◌}
-use Rattle.decision_model.specs.Decides.{deciding_rule}
+use Rattle.decision_find.specs.Decides.{deciding_rule}
 use Rattle.decision_find.proofs.Followed.{begun}
 use Rattle.decision_find.proofs.tracking.DecisionTracking.begin.Goals as goal
 

@@ -1,7 +1,7 @@
 use Rattle.std.proofs.Common.{subst, List}
 use Rattle.std.proofs.lemmas.Result.{on_ok_weaker}
 use Rattle.flow_model.specs.declared.Loc.{Loc}
-use Rattle.decision_model.specs.Decisions.{decides_fetched, fetched_from}
+use Rattle.decision_find.specs.Decisions.{decides_fetched, fetched_from}
 use Rattle.decision_find.specs.Following.{Notes}
 use Rattle.decision_find.proofs.Noted.{noted_then}
 use Rattle.decision_find.proofs.tracking.DecisionTracking.note.Goals as goal

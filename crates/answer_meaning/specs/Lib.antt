@@ -1,0 +1,5 @@
+pub mod RangeMeaning
+pub mod PathMeaning
+pub mod Environments
+pub mod DecisionLaws
+pub mod Recordings

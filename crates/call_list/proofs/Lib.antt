@@ -1,4 +1,0 @@
-mod Examples
-mod Lines
-mod Room
-mod Tiling

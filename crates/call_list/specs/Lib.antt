@@ -1,4 +1,0 @@
-pub mod Lines
-pub mod Calls
-pub mod Pieces
-pub mod Counts

@@ -1,5 +1,0 @@
-mod Examples
-mod Returns
-mod Steps
-mod Parts
-mod Texts

@@ -1,5 +1,0 @@
-use Rattle.decision_model.proofs.Seen.{decided_are_decisions}
-use Rattle.decision_model.proofs.laws.decided_are_decisions.Goals as goal
-
-pub returns : goal.returns
-returns c = decided_are_decisions

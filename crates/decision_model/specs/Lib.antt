@@ -1,5 +1,0 @@
-pub mod Decides
-pub mod Decisions
-pub mod Places
-pub mod Text
-pub mod TextLaws

@@ -1,3 +1,0 @@
-pub mod Environments
-pub mod DecisionLaws
-pub mod Recordings

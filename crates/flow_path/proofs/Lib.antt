@@ -1,5 +1,0 @@
-mod Paths
-mod Places
-mod Tables
-mod Apart
-mod Steps

@@ -1,5 +1,0 @@
-use Rattle.flow_path.specs.Trails.{Receives, first_bytes}
-use Rattle.flow_path.proofs.following.receive.Given as goal
-
-abbrev pub invariant-loop-i : goal.invariant-loop-i
-invariant-loop-i l = Receives l.fn.nodes l.fn.carriers l.source l.number (first_bytes l.call l.i) l.nodes l.carriers

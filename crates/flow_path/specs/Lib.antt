@@ -1,4 +1,0 @@
-pub mod Nodes
-pub mod Labels
-pub mod Carriers
-pub mod Trails

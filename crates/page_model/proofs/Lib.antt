@@ -1,4 +1,0 @@
-pub mod Told
-pub mod Apart
-pub mod Small
-mod Worked

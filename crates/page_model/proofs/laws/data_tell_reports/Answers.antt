@@ -1,5 +1,0 @@
-use Rattle.page_model.proofs.Apart.{data_tell}
-use Rattle.page_model.proofs.laws.data_tell_reports.Goals as goal
-
-pub returns : goal.returns
-returns c = data_tell

@@ -1,4 +1,0 @@
-pub mod Rows
-pub mod Data
-pub mod Page
-pub mod PageLaws

@@ -1,8 +1,0 @@
-use Rattle.path_model.proofs.Pairs as pairs
-use Rattle.path_model.proofs.laws.first_pairs_have_paths.Goals as goal
-
-pub returns-clause-none : goal.returns-clause-none
-returns-clause-none c = pairs.none_is_listed
-
-pub returns-clause-path : goal.returns-clause-path
-returns-clause-path c = pairs.first_pair_has_path

@@ -1,4 +1,0 @@
-mod Points
-mod CallNeeds
-mod Told
-mod Counting

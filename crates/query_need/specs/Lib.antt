@@ -1,2 +1,0 @@
-pub mod Need
-pub mod NeedLaws

@@ -1,3 +1,0 @@
-mod Unchanged
-mod Moved
-mod Worked

@@ -1,4 +1,0 @@
-pub mod Longest
-mod Counted
-pub mod Texts
-mod Worked

@@ -1,6 +1,0 @@
-mod WorkedGuest
-mod WorkedBench
-pub mod Guests
-pub mod SameNumbers
-pub mod Outcomes
-mod Answered

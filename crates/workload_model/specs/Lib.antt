@@ -1,6 +1,0 @@
-pub mod Guest
-pub mod Input
-pub mod Workload
-pub mod Lines
-pub mod Answer
-pub mod Laws
