@@ -2,13 +2,12 @@
 use Rattle.std.proofs.Common.{◌≡◌, ℕ, ◌≤◌, Bool, refl, ap, sym, ◌∙◌, arith}
 use Rattle.std.specs.Prelude.{min, if◌then◌else◌}
 use Rattle.std.proofs.lemmas.Bool.{le-leb}
-use Rattle.isa.specs.Machine.{State}
 use Rattle.log_model.specs.declared.RunEnd.{RunEnd}
 use Rattle.log_model.specs.declared.RunEnd.TheVariants.{Exit, Trap, Limit}
-use Rattle.log_model.specs.Logs.{Log, steps, steps_by}
+use Rattle.log_model.specs.Logs.{steps, steps_by}
 use Rattle.core_model.specs.Note.{trap_signal}
 use Rattle.core_model.specs.CoreFile.{signal_after, core_of}
-use Rattle.core_model.specs.CoreLaws.{state_after, EndsWithRun}
+use Rattle.core_model.specs.CoreLaws.{state_at, EndsWithRun}
 
 signal_ends : (end : RunEnd) (t : ℕ) → steps_by end ≤ t → signal_after end t ≡ signal_after end (steps_by end)
 signal_ends (Exit at code) t h = refl
@@ -21,5 +20,5 @@ signal_ends (Limit at) t h = refl
 pub ends_with_run : EndsWithRun
 ends_with_run s log t h =
     let past : min t (steps log) ≡ min (steps log) (steps log) = omega arith in
-    ap (λ (n : ℕ). core_of (signal_after log.end t) (state_after s log n)) past
-    ∙ ap (λ (signal : ℕ). core_of signal (state_after s log (min (steps log) (steps log)))) (signal_ends log.end t h)
+    ap (λ (n : ℕ). core_of (signal_after log.end t) (state_at s log n)) past
+    ∙ ap (λ (signal : ℕ). core_of signal (state_at s log (min (steps log) (steps log)))) (signal_ends log.end t h)

@@ -1,7 +1,6 @@
 -- Worked examples, computed by the checker: a program of two instructions, in a window of their eight bytes.
 use Rattle.std.proofs.Common.{◌≡◌, ℕ, List, [], ◌∷◌, ◌++◌, replicate, refl}
 use Rattle.isa.specs.Machine.{State}
-use Rattle.log_model.specs.declared.RunEnd.{RunEnd}
 use Rattle.log_model.specs.declared.RunEnd.TheVariants.{Exit, Trap, Limit}
 use Rattle.log_model.specs.Logs.{Log}
 use Rattle.core_model.specs.Headers.{core_mark}

@@ -1,8 +1,7 @@
 -- The parts of a core file.
-use Rattle.std.proofs.Common.{◌≡◌, ℕ, zero, suc, ◌+◌, ◌*◌, ◌^◌, ◌<◌, ◌≤◌, List, [], ◌∷◌, ◌++◌, get_or, take, drop, length, map, replicate, w32, refl, ap, sym, ◌∙◌, arith, Bool, false, length-append}
+use Rattle.std.proofs.Common.{◌≡◌, ℕ, zero, suc, ◌+◌, ◌*◌, ◌^◌, ◌<◌, ◌≤◌, List, [], ◌∷◌, ◌++◌, get_or, take, drop, length, replicate, w32, refl, ap, sym, ◌∙◌, arith, Bool, false, length-append}
 use Rattle.std.specs.Int.{from_le_bytes}
 use Rattle.std.specs.Prelude.{min, nat_lt, if◌then◌else◌, Some}
-use Rattle.std.specs.List.{range_with_len}
 use Rattle.std.proofs.lemmas.Bool.{le-ltb}
 use Rattle.std.proofs.lemmas.List.{drop-drop}
 use Rattle.std.proofs.lemmas.List.FromFn.{get_or-map-range_with_len}
@@ -12,21 +11,20 @@ use Rattle.lists.specs.Fields.{word_at}
 use Rattle.lists.proofs.FirstTrue.{first_true-some}
 use Rattle.elf_model.specs.declared.ImageKind.TheVariants.{Short, Kind}
 use Rattle.elf_model.specs.Image.{e_type, e_machine, program_headers, faults, unless_faulty}
-use Rattle.log_model.specs.Logs.{Log, steps, word32}
-use Rattle.replay_model.specs.Run.{start, moment_after}
+use Rattle.log_model.specs.Logs.{Log, steps}
 use Rattle.page_text.specs.Head0.{head0}
 use Rattle.page_text.specs.Texts.{mark, head}
 use Rattle.core_model.specs.Headers.{words, core_mark, note_header, load_header}
 use Rattle.core_model.specs.Note.{pr_reg, note}
 use Rattle.core_model.specs.CoreFile.{signal_after, state_within, core_of, core_file}
-use Rattle.core_model.specs.CoreLaws.{state_after, HasWindow, HasRegisters, IsElfCore, BeginsWithMark, MarkIsLong, IsNoProgram, IsNoLog, IsNoPage}
+use Rattle.core_model.specs.CoreLaws.{state_at, HasWindow, HasRegisters, IsElfCore, BeginsWithMark, MarkIsLong, IsNoProgram, IsNoLog, IsNoPage}
 use Rattle.core_model.proofs.Words.{word_again, word_among}
 
 -- up to the run's end the state is that of the moment
-within : (s : State) (log : Log) (t : ℕ) → t ≤ steps log → core_file s log t ≡ core_of (signal_after log.end t) (state_after s log t)
+within : (s : State) (log : Log) (t : ℕ) → t ≤ steps log → core_file s log t ≡ core_of (signal_after log.end t) (state_at s log t)
 within s log t h =
     let same : min t (steps log) ≡ t = omega arith in
-    ap (λ (n : ℕ). core_of (signal_after log.end t) (state_after s log n)) same
+    ap (λ (n : ℕ). core_of (signal_after log.end t) (state_at s log n)) same
 
 -- ---- the window
 
@@ -35,7 +33,7 @@ unfolding core_mark note
 window_behind signal s = refl
 
 pub has_window : HasWindow
-has_window s log t h = ap (drop 340) (within s log t h) ∙ window_behind (signal_after log.end t) (state_after s log t)
+has_window s log t h = ap (drop 340) (within s log t h) ∙ window_behind (signal_after log.end t) (state_at s log t)
 
 -- ---- the registers
 
@@ -58,7 +56,7 @@ word_of signal s k h =
 pub has_registers : HasRegisters
 has_registers s log t h =
     let signal = signal_after log.end t in
-    let there = state_after s log t in (
+    let there = state_at s log t in (
       ap (λ (bytes : List ℕ). word_at bytes 208) (within s log t h) ∙ word_of signal there 0 (omega arith),
       λ r from to. ap (λ (bytes : List ℕ). word_at bytes (208 + 4 * r)) (within s log t h) ∙ word_of signal there r to ∙ ap wrap (register_at there r from to),
     )

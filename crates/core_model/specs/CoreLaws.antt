@@ -11,19 +11,19 @@ use Rattle.core_model.specs.Headers.{core_mark, note_header, load_header}
 use Rattle.core_model.specs.CoreFile.{state_within, core_file}
 
 -- the machine after t steps of a run
-abbrev pub state_after : State → Log → ℕ → State
-state_after s log t = (moment_after t (start s log)).state
+abbrev pub state_at : State → Log → ℕ → State
+state_at s log t = (moment_after t (start s log)).state
 
 -- the window of the moment stands behind the note, up to the file's end
 abbrev pub HasWindow : Type 0
 HasWindow = (s : State) (log : Log) (t : ℕ) → t ≤ steps log
-    → drop 340 (core_file s log t) ≡ (state_after s log t).memory
+    → drop 340 (core_file s log t) ≡ (state_at s log t).memory
 
 -- the note's registers are those of the moment: the pc, and behind it x1 to x31
 abbrev pub HasRegisters : Type 0
 HasRegisters = (s : State) (log : Log) (t : ℕ) → t ≤ steps log
-    → (word_at (core_file s log t) 208 ≡ wrap (state_after s log t).pc)
-    × ((r : ℕ) → 1 ≤ r → r < 32 → word_at (core_file s log t) (208 + 4 * r) ≡ wrap (reg (state_after s log t) r))
+    → (word_at (core_file s log t) 208 ≡ wrap (state_at s log t).pc)
+    × ((r : ℕ) → 1 ≤ r → r < 32 → word_at (core_file s log t) (208 + 4 * r) ≡ wrap (reg (state_at s log t) r))
 
 -- past the run's steps the core file is that of its end
 abbrev pub EndsWithRun : Type 0
