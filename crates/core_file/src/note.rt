@@ -18,7 +18,7 @@ const SIGILL: u16 = 4;
 const SIGTRAP: u16 = 5;
 
 /// A misaligned target.
-const SIGBUS: u16 = 10;
+const SIGBUS: u16 = 7;
 
 /// A fetch, a load or a store outside the window.
 const SIGSEGV: u16 = 11;

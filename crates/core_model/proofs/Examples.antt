@@ -67,7 +67,7 @@ at_an_illegal_instruction = refl
 
 -- ---- signals
 
-misaligned : trap_signal 0 ≡ 10
+misaligned : trap_signal 0 ≡ 7
 misaligned = refl
 
 illegal : trap_signal 2 ≡ 4

@@ -9,7 +9,7 @@ use Rattle.core_model.specs.Headers.{half, words}
 -- the signal of a trap, by its kind: SIGBUS of a misaligned target, SIGILL of an illegal instruction, SIGTRAP of a
 -- breakpoint, and SIGSEGV of what isn't in the window
 abbrev pub trap_signal : ℕ → ℕ
-trap_signal kind = if kind == 0 then 10 else if kind == 2 then 4 else if kind == 3 then 5 else 11
+trap_signal kind = if kind == 0 then 7 else if kind == 2 then 4 else if kind == 3 then 5 else 11
 
 -- pr_reg: the pc, and x1 to x31
 abbrev pub pr_reg : State → List ℕ

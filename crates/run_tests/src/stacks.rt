@@ -3,7 +3,7 @@
 use crate::guests::{breaks_at, copy_in_two};
 use guest_assembler::{Instr, code};
 use replayer::Job;
-use run_output::stack_text;
+use run_output::{stack_text, stacks_text};
 use std::alloc::Global;
 use std::process::Abort;
 
@@ -139,6 +139,18 @@ const FAR_CALL: Case<'static> = Case {
     ],
 };
 
+/// The texts of a tail call at times in no order, of which one stands twice and one is past the run's steps.
+const SEVERAL: &str = "stack 2\n0x0001000c\n0x00010000\nend 2\n\
+                       stack 4\nend 0\n\
+                       stack 1\n0x00010008\n0x00010000\nend 2\n\
+                       stack 2\n0x0001000c\n0x00010000\nend 2\n\
+                       end 14\n";
+
+/// The run of a case, as a job.
+fn job_of(rt: &impl Abort, alloc: Global, case: &Case<'_>) -> Job {
+    breaks_at(rt, alloc, case.code, case.steps, case.pc)
+}
+
 /// The run of a job stands so.
 fn assert_stacks(rt: &impl Abort, alloc: Global, job: &Job, stacks: &[(u64, &str)]) {
     for (time, text) in stacks {
@@ -149,7 +161,7 @@ fn assert_stacks(rt: &impl Abort, alloc: Global, job: &Job, stacks: &[(u64, &str
 
 /// So does that of a case.
 fn assert_case(rt: &impl Abort, alloc: Global, case: &Case<'_>) {
-    let job = breaks_at(rt, alloc, case.code, case.steps, case.pc);
+    let job = job_of(rt, alloc, case);
     assert_stacks(rt, alloc, &job, case.stacks);
 }
 
@@ -175,4 +187,14 @@ fn a_run_that_exits_stands_after_its_last_call(rt: HostRuntime) {
         (19, "end 0\n"),
     ];
     assert_stacks(&rt, alloc, &job, &stacks);
+}
+
+#[test]
+fn the_texts_of_several_times_stand_in_their_order(rt: HostRuntime) {
+    let alloc = rt.alloc();
+    let job = job_of(&rt, alloc, &TAIL_CALL);
+    let told = stacks_text(alloc, &job, &[2, 4, 1, 2]).expect(&rt, "memory");
+    assert_eq!(rt; told.as_slice(), SEVERAL.as_bytes());
+    let alone = stacks_text(alloc, &job, &[3]).expect(&rt, "memory");
+    assert_eq!(rt; alone.as_slice(), "0x00010004\nend 1\n".as_bytes());
 }
