@@ -5,7 +5,7 @@ use Rattle.std.proofs.lemmas.List.{append_assoc, flat_map_more}
 use Rattle.std.proofs.lemmas.List.FromFn.{map-range_with_len_more}
 use Rattle.isa.specs.Machine.{State, reg}
 use Rattle.log_model.specs.Logs.{word32}
-use Rattle.core_model.specs.Headers.{words}
+use Rattle.core_file.specs.Headers.{words}
 
 -- the pc, and n registers from x1 on
 abbrev pub first_registers : State → ℕ → List ℕ

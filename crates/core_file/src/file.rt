@@ -3,8 +3,8 @@
 ghost use Rattle.std.specs.Prelude.{◌≡◌, ◌+◌, ◌<◌, ◌≤◌, ◌++◌, length, IfOk, OnOk};
 ghost use Rattle.log_model.specs.Logs.{steps};
 ghost use Rattle.replayer.specs.Positions.{state_at};
-ghost use Rattle.core_model.specs.Headers.{core_mark as mark_of_cores, load_header, header_bytes};
-ghost use Rattle.core_model.specs.CoreFile.{core_of, core_file as core_of_run};
+ghost use Rattle.core_file.specs.Headers.{core_mark as mark_of_cores, load_header, header_bytes};
+ghost use Rattle.core_file.specs.CoreFile.{core_of, core_file as core_of_run};
 
 use crate::note::{push_note, signal_after};
 use crate::words::push_words;
@@ -22,7 +22,7 @@ const PT_LOAD: u32 = 1;
 const PF_R_W_X: u32 = 7;
 
 /// What each core file begins with, and no log and no page: its first 84 bytes.
-#[tactic(auto, unfolding(core_model::specs::Headers::core_mark))]
+#[tactic(auto, unfolding(crate::specs::Headers::core_mark))]
 pub fn core_mark() -> &'static [u8]
     ensures mark { result.now ≡ mark_of_cores }
     ensures long { length result.now ≡ 84 }

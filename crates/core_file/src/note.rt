@@ -2,9 +2,9 @@
 
 ghost use Rattle.std.specs.Prelude.{◌≡◌, ◌++◌, OnOk};
 ghost use Rattle.replayer.specs.Positions.{state_at};
-ghost use Rattle.core_model.specs.Headers.{words};
-ghost use Rattle.core_model.specs.Note.{trap_signal as signal_of_trap, pr_reg, prstatus, note};
-ghost use Rattle.core_model.specs.CoreFile.{signal_after as signal_of_run};
+ghost use Rattle.core_file.specs.Headers.{words};
+ghost use Rattle.core_file.specs.Note.{trap_signal as signal_of_trap, pr_reg, prstatus, note};
+ghost use Rattle.core_file.specs.CoreFile.{signal_after as signal_of_run};
 
 use crate::words::{push_word, push_words};
 use log_model::RunEnd;
@@ -90,7 +90,7 @@ fn push_prstatus(file: &mut Vec<u8>, signal: u16, cursor: &Cursor<'_>) -> Result
 }
 
 /// Appends the note.
-#[tactic(auto, unfolding(core_model::specs::Note::note))]
+#[tactic(auto, unfolding(crate::specs::Note::note))]
 pub(crate) fn push_note(
     file: &mut Vec<u8>,
     signal: u16,

@@ -2,7 +2,7 @@
 
 ghost use Rattle.std.specs.Prelude.{◌≡◌, ◌++◌, OnOk};
 ghost use Rattle.log_model.specs.Logs.{word32};
-ghost use Rattle.core_model.specs.Headers.{words};
+ghost use Rattle.core_file.specs.Headers.{words};
 
 use no_memory::NoMemory;
 

@@ -3,7 +3,7 @@ use Rattle.std.specs.Prelude.{min}
 use Rattle.log_model.specs.declared.RunEnd.{RunEnd}
 use Rattle.log_model.specs.Logs.{Log, steps}
 use Rattle.replayer.specs.Positions.{CursorAt, state_at}
-use Rattle.core_model.specs.CoreFile.{signal_after, core_of}
+use Rattle.core_file.specs.CoreFile.{signal_after, core_of}
 use Rattle.core_file.proofs.file.core_file.Goals as goal
 
 pub returns : goal.returns

@@ -1,7 +1,7 @@
 use Rattle.std.proofs.Common.{ℕ, List, [], ◌∷◌, ◌++◌, replicate, ap, ◌∙◌}
 use Rattle.replayer.specs.Positions.{state_at}
-use Rattle.core_model.specs.Headers.{half, words}
-use Rattle.core_model.specs.Note.{pr_reg}
+use Rattle.core_file.specs.Headers.{half, words}
+use Rattle.core_file.specs.Note.{pr_reg}
 use Rattle.core_file.proofs.Appended.{seven}
 use Rattle.core_file.proofs.note.push_prstatus.Goals as goal
 

@@ -1,5 +1,5 @@
 use Rattle.std.proofs.Common.{◌≡◌, ◌++◌, take}
-use Rattle.core_model.specs.Headers.{words}
+use Rattle.core_file.specs.Headers.{words}
 use Rattle.core_file.proofs.words.push_words.Given as goal
 
 -- the fields so far

@@ -14,11 +14,11 @@ use Rattle.elf_model.specs.Image.{e_type, e_machine, program_headers, faults, un
 use Rattle.log_model.specs.Logs.{Log, steps}
 use Rattle.page_text.specs.Head0.{head0}
 use Rattle.page_text.specs.Texts.{mark, head}
-use Rattle.core_model.specs.Headers.{words, core_mark, note_header, load_header}
-use Rattle.core_model.specs.Note.{pr_reg, note}
-use Rattle.core_model.specs.CoreFile.{signal_after, state_within, core_of, core_file}
-use Rattle.core_model.specs.CoreLaws.{state_at, HasWindow, HasRegisters, IsElfCore, BeginsWithMark, MarkIsLong, IsNoProgram, IsNoLog, IsNoPage}
-use Rattle.core_model.proofs.Words.{word_again, word_among}
+use Rattle.core_file.specs.Headers.{words, core_mark, note_header, load_header}
+use Rattle.core_file.specs.Note.{pr_reg, note}
+use Rattle.core_file.specs.CoreFile.{signal_after, state_within, core_of, core_file}
+use Rattle.core_file.specs.CoreLaws.{state_at, HasWindow, HasRegisters, IsElfCore, BeginsWithMark, MarkIsLong, IsNoProgram, IsNoLog, IsNoPage}
+use Rattle.core_file.proofs.FileWords.{word_again, word_among}
 
 -- up to the run's end the state is that of the moment
 within : (s : State) (log : Log) (t : ℕ) → t ≤ steps log → core_file s log t ≡ core_of (signal_after log.end t) (state_at s log t)

@@ -5,9 +5,9 @@ use Rattle.std.proofs.lemmas.Bool.{le-leb}
 use Rattle.log_model.specs.declared.RunEnd.{RunEnd}
 use Rattle.log_model.specs.declared.RunEnd.TheVariants.{Exit, Trap, Limit}
 use Rattle.log_model.specs.Logs.{steps, steps_by}
-use Rattle.core_model.specs.Note.{trap_signal}
-use Rattle.core_model.specs.CoreFile.{signal_after, core_of}
-use Rattle.core_model.specs.CoreLaws.{state_at, EndsWithRun}
+use Rattle.core_file.specs.Note.{trap_signal}
+use Rattle.core_file.specs.CoreFile.{signal_after, core_of}
+use Rattle.core_file.specs.CoreLaws.{state_at, EndsWithRun}
 
 signal_ends : (end : RunEnd) (t : ℕ) → steps_by end ≤ t → signal_after end t ≡ signal_after end (steps_by end)
 signal_ends (Exit at code) t h = refl

@@ -4,7 +4,7 @@
 use Rattle.std.specs.Prelude.{ℕ, ◌==◌, if◌then◌else◌, List, [], ◌∷◌, ◌++◌, map, replicate, codes}
 use Rattle.std.specs.List.{range_with_len}
 use Rattle.isa.specs.Machine.{State, reg}
-use Rattle.core_model.specs.Headers.{half, words}
+use Rattle.core_file.specs.Headers.{half, words}
 
 -- the signal of a trap, by its kind: SIGBUS of a misaligned target, SIGILL of an illegal instruction, SIGTRAP of a
 -- breakpoint, and SIGSEGV of what isn't in the window

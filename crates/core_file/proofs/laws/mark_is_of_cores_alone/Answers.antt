@@ -1,5 +1,5 @@
-use Rattle.core_model.proofs.Parts.{begins_with_mark, mark_is_long, is_no_program, is_no_log, is_no_page}
-use Rattle.core_model.proofs.laws.mark_is_of_cores_alone.Goals as goal
+use Rattle.core_file.proofs.Parts.{begins_with_mark, mark_is_long, is_no_program, is_no_log, is_no_page}
+use Rattle.core_file.proofs.laws.mark_is_of_cores_alone.Goals as goal
 
 pub returns-clause-begins : goal.returns-clause-begins
 returns-clause-begins c = begins_with_mark

@@ -7,8 +7,8 @@ use Rattle.elf_model.specs.Image.{e_type, e_machine, program_headers, image}
 use Rattle.log_model.specs.Logs.{Log, steps}
 use Rattle.replay_model.specs.Run.{start, moment_after}
 use Rattle.page_text.specs.Texts.{mark as page_mark}
-use Rattle.core_model.specs.Headers.{core_mark, note_header, load_header}
-use Rattle.core_model.specs.CoreFile.{state_within, core_file}
+use Rattle.core_file.specs.Headers.{core_mark, note_header, load_header}
+use Rattle.core_file.specs.CoreFile.{state_within, core_file}
 
 -- the machine after t steps of a run
 abbrev pub state_at : State → Log → ℕ → State

@@ -1,6 +1,6 @@
 //! Laws of the definitions: each is the contract of a function that does nothing.
 
-ghost use Rattle.core_model.specs.CoreLaws.{HasWindow, HasRegisters, EndsWithRun, IsElfCore, BeginsWithMark, MarkIsLong, IsNoProgram, IsNoLog, IsNoPage};
+ghost use Rattle.core_file.specs.CoreLaws.{HasWindow, HasRegisters, EndsWithRun, IsElfCore, BeginsWithMark, MarkIsLong, IsNoProgram, IsNoLog, IsNoPage};
 
 /// A core file has the window and the registers of the moment of its time, the moment that queries, paths and the
 /// calls in progress speak of.

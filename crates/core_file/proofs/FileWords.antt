@@ -4,7 +4,7 @@ use Rattle.std.specs.Int.{from_le_bytes}
 use Rattle.std.proofs.lemmas.Nat.{from_le_bytes-to_le_bytes_4}
 use Rattle.isa.specs.Machine.{wrap}
 use Rattle.log_model.specs.Logs.{word32}
-use Rattle.core_model.specs.Headers.{words}
+use Rattle.core_file.specs.Headers.{words}
 
 -- a word's bytes are those of the number modulo 2^32
 pub word-wrap : (n : ℕ) → word32 (wrap n) ≡ word32 n

@@ -3,9 +3,9 @@ use Rattle.std.proofs.Common.{◌≡◌, ℕ, List, [], ◌∷◌, ◌++◌, rep
 use Rattle.isa.specs.Machine.{State}
 use Rattle.log_model.specs.declared.RunEnd.TheVariants.{Exit, Trap, Limit}
 use Rattle.log_model.specs.Logs.{Log}
-use Rattle.core_model.specs.Headers.{core_mark}
-use Rattle.core_model.specs.Note.{note, trap_signal}
-use Rattle.core_model.specs.CoreFile.{signal_after, core_file}
+use Rattle.core_file.specs.Headers.{core_mark}
+use Rattle.core_file.specs.Note.{note, trap_signal}
+use Rattle.core_file.specs.CoreFile.{signal_after, core_file}
 
 -- ADDI x5, x0, 7, and then a word
 abbrev code : List ℕ → List ℕ

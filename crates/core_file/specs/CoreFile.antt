@@ -5,8 +5,8 @@ use Rattle.log_model.specs.declared.RunEnd.{RunEnd}
 use Rattle.log_model.specs.declared.RunEnd.TheVariants.{Exit, Trap, Limit}
 use Rattle.log_model.specs.Logs.{Log, steps}
 use Rattle.replay_model.specs.Run.{start, moment_after}
-use Rattle.core_model.specs.Headers.{core_mark, header_bytes, load_header}
-use Rattle.core_model.specs.Note.{trap_signal, note}
+use Rattle.core_file.specs.Headers.{core_mark, header_bytes, load_header}
+use Rattle.core_file.specs.Note.{trap_signal, note}
 
 -- the signal after t steps: that of the trap where the run stands at its trap, and else SIGTRAP
 abbrev pub signal_after : RunEnd → ℕ → ℕ

@@ -1,4 +1,0 @@
-pub mod Words
-mod Parts
-mod Ends
-mod Examples
