@@ -1,15 +1,12 @@
 //! What cores that are done come to.
 
 ghost use Rattle.std.specs.Prelude.{◌≡◌, IfOk, drop, map};
-ghost use Rattle.replayer.specs.Jobs.{trace_of};
-ghost use Rattle.report_model.specs.Rows.{rows_as_written};
-ghost use Rattle.sink_collect.specs.Pairs.{capped};
-ghost use Rattle.stream_model.specs.Work.{asked_at, run_work};
+ghost use Rattle.epoch_engine.specs.Collecting.{IsCollectedOf};
 ghost use Rattle.epoch_node.specs.Cores.{core_of};
 ghost use Rattle.epoch_rounds.specs.Lines.{Plan, IsLineOf, AreDone};
 
 use crate::line::Line;
-use epoch_layout::Collected;
+use epoch_engine::Collected;
 use no_memory::NoMemory;
 use sink_collect::{SinkSet, SinkSets};
 use std::alloc::Global;
@@ -29,12 +26,8 @@ fn without_first<T: Drop>(mut items: Vec<T>) -> Vec<T>
 pub(crate) fn collect<'a, G>(alloc: Global, line: Line<'a, G>) -> Result<Collected, NoMemory>
     requires done { AreDone (map core_of line.cores.items) }
     requires line { (plan : Plan) × IsLineOf plan (map core_of line.cores.items) line.joints.items }
-    ensures rows { (plan : Plan) → IsLineOf plan (map core_of line.entry.cores.items) line.entry.joints.items
-        → IfOk result (λ all. all.sets ≡ rows_as_written plan.run.query (trace_of plan.run.job)) }
-    ensures crossed { (plan : Plan) → IsLineOf plan (map core_of line.entry.cores.items) line.entry.joints.items
-        → IfOk result (λ all. all.crossed.items ≡ asked_at plan.run.query (trace_of plan.run.job) plan.run.cuts) }
-    ensures events { (plan : Plan) → IsLineOf plan (map core_of line.entry.cores.items) line.entry.joints.items
-        → IfOk result (λ all. all.events ≡ capped (run_work plan.run.query (trace_of plan.run.job) plan.run.cuts)) }
+    ensures { (plan : Plan) → IsLineOf plan (map core_of line.entry.cores.items) line.entry.joints.items
+        → IfOk result (IsCollectedOf plan.run.query plan.run.job plan.run.cuts) }
 {
     let mut sets: Vec<SinkSet> = Vec::new(alloc);
     let mut asked = Vec::new(alloc);

@@ -1,9 +1,7 @@
 //! The cores of a run, and the links between them.
 
-ghost use Rattle.std.specs.Prelude.{◌≡◌, IfOk, All, map, true, false};
-ghost use Rattle.log_model.specs.Logs.{steps};
-ghost use Rattle.epoch_model.specs.Cutting.{IsCutting};
-ghost use Rattle.checkpoints.specs.Points.{beginnings};
+ghost use Rattle.std.specs.Prelude.{◌≡◌, IfOk, map, true, false};
+ghost use Rattle.epoch_engine.specs.Collecting.{AreAtBeginnings};
 ghost use Rattle.epoch_node.specs.Cores.{core_of};
 ghost use Rattle.epoch_rounds.specs.Lines.{IsLaidOut, AreDone};
 
@@ -33,8 +31,7 @@ pub(crate) fn lay_out<'a, G>(
     cuts: Cuts,
     capacity: Capacity,
 ) -> Result<Line<'a, G>, NoMemory>
-    requires times { checkpoints.now.times ≡ beginnings cuts }
-    requires cuts { IsCutting (steps checkpoints.now.job.log) cuts }
+    requires { AreAtBeginnings cuts checkpoints.now }
     ensures { IfOk result (λ line.
         IsLaidOut
         (record { run = record { job = checkpoints.now.job; query = query.now; cuts = cuts }; capacity = capacity })

@@ -1,14 +1,8 @@
 //! A run's cores, turned one after another until all are done.
 
-ghost use Rattle.std.specs.Prelude.{◌≡◌, ◌<◌, IfOk, map};
-ghost use Rattle.log_model.specs.Logs.{steps};
-ghost use Rattle.report_model.specs.Rows.{rows_as_written};
-ghost use Rattle.epoch_model.specs.Cutting.{IsCutting};
-ghost use Rattle.replayer.specs.Jobs.{trace_of};
-ghost use Rattle.checkpoints.specs.Points.{beginnings};
+ghost use Rattle.std.specs.Prelude.{◌<◌, IfOk, map};
+ghost use Rattle.epoch_engine.specs.Collecting.{AreAtBeginnings, IsCollectedOf};
 ghost use Rattle.epoch_node.specs.Cores.{core_of};
-ghost use Rattle.sink_collect.specs.Pairs.{capped};
-ghost use Rattle.stream_model.specs.Work.{asked_at, run_work};
 ghost use Rattle.epoch_rounds.specs.Lines.{Plan, IsLineOf, IsLaidOut, AreDone};
 ghost use Rattle.epoch_rounds.specs.Streams.{AreParts};
 ghost use Rattle.epoch_rounds.specs.Left.{work_left};
@@ -18,7 +12,7 @@ use crate::line::{Line, lay_out};
 use crate::turning::turn_at;
 use checkpoints::Checkpoints;
 use epoch_cut::Cuts;
-use epoch_layout::Collected;
+use epoch_engine::Collected;
 use epoch_link::Capacity;
 use no_memory::NoMemory;
 use outer_io::Gate;
@@ -69,11 +63,8 @@ pub fn round_robin<G: Gate>(
     cuts: Cuts,
     capacity: Capacity,
 ) -> Result<Collected, NoMemory>
-    requires times { checkpoints.now.times ≡ beginnings cuts }
-    requires cuts { IsCutting (steps checkpoints.now.job.log) cuts }
-    ensures rows { IfOk result (λ all. all.sets ≡ rows_as_written query.now (trace_of checkpoints.now.job)) }
-    ensures crossed { IfOk result (λ all. all.crossed.items ≡ asked_at query.now (trace_of checkpoints.now.job) cuts) }
-    ensures events { IfOk result (λ all. all.events ≡ capped (run_work query.now (trace_of checkpoints.now.job) cuts)) }
+    requires { AreAtBeginnings cuts checkpoints.now }
+    ensures { IfOk result (IsCollectedOf query.now checkpoints.now.job cuts) }
 {
     let new = lay_out(alloc, checkpoints, query, gate, cuts, capacity)?;
     let mut line = round(alloc, new)?;

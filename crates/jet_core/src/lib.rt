@@ -15,5 +15,5 @@ mod whole;
 pub use answering::answer_requests;
 pub use asking::{asked_by, crossings};
 pub use joining::join;
-pub use run_query::{Crossed, query};
-pub use whole::{joined, round_robin};
+pub use query_parts::Crossed;
+pub use whole::{joined, query, round_robin};

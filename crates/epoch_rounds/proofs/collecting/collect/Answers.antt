@@ -56,26 +56,15 @@ loop-core-preserved g c =
       events = capped_more c.loop-core.events n.events (sum_by (λ (m : DoneNode). m.events) i.done) n.events _ _ i.events refl c.saturating_add-events.ensures (events_push i.done n);
     }
 
-pub returns-clause-rows : goal.returns-clause-rows
-returns-clause-rows g c = λ plan l.
+pub returns : goal.returns
+returns g c = λ plan l.
     let i = c.loop-core.invariant in
     let none : length (into_iter_items c.loop-core.core-iterator) ≡ 0 = omega (arith, c.in-None.ensures.steps.0, c.loop-core.core-iterator.rest.ok) in
     let all = sym (append-nil i.front) ∙ ap (λ cs. i.front ++ map (core_of {G = g.row.G.Denot}) cs) (sym (no_items (into_iter_items c.loop-core.core-iterator) none)) ∙ i.split in
     let line = done_line plan true (epochs_of plan.run) i.done _ c.args.line.joints.items l.stand (subst (λ cs. AreNodesOf i.done cs c.args.line.joints.items) all i.are) in
-    c.from_vec.ensures ∙ i.sets ∙ (done_lines_come plan.run i.done l.cutting l.located line).rows
-
-pub returns-clause-crossed : goal.returns-clause-crossed
-returns-clause-crossed g c = λ plan l.
-    let i = c.loop-core.invariant in
-    let none : length (into_iter_items c.loop-core.core-iterator) ≡ 0 = omega (arith, c.in-None.ensures.steps.0, c.loop-core.core-iterator.rest.ok) in
-    let all = sym (append-nil i.front) ∙ ap (λ cs. i.front ++ map (core_of {G = g.row.G.Denot}) cs) (sym (no_items (into_iter_items c.loop-core.core-iterator) none)) ∙ i.split in
-    let line = done_line plan true (epochs_of plan.run) i.done _ c.args.line.joints.items l.stand (subst (λ cs. AreNodesOf i.done cs c.args.line.joints.items) all i.are) in
-    c.without_first-crossed.ensures ∙ ap (λ (ls : List (List Loc)). drop 1 ls) i.asked ∙ (done_lines_come plan.run i.done l.cutting l.located line).crossed_are
-
-pub returns-clause-events : goal.returns-clause-events
-returns-clause-events g c = λ plan l.
-    let i = c.loop-core.invariant in
-    let none : length (into_iter_items c.loop-core.core-iterator) ≡ 0 = omega (arith, c.in-None.ensures.steps.0, c.loop-core.core-iterator.rest.ok) in
-    let all = sym (append-nil i.front) ∙ ap (λ cs. i.front ++ map (core_of {G = g.row.G.Denot}) cs) (sym (no_items (into_iter_items c.loop-core.core-iterator) none)) ∙ i.split in
-    let line = done_line plan true (epochs_of plan.run) i.done _ c.args.line.joints.items l.stand (subst (λ cs. AreNodesOf i.done cs c.args.line.joints.items) all i.are) in
-    i.events ∙ (done_lines_come plan.run i.done l.cutting l.located line).events
+    let come = done_lines_come plan.run i.done l.cutting l.located line in
+    record {
+      rows = c.from_vec.ensures ∙ i.sets ∙ come.rows;
+      crossed = c.without_first-crossed.ensures ∙ ap (λ (ls : List (List Loc)). drop 1 ls) i.asked ∙ come.crossed_are;
+      events = i.events ∙ come.events;
+    }

@@ -18,7 +18,7 @@ pub unreachable-requires : goal.unreachable-requires
 unreachable-requires g c =
     let n = ap length c.in_ok-tickets.ensures ∙ length-numbered 0 0 c.args.cuts in
     let none = ap length c.in_default.ensures.items in
-    omega (arith, n, some_epoch _ c.args.cuts c.requires.cuts, c.in_default.ensures.cases)
+    omega (arith, n, some_epoch _ c.args.cuts c.requires.cutting, c.in_default.ensures.cases)
 
 pub new-requires : goal.new-requires
 new-requires g c =
@@ -27,7 +27,7 @@ new-requires g c =
     let e = c.in-Some-ticket.ticket in
     let split = ap (λ (es : List NumberedEpoch). i.done ++ (es ++ c.in-Some.last ∷ [])) (sym c.in-Some-ticket.ensures.steps.0) ∙ i.split in
     can_start c.args.checkpoints.now (beginnings c.args.cuts) e c.requires.times
-    (at_place (CanStart (points_of run)) i.done e _ (subst (AllByRecursion (CanStart (points_of run))) (sym split) (all_can_start run c.requires.cuts)))
+    (at_place (CanStart (points_of run)) i.done e _ (subst (AllByRecursion (CanStart (points_of run))) (sym split) (all_can_start run c.requires.cutting)))
 
 pub loop-ticket-preserved : goal.loop-ticket-preserved
 loop-ticket-preserved g c =
@@ -58,7 +58,7 @@ new-requires-2 g c =
     let none : length (into_iter_items c.loop-ticket.ticket-iterator) ≡ 0 = omega (arith, c.in-None.ensures.steps.0, c.loop-ticket.ticket-iterator.rest.ok) in
     let split = ap (λ (es : List NumberedEpoch). i.done ++ (es ++ e ∷ [])) (sym (no_items (into_iter_items c.loop-ticket.ticket-iterator) none)) ∙ i.split in
     can_start c.args.checkpoints.now (beginnings c.args.cuts) e c.requires.times
-    (at_place (CanStart (points_of run)) i.done e [] (subst (AllByRecursion (CanStart (points_of run))) (sym split) (all_can_start run c.requires.cuts)))
+    (at_place (CanStart (points_of run)) i.done e [] (subst (AllByRecursion (CanStart (points_of run))) (sym split) (all_can_start run c.requires.cutting)))
 
 pub returns : goal.returns
 returns g c =
@@ -74,7 +74,7 @@ returns g c =
     map_length (core_of {G = g.row.G.Denot}) c.push-2.new.self.items ∙ ap length c.in_ok-push-4.ensures.items ∙ length-append c.loop-ticket.cores.items (c.in_ok-new-3.field-0 ∷ []) in
     let same = c.loop-ticket.cores.ok.0 in
     record {
-      cutting = c.requires.cuts;
+      cutting = c.requires.cutting;
       located = c.points-points.ensures.located;
       holds_some = omega (arith, c.get-items.ensures.number, c.get-items.ensures.range.0);
       cores_are = ap (map (core_of {G = g.row.G.Denot})) c.in_ok-push-4.ensures.items ∙ map_push (core_of {G = g.row.G.Denot}) c.loop-ticket.cores.items c.in_ok-new-3.field-0

@@ -20,11 +20,5 @@ loop-line-preserved g c = record {
   parts = c.in_ok-line-2.ensures.parts _ c.loop-line.invariant.line c.loop-line.invariant.parts;
 }
 
-pub returns-clause-rows : goal.returns-clause-rows
-returns-clause-rows g c = c.collect.ensures.rows _ c.loop-line.invariant.line
-
-pub returns-clause-crossed : goal.returns-clause-crossed
-returns-clause-crossed g c = c.collect.ensures.crossed _ c.loop-line.invariant.line
-
-pub returns-clause-events : goal.returns-clause-events
-returns-clause-events g c = c.collect.ensures.events _ c.loop-line.invariant.line
+pub returns : goal.returns
+returns g c = c.collect.ensures _ c.loop-line.invariant.line

@@ -1,49 +1,55 @@
-//! Queries for which a run is prepared while its log is checked.
+//! Queries that are answered of the replay that checks the log.
 
-use super::{ALONE, Answer, COPY, Line, answer_by_rounds, query_of, sequential_report};
+use super::{COPY, query_of, sequential_report};
 use crate::guests::{Recorded, copy_four, copy_four_recorded};
-use epoch_cut::cuts;
+use checkpoints::Checkpoints;
 use epoch_cut::laws::cut_times_are_cutting;
+use epoch_cut::{Cuts, cuts};
+use epoch_engine::{ClosureEngine, Parallelism};
+use epoch_line::work;
 use epoch_link::Capacity;
 use memory_outside::CountingGate;
-use outer_io::{Gate, OpenGate};
+use outer_io::Gate;
 use query_lang::Query;
 use replayer::steps_of;
-use run_query::{check_for, query_prepared};
-use sink_collect::text;
+use run_query::{Part, check_and_query};
+use sink_collect::{Report, text};
 use std::alloc::Global;
 use std::process::Abort;
 use std::sync::Wait;
 use std::thread::Threads;
 
-/// What a query answers over the copy of four bytes, by what was prepared while its log was checked.
-fn answer_prepared<G: Gate, R: Threads + Wait + Abort + Sync>(
+/// The report of a query over the copy of four bytes, found while its log was checked. Its epochs have so many steps.
+fn checked_report<G: Gate, R: Threads + Wait + Abort + Sync>(
     rt: &R,
     alloc: Global,
     gate: &G,
     wanted: &Query,
     length: u64,
-) -> Answer {
+) -> Report {
     assert!(rt; 1 <= length);
     let Recorded { program, log } = copy_four_recorded(rt, alloc);
     cut_times_are_cutting();
     let cuts = cuts(steps_of(&log), length).expect(rt, "few epochs");
-    let checked = check_for(alloc, gate, program, log, wanted, cuts);
-    let (job, prepared) = checked.expect(rt, "a log that fits");
-    let Line { workers, capacity } = ALONE;
-    let capacity = Capacity::of(capacity);
-    let found = query_prepared(rt, alloc, gate, &job, wanted, prepared, workers, capacity);
-    let (report, crossed, events) = found.expect(rt, "memory");
-    Answer {
-        report,
-        crossed,
-        events,
-    }
+    let line = ClosureEngine {
+        gate,
+        work: |checkpoints: &Checkpoints<'_>, query: &Query, cuts: Cuts, parallelism: Parallelism| {
+            work(rt, alloc, gate, checkpoints, query, cuts, parallelism)
+        },
+    };
+    let parallelism = Parallelism {
+        workers: 1,
+        link: Capacity::of(1),
+    };
+    let part = Part::Whole(cuts);
+    let checked = check_and_query(&line, alloc, program, log, wanted, part, parallelism);
+    let (_job, report) = checked.expect(rt, "a log that fits");
+    report
 }
 
-/// By epochs of so many steps, which are so many, a query has the report of the whole run and the events of its nodes, and
-/// each epoch enters the gate once.
-fn assert_prepared<R: Threads + Wait + Abort + Sync>(
+/// By epochs of so many steps, which are so many, a query has the report of the whole run, and each epoch enters the gate
+/// once.
+fn assert_checked<R: Threads + Wait + Abort + Sync>(
     rt: &R,
     alloc: Global,
     query: &[u8],
@@ -53,13 +59,10 @@ fn assert_prepared<R: Threads + Wait + Abort + Sync>(
     let job = copy_four(rt, alloc);
     let wanted = query_of(rt, alloc, query);
     let gate = CountingGate::new(alloc, epochs).expect(rt, "memory");
-    let found = answer_prepared(rt, alloc, &gate, &wanted, length);
+    let found = checked_report(rt, alloc, &gate, &wanted, length);
     assert!(rt; gate.is_entered_by_each_once());
-    let rounds = answer_by_rounds(rt, alloc, &OpenGate, &job, &wanted, length, 1);
-    assert!(rt; found.events == rounds.events);
-    assert!(rt; found.crossed.len() == rounds.crossed.len());
     let whole = text(alloc, &sequential_report(rt, alloc, &job, &wanted)).expect(rt, "memory");
-    let lines = text(alloc, &found.report).expect(rt, "memory");
+    let lines = text(alloc, &found).expect(rt, "memory");
     assert!(rt; lines.as_slice() == whole.as_slice());
 }
 
@@ -75,11 +78,11 @@ const QUERIES: [&[u8]; 4] = [
 const LENGTHS: [(u64, u32); 4] = [(12, 1), (1_099_511_627_776, 1), (6, 2), (5, 3)];
 
 #[test]
-fn what_is_prepared_has_the_same_answers(rt: HostRuntime) {
+fn a_run_has_its_report_while_its_log_is_checked(rt: HostRuntime) {
     let alloc = rt.alloc();
     for query in QUERIES {
         for (length, epochs) in LENGTHS {
-            assert_prepared(&rt, alloc, query, length, epochs);
+            assert_checked(&rt, alloc, query, length, epochs);
         }
     }
 }
