@@ -88,7 +88,7 @@ pub fn round_robin<G: Gate>(
     // The contract of this says that the epochs are few.
     let _count = cuts.count();
     let checkpoints = Checkpoints::take(alloc, job, &cuts)?;
-    let collected = epoch_rounds::round_robin(alloc, gate, &checkpoints, query, cuts, capacity)?;
+    let collected = crate::rounds::round_robin(alloc, gate, &checkpoints, query, cuts, capacity)?;
     let QueryAnswer {
         report,
         crossed,
