@@ -8,6 +8,7 @@ ghost use Rattle.stream_model.specs.Work.{run_work};
 ghost use Rattle.replayer.specs.Jobs.{trace_of};
 ghost use Rattle.sink_collect.specs.Pairs.{capped};
 ghost use Rattle.query_parts.specs.Crossings.{crossed};
+ghost use Rattle.epoch_engine.specs.Collecting.{AreAtBeginnings, IsCollectedOf};
 
 use crate::analysing::found_at_once;
 use crate::asking::crossings;
@@ -15,7 +16,7 @@ use crate::joining::join;
 use checkpoints::Checkpoints;
 use distinct_rows::rows_are_distinct;
 use epoch_cut::Cuts;
-use epoch_engine::{ClosureEngine, Parallelism};
+use epoch_engine::{ClosureEngine, Collected, Parallelism};
 use epoch_line::work;
 use epoch_link::Capacity;
 use no_memory::NoMemory;
@@ -53,9 +54,12 @@ pub fn query<G: Gate, R: Threads + Wait + Sync>(
 {
     let line = ClosureEngine {
         gate,
-        work: |checkpoints: &Checkpoints<'_>, query: &Query, cuts: Cuts, parallelism: Parallelism| {
-            work(rt, alloc, gate, checkpoints, query, cuts, parallelism)
-        },
+        work: |checkpoints: &Checkpoints<
+            '_,
+        >, query: &Query, cuts: Cuts, parallelism: Parallelism| -> Result<Collected, NoMemory>
+            requires { AreAtBeginnings cuts checkpoints.now }
+            ensures { IfOk result (IsCollectedOf query.entry.now checkpoints.entry.now.job cuts) }
+        { work(rt, alloc, gate, checkpoints, query, cuts, parallelism) },
     };
     let link = capacity;
     let parallelism = Parallelism { workers, link };

@@ -1,14 +1,18 @@
 //! Queries that are answered of the replay that checks the log.
 
+ghost use Rattle.std.specs.Prelude.{IfOk};
+ghost use Rattle.epoch_engine.specs.Collecting.{AreAtBeginnings, IsCollectedOf};
+
 use super::{COPY, query_of, sequential_report};
 use crate::guests::{Recorded, copy_four, copy_four_recorded};
 use checkpoints::Checkpoints;
 use epoch_cut::laws::cut_times_are_cutting;
 use epoch_cut::{Cuts, cuts};
-use epoch_engine::{ClosureEngine, Parallelism};
+use epoch_engine::{ClosureEngine, Collected, Parallelism};
 use epoch_line::work;
 use epoch_link::Capacity;
 use memory_outside::CountingGate;
+use no_memory::NoMemory;
 use outer_io::Gate;
 use query_lang::Query;
 use replayer::steps_of;
@@ -33,9 +37,12 @@ fn checked_report<G: Gate, R: Threads + Wait + Abort + Sync>(
     let cuts = cuts(steps_of(&log), length).expect(rt, "few epochs");
     let line = ClosureEngine {
         gate,
-        work: |checkpoints: &Checkpoints<'_>, query: &Query, cuts: Cuts, parallelism: Parallelism| {
-            work(rt, alloc, gate, checkpoints, query, cuts, parallelism)
-        },
+        work: |checkpoints: &Checkpoints<
+            '_,
+        >, query: &Query, cuts: Cuts, parallelism: Parallelism| -> Result<Collected, NoMemory>
+            requires { AreAtBeginnings cuts checkpoints.now }
+            ensures { IfOk result (IsCollectedOf query.entry.now checkpoints.entry.now.job cuts) }
+        { work(rt, alloc, gate, checkpoints, query, cuts, parallelism) },
     };
     let parallelism = Parallelism {
         workers: 1,
