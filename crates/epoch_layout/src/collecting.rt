@@ -2,15 +2,13 @@
 
 ghost use Rattle.std.specs.Prelude.{◌≡◌, All, IfOk, OnOk, drop, reverse};
 ghost use Rattle.std.specs.List.{flat_map};
-ghost use Rattle.replayer.specs.Jobs.{trace_of};
-ghost use Rattle.report_model.specs.Rows.{rows_as_written};
-ghost use Rattle.sink_collect.specs.Pairs.{capped};
+ghost use Rattle.epoch_engine.specs.Collecting.{IsCollectedOf};
 ghost use Rattle.epoch_node.specs.Nodes.{IsDone};
 ghost use Rattle.epoch_layout.specs.Layouts.{CutRun, IsRunOf};
 ghost use Rattle.epoch_layout.specs.Lines.{IsOneLink, HasDelivered};
 ghost use Rattle.epoch_layout.specs.Gathering.{HasNothing, HasTaken};
-ghost use Rattle.stream_model.specs.Work.{asked_at, run_work};
 
+use epoch_engine::Collected;
 use epoch_link::{Consumer, Producer, close};
 use epoch_node::{Ends, Finished, Node};
 use epoch_summary::Asked;
@@ -19,17 +17,6 @@ use no_memory::NoMemory;
 use sink_collect::{SinkSet, SinkSets};
 use std::alloc::Global;
 use std::mem;
-
-/// What the nodes of a run come to.
-#[derive(Drop)]
-pub struct Collected {
-    /// The rows of the run, in its order.
-    pub sets: SinkSets,
-    /// What was asked at each inner cut, from the first to the last.
-    pub crossed: Vec<Asked>,
-    /// How many events of the nodes moved, or 2^64 - 1 where they are more.
-    pub events: u64,
-}
 
 /// Closes a link, if there is one.
 fn close_link(producer: Option<Producer<Message>>, consumer: Option<Consumer<Message>>)
@@ -145,12 +132,8 @@ impl Gathering {
 pub fn collect<'a, G>(alloc: Global, mut nodes: Vec<Node<'a, G>>) -> Result<Collected, NoMemory>
     requires done { All IsDone nodes.items }
     requires led { (run : CutRun) × IsRunOf run nodes.items }
-    ensures rows { (run : CutRun) → IsRunOf run nodes.entry.items
-        → IfOk result (λ all. all.sets ≡ rows_as_written run.query (trace_of run.job)) }
-    ensures crossed { (run : CutRun) → IsRunOf run nodes.entry.items
-        → IfOk result (λ all. all.crossed.items ≡ asked_at run.query (trace_of run.job) run.cuts) }
-    ensures events { (run : CutRun) → IsRunOf run nodes.entry.items
-        → IfOk result (λ all. all.events ≡ capped (run_work run.query (trace_of run.job) run.cuts)) }
+    ensures { (run : CutRun) → IsRunOf run nodes.entry.items
+        → IfOk result (IsCollectedOf run.query run.job run.cuts) }
 {
     let mut gathering = Gathering::new(alloc, nodes.len())?;
     while let Some(node) = nodes.pop() {

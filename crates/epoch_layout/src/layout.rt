@@ -1,9 +1,7 @@
 //! New nodes, joined by new links.
 
 ghost use Rattle.std.specs.Prelude.{◌≡◌, IfOk, IfSome, is_none};
-ghost use Rattle.log_model.specs.Logs.{steps};
-ghost use Rattle.epoch_model.specs.Cutting.{IsCutting};
-ghost use Rattle.checkpoints.specs.Points.{beginnings};
+ghost use Rattle.epoch_engine.specs.Collecting.{AreAtBeginnings};
 ghost use Rattle.epoch_node.specs.Cores.{CanStart};
 ghost use Rattle.epoch_node.specs.Nodes.{new_node};
 ghost use Rattle.epoch_layout.specs.Layouts.{ends_of, IsNewBefore, IsNewAfter, IsLayout};
@@ -57,8 +55,7 @@ pub fn lay_out<'a, G>(
     cuts: Cuts,
     capacity: Capacity,
 ) -> Result<Vec<Node<'a, G>>, NoMemory>
-    requires times { checkpoints.now.times ≡ beginnings cuts }
-    requires cuts { IsCutting (steps checkpoints.now.job.log) cuts }
+    requires { AreAtBeginnings cuts checkpoints.now }
     ensures { IfOk result (λ nodes.
         IsLayout capacity (record { job = checkpoints.now.job; query = query.now; cuts = cuts }) nodes.items) }
 {

@@ -11,5 +11,5 @@ mod ends;
 pub mod laws;
 mod layout;
 
-pub use collecting::{Collected, collect};
+pub use collecting::collect;
 pub use layout::lay_out;

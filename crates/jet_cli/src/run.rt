@@ -1,19 +1,21 @@
 //! The call: words, and an outside.
-ghost use Rattle.std.specs.Prelude.{◌≡◌, ◌⊎◌, ◌≤◌, false, map, string_bytes};
+ghost use Rattle.std.specs.Prelude.{◌≡◌, ◌⊎◌, ◌≤◌, false, map, string_bytes, IfOk};
 ghost use Rattle.clap.specs.Words.{takes};
 ghost use Rattle.jet_words.specs.CommandLine.{jet_app};
 ghost use Rattle.jet_work.specs.Targets.{command_in, target_in, files_of, IfFile, IfUntimedIn};
 ghost use Rattle.outer_io.specs.Outside.{change};
+ghost use Rattle.epoch_engine.specs.Collecting.{AreAtBeginnings, IsCollectedOf};
 ghost use Rattle.jet_work.specs.Keeping.{OpensAll, OpensFirst, KeepsAll, KeepsBut};
 ghost use Rattle.jet_work.specs.Ending.{IsUnwritten, Says};
 ghost use Rattle.jet_cli.specs.Statuses.{IsStatus, IsDone, IsDoneInPart, IsRefused, IsDecided, IsComplete};
 
 use checkpoints::Checkpoints;
 use epoch_cut::Cuts;
-use epoch_engine::{ClosureEngine, Parallelism};
+use epoch_engine::{ClosureEngine, Collected, Parallelism};
 use epoch_line::work;
 use jet_commands::obey;
 use jet_work::conclude;
+use no_memory::NoMemory;
 use outer_io::{Clock, Gate, Sink, Store};
 use query_lang::Query;
 use std::sync::Wait;
@@ -62,9 +64,12 @@ pub fn jet<R: Threads + Wait + Sync + AllocGlobal, S: Store, O: Sink, E: Sink, K
     let alloc = rt.alloc();
     let line = ClosureEngine {
         gate,
-        work: |checkpoints: &Checkpoints<'_>, query: &Query, cuts: Cuts, parallelism: Parallelism| {
-            work(rt, alloc, gate, checkpoints, query, cuts, parallelism)
-        },
+        work: |checkpoints: &Checkpoints<
+            '_,
+        >, query: &Query, cuts: Cuts, parallelism: Parallelism| -> Result<Collected, NoMemory>
+            requires { AreAtBeginnings cuts checkpoints.now }
+            ensures { IfOk result (IsCollectedOf query.entry.now checkpoints.entry.now.job cuts) }
+        { work(rt, alloc, gate, checkpoints, query, cuts, parallelism) },
     };
     let outcome = obey(&line, alloc, words, store, out, clock);
     conclude(err, outcome)

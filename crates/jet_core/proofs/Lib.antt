@@ -1,3 +1,15 @@
+mod Parts
+mod Sending
+mod Events
+mod Standing
+mod Neighbours
+mod Turned
+mod Beginning
+mod Going
+mod Placing
+mod Laying
+mod Nodes
+mod Doing
 mod More
 mod Back
 mod Each

@@ -1,2 +1,7 @@
+pub mod Joints
+pub mod Turns
+pub mod Lines
+pub mod Streams
+pub mod Left
 pub mod Asking
 pub mod Tickets

@@ -1,4 +1,4 @@
-//! A query over a whole run, on one thread and by lists.
+//! A query over a whole run, by the line of nodes, on one thread, and by lists.
 
 ghost use Rattle.std.specs.Prelude.{◌≡◌, IfOk};
 ghost use Rattle.log_model.specs.Logs.{steps};
@@ -8,6 +8,7 @@ ghost use Rattle.stream_model.specs.Work.{run_work};
 ghost use Rattle.replayer.specs.Jobs.{trace_of};
 ghost use Rattle.sink_collect.specs.Pairs.{capped};
 ghost use Rattle.query_parts.specs.Crossings.{crossed};
+ghost use Rattle.epoch_engine.specs.Collecting.{AreAtBeginnings, IsCollectedOf};
 
 use crate::analysing::found_at_once;
 use crate::asking::crossings;
@@ -15,17 +16,62 @@ use crate::joining::join;
 use checkpoints::Checkpoints;
 use distinct_rows::rows_are_distinct;
 use epoch_cut::Cuts;
+use epoch_engine::{ClosureEngine, Collected, Parallelism};
+use epoch_line::work;
 use epoch_link::Capacity;
 use no_memory::NoMemory;
 use outer_io::Gate;
 use query_lang::Query;
+use query_parts::Crossed;
 use replayer::Job;
-use run_query::{Crossed, answer_with};
+use run_query::{QueryAnswer, answer_with};
 use sink_collect::{Report, gather};
 use std::alloc::Global;
+use std::sync::Wait;
 use std::thread::Threads;
 
-/// The same as [`run_query::query`], on this thread alone: the nodes' cores have their events in turn, again and again.
+/// The report of a query over a run that is cut into epochs, what crosses each inner cut, and how many events of its nodes
+/// move, or 2^64 - 1 where they are more, as [`run_query::query`] gives them by the line of nodes: the workers analyse the
+/// epochs, and then one gives the nodes their turns. Each epoch enters the gate as its analysis begins. It gives up with
+/// NoMemory alone.
+///
+/// `workers` is 1 to 64. Each link holds at most `capacity` messages.
+pub fn query<G: Gate, R: Threads + Wait + Sync>(
+    rt: &R,
+    alloc: Global,
+    gate: &G,
+    job: &Job,
+    query: &Query,
+    cuts: Cuts,
+    workers: u32,
+    capacity: Capacity,
+) -> Result<(Report, Vec<Crossed>, u64), NoMemory>
+    requires cuts { IsCutting (steps job.now.log) cuts }
+    requires workers { (1 ≤ workers) × (workers ≤ 64) }
+    ensures report { IfOk result (λ r. r.0 ≡ rows query.now (trace_of job.now)) }
+    ensures crossed { IfOk result (λ r. r.1.items ≡ crossed query.now (trace_of job.now) cuts) }
+    ensures events { IfOk result (λ r. r.2 ≡ capped (run_work query.now (trace_of job.now) cuts)) }
+{
+    let line = ClosureEngine {
+        gate,
+        work: |checkpoints: &Checkpoints<
+            '_,
+        >, query: &Query, cuts: Cuts, parallelism: Parallelism| -> Result<Collected, NoMemory>
+            requires { AreAtBeginnings cuts checkpoints.now }
+            ensures { IfOk result (IsCollectedOf query.entry.now checkpoints.entry.now.job cuts) }
+        { work(rt, alloc, gate, checkpoints, query, cuts, parallelism) },
+    };
+    let link = capacity;
+    let parallelism = Parallelism { workers, link };
+    let QueryAnswer {
+        report,
+        crossed,
+        events,
+    } = run_query::query(&line, alloc, job, query, cuts, parallelism)?;
+    Ok((report, crossed, events))
+}
+
+/// The same as [`query`], on this thread alone: the nodes' cores have their events in turn, again and again.
 /// It never waits, and returns whatever growths are refused. It gives up with NoMemory alone.
 ///
 /// Each link holds at most `capacity` messages.
@@ -46,8 +92,13 @@ pub fn round_robin<G: Gate>(
     // The contract of this says that the epochs are few.
     let _count = cuts.count();
     let checkpoints = Checkpoints::take(alloc, job, &cuts)?;
-    let collected = epoch_rounds::round_robin(alloc, gate, &checkpoints, query, cuts, capacity)?;
-    answer_with(alloc, job, query, collected)
+    let collected = crate::rounds::round_robin(alloc, gate, &checkpoints, query, cuts, capacity)?;
+    let QueryAnswer {
+        report,
+        crossed,
+        events,
+    } = answer_with(alloc, job, query, collected)?;
+    Ok((report, crossed, events))
 }
 
 /// The report of a query over a run that is cut into epochs, analysed at once and joined by lists. It gives up with

@@ -4,8 +4,8 @@ ghost use Rattle.std.specs.Prelude.{◌≤◌};
 ghost use Rattle.log_model.specs.Logs.{steps};
 ghost use Rattle.epoch_model.specs.Cutting.{IsCutting};
 
+mod checked;
 mod gates;
-mod prepared;
 
 use crate::guests::{ROUND, copy_four, copy_in_two, copy_many, count_down, fill, trap};
 use checkpoints::Checkpoints;

@@ -73,33 +73,21 @@ loop-node-preserved g c =
       events = capped_more c.loop-node.gathering.events n.core.events (sum_by (λ (d : DoneNode). d.events) (nodes i.done)) _ _ _ i.events refl taken.events (sum_by-cons (λ (d : DoneNode). d.events) (node_of f) (nodes i.done));
     }
 
-pub returns-clause-rows : goal.returns-clause-rows
-returns-clause-rows g c = λ run r.
+pub returns : goal.returns
+returns g c = λ run r.
     let i = c.loop-node.invariant in
     let all = all_done c.args.nodes.items c.loop-node.nodes.items (views i.done) i.split (omega (arith, c.in_default.ensures.cases.0, c.loop-node.nodes.ok)) in
     let line = subst (IsLine run _ (epochs_of run)) all (run_line run c.args.nodes.items r) in
     let come = done_lines_come run (nodes i.done) r.laid.cutting r.laid.located (done_line run true (epochs_of run) i.done line i.closed) in
-    c.in_ok-sets.ensures
-    ∙ ap (λ (rs : List (List Row)). flat_map (λ rows. rows) (reverse rs)) i.sets
-    ∙ ap (λ (rs : List (List Row)). flat_map (λ rows. rows) rs) (reverse-reverse (map (λ (d : DoneNode). d.rows) (nodes i.done)))
-    ∙ flat_mapped (nodes i.done)
-    ∙ come.rows
-
-pub returns-clause-crossed : goal.returns-clause-crossed
-returns-clause-crossed g c = λ run r.
-    let i = c.loop-node.invariant in
-    let all = all_done c.args.nodes.items c.loop-node.nodes.items (views i.done) i.split (omega (arith, c.in_default.ensures.cases.0, c.loop-node.nodes.ok)) in
-    let line = subst (IsLine run _ (epochs_of run)) all (run_line run c.args.nodes.items r) in
-    let come = done_lines_come run (nodes i.done) r.laid.cutting r.laid.located (done_line run true (epochs_of run) i.done line i.closed) in
-    c.back_to_front-crossed.ensures
-    ∙ ap (λ (ls : List (List Loc)). drop 1 (reverse ls)) i.asked
-    ∙ ap (λ (ls : List (List Loc)). drop 1 ls) (reverse-reverse (map (λ (d : DoneNode). d.asked) (nodes i.done)))
-    ∙ come.crossed_are
-
-pub returns-clause-events : goal.returns-clause-events
-returns-clause-events g c = λ run r.
-    let i = c.loop-node.invariant in
-    let all = all_done c.args.nodes.items c.loop-node.nodes.items (views i.done) i.split (omega (arith, c.in_default.ensures.cases.0, c.loop-node.nodes.ok)) in
-    let line = subst (IsLine run _ (epochs_of run)) all (run_line run c.args.nodes.items r) in
-    let come = done_lines_come run (nodes i.done) r.laid.cutting r.laid.located (done_line run true (epochs_of run) i.done line i.closed) in
-    i.events ∙ come.events
+    record {
+      rows = c.in_ok-sets.ensures
+          ∙ ap (λ (rs : List (List Row)). flat_map (λ rows. rows) (reverse rs)) i.sets
+          ∙ ap (λ (rs : List (List Row)). flat_map (λ rows. rows) rs) (reverse-reverse (map (λ (d : DoneNode). d.rows) (nodes i.done)))
+          ∙ flat_mapped (nodes i.done)
+          ∙ come.rows;
+      crossed = c.back_to_front-crossed.ensures
+          ∙ ap (λ (ls : List (List Loc)). drop 1 (reverse ls)) i.asked
+          ∙ ap (λ (ls : List (List Loc)). drop 1 ls) (reverse-reverse (map (λ (d : DoneNode). d.asked) (nodes i.done)))
+          ∙ come.crossed_are;
+      events = i.events ∙ come.events;
+    }

@@ -16,7 +16,7 @@ pub unreachable-requires : goal.unreachable-requires
 unreachable-requires g c =
     let n = ap length c.in_ok-tickets.ensures ∙ length-numbered 0 0 c.args.cuts in
     let none = ap length c.in_default.ensures.items in
-    omega (arith, n, some_epoch _ c.args.cuts c.requires.cuts, c.in_default.ensures.cases)
+    omega (arith, n, some_epoch _ c.args.cuts c.requires.cutting, c.in_default.ensures.cases)
 
 pub make_node-requires-clause-starts : goal.make_node-requires-clause-starts
 make_node-requires-clause-starts g c =
@@ -25,7 +25,7 @@ make_node-requires-clause-starts g c =
     let e = c.in-Some-ticket.ticket in
     let split = ap (λ (es : List NumberedEpoch). i.done ++ (es ++ c.in-Some.last ∷ [])) (sym c.in-Some-ticket.ensures.steps.0) ∙ i.split in
     can_start c.args.checkpoints.now (beginnings c.args.cuts) e c.requires.times
-    (at_place (CanStart (points_of run)) i.done e _ (subst (AllByRecursion (CanStart (points_of run))) (sym split) (all_can_start run c.requires.cuts)))
+    (at_place (CanStart (points_of run)) i.done e _ (subst (AllByRecursion (CanStart (points_of run))) (sym split) (all_can_start run c.requires.cutting)))
 
 pub make_node-requires-2-clause-starts : goal.make_node-requires-2-clause-starts
 make_node-requires-2-clause-starts g c =
@@ -35,7 +35,7 @@ make_node-requires-2-clause-starts g c =
     let none : length (into_iter_items c.loop-ticket.ticket-iterator) ≡ 0 = omega (arith, c.in-None.ensures.steps.0, c.loop-ticket.ticket-iterator.rest.ok) in
     let split = ap (λ (es : List NumberedEpoch). i.done ++ (es ++ e ∷ [])) (sym (no_items (into_iter_items c.loop-ticket.ticket-iterator) none)) ∙ i.split in
     can_start c.args.checkpoints.now (beginnings c.args.cuts) e c.requires.times
-    (at_place (CanStart (points_of run)) i.done e [] (subst (AllByRecursion (CanStart (points_of run))) (sym split) (all_can_start run c.requires.cuts)))
+    (at_place (CanStart (points_of run)) i.done e [] (subst (AllByRecursion (CanStart (points_of run))) (sym split) (all_can_start run c.requires.cutting)))
 
 pub loop-ticket-preserved : goal.loop-ticket-preserved
 loop-ticket-preserved g c =
@@ -65,7 +65,7 @@ returns g c =
     let split = ap (λ (es : List NumberedEpoch). i.done ++ (es ++ e ∷ [])) (sym (no_items (into_iter_items c.loop-ticket.ticket-iterator) none)) ∙ i.split in
     let node = c.in_ok-make_node-2.ensures ∙ new_between c.args.capacity run c.args.checkpoints.now e c.loop-ticket.before None (last_of None i.links) None refl c.requires.times i.before_is refl in
     record {
-      cutting = c.requires.cuts;
+      cutting = c.requires.cutting;
       located = c.points-points.ensures.located;
       links = i.links;
       count = omega (arith, i.count, length-append i.done (e ∷ []), ap length split);

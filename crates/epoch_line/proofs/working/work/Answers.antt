@@ -15,17 +15,7 @@ work_in_groups-requires-clause-count g c κs within =
 pub work_in_groups-requires-clause-one_job : goal.work_in_groups-requires-clause-one_job
 work_in_groups-requires-clause-one_job g c κs within = layout_job _ _ _ c.in_ok-nodes.ensures
 
-pub returns-clause-rows : goal.returns-clause-rows
-returns-clause-rows g c =
+pub returns : goal.returns
+returns g c =
     let run : CutRun = record { job = c.args.checkpoints.now.job; query = c.args.query.now; cuts = c.args.cuts } in
-    c.collect.ensures.rows run (run_of c.args.capacity run _ _ c.in_ok-nodes.ensures c.in_ok-done.ensures.led)
-
-pub returns-clause-crossed : goal.returns-clause-crossed
-returns-clause-crossed g c =
-    let run : CutRun = record { job = c.args.checkpoints.now.job; query = c.args.query.now; cuts = c.args.cuts } in
-    c.collect.ensures.crossed run (run_of c.args.capacity run _ _ c.in_ok-nodes.ensures c.in_ok-done.ensures.led)
-
-pub returns-clause-events : goal.returns-clause-events
-returns-clause-events g c =
-    let run : CutRun = record { job = c.args.checkpoints.now.job; query = c.args.query.now; cuts = c.args.cuts } in
-    c.collect.ensures.events run (run_of c.args.capacity run _ _ c.in_ok-nodes.ensures c.in_ok-done.ensures.led)
+    c.collect.ensures run (run_of c.args.parallelism.link run _ _ c.in_ok-nodes.ensures c.in_ok-done.ensures.led)

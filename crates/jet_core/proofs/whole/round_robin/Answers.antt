@@ -1,31 +1,28 @@
-use Rattle.std.proofs.Common.{◌≡◌, ap, arith}
+use Rattle.std.proofs.Common.{◌∙◌, ap, arith}
 use Rattle.query_parts.specs.Crossings.{numbered}
-use Rattle.run_query.proofs.Collected.{cutting_of_job, rows_of_job, few_asked, asked_of_job, events_of_job}
+use Rattle.run_query.proofs.Collected.{at_beginnings, collected_of_job, few_asked}
 use Rattle.jet_core.proofs.whole.round_robin.Goals as goal
 
-pub round_robin-requires-clause-times : goal.round_robin-requires-clause-times
-round_robin-requires-clause-times g c κs within = ap (λ p. p.times) c.in_ok-checkpoints.ensures
-
-pub round_robin-requires-clause-cuts : goal.round_robin-requires-clause-cuts
-round_robin-requires-clause-cuts g c κs within =
-    cutting_of_job c.args.job.now c.args.query.now c.args.cuts c.in_ok-checkpoints.checkpoints c.in_ok-checkpoints.ensures c.requires.cuts
+pub round_robin-requires-after_bounds : goal.round_robin-requires-after_bounds
+round_robin-requires-after_bounds g c κs within =
+    at_beginnings c.args.job.now c.args.query.now c.args.cuts c.in_ok-checkpoints.checkpoints c.in_ok-checkpoints.ensures c.requires.cuts
 
 pub answer_with-requires-clause-rows : goal.answer_with-requires-clause-rows
 answer_with-requires-clause-rows g c =
-    rows_of_job c.args.job.now c.args.query.now c.args.cuts c.in_ok-checkpoints.checkpoints c.in_ok-checkpoints.ensures
-    c.in_ok-collected.collected.sets c.in_ok-collected.ensures.rows
+    let is = collected_of_job c.args.job.now c.args.query.now c.args.cuts c.in_ok-checkpoints.checkpoints c.in_ok-checkpoints.ensures c.in_ok-collected.collected c.in_ok-collected.ensures in
+    is.rows
 
 pub answer_with-requires-clause-few : goal.answer_with-requires-clause-few
 answer_with-requires-clause-few g c =
-    few_asked c.args.job.now c.args.query.now c.args.cuts c.in_ok-checkpoints.checkpoints c.in_ok-checkpoints.ensures
-    c.in_ok-collected.collected.crossed.items c.in_ok-collected.ensures.crossed (omega (arith, c.count-count.ensures.is, c.count-count.ensures.in_range))
+    let is = collected_of_job c.args.job.now c.args.query.now c.args.cuts c.in_ok-checkpoints.checkpoints c.in_ok-checkpoints.ensures c.in_ok-collected.collected c.in_ok-collected.ensures in
+    few_asked c.args.job.now c.args.query.now c.args.cuts c.in_ok-collected.collected is (omega (arith, c.count-count.ensures.is, c.count-count.ensures.in_range))
 
 pub returns-clause-crossed : goal.returns-clause-crossed
 returns-clause-crossed g c =
-    asked_of_job c.args.job.now c.args.query.now c.args.cuts c.in_ok-checkpoints.checkpoints c.in_ok-checkpoints.ensures
-    c.answer_with.result (λ r ls. r.1.items ≡ numbered 1 ls) c.in_ok-collected.collected.crossed.items c.in_ok-collected.ensures.crossed c.answer_with.ensures.crossed
+    let is = collected_of_job c.args.job.now c.args.query.now c.args.cuts c.in_ok-checkpoints.checkpoints c.in_ok-checkpoints.ensures c.in_ok-collected.collected c.in_ok-collected.ensures in
+    c.in_ok-report.ensures.crossed ∙ ap (numbered 1) is.crossed
 
 pub returns-clause-events : goal.returns-clause-events
 returns-clause-events g c =
-    events_of_job c.args.job.now c.args.query.now c.args.cuts c.in_ok-checkpoints.checkpoints c.in_ok-checkpoints.ensures
-    c.answer_with.result (λ r n. r.2 ≡ n) c.in_ok-collected.collected.events c.in_ok-collected.ensures.events c.answer_with.ensures.events
+    let is = collected_of_job c.args.job.now c.args.query.now c.args.cuts c.in_ok-checkpoints.checkpoints c.in_ok-checkpoints.ensures c.in_ok-collected.collected c.in_ok-collected.ensures in
+    c.in_ok-report.ensures.events ∙ is.events
