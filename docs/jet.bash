@@ -17,7 +17,12 @@ _jet() {
     esac
     case $word in
     -*) mapfile -t COMPREPLY < <(compgen -W "$options" -- "$word") ;;
-    *) [ "${COMP_WORDS[1]}" = bench ] || mapfile -t COMPREPLY < <(compgen -f -- "$word") ;;
+    *)
+        case ${COMP_WORDS[1]}:$COMP_CWORD in
+        bench:* | stack:[4-9] | stack:[1-9][0-9]*) return ;; # a number
+        esac
+        mapfile -t COMPREPLY < <(compgen -f -- "$word")
+        ;;
     esac
 }
 complete -o filenames -F _jet jet

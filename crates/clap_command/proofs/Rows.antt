@@ -2,25 +2,26 @@
 -- lists are no longer than they may be.
 -- Crates above cite these lemmas.
 use Rattle.std.proofs.Common.{◌≡◌, ◌∙◌, ◌≤◌, ap, sym, subst, refl, true, false, Bool, not, ◌&&◌, ◌||◌, ℕ, length, List, [], ◌∷◌, ◌++◌, Option, Some, None, filter, option_map, option_and_then, unwrap_or, IfSome, if◌then◌else◌, nat_le, slice_get, arith}
-use Rattle.std.specs.List.{list_all, list_any, find, fold}
+use Rattle.std.specs.List.{All, list_all, list_any, find, fold}
 use Rattle.std.specs.Option.{option_map_or}
 use Rattle.std.specs.Str.{bytes_eq}
 use Rattle.std.proofs.lemmas.Bool.Decides.{nat_tests}
 use Rattle.std.proofs.lemmas.Slice.Eq.{bytes_eq-Decides}
 use Rattle.std.proofs.lemmas.Bool.{and_parts, not-true}
+use Rattle.std.proofs.lemmas.List.Elements.{All-nil, All-cons, All-weaker, All-map}
 use Rattle.clap.specs.Words.{IsUnsignedIn, Row, Text, one_of, read_as}
 use Rattle.clap.specs.Facts.{explicit_source, parser_of_value, unwrap_or_range}
 use Rattle.clap.specs.Values.{reading_of}
 use Rattle.clap.specs.ValueTests.{accepts}
 use Rattle.clap.specs.Walk.{Rule, default_rows, has_row, more_values, most_values, nothing_held, reading_by, row_text, rows_after, settled, walk, walk_from, with_default}
 use Rattle.clap.specs.Simple.{Shape}
-use Rattle.clap.specs.Takes.{default_passes, is_given, is_valid, level_passes, settle_passes, walk_passes}
+use Rattle.clap.specs.Takes.{default_passes, is_given, is_valid, level_passes, settle_passes, values_pass, walk_passes}
 use Rattle.clap.specs.declared.builder.value_parser.Reading.{Reading}
 use Rattle.clap.specs.declared.builder.value_parser.Reading.TheVariants.{AsWritten, WithoutMinus, Boolish, Falsey}
 use Rattle.clap.specs.declared.builder.value_parser.ValueParser.TheVariants.{Unsigned}
 use Rattle.clap.specs.declared.parser.matches.ValueSource.TheVariants.{DefaultValue}
 use Rattle.clap.proofs.ValueTestLemmas.{accepts-Accepts}
-use Rattle.clap_command.specs.Values.{numeral_of, number_in, number_of, optional_number_of, values_of}
+use Rattle.clap_command.specs.Values.{numeral_of, number_in, number_of, numbers_of, optional_number_of, values_of}
 use Rattle.clap_command.specs.Plain.{is_plain_subcommand, no_values}
 use Rattle.clap_command.proofs.Bools.{left_true, or_false, right_true}
 use Rattle.clap_command.proofs.Fit.{at_new_row, fits, reads_as_written, row_fits, rows_fit, text_is_itself}
@@ -159,6 +160,21 @@ number_if_there c id least most rows of all =
     of_found c id (λ values how. IfSome (first_text values how) (IsUnsignedIn least most)) (λ o. IfSome (option_and_then row_text o) (IsUnsignedIn least most))
     of (λ r q. q) rows (λ none. tt) all
 
+-- values of a number in a range, each of which passes
+numerals : (a : Rule) (least most : ℕ) (values : List Text) → a.parser ≡ Some (Unsigned least most) → values_pass a values ≡ true
+    → All (IsUnsignedIn least most) values
+numerals a least most [] parser e = All-nil (IsUnsignedIn least most)
+numerals a least most (v ∷ vs) parser e =
+    let p = and_parts _ _ e in
+    let taken : accepts a.ignore_case (Unsigned least most) v ≡ true = ap (λ r. accepts a.ignore_case (parser_of_value r) v) (sym parser) ∙ p.0 in
+    All-cons (IsUnsignedIn least most) v vs (accepts-Accepts a.ignore_case (Unsigned least most) v taken) (numerals a least most vs parser p.1)
+
+numbers_there : (c : List Rule) (id : Text) (least most : ℕ) (rows : List Row) → IsOf c id (λ values how. All (IsUnsignedIn least most) values)
+    → list_all (row_fits c) rows ≡ true → All (IsUnsignedIn least most) (values_of id rows)
+numbers_there c id least most rows of all =
+    of_found c id (λ values how. All (IsUnsignedIn least most) values) (λ o. All (IsUnsignedIn least most) (unwrap_or (option_map (λ r. r.values) o) []))
+    of (λ r q. q) rows (λ none. All-nil (IsUnsignedIn least most)) all
+
 few_values : (c : List Rule) (id : Text) (most : ℕ) (rows : List Row) → IsOf c id (λ values how. length values ≤ most)
     → list_all (row_fits c) rows ≡ true → length (values_of id rows) ≤ most
 few_values c id most rows of all =
@@ -259,6 +275,15 @@ option_read : (top least most : ℕ) (numeral : Option Text) → most ≤ top �
 option_read top least most None few is = (tt, tt)
 option_read top least most (Some t) few is = ((is.0, is.1, omega arith, omega (arith, few, is.3)), (is.2, is.3))
 
+-- the same of a list of numbers
+pub record AreNumbersIn (top least most : ℕ) (id : Text) (rows : List Row) : Type 0 where
+  pub can_be_read : All (IsUnsignedIn 0 top) (values_of id rows)
+  pub in_range : All (λ n. (least ≤ n) × (n ≤ most)) (numbers_of id rows)
+
+fits_numerals : (a : Rule) (values : List Text) (how : Reading) (least most : ℕ) → a.parser ≡ Some (Unsigned least most) → fits a values how ≡ true
+    → All (IsUnsignedIn least most) values
+fits_numerals a values how least most parser e = numerals a least most values parser (and_parts _ _ (and_parts _ _ (and_parts _ _ e).0).1).1
+
 -- of a subcommand that takes the words
 module _ (s : Shape) (words : List Text) (plain : is_plain_subcommand s ≡ true) (passes : level_passes s [] nothing_held words false ≡ true) where
   abbrev rows : List Row
@@ -307,3 +332,16 @@ module _ (s : Shape) (words : List Text) (plain : is_plain_subcommand s ≡ true
   list-filled id a least only required is =
       enough_values s.rules id least rows (λ values how fit. fits_least a values how least is (has_only (λ x. fits x values how) s.rules id a only fit))
       (has_required id a only required) all_fit
+
+  -- a list of numbers
+  pub numbers-in_range : (id : Text) (a : Rule) (top least most : ℕ) → Only s.rules id a → a.parser ≡ Some (Unsigned least most) → nat_le most top ≡ true
+      → AreNumbersIn top least most id rows
+  numbers-in_range id a top least most only parser small =
+      let few : most ≤ top = below most top small in
+      let each = numbers_there s.rules id least most rows
+      (λ values how fit. fits_numerals a values how least most parser (has_only (λ x. fits x values how) s.rules id a only fit)) all_fit in
+      record {
+        can_be_read = All-weaker (IsUnsignedIn least most) (IsUnsignedIn 0 top) (λ v is. (is.0, is.1, omega arith, omega (arith, few, is.3))) (values_of id rows) each;
+        in_range = All-map (λ n. (least ≤ n) × (n ≤ most)) number_in (values_of id rows)
+            (All-weaker (IsUnsignedIn least most) (λ v. (least ≤ number_in v) × (number_in v ≤ most)) (λ v is. (is.2, is.3)) (values_of id rows) each);
+      }

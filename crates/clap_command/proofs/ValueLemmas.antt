@@ -1,5 +1,7 @@
 -- The values of an argument, as `clap` gives them.
-use Rattle.std.proofs.Common.{◌≡◌, ◌<◌, ◌^◌, ap, sym, refl, arith, ℕ, [], Option, Some, None, Result, Ok, Err, unwrap_or, option_map, IfSome}
+use Rattle.std.proofs.Common.{◌≡◌, ◌<◌, ◌^◌, ap, sym, refl, arith, ℕ, List, [], ◌∷◌, map, Option, Some, None, Result, Ok, Err, unwrap_or, option_map, IfSome}
+use Rattle.std.specs.List.{All}
+use Rattle.std.proofs.lemmas.List.Elements.{All-nil, All-cons, All-head, All-tail}
 use Rattle.std.specs.Str.Parse.{ParsesUnsigned, digits_value, without_leading_plus}
 use Rattle.clap.specs.Words.{IsUnsignedIn, ReadsOne, Text, first_value, rows_of}
 use Rattle.clap.specs.declared.parser.matches.Found.{Found}
@@ -31,3 +33,8 @@ optional_number_read bits most small E G None read is none reads parses = none r
 optional_number_read bits most small E G (Some t) (Some n) is none reads parses = ap Some (parses t (Ok n) (reads t refl)).1
 optional_number_read bits most small E G (Some t) None is none reads parses =
     let failed = reads t refl in absurd (parses t (Err failed.0) failed.1 (is.0, omega (arith, small, is.3)))
+
+-- what holds of the values holds of the elements that have them
+pub All-from_map : {X Y : Type 0} (P : X → Type 0) (f : Y → X) (ys : List Y) → All P (map f ys) → All (λ y. P (f y)) ys
+All-from_map P f [] h = All-nil (λ y. P (f y))
+All-from_map P f (y ∷ ys) h = All-cons (λ y. P (f y)) y ys (All-head P (f y) (map f ys) h) (All-from_map P f ys (All-tail P (f y) (map f ys) h))

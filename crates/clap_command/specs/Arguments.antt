@@ -24,6 +24,10 @@ required_list id most = record (new_rule id) {
   range = Some (record { start_inclusive = 1; end_inclusive = most });
 }
 
+-- numbers in a range one after another, at least one and up to `most`
+abbrev pub required_numbers : Text → ℕ → ℕ → ℕ → Rule
+required_numbers id most least greatest = record (required_list id most) { parser = Some (Unsigned least greatest) }
+
 -- a number in a range, by the option's long name, where it is given
 abbrev pub optional_number : Text → ℕ → ℕ → Rule
 optional_number name least most = record (new_rule name) {

@@ -1,5 +1,5 @@
 -- The values of a subcommand's arguments, by the rows that `clap` gives of words.
-use Rattle.std.specs.Prelude.{ℕ, List, [], Option, option_map, unwrap_or}
+use Rattle.std.specs.Prelude.{ℕ, List, [], map, Option, option_map, unwrap_or}
 use Rattle.std.specs.Str.Parse.{digits_value, without_leading_plus}
 use Rattle.clap.specs.Words.{Row, Text, all_of, first_of, one_of}
 
@@ -25,3 +25,7 @@ number_of id rows = number_in (numeral_of id rows)
 -- the number of an option, where it was given
 abbrev pub optional_number_of : Text → List Row → Option ℕ
 optional_number_of id rows = option_map number_in (one_of id rows)
+
+-- the numbers of an argument that is a list of them, in their order
+abbrev pub numbers_of : Text → List Row → List ℕ
+numbers_of id rows = map number_in (values_of id rows)

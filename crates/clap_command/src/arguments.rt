@@ -4,6 +4,7 @@ ghost use Rattle.clap.specs.Words.{app_of, rule_of, with_rule, with_subcommand};
 ghost use Rattle.clap.specs.declared.builder.Command.TheViews.{out-Command as fields_of};
 ghost use Rattle.clap_command.specs.Arguments.{positional as positional_rule, number as number_rule};
 ghost use Rattle.clap_command.specs.Arguments.{list as list_rule, required_list as required_list_rule};
+ghost use Rattle.clap_command.specs.Arguments.{required_numbers as required_numbers_rule};
 ghost use Rattle.clap_command.specs.Arguments.{optional_number as optional_number_rule};
 ghost use Rattle.clap_command.specs.Arguments.{number_option as number_option_rule};
 
@@ -45,6 +46,21 @@ pub fn required_list<'a>(alloc: Global, id: &'a str, most: usize) -> Arg<'a>
         .required(true)
         .num_args(1..=most)
         .action(ArgAction::Set)
+}
+
+/// Numbers from `least` to `greatest` one after another, 1 to `most`: one of them has to be there.
+pub fn required_numbers<'a>(
+    alloc: Global,
+    id: &'a str,
+    most: usize,
+    least: u64,
+    greatest: u64,
+) -> Arg<'a>
+    requires { 1 ≤ most }
+    ensures rule { rule_of result ≡ required_numbers_rule id.entry.now most least greatest }
+    ensures local { result.global ≡ false }
+{
+    required_list(alloc, id, most).value_parser(ValueParser::unsigned(least, greatest))
 }
 
 /// An option, by its long name, for a number from `least` to `most`.

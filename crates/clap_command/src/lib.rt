@@ -1,5 +1,5 @@
-//! Command lines of one command with subcommands, read with `clap`: their arguments are words, lists of words and
-//! numbers in a range.
+//! Command lines of one command with subcommands, read with `clap`: their arguments are words, numbers in a range, and
+//! lists of either.
 //!
 //! The arguments are definitions, of specs/Arguments.antt, and so are their values, of specs/Values.antt. A crate above
 //! names its command line by them, and shows by `is_plain_command` of specs/Plain.antt that it is one of these.
@@ -14,9 +14,11 @@ mod parsing;
 mod values;
 
 pub use arguments::{
-    list, number, number_option, optional_number, positional, required_list, with_argument,
-    with_command,
+    list, number, number_option, optional_number, positional, required_list, required_numbers,
+    with_argument, with_command,
 };
 pub use fault::{Usage, WordsFault};
 pub use parsing::parse;
-pub use values::{read_long_number, read_number, read_optional_number, read_value, read_values};
+pub use values::{
+    read_long_number, read_long_numbers, read_number, read_optional_number, read_value, read_values,
+};

@@ -1,7 +1,7 @@
 -- What each status of the program says. `command` is what the words stand for, and `change` is what the store, the output and the
 -- clock show before the call and after it.
 use Rattle.std.specs.Prelude.{◌≡◌, ◌⊎◌, ◌≤◌, ◌^◌, ℕ, List, length, not, Option, Some, None, IsSome, Result}
-use Rattle.jet_words.specs.Commands.{CommandOf, AnalysisOf, ProductOf, DecisionsOf, PageOf, RecordOf, ConvertOf, QueriesOf, BenchOf}
+use Rattle.jet_words.specs.Commands.{CommandOf, AnalysisOf, ProductOf, StacksOf, DecisionsOf, PageOf, RecordOf, ConvertOf, QueriesOf, BenchOf}
 use Rattle.log_model.specs.declared.Version.TheVariants.{Two}
 use Rattle.log_model.specs.Logs.{log_text}
 use Rattle.jet_refusal.specs.declared.refusal.Refusal.{Refusal}
@@ -11,7 +11,7 @@ use Rattle.jet_model.specs.Contents.{Contents}
 use Rattle.jet_model.specs.Headline.{IsGivenByQuery, AreReportsOf, IsGivenBy, IsConversionOf, IsRecordingOf, IsShort, AreShort, AreAllShort, HasFewEpochs, HasFewIfTold}
 use Rattle.page_data.specs.Page.{page_report}
 use Rattle.order_gateway.specs.Answer.{IsBenchOf}
-use Rattle.jet_work.specs.Answers.{IsAnswer, OfClockAnswers, given_by, decisions_by, made_by, named, limits_of, workload_length}
+use Rattle.jet_work.specs.Answers.{IsAnswer, OfClockAnswers, given_by, decisions_by, made_by, stacks_by, named, limits_of, workload_length}
 use Rattle.jet_work.specs.Targets.{Unless, plan_of}
 use Rattle.outer_io.specs.Outside.{Change, IfTold, IsFaultless, IsUndisturbed}
 use Rattle.jet_work.specs.Ending.{WritesWhole, WritesPart, IsUnasked, causes_of, status_after}
@@ -23,12 +23,13 @@ IsStatus status = (status ≡ 0) ⊎ ((2 ≤ status) × (status ≤ 11))
 -- ---- 0: nothing failed, and the text that the words want was written whole
 
 -- the text is what a query gives of a run, as its report, its decisions, or its page; what is made of a run, as its
--- numbers; the log of a run, by the clock's answers; a log in version 2; the reports of several queries; or the numbers
+-- numbers, or its stacks; the log of a run, by the clock's answers; a log in version 2; the reports of several queries; or the numbers
 -- of the workload's run
 abbrev pub IsWanted : CommandOf → Change → Contents → List ℕ → Type 0
 IsWanted (AnalysisOf listing program log query pipeline) change file text =
     IsGivenByQuery (given_by listing) file (named program log query) text
 IsWanted (ProductOf product program log) change file text = IsGivenBy file program log (made_by product) text
+IsWanted (StacksOf program log times) change file text = IsGivenBy file program log (stacks_by times) text
 IsWanted (DecisionsOf program log query) change file text = IsGivenByQuery decisions_by file (named program log query) text
 IsWanted (PageOf program log query page pipeline) change file text =
     IsGivenByQuery page_report file (named program log query) text
@@ -77,6 +78,7 @@ abbrev pub AreWithinLimits : (command : CommandOf) (change : Change) (file : Con
 AreWithinLimits (AnalysisOf listing program log query pipeline) change file text is =
     AreShort file (named program log query) × HasFewIfTold pipeline.epoch is.log
 AreWithinLimits (ProductOf product program log) change file text is = IsShort (file program) × IsShort (file log)
+AreWithinLimits (StacksOf program log times) change file text is = IsShort (file program) × IsShort (file log)
 AreWithinLimits (DecisionsOf program log query) change file text is = AreShort file (named program log query)
 AreWithinLimits (PageOf program log query page pipeline) change file text is =
     AreShort file (named program log query) × HasFewIfTold pipeline.epoch is.log

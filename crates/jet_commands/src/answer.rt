@@ -16,7 +16,7 @@ use epoch_engine::Engine;
 use jet_files::{open_queries, open_query, open_run};
 use jet_refusal::Refusal;
 use jet_words::{Command, Pipeline};
-use jet_work::{Answer, Format, Limits, convert, decisions, record, run_product};
+use jet_work::{Answer, Format, Limits, Making, convert, decisions, record, run_product};
 use outer_io::{Clock, Store};
 
 /// What is told of the rows of a query.
@@ -114,7 +114,18 @@ pub fn answer<E: Engine, S: Store, K: Clock>(
             product,
             program,
             log,
-        } => as_answer(run_product(alloc, store, program, log, *product)),
+        } => {
+            let making = Making::Product(*product);
+            as_answer(run_product(alloc, store, program, log, making))
+        }
+        Command::Stacks {
+            program,
+            log,
+            times,
+        } => {
+            let making = Making::Stacks(times.as_slice());
+            as_answer(run_product(alloc, store, program, log, making))
+        }
         Command::Decisions {
             program,
             log,

@@ -4,8 +4,8 @@ use Rattle.std.proofs.lemmas.Bool.{false≢true}
 use Rattle.std.specs.Str.{bytes_eq}
 use Rattle.clap.specs.Words.{Row, Text}
 use Rattle.clap_command.specs.Values.{number_of}
-use Rattle.jet_words.specs.declared.command.Product.TheVariants.{Numbers, Calls, Input, Output, Stack}
-use Rattle.jet_words.specs.Commands.{convert_of, queries_of, bench_of, decisions_of, page_of, record_of, product_by, other_by}
+use Rattle.jet_words.specs.declared.command.Product.TheVariants.{Numbers, Calls, Input, Output}
+use Rattle.jet_words.specs.Commands.{convert_of, queries_of, bench_of, stacks_of, decisions_of, page_of, record_of, product_by, other_by}
 use Rattle.jet_words.specs.Rest.{rest_by}
 
 -- nothing is owed of an error
@@ -29,28 +29,28 @@ module _ (name : Text) (rows : List Row) where
       → bytes_eq name (codes "output") ≡ true → product_by name rows ≡ Some (Output (number_of (codes "C") rows))
   product-output a b d e = rw (a, b, d, e)
 
-  pub product-stack : bytes_eq name (codes "replay") ≡ false → bytes_eq name (codes "calls") ≡ false → bytes_eq name (codes "input") ≡ false
-      → bytes_eq name (codes "output") ≡ false → bytes_eq name (codes "stack") ≡ true → product_by name rows ≡ Some (Stack (number_of (codes "T") rows))
-  product-stack a b d e f = rw (a, b, d, e, f)
-
   pub product-none : bytes_eq name (codes "replay") ≡ false → bytes_eq name (codes "calls") ≡ false → bytes_eq name (codes "input") ≡ false
-      → bytes_eq name (codes "output") ≡ false → bytes_eq name (codes "stack") ≡ false → product_by name rows ≡ None
-  product-none a b d e f = rw (a, b, d, e, f)
+      → bytes_eq name (codes "output") ≡ false → product_by name rows ≡ None
+  product-none a b d e = rw (a, b, d, e)
 
   -- the others
-  pub other-decisions : bytes_eq name (codes "decisions") ≡ true → other_by name rows ≡ Some (decisions_of rows)
-  other-decisions a = rw a
+  pub other-stack : bytes_eq name (codes "stack") ≡ true → other_by name rows ≡ Some (stacks_of rows)
+  other-stack a = rw a
 
-  pub other-page : bytes_eq name (codes "decisions") ≡ false → bytes_eq name (codes "page") ≡ true → other_by name rows ≡ Some (page_of rows)
-  other-page a b = rw (a, b)
+  pub other-decisions : bytes_eq name (codes "stack") ≡ false → bytes_eq name (codes "decisions") ≡ true → other_by name rows ≡ Some (decisions_of rows)
+  other-decisions a b = rw (a, b)
 
-  pub other-record : bytes_eq name (codes "decisions") ≡ false → bytes_eq name (codes "page") ≡ false → bytes_eq name (codes "record") ≡ true
-      → other_by name rows ≡ Some (record_of rows)
-  other-record a b d = rw (a, b, d)
+  pub other-page : bytes_eq name (codes "stack") ≡ false → bytes_eq name (codes "decisions") ≡ false → bytes_eq name (codes "page") ≡ true
+      → other_by name rows ≡ Some (page_of rows)
+  other-page a b d = rw (a, b, d)
 
-  pub other-rest : bytes_eq name (codes "decisions") ≡ false → bytes_eq name (codes "page") ≡ false → bytes_eq name (codes "record") ≡ false
-      → other_by name rows ≡ rest_by name rows
-  other-rest a b d = rw (a, b, d)
+  pub other-record : bytes_eq name (codes "stack") ≡ false → bytes_eq name (codes "decisions") ≡ false → bytes_eq name (codes "page") ≡ false
+      → bytes_eq name (codes "record") ≡ true → other_by name rows ≡ Some (record_of rows)
+  other-record a b d e = rw (a, b, d, e)
+
+  pub other-rest : bytes_eq name (codes "stack") ≡ false → bytes_eq name (codes "decisions") ≡ false → bytes_eq name (codes "page") ≡ false
+      → bytes_eq name (codes "record") ≡ false → other_by name rows ≡ rest_by name rows
+  other-rest a b d e = rw (a, b, d, e)
 
   -- the last of them
   pub rest-convert : bytes_eq name (codes "convert") ≡ true → rest_by name rows ≡ Some (convert_of rows)

@@ -7,8 +7,8 @@ use Rattle.clap.specs.Walk.{walked, bundle_met}
 use Rattle.clap.specs.Takes.{walk_passes, flags_pass}
 use Rattle.jet_words.specs.declared.command.Pipeline.{Pipeline}
 use Rattle.jet_words.specs.declared.command.Listing.TheVariants.{BySink, BySource, ByPath, ByRange}
-use Rattle.jet_words.specs.declared.command.Product.TheVariants.{Numbers, Calls, Input, Output, Stack}
-use Rattle.jet_words.specs.Commands.{CommandOf, command_of, AnalysisOf, ProductOf, DecisionsOf, PageOf, RecordOf, ConvertOf, QueriesOf, BenchOf}
+use Rattle.jet_words.specs.declared.command.Product.TheVariants.{Numbers, Calls, Input, Output}
+use Rattle.jet_words.specs.Commands.{CommandOf, command_of, AnalysisOf, ProductOf, StacksOf, DecisionsOf, PageOf, RecordOf, ConvertOf, QueriesOf, BenchOf}
 
 abbrev before_word : Bool → ℕ → List Text → List Text
 before_word true c words = [] ∷ words
@@ -190,15 +190,18 @@ no_outputs = refl
 
 -- ---- stack
 
-abbrev standing : Text → ℕ → Line
-standing line time = (line, ProductOf (Stack time) (codes "p") (codes "l"))
+abbrev standing : Text → List ℕ → Line
+standing line times = (line, StacksOf (codes "p") (codes "l") times)
 
-stacks : Stands (standing (codes "jet stack p l 0") 0 ∷ standing (codes "jet stack p l 1099511627776") 1099511627776 ∷ [])
+stacks : Stands (
+    standing (codes "jet stack p l 0") (0 ∷ []) ∷ standing (codes "jet stack p l 1099511627776") (1099511627776 ∷ [])
+    ∷ standing (codes "jet stack p l 4 9 0 4") (4 ∷ 9 ∷ 0 ∷ 4 ∷ [])
+    ∷ standing (codes "jet stack p l +7 -- 007") (7 ∷ 7 ∷ []) ∷ [])
 unfolding command_of walked walk_passes
 stacks = refl
 
-no_stacks : AreRefused (codes "jet stack p l" ∷ codes "jet stack p l 1099511627777" ∷ codes "jet stack p l 1 2" ∷ codes "jet stack p l a"
-    ∷ codes "jet stack p l 1 --epoch 1" ∷ [])
+no_stacks : AreRefused (codes "jet stack p l" ∷ codes "jet stack p l 1099511627777" ∷ codes "jet stack p l 1 1099511627777" ∷ codes "jet stack p l a"
+    ∷ codes "jet stack p l 1 a" ∷ codes "jet stack p l 1 --epoch 1" ∷ [])
 unfolding command_of walked walk_passes
 no_stacks = refl
 

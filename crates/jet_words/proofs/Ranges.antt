@@ -1,12 +1,15 @@
 -- Where the words are taken, the subcommand's numbers can be read, and it stands for a command with its numbers and its
 -- list in their ranges.
-use Rattle.std.proofs.Common.{◌≡◌, refl, true, false, List, [], ◌∷◌, ◌++◌, map, codes, IsSomeAnd}
+use Rattle.std.proofs.Common.{◌≡◌, ◌≤◌, refl, sym, subst, true, false, List, [], ◌∷◌, ◌++◌, map, codes, IsSomeAnd}
+use Rattle.std.proofs.lemmas.List.{length-map}
+use Rattle.std.proofs.lemmas.List.Elements.{All-weaker}
 use Rattle.clap.specs.Walk.{nothing_held, rows_after}
 use Rattle.clap.specs.Takes.{level_passes}
 use Rattle.clap.specs.Words.{Row, Text, takes, subcommand_of}
 use Rattle.clap.specs.Simple.{App, Shape, built_leaf, filled, help_shape, inherited, marked_built, on_top, with_leaf_noted}
 use Rattle.clap_command.specs.Plain.{is_plain_subcommand}
-use Rattle.clap_command.proofs.Rows.{Only, list-filled, list-length, number-in_range, option-in_range, optional-in_range}
+use Rattle.clap_command.specs.Values.{number_in, values_of}
+use Rattle.clap_command.proofs.Rows.{Only, list-filled, list-length, number-in_range, numbers-in_range, option-in_range, optional-in_range}
 use Rattle.clap_command.proofs.Subcommands.{AtTaken, AtEach, at_subcommand, help-not_named}
 use Rattle.jet_words.specs.CommandLine.{epoch_option, workers_option, link_option, bench_app, calls_app, convert_app, decisions_app, influence_app, input_app, jet_app, others, output_app, page_app, path_app, products, queries_app, query_app, record_app, replay_app, show_app, stack_app}
 use Rattle.jet_words.specs.Commands.{IsPipeline, IsInRange, pipeline_of, command_by}
@@ -87,8 +90,16 @@ output_sound words e =
 
 stack_sound : AtTaken IsSound (leaf stack_app)
 stack_sound words e =
-    let time = number-in_range (leaf stack_app) words refl e (codes "T") _ 18446744073709551615 0 1099511627776 refl refl refl refl refl in
-    record { numbers = (never, never, never, λ here. time.can_be_read, never, never, never, never); ranges = time.at_most }
+    let times = numbers-in_range (leaf stack_app) words refl e (codes "T") _ 18446744073709551615 0 1099511627776 refl refl refl in
+    let as_many = sym (length-map (values_of (codes "T") (rows_after (leaf stack_app).rules [] words)) number_in) in
+    record {
+      numbers = (never, never, never, λ here. times.can_be_read, never, never, never, never);
+      ranges = (
+        subst (λ n. 1 ≤ n) as_many (list-filled (leaf stack_app) words refl e (codes "T") _ 1 refl refl refl),
+        subst (λ n. n ≤ 4096) as_many (list-length (leaf stack_app) words refl e (codes "T") _ 4096 refl refl),
+        All-weaker (λ t. (0 ≤ t) × (t ≤ 1099511627776)) (λ t. t ≤ 1099511627776) (λ t is. is.1) _ times.in_range,
+      );
+    }
 
 decisions_sound : AtTaken IsSound (leaf decisions_app)
 decisions_sound words e = record { numbers = (never, never, never, never, never, never, never, never); ranges = tt }
@@ -142,10 +153,10 @@ bench_sound words e =
     }
 
 others_sound : AtEach IsSound (map leaf others ++ built_leaf help_shape ∷ [])
-others_sound = (λ word named other. decisions_sound, (λ word named other. page_sound, (λ word named other. record_sound, (λ word named other. convert_sound, (λ word named other. queries_sound, (λ word named other. bench_sound, (help-not_named IsSound, tt)))))))
+others_sound = (λ word named other. stack_sound, (λ word named other. decisions_sound, (λ word named other. page_sound, (λ word named other. record_sound, (λ word named other. convert_sound, (λ word named other. queries_sound, (λ word named other. bench_sound, (help-not_named IsSound, tt))))))))
 
 products_sound : AtEach IsSound (map leaf products ++ map leaf others ++ built_leaf help_shape ∷ [])
-products_sound = (λ word named other. replay_sound, (λ word named other. calls_sound, (λ word named other. input_sound, (λ word named other. output_sound, (λ word named other. stack_sound, others_sound)))))
+products_sound = (λ word named other. replay_sound, (λ word named other. calls_sound, (λ word named other. input_sound, (λ word named other. output_sound, others_sound))))
 
 -- the subcommand that the words name, where they are taken
 pub taken_sound : (words : List Text) → takes jet_app words ≡ true → IsSomeAnd (subcommand_of jet_app words) IsSound

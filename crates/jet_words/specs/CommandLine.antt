@@ -2,7 +2,7 @@
 use Rattle.std.specs.Prelude.{codes, List, [], ◌∷◌}
 use Rattle.clap.specs.Words.{App, Rule, Text, new_app, with_rule, with_subcommand}
 use Rattle.clap.specs.Simple.{on_top}
-use Rattle.clap_command.specs.Arguments.{positional, number, list, required_list, number_option, optional_number, requires_subcommand}
+use Rattle.clap_command.specs.Arguments.{positional, number, list, required_list, required_numbers, number_option, optional_number, requires_subcommand}
 
 -- NAME PROG LOG
 abbrev pub program_and_log : Text → App
@@ -90,9 +90,9 @@ abbrev pub with_each : App → List App → App
 with_each command [] = command
 with_each command (subcommand ∷ more) = with_each (with_subcommand command subcommand.top) more
 
--- stack PROG LOG T
+-- stack PROG LOG T.., 1 to 4096 of T
 abbrev pub stack_app : App
-stack_app = with_rule (program_and_log (codes "stack")) (number (codes "T") 0 1099511627776)
+stack_app = with_rule (program_and_log (codes "stack")) (required_numbers (codes "T") 4096 0 1099511627776)
 
 -- decisions PROG LOG QUERY
 abbrev pub decisions_app : App
@@ -110,10 +110,10 @@ analyses = query_app ∷ influence_app ∷ path_app ∷ show_app ∷ []
 
 -- those that make something of a run without a query
 abbrev pub products : List App
-products = replay_app ∷ calls_app ∷ input_app ∷ output_app ∷ stack_app ∷ []
+products = replay_app ∷ calls_app ∷ input_app ∷ output_app ∷ []
 
 abbrev pub others : List App
-others = decisions_app ∷ page_app ∷ record_app ∷ convert_app ∷ queries_app ∷ bench_app ∷ []
+others = stack_app ∷ decisions_app ∷ page_app ∷ record_app ∷ convert_app ∷ queries_app ∷ bench_app ∷ []
 
 -- jet SUBCOMMAND ..
 abbrev pub jet_app : App

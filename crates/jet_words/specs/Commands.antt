@@ -1,16 +1,17 @@
 -- What the words of a command line stand for.
 use Rattle.std.specs.Prelude.{◌≤◌, ⊤, ℕ, List, map, length, Option, Some, None, IfSome, codes, option_and_then, if◌then◌else◌}
+use Rattle.std.specs.List.{All}
 use Rattle.std.specs.Str.{bytes_eq}
 use Rattle.clap.specs.Words.{Row, Text, takes, subcommand_of}
-use Rattle.clap_command.specs.Values.{value_of, values_of, number_of, optional_number_of}
+use Rattle.clap_command.specs.Values.{value_of, values_of, number_of, numbers_of, optional_number_of}
 use Rattle.jet_words.specs.CommandLine.{jet_app}
 use Rattle.jet_words.specs.declared.command.Listing.{Listing}
 use Rattle.jet_words.specs.declared.command.Listing.TheVariants.{BySink, BySource, ByPath, ByRange}
 use Rattle.jet_words.specs.declared.command.Product.{Product}
-use Rattle.jet_words.specs.declared.command.Product.TheVariants.{Numbers, Calls, Input, Output, Stack}
+use Rattle.jet_words.specs.declared.command.Product.TheVariants.{Numbers, Calls, Input, Output}
 use Rattle.jet_words.specs.declared.command.Pipeline.{Pipeline}
 use Rattle.jet_words.specs.declared.command.Command.{Command}
-use Rattle.jet_words.specs.declared.command.Command.TheVariants.{Analysis, Product as Made, Decisions, Page, Record, Convert, Queries, Bench}
+use Rattle.jet_words.specs.declared.command.Command.TheVariants.{Analysis, Product as Made, Stacks, Decisions, Page, Record, Convert, Queries, Bench}
 
 -- a command; files are told by their names
 pub data CommandOf : Type 0 where
@@ -18,6 +19,8 @@ pub data CommandOf : Type 0 where
   AnalysisOf : (listing : Listing) (program log query : Text) (pipeline : Pipeline) → CommandOf
   -- what is made of a recorded run
   ProductOf : (product : Product) (program log : Text) → CommandOf
+  -- the calls in progress at these times of a run
+  StacksOf : (program log : Text) (times : List ℕ) → CommandOf
   -- where a source byte of a query could turn a run
   DecisionsOf : (program log query : Text) → CommandOf
   -- the page of a query, written into a file
@@ -47,6 +50,9 @@ analysis_of listing rows =
 
 abbrev pub product_of : Product → List Row → CommandOf
 product_of product rows = ProductOf product (value_of (codes "PROG") rows) (value_of (codes "LOG") rows)
+
+abbrev pub stacks_of : List Row → CommandOf
+stacks_of rows = StacksOf (value_of (codes "PROG") rows) (value_of (codes "LOG") rows) (numbers_of (codes "T") rows)
 
 abbrev pub decisions_of : List Row → CommandOf
 decisions_of rows = DecisionsOf (value_of (codes "PROG") rows) (value_of (codes "LOG") rows) (value_of (codes "QUERY") rows)
@@ -83,18 +89,18 @@ product_by name rows =
     if bytes_eq name (codes "replay") then Some Numbers
     else (if bytes_eq name (codes "calls") then Some Calls
     else (if bytes_eq name (codes "input") then Some (Input (number_of (codes "C") rows))
-    else (if bytes_eq name (codes "output") then Some (Output (number_of (codes "C") rows))
-    else (if bytes_eq name (codes "stack") then Some (Stack (number_of (codes "T") rows)) else None))))
+    else (if bytes_eq name (codes "output") then Some (Output (number_of (codes "C") rows)) else None)))
 
 -- the command of any other
 abbrev pub other_by : Text → List Row → Option CommandOf
 other_by name rows =
-    if bytes_eq name (codes "decisions") then Some (decisions_of rows)
+    if bytes_eq name (codes "stack") then Some (stacks_of rows)
+    else (if bytes_eq name (codes "decisions") then Some (decisions_of rows)
     else (if bytes_eq name (codes "page") then Some (page_of rows)
     else (if bytes_eq name (codes "record") then Some (record_of rows)
     else (if bytes_eq name (codes "convert") then Some (convert_of rows)
     else (if bytes_eq name (codes "queries") then Some (queries_of rows)
-    else (if bytes_eq name (codes "bench") then Some (bench_of rows) else None)))))
+    else (if bytes_eq name (codes "bench") then Some (bench_of rows) else None))))))
 
 -- an analysis, else a product, else another command
 abbrev pub first_of : List Row → Option Listing → Option Product → Option CommandOf → Option CommandOf
@@ -115,6 +121,7 @@ command_of words = if takes jet_app words then option_and_then command_by (subco
 abbrev pub plain_command : Command → CommandOf
 plain_command (Analysis listing program log query pipeline) = AnalysisOf listing program.now log.now query.now pipeline
 plain_command (Made product program log) = ProductOf product program.now log.now
+plain_command (Stacks program log times) = StacksOf program.now log.now times.items
 plain_command (Decisions program log query) = DecisionsOf program.now log.now query.now
 plain_command (Page program log query page pipeline) = PageOf program.now log.now query.now page.now pipeline
 plain_command (Record program log inputs pages piece steps) = RecordOf program.now log.now (map (λ s. s.now) inputs.items) pages piece steps
@@ -128,18 +135,18 @@ abbrev pub IsPipeline : Pipeline → Type 0
 IsPipeline p =
     IfSome p.epoch (λ n. (1 ≤ n) × (n ≤ 1099511627776)) × (1 ≤ p.workers) × (p.workers ≤ 64) × (1 ≤ p.link) × (p.link ≤ 65536)
 
--- the channel or the time does
+-- the channel does
 abbrev pub IsProduct : Product → Type 0
 IsProduct Numbers = ⊤
 IsProduct Calls = ⊤
 IsProduct (Input channel) = channel ≤ 15
 IsProduct (Output channel) = channel ≤ 15
-IsProduct (Stack time) = time ≤ 1099511627776
 
 -- the numbers of the command do
 abbrev pub IsInRange : CommandOf → Type 0
 IsInRange (AnalysisOf listing program log query pipeline) = IsPipeline pipeline
 IsInRange (ProductOf product program log) = IsProduct product
+IsInRange (StacksOf program log times) = (1 ≤ length times) × (length times ≤ 4096) × All (λ t. t ≤ 1099511627776) times
 IsInRange (DecisionsOf program log query) = ⊤
 IsInRange (PageOf program log query page pipeline) = IsPipeline pipeline
 IsInRange (RecordOf program log inputs pages piece steps) =

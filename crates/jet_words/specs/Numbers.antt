@@ -2,7 +2,7 @@
 use Rattle.std.specs.Prelude.{◌≡◌, true, List, IsSome, codes}
 use Rattle.std.specs.Str.{bytes_eq}
 use Rattle.clap.specs.Words.{Row, Text}
-use Rattle.clap_command.specs.Numbers.{IsNumber, IsLongNumber, IsOptionalNumber}
+use Rattle.clap_command.specs.Numbers.{IsNumber, IsLongNumber, AreLongNumbers, IsOptionalNumber}
 use Rattle.jet_words.specs.Commands.{listing_by}
 
 -- the numbers of the pipeline can be read
@@ -16,7 +16,7 @@ HasNumbers (name, rows) =
     (IsSome (listing_by name) → HasPipelineNumbers rows)
     × (bytes_eq name (codes "input") ≡ true → IsNumber (codes "C") rows)
     × (bytes_eq name (codes "output") ≡ true → IsNumber (codes "C") rows)
-    × (bytes_eq name (codes "stack") ≡ true → IsLongNumber (codes "T") rows)
+    × (bytes_eq name (codes "stack") ≡ true → AreLongNumbers (codes "T") rows)
     × (bytes_eq name (codes "page") ≡ true → HasPipelineNumbers rows)
     × (bytes_eq name (codes "record") ≡ true → IsNumber (codes "pages") rows × IsNumber (codes "piece") rows × IsLongNumber (codes "steps") rows)
     × (bytes_eq name (codes "queries") ≡ true → HasPipelineNumbers rows)

@@ -35,8 +35,6 @@ pub enum Product {
     Input(u32),
     /// What it wrote on a channel, 0 to 15.
     Output(u32),
-    /// The calls in progress after so many steps, 0 to 1099511627776 (2^40).
-    Stack(u64),
 }
 
 /// What words stand for.
@@ -59,6 +57,15 @@ pub enum Command<'a> {
         product: Product,
         program: &'a str,
         log: &'a str,
+    },
+    /// The calls in progress after so many steps each.
+    Stacks {
+        /// The program's name.
+        program: &'a str,
+        /// The log's name.
+        log: &'a str,
+        /// The numbers of steps, 1 to 4096 of them, each 0 to 1099511627776 (2^40).
+        times: Vec<u64>,
     },
     /// Where a source byte of a query could turn a run: the names of the program, the log and the query.
     Decisions {

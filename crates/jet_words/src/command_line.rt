@@ -11,8 +11,8 @@ ghost use Rattle.jet_words.specs.Made.{IsMade};
 
 use clap::{Arg, Command};
 use clap_command::{
-    list, number, number_option, optional_number, positional, required_list, with_argument,
-    with_command,
+    list, number, number_option, optional_number, positional, required_list, required_numbers,
+    with_argument, with_command,
 };
 use std::alloc::{AllocError, Global};
 
@@ -67,14 +67,14 @@ fn analysis_command<'a>(alloc: Global, name: &'a str) -> Result<Command<'a>, All
     and_pipeline(alloc, command)
 }
 
-// The command for a time of a run.
+// The command for times of a run.
 fn stack_command<'a>(alloc: Global) -> Result<Command<'a>, AllocError>
     ensures app { IfOk result (λ c. app_of c ≡ stack_app) }
     ensures globals { IfOk result (λ c. (fields_of c).has_globals ≡ false) }
 {
     and_argument(
         program_and_log(alloc, "stack"),
-        number(alloc, "T", 0, 1099511627776),
+        required_numbers(alloc, "T", 4096, 0, 1099511627776),
     )
 }
 
@@ -217,8 +217,7 @@ fn with_products<'a>(
     let command = and_made(command, program_and_log(alloc, "replay"));
     let command = and_made(command, program_and_log(alloc, "calls"));
     let command = and_made(command, channel_command(alloc, "input"));
-    let command = and_made(command, channel_command(alloc, "output"));
-    and_made(command, stack_command(alloc))
+    and_made(command, channel_command(alloc, "output"))
 }
 
 // All other subcommands.
@@ -228,6 +227,7 @@ fn with_others<'a>(
 ) -> Result<Command<'a>, AllocError>
     ensures { (app : App) → IsMade command.entry app → IsMade result (with_each app others) }
 {
+    let command = and_made(command, stack_command(alloc));
     let command = and_made(command, decisions_command(alloc));
     let command = and_made(command, page_command(alloc));
     let command = and_made(command, record_command(alloc));

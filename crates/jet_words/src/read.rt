@@ -3,12 +3,12 @@ ghost use Rattle.std.specs.Prelude.{◌≡◌, map, codes, string_bytes, true, f
 ghost use Rattle.std.specs.Prelude.{OnOk, IfOk, IfSome, IfErr};
 ghost use Rattle.clap.specs.Words.{takes, subcommand_of, subcommand_rows_of, rows_of, found_of};
 ghost use Rattle.no_memory.specs.Faults.{IsCausedBy};
-ghost use Rattle.clap_command.specs.Numbers.{IsNumber, IsLongNumber};
+ghost use Rattle.clap_command.specs.Numbers.{IsNumber, IsLongNumber, AreLongNumbers};
 ghost use Rattle.jet_words.specs.CommandLine.{jet_app};
 ghost use Rattle.jet_words.specs.Commands.{command_of, command_by, plain_command, IsInRange};
 ghost use Rattle.jet_words.specs.Commands.{listing_by, product_by, other_by};
 ghost use Rattle.jet_words.specs.Commands.{pipeline_of, analysis_of, product_of as product_of_rows};
-ghost use Rattle.jet_words.specs.Commands.{decisions_of, page_of, record_of, convert_of, queries_of, bench_of};
+ghost use Rattle.jet_words.specs.Commands.{stacks_of, decisions_of, page_of, record_of, convert_of, queries_of, bench_of};
 ghost use Rattle.jet_words.specs.Numbers.{HasPipelineNumbers, HasNumbers};
 ghost use Rattle.jet_words.specs.Rest.{rest_by};
 
@@ -16,7 +16,8 @@ use crate::command::{Command, Listing, Pipeline, Product};
 use crate::command_line::command_line;
 use clap::ArgMatches;
 use clap_command::{
-    WordsFault, parse, read_long_number, read_number, read_optional_number, read_value, read_values,
+    WordsFault, parse, read_long_number, read_long_numbers, read_number, read_optional_number,
+    read_value, read_values,
 };
 use std::alloc::{AllocError, Global};
 
@@ -63,6 +64,18 @@ fn read_product<'a>(matches: &ArgMatches<'a>, product: Product) -> Command<'a>
         program: read_value(matches, "PROG"),
         log: read_value(matches, "LOG"),
     }
+}
+
+fn read_stacks<'a>(alloc: Global, matches: &ArgMatches<'a>) -> Result<Command<'a>, AllocError>
+    requires { AreLongNumbers (codes "T") (rows_of (found_of matches.now)) }
+    ensures { IfOk result (λ c. plain_command c ≡ stacks_of (rows_of (found_of matches.now))) }
+{
+    let times = read_long_numbers(alloc, matches, "T")?;
+    Ok(Command::Stacks {
+        program: read_value(matches, "PROG"),
+        log: read_value(matches, "LOG"),
+        times,
+    })
 }
 
 fn read_decisions<'a>(matches: &ArgMatches<'a>) -> Command<'a>
@@ -171,8 +184,6 @@ fn product_of(name: &str, matches: &ArgMatches<'_>) -> Option<Product>
         Some(Product::Input(read_number(matches, "C")))
     } else if name == "output" {
         Some(Product::Output(read_number(matches, "C")))
-    } else if name == "stack" {
-        Some(Product::Stack(read_long_number(matches, "T")))
     } else {
         None
     }
@@ -207,7 +218,9 @@ fn other_of<'a>(
     requires { HasNumbers (name.now, rows_of (found_of matches.now)) }
     ensures { IfOk result (λ c. option_map plain_command c ≡ other_by name.now (rows_of (found_of matches.now))) }
 {
-    if name == "decisions" {
+    if name == "stack" {
+        Ok(Some(read_stacks(alloc, matches)?))
+    } else if name == "decisions" {
         Ok(Some(read_decisions(matches)))
     } else if name == "page" {
         Ok(Some(read_page(matches)))

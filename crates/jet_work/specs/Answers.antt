@@ -4,11 +4,11 @@ use Rattle.outer_io.specs.Files.{Text}
 use Rattle.outer_io.specs.Tells.{Tells, Gains}
 use Rattle.isa.specs.Machine.{State}
 use Rattle.log_model.specs.Logs.{Log}
-use Rattle.jet_words.specs.Commands.{CommandOf, AnalysisOf, ProductOf, DecisionsOf, PageOf, RecordOf, ConvertOf, QueriesOf, BenchOf}
+use Rattle.jet_words.specs.Commands.{CommandOf, AnalysisOf, ProductOf, StacksOf, DecisionsOf, PageOf, RecordOf, ConvertOf, QueriesOf, BenchOf}
 use Rattle.jet_words.specs.declared.command.Listing.{Listing}
 use Rattle.jet_words.specs.declared.command.Listing.TheVariants.{BySink, BySource, ByPath, ByRange}
 use Rattle.jet_words.specs.declared.command.Product.{Product}
-use Rattle.jet_words.specs.declared.command.Product.TheVariants.{Numbers, Calls, Input, Output, Stack}
+use Rattle.jet_words.specs.declared.command.Product.TheVariants.{Numbers, Calls, Input, Output}
 use Rattle.jet_words.specs.declared.command.Pipeline.{Pipeline}
 use Rattle.jet_refusal.specs.declared.refusal.Refusal.{Refusal}
 use Rattle.report_model.specs.Query.{Query, Alike}
@@ -30,11 +30,13 @@ use Rattle.run_output.specs.Summary.{summary_text}
 use Rattle.run_output.specs.Input.{input}
 use Rattle.run_output.specs.Output.{output}
 use Rattle.run_output.specs.Calls.{calls_text}
-use Rattle.run_output.specs.Stack.{stack_text}
+use Rattle.run_output.specs.Stacks.{stacks_text}
 use Rattle.jet_work.specs.Texts.{IsWhole}
 use Rattle.jet_work.specs.declared.pieces.Answer.{Answer}
 use Rattle.jet_work.specs.declared.work.Format.{Format}
 use Rattle.jet_work.specs.declared.work.Format.TheVariants.{Listed, Page}
+use Rattle.jet_work.specs.declared.work.Making.{Making}
+use Rattle.jet_work.specs.declared.work.Making.TheVariants.{Product as OfProduct, Stacks}
 
 abbrev pub named : Text → Text → Text → Names
 named program log query = record { program = program; log = log; query = query }
@@ -83,14 +85,21 @@ IsPageWhole Page answer = IsWhole answer
 abbrev pub decisions_by : Query → State → Log → List ℕ
 decisions_by q start log = decisions_report start log q
 
--- the text that is made of a run without a query: its numbers, its calls, what it read or wrote on a channel, or
--- the calls in progress at a time
+-- the text that is made of a whole run: its numbers, its calls, or what it read or wrote on a channel
 abbrev pub made_by : Product → State → Log → List ℕ
 made_by Numbers start log = summary_text log
 made_by Calls start log = calls_text log
 made_by (Input channel) start log = input channel log
 made_by (Output channel) start log = output channel log
-made_by (Stack time) start log = stack_text start log time
+
+-- the calls in progress at these times
+abbrev pub stacks_by : List ℕ → State → Log → List ℕ
+stacks_by times start log = stacks_text start log times
+
+-- what is made of a run without a query: one of these texts
+abbrev pub text_made : Making → State → Log → List ℕ
+text_made (OfProduct product) = made_by product
+text_made (Stacks times) = stacks_by times.now
 
 -- the log of a run in version 2, if it fits its program
 abbrev pub conversion_of : Run → Result (List ℕ) Refusal
@@ -101,6 +110,7 @@ abbrev pub IsAnswer : CommandOf → Option (List ℕ) → Option (List ℕ) → 
 IsAnswer (AnalysisOf listing program log query pipeline) heard heard_after file answer =
     query_answer (given_by listing) pipeline.epoch file (named program log query) ≡ answer
 IsAnswer (ProductOf product program log) heard heard_after file answer = run_answer file program log (made_by product) ≡ answer
+IsAnswer (StacksOf program log times) heard heard_after file answer = run_answer file program log (stacks_by times) ≡ answer
 IsAnswer (DecisionsOf program log query) heard heard_after file answer =
     query_answer decisions_by None file (named program log query) ≡ answer
 IsAnswer (PageOf program log query page pipeline) heard heard_after file answer =

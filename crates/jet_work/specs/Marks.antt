@@ -1,6 +1,6 @@
 -- What a file begins with that a command may replace.
 use Rattle.std.specs.Prelude.{ℕ, List, Option, Some, None, codes}
-use Rattle.jet_words.specs.Commands.{CommandOf, AnalysisOf, ProductOf, DecisionsOf, PageOf, RecordOf, ConvertOf, QueriesOf, BenchOf}
+use Rattle.jet_words.specs.Commands.{CommandOf, AnalysisOf, ProductOf, StacksOf, DecisionsOf, PageOf, RecordOf, ConvertOf, QueriesOf, BenchOf}
 use Rattle.page_text.specs.Texts.{mark as page_mark}
 
 -- what each log begins with
@@ -11,6 +11,7 @@ log_mark = codes "JETLOG"
 abbrev pub mark_of : CommandOf → List ℕ
 mark_of (AnalysisOf listing program log query pipeline) = log_mark
 mark_of (ProductOf product program log) = log_mark
+mark_of (StacksOf program log times) = log_mark
 mark_of (DecisionsOf program log query) = log_mark
 mark_of (PageOf program log query page pipeline) = page_mark
 mark_of (RecordOf program log inputs pages piece steps) = log_mark

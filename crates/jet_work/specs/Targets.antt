@@ -2,7 +2,7 @@
 use Rattle.std.specs.Prelude.{Bool, true, false, List, [], ◌∷◌, ◌++◌, map, Option, Some, None, String, string_bytes}
 use Rattle.std.specs.declared.alloc.Global.{Global}
 use Rattle.outer_io.specs.Files.{Text}
-use Rattle.jet_words.specs.Commands.{CommandOf, AnalysisOf, ProductOf, DecisionsOf, PageOf, RecordOf, ConvertOf, QueriesOf, BenchOf, command_of}
+use Rattle.jet_words.specs.Commands.{CommandOf, AnalysisOf, ProductOf, StacksOf, DecisionsOf, PageOf, RecordOf, ConvertOf, QueriesOf, BenchOf, command_of}
 
 -- the command that the words stand for, if they stand for one
 abbrev pub command_in : List (String Global) → Option CommandOf
@@ -28,6 +28,7 @@ from_to sources target = record { sources = sources; target = target; is_timed =
 abbrev pub plan_of : CommandOf → Plan
 plan_of (AnalysisOf listing program log query pipeline) = from_to (program ∷ log ∷ query ∷ []) ToOutput
 plan_of (ProductOf product program log) = from_to (program ∷ log ∷ []) ToOutput
+plan_of (StacksOf program log times) = from_to (program ∷ log ∷ []) ToOutput
 plan_of (DecisionsOf program log query) = from_to (program ∷ log ∷ query ∷ []) ToOutput
 plan_of (PageOf program log query page pipeline) = from_to (program ∷ log ∷ query ∷ []) (ToFile page)
 plan_of (RecordOf program log inputs pages piece steps) = record { sources = program ∷ inputs; target = ToFile log; is_timed = true }

@@ -3,12 +3,11 @@ ghost use Rattle.std.specs.Prelude.{◌≡◌, ◌∷◌, [], is_ok, None};
 ghost use Rattle.outer_io.specs.Reads.{Reads};
 ghost use Rattle.jet_model.specs.Answer.{query_answer, run_answer, convert_answer};
 ghost use Rattle.jet_files.specs.Outcome.{IsOutcomeOf, seen_by, bytes_of};
-ghost use Rattle.jet_work.specs.Answers.{decisions_by, made_by, named};
+ghost use Rattle.jet_work.specs.Answers.{decisions_by, text_made, named};
 
-use crate::work::{conversion, decide, make};
+use crate::work::{Making, conversion, decide, make};
 use jet_files::{open_query, open_run};
 use jet_refusal::Refusal;
-use jet_words::Product;
 use outer_io::Store;
 use std::alloc::Global;
 
@@ -36,14 +35,14 @@ pub fn run_product<S: Store>(
     store: &mut S,
     program: &str,
     log: &str,
-    product: Product,
+    making: Making<'_>,
 ) -> Result<Vec<u8>, Refusal>
-    ensures answer { IsOutcomeOf (λ file. run_answer file program.now log.now (made_by product))
+    ensures answer { IsOutcomeOf (λ file. run_answer file program.now log.now (text_made making.entry))
         (S.shown store.old) (S.shown store.new) (seen_by bytes_of result) }
     ensures reads { Reads (program.now ∷ log.now ∷ []) (is_ok result) (S.shown store.old) (S.shown store.new) }
 {
     let run = open_run(alloc, store, program, log)?;
-    make(alloc, run, product)
+    make(alloc, run, making)
 }
 
 /// The log of a run in version 2.

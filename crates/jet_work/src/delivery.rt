@@ -41,6 +41,7 @@ pub fn deliver<S: Store, O: Sink>(
     match command {
         Command::Analysis { .. } => write_in_pieces(out, buffer, answer),
         Command::Product { .. } => write_in_pieces(out, buffer, answer),
+        Command::Stacks { .. } => write_in_pieces(out, buffer, answer),
         Command::Decisions { .. } => write_in_pieces(out, buffer, answer),
         Command::Page { page, .. } => write_file(store, page, answer.whole()),
         Command::Record { log, .. } => write_file(store, log, answer.whole()),

@@ -25,6 +25,7 @@ fn mark_of(command: &Command) -> &'static [u8]
     match command {
         Command::Analysis { .. } => log_mark(),
         Command::Product { .. } => log_mark(),
+        Command::Stacks { .. } => log_mark(),
         Command::Decisions { .. } => log_mark(),
         Command::Page { .. } => page_mark(),
         Command::Record { .. } => log_mark(),

@@ -7,7 +7,7 @@ ghost use Rattle.report_model.specs.Rows.{rows};
 ghost use Rattle.jet_model.specs.Answer.{fitting_start, text_answer};
 ghost use Rattle.jet_files.specs.Outcome.{IsWork, seen_by, bytes_of};
 ghost use Rattle.jet_files.specs.Views.{program_of, run_of};
-ghost use Rattle.jet_work.specs.Answers.{IsWorkOf, IsGivenAlike, format_text, made_by};
+ghost use Rattle.jet_work.specs.Answers.{IsWorkOf, IsGivenAlike, format_text, made_by, text_made};
 ghost use Rattle.jet_work.specs.Answers.{conversion_of, decisions_by, IsPageWhole};
 ghost use Rattle.jet_work.specs.Texts.{text_of};
 
@@ -24,7 +24,7 @@ use query_lang::Query;
 use range_report::shown;
 use replay_log::{Log, write_log};
 use replayer::Job;
-use run_output::{calls_text, input_on, output_on, stack_text, summary_text};
+use run_output::{calls_text, input_on, output_on, stacks_text, summary_text};
 use sink_collect::Report;
 use std::alloc::Global;
 
@@ -35,6 +35,15 @@ pub enum Format {
     Listed(Listing),
     /// The page of the query.
     Page,
+}
+
+/// What is made of a run without a query.
+#[derive(Clone, Copy)]
+pub enum Making<'a> {
+    /// A text of the whole run.
+    Product(Product),
+    /// The calls in progress after so many steps each.
+    Stacks(&'a [u64]),
 }
 
 /// The log fitted to its program.
@@ -98,8 +107,8 @@ pub fn decide(alloc: Global, run: Run, query: &Query) -> Result<Vec<u8>, Refusal
     Ok(text)
 }
 
-/// The text that is made of a run without a query. It gives up with NoMemory alone.
-fn made(alloc: Global, job: &Job, product: Product) -> Result<Vec<u8>, NoMemory>
+/// The text that is made of a whole run. It gives up with NoMemory alone.
+fn product_text(alloc: Global, job: &Job, product: Product) -> Result<Vec<u8>, NoMemory>
     ensures { IfOk result (λ text. text.items ≡ made_by product job.now.start job.now.log) }
 {
     match product {
@@ -107,16 +116,25 @@ fn made(alloc: Global, job: &Job, product: Product) -> Result<Vec<u8>, NoMemory>
         Product::Calls => calls_text(alloc, job.log()),
         Product::Input(channel) => input_on(alloc, job.log().records(), channel),
         Product::Output(channel) => output_on(alloc, job.log().records(), channel),
-        Product::Stack(time) => stack_text(alloc, job, time),
+    }
+}
+
+/// The text that is made of a run without a query. It gives up with NoMemory alone.
+fn made(alloc: Global, job: &Job, making: Making<'_>) -> Result<Vec<u8>, NoMemory>
+    ensures { IfOk result (λ text. text.items ≡ text_made making.entry job.now.start job.now.log) }
+{
+    match making {
+        Making::Product(product) => product_text(alloc, job, product),
+        Making::Stacks(times) => stacks_text(alloc, job, times),
     }
 }
 
 /// What is made of the run without a query.
-pub fn make(alloc: Global, run: Run, product: Product) -> Result<Vec<u8>, Refusal>
-    ensures { IsWork (text_answer (run_of run) (made_by product)) (seen_by bytes_of result) }
+pub fn make(alloc: Global, run: Run, making: Making<'_>) -> Result<Vec<u8>, Refusal>
+    ensures { IsWork (text_answer (run_of run) (text_made making.entry)) (seen_by bytes_of result) }
 {
     let job = fitted_run(alloc, run)?;
-    let text = made(alloc, &job, product)?;
+    let text = made(alloc, &job, making)?;
     Ok(text)
 }
 

@@ -178,6 +178,13 @@ const WORDS: &[(Line, u8, &str)] = &[
     (INPUT, 7, "jet: read fault\n"),
     (STACK, 7, "jet: read fault\n"),
     (CALLS, 7, "jet: read fault\n"),
+    (&["jet", "stack", "prog", "log"], 2, "jet: usage\n"),
+    (&["jet", "stack", "prog", "log", "x"], 2, "jet: usage\n"),
+    (
+        &["jet", "stack", "prog", "log", "7", "1099511627777"],
+        2,
+        "jet: usage\n",
+    ),
     (&["jet", "convert", "prog", "log"], 2, "jet: usage\n"),
     (&["jet", "influence", "prog", "log"], 2, "jet: usage\n"),
     (

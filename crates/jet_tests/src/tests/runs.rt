@@ -228,6 +228,14 @@ const RUNS: &[(Line, &[Instr], &[Entry], &str)] = &[
         CALLED,
         "end 0\n",
     ),
+    // Several times, in the order of the words, one of them twice.
+    (
+        &["jet", "stack", "prog", "log", "4", "9", "0", "4"],
+        CALL_TWICE,
+        CALLED,
+        "stack 4\n0x00010014\n0x00010000\nend 2\nstack 9\nend 0\nstack 0\n0x00010000\nend 1\n\
+        stack 4\n0x00010014\n0x00010000\nend 2\nend 13\n",
+    ),
     (
         DECISIONS,
         BRANCH,

@@ -59,6 +59,21 @@ returns-in-Product-clause-clock g c = untimed-always (plan_of (plain_command c.a
 pub returns-in-Product-clause-unasked : goal.returns-in-Product-clause-unasked
 returns-in-Product-clause-unasked g c = unasked (g.K.Clock.answers c.args.clock.now) c.as_answer.result
 
+pub returns-in-Stacks-clause-answer : goal.returns-in-Stacks-clause-answer
+returns-in-Stacks-clause-answer g c = answers-as (g.K.Clock.answers c.args.clock.now) (g.K.Clock.answers c.args.clock.now) (g.S.Store.shown c.args.store.now) (g.S.Store.shown c.run_product-in-Stacks.new.store) (seen_by text_of c.as_answer-in-Stacks.result) _ c.in-Stacks.is c.as_answer-in-Stacks.ensures.same c.run_product-in-Stacks.ensures.answer
+
+pub returns-in-Stacks-clause-whole : goal.returns-in-Stacks-clause-whole
+returns-in-Stacks-clause-whole g c = whole-always (target_of (plain_command c.args.command.now)) c.as_answer-in-Stacks.result c.as_answer-in-Stacks.ensures.whole
+
+pub returns-in-Stacks-clause-reads : goal.returns-in-Stacks-clause-reads
+returns-in-Stacks-clause-reads g c = reads-as (g.S.Store.shown c.args.store.now) (g.S.Store.shown c.run_product-in-Stacks.new.store) (is_ok c.as_answer-in-Stacks.result) _ c.in-Stacks.is c.as_answer-in-Stacks.ensures.ends c.run_product-in-Stacks.ensures.reads
+
+pub returns-in-Stacks-clause-clock : goal.returns-in-Stacks-clause-clock
+returns-in-Stacks-clause-clock g c = untimed-always (plan_of (plain_command c.args.command.now)).is_timed _ refl
+
+pub returns-in-Stacks-clause-unasked : goal.returns-in-Stacks-clause-unasked
+returns-in-Stacks-clause-unasked g c = unasked (g.K.Clock.answers c.args.clock.now) c.as_answer-in-Stacks.result
+
 pub returns-in-Decisions-clause-answer : goal.returns-in-Decisions-clause-answer
 returns-in-Decisions-clause-answer g c = answers-as (g.K.Clock.answers c.args.clock.now) (g.K.Clock.answers c.args.clock.now) (g.S.Store.shown c.args.store.now) (g.S.Store.shown c.decisions.new.store) (seen_by text_of c.as_answer-in-Decisions.result) _ c.in-Decisions.is c.as_answer-in-Decisions.ensures.same c.decisions.ensures.answer
 
