@@ -1,10 +1,10 @@
 use Rattle.std.proofs.Common.{◌≡◌, refl, subst, map, is_ok, IfOk, List, ◌∷◌, ℕ, Bor}
 use Rattle.jet_words.specs.Commands.{plain_command}
 use Rattle.jet_files.specs.Outcome.{IsOutcomeOf, IsOutcomeBy, seen_by, bytes_of}
-use Rattle.jet_model.specs.Answer.{queries_answer}
+use Rattle.jet_model.specs.Answer.{queries_answer, run_answer}
 use Rattle.jet_work.specs.Targets.{plan_of, target_of, IfFile, IfUntimed}
 use Rattle.jet_work.specs.Texts.{text_of, IsWhole}
-use Rattle.jet_work.specs.Answers.{IsRecording, limits_of, workload_length}
+use Rattle.jet_work.specs.Answers.{IsRecording, limits_of, stacks_by, workload_length}
 use Rattle.jet_work.specs.Ending.{IsUnasked}
 use Rattle.jet_work.proofs.KeepingLemmas.{unasked}
 use Rattle.order_gateway.specs.Answer.{IsBenchAnswer}
@@ -60,7 +60,10 @@ pub returns-in-Product-clause-unasked : goal.returns-in-Product-clause-unasked
 returns-in-Product-clause-unasked g c = unasked (g.K.Clock.answers c.args.clock.now) c.as_answer.result
 
 pub returns-in-Stacks-clause-answer : goal.returns-in-Stacks-clause-answer
-returns-in-Stacks-clause-answer g c = answers-as (g.K.Clock.answers c.args.clock.now) (g.K.Clock.answers c.args.clock.now) (g.S.Store.shown c.args.store.now) (g.S.Store.shown c.run_product-in-Stacks.new.store) (seen_by text_of c.as_answer-in-Stacks.result) _ c.in-Stacks.is c.as_answer-in-Stacks.ensures.same c.run_product-in-Stacks.ensures.answer
+returns-in-Stacks-clause-answer g c =
+    let s = c.in-Stacks in
+    answers-as (g.K.Clock.answers c.args.clock.now) (g.K.Clock.answers c.args.clock.now) (g.S.Store.shown c.args.store.now) (g.S.Store.shown c.run_product-in-Stacks.new.store) (seen_by text_of c.as_answer-in-Stacks.result) _ s.is c.as_answer-in-Stacks.ensures.same
+    (subst (λ (times : List ℕ). IsOutcomeOf (λ file. run_answer file s.program.now s.log.now (stacks_by times)) (g.S.Store.shown c.args.store.now) (g.S.Store.shown c.run_product-in-Stacks.new.store) (seen_by bytes_of c.run_product-in-Stacks.result)) c.as_slice.ensures.value c.run_product-in-Stacks.ensures.answer)
 
 pub returns-in-Stacks-clause-whole : goal.returns-in-Stacks-clause-whole
 returns-in-Stacks-clause-whole g c = whole-always (target_of (plain_command c.args.command.now)) c.as_answer-in-Stacks.result c.as_answer-in-Stacks.ensures.whole
