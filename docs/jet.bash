@@ -5,7 +5,7 @@ _jet() {
     local word=${COMP_WORDS[COMP_CWORD]} before=${COMP_WORDS[COMP_CWORD - 1]} options=
     COMPREPLY=()
     if [ "$COMP_CWORD" = 1 ]; then
-        mapfile -t COMPREPLY < <(compgen -W 'query record replay calls input output stack convert influence queries decisions show path page bench' -- "$word")
+        mapfile -t COMPREPLY < <(compgen -W 'query record replay calls input output stack convert core influence queries decisions show path page bench' -- "$word")
         return
     fi
     case ${COMP_WORDS[1]} in
@@ -19,7 +19,7 @@ _jet() {
     -*) mapfile -t COMPREPLY < <(compgen -W "$options" -- "$word") ;;
     *)
         case ${COMP_WORDS[1]}:$COMP_CWORD in
-        bench:* | stack:[4-9] | stack:[1-9][0-9]*) return ;; # a number
+        bench:* | core:4 | stack:[4-9] | stack:[1-9][0-9]*) return ;; # a number
         esac
         mapfile -t COMPREPLY < <(compgen -f -- "$word")
         ;;
@@ -36,7 +36,7 @@ _jet_kit() {
     jet-ask:3 | jet-why:5) words='copy keep compute index' ;;
     jet-ask:[45]) words='all' ;;
     jet-ask:6) words='show query influence path decisions' ;;
-    jet-why:[34]) return ;; # a number
+    jet-why:[34] | jet-core:3) return ;; # a number
     esac
     if [ -n "$words" ]; then
         mapfile -t COMPREPLY < <(compgen -W "$words" -- "$word")
@@ -44,4 +44,4 @@ _jet_kit() {
         mapfile -t COMPREPLY < <(compgen -f -- "$word")
     fi
 }
-complete -o filenames -F _jet_kit jet-run jet-ask jet-lines jet-why
+complete -o filenames -F _jet_kit jet-run jet-ask jet-lines jet-why jet-core

@@ -4,7 +4,7 @@ use Rattle.std.proofs.lemmas.List.{append_cancel_left}
 use Rattle.outer_io.specs.Tells.{Tells, Gains}
 use Rattle.outer_io.specs.Files.{Files}
 use Rattle.outer_io.proofs.TellsLemmas.{tells-map}
-use Rattle.jet_words.specs.Commands.{CommandOf, AnalysisOf, ProductOf, StacksOf, DecisionsOf, PageOf, RecordOf, ConvertOf, QueriesOf, BenchOf}
+use Rattle.jet_words.specs.Commands.{CommandOf, AnalysisOf, ProductOf, StacksOf, DecisionsOf, PageOf, RecordOf, ConvertOf, CoreOf, QueriesOf, BenchOf}
 use Rattle.jet_refusal.specs.declared.refusal.Refusal.{Refusal}
 use Rattle.jet_refusal.specs.Refusals.{status_of, line_of}
 use Rattle.jet_refusal.proofs.Causes.{IsOwedTo-map}
@@ -15,7 +15,7 @@ use Rattle.page_data.specs.Page.{page_report}
 use Rattle.order_gateway.proofs.Outcomes.{one_answer as one_bench_answer, answer-is_lines, lines-are_answer}
 use Rattle.jet_files.specs.Outcome.{HeldBefore}
 use Rattle.jet_work.specs.Targets.{Target, ToOutput, ToFile, target_of}
-use Rattle.jet_work.specs.Answers.{IsAnswer, given_by, decisions_by, made_by, stacks_by, named, limits_of, workload_length}
+use Rattle.jet_work.specs.Answers.{IsAnswer, given_by, decisions_by, made_by, stacks_by, core_by, named, limits_of, workload_length}
 use Rattle.outer_io.specs.Outside.{Change, IfTold, IsUndisturbed}
 use Rattle.jet_work.specs.Writing.{FailsToWrite}
 use Rattle.jet_work.specs.Ending.{IsText, WritesWhole, WritesPart, Ends, IsUnasked, causes_of, status_after}
@@ -45,6 +45,7 @@ module _ (change : Change) (file : Contents) where
   one_answer (ProductOf product program log) a b told p q = sym p ∙ q
   one_answer (StacksOf program log times) a b told p q = sym p ∙ q
   one_answer (ConvertOf program log new) a b told p q = sym p ∙ q
+  one_answer (CoreOf program log time core) a b told p q = sym p ∙ q
   one_answer (QueriesOf program log queries pipeline) a b told p q = sym p ∙ q
   one_answer (BenchOf seed steps pipeline) a b told p q = one_bench_answer seed steps (workload_length pipeline) a b p q
 
@@ -57,6 +58,7 @@ module _ (change : Change) (file : Contents) where
   wanted (ProductOf product program log) text h = run_answer-is_given file program log (made_by product) text h
   wanted (StacksOf program log times) text h = run_answer-is_given file program log (stacks_by times) text h
   wanted (ConvertOf program log new) text h = convert-is_given file program log text h
+  wanted (CoreOf program log time core) text h = run_answer-is_given file program log (core_by time) text h
   wanted (QueriesOf program log queries pipeline) text h = reports-are_given pipeline.epoch file program log queries text h
   wanted (BenchOf seed steps pipeline) text h = answer-is_lines seed steps (workload_length pipeline) text h
 
@@ -69,6 +71,7 @@ module _ (change : Change) (file : Contents) where
   answered (ProductOf product program log) text h within = given-is_run_answer file program log (made_by product) text within.0 within.1 h
   answered (StacksOf program log times) text h within = given-is_run_answer file program log (stacks_by times) text within.0 within.1 h
   answered (ConvertOf program log new) text h within = given-is_convert file program log text within.0 within.1 h.short h.given
+  answered (CoreOf program log time core) text h within = given-is_run_answer file program log (core_by time) text within.0 within.1 h
   answered (QueriesOf program log queries pipeline) text h within = given-are_reports pipeline.epoch file program log queries text within.0 within.1 within.2 h within.3
   answered (BenchOf seed steps pipeline) text h within = lines-are_answer seed steps (workload_length pipeline) text h within.0 within.1
 

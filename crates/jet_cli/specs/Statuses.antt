@@ -1,7 +1,7 @@
 -- What each status of the program says. `command` is what the words stand for, and `change` is what the store, the output and the
 -- clock show before the call and after it.
 use Rattle.std.specs.Prelude.{◌≡◌, ◌⊎◌, ◌≤◌, ◌^◌, ℕ, List, length, not, Option, Some, None, IsSome, Result}
-use Rattle.jet_words.specs.Commands.{CommandOf, AnalysisOf, ProductOf, StacksOf, DecisionsOf, PageOf, RecordOf, ConvertOf, QueriesOf, BenchOf}
+use Rattle.jet_words.specs.Commands.{CommandOf, AnalysisOf, ProductOf, StacksOf, DecisionsOf, PageOf, RecordOf, ConvertOf, CoreOf, QueriesOf, BenchOf}
 use Rattle.log_model.specs.declared.Version.TheVariants.{Two}
 use Rattle.log_model.specs.Logs.{log_text}
 use Rattle.jet_refusal.specs.declared.refusal.Refusal.{Refusal}
@@ -11,7 +11,7 @@ use Rattle.jet_model.specs.Contents.{Contents}
 use Rattle.jet_model.specs.Headline.{IsGivenByQuery, AreReportsOf, IsGivenBy, IsConversionOf, IsRecordingOf, IsShort, AreShort, AreAllShort, HasFewEpochs, HasFewIfTold}
 use Rattle.page_data.specs.Page.{page_report}
 use Rattle.order_gateway.specs.Answer.{IsBenchOf}
-use Rattle.jet_work.specs.Answers.{IsAnswer, OfClockAnswers, given_by, decisions_by, made_by, stacks_by, named, limits_of, workload_length}
+use Rattle.jet_work.specs.Answers.{IsAnswer, OfClockAnswers, given_by, decisions_by, made_by, stacks_by, core_by, named, limits_of, workload_length}
 use Rattle.jet_work.specs.Targets.{Unless, plan_of}
 use Rattle.outer_io.specs.Outside.{Change, IfTold, IsFaultless, IsUndisturbed}
 use Rattle.jet_work.specs.Ending.{WritesWhole, WritesPart, IsUnasked, causes_of, status_after}
@@ -23,7 +23,7 @@ IsStatus status = (status ≡ 0) ⊎ ((2 ≤ status) × (status ≤ 11))
 -- ---- 0: nothing failed, and the text that the words want was written whole
 
 -- the text is what a query gives of a run, as its report, its decisions, or its page; what is made of a run, as its
--- numbers, or its stacks; the log of a run, by the clock's answers; a log in version 2; the reports of several queries; or the numbers
+-- numbers, or its stacks; the log of a run, by the clock's answers; a log in version 2; a core file; the reports of several queries; or the numbers
 -- of the workload's run
 abbrev pub IsWanted : CommandOf → Change → Contents → List ℕ → Type 0
 IsWanted (AnalysisOf listing program log query pipeline) change file text =
@@ -36,6 +36,7 @@ IsWanted (PageOf program log query page pipeline) change file text =
 IsWanted (RecordOf program log inputs pages piece steps) change file text =
     OfClockAnswers change.before.heard change.after.heard (λ answers. IsRecordingOf file program inputs (limits_of pages piece steps) answers text)
 IsWanted (ConvertOf program log new) change file text = IsConversionOf file program log text
+IsWanted (CoreOf program log time core) change file text = IsGivenBy file program log (core_by time) text
 IsWanted (QueriesOf program log queries pipeline) change file text = AreReportsOf file program log queries text
 IsWanted (BenchOf seed steps pipeline) change file text = IsBenchOf seed steps (workload_length pipeline) text
 
@@ -85,6 +86,7 @@ AreWithinLimits (PageOf program log query page pipeline) change file text is =
 AreWithinLimits (RecordOf program log inputs pages piece steps) change file text is =
     IsShort (file program) × AreAllShort file inputs
 AreWithinLimits (ConvertOf program log new) change file text is = IsShort (file program) × IsShort (file log)
+AreWithinLimits (CoreOf program log time core) change file text is = IsShort (file program) × IsShort (file log)
 AreWithinLimits (QueriesOf program log queries pipeline) change file text is =
     IsShort (file program) × IsShort (file log) × AreAllShort file queries × HasFewIfTold pipeline.epoch is.log
 AreWithinLimits (BenchOf seed steps pipeline) change file text is =

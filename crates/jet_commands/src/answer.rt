@@ -162,6 +162,15 @@ pub fn answer<E: Engine, S: Store, K: Clock>(
             as_answer(record(alloc, store, clock, program, inputs, limits))
         }
         Command::Convert { program, log, .. } => as_answer(convert(alloc, store, program, log)),
+        Command::Core {
+            program,
+            log,
+            time,
+            ..
+        } => {
+            let making = Making::Core(*time);
+            as_answer(run_product(alloc, store, program, log, making))
+        }
         Command::Queries {
             program,
             log,

@@ -4,11 +4,13 @@ ghost use Rattle.std.specs.Prelude.{◌<◌};
 
 mod bench;
 mod convert;
+mod cores;
 mod decisions;
 mod epochs;
 mod gates;
 mod guests;
 mod influence;
+mod marks;
 mod narrow;
 mod outside;
 mod pages;

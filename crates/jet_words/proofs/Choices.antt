@@ -5,7 +5,7 @@ use Rattle.std.specs.Str.{bytes_eq}
 use Rattle.clap.specs.Words.{Row, Text}
 use Rattle.clap_command.specs.Values.{number_of}
 use Rattle.jet_words.specs.declared.command.Product.TheVariants.{Numbers, Calls, Input, Output}
-use Rattle.jet_words.specs.Commands.{convert_of, queries_of, bench_of, stacks_of, decisions_of, page_of, record_of, product_by, other_by}
+use Rattle.jet_words.specs.Commands.{convert_of, core_of, queries_of, bench_of, stacks_of, decisions_of, page_of, record_of, product_by, other_by}
 use Rattle.jet_words.specs.Rest.{rest_by}
 
 -- nothing is owed of an error
@@ -56,13 +56,17 @@ module _ (name : Text) (rows : List Row) where
   pub rest-convert : bytes_eq name (codes "convert") ≡ true → rest_by name rows ≡ Some (convert_of rows)
   rest-convert a = rw a
 
-  pub rest-queries : bytes_eq name (codes "convert") ≡ false → bytes_eq name (codes "queries") ≡ true → rest_by name rows ≡ Some (queries_of rows)
-  rest-queries a b = rw (a, b)
+  pub rest-core : bytes_eq name (codes "convert") ≡ false → bytes_eq name (codes "core") ≡ true → rest_by name rows ≡ Some (core_of rows)
+  rest-core a b = rw (a, b)
 
-  pub rest-bench : bytes_eq name (codes "convert") ≡ false → bytes_eq name (codes "queries") ≡ false → bytes_eq name (codes "bench") ≡ true
-      → rest_by name rows ≡ Some (bench_of rows)
-  rest-bench a b d = rw (a, b, d)
+  pub rest-queries : bytes_eq name (codes "convert") ≡ false → bytes_eq name (codes "core") ≡ false → bytes_eq name (codes "queries") ≡ true
+      → rest_by name rows ≡ Some (queries_of rows)
+  rest-queries a b d = rw (a, b, d)
 
-  pub rest-none : bytes_eq name (codes "convert") ≡ false → bytes_eq name (codes "queries") ≡ false → bytes_eq name (codes "bench") ≡ false
-      → rest_by name rows ≡ None
-  rest-none a b d = rw (a, b, d)
+  pub rest-bench : bytes_eq name (codes "convert") ≡ false → bytes_eq name (codes "core") ≡ false → bytes_eq name (codes "queries") ≡ false
+      → bytes_eq name (codes "bench") ≡ true → rest_by name rows ≡ Some (bench_of rows)
+  rest-bench a b d e = rw (a, b, d, e)
+
+  pub rest-none : bytes_eq name (codes "convert") ≡ false → bytes_eq name (codes "core") ≡ false → bytes_eq name (codes "queries") ≡ false
+      → bytes_eq name (codes "bench") ≡ false → rest_by name rows ≡ None
+  rest-none a b d e = rw (a, b, d, e)

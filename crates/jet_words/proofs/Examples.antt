@@ -8,7 +8,7 @@ use Rattle.clap.specs.Takes.{walk_passes, flags_pass}
 use Rattle.jet_words.specs.declared.command.Pipeline.{Pipeline}
 use Rattle.jet_words.specs.declared.command.Listing.TheVariants.{BySink, BySource, ByPath, ByRange}
 use Rattle.jet_words.specs.declared.command.Product.TheVariants.{Numbers, Calls, Input, Output}
-use Rattle.jet_words.specs.Commands.{CommandOf, command_of, AnalysisOf, ProductOf, StacksOf, DecisionsOf, PageOf, RecordOf, ConvertOf, QueriesOf, BenchOf}
+use Rattle.jet_words.specs.Commands.{CommandOf, command_of, AnalysisOf, ProductOf, StacksOf, DecisionsOf, PageOf, RecordOf, ConvertOf, CoreOf, QueriesOf, BenchOf}
 
 abbrev before_word : Bool → ℕ → List Text → List Text
 before_word true c words = [] ∷ words
@@ -221,6 +221,22 @@ no_conversions : AreRefused (
     codes "jet convert a b" ∷ codes "jet convert a b c d" ∷ codes "jet convert a b c --pages 1" ∷ codes "jet converts a b c" ∷ [])
 unfolding command_of walked walk_passes
 no_conversions = refl
+
+-- ---- core
+
+abbrev stopped : Text → ℕ → Text → Line
+stopped line time core = (line, CoreOf (codes "p") (codes "l") time core)
+
+cores : Stands (
+    stopped (codes "jet core p l 0 c") 0 (codes "c") ∷ stopped (codes "jet core p l 1099511627776 c") 1099511627776 (codes "c")
+    ∷ stopped (codes "jet core p l 7 -- --c") 7 (codes "--c") ∷ [])
+unfolding command_of walked walk_passes
+cores = refl
+
+no_cores : AreRefused (codes "jet core p l 0" ∷ codes "jet core p l c" ∷ codes "jet core p l 1099511627777 c" ∷ codes "jet core p l a c"
+    ∷ codes "jet core p l 0 c d" ∷ codes "jet core p l 0 c --epoch 1" ∷ [])
+unfolding command_of walked walk_passes
+no_cores = refl
 
 -- ---- influence
 

@@ -70,6 +70,10 @@ record_app =
 abbrev pub convert_app : App
 convert_app = with_rule (program_and_log (codes "convert")) (positional (codes "NEW"))
 
+-- core PROG LOG T FILE
+abbrev pub core_app : App
+core_app = with_rule (with_rule (program_and_log (codes "core")) (number (codes "T") 0 1099511627776)) (positional (codes "FILE"))
+
 -- queries PROG LOG QUERY.. [--epoch N] [--workers W] [--link C], 1 to 16 of QUERY
 abbrev pub queries_app : App
 queries_app = with_pipeline (with_rule (program_and_log (codes "queries")) (required_list (codes "QUERY") 16))
@@ -113,7 +117,7 @@ abbrev pub products : List App
 products = replay_app ∷ calls_app ∷ input_app ∷ output_app ∷ []
 
 abbrev pub others : List App
-others = stack_app ∷ decisions_app ∷ page_app ∷ record_app ∷ convert_app ∷ queries_app ∷ bench_app ∷ []
+others = stack_app ∷ decisions_app ∷ page_app ∷ record_app ∷ convert_app ∷ core_app ∷ queries_app ∷ bench_app ∷ []
 
 -- jet SUBCOMMAND ..
 abbrev pub jet_app : App

@@ -11,7 +11,7 @@ use Rattle.jet_words.specs.declared.command.Product.{Product}
 use Rattle.jet_words.specs.declared.command.Product.TheVariants.{Numbers, Calls, Input, Output}
 use Rattle.jet_words.specs.declared.command.Pipeline.{Pipeline}
 use Rattle.jet_words.specs.declared.command.Command.{Command}
-use Rattle.jet_words.specs.declared.command.Command.TheVariants.{Analysis, Product as Made, Stacks, Decisions, Page, Record, Convert, Queries, Bench}
+use Rattle.jet_words.specs.declared.command.Command.TheVariants.{Analysis, Product as Made, Stacks, Decisions, Page, Record, Convert, Core, Queries, Bench}
 
 -- a command; files are told by their names
 pub data CommandOf : Type 0 where
@@ -30,6 +30,8 @@ pub data CommandOf : Type 0 where
   RecordOf : (program log : Text) (inputs : List Text) (pages piece steps : ℕ) → CommandOf
   -- the log, written anew into another file
   ConvertOf : (program log new : Text) → CommandOf
+  -- the state after so many steps, written into a core file
+  CoreOf : (program log : Text) (time : ℕ) (core : Text) → CommandOf
   -- the reports of several queries
   QueriesOf : (program log : Text) (queries : List Text) (pipeline : Pipeline) → CommandOf
   -- the numbers of the workload's run by this seed, cut off after `steps` steps
@@ -68,6 +70,10 @@ record_of rows = RecordOf (value_of (codes "PROG") rows) (value_of (codes "LOG")
 abbrev pub convert_of : List Row → CommandOf
 convert_of rows = ConvertOf (value_of (codes "PROG") rows) (value_of (codes "LOG") rows) (value_of (codes "NEW") rows)
 
+abbrev pub core_of : List Row → CommandOf
+core_of rows = CoreOf (value_of (codes "PROG") rows) (value_of (codes "LOG") rows) (number_of (codes "T") rows)
+    (value_of (codes "FILE") rows)
+
 abbrev pub queries_of : List Row → CommandOf
 queries_of rows = QueriesOf (value_of (codes "PROG") rows) (value_of (codes "LOG") rows) (values_of (codes "QUERY") rows)
     (pipeline_of rows)
@@ -99,8 +105,9 @@ other_by name rows =
     else (if bytes_eq name (codes "page") then Some (page_of rows)
     else (if bytes_eq name (codes "record") then Some (record_of rows)
     else (if bytes_eq name (codes "convert") then Some (convert_of rows)
+    else (if bytes_eq name (codes "core") then Some (core_of rows)
     else (if bytes_eq name (codes "queries") then Some (queries_of rows)
-    else (if bytes_eq name (codes "bench") then Some (bench_of rows) else None))))))
+    else (if bytes_eq name (codes "bench") then Some (bench_of rows) else None)))))))
 
 -- an analysis, else a product, else another command
 abbrev pub first_of : List Row → Option Listing → Option Product → Option CommandOf → Option CommandOf
@@ -126,6 +133,7 @@ plain_command (Decisions program log query) = DecisionsOf program.now log.now qu
 plain_command (Page program log query page pipeline) = PageOf program.now log.now query.now page.now pipeline
 plain_command (Record program log inputs pages piece steps) = RecordOf program.now log.now (map (λ s. s.now) inputs.items) pages piece steps
 plain_command (Convert program log new) = ConvertOf program.now log.now new.now
+plain_command (Core program log time core) = CoreOf program.now log.now time core.now
 plain_command (Queries program log queries pipeline) =
     QueriesOf program.now log.now (map (λ s. s.now) queries.items) pipeline
 plain_command (Bench seed steps pipeline) = BenchOf seed steps pipeline
@@ -152,6 +160,7 @@ IsInRange (PageOf program log query page pipeline) = IsPipeline pipeline
 IsInRange (RecordOf program log inputs pages piece steps) =
     (length inputs ≤ 16) × (1 ≤ pages) × (pages ≤ 4096) × (1 ≤ piece) × (piece ≤ 16777216) × (1 ≤ steps) × (steps ≤ 1099511627776)
 IsInRange (ConvertOf program log new) = ⊤
+IsInRange (CoreOf program log time core) = time ≤ 1099511627776
 IsInRange (QueriesOf program log queries pipeline) = (1 ≤ length queries) × (length queries ≤ 16) × IsPipeline pipeline
 IsInRange (BenchOf seed steps pipeline) =
     (seed ≤ 18446744073709551615) × (1 ≤ steps) × (steps ≤ 2000000) × IsPipeline pipeline

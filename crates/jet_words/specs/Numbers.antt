@@ -19,6 +19,7 @@ HasNumbers (name, rows) =
     × (bytes_eq name (codes "stack") ≡ true → AreLongNumbers (codes "T") rows)
     × (bytes_eq name (codes "page") ≡ true → HasPipelineNumbers rows)
     × (bytes_eq name (codes "record") ≡ true → IsNumber (codes "pages") rows × IsNumber (codes "piece") rows × IsLongNumber (codes "steps") rows)
+    × (bytes_eq name (codes "core") ≡ true → IsLongNumber (codes "T") rows)
     × (bytes_eq name (codes "queries") ≡ true → HasPipelineNumbers rows)
     × (bytes_eq name (codes "bench") ≡ true →
     IsLongNumber (codes "SEED") rows × IsLongNumber (codes "STEPS") rows × HasPipelineNumbers rows)

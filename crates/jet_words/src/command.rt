@@ -107,6 +107,17 @@ pub enum Command<'a> {
         log: &'a str,
         new: &'a str,
     },
+    /// The state after so many steps, as a core file.
+    Core {
+        /// The program's name.
+        program: &'a str,
+        /// The log's name.
+        log: &'a str,
+        /// The number of steps, 0 to 1099511627776 (2^40); past the run's steps it counts as their number.
+        time: u64,
+        /// The name of the core file that is written.
+        core: &'a str,
+    },
     /// The reports of several queries.
     Queries {
         /// The program's name.

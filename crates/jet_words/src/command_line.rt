@@ -4,7 +4,7 @@ ghost use Rattle.clap.specs.Words.{App, app_of, rule_of, with_rule, with_subcomm
 ghost use Rattle.clap.specs.declared.builder.Command.TheViews.{out-Command as fields_of};
 ghost use Rattle.jet_words.specs.CommandLine.{program_and_log as program_and_log_app};
 ghost use Rattle.jet_words.specs.CommandLine.{with_pipeline as with_pipeline_app, analysis, on_channel, stack_app};
-ghost use Rattle.jet_words.specs.CommandLine.{decisions_app, page_app, record_app, convert_app, queries_app};
+ghost use Rattle.jet_words.specs.CommandLine.{decisions_app, page_app, record_app, convert_app, core_app, queries_app};
 ghost use Rattle.jet_words.specs.CommandLine.{bench_app, bare_app};
 ghost use Rattle.jet_words.specs.CommandLine.{with_each, analyses, products, others, jet_app};
 ghost use Rattle.jet_words.specs.Made.{IsMade};
@@ -128,6 +128,17 @@ fn convert_command<'a>(alloc: Global) -> Result<Command<'a>, AllocError>
     and_argument(program_and_log(alloc, "convert"), positional(alloc, "NEW"))
 }
 
+fn core_command<'a>(alloc: Global) -> Result<Command<'a>, AllocError>
+    ensures app { IfOk result (λ c. app_of c ≡ core_app) }
+    ensures globals { IfOk result (λ c. (fields_of c).has_globals ≡ false) }
+{
+    let command = and_argument(
+        program_and_log(alloc, "core"),
+        number(alloc, "T", 0, 1099511627776),
+    );
+    and_argument(command, positional(alloc, "FILE"))
+}
+
 fn queries_command<'a>(alloc: Global) -> Result<Command<'a>, AllocError>
     ensures app { IfOk result (λ c. app_of c ≡ queries_app) }
     ensures globals { IfOk result (λ c. (fields_of c).has_globals ≡ false) }
@@ -232,6 +243,7 @@ fn with_others<'a>(
     let command = and_made(command, page_command(alloc));
     let command = and_made(command, record_command(alloc));
     let command = and_made(command, convert_command(alloc));
+    let command = and_made(command, core_command(alloc));
     let command = and_made(command, queries_command(alloc));
     and_made(command, bench_command(alloc))
 }

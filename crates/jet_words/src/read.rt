@@ -8,7 +8,7 @@ ghost use Rattle.jet_words.specs.CommandLine.{jet_app};
 ghost use Rattle.jet_words.specs.Commands.{command_of, command_by, plain_command, IsInRange};
 ghost use Rattle.jet_words.specs.Commands.{listing_by, product_by, other_by};
 ghost use Rattle.jet_words.specs.Commands.{pipeline_of, analysis_of, product_of as product_of_rows};
-ghost use Rattle.jet_words.specs.Commands.{stacks_of, decisions_of, page_of, record_of, convert_of, queries_of, bench_of};
+ghost use Rattle.jet_words.specs.Commands.{stacks_of, decisions_of, page_of, record_of, convert_of, core_of, queries_of, bench_of};
 ghost use Rattle.jet_words.specs.Numbers.{HasPipelineNumbers, HasNumbers};
 ghost use Rattle.jet_words.specs.Rest.{rest_by};
 
@@ -128,6 +128,18 @@ fn read_convert<'a>(matches: &ArgMatches<'a>) -> Command<'a>
     }
 }
 
+fn read_core<'a>(matches: &ArgMatches<'a>) -> Command<'a>
+    requires { IsLongNumber (codes "T") (rows_of (found_of matches.now)) }
+    ensures { plain_command result ≡ core_of (rows_of (found_of matches.now)) }
+{
+    Command::Core {
+        program: read_value(matches, "PROG"),
+        log: read_value(matches, "LOG"),
+        time: read_long_number(matches, "T"),
+        core: read_value(matches, "FILE"),
+    }
+}
+
 fn read_queries<'a>(alloc: Global, matches: &ArgMatches<'a>) -> Result<Command<'a>, AllocError>
     requires { HasPipelineNumbers (rows_of (found_of matches.now)) }
     ensures { IfOk result (λ c. plain_command c ≡ queries_of (rows_of (found_of matches.now))) }
@@ -200,6 +212,8 @@ fn rest_of<'a>(
 {
     if name == "convert" {
         Ok(Some(read_convert(matches)))
+    } else if name == "core" {
+        Ok(Some(read_core(matches)))
     } else if name == "queries" {
         Ok(Some(read_queries(alloc, matches)?))
     } else if name == "bench" {

@@ -4,7 +4,7 @@ use Rattle.outer_io.specs.Files.{Text}
 use Rattle.outer_io.specs.Tells.{Tells, Gains}
 use Rattle.isa.specs.Machine.{State}
 use Rattle.log_model.specs.Logs.{Log}
-use Rattle.jet_words.specs.Commands.{CommandOf, AnalysisOf, ProductOf, StacksOf, DecisionsOf, PageOf, RecordOf, ConvertOf, QueriesOf, BenchOf}
+use Rattle.jet_words.specs.Commands.{CommandOf, AnalysisOf, ProductOf, StacksOf, DecisionsOf, PageOf, RecordOf, ConvertOf, CoreOf, QueriesOf, BenchOf}
 use Rattle.jet_words.specs.declared.command.Listing.{Listing}
 use Rattle.jet_words.specs.declared.command.Listing.TheVariants.{BySink, BySource, ByPath, ByRange}
 use Rattle.jet_words.specs.declared.command.Product.{Product}
@@ -26,6 +26,7 @@ use Rattle.jet_model.specs.Answer.{Limits, Source, IsCaptureAnswer, IsRecordAnsw
 use Rattle.order_gateway.specs.Answer.{IsBenchAnswer}
 use Rattle.jet_refusal.specs.Causes.{IsOwedTo}
 use Rattle.jet_files.specs.Outcome.{by_reading, AskAlike}
+use Rattle.core_file.specs.CoreFile.{core_file}
 use Rattle.run_output.specs.Summary.{summary_text}
 use Rattle.run_output.specs.Input.{input}
 use Rattle.run_output.specs.Output.{output}
@@ -36,7 +37,7 @@ use Rattle.jet_work.specs.declared.pieces.Answer.{Answer}
 use Rattle.jet_work.specs.declared.work.Format.{Format}
 use Rattle.jet_work.specs.declared.work.Format.TheVariants.{Listed, Page}
 use Rattle.jet_work.specs.declared.work.Making.{Making}
-use Rattle.jet_work.specs.declared.work.Making.TheVariants.{Product as OfProduct, Stacks}
+use Rattle.jet_work.specs.declared.work.Making.TheVariants.{Product as OfProduct, Stacks, Core}
 
 abbrev pub named : Text → Text → Text → Names
 named program log query = record { program = program; log = log; query = query }
@@ -96,10 +97,15 @@ made_by (Output channel) start log = output channel log
 abbrev pub stacks_by : List ℕ → State → Log → List ℕ
 stacks_by times start log = stacks_text start log times
 
--- what is made of a run without a query: one of these texts
+-- the state after so many steps, as a core file
+abbrev pub core_by : ℕ → State → Log → List ℕ
+core_by time start log = core_file start log time
+
+-- what is made of a run without a query: one of these
 abbrev pub text_made : Making → State → Log → List ℕ
 text_made (OfProduct product) = made_by product
 text_made (Stacks times) = stacks_by times.now
+text_made (Core time) = core_by time
 
 -- the log of a run in version 2, if it fits its program
 abbrev pub conversion_of : Run → Result (List ℕ) Refusal
@@ -118,6 +124,7 @@ IsAnswer (PageOf program log query page pipeline) heard heard_after file answer 
 IsAnswer (RecordOf program log inputs pages piece steps) heard heard_after file answer =
     IsRecording program inputs (limits_of pages piece steps) heard heard_after file answer
 IsAnswer (ConvertOf program log new) heard heard_after file answer = convert_answer file program log ≡ answer
+IsAnswer (CoreOf program log time core) heard heard_after file answer = run_answer file program log (core_by time) ≡ answer
 IsAnswer (QueriesOf program log queries pipeline) heard heard_after file answer =
     queries_answer pipeline.epoch file program log queries ≡ answer
 IsAnswer (BenchOf seed steps pipeline) heard heard_after file answer = IsBenchAnswer seed steps (workload_length pipeline) answer

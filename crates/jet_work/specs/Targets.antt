@@ -2,7 +2,7 @@
 use Rattle.std.specs.Prelude.{Bool, true, false, List, [], ◌∷◌, ◌++◌, map, Option, Some, None, String, string_bytes}
 use Rattle.std.specs.declared.alloc.Global.{Global}
 use Rattle.outer_io.specs.Files.{Text}
-use Rattle.jet_words.specs.Commands.{CommandOf, AnalysisOf, ProductOf, StacksOf, DecisionsOf, PageOf, RecordOf, ConvertOf, QueriesOf, BenchOf, command_of}
+use Rattle.jet_words.specs.Commands.{CommandOf, AnalysisOf, ProductOf, StacksOf, DecisionsOf, PageOf, RecordOf, ConvertOf, CoreOf, QueriesOf, BenchOf, command_of}
 
 -- the command that the words stand for, if they stand for one
 abbrev pub command_in : List (String Global) → Option CommandOf
@@ -33,6 +33,7 @@ plan_of (DecisionsOf program log query) = from_to (program ∷ log ∷ query ∷
 plan_of (PageOf program log query page pipeline) = from_to (program ∷ log ∷ query ∷ []) (ToFile page)
 plan_of (RecordOf program log inputs pages piece steps) = record { sources = program ∷ inputs; target = ToFile log; is_timed = true }
 plan_of (ConvertOf program log new) = from_to (program ∷ log ∷ []) (ToFile new)
+plan_of (CoreOf program log time core) = from_to (program ∷ log ∷ []) (ToFile core)
 plan_of (QueriesOf program log queries pipeline) = from_to (program ∷ log ∷ queries) ToOutput
 plan_of (BenchOf seed steps pipeline) = from_to [] ToOutput
 

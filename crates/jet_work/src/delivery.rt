@@ -12,7 +12,7 @@ use crate::pieces::Answer;
 use jet_words::Command;
 use outer_io::{Buffer, Sink, Store, WriteFault, write_file, write_in_pieces};
 
-/// Writes what a command gives: a log or a page into its file, and every other text to the output, in pieces that go through
+/// Writes what a command gives: a log, a page or a core into its file, and every other text to the output, in pieces that go through
 /// the buffer. It takes no memory. Where it answers Ok, neither the store nor the output failed.
 #[tactic(auto, using(crate::proofs::KeepingLemmas::keeps, crate::proofs::Delivered::stood, crate::proofs::Delivered::untouched))]
 pub fn deliver<S: Store, O: Sink>(
@@ -46,6 +46,7 @@ pub fn deliver<S: Store, O: Sink>(
         Command::Page { page, .. } => write_file(store, page, answer.whole()),
         Command::Record { log, .. } => write_file(store, log, answer.whole()),
         Command::Convert { new, .. } => write_file(store, new, answer.whole()),
+        Command::Core { core, .. } => write_file(store, core, answer.whole()),
         Command::Queries { .. } => write_in_pieces(out, buffer, answer),
         Command::Bench { .. } => write_in_pieces(out, buffer, answer),
     }

@@ -4,7 +4,7 @@
 //! What there is to read stands in specs/: Answers.antt has what the files of each command come to, Targets.antt the files
 //! of each, Ending.antt how a command ends. What is told of a query's rows, and what is made of a run without a query, has
 //! a row in `given_by` or `made_by` there and in src/work.rt; the page is told of the rows too (`format_text`), and the
-//! stacks of several times are made of a run too (`text_made`).
+//! stacks of several times and the core file are made of a run too (`text_made`).
 //!
 //! Crates above rest on this: a run's log is fitted to its program, and a text comes of it, or a refusal that the files come
 //! to; `deliver` writes a text whole, or the output or the store failed; `conclude` gives the status of what came of a

@@ -4,6 +4,7 @@ ghost use Rattle.jet_words.specs.Commands.{plain_command};
 ghost use Rattle.jet_work.specs.Targets.{command_in};
 ghost use Rattle.jet_work.specs.Marks.{log_mark, mark_of, mark_in};
 
+use core_file::core_mark;
 use jet_words::{Command, read_words};
 use no_memory::{Fault, NoMemory};
 use page_text::mark as page_mark;
@@ -11,7 +12,7 @@ use std::alloc::Global;
 
 /// What each log begins with.
 fn log_mark() -> &'static [u8]
-    ensures short { length result.now ≤ 16 }
+    ensures short { length result.now ≤ 84 }
     ensures mark { result.now ≡ log_mark }
 {
     b"JETLOG"
@@ -19,7 +20,7 @@ fn log_mark() -> &'static [u8]
 
 /// What a file begins with that a command may replace.
 fn mark_of(command: &Command) -> &'static [u8]
-    ensures short { length result.now ≤ 16 }
+    ensures short { length result.now ≤ 84 }
     ensures mark { result.now ≡ mark_of (plain_command command.now) }
 {
     match command {
@@ -30,15 +31,16 @@ fn mark_of(command: &Command) -> &'static [u8]
         Command::Page { .. } => page_mark(),
         Command::Record { .. } => log_mark(),
         Command::Convert { .. } => log_mark(),
+        Command::Core { .. } => core_mark(),
         Command::Queries { .. } => log_mark(),
         Command::Bench { .. } => log_mark(),
     }
 }
 
-/// What a file begins with that the command of these words may replace: a page by a page, and any other by a log. It gives
-/// up with NoMemory alone.
+/// What a file begins with that the command of these words may replace: a page by a page, a core by a core, and any other
+/// by a log. It gives up with NoMemory alone.
 pub fn mark_for(alloc: Global, words: &[String]) -> Result<&'static [u8], NoMemory>
-    ensures short { IfOk result (λ mark. length mark.now ≤ 16) }
+    ensures short { IfOk result (λ mark. length mark.now ≤ 84) }
     ensures mark { IfOk result (λ mark. mark.now ≡ mark_in (command_in words.now)) }
 {
     match read_words(alloc, words) {

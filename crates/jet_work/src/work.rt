@@ -14,6 +14,7 @@ ghost use Rattle.jet_work.specs.Texts.{text_of};
 use crate::influence::influence_of;
 use crate::path::path_text;
 use crate::pieces::Answer;
+use core_file::core_file;
 use decision_find::decisions;
 use jet_files::{LONGEST_FILE, Program, Run};
 use jet_refusal::Refusal;
@@ -44,6 +45,8 @@ pub enum Making<'a> {
     Product(Product),
     /// The calls in progress after so many steps each.
     Stacks(&'a [u64]),
+    /// The state after so many steps, as a core file.
+    Core(u64),
 }
 
 /// The log fitted to its program.
@@ -126,6 +129,7 @@ fn made(alloc: Global, job: &Job, making: Making<'_>) -> Result<Vec<u8>, NoMemor
     match making {
         Making::Product(product) => product_text(alloc, job, product),
         Making::Stacks(times) => stacks_text(alloc, job, times),
+        Making::Core(time) => core_file(alloc, job, time),
     }
 }
 

@@ -8,7 +8,7 @@ use std::io::{ErrorKind, Read};
 use std::rt::Files;
 
 /// How many bytes a mark has at most.
-pub(crate) const LONGEST_MARK: usize = 16;
+pub(crate) const LONGEST_MARK: usize = 84;
 
 /// What is known of a name, as far as the file system tells it.
 #[derive(Clone, Copy)]
@@ -78,7 +78,7 @@ fn file_kind<'a, R: Files>(files: &R, name: &str, front: &'a mut [u8]) -> FileKi
 
 /// Whether the name may be written, by what the file system tells of it.
 pub(crate) fn may_write<R: Files>(files: &R, name: &str, mark: &[u8]) -> bool
-    requires { length mark.now ≤ 16 }
+    requires { length mark.now ≤ 84 }
 {
     let mut front = [0u8; LONGEST_MARK];
     may_replace(file_kind(files, name, &mut front[..mark.len()]), mark)

@@ -4,7 +4,7 @@ ghost use Rattle.std.specs.Prelude.{◌<◌};
 
 use super::guests::COPY_FOUR;
 use super::runs::{
-    CALLS, CALLS_OF_COPY, CONVERT, DECISIONS, INFLUENCE, INPUT, NUMBERS, OUTPUT, PAGE, PATH,
+    CALLS, CALLS_OF_COPY, CONVERT, CORE, DECISIONS, INFLUENCE, INPUT, NUMBERS, OUTPUT, PAGE, PATH,
     QUERIES, REPLAY, SHOW, STACK,
 };
 use super::{
@@ -200,6 +200,13 @@ const WORDS: &[(Line, u8, &str)] = &[
     (SHOW, 7, "jet: read fault\n"),
     (&["jet", "page", "prog", "log", "query"], 2, "jet: usage\n"),
     (PAGE, 7, "jet: read fault\n"),
+    (&["jet", "core", "prog", "log", "12"], 2, "jet: usage\n"),
+    (
+        &["jet", "core", "prog", "log", "x", "core"],
+        2,
+        "jet: usage\n",
+    ),
+    (CORE, 7, "jet: read fault\n"),
 ];
 
 /// Over a store of no files the command of these words ends so.

@@ -2,12 +2,9 @@
 
 use super::guests::COPY_FOUR;
 use super::record::assert_file;
-use super::runs::{CONVERT, PAGE};
-use super::{
-    COPY, Ending, Line, NEVER, assert_ends, files, log_with, program_of, push, store_of, words,
-};
+use super::runs::PAGE;
+use super::{COPY, Ending, Line, NEVER, assert_ends, files, log_with, program_of, push, store_of};
 use jet_files::read_file;
-use jet_work::mark_for;
 use memory_outside::MemoryStore;
 use page_text::{push_head, push_tail};
 use sha2::{Digest, Sha256};
@@ -106,20 +103,5 @@ fn a_failing_store_leaves_no_page(rt: HostRuntime) {
     let unwritten = Ending::refusal(8, "jet: write fault\n");
     for call in 9..12 {
         assert_page(&rt, PAGE, &program, call, unwritten, None);
-    }
-}
-
-/// What a file begins with that a command may replace, also where the words are none.
-#[test]
-fn a_page_takes_the_place_of_a_page(rt: HostRuntime) {
-    let line: Line = &["jet", "pages"];
-    for (line, wanted) in [
-        (PAGE, "<!--jet page-->"),
-        (CONVERT, "JETLOG"),
-        (line, "JETLOG"),
-    ] {
-        let words = words(&rt, rt.alloc(), line);
-        let mark = mark_for(rt.alloc(), &words).expect(&rt, "memory");
-        assert!(rt; mark == wanted.as_bytes());
     }
 }

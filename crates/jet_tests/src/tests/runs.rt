@@ -35,10 +35,12 @@ pub const PATH: Line = &["jet", "path", "prog", "log", "query"];
 
 pub const PAGE: Line = &["jet", "page", "prog", "log", "query", "page"];
 
+pub const CORE: Line = &["jet", "core", "prog", "log", "12", "core"];
+
 /// The commands over a log, and a query in many epochs.
-pub const READERS: [Line; 14] = [
+pub const READERS: [Line; 15] = [
     QUERY, REPLAY, OUTPUT, CONVERT, INFLUENCE, QUERIES, PATH, PAGE, CALLS, INPUT, STACK, SHOW,
-    DECISIONS, BY_STEPS,
+    DECISIONS, CORE, BY_STEPS,
 ];
 
 /// The numbers of the four-byte copy.

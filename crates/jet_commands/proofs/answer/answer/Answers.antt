@@ -107,6 +107,21 @@ returns-in-Convert-clause-clock g c = untimed-always (plan_of (plain_command c.a
 pub returns-in-Convert-clause-unasked : goal.returns-in-Convert-clause-unasked
 returns-in-Convert-clause-unasked g c = unasked (g.K.Clock.answers c.args.clock.now) c.as_answer-in-Convert.result
 
+pub returns-in-Core-clause-answer : goal.returns-in-Core-clause-answer
+returns-in-Core-clause-answer g c = answers-as (g.K.Clock.answers c.args.clock.now) (g.K.Clock.answers c.args.clock.now) (g.S.Store.shown c.args.store.now) (g.S.Store.shown c.run_product-in-Core.new.store) (seen_by text_of c.as_answer-in-Core.result) _ c.in-Core.is c.as_answer-in-Core.ensures.same c.run_product-in-Core.ensures.answer
+
+pub returns-in-Core-clause-whole : goal.returns-in-Core-clause-whole
+returns-in-Core-clause-whole g c = whole-always (target_of (plain_command c.args.command.now)) c.as_answer-in-Core.result c.as_answer-in-Core.ensures.whole
+
+pub returns-in-Core-clause-reads : goal.returns-in-Core-clause-reads
+returns-in-Core-clause-reads g c = reads-as (g.S.Store.shown c.args.store.now) (g.S.Store.shown c.run_product-in-Core.new.store) (is_ok c.as_answer-in-Core.result) _ c.in-Core.is c.as_answer-in-Core.ensures.ends c.run_product-in-Core.ensures.reads
+
+pub returns-in-Core-clause-clock : goal.returns-in-Core-clause-clock
+returns-in-Core-clause-clock g c = untimed-always (plan_of (plain_command c.args.command.now)).is_timed _ refl
+
+pub returns-in-Core-clause-unasked : goal.returns-in-Core-clause-unasked
+returns-in-Core-clause-unasked g c = unasked (g.K.Clock.answers c.args.clock.now) c.as_answer-in-Core.result
+
 pub returns-in-Record-clause-answer : goal.returns-in-Record-clause-answer
 returns-in-Record-clause-answer g c =
     let r = c.in-Record in

@@ -17,17 +17,21 @@ pub and_made-command-requires-5 : goal.and_made-command-requires-5
 and_made-command-requires-5 c = c.convert_command.ensures.globals
 
 pub and_made-command-requires-6 : goal.and_made-command-requires-6
-and_made-command-requires-6 c = c.queries_command.ensures.globals
+and_made-command-requires-6 c = c.core_command.ensures.globals
+
+pub and_made-command-requires-7 : goal.and_made-command-requires-7
+and_made-command-requires-7 c = c.queries_command.ensures.globals
 
 pub and_made-requires : goal.and_made-requires
 and_made-requires c = c.bench_command.ensures.globals
 
 pub returns : goal.returns
-returns c = λ app is. more_subcommand _ _ _ _ _ (more_subcommand _ _ _ _ _ (more_subcommand _ _ _ _ _ (more_subcommand _ _ _ _ _ (more_subcommand _ _ _ _ _ (more_subcommand _ _ _ _ _ (more_subcommand _ _ _ _ _ is
+returns c = λ app is. more_subcommand _ _ _ _ _ (more_subcommand _ _ _ _ _ (more_subcommand _ _ _ _ _ (more_subcommand _ _ _ _ _ (more_subcommand _ _ _ _ _ (more_subcommand _ _ _ _ _ (more_subcommand _ _ _ _ _ (more_subcommand _ _ _ _ _ is
     c.stack_command.ensures.app c.and_made-command.ensures)
     c.decisions_command.ensures.app c.and_made-command-2.ensures)
     c.page_command.ensures.app c.and_made-command-3.ensures)
     c.record_command.ensures.app c.and_made-command-4.ensures)
     c.convert_command.ensures.app c.and_made-command-5.ensures)
-    c.queries_command.ensures.app c.and_made-command-6.ensures)
+    c.core_command.ensures.app c.and_made-command-6.ensures)
+    c.queries_command.ensures.app c.and_made-command-7.ensures)
     c.bench_command.ensures.app c.and_made.ensures
