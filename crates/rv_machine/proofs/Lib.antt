@@ -1,2 +1,4 @@
 pub mod Placing
-mod Small
+mod Doing
+mod Known
+mod Rows

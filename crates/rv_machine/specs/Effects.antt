@@ -1,24 +1,113 @@
--- What is known of an effect before it is carried out, and how that went.
-use Rattle.std.specs.Prelude.{◌≡◌, ◌<◌, ◌⊎◌, IsTrue}
+-- What doing an instruction comes to, by parts of a state.
+use Rattle.std.specs.Prelude.{◌≡◌, ℕ, ◌+◌, ◌-◌, ◌≤◌, length, Bool, true, false, List, []}
+use Rattle.isa.specs.declared.Instr.{Instr}
 use Rattle.isa.specs.declared.Effect.{Effect}
 use Rattle.isa.specs.declared.Effect.TheVariants.{SetRegister, Jump, Branch, Load, Store, MoveOn, EnvironmentCall, Breakpoint}
-use Rattle.isa.specs.Machine.{State, Retired, Called, Trapped, execute, call_of}
-use Rattle.rv_machine.specs.declared.state.Done.{Done}
-use Rattle.rv_machine.specs.declared.state.Done.TheVariants as done
+use Rattle.isa.specs.Machine.{State, Outcome, Retired, Called, Trapped, execute, effect_of, place_of, call_of, wrap, is_aligned, with_register, in_window, bytes_at, little_endian, extended, low_bytes, overwritten}
+use Rattle.rv_machine.specs.declared.state.Next.{Next}
+use Rattle.rv_machine.specs.declared.state.Next.TheVariants as next
 
--- registers and sizes are in range
-abbrev pub IsSmall : Effect → Type 0
-IsSmall (SetRegister d v) = d < 32
-IsSmall (Jump d target) = d < 32
-IsSmall (Branch taken target) = Unit {0}
-IsSmall (Load d address n is_signed) = (d < 32) × ((n ≡ 1) ⊎ (n ≡ 2) ⊎ (n ≡ 4)) × (IsTrue is_signed → (n ≡ 1) ⊎ (n ≡ 2))
-IsSmall (Store address n v) = (n ≡ 1) ⊎ (n ≡ 2) ⊎ (n ≡ 4)
-IsSmall MoveOn = Unit {0}
-IsSmall EnvironmentCall = Unit {0}
-IsSmall Breakpoint = Unit {0}
+-- the state of these parts
+abbrev pub state_of : ℕ → List ℕ → ℕ → List ℕ → State
+state_of pc registers base memory = record { pc = pc; registers = registers; base = base; memory = memory }
 
--- what carrying out an effect came to, with the states before and after it
-abbrev pub Executes : State → Effect → Done → State → Type 0
-Executes before e done.Retired after = execute before e ≡ Retired after
-Executes before e done.Called after = (execute before e ≡ Called (call_of before)) × (after ≡ before)
-Executes before e (done.Trapped kind) after = (execute before e ≡ Trapped kind) × (after ≡ before)
+-- a state with this window
+abbrev pub window_of : ℕ → List ℕ → State
+window_of base memory = record { pc = 0; registers = []; base = base; memory = memory }
+
+-- the pc after an instruction. A call and a trap leave it
+abbrev pub pc_after : ℕ → Next → ℕ
+pc_after pc next.On = wrap (pc + 4)
+pc_after pc (next.To target) = target
+pc_after pc (next.Loaded place) = wrap (pc + 4)
+pc_after pc (next.Stored place) = wrap (pc + 4)
+pc_after pc next.Called = pc
+pc_after pc (next.Trapped kind) = pc
+
+-- a few bytes were written from an offset on
+pub record IsWritten (before : List ℕ) (offset : ℕ) (after : List ℕ) : Type 0 where
+  pub bytes : List ℕ
+  pub few : length bytes ≤ 4
+  pub inside : offset + length bytes ≤ length before
+  pub is : after ≡ overwritten before offset bytes
+
+-- an outcome, with an effective address, is this one, with the states before and after it
+pub record IsRetired (before : State) (outcome : Outcome) (address place : ℕ) (after : State) : Type 0 where
+  pub retires : outcome ≡ Retired after
+  pub reaches : address ≡ place
+
+abbrev pub IsOutcome : State → Outcome → ℕ → Next → State → Type 0
+IsOutcome before outcome address next.On after = IsRetired before outcome address 0 after × (after.memory ≡ before.memory)
+IsOutcome before outcome address (next.To target) after = IsRetired before outcome address 0 after × (after.memory ≡ before.memory) × (is_aligned target ≡ true)
+IsOutcome before outcome address (next.Loaded place) after = IsRetired before outcome address place after × (after.memory ≡ before.memory)
+IsOutcome before outcome address (next.Stored place) after = IsRetired before outcome address place after × (before.base ≤ place) × IsWritten before.memory (place - before.base) after.memory
+IsOutcome before outcome address next.Called after = (outcome ≡ Called (call_of before)) × (after ≡ before)
+IsOutcome before outcome address (next.Trapped kind) after = (outcome ≡ Trapped kind) × (after ≡ before)
+
+-- what doing an instruction came to
+abbrev pub Executes : State → Instr → Next → State → Type 0
+Executes before instr to after = IsOutcome before (execute before (effect_of before instr)) (place_of before instr) to after
+
+-- ---- the same by parts
+
+-- where a jump or a taken branch leads
+abbrev pub landing : Bool → ℕ → Next
+landing true target = next.To target
+landing false target = next.Trapped 0
+
+abbrev pub branching : Bool → ℕ → Next
+branching true target = landing (is_aligned target) target
+branching false target = next.On
+
+-- where a load and a store lead: they trap outside the window
+abbrev pub loading : Bool → ℕ → Next
+loading true address = next.Loaded address
+loading false address = next.Trapped 5
+
+abbrev pub storing : Bool → ℕ → Next
+storing true address = next.Stored address
+storing false address = next.Trapped 7
+
+abbrev pub next_of : State → Effect → Next
+next_of s (SetRegister d v) = next.On
+next_of s (Jump d target) = landing (is_aligned target) target
+next_of s (Branch taken target) = branching taken target
+next_of s (Load d address n is_signed) = loading (in_window s address n) address
+next_of s (Store address n v) = storing (in_window s address n) address
+next_of s MoveOn = next.On
+next_of s EnvironmentCall = next.Called
+next_of s Breakpoint = next.Trapped 3
+
+-- the registers, one of them set unless the instruction traps
+abbrev pub set_if : Bool → List ℕ → ℕ → ℕ → List ℕ
+set_if true registers d v = with_register registers d v
+set_if false registers d v = registers
+
+-- what a load brings
+abbrev pub loaded_value : State → ℕ → ℕ → Bool → ℕ
+loaded_value s address n is_signed = extended is_signed n (little_endian (bytes_at s address n))
+
+abbrev pub registers_after : State → Effect → List ℕ
+registers_after s (SetRegister d v) = with_register s.registers d v
+registers_after s (Jump d target) = set_if (is_aligned target) s.registers d (wrap (s.pc + 4))
+registers_after s (Branch taken target) = s.registers
+registers_after s (Load d address n is_signed) = set_if (in_window s address n) s.registers d (loaded_value s address n is_signed)
+registers_after s (Store address n v) = s.registers
+registers_after s MoveOn = s.registers
+registers_after s EnvironmentCall = s.registers
+registers_after s Breakpoint = s.registers
+
+-- the bytes of the window, some of them written unless the instruction traps
+abbrev pub written_if : Bool → List ℕ → ℕ → List ℕ → List ℕ
+written_if true memory i bytes = overwritten memory i bytes
+written_if false memory i bytes = memory
+
+abbrev pub memory_after : State → Effect → List ℕ
+memory_after s (SetRegister d v) = s.memory
+memory_after s (Jump d target) = s.memory
+memory_after s (Branch taken target) = s.memory
+memory_after s (Load d address n is_signed) = s.memory
+memory_after s (Store address n v) = written_if (in_window s address n) s.memory (address - s.base) (low_bytes n v)
+memory_after s MoveOn = s.memory
+memory_after s EnvironmentCall = s.memory
+memory_after s Breakpoint = s.memory

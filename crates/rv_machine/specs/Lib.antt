@@ -3,3 +3,4 @@ pub mod Effects
 pub mod Start
 pub mod Saved
 pub mod Decoded
+pub mod Running

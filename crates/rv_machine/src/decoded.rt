@@ -1,86 +1,118 @@
-//! The words that were decoded last, with their instructions.
+//! The instructions of words that were decoded, by the words' places in the window.
 //!
-//! Most of a run's steps fetch a word that was fetched from the same place before. What it stands for is kept in the
-//! place's slot, and used as long as the word is the same: so nothing has to be known of stores to code.
+//! Most of a run's steps fetch a word that was fetched before. What it stands for is kept, until the word is stored to.
 
-ghost use Rattle.std.specs.Prelude.{◌≡◌, ◌≢◌, [], ◌/◌, ◌%◌, Some, IfOk, IfSome, IsTrue, ◌↔◌, option_copied};
+ghost use Rattle.std.specs.Prelude.{◌≡◌, ◌≢◌, [], ℕ, ◌+◌, ◌*◌, ◌/◌, ◌%◌, ◌^◌, ◌<◌, ◌≤◌, List, Some, IfOk, IfSome, IsTrue, ◌↔◌, length};
+ghost use Rattle.isa.specs.declared.Instr.TheVariants as instruction;
 ghost use Rattle.isa.specs.Words.{instruction_of};
 ghost use Rattle.isa.specs.Encodings.{Fits};
+ghost use Rattle.isa.specs.Machine.{in_window, bytes_at, little_endian};
+ghost use Rattle.rv_machine.specs.Decoded.{slot_of, IsThere, AreKnown, AreForgotten, KnowsNoMore, KnowsNothing};
+ghost use Rattle.rv_machine.specs.Effects.{window_of};
 
+use crate::state::load;
 use isa::Instr;
 use no_memory::NoMemory;
-use rv_decode::decode;
+use rv_decode::{decode, registers_of};
 use std::alloc::Global;
 use std::marker::Model;
 
-/// How many slots there are. Places that many words apart share one.
-const SLOTS: usize = 4096;
+/// Slots are made so many at a time.
+const ROOM: usize = 64;
 
-/// A word, and the instruction that it stands for.
+/// The most slots that there are: words further up are decoded at each step.
+const MOST: usize = 1 << 20;
+
+/// The instruction of a word, with the word of its registers ([`registers_of`]). ECALL stands for one that isn't known, too.
 #[derive(Clone, Copy)]
-struct Slot {
-    word: u32,
-    instr: Instr,
+pub struct Slot {
+    pub instr: Instr,
+    pub registers: u32,
 }
 
-/// What a slot begins with: ADDI x0, x0, 0.
-const NO_OPERATION: Slot = Slot {
-    word: 0x13,
-    instr: Instr::Addi {
-        rd: 0,
-        rs1: 0,
-        imm: 0,
-    },
+/// What a slot begins with.
+const UNKNOWN: Slot = Slot {
+    instr: Instr::Ecall,
+    registers: 0,
 };
 
-/// A memo of [`decode`]. It has [`SLOTS`] slots, or none, and then it keeps nothing but the last instruction.
+/// A slot for each of the window's words up to the last one that was decoded; or none, and then nothing is kept.
 #[derive(Drop)]
 pub struct DecodedWords {
-    slots: Vec<Slot>,
-    last: Instr,
+    pub slots: Vec<Slot>,
 }
 
 impl Model for DecodedWords {
     ghost use Rattle.std.specs.Prelude.{List};
     ghost use Rattle.rv_machine.specs.declared.decoded.Slot.{Slot};
-    ghost use Rattle.rv_machine.specs.Decoded.{AreSlots};
 
     ghost Value = { List Slot };
 
     ghost view = { λ d. d.slots.items };
-
-    ghost invariant = { λ d. AreSlots d.slots.items };
 }
 
+/// The slot of a word.
 #[inline(always)]
-fn number_of(place: u32) -> usize
-    ensures { result ≡ place / 4 % 4096 }
+pub fn slot_at(slots: &[Slot], number: usize) -> &Slot
+    requires { number < length slots.now }
+    ensures { result.now ≡ slot_of slots.now number }
 {
-    (place / 4) as usize % SLOTS
+    &slots[number]
+}
+
+/// Forgets the words that hold one of so many bytes from an offset on.
+#[inline(always)]
+pub fn forget(slots: &mut [Slot], offset: u32, size: u64)
+    requires { size ≤ 2 ^ 32 }
+    ensures { AreForgotten slots.old slots.new (offset / 4) ((offset + size + 3) / 4) }
+{
+    if ((offset / 4) as usize) < slots.len() {
+        forget_some(slots, offset, size);
+    }
+}
+
+/// The same, where there is a slot of the first of them.
+#[inline(never)]
+fn forget_some(slots: &mut [Slot], offset: u32, size: u64)
+    requires { size ≤ 2 ^ 32 }
+    ensures { AreForgotten slots.old slots.new (offset / 4) ((offset + size + 3) / 4) }
+{
+    let past = (u64::from(offset) + size + 3) / 4;
+    let end = (past as usize).min(slots.len());
+    for number in (offset / 4) as usize..end {
+        slots[number] = UNKNOWN;
+    }
+}
+
+/// Keeps the instruction of a word, if it has a slot.
+fn keep(slots: &mut [Slot], number: usize, instr: Instr)
+    requires { Fits instr }
+    ensures { (memory : List ℕ) → AreKnown slots.old memory → IsThere memory (4 * number) instr
+        → AreKnown slots.new memory }
+{
+    if number >= slots.len() {
+        return;
+    }
+    let registers = registers_of(&instr);
+    slots[number] = Slot { instr, registers };
 }
 
 impl DecodedWords {
-    ghost use Rattle.rv_machine.specs.Decoded.{slot_of};
-
     /// No slots. It takes no memory.
     pub fn none(alloc: Global) -> DecodedWords
-        ensures { result ≡ [] }
+        ensures { KnowsNothing result }
     {
         DecodedWords {
             slots: Vec::new(alloc),
-            last: NO_OPERATION.instr,
         }
     }
 
-    /// All slots.
+    /// The first slots.
     pub fn new(alloc: Global) -> Result<DecodedWords, NoMemory>
-        ensures { IfOk result (λ decoded. decoded ≢ []) }
+        ensures { IfOk result KnowsNothing }
     {
-        let slots = vec![in alloc; NO_OPERATION; SLOTS]?;
-        Ok(DecodedWords {
-            slots,
-            last: NO_OPERATION.instr,
-        })
+        let slots = vec![in alloc; UNKNOWN; ROOM]?;
+        Ok(DecodedWords { slots })
     }
 
     /// Whether there are no slots.
@@ -90,52 +122,80 @@ impl DecodedWords {
         self.slots.is_empty()
     }
 
-    /// Whether there are slots, and that of a place has this word.
+    /// Forgets the words that hold one of so many bytes from an offset on.
     #[inline(always)]
-    fn has(&self, place: u32, word: u32) -> bool
-        ensures slots { IsTrue result → self.now ≢ [] }
-        ensures word { IsTrue result → (slot_of self.now place).word ≡ word }
+    pub fn forget(&mut self, offset: u32, size: u64)
+        requires { size ≤ 2 ^ 32 }
+        ensures { AreForgotten self.old self.new (offset / 4) ((offset + size + 3) / 4) }
     {
-        !self.slots.is_empty() && self.slots[number_of(place)].word == word
+        forget(self.slots.as_mut_slice(), offset, size);
     }
 
-    /// The instruction of the word in the slot of a place.
+    /// The instruction at an offset, if it is known.
     #[inline(always)]
-    fn kept(&self, place: u32) -> &Instr
-        requires { self.now ≢ [] }
-        ensures is { instruction_of (slot_of self.now place).word ≡ Some result.now }
-        ensures fits { Fits result.now }
+    fn known(&self, offset: u32) -> Option<Instr>
+        ensures aligned { IfSome result (λ instr. offset % 4 ≡ 0) }
+        ensures within { IfSome result (λ instr. offset / 4 < length self.now) }
+        ensures is { IfSome result (λ instr. (slot_of self.now (offset / 4)).instr ≡ instr) }
+        ensures other { IfSome result (λ instr. instr ≢ instruction.Ecall) }
     {
-        &self.slots[number_of(place)].instr
-    }
-
-    /// The instruction that a word stands for, or None where it is illegal, as [`decode`] says. It is looked for, and
-    /// kept, in the slot of the place that the word was fetched from.
-    #[inline(always)]
-    pub fn look_up(&mut self, place: u32, word: u32) -> Option<&Instr>
-        ensures is { option_copied result ≡ instruction_of word }
-        ensures fits { IfSome result (λ instr. Fits instr.now) }
-    {
-        if self.has(place, word) {
-            Some(self.kept(place))
-        } else {
-            self.decode(place, word)
+        let number = (offset / 4) as usize;
+        if offset % 4 != 0 || number >= self.slots.len() {
+            return None;
+        }
+        match self.slots[number].instr {
+            Instr::Ecall => None,
+            instr => Some(instr),
         }
     }
 
-    /// Decodes a word, and keeps its instruction.
+    /// The instruction that the word at the pc stands for, or None where it is illegal, as [`decode`] says.
+    #[inline(always)]
+    pub fn look_up(&mut self, memory: &[u8], base: u32, pc: u32) -> Option<Instr>
+        requires known { AreKnown self.old memory.now }
+        requires inside { IsTrue (in_window (window_of base memory.now) pc 4) }
+        ensures known { AreKnown self.new memory.now }
+        ensures is { result ≡ instruction_of (little_endian (bytes_at (window_of base memory.now) pc 4)) }
+        ensures fits { IfSome result Fits }
+    {
+        match self.known(pc - base) {
+            Some(instr) => Some(instr),
+            None => self.decode(memory, base, pc),
+        }
+    }
+
+    /// Decodes the word at the pc, and keeps its instruction.
     #[inline(never)]
-    fn decode(&mut self, place: u32, word: u32) -> Option<&Instr>
-        ensures is { option_copied result ≡ instruction_of word }
-        ensures fits { IfSome result (λ instr. Fits instr.now) }
+    fn decode(&mut self, memory: &[u8], base: u32, pc: u32) -> Option<Instr>
+        requires known { AreKnown self.old memory.now }
+        requires inside { IsTrue (in_window (window_of base memory.now) pc 4) }
+        ensures known { AreKnown self.new memory.now }
+        ensures is { result ≡ instruction_of (little_endian (bytes_at (window_of base memory.now) pc 4)) }
+        ensures fits { IfSome result Fits }
     {
-        let instr = decode(word)?;
-        if self.slots.is_empty() {
-            self.last = instr;
-            return Some(&self.last);
+        let instr = decode(load(memory, base, pc, 4))?;
+        let offset = pc - base;
+        if offset % 4 != 0 {
+            return Some(instr);
         }
-        let number = number_of(place);
-        self.slots[number] = Slot { word, instr };
-        Some(&self.slots[number].instr)
+        let number = (offset / 4) as usize;
+        self.make_room(number);
+        keep(self.slots.as_mut_slice(), number, instr);
+        Some(instr)
+    }
+
+    /// Makes a slot for a word and those below it, and an eighth more, where there is memory for them, and forgets all: so a run
+    /// through ever higher words makes few slots anew. It does nothing where the word has one, or where nothing is kept.
+    fn make_room(&mut self, number: usize)
+        ensures { KnowsNoMore self.old self.new }
+    {
+        if self.slots.is_empty() || number < self.slots.len() || number >= MOST {
+            return;
+        }
+        let alloc = *self.slots.allocator();
+        let count = ((number + number / 8) / ROOM + 1) * ROOM;
+        if let Ok(slots) = vec![in alloc; UNKNOWN; count] {
+            self.slots = slots;
+        }
     }
 }

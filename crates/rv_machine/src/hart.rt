@@ -5,13 +5,15 @@ ghost use Rattle.elf_model.specs.Window.{start_of};
 ghost use Rattle.isa.specs.declared.Instr.{Instr as AnyInstr};
 ghost use Rattle.isa.specs.Encodings.{Fits};
 ghost use Rattle.isa.specs.Machine.{reg, in_window, bytes_at, Fetched, fetch};
-ghost use Rattle.isa.specs.Calls.{refusal};
+ghost use Rattle.isa.specs.Calls.{refusal, after_read};
 ghost use Rattle.no_memory.specs.declared.Fault.TheVariants.{At};
 ghost use Rattle.no_memory.specs.Faults.{IsCausedBy};
 ghost use Rattle.rv_machine.specs.Hart.{running, IsStep, IsAnswer, answered};
+ghost use Rattle.rv_machine.specs.Running.{IsFollowed};
 
 use crate::decoded::DecodedWords;
-use crate::state::{Done, HartState, address_of};
+use crate::running::Follower;
+use crate::state::{HartState, Next};
 use crate::{MachineFault, Reply, Stepped};
 use elf_image::Image;
 use isa::{Call, Instr};
@@ -41,6 +43,10 @@ impl Model for Machine {
     ghost Value = { Hart };
 
     ghost view = { λ m. record { state = m.state; waits = m.waits } };
+
+    ghost use Rattle.rv_machine.specs.Decoded.{AreKnown};
+
+    ghost invariant = { λ m. AreKnown m.decoded m.state.memory };
 }
 
 impl Machine {
@@ -100,25 +106,40 @@ impl Machine {
                 pc,
             };
         }
-        let word = self.state.load(pc, 4);
-        let Some(instr) = self.decoded.look_up(pc, word) else {
+        let base = self.state.base();
+        let Some(instr) = self.decoded.look_up(self.state.memory.as_slice(), base, pc) else {
             return Stepped::Trapped {
                 kind: ILLEGAL_INSTRUCTION,
                 pc,
             };
         };
-        let effect = self.state.effect_of(instr);
-        match self.state.execute(effect) {
-            Done::Retired => Stepped::Plain {
-                instr: *instr,
-                place: address_of(&effect),
-            },
-            Done::Called => {
+        match self.state.execute(&instr) {
+            Next::On => Stepped::Plain { instr, place: 0 },
+            Next::To(_) => Stepped::Plain { instr, place: 0 },
+            Next::Loaded(place) => Stepped::Plain { instr, place },
+            Next::Stored(place) => {
+                self.decoded.forget(place - base, 4);
+                Stepped::Plain { instr, place }
+            }
+            Next::Called => {
                 self.waits = true;
                 Stepped::Called(self.state.call())
             }
-            Done::Trapped(kind) => Stepped::Trapped { kind, pc },
+            Next::Trapped(kind) => Stepped::Trapped { kind, pc },
         }
+    }
+
+    /// Makes plain steps in a row, at most so many, and gives how many were made. It may make fewer: it stops before a call,
+    /// a trap, or an instruction that it doesn't know yet, which [`Machine::step`] decodes and keeps where there is room
+    /// ([`Machine::keep_decoded`]). `follower` is told of each, but for those that it passes by.
+    #[inline(always)]
+    pub fn run_plain<F: Follower>(&mut self, most: u64, follower: &mut F) -> u64
+        requires { self.old.waits ≡ false }
+        ensures most { result ≤ most }
+        ensures made { IsFollowed F.told self.old.state follower.old result self.new.state follower.new }
+        ensures goes_on { self.new.waits ≡ false }
+    {
+        self.decoded.run(&mut self.state, most, follower)
     }
 
     /// Answers the call that waits, which finishes its step.
@@ -131,12 +152,29 @@ impl Machine {
     {
         self.waits = false;
         match reply {
-            Reply::Read { result, bytes } => self.state.after_read(result, bytes),
+            Reply::Read { result, bytes } => self.after_read(result, bytes),
             Reply::Write { result } => self.state.after_write(result),
             Reply::Clock { value } => self.state.after_clock(value),
             Reply::Other => self.state.after_other(),
             Reply::Exit => self.state.advance(),
         }
+    }
+
+    /// A read's result goes to x10, and its bytes to memory, whose words are forgotten.
+    fn after_read(&mut self, outcome: i32, bytes: &[u8])
+        requires { 0 < length bytes.now
+            → IsTrue (in_window self.old.state (reg self.old.state 11) (length bytes.now)) }
+        ensures state { self.new.state
+            ≡ after_read self.old.state (reg self.old.state 11) outcome bytes.now }
+        ensures waits { self.new.waits ≡ self.old.waits }
+    {
+        if bytes.is_empty() {
+            self.state.after_read(outcome, bytes);
+            return;
+        }
+        let offset = self.state.register(11) - self.state.base();
+        self.state.after_read(outcome, bytes);
+        self.decoded.forget(offset, bytes.len() as u64);
     }
 
     /// The `length` bytes of memory from an address on, or None where they aren't all in the window. No
@@ -199,7 +237,7 @@ impl Machine {
         if !self.state.in_window(pc, 4) {
             return None;
         }
-        decode(self.state.load(pc, 4))
+        decode(self.state.fetched())
     }
 
     /// The lowest address of the window. The window ends at most at 2^32.

@@ -5,12 +5,13 @@
 //! is answered.
 //!
 //! Crates above rest on this: `Machine::new` is the start, or Window exactly where there is none; `step` and `answer`
-//! are one step of the definitions; `bytes`, `register`, `window` and `refusal` are theirs; a state that is taken
-//! out, or whose parts are lent, and put back is as it was.
+//! are one step of the definitions, and `run_plain` is so many plain ones; `bytes`, `register`, `window` and `refusal`
+//! are theirs; a state that is taken out, or whose parts are lent, and put back is as it was.
 #![tactic(auto)]
 
 mod decoded;
 mod hart;
+mod running;
 mod saved;
 mod state;
 
@@ -18,6 +19,7 @@ use elf_model::SmallWindow;
 pub use hart::Machine;
 pub use isa::{Call, CallKind, Instr};
 use no_memory::Fault;
+pub use running::{Follower, Unfollowed};
 pub use saved::{MachineState, Rest};
 
 /// Why there is no machine for an image: the window can't hold it, or out of memory.

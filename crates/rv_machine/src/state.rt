@@ -1,19 +1,24 @@
 //! The state of a hart: pc, registers and the window of memory.
 
 ghost use Rattle.std.specs.Prelude.{◌≡◌, ℕ, ◌+◌, ◌^◌, ◌<◌, ◌≤◌, length, IfOk};
-ghost use Rattle.isa.specs.Machine.{reg, moved_on, moved_on_with, is_aligned, address_of};
-ghost use Rattle.rv_machine.specs.Effects.{IsSmall, Executes};
+ghost use Rattle.isa.specs.Encodings.{Fits};
+ghost use Rattle.isa.specs.Machine.{reg, moved_on, moved_on_with, is_aligned};
+ghost use Rattle.rv_machine.specs.Effects.{pc_after, Executes};
 
-use isa::Effect;
+use instructions::set_register;
+use isa::Instr;
 use no_memory::NoMemory;
 use std::alloc::Global;
 use std::marker::Model;
 
 mod arithmetic;
 mod calls;
-mod effects;
+mod instructions;
 mod memory;
 mod start;
+
+pub use instructions::execute;
+pub use memory::{in_window, load};
 
 /// The exception codes of a step that was fetched.
 const MISALIGNED_TARGET: u32 = 0;
@@ -43,11 +48,20 @@ impl Model for HartState {
     ghost invariant = { λ s. s.base + length s.memory.items ≤ 2 ^ 32 };
 }
 
-/// How an effect was carried out: the step is done, or it is a call, or it traps with this code. Only a step
-/// that is done changes the state.
-pub enum Done {
-    Retired,
+/// Where an instruction leads, and why there.
+#[derive(Clone, Copy)]
+pub enum Next {
+    /// On to the next instruction.
+    On,
+    /// To this one.
+    To(u32),
+    /// On to the next instruction, after a load from this effective address.
+    Loaded(u32),
+    /// On to the next instruction, after a store to this effective address.
+    Stored(u32),
+    /// It is a call, and changes nothing.
     Called,
+    /// It traps with this code, and changes nothing.
     Trapped(u32),
 }
 
@@ -58,13 +72,18 @@ fn is_aligned(target: u32) -> bool
     target % 4 == 0
 }
 
-/// The effective address of a load or a store, and 0 for other effects.
-pub fn address_of(effect: &Effect) -> u32
-    ensures { result ≡ address_of effect.now }
+/// The pc after an instruction.
+#[inline(always)]
+pub fn pc_after(pc: u32, next: Next) -> u32
+    ensures { result ≡ pc_after pc next }
 {
-    match *effect {
-        Effect::Load { address, .. } | Effect::Store { address, .. } => address,
-        _ => 0,
+    match next {
+        Next::On => pc.wrapping_add(4),
+        Next::To(target) => target,
+        Next::Loaded(_) => pc.wrapping_add(4),
+        Next::Stored(_) => pc.wrapping_add(4),
+        Next::Called => pc,
+        Next::Trapped(_) => pc,
     }
 }
 
@@ -115,73 +134,24 @@ impl HartState {
         requires { rd < 32 }
         ensures { self.new ≡ moved_on_with self.old rd value }
     {
-        if rd != 0 {
-            self.registers[rd as usize] = value;
-        }
+        set_register(&mut self.registers, rd, value);
         self.advance();
     }
 
-    /// Carries out what an instruction does.
+    /// Does an instruction, and says where it leads. Neither a call nor a trap changes anything.
     #[inline(always)]
-    pub fn execute(&mut self, effect: Effect) -> Done
-        requires { IsSmall effect }
-        ensures { Executes self.old effect result self.new }
+    pub fn execute(&mut self, instr: &Instr) -> Next
+        requires { Fits instr.now }
+        ensures { Executes self.old instr.now result self.new }
     {
-        match effect {
-            Effect::SetRegister { rd, value } => {
-                self.set(rd, value);
-                Done::Retired
-            }
-            Effect::Jump { rd, target } => {
-                if !is_aligned(target) {
-                    return Done::Trapped(MISALIGNED_TARGET);
-                }
-                self.set(rd, self.pc.wrapping_add(4));
-                self.pc = target;
-                Done::Retired
-            }
-            Effect::Branch { taken, target } => {
-                if !taken {
-                    self.advance();
-                    return Done::Retired;
-                }
-                if !is_aligned(target) {
-                    return Done::Trapped(MISALIGNED_TARGET);
-                }
-                self.pc = target;
-                Done::Retired
-            }
-            Effect::Load {
-                rd,
-                address,
-                size,
-                signed,
-            } => {
-                if !self.in_window(address, u32::from(size)) {
-                    return Done::Trapped(LOAD_OUTSIDE);
-                }
-                let value = memory::extended(self.load(address, u32::from(size)), size, signed);
-                self.set(rd, value);
-                Done::Retired
-            }
-            Effect::Store {
-                address,
-                size,
-                value,
-            } => {
-                if !self.in_window(address, u32::from(size)) {
-                    return Done::Trapped(STORE_OUTSIDE);
-                }
-                self.store_low(address, value, size);
-                self.advance();
-                Done::Retired
-            }
-            Effect::MoveOn => {
-                self.advance();
-                Done::Retired
-            }
-            Effect::EnvironmentCall => Done::Called,
-            Effect::Breakpoint => Done::Trapped(BREAKPOINT),
-        }
+        let next = execute(
+            &mut self.registers,
+            self.memory.as_mut_slice(),
+            self.base,
+            self.pc,
+            instr,
+        );
+        self.pc = pc_after(self.pc, next);
+        next
     }
 }

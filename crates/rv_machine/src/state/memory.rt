@@ -2,6 +2,7 @@
 
 ghost use Rattle.std.specs.Prelude.{◌≡◌, ℕ, ◌+◌, ◌-◌, ◌^◌, ◌<◌, ◌≤◌, ◌⊎◌, length, IsTrue};
 ghost use Rattle.isa.specs.Machine.{in_window, bytes_at, little_endian, overwritten, low_bytes, extended};
+ghost use Rattle.rv_machine.specs.Effects.{window_of};
 
 use super::HartState;
 
@@ -42,36 +43,89 @@ pub fn extended(value: u32, size: u8, signed: bool) -> u32
     }
 }
 
+/// Whether the `size` bytes from an address on are all in a window. An address below the base wraps to one that is past the
+/// window's end.
+#[inline(always)]
+pub fn in_window(memory: &[u8], base: u32, address: u32, size: u32) -> bool
+    requires in_space { base + length memory.now ≤ 2 ^ 32 }
+    requires some { 0 < size }
+    ensures { result ≡ in_window (window_of base memory.now) address size }
+{
+    let start = address.wrapping_sub(base);
+    u64::from(start) + u64::from(size) <= memory.len() as u64
+}
+
+/// The `size` bytes from an address on.
+#[inline(always)]
+fn part(memory: &[u8], base: u32, address: u32, size: u32) -> &[u8]
+    requires { IsTrue (in_window (window_of base memory.now) address size) }
+    ensures is { result.now ≡ bytes_at (window_of base memory.now) address size }
+    ensures len { length result.now ≡ size }
+{
+    let start = (address - base) as usize;
+    &memory[start..start + size as usize]
+}
+
+/// The number in one, two or four bytes of memory.
+#[inline(always)]
+pub fn load(memory: &[u8], base: u32, address: u32, size: u32) -> u32
+    requires inside { IsTrue (in_window (window_of base memory.now) address size) }
+    requires sizes { (size ≡ 1) ⊎ (size ≡ 2) ⊎ (size ≡ 4) }
+    ensures is { result ≡ little_endian (bytes_at (window_of base memory.now) address size) }
+    ensures byte { size ≡ 1 → result < 2 ^ 8 }
+    ensures half { size ≡ 2 → result < 2 ^ 16 }
+{
+    little_endian_of(part(memory, base, address, size))
+}
+
+/// Bytes go to memory from an address on.
+#[inline(always)]
+fn store(memory: &mut [u8], base: u32, address: u32, bytes: &[u8])
+    requires { IsTrue (in_window (window_of base memory.old) address (length bytes.now)) }
+    ensures { memory.new ≡ overwritten memory.old (address - base) bytes.now }
+{
+    let start = (address - base) as usize;
+    memory[start..start + bytes.len()].copy_from_slice(bytes);
+}
+
+/// The `size` lowest bytes of a word go to memory. Each size is copied by itself, since a copy of any length is a call.
+#[inline(always)]
+pub fn store_low(memory: &mut [u8], base: u32, address: u32, value: u32, size: u8)
+    requires inside { IsTrue (in_window (window_of base memory.old) address size) }
+    requires sizes { (size ≡ 1) ⊎ (size ≡ 2) ⊎ (size ≡ 4) }
+    ensures { memory.new ≡ overwritten memory.old (address - base) (low_bytes size value) }
+{
+    let bytes = value.to_le_bytes();
+    match size {
+        1 => store(memory, base, address, &bytes[..1]),
+        2 => store(memory, base, address, &bytes[..2]),
+        _ => store(memory, base, address, &bytes),
+    }
+}
+
 impl HartState {
-    /// Whether the `size` bytes from an address on are all in the window. An address below the base wraps to one that
-    /// is past the window's end.
+    /// Whether the `size` bytes from an address on are all in the window.
     pub fn in_window(&self, address: u32, size: u32) -> bool
         requires { 0 < size }
         ensures { result ≡ in_window self.now address size }
     {
-        let start = address.wrapping_sub(self.base);
-        u64::from(start) + u64::from(size) <= self.memory.len() as u64
+        in_window(self.memory.as_slice(), self.base, address, size)
     }
 
     /// The `size` bytes from an address on.
     pub fn part(&self, address: u32, size: u32) -> &[u8]
         requires { IsTrue (in_window self.now address size) }
-        ensures is { result.now ≡ bytes_at self.now address size }
-        ensures len { length result.now ≡ size }
+        ensures { result.now ≡ bytes_at self.now address size }
     {
-        let start = (address - self.base) as usize;
-        &self.memory[start..start + size as usize]
+        part(self.memory.as_slice(), self.base, address, size)
     }
 
-    /// The number in one, two or four bytes of memory.
-    pub fn load(&self, address: u32, size: u32) -> u32
-        requires inside { IsTrue (in_window self.now address size) }
-        requires sizes { (size ≡ 1) ⊎ (size ≡ 2) ⊎ (size ≡ 4) }
-        ensures is { result ≡ little_endian (bytes_at self.now address size) }
-        ensures byte { size ≡ 1 → result < 2 ^ 8 }
-        ensures half { size ≡ 2 → result < 2 ^ 16 }
+    /// The number in the four bytes at the pc.
+    pub fn fetched(&self) -> u32
+        requires { IsTrue (in_window self.now self.now.pc 4) }
+        ensures { result ≡ little_endian (bytes_at self.now self.now.pc 4) }
     {
-        little_endian_of(self.part(address, size))
+        load(self.memory.as_slice(), self.base, self.pc, 4)
     }
 
     /// Bytes go to memory from an address on.
@@ -82,24 +136,6 @@ impl HartState {
               (address - self.old.base) bytes.now;
         } }
     {
-        let start = (address - self.base) as usize;
-        self.memory[start..start + bytes.len()].copy_from_slice(bytes);
-    }
-
-    /// The `size` lowest bytes of a word go to memory. Each size is copied by itself, since a copy of any length is a call.
-    pub fn store_low(&mut self, address: u32, value: u32, size: u8)
-        requires inside { IsTrue (in_window self.old address size) }
-        requires sizes { (size ≡ 1) ⊎ (size ≡ 2) ⊎ (size ≡ 4) }
-        ensures { self.new ≡ record self.old {
-          memory = overwritten self.old.memory (address - self.old.base)
-              (low_bytes size value);
-        } }
-    {
-        let bytes = value.to_le_bytes();
-        match size {
-            1 => self.store(address, &bytes[..1]),
-            2 => self.store(address, &bytes[..2]),
-            _ => self.store(address, &bytes),
-        }
+        store(self.memory.as_mut_slice(), self.base, address, bytes);
     }
 }

@@ -1,0 +1,358 @@
+//! What instructions do, over the parts of a hart.
+
+ghost use Rattle.std.specs.Prelude.{◌≡◌, ℕ, ◌+◌, ◌-◌, ◌*◌, ◌/◌, ◌^◌, ◌<◌, ◌≤◌, ◌⊎◌, length, slice_index, IsTrue};
+ghost use Rattle.isa.specs.Encodings.{Fits};
+ghost use Rattle.isa.specs.Machine.{effect_of, wrap, as_word, is_aligned, with_register, in_window, low_bytes};
+ghost use Rattle.rv_machine.specs.Effects.{state_of, window_of, pc_after, Executes, landing, branching, loading, storing, next_of, set_if, loaded_value, registers_after, written_if, memory_after};
+
+use super::arithmetic::{
+    arithmetic_right, is_less, multiply_high, multiply_high_signed_unsigned,
+    multiply_high_unsigned, quotient, remainder, unsigned_quotient, unsigned_remainder,
+};
+use super::{BREAKPOINT, LOAD_OUTSIDE, MISALIGNED_TARGET, Next, STORE_OUTSIDE, is_aligned, memory};
+use isa::Instr;
+
+#[inline(always)]
+fn register(registers: &[u32; 32], number: u8) -> u32
+    requires { number < 32 }
+    ensures { result ≡ slice_index registers.now number }
+{
+    registers[number as usize]
+}
+
+#[inline(always)]
+fn effective_address(registers: &[u32; 32], rs1: u8, imm: i32) -> u32
+    requires { rs1 < 32 }
+    ensures { result ≡ wrap (slice_index registers.now rs1 + as_word imm) }
+{
+    register(registers, rs1).wrapping_add(imm.cast_unsigned())
+}
+
+/// An address relative to the instruction's own.
+#[inline(always)]
+fn relative(pc: u32, imm: i32) -> u32
+    ensures { result ≡ wrap (pc + as_word imm) }
+{
+    pc.wrapping_add(imm.cast_unsigned())
+}
+
+/// A register gets a value, unless it is x0.
+#[inline(always)]
+pub fn set_register(registers: &mut [u32; 32], rd: u8, value: u32)
+    requires { rd < 32 }
+    ensures { registers.new ≡ with_register registers.old rd value }
+{
+    if rd != 0 {
+        registers[rd as usize] = value;
+    }
+}
+
+/// A register gets a value, and the pc moves on.
+#[inline(always)]
+fn set(registers: &mut [u32; 32], rd: u8, value: u32) -> Next
+    requires { rd < 32 }
+    ensures on { result ≡ Next.On }
+    ensures sets { registers.new ≡ with_register registers.old rd value }
+{
+    set_register(registers, rd, value);
+    Next::On
+}
+
+/// The pc gets the target, and a register the address after the instruction.
+#[inline(always)]
+fn jump(registers: &mut [u32; 32], rd: u8, pc: u32, target: u32) -> Next
+    requires { rd < 32 }
+    ensures leads { result ≡ landing (is_aligned target) target }
+    ensures sets { registers.new ≡ set_if (is_aligned target) registers.old rd (wrap (pc + 4)) }
+{
+    if !is_aligned(target) {
+        return Next::Trapped(MISALIGNED_TARGET);
+    }
+    set_register(registers, rd, pc.wrapping_add(4));
+    Next::To(target)
+}
+
+/// The pc gets the target where the branch is taken, and else moves on.
+#[inline(always)]
+fn branch(taken: bool, target: u32) -> Next
+    ensures { result ≡ branching taken target }
+{
+    if !taken {
+        return Next::On;
+    }
+    if !is_aligned(target) {
+        return Next::Trapped(MISALIGNED_TARGET);
+    }
+    Next::To(target)
+}
+
+/// A register gets `size` bytes from an effective address on, sign- or zero-extended.
+#[inline(always)]
+fn load(
+    registers: &mut [u32; 32],
+    memory: &[u8],
+    base: u32,
+    rd: u8,
+    address: u32,
+    size: u8,
+    signed: bool,
+) -> Next
+    requires register { rd < 32 }
+    requires in_space { base + length memory.now ≤ 2 ^ 32 }
+    requires sizes { (size ≡ 1) ⊎ (size ≡ 2) ⊎ (size ≡ 4) }
+    requires signed_sizes { IsTrue signed → (size ≡ 1) ⊎ (size ≡ 2) }
+    ensures leads { result ≡ loading (in_window (window_of base memory.now) address size) address }
+    ensures sets { registers.new ≡ set_if (in_window (window_of base memory.now) address size)
+        registers.old rd (loaded_value (window_of base memory.now) address size signed) }
+{
+    if !memory::in_window(memory, base, address, u32::from(size)) {
+        return Next::Trapped(LOAD_OUTSIDE);
+    }
+    let value = memory::load(memory, base, address, u32::from(size));
+    set_register(registers, rd, memory::extended(value, size, signed));
+    Next::Loaded(address)
+}
+
+/// The `size` lowest bytes of a value go to memory from an effective address on.
+#[inline(always)]
+fn store(memory: &mut [u8], base: u32, address: u32, size: u8, value: u32) -> Next
+    requires in_space { base + length memory.old ≤ 2 ^ 32 }
+    requires sizes { (size ≡ 1) ⊎ (size ≡ 2) ⊎ (size ≡ 4) }
+    ensures leads { result ≡ storing (in_window (window_of base memory.old) address size) address }
+    ensures writes { memory.new ≡ written_if (in_window (window_of base memory.old) address size)
+        memory.old (address - base) (low_bytes size value) }
+{
+    if !memory::in_window(memory, base, address, u32::from(size)) {
+        return Next::Trapped(STORE_OUTSIDE);
+    }
+    memory::store_low(memory, base, address, value, size);
+    Next::Stored(address)
+}
+
+/// Does an instruction, and says where it leads. Neither a call nor a trap changes anything.
+#[inline(always)]
+pub fn execute(
+    registers: &mut [u32; 32],
+    memory: &mut [u8],
+    base: u32,
+    pc: u32,
+    instr: &Instr,
+) -> Next
+    requires fits { Fits instr.now }
+    requires in_space { base + length memory.old ≤ 2 ^ 32 }
+    ensures { Executes (state_of pc registers.old base memory.old) instr.now result
+        (state_of (pc_after pc result) registers.new base memory.new) }
+{
+    by_instruction(registers, memory, base, pc, instr)
+}
+
+/// The same, instruction by instruction.
+#[inline(always)]
+fn by_instruction(
+    registers: &mut [u32; 32],
+    memory: &mut [u8],
+    base: u32,
+    pc: u32,
+    instr: &Instr,
+) -> Next
+    requires fits { Fits instr.now }
+    requires in_space { base + length memory.old ≤ 2 ^ 32 }
+    ensures leads { result ≡ next_of (state_of pc registers.old base memory.old)
+        (effect_of (state_of pc registers.old base memory.old) instr.now) }
+    ensures sets { registers.new ≡ registers_after (state_of pc registers.old base memory.old)
+        (effect_of (state_of pc registers.old base memory.old) instr.now) }
+    ensures writes { memory.new ≡ memory_after (state_of pc registers.old base memory.old)
+        (effect_of (state_of pc registers.old base memory.old) instr.now) }
+{
+    match *instr {
+        Instr::Lui { rd, imm } => set(registers, rd, imm.cast_unsigned()),
+        Instr::Auipc { rd, imm } => set(registers, rd, relative(pc, imm)),
+        Instr::Jal { rd, imm } => jump(registers, rd, pc, relative(pc, imm)),
+        Instr::Jalr { rd, rs1, imm } => {
+            let target = effective_address(registers, rs1, imm) / 2 * 2;
+            jump(registers, rd, pc, target)
+        }
+        Instr::Beq { rs1, rs2, imm } => branch(
+            register(registers, rs1) == register(registers, rs2),
+            relative(pc, imm),
+        ),
+        Instr::Bne { rs1, rs2, imm } => branch(
+            register(registers, rs1) != register(registers, rs2),
+            relative(pc, imm),
+        ),
+        Instr::Blt { rs1, rs2, imm } => branch(
+            is_less(register(registers, rs1), register(registers, rs2)),
+            relative(pc, imm),
+        ),
+        Instr::Bge { rs1, rs2, imm } => branch(
+            !is_less(register(registers, rs1), register(registers, rs2)),
+            relative(pc, imm),
+        ),
+        Instr::Bltu { rs1, rs2, imm } => branch(
+            register(registers, rs1) < register(registers, rs2),
+            relative(pc, imm),
+        ),
+        Instr::Bgeu { rs1, rs2, imm } => branch(
+            register(registers, rs1) >= register(registers, rs2),
+            relative(pc, imm),
+        ),
+        Instr::Lb { rd, rs1, imm } => {
+            let address = effective_address(registers, rs1, imm);
+            load(registers, memory, base, rd, address, 1, true)
+        }
+        Instr::Lh { rd, rs1, imm } => {
+            let address = effective_address(registers, rs1, imm);
+            load(registers, memory, base, rd, address, 2, true)
+        }
+        Instr::Lw { rd, rs1, imm } => {
+            let address = effective_address(registers, rs1, imm);
+            load(registers, memory, base, rd, address, 4, false)
+        }
+        Instr::Lbu { rd, rs1, imm } => {
+            let address = effective_address(registers, rs1, imm);
+            load(registers, memory, base, rd, address, 1, false)
+        }
+        Instr::Lhu { rd, rs1, imm } => {
+            let address = effective_address(registers, rs1, imm);
+            load(registers, memory, base, rd, address, 2, false)
+        }
+        Instr::Sb { rs1, rs2, imm } => {
+            let address = effective_address(registers, rs1, imm);
+            store(memory, base, address, 1, register(registers, rs2))
+        }
+        Instr::Sh { rs1, rs2, imm } => {
+            let address = effective_address(registers, rs1, imm);
+            store(memory, base, address, 2, register(registers, rs2))
+        }
+        Instr::Sw { rs1, rs2, imm } => {
+            let address = effective_address(registers, rs1, imm);
+            store(memory, base, address, 4, register(registers, rs2))
+        }
+        Instr::Addi { rd, rs1, imm } => set(registers, rd, effective_address(registers, rs1, imm)),
+        Instr::Slti { rd, rs1, imm } => set(
+            registers,
+            rd,
+            u32::from(register(registers, rs1).cast_signed() < imm),
+        ),
+        Instr::Sltiu { rd, rs1, imm } => set(
+            registers,
+            rd,
+            u32::from(register(registers, rs1) < imm.cast_unsigned()),
+        ),
+        Instr::Xori { rd, rs1, imm } => set(
+            registers,
+            rd,
+            register(registers, rs1) ^ imm.cast_unsigned(),
+        ),
+        Instr::Ori { rd, rs1, imm } => set(
+            registers,
+            rd,
+            register(registers, rs1) | imm.cast_unsigned(),
+        ),
+        Instr::Andi { rd, rs1, imm } => set(
+            registers,
+            rd,
+            register(registers, rs1) & imm.cast_unsigned(),
+        ),
+        Instr::Slli { rd, rs1, amount } => set(registers, rd, register(registers, rs1) << amount),
+        Instr::Srli { rd, rs1, amount } => set(registers, rd, register(registers, rs1) >> amount),
+        Instr::Srai { rd, rs1, amount } => set(
+            registers,
+            rd,
+            arithmetic_right(register(registers, rs1), u32::from(amount)),
+        ),
+        Instr::Add { rd, rs1, rs2 } => set(
+            registers,
+            rd,
+            register(registers, rs1).wrapping_add(register(registers, rs2)),
+        ),
+        Instr::Sub { rd, rs1, rs2 } => set(
+            registers,
+            rd,
+            register(registers, rs1).wrapping_sub(register(registers, rs2)),
+        ),
+        Instr::Sll { rd, rs1, rs2 } => set(
+            registers,
+            rd,
+            register(registers, rs1) << (register(registers, rs2) % 32),
+        ),
+        Instr::Slt { rd, rs1, rs2 } => set(
+            registers,
+            rd,
+            u32::from(is_less(register(registers, rs1), register(registers, rs2))),
+        ),
+        Instr::Sltu { rd, rs1, rs2 } => set(
+            registers,
+            rd,
+            u32::from(register(registers, rs1) < register(registers, rs2)),
+        ),
+        Instr::Xor { rd, rs1, rs2 } => set(
+            registers,
+            rd,
+            register(registers, rs1) ^ register(registers, rs2),
+        ),
+        Instr::Srl { rd, rs1, rs2 } => set(
+            registers,
+            rd,
+            register(registers, rs1) >> (register(registers, rs2) % 32),
+        ),
+        Instr::Sra { rd, rs1, rs2 } => set(
+            registers,
+            rd,
+            arithmetic_right(register(registers, rs1), register(registers, rs2) % 32),
+        ),
+        Instr::Or { rd, rs1, rs2 } => set(
+            registers,
+            rd,
+            register(registers, rs1) | register(registers, rs2),
+        ),
+        Instr::And { rd, rs1, rs2 } => set(
+            registers,
+            rd,
+            register(registers, rs1) & register(registers, rs2),
+        ),
+        Instr::Mul { rd, rs1, rs2 } => set(
+            registers,
+            rd,
+            register(registers, rs1).wrapping_mul(register(registers, rs2)),
+        ),
+        Instr::Mulh { rd, rs1, rs2 } => set(
+            registers,
+            rd,
+            multiply_high(register(registers, rs1), register(registers, rs2)),
+        ),
+        Instr::Mulhsu { rd, rs1, rs2 } => set(
+            registers,
+            rd,
+            multiply_high_signed_unsigned(register(registers, rs1), register(registers, rs2)),
+        ),
+        Instr::Mulhu { rd, rs1, rs2 } => set(
+            registers,
+            rd,
+            multiply_high_unsigned(register(registers, rs1), register(registers, rs2)),
+        ),
+        Instr::Div { rd, rs1, rs2 } => set(
+            registers,
+            rd,
+            quotient(register(registers, rs1), register(registers, rs2)),
+        ),
+        Instr::Divu { rd, rs1, rs2 } => set(
+            registers,
+            rd,
+            unsigned_quotient(register(registers, rs1), register(registers, rs2)),
+        ),
+        Instr::Rem { rd, rs1, rs2 } => set(
+            registers,
+            rd,
+            remainder(register(registers, rs1), register(registers, rs2)),
+        ),
+        Instr::Remu { rd, rs1, rs2 } => set(
+            registers,
+            rd,
+            unsigned_remainder(register(registers, rs1), register(registers, rs2)),
+        ),
+        Instr::Fence { .. } => Next::On,
+        Instr::Ecall => Next::Called,
+        Instr::Ebreak => Next::Trapped(BREAKPOINT),
+    }
+}
