@@ -22,7 +22,7 @@ use Rattle.taint_shadow.specs.Labels.{LabelWords, Laws, MakesLabel, Makes, nothi
 use Rattle.taint_shadow.specs.Lanes.{lane_at, alike, clean, chosen_label, shuffled, extended_lane, both_mean, LanesStand, MakesLanes}
 use Rattle.taint_shadow.specs.Places.{kept, origin_lane, origin_lanes}
 use Rattle.taint_shadow.specs.Steps.{meaning_at, AreStanding, united_over, based_mean}
-use Rattle.taint_shadow.proofs.Meaning.{AreHere, over_union, over_meaning, can_mean, either_here, lane_here, lane_made, lanes_mean, all_clean, lanes_here, union_here, each_of_four, alike_at, origins_at, keeps_itself, keeps_then, both_made, nothing_with}
+use Rattle.taint_shadow.proofs.Meaning.{AreHere, either_here, lane_here, lane_made, lanes_mean, all_clean, lanes_here, union_here, each_of_four, alike_at, origins_at, keeps_itself, keeps_then, both_made, nothing_with}
 
 -- ---- where origins lie
 
@@ -92,16 +92,6 @@ module _ {A M : Type 0} (words : LabelWords A M) (laws : Laws words) where
     no_lanes : (t : ℕ) → t < 32 → ((n : ℕ) → n < 4 → origin_lane p t n ≡ nothing_label) → words.nothing ≡ over (lanes t)
     no_lanes t small is = sym (all_clean words laws a clean refl) ∙ lanes_mean words laws a p standing t clean small (λ n low. alike_at nothing_label n low ∙ sym (is n low))
 
-    -- with them all lanes of a register mean what they mean alone
-    pub with_clean : (b : A) (r s : ℕ) (label : Label) → r < 32 → s < 32 → ((j : ℕ) → j < 4 → origin_lane p s j ≡ nothing_label)
-        → MakesLabel words b (over (lanes r)) label → MakesLabel words b (over (all_lanes r s 0)) label
-    with_clean b r s label h k clean_s made = record {
-      stands = made.stands;
-      means = made.means ∙ sym (over_union words laws (meaning_at words a p) (can_mean words laws a p standing) (lanes r) (lanes s) (lanes_here r h) (lanes_here s k)
-          ∙ ap (words.united (over (lanes r))) (sym (no_lanes s k clean_s))
-          ∙ laws.with_nothing (over (lanes r)) (over_meaning words laws (meaning_at words a p) (can_mean words laws a p standing) (lanes r) (lanes_here r h)));
-    }
-
     -- where no lane of two registers has a label, what they make together has none
     pub clean_mixed : (mixing : Mixing) (r s i : ℕ) → r < 32 → s < 32 → i < 4 → ((j : ℕ) → j < 4 → origin_lane p r j ≡ nothing_label)
         → ((j : ℕ) → j < 4 → origin_lane p s j ≡ nothing_label) → MakesLabel words a (over (mixed_lanes mixing r s i)) nothing_label
@@ -128,6 +118,13 @@ module _ {A M : Type 0} (words : LabelWords A M) (laws : Laws words) where
       by AllLanes = all
       by ShiftedLanes = both (lanes r) (lane s 0) (lanes_here r h) (lane_here s 0 k (omega arith)) (no_lanes r h clean_r) (no_lane s 0 k (omega arith) clean_s)
       by FirstLane = first (i == 0)
+
+    -- one label of two registers, in each of which all lanes have one, is that of each lane of both
+    pub each_made : (b : A) (r s : ℕ) (one other label : Label) → r < 32 → s < 32 → ((i : ℕ) → i < 4 → origin_lane p r i ≡ one) → ((i : ℕ) → i < 4 → origin_lane p s i ≡ other)
+        → MakesLabel words b (words.united (words.means a one) (words.means a other)) label → (i : ℕ) → i < 4 → MakesLabel words b (over (mixed_lanes EachLane r s i)) (lane_at (alike label) i)
+    each_made b r s one other label h k is_one is_other made i low = subst (MakesLabel words b (over (mixed_lanes EachLane r s i))) (sym (alike_at label i low))
+        (both_made words laws a p standing b (lane r i) (lane s i) (words.means a one) (words.means a other) label (lane_here r i h low) (lane_here s i k low)
+        (lane_made words laws a p standing r i one h low (sym (is_one i low))).means (lane_made words laws a p standing s i other k low (sym (is_other i low))).means made)
 
     -- x0 as a base adds nothing
     pub no_base : (base n : ℕ) (x : Lanes) → base ≡ 0 → n ≤ 4 → LanesStand words a x → MakesLanes words a n (based_mean words a p base x) a x

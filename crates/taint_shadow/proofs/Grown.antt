@@ -46,12 +46,12 @@ cell_more [] x d (suc j) h = refl
 cell_more (y ∷ xs) x d zero h = refl
 cell_more (y ∷ xs) x d (suc j) h = cell_more xs x d j (λ e. h (ap suc e))
 
-cell_same : {X : Type 0} (xs : List X) (i : ℕ) (x d : X) → i < length xs → slice_index_or (slice_set xs i x) i d ≡ x
+pub cell_same : {X : Type 0} (xs : List X) (i : ℕ) (x d : X) → i < length xs → slice_index_or (slice_set xs i x) i d ≡ x
 cell_same [] i x d h = absurd (omega arith)
 cell_same (y ∷ xs) zero x d h = refl
 cell_same (y ∷ xs) (suc i) x d h = cell_same xs i x d (omega arith)
 
-cell_other : {X : Type 0} (xs : List X) (i : ℕ) (x d : X) (j : ℕ) → i ≢ j → slice_index_or (slice_set xs i x) j d ≡ slice_index_or xs j d
+pub cell_other : {X : Type 0} (xs : List X) (i : ℕ) (x d : X) (j : ℕ) → i ≢ j → slice_index_or (slice_set xs i x) j d ≡ slice_index_or xs j d
 cell_other [] i x d j h = refl
 cell_other (y ∷ xs) zero x d zero h = absurd (h refl)
 cell_other (y ∷ xs) zero x d (suc j) h = refl

@@ -93,11 +93,6 @@ module _ {A M : Type 0} (words : LabelWords A M) where
   pub stand_kept : (a b : A) (x : Lanes) → KeepsLabels words a b → LanesStand words a x → LanesStand words b x
   stand_kept a b x k s = record { at = λ i h. (k (lane_at x i) (s.at i h)).stands }
 
-  -- what lanes mean stays
-  pub all_mean_kept : (a b : A) (x : Lanes) → KeepsLabels words a b → LanesStand words a x → all_mean words b x ≡ all_mean words a x
-  all_mean_kept a b x k s = ap₂ words.united (k x.first (s.at 0 (omega arith))).means
-      (ap₂ words.united (k x.second (s.at 1 (omega arith))).means (ap₂ words.united (k x.third (s.at 2 (omega arith))).means (k x.fourth (s.at 3 (omega arith))).means))
-
   -- the labels of two lanes are united after others were made
   pub unite_later : (a b c : A) (l x y : Label) → KeepsLabels words a b → words.stands a l → words.stands a x → Makes words b (words.united (words.means b l) (words.means b x)) c y
       → Makes words a (words.united (words.means a l) (words.means a x)) c y
@@ -116,6 +111,11 @@ module _ {A M : Type 0} (words : LabelWords A M) where
   united_same f g same [] here = refl
   united_same f g same (l ∷ []) here = same l here.0
   united_same f g same (l ∷ m ∷ ls) here = ap₂ words.united (same l here.0) (united_same f g same (m ∷ ls) here.1)
+
+  -- what locations have together stays, whatever labels are made
+  pub over_kept : (a b : A) (p : Places) → KeepsLabels words a b → AreStanding words a p → (ls : List Loc) → AreHere ls
+      → united_over words (meaning_at words b p) ls ≡ united_over words (meaning_at words a p) ls
+  over_kept a b p k s = united_same (meaning_at words b p) (meaning_at words a p) (λ l here. (k (kept p l) (s.at l here)).means)
 
   module _ (laws : Laws words) where
     pub nothing_with : (m : M) → words.IsMeaning m → words.united words.nothing m ≡ m
@@ -234,6 +234,12 @@ module _ {A M : Type 0} (words : LabelWords A M) where
                 ≡ united_over words (meaning_at words a p) (if b then [] else Reg r 0 ∷ Reg r 1 ∷ Reg r 2 ∷ Reg r 3 ∷ [])
             by true = let none = laws.of_nothing a in alike_mean a nothing_label none.stands ∙ none.means
             by false = refl
+
+      -- the label that all lanes of a register have
+      pub register_made : (r : ℕ) (label : Label) → r < 32 → ((i : ℕ) → i < 4 → origin_lane p r i ≡ label) → MakesLabel words a (united_over words (meaning_at words a p) (lanes r)) label
+      register_made r label h is =
+          let stands = (lane_made r 0 label h (omega arith) (sym (is 0 (omega arith)))).stands in
+          record { stands = stands; means = sym (alike_mean a label stands) ∙ lanes_mean r (alike label) h (λ i low. alike_at label i low ∙ sym (is i low)) }
 
       -- a label of what two others meant together is one of what the locations of both have
       pub both_made : (b : A) (xs ys : List Loc) (m n : M) (label : Label) → AreHere xs → AreHere ys

@@ -54,7 +54,3 @@ module _ {A M : Type 0} (words : LabelWords A M) where
   -- what lane i of both means together
   abbrev pub both_mean : A → Lanes → Lanes → ℕ → M
   both_mean labels x y i = mean_together words labels (lane_at x i) (lane_at y i)
-
-  -- what all lanes of both mean together
-  abbrev pub all_both_mean : A → Lanes → Lanes → M
-  all_both_mean labels x y = words.united (all_mean labels x) (all_mean labels y)

@@ -8,6 +8,7 @@
 
 mod labels;
 mod lanes;
+mod marks;
 mod memory;
 mod mixing;
 mod places;

@@ -2,7 +2,7 @@
 
 ghost use Rattle.std.specs.Prelude.{IfOk};
 ghost use Rattle.taint_shadow.specs.Labels.{Makes};
-ghost use Rattle.taint_shadow.specs.Lanes.{LanesStand, all_mean, both_mean, all_both_mean, MakesLanes};
+ghost use Rattle.taint_shadow.specs.Lanes.{LanesStand, all_mean, both_mean, MakesLanes};
 
 use crate::labels::{Label, Labels};
 use crate::lanes::Lanes;
@@ -20,21 +20,6 @@ pub(crate) fn unite_all<A: Labels>(labels: &mut A, lanes: Lanes) -> Result<Label
     let highest = labels.unite(lanes.third, lanes.fourth)?;
     let upper = labels.unite(lanes.second, highest)?;
     labels.unite(lanes.first, upper)
-}
-
-/// The label of what all lanes of two words have together.
-pub(crate) fn unite_both<A: Labels>(
-    labels: &mut A,
-    one: Lanes,
-    other: Lanes,
-) -> Result<Label, NoMemory>
-    requires one { LanesStand A.words labels.old one }
-    requires other { LanesStand A.words labels.old other }
-    ensures { IfOk result (Makes A.words labels.old (all_both_mean A.words labels.old one other) labels.new) }
-{
-    let left = unite_all(labels, one)?;
-    let right = unite_all(labels, other)?;
-    labels.unite(left, right)
 }
 
 /// The labels of what the same lane of two words has together.

@@ -1,16 +1,17 @@
 //! What locations are labelled with.
 
-ghost use Rattle.std.specs.Prelude.{◌≡◌, ◌<◌, ◌≤◌, ◌+◌, ℕ, length, IfOk, OnOk, IsTrue};
+ghost use Rattle.std.specs.Prelude.{◌≡◌, ◌<◌, ◌≤◌, ◌+◌, ℕ, length, IfOk, IfSome, OnOk, IsTrue};
 ghost use Rattle.flow_model.specs.declared.Loc.TheVariants.{Reg, Mem};
 ghost use Rattle.flow_model.specs.Ranges.{IsLocation};
 ghost use Rattle.isa.specs.Machine.{wrap};
 ghost use Rattle.taint_shadow.specs.Labels.{start_label, nothing_label};
 ghost use Rattle.flow_rule.specs.Shuffles.{AreLanes};
 ghost use Rattle.taint_shadow.specs.Lanes.{lane_at, alike, clean, shuffled};
-ghost use Rattle.taint_shadow.specs.Notes.{AreNoted};
+ghost use Rattle.taint_shadow.specs.Notes.{AreNoted, AreAlike};
 
 use crate::labels::Label;
 use crate::lanes::Lanes;
+use crate::marks::Marks;
 use crate::memory::{self, Regions};
 use flow_model::Loc;
 use flow_rule::Shuffle;
@@ -25,14 +26,18 @@ const REGISTERS: usize = 32;
 pub struct Places {
     registers: Vec<Lanes>,
     // Whether a register, as an origin, may have a label.
-    labelled: [bool; REGISTERS],
+    labelled: Marks,
+    // Whether all lanes of a register have one label.
+    uniform: Marks,
     alloc: Global,
     memory: Regions,
     ghost lanes: { length registers.items ≡ 32 },
-    ghost noted: { AreNoted labelled registers.items },
+    ghost noted: { AreNoted labelled.bits registers.items },
+    ghost same: { AreAlike uniform.bits registers.items },
 }
 
 impl Places {
+    ghost use Rattle.taint_shadow.specs.Clean.{AreClean};
     ghost use Rattle.taint_shadow.specs.Places.{kept, AreKept, origin_lane, origin_lanes, with_lanes, with_word};
 
     /// Each location has the label of what it had at the start.
@@ -43,11 +48,10 @@ impl Places {
         for number in 0..REGISTERS {
             registers.push(start_lanes(number as u8))?;
         }
-        let mut labelled = [true; REGISTERS];
-        labelled[0] = false;
         Ok(Places {
             registers,
-            labelled,
+            labelled: Marks::all_but_first(),
+            uniform: Marks::none(),
             alloc,
             memory: Vec::new(alloc),
         })
@@ -71,7 +75,7 @@ impl Places {
         requires { number < 32 }
         ensures { (i : ℕ) → i < 4 → lane_at result i ≡ origin_lane self.now number i }
     {
-        if self.labelled[number as usize] {
+        if self.labelled.has(number) {
             self.registers[number as usize]
         } else {
             Lanes::clean()
@@ -84,7 +88,32 @@ impl Places {
         requires { number < 32 }
         ensures { IsTrue result → (i : ℕ) → i < 4 → origin_lane self.now number i ≡ nothing_label }
     {
-        !self.labelled[number as usize]
+        !self.labelled.has(number)
+    }
+
+    /// The label that all lanes of a register have, as origins, where it is noted that they have one: that of nothing where they
+    /// are clean.
+    #[inline(always)]
+    pub(crate) fn one_label(&self, number: u8) -> Option<Label>
+        requires { number < 32 }
+        ensures { IfSome result (λ l. (i : ℕ) → i < 4 → origin_lane self.now number i ≡ l) }
+    {
+        if !self.labelled.has(number) {
+            return Some(Label::nothing());
+        }
+        if self.uniform.has(number) {
+            return Some(self.registers[number as usize].first);
+        }
+        None
+    }
+
+    /// Whether a plain step of an instruction with these registers, as `rv_decode::registers_of` has them, is known to leave
+    /// the label of each location as it is: none of them has a label, and it is no load and no store.
+    #[inline(always)]
+    pub fn is_clean_of(&self, registers: u32) -> bool
+        ensures { IsTrue result → AreClean self.now registers }
+    {
+        registers % 2 == 0 && self.labelled.has_none_of(registers)
     }
 
     /// Empties the lanes of a register; those of x0 stay as they are.
@@ -93,9 +122,9 @@ impl Places {
         requires { number < 32 }
         ensures { AreKept self.new (with_lanes number clean (kept self.old)) }
     {
-        if self.labelled[number as usize] {
+        if self.labelled.has(number) {
             self.registers[number as usize] = Lanes::clean();
-            self.labelled[number as usize] = false;
+            self.labelled = self.labelled.without(number);
         }
     }
 
@@ -107,18 +136,34 @@ impl Places {
     {
         if number > 0 {
             self.registers[number as usize] = lanes;
-            self.labelled[number as usize] = true;
+            self.labelled = self.labelled.with(number);
+            self.uniform = self.uniform.without(number);
         }
     }
 
-    /// The same. Of lanes that have no label it is noted that they are clean.
+    /// Labels all lanes of a register with one label, of which it is noted that they have it; those of x0 stay as they are.
+    #[inline(always)]
+    pub(crate) fn set_alike(&mut self, number: u8, label: Label)
+        requires { number < 32 }
+        ensures { AreKept self.new (with_lanes number (alike label) (kept self.old)) }
+    {
+        if label.is_nothing() {
+            self.clear(number);
+        } else if number > 0 {
+            self.registers[number as usize] = Lanes::alike(label);
+            self.labelled = self.labelled.with(number);
+            self.uniform = self.uniform.with(number);
+        }
+    }
+
+    /// Labels the lanes of a register anew, and notes what there is to note of them; those of x0 stay as they are.
     #[inline(always)]
     pub(crate) fn put_lanes(&mut self, number: u8, lanes: Lanes)
         requires { number < 32 }
         ensures { AreKept self.new (with_lanes number lanes (kept self.old)) }
     {
-        if lanes.are_clean() {
-            self.clear(number);
+        if lanes.are_alike() {
+            self.set_alike(number, lanes.first);
         } else {
             self.set_lanes(number, lanes);
         }
@@ -130,11 +175,12 @@ impl Places {
         requires { (number < 32) × (from < 32) }
         ensures { AreKept self.new (with_lanes number (origin_lanes self.old from) (kept self.old)) }
     {
-        if self.is_clean(from) {
-            self.clear(number);
-        } else {
-            let lanes = self.lanes(from);
-            self.set_lanes(number, lanes);
+        match self.one_label(from) {
+            Some(label) => self.set_alike(number, label),
+            None => {
+                let lanes = self.lanes(from);
+                self.set_lanes(number, lanes);
+            }
         }
     }
 

@@ -2,16 +2,29 @@
 
 ghost use Rattle.std.specs.Prelude.{◌<◌, ◌≤◌, IfOk, OnOk};
 ghost use Rattle.flow_rule.specs.Shapes.{HasRegisters, HasSizes};
-ghost use Rattle.flow_model.specs.Flow.{each_lane, all_lanes, shifted_lanes};
+ghost use Rattle.flow_model.specs.Flow.{lanes, each_lane, all_lanes, shifted_lanes};
 ghost use Rattle.taint_shadow.specs.Lanes.{LanesStand};
 ghost use Rattle.taint_shadow.specs.Steps.{AreStanding, Turns, MakesBased, MakesOver, MakesFrom};
 
 use crate::labels::{Label, Labels};
 use crate::lanes::Lanes;
-use crate::mixing::{unite_all, unite_both, unite_lanes};
+use crate::mixing::{unite_all, unite_lanes};
 use crate::places::Places;
 use flow_rule::{Mixing, Shape};
 use no_memory::NoMemory;
+
+/// The label of what all lanes of a register have together.
+#[inline(always)]
+fn register_label<A: Labels>(labels: &mut A, places: &Places, number: u8) -> Result<Label, NoMemory>
+    requires register { number < 32 }
+    requires standing { AreStanding A.words labels.old places.now }
+    ensures { IfOk result (MakesOver A.words labels.old places.now (lanes number) labels.new) }
+{
+    match places.one_label(number) {
+        Some(label) => Ok(label),
+        None => unite_all(labels, places.lanes(number)),
+    }
+}
 
 /// The label of what all lanes of two registers have together.
 #[inline(always)]
@@ -25,11 +38,9 @@ fn all_label<A: Labels>(
     requires standing { AreStanding A.words labels.old places.now }
     ensures { IfOk result (MakesOver A.words labels.old places.now (all_lanes rs1 rs2 0) labels.new) }
 {
-    let one = places.lanes(rs1);
-    if places.is_clean(rs2) {
-        return unite_all(labels, one);
-    }
-    unite_both(labels, one, places.lanes(rs2))
+    let one = register_label(labels, places, rs1)?;
+    let other = register_label(labels, places, rs2)?;
+    labels.unite(one, other)
 }
 
 /// The label of what all lanes of a register have together with lane 0 of another.
@@ -44,8 +55,8 @@ fn shifted_label<A: Labels>(
     requires standing { AreStanding A.words labels.old places.now }
     ensures { IfOk result (MakesOver A.words labels.old places.now (shifted_lanes rs1 rs2 0) labels.new) }
 {
-    let amount = Lanes::alike(places.lanes(rs2).first);
-    unite_both(labels, places.lanes(rs1), amount)
+    let all = register_label(labels, places, rs1)?;
+    labels.unite(all, places.lanes(rs2).first)
 }
 
 /// The labels of what the same lane of two registers has together.
@@ -76,6 +87,13 @@ fn mix_each<A: Labels>(
     ensures { OnOk result
         (Turns A.words labels.old places.old labels.new places.new (Shape.Mixed Mixing.EachLane rd rs1 rs2)) }
 {
+    if let Some(one) = places.one_label(rs1) {
+        if let Some(other) = places.one_label(rs2) {
+            let label = labels.unite(one, other)?;
+            places.set_alike(rd, label);
+            return Ok(());
+        }
+    }
     let lanes = lane_labels(labels, places, rs1, rs2)?;
     places.set_lanes(rd, lanes);
     Ok(())
@@ -95,7 +113,7 @@ fn mix_all<A: Labels>(
         (Turns A.words labels.old places.old labels.new places.new (Shape.Mixed Mixing.AllLanes rd rs1 rs2)) }
 {
     let label = all_label(labels, places, rs1, rs2)?;
-    places.set_lanes(rd, Lanes::alike(label));
+    places.set_alike(rd, label);
     Ok(())
 }
 
@@ -113,7 +131,7 @@ fn shift<A: Labels>(
         (Turns A.words labels.old places.old labels.new places.new (Shape.Mixed Mixing.ShiftedLanes rd rs1 rs2)) }
 {
     let label = shifted_label(labels, places, rs1, rs2)?;
-    places.set_lanes(rd, Lanes::alike(label));
+    places.set_alike(rd, label);
     Ok(())
 }
 
@@ -194,7 +212,7 @@ fn based<A: Labels>(
     requires standing { AreStanding A.words labels.old places.now }
     ensures { IfOk result (MakesBased A.words labels.old places.now base 4 lanes labels.new) }
 {
-    let label = unite_all(labels, places.lanes(base))?;
+    let label = register_label(labels, places, base)?;
     unite_lanes(labels, Lanes::alike(label), lanes)
 }
 

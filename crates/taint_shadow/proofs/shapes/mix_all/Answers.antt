@@ -1,8 +1,6 @@
-use Rattle.std.proofs.Common.{subst}
 use Rattle.flow_rule.specs.declared.shape.Mixing.TheVariants.{AllLanes}
 use Rattle.flow_rule.specs.Shapes.{mixed_lanes}
 use Rattle.taint_shadow.specs.Lanes.{alike}
-use Rattle.taint_shadow.specs.Places.{kept, AreKept, with_lanes}
 use Rattle.taint_shadow.proofs.Flows.{alike_made, mixed_here}
 use Rattle.taint_shadow.proofs.Targets.{register_turned}
 use Rattle.taint_shadow.proofs.shapes.mix_all.Goals as goal
@@ -12,4 +10,4 @@ returns g c =
     let made = c.in_ok-label.ensures in
     register_turned g.A.Labels.words _ _ c.args.places.now _ c.requires.standing made.keeps c.args.rd (mixed_lanes AllLanes c.args.rs1 c.args.rs2) (alike c.in_ok-label.label)
     (alike_made g.A.Labels.words g.met.A.Labels.laws _ _ c.in_ok-label.label made.made)
-    (λ i h. mixed_here AllLanes c.args.rs1 c.args.rs2 i c.requires.registers.1 c.requires.registers.2 h) (subst (λ x. AreKept c.set_lanes.new.self (with_lanes c.args.rd x (kept c.args.places.now))) c.alike.ensures c.set_lanes.ensures)
+    (λ i h. mixed_here AllLanes c.args.rs1 c.args.rs2 i c.requires.registers.1 c.requires.registers.2 h) c.set_alike.ensures

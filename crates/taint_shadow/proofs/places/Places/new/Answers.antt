@@ -1,4 +1,5 @@
-use Rattle.std.proofs.Common.{◌≡◌, ◌<◌, ℕ, [], length, slice_index_or, refl, arith, ap, sym, subst, ◌∙◌}
+use Rattle.std.proofs.Common.{◌≡◌, ◌<◌, ℕ, [], length, slice_index_or, arith, ap, sym, subst, ◌∙◌}
+use Rattle.std.proofs.lemmas.Bool.{both_ways}
 use Rattle.flow_model.specs.declared.Loc.TheVariants.{Reg, Mem}
 use Rattle.taint_shadow.specs.declared.lanes.Lanes.{Lanes}
 use Rattle.taint_shadow.specs.Labels.{start_label}
@@ -35,7 +36,7 @@ started p all none begun = record { at = λ l here. by l here } where
 pub invariant_of-result : goal.invariant_of-result
 invariant_of-result c =
     let all : length c.loop-number.registers.items ≡ 32 = omega (arith, c.loop-number.invariant.size, c.loop-number-test.false, c.loop-number.auto.number-end) in
-    record { lanes = all; noted = noted_start _ c.loop-number.registers.items refl refl all }
+    record { lanes = all; noted = noted_start _ c.loop-number.registers.items c.all_but_first.ensures; same = λ r h k. absurd (both_ways _ (c.none.ensures r) k) }
 
 pub returns : goal.returns
 returns c =
