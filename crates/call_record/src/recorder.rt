@@ -16,7 +16,7 @@ use isa::{Call, CallKind};
 use log_model::RunEnd;
 use no_memory::NoMemory;
 use outer_io::Clock;
-use rv_machine::{Machine, Reply, Stepped};
+use rv_machine::{Machine, Reply, Stepped, Unfollowed};
 use std::alloc::Global;
 
 /// A machine, how many bytes were received on each channel, and the records of the calls so far.
@@ -246,10 +246,16 @@ impl Recorder {
             (K.answers clock.old) (K.answers clock.new)) }
         ensures gained { OnErr result (Gained (K.answers clock.old) (K.answers clock.new)) }
     {
-        for at in 0..steps {
+        let mut at = 0;
+        while at < steps {
+            at += self.machine.run_plain(steps - at, &mut Unfollowed);
+            if at == steps {
+                break;
+            }
             if let Some(end) = self.step(alloc, source, clock, at)? {
                 return Ok(end);
             }
+            at += 1;
         }
         Ok(RunEnd::Limit { at: steps })
     }

@@ -1,20 +1,25 @@
 -- A taker of checkpoints, step after step.
-use Rattle.std.proofs.Common.{◌≡◌, ◌≢◌, ℕ, suc, ◌+◌, ◌-◌, ◌<◌, ◌≤◌, ◌⊎◌, inl, inr, Bool, true, false, List, [], ◌∷◌, ◌++◌, length, take, get_or, refl, arith, ap, sym, ◌∙◌, subst}
-use Rattle.std.specs.Prelude.{replicate}
+use Rattle.std.proofs.Common.{◌≡◌, ◌≢◌, ℕ, suc, ◌+◌, ◌-◌, ◌%◌, ◌<◌, ◌≤◌, ◌⊎◌, inl, inr, Bool, true, false, List, [], ◌∷◌, ◌++◌, length, take, get_or, refl, arith, ap, sym, ◌∙◌, subst}
+use Rattle.std.specs.Prelude.{replicate, ◌||◌}
 use Rattle.std.proofs.lemmas.Bool.{cases_lt}
 use Rattle.std.proofs.lemmas.List.{take_more, length-replicate, map_push}
+use Rattle.isa.specs.declared.Instr.{Instr}
+use Rattle.isa.specs.declared.Instr.TheVariants.{Lui, Auipc, Jal, Jalr, Beq, Bne, Blt, Bge, Bltu, Bgeu, Lb, Lh, Lw, Lbu, Lhu, Sb, Sh, Sw, Addi, Slti, Sltiu, Xori, Ori, Andi, Slli, Srli, Srai, Add, Sub, Sll, Slt, Sltu, Xor, Srl, Sra, Or, And, Mul, Mulh, Mulhsu, Mulhu, Div, Divu, Rem, Remu, Fence, Ecall, Ebreak}
+use Rattle.rv_decode.specs.Registers.{registers_of}
+use Rattle.rv_machine.specs.Running.{PassesBy}
 use Rattle.log_model.specs.Logs.{steps}
 use Rattle.flow_model.specs.declared.StepSeen.{StepSeen}
 use Rattle.epoch_model.specs.Cutting.{IsCutting}
 use Rattle.replay_run.specs.Runs.{RunAt}
 use Rattle.replayer.specs.Jobs.{Job, IsJob}
 use Rattle.replayer.specs.Saved.{RestOfCursor, IsOfJob, put_together}
-use Rattle.replayer.specs.Watching.{IsMadeOf}
+use Rattle.replayer.specs.Nexts.{seen_at}
+use Rattle.replayer.specs.Watching.{IsMadeOf, IsToldInRow}
 use Rattle.checkpoints.specs.declared.touched.Span.{Span}
 use Rattle.checkpoints.specs.Pages.{page, changed, ArePagesOf, IsExtended}
-use Rattle.checkpoints.specs.Touched.{TouchedAt, written, AreMarked, AreAllTouched, AreOthersSame, AreOthersHeld}
+use Rattle.checkpoints.specs.Touched.{TouchedAt, span, stored_size, written, is_touched, has_byte, AreMarked, AreAllTouched, AreOthersSame, AreOthersHeld}
 use Rattle.checkpoints.specs.Points.{CheckpointAt, time_of, window_at, last_window, last_numbers, beginnings, IsCheckpoint, AreOfWindow}
-use Rattle.checkpoints.specs.Taking.{TakenAt, AreTaken, TakerAt, times_taken, IsTakenBefore, IsTakenTo}
+use Rattle.checkpoints.specs.Taking.{TakenAt, AreTaken, TakerAt, times_taken, quiet_of, IsTakenBefore, IsTakenTo, HasSeen}
 use Rattle.checkpoints.proofs.Holding.{last_window_is, memory_is, others_held, with_one}
 use Rattle.checkpoints.proofs.Rising.{begins_later, begins_within}
 use Rattle.checkpoints.proofs.Standing.{window_is}
@@ -115,6 +120,93 @@ module _ (job : Job) (is : IsJob job) (s : StepSeen) (after : RunAt) (made : IsM
     where
       differs : s.number + 1 ≢ w.next
       differs e = other (made.time ∙ e)
+
+-- ---- steps in a row
+
+-- where the bytes that an instruction stores are noted, and no checkpoint is due, the taker was told of its step
+pub told_in_row : (w : TakerAt) (touched : TouchedAt) (instr : Instr) (place : ℕ) → touched.base ≡ w.touched.base → AreMarked w.touched.flags (place - w.touched.base) (stored_size instr) touched.flags
+    → IsToldInRow HasSeen quiet_of w instr place (record w { touched = touched })
+told_in_row w touched instr place base marked was job until t after small soon before fits made seen =
+    let time = made.time in
+    let other : after.moment.time ≢ w.next = λ e. no (sym time ∙ e) in (
+      record {
+        cuts = seen.cuts;
+        taken = λ is cutting out.
+            not_due job is (seen_at t (record { instr = instr; place = place })) after made w (seen.taken is cutting out) touched (span place (stored_size instr)) refl base marked other;
+      },
+      soon,
+    )
+  where
+    no : t + 1 ≡ w.next → ⊥
+    no e = omega arith
+
+-- what has no registers, or registers alone, stores nothing
+stores_nothing : (instr : Instr) → registers_of instr % 2 ≡ 0 → stored_size instr ≡ 0
+stores_nothing (Lui d imm) even = refl
+stores_nothing (Auipc d imm) even = refl
+stores_nothing (Jal d imm) even = refl
+stores_nothing (Jalr d a imm) even = refl
+stores_nothing (Beq a b imm) even = refl
+stores_nothing (Bne a b imm) even = refl
+stores_nothing (Blt a b imm) even = refl
+stores_nothing (Bge a b imm) even = refl
+stores_nothing (Bltu a b imm) even = refl
+stores_nothing (Bgeu a b imm) even = refl
+stores_nothing (Lb d a imm) even = refl
+stores_nothing (Lh d a imm) even = refl
+stores_nothing (Lw d a imm) even = refl
+stores_nothing (Lbu d a imm) even = refl
+stores_nothing (Lhu d a imm) even = refl
+stores_nothing (Sb a b imm) even = cc
+stores_nothing (Sh a b imm) even = cc
+stores_nothing (Sw a b imm) even = cc
+stores_nothing (Addi d a imm) even = refl
+stores_nothing (Slti d a imm) even = refl
+stores_nothing (Sltiu d a imm) even = refl
+stores_nothing (Xori d a imm) even = refl
+stores_nothing (Ori d a imm) even = refl
+stores_nothing (Andi d a imm) even = refl
+stores_nothing (Slli d a k) even = refl
+stores_nothing (Srli d a k) even = refl
+stores_nothing (Srai d a k) even = refl
+stores_nothing (Add d a b) even = refl
+stores_nothing (Sub d a b) even = refl
+stores_nothing (Sll d a b) even = refl
+stores_nothing (Slt d a b) even = refl
+stores_nothing (Sltu d a b) even = refl
+stores_nothing (Xor d a b) even = refl
+stores_nothing (Srl d a b) even = refl
+stores_nothing (Sra d a b) even = refl
+stores_nothing (Or d a b) even = refl
+stores_nothing (And d a b) even = refl
+stores_nothing (Mul d a b) even = refl
+stores_nothing (Mulh d a b) even = refl
+stores_nothing (Mulhsu d a b) even = refl
+stores_nothing (Mulhu d a b) even = refl
+stores_nothing (Div d a b) even = refl
+stores_nothing (Divu d a b) even = refl
+stores_nothing (Rem d a b) even = refl
+stores_nothing (Remu d a b) even = refl
+stores_nothing (Fence kept) even = refl
+stores_nothing Ecall even = refl
+stores_nothing Ebreak even = refl
+
+-- no bytes mark no page
+none_marked : (flags : List Bool) (first n : ℕ) → n ≡ 0 → AreMarked flags first n flags
+none_marked flags first n none = record {
+  count = refl;
+  each = λ place. sym (ap (λ (k : ℕ). is_touched flags place || has_byte first k place) none ∙ or_false (is_touched flags place));
+}
+  where
+    or_false : (b : Bool) → (b || false) ≡ b
+    or_false true = refl
+    or_false false = refl
+
+-- so a taker has nothing to note of it
+pub passed_by : (w : TakerAt) (registers : ℕ) → registers % 2 ≡ 0 → PassesBy (IsToldInRow HasSeen quiet_of) registers w
+passed_by w registers even instr place fits own =
+    let none = stores_nothing instr (ap (λ (n : ℕ). n % 2) own ∙ even) in
+    told_in_row w w.touched instr place refl (none_marked w.touched.flags (place - w.touched.base) (stored_size instr) none)
 
 -- ---- the whole run
 

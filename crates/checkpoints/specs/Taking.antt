@@ -1,5 +1,5 @@
 -- Checkpoints that are taken while a run is watched.
-use Rattle.std.specs.Prelude.{◌≡◌, ℕ, ◌<◌, ◌≤◌, Bool, false, List, [], ◌∷◌, ◌++◌, length, map, take, get_or}
+use Rattle.std.specs.Prelude.{◌≡◌, ℕ, ◌-◌, ◌<◌, ◌≤◌, Bool, false, List, [], ◌∷◌, ◌++◌, length, map, take, get_or}
 use Rattle.log_model.specs.Logs.{steps}
 use Rattle.epoch_model.specs.Cutting.{IsCutting}
 use Rattle.replay_run.specs.Runs.{RunAt}
@@ -36,6 +36,10 @@ pub record TakerAt : Type 0 where
 -- the times of those that are taken: epochs begin at 0 and at each cut but the last
 abbrev pub times_taken : TakerAt → List ℕ
 times_taken w = take (length w.taken.points) (0 ∷ w.cuts)
+
+-- the time up to which no checkpoint is due: steps that end by then are noted, and no more
+abbrev pub quiet_of : TakerAt → ℕ
+quiet_of w = w.next - 1
 
 -- where the run stands at time t: these are taken, and the pages that were written since the last are noted
 pub record IsTakenBefore (job : Job) (t : ℕ) (w : TakerAt) : Type 0 where

@@ -15,7 +15,7 @@ use crate::touched::{Span, Touched, stored, written};
 use epoch_cut::Cuts;
 use flow_model::StepSeen;
 use no_memory::NoMemory;
-use replayer::{Job, PlainStep, Position, Watcher};
+use replayer::{Follower, Instr, Job, PlainStep, Position, Watcher};
 use std::alloc::Global;
 use std::marker::Model;
 
@@ -104,10 +104,37 @@ impl CheckpointTaker {
     }
 }
 
+impl Follower for CheckpointTaker {
+    ghost use Rattle.replayer.specs.Watching.{IsToldInRow};
+    ghost use Rattle.checkpoints.specs.Taking.{HasSeen, quiet_of};
+
+    ghost told = { IsToldInRow HasSeen quiet_of };
+
+    /// It passes by what neither loads nor stores.
+    #[inline(always)]
+    fn passes_by(&self, registers: u32) -> bool {
+        registers % 2 == 0
+    }
+
+    #[inline(always)]
+    fn follow(&mut self, instr: &Instr, place: u32) {
+        self.touched.note(stored(*instr, place));
+    }
+}
+
 impl Watcher for CheckpointTaker {
-    ghost use Rattle.checkpoints.specs.Taking.{HasSeen};
+    ghost use Rattle.checkpoints.specs.Taking.{HasSeen, quiet_of};
 
     ghost seen = { HasSeen };
+
+    ghost quiet = { quiet_of };
+
+    ghost enough = { λ _ _ _ _ told. told };
+
+    /// The next checkpoint is taken by the step that ends when it is due.
+    fn quiet_until(&self) -> u64 {
+        self.next.saturating_sub(1)
+    }
 
     fn begin(&mut self, at: &Position<'_, '_>) {
         self.next = 0;

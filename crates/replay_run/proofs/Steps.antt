@@ -25,7 +25,7 @@ use Rattle.rv_machine.specs.Hart.{Hart, IsStep}
 use Rattle.rv_machine.specs.declared.Stepped.{Stepped}
 use Rattle.rv_machine.specs.declared.Stepped.TheVariants.{Plain, Called, Trapped}
 use Rattle.replay_run.specs.Expects.{event_time}
-use Rattle.replay_run.specs.Runs.{RunAt, with_hart, IsUnderLog, CanMove, IsDue, IsLater, IsReady, IsFinished}
+use Rattle.replay_run.specs.Runs.{RunAt, with_hart, gone_on, IsUnderLog, CanMove, IsDue, IsLater, AreLater, IsReady, IsFinished}
 
 -- ---- the records that are left are the log's
 
@@ -60,6 +60,25 @@ event_within r under = by r.moment.left under.all under.rise
     by (q ∷ qs) all rise =
         let last : least_after 0 r.log.records ≡ least_after (at_of q + 1) qs = ap (least_after 0) (sym all) ∙ least_at 0 r.moment.done q qs in
         omega (arith, under.form.ends_after, least_rises (at_of q + 1) qs rise.1)
+
+-- ---- where so many steps later no record is taken
+
+-- the records that are left rise from each time before the first of them
+pub rise_later : (t n k : ℕ) (left : List CallRecord) → Rise t left → AreLater t n left → k ≤ n → Rise (t + k) left
+rise_later t n k [] rise later h = tt
+rise_later t n k (r ∷ rs) rise later h = (omega arith, rise.1)
+
+pub are_later : (t n : ℕ) (left : List CallRecord) (end : RunEnd) → t + n ≤ event_time left end → AreLater t n left
+are_later t n [] end h = tt
+are_later t n (r ∷ rs) end h = h
+
+pub under_later : (r : RunAt) (n k : ℕ) (s : State) → IsUnderLog r → AreLater r.moment.time n r.moment.left → k ≤ n → IsUnderLog (gone_on r k s)
+under_later r n k s under later h = record {
+  form = under.form;
+  small = under.small;
+  all = under.all;
+  rise = rise_later r.moment.time n k r.moment.left under.rise later h;
+}
 
 -- ---- a record that agrees is due
 

@@ -33,6 +33,10 @@ with_hart r hart = record { log = r.log; moment = record (r.moment) { state = ha
 abbrev pub later_by_one : RunAt → RunAt
 later_by_one r = record { log = r.log; moment = record (r.moment) { time = r.moment.time + 1 }; waits = r.waits }
 
+-- the run with so many more plain steps done, in this state
+abbrev pub gone_on : RunAt → ℕ → State → RunAt
+gone_on r n s = record { log = r.log; moment = record (r.moment) { time = r.moment.time + n; state = s }; waits = false }
+
 -- true of each run: the records that are done and left are those of its log, and the ones left rise from its time on
 pub record IsUnderLog (r : RunAt) : Type 0 where
   pub form : IsLog r.log
@@ -66,6 +70,11 @@ IsDue inputs m (r ∷ rs) = (at_of r ≡ m.time) × Answers inputs m.state r
 abbrev pub IsLater : ℕ → List CallRecord → Type 0
 IsLater time [] = Unit {0}
 IsLater time (r ∷ rs) = time < at_of r
+
+-- the first of the records left is of no step before so many more are done
+abbrev pub AreLater : ℕ → ℕ → List CallRecord → Type 0
+AreLater time n [] = Unit {0}
+AreLater time n (r ∷ rs) = time + n ≤ at_of r
 
 -- ---- finishing a step
 

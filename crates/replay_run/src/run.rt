@@ -4,9 +4,10 @@ ghost use Rattle.std.specs.Prelude.{◌≡◌, ◌==◌, if◌then◌else◌, �
 ghost use Rattle.replay_model.specs.Run.{start, after_call, call_seen, simple_call as simple};
 ghost use Rattle.replay_model.specs.Comparison.{expected};
 ghost use Rattle.rv_machine.specs.Hart.{IsStep};
+ghost use Rattle.rv_machine.specs.Running.{IsFollowed};
 ghost use Rattle.flow_model.specs.Ranges.{IsInRange};
 ghost use Rattle.replay_run.specs.Expects.{expected_of, event_time};
-ghost use Rattle.replay_run.specs.Runs.{hart_of, with_hart, later_by_one, IsUnderLog, IsDue, IsLater, IsReady, IsFinished};
+ghost use Rattle.replay_run.specs.Runs.{hart_of, with_hart, later_by_one, gone_on, IsUnderLog, IsDue, IsLater, AreLater, IsReady, IsFinished};
 ghost use Rattle.replay_run.specs.Counters.{run_at, CountRecords};
 
 use crate::counters::Counters;
@@ -16,7 +17,7 @@ use isa::{CallKind, Instr};
 use log_model::CallRecord;
 use no_memory::NoMemory;
 use replay_log::Log;
-use rv_machine::{Machine, Reply, Stepped};
+use rv_machine::{Follower, Machine, Reply, Stepped};
 use std::alloc::Global;
 use std::marker::Model;
 
@@ -296,6 +297,22 @@ impl<'a> Run<'a> {
         ensures { self.new ≡ later_by_one self.old }
     {
         self.time += 1;
+    }
+
+    /// Makes plain steps in a row, at most so many, before any of which the log has a call, and gives how many were made. It may
+    /// make fewer. `follower` is told of each, but for those that it passes by: [`Machine::run_plain`].
+    #[inline(always)]
+    pub fn run_plain<F: Follower>(&mut self, most: u64, follower: &mut F) -> u64
+        requires goes_on { self.old.waits ≡ false }
+        requires later { AreLater self.old.moment.time most self.old.moment.left }
+        requires time { self.old.moment.time + most ≤ 2 ^ 41 }
+        ensures most { result ≤ most }
+        ensures made { IsFollowed F.told self.old.moment.state follower.old result self.new.moment.state follower.new }
+        ensures rest { self.new ≡ gone_on self.old result self.new.moment.state }
+    {
+        let made = self.machine.run_plain(most, follower);
+        self.time += made;
+        made
     }
 
     /// Finishes a step that the machine has made, as the log has it.

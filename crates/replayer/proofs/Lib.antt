@@ -8,4 +8,6 @@ mod Standing
 mod Watching
 mod Stretches
 mod Stepping
+mod InARow
+mod Leading
 mod Summaries

@@ -10,7 +10,7 @@ use Rattle.replay_model.proofs.Agreement.{expects_plain_at_end, expects_plain_be
 use Rattle.replay_model.proofs.Track.{step_time}
 use Rattle.replay_run.specs.Runs.{RunAt}
 use Rattle.replay_run.specs.Expects.{event_time}
-use Rattle.replayer.specs.CheckedSteps.{IsAdvanced, Advances, IsPassed}
+use Rattle.replayer.specs.CheckedSteps.{IsAdvanced, Advances, IsPassed, TookNoRecord}
 use Rattle.replayer.proofs.Loops.{IsChecking, checking_start, checking_more}
 
 -- before the next call or the end a plain step is due
@@ -20,31 +20,43 @@ plain_before t (r ∷ rs) end h = expects_plain_before t r rs end h
 
 -- ---- plain steps
 
--- plain steps were made from this run up to a time, and nothing differed
-pub record IsPassing (before : RunAt) (t : ℕ) (run : RunAt) : Type 0 where
-  pub passed : IsPassed before run
-  pub goes_on : run.waits ≡ false
-  pub same_log : run.log ≡ before.log
-  pub left : run.moment.left ≡ before.moment.left
-  pub time : run.moment.time ≡ t
+pub no_record_taken : (run : RunAt) → run.waits ≡ false → TookNoRecord run run
+no_record_taken run goes_on = record { same_log = refl; left = refl; goes_on = goes_on; later = omega arith }
 
-pub passing_start : (run : RunAt) → run.waits ≡ false → IsPassing run run.moment.time run
-passing_start run goes_on = record {
-  passed = record { count = 0; steps = refl };
-  goes_on = goes_on;
-  same_log = refl;
-  left = refl;
-  time = refl;
-}
+pub no_record_then : (before between after : RunAt) → TookNoRecord before between → TookNoRecord between after → TookNoRecord before after
+no_record_then before between after first second =
+    let sooner = first.later in
+    let later = second.later in
+    record {
+      same_log = second.same_log ∙ first.same_log;
+      left = second.left ∙ first.left;
+      goes_on = second.goes_on;
+      later = omega arith;
+    }
 
-pub passing_more : (before : RunAt) (t : ℕ) (run after : RunAt) → IsPassing before t run → IsAdvanced run after → after.moment.left ≡ run.moment.left → IsPassing before (t + 1) after
-passing_more before t run after p made left = record {
-  passed = record { count = suc p.passed.count; steps = (run, p.passed.steps, made) };
-  goes_on = ap (λ (r : RunAt). r.waits) made.moved;
-  same_log = ap (λ (r : RunAt). r.log) made.moved ∙ p.same_log;
-  left = left ∙ p.left;
-  time = ap (λ (r : RunAt). r.moment.time) made.moved ∙ step_time run.log run.moment made.early made.agrees ∙ ap (λ (n : ℕ). n + 1) p.time;
-}
+pub no_record_by : (before after : RunAt) → IsAdvanced before after → after.moment.left ≡ before.moment.left → TookNoRecord before after
+no_record_by before after made left =
+    let time : after.moment.time ≡ before.moment.time + 1 = ap (λ (r : RunAt). r.moment.time) made.moved ∙ step_time before.log before.moment made.early made.agrees in
+    record {
+      same_log = ap (λ (r : RunAt). r.log) made.moved;
+      left = left;
+      goes_on = ap (λ (r : RunAt). r.waits) made.moved;
+      later = omega arith;
+    }
+
+-- ---- steps, and then more
+
+advances_then : (m n : ℕ) (before between after : RunAt) → Advances n before between → Advances m between after → Advances (n + m) before after
+advances_then zero n before between after first same =
+    let none : n ≡ n + 0 = omega arith in
+    subst (λ (k : ℕ). Advances k before after) none (subst (Advances n before) (sym same) first)
+advances_then (suc m) n before between after first (there, some, made) =
+    let more : suc (n + m) ≡ n + suc m = omega arith in
+    subst (λ (k : ℕ). Advances k before after) more (there, advances_then m n before between there first some, made)
+
+pub passed_then : (before between after : RunAt) → IsPassed before between → IsPassed between after → IsPassed before after
+passed_then before between after first second =
+    record { count = first.count + second.count; steps = advances_then second.count first.count before between after first.steps second.steps }
 
 -- ---- many steps of a check
 

@@ -17,7 +17,7 @@ use Rattle.replayer.specs.Jobs.{Job, trace_of}
 use Rattle.replayer.specs.Cursors.{Stands}
 use Rattle.replayer.specs.Watching.{Seen, IsMadeOf, IsToldOf, IsTold, ArePassed}
 use Rattle.replayer.proofs.Loops.{IsChecking}
-use Rattle.replayer.proofs.Passing.{IsPassing, IsBeyond, passing_more, beyond_passed, beyond_more}
+use Rattle.replayer.proofs.Passing.{IsBeyond, passed_then, beyond_passed, beyond_more}
 use Rattle.replayer.proofs.Standing.{IsMoved, moved_by_one, stands_later, step_here}
 
 -- ---- where a run stands after some steps of a check
@@ -38,6 +38,19 @@ moved (suc n) before after (between, so_far, made) =
       time = ap (λ (m : Moment). m.time) moment ∙ later;
     }
 
+-- a step that is finished is one of each job at whose run it stands
+pub made_of : (job : Job) (run after : RunAt) (stepped : Stepped) (hart : Hart) (s : StepSeen) → Stands job run → run.moment.time < steps job.log → IsStep run.moment.state stepped hart
+    → IsFinished (record (run.moment) { state = hart.state }) stepped s after.moment → after.log ≡ run.log → IsMadeOf job s after
+made_of job run after stepped hart s stands below made f same_log =
+    let finished = numbered (record (run.moment) { state = hart.state }) stepped s after.moment f in
+    let number : s.number ≡ run.moment.time = finished.number in
+    let time : after.moment.time ≡ run.moment.time + 1 = finished.time in
+    record {
+      step = ap (step_at (trace_of job)) number ∙ step_here job run stands below ∙ ap (λ (x : StepSeen). Some x) (sym (done run.moment stepped hart s after.moment made f).step);
+      stands = stands_later job run stands (suc zero) after (moved_by_one run after stepped hart s made f same_log) (omega arith);
+      time = omega arith;
+    }
+
 -- ---- what is told
 
 module _ {W : Type 0} (seen : Seen W) where
@@ -46,49 +59,53 @@ module _ {W : Type 0} (seen : Seen W) where
       → IsToldOf seen s after old new → IsTold seen run 1 old new
   told_one run after stepped hart s old new made f same_log told was job stands within before =
       let below : run.moment.time < steps job.log = omega arith in
-      let finished = numbered (record (run.moment) { state = hart.state }) stepped s after.moment f in
-      let number : s.number ≡ run.moment.time = finished.number in
-      let time : after.moment.time ≡ run.moment.time + 1 = finished.time in
-      let made_here : IsMadeOf job s after = record {
-        step = ap (step_at (trace_of job)) number ∙ step_here job run stands below ∙ ap (λ (x : StepSeen). Some x) (sym (done run.moment stepped hart s after.moment made f).step);
-        stands = stands_later job run stands (suc zero) after (moved_by_one run after stepped hart s made f same_log) (omega arith);
-        time = omega arith;
-      } in
-      subst (λ (t : ℕ). seen was new job (t + 1)) number (told was job made_here (subst (seen was old job) (sym number) before))
+      let number : s.number ≡ run.moment.time = (numbered (record (run.moment) { state = hart.state }) stepped s after.moment f).number in
+      let here = made_of job run after stepped hart s stands below made f same_log in
+      subst (λ (t : ℕ). seen was new job (t + 1)) number (told was job here (subst (seen was old job) (sym number) before))
 
   -- none is told
   pub told_none : (run : RunAt) (n : ℕ) (w : W) → n ≡ 0 → IsTold seen run n w w
   told_none run n w none was job stands within before = let same : run.moment.time ≡ run.moment.time + n = omega arith in subst (seen was w job) same before
 
-  -- some steps, and one more
-  told_more : (before run : RunAt) (n : ℕ) (old between new : W) → IsMoved before n run → IsTold seen before n old between → IsTold seen run 1 between new → IsTold seen before (suc n) old new
-  told_more before run n old between new there first then was job stands within begun =
+  -- some steps, and then more
+  told_then : (before between : RunAt) (n m : ℕ) (old so_far new : W) → IsMoved before n between → IsTold seen before n old so_far → IsTold seen between m so_far new → IsTold seen before (n + m) old new
+  told_then before between n m old so_far new there first second was job stands within begun =
       let time = there.time in
-      let now : before.moment.time + n ≡ run.moment.time = omega arith in
-      let later : run.moment.time + 1 ≡ before.moment.time + suc n = omega arith in
-      let so_far = subst (seen was between job) now (first was job stands (omega arith) begun) in
-      subst (seen was new job) later (then was job (stands_later job before stands n run there (omega arith)) (omega arith) so_far)
+      let now : before.moment.time + n ≡ between.moment.time = omega arith in
+      let later : between.moment.time + m ≡ before.moment.time + (n + m) = omega arith in
+      let here = subst (seen was so_far job) now (first was job stands (omega arith) begun) in
+      subst (seen was new job) later (second was job (stands_later job before stands n between there (omega arith)) (omega arith) here)
 
-  -- ---- plain steps one after another
+  -- ---- steps that are passed
 
-  pub record IsWatching (before : RunAt) (old : W) (t : ℕ) (run : RunAt) (w : W) : Type 0 where
-    pub passing : IsPassing before t run
-    pub told : IsTold seen before (run.moment.time - before.moment.time) old w
+  pub none_passed : (run : RunAt) (w : W) → ArePassed seen run w run w
+  none_passed run w =
+      let none : run.moment.time - run.moment.time ≡ 0 = omega arith in
+      record { passed = record { count = 0; steps = refl }; told = told_none run (run.moment.time - run.moment.time) w none }
 
-  pub watching_more : (before : RunAt) (old : W) (t : ℕ) (run after : RunAt) (w new : W) → IsWatching before old t run w → IsAdvanced run after → after.moment.left ≡ run.moment.left → IsTold seen run 1 w new
-      → IsWatching before old (t + 1) after new
-  watching_more before old t run after w new so_far made left told =
-      let n = so_far.passing.passed.count in
-      let there = moved n before run so_far.passing.passed.steps in
-      let next = moved (suc n) before after (run, so_far.passing.passed.steps, made) in
+  pub some_passed : (n : ℕ) (before after : RunAt) (old new : W) → Advances n before after → IsTold seen before n old new → ArePassed seen before old after new
+  some_passed n before after old new steps told =
+      let time = (moved n before after steps).time in
+      let count : n ≡ after.moment.time - before.moment.time = omega arith in
+      record { passed = record { count = n; steps = steps }; told = subst (λ (k : ℕ). IsTold seen before k old new) count told }
+
+  pub one_passed : (before after : RunAt) (old new : W) → IsAdvanced before after → IsTold seen before 1 old new → ArePassed seen before old after new
+  one_passed before after old new made told = some_passed (suc zero) before after old new (before, refl, made) told
+
+  pub watched_then : (before between after : RunAt) (old so_far new : W) → ArePassed seen before old between so_far → ArePassed seen between so_far after new → ArePassed seen before old after new
+  watched_then before between after old so_far new first second =
+      let there = moved first.passed.count before between first.passed.steps in
+      let next = moved second.passed.count between after second.passed.steps in
       let time = there.time in
       let later = next.time in
-      let count : run.moment.time - before.moment.time ≡ n = omega arith in
-      let more : suc n ≡ after.moment.time - before.moment.time = omega arith in
+      let n : between.moment.time - before.moment.time ≡ first.passed.count = omega arith in
+      let m : after.moment.time - between.moment.time ≡ second.passed.count = omega arith in
+      let all : first.passed.count + second.passed.count ≡ after.moment.time - before.moment.time = omega arith in
       record {
-        passing = passing_more before t run after so_far.passing made left;
-        told = subst (λ (k : ℕ). IsTold seen before k old new) more
-            (told_more before run n old w new there (subst (λ (k : ℕ). IsTold seen before k old w) count so_far.told) told);
+        passed = passed_then before between after first.passed second.passed;
+        told = subst (λ (k : ℕ). IsTold seen before k old new) all
+            (told_then before between first.passed.count second.passed.count old so_far new there
+            (subst (λ (k : ℕ). IsTold seen before k old so_far) n first.told) (subst (λ (k : ℕ). IsTold seen between k so_far new) m second.told));
       }
 
   -- ---- the whole check

@@ -47,6 +47,13 @@ pub record IsPassed (before after : RunAt) : Type 0 where
   pub count : ℕ
   pub steps : Advances count before after
 
+-- no step between them took a record, and no call waits
+pub record TookNoRecord (before after : RunAt) : Type 0 where
+  pub same_log : after.log ≡ before.log
+  pub left : after.moment.left ≡ before.moment.left
+  pub goes_on : after.waits ≡ false
+  pub later : before.moment.time ≤ after.moment.time
+
 -- after some steps with no difference this differs
 pub record DiffersLater (before : RunAt) (d : Divergence) : Type 0 where
   pub there : RunAt

@@ -2,6 +2,7 @@ pub mod Jobs
 pub mod Positions
 pub mod Cursors
 pub mod Nexts
+pub mod Told
 pub mod Differences
 pub mod Comparisons
 pub mod CheckedSteps

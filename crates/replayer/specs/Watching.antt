@@ -1,14 +1,18 @@
 -- What a watcher is told of a run that is checked.
-use Rattle.std.specs.Prelude.{◌≡◌, ℕ, ◌+◌, ◌-◌, ◌≤◌, Some, Result, Ok, Err}
+use Rattle.std.specs.Prelude.{◌≡◌, ℕ, ◌+◌, ◌-◌, ◌^◌, ◌<◌, ◌≤◌, Some, Result, Ok, Err}
+use Rattle.isa.specs.declared.Instr.{Instr}
+use Rattle.isa.specs.Encodings.{Fits}
 use Rattle.log_model.specs.Logs.{steps}
 use Rattle.flow_model.specs.declared.StepSeen.{StepSeen}
 use Rattle.flow_model.specs.Origins.{step_at}
 use Rattle.replay_model.specs.declared.Divergence.{Divergence}
+use Rattle.rv_machine.specs.Running.{Tells}
 use Rattle.replay_run.specs.Runs.{RunAt}
 use Rattle.replayer.specs.declared.check.Checked.{Checked}
 use Rattle.replayer.specs.declared.check.Checked.TheVariants.{Advanced, Ended}
 use Rattle.replayer.specs.Jobs.{Job, trace_of}
 use Rattle.replayer.specs.Cursors.{Stands}
+use Rattle.replayer.specs.Nexts.{seen_at}
 use Rattle.replayer.specs.CheckedSteps.{IsPassed, DiffersLater}
 
 -- what a watcher that was the first, and is the second, has seen of a job: so many steps
@@ -28,6 +32,23 @@ IsBegun seen at old new = (job : Job) → Stands job at → at.moment.time ≡ 0
 -- it was told of a step, after which the run stands here: if it had seen the steps before, it has seen this one too
 abbrev pub IsToldOf : {W : Type 0} → Seen W → StepSeen → RunAt → W → W → Type 0
 IsToldOf {W} seen s after old new = (was : W) (job : Job) → IsMadeOf job s after → seen was old job s.number → seen was new job (s.number + 1)
+
+-- ---- plain steps in a row
+
+-- it was told of a plain step at a time up to which it is quiet, by a time that fits: of each job whose run makes the step there, if it had seen the
+-- steps before, it has seen this one too, and is quiet as long
+abbrev pub IsToldInRow : {W : Type 0} → Seen W → (W → ℕ) → W → Instr → ℕ → W → Type 0
+IsToldInRow {W} seen quiet old instr place new =
+    (was : W) (job : Job) (until t : ℕ) (after : RunAt) → until < 2 ^ 64 → until ≤ quiet old → t < until → Fits instr
+    → IsMadeOf job (seen_at t (record { instr = instr; place = place })) after → seen was old job t → (seen was new job (t + 1)) × (until ≤ quiet new)
+
+-- the quiet time of a watcher to whom each step is to be told by itself
+abbrev pub never_quiet : {W : Type 0} → W → ℕ
+never_quiet w = 0
+
+-- what it holds of to be told of steps in a row says that it was told of each
+abbrev pub IsEnough : {W : Type 0} → Tells W → Seen W → (W → ℕ) → Type 0
+IsEnough {W} told seen quiet = (old : W) (instr : Instr) (place : ℕ) (new : W) → told old instr place new → IsToldInRow seen quiet old instr place new
 
 -- ---- while a log is checked
 

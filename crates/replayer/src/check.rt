@@ -5,12 +5,12 @@ ghost use Rattle.log_model.specs.Logs.{end_at, steps};
 ghost use Rattle.replay_model.specs.Comparison.{divergence, expected};
 ghost use Rattle.replay_model.specs.Comparison as model;
 ghost use Rattle.rv_machine.specs.Hart.{IsStep};
-ghost use Rattle.replay_run.specs.Expects.{expected_of};
+ghost use Rattle.replay_run.specs.Expects.{expected_of, event_time};
 ghost use Rattle.replay_run.specs.Runs.{hart_of, with_hart};
 ghost use Rattle.replayer.specs.Differences.{IsFirst};
 ghost use Rattle.replayer.specs.Comparisons.{IsFormed, compares};
-ghost use Rattle.replayer.specs.CheckedSteps.{IsStepChecked, IsPlainStepChecked};
-ghost use Rattle.replayer.specs.Watching.{IsTold, AreWatched, IsStepTold};
+ghost use Rattle.replayer.specs.CheckedSteps.{IsStepChecked, IsPlainStepChecked, TookNoRecord};
+ghost use Rattle.replayer.specs.Watching.{IsTold, ArePassed, AreWatched, IsStepTold};
 
 use crate::compare::{compare, event_in_place_of_a_step, is_limit, is_trap, kept_code, seen_code};
 use crate::cursor::PlainStep;
@@ -64,13 +64,33 @@ fn check_plain_step<W: Watcher>(run: &mut Run<'_>, watcher: &mut W) -> Result<()
     }
 }
 
+/// Makes plain steps in a row, before the time at which the log has a call or its end next, while it is enough that the watcher
+/// is told of them as a follower. It may make none, as before a step that the log doesn't have so.
+fn make_quiet_steps<W: Watcher>(run: &mut Run<'_>, watcher: &mut W, event: u64)
+    requires goes_on { run.old.waits ≡ false }
+    requires event { event ≡ event_time run.old.moment.left run.old.log.end }
+    ensures watched { ArePassed W.seen run.old watcher.old run.new watcher.new }
+    ensures still { TookNoRecord run.old run.new }
+{
+    run.form();
+    let time = run.time();
+    let until = event.min(watcher.quiet_until());
+    if time < until {
+        run.run_plain(until - time, watcher);
+    }
+}
+
 /// Makes the plain steps that the log has before its next call, or before its end, and tells the watcher of them.
 fn check_plain_steps<W: Watcher>(run: &mut Run<'_>, watcher: &mut W) -> Result<(), Divergence>
     requires goes_on { run.old.waits ≡ false }
     ensures { AreWatched W.seen run.old watcher.old result run.new watcher.new }
 {
     let event = run.event_time();
-    for time in run.time()..event {
+    while run.time() < event {
+        make_quiet_steps(run, watcher, event);
+        if run.time() >= event {
+            return Ok(());
+        }
         check_plain_step(run, watcher)?;
     }
     Ok(())

@@ -1,12 +1,13 @@
 //! The steps of a job's run, one by one.
 
-ghost use Rattle.std.specs.Prelude.{◌≡◌, ◌+◌, ◌^◌, ◌<◌, ◌≤◌, length, IfOk, IfSome, MatchOption};
+ghost use Rattle.std.specs.Prelude.{◌≡◌, ◌+◌, ◌^◌, ◌<◌, ◌≤◌, max, length, IfOk, IfSome, MatchOption};
 ghost use Rattle.isa.specs.declared.Instr.{Instr as AnyInstr};
 ghost use Rattle.isa.specs.Encodings.{Fits};
 ghost use Rattle.isa.specs.Machine.{reg, Fetched, fetch};
 ghost use Rattle.replay_model.specs.Run.{start, moment_after};
 ghost use Rattle.replayer.specs.Positions.{state_at};
-ghost use Rattle.replayer.specs.Nexts.{IsNext, IsStepAt, IsPlainAt, IsPlainUntil, seen_at};
+ghost use Rattle.replayer.specs.Nexts.{IsNext, IsStepAt, IsPlainAt, ArePlain, IsPlainUntil, seen_at};
+ghost use Rattle.replayer.specs.Told.{AreTold};
 
 use crate::job::Job;
 use flow_model::StepSeen;
@@ -14,7 +15,7 @@ use isa::Instr;
 use log_model::RunEnd;
 use no_memory::NoMemory;
 use replay_run::Run;
-use rv_machine::Stepped;
+use rv_machine::{Follower, Stepped};
 use std::alloc::Global;
 use std::marker::Model;
 
@@ -142,6 +143,21 @@ impl<'a> Cursor<'a> {
         };
         self.run.advance();
         PlainStep { instr, place }
+    }
+
+    /// Makes plain steps of the run in a row, up to a time before which each is one, as [`Cursor::plain_until`] has it, or fewer.
+    /// `follower` is told of each, but for those that it passes by. It takes no memory, and the log isn't looked at.
+    pub fn run_plain<F: Follower>(&mut self, until: u64, follower: &mut F)
+        requires { ArePlain self.old.job self.old.time until }
+        ensures job { self.new.job ≡ self.old.job }
+        ensures within { self.new.time ≤ max until self.old.time }
+        ensures told { AreTold F.told self.old.job self.old.time follower.old self.new.time follower.new }
+    {
+        self.run.form();
+        let time = self.run.time();
+        if time < until {
+            self.run.run_plain(until - time, follower);
+        }
     }
 
     /// Makes the next step of the run, or tells its end, again and again. It takes no memory.

@@ -1,6 +1,9 @@
 //! A cursor taken out of its job, and put back.
 
-ghost use Rattle.std.specs.Prelude.{◌≡◌, length, IfOk};
+ghost use Rattle.std.specs.Prelude.{◌≡◌, length, IfOk, IfSome, MatchOption};
+ghost use Rattle.isa.specs.declared.Instr.{Instr as AnyInstr};
+ghost use Rattle.isa.specs.Encodings.{Fits};
+ghost use Rattle.isa.specs.Machine.{Fetched, fetch};
 ghost use Rattle.replayer.specs.Jobs.{Job as JobAt};
 ghost use Rattle.replayer.specs.Cursors.{Stands};
 ghost use Rattle.replayer.specs.Saved.{IsOfJob, position_of, rest_of, put_together};
@@ -8,6 +11,7 @@ ghost use Rattle.replayer.specs.Saved.{IsOfJob, position_of, rest_of, put_togeth
 use crate::cursor::Cursor;
 use crate::job::Job;
 use crate::watcher::Position;
+use isa::Instr;
 use no_memory::NoMemory;
 use replay_run::{Counters, Run};
 use rv_machine::{Machine, MachineState};
@@ -77,6 +81,23 @@ impl<'r, 'a> Position<'r, 'a> {
         ensures { result ≡ self.now.moment.time }
     {
         self.run.time()
+    }
+
+    /// The address of the instruction that the next step does; where all steps are done, the pc in which the run ended.
+    pub fn pc(&self) -> u32
+        ensures { result ≡ self.now.moment.state.pc }
+    {
+        self.run.machine().pc()
+    }
+
+    /// The instruction at the pc; None where the four bytes there stand for none, or don't all lie in the window.
+    pub fn fetched(&self) -> Option<Instr>
+        ensures there { MatchOption result
+            ((instr : AnyInstr) → fetch self.now.moment.state ≡ Fetched instr → ⊥)
+            (λ instr. fetch self.now.moment.state ≡ Fetched instr) }
+        ensures fits { IfSome result Fits }
+    {
+        self.run.machine().fetched()
     }
 
     /// The bytes of the machine's window, lent, and all else: a cursor's state at this time of each job whose run stands here.

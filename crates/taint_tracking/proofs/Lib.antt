@@ -2,3 +2,4 @@ mod Notes
 mod Between
 mod Steps
 mod Following
+mod InARow

@@ -1,5 +1,7 @@
 -- The tracking of an epoch, as its steps are told one after another.
 use Rattle.std.specs.Prelude.{◌≡◌, ℕ, ◌+◌, ◌-◌, ◌^◌, ◌<◌, ◌≤◌, List, [], ◌∷◌, All, Some, map}
+use Rattle.isa.specs.Encodings.{Fits}
+use Rattle.rv_decode.specs.Registers.{registers_of}
 use Rattle.flow_model.specs.declared.Loc.{Loc}
 use Rattle.flow_model.specs.declared.InnerSink.{InnerSink}
 use Rattle.flow_model.specs.declared.StepSeen.{StepSeen}
@@ -100,6 +102,10 @@ module _ {A M : Type 0} (words : LabelWords A M) where
   pub record IsTurned (step : PlainStep) (old new : Tracking A) : Type 0 where
     pub labels : Turned words old.labels old.places new.labels new.places (flow (query_of old).rule step.instr step.place)
     pub rest : new ≡ record old { labels = new.labels; places = new.places }
+
+  -- a step of any instruction with these registers leaves all as it is
+  abbrev pub TurnsNothing : ℕ → Tracking A → Type 0
+  TurnsNothing registers t = (step : PlainStep) → Fits step.instr → registers_of step.instr ≡ registers → IsTurned step t t
 
   -- the points due right after the step of this number were noted, and the later ones are left
   pub record AreNoted (number : ℕ) (old new : Tracking A) : Type 0 where

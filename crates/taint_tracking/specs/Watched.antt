@@ -1,5 +1,5 @@
 -- What a watcher knows that tracks a run as one epoch.
-use Rattle.std.specs.Prelude.{ℕ, List, Option, Some, None, IfSome}
+use Rattle.std.specs.Prelude.{ℕ, ◌-◌, ◌^◌, List, Option, Some, None, IfSome}
 use Rattle.flow_model.specs.declared.Loc.{Loc}
 use Rattle.flow_model.specs.declared.StepSeen.{StepSeen}
 use Rattle.report_model.specs.Query.{Query, policy_of}
@@ -8,12 +8,17 @@ use Rattle.taint_shadow.specs.Labels.{LabelWords}
 use Rattle.taint_tracking.specs.declared.tracking.Tracked.{Tracked}
 use Rattle.taint_tracking.specs.declared.tracking.Tracking.{Tracking}
 use Rattle.taint_tracking.specs.Courses.{IsCourse}
-use Rattle.taint_tracking.specs.Following.{IsTracked, IsOfEpoch}
+use Rattle.taint_tracking.specs.Following.{due_of, IsTracked, IsOfEpoch}
 
 -- what is kept while there is no fault
 abbrev pub unless_faulty : {E T : Type 0} → Option E → T → Option T
 unless_faulty None t = Some t
 unless_faulty (Some e) t = None
+
+-- up to which time no point is due, and nothing is once there is a fault
+abbrev pub quiet_of : {A : Type 0} → Option (Tracking A) → ℕ
+quiet_of None = 2 ^ 64 - 1
+quiet_of (Some t) = due_of t
 
 module _ {A M : Type 0} (words : LabelWords A M) where
   -- the tracking, if there is one, is of so many of the first steps of a trace

@@ -1,10 +1,10 @@
 //! The labels that are kept while the steps of an epoch are told, one after another.
 
-ghost use Rattle.std.specs.Prelude.{◌≡◌, IfOk, OnOk};
+ghost use Rattle.std.specs.Prelude.{◌≡◌, IfOk, OnOk, IsTrue};
 ghost use Rattle.isa.specs.Encodings.{Fits};
 ghost use Rattle.flow_model.specs.Ranges.{IsInRange};
 ghost use Rattle.replayer.specs.Nexts.{seen_at};
-ghost use Rattle.taint_tracking.specs.Following.{IsSound, IsBegun, TracksStep, TracksPlain, IsNotPassed, IsTurned, NotesDue, query_of, due_of, parts, number_before as number_of_first};
+ghost use Rattle.taint_tracking.specs.Following.{IsSound, IsBegun, TracksStep, TracksPlain, IsNotPassed, IsTurned, TurnsNothing, NotesDue, query_of, due_of, parts, number_before as number_of_first};
 
 use crate::points::{collect_due, collect_first};
 use crate::sinks::collect;
@@ -101,6 +101,16 @@ impl<'q, L: Labels + Drop> Tracking<'q, L> {
     {
         let PlainStep { instr, place } = step;
         taint_shadow::plain_step(&mut self.labels, &mut self.places, &instr, place, rule)
+    }
+
+    /// Whether a step of an instruction with these registers, as `rv_decode::registers_of` has them, turns no label: so it need
+    /// not be told.
+    #[inline(always)]
+    pub fn passes_by(&self, registers: u32) -> bool
+        requires sound { IsSound L.words self.now }
+        ensures { IsTrue result → TurnsNothing L.words registers self.now }
+    {
+        self.places.is_clean_of(registers)
     }
 
     /// Goes on by the step of this number, which is no call. It gives up with NoMemory alone.

@@ -1,14 +1,15 @@
 //! A run that is tracked as one epoch while its log is checked.
 
 ghost use Rattle.std.specs.Prelude.{IfOk};
+ghost use Rattle.replayer.specs.Watching.{IsToldInRow};
 ghost use Rattle.taint_shadow.specs.Steps.{AreStanding};
 ghost use Rattle.taint_tracking.specs.Sinks.{AreLabelled};
-ghost use Rattle.taint_tracking.specs.Watched.{HasBegun, Finds, has_seen};
+ghost use Rattle.taint_tracking.specs.Watched.{HasBegun, Finds, has_seen, quiet_of};
 
 use crate::tracking::{Tracked, Tracking};
 use no_memory::NoMemory;
 use query_lang::Query;
-use replayer::{PlainStep, Position, StepSeen, Watcher};
+use replayer::{Follower, Instr, PlainStep, Position, StepSeen, Watcher};
 use std::alloc::Global;
 use std::marker::Model;
 use taint_shadow::Labels;
@@ -59,8 +60,49 @@ impl<'q, L: Labels + Drop> Watching<'q, L> {
     }
 }
 
+impl<'q, L: Labels + Drop> Follower for Watching<'q, L> {
+    ghost told = { IsToldInRow (has_seen L.words) quiet_of };
+
+    /// It passes by what turns no label.
+    #[inline(always)]
+    fn passes_by(&self, registers: u32) -> bool {
+        if self.no_memory.is_some() {
+            return false;
+        }
+        self.tracking.passes_by(registers)
+    }
+
+    #[inline(always)]
+    fn follow(&mut self, instr: &Instr, place: u32) {
+        if self.no_memory.is_some() {
+            return;
+        }
+        let rule = self.tracking.rule();
+        let step = PlainStep {
+            instr: *instr,
+            place,
+        };
+        if let Err(no_memory) = self.tracking.turn(step, rule) {
+            self.no_memory = Some(no_memory);
+        }
+    }
+}
+
 impl<'q, L: Labels + Drop> Watcher for Watching<'q, L> {
     ghost seen = { has_seen L.words };
+
+    ghost quiet = { quiet_of };
+
+    ghost enough = { λ _ _ _ _ told. told };
+
+    /// The next point is due after the step that begins then.
+    #[inline(always)]
+    fn quiet_until(&self) -> u64 {
+        if self.no_memory.is_some() {
+            return u64::MAX;
+        }
+        self.tracking.due_after()
+    }
 
     #[inline(always)]
     fn begin(&mut self, _at: &Position<'_, '_>) {}

@@ -1,5 +1,13 @@
-use Rattle.replayer.proofs.Watching.{IsWatching}
+use Rattle.std.proofs.Common.{◌-◌}
+use Rattle.replayer.specs.CheckedSteps.{TookNoRecord}
+use Rattle.replayer.specs.Watching.{ArePassed}
 use Rattle.replayer.proofs.check.check_plain_steps.Given as goal
 
-abbrev pub invariant-loop-time : goal.invariant-loop-time
-invariant-loop-time g l = IsWatching g.W.Watcher.seen l.fn.run l.fn.watcher l.time l.run l.watcher
+abbrev pub invariant-loop-run : goal.invariant-loop-run
+invariant-loop-run g l = record {
+  watched : ArePassed g.W.Watcher.seen l.fn.run l.fn.watcher l.run l.watcher;
+  still : TookNoRecord l.fn.run l.run;
+}
+
+abbrev pub decreases-loop-run : goal.decreases-loop-run
+decreases-loop-run g l = l.event - l.run.moment.time

@@ -1,0 +1,13 @@
+-- Plain steps of a job's run that one was told of in a row.
+use Rattle.std.specs.Prelude.{◌≡◌, ℕ, suc, Some}
+use Rattle.isa.specs.Encodings.{Fits}
+use Rattle.flow_model.specs.Origins.{step_at}
+use Rattle.rv_machine.specs.Running.{Tells}
+use Rattle.replayer.specs.declared.cursor.PlainStep.{PlainStep}
+use Rattle.replayer.specs.Jobs.{Job, trace_of}
+use Rattle.replayer.specs.Nexts.{seen_at}
+
+-- one was told of each step that the job's run makes from the first time up to another, or passed it by: from what it was to what it is
+pub data AreTold {W : Type 0} (told : Tells W) (job : Job) (first : ℕ) (was : W) : ℕ → W → Type 0 where
+  NoneYet : AreTold told job first was first was
+  OneMore : (t : ℕ) (w : W) (step : PlainStep) (next : W) → AreTold told job first was t w → Fits step.instr → step_at (trace_of job) t ≡ Some (seen_at t step) → told w step.instr step.place next → AreTold told job first was (suc t) next
