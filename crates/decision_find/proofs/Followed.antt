@@ -108,15 +108,18 @@ step_followed q job pc s old mid new is h noted turned sound =
 
 -- ---- the beginning and the end
 
+pub sound_first : (t : DecisionTracking) → AreKept t.places start_label → HaveLabels t.labels t.groups → IsSound t
+sound_first t kept groups = record {
+  locations = record { at = λ l here. subst (label_words.stands t.labels) (sym (kept.at l here)) (label_laws.of_start t.labels l here).stands };
+  groups = groups;
+}
+
 pub begun : (q : Query) (job : Job) (t : DecisionTracking) → t.query.now ≡ q → t.rule ≡ deciding_rule q.rule → AreKept t.places start_label
     → HaveLabels t.labels t.groups → AreGroups t.labels [] t.groups → IsTracked q job 0 t
 begun q job t query rule kept groups none = record {
   query = query;
   rule = rule;
-  sound = record {
-    locations = record { at = λ l here. subst (label_words.stands t.labels) (sym (kept.at l here)) (label_laws.of_start t.labels l here).stands };
-    groups = groups;
-  };
+  sound = sound_first t kept groups;
   holds = record { at = λ l here. ap (label_words.means t.labels) (kept.at l here) ∙ (label_laws.of_start t.labels l here).means };
   groups = none;
 }

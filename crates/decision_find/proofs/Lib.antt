@@ -7,5 +7,6 @@ mod Looking
 mod Counted
 mod Noted
 mod Followed
+mod Standing
 mod Located
 mod Written

@@ -17,7 +17,6 @@ use Rattle.replay_model.specs.Run.{Moment, start, call_seen, plain_step, step_by
 use Rattle.replay_model.proofs.Offsets.{step_at_from, steps_within}
 use Rattle.replay_model.proofs.Track.{on_track_at}
 use Rattle.replayer.specs.Jobs.{Job, IsJob}
-use Rattle.replayer.specs.Positions.{CursorAt, state_at}
 use Rattle.decision_find.specs.Decides.{decides}
 use Rattle.decision_find.specs.Decisions.{instr_of, decides_fetched}
 use Rattle.decision_find.proofs.Answered.{IsCallAt, IsDoneAt, done_at, traps_at}
@@ -217,18 +216,16 @@ fetched_is (Some i) f h = ap instr_of (sym h)
 trap_time : (log : Log) (at k pc : ℕ) → log.end ≡ Trap at k pc → steps log ≡ at
 trap_time log at k pc e = ap steps_by e
 
--- the look of a cursor that stands at the end of a run that traps
-pub looks_at_end : (job : Job) (cursor : CursorAt) (look : Look) (at k pc : ℕ) → IsJob job → cursor ≡ record { job = job; time = steps job.log } → job.log.end ≡ Trap at k pc
-    → look.time ≡ steps job.log → look.pc ≡ (state_at cursor).pc
-    → MatchOption look.instr ((i : Instr) → fetch (state_at cursor) ≡ Fetched i → ⊥) (λ i. fetch (state_at cursor) ≡ Fetched i)
+-- the look of a run that stands where it traps
+pub looks_at_end : (job : Job) (s : State) (look : Look) (at k pc : ℕ) → IsJob job → s ≡ (moment_of job (steps job.log)).state → job.log.end ≡ Trap at k pc
+    → look.time ≡ steps job.log → look.pc ≡ s.pc → MatchOption look.instr ((i : Instr) → fetch s ≡ Fetched i → ⊥) (λ i. fetch s ≡ Fetched i)
     → IsLookAt (moment_of job (steps job.log)) look
-looks_at_end job cursor look at k pc is stands e time here there =
+looks_at_end job s look at k pc is state e time here there =
     let n = steps job.log in
     let last : n ≡ at = trap_time job.log at k pc e in
     let end : end_at job.log.end ≡ at = ap end_at e in
     let m = moment_of job n in
     let moment_time : m.time ≡ n = (on_track_at job.log job.start n is.form is.agrees (omega arith)).time in
     let traps : next m.state ≡ Trapped k = subst (λ (t : ℕ). next (moment_of job t).state ≡ Trapped k) (sym last) (traps_at job.log job.start at k pc is.form is.agrees e).traps in
-    let state : state_at cursor ≡ m.state = ap state_at stands in
-    looks_at_trap m look k traps (time ∙ sym moment_time) (here ∙ ap (λ (s : State). s.pc) state)
-    (fetched_is look.instr (fetch (state_at cursor)) there ∙ ap (λ (s : State). instr_of (fetch s)) state)
+    looks_at_trap m look k traps (time ∙ sym moment_time) (here ∙ ap (λ (x : State). x.pc) state)
+    (fetched_is look.instr (fetch s) there ∙ ap (λ (x : State). instr_of (fetch x)) state)

@@ -7,3 +7,5 @@ pub mod TextLaws
 pub mod Looks
 pub mod Groups
 pub mod Following
+pub mod Traps
+pub mod Watched

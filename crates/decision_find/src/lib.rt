@@ -7,7 +7,8 @@
 //!
 //! Crates above rest on this: `decisions` is `decisions_report` of the definitions, a function of the state that the run
 //! begins in, its log and the query. It goes through the run once, with a label for each location, and keeps an entry for
-//! each place that has such a decision. `decisions_of` is the table of `decides` as code, over the 48 instructions and the five
+//! each place that has such a decision. `check_and_decide` is `replayer::Job::check`, and gives the same of the run that it checks,
+//! in the same replay. `decisions_of` is the table of `decides` as code, over the 48 instructions and the five
 //! kinds of guest call, without a list in memory: its locations ascend, and are at most sixteen.
 #![tactic(auto)]
 
@@ -18,9 +19,10 @@ pub mod laws;
 mod looks;
 mod rule;
 mod tracking;
+mod watching;
 mod writing;
 
-pub use finding::decisions;
+pub use finding::{check_and_decide, decisions};
 use flow_model::Loc;
 
 /// Where decisions are counted together: the address of an instruction, and a location that it looks at. The order is by

@@ -6,14 +6,17 @@ ghost use Rattle.replayer.specs.Jobs.{Job as JobOf};
 ghost use Rattle.decision_find.specs.Decisions.{decides_fetched};
 ghost use Rattle.decision_find.specs.Looks.{looked_at, HasFitting};
 ghost use Rattle.decision_find.specs.Following.{IsSound, IsTracked, Notes, IsTurned, TracksStep};
+ghost use Rattle.decision_find.specs.Watched.{LooksAtTrap};
 
 use crate::deciding::decisions_of;
 use crate::groups::Groups;
 use crate::looks::Look;
 use crate::rule::deciding_rule;
 use flow_model::{Loc, Rule, StepSeen};
+use isa::CallKind;
 use no_memory::NoMemory;
 use query_lang::Query;
+use replayer::Position;
 use source_labels::SourceLabels;
 use std::alloc::Global;
 use taint_shadow::{Places, plain_step};
@@ -31,7 +34,8 @@ pub struct DecisionTracking<'q> {
 impl<'q> DecisionTracking<'q> {
     /// Before the first step of a run.
     pub(crate) fn begin(alloc: Global, query: &'q Query) -> Result<DecisionTracking<'q>, NoMemory>
-        ensures { IfOk result (λ t. (job : JobOf) → IsTracked query.now job 0 t) }
+        ensures sound { IfOk result IsSound }
+        ensures tracked { IfOk result (λ t. (job : JobOf) → IsTracked query.now job 0 t) }
     {
         Ok(DecisionTracking {
             query,
@@ -51,6 +55,22 @@ impl<'q> DecisionTracking<'q> {
     {
         self.note(&Look::before(pc, step))?;
         self.turn(step)?;
+        Ok(())
+    }
+
+    /// Looks at the instruction that traps, where the run stands.
+    pub(crate) fn look_at_trap(&mut self, at: &Position<'_, '_>) -> Result<(), NoMemory>
+        requires { IsSound self.old }
+        ensures sound { OnOk result (IsSound self.new) }
+        ensures looked { OnOk result (LooksAtTrap at.now self.old self.new) }
+    {
+        let look = Look {
+            time: at.time(),
+            pc: at.pc(),
+            instr: at.fetched(),
+            kind: CallKind::Other,
+        };
+        self.note(&look)?;
         Ok(())
     }
 

@@ -14,6 +14,7 @@ mod Located
 mod Worked
 mod FirstPairs
 mod Meetings
+mod Seeing
 mod Ranges
 mod Passing
 mod Once

@@ -14,12 +14,7 @@ use Rattle.flow_model.specs.declared.StepSeen.{StepSeen}
 use Rattle.flow_model.specs.Origins.{step_at}
 use Rattle.report_model.specs.Rows.{Sink, sinks_of_step, point_sink}
 use Rattle.path_find.specs.FirstPair.{written_from, sink_of}
-use Rattle.path_find.specs.Sinks.{is_named, sink_here, sink_after}
-
--- no step before t met it
-abbrev pub IsNotMet : SinkPoint → ℕ → List StepSeen → Type 0
-IsNotMet (Out b) t trace = find (is_named (Out b)) (written_from 0 trace) ≡ find (is_named (Out b)) (written_from t (drop t trace))
-IsNotMet (At p) t trace = t ≤ p.time
+use Rattle.path_find.specs.Sinks.{is_named, sink_here, sink_after, IsNotMet}
 
 pub not_met_first : (name : SinkPoint) (trace : List StepSeen) → IsNotMet name 0 trace
 not_met_first (Out b) trace = refl

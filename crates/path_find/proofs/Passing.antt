@@ -1,6 +1,6 @@
 -- A pass over the run, from one arrival to the next.
 use Rattle.std.proofs.Common.{◌≡◌, ℕ, zero, suc, ◌+◌, ◌-◌, ◌<◌, List, [], ◌∷◌, ◌++◌, length, drop, get_or, map, reverse, refl, ap, sym, ◌∙◌, subst, arith}
-use Rattle.std.specs.Prelude.{Option, Some, None}
+use Rattle.std.specs.Prelude.{Option, Some, None, IfSome}
 use Rattle.std.proofs.lemmas.List.{drop_more, map-append, reverse-append}
 use Rattle.log_model.specs.Logs.{steps}
 use Rattle.flow_model.specs.declared.Rule.{Rule}
@@ -16,7 +16,11 @@ use Rattle.replayer.specs.declared.cursor.Next.{Next}
 use Rattle.replayer.specs.declared.cursor.Next.TheVariants.{Step, End}
 use Rattle.path_find.specs.declared.Arrival.{Arrival}
 use Rattle.path_find.specs.Paths.{IsPath, path}
-use Rattle.path_find.specs.FirstPair.{PathTo, ended_in, path_to_sink}
+use Rattle.path_find.specs.declared.Pair.{Pair}
+use Rattle.path_find.specs.declared.finding.SinkPath.{SinkPath}
+use Rattle.path_find.specs.FirstPair.{PathTo, sink_of, ended_in, path_to_sink}
+use Rattle.path_find.specs.Sinks.{path_of}
+use Rattle.path_find.specs.Watched.{IsPathIn}
 use Rattle.path_find.proofs.One.{is_path}
 use Rattle.report_model.specs.Rows.{Sink}
 use Rattle.path_find.specs.declared.writing.Stop.{Stop}
@@ -91,3 +95,8 @@ found_falls job rule s (Some x) p e = by (path rule s (trace_of job) x.time x.lo
   by (Some arrivals) is e =
       let same : p ≡ record { sink = x; arrivals = arrivals } = some_is p (record { sink = x; arrivals = arrivals }) e in
       subst (λ (z : PathTo). AreBefore z.sink.time z.arrivals) (sym same) (falls rule s (trace_of job) arrivals x.time x.loc (is_path rule s (trace_of job) arrivals x.time x.loc is))
+
+-- so where a path was found
+pub path_falls : (job : Job) (rule : Rule) (pair : Pair) (found : Option SinkPath) → IsPathIn rule pair (trace_of job) found → IfSome found (λ f. AreBefore f.time f.arrivals.items)
+path_falls job rule pair None is = tt
+path_falls job rule pair (Some f) is = found_falls job rule pair.source (sink_of (trace_of job) pair.sink) (path_of f) is

@@ -1,6 +1,6 @@
 -- Where a path is told.
-use Rattle.std.proofs.Common.{◌≡◌, ℕ, Bool, true, false, ◌&&◌, if◌then◌else◌, List, [], ◌∷◌, length, map, refl, ap, sym, ◌∙◌, arith}
-use Rattle.std.specs.Prelude.{Option, Some, None, All, reverse}
+use Rattle.std.proofs.Common.{◌≡◌, ℕ, Bool, true, false, ◌&&◌, if◌then◌else◌, List, [], ◌∷◌, length, map, refl, ap, ap₂, sym, subst, ◌∙◌, arith}
+use Rattle.std.specs.Prelude.{Option, Some, None, All, Contains, reverse}
 use Rattle.std.proofs.lemmas.List.{length-map, length-reverse}
 use Rattle.std.proofs.lemmas.List.Elements.{All-contains}
 use Rattle.isa.specs.Machine.{State}
@@ -14,8 +14,8 @@ use Rattle.flow_model.specs.declared.SourceByte.{SourceByte}
 use Rattle.flow_model.specs.declared.StepSeen.{StepSeen}
 use Rattle.flow_model.specs.Ranges.{IsLocation}
 use Rattle.flow_model.proofs.Orders.{inner_total, inner_same}
-use Rattle.report_model.specs.Query.{Query, has_source, has_sink}
-use Rattle.report_model.specs.Rows.{Sink, rows}
+use Rattle.report_model.specs.Query.{Query, AreLocated, has_source, has_sink}
+use Rattle.report_model.specs.Rows.{Sink, Row, rows}
 use Rattle.replay_model.specs.Run.{trace}
 use Rattle.replay_model.proofs.Offsets.{writes_apart}
 use Rattle.replayer.specs.Jobs.{Job}
@@ -30,22 +30,24 @@ use Rattle.path_find.specs.Text.{no_path_text, path_text}
 use Rattle.path_find.specs.Sinks.{HasLocation}
 use Rattle.path_find.specs.Stops.{stop_at}
 use Rattle.path_find.specs.Answer.{end_of, found_report, found_report_or, pair_report, path_report}
-use Rattle.path_find.specs.AnswerLaws.{NoPathIsToldOfNone, FirstPairIsLocated}
+use Rattle.path_find.specs.AnswerLaws.{NoPathIsToldOfNone, NamedPairIsTold, FirstPairIsLocated}
 use Rattle.path_find.proofs.Once.{written_once}
+use Rattle.path_find.proofs.Listed.{paths_are_listed}
 
 -- ---- a path that is told
 
--- the query chooses the sink, and there is a path to it
+-- the query chooses both, and there is a path
 record IsTold (q : Query) (steps : List StepSeen) (pair : Pair) (p : PathTo) : Type 0 where
+  source : has_source q pair.source ≡ true
   chosen : has_sink q pair.sink ≡ true
   is_path : path_to_sink q.rule pair.source steps (sink_of steps pair.sink) ≡ Some p
 
 is_told : (q : Query) (steps : List StepSeen) (pair : Pair) (p : PathTo) → path_to q steps pair.sink pair.source ≡ Some p → IsTold q steps pair p
-is_told q steps pair p e = by (has_source q pair.source) (has_sink q pair.sink) refl e where
-  by : (a b : Bool) → has_sink q pair.sink ≡ b → (if a && b then path_to_sink q.rule pair.source steps (sink_of steps pair.sink) else None) ≡ Some p → IsTold q steps pair p
-  by true true is e = record { chosen = is; is_path = e }
-  by true false is e = absurd cc
-  by false b is e = absurd cc
+is_told q steps pair p e = by (has_source q pair.source) (has_sink q pair.sink) refl refl e where
+  by : (a b : Bool) → has_source q pair.source ≡ a → has_sink q pair.sink ≡ b → (if a && b then path_to_sink q.rule pair.source steps (sink_of steps pair.sink) else None) ≡ Some p → IsTold q steps pair p
+  by true true has is e = record { source = has; chosen = is; is_path = e }
+  by true false has is e = absurd cc
+  by false b has is e = absurd cc
 
 -- it has an arrival
 has_arrival : (rule : Rule) (s : SourceByte) (steps : List StepSeen) (o : Option Sink) (p : PathTo) → path_to_sink rule s steps o ≡ Some p → p.arrivals ≡ [] → ⊥
@@ -78,6 +80,14 @@ found_apart job s p some = text_apart s (end_of job p) (map (stop_at job) (rever
 
 -- ---- the laws
 
+-- a sink that the query chooses is located where its points are
+pub chosen_is_located : (q : Query) → AreLocated q.points → (name : SinkPoint) → has_sink q name ≡ true → HasLocation name
+chosen_is_located q located (Out b) c = tt
+chosen_is_located q located (At p) c = All-contains (λ (x : InnerSink). IsLocation x.loc) q.points p located (Contains-has inner_total inner_same q.points p c)
+
+no_member : (s : SourceByte) → Contains [] s → ⊥
+no_member s h = absurd (omega (arith, h.1))
+
 module _ (none_is_listed : NoneIsListed) (first_has_path : FirstPairHasPath) where
   told_of : (state : State) (log : Log) (q : Query) (pair : Pair) → first_pair (rows q (trace state log)) ≡ Some pair
       → (p : PathTo) × IsTold q (trace state log) pair p
@@ -99,7 +109,35 @@ module _ (none_is_listed : NoneIsListed) (first_has_path : FirstPairHasPath) whe
         absurd (found_apart (record { start = state; log = log }) pair.source t.0 (has_arrival q.rule pair.source (trace state log) (sink_of (trace state log) pair.sink) t.0 t.1.is_path) text)
 
   pub first_pair_is_located : FirstPairIsLocated
-  first_pair_is_located state log q pair located e = by pair.sink (told_of state log q pair e).1.chosen where
-    by : (name : SinkPoint) → has_sink q name ≡ true → HasLocation name
-    by (Out b) c = tt
-    by (At p) c = All-contains (λ (x : InnerSink). IsLocation x.loc) q.points p located (Contains-has inner_total inner_same q.points p c)
+  first_pair_is_located state log q pair located e = chosen_is_located q located pair.sink (told_of state log q pair e).1.chosen
+
+  pub named_pair_is_told : NamedPairIsTold
+  named_pair_is_told state log q pair names = by (first_pair (rows q (trace state log))) refl where
+    steps : List StepSeen
+    steps = trace state log
+
+    job : Job
+    job = record { start = state; log = log }
+
+    -- a path that the query's pair has
+    told : Option PathTo
+    told = path_to_sink q.rule pair.source steps (sink_of steps pair.sink)
+
+    chosen : path_to q steps pair.sink pair.source ≡ told
+    chosen = ap₂ (λ (a b : Bool). if a && b then told else None) names.source.chosen names.sink.chosen
+
+    has_none : All (λ r. r.sources ≡ []) (rows q steps) → (o : Option PathTo) → told ≡ o → told ≡ None
+    has_none none None e = e
+    has_none none (Some p) e =
+        let row = (paths_are_listed q steps pair.sink pair.source (written_once steps (writes_apart state log))).0 (p, chosen ∙ e) in
+        let lists = All-contains (λ (r : Row). r.sources ≡ []) (rows q steps) row.0 none row.1 in
+        absurd (no_member pair.source (subst (λ (ss : List SourceByte). Contains ss pair.source) lists row.3))
+
+    by : (o : Option Pair) → first_pair (rows q steps) ≡ o → path_report state log q ≡ pair_report job q.rule (Some pair)
+    by None e =
+        let none = has_none ((none_is_listed (rows q steps)).0 e) told refl in
+        ap (pair_report job q.rule) e ∙ sym (ap (found_report_or job pair.source) none)
+    by (Some other) e =
+        let t = (told_of state log q other e).1 in
+        let same : other ≡ pair = ap₂ (λ (n : SinkPoint) (s : SourceByte). record { sink = n; source = s }) (names.sink.alone other.sink t.chosen) (names.source.alone other.source t.source) in
+        ap (pair_report job q.rule) (e ∙ ap Some same)

@@ -10,6 +10,7 @@ use Rattle.flow_model.specs.declared.StepSeen.{StepSeen}
 use Rattle.flow_model.specs.Orders.{point_cmp}
 use Rattle.report_model.specs.Query.{Query, has_source, has_sink}
 use Rattle.report_model.specs.Rows.{Sink, Row, sinks_of_step, point_sink, rows}
+use Rattle.query_lang.specs.Single.{IsOnlySource, IsOnlySink}
 use Rattle.path_find.specs.declared.Arrival.{Arrival}
 use Rattle.path_find.specs.declared.Pair.{Pair}
 use Rattle.path_find.specs.Paths.{path}
@@ -50,6 +51,11 @@ pair_or name (s ∷ ss) other = Some (record { sink = name; source = s })
 abbrev pub first_pair : List Row → Option Pair
 first_pair [] = None
 first_pair (r ∷ rs) = pair_or r.sink r.sources (first_pair rs)
+
+-- a query chooses the source byte and the sink of a pair, and no other
+pub record Names (q : Query) (pair : Pair) : Type 0 where
+  pub source : IsOnlySource q pair.source
+  pub sink : IsOnlySink q pair.sink
 
 -- ---- laws
 

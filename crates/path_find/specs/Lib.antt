@@ -7,6 +7,7 @@ pub mod Paths
 pub mod PathLaws
 pub mod FirstPair
 pub mod Sinks
+pub mod Watched
 pub mod Stops
 pub mod Answer
 pub mod AnswerLaws

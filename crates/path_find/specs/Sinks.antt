@@ -1,5 +1,5 @@
 -- Where a sink is met in a run.
-use Rattle.std.specs.Prelude.{ℕ, ◌==◌, Bool, if◌then◌else◌, Option, Some, None}
+use Rattle.std.specs.Prelude.{◌≡◌, ℕ, ◌≤◌, ◌==◌, Bool, if◌then◌else◌, List, drop, Option, Some, None}
 use Rattle.std.specs.List.{find}
 use Rattle.std.specs.Option.{option_map}
 use Rattle.std.specs.Ordering.{is_eq}
@@ -11,7 +11,7 @@ use Rattle.flow_model.specs.Orders.{point_cmp}
 use Rattle.flow_model.specs.Ranges.{IsLocation}
 use Rattle.report_model.specs.Rows.{Sink, sinks_of_step, point_sink}
 use Rattle.path_find.specs.declared.Pair.{Pair}
-use Rattle.path_find.specs.FirstPair.{PathTo}
+use Rattle.path_find.specs.FirstPair.{PathTo, written_from}
 use Rattle.path_find.specs.declared.finding.SinkPath.{SinkPath}
 
 abbrev pub is_named : SinkPoint → Sink → Bool
@@ -30,6 +30,11 @@ sink_here (At p) s = if p.time == s.number then Some (point_sink p) else None
 abbrev pub sink_after : SinkPoint → ℕ → Option Sink
 sink_after (Out b) t = None
 sink_after (At p) t = if p.time == t then Some (point_sink p) else None
+
+-- no step of a trace before t met it
+abbrev pub IsNotMet : SinkPoint → ℕ → List StepSeen → Type 0
+IsNotMet (Out b) t trace = find (is_named (Out b)) (written_from 0 trace) ≡ find (is_named (Out b)) (written_from t (drop t trace))
+IsNotMet (At p) t trace = t ≤ p.time
 
 -- a point is at a location
 abbrev pub HasLocation : SinkPoint → Type 0

@@ -30,7 +30,7 @@ pub struct SinkPath {
 }
 
 /// The path of the trail's source byte to a location, which a sink has at this time.
-fn path_here(
+pub(crate) fn path_here(
     alloc: Global,
     trail: &Trail,
     name: SinkPoint,

@@ -2,7 +2,7 @@
 
 ghost use Rattle.path_find.specs.FirstPair.{PathsAreListed, NoneIsListed, FirstPairHasPath};
 ghost use Rattle.path_find.specs.PathLaws.{PathsAreOrigins, OnePathIsOrigin, OnePathIsPath, BeginningIsPath, HopIsFromFirst, PathIsShort, PathIsLocated};
-ghost use Rattle.path_find.specs.AnswerLaws.{NoPathIsToldOfNone, FirstPairIsLocated};
+ghost use Rattle.path_find.specs.AnswerLaws.{NoPathIsToldOfNone, NamedPairIsTold, FirstPairIsLocated};
 
 /// A source byte has a path to a location exactly where it is among its origins, and exactly there it has the one path that
 /// is told.
@@ -45,6 +45,13 @@ pub fn first_pairs_have_paths()
 /// No path is told exactly where no row of the report lists a source byte.
 pub fn no_path_is_told_of_none()
     ensures { NoPathIsToldOfNone }
+{
+    first_pairs_have_paths();
+}
+
+/// Where a query names a pair, its path is the one that is told.
+pub fn named_pairs_are_told()
+    ensures { NamedPairIsTold }
 {
     first_pairs_have_paths();
 }

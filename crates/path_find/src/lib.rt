@@ -10,7 +10,9 @@
 //! One pass over the run up to the sink finds the path: each location that the source byte came to is labelled with its latest
 //! arrival and the node of the previous one (`trail`). A second pass tells the steps on it. Crates above rest on this:
 //! `first_pair` is the definition's; `answer` is the text of the path of a pair, and where the pair is the first of a report, it
-//! is `path_report` of the definitions, a function of the state that the run begins in, its log and the query.
+//! is `path_report` of the definitions, a function of the state that the run begins in, its log and the query. The same is the
+//! path of the pair that a query names (`named_pair`), whatever its report has: `check_and_answer` is `replayer::Job::check`, finds that
+//! path in the same replay, and gives its text.
 #![tactic(auto)]
 
 mod answers;
@@ -24,11 +26,12 @@ mod passes;
 mod sinks;
 mod touching;
 mod trail;
+mod watching;
 mod writing;
 
-pub use answers::answer;
+pub use answers::{answer, check_and_answer};
 use flow_model::{Loc, SinkPoint, SourceByte};
-pub use pairs::first_pair;
+pub use pairs::{first_pair, named_pair};
 
 /// Content came to a location in a step: `number` is how many steps were done before that one.
 #[derive(Clone, Copy)]

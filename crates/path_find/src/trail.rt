@@ -45,7 +45,8 @@ impl Trail {
     pub fn follow(&mut self, step: &StepSeen) -> Result<(), NoMemory>
         requires in_range { IsInRange step.now }
         requires trail { IsTrail self.old }
-        ensures { OnOk result
+        ensures sound { OnOk result (IsTrail self.new) }
+        ensures followed { OnOk result
             ((rule : RuleOfFlow) (s : Source) (trace : List Step) → step_at trace step.now.number ≡ Some step.now
             → IsAfter rule s trace step.now.number self.old → IsAfter rule s trace (step.now.number + 1) self.new) }
     {

@@ -6,3 +6,4 @@ mod ChoiceLemmas
 mod SpanLemmas
 mod PointLemmas
 mod GatherLemmas
+mod SingleLemmas

@@ -4,3 +4,4 @@ pub mod Spans
 pub mod Statements
 pub mod Drafts
 pub mod Answers
+pub mod Single

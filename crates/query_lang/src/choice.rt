@@ -1,6 +1,8 @@
 //! Which bytes a line chooses.
 
-ghost use Rattle.std.specs.Prelude.{◌≡◌, true};
+ghost use Rattle.std.specs.Prelude.{◌≡◌, ◌∷◌, [], true, IfSome};
+ghost use Rattle.query_lang.specs.Choices.{span_choice};
+ghost use Rattle.query_lang.specs.Single.{IsOnlyByte};
 ghost use Rattle.query_lang.specs.Spans.{start_of, starts_by, span_has, reaches, NotAfter, IsAtStartOf, HasBoth};
 
 /// The offsets from one up to another, and without it.
@@ -51,6 +53,20 @@ impl Span {
             Some(offsets) => offsets.from <= offset && offset < offsets.past,
         };
         self.channel == channel && is_within
+    }
+
+    /// The channel and the offset of its byte, where it is one alone.
+    pub fn only(&self) -> Option<(u8, u32)>
+        ensures { IfSome result (λ b. IsOnlyByte (span_choice self.now ∷ []) b.0 b.1) }
+    {
+        let Some(Offsets { from, past }) = self.offsets else {
+            return None;
+        };
+        if from < past && past - from == 1 {
+            Some((self.channel, from))
+        } else {
+            None
+        }
     }
 
     /// Whether no byte lies between the span and another that doesn't start before it.

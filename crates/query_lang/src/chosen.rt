@@ -1,8 +1,9 @@
 //! The bytes that a query chooses.
 
-ghost use Rattle.std.specs.Prelude.{◌≡◌, ◌≤◌, [], ◌∷◌, ◌++◌, length, IfOk, OnOk, AllPairs};
+ghost use Rattle.std.specs.Prelude.{◌≡◌, ◌≤◌, [], ◌∷◌, ◌++◌, length, IfOk, OnOk, IfSome, IsTrue, AllPairs};
 ghost use Rattle.std.specs.List.{list_any, AllAdjacentBelow};
 ghost use Rattle.query_lang.specs.Choices.{choices_of, choice_shown, SameChoices};
+ghost use Rattle.query_lang.specs.Single.{IsOnlyByte};
 ghost use Rattle.query_lang.specs.Spans.{span_has, NotAfter, Precedes, SameBytes, StartUpTo};
 ghost use Rattle.report_model.specs.Query.{chooses};
 
@@ -138,5 +139,25 @@ impl Chosen {
         ensures { result ≡ chooses self.now channel offset }
     {
         self.all || is_in_spans(&self.spans, channel, offset)
+    }
+
+    /// Whether nothing is chosen.
+    pub fn is_nothing(&self) -> bool
+        ensures { IsTrue result → self.now ≡ [] }
+    {
+        !self.all && self.spans.is_empty()
+    }
+
+    /// The channel and the offset of the byte, where one alone is chosen.
+    pub fn only(&self) -> Option<(u8, u32)>
+        ensures { IfSome result (λ b. IsOnlyByte self.now b.0 b.1) }
+    {
+        if self.all {
+            return None;
+        }
+        let [span] = self.spans.as_slice() else {
+            return None;
+        };
+        span.only()
     }
 }

@@ -3,7 +3,8 @@
 //!
 //! Crates above rest on this: `parse` gives a query that the text stands for, by `report_model`'s definitions, or the
 //! number of the first faulty line and the first of its faults; `source_has`, `sink_has` and `points` are what the
-//! query chooses; `together` makes several queries one, or tells where their rules differ.
+//! query chooses, and what `only_source` and `only_sink` give is all that it chooses; `together` makes several queries one,
+//! or tells where their rules differ.
 #![tactic(auto)]
 
 mod choice;

@@ -1,16 +1,17 @@
 //! Queries.
 
-ghost use Rattle.std.specs.Prelude.{◌≡◌, ◌++◌, IfOk, OnOk};
+ghost use Rattle.std.specs.Prelude.{◌≡◌, ◌++◌, IfOk, OnOk, IfSome};
 ghost use Rattle.lists.specs.Sets.{Ascends};
 ghost use Rattle.flow_model.specs.Orders.{inner_cmp};
 ghost use Rattle.flow_model.specs.declared.SinkPoint.TheVariants.{Out};
 ghost use Rattle.report_model.specs.Query.{Alike, AreLocated, has_source, has_sink};
 ghost use Rattle.query_lang.specs.Choices.{SameChoices};
 ghost use Rattle.query_lang.specs.Drafts.{choices_in, query_by};
+ghost use Rattle.query_lang.specs.Single.{IsOnlySource, IsOnlySink};
 
 use crate::chosen::{Chosen, Selection};
 use crate::points::each_once;
-use flow_model::{InnerSink, Rule, SinkByte, SourceByte};
+use flow_model::{InnerSink, Rule, SinkByte, SinkPoint, SourceByte};
 use std::alloc::{AllocError, Global};
 use std::marker::Model;
 
@@ -96,6 +97,34 @@ impl Query {
         ensures { result ≡ has_sink self.now (Out byte) }
     {
         self.sinks.has(byte.channel, byte.offset)
+    }
+
+    /// The byte that a run reads, where the query chooses one alone by a line of its own.
+    pub fn only_source(&self) -> Option<SourceByte>
+        ensures { IfSome result (IsOnlySource self.now) }
+    {
+        let (channel, offset) = self.sources.only()?;
+        Some(SourceByte { channel, offset })
+    }
+
+    /// The byte that a run writes, or the point inside it, where the query chooses one alone by a line of its own.
+    pub fn only_sink(&self) -> Option<SinkPoint>
+        ensures { IfSome result (IsOnlySink self.now) }
+    {
+        match self.points.as_slice() {
+            [] => {
+                let (channel, offset) = self.sinks.only()?;
+                Some(SinkPoint::Out(SinkByte { channel, offset }))
+            }
+            [point] => {
+                if self.sinks.is_nothing() {
+                    Some(SinkPoint::At(*point))
+                } else {
+                    None
+                }
+            }
+            _ => None,
+        }
     }
 
     /// The points inside the run that the query chooses, by time and then location, each once. Each is at a location.

@@ -1,10 +1,11 @@
 //! The decisions of runs, as text. The expected lines were worked by hand.
 
 use crate::guests::{
-    ask_by_input, cipher, compare_and_look_up, run_what_is_read, trap_in_what_is_read,
+    Recorded, ask_by_input, cipher, compare_and_look_up, compare_and_look_up_recorded,
+    run_what_is_read, trap_in_what_is_read,
 };
 use crate::runs::query_of;
-use decision_find::decisions;
+use decision_find::{check_and_decide, decisions};
 use replayer::Job;
 use std::alloc::Global;
 use std::process::Abort;
@@ -40,6 +41,17 @@ fn a_comparison_and_a_look_up_decide(rt: HostRuntime) {
     let second = "0x00010020 beq r:5.0 1 13 0:1-2\n0x00010030 lbu r:5.0 1 17 0:1-2\nend 2\n";
     assert_decisions(&rt, alloc, &job, b"rule compute\nsource 0 1 2\n", second);
     assert_decisions(&rt, alloc, &job, b"rule compute\nsource 1\n", "end 0\n");
+}
+
+/// The replay that checks a log counts the decisions too, also that of the instruction that traps.
+#[test]
+fn decisions_are_counted_while_the_log_is_checked(rt: HostRuntime) {
+    let alloc = rt.alloc();
+    let Recorded { program, log } = compare_and_look_up_recorded(&rt, alloc);
+    let query = query_of(&rt, alloc, COMPUTE);
+    let (_job, text) = check_and_decide(alloc, program, log, &query).expect(&rt, "a log that fits");
+    let both = "0x00010020 beq r:5.0 2 8 0:0-2\n0x00010030 lbu r:5.0 1 17 0:1-2\nend 2\n";
+    assert_eq!(rt; text.as_slice(), both.as_bytes());
 }
 
 /// The length of a read, and the exit's code, were read.

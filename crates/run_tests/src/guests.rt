@@ -310,17 +310,19 @@ const COMPARE_AND_LOOK_UP: &[Instr] = &code![
     lbu(x7, 4(x5)),
 ];
 
+const COMPARE_AND_LOOK_UP_LOG: &[u8] = b"\x01\0\0\0\x01\0\0\0\
+    \x01\x05\0\0\0\0\0\0\0\0\x01\x01\0\x02\0\0\0\x02\0\0\0KE\
+    \x06\x11\0\0\0\x05\0\0\0\x30\0\x01\0";
+
 /// Reads two bytes, compares each with 0, and loads from an address that the second is, which is outside the window:
 /// seventeen steps, and a trap.
 pub fn compare_and_look_up(rt: &impl Abort, alloc: Global) -> Job {
-    job_of(
-        rt,
-        alloc,
-        COMPARE_AND_LOOK_UP,
-        b"\x01\0\0\0\x01\0\0\0\
-        \x01\x05\0\0\0\0\0\0\0\0\x01\x01\0\x02\0\0\0\x02\0\0\0KE\
-        \x06\x11\0\0\0\x05\0\0\0\x30\0\x01\0",
-    )
+    job_of(rt, alloc, COMPARE_AND_LOOK_UP, COMPARE_AND_LOOK_UP_LOG)
+}
+
+/// The same, with its log not yet checked.
+pub fn compare_and_look_up_recorded(rt: &impl Abort, alloc: Global) -> Recorded {
+    record(rt, alloc, COMPARE_AND_LOOK_UP, COMPARE_AND_LOOK_UP_LOG)
 }
 
 const ASK_BY_INPUT: &[Instr] = &code![

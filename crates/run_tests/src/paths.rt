@@ -3,9 +3,9 @@
 ghost use Rattle.flow_model.specs.Ranges.{IsLocation};
 ghost use Rattle.path_find.specs.Sinks.{HasLocation};
 
-use crate::guests::{copy_in_two, copy_many, mask_and_shift};
+use crate::guests::{Recorded, copy_four_recorded, copy_in_two, copy_many, mask_and_shift};
 use flow_model::{InnerSink, Loc, Rule, SinkByte, SinkPoint, SourceByte};
-use path_find::{Pair, answer};
+use path_find::{Pair, answer, check_and_answer};
 use replayer::Job;
 use std::alloc::Global;
 use std::process::Abort;
@@ -59,6 +59,24 @@ fn a_path_is_a_read_and_the_write_where_nothing_moves(rt: HostRuntime) {
     assert_path(&rt, alloc, &job, output(5), 4, "end 0\n");
     let none = answer(alloc, &job, Rule::Copy, None).expect(&rt, "memory");
     assert_eq!(rt; none.as_slice(), b"end 0\n".as_slice());
+}
+
+/// The replay that checks a log finds the path of a pair that is known before.
+#[test]
+fn a_path_is_found_while_the_log_is_checked(rt: HostRuntime) {
+    let alloc = rt.alloc();
+    let Recorded { program, log } = copy_four_recorded(&rt, alloc);
+    let pair = Pair {
+        sink: output(2),
+        source: SourceByte {
+            channel: 0,
+            offset: 2,
+        },
+    };
+    let found = check_and_answer(alloc, program, log, Rule::Copy, pair);
+    let (_job, text) = found.expect(&rt, "a log that fits");
+    let moved = "read 5 0x00010014 0:2 m:65794\nwrite 8 0x00010020 m:65794 1:2\nend 2\n";
+    assert_eq!(rt; text.as_slice(), moved.as_bytes());
 }
 
 /// At the end of the run, after its exit, the pc is behind the exit's ECALL.

@@ -8,8 +8,8 @@ use Rattle.replay_model.proofs.Offsets.{length-steps_from}
 use Rattle.replayer.specs.Jobs.{Job, trace_of}
 use Rattle.path_find.specs.FirstPair.{path_to_sink}
 use Rattle.path_find.specs.Trails.{IsAfter}
-use Rattle.path_find.specs.Sinks.{sink_after}
-use Rattle.path_find.proofs.Meetings.{IsNotMet, not_met_first, not_met_yet, met_here, met_after}
+use Rattle.path_find.specs.Sinks.{sink_after, IsNotMet}
+use Rattle.path_find.proofs.Meetings.{not_met_first, not_met_yet, met_here, met_after}
 use Rattle.path_find.proofs.finding.find_path.Goals as goal
 
 pub loop-step-init : goal.loop-step-init
@@ -42,7 +42,7 @@ loop-step-preserved c =
     record {
       job = ap (λ k. k.job) made.moved ∙ before.job;
       below = omega (arith, made.below, later, same_steps);
-      after = subst (λ (n : ℕ). IsAfter rule source trace n c.follow.new.self) next (c.in_ok-follow.ensures rule source trace here was);
+      after = subst (λ (n : ℕ). IsAfter rule source trace n c.follow.new.self) next (c.in_ok-follow.ensures.followed rule source trace here was);
       not_met = subst (λ (n : ℕ). IsNotMet c.args.pair.sink n trace) (sym later) (not_met_yet c.args.pair.sink t trace step at made.number (sym c.in_default-sink_in.ensures.here) before.not_met);
     }
 

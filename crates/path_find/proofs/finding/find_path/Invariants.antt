@@ -2,7 +2,7 @@ use Rattle.std.proofs.Common.{◌≡◌, ◌≤◌, ◌-◌}
 use Rattle.log_model.specs.Logs.{steps}
 use Rattle.replayer.specs.Jobs.{trace_of}
 use Rattle.path_find.specs.Trails.{IsAfter}
-use Rattle.path_find.proofs.Meetings.{IsNotMet}
+use Rattle.path_find.specs.Sinks.{IsNotMet}
 use Rattle.path_find.proofs.finding.find_path.Given as goal
 
 abbrev pub invariant-loop-step : goal.invariant-loop-step
