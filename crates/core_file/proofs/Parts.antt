@@ -12,7 +12,6 @@ use Rattle.lists.proofs.FirstTrue.{first_true-some}
 use Rattle.elf_model.specs.declared.ImageKind.TheVariants.{Short, Kind}
 use Rattle.elf_model.specs.Image.{e_type, e_machine, program_headers, faults, unless_faulty}
 use Rattle.log_model.specs.Logs.{Log, steps}
-use Rattle.page_text.specs.Head0.{head0}
 use Rattle.page_text.specs.Texts.{mark, head}
 use Rattle.core_file.specs.Headers.{words, core_mark, note_header, load_header}
 use Rattle.core_file.specs.Note.{pr_reg, note}
@@ -114,7 +113,7 @@ is_no_log rest other e =
     omega (arith, first)
 
 pub is_no_page : IsNoPage
-unfolding core_mark mark head head0
+unfolding core_mark mark head
 is_no_page rest other e =
     let first : ◌≡◌ {A = ℕ} 0x7f 0x3c = ap (λ (bytes : List ℕ). get_or bytes 0 0) e in
     omega (arith, first)

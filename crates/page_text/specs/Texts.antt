@@ -1,18 +1,18 @@
--- The constant texts of a page. Made from page/page.html by page/make_text.
+-- The constant texts of a page: those of src/ are the definition. Made from page/page.html by page/make_text.
 use Rattle.std.specs.Prelude.{ℕ, List, ◌++◌, take}
-use Rattle.page_text.specs.Head0.{head0}
-use Rattle.page_text.specs.Tail0.{tail0}
-use Rattle.page_text.specs.Tail1.{tail1}
-use Rattle.page_text.specs.Tail2.{tail2}
-use Rattle.page_text.specs.Tail3.{tail3}
+use Rattle.page_text.specs.declared.head0.TheConstants.{TEXT as head0}
+use Rattle.page_text.specs.declared.tail0.TheConstants.{TEXT as tail0}
+use Rattle.page_text.specs.declared.tail1.TheConstants.{TEXT as tail1}
+use Rattle.page_text.specs.declared.tail2.TheConstants.{TEXT as tail2}
+use Rattle.page_text.specs.declared.tail3.TheConstants.{TEXT as tail3}
 
 -- what stands before the data of a page
 unfoldable pub head : List ℕ
-head = head0
+head = head0.now
 
 -- what stands after the data of a page
 unfoldable pub tail : List ℕ
-tail = tail0 ++ tail1 ++ tail2 ++ tail3
+tail = tail0.now ++ tail1.now ++ tail2.now ++ tail3.now
 
 -- what each page begins with, and no other file: its first line
 unfoldable pub mark : List ℕ

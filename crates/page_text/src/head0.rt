@@ -1,17 +1,7 @@
 //! A part of the page's constant texts. Made from page/page.html by page/make_text.
 
-ghost use Rattle.std.specs.Prelude.{◌≡◌, ◌++◌, OnOk};
-ghost use Rattle.page_text.specs.Head0.{head0};
-
-use no_memory::NoMemory;
-
-/// Appends the part.
-#[tactic(auto, unfolding(crate::specs::Head0::head0))]
-pub(crate) fn push(out: &mut Vec<u8>) -> Result<(), NoMemory>
-    ensures { OnOk result (out.new.items ≡ out.old.items ++ head0) }
-{
-    out.extend_from_slice(
-        br#"<!--jet page-->
+/// The part.
+pub(crate) const TEXT: &[u8] = br#"<!--jet page-->
 <!DOCTYPE html>
 <html lang="en">
 <head>
@@ -215,7 +205,4 @@ Copying in a pane takes the report's lines of what is selected. A double click s
 </div>
 </section>
 </main>
-<script type="text/plain" id="data">"#,
-    )?;
-    Ok(())
-}
+<script type="text/plain" id="data">"#;

@@ -1,17 +1,7 @@
 //! A part of the page's constant texts. Made from page/page.html by page/make_text.
 
-ghost use Rattle.std.specs.Prelude.{◌≡◌, ◌++◌, OnOk};
-ghost use Rattle.page_text.specs.Tail0.{tail0};
-
-use no_memory::NoMemory;
-
-/// Appends the part.
-#[tactic(auto, unfolding(crate::specs::Tail0::tail0))]
-pub(crate) fn push(out: &mut Vec<u8>) -> Result<(), NoMemory>
-    ensures { OnOk result (out.new.items ≡ out.old.items ++ tail0) }
-{
-    out.extend_from_slice(
-        br#"</script>
+/// The part.
+pub(crate) const TEXT: &[u8] = br#"</script>
 <script>
 'use strict';
 
@@ -299,7 +289,4 @@ function usualRecords(where) {
 
 const recordAt = (where, offset) => lastUpTo(offset, where.records);
 const recordEnd = (where, k) => where.records[k + 1] ?? where.bytes.length;
-"#,
-    )?;
-    Ok(())
-}
+"#;

@@ -1,17 +1,8 @@
 //! A part of the page's constant texts. Made from page/page.html by page/make_text.
 
-ghost use Rattle.std.specs.Prelude.{◌≡◌, ◌++◌, OnOk};
-ghost use Rattle.page_text.specs.Tail1.{tail1};
-
-use no_memory::NoMemory;
-
-/// Appends the part.
-#[tactic(auto, unfolding(crate::specs::Tail1::tail1))]
-pub(crate) fn push(out: &mut Vec<u8>) -> Result<(), NoMemory>
-    ensures { OnOk result (out.new.items ≡ out.old.items ++ tail1) }
-{
-    out.extend_from_slice(
-        br#"const recordSpan = (where, k) => ({ place: where, from: where.records[k], past: recordEnd(where, k) });
+/// The part.
+pub(crate) const TEXT: &[u8] =
+    br#"const recordSpan = (where, k) => ({ place: where, from: where.records[k], past: recordEnd(where, k) });
 
 /**
  * The parts of a place's runs that have sources, each within one record, with its source spans. Where a run moves, the
@@ -287,7 +278,4 @@ class Pane {
     }
     const from = where.starts[at];
     const past = where.starts[at + 1] ?? where.bytes.length;
-"#,
-    )?;
-    Ok(())
-}
+"#;

@@ -1,17 +1,7 @@
 //! A part of the page's constant texts. Made from page/page.html by page/make_text.
 
-ghost use Rattle.std.specs.Prelude.{◌≡◌, ◌++◌, OnOk};
-ghost use Rattle.page_text.specs.Tail2.{tail2};
-
-use no_memory::NoMemory;
-
-/// Appends the part.
-#[tactic(auto, unfolding(crate::specs::Tail2::tail2))]
-pub(crate) fn push(out: &mut Vec<u8>) -> Result<(), NoMemory>
-    ensures { OnOk result (out.new.items ≡ out.old.items ++ tail2) }
-{
-    out.extend_from_slice(
-        br#"    const record = recordAt(where, from);
+/// The part.
+pub(crate) const TEXT: &[u8] = br#"    const record = recordAt(where, from);
     const bytes = Array.from(where.bytes.subarray(from, past));
     const made = element('div', { className: 'line' },
       words('span', where.records[record] === from ? `#${record}` : '', 'record'),
@@ -307,7 +297,4 @@ function tell(span) {
   byId('told').replaceChildren(
     element('div', {}, `${sideName(span.place)} `, words('strong', spanName(span), 'mono'), ' ',
       words('code', preview(span)), ` ${describe(span)}`),
-"#,
-    )?;
-    Ok(())
-}
+"#;

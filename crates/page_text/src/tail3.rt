@@ -1,17 +1,8 @@
 //! A part of the page's constant texts. Made from page/page.html by page/make_text.
 
-ghost use Rattle.std.specs.Prelude.{◌≡◌, ◌++◌, OnOk};
-ghost use Rattle.page_text.specs.Tail3.{tail3};
-
-use no_memory::NoMemory;
-
-/// Appends the part.
-#[tactic(auto, unfolding(crate::specs::Tail3::tail3))]
-pub(crate) fn push(out: &mut Vec<u8>) -> Result<(), NoMemory>
-    ensures { OnOk result (out.new.items ≡ out.old.items ++ tail3) }
-{
-    out.extend_from_slice(
-        br#"    words('div', `came ${isSource ? 'to' : 'from'} ${size === 0 ? 'nothing that is listed'
+/// The part.
+pub(crate) const TEXT: &[u8] =
+    br#"    words('div', `came ${isSource ? 'to' : 'from'} ${size === 0 ? 'nothing that is listed'
       : `${many(size, 'byte')} in ${many(linked.length, 'range')}:`}`),
     element('ul', {}, ...list),
     linked.length > MOST_TOLD ? `and ${many(linked.length - MOST_TOLD, 'more range')}` : '',
@@ -280,7 +271,4 @@ try {
 </script>
 </body>
 </html>
-"#,
-    )?;
-    Ok(())
-}
+"#;

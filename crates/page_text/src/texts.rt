@@ -7,7 +7,7 @@ use crate::{head0, tail0, tail1, tail2, tail3};
 use no_memory::NoMemory;
 
 /// What each page begins with, and no other file: at most 16 bytes.
-#[tactic(auto, unfolding(crate::specs::Texts::mark, crate::specs::Texts::head, crate::specs::Head0::head0))]
+#[tactic(auto, unfolding(crate::specs::Texts::mark, crate::specs::Texts::head))]
 pub fn mark() -> &'static [u8]
     ensures short { length result.now ≤ 16 }
     ensures mark { result.now ≡ mark }
@@ -20,7 +20,8 @@ pub fn mark() -> &'static [u8]
 pub fn push_head(out: &mut Vec<u8>) -> Result<(), NoMemory>
     ensures { OnOk result (out.new.items ≡ out.old.items ++ head) }
 {
-    head0::push(out)
+    out.extend_from_slice(head0::TEXT)?;
+    Ok(())
 }
 
 /// Appends what stands after the data of a page. It fails only where there is no memory.
@@ -28,8 +29,9 @@ pub fn push_head(out: &mut Vec<u8>) -> Result<(), NoMemory>
 pub fn push_tail(out: &mut Vec<u8>) -> Result<(), NoMemory>
     ensures { OnOk result (out.new.items ≡ out.old.items ++ tail) }
 {
-    tail0::push(out)?;
-    tail1::push(out)?;
-    tail2::push(out)?;
-    tail3::push(out)
+    out.extend_from_slice(tail0::TEXT)?;
+    out.extend_from_slice(tail1::TEXT)?;
+    out.extend_from_slice(tail2::TEXT)?;
+    out.extend_from_slice(tail3::TEXT)?;
+    Ok(())
 }
