@@ -22,5 +22,5 @@ mod whole;
 pub use answering::answer_requests;
 pub use asking::{asked_by, crossings};
 pub use joining::join;
-pub use query_parts::Crossed;
+pub use run_query::Crossed;
 pub use whole::{joined, query, round_robin};

@@ -9,7 +9,7 @@ use Rattle.epoch_model.specs.Cutting.{IsCutting}
 use Rattle.stream_model.specs.Work.{asked_at, run_work}
 use Rattle.replayer.specs.Jobs.{Job, trace_of}
 use Rattle.checkpoints.specs.Points.{CheckpointsAt, beginnings}
-use Rattle.query_parts.specs.Crossings.{numbered}
+use Rattle.run_query.specs.Crossings.{numbered}
 use Rattle.epoch_engine.specs.declared.collected.Collected.{Collected}
 use Rattle.epoch_engine.specs.Collecting.{AreAtBeginnings, IsCollectedOf}
 use Rattle.run_query.specs.declared.answer.QueryAnswer.{QueryAnswer}

@@ -5,7 +5,7 @@ use Rattle.report_model.specs.Rows.{rows}
 use Rattle.stream_model.specs.Work.{run_work}
 use Rattle.replayer.specs.Jobs.{Job, trace_of}
 use Rattle.sink_collect.specs.Pairs.{capped}
-use Rattle.query_parts.specs.Crossings.{crossed}
+use Rattle.run_query.specs.Crossings.{crossed}
 use Rattle.run_query.specs.declared.answer.QueryAnswer.{QueryAnswer}
 
 -- these are the rows of the run of a job that is cut so, what crosses each inner cut, and how many events move

@@ -1,1 +1,4 @@
 pub mod Answers
+pub mod Crossings
+pub mod Checking
+pub mod Parts

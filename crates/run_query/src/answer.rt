@@ -6,17 +6,17 @@ ghost use Rattle.report_model.specs.Rows.{rows, rows_as_written};
 ghost use Rattle.epoch_model.specs.Cutting.{IsCutting};
 ghost use Rattle.replayer.specs.Jobs.{trace_of};
 ghost use Rattle.checkpoints.specs.Points.{beginnings};
-ghost use Rattle.query_parts.specs.Crossings.{numbered};
+ghost use Rattle.run_query.specs.Crossings.{numbered};
 ghost use Rattle.run_query.specs.Answers.{IsAnswerTo};
 
+use crate::crossed::{Crossed, number};
 use checkpoints::Checkpoints;
-use distinct_rows::rows_are_distinct;
 use epoch_cut::Cuts;
 use epoch_engine::{Collected, Engine, Parallelism};
 use no_memory::NoMemory;
 use query_lang::Query;
-use query_parts::{Crossed, number};
 use replayer::Job;
+use seq_taint::rows_are_distinct;
 use sink_collect::{Report, SinkSet, gather};
 use std::alloc::Global;
 

@@ -3,7 +3,7 @@
 ghost use Rattle.std.specs.Prelude.{◌≡◌, IfOk};
 ghost use Rattle.report_model.specs.Rows.{rows};
 ghost use Rattle.replayer.specs.Jobs.{trace_of};
-ghost use Rattle.query_parts.specs.Parts.{AreEnough};
+ghost use Rattle.run_query.specs.Parts.{AreEnough};
 
 use crate::whole;
 use epoch_cut::Cuts;

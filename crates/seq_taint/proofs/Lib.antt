@@ -1,2 +1,3 @@
+mod DistinctRows
 mod Rows
 mod Whole

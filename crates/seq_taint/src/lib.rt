@@ -3,9 +3,10 @@
 //!
 //! Crates above rest on this: `sequential` is the rows in the order of the run, each output byte and each point once.
 //! `watching` watches a run for them, also while its log is checked; `LabelledSinks::of` is then the sinks of the run,
-//! each with a label, and `LabelledSinks::rows` are their rows.
+//! each with a label, and `LabelledSinks::rows` are their rows. `rows_are_distinct` is a law of all runs.
 #![tactic(auto)]
 
+mod distinct;
 mod labelled;
 mod reading;
 
@@ -16,7 +17,7 @@ ghost use Rattle.sink_collect.specs.Distinct.{AreDistinct};
 ghost use Rattle.source_labels.specs.Words.{label_words};
 ghost use Rattle.taint_tracking.specs.Watched.{HasBegun};
 
-use distinct_rows::rows_are_distinct;
+pub use distinct::rows_are_distinct;
 pub use labelled::LabelledSinks;
 use no_memory::NoMemory;
 use query_lang::Query;

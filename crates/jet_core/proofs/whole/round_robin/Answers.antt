@@ -1,5 +1,5 @@
 use Rattle.std.proofs.Common.{◌∙◌, ap, arith}
-use Rattle.query_parts.specs.Crossings.{numbered}
+use Rattle.run_query.specs.Crossings.{numbered}
 use Rattle.run_query.proofs.Collected.{at_beginnings, collected_of_job, few_asked}
 use Rattle.jet_core.proofs.whole.round_robin.Goals as goal
 

@@ -2,7 +2,7 @@ use Rattle.std.proofs.Common.{◌≡◌, ◌∙◌, ap, sym, arith, ◌+◌, len
 use Rattle.report_model.specs.Rows.{rows_as_written}
 use Rattle.replayer.specs.Jobs.{trace_of}
 use Rattle.sink_collect.specs.Pairs.{capped}
-use Rattle.query_parts.specs.Crossings.{numbered}
+use Rattle.run_query.specs.Crossings.{numbered}
 use Rattle.run_query.proofs.Collected.{nothing_asked, work_of_one}
 use Rattle.run_query.proofs.answer.answer_of_one.Goals as goal
 

@@ -1,7 +1,7 @@
 use Rattle.replay_model.proofs.Offsets.{writes_apart}
 use Rattle.replayer.specs.Jobs.{trace_of}
-use Rattle.distinct_rows.proofs.Distinct.{distinct_rows}
-use Rattle.distinct_rows.proofs.rows_are_distinct.Goals as goal
+use Rattle.seq_taint.proofs.DistinctRows.{distinct_rows}
+use Rattle.seq_taint.proofs.distinct.rows_are_distinct.Goals as goal
 
 pub returns : goal.returns
 returns c =

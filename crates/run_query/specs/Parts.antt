@@ -4,8 +4,8 @@ use Rattle.log_model.specs.Logs.{Log, end_at, steps}
 use Rattle.report_model.specs.Query.{Query}
 use Rattle.epoch_model.specs.Cutting.{IsCutting}
 use Rattle.run_beginning.specs.Need.{needed_by_log}
-use Rattle.query_parts.specs.declared.part.Part.{Part}
-use Rattle.query_parts.specs.declared.part.Part.TheVariants.{Whole, Beginning}
+use Rattle.run_query.specs.declared.part.Part.{Part}
+use Rattle.run_query.specs.declared.part.Part.TheVariants.{Whole, Beginning}
 
 -- the first n steps of a run, up to its end, are enough for the rows of the query, and are cut so
 pub record AreEnough (q : Query) (log : Log) (n : ℕ) (cuts : List ℕ) : Type 0 where

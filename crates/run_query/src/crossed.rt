@@ -1,7 +1,7 @@
 //! What epochs asked at a cut.
 
 ghost use Rattle.std.specs.Prelude.{◌≡◌, ◌<◌, ◌^◌, length, IfOk};
-ghost use Rattle.query_parts.specs.Crossings.{numbered};
+ghost use Rattle.run_query.specs.Crossings.{numbered};
 
 use epoch_summary::Asked;
 use flow_model::Loc;
@@ -19,7 +19,7 @@ pub struct Crossed {
 }
 
 impl Model for Crossed {
-    ghost use Rattle.query_parts.specs.Crossings.{CrossedAt};
+    ghost use Rattle.run_query.specs.Crossings.{CrossedAt};
 
     ghost Value = { CrossedAt };
 

@@ -1,7 +1,7 @@
 use Rattle.std.proofs.Common.{◌≡◌, ◌+◌, ◌<◌, ◌^◌, ◌++◌, length}
 use Rattle.std.specs.Vec.Iter.{into_iter_items}
-use Rattle.query_parts.specs.Crossings.{numbered}
-use Rattle.query_parts.proofs.crossed.number.Given as goal
+use Rattle.run_query.specs.Crossings.{numbered}
+use Rattle.run_query.proofs.crossed.number.Given as goal
 
 -- those that have a number, and the others numbered from the next one on
 abbrev pub invariant-loop-asked : goal.invariant-loop-asked

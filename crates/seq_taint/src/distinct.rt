@@ -1,5 +1,4 @@
 //! A law of runs: no output byte and no point stands twice in the rows of a query.
-#![tactic(auto)]
 
 ghost use Rattle.replayer.specs.Jobs.{trace_of};
 ghost use Rattle.report_model.specs.Rows.{rows_as_written};

@@ -4,7 +4,7 @@ ghost use Rattle.std.specs.Prelude.{IfOk, IfErr};
 ghost use Rattle.no_memory.specs.Faults.{IsCausedBy};
 ghost use Rattle.replayer.specs.Checks.{IsChecked, IsMisfit};
 ghost use Rattle.seq_taint.specs.Runs.{AreSinksOfRun};
-ghost use Rattle.query_parts.specs.Checking.{AreTakenFor};
+ghost use Rattle.run_query.specs.Checking.{AreTakenFor};
 
 use checkpoints::CheckpointTaker;
 use elf_image::Program;

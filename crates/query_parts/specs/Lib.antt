@@ -1,3 +1,0 @@
-pub mod Crossings
-pub mod Checking
-pub mod Parts
