@@ -4,8 +4,8 @@
 #![tactic(auto)]
 
 use jet_cli::jet;
+use jet_commands::{conclude, mark_for};
 use jet_refusal::Refusal;
-use jet_work::{conclude, mark_for};
 use no_memory::NoMemory;
 use outer_io::{FileStore, MachineClock, OpenGate, OutSink};
 use std::alloc::AllocError;

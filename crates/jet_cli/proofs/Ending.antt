@@ -1,5 +1,5 @@
 -- From how a command ended to its status.
-use Rattle.std.proofs.Common.{◌≡◌, ◌∙◌, ap, sym, subst, arith, ℕ, ◌≤◌, ◌⊎◌, inl, inr, List, Option, Some, None, IsSome, Result, Ok, Err, IfErr}
+use Rattle.std.proofs.Common.{◌≡◌, ◌∙◌, ap, sym, subst, arith, ℕ, ◌≤◌, ◌⊎◌, inl, inr, List, Option, Some, None, IsSome, Result, Ok, Err, IfErr, OnOk}
 use Rattle.std.proofs.lemmas.List.{append_cancel_left}
 use Rattle.outer_io.specs.Tells.{Tells, Gains}
 use Rattle.outer_io.specs.Files.{Files}
@@ -13,12 +13,13 @@ use Rattle.jet_model.specs.Answer.{IsRecordAnswer}
 use Rattle.jet_model.proofs.Headline.{answer-is_given, given-is_answer, reports-are_given, given-are_reports, run_answer-is_given, given-is_run_answer, convert-is_given, given-is_convert, record_answer-is_recording, recording-is_record_answer, one_record_answer}
 use Rattle.page_data.specs.Page.{page_report}
 use Rattle.order_gateway.proofs.Outcomes.{one_answer as one_bench_answer, answer-is_lines, lines-are_answer}
-use Rattle.jet_files.specs.Outcome.{HeldBefore}
-use Rattle.jet_work.specs.Targets.{Target, ToOutput, ToFile, target_of}
-use Rattle.jet_work.specs.Answers.{IsAnswer, given_by, decisions_by, made_by, stacks_by, core_by, named, limits_of, workload_length}
+use Rattle.jet_commands.specs.Outcome.{HeldBefore}
+use Rattle.jet_commands.specs.Targets.{Target, ToOutput, ToFile}
+use Rattle.jet_commands.specs.Plans.{IsAnswer, target_of}
+use Rattle.jet_commands.specs.Answers.{given_by, decisions_by, made_by, stacks_by, core_by, named, limits_of, workload_length}
 use Rattle.outer_io.specs.Outside.{Change, IfTold, IsUndisturbed}
-use Rattle.jet_work.specs.Writing.{FailsToWrite}
-use Rattle.jet_work.specs.Ending.{IsText, WritesWhole, WritesPart, Ends, IsUnasked, causes_of, status_after}
+use Rattle.jet_commands.specs.Writing.{FailsToWrite}
+use Rattle.jet_commands.specs.Ending.{IsText, WritesWhole, WritesPart, Ends, IsUnasked, causes_of, status_after}
 use Rattle.jet_cli.specs.Statuses.{IsWanted, IsDone, IsDoneInPart, IsRefused, IsHeard, IsDecided, AreWithinLimits, IsComplete}
 use Rattle.jet_cli.proofs.Refusals.{status_of-range, of_any_cause, of_write_fault}
 
@@ -92,6 +93,11 @@ pub done : (command : Option CommandOf) (change : Change) (r : Result (Unit {0})
 done None change (Ok x) h e = absurd h
 done (Some command) change (Ok x) h e = (h.0, whole command change h.1)
 done command change (Err r) h e = absurd (no_zero r e)
+
+-- what holds of a command that was done
+pub where_done : (P : Type 0) (r : Result (Unit {0}) Refusal) → OnOk r P → status_after r ≡ 0 → P
+where_done P (Ok x) p e = p
+where_done P (Err r) p e = absurd (no_zero r e)
 
 pub part : (command : Option CommandOf) (change : Change) (r : Result (Unit {0}) Refusal) → Ends command change r → status_after r ≡ 8 → IsDoneInPart command change
 part command change (Ok x) h e = let f : ⊥ = omega (arith, e) in absurd f

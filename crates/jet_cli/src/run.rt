@@ -2,19 +2,18 @@
 ghost use Rattle.std.specs.Prelude.{◌≡◌, ◌⊎◌, ◌≤◌, false, map, string_bytes, IfOk};
 ghost use Rattle.clap.specs.Words.{takes};
 ghost use Rattle.jet_words.specs.CommandLine.{jet_app};
-ghost use Rattle.jet_work.specs.Targets.{command_in, target_in, files_of, IfFile, IfUntimedIn};
+ghost use Rattle.jet_commands.specs.Targets.{IfFile, OpensAll, OpensFirst, KeepsAll, KeepsBut};
+ghost use Rattle.jet_commands.specs.Plans.{command_in, target_in, files_of, IfUntimedIn};
 ghost use Rattle.outer_io.specs.Outside.{change};
 ghost use Rattle.epoch_engine.specs.Collecting.{AreAtBeginnings, IsCollectedOf};
-ghost use Rattle.jet_work.specs.Keeping.{OpensAll, OpensFirst, KeepsAll, KeepsBut};
-ghost use Rattle.jet_work.specs.Ending.{IsUnwritten, Says};
+ghost use Rattle.jet_commands.specs.Ending.{IsUnwritten, Says};
 ghost use Rattle.jet_cli.specs.Statuses.{IsStatus, IsDone, IsDoneInPart, IsRefused, IsDecided, IsComplete};
 
 use checkpoints::Checkpoints;
 use epoch_cut::Cuts;
 use epoch_engine::{ClosureEngine, Collected, Parallelism};
 use epoch_line::work;
-use jet_commands::obey;
-use jet_work::conclude;
+use jet_commands::{conclude, obey};
 use no_memory::NoMemory;
 use outer_io::{Clock, Gate, Sink, Store};
 use query_lang::Query;

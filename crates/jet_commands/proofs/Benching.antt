@@ -24,7 +24,7 @@ use Rattle.outer_io.specs.Shown.{StoreShown}
 use Rattle.replayer.specs.Jobs.{Job, trace_of}
 use Rattle.replayer.specs.Checks.{IsChecked}
 use Rattle.sink_collect.specs.Pairs.{pairs}
-use Rattle.query_parts.specs.Crossings.{CrossedAt, numbered, crossed}
+use Rattle.run_query.specs.Crossings.{CrossedAt, numbered, crossed}
 use Rattle.jet_refusal.specs.declared.refusal.Refusal.{Refusal}
 use Rattle.jet_refusal.specs.declared.refusal.Refusal.TheVariants as refusal
 use Rattle.jet_refusal.specs.Causes.{IsOwedTo}
@@ -46,10 +46,10 @@ use Rattle.no_memory.specs.declared.Fault.TheVariants as fault
 use Rattle.no_memory.specs.Faults.{IsCausedBy}
 use Rattle.jet_refusal.specs.Faults.{unrecorded_refusal, IsRefusalOf}
 use Rattle.order_gateway.specs.Recordings.{IsTooLong, IsCause}
-use Rattle.jet_files.specs.Outcome.{HeldBefore, IsOutcomeBy, IsWork, by_reading}
-use Rattle.jet_work.specs.Answers.{IsWorkOf}
+use Rattle.jet_commands.specs.Outcome.{HeldBefore, IsOutcomeBy, IsWork, by_reading}
+use Rattle.jet_commands.specs.Answers.{IsWorkOf}
 use Rattle.jet_commands.specs.Bench.{IsWorkloadJob, asked_in_all}
-use Rattle.jet_work.proofs.Fitting.{fitting_start-ok}
+use Rattle.jet_commands.proofs.Fitting.{fitting_start-ok}
 
 -- ---- the guest's run begins
 

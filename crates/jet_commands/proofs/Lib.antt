@@ -1,4 +1,11 @@
-mod Answering
 mod Benching
-mod Carrying
+mod Composing
 mod Cutting
+mod Fitting
+mod Giving
+mod Obeying
+mod Read
+mod Recording
+mod Reporting
+mod Several
+mod Working

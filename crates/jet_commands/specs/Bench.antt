@@ -5,7 +5,7 @@ use Rattle.log_model.specs.Logs.{log_text}
 use Rattle.replay_model.specs.Fits.{beginning}
 use Rattle.record_model.specs.Counts.{capped}
 use Rattle.replayer.specs.Jobs.{Job}
-use Rattle.query_parts.specs.Crossings.{CrossedAt}
+use Rattle.run_query.specs.Crossings.{CrossedAt}
 use Rattle.order_gateway.specs.Guest.{guest_file}
 use Rattle.order_gateway.specs.Answer.{IsWorkloadLog}
 

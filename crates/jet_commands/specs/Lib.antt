@@ -1,2 +1,12 @@
+pub mod Outcome
+pub mod Views
+pub mod Faults
+pub mod Texts
+pub mod Targets
+pub mod Answers
+pub mod Plans
+pub mod Writing
+pub mod Ending
+pub mod Obeying
 pub mod Parts
 pub mod Bench

@@ -4,8 +4,8 @@ use Rattle.log_model.specs.Logs.{Log, steps}
 use Rattle.report_model.specs.Query.{Query}
 use Rattle.jet_model.specs.Lengths.{cuts_by}
 use Rattle.run_beginning.specs.Need.{needed_by_log}
-use Rattle.query_parts.specs.declared.part.Part.{Part}
-use Rattle.query_parts.specs.declared.part.Part.TheVariants.{Whole, Beginning}
+use Rattle.run_query.specs.declared.part.Part.{Part}
+use Rattle.run_query.specs.declared.part.Part.TheVariants.{Whole, Beginning}
 
 -- the whole run, where the rows need half of its steps; else the steps alone that they need. They are cut by the length that the
 -- words tell, or as there are workers

@@ -6,23 +6,27 @@ ghost use Rattle.epoch_model.specs.Cutting.{IsCutting};
 ghost use Rattle.order_gateway.specs.Lines.{numbers_of, bench_text};
 ghost use Rattle.order_gateway.specs.Answer.{IsBenchAnswer};
 ghost use Rattle.jet_words.specs.Commands.{IsPipeline};
-ghost use Rattle.jet_files.specs.Outcome.{seen_by, bytes_of};
-ghost use Rattle.jet_work.specs.Answers.{IsWorkOf, workload_length};
+ghost use Rattle.jet_commands.specs.Outcome.{seen_by};
+ghost use Rattle.jet_commands.specs.Targets.{ToOutput};
+ghost use Rattle.jet_commands.specs.Answers.{IsWorkOf, workload_length};
+ghost use Rattle.jet_commands.specs.Obeying.{given_text, given_target};
 ghost use Rattle.jet_commands.specs.Bench.{IsWorkloadJob, asked_in_all};
 
+use crate::delivery::Given;
+use crate::opening::Run;
 use crate::parts::cuts_of;
+use crate::pieces::Answer;
 use crate::resources::{Resources, parallelism_of};
+use crate::tellings::fitted;
 use epoch_cut::Cuts;
 use epoch_engine::Engine;
 use jet_refusal::Refusal;
 use jet_words::Pipeline;
-use jet_work::fitted;
 use no_memory::NoMemory;
 use order_gateway::{MOST_STEPS, Numbers, Recording, query, recorded, text_of};
 use query_lang::Query;
-use query_parts::Crossed;
 use replayer::Job;
-use run_query::QueryAnswer;
+use run_query::{Crossed, QueryAnswer};
 use sha2::{Digest, Sha256};
 use sink_collect::text;
 use std::alloc::Global;
@@ -38,7 +42,7 @@ fn workload_job(alloc: Global, seed: u64, steps: u64) -> Result<Job, Refusal>
 {
     let recording = recorded(alloc, seed, steps)?;
     let Recording { program, log } = recording;
-    fitted(alloc, program, log)
+    fitted(alloc, Run { program, log })
 }
 
 /// How many locations were asked at the cuts in all, or 2^64 - 1 where they are more.
@@ -109,20 +113,21 @@ fn lines<E: Engine>(
 
 /// The lines of the workload's run by this seed, of so many steps. It gives up with `LogTooLong`, then with
 /// `TooManyEpochs`, or is out of memory.
-pub fn bench<E: Engine>(
+pub fn bench<'a, E: Engine>(
     resources: &Resources<'_, E>,
     seed: u64,
     steps: u64,
     pipeline: Pipeline,
-) -> Result<Vec<u8>, Refusal>
+) -> Result<Given<'a>, Refusal>
     requires ready { E.ready resources.now.engine.now }
     requires steps { steps ≤ MOST_STEPS }
     requires pipeline { IsPipeline pipeline }
-    ensures { IsWorkOf (IsBenchAnswer seed steps (workload_length pipeline)) (seen_by bytes_of result) }
+    ensures answer { IsWorkOf (IsBenchAnswer seed steps (workload_length pipeline)) (seen_by given_text result) }
+    ensures goes { IfOk result (λ given. given_target given ≡ ToOutput) }
 {
     let job = workload_job(resources.alloc, seed, steps)?;
     let length = pipeline.epoch.unwrap_or(WORKLOAD_LENGTH);
     let cuts = cuts_of(job.log(), length)?;
     let text = lines(resources, &job, cuts, pipeline)?;
-    Ok(text)
+    Ok(Given::Told(Answer::Whole(text)))
 }

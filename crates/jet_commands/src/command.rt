@@ -1,20 +1,19 @@
 //! A command, from its words to its end.
-ghost use Rattle.std.specs.Prelude.{◌≡◌, ◌⊎◌, false, map, string_bytes, Some, Err, IfErr, IsErrAnd, OnOk};
+ghost use Rattle.std.specs.Prelude.{◌≡◌, ◌⊎◌, false, map, string_bytes, Some, Err, IsErrAnd};
 ghost use Rattle.clap.specs.Words.{takes};
 ghost use Rattle.jet_refusal.specs.Faults.{IsOutOfMemory};
 ghost use Rattle.jet_words.specs.CommandLine.{jet_app};
 ghost use Rattle.jet_words.specs.Commands.{plain_command, IsInRange};
-ghost use Rattle.jet_work.specs.Targets.{command_in, target_of, target_in, files_of, IfFile, IfUntimed, IfUntimedIn};
 ghost use Rattle.outer_io.specs.Outside.{change};
-ghost use Rattle.jet_work.specs.Keeping.{OpensAll, OpensFirst, KeepsAll, KeepsBut};
-ghost use Rattle.jet_work.specs.Ending.{Ends, IsUnasked, IsUnwritten, status_after};
+ghost use Rattle.jet_commands.specs.Plans.{command_in};
+ghost use Rattle.jet_commands.specs.Obeying.{Obeys};
 
 use crate::answer::answer;
+use crate::delivery::deliver;
 use crate::resources::Resources;
 use epoch_engine::Engine;
 use jet_refusal::Refusal;
 use jet_words::{Command, read_words};
-use jet_work::deliver;
 use no_memory::Fault;
 use outer_io::{Buffer, Clock, Sink, Store, WriteFault};
 use std::alloc::Global;
@@ -24,7 +23,6 @@ const PIECE: usize = 65536;
 
 /// Does what a command stands for: makes its text of its files, and writes it. The buffer for it is there before anything is
 /// read, so nothing is refused while a text is written.
-#[tactic(auto, using(jet_work::proofs::KeepingLemmas::keeps, jet_work::proofs::KeepingLemmas::unasked))]
 fn carry_out<E: Engine, S: Store, O: Sink, K: Clock>(
     resources: &Resources<'_, E>,
     command: &Command,
@@ -34,21 +32,13 @@ fn carry_out<E: Engine, S: Store, O: Sink, K: Clock>(
 ) -> Result<(), Refusal>
     requires ready { E.ready resources.now.engine.now }
     requires ranges { IsInRange (plain_command command.now) }
-    ensures ends { Ends (Some (plain_command command.now))
-        (change S.shown O.shown K.answers store.old out.old clock.old store.new out.new clock.new) result }
-    ensures keeps { KeepsBut (target_of (plain_command command.now)) (S.shown store.old) (S.shown store.new) }
-    ensures untouched { IsUnwritten (status_after result) → KeepsAll (S.shown store.old) (S.shown store.new) }
-    ensures opened { OpensFirst (files_of (Some (plain_command command.now))) (S.shown store.old) (S.shown store.new) }
-    ensures all { OnOk result (OpensAll (files_of (Some (plain_command command.now)))
-        (S.shown store.old) (S.shown store.new)) }
-    ensures silent { IsUnwritten (status_after result) → out.new ≡ out.old }
-    ensures aside { IfFile (target_of (plain_command command.now)) (out.new ≡ out.old) }
-    ensures clock { IfUntimed (plain_command command.now) (clock.new ≡ clock.old) }
-    ensures unasked { IfErr result (IsUnasked (K.answers clock.old) (K.answers clock.new)) }
+    ensures { Obeys (Some (plain_command command.now))
+        (change S.shown O.shown K.answers store.old out.old clock.old store.new out.new clock.new)
+        (out.new ≡ out.old) (clock.new ≡ clock.old) result }
 {
     let buffer = Buffer::new(resources.alloc, PIECE)?;
     let given = answer(resources, store, clock, command)?;
-    match deliver(store, out, command, &given, buffer) {
+    match deliver(store, out, &given, buffer) {
         Ok(()) => Ok(()),
         Err(WriteFault) => Err(Refusal::WriteFault),
     }
@@ -57,7 +47,6 @@ fn carry_out<E: Engine, S: Store, O: Sink, K: Clock>(
 /// Does what the words stand for, of which the first is the program's name. It gives up with `Usage`, where they stand
 /// for no command; with what the files are refused for, `ReadFault` or `WriteFault`, where the store or the output fails,
 /// or it is out of memory. Epochs are analysed by the engine.
-#[tactic(auto, using(jet_work::proofs::KeepingLemmas::keeps, jet_work::proofs::KeepingLemmas::unasked))]
 pub fn obey<E: Engine, S: Store, O: Sink, K: Clock>(
     engine: &E,
     alloc: Global,
@@ -71,20 +60,10 @@ pub fn obey<E: Engine, S: Store, O: Sink, K: Clock>(
     ensures usage { result ≡ Err Refusal.Usage → takes jet_app (map string_bytes words.now) ≡ false }
     ensures unread { takes jet_app (map string_bytes words.now) ≡ false
         → IsErrAnd result (λ r. (r ≡ Refusal.Usage) ⊎ IsOutOfMemory r) }
-
-    // The text was written whole, or a refusal has its cause.
-    ensures ends { Ends (command_in words.now)
-        (change S.shown O.shown K.answers store.old out.old clock.old store.new out.new clock.new) result }
-
-    // What is opened, and what stays.
-    ensures all { OnOk result (OpensAll (files_of (command_in words.now)) (S.shown store.old) (S.shown store.new)) }
-    ensures opened { OpensFirst (files_of (command_in words.now)) (S.shown store.old) (S.shown store.new) }
-    ensures keeps { KeepsBut (target_in (command_in words.now)) (S.shown store.old) (S.shown store.new) }
-    ensures untouched { IsUnwritten (status_after result) → KeepsAll (S.shown store.old) (S.shown store.new) }
-    ensures silent { IsUnwritten (status_after result) → out.new ≡ out.old }
-    ensures aside { IfFile (target_in (command_in words.now)) (out.new ≡ out.old) }
-    ensures clock { IfUntimedIn (command_in words.now) (clock.new ≡ clock.old) }
-    ensures unasked { IfErr result (IsUnasked (K.answers clock.old) (K.answers clock.new)) }
+    // The text was written whole, or a refusal has its cause; and what is opened, and what stays.
+    ensures obeys { Obeys (command_in words.now)
+        (change S.shown O.shown K.answers store.old out.old clock.old store.new out.new clock.new)
+        (out.new ≡ out.old) (clock.new ≡ clock.old) result }
 {
     let resources = Resources { engine, alloc };
     match read_words(alloc, words) {

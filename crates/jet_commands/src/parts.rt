@@ -6,8 +6,8 @@ ghost use Rattle.epoch_model.specs.Cutting.{IsCutting};
 ghost use Rattle.jet_words.specs.Commands.{IsPipeline};
 ghost use Rattle.jet_model.specs.Lengths.{epoch_length, cuts_by};
 ghost use Rattle.jet_model.specs.Answer.{epochs_check, told_check};
-ghost use Rattle.jet_files.specs.Outcome.{IsWork, seen_by};
-ghost use Rattle.query_parts.specs.Parts.{IsEnough};
+ghost use Rattle.jet_commands.specs.Outcome.{IsWork, seen_by};
+ghost use Rattle.run_query.specs.Parts.{IsEnough};
 ghost use Rattle.jet_commands.specs.Parts.{part_by};
 
 use epoch_cut::laws::cut_times_are_cutting;
@@ -15,10 +15,10 @@ use epoch_cut::{CutFault, Cuts, cuts};
 use jet_refusal::Refusal;
 use jet_words::Pipeline;
 use query_lang::Query;
-use query_parts::Part;
 use replay_log::Log;
 use replayer::steps_of;
 use run_beginning::needed_steps;
+use run_query::Part;
 
 /// An epoch has at least so many steps, but for the last one, unless the words tell its length.
 const LEAST_LENGTH: u64 = 262144;

@@ -8,7 +8,7 @@ use super::runs::{CONVERT, COPIES};
 use super::{
     COPY, Ending, Line, NEVER, assert_ends, files, log_of, program, store_of, wide_log_of,
 };
-use jet_files::read_file;
+use jet_commands::read_file;
 use memory_outside::MemoryStore;
 use std::alloc::Global;
 use std::process::Abort;

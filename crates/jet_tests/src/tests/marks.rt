@@ -2,7 +2,7 @@
 
 use super::runs::{CONVERT, CORE, PAGE};
 use super::{Line, words};
-use jet_work::mark_for;
+use jet_commands::mark_for;
 
 /// The front of each core file: the ELF header, and the program header of the note (System V gABI, "ELF Header" and
 /// "Program Header").

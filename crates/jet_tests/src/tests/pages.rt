@@ -4,7 +4,7 @@ use super::guests::COPY_FOUR;
 use super::record::assert_file;
 use super::runs::PAGE;
 use super::{COPY, Ending, Line, NEVER, assert_ends, files, log_with, program_of, push, store_of};
-use jet_files::read_file;
+use jet_commands::read_file;
 use memory_outside::MemoryStore;
 use page_text::{push_head, push_tail};
 use sha2::{Digest, Sha256};

@@ -10,7 +10,7 @@ use super::{
     assert_ends, patched, program, push_file, store_of, wide_log_of,
 };
 use guest_assembler::{Instr, code};
-use jet_files::read_file;
+use jet_commands::read_file;
 use memory_outside::{MemoryFile, MemoryStore};
 use std::alloc::Global;
 use std::process::Abort;

@@ -1,7 +1,7 @@
 use Rattle.std.proofs.Common.{◌∙◌, sym, subst}
-use Rattle.jet_work.specs.Targets.{command_in}
+use Rattle.jet_commands.specs.Plans.{command_in}
 use Rattle.outer_io.specs.Outside.{change}
-use Rattle.jet_work.specs.Ending.{Says}
+use Rattle.jet_commands.specs.Ending.{IsUnwritten, Says}
 use Rattle.jet_cli.specs.Statuses.{IsStatus}
 use Rattle.jet_cli.proofs.Ending as ending
 use Rattle.jet_cli.proofs.Refusals.{status_after-is_status, usage}
@@ -16,22 +16,43 @@ returns-clause-usage g c = λ e. c.obey-outcome.ensures.usage (usage c.obey-outc
 pub returns-clause-done : goal.returns-clause-done
 returns-clause-done g c = λ e. ending.done (command_in c.args.words.now)
     (change g.S.Store.shown g.O.Sink.shown g.K.Clock.answers c.args.store.now c.args.out.now c.args.clock.now c.obey-outcome.new.store c.obey-outcome.new.out c.obey-outcome.new.clock)
-    c.obey-outcome.result c.obey-outcome.ensures.ends (sym c.conclude.ensures.status ∙ e)
+    c.obey-outcome.result c.obey-outcome.ensures.obeys.ends (sym c.conclude.ensures.status ∙ e)
+
+pub returns-clause-all : goal.returns-clause-all
+returns-clause-all g c = λ e. ending.where_done _ c.obey-outcome.result c.obey-outcome.ensures.obeys.all (sym c.conclude.ensures.status ∙ e)
 
 pub returns-clause-refused : goal.returns-clause-refused
-returns-clause-refused g c = ending.refused _ _ (Says (g.E.Sink.shown c.args.err.now) (g.E.Sink.shown c.conclude.new.err)) c.obey-outcome.result _ c.conclude.ensures.status c.obey-outcome.ensures.ends c.conclude.ensures.says c.obey-outcome.ensures.unasked
+returns-clause-refused g c = ending.refused _ _ (Says (g.E.Sink.shown c.args.err.now) (g.E.Sink.shown c.conclude.new.err)) c.obey-outcome.result _ c.conclude.ensures.status c.obey-outcome.ensures.obeys.ends c.conclude.ensures.says c.obey-outcome.ensures.obeys.unasked
 
 pub returns-clause-part : goal.returns-clause-part
 returns-clause-part g c = λ e. ending.part (command_in c.args.words.now)
     (change g.S.Store.shown g.O.Sink.shown g.K.Clock.answers c.args.store.now c.args.out.now c.args.clock.now c.obey-outcome.new.store c.obey-outcome.new.out c.obey-outcome.new.clock)
-    c.obey-outcome.result c.obey-outcome.ensures.ends (sym c.conclude.ensures.status ∙ e)
+    c.obey-outcome.result c.obey-outcome.ensures.obeys.ends (sym c.conclude.ensures.status ∙ e)
 
 pub returns-clause-decided : goal.returns-clause-decided
 returns-clause-decided g c = ending.decided (command_in c.args.words.now)
     (change g.S.Store.shown g.O.Sink.shown g.K.Clock.answers c.args.store.now c.args.out.now c.args.clock.now c.obey-outcome.new.store c.obey-outcome.new.out c.obey-outcome.new.clock)
-    c.obey-outcome.result _ c.conclude.ensures.status c.obey-outcome.ensures.ends
+    c.obey-outcome.result _ c.conclude.ensures.status c.obey-outcome.ensures.obeys.ends
 
 pub returns-clause-complete : goal.returns-clause-complete
 returns-clause-complete g c = ending.complete (command_in c.args.words.now)
     (change g.S.Store.shown g.O.Sink.shown g.K.Clock.answers c.args.store.now c.args.out.now c.args.clock.now c.obey-outcome.new.store c.obey-outcome.new.out c.obey-outcome.new.clock)
-    c.obey-outcome.result _ c.conclude.ensures.status c.obey-outcome.ensures.ends
+    c.obey-outcome.result _ c.conclude.ensures.status c.obey-outcome.ensures.obeys.ends
+
+pub returns-clause-opened : goal.returns-clause-opened
+returns-clause-opened g c = c.obey-outcome.ensures.obeys.opened
+
+pub returns-clause-keeps : goal.returns-clause-keeps
+returns-clause-keeps g c = c.obey-outcome.ensures.obeys.keeps
+
+pub returns-clause-untouched : goal.returns-clause-untouched
+returns-clause-untouched g c = λ unwritten. c.obey-outcome.ensures.obeys.untouched (subst IsUnwritten c.conclude.ensures.status unwritten)
+
+pub returns-clause-silent : goal.returns-clause-silent
+returns-clause-silent g c = λ unwritten. c.obey-outcome.ensures.obeys.silent (subst IsUnwritten c.conclude.ensures.status unwritten)
+
+pub returns-clause-aside : goal.returns-clause-aside
+returns-clause-aside g c = c.obey-outcome.ensures.obeys.aside
+
+pub returns-clause-clock : goal.returns-clause-clock
+returns-clause-clock g c = c.obey-outcome.ensures.obeys.clock

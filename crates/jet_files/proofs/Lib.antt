@@ -1,4 +1,0 @@
-pub mod Composing
-mod Read
-mod Runs
-pub mod Several

@@ -1,3 +1,0 @@
-pub mod Outcome
-pub mod Views
-pub mod Faults
