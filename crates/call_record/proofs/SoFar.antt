@@ -26,7 +26,7 @@ use Rattle.log_model.proofs.Moved.{length-received-push}
 use Rattle.record_model.proofs.Fronts.{received-within}
 use Rattle.record_model.proofs.Runs.{RunsTo, runs_none, runs_plain, runs_call, runs_end, runs_cut}
 use Rattle.rv_machine.specs.Hart.{Hart, running}
-use Rattle.rv_machine.specs.Running.{Tells as TellsOf, IsFollowed, Begun, Then}
+use Rattle.rv_machine.specs.Running.{Tells as TellsOf, Wants, IsFollowed, Begun, Then}
 use Rattle.outer_io.specs.Tells.{Tells, Gains}
 use Rattle.outer_io.proofs.TellsLemmas.{tells-gains, tells-gains-none}
 use Rattle.call_record.specs.Sources.{contents}
@@ -124,9 +124,9 @@ abbrev at_state : Recorder → State → Recorder
 at_state r s = record r { machine = running s }
 
 -- plain steps in a row, whoever is told of them
-module _ {W : Type 0} {heard : TellsOf W} (start : State) (source : Source) (told told_now : Option (List ℕ)) (t : ℕ)
+module _ {W : Type 0} {heard : TellsOf W} {wants : Wants W} (start : State) (source : Source) (told told_now : Option (List ℕ)) (t : ℕ)
     (r : Recorder) {was : W} (so_far : IsSoFar start source told t r told_now) where
-  row : {n : ℕ} {s : State} {w : W} → IsFollowed heard r.machine.state was n s w
+  row : {n : ℕ} {s : State} {w : W} → IsFollowed heard wants r.machine.state was n s w
       → IsSoFar start source told (t + n) (at_state r s) told_now
   row Begun =
       let none : t ≡ t + 0 = omega arith in
@@ -134,13 +134,13 @@ module _ {W : Type 0} {heard : TellsOf W} (start : State) (source : Source) (tol
       so_far.goes_on in
       subst (λ (n : ℕ). IsSoFar start source told n (at_state r r.machine.state) told_now) none
       (subst (λ (x : Recorder). IsSoFar start source told t x told_now) same so_far)
-  row (Then n s w instr after next before step is_heard) =
+  row (Then n s w instr after next before wanted step is_heard) =
       let more : t + n + 1 ≡ t + suc n = omega arith in
       let plain : IsPlain [] (point_of (at_state r s)) (at_state r after) = record { retired = step.retired; goes_on = refl; counts = refl; tape = refl; no_values = refl } in
       subst (λ (n : ℕ). IsSoFar start source told n (at_state r after) told_now) more
       (plain_more start source told told_now told_now (t + n) (at_state r s) (at_state r after) [] (row before) (tells_none told_now) plain)
 
-  pub so_far_row : (n : ℕ) (after : Hart) {w : W} → IsFollowed heard r.machine.state was n after.state w → after.waits ≡ false
+  pub so_far_row : (n : ℕ) (after : Hart) {w : W} → IsFollowed heard wants r.machine.state was n after.state w → after.waits ≡ false
       → IsSoFar start source told (t + n) (record r { machine = after }) told_now
   so_far_row n after followed goes_on =
       subst (λ (b : Bool). IsSoFar start source told (t + n) (record r { machine = record { state = after.state; waits = b } }) told_now)

@@ -1,12 +1,12 @@
 -- A taker of checkpoints, step after step.
-use Rattle.std.proofs.Common.{◌≡◌, ◌≢◌, ℕ, suc, ◌+◌, ◌-◌, ◌%◌, ◌<◌, ◌≤◌, ◌⊎◌, inl, inr, Bool, true, false, List, [], ◌∷◌, ◌++◌, length, take, get_or, refl, arith, ap, sym, ◌∙◌, subst}
+use Rattle.std.proofs.Common.{◌≡◌, ◌≢◌, ℕ, suc, ◌+◌, ◌-◌, ◌<◌, ◌≤◌, ◌⊎◌, inl, inr, Bool, true, false, List, [], ◌∷◌, ◌++◌, length, take, get_or, Some, refl, arith, ap, sym, ◌∙◌, subst}
 use Rattle.std.specs.Prelude.{replicate, ◌||◌}
 use Rattle.std.proofs.lemmas.Bool.{cases_lt}
 use Rattle.std.proofs.lemmas.List.{take_more, length-replicate, map_push}
 use Rattle.isa.specs.declared.Instr.{Instr}
-use Rattle.isa.specs.declared.Instr.TheVariants.{Lui, Auipc, Jal, Jalr, Beq, Bne, Blt, Bge, Bltu, Bgeu, Lb, Lh, Lw, Lbu, Lhu, Sb, Sh, Sw, Addi, Slti, Sltiu, Xori, Ori, Andi, Slli, Srli, Srai, Add, Sub, Sll, Slt, Sltu, Xor, Srl, Sra, Or, And, Mul, Mulh, Mulhsu, Mulhu, Div, Divu, Rem, Remu, Fence, Ecall, Ebreak}
-use Rattle.rv_decode.specs.Registers.{registers_of}
-use Rattle.rv_machine.specs.Running.{PassesBy}
+use Rattle.rv_decode.specs.declared.accesses.Load.{Load}
+use Rattle.rv_decode.specs.declared.accesses.Store.{Store}
+use Rattle.rv_decode.specs.Accesses.{Access, Loads, Stores, Neither, access_of, load_in, store_in, load_of, store_of}
 use Rattle.log_model.specs.Logs.{steps}
 use Rattle.flow_model.specs.declared.StepSeen.{StepSeen}
 use Rattle.epoch_model.specs.Cutting.{IsCutting}
@@ -17,7 +17,7 @@ use Rattle.replayer.specs.Nexts.{seen_at}
 use Rattle.replayer.specs.Watching.{IsMadeOf, IsToldInRow}
 use Rattle.checkpoints.specs.declared.touched.Span.{Span}
 use Rattle.checkpoints.specs.Pages.{page, changed, ArePagesOf, IsExtended}
-use Rattle.checkpoints.specs.Touched.{TouchedAt, span, stored_size, written, is_touched, has_byte, AreMarked, AreAllTouched, AreOthersSame, AreOthersHeld}
+use Rattle.checkpoints.specs.Touched.{TouchedAt, span, size_stored, stored_size, written, is_touched, has_byte, AreMarked, AreAllTouched, AreOthersSame, AreOthersHeld}
 use Rattle.checkpoints.specs.Points.{CheckpointAt, time_of, window_at, last_window, last_numbers, beginnings, IsCheckpoint, AreOfWindow}
 use Rattle.checkpoints.specs.Taking.{TakenAt, AreTaken, TakerAt, times_taken, quiet_of, IsTakenBefore, IsTakenTo, HasSeen}
 use Rattle.checkpoints.proofs.Holding.{last_window_is, memory_is, others_held, with_one}
@@ -140,56 +140,22 @@ told_in_row w touched instr place base marked was job until t after small soon b
     no : t + 1 ≡ w.next → ⊥
     no e = omega arith
 
--- what has no registers, or registers alone, stores nothing
-stores_nothing : (instr : Instr) → registers_of instr % 2 ≡ 0 → stored_size instr ≡ 0
-stores_nothing (Lui d imm) even = refl
-stores_nothing (Auipc d imm) even = refl
-stores_nothing (Jal d imm) even = refl
-stores_nothing (Jalr d a imm) even = refl
-stores_nothing (Beq a b imm) even = refl
-stores_nothing (Bne a b imm) even = refl
-stores_nothing (Blt a b imm) even = refl
-stores_nothing (Bge a b imm) even = refl
-stores_nothing (Bltu a b imm) even = refl
-stores_nothing (Bgeu a b imm) even = refl
-stores_nothing (Lb d a imm) even = refl
-stores_nothing (Lh d a imm) even = refl
-stores_nothing (Lw d a imm) even = refl
-stores_nothing (Lbu d a imm) even = refl
-stores_nothing (Lhu d a imm) even = refl
-stores_nothing (Sb a b imm) even = cc
-stores_nothing (Sh a b imm) even = cc
-stores_nothing (Sw a b imm) even = cc
-stores_nothing (Addi d a imm) even = refl
-stores_nothing (Slti d a imm) even = refl
-stores_nothing (Sltiu d a imm) even = refl
-stores_nothing (Xori d a imm) even = refl
-stores_nothing (Ori d a imm) even = refl
-stores_nothing (Andi d a imm) even = refl
-stores_nothing (Slli d a k) even = refl
-stores_nothing (Srli d a k) even = refl
-stores_nothing (Srai d a k) even = refl
-stores_nothing (Add d a b) even = refl
-stores_nothing (Sub d a b) even = refl
-stores_nothing (Sll d a b) even = refl
-stores_nothing (Slt d a b) even = refl
-stores_nothing (Sltu d a b) even = refl
-stores_nothing (Xor d a b) even = refl
-stores_nothing (Srl d a b) even = refl
-stores_nothing (Sra d a b) even = refl
-stores_nothing (Or d a b) even = refl
-stores_nothing (And d a b) even = refl
-stores_nothing (Mul d a b) even = refl
-stores_nothing (Mulh d a b) even = refl
-stores_nothing (Mulhsu d a b) even = refl
-stores_nothing (Mulhu d a b) even = refl
-stores_nothing (Div d a b) even = refl
-stores_nothing (Divu d a b) even = refl
-stores_nothing (Rem d a b) even = refl
-stores_nothing (Remu d a b) even = refl
-stores_nothing (Fence kept) even = refl
-stores_nothing Ecall even = refl
-stores_nothing Ebreak even = refl
+-- a load stores nothing, and a store what it stores
+pub load_stores : (i : Instr) (l : Load) → load_of i ≡ Some l → stored_size i ≡ 0
+load_stores i l e = by (access_of i) e
+  where
+    by : (a : Access) → load_in a ≡ Some l → size_stored a ≡ 0
+    by (Loads x) e = refl
+    by (Stores x) e = cc
+    by Neither e = refl
+
+pub store_stores : (i : Instr) (s : Store) → store_of i ≡ Some s → stored_size i ≡ s.size
+store_stores i s e = by (access_of i) e
+  where
+    by : (a : Access) → store_in a ≡ Some s → size_stored a ≡ s.size
+    by (Loads x) e = cc
+    by (Stores x) e = cc
+    by Neither e = cc
 
 -- no bytes mark no page
 none_marked : (flags : List Bool) (first n : ℕ) → n ≡ 0 → AreMarked flags first n flags
@@ -202,11 +168,9 @@ none_marked flags first n none = record {
     or_false true = refl
     or_false false = refl
 
--- so a taker has nothing to note of it
-pub passed_by : (w : TakerAt) (registers : ℕ) → registers % 2 ≡ 0 → PassesBy (IsToldInRow HasSeen quiet_of) registers w
-passed_by w registers even instr place fits own =
-    let none = stores_nothing instr (ap (λ (n : ℕ). n % 2) own ∙ even) in
-    told_in_row w w.touched instr place refl (none_marked w.touched.flags (place - w.touched.base) (stored_size instr) none)
+-- so a taker has nothing to note of what stores nothing
+pub nothing_to_note : (w : TakerAt) (instr : Instr) (place : ℕ) → stored_size instr ≡ 0 → IsToldInRow HasSeen quiet_of w instr place w
+nothing_to_note w instr place none = told_in_row w w.touched instr place refl (none_marked w.touched.flags (place - w.touched.base) (stored_size instr) none)
 
 -- ---- the whole run
 

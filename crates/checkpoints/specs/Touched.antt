@@ -1,9 +1,9 @@
 -- Which pages of a window may have been written since the last checkpoint.
 use Rattle.std.specs.Prelude.{◌≡◌, ℕ, ◌+◌, ◌*◌, ◌<◌, nat_lt, Bool, true, false, ◌&&◌, ◌||◌, List, length, get_or, Option, Some, None}
 use Rattle.isa.specs.declared.Instr.{Instr}
-use Rattle.isa.specs.declared.Instr.TheVariants.{Sb, Sh, Sw}
 use Rattle.isa.specs.declared.CallKind.{CallKind}
 use Rattle.isa.specs.declared.CallKind.TheVariants.{Read}
+use Rattle.rv_decode.specs.Accesses.{Access, Loads, Stores, Neither, access_of}
 use Rattle.flow_model.specs.declared.StepSeen.{StepSeen}
 use Rattle.flow_model.specs.declared.CallSeen.{CallSeen}
 use Rattle.checkpoints.specs.declared.touched.Span.{Span}
@@ -14,11 +14,13 @@ use Rattle.checkpoints.specs.Pages.{page, changed, differs, page_before, IsHeld,
 abbrev pub span : ℕ → ℕ → Span
 span place size = record { place = place; size = size }
 
+abbrev pub size_stored : Access → ℕ
+size_stored (Loads l) = 0
+size_stored (Stores s) = s.size
+size_stored Neither = 0
+
 abbrev pub stored_size : Instr → ℕ
-stored_size (Sb a b imm) = 1
-stored_size (Sh a b imm) = 2
-stored_size (Sw a b imm) = 4
-stored_size _ = 0
+stored_size i = size_stored (access_of i)
 
 abbrev pub received_size : CallKind → ℕ → ℕ
 received_size Read n = n

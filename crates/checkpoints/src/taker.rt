@@ -15,7 +15,7 @@ use crate::touched::{Span, Touched, stored, written};
 use epoch_cut::Cuts;
 use flow_model::StepSeen;
 use no_memory::NoMemory;
-use replayer::{Follower, Instr, Job, PlainStep, Position, Watcher};
+use replayer::{Follower, Instr, Job, Load, PlainStep, Position, Store, Watcher};
 use std::alloc::Global;
 use std::marker::Model;
 
@@ -110,15 +110,28 @@ impl Follower for CheckpointTaker {
 
     ghost told = { IsToldInRow HasSeen quiet_of };
 
-    /// It passes by what neither loads nor stores.
+    ghost wants = { λ _ _. Unit {0} };
+
     #[inline(always)]
-    fn passes_by(&self, registers: u32) -> bool {
-        registers % 2 == 0
+    fn wants_step(&self, _pc: u32) -> bool {
+        true
     }
 
     #[inline(always)]
-    fn follow(&mut self, instr: &Instr, place: u32) {
-        self.touched.note(stored(*instr, place));
+    fn passes_by(&self, _registers: u32) -> bool {
+        true
+    }
+
+    #[inline(always)]
+    fn follow(&mut self, _instr: &Instr) {}
+
+    #[inline(always)]
+    fn follow_load(&mut self, _load: Load, _place: u32) {}
+
+    #[inline(always)]
+    fn follow_store(&mut self, store: Store, place: u32) {
+        let size = u32::from(store.size);
+        self.touched.note(Span { place, size });
     }
 }
 

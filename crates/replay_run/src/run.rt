@@ -307,7 +307,7 @@ impl<'a> Run<'a> {
         requires later { AreLater self.old.moment.time most self.old.moment.left }
         requires time { self.old.moment.time + most ≤ 2 ^ 41 }
         ensures most { result ≤ most }
-        ensures made { IsFollowed F.told self.old.moment.state follower.old result self.new.moment.state follower.new }
+        ensures made { IsFollowed F.told F.wants self.old.moment.state follower.old result self.new.moment.state follower.new }
         ensures rest { self.new ≡ gone_on self.old result self.new.moment.state }
     {
         let made = self.machine.run_plain(most, follower);

@@ -14,8 +14,8 @@ two_bits d a = bit_or (register_bit d) (register_bit a)
 abbrev pub three_bits : ℕ → ℕ → ℕ → ℕ
 three_bits d a b = bit_or (register_bit d) (bit_or (register_bit a) (register_bit b))
 
--- of the register that an instruction sets and of those from which it computes what it sets. Bit 0 stands for memory:
--- a load or a store has it alone, since its flow is that between memory and a register
+-- of the register that an instruction sets and of those from which it computes what it sets. A load or a store has none, since
+-- its flow is that between memory and a register
 abbrev pub registers_of : Instr → ℕ
 registers_of (Lui d imm) = register_bit d
 registers_of (Auipc d imm) = register_bit d
@@ -27,14 +27,14 @@ registers_of (Blt a b imm) = 0
 registers_of (Bge a b imm) = 0
 registers_of (Bltu a b imm) = 0
 registers_of (Bgeu a b imm) = 0
-registers_of (Lb d a imm) = 1
-registers_of (Lh d a imm) = 1
-registers_of (Lw d a imm) = 1
-registers_of (Lbu d a imm) = 1
-registers_of (Lhu d a imm) = 1
-registers_of (Sb a b imm) = 1
-registers_of (Sh a b imm) = 1
-registers_of (Sw a b imm) = 1
+registers_of (Lb d a imm) = 0
+registers_of (Lh d a imm) = 0
+registers_of (Lw d a imm) = 0
+registers_of (Lbu d a imm) = 0
+registers_of (Lhu d a imm) = 0
+registers_of (Sb a b imm) = 0
+registers_of (Sh a b imm) = 0
+registers_of (Sw a b imm) = 0
 registers_of (Addi d a imm) = two_bits d a
 registers_of (Slti d a imm) = two_bits d a
 registers_of (Sltiu d a imm) = two_bits d a

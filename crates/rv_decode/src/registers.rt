@@ -6,9 +6,6 @@ ghost use Rattle.rv_decode.specs.Registers.{register_bit, two_bits, three_bits, 
 
 use isa::Instr;
 
-/// The bit of loads and stores.
-const MEMORY: u32 = 1;
-
 /// The bit of a register; x0 has none.
 fn register_bit(number: u8) -> u32
     requires { number < 32 }
@@ -35,8 +32,8 @@ fn three_bits(rd: u8, rs1: u8, rs2: u8) -> u32
 }
 
 /// Which registers an instruction moves values between, a bit for each: bit r of the register r that it sets and of those
-/// from which it computes what it sets. x0 has no bit. A load or a store has bit 0 alone; branches, FENCE, ECALL and EBREAK
-/// have none.
+/// from which it computes what it sets. x0 has no bit. Loads and stores have none, nor do branches, FENCE, ECALL and
+/// EBREAK.
 pub fn registers_of(instr: &Instr) -> u32
     requires { Fits instr.now }
     ensures { result ≡ registers_of instr.now }
@@ -80,8 +77,8 @@ pub fn registers_of(instr: &Instr) -> u32
         | Instr::Lhu { .. }
         | Instr::Sb { .. }
         | Instr::Sh { .. }
-        | Instr::Sw { .. } => MEMORY,
-        Instr::Beq { .. }
+        | Instr::Sw { .. }
+        | Instr::Beq { .. }
         | Instr::Bne { .. }
         | Instr::Blt { .. }
         | Instr::Bge { .. }

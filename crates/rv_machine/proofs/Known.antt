@@ -23,16 +23,22 @@ pub none_known : (n : ℕ) (slots : List Slot) → slots ≡ replicate n UNKNOWN
 none_known n slots e memory =
     let P : Slot → Type 0 = λ s. s ≡ UNKNOWN in
     let all : All (λ s. s ≡ UNKNOWN) slots = All-same (λ (s : Slot). s ≡ UNKNOWN) slots (replicate n UNKNOWN) e (All-replicate (λ (s : Slot). s ≡ UNKNOWN) n UNKNOWN refl) in
-    record { each = λ k h. subst (λ (s : Slot). IsKnown memory (4 * k) s) (sym (all k UNKNOWN h)) (unknown memory (4 * k)) }
+    record {
+      each = λ k h. subst (λ (s : Slot). IsKnown memory (4 * k) s) (sym (all k UNKNOWN h)) (unknown memory (4 * k));
+      last = λ k h. all k UNKNOWN (omega arith);
+    }
 
-pub set_known : (slots : List Slot) (memory : List ℕ) (n : ℕ) (slot : Slot) → AreKnown slots memory → n < length slots → IsKnown memory (4 * n) slot → AreKnown (slice_set slots n slot) memory
+pub set_known : (slots : List Slot) (memory : List ℕ) (n : ℕ) (slot : Slot) → AreKnown slots memory → n + 1 < length slots → IsKnown memory (4 * n) slot → AreKnown (slice_set slots n slot) memory
 set_known slots memory n slot known within here =
     let same = length-set slots n slot in
-    record { each = λ k h. by k (omega arith) (cases_eq k n) }
+    record {
+      each = λ k h. by k (omega arith) (cases_eq k n);
+      last = λ k h. get_or-set_other slots n k slot UNKNOWN (omega arith) ∙ known.last k (omega arith);
+    }
   where
     by : (k : ℕ) → k < length slots → (k ≡ n) ⊎ (k ≡ n → ⊥) → IsKnown memory (4 * k) (slot_of (slice_set slots n slot) k)
     by k h (inl e) =
-        let at_n : IsKnown memory (4 * n) (slot_of (slice_set slots n slot) n) = subst (λ (s : Slot). IsKnown memory (4 * n) s) (sym (get_or-set_same slots n slot UNKNOWN within)) here in
+        let at_n : IsKnown memory (4 * n) (slot_of (slice_set slots n slot) n) = subst (λ (s : Slot). IsKnown memory (4 * n) s) (sym (get_or-set_same slots n slot UNKNOWN (omega arith))) here in
         subst (λ (j : ℕ). IsKnown memory (4 * j) (slot_of (slice_set slots n slot) j)) (sym e) at_n
     by k h (inr other) = subst (λ (s : Slot). IsKnown memory (4 * k) s) (sym (get_or-set_other slots n k slot UNKNOWN other)) (known.each k h)
 
@@ -113,14 +119,18 @@ forgotten_all old new first n past f done = record { same_length = f.same_length
 pub forgotten_known : (old new : List Slot) (memory bytes : List ℕ) (i size : ℕ) → AreForgotten old new (i / 4) ((i + size + 3) / 4) → AreKnown old memory → length bytes ≤ size → i + length bytes ≤ length memory → AreKnown new (overwritten memory i bytes)
 forgotten_known old new memory bytes i size f known few inside =
     let same = f.same_length in
-    record { each = λ k h. by k (omega arith) (f.each k (omega arith)) }
+    record { each = λ k h. by k (omega arith) (f.each k (omega arith)); last = λ k h. last k (omega arith) (f.each k (omega arith)) }
   where
     by : (k : ℕ) → k < length old → (slot_of new k ≡ UNKNOWN) ⊎ ((slot_of new k ≡ slot_of old k) × ((k < i / 4) ⊎ ((i + size + 3) / 4 ≤ k))) → IsKnown (overwritten memory i bytes) (4 * k) (slot_of new k)
     by k h (inl e) = subst (λ (s : Slot). IsKnown (overwritten memory i bytes) (4 * k) s) (sym e) (unknown (overwritten memory i bytes) (4 * k))
     by k h (inr (same, inl a)) = subst (λ (s : Slot). IsKnown (overwritten memory i bytes) (4 * k) s) (sym same) (still_known memory bytes i (4 * k) (slot_of old k) (inl (omega arith)) inside (known.each k h))
     by k h (inr (same, inr a)) = subst (λ (s : Slot). IsKnown (overwritten memory i bytes) (4 * k) s) (sym same) (still_known memory bytes i (4 * k) (slot_of old k) (inr (omega arith)) inside (known.each k h))
 
-pub kept : (slots : List Slot) (memory : List ℕ) (n : ℕ) (slot : Slot) → n < length slots → HasBits slot → AreKnown slots memory → IsThere memory (4 * n) slot.instr → AreKnown (slice_set slots n slot) memory
+    last : (k : ℕ) → k + 1 ≡ length old → (slot_of new k ≡ UNKNOWN) ⊎ ((slot_of new k ≡ slot_of old k) × ((k < i / 4) ⊎ ((i + size + 3) / 4 ≤ k))) → slot_of new k ≡ UNKNOWN
+    last k h (inl e) = e
+    last k h (inr (same, apart)) = same ∙ known.last k h
+
+pub kept : (slots : List Slot) (memory : List ℕ) (n : ℕ) (slot : Slot) → n + 1 < length slots → HasBits slot → AreKnown slots memory → IsThere memory (4 * n) slot.instr → AreKnown (slice_set slots n slot) memory
 kept slots memory n slot within bits known there = set_known slots memory n slot known within (record { bits = bits; is = inr there })
 
 -- an instruction that is known, and no ECALL, is that of its word

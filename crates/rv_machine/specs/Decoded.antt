@@ -28,8 +28,10 @@ pub record IsKnown (memory : List ℕ) (offset : ℕ) (slot : Slot) : Type 0 whe
 abbrev pub slot_of : List Slot → ℕ → Slot
 slot_of slots n = slice_index_or slots n UNKNOWN
 
+-- each is right, and the last knows nothing
 pub record AreKnown (slots : List Slot) (memory : List ℕ) : Type 0 where
   pub each : (n : ℕ) → n < length slots → IsKnown memory (4 * n) (slot_of slots n)
+  pub last : (n : ℕ) → n + 1 ≡ length slots → slot_of slots n ≡ UNKNOWN
 
 -- what was right stays right
 abbrev pub KnowsNoMore : List Slot → List Slot → Type 0

@@ -1,9 +1,12 @@
 -- What doing an instruction comes to, by parts of a state.
-use Rattle.std.specs.Prelude.{◌≡◌, ℕ, ◌+◌, ◌-◌, ◌≤◌, length, Bool, true, false, List, []}
+use Rattle.std.specs.Prelude.{◌≡◌, ℕ, ◌+◌, ◌-◌, ◌≤◌, length, Bool, true, false, List, [], Option, Some, None}
 use Rattle.isa.specs.declared.Instr.{Instr}
 use Rattle.isa.specs.declared.Effect.{Effect}
 use Rattle.isa.specs.declared.Effect.TheVariants.{SetRegister, Jump, Branch, Load, Store, MoveOn, EnvironmentCall, Breakpoint}
 use Rattle.isa.specs.Machine.{State, Outcome, Retired, Called, Trapped, execute, effect_of, place_of, call_of, wrap, is_aligned, with_register, in_window, bytes_at, little_endian, extended, low_bytes, overwritten}
+use Rattle.rv_decode.specs.declared.accesses.Load.{Load as LoadMade}
+use Rattle.rv_decode.specs.declared.accesses.Store.{Store as StoreMade}
+use Rattle.rv_decode.specs.Accesses.{load_of, store_of, IsNoAccess, FitsLoad, FitsStore}
 use Rattle.rv_machine.specs.declared.state.Next.{Next}
 use Rattle.rv_machine.specs.declared.state.Next.TheVariants as next
 
@@ -19,8 +22,8 @@ window_of base memory = record { pc = 0; registers = []; base = base; memory = m
 abbrev pub pc_after : ℕ → Next → ℕ
 pc_after pc next.On = wrap (pc + 4)
 pc_after pc (next.To target) = target
-pc_after pc (next.Loaded place) = wrap (pc + 4)
-pc_after pc (next.Stored place) = wrap (pc + 4)
+pc_after pc (next.Loaded place load) = wrap (pc + 4)
+pc_after pc (next.Stored place store) = wrap (pc + 4)
 pc_after pc next.Called = pc
 pc_after pc (next.Trapped kind) = pc
 
@@ -31,22 +34,22 @@ pub record IsWritten (before : List ℕ) (offset : ℕ) (after : List ℕ) : Typ
   pub inside : offset + length bytes ≤ length before
   pub is : after ≡ overwritten before offset bytes
 
--- an outcome, with an effective address, is this one, with the states before and after it
+-- an instruction's outcome, with an effective address, is this one, with the states before and after it
 pub record IsRetired (before : State) (outcome : Outcome) (address place : ℕ) (after : State) : Type 0 where
   pub retires : outcome ≡ Retired after
   pub reaches : address ≡ place
 
-abbrev pub IsOutcome : State → Outcome → ℕ → Next → State → Type 0
-IsOutcome before outcome address next.On after = IsRetired before outcome address 0 after × (after.memory ≡ before.memory)
-IsOutcome before outcome address (next.To target) after = IsRetired before outcome address 0 after × (after.memory ≡ before.memory) × (is_aligned target ≡ true)
-IsOutcome before outcome address (next.Loaded place) after = IsRetired before outcome address place after × (after.memory ≡ before.memory)
-IsOutcome before outcome address (next.Stored place) after = IsRetired before outcome address place after × (before.base ≤ place) × IsWritten before.memory (place - before.base) after.memory
-IsOutcome before outcome address next.Called after = (outcome ≡ Called (call_of before)) × (after ≡ before)
-IsOutcome before outcome address (next.Trapped kind) after = (outcome ≡ Trapped kind) × (after ≡ before)
+abbrev pub IsOutcome : State → Instr → Outcome → ℕ → Next → State → Type 0
+IsOutcome before instr outcome address next.On after = IsRetired before outcome address 0 after × (after.memory ≡ before.memory) × IsNoAccess instr
+IsOutcome before instr outcome address (next.To target) after = IsRetired before outcome address 0 after × (after.memory ≡ before.memory) × (is_aligned target ≡ true) × IsNoAccess instr
+IsOutcome before instr outcome address (next.Loaded place load) after = IsRetired before outcome address place after × (after.memory ≡ before.memory) × (load_of instr ≡ Some load) × FitsLoad load
+IsOutcome before instr outcome address (next.Stored place store) after = IsRetired before outcome address place after × (before.base ≤ place) × IsWritten before.memory (place - before.base) after.memory × (store_of instr ≡ Some store) × FitsStore store
+IsOutcome before instr outcome address next.Called after = (outcome ≡ Called (call_of before)) × (after ≡ before)
+IsOutcome before instr outcome address (next.Trapped kind) after = (outcome ≡ Trapped kind) × (after ≡ before)
 
 -- what doing an instruction came to
 abbrev pub Executes : State → Instr → Next → State → Type 0
-Executes before instr to after = IsOutcome before (execute before (effect_of before instr)) (place_of before instr) to after
+Executes before instr to after = IsOutcome before instr (execute before (effect_of before instr)) (place_of before instr) to after
 
 -- ---- the same by parts
 
@@ -60,23 +63,25 @@ branching true target = landing (is_aligned target) target
 branching false target = next.On
 
 -- where a load and a store lead: they trap outside the window
-abbrev pub loading : Bool → ℕ → Next
-loading true address = next.Loaded address
-loading false address = next.Trapped 5
+abbrev pub loading : Bool → Option LoadMade → ℕ → Next
+loading true (Some load) address = next.Loaded address load
+loading true None address = next.Trapped 5
+loading false load address = next.Trapped 5
 
-abbrev pub storing : Bool → ℕ → Next
-storing true address = next.Stored address
-storing false address = next.Trapped 7
+abbrev pub storing : Bool → Option StoreMade → ℕ → Next
+storing true (Some store) address = next.Stored address store
+storing true None address = next.Trapped 7
+storing false store address = next.Trapped 7
 
-abbrev pub next_of : State → Effect → Next
-next_of s (SetRegister d v) = next.On
-next_of s (Jump d target) = landing (is_aligned target) target
-next_of s (Branch taken target) = branching taken target
-next_of s (Load d address n is_signed) = loading (in_window s address n) address
-next_of s (Store address n v) = storing (in_window s address n) address
-next_of s MoveOn = next.On
-next_of s EnvironmentCall = next.Called
-next_of s Breakpoint = next.Trapped 3
+abbrev pub next_of : State → Instr → Effect → Next
+next_of s instr (SetRegister d v) = next.On
+next_of s instr (Jump d target) = landing (is_aligned target) target
+next_of s instr (Branch taken target) = branching taken target
+next_of s instr (Load d address n is_signed) = loading (in_window s address n) (load_of instr) address
+next_of s instr (Store address n v) = storing (in_window s address n) (store_of instr) address
+next_of s instr MoveOn = next.On
+next_of s instr EnvironmentCall = next.Called
+next_of s instr Breakpoint = next.Trapped 3
 
 -- the registers, one of them set unless the instruction traps
 abbrev pub set_if : Bool → List ℕ → ℕ → ℕ → List ℕ

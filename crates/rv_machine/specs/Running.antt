@@ -4,6 +4,7 @@ use Rattle.isa.specs.declared.Instr.{Instr}
 use Rattle.isa.specs.Encodings.{Fits}
 use Rattle.isa.specs.Machine.{State, Retired, execute, effect_of, place_of, wrap}
 use Rattle.rv_decode.specs.Registers.{registers_of}
+use Rattle.rv_decode.specs.Accesses.{IsNoAccess}
 use Rattle.rv_machine.specs.declared.running.Made.{Made}
 use Rattle.rv_machine.specs.declared.running.Made.TheVariants as made
 use Rattle.rv_machine.specs.Effects.{IsWritten}
@@ -13,17 +14,21 @@ use Rattle.rv_machine.specs.Hart.{running, IsPlainStep}
 abbrev pub Tells : Type 0 → Type 1
 Tells W = W → Instr → ℕ → W → Type 0
 
--- being told of a step of an instruction with these registers changes nothing
-abbrev pub PassesBy : {W : Type 0} → Tells W → ℕ → W → Type 0
-PassesBy told registers w = (instr : Instr) (place : ℕ) → Fits instr → registers_of instr ≡ registers → told w instr place w
+-- whether a further step is wanted, where it begins at this pc
+abbrev pub Wants : Type 0 → Type 1
+Wants W = W → ℕ → Type 0
 
--- so many plain steps lead from one state to another, and one who was told of each, or passed it by, from what it was to
--- what it is
-pub data IsFollowed {W : Type 0} (told : Tells W) (from : State) (was : W) : ℕ → State → W → Type 0 where
-  Begun : IsFollowed told from was 0 from was
-  Then : (n : ℕ) (s : State) (w : W) (instr : Instr) (after : State) (next : W) → IsFollowed told from was n s w
-      → IsPlainStep s instr (place_of s instr) (running after) → told w instr (place_of s instr) next
-      → IsFollowed told from was (suc n) after next
+-- being told of a step of an instruction with these registers, which is neither a load nor a store, changes nothing
+abbrev pub PassesBy : {W : Type 0} → Tells W → ℕ → W → Type 0
+PassesBy told registers w = (instr : Instr) → Fits instr → registers_of instr ≡ registers → IsNoAccess instr → told w instr 0 w
+
+-- so many plain steps lead from one state to another, and one who wanted each, and was told of it or passed it by, from what
+-- it was to what it is
+pub data IsFollowed {W : Type 0} (told : Tells W) (wants : Wants W) (from : State) (was : W) : ℕ → State → W → Type 0 where
+  Begun : IsFollowed told wants from was 0 from was
+  Then : (n : ℕ) (s : State) (w : W) (instr : Instr) (after : State) (next : W) → IsFollowed told wants from was n s w
+      → wants w s.pc → IsPlainStep s instr (place_of s instr) (running after) → told w instr (place_of s instr) next
+      → IsFollowed told wants from was (suc n) after next
 
 -- an instruction retires, and one was told of it
 pub record IsMade {W : Type 0} (told : Tells W) (s : State) (was : W) (instr : Instr) (after : State) (next : W) : Type 0 where

@@ -36,7 +36,8 @@ const UNKNOWN: Slot = Slot {
     registers: 0,
 };
 
-/// A slot for each of the window's words up to the last one that was decoded; or none, and then nothing is kept.
+/// A slot for each of the window's words up to the last one that was decoded, and at least one more, whose word is never known: so a
+/// row of known words ends before it. Or no slots at all, and then nothing is kept.
 #[derive(Drop)]
 pub struct DecodedWords {
     pub slots: Vec<Slot>,
@@ -84,13 +85,14 @@ fn forget_some(slots: &mut [Slot], offset: u32, size: u64)
     }
 }
 
-/// Keeps the instruction of a word, if it has a slot.
+/// Keeps the instruction of a word, if it has a slot that isn't the last.
 fn keep(slots: &mut [Slot], number: usize, instr: Instr)
-    requires { Fits instr }
+    requires fits { Fits instr }
+    requires few { number < 2 ^ 30 }
     ensures { (memory : List ℕ) → AreKnown slots.old memory → IsThere memory (4 * number) instr
         → AreKnown slots.new memory }
 {
-    if number >= slots.len() {
+    if number + 1 >= slots.len() {
         return;
     }
     let registers = registers_of(&instr);
@@ -185,11 +187,12 @@ impl DecodedWords {
     }
 
     /// Makes a slot for a word and those below it, and an eighth more, where there is memory for them, and forgets all: so a run
-    /// through ever higher words makes few slots anew. It does nothing where the word has one, or where nothing is kept.
+    /// through ever higher words makes few slots anew. It does nothing where the word has one that isn't the last, or where nothing
+    /// is kept.
     fn make_room(&mut self, number: usize)
         ensures { KnowsNoMore self.old self.new }
     {
-        if self.slots.is_empty() || number < self.slots.len() || number >= MOST {
+        if self.slots.is_empty() || number >= MOST || number + 1 < self.slots.len() {
             return;
         }
         let alloc = *self.slots.allocator();

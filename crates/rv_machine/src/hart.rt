@@ -116,8 +116,8 @@ impl Machine {
         match self.state.execute(&instr) {
             Next::On => Stepped::Plain { instr, place: 0 },
             Next::To(_) => Stepped::Plain { instr, place: 0 },
-            Next::Loaded(place) => Stepped::Plain { instr, place },
-            Next::Stored(place) => {
+            Next::Loaded(place, _) => Stepped::Plain { instr, place },
+            Next::Stored(place, _) => {
                 self.decoded.forget(place - base, 4);
                 Stepped::Plain { instr, place }
             }
@@ -131,12 +131,13 @@ impl Machine {
 
     /// Makes plain steps in a row, at most so many, and gives how many were made. It may make fewer: it stops before a call,
     /// a trap, or an instruction that it doesn't know yet, which [`Machine::step`] decodes and keeps where there is room
-    /// ([`Machine::keep_decoded`]). `follower` is told of each, but for those that it passes by.
+    /// ([`Machine::keep_decoded`]), and before one that `follower` doesn't want. `follower` is told of each, but for those that
+    /// it passes by.
     #[inline(always)]
     pub fn run_plain<F: Follower>(&mut self, most: u64, follower: &mut F) -> u64
         requires { self.old.waits ≡ false }
         ensures most { result ≤ most }
-        ensures made { IsFollowed F.told self.old.state follower.old result self.new.state follower.new }
+        ensures made { IsFollowed F.told F.wants self.old.state follower.old result self.new.state follower.new }
         ensures goes_on { self.new.waits ≡ false }
     {
         self.decoded.run(&mut self.state, most, follower)

@@ -20,6 +20,7 @@ pub use hart::Machine;
 pub use isa::{Call, CallKind, Instr};
 use no_memory::Fault;
 pub use running::{Follower, Unfollowed};
+pub use rv_decode::{Load, Store};
 pub use saved::{MachineState, Rest};
 
 /// Why there is no machine for an image: the window can't hold it, or out of memory.

@@ -1,15 +1,17 @@
 //! Plain steps in a row.
 
-ghost use Rattle.std.specs.Prelude.{◌≡◌, ℕ, ◌+◌, ◌-◌, ◌*◌, ◌%◌, ◌^◌, ◌<◌, ◌≤◌, List, length, None, IfSome, IsTrue};
+ghost use Rattle.std.specs.Prelude.{◌≡◌, ℕ, ◌+◌, ◌-◌, ◌*◌, ◌%◌, ◌^◌, ◌<◌, ◌≤◌, List, length, Some, None, IfSome, IsTrue};
 ghost use Rattle.isa.specs.declared.Instr.{Instr as AnyInstr};
 ghost use Rattle.isa.specs.Encodings.{Fits};
 ghost use Rattle.rv_machine.specs.Decoded.{HasBits, AreKnown};
+ghost use Rattle.rv_decode.specs.Accesses.{load_of, store_of, IsNoAccess, FitsLoad, FitsStore};
 ghost use Rattle.rv_machine.specs.Effects.{state_of};
-ghost use Rattle.rv_machine.specs.Running.{PassesBy, IsMade, IsChanged, made_pc, number_after, pc_of, IsFollowed};
+ghost use Rattle.rv_machine.specs.Running.{PassesBy, IsMade, IsChanged, made_pc, pc_of, IsFollowed};
 
 use crate::decoded::{DecodedWords, Slot, forget, slot_at};
 use crate::state::{HartState, Next, execute};
 use isa::Instr;
+use rv_decode::{Load, Store};
 
 /// Is told of plain steps that a machine makes in a row.
 pub trait Follower {
@@ -17,14 +19,33 @@ pub trait Follower {
     /// that did this.
     ghost told: { Self → AnyInstr → ℕ → Self → Type 0 };
 
-    /// Whether it need not be told of steps with these registers ([`rv_decode::registers_of`]): being told changes nothing.
+    /// Holds of one who wants a further step, which begins at this pc.
+    ghost wants: { Self → ℕ → Type 0 };
+
+    /// Whether it wants a further step, where that begins at this pc: steps in a row end before one that isn't wanted.
+    fn wants_step(&self, pc: u32) -> bool
+        ensures { IsTrue result → wants self.now pc };
+
+    /// Whether it need not be told of steps with these registers ([`rv_decode::registers_of`]) that are neither loads nor stores:
+    /// being told changes nothing.
     fn passes_by(&self, registers: u32) -> bool
         ensures { IsTrue result → PassesBy told registers self.now };
 
-    /// The machine made a step of this instruction. `place` is its effective address, 0 where it has none.
-    fn follow(&mut self, instr: &Instr, place: u32)
-        requires { Fits instr.now }
-        ensures { told self.old instr.now place self.new };
+    /// The machine made a step of this instruction, which is neither a load nor a store.
+    fn follow(&mut self, instr: &Instr)
+        requires fits { Fits instr.now }
+        requires none { IsNoAccess instr.now }
+        ensures { told self.old instr.now 0 self.new };
+
+    /// The machine made this load from an effective address.
+    fn follow_load(&mut self, load: Load, place: u32)
+        requires { FitsLoad load }
+        ensures { (instr : AnyInstr) → Fits instr → load_of instr ≡ Some load → told self.old instr place self.new };
+
+    /// The machine made this store to an effective address.
+    fn follow_store(&mut self, store: Store, place: u32)
+        requires { FitsStore store }
+        ensures { (instr : AnyInstr) → Fits instr → store_of instr ≡ Some store → told self.old instr place self.new };
 }
 
 /// One who is told nothing.
@@ -34,25 +55,39 @@ pub struct Unfollowed;
 impl Follower for Unfollowed {
     ghost told = { λ _ _ _ _. Unit {0} };
 
+    ghost wants = { λ _ _. Unit {0} };
+
+    #[inline(always)]
+    fn wants_step(&self, _pc: u32) -> bool {
+        true
+    }
+
     #[inline(always)]
     fn passes_by(&self, _registers: u32) -> bool {
         true
     }
 
     #[inline(always)]
-    fn follow(&mut self, _instr: &Instr, _place: u32) {}
+    fn follow(&mut self, _instr: &Instr) {}
+
+    #[inline(always)]
+    fn follow_load(&mut self, _load: Load, _place: u32) {}
+
+    #[inline(always)]
+    fn follow_store(&mut self, _store: Store, _place: u32) {}
 }
 
-/// Tells of a step of a slot's instruction, unless it is passed by.
+/// Tells of a step of a slot's instruction, which is neither a load nor a store, unless it is passed by.
 #[inline(always)]
-fn tell<F: Follower>(follower: &mut F, slot: &Slot, place: u32)
-    requires { HasBits slot.now }
-    ensures { F.told follower.old slot.now.instr place follower.new }
+fn tell<F: Follower>(follower: &mut F, slot: &Slot)
+    requires known { HasBits slot.now }
+    requires none { IsNoAccess slot.now.instr }
+    ensures { F.told follower.old slot.now.instr 0 follower.new }
 {
     if follower.passes_by(slot.registers) {
         return;
     }
-    follower.follow(&slot.instr, place);
+    follower.follow(&slot.instr);
 }
 
 /// A step that was made.
@@ -85,51 +120,25 @@ fn make_step<F: Follower>(
     ensures memory { result ≡ None → memory.new ≡ memory.old }
     ensures follower { result ≡ None → follower.new ≡ follower.old }
 {
-    match execute(registers, memory, base, pc, &slot.instr) {
+    match execute::<F>(registers, memory, base, pc, &slot.instr) {
         Next::On => {
-            tell(follower, slot, 0);
+            tell(follower, slot);
             Some(Made::On)
         }
         Next::To(target) => {
-            tell(follower, slot, 0);
+            tell(follower, slot);
             Some(Made::To(target))
         }
-        Next::Loaded(place) => {
-            tell(follower, slot, place);
+        Next::Loaded(place, load) => {
+            follower.follow_load(load, place);
             Some(Made::On)
         }
-        Next::Stored(place) => {
-            tell(follower, slot, place);
+        Next::Stored(place, store) => {
+            follower.follow_store(store, place);
             Some(Made::Stored(place))
         }
         Next::Called => None,
         Next::Trapped(_) => None,
-    }
-}
-
-/// Forgets the words that a store may have hit.
-#[inline(always)]
-fn forget_stored(slots: &mut [Slot], base: u32, made: Made)
-    ensures { (before after : List ℕ) → AreKnown slots.old before → IsChanged before base made after
-        → AreKnown slots.new after }
-{
-    match made {
-        Made::On => {}
-        Made::To(_) => {}
-        Made::Stored(place) => forget(slots, place.wrapping_sub(base), 4),
-    }
-}
-
-/// The number of the window's word that a step led to.
-#[inline(always)]
-fn number_after(base: u32, number: u32, made: Made) -> u32
-    requires { number < 2 ^ 30 }
-    ensures { result ≡ number_after base number made }
-{
-    match made {
-        Made::On => number + 1,
-        Made::To(target) => target.wrapping_sub(base) / 4,
-        Made::Stored(_) => number + 1,
     }
 }
 
@@ -139,35 +148,50 @@ fn run<F: Follower>(
     registers: &mut [u32; 32],
     memory: &mut [u8],
     base: u32,
-    first: u32,
+    first: usize,
     slots: &mut [Slot],
     most: u64,
     follower: &mut F,
-) -> (u32, u64)
+) -> (usize, u64)
     requires in_space { base + length memory.old ≤ 2 ^ 32 }
     requires aligned { base % 4 ≡ 0 }
     requires first { first ≤ 2 ^ 30 }
     requires few { length slots.old ≤ 2 ^ 30 }
     requires known { AreKnown slots.old memory.old }
     ensures known { AreKnown slots.new memory.new }
+    ensures few { result.0 ≤ 2 ^ 30 }
     ensures left { result.1 ≤ most }
-    ensures made { IsFollowed F.told (state_of (pc_of base first) registers.old base memory.old) follower.old
+    ensures made { IsFollowed F.told F.wants (state_of (pc_of base first) registers.old base memory.old) follower.old
         (most - result.1) (state_of (pc_of base result.0) registers.new base memory.new) follower.new }
 {
+    if first >= slots.len() {
+        return (first, most);
+    }
     let mut number = first;
     let mut left = most;
     while left > 0 {
-        if number as usize >= slots.len() {
+        let pc = base.wrapping_add(number as u32 * 4);
+        if !follower.wants_step(pc) {
             break;
         }
-        let pc = base.wrapping_add(number * 4);
-        let slot = slot_at(slots, number as usize);
+        let slot = slot_at(slots, number);
         let Some(made) = make_step(registers, memory, base, pc, slot, follower) else {
             break;
         };
-        forget_stored(slots, base, made);
-        number = number_after(base, number, made);
         left -= 1;
+        match made {
+            Made::On => number += 1,
+            Made::Stored(place) => {
+                forget(slots, place.wrapping_sub(base), 4);
+                number += 1;
+            }
+            Made::To(target) => {
+                number = (target.wrapping_sub(base) / 4) as usize;
+                if number >= slots.len() {
+                    break;
+                }
+            }
+        }
     }
     (number, left)
 }
@@ -179,7 +203,7 @@ impl DecodedWords {
         requires { AreKnown self.old state.old.memory }
         ensures known { AreKnown self.new state.new.memory }
         ensures most { result ≤ most }
-        ensures made { IsFollowed F.told state.old follower.old result state.new follower.new }
+        ensures made { IsFollowed F.told F.wants state.old follower.old result state.new follower.new }
     {
         let offset = state.pc.wrapping_sub(state.base);
         if state.base % 4 != 0 || offset % 4 != 0 || self.slots.len() > 1 << 30 {
@@ -189,12 +213,12 @@ impl DecodedWords {
             &mut state.registers,
             state.memory.as_mut_slice(),
             state.base,
-            offset / 4,
+            (offset / 4) as usize,
             self.slots.as_mut_slice(),
             most,
             follower,
         );
-        state.pc = state.base.wrapping_add(number.wrapping_mul(4));
+        state.pc = state.base.wrapping_add((number as u32).wrapping_mul(4));
         most - left
     }
 }

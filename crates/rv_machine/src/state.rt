@@ -8,6 +8,7 @@ ghost use Rattle.rv_machine.specs.Effects.{pc_after, Executes};
 use instructions::set_register;
 use isa::Instr;
 use no_memory::NoMemory;
+use rv_decode::{Load, Store};
 use std::alloc::Global;
 use std::marker::Model;
 
@@ -56,9 +57,9 @@ pub enum Next {
     /// To this one.
     To(u32),
     /// On to the next instruction, after a load from this effective address.
-    Loaded(u32),
+    Loaded(u32, Load),
     /// On to the next instruction, after a store to this effective address.
-    Stored(u32),
+    Stored(u32, Store),
     /// It is a call, and changes nothing.
     Called,
     /// It traps with this code, and changes nothing.
@@ -80,8 +81,8 @@ pub fn pc_after(pc: u32, next: Next) -> u32
     match next {
         Next::On => pc.wrapping_add(4),
         Next::To(target) => target,
-        Next::Loaded(_) => pc.wrapping_add(4),
-        Next::Stored(_) => pc.wrapping_add(4),
+        Next::Loaded(_, _) => pc.wrapping_add(4),
+        Next::Stored(_, _) => pc.wrapping_add(4),
         Next::Called => pc,
         Next::Trapped(_) => pc,
     }
@@ -144,7 +145,7 @@ impl HartState {
         requires { Fits instr.now }
         ensures { Executes self.old instr.now result self.new }
     {
-        let next = execute(
+        let next = execute::<HartState>(
             &mut self.registers,
             self.memory.as_mut_slice(),
             self.base,

@@ -1,8 +1,9 @@
 //! What instructions do, over the parts of a hart.
 
-ghost use Rattle.std.specs.Prelude.{◌≡◌, ℕ, ◌+◌, ◌-◌, ◌*◌, ◌/◌, ◌^◌, ◌<◌, ◌≤◌, ◌⊎◌, length, slice_index, IsTrue};
+ghost use Rattle.std.specs.Prelude.{◌≡◌, ℕ, ◌+◌, ◌-◌, ◌*◌, ◌/◌, ◌^◌, ◌<◌, ◌≤◌, ◌⊎◌, length, slice_index, Some, IsTrue};
 ghost use Rattle.isa.specs.Encodings.{Fits};
 ghost use Rattle.isa.specs.Machine.{effect_of, wrap, as_word, is_aligned, with_register, in_window, low_bytes};
+ghost use Rattle.rv_decode.specs.Accesses.{IsSize};
 ghost use Rattle.rv_machine.specs.Effects.{state_of, window_of, pc_after, Executes, landing, branching, loading, storing, next_of, set_if, loaded_value, registers_after, written_if, memory_after};
 
 use super::arithmetic::{
@@ -11,6 +12,7 @@ use super::arithmetic::{
 };
 use super::{BREAKPOINT, LOAD_OUTSIDE, MISALIGNED_TARGET, Next, STORE_OUTSIDE, is_aligned, memory};
 use isa::Instr;
+use rv_decode::{Load, Store};
 
 #[inline(always)]
 fn register(registers: &[u32; 32], number: u8) -> u32
@@ -86,52 +88,46 @@ fn branch(taken: bool, target: u32) -> Next
     Next::To(target)
 }
 
-/// A register gets `size` bytes from an effective address on, sign- or zero-extended.
+/// A register gets bytes from an effective address on, sign- or zero-extended.
 #[inline(always)]
-fn load(
-    registers: &mut [u32; 32],
-    memory: &[u8],
-    base: u32,
-    rd: u8,
-    address: u32,
-    size: u8,
-    signed: bool,
-) -> Next
-    requires register { rd < 32 }
+fn load(registers: &mut [u32; 32], memory: &[u8], base: u32, load: Load, address: u32) -> Next
+    requires register { load.rd < 32 }
     requires in_space { base + length memory.now ≤ 2 ^ 32 }
-    requires sizes { (size ≡ 1) ⊎ (size ≡ 2) ⊎ (size ≡ 4) }
-    requires signed_sizes { IsTrue signed → (size ≡ 1) ⊎ (size ≡ 2) }
-    ensures leads { result ≡ loading (in_window (window_of base memory.now) address size) address }
-    ensures sets { registers.new ≡ set_if (in_window (window_of base memory.now) address size)
-        registers.old rd (loaded_value (window_of base memory.now) address size signed) }
+    requires sizes { IsSize load.size }
+    requires signed_sizes { IsTrue load.is_signed → (load.size ≡ 1) ⊎ (load.size ≡ 2) }
+    ensures leads { result ≡ loading (in_window (window_of base memory.now) address load.size) (Some load) address }
+    ensures sets { registers.new ≡ set_if (in_window (window_of base memory.now) address load.size)
+        registers.old load.rd (loaded_value (window_of base memory.now) address load.size load.is_signed) }
 {
-    if !memory::in_window(memory, base, address, u32::from(size)) {
+    if !memory::in_window(memory, base, address, u32::from(load.size)) {
         return Next::Trapped(LOAD_OUTSIDE);
     }
-    let value = memory::load(memory, base, address, u32::from(size));
-    set_register(registers, rd, memory::extended(value, size, signed));
-    Next::Loaded(address)
+    let value = memory::load(memory, base, address, u32::from(load.size));
+    let value = memory::extended(value, load.size, load.is_signed);
+    set_register(registers, load.rd, value);
+    Next::Loaded(address, load)
 }
 
-/// The `size` lowest bytes of a value go to memory from an effective address on.
+/// The lowest bytes of a value go to memory from an effective address on.
 #[inline(always)]
-fn store(memory: &mut [u8], base: u32, address: u32, size: u8, value: u32) -> Next
+fn store(memory: &mut [u8], base: u32, store: Store, address: u32, value: u32) -> Next
     requires in_space { base + length memory.old ≤ 2 ^ 32 }
-    requires sizes { (size ≡ 1) ⊎ (size ≡ 2) ⊎ (size ≡ 4) }
-    ensures leads { result ≡ storing (in_window (window_of base memory.old) address size) address }
-    ensures writes { memory.new ≡ written_if (in_window (window_of base memory.old) address size)
-        memory.old (address - base) (low_bytes size value) }
+    requires sizes { IsSize store.size }
+    ensures leads { result ≡ storing (in_window (window_of base memory.old) address store.size) (Some store) address }
+    ensures writes { memory.new ≡ written_if (in_window (window_of base memory.old) address store.size)
+        memory.old (address - base) (low_bytes store.size value) }
 {
-    if !memory::in_window(memory, base, address, u32::from(size)) {
+    if !memory::in_window(memory, base, address, u32::from(store.size)) {
         return Next::Trapped(STORE_OUTSIDE);
     }
-    memory::store_low(memory, base, address, value, size);
-    Next::Stored(address)
+    memory::store_low(memory, base, address, value, store.size);
+    Next::Stored(address, store)
 }
 
-/// Does an instruction, and says where it leads. Neither a call nor a trap changes anything.
+/// Does an instruction, and says where it leads. Neither a call nor a trap changes anything. Each caller, named by `C`, has a
+/// copy of its own, so that a loop of steps has the table in its midst.
 #[inline(always)]
-pub fn execute(
+pub fn execute<C>(
     registers: &mut [u32; 32],
     memory: &mut [u8],
     base: u32,
@@ -143,12 +139,12 @@ pub fn execute(
     ensures { Executes (state_of pc registers.old base memory.old) instr.now result
         (state_of (pc_after pc result) registers.new base memory.new) }
 {
-    by_instruction(registers, memory, base, pc, instr)
+    by_instruction::<C>(registers, memory, base, pc, instr)
 }
 
 /// The same, instruction by instruction.
 #[inline(always)]
-fn by_instruction(
+fn by_instruction<C>(
     registers: &mut [u32; 32],
     memory: &mut [u8],
     base: u32,
@@ -157,7 +153,7 @@ fn by_instruction(
 ) -> Next
     requires fits { Fits instr.now }
     requires in_space { base + length memory.old ≤ 2 ^ 32 }
-    ensures leads { result ≡ next_of (state_of pc registers.old base memory.old)
+    ensures leads { result ≡ next_of (state_of pc registers.old base memory.old) instr.now
         (effect_of (state_of pc registers.old base memory.old) instr.now) }
     ensures sets { registers.new ≡ registers_after (state_of pc registers.old base memory.old)
         (effect_of (state_of pc registers.old base memory.old) instr.now) }
@@ -198,35 +194,83 @@ fn by_instruction(
         ),
         Instr::Lb { rd, rs1, imm } => {
             let address = effective_address(registers, rs1, imm);
-            load(registers, memory, base, rd, address, 1, true)
+            let load_made = Load {
+                rd,
+                base: rs1,
+                size: 1,
+                is_signed: true,
+            };
+            load(registers, memory, base, load_made, address)
         }
         Instr::Lh { rd, rs1, imm } => {
             let address = effective_address(registers, rs1, imm);
-            load(registers, memory, base, rd, address, 2, true)
+            let load_made = Load {
+                rd,
+                base: rs1,
+                size: 2,
+                is_signed: true,
+            };
+            load(registers, memory, base, load_made, address)
         }
         Instr::Lw { rd, rs1, imm } => {
             let address = effective_address(registers, rs1, imm);
-            load(registers, memory, base, rd, address, 4, false)
+            let load_made = Load {
+                rd,
+                base: rs1,
+                size: 4,
+                is_signed: false,
+            };
+            load(registers, memory, base, load_made, address)
         }
         Instr::Lbu { rd, rs1, imm } => {
             let address = effective_address(registers, rs1, imm);
-            load(registers, memory, base, rd, address, 1, false)
+            let load_made = Load {
+                rd,
+                base: rs1,
+                size: 1,
+                is_signed: false,
+            };
+            load(registers, memory, base, load_made, address)
         }
         Instr::Lhu { rd, rs1, imm } => {
             let address = effective_address(registers, rs1, imm);
-            load(registers, memory, base, rd, address, 2, false)
+            let load_made = Load {
+                rd,
+                base: rs1,
+                size: 2,
+                is_signed: false,
+            };
+            load(registers, memory, base, load_made, address)
         }
         Instr::Sb { rs1, rs2, imm } => {
             let address = effective_address(registers, rs1, imm);
-            store(memory, base, address, 1, register(registers, rs2))
+            let value = register(registers, rs2);
+            let store_made = Store {
+                source: rs2,
+                base: rs1,
+                size: 1,
+            };
+            store(memory, base, store_made, address, value)
         }
         Instr::Sh { rs1, rs2, imm } => {
             let address = effective_address(registers, rs1, imm);
-            store(memory, base, address, 2, register(registers, rs2))
+            let value = register(registers, rs2);
+            let store_made = Store {
+                source: rs2,
+                base: rs1,
+                size: 2,
+            };
+            store(memory, base, store_made, address, value)
         }
         Instr::Sw { rs1, rs2, imm } => {
             let address = effective_address(registers, rs1, imm);
-            store(memory, base, address, 4, register(registers, rs2))
+            let value = register(registers, rs2);
+            let store_made = Store {
+                source: rs2,
+                base: rs1,
+                size: 4,
+            };
+            store(memory, base, store_made, address, value)
         }
         Instr::Addi { rd, rs1, imm } => set(registers, rd, effective_address(registers, rs1, imm)),
         Instr::Slti { rd, rs1, imm } => set(

@@ -4,4 +4,4 @@ use Rattle.rv_machine.proofs.decoded.keep.Goals as goal
 
 pub returns : goal.returns
 returns c memory known there =
-    kept c.args.slots.now memory c.args.number (record { instr = c.args.instr; registers = c.registers_of-registers.result }) (omega arith) (record { fits = c.requires; bits = sym c.registers_of-registers.ensures }) known there
+    kept c.args.slots.now memory c.args.number (record { instr = c.args.instr; registers = c.registers_of-registers.result }) (omega arith) (record { fits = c.requires.fits; bits = sym c.registers_of-registers.ensures }) known there

@@ -1,7 +1,7 @@
-use Rattle.std.proofs.Common.{◌%◌}
-use Rattle.std.proofs.lemmas.Bool.{eqb-true}
-use Rattle.checkpoints.proofs.Taking.{passed_by}
+use Rattle.std.proofs.Common.{ap}
+use Rattle.checkpoints.specs.Touched.{size_stored}
+use Rattle.checkpoints.proofs.Taking.{nothing_to_note}
 use Rattle.checkpoints.proofs.taker.CheckpointTakerFollower.passes_by.Goals as goal
 
 pub returns : goal.returns
-returns c even = passed_by c.args.self.now c.args.registers (eqb-true (c.args.registers % 2) 0 even)
+returns c passes instr fits own none = nothing_to_note c.args.self.now instr 0 (ap size_stored none)
