@@ -16,7 +16,7 @@ use flow_model::StepSeen;
 use log_model::RunEnd;
 use no_memory::NoMemory;
 use query_lang::Query;
-use replayer::{Follower, Instr, PlainStep, Position, Watcher};
+use replayer::{Follower, Instr, Load, PlainStep, Position, Store, Watcher};
 use std::alloc::Global;
 use std::marker::Model;
 
@@ -133,12 +133,22 @@ impl<'q> Follower for DecisionWatching<'q> {
 
     ghost told = { IsToldInRow has_seen never_quiet };
 
+    ghost wants = { λ _ _. Unit {0} };
+
+    fn wants_step(&self, _pc: u32) -> bool {
+        true
+    }
+
     fn passes_by(&self, _registers: u32) -> bool {
         false
     }
 
     /// It is told of no step in a row, since each decision counts where the run stands.
-    fn follow(&mut self, _instr: &Instr, _place: u32) {}
+    fn follow(&mut self, _instr: &Instr) {}
+
+    fn follow_load(&mut self, _load: Load, _place: u32) {}
+
+    fn follow_store(&mut self, _store: Store, _place: u32) {}
 }
 
 impl<'q> Watcher for DecisionWatching<'q> {

@@ -1,4 +1,5 @@
--- The shape of each kind of instruction has the targets of its row in the flow table, and sizes and registers in range.
+-- The shape of each kind of instruction has the targets of its row in the flow table, and sizes and registers in range. Crates
+-- above cite the lemmas of the targets of loads and stores.
 use Rattle.std.proofs.Common.{◌≡◌, ◌<◌, ◌≤◌, ℕ, ℤ, ◌==◌, Bool, true, false, if◌then◌else◌, List, [], map, arith, rules, ap, sym, subst, refl, ◌⊎◌, inl, inr}
 use Rattle.std.specs.List.{range_with_len}
 use mir.Syntax.{w32}
@@ -73,19 +74,19 @@ base_small Keep a h = omega arith
 base_small Compute a h = omega arith
 base_small Index a h = h
 
-loaded_targets : (rule : Rule) (d a place n : ℕ) → targets_of (Load d (base_of rule a) place n false) ≡ model.to_register d (model.loaded_byte rule a place n)
+pub loaded_targets : (rule : Rule) (d a place n : ℕ) → targets_of (Load d (base_of rule a) place n false) ≡ model.to_register d (model.loaded_byte rule a place n)
 loaded_targets Copy d a place n = refl
 loaded_targets Keep d a place n = refl
 loaded_targets Compute d a place n = refl
 loaded_targets Index d a place n = refl
 
-signed_targets : (rule : Rule) (d a place n : ℕ) → targets_of (Load d (base_of rule a) place n (fills_by rule)) ≡ model.to_register d (model.signed_load rule a place n)
+pub signed_targets : (rule : Rule) (d a place n : ℕ) → targets_of (Load d (base_of rule a) place n (fills_by rule)) ≡ model.to_register d (model.signed_load rule a place n)
 signed_targets Copy d a place n = refl
 signed_targets Keep d a place n = refl
 signed_targets Compute d a place n = refl
 signed_targets Index d a place n = refl
 
-stored_targets : (rule : Rule) (a b place n : ℕ) → targets_of (Store b (base_of rule a) place n) ≡ model.to_memory place n (λ i. model.with_base rule a (model.lane b i))
+pub stored_targets : (rule : Rule) (a b place n : ℕ) → targets_of (Store b (base_of rule a) place n) ≡ model.to_memory place n (λ i. model.with_base rule a (model.lane b i))
 stored_targets Copy a b place n = refl
 stored_targets Keep a b place n = refl
 stored_targets Compute a b place n = refl

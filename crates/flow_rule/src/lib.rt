@@ -13,6 +13,6 @@ mod table;
 pub use flow_model::{InnerSink, Loc, Rule, SinkByte, SinkPoint, SourceByte};
 pub use flows::Flow;
 pub use locations::Locations;
-pub use shape::{Mixing, Shape, shape_of};
+pub use shape::{Mixing, Shape, counted_base, fills_above, shape_of};
 pub use shuffle::Shuffle;
 pub use table::{cleared, flow};

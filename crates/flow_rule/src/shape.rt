@@ -236,7 +236,7 @@ fn load(rule: Rule, rd: u8, rs1: u8, place: u32, size: u8) -> Shape
 {
     Shape::Load {
         rd,
-        base: base(rule, rs1),
+        base: counted_base(rule, rs1),
         place,
         size,
         fills: false,
@@ -247,16 +247,12 @@ fn load(rule: Rule, rd: u8, rs1: u8, place: u32, size: u8) -> Shape
 fn signed_load(rule: Rule, rd: u8, rs1: u8, place: u32, size: u8) -> Shape
     ensures { result ≡ Shape.Load rd (base_of rule rs1) place size (fills_by rule) }
 {
-    let fills = match rule {
-        Rule::Copy | Rule::Keep => false,
-        Rule::Compute | Rule::Index => true,
-    };
     Shape::Load {
         rd,
-        base: base(rule, rs1),
+        base: counted_base(rule, rs1),
         place,
         size,
-        fills,
+        fills: fills_above(rule),
     }
 }
 
@@ -265,18 +261,30 @@ fn store(rule: Rule, rs1: u8, rs2: u8, place: u32, size: u8) -> Shape
 {
     Shape::Store {
         rs: rs2,
-        base: base(rule, rs1),
+        base: counted_base(rule, rs1),
         place,
         size,
     }
 }
 
-/// The register that holds the base address counts under [`Rule::Index`] alone.
-fn base(rule: Rule, rs1: u8) -> u8
+/// The register that holds the base address, where it counts: under [`Rule::Index`] alone. Elsewhere it is x0.
+#[inline(always)]
+pub fn counted_base(rule: Rule, rs1: u8) -> u8
     ensures { result ≡ base_of rule rs1 }
 {
     match rule {
         Rule::Copy | Rule::Keep | Rule::Compute => 0,
         Rule::Index => rs1,
+    }
+}
+
+/// Whether the lanes above the bytes of a load that extends the sign come from the highest byte.
+#[inline(always)]
+pub fn fills_above(rule: Rule) -> bool
+    ensures { result ≡ fills_by rule }
+{
+    match rule {
+        Rule::Copy | Rule::Keep => false,
+        Rule::Compute | Rule::Index => true,
     }
 }

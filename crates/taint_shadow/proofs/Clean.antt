@@ -9,6 +9,7 @@ use Rattle.isa.specs.declared.Instr.{Instr}
 use Rattle.isa.specs.declared.Instr.TheVariants.{Lui, Auipc, Jal, Jalr, Beq, Bne, Blt, Bge, Bltu, Bgeu, Lb, Lh, Lw, Lbu, Lhu, Sb, Sh, Sw, Addi, Slti, Sltiu, Xori, Ori, Andi, Slli, Srli, Srai, Add, Sub, Sll, Slt, Sltu, Xor, Srl, Sra, Or, And, Mul, Mulh, Mulhsu, Mulhu, Div, Divu, Rem, Remu, Fence, Ecall, Ebreak}
 use Rattle.isa.specs.Encodings.{Fits}
 use Rattle.rv_decode.specs.Registers.{register_bit, registers_of}
+use Rattle.rv_decode.specs.Accesses.{IsNoAccess}
 use Rattle.lists.specs.Sets.{union}
 use Rattle.lists.proofs.Algebra.{All-union}
 use Rattle.flow_model.specs.declared.Loc.{Loc}
@@ -179,69 +180,69 @@ module _ (p : Places) where
         (bare (has_none (bit_or x (bit_or y z)) a are small.1 (right x (bit_or y z) a (left y z a (itself a))))
         (has_none (bit_or x (bit_or y z)) b are small.2 (right x (bit_or y z) b (right y z b (itself b)))))
 
-    stays : (rule : Rule) (instr : Instr) (place : ℕ) → Fits instr → AreClean p (registers_of instr) → Stays (flow rule instr place)
-    stays rule (Lui d imm) place f are = one d are f.0
-    stays rule (Auipc d imm) place f are = one d are f.0
-    stays rule (Jal d imm) place f are = one d are f.0
-    stays rule (Jalr d a imm) place f are = one d are f.0
-    stays rule (Beq a b imm) place f are = none_stays
-    stays rule (Bne a b imm) place f are = none_stays
-    stays rule (Blt a b imm) place f are = none_stays
-    stays rule (Bge a b imm) place f are = none_stays
-    stays rule (Bltu a b imm) place f are = none_stays
-    stays rule (Bgeu a b imm) place f are = none_stays
-    stays rule (Lb d a imm) place f are = absurd (omega (arith, are.memory))
-    stays rule (Lh d a imm) place f are = absurd (omega (arith, are.memory))
-    stays rule (Lw d a imm) place f are = absurd (omega (arith, are.memory))
-    stays rule (Lbu d a imm) place f are = absurd (omega (arith, are.memory))
-    stays rule (Lhu d a imm) place f are = absurd (omega (arith, are.memory))
-    stays rule (Sb a b imm) place f are = absurd (omega (arith, are.memory))
-    stays rule (Sh a b imm) place f are = absurd (omega (arith, are.memory))
-    stays rule (Sw a b imm) place f are = absurd (omega (arith, are.memory))
-    stays rule (Addi d a imm) place f are =
+    stays : (rule : Rule) (instr : Instr) (place : ℕ) → Fits instr → IsNoAccess instr → AreClean p (registers_of instr) → Stays (flow rule instr place)
+    stays rule (Lui d imm) place f none are = one d are f.0
+    stays rule (Auipc d imm) place f none are = one d are f.0
+    stays rule (Jal d imm) place f none are = one d are f.0
+    stays rule (Jalr d a imm) place f none are = one d are f.0
+    stays rule (Beq a b imm) place f none are = none_stays
+    stays rule (Bne a b imm) place f none are = none_stays
+    stays rule (Blt a b imm) place f none are = none_stays
+    stays rule (Bge a b imm) place f none are = none_stays
+    stays rule (Bltu a b imm) place f none are = none_stays
+    stays rule (Bgeu a b imm) place f none are = none_stays
+    stays rule (Lb d a imm) place f none are = cc
+    stays rule (Lh d a imm) place f none are = cc
+    stays rule (Lw d a imm) place f none are = cc
+    stays rule (Lbu d a imm) place f none are = cc
+    stays rule (Lhu d a imm) place f none are = cc
+    stays rule (Sb a b imm) place f none are = cc
+    stays rule (Sh a b imm) place f none are = cc
+    stays rule (Sw a b imm) place f none are = cc
+    stays rule (Addi d a imm) place f none are =
         two d a (if int_eq imm (pos 0) then lane a else computed rule (λ i. lanes a)) are f.0 f.1
         (λ h. of_added (int_eq imm (pos 0)) a (computed rule (λ i. lanes a)) h (of_computed rule (λ i. lanes a) (λ i low. bare_lanes a h)))
-    stays rule (Slti d a imm) place f are = two d a (computed rule (in_first_lane (lanes a))) are f.0 f.1 (λ h. of_computed rule (in_first_lane (lanes a)) (of_first (lanes a) (bare_lanes a h)))
-    stays rule (Sltiu d a imm) place f are = two d a (computed rule (in_first_lane (lanes a))) are f.0 f.1 (λ h. of_computed rule (in_first_lane (lanes a)) (of_first (lanes a) (bare_lanes a h)))
-    stays rule (Xori d a imm) place f are =
+    stays rule (Slti d a imm) place f none are = two d a (computed rule (in_first_lane (lanes a))) are f.0 f.1 (λ h. of_computed rule (in_first_lane (lanes a)) (of_first (lanes a) (bare_lanes a h)))
+    stays rule (Sltiu d a imm) place f none are = two d a (computed rule (in_first_lane (lanes a))) are f.0 f.1 (λ h. of_computed rule (in_first_lane (lanes a)) (of_first (lanes a) (bare_lanes a h)))
+    stays rule (Xori d a imm) place f none are =
         two d a (kept_or_computed rule (unchanged_lanes 0 imm a) (lane a)) are f.0 f.1
         (λ h. of_kept rule (unchanged_lanes 0 imm a) (lane a) (of_unchanged 0 imm a h) (λ i low. bare_lane a i h low))
-    stays rule (Ori d a imm) place f are =
+    stays rule (Ori d a imm) place f none are =
         two d a (kept_or_computed rule (unchanged_lanes 0 imm a) (lane a)) are f.0 f.1
         (λ h. of_kept rule (unchanged_lanes 0 imm a) (lane a) (of_unchanged 0 imm a h) (λ i low. bare_lane a i h low))
-    stays rule (Andi d a imm) place f are =
+    stays rule (Andi d a imm) place f none are =
         two d a (kept_or_computed rule (unchanged_lanes 255 imm a) (lane a)) are f.0 f.1
         (λ h. of_kept rule (unchanged_lanes 255 imm a) (lane a) (of_unchanged 255 imm a h) (λ i low. bare_lane a i h low))
-    stays rule (Slli d a k) place f are =
+    stays rule (Slli d a k) place f none are =
         two d a (kept_or_computed rule (left_lanes k a) (λ i. lanes a)) are f.0 f.1
         (λ h. of_kept rule (left_lanes k a) (λ i. lanes a) (of_left k a h) (λ i low. bare_lanes a h))
-    stays rule (Srli d a k) place f are =
+    stays rule (Srli d a k) place f none are =
         two d a (kept_or_computed rule (right_lanes k a) (λ i. lanes a)) are f.0 f.1
         (λ h. of_kept rule (right_lanes k a) (λ i. lanes a) (of_right k a h) (λ i low. bare_lanes a h))
-    stays rule (Srai d a k) place f are =
+    stays rule (Srai d a k) place f none are =
         two d a (kept_or_computed rule (right_lanes k a) (λ i. lanes a)) are f.0 f.1
         (λ h. of_kept rule (right_lanes k a) (λ i. lanes a) (of_right k a h) (λ i low. bare_lanes a h))
-    stays rule (Add d a b) place f are = three d a b (moved_or a b (computed rule (all_lanes a b))) are f (λ h k. of_moved a b (computed rule (all_lanes a b)) h k (of_computed rule (all_lanes a b) (of_all a b h k)))
-    stays rule (Sub d a b) place f are = three d a b (computed rule (all_lanes a b)) are f (λ h k. of_computed rule (all_lanes a b) (of_all a b h k))
-    stays rule (Sll d a b) place f are = three d a b (computed rule (shifted_lanes a b)) are f (λ h k. of_computed rule (shifted_lanes a b) (of_shifted a b h k))
-    stays rule (Slt d a b) place f are = three d a b (computed rule (in_first_lane (all_lanes a b 0))) are f (λ h k. of_computed rule (in_first_lane (all_lanes a b 0)) (of_first (all_lanes a b 0) (of_all a b h k 0 (omega arith))))
-    stays rule (Sltu d a b) place f are = three d a b (computed rule (in_first_lane (all_lanes a b 0))) are f (λ h k. of_computed rule (in_first_lane (all_lanes a b 0)) (of_first (all_lanes a b 0) (of_all a b h k 0 (omega arith))))
-    stays rule (Xor d a b) place f are = three d a b (moved_or a b (computed rule (each_lane a b))) are f (λ h k. of_moved a b (computed rule (each_lane a b)) h k (of_computed rule (each_lane a b) (of_each a b h k)))
-    stays rule (Srl d a b) place f are = three d a b (computed rule (shifted_lanes a b)) are f (λ h k. of_computed rule (shifted_lanes a b) (of_shifted a b h k))
-    stays rule (Sra d a b) place f are = three d a b (computed rule (shifted_lanes a b)) are f (λ h k. of_computed rule (shifted_lanes a b) (of_shifted a b h k))
-    stays rule (Or d a b) place f are = three d a b (moved_or a b (computed rule (each_lane a b))) are f (λ h k. of_moved a b (computed rule (each_lane a b)) h k (of_computed rule (each_lane a b) (of_each a b h k)))
-    stays rule (And d a b) place f are = three d a b (computed rule (each_lane a b)) are f (λ h k. of_computed rule (each_lane a b) (of_each a b h k))
-    stays rule (Mul d a b) place f are = three d a b (computed rule (all_lanes a b)) are f (λ h k. of_computed rule (all_lanes a b) (of_all a b h k))
-    stays rule (Mulh d a b) place f are = three d a b (computed rule (all_lanes a b)) are f (λ h k. of_computed rule (all_lanes a b) (of_all a b h k))
-    stays rule (Mulhsu d a b) place f are = three d a b (computed rule (all_lanes a b)) are f (λ h k. of_computed rule (all_lanes a b) (of_all a b h k))
-    stays rule (Mulhu d a b) place f are = three d a b (computed rule (all_lanes a b)) are f (λ h k. of_computed rule (all_lanes a b) (of_all a b h k))
-    stays rule (Div d a b) place f are = three d a b (computed rule (all_lanes a b)) are f (λ h k. of_computed rule (all_lanes a b) (of_all a b h k))
-    stays rule (Divu d a b) place f are = three d a b (computed rule (all_lanes a b)) are f (λ h k. of_computed rule (all_lanes a b) (of_all a b h k))
-    stays rule (Rem d a b) place f are = three d a b (computed rule (all_lanes a b)) are f (λ h k. of_computed rule (all_lanes a b) (of_all a b h k))
-    stays rule (Remu d a b) place f are = three d a b (computed rule (all_lanes a b)) are f (λ h k. of_computed rule (all_lanes a b) (of_all a b h k))
-    stays rule (Fence kept) place f are = none_stays
-    stays rule Ecall place f are = none_stays
-    stays rule Ebreak place f are = none_stays
+    stays rule (Add d a b) place f none are = three d a b (moved_or a b (computed rule (all_lanes a b))) are f (λ h k. of_moved a b (computed rule (all_lanes a b)) h k (of_computed rule (all_lanes a b) (of_all a b h k)))
+    stays rule (Sub d a b) place f none are = three d a b (computed rule (all_lanes a b)) are f (λ h k. of_computed rule (all_lanes a b) (of_all a b h k))
+    stays rule (Sll d a b) place f none are = three d a b (computed rule (shifted_lanes a b)) are f (λ h k. of_computed rule (shifted_lanes a b) (of_shifted a b h k))
+    stays rule (Slt d a b) place f none are = three d a b (computed rule (in_first_lane (all_lanes a b 0))) are f (λ h k. of_computed rule (in_first_lane (all_lanes a b 0)) (of_first (all_lanes a b 0) (of_all a b h k 0 (omega arith))))
+    stays rule (Sltu d a b) place f none are = three d a b (computed rule (in_first_lane (all_lanes a b 0))) are f (λ h k. of_computed rule (in_first_lane (all_lanes a b 0)) (of_first (all_lanes a b 0) (of_all a b h k 0 (omega arith))))
+    stays rule (Xor d a b) place f none are = three d a b (moved_or a b (computed rule (each_lane a b))) are f (λ h k. of_moved a b (computed rule (each_lane a b)) h k (of_computed rule (each_lane a b) (of_each a b h k)))
+    stays rule (Srl d a b) place f none are = three d a b (computed rule (shifted_lanes a b)) are f (λ h k. of_computed rule (shifted_lanes a b) (of_shifted a b h k))
+    stays rule (Sra d a b) place f none are = three d a b (computed rule (shifted_lanes a b)) are f (λ h k. of_computed rule (shifted_lanes a b) (of_shifted a b h k))
+    stays rule (Or d a b) place f none are = three d a b (moved_or a b (computed rule (each_lane a b))) are f (λ h k. of_moved a b (computed rule (each_lane a b)) h k (of_computed rule (each_lane a b) (of_each a b h k)))
+    stays rule (And d a b) place f none are = three d a b (computed rule (each_lane a b)) are f (λ h k. of_computed rule (each_lane a b) (of_each a b h k))
+    stays rule (Mul d a b) place f none are = three d a b (computed rule (all_lanes a b)) are f (λ h k. of_computed rule (all_lanes a b) (of_all a b h k))
+    stays rule (Mulh d a b) place f none are = three d a b (computed rule (all_lanes a b)) are f (λ h k. of_computed rule (all_lanes a b) (of_all a b h k))
+    stays rule (Mulhsu d a b) place f none are = three d a b (computed rule (all_lanes a b)) are f (λ h k. of_computed rule (all_lanes a b) (of_all a b h k))
+    stays rule (Mulhu d a b) place f none are = three d a b (computed rule (all_lanes a b)) are f (λ h k. of_computed rule (all_lanes a b) (of_all a b h k))
+    stays rule (Div d a b) place f none are = three d a b (computed rule (all_lanes a b)) are f (λ h k. of_computed rule (all_lanes a b) (of_all a b h k))
+    stays rule (Divu d a b) place f none are = three d a b (computed rule (all_lanes a b)) are f (λ h k. of_computed rule (all_lanes a b) (of_all a b h k))
+    stays rule (Rem d a b) place f none are = three d a b (computed rule (all_lanes a b)) are f (λ h k. of_computed rule (all_lanes a b) (of_all a b h k))
+    stays rule (Remu d a b) place f none are = three d a b (computed rule (all_lanes a b)) are f (λ h k. of_computed rule (all_lanes a b) (of_all a b h k))
+    stays rule (Fence kept) place f none are = none_stays
+    stays rule Ecall place f none are = none_stays
+    stays rule Ebreak place f none are = none_stays
 
     pub turns_nothing : (registers : ℕ) → AreClean p registers → TurnsNothing words labels p registers
-    turns_nothing registers are rule instr place fits is = stays rule instr place fits (subst (AreClean p) (sym is) are)
+    turns_nothing registers are rule instr place fits is none = stays rule instr place fits none (subst (AreClean p) (sym is) are)

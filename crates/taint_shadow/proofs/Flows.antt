@@ -7,7 +7,7 @@ use Rattle.flow_model.specs.declared.Loc.{Loc}
 use Rattle.flow_model.specs.declared.Loc.TheVariants.{Mem}
 use Rattle.flow_model.specs.declared.Rule.TheVariants.{Index}
 use Rattle.isa.specs.Machine.{wrap}
-use Rattle.flow_model.specs.Flow.{lane, lanes, all_lanes, byte_of, with_base, in_first_lane}
+use Rattle.flow_model.specs.Flow.{lane, lanes, each_lane, all_lanes, shifted_lanes, byte_of, with_base, in_first_lane}
 use Rattle.flow_model.specs.Orders.{loc_cmp}
 use Rattle.lists.specs.Sets.{union}
 use Rattle.flow_rule.specs.declared.shape.Mixing.{Mixing}
@@ -19,10 +19,10 @@ use Rattle.taint_shadow.specs.declared.labels.Label.{Label}
 use Rattle.taint_shadow.specs.declared.lanes.Lanes.{Lanes}
 use Rattle.taint_shadow.specs.declared.places.Places.{Places}
 use Rattle.taint_shadow.specs.Labels.{LabelWords, Laws, MakesLabel, Makes, nothing_label}
-use Rattle.taint_shadow.specs.Lanes.{lane_at, alike, clean, chosen_label, shuffled, extended_lane, both_mean, LanesStand, MakesLanes}
+use Rattle.taint_shadow.specs.Lanes.{lane_at, alike, clean, chosen_label, shuffled, extended_lane, mixed_label, both_mean, LanesStand, MakesLanes}
 use Rattle.taint_shadow.specs.Places.{kept, origin_lane, origin_lanes}
 use Rattle.taint_shadow.specs.Steps.{meaning_at, AreStanding, united_over, based_mean}
-use Rattle.taint_shadow.proofs.Meaning.{AreHere, either_here, lane_here, lane_made, lanes_mean, all_clean, lanes_here, union_here, each_of_four, alike_at, origins_at, keeps_itself, keeps_then, both_made, nothing_with}
+use Rattle.taint_shadow.proofs.Meaning.{AreHere, either_here, lane_here, lane_made, register_made, alike_stand, lanes_here, union_here, each_of_four, alike_at, origins_at, keeps_itself, keeps_then, both_made, nothing_with}
 
 -- ---- where origins lie
 
@@ -66,14 +66,20 @@ module _ {A M : Type 0} (words : LabelWords A M) (laws : Laws words) where
   pub cut_at : (x y : Lanes) (n i : ℕ) (fills : Bool) → ((i : ℕ) → i < 4 → lane_at y i ≡ extended_lane x n fills i) → i < 4 → i < n → lane_at y i ≡ lane_at x i
   cut_at x y n i fills cut h k = let yes : nat_lt i n ≡ true = lt-ltb i n k in cut i h ∙ ap (λ (b : Bool). if b then lane_at x i else if fills then lane_at x (n - 1) else nothing_label) yes
 
+  -- lanes without labels stay so
+  pub clean_cut : (n : ℕ) (fills : Bool) → 1 ≤ n → n ≤ 4 → (i : ℕ) → i < 4 → lane_at clean i ≡ extended_lane clean n fills i
+  clean_cut n fills some few i low = alike_at nothing_label i low ∙ by (nat_lt i n) fills where
+    by : (o f : Bool) → nothing_label ≡ (if o then lane_at clean i else if f then lane_at clean (n - 1) else nothing_label)
+    by true f = sym (alike_at nothing_label i low)
+    by false true = sym (alike_at nothing_label (n - 1) (omega (arith, some, few)))
+    by false false = refl
+
   -- one label in the first lane
-  pub first_made : (b : A) (m : List Loc) (f : Loc → M) (label : Label) (z : Lanes) → ((i : ℕ) → i < 4 → lane_at z i ≡ extended_lane (alike label) 1 false i)
-      → MakesLabel words b (united_over words f m) label → (i : ℕ) → i < 4 → MakesLabel words b (united_over words f (in_first_lane m i)) (lane_at z i)
-  first_made b m f label z cut made = each_of_four (λ i. MakesLabel words b (united_over words f (in_first_lane m i)) (lane_at z i))
-      (subst (MakesLabel words b (united_over words f m)) (sym (cut 0 (omega arith))) made)
-      (subst (MakesLabel words b words.nothing) (sym (cut 1 (omega arith))) (laws.of_nothing b))
-      (subst (MakesLabel words b words.nothing) (sym (cut 2 (omega arith))) (laws.of_nothing b))
-      (subst (MakesLabel words b words.nothing) (sym (cut 3 (omega arith))) (laws.of_nothing b))
+  pub first_made : (b : A) (m : List Loc) (f : Loc → M) (label : Label) → MakesLabel words b (united_over words f m) label
+      → (i : ℕ) → i < 4 → MakesLabel words b (united_over words f (in_first_lane m i)) (lane_at (mixed_label FirstLane label) i)
+  first_made b m f label made =
+      let none = laws.of_nothing b in
+      each_of_four (λ i. MakesLabel words b (united_over words f (in_first_lane m i)) (lane_at (mixed_label FirstLane label) i)) made none none none
 
   module _ (a : A) (p : Places) (standing : AreStanding words a p) where
     abbrev over : List Loc → M
@@ -88,54 +94,43 @@ module _ {A M : Type 0} (words : LabelWords A M) (laws : Laws words) where
     shuffled_made shuffle r h few = each_of_four (λ i. MakesLabel words a (over (shuffled_lanes shuffle r i)) (lane_at (shuffled (origin_lanes p r) shuffle) i))
         (chosen_made r shuffle.first h (few 0)) (chosen_made r shuffle.second h (few 1)) (chosen_made r shuffle.third h (few 2)) (chosen_made r shuffle.fourth h (few 3))
 
-    -- the lanes of a register that has no label mean nothing
-    no_lanes : (t : ℕ) → t < 32 → ((n : ℕ) → n < 4 → origin_lane p t n ≡ nothing_label) → words.nothing ≡ over (lanes t)
-    no_lanes t small is = sym (all_clean words laws a clean refl) ∙ lanes_mean words laws a p standing t clean small (λ n low. alike_at nothing_label n low ∙ sym (is n low))
+    -- the label of two registers, in each of which all lanes have one
+    pub alike_mixed : (b : A) (m : Mixing) (r s : ℕ) (one other label : Label) → r < 32 → s < 32 → ((i : ℕ) → i < 4 → origin_lane p r i ≡ one) → ((i : ℕ) → i < 4 → origin_lane p s i ≡ other)
+        → MakesLabel words b (words.united (words.means a one) (words.means a other)) label → (i : ℕ) → i < 4 → MakesLabel words b (over (mixed_lanes m r s i)) (lane_at (mixed_label m label) i)
+    alike_mixed b m r s one other label h k is_one is_other made i low = by m where
+      both : (xs ys : List Loc) → AreHere xs → AreHere ys → words.means a one ≡ over xs → words.means a other ≡ over ys → MakesLabel words b (over (union loc_cmp xs ys)) label
+      both xs ys here there e f = both_made words laws a p standing b xs ys (words.means a one) (words.means a other) label here there e f made
 
-    -- where no lane of two registers has a label, what they make together has none
-    pub clean_mixed : (mixing : Mixing) (r s i : ℕ) → r < 32 → s < 32 → i < 4 → ((j : ℕ) → j < 4 → origin_lane p r j ≡ nothing_label)
-        → ((j : ℕ) → j < 4 → origin_lane p s j ≡ nothing_label) → MakesLabel words a (over (mixed_lanes mixing r s i)) nothing_label
-    clean_mixed mixing r s i h k l clean_r clean_s = by mixing where
-      none : MakesLabel words a words.nothing nothing_label
-      none = laws.of_nothing a
+      lane_mean : (t j : ℕ) (l : Label) → t < 32 → j < 4 → ((n : ℕ) → n < 4 → origin_lane p t n ≡ l) → words.means a l ≡ over (lane t j)
+      lane_mean t j l small few is = (lane_made words laws a p standing t j l small few (sym (is j few))).means
 
-      no_lane : (t j : ℕ) → t < 32 → j < 4 → ((n : ℕ) → n < 4 → origin_lane p t n ≡ nothing_label) → words.nothing ≡ over (lane t j)
-      no_lane t j small low is = sym none.means ∙ (lane_made words laws a p standing t j nothing_label small low (sym (is j low))).means
+      mean : (t : ℕ) (l : Label) → t < 32 → ((n : ℕ) → n < 4 → origin_lane p t n ≡ l) → words.means a l ≡ over (lanes t)
+      mean t l small is = (register_made words laws a p standing t l small is).means
 
-      both : (xs ys : List Loc) → AreHere xs → AreHere ys → words.nothing ≡ over xs → words.nothing ≡ over ys → MakesLabel words a (over (union loc_cmp xs ys)) nothing_label
-      both xs ys here there e f = both_made words laws a p standing a xs ys words.nothing words.nothing nothing_label here there e f
-          (subst (λ m. MakesLabel words a m nothing_label) (sym (laws.with_nothing words.nothing laws.of_none)) none)
+      all : MakesLabel words b (over (all_lanes r s 0)) label
+      all = both (lanes r) (lanes s) (lanes_here r h) (lanes_here s k) (mean r one h is_one) (mean s other k is_other)
 
-      all : MakesLabel words a (over (all_lanes r s 0)) nothing_label
-      all = both (lanes r) (lanes s) (lanes_here r h) (lanes_here s k) (no_lanes r h clean_r) (no_lanes s k clean_s)
+      by : (m : Mixing) → MakesLabel words b (over (mixed_lanes m r s i)) (lane_at (mixed_label m label) i)
+      by EachLane = alike_made b (over (each_lane r s i)) label (both (lane r i) (lane s i) (lane_here r i h low) (lane_here s i k low) (lane_mean r i one h low is_one) (lane_mean s i other k low is_other)) i low
+      by AllLanes = alike_made b (over (all_lanes r s 0)) label all i low
+      by ShiftedLanes = alike_made b (over (shifted_lanes r s 0)) label (both (lanes r) (lane s 0) (lanes_here r h) (lane_here s 0 k (omega arith)) (mean r one h is_one) (lane_mean s 0 other k (omega arith) is_other)) i low
+      by FirstLane = first_made b (all_lanes r s 0) (meaning_at words a p) label all i low
 
-      first : (b : Bool) → MakesLabel words a (over (if b then all_lanes r s 0 else [])) nothing_label
-      first true = all
-      first false = none
+    -- a base without labels adds nothing
+    pub no_base : (base n : ℕ) (x : Lanes) → base < 32 → ((i : ℕ) → i < 4 → origin_lane p base i ≡ nothing_label) → n ≤ 4 → LanesStand words a x → MakesLanes words a n (based_mean words a p base x) a x
+    no_base base n x small none few s =
+        let nothing = sym (register_made words laws a p standing base nothing_label small none).means ∙ (laws.of_nothing a).means in
+        record {
+          made = λ i h. let here = s.at i (omega (arith, h, few)) in record {
+            stands = here;
+            means = sym (ap (λ (m : M). words.united m (words.means a (lane_at x i))) nothing ∙ nothing_with words laws (words.means a (lane_at x i)) (laws.of_label a (lane_at x i) here));
+          };
+          keeps = keeps_itself words a;
+        }
 
-      by : (m : Mixing) → MakesLabel words a (over (mixed_lanes m r s i)) nothing_label
-      by EachLane = both (lane r i) (lane s i) (lane_here r i h l) (lane_here s i k l) (no_lane r i h l clean_r) (no_lane s i k l clean_s)
-      by AllLanes = all
-      by ShiftedLanes = both (lanes r) (lane s 0) (lanes_here r h) (lane_here s 0 k (omega arith)) (no_lanes r h clean_r) (no_lane s 0 k (omega arith) clean_s)
-      by FirstLane = first (i == 0)
-
-    -- one label of two registers, in each of which all lanes have one, is that of each lane of both
-    pub each_made : (b : A) (r s : ℕ) (one other label : Label) → r < 32 → s < 32 → ((i : ℕ) → i < 4 → origin_lane p r i ≡ one) → ((i : ℕ) → i < 4 → origin_lane p s i ≡ other)
-        → MakesLabel words b (words.united (words.means a one) (words.means a other)) label → (i : ℕ) → i < 4 → MakesLabel words b (over (mixed_lanes EachLane r s i)) (lane_at (alike label) i)
-    each_made b r s one other label h k is_one is_other made i low = subst (MakesLabel words b (over (mixed_lanes EachLane r s i))) (sym (alike_at label i low))
-        (both_made words laws a p standing b (lane r i) (lane s i) (words.means a one) (words.means a other) label (lane_here r i h low) (lane_here s i k low)
-        (lane_made words laws a p standing r i one h low (sym (is_one i low))).means (lane_made words laws a p standing s i other k low (sym (is_other i low))).means made)
-
-    -- x0 as a base adds nothing
-    pub no_base : (base n : ℕ) (x : Lanes) → base ≡ 0 → n ≤ 4 → LanesStand words a x → MakesLanes words a n (based_mean words a p base x) a x
-    no_base base n x none few s = record {
-      made = λ i h. let here = s.at i (omega (arith, h, few)) in record {
-        stands = here;
-        means = sym (ap (λ (r : ℕ). words.united (united_over words (meaning_at words a p) (lanes r)) (words.means a (lane_at x i))) none
-            ∙ nothing_with words laws (words.means a (lane_at x i)) (laws.of_label a (lane_at x i) here));
-      };
-      keeps = keeps_itself words a;
-    }
+    -- where no lane has a label either
+    pub no_labels : (base n : ℕ) → base < 32 → ((i : ℕ) → i < 4 → origin_lane p base i ≡ nothing_label) → n ≤ 4 → MakesLanes words a n (based_mean words a p base clean) a clean
+    no_labels base n small none few = no_base base n clean small none few (alike_stand words a nothing_label (laws.of_nothing a).stands)
 
     -- the base's label is united with each lane
     pub with_label : (b c : A) (base : ℕ) (label : Label) (x z : Lanes) → LanesStand words a x → Makes words a (united_over words (meaning_at words a p) (lanes base)) b label
@@ -179,3 +174,11 @@ module _ {A M : Type 0} (words : LabelWords A M) (laws : Laws words) where
           by true false e = subst (λ (o : Bool). MakesLabel words b (united_over words (meaning_at words a p) (with_base Index base (byte_of place (if o then i else n - 1)))) (if o then lane_at z i else lane_at z (n - 1))) (sym e) (byte (n - 1) (omega (arith, some)))
           by false true e = subst (λ (o : Bool). MakesLabel words b (united_over words (meaning_at words a p) (if o then with_base Index base (byte_of place i) else [])) (if o then lane_at z i else nothing_label)) (sym e) (byte i (ltb-true i n e))
           by false false e = subst (λ (o : Bool). MakesLabel words b (united_over words (meaning_at words a p) (if o then with_base Index base (byte_of place i) else [])) (if o then lane_at z i else nothing_label)) (sym e) (laws.of_nothing b)
+
+    -- what is stored
+    pub stored : (b : A) (r base n : ℕ) (w z : Lanes) → r < 32 → base < 32 → n ≤ 4 → ((i : ℕ) → i < 4 → lane_at w i ≡ origin_lane p r i) → MakesLanes words a n (based_mean words a p base w) b z
+        → (i : ℕ) → i < n → MakesLabel words b (united_over words (meaning_at words a p) (with_base Index base (lane r i))) (lane_at z i)
+    stored b r base n w z h k few is made i low =
+        let small : i < 4 = omega (arith, low, few) in
+        both_made words laws a p standing b (lanes base) (lane r i) _ _ (lane_at z i) (lanes_here base k) (lane_here r i h small) refl
+        (lane_made words laws a p standing r i (lane_at w i) h small (is i small)).means (made.made i low)

@@ -9,3 +9,4 @@ mod Flows
 mod Received
 pub mod Clean
 pub mod Alike
+mod Accesses

@@ -14,8 +14,8 @@ use Rattle.lists.proofs.Algebra.{All-union}
 use Rattle.taint_shadow.specs.declared.labels.Label.{Label}
 use Rattle.taint_shadow.specs.declared.lanes.Lanes.{Lanes}
 use Rattle.taint_shadow.specs.declared.places.Places.{Places}
-use Rattle.taint_shadow.specs.Labels.{LabelWords, Laws, MakesLabel, KeepsLabels, Makes, nothing_label}
-use Rattle.taint_shadow.specs.Lanes.{lane_at, alike, clean, all_mean, both_mean, LanesStand, MakesLanes}
+use Rattle.taint_shadow.specs.Labels.{LabelWords, Laws, MakesLabel, KeepsLabels, Makes, mean_together, nothing_label}
+use Rattle.taint_shadow.specs.Lanes.{lane_at, alike, all_mean, LanesStand}
 use Rattle.taint_shadow.specs.Places.{kept, origin_lane, origin_lanes}
 use Rattle.taint_shadow.specs.Steps.{meaning_at, AreStanding, Holds, united_over}
 
@@ -180,28 +180,20 @@ module _ {A M : Type 0} (words : LabelWords A M) where
     pub all_alike : (a : A) (x : Lanes) → LanesStand words a x → x ≡ alike x.first → all_mean words a x ≡ words.means a x.first
     all_alike a x s is = ap (all_mean words a) is ∙ alike_mean a x.first (s.at 0 (omega arith))
 
-    pub all_clean : (a : A) (x : Lanes) → x ≡ clean → all_mean words a x ≡ words.nothing
-    all_clean a x is = let none = laws.of_nothing a in ap (all_mean words a) is ∙ alike_mean a nothing_label none.stands ∙ none.means
+    -- equal labels mean together what one means, and that of nothing adds nothing
+    pub equal_mean : (a : A) (l k : Label) → words.stands a l → l ≡ k → MakesLabel words a (mean_together words a l k) l
+    equal_mean a l k s e = record { stands = s; means = sym (ap (λ (j : Label). mean_together words a l j) (sym e) ∙ laws.with_itself (words.means a l) (laws.of_label a l s)) }
 
-    -- lanes that are all nothing add nothing
-    pub clean_left : (a : A) (x y : Lanes) → LanesStand words a y → x ≡ clean → MakesLanes words a 4 (both_mean words a x y) a y
-    clean_left a x y s is = record {
-      made = λ i h. record {
-        stands = s.at i h;
-        means = sym (ap (λ l. words.united (words.means a l) (words.means a (lane_at y i))) (ap (λ z. lane_at z i) is ∙ alike_at nothing_label i h)
-            ∙ ap (λ m. words.united m (words.means a (lane_at y i))) (laws.of_nothing a).means ∙ nothing_with (words.means a (lane_at y i)) (laws.of_label a (lane_at y i) (s.at i h)));
-      };
-      keeps = keeps_itself a;
+    pub nothing_right : (a : A) (l k : Label) → words.stands a l → k ≡ nothing_label → MakesLabel words a (mean_together words a l k) l
+    nothing_right a l k s e = record {
+      stands = s;
+      means = sym (ap (λ (j : Label). mean_together words a l j) e ∙ ap (words.united (words.means a l)) (laws.of_nothing a).means ∙ laws.with_nothing (words.means a l) (laws.of_label a l s));
     }
 
-    pub clean_right : (a : A) (x y : Lanes) → LanesStand words a x → y ≡ clean → MakesLanes words a 4 (both_mean words a x y) a x
-    clean_right a x y s is = record {
-      made = λ i h. record {
-        stands = s.at i h;
-        means = sym (ap (λ l. words.united (words.means a (lane_at x i)) (words.means a l)) (ap (λ z. lane_at z i) is ∙ alike_at nothing_label i h)
-            ∙ ap (words.united (words.means a (lane_at x i))) (laws.of_nothing a).means ∙ laws.with_nothing (words.means a (lane_at x i)) (laws.of_label a (lane_at x i) (s.at i h)));
-      };
-      keeps = keeps_itself a;
+    pub nothing_left : (a : A) (l k : Label) → words.stands a k → l ≡ nothing_label → MakesLabel words a (mean_together words a l k) k
+    nothing_left a l k s e = record {
+      stands = s;
+      means = sym (ap (λ (j : Label). mean_together words a j k) e ∙ ap (λ (m : M). words.united m (words.means a k)) (laws.of_nothing a).means ∙ nothing_with (words.means a k) (laws.of_label a k s));
     }
 
     module _ (a : A) (p : Places) (standing : AreStanding words a p) where

@@ -10,11 +10,11 @@ use Rattle.flow_model.specs.Ranges.{IsLocation}
 use Rattle.taint_shadow.specs.declared.labels.Label.{Label}
 use Rattle.taint_shadow.specs.declared.lanes.Lanes.{Lanes}
 use Rattle.taint_shadow.specs.declared.places.Places.{Places}
-use Rattle.taint_shadow.specs.Labels.{LabelWords, MakesLabel, KeepsLabels}
-use Rattle.taint_shadow.specs.Lanes.{lane_at}
+use Rattle.taint_shadow.specs.Labels.{LabelWords, MakesLabel, KeepsLabels, nothing_label}
+use Rattle.taint_shadow.specs.Lanes.{lane_at, clean}
 use Rattle.taint_shadow.specs.Places.{kept, AreKept, with_lanes, with_word}
 use Rattle.taint_shadow.specs.Steps.{meaning_at, AreStanding, Becomes, united_over, turned, is_among}
-use Rattle.taint_shadow.proofs.Meaning.{AreHere, united_same}
+use Rattle.taint_shadow.proofs.Meaning.{AreHere, united_same, alike_at}
 
 -- ---- targets by number
 
@@ -68,6 +68,19 @@ byte_distance place i h k = omega arith
 
 pub distance_byte : (place p : ℕ) → place < 2 ^ 32 → p < 2 ^ 32 → wrap (place + distance place p) ≡ p
 distance_byte place p h k = omega arith
+
+-- bytes without labels stay as they are where they get none
+pub bytes_clean : (p : Places) (place n : ℕ) → place < 2 ^ 32 → n ≤ 4 → ((i : ℕ) → i < 4 → kept p (Mem (wrap (place + i))) ≡ nothing_label) → AreKept p (with_word place n clean (kept p))
+bytes_clean p place n inside few none = record { at = by } where
+  by : (l : Loc) → IsLocation l → kept p l ≡ with_word place n clean (kept p) l
+  by (Reg r i) here = refl
+  by (Mem m) here = at (nat_lt (distance place m) n) refl where
+    at : (b : Bool) → nat_lt (distance place m) n ≡ b → kept p (Mem m) ≡ (if b then lane_at clean (distance place m) else kept p (Mem m))
+    at true e =
+        let near : distance place m < n = ltb-true _ _ e in
+        let low : distance place m < 4 = omega (arith, near, few) in
+        ap (λ (q : ℕ). kept p (Mem q)) (sym (distance_byte place m inside here)) ∙ none (distance place m) low ∙ sym (alike_at nothing_label (distance place m) low)
+    at false e = refl
 
 not_byte : (place n j : ℕ) (l : Loc) → place < 2 ^ 32 → n ≤ 4 → is_among place n l ≡ false → j < n → loc_eq (Mem (wrap (place + j))) l ≡ false
 not_byte place n j (Reg r i) h k e less = refl

@@ -4,6 +4,7 @@ use Rattle.std.specs.Int.{bit_at}
 use Rattle.isa.specs.declared.Instr.{Instr}
 use Rattle.isa.specs.Encodings.{Fits}
 use Rattle.rv_decode.specs.Registers.{registers_of}
+use Rattle.rv_decode.specs.Accesses.{IsNoAccess}
 use Rattle.flow_model.specs.declared.Rule.{Rule}
 use Rattle.flow_model.specs.Flow.{flow}
 use Rattle.taint_shadow.specs.declared.places.Places.{Places}
@@ -11,12 +12,12 @@ use Rattle.taint_shadow.specs.Labels.{LabelWords, nothing_label}
 use Rattle.taint_shadow.specs.Places.{origin_lane}
 use Rattle.taint_shadow.specs.Steps.{Turned}
 
--- no register whose bit is set has a label, as an origin, and bit 0, which stands for memory, isn't set
+-- no register whose bit is set has a label, as an origin
 pub record AreClean (p : Places) (registers : ℕ) : Type 0 where
-  pub memory : bit_at registers 0 ≡ 0
   pub lanes : (r : ℕ) → r < 32 → bit_at registers r ≡ 1 → (i : ℕ) → i < 4 → origin_lane p r i ≡ nothing_label
 
--- a plain step of any instruction with these registers, by any rule and at any place, leaves labels and locations as they are
+-- a step of any instruction with these registers that is neither a load nor a store, by any rule and at any place, leaves labels
+-- and locations as they are
 abbrev pub TurnsNothing : {A M : Type 0} → LabelWords A M → A → Places → ℕ → Type 0
 TurnsNothing words labels p registers =
-    (rule : Rule) (instr : Instr) (place : ℕ) → Fits instr → registers_of instr ≡ registers → Turned words labels p labels p (flow rule instr place)
+    (rule : Rule) (instr : Instr) (place : ℕ) → Fits instr → registers_of instr ≡ registers → IsNoAccess instr → Turned words labels p labels p (flow rule instr place)

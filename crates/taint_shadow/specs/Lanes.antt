@@ -1,6 +1,8 @@
 -- Four labels at once.
 use Rattle.std.specs.Prelude.{ℕ, zero, suc, ◌-◌, ◌<◌, nat_lt, Bool, if◌then◌else◌, Option}
 use Rattle.std.specs.Option.{option_map_or}
+use Rattle.flow_rule.specs.declared.shape.Mixing.{Mixing}
+use Rattle.flow_rule.specs.declared.shape.Mixing.TheVariants.{EachLane, AllLanes, ShiftedLanes, FirstLane}
 use Rattle.flow_rule.specs.declared.shuffle.Shuffle.{Shuffle}
 use Rattle.taint_shadow.specs.declared.labels.Label.{Label}
 use Rattle.taint_shadow.specs.declared.lanes.Lanes.{Lanes}
@@ -35,6 +37,13 @@ shuffled x shuffle = record {
 -- lane i of a load of n bytes: the lanes above are like the highest byte's, or came from nowhere
 abbrev pub extended_lane : Lanes → ℕ → Bool → ℕ → Label
 extended_lane x n fills i = if nat_lt i n then lane_at x i else if fills then lane_at x (n - 1) else nothing_label
+
+-- what flows together, where it has one label: the first lane alone gets it, or all do
+abbrev pub mixed_label : Mixing → Label → Lanes
+mixed_label FirstLane l = record { first = l; second = nothing_label; third = nothing_label; fourth = nothing_label }
+mixed_label EachLane l = alike l
+mixed_label AllLanes l = alike l
+mixed_label ShiftedLanes l = alike l
 
 module _ {A M : Type 0} (words : LabelWords A M) where
   -- the label of each lane stands

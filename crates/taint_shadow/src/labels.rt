@@ -27,7 +27,7 @@ const PAST_CHANNELS: u64 = 1 << 4;
 /// What a location is labelled with: a node, what some location had at the start, or a run of source bytes, as one number.
 #[derive(Clone, Copy, PartialEq, Eq)]
 pub struct Label {
-    number: u64,
+    pub(crate) number: u64,
 }
 
 /// An output byte or a point, with the label of what it came from.

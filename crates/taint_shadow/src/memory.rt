@@ -4,7 +4,7 @@
 ghost use Rattle.std.specs.Prelude.{◌≡◌, ◌<◌, ◌≤◌, ◌+◌, ◌*◌, ◌-◌, ◌/◌, ◌%◌, ◌^◌, ℕ, length, slice_index_or, IsTrue, OnOk};
 ghost use Rattle.flow_model.specs.declared.Loc.TheVariants.{Mem};
 ghost use Rattle.isa.specs.Machine.{wrap};
-ghost use Rattle.taint_shadow.specs.Labels.{start_label};
+ghost use Rattle.taint_shadow.specs.Labels.{start_label, nothing_label};
 ghost use Rattle.taint_shadow.specs.Lanes.{lane_at, alike};
 ghost use Rattle.taint_shadow.specs.Memory.{items_at, path_to, cells_of, cells_by, cell_or, in_memory, PutsBytes, set_if, with_cells, IsLineKept, PutsLanes, MakesLine};
 
@@ -105,6 +105,15 @@ pub(crate) fn word_at(regions: &[Vec<Vec<Vec<Label>>>], place: u32) -> Lanes
     } else {
         bytes_at(regions, place)
     }
+}
+
+/// Whether the four bytes from a place on are known to have no label: they lie in one line that was made.
+#[inline(always)]
+pub(crate) fn is_clean_word(regions: &[Vec<Vec<Vec<Label>>>], place: u32) -> bool
+    ensures { IsTrue result → (i : ℕ) → i < 4 → in_memory regions.now (wrap (place + i)) ≡ nothing_label }
+{
+    let past = place as usize % CELLS + 4;
+    past <= CELLS && past <= line_of(regions, place).len() && word_at(regions, place).are_clean()
 }
 
 /// The labels of the four bytes of a word that lies in one line.

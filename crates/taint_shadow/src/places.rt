@@ -107,13 +107,13 @@ impl Places {
         None
     }
 
-    /// Whether a plain step of an instruction with these registers, as `rv_decode::registers_of` has them, is known to leave
-    /// the label of each location as it is: none of them has a label, and it is no load and no store.
+    /// Whether a step of an instruction with these registers, as `rv_decode::registers_of` has them, that is neither a load nor a
+    /// store is known to leave the label of each location as it is: none of them has a label.
     #[inline(always)]
     pub fn is_clean_of(&self, registers: u32) -> bool
         ensures { IsTrue result → AreClean self.now registers }
     {
-        registers % 2 == 0 && self.labelled.has_none_of(registers)
+        self.labelled.has_none_of(registers)
     }
 
     /// Empties the lanes of a register; those of x0 stay as they are.
@@ -200,6 +200,14 @@ impl Places {
         ensures { (i : ℕ) → i < 4 → lane_at result i ≡ kept self.now (Mem (wrap (place + i))) }
     {
         memory::word_at(self.memory.as_slice(), place)
+    }
+
+    /// Whether the four bytes from a place on, round the end of memory, are known to have no label. It is told at one look.
+    #[inline(always)]
+    pub(crate) fn is_clean_word(&self, place: u32) -> bool
+        ensures { IsTrue result → (i : ℕ) → i < 4 → kept self.now (Mem (wrap (place + i))) ≡ nothing_label }
+    {
+        memory::is_clean_word(self.memory.as_slice(), place)
     }
 
     /// Labels the lowest `size` of the four bytes from a place on anew, round the end of memory.

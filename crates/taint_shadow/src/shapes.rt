@@ -1,14 +1,14 @@
 //! How the flow of an instruction turns what locations are labelled with, by its shape.
 
-ghost use Rattle.std.specs.Prelude.{◌<◌, ◌≤◌, IfOk, OnOk};
+ghost use Rattle.std.specs.Prelude.{◌≡◌, ◌<◌, ◌≤◌, IfOk, OnOk};
 ghost use Rattle.flow_rule.specs.Shapes.{HasRegisters, HasSizes};
 ghost use Rattle.flow_model.specs.Flow.{lanes, each_lane, all_lanes, shifted_lanes};
-ghost use Rattle.taint_shadow.specs.Lanes.{LanesStand};
+ghost use Rattle.taint_shadow.specs.Lanes.{mixed_label, LanesStand};
 ghost use Rattle.taint_shadow.specs.Steps.{AreStanding, Turns, MakesBased, MakesOver, MakesFrom};
 
 use crate::labels::{Label, Labels};
 use crate::lanes::Lanes;
-use crate::mixing::{unite_all, unite_lanes};
+use crate::mixing::{unite, unite_all, unite_lanes};
 use crate::places::Places;
 use flow_rule::{Mixing, Shape};
 use no_memory::NoMemory;
@@ -40,7 +40,7 @@ fn all_label<A: Labels>(
 {
     let one = register_label(labels, places, rs1)?;
     let other = register_label(labels, places, rs2)?;
-    labels.unite(one, other)
+    unite(labels, one, other)
 }
 
 /// The label of what all lanes of a register have together with lane 0 of another.
@@ -56,7 +56,7 @@ fn shifted_label<A: Labels>(
     ensures { IfOk result (MakesOver A.words labels.old places.now (shifted_lanes rs1 rs2 0) labels.new) }
 {
     let all = register_label(labels, places, rs1)?;
-    labels.unite(all, places.lanes(rs2).first)
+    unite(labels, all, places.lanes(rs2).first)
 }
 
 /// The labels of what the same lane of two registers has together.
@@ -87,13 +87,6 @@ fn mix_each<A: Labels>(
     ensures { OnOk result
         (Turns A.words labels.old places.old labels.new places.new (Shape.Mixed Mixing.EachLane rd rs1 rs2)) }
 {
-    if let Some(one) = places.one_label(rs1) {
-        if let Some(other) = places.one_label(rs2) {
-            let label = labels.unite(one, other)?;
-            places.set_alike(rd, label);
-            return Ok(());
-        }
-    }
     let lanes = lane_labels(labels, places, rs1, rs2)?;
     places.set_lanes(rd, lanes);
     Ok(())
@@ -149,11 +142,27 @@ fn compare<A: Labels>(
         (Turns A.words labels.old places.old labels.new places.new (Shape.Mixed Mixing.FirstLane rd rs1 rs2)) }
 {
     let label = all_label(labels, places, rs1, rs2)?;
-    places.set_lanes(rd, Lanes::alike(label).extended(1, false));
+    places.set_lanes(rd, mixed(Mixing::FirstLane, label));
     Ok(())
 }
 
-/// The lanes of two registers flow together. Where both are clean, so is what they make.
+/// The lanes of what flows together, where it has one label.
+#[inline(always)]
+fn mixed(mixing: Mixing, label: Label) -> Lanes
+    ensures { result ≡ mixed_label mixing label }
+{
+    match mixing {
+        Mixing::FirstLane => Lanes {
+            first: label,
+            second: Label::nothing(),
+            third: Label::nothing(),
+            fourth: Label::nothing(),
+        },
+        Mixing::EachLane | Mixing::AllLanes | Mixing::ShiftedLanes => Lanes::alike(label),
+    }
+}
+
+/// The lanes of two registers flow together. Where those of each have one label, as where they are clean, one label is made.
 #[inline(always)]
 fn mix<A: Labels>(
     labels: &mut A,
@@ -167,10 +176,30 @@ fn mix<A: Labels>(
     requires standing { AreStanding A.words labels.old places.old }
     ensures { OnOk result (Turns A.words labels.old places.old labels.new places.new (Shape.Mixed mixing rd rs1 rs2)) }
 {
-    if places.is_clean(rs1) && places.is_clean(rs2) {
-        places.clear(rd);
-        return Ok(());
+    if let Some(one) = places.one_label(rs1) {
+        if let Some(other) = places.one_label(rs2) {
+            let label = unite(labels, one, other)?;
+            places.put_lanes(rd, mixed(mixing, label));
+            return Ok(());
+        }
     }
+    mix_apart(labels, places, mixing, rd, rs1, rs2)
+}
+
+/// The same, lane by lane.
+#[inline(never)]
+fn mix_apart<A: Labels>(
+    labels: &mut A,
+    places: &mut Places,
+    mixing: Mixing,
+    rd: u8,
+    rs1: u8,
+    rs2: u8,
+) -> Result<(), NoMemory>
+    requires registers { (rd < 32) × (rs1 < 32) × (rs2 < 32) }
+    requires standing { AreStanding A.words labels.old places.old }
+    ensures { OnOk result (Turns A.words labels.old places.old labels.new places.new (Shape.Mixed mixing rd rs1 rs2)) }
+{
     match mixing {
         Mixing::EachLane => mix_each(labels, places, rd, rs1, rs2),
         Mixing::AllLanes => mix_all(labels, places, rd, rs1, rs2),
@@ -194,7 +223,7 @@ fn add_base<A: Labels>(
     requires standing { AreStanding A.words labels.old places.now }
     ensures { IfOk result (MakesBased A.words labels.old places.now base size lanes labels.new) }
 {
-    if base == 0 {
+    if places.is_clean(base) {
         return Ok(lanes);
     }
     based(labels, places, base, lanes.extended(size, false))
@@ -217,7 +246,32 @@ fn based<A: Labels>(
 }
 
 /// Lane i comes from byte i, and from the lanes of the base; those above from the highest byte, where it fills them.
-fn load<A: Labels>(
+#[inline(always)]
+pub(crate) fn turn_by_load<A: Labels>(
+    labels: &mut A,
+    places: &mut Places,
+    rd: u8,
+    base: u8,
+    place: u32,
+    size: u8,
+    fills: bool,
+) -> Result<(), NoMemory>
+    requires registers { (rd < 32) × (base < 32) }
+    requires size { (1 ≤ size) × (size ≤ 4) }
+    requires standing { AreStanding A.words labels.old places.old }
+    ensures { OnOk result
+        (Turns A.words labels.old places.old labels.new places.new (Shape.Load rd base place size fills)) }
+{
+    if places.is_clean(base) && places.is_clean_word(place) {
+        places.clear(rd);
+        return Ok(());
+    }
+    load_labels(labels, places, rd, base, place, size, fills)
+}
+
+/// The same, where the bytes or the base may have labels.
+#[inline(never)]
+fn load_labels<A: Labels>(
     labels: &mut A,
     places: &mut Places,
     rd: u8,
@@ -238,7 +292,29 @@ fn load<A: Labels>(
 }
 
 /// Byte i comes from lane i of a register, and from the lanes of the base.
-fn store<A: Labels>(
+#[inline(always)]
+pub(crate) fn turn_by_store<A: Labels>(
+    labels: &mut A,
+    places: &mut Places,
+    rs: u8,
+    base: u8,
+    place: u32,
+    size: u8,
+) -> Result<(), NoMemory>
+    requires registers { (rs < 32) × (base < 32) }
+    requires size { (1 ≤ size) × (size ≤ 4) }
+    requires standing { AreStanding A.words labels.old places.old }
+    ensures { OnOk result (Turns A.words labels.old places.old labels.new places.new (Shape.Store rs base place size)) }
+{
+    if places.is_clean(base) && places.is_clean(rs) && places.is_clean_word(place) {
+        return Ok(());
+    }
+    store_labels(labels, places, rs, base, place, size)
+}
+
+/// The same, where the bytes or the registers may have labels.
+#[inline(never)]
+fn store_labels<A: Labels>(
     labels: &mut A,
     places: &mut Places,
     rs: u8,
@@ -294,12 +370,12 @@ pub(crate) fn turn_by_shape<A: Labels>(
             place,
             size,
             fills,
-        } => load(labels, places, rd, base, place, size, fills),
+        } => turn_by_load(labels, places, rd, base, place, size, fills),
         Shape::Store {
             rs,
             base,
             place,
             size,
-        } => store(labels, places, rs, base, place, size),
+        } => turn_by_store(labels, places, rs, base, place, size),
     }
 }

@@ -1,21 +1,24 @@
 //! How one step turns what locations are labelled with.
 
-ghost use Rattle.std.specs.Prelude.{◌<◌, Some, IfOk, OnOk};
+ghost use Rattle.std.specs.Prelude.{◌≡◌, ◌<◌, Some, IfOk, OnOk};
+ghost use Rattle.isa.specs.declared.Instr.{Instr as AnyInstr};
 ghost use Rattle.isa.specs.Encodings.{Fits};
+ghost use Rattle.rv_decode.specs.Accesses.{load_of, store_of, FitsLoad, FitsStore};
 ghost use Rattle.flow_model.specs.Flow.{flow, to_register, nothing, cleared};
 ghost use Rattle.flow_model.specs.Ranges.{IsInRange, IsCallInRange};
 ghost use Rattle.report_model.specs.Query.{policy_of};
-ghost use Rattle.taint_shadow.specs.Labels.{Makes};
+ghost use Rattle.taint_shadow.specs.Labels.{KeepsLabels, Makes};
 ghost use Rattle.taint_shadow.specs.Steps.{AreStanding, Turned, introduced as introduced_by, AfterRead, AfterCall, AfterStep};
 
 use crate::labels::{Label, Labels};
 use crate::places::Places;
-use crate::shapes::turn_by_shape;
+use crate::shapes::{turn_by_load, turn_by_shape, turn_by_store};
 use flow_model::{CallSeen, Rule, StepSeen};
-use flow_rule::{Shape, SourceByte, shape_of};
+use flow_rule::{Shape, SourceByte, counted_base, fills_above, shape_of};
 use isa::{CallKind, Instr};
 use no_memory::NoMemory;
 use query_lang::Query;
+use rv_decode::{Load, Store};
 
 /// The label of what a source byte brings in: its own where the query chooses it.
 fn introduced<A: Labels>(labels: &mut A, byte: SourceByte, query: &Query) -> Result<Label, NoMemory>
@@ -120,6 +123,68 @@ pub fn plain_step<A: Labels>(
         Rule::Keep => turn_by_shape(labels, places, shape_of(instr, place, Rule::Keep)),
         Rule::Compute | Rule::Index => turn_by_shape(labels, places, shape_of(instr, place, rule)),
     }
+}
+
+/// Goes on by one load: whatever the locations' labels meant before it, they mean what it makes of that after it. `place` is its
+/// effective address. It gives up with NoMemory alone.
+#[inline(always)]
+pub fn load_step<A: Labels>(
+    labels: &mut A,
+    places: &mut Places,
+    load: Load,
+    place: u32,
+    rule: Rule,
+) -> Result<(), NoMemory>
+    requires fits { FitsLoad load }
+    requires standing { AreStanding A.words labels.old places.old }
+    ensures standing { OnOk result (AreStanding A.words labels.new places.new) }
+    ensures keeps { OnOk result (KeepsLabels A.words labels.old labels.new) }
+    ensures turned { OnOk result ((instr : AnyInstr) → load_of instr ≡ Some load
+        → Turned A.words labels.old places.old labels.new places.new (flow rule instr place)) }
+{
+    let Load {
+        rd,
+        base,
+        size,
+        is_signed,
+    } = load;
+    let fills = is_signed && fills_above(rule);
+    turn_by_load(
+        labels,
+        places,
+        rd,
+        counted_base(rule, base),
+        place,
+        size,
+        fills,
+    )
+}
+
+/// Goes on by one store, as [`load_step`] does by a load.
+#[inline(always)]
+pub fn store_step<A: Labels>(
+    labels: &mut A,
+    places: &mut Places,
+    store: Store,
+    place: u32,
+    rule: Rule,
+) -> Result<(), NoMemory>
+    requires fits { FitsStore store }
+    requires standing { AreStanding A.words labels.old places.old }
+    ensures standing { OnOk result (AreStanding A.words labels.new places.new) }
+    ensures keeps { OnOk result (KeepsLabels A.words labels.old labels.new) }
+    ensures turned { OnOk result ((instr : AnyInstr) → store_of instr ≡ Some store
+        → Turned A.words labels.old places.old labels.new places.new (flow rule instr place)) }
+{
+    let Store { source, base, size } = store;
+    turn_by_store(
+        labels,
+        places,
+        source,
+        counted_base(rule, base),
+        place,
+        size,
+    )
 }
 
 /// Goes on by one step: whatever the locations' labels meant before it, they mean what the step makes of that after it.

@@ -27,7 +27,7 @@ returns g c =
     let right = c.in_ok-other.ensures in
     let same = over_kept words a _ p one.keeps c.requires.standing (lanes s) (lanes_here s c.requires.registers.1) in
     let other : Makes words _ (united_over words (meaning_at words a p) (lanes s)) _ _ = record { made = record { stands = right.made.stands; means = right.made.means ∙ same }; keeps = right.keeps } in
-    IfOk-weaker _ _ (MakesOver words a p (all_lanes r s 0) c.unite.new.self) (λ label made.
+    IfOk-weaker _ _ (MakesOver words a p (all_lanes r s 0) c.unite.new.labels) (λ label made.
     let both = unite_made words _ _ _ _ _ _ label _ _ one other made in
     record {
       made = both_made words laws a p c.requires.standing _ (lanes r) (lanes s) _ _ label (lanes_here r c.requires.registers.0) (lanes_here s c.requires.registers.1) refl refl both.made;

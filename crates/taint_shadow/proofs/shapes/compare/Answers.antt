@@ -1,8 +1,10 @@
-use Rattle.std.proofs.Common.{false, ap, ◌∙◌}
+use Rattle.std.proofs.Common.{subst}
 use Rattle.flow_model.specs.Flow.{all_lanes}
 use Rattle.flow_rule.specs.declared.shape.Mixing.TheVariants.{FirstLane}
 use Rattle.flow_rule.specs.Shapes.{mixed_lanes}
-use Rattle.taint_shadow.specs.Lanes.{extended_lane}
+use Rattle.taint_shadow.specs.declared.lanes.Lanes.{Lanes}
+use Rattle.taint_shadow.specs.Lanes.{mixed_label}
+use Rattle.taint_shadow.specs.Places.{kept, AreKept, with_lanes}
 use Rattle.taint_shadow.specs.Steps.{meaning_at}
 use Rattle.taint_shadow.proofs.Flows.{first_made, mixed_here}
 use Rattle.taint_shadow.proofs.Targets.{register_turned}
@@ -12,7 +14,10 @@ pub returns : goal.returns
 returns g c =
     let words = g.A.Labels.words in
     let made = c.in_ok-label.ensures in
-    register_turned g.A.Labels.words _ _ c.args.places.now _ c.requires.standing made.keeps c.args.rd (mixed_lanes FirstLane c.args.rs1 c.args.rs2) c.extended.result
-    (first_made words g.met.A.Labels.laws _ (all_lanes c.args.rs1 c.args.rs2 0) (meaning_at words c.args.labels.now c.args.places.now) c.in_ok-label.label c.extended.result
-    (λ i h. c.extended.ensures i h ∙ ap (λ x. extended_lane x 1 false i) c.alike.ensures) made.made)
-    (λ i h. mixed_here FirstLane c.args.rs1 c.args.rs2 i c.requires.registers.1 c.requires.registers.2 h) c.set_lanes.ensures
+    let p = c.args.places.now in
+    let r = c.args.rs1 in
+    let s = c.args.rs2 in
+    register_turned words _ _ p _ c.requires.standing made.keeps c.args.rd (mixed_lanes FirstLane r s) (mixed_label FirstLane c.in_ok-label.label)
+    (first_made words g.met.A.Labels.laws _ (all_lanes r s 0) (meaning_at words c.args.labels.now p) c.in_ok-label.label made.made)
+    (λ i h. mixed_here FirstLane r s i c.requires.registers.1 c.requires.registers.2 h)
+    (subst (λ (x : Lanes). AreKept c.set_lanes.new.self (with_lanes c.args.rd x (kept p))) c.mixed.ensures c.set_lanes.ensures)

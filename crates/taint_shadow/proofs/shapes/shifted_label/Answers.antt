@@ -24,7 +24,7 @@ returns g c =
     let all = c.in_ok-all.ensures in
     let low = lane_made words laws a p c.requires.standing s 0 c.lanes.result.first c.requires.registers.1 (omega arith) (c.lanes.ensures 0 (omega arith)) in
     let amount = makes_itself words _ _ c.lanes.result.first (made_kept words a _ _ c.lanes.result.first all.keeps low) in
-    IfOk-weaker _ _ (MakesOver words a p (shifted_lanes r s 0) c.unite.new.self) (λ label made.
+    IfOk-weaker _ _ (MakesOver words a p (shifted_lanes r s 0) c.unite.new.labels) (λ label made.
     let both = unite_made words _ _ _ _ _ _ label _ _ all amount made in
     record {
       made = both_made words laws a p c.requires.standing _ (lanes r) (lane s 0) _ _ label (lanes_here r c.requires.registers.0) (lane_here s 0 c.requires.registers.1 (omega arith)) refl refl both.made;

@@ -1,7 +1,7 @@
 use Rattle.flow_rule.specs.Shapes.{loaded_lane}
 use Rattle.taint_shadow.proofs.Flows.{word_stands, loaded, loaded_here}
 use Rattle.taint_shadow.proofs.Targets.{register_turned}
-use Rattle.taint_shadow.proofs.shapes.load.Goals as goal
+use Rattle.taint_shadow.proofs.shapes.load_labels.Goals as goal
 
 pub add_base-requires-clause-lanes : goal.add_base-requires-clause-lanes
 add_base-requires-clause-lanes g c = word_stands g.A.Labels.words g.met.A.Labels.laws _ c.args.places.now c.requires.standing c.args.place c.word.result c.word.ensures
