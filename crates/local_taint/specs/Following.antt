@@ -1,5 +1,5 @@
 -- The tracking of an epoch by its terms.
-use Rattle.std.specs.Prelude.{ℕ, ◌+◌, ◌-◌, List}
+use Rattle.std.specs.Prelude.{ℕ, ◌+◌, ◌-◌, List, Option}
 use Rattle.flow_model.specs.declared.Loc.{Loc}
 use Rattle.flow_model.specs.declared.StepSeen.{StepSeen}
 use Rattle.flow_model.specs.Origins.{Policy}
@@ -9,7 +9,8 @@ use Rattle.replayer.specs.Jobs.{trace_of}
 use Rattle.replayer.specs.Positions.{CursorAt}
 use Rattle.taint_tracking.specs.declared.tracking.Tracked.{Tracked}
 use Rattle.taint_tracking.specs.declared.tracking.Tracking.{Tracking}
-use Rattle.taint_tracking.specs.Following.{IsTracked, IsOfEpoch, query_of}
+use Rattle.taint_tracking.specs.Following.{IsOfEpoch}
+use Rattle.taint_tracking.specs.Watched.{Tracks}
 use Rattle.epoch_summary.specs.declared.labels.Nodes.{Nodes}
 use Rattle.epoch_summary.specs.declared.summary.Summary.{Summary}
 use Rattle.epoch_summary.specs.Words.{label_words}
@@ -21,13 +22,9 @@ pub use Rattle.taint_tracking.specs.Following.{AreInRange}
 abbrev pub terms_from : Policy → List StepSeen → ℕ → ℕ → Loc → Terms
 terms_from policy trace first time = terms policy trace first (time - first)
 
--- the steps from the first one's time up to this time are followed, by their terms
-abbrev pub AreFollowed : Query → List StepSeen → ℕ → ℕ → Tracking Nodes → Type 0
-AreFollowed q trace first time t = IsTracked label_words q trace first time (terms_from (policy_of q) trace first) t
-
--- of the epoch that begins where the cursor stood, n steps are followed, by the query of the tracking as it was
-abbrev pub TracksFrom : CursorAt → ℕ → Tracking Nodes → Tracking Nodes → Type 0
-TracksFrom cursor n old new = AreFollowed (query_of old) (trace_of cursor.job) cursor.time (cursor.time + n) new
+-- the epoch's n steps from where the cursor stood on were tracked
+abbrev pub TracksFrom : CursorAt → ℕ → Option (Tracking Nodes) → Option (Tracking Nodes) → Type 0
+TracksFrom cursor n = Tracks label_words (trace_of cursor.job) cursor.time (cursor.time + n)
 
 -- it is the summary of what was tracked
 abbrev pub IsSummaryOf : Tracked Nodes → Summary → Type 0

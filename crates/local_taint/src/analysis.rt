@@ -4,10 +4,8 @@ ghost use Rattle.std.specs.Prelude.{◌≡◌, ℕ, ◌-◌, ◌<◌, ◌≤◌,
 ghost use Rattle.log_model.specs.Logs.{steps};
 ghost use Rattle.epoch_model.specs.Summary.{IsSummary};
 ghost use Rattle.replayer.specs.Jobs.{trace_of};
-ghost use Rattle.replayer.specs.Nexts.{ArePlain};
 ghost use Rattle.taint_shadow.specs.Steps.{AreStanding};
 ghost use Rattle.taint_tracking.specs.Sinks.{AreLabelled};
-ghost use Rattle.taint_tracking.specs.Following.{IsSound, TracksSteps, due_of};
 ghost use Rattle.epoch_summary.specs.Words.{label_words};
 ghost use Rattle.epoch_summary.specs.Summaries.{number_of, summary_of};
 ghost use Rattle.local_taint.specs.Following.{TracksFrom, IsSummaryOf, AreInRange};
@@ -16,9 +14,9 @@ use epoch_cut::EpochTicket;
 use epoch_summary::{Nodes, Summary};
 use no_memory::NoMemory;
 use query_lang::Query;
-use replayer::{Cursor, Next};
+use replayer::{Cursor, Next, Watcher};
 use std::alloc::Global;
-use taint_tracking::{Tracked, Tracking};
+use taint_tracking::{Tracked, Watching};
 
 /// The summary of the ticket's epoch, over the steps of a run, which are found to be in range. The cursor stands at the
 /// epoch's first step, and the epoch ends with the run at the latest.
@@ -56,9 +54,9 @@ pub fn analyse_from(
     ensures job { OnOk result (cursor.new.job ≡ cursor.old.job) }
 {
     let (first, past_last) = (ticket.first(), ticket.past_last());
-    let mut tracking = Tracking::begin(alloc, Nodes::new(alloc), query, first)?;
-    follow(cursor, past_last, &mut tracking)?;
-    Ok(summarize(ticket.number(), tracking.into_parts()))
+    let mut watching = Watching::of_epoch(alloc, Nodes::new(alloc), query, first)?;
+    follow(cursor, past_last, &mut watching);
+    Ok(summarize(ticket.number(), watching.finish()?))
 }
 
 /// The summary of the epoch of this number, of what was tracked of all its steps.
@@ -76,26 +74,20 @@ fn summarize(number: u32, tracked: Tracked<Nodes>) -> Summary
     Summary::new(number, labels, places, sinks)
 }
 
-/// Follows the steps of an epoch that begins where the cursor stands, up to, and without, `past_last`.
-fn follow(
-    cursor: &mut Cursor,
-    past_last: u64,
-    tracking: &mut Tracking<Nodes>,
-) -> Result<(), NoMemory>
-    requires ends { past_last ≤ steps cursor.old.job.log }
-    requires tracked { TracksFrom cursor.old 0 tracking.old tracking.old }
-    ensures tracked { OnOk result (TracksFrom cursor.old (past_last - cursor.old.time) tracking.old tracking.new) }
-    ensures job { OnOk result (cursor.new.job ≡ cursor.old.job) }
+/// Follows the steps of an epoch that goes on where the cursor stands, up to, and without, `past_last`.
+fn follow(cursor: &mut Cursor, past_last: u64, watching: &mut Watching<Nodes>)
+    requires { past_last ≤ steps cursor.old.job.log }
+    ensures tracked { TracksFrom cursor.old (past_last - cursor.old.time) watching.old watching.new }
+    ensures job { cursor.new.job ≡ cursor.old.job }
 {
     while cursor.time() < past_last {
-        let until = quiet_until(cursor.plain_until(), tracking.due_after(), past_last);
-        follow_plain(cursor, until, tracking)?;
+        let until = quiet_until(cursor.plain_until(), watching.quiet_until(), past_last);
+        cursor.run_plain(until, watching);
         let Next::Step(step) = cursor.next() else {
             unreachable!()
         };
-        tracking.step(&step)?;
+        watching.track(&step);
     }
-    Ok(())
 }
 
 /// Up to this time no step is a call, and after none of them a point is due or the epoch ends: up to the next call, or to the
@@ -108,26 +100,4 @@ fn quiet_until(call: u64, due_after: u64, past_last: u64) -> u64
     ensures most { (t : ℕ) → t ≤ call → t < past_last → t ≤ due_after → t ≤ result }
 {
     call.min(due_after).min(past_last - 1)
-}
-
-/// Follows the steps up to a time, each of which is a plain one, and after each of which no point is due.
-fn follow_plain(
-    cursor: &mut Cursor,
-    until: u64,
-    tracking: &mut Tracking<Nodes>,
-) -> Result<(), NoMemory>
-    requires later { cursor.old.time ≤ until }
-    requires plain { ArePlain cursor.old.job cursor.old.time until }
-    requires quiet { until ≤ due_of tracking.old }
-    requires sound { IsSound label_words tracking.old }
-    ensures moved { OnOk result (cursor.new ≡ record { job = cursor.old.job; time = until }) }
-    ensures sound { OnOk result (IsSound label_words tracking.new) }
-    ensures followed { OnOk result
-        (TracksSteps label_words (trace_of cursor.old.job) cursor.old.time until tracking.old tracking.new) }
-{
-    let rule = tracking.rule();
-    for time in cursor.time()..until {
-        tracking.turn(cursor.next_plain(), rule)?;
-    }
-    Ok(())
 }

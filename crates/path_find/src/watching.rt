@@ -17,7 +17,7 @@ use crate::sinks::{sink_at_end, sink_in};
 use crate::trail::Trail;
 use flow_model::{Rule, SinkPoint, StepSeen};
 use no_memory::NoMemory;
-use replayer::{Follower, Instr, Job, PlainStep, Position, Watcher};
+use replayer::{Follower, Instr, Job, Load, PlainStep, Position, Store, Watcher};
 use std::alloc::Global;
 use std::marker::Model;
 
@@ -168,12 +168,22 @@ impl Follower for PathWatching {
 
     ghost told = { IsToldInRow has_seen never_quiet };
 
+    ghost wants = { λ _ _. Unit {0} };
+
+    fn wants_step(&self, _pc: u32) -> bool {
+        true
+    }
+
     fn passes_by(&self, _registers: u32) -> bool {
         false
     }
 
     /// It is told of no step in a row, since a trail has the number of each step.
-    fn follow(&mut self, _instr: &Instr, _place: u32) {}
+    fn follow(&mut self, _instr: &Instr) {}
+
+    fn follow_load(&mut self, _load: Load, _place: u32) {}
+
+    fn follow_store(&mut self, _store: Store, _place: u32) {}
 }
 
 impl Watcher for PathWatching {

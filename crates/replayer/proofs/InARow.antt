@@ -4,7 +4,7 @@ use Rattle.isa.specs.declared.Instr.{Instr}
 use Rattle.isa.specs.Machine.{State, place_of}
 use Rattle.log_model.specs.Logs.{steps}
 use Rattle.rv_machine.specs.Hart.{running, IsPlainStep}
-use Rattle.rv_machine.specs.Running.{Tells, IsFollowed, Begun, Then}
+use Rattle.rv_machine.specs.Running.{Tells, Wants, IsFollowed, Begun, Then}
 use Rattle.rv_machine.specs.declared.Stepped.TheVariants.{Plain}
 use Rattle.replay_run.specs.Expects.{event_time}
 use Rattle.replay_run.specs.Runs.{RunAt, with_hart, later_by_one, gone_on, IsUnderLog}
@@ -20,7 +20,7 @@ use Rattle.replayer.proofs.Standing.{stands_later}
 use Rattle.replayer.proofs.Stepping.{plain_finished}
 use Rattle.replayer.proofs.Watching.{moved, made_of, some_passed}
 
-module _ {W : Type 0} (told : Tells W) (seen : Seen W) (quiet : W → ℕ) (enough : IsEnough told seen quiet) (run : RunAt) (under : IsUnderLog run) (goes_on : run.waits ≡ false)
+module _ {W : Type 0} (told : Tells W) (wants : Wants W) (seen : Seen W) (quiet : W → ℕ) (enough : IsEnough told seen quiet) (run : RunAt) (under : IsUnderLog run) (goes_on : run.waits ≡ false)
     (until : ℕ) (small : until < 2 ^ 64) (event : until ≤ event_time run.moment.left run.log.end) (old : W) (begins : until ≤ quiet old) where
   -- n steps lead to a state, and if the watcher had seen the steps before, it has seen these too, and is quiet until then
   record IsInRow (n : ℕ) (s : State) (w : W) : Type 0 where
@@ -59,12 +59,12 @@ module _ {W : Type 0} (told : Tells W) (seen : Seen W) (quiet : W → ℕ) (enou
             (subst (seen was next job) (sym later) second.0, second.1);
       }
 
-  in_row : {n : ℕ} {s : State} {w : W} → IsFollowed told run.moment.state old n s w → run.moment.time + n ≤ until → IsInRow n s w
+  in_row : {n : ℕ} {s : State} {w : W} → IsFollowed told wants run.moment.state old n s w → run.moment.time + n ≤ until → IsInRow n s w
   in_row Begun h = none
-  in_row (Then n s w instr after next so_far made does) h = one_more n s w instr after next h (in_row so_far (omega arith)) made does
+  in_row (Then n s w instr after next so_far wanted made does) h = one_more n s w instr after next h (in_row so_far (omega arith)) made does
 
   -- what the machine made in a row, the log has so, and the watcher was told of it
-  pub row_passed : (n : ℕ) (after : RunAt) (new : W) → IsFollowed told run.moment.state old n after.moment.state new → run.moment.time + n ≤ until → after ≡ gone_on run n after.moment.state → ArePassed seen run old after new
+  pub row_passed : (n : ℕ) (after : RunAt) (new : W) → IsFollowed told wants run.moment.state old n after.moment.state new → run.moment.time + n ≤ until → after ≡ gone_on run n after.moment.state → ArePassed seen run old after new
   row_passed n after new followed h e =
       let row = in_row followed h in
       some_passed seen n run after old new (subst (Advances n run) (sym e) row.steps_made) (λ was job stands within before. (row.told_of was job stands within before).0)

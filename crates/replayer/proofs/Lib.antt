@@ -10,4 +10,5 @@ mod Stretches
 mod Stepping
 mod InARow
 mod Leading
+pub mod Told
 mod Summaries

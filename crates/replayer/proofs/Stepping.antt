@@ -3,21 +3,20 @@ use Rattle.std.proofs.Common.{◌≡◌, ℕ, zero, suc, ◌+◌, ◌<◌, false
 use Rattle.log_model.specs.Logs.{end_at, steps}
 use Rattle.flow_model.specs.declared.StepSeen.{StepSeen}
 use Rattle.flow_model.specs.Origins.{step_at}
-use Rattle.replay_model.specs.Run.{Moment, start, moment_after, step_of}
+use Rattle.replay_model.specs.Run.{start}
 use Rattle.replay_model.specs.Comparison.{difference}
 use Rattle.replay_model.proofs.Agreement.{agrees_at}
-use Rattle.replay_model.proofs.Offsets.{step_at_from, steps_within}
+use Rattle.replay_model.proofs.Offsets.{steps_within}
 use Rattle.rv_machine.specs.Hart.{Hart, IsPlainStep, IsStep}
 use Rattle.isa.specs.declared.Instr.{Instr}
 use Rattle.rv_machine.specs.declared.Stepped.{Stepped}
-use Rattle.rv_machine.specs.declared.Stepped.TheVariants.{Plain, Called, Trapped}
+use Rattle.rv_machine.specs.declared.Stepped.TheVariants.{Plain}
 use Rattle.replay_run.specs.Runs.{RunAt, with_hart, later_by_one, IsUnderLog, IsReady, IsFinished}
 use Rattle.replay_run.proofs.Steps.{ready, done}
 use Rattle.replayer.specs.Jobs.{Job, trace_of}
 use Rattle.replayer.specs.Cursors.{IsCursor}
-use Rattle.replayer.specs.Nexts.{IsStepAt, IsPlainAt}
+use Rattle.replayer.specs.Nexts.{IsStepAt}
 use Rattle.replayer.proofs.Standing.{moved_by_one, stands_later, step_here}
-use Rattle.replayer.proofs.Stretches.{called_is_some}
 
 -- at a cursor nothing differs
 pub cursor_agrees : (job : Job) (run : RunAt) → IsCursor job run → run.moment.time < steps job.log → difference run.log run.moment ≡ None
@@ -73,12 +72,3 @@ plain_made job run after hart instr place number cursor below made n e =
         in_range = record { fits = made.fits; call = tt };
       };
     }
-
--- where the run makes a plain step, the machine makes no other
-pub no_other : (job : Job) (run : RunAt) → IsCursor job run → IsUnderLog run → IsPlainAt job run.moment.time → (stepped : Stepped) (hart : Hart) → IsStep run.moment.state stepped hart → ((instr : Instr) (place : ℕ) → stepped ≡ Plain instr place → ⊥) → ⊥
-no_other job run cursor under plain (Plain instr place) hart made other = other instr place refl
-no_other job run cursor under plain (Called call) hart made other =
-    let m = moment_after run.moment.time (start job.start job.log) in
-    let none = plain.no_call (step_of m) (step_at_from (steps job.log) run.moment.time (start job.start job.log) plain.below) in
-    called_is_some run.moment call made.called (ap (λ (x : Moment). (step_of x).call) cursor.stands.here ∙ none)
-no_other job run cursor under plain (Trapped kind pc) hart made other = cursor_ready job run cursor under plain.below (Trapped kind pc) hart made

@@ -6,7 +6,7 @@ ghost use Rattle.isa.specs.Encodings.{Fits};
 ghost use Rattle.isa.specs.Machine.{reg, Fetched, fetch};
 ghost use Rattle.replay_model.specs.Run.{start, moment_after};
 ghost use Rattle.replayer.specs.Positions.{state_at};
-ghost use Rattle.replayer.specs.Nexts.{IsNext, IsStepAt, IsPlainAt, ArePlain, IsPlainUntil, seen_at};
+ghost use Rattle.replayer.specs.Nexts.{IsNext, ArePlain, IsPlainUntil};
 ghost use Rattle.replayer.specs.Told.{AreTold};
 
 use crate::job::Job;
@@ -123,7 +123,7 @@ impl<'a> Cursor<'a> {
     }
 
     /// The first time from the cursor's on at which the run makes no plain step: it makes a call there, or all its steps are
-    /// done. Up to it each step can be made by [`Cursor::next_plain`].
+    /// done.
     pub fn plain_until(&self) -> u64
         ensures { IsPlainUntil self.now.job self.now.time result }
     {
@@ -131,27 +131,13 @@ impl<'a> Cursor<'a> {
         self.run.event_time().max(self.run.time())
     }
 
-    /// Makes the next step of the run, which is a plain one. It takes no memory, and the log isn't looked at.
-    #[inline(always)]
-    pub fn next_plain(&mut self) -> PlainStep
-        requires { IsPlainAt self.old.job self.old.time }
-        ensures { IsStepAt self.old (seen_at self.old.time result) self.new }
-    {
-        self.run.form();
-        let Stepped::Plain { instr, place } = self.run.step_inlined() else {
-            unreachable!()
-        };
-        self.run.advance();
-        PlainStep { instr, place }
-    }
-
     /// Makes plain steps of the run in a row, up to a time before which each is one, as [`Cursor::plain_until`] has it, or fewer.
-    /// `follower` is told of each, but for those that it passes by. It takes no memory, and the log isn't looked at.
+    /// `follower` is told of each, but for those that it passes by; before one that it doesn't want they end. It takes no memory, and the log isn't looked at.
     pub fn run_plain<F: Follower>(&mut self, until: u64, follower: &mut F)
         requires { ArePlain self.old.job self.old.time until }
         ensures job { self.new.job ≡ self.old.job }
         ensures within { self.new.time ≤ max until self.old.time }
-        ensures told { AreTold F.told self.old.job self.old.time follower.old self.new.time follower.new }
+        ensures told { AreTold F.told F.wants self.old.job self.old.time follower.old self.new.time follower.new }
     {
         self.run.form();
         let time = self.run.time();

@@ -11,7 +11,7 @@ use crate::cursor::PlainStep;
 use flow_model::StepSeen;
 use isa::Instr;
 use replay_run::Run;
-use rv_machine::Follower;
+use rv_machine::{Follower, Load, Store};
 use std::marker::Model;
 
 /// Where a run stands, lent to a watcher.
@@ -72,13 +72,26 @@ pub struct Nobody;
 impl Follower for Nobody {
     ghost told = { λ _ _ _ _. Unit {0} };
 
+    ghost wants = { λ _ _. Unit {0} };
+
+    #[inline(always)]
+    fn wants_step(&self, _pc: u32) -> bool {
+        true
+    }
+
     #[inline(always)]
     fn passes_by(&self, _registers: u32) -> bool {
         true
     }
 
     #[inline(always)]
-    fn follow(&mut self, _instr: &Instr, _place: u32) {}
+    fn follow(&mut self, _instr: &Instr) {}
+
+    #[inline(always)]
+    fn follow_load(&mut self, _load: Load, _place: u32) {}
+
+    #[inline(always)]
+    fn follow_store(&mut self, _store: Store, _place: u32) {}
 }
 
 impl Watcher for Nobody {

@@ -1,6 +1,6 @@
 -- A tracking after one step more.
-use Rattle.std.proofs.Common.{◌≡◌, ℕ, zero, suc, ◌+◌, ◌-◌, ◌<◌, ◌≤◌, ◌^◌, List, [], ◌∷◌, map, length, get_or, refl, ap, sym, ◌∙◌, subst, arith, ⊎_elim}
-use Rattle.std.specs.Prelude.{Some, All, nat_le}
+use Rattle.std.proofs.Common.{◌≡◌, ℕ, zero, suc, ◌+◌, ◌-◌, ◌<◌, ◌≤◌, List, [], ◌∷◌, map, length, get_or, refl, ap, sym, ◌∙◌, subst, arith, ⊎_elim}
+use Rattle.std.specs.Prelude.{Some, All, nat_le, Result, Ok, Err, OnOk}
 use Rattle.std.proofs.lemmas.List.Elements.{All-filter, All-from_recursion}
 use Rattle.std.proofs.lemmas.Bool.{cases_lt}
 use Rattle.isa.specs.Encodings.{Fits}
@@ -19,13 +19,14 @@ use Rattle.replayer.specs.Nexts.{seen_at}
 use Rattle.lists.specs.Sets.{Ascends}
 use Rattle.epoch_model.specs.Stretch.{sinks_of_epoch}
 use Rattle.taint_shadow.specs.Labels.{LabelWords, KeepsLabels}
-use Rattle.taint_shadow.specs.Steps.{Holds, after, turned as turned_by}
+use Rattle.taint_shadow.specs.declared.places.Places.{Places}
+use Rattle.taint_shadow.specs.Steps.{AreStanding, Holds, after, turned as turned_by}
 use Rattle.taint_shadow.specs.declared.labels.SinkLabel.{SinkLabel}
 use Rattle.taint_tracking.specs.declared.tracking.Tracking.{Tracking}
 use Rattle.taint_tracking.specs.Courses.{IsCourse}
 use Rattle.taint_tracking.specs.Sinks.{Notes, chosen, meant, labelled, sinks_at}
-use Rattle.taint_tracking.specs.Following.{IsSound, IsTracked, IsTurned, AreNoted, NotesDue, TracksPlain, AreInRange, number_before}
-use Rattle.taint_tracking.proofs.Notes.{AreHere, no_notes}
+use Rattle.taint_tracking.specs.Following.{IsSound, IsTracked, IsTurned, AreNoted, NotesDue, TracksStep, AreInRange, number_before}
+use Rattle.taint_tracking.proofs.Notes.{AreHere, no_notes, labelled_kept}
 use Rattle.taint_tracking.proofs.Steps.{next_mean, one_in_range}
 use Rattle.taint_tracking.proofs.Between.{more_sinks, here_points}
 
@@ -41,11 +42,6 @@ first_due points p inside first ascend i d h = by p.time refl where
       let later = All-from_recursion (λ (q : InnerSink). t < q.time) points (after_due t points 0 p inside first ascend sooner) i d h in
       omega (arith, e, later)
 
--- the first point is due after the step of the number before its own time
-due_later : (points : List InnerSink) (time : ℕ) → time < 2 ^ 64 → All (λ p. time + 1 ≤ p.time) points → time ≤ number_before points
-due_later [] time small later = omega arith
-due_later (p ∷ ps) time small later = let first = later 0 p (omega arith) in omega arith
-
 -- where the first of the points that are left is not due after a step, none is
 pub quiet_after : (points : List InnerSink) (number : ℕ) → Ascends inner_cmp points → All (λ p. number < p.time) points → (number ≡ number_before points → ⊥) → AreAfter (number + 1) points
 quiet_after [] number ascend later apart = tt
@@ -58,12 +54,6 @@ pub left_located : (t : ℕ) (points left : List InnerSink) → left ≡ from_ti
 left_located t points left is located = subst AreLocated (sym is) (All-filter (λ (p : InnerSink). nat_le t p.time) (λ (p : InnerSink). IsLocation p.loc) points located)
 
 module _ {A M : Type 0} (words : LabelWords A M) where
-  -- so no point was due before a time up to which the steps are followed
-  pub not_due_before : (q : Query) (trace : List StepSeen) (first time : ℕ) (m : ℕ → Loc → M) (t : Tracking A) → IsTracked words q trace first time m t → time < 2 ^ 64 → time ≤ t.due_after
-  not_due_before q trace first time m t here small =
-      let due = due_later t.points.now time small (left_in_time (time + 1) (time + 1) t.points.now q.points refl here.left) in
-      omega (arith, due, here.sound.due)
-
   -- where no point is due, nothing is noted
   pub none_due : (t : Tracking A) (number : ℕ) → AreAfter (number + 1) t.points.now → AreNoted words number t t
   none_due t number later =
@@ -74,6 +64,18 @@ module _ {A M : Type 0} (words : LabelWords A M) where
         left = later_are (number + 1) points 0 later refl ∙ ap (λ k. from_time k points) next;
         rest = refl;
       }
+
+  -- a turn of the labels leaves all sound
+  pub turned_sound : {E U : Type 0} (r : Result U E) (old : Tracking A) (labels : A) (places : Places) → IsSound words old → OnOk r (AreStanding words labels places) → OnOk r (KeepsLabels words old.labels labels)
+      → OnOk r (IsSound words (record old { labels = labels; places = places }))
+  turned_sound (Ok x) old labels places sound standing keeps = record {
+    locations = standing;
+    sinks = labelled_kept words old.labels labels old.sinks.items keeps sound.sinks;
+    points = sound.points;
+    located = sound.located;
+    due = sound.due;
+  }
+  turned_sound (Err e) old labels places sound standing keeps = tt
 
   -- ---- one step more
 
@@ -118,7 +120,7 @@ module _ {A M : Type 0} (words : LabelWords A M) where
         subst (IsTracked words q trace first (time + 1) m) (sym due.rest) tracked
 
     -- a step that is no call writes nothing
-    pub plain_step : (step : PlainStep) → step_at trace time ≡ Some (seen_at time step) → Fits step.instr → (turned new : Tracking A) → IsTurned words step old turned
+    pub plain_step : (step : PlainStep) → step_at trace time ≡ Some (seen_at time step) → Fits step.instr → (turned new : Tracking A) → IsTurned words old step.instr step.place turned
         → NotesDue words time turned new → IsSound words new → IsTracked words q trace first (time + 1) m new
     plain_step step at fits turned new turn notes_due sound =
         let holds = subst (λ (k : Query). Holds words turned.labels turned.places (turned_by words (flow k.rule step.instr step.place) (m time))) here.query (turn.labels.holds (m time) here.found.holds) in
@@ -127,7 +129,8 @@ module _ {A M : Type 0} (words : LabelWords A M) where
         (ap (λ (t : Tracking A). t.sinks.items) turn.rest) notes_due sound
 
   -- after a step that is no call and comes before the one after which the next point is due, nothing is noted
-  pub quiet_step : (step : PlainStep) (old new : Tracking A) → Fits step.instr → IsTurned words step old new → IsSound words new → TracksPlain words step old new
+  pub quiet_step : (step : PlainStep) (old new : Tracking A) → Fits step.instr → IsTurned words old step.instr step.place new → IsSound words new
+      → (number : ℕ) → number < old.due_after → TracksStep words (seen_at number step) old new
   quiet_step step old new fits turn sound number quiet trace at q first m course here =
       let same : new.due_after ≡ old.due_after = ap (λ (t : Tracking A). t.due_after) turn.rest in
       plain_step q trace first number m course old here step at fits new new turn

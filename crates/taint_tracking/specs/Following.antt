@@ -1,7 +1,6 @@
 -- The tracking of an epoch, as its steps are told one after another.
 use Rattle.std.specs.Prelude.{◌≡◌, ℕ, ◌+◌, ◌-◌, ◌^◌, ◌<◌, ◌≤◌, List, [], ◌∷◌, All, Some, map}
-use Rattle.isa.specs.Encodings.{Fits}
-use Rattle.rv_decode.specs.Registers.{registers_of}
+use Rattle.isa.specs.declared.Instr.{Instr}
 use Rattle.flow_model.specs.declared.Loc.{Loc}
 use Rattle.flow_model.specs.declared.InnerSink.{InnerSink}
 use Rattle.flow_model.specs.declared.StepSeen.{StepSeen}
@@ -13,8 +12,6 @@ use Rattle.report_model.specs.Query.{Query, AreLocated, policy_of}
 use Rattle.report_model.specs.Rows.{from_time}
 use Rattle.lists.specs.Sets.{Ascends}
 use Rattle.epoch_model.specs.Stretch.{sinks_of_epoch}
-use Rattle.replayer.specs.declared.cursor.PlainStep.{PlainStep}
-use Rattle.replayer.specs.Nexts.{seen_at}
 use Rattle.taint_shadow.specs.Labels.{LabelWords}
 use Rattle.taint_shadow.specs.Steps.{AreStanding, Holds, Turned}
 use Rattle.taint_tracking.specs.declared.tracking.Tracked.{Tracked}
@@ -86,26 +83,12 @@ module _ {A M : Type 0} (words : LabelWords A M) where
       (trace : List StepSeen) → step_at trace step.number ≡ Some step
       → TracksSteps trace step.number (step.number + 1) old new
 
-  -- so is a plain step, of each number that comes before that of the step after which the next point is due
-  abbrev pub TracksPlain : PlainStep → Tracking A → Tracking A → Type 0
-  TracksPlain step old new = (number : ℕ) → number < due_of old → TracksStep (seen_at number step) old new
-
-  -- up to what time steps are followed, none of them had this number
-  abbrev pub IsNotPassed : Tracking A → ℕ → Type 0
-  IsNotPassed t number =
-      (q : Query) (trace : List StepSeen) (first time : ℕ) (m : ℕ → Loc → M) → time < 2 ^ 64
-      → IsTracked q trace first time m t → time ≤ number
-
   -- ---- the parts of a step
 
-  -- locations have the labels that a plain step makes of those before it, and nothing else is changed
-  pub record IsTurned (step : PlainStep) (old new : Tracking A) : Type 0 where
-    pub labels : Turned words old.labels old.places new.labels new.places (flow (query_of old).rule step.instr step.place)
+  -- locations have the labels that a step of this instruction, which is no call, makes of those before it, and nothing else is changed
+  pub record IsTurned (old : Tracking A) (instr : Instr) (place : ℕ) (new : Tracking A) : Type 0 where
+    pub labels : Turned words old.labels old.places new.labels new.places (flow (query_of old).rule instr place)
     pub rest : new ≡ record old { labels = new.labels; places = new.places }
-
-  -- a step of any instruction with these registers leaves all as it is
-  abbrev pub TurnsNothing : ℕ → Tracking A → Type 0
-  TurnsNothing registers t = (step : PlainStep) → Fits step.instr → registers_of step.instr ≡ registers → IsTurned step t t
 
   -- the points due right after the step of this number were noted, and the later ones are left
   pub record AreNoted (number : ℕ) (old new : Tracking A) : Type 0 where

@@ -1,9 +1,13 @@
--- What a watcher knows that tracks a run as one epoch.
-use Rattle.std.specs.Prelude.{ℕ, ◌-◌, ◌^◌, List, Option, Some, None, IfSome}
+-- What is known of an epoch that is tracked while there is memory, and of a run that is watched as one epoch.
+use Rattle.std.specs.Prelude.{◌≡◌, ℕ, ◌+◌, ◌-◌, ◌^◌, ◌<◌, ◌≤◌, List, Option, Some, None, IfSome}
+use Rattle.isa.specs.declared.Instr.{Instr}
+use Rattle.isa.specs.Encodings.{Fits}
 use Rattle.flow_model.specs.declared.Loc.{Loc}
 use Rattle.flow_model.specs.declared.StepSeen.{StepSeen}
+use Rattle.flow_model.specs.Origins.{step_at}
 use Rattle.report_model.specs.Query.{Query, policy_of}
 use Rattle.replayer.specs.Jobs.{Job, trace_of}
+use Rattle.replayer.specs.Nexts.{seen_at}
 use Rattle.taint_shadow.specs.Labels.{LabelWords}
 use Rattle.taint_tracking.specs.declared.tracking.Tracked.{Tracked}
 use Rattle.taint_tracking.specs.declared.tracking.Tracking.{Tracking}
@@ -21,10 +25,29 @@ quiet_of None = 2 ^ 64 - 1
 quiet_of (Some t) = due_of t
 
 module _ {A M : Type 0} (words : LabelWords A M) where
+  -- the tracking, if there is one, is of the steps of a trace from the first time up to another
+  abbrev pub IsOfSteps : Query → List StepSeen → ℕ → ℕ → Option (Tracking A) → Type 0
+  IsOfSteps q trace first time w =
+      (m : ℕ → Loc → M) → IsCourse words (policy_of q) trace first m → IfSome w (IsTracked words q trace first time m)
+
+  -- where the steps of a trace up to one time were tracked, those up to another are
+  abbrev pub Tracks : List StepSeen → ℕ → ℕ → Option (Tracking A) → Option (Tracking A) → Type 0
+  Tracks trace time until old new = (q : Query) (first : ℕ) → IsOfSteps q trace first time old → IsOfSteps q trace first until new
+
+  -- one step more is tracked, of each trace that has it
+  abbrev pub TracksNext : StepSeen → Option (Tracking A) → Option (Tracking A) → Type 0
+  TracksNext step old new =
+      (trace : List StepSeen) → step_at trace step.number ≡ Some step → Tracks trace step.number (step.number + 1) old new
+
+  -- so is a plain step of this instruction, at each time before one up to which it was quiet, and it is quiet as long
+  pub record TracksPlain (old : Option (Tracking A)) (instr : Instr) (place : ℕ) (new : Option (Tracking A)) : Type 0 where
+    pub quiet : (until : ℕ) → until < 2 ^ 64 → until ≤ quiet_of old → until ≤ quiet_of new
+    pub tracks : (until t : ℕ) → until ≤ quiet_of old → t < until → Fits instr
+        → TracksNext (seen_at t (record { instr = instr; place = place })) old new
+
   -- the tracking, if there is one, is of so many of the first steps of a trace
   abbrev pub HasTracked : Query → List StepSeen → ℕ → Option (Tracking A) → Type 0
-  HasTracked q trace time w =
-      (m : ℕ → Loc → M) → IsCourse words (policy_of q) trace 0 m → IfSome w (IsTracked words q trace 0 time m)
+  HasTracked q trace = IsOfSteps q trace 0
 
   -- no step was told yet
   abbrev pub HasBegun : Query → Option (Tracking A) → Type 0
@@ -37,5 +60,5 @@ module _ {A M : Type 0} (words : LabelWords A M) where
   -- of the steps that it tracks, this is what was found
   abbrev pub Finds : Option (Tracking A) → Tracked A → Type 0
   Finds w t =
-      (q : Query) (trace : List StepSeen) (n : ℕ) → HasTracked q trace n w
-      → (m : ℕ → Loc → M) → IsCourse words (policy_of q) trace 0 m → IsOfEpoch words q trace 0 n m t
+      (q : Query) (trace : List StepSeen) (first time : ℕ) → IsOfSteps q trace first time w
+      → (m : ℕ → Loc → M) → IsCourse words (policy_of q) trace first m → IsOfEpoch words q trace first time m t

@@ -1,24 +1,26 @@
 //! The labels that are kept while the steps of an epoch are told, one after another.
 
-ghost use Rattle.std.specs.Prelude.{◌≡◌, IfOk, OnOk, IsTrue};
+ghost use Rattle.std.specs.Prelude.{◌≡◌, Some, IfOk, OnOk, IsTrue};
+ghost use Rattle.isa.specs.declared.Instr.{Instr as AnyInstr};
 ghost use Rattle.isa.specs.Encodings.{Fits};
+ghost use Rattle.rv_decode.specs.Accesses.{load_of, store_of, FitsLoad, FitsStore};
+ghost use Rattle.rv_machine.specs.Running.{PassesBy};
 ghost use Rattle.flow_model.specs.Ranges.{IsInRange};
-ghost use Rattle.replayer.specs.Nexts.{seen_at};
-ghost use Rattle.taint_tracking.specs.Following.{IsSound, IsBegun, TracksStep, TracksPlain, IsNotPassed, IsTurned, TurnsNothing, NotesDue, query_of, due_of, parts, number_before as number_of_first};
+ghost use Rattle.taint_tracking.specs.Following.{IsSound, IsBegun, TracksStep, IsTurned, NotesDue, due_of, parts, number_before as number_of_first};
 
 use crate::points::{collect_due, collect_first};
 use crate::sinks::collect;
-use flow_model::{InnerSink, Rule, StepSeen};
+use flow_model::{InnerSink, StepSeen};
 use no_memory::NoMemory;
 use query_lang::Query;
-use replayer::PlainStep;
+use replayer::{Instr, Load, Store};
 use std::alloc::Global;
 use taint_shadow::{Labels, Places, SinkLabel};
 
 /// The taint tracking of an epoch after some of its steps: the label of each location, the sinks so far, each with its label,
 /// and the points that are left.
 #[derive(Drop)]
-pub struct Tracking<'q, L> {
+pub(crate) struct Tracking<'q, L> {
     query: &'q Query,
     labels: L,
     places: Places,
@@ -48,7 +50,7 @@ fn number_before(points: &[InnerSink]) -> u64
 impl<'q, L: Labels + Drop> Tracking<'q, L> {
     /// Before the epoch's first step, which has the number `first`: each location has the label of the start. The labels
     /// are any, such as those of which none was made yet. It gives up with NoMemory alone.
-    pub fn begin(
+    pub(crate) fn begin(
         alloc: Global,
         labels: L,
         query: &'q Query,
@@ -71,64 +73,63 @@ impl<'q, L: Labels + Drop> Tracking<'q, L> {
     }
 
     /// The number of the next step after which a point is due: `u64::MAX` where none is left.
-    pub fn due_after(&self) -> u64
-        ensures value { result ≡ due_of self.now }
-        ensures not_passed { IsNotPassed L.words self.now result }
+    pub(crate) fn due_after(&self) -> u64
+        ensures { result ≡ due_of self.now }
     {
         self.due_after
     }
 
-    /// The query's rule.
+    /// Turns the labels by an instruction that is neither a load, a store nor a call, and looks at no point. It gives up with
+    /// NoMemory alone.
     #[inline(always)]
-    pub fn rule(&self) -> Rule
-        ensures { result ≡ (query_of self.now).rule }
-    {
-        self.query.rule()
-    }
-
-    /// Turns the labels by one step that is no call, and looks at no point: whoever calls it knows that none is due after
-    /// the step. The rule is the query's: a loop asks for it once. It gives up with NoMemory alone.
-    #[inline(always)]
-    pub fn turn(&mut self, step: PlainStep, rule: Rule) -> Result<(), NoMemory>
-        requires fits { Fits step.instr }
-        requires rule { rule ≡ (query_of self.old).rule }
+    pub(crate) fn turn(&mut self, instr: &Instr) -> Result<(), NoMemory>
+        requires fits { Fits instr.now }
         requires sound { IsSound L.words self.old }
         ensures sound { OnOk result (IsSound L.words self.new) }
-        ensures query { OnOk result (query_of self.new ≡ query_of self.old) }
-        ensures due { OnOk result (due_of self.new ≡ due_of self.old) }
-        ensures turned { OnOk result (IsTurned L.words step self.old self.new) }
-        ensures followed { OnOk result (TracksPlain L.words step self.old self.new) }
+        ensures turned { OnOk result (IsTurned L.words self.old instr.now 0 self.new) }
     {
-        let PlainStep { instr, place } = step;
-        taint_shadow::plain_step(&mut self.labels, &mut self.places, &instr, place, rule)
+        let rule = self.query.rule();
+        taint_shadow::plain_step(&mut self.labels, &mut self.places, instr, 0, rule)
     }
 
-    /// Whether a step of an instruction with these registers, as `rv_decode::registers_of` has them, turns no label: so it need
-    /// not be told.
+    /// Turns the labels by a load, and looks at no point. It gives up with NoMemory alone.
     #[inline(always)]
-    pub fn passes_by(&self, registers: u32) -> bool
-        requires sound { IsSound L.words self.now }
-        ensures { IsTrue result → TurnsNothing L.words registers self.now }
+    pub(crate) fn turn_load(&mut self, load: Load, place: u32) -> Result<(), NoMemory>
+        requires fits { FitsLoad load }
+        requires sound { IsSound L.words self.old }
+        ensures sound { OnOk result (IsSound L.words self.new) }
+        ensures turned { OnOk result
+            ((instr : AnyInstr) → load_of instr ≡ Some load → IsTurned L.words self.old instr place self.new) }
+    {
+        let rule = self.query.rule();
+        taint_shadow::load_step(&mut self.labels, &mut self.places, load, place, rule)
+    }
+
+    /// Turns the labels by a store, and looks at no point. It gives up with NoMemory alone.
+    #[inline(always)]
+    pub(crate) fn turn_store(&mut self, store: Store, place: u32) -> Result<(), NoMemory>
+        requires fits { FitsStore store }
+        requires sound { IsSound L.words self.old }
+        ensures sound { OnOk result (IsSound L.words self.new) }
+        ensures turned { OnOk result
+            ((instr : AnyInstr) → store_of instr ≡ Some store → IsTurned L.words self.old instr place self.new) }
+    {
+        let rule = self.query.rule();
+        taint_shadow::store_step(&mut self.labels, &mut self.places, store, place, rule)
+    }
+
+    /// Whether a step of an instruction with these registers ([`rv_decode::registers_of`]) that is neither a load nor a store
+    /// turns no label.
+    #[inline(always)]
+    pub(crate) fn passes_by(&self, registers: u32) -> bool
+        ensures { IsTrue result → IsSound L.words self.now → PassesBy (IsTurned L.words) registers self.now }
     {
         self.places.is_clean_of(registers)
     }
 
-    /// Goes on by the step of this number, which is no call. It gives up with NoMemory alone.
-    #[inline(always)]
-    pub fn plain(&mut self, number: u64, step: PlainStep) -> Result<(), NoMemory>
-        requires fits { Fits step.instr }
-        requires sound { IsSound L.words self.old }
-        ensures sound { OnOk result (IsSound L.words self.new) }
-        ensures followed { OnOk result (TracksStep L.words (seen_at number step) self.old self.new) }
-    {
-        self.turn(step, self.rule())?;
-        self.note_due(number)?;
-        Ok(())
-    }
-
     /// Goes on by a step. It gives up with NoMemory alone.
     #[inline(always)]
-    pub fn step(&mut self, step: &StepSeen) -> Result<(), NoMemory>
+    pub(crate) fn step(&mut self, step: &StepSeen) -> Result<(), NoMemory>
         requires in_range { IsInRange step.now }
         requires sound { IsSound L.words self.old }
         ensures sound { OnOk result (IsSound L.words self.new) }
@@ -169,7 +170,7 @@ impl<'q, L: Labels + Drop> Tracking<'q, L> {
     }
 
     /// What was tracked, where all steps of the epoch are followed.
-    pub fn into_parts(self) -> Tracked<L>
+    pub(crate) fn into_parts(self) -> Tracked<L>
         ensures { result ≡ parts self.entry }
     {
         Tracked {

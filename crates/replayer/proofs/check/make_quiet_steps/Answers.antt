@@ -23,7 +23,7 @@ returns-then-time-until g c =
     let until = c.min-until.result in
     let row = c.run_plain.ensures in
     record {
-      watched = row_passed g.W.Follower.told g.W.Watcher.seen g.W.Watcher.quiet g.met.W.Watcher.enough r c.form.ensures c.requires.goes_on until
+      watched = row_passed g.W.Follower.told g.W.Follower.wants g.W.Watcher.seen g.W.Watcher.quiet g.met.W.Watcher.enough r c.form.ensures c.requires.goes_on until
           (omega (arith, c.min-until.ensures, c.requires.event, event_within r c.form.ensures, end_at-small r.log.end c.form.ensures.form.end))
           (omega (arith, c.min-until.ensures, c.requires.event)) c.args.watcher.now (omega (arith, c.min-until.ensures, c.quiet_until.ensures))
           c.run_plain.result c.run_plain.new.self c.run_plain.new.follower row.made (omega (arith, row.most, c.time-time.ensures, c.if-time-until.true)) row.rest;

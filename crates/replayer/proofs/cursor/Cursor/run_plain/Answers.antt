@@ -30,7 +30,7 @@ pub invariant_of-self : goal.invariant_of-self
 invariant_of-self g c =
     let plain = subst (λ (p : CursorAt). ArePlain p.job p.time c.args.until) (sym c.self.view_is) c.requires in
     let row = c.run_plain.ensures in
-    (told_to g.F.Follower.told c.self.inside.job.now c.self.inside.run c.self.invariant c.args.until plain c.args.follower.now c.run_plain.result c.run_plain.new.self c.run_plain.new.follower row.made (omega (arith, row.most)) row.rest).there
+    (told_to g.F.Follower.told g.F.Follower.wants c.self.inside.job.now c.self.inside.run c.self.invariant c.args.until plain c.args.follower.now c.run_plain.result c.run_plain.new.self c.run_plain.new.follower row.made (omega (arith, row.most)) row.rest).there
 
 pub returns-then-time-until-clause-told : goal.returns-then-time-until-clause-told
 returns-then-time-until-clause-told g c =
@@ -38,8 +38,8 @@ returns-then-time-until-clause-told g c =
     let told = g.F.Follower.told in
     let plain = subst (λ (p : CursorAt). ArePlain p.job p.time c.args.until) (sym c.self.view_is) c.requires in
     let row = c.run_plain.ensures in
-    let so_far = told_to told c.self.inside.job.now c.self.inside.run c.self.invariant c.args.until plain c.args.follower.now c.run_plain.result after c.run_plain.new.follower row.made (omega (arith, row.most)) row.rest in
-    subst (λ (p : CursorAt). AreTold told p.job p.time c.args.follower.now after.moment.time c.run_plain.new.follower) c.self.view_is so_far.told_of
+    let so_far = told_to told g.F.Follower.wants c.self.inside.job.now c.self.inside.run c.self.invariant c.args.until plain c.args.follower.now c.run_plain.result after c.run_plain.new.follower row.made (omega (arith, row.most)) row.rest in
+    subst (λ (p : CursorAt). AreTold told g.F.Follower.wants p.job p.time c.args.follower.now after.moment.time c.run_plain.new.follower) c.self.view_is so_far.told_of
 
 pub returns-else-time-until-clause-told : goal.returns-else-time-until-clause-told
 returns-else-time-until-clause-told g c = NoneYet

@@ -8,5 +8,5 @@ use Rattle.seq_taint.proofs.labelled.LabelledSinks.of.Goals as goal
 pub returns : goal.returns
 returns c q job tracked =
     let m = origins (policy_of q) (trace_of job) in
-    let found = c.in_ok-tracked.ensures.found q (trace_of job) (steps job.log) tracked m (origins_are_course (policy_of q) (trace_of job)) in
+    let found = c.in_ok-tracked.ensures.found q (trace_of job) 0 (steps job.log) tracked m (origins_are_course (policy_of q) (trace_of job)) in
     rows_of_run q job c.in_ok-tracked.tracked.labels c.in_ok-tracked.tracked.sinks.items found.rows

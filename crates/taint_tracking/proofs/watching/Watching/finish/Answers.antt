@@ -19,8 +19,8 @@ returns-in-None-clause-labelled g c =
     subst (λ t. AreLabelled words t.labels t.sinks.items) (sym c.into_parts.ensures) sound.sinks
 
 pub returns-in-None-clause-found : goal.returns-in-None-clause-found
-returns-in-None-clause-found g c q trace n tracked m course =
+returns-in-None-clause-found g c q trace first time tracked m course =
     let words = g.L.Labels.words in
-    let kept = subst (λ w. IfSome w (IsTracked words q trace 0 n m)) (sym c.self.view_is) (tracked m course) in
-    let here = subst (λ o. IfSome (unless_faulty o c.self.inside.tracking) (IsTracked words q trace 0 n m)) c.in-None.is kept in
-    subst (IsOfEpoch words q trace 0 n m) (sym c.into_parts.ensures) here.found
+    let kept = subst (λ w. IfSome w (IsTracked words q trace first time m)) (sym c.self.view_is) (tracked m course) in
+    let here = subst (λ o. IfSome (unless_faulty o c.self.inside.tracking) (IsTracked words q trace first time m)) c.in-None.is kept in
+    subst (IsOfEpoch words q trace first time m) (sym c.into_parts.ensures) here.found
