@@ -3,8 +3,8 @@
 use crate::asserts::assert_same;
 use flow_model::{InnerSink, Loc, SinkByte, SinkPoint, SourceByte};
 use printed_names::{
-    Names, SourceName, push_byte, push_lines_end, push_location, push_pc, push_point, push_quoted,
-    push_wide_byte,
+    RowText, SourceName, push_byte, push_lines_end, push_location, push_pc, push_point,
+    push_quoted, push_wide_byte,
 };
 use std::process::Abort;
 
@@ -97,10 +97,36 @@ const TENS: &[(u8, u32, &str)] = &[
 
 #[test]
 fn ten_names_are_written_at_once(rt: HostRuntime) {
-    let mut names = Names::new();
-    for &(channel, offset, text) in TENS {
-        names.write_ten(channel, offset);
-        assert_same(&rt, names.as_bytes(), text.as_bytes());
+    let mut row = RowText::new();
+    for &(channel, tens, text) in TENS {
+        row.clear();
+        row.push_ten(channel, tens);
+        assert_same(&rt, row.as_bytes(), text.as_bytes());
+    }
+}
+
+/// Output bytes, one after another, and their rows with the source bytes 0:9 to 0:11.
+const ROWS: &[(u8, u32, &str)] = &[
+    (1, 8, "1:8 0:9 0:10 0:11\n"),
+    (1, 9, "1:9 0:9 0:10 0:11\n"),
+    (1, 10, "1:10 0:9 0:10 0:11\n"),
+    (2, 11, "2:11 0:9 0:10 0:11\n"),
+    (15, 4294967295, "15:4294967295 0:9 0:10 0:11\n"),
+];
+
+#[test]
+fn a_row_has_its_output_byte_and_source_bytes(rt: HostRuntime) {
+    let mut row = RowText::new();
+    for &(channel, offset, text) in ROWS {
+        row.clear();
+        row.push_point(SinkPoint::Out(SinkByte { channel, offset }));
+        if row.has_room() {
+            row.push_names(0, 9, 12);
+        }
+        if row.has_room() {
+            row.push_line_feed();
+        }
+        assert_same(&rt, row.as_bytes(), text.as_bytes());
     }
 }
 

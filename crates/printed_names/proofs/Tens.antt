@@ -68,6 +68,16 @@ one_name_copied bytes wide name at k room begins =
     ap (take (at + n)) parts
     ∙ take_at (before ++ name) behind (at + n) (length-append before name ∙ ap (λ (m : ℕ). m + n) (length-take-le at bytes room))
 
+-- behind its blank a name begins
+pub unblanked : (padded name : List ℕ) → take (length (codes " " ++ name)) padded ≡ codes " " ++ name → length name ≤ length padded - 1
+    → take (length name) (take (length padded - 1) (drop 1 padded)) ≡ name
+unblanked padded name begins short =
+    let n : ℕ = length (codes " " ++ name) in
+    let parts : padded ≡ (codes " " ++ name) ++ drop n padded = sym (take-append-drop n padded) ∙ ap (λ (xs : List ℕ). xs ++ drop n padded) begins in
+    take-take (length name) (length padded - 1) (drop 1 padded) short
+    ∙ ap (λ (xs : List ℕ). take (length name) (drop 1 xs)) parts
+    ∙ take_at name (drop n padded) (length name) refl
+
 -- the digit behind a name's front is another
 pub last_set : (bytes front : List ℕ) (old new n : ℕ) → take n bytes ≡ front ++ old ∷ [] → n ≤ length bytes → take n (slice_set bytes (n - 1) new) ≡ front ++ new ∷ []
 last_set bytes front old new n was inside =
@@ -80,18 +90,18 @@ last_set bytes front old new n was inside =
     ∙ take_more_set bytes i new (omega (arith, some, inside))
     ∙ ap (λ (xs : List ℕ). xs ++ new ∷ []) (sym (take-take i n bytes (omega arith)) ∙ ap (take i) was ∙ take_at front (old ∷ []) i (sym same))
 
--- the names of some source bytes, and of the next one
-pub name_more : (channel from count next : ℕ) → from + count ≡ next
-    → flat_map source_text (bytes_from channel from count) ++ source_text (named channel next) ≡ flat_map source_text (bytes_from channel from (count + 1))
-name_more channel from count next is =
-    flat_map_more source_text [] (bytes_from channel from count) (named channel next)
-    ∙ ap (flat_map source_text) (sym (map-range_with_len_more (named channel) from count next is))
+-- a text, the names of some source bytes, and that of the next one
+pub name_more : (text : List ℕ) (channel from count next : ℕ) → from + count ≡ next
+    → (text ++ flat_map source_text (bytes_from channel from count)) ++ source_text (named channel next) ≡ text ++ flat_map source_text (bytes_from channel from (count + 1))
+name_more text channel from count next is =
+    flat_map_more source_text text (bytes_from channel from count) (named channel next)
+    ∙ ap (λ (bytes : List SourceByte). text ++ flat_map source_text bytes) (sym (map-range_with_len_more (named channel) from count next is))
 
 -- a stem was copied with what stands behind it, and then a digit was written behind the stem
-pub one_more_name : (bytes wide stem : List ℕ) (at k digit : ℕ) → at + 16 ≤ length bytes → k ≡ 16 → length wide ≡ 16 → length stem < 16 → take (length stem) wide ≡ stem
-    → take at bytes ≡ flat_map (with_digit stem) (range_with_len 0 digit)
-    → take (at + (length stem + 1)) (slice_set (put_mid at k bytes wide) (at + length stem) (48 + digit)) ≡ flat_map (with_digit stem) (range_with_len 0 (digit + 1))
-one_more_name bytes wide stem at k digit room sixteen width short begins done =
+pub one_more_name : (bytes wide stem text : List ℕ) (at k digit : ℕ) → at + 16 ≤ length bytes → k ≡ 16 → length wide ≡ 16 → length stem < 16 → take (length stem) wide ≡ stem
+    → take at bytes ≡ text ++ flat_map (with_digit stem) (range_with_len 0 digit)
+    → take (at + (length stem + 1)) (slice_set (put_mid at k bytes wide) (at + length stem) (48 + digit)) ≡ text ++ flat_map (with_digit stem) (range_with_len 0 (digit + 1))
+one_more_name bytes wide stem text at k digit room sixteen width short begins done =
     let n : ℕ = length stem in
     let before : List ℕ = take at bytes in
     let rest : List ℕ = post_of at k bytes in
@@ -116,5 +126,5 @@ one_more_name bytes wide stem at k digit room sixteen width short begins done =
     ∙ take_at new (behind ++ rest) (at + (n + 1)) grown
     ∙ append_assoc before stem ((48 + digit) ∷ [])
     ∙ ap (λ (bs : List ℕ). bs ++ with_digit stem digit) done
-    ∙ flat_map_more (with_digit stem) [] (range_with_len 0 digit) digit
-    ∙ ap (flat_map (with_digit stem)) (sym (range_more digit))
+    ∙ flat_map_more (with_digit stem) text (range_with_len 0 digit) digit
+    ∙ ap (λ (digits : List ℕ). text ++ flat_map (with_digit stem) digits) (sym (range_more digit))

@@ -3,3 +3,4 @@ pub mod Quoted
 pub mod Lines
 pub mod Next
 pub mod Tens
+pub mod Room

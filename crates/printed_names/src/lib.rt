@@ -2,8 +2,8 @@
 //!
 //! Crates above rest on this: each function that appends gives what the definitions say (`report_model`'s names, and
 //! `pc_text`, `quoted_text` and `lines_end` here), and fails only where there is no memory. A [`Name`] is such a name by
-//! itself, a [`SourceName`] that of one source byte after another, and [`Names`] are those of a few at once. They take
-//! no memory.
+//! itself, a [`SourceName`] that of one source byte after another, and a [`RowText`] is the text of rows, as it grows.
+//! They take no memory.
 #![tactic(auto)]
 
 ghost use Rattle.std.specs.Prelude.{◌≡◌, ◌++◌, OnOk};
@@ -12,16 +12,16 @@ ghost use Rattle.printed_names.specs.Places.{pc_text};
 ghost use Rattle.printed_names.specs.Lines.{lines_end};
 
 mod name;
-mod names;
 mod quoted;
+mod row_text;
 mod source_name;
 
 use flow_model::{Loc, SinkPoint};
 use itoa::Buffer;
 pub use name::{Name, byte_name, location_name, point_name, wide_byte_name};
-pub use names::{MOST_NAMES, Names};
 use no_memory::NoMemory;
 pub use quoted::push_quoted;
+pub use row_text::{MOST_NAMES, RowText};
 pub use source_name::SourceName;
 
 /// Appends `c:o`, the byte of offset o on channel c.

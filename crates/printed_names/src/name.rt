@@ -1,10 +1,11 @@
 //! Names in buffers of their own.
 
 ghost use Rattle.std.specs.Prelude.{◌≡◌, ℕ, List, ◌+◌, ◌<◌, ◌≤◌, [], ◌∷◌, ◌++◌, length, codes};
+ghost use Rattle.flow_model.specs.declared.SinkPoint.TheVariants.{At};
 ghost use Rattle.report_model.specs.Text.{name_text, loc_text, point_text};
 
 use arrayvec::ArrayVec;
-use flow_model::{Loc, SinkPoint};
+use flow_model::{InnerSink, Loc, SinkPoint};
 use itoa::{Buffer, Integer};
 use std::marker::Model;
 
@@ -101,17 +102,23 @@ pub fn location_name(loc: Loc) -> Name
     name
 }
 
+/// The location and `@T` of a point at time T.
+pub(crate) fn inner_name(inner: InnerSink) -> Name
+    ensures text { result ≡ point_text (At inner) }
+    ensures short { length result ≤ 33 }
+{
+    let mut name = location_name(inner.loc);
+    name.push(b"@");
+    name.push_number(inner.time);
+    name
+}
+
 /// `c:o` of an output byte; the location and `@T` of a point at time T.
 pub fn point_name(point: SinkPoint) -> Name
     ensures { result ≡ point_text point }
 {
     match point {
         SinkPoint::Out(byte) => byte_name(byte.channel, byte.offset),
-        SinkPoint::At(inner) => {
-            let mut name = location_name(inner.loc);
-            name.push(b"@");
-            name.push_number(inner.time);
-            name
-        }
+        SinkPoint::At(inner) => inner_name(inner),
     }
 }

@@ -59,7 +59,16 @@ impl SourceName {
         }
     }
 
+    /// Goes to another source byte, whose name is written whole.
+    #[inline(never)]
+    fn write_whole(&mut self, source: SourceByte)
+        ensures { self.new ≡ source }
+    {
+        *self = SourceName::new(source);
+    }
+
     /// Goes to another source byte. Where that is the next one, mostly the last digit alone is written.
+    #[inline(always)]
     pub fn go_to(&mut self, source: SourceByte)
         ensures { self.new ≡ source }
     {
@@ -67,7 +76,7 @@ impl SourceName {
             self.bytes[self.len - 1] = b'0' + (source.offset % 10) as u8;
             self.source = source;
         } else {
-            *self = SourceName::new(source);
+            self.write_whole(source);
         }
     }
 

@@ -5,5 +5,6 @@ mod Order
 mod Cuts
 mod Reaching
 mod Stretches
+mod Waiting
 mod Putting
 mod Lines

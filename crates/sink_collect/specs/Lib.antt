@@ -3,3 +3,4 @@ pub mod Pairs
 pub mod Places
 pub mod Reaching
 pub mod Own
+pub mod Waiting

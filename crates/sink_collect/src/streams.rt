@@ -18,11 +18,28 @@ fn channel_of(sink: SinkPoint) -> Option<u8> {
     }
 }
 
+/// Whether all sets are of one channel, or all of points.
+fn are_one_stream(sets: &[SinkSet]) -> bool {
+    let Some(first) = sets.first() else {
+        return true;
+    };
+    let channel = channel_of(first.sink());
+    for set in sets {
+        if channel_of(set.sink()) != channel {
+            return false;
+        }
+    }
+    true
+}
+
 /// The sets in an order that is nearly sorted: those of one channel after those of another, or of points. A run writes the
 /// bytes of each channel in their order, whatever it writes to others in between. It fails only where there is no memory.
 pub(crate) fn by_stream(alloc: Global, sets: Vec<SinkSet>) -> Result<Vec<SinkSet>, NoMemory>
     ensures { IfOk result (λ all. IsPermutation sets.items all.items) }
 {
+    if are_one_stream(&sets) {
+        return Ok(sets);
+    }
     let mut all = Vec::with_capacity(alloc, sets.len())?;
     let mut left = sets;
     for _ in 0..MOST_STREAMS {

@@ -1,14 +1,17 @@
 //! The texts of a report and of an influence.
 
-ghost use Rattle.std.specs.Prelude.{◌≡◌, ◌+◌, ◌<◌, ◌≤◌, ◌*◌, ◌^◌, ◌++◌, ◌∷◌, [], All, IfOk};
+ghost use Rattle.std.specs.Prelude.{◌≡◌, ◌+◌, ◌<◌, ◌≤◌, ◌*◌, ◌^◌, ◌++◌, ◌∷◌, [], All, IfOk, OnOk};
 ghost use Rattle.std.specs.List.{flat_map};
 ghost use Rattle.std.specs.Fmt.{decimal};
 ghost use Rattle.outer_io.specs.Pieces.{Puts};
+ghost use Rattle.printed_names.specs.Room.{HasRoom};
+ghost use Rattle.printed_names.specs.Tens.{ten_bytes};
 ghost use Rattle.source_ranges.specs.Kept.{IsRange};
 ghost use Rattle.source_ranges.specs.Ranges.{bytes_of};
-ghost use Rattle.report_model.specs.Text.{source_text, row_text, report_text};
+ghost use Rattle.report_model.specs.Text.{point_text, source_text, row_text, report_text};
 ghost use Rattle.report_model.specs.Influence.{sink_text, reach_text, influence_text as text_of_influence};
 ghost use Rattle.sink_collect.specs.Reaching.{reach_of, reaches_in, line_of};
+ghost use Rattle.sink_collect.specs.Waiting.{waiting};
 
 use crate::influence::{Influence, RangeReach};
 use crate::report::Report;
@@ -17,51 +20,105 @@ use flow_model::{SinkPoint, SourceByte};
 use itoa::Buffer;
 use no_memory::NoMemory;
 use outer_io::Pieces;
-use printed_names::{MOST_NAMES, Names, byte_name, point_name};
+use printed_names::{MOST_NAMES, RowText, byte_name, point_name};
 use source_ranges::SourceRange;
 use std::alloc::Global;
 
-/// Puts a blank and the name of each source byte of a range which has a few or none, as one piece.
-fn put_few<P: Pieces>(place: &mut P, names: &mut Names, range: SourceRange) -> Result<(), P::Fault>
-    requires { (range.from ≤ range.past) × (range.past ≤ range.from + MOST_NAMES) × (range.past ≤ 2 ^ 32) }
-    ensures { Puts P.putting place.old (flat_map source_text (bytes_of range)) place.new result }
+/// Puts the text that waits where it leaves no room for a push.
+#[inline(always)]
+fn make_room<P: Pieces>(place: &mut P, text: &mut RowText) -> Result<(), P::Fault>
+    ensures puts { Puts (waiting P.putting) (place.old, text.old) [] (place.new, text.new) result }
+    ensures room { OnOk result (HasRoom text.new) }
 {
-    names.write(range.channel, range.from, range.past);
-    place.put(names.as_bytes())
+    if text.has_room() {
+        return Ok(());
+    }
+    place.put(text.as_bytes())?;
+    text.clear();
+    Ok(())
 }
 
-/// Puts a blank and the name of each source byte of a channel whose offset is one of some tens, and one more digit: ten
-/// names are one piece.
-fn put_tens<P: Pieces>(
+/// Adds the name of an output byte or a point to the text that waits.
+#[inline(always)]
+fn add_point<P: Pieces>(place: &mut P, text: &mut RowText, point: SinkPoint) -> Result<(), P::Fault>
+    ensures { Puts (waiting P.putting) (place.old, text.old) (point_text point) (place.new, text.new) result }
+{
+    make_room(place, text)?;
+    text.push_point(point);
+    Ok(())
+}
+
+/// Adds a line feed to the text that waits.
+#[inline(always)]
+fn add_line_feed<P: Pieces>(place: &mut P, text: &mut RowText) -> Result<(), P::Fault>
+    ensures { Puts (waiting P.putting) (place.old, text.old) (0x0a ∷ []) (place.new, text.new) result }
+{
+    make_room(place, text)?;
+    text.push_line_feed();
+    Ok(())
+}
+
+/// Adds a blank and the name of each source byte of a range which has a few or none to the text that waits.
+#[inline(always)]
+fn add_few<P: Pieces>(place: &mut P, text: &mut RowText, range: SourceRange) -> Result<(), P::Fault>
+    requires { (range.from ≤ range.past) × (range.past ≤ range.from + MOST_NAMES) × (range.past ≤ 2 ^ 32) }
+    ensures { Puts (waiting P.putting) (place.old, text.old)
+        (flat_map source_text (bytes_of range)) (place.new, text.new) result }
+{
+    make_room(place, text)?;
+    text.push_names(range.channel, range.from, range.past);
+    Ok(())
+}
+
+/// Adds a blank and the name of each of the ten source bytes of a channel whose offsets are these tens and one more digit
+/// to the text that waits.
+fn add_ten<P: Pieces>(
     place: &mut P,
-    names: &mut Names,
+    text: &mut RowText,
+    channel: u8,
+    tens: u32,
+) -> Result<(), P::Fault>
+    requires { 0 < tens }
+    ensures { Puts (waiting P.putting) (place.old, text.old)
+        (flat_map source_text (ten_bytes channel tens)) (place.new, text.new) result }
+{
+    make_room(place, text)?;
+    text.push_ten(channel, tens);
+    Ok(())
+}
+
+/// Adds a blank and the name of each source byte of a channel whose offset is one of some tens, and one more digit, to
+/// the text that waits.
+fn add_tens<P: Pieces>(
+    place: &mut P,
+    text: &mut RowText,
     channel: u8,
     from: u64,
     past: u64,
 ) -> Result<(), P::Fault>
     requires { (0 < from) × (from ≤ past) × (10 * past ≤ 2 ^ 32) }
-    ensures { Puts P.putting place.old
+    ensures { Puts (waiting P.putting) (place.old, text.old)
         (flat_map source_text
-        (bytes_of (record { channel = channel; from = 10 * from; past = 10 * past }))) place.new result }
+        (bytes_of (record { channel = channel; from = 10 * from; past = 10 * past }))) (place.new, text.new) result }
 {
     for tens in from..past {
-        names.write_ten(channel, tens as u32);
-        place.put(names.as_bytes())?;
+        add_ten(place, text, channel, tens as u32)?;
     }
     Ok(())
 }
 
-/// Puts a blank and the name of each source byte of a range.
-fn put_range<P: Pieces>(
+/// Adds a blank and the name of each source byte of a range to the text that waits.
+fn add_range<P: Pieces>(
     place: &mut P,
-    names: &mut Names,
+    text: &mut RowText,
     range: SourceRange,
 ) -> Result<(), P::Fault>
     requires { IsRange range }
-    ensures { Puts P.putting place.old (flat_map source_text (bytes_of range)) place.new result }
+    ensures { Puts (waiting P.putting) (place.old, text.old)
+        (flat_map source_text (bytes_of range)) (place.new, text.new) result }
 {
     if range.past - range.from <= MOST_NAMES {
-        return put_few(place, names, range);
+        return add_few(place, text, range);
     }
     // The tens that lie in the range whole. Offsets of one digit have no tens.
     let from = range.from.div_ceil(10).max(1);
@@ -74,43 +131,45 @@ fn put_range<P: Pieces>(
         from: 10 * past,
         ..range
     };
-    put_few(place, names, before)?;
-    put_tens(place, names, range.channel, from, past)?;
-    put_few(place, names, after)
+    add_few(place, text, before)?;
+    add_tens(place, text, range.channel, from, past)?;
+    add_few(place, text, after)
 }
 
-/// Puts a blank and the name of each source byte of ranges.
-fn put_ranges<P: Pieces>(
+/// Adds a blank and the name of each source byte of ranges to the text that waits.
+fn add_ranges<P: Pieces>(
     place: &mut P,
-    names: &mut Names,
+    text: &mut RowText,
     ranges: &[SourceRange],
 ) -> Result<(), P::Fault>
     requires { All IsRange ranges.now }
-    ensures { Puts P.putting place.old (flat_map source_text (flat_map bytes_of ranges.now)) place.new result }
+    ensures { Puts (waiting P.putting) (place.old, text.old)
+        (flat_map source_text (flat_map bytes_of ranges.now)) (place.new, text.new) result }
 {
     for range in ranges {
-        put_range(place, names, *range)?;
+        add_range(place, text, *range)?;
     }
     Ok(())
 }
 
-/// Puts the line of an output byte or a point.
-fn put_row<P: Pieces>(place: &mut P, names: &mut Names, row: &SinkSet) -> Result<(), P::Fault>
-    ensures { Puts P.putting place.old (row_text row.now) place.new result }
+/// Adds the line of an output byte or a point to the text that waits.
+fn add_row<P: Pieces>(place: &mut P, text: &mut RowText, row: &SinkSet) -> Result<(), P::Fault>
+    ensures { Puts (waiting P.putting) (place.old, text.old) (row_text row.now) (place.new, text.new) result }
 {
-    place.put(point_name(row.sink()).as_bytes())?;
-    put_ranges(place, names, row.sources().ranges())?;
-    place.put(b"\n")
+    add_point(place, text, row.sink())?;
+    add_ranges(place, text, row.sources().ranges())?;
+    add_line_feed(place, text)
 }
 
+/// Puts the lines of rows, several in one piece.
 fn put_rows<P: Pieces>(place: &mut P, rows: &[SinkSet]) -> Result<(), P::Fault>
     ensures { Puts P.putting place.old (flat_map row_text rows.now) place.new result }
 {
-    let mut names = Names::new();
+    let mut text = RowText::new();
     for row in rows {
-        put_row(place, &mut names, row)?;
+        add_row(place, &mut text, row)?;
     }
-    Ok(())
+    place.put(text.as_bytes())
 }
 
 /// Puts a blank and the name of an output byte or a point.

@@ -2,7 +2,7 @@ use Rattle.std.proofs.Common.{◌≡◌, ◌∙◌, ap, arith, ℕ, ◌+◌, ◌
 use borrow.Rule.Slice.PartMut.{put_mid}
 use Rattle.report_model.specs.Text.{source_text}
 use Rattle.printed_names.proofs.Tens.{one_name_copied}
-use Rattle.printed_names.proofs.names.append.Goals as goal
+use Rattle.printed_names.proofs.row_text.append_name.Goals as goal
 
 pub returns-clause-text : goal.returns-clause-text
 returns-clause-text c =
