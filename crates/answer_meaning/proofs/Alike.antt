@@ -1,31 +1,75 @@
 -- The records of two runs that ask the same and are answered the same, but for bytes that differ.
-use Rattle.std.proofs.Common.{◌≡◌, ℕ, ℤ, ◌+◌, ◌-◌, ◌<◌, ◌≤◌, ◌⊎◌, inl, inr, Bool, true, false, List, [], ◌∷◌, ◌++◌, length, get_or, refl, arith, ap, ap₂, sym, ◌∙◌, subst, eqb-true}
+use Rattle.std.proofs.Common.{◌≡◌, ℕ, ℤ, pos, List, [], ◌∷◌, length, get_or, None, ◌∙◌, subst, ◌+◌, ◌-◌, ◌<◌, ◌≤◌, ◌⊎◌, inl, inr, Bool, true, false, ◌++◌, refl, arith, ap, ap₂, sym, eqb-true}
+use Rattle.lists.proofs.Lists.{same-three}
+use Rattle.lists.proofs.Numbers.{three-get_or}
+use Rattle.isa.specs.declared.Call.{Call}
+use Rattle.isa.specs.Machine.{State, Called, next, reg, bytes_at, as_word}
+use Rattle.isa.specs.Calls.{refusal_of, channel_of, buffer_of}
+use Rattle.log_model.specs.declared.CallRecord.TheVariants.{Read, Write, Other, Clock}
+use Rattle.log_model.specs.declared.RunEnd.{RunEnd}
+use Rattle.log_model.specs.declared.RunEnd.TheVariants.{Exit}
+use Rattle.log_model.specs.Logs.{Log, IsRecord, end_at, moved_length}
+use Rattle.replay_model.specs.Comparison.{EndOf, difference_at, seen_event, IsLawful, arguments_of, allowed, bytes_compared, compared}
+use Rattle.replay_model.proofs.Agreement.{first_agrees, exit_agrees, kind_by}
+use Rattle.replay_model.proofs.Transfers.{same_arguments}
+use Rattle.answer_meaning.specs.RunLaws.{IsRun, moment_at}
+use Rattle.decision_find.proofs.Answered.{ends_at, IsCallAt}
 use Rattle.std.specs.Prelude.{◌==◌, if◌then◌else◌}
 use Rattle.std.proofs.lemmas.Bool.{cases_lt}
 use Rattle.std.proofs.lemmas.List.{get_or_append_left, get_or-append_right}
-use Rattle.isa.specs.declared.Call.{Call}
 use Rattle.isa.specs.declared.CallKind.{CallKind}
-use Rattle.isa.specs.declared.CallKind.TheVariants as kind
-use Rattle.isa.specs.Machine.{reg, as_word}
-use Rattle.isa.specs.Calls.{channel_of, buffer_of}
 use Rattle.log_model.specs.declared.CallRecord.{CallRecord}
-use Rattle.log_model.specs.declared.CallRecord.TheVariants.{Read, Write, Clock, Other}
-use Rattle.log_model.specs.Logs.{Log, moved_length}
 use Rattle.log_model.specs.Moved.{received, received_by, written, written_by}
 use Rattle.log_model.proofs.Moved.{received-push, length-received-push, length-written-push}
 use Rattle.flow_model.specs.declared.SourceByte.{SourceByte}
 use Rattle.flow_model.specs.declared.CallSeen.{CallSeen}
 use Rattle.replay_model.specs.Run.{Moment, call_seen, transfer}
-use Rattle.replay_model.specs.Comparison.{call_event, arguments_of}
-use Rattle.replay_model.proofs.Agreement.{kind_by}
 use Rattle.replay_model.proofs.Offsets.{transfer_offset}
-use Rattle.flow_meaning.specs.Content.{AgreeAt, IsSound}
-use Rattle.flow_meaning.specs.StepLaws.{words_given, bytes_given}
-use Rattle.flow_meaning.proofs.Operands.{word_agrees}
+use Rattle.record_model.specs.States.{IsSound}
+use Rattle.answer_meaning.specs.Content.{AgreeAt}
+use Rattle.answer_meaning.specs.StepLaws.{words_given, bytes_given}
+use Rattle.answer_meaning.proofs.Targets.{word_agrees}
 use Rattle.decision_find.specs.Decides.{used}
 use Rattle.answer_meaning.specs.Environments.{BytesAlike, SameAnswers}
-use Rattle.decision_find.proofs.Answered.{IsCallAt}
-use Rattle.answer_meaning.proofs.Answered.{read_arguments, write_arguments, other_number}
+use Rattle.isa.specs.declared.CallKind.TheVariants as kind
+use Rattle.replay_model.specs.declared.Field.TheVariants as field
+use Rattle.replay_model.specs.Comparison.{result as result_compared}
+
+-- ---- the arguments of a record are those of the state
+
+pub read_arguments : (s : State) (inputs at : ℕ) (args : List ℕ) (result : ℤ) (bytes : List ℕ) → IsRecord (Read at args result bytes) → IsLawful s inputs (Read at args result bytes) → args ≡ arguments_of s
+read_arguments s inputs at args result bytes form lawful =
+    let same = same_arguments s args (result_compared result (allowed (refusal_of s inputs (arguments_of s)) result 0) ∷ []) lawful in
+    three-get_or args form.1.three ∙ same-three (get_or args 0 0) (get_or args 1 0) (get_or args 2 0) (reg s 10) (reg s 11) (reg s 12) same.first same.second same.third
+
+pub write_arguments : (s : State) (inputs at : ℕ) (args : List ℕ) (result : ℤ) (bytes : List ℕ) → IsRecord (Write at args result bytes) → IsLawful s inputs (Write at args result bytes) → args ≡ arguments_of s
+write_arguments s inputs at args result bytes form lawful =
+    let same = same_arguments s args (result_compared result (allowed (refusal_of s 16 (arguments_of s)) result (reg s 12)) ∷ bytes_compared 0 bytes (bytes_at s (reg s 11) (length bytes))) lawful in
+    three-get_or args form.1.three ∙ same-three (get_or args 0 0) (get_or args 1 0) (get_or args 2 0) (reg s 10) (reg s 11) (reg s 12) same.first same.second same.third
+
+pub other_number : (s : State) (inputs at number : ℕ) → IsLawful s inputs (Other at number) → number ≡ reg s 17
+other_number s inputs at number lawful =
+    let same : pos number ≡ pos (reg s 17) = (first_agrees (compared field.Number number (reg s 17)) [] lawful).0 in cc
+
+-- ---- the end
+
+-- a run whose end is an exit
+pub record IsExitAt (s : State) (code : ℕ) : Type 0 where
+  pub call : Call
+  pub calls : next s ≡ Called call
+  pub is_exit : call.kind ≡ kind.Exit
+  pub code_is : code ≡ reg s 10
+
+pub exits_at : (log : Log) (s : State) (at code : ℕ) → IsRun log s → log.end ≡ Exit at code → IsExitAt (moment_at s log at).state code
+exits_at log s at code run e =
+    let m = moment_at s log at in
+    let d : difference_at m log.inputs (EndOf (Exit at code)) ≡ None = subst (λ (end : RunEnd). difference_at (moment_at s log (end_at end)) log.inputs (EndOf end) ≡ None) e (ends_at log s run.form run.agrees) in
+    let exits = exit_agrees m log.inputs at code d in
+    let same = (first_agrees (compared field.Event 5 (seen_event (next m.state))) (compared field.Code code (reg m.state 10) ∷ []) d).1 in
+    let code_same : pos code ≡ pos (reg m.state 10) = (first_agrees (compared field.Code code (reg m.state 10)) [] same).0 in
+    record { call = exits.0; calls = exits.1; is_exit = exits.2; code_is = cc }
+
+-- ---- records that are alike
 
 -- what two runs have in common of the records that are done and left
 pub record AreAlike (differs : SourceByte → Bool) (done left others rest : List CallRecord) : Type 0 where
@@ -36,10 +80,10 @@ pub record AreAlike (differs : SourceByte → Bool) (done left others rest : Lis
 
 -- ---- one more record
 
-abbrev kept_if : Bool → List ℕ → List ℕ
+abbrev pub kept_if : Bool → List ℕ → List ℕ
 kept_if b xs = if b then xs else []
 
-kept_length : (b : Bool) (xs ys : List ℕ) → length xs ≡ length ys → length (kept_if b xs) ≡ length (kept_if b ys)
+pub kept_length : (b : Bool) (xs ys : List ℕ) → length xs ≡ length ys → length (kept_if b xs) ≡ length (kept_if b ys)
 kept_length true xs ys e = e
 kept_length false xs ys e = refl
 
@@ -123,26 +167,9 @@ transfer_same k args args1 before before1 n n1 e f g =
     made : List ℕ → ℕ → ℕ → CallSeen
     made xs o l = record { kind = k; channel = channel_of xs; place = buffer_of xs; offset = if l == 0 then 0 else o; length = l }
 
-abbrev Same : ℕ → ℕ → Type 0
-Same j k = j ≡ k
-
 pub not_exit : {A : Type 0} (r : CallRecord) → kind_by r ≡ kind.Exit → A
-not_exit (Read at args result bytes) e = absurd (other e)
-  where
-    other : kind.Read ≡ kind.Exit → ⊥
-    other e = cc
-not_exit (Write at args result bytes) e = absurd (other e)
-  where
-    other : kind.Write ≡ kind.Exit → ⊥
-    other e = cc
-not_exit (Clock at value) e = absurd (other e)
-  where
-    other : kind.Clock ≡ kind.Exit → ⊥
-    other e = cc
-not_exit (Other at number) e = absurd (other e)
-  where
-    other : kind.Other ≡ kind.Exit → ⊥
-    other e = cc
+not_exit (Read at args result bytes) e = cc
+not_exit r e = cc
 
 module _ (differs : SourceByte → Bool) (a b : Log) (t : ℕ) (m n : Moment) (ss : IsSound m.state) (st : IsSound n.state) (c d : Call) (same : c.kind ≡ d.kind) (agree : AgreeAt m.state n.state (used c.kind)) (seventeen : reg m.state 17 ≡ reg n.state 17) where
   used_by : (k : CallKind) → c.kind ≡ k → AgreeAt m.state n.state (used k)
@@ -209,27 +236,12 @@ module _ (differs : SourceByte → Bool) (a b : Log) (t : ℕ) (m n : Moment) (s
             (still_moves differs m.done n.done (Other at number) (Other at1 number1) (λ k. refl) (λ k. refl)) answer.1;
       }
 
-  -- the codes of the kinds of two records are one
-  one_event : (r q : CallRecord) → c.kind ≡ kind_by r → d.kind ≡ kind_by q → call_event (kind_by r) ≡ call_event (kind_by q)
-  one_event r q e f = ap call_event (sym e ∙ same ∙ f)
-
   pub both_answered : (left rest : List CallRecord) → Both left rest
   both_answered [] [] h x y = record { alike = record { seen = refl; words = refl; given = λ i g e. refl }; records = h }
   both_answered [] (q ∷ qs) h x y = not_exit q (sym y.3 ∙ sym same ∙ x.0)
   both_answered (r ∷ rs) [] h x y = not_exit r (sym x.3 ∙ same ∙ y.0)
   both_answered (Read at args result bytes ∷ rs) (Read at1 args1 result1 bytes1 ∷ qs) h x y = reads at at1 args args1 result result1 bytes bytes1 rs qs h x y
-  both_answered (Read at args result bytes ∷ rs) (Write at1 args1 result1 bytes1 ∷ qs) h x y = let z : Same 1 2 = one_event (Read at args result bytes) (Write at1 args1 result1 bytes1) x.3 y.3 in absurd (omega arith)
-  both_answered (Read at args result bytes ∷ rs) (Clock at1 value1 ∷ qs) h x y = let z : Same 1 3 = one_event (Read at args result bytes) (Clock at1 value1) x.3 y.3 in absurd (omega arith)
-  both_answered (Read at args result bytes ∷ rs) (Other at1 number1 ∷ qs) h x y = let z : Same 1 4 = one_event (Read at args result bytes) (Other at1 number1) x.3 y.3 in absurd (omega arith)
-  both_answered (Write at args result bytes ∷ rs) (Read at1 args1 result1 bytes1 ∷ qs) h x y = let z : Same 2 1 = one_event (Write at args result bytes) (Read at1 args1 result1 bytes1) x.3 y.3 in absurd (omega arith)
   both_answered (Write at args result bytes ∷ rs) (Write at1 args1 result1 bytes1 ∷ qs) h x y = writes at at1 args args1 result result1 bytes bytes1 rs qs h x y
-  both_answered (Write at args result bytes ∷ rs) (Clock at1 value1 ∷ qs) h x y = let z : Same 2 3 = one_event (Write at args result bytes) (Clock at1 value1) x.3 y.3 in absurd (omega arith)
-  both_answered (Write at args result bytes ∷ rs) (Other at1 number1 ∷ qs) h x y = let z : Same 2 4 = one_event (Write at args result bytes) (Other at1 number1) x.3 y.3 in absurd (omega arith)
-  both_answered (Clock at value ∷ rs) (Read at1 args1 result1 bytes1 ∷ qs) h x y = let z : Same 3 1 = one_event (Clock at value) (Read at1 args1 result1 bytes1) x.3 y.3 in absurd (omega arith)
-  both_answered (Clock at value ∷ rs) (Write at1 args1 result1 bytes1 ∷ qs) h x y = let z : Same 3 2 = one_event (Clock at value) (Write at1 args1 result1 bytes1) x.3 y.3 in absurd (omega arith)
   both_answered (Clock at value ∷ rs) (Clock at1 value1 ∷ qs) h x y = clocks at at1 value value1 rs qs h x y
-  both_answered (Clock at value ∷ rs) (Other at1 number1 ∷ qs) h x y = let z : Same 3 4 = one_event (Clock at value) (Other at1 number1) x.3 y.3 in absurd (omega arith)
-  both_answered (Other at number ∷ rs) (Read at1 args1 result1 bytes1 ∷ qs) h x y = let z : Same 4 1 = one_event (Other at number) (Read at1 args1 result1 bytes1) x.3 y.3 in absurd (omega arith)
-  both_answered (Other at number ∷ rs) (Write at1 args1 result1 bytes1 ∷ qs) h x y = let z : Same 4 2 = one_event (Other at number) (Write at1 args1 result1 bytes1) x.3 y.3 in absurd (omega arith)
-  both_answered (Other at number ∷ rs) (Clock at1 value1 ∷ qs) h x y = let z : Same 4 3 = one_event (Other at number) (Clock at1 value1) x.3 y.3 in absurd (omega arith)
   both_answered (Other at number ∷ rs) (Other at1 number1 ∷ qs) h x y = others_too at at1 number number1 rs qs h x y
+  both_answered left rest h x y = let kinds = sym x.3 ∙ same ∙ y.3 in cc

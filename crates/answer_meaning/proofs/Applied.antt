@@ -13,21 +13,21 @@ use Rattle.log_model.specs.Logs.{Log, IsLog, IsBytes, word32}
 use Rattle.flow_model.specs.declared.Rule.TheVariants.{Compute}
 use Rattle.flow_model.specs.declared.SourceByte.{SourceByte}
 use Rattle.report_model.specs.Query.{Query, Choice}
-use Rattle.replay_model.specs.Fits.{beginning}
+use Rattle.replay_model.specs.Fits.{Fits, beginning}
 use Rattle.record_model.specs.Recorded.{Setting, input_of, IsRecorded}
 use Rattle.sha2.specs.Sha256.{sha256, digest_bytes, hash_after, compress, rounds, first_words, schedule}
 use Rattle.flow_model.specs.declared.Loc.TheVariants.{Mem}
 use Rattle.flow_model.specs.Origins.{origins}
 use Rattle.replay_model.specs.Run.{trace}
-use Rattle.flow_meaning.specs.RunLaws.{SamePath, content_at, byte_written, under}
-use Rattle.flow_meaning.proofs.Steps.{compute_determines}
+use Rattle.answer_meaning.specs.RunLaws.{SamePath, content_at, byte_written, under}
+use Rattle.answer_meaning.proofs.Steps.{compute_determines}
 use Rattle.answer_meaning.specs.Environments.{SameAnswers}
 use Rattle.decision_find.specs.Decisions.{Decision}
 use Rattle.decision_find.specs.Text.{decided_by}
 use Rattle.answer_meaning.specs.DecisionLaws.{NoneDiffers, IsUndecided, AreAlikeBut}
 use Rattle.answer_meaning.specs.Recordings.{AreSettingsAlike, AreAnswersAlike}
-use Rattle.answer_meaning.proofs.Worked.{a_transfer, all, byte_in, doubling_start, doubled, first_doubled, second_doubled}
-use Rattle.answer_meaning.proofs.Both.{path_is_same, contents_are_same}
+use Rattle.answer_meaning.proofs.Worked.{a_transfer, all, byte_in, doubling, doubled, doubling_runs}
+use Rattle.answer_meaning.proofs.Together.{path_is_same, contents_are_same}
 use Rattle.answer_meaning.proofs.Recordings.{recordings_are_alike}
 
 -- ---- a run of a state
@@ -45,34 +45,28 @@ answered_doubled asks = ((refl, bytes), λ asks. (refl, tt))
     bytes (suc (suc i)) e = refl
 
 -- all premises are met, so the runs take one path
-undecided_doubled : IsUndecided Compute all first_byte doubling_start (doubled 3 7) (doubled 100 7)
+undecided_doubled : IsUndecided Compute all first_byte doubling (doubled 3 7) (doubled 100 7)
 undecided_doubled = record {
-  first = first_doubled;
-  second = second_doubled;
+  first = doubling_runs.0;
+  second = doubling_runs.1;
   chosen = λ x e. true-false e;
   none = All-from_recursion (λ (d : Decision). NoneDiffers first_byte d.sources) [] tt;
   answers = answered_doubled;
 }
 
-one_path : SamePath Compute doubling_start (doubled 3 7) (doubled 100 7)
-one_path = path_is_same Compute compute_determines all first_byte doubling_start (doubled 3 7) (doubled 100 7) undecided_doubled refl
+one_path : SamePath Compute doubling (doubled 3 7) (doubled 100 7)
+one_path = path_is_same Compute compute_determines all first_byte doubling (doubled 3 7) (doubled 100 7) undecided_doubled refl
 
 -- and the second output byte, which lists the second byte alone, is the same; the first isn't
-second_origins : origins (under Compute all) (trace doubling_start (doubled 3 7)) 5 (Mem 61) ≡ byte_in 1 ∷ []
-second_origins = refl
-
-second_same : content_at doubling_start (doubled 3 7) 5 (Mem 61) ≡ content_at doubling_start (doubled 100 7) 5 (Mem 61)
-second_same = contents_are_same Compute compute_determines all first_byte doubling_start (doubled 3 7) (doubled 100 7) undecided_doubled 5 (Mem 61) (omega arith) (omega arith)
+second_same : content_at doubling (doubled 3 7) 5 (Mem 61) ≡ content_at doubling (doubled 100 7) 5 (Mem 61)
+second_same = contents_are_same Compute compute_determines all first_byte doubling (doubled 3 7) (doubled 100 7) undecided_doubled 5 (Mem 61) (omega arith) (omega arith)
     (All-from_recursion (λ x. first_byte x ≡ false) (byte_in 1 ∷ []) (refl, tt))
 
-first_origins : origins (under Compute all) (trace doubling_start (doubled 3 7)) 5 (Mem 60) ≡ byte_in 0 ∷ []
-first_origins = refl
-
-first_differs : byte_written (doubled 3 7) (record { channel = 2; offset = 0 }) ≡ 6
-first_differs = refl
-
-first_differs_too : byte_written (doubled 100 7) (record { channel = 2; offset = 0 }) ≡ 200
-first_differs_too = refl
+origins_of_both : (origins (under Compute all) (trace doubling (doubled 3 7)) 5 (Mem 61) ≡ byte_in 1 ∷ [])
+    × (origins (under Compute all) (trace doubling (doubled 3 7)) 5 (Mem 60) ≡ byte_in 0 ∷ [])
+    × (byte_written (doubled 3 7) (record { channel = 2; offset = 0 }) ≡ 6)
+    × (byte_written (doubled 100 7) (record { channel = 2; offset = 0 }) ≡ 200)
+origins_of_both = (refl, refl, refl, refl)
 
 -- ---- two recordings of a program file
 
@@ -126,27 +120,14 @@ abbrev state_of : Option State → State
 state_of (Some s) = s
 state_of None = record { pc = 0; registers = []; base = 0; memory = [] }
 
-first_recorded : IsRecorded (setting 0x42) [] (copied 0x42)
-first_recorded = record {
-  is_log = copied_log 0x42 (omega arith);
-  has_pages = refl;
-  has_channels = refl;
-  fits = record { start = state_of (beginning copy_four (copied 0x42)); digest = refl; begins = refl; agrees = refl };
-  reads_inputs = (refl, (tt, tt));
-  has_answers = refl;
-  ends_within = omega arith;
-}
+abbrev recorded : (x : ℕ) → x < 256 → Fits copy_four (copied x) → IsRecorded (setting x) [] (copied x)
+recorded x h fits = record { is_log = copied_log x h; has_pages = refl; has_channels = refl; fits = fits; reads_inputs = (refl, (tt, tt)); has_answers = refl; ends_within = omega arith }
 
-second_recorded : IsRecorded (setting 0x58) [] (copied 0x58)
-second_recorded = record {
-  is_log = copied_log 0x58 (omega arith);
-  has_pages = refl;
-  has_channels = refl;
-  fits = record { start = state_of (beginning copy_four (copied 0x58)); digest = refl; begins = refl; agrees = refl };
-  reads_inputs = (refl, (tt, tt));
-  has_answers = refl;
-  ends_within = omega arith;
-}
+abbrev first_fits : Fits copy_four (copied 0x42)
+first_fits = record { start = state_of (beginning copy_four (copied 0x42)); digest = refl; begins = refl; agrees = refl }
+
+second_fits : Fits copy_four (copied 0x58)
+second_fits = record { start = state_of (beginning copy_four (copied 0x58)); digest = refl; begins = refl; agrees = refl }
 
 -- the second byte differs
 abbrev second_byte : SourceByte → Bool
@@ -171,12 +152,11 @@ everything = record { channel = None; offsets = None }
 abbrev compute_query : Query
 compute_query = record { rule = Compute; sources = everything ∷ []; sinks = everything ∷ []; points = [] }
 
-nothing_decided : decided_by compute_query first_recorded.fits.start (copied 0x42) ≡ []
-unfolding first_recorded
+nothing_decided : decided_by compute_query first_fits.start (copied 0x42) ≡ []
 nothing_decided = refl
 
-alike : AreAlikeBut compute_query second_byte first_recorded.fits.start (copied 0x42) (copied 0x58)
-alike = recordings_are_alike (setting 0x42) (setting 0x58) [] [] (copied 0x42) (copied 0x58) second_byte settings_alike (all-below 256 copy_four refl) tt first_recorded second_recorded compute_query refl
+alike : AreAlikeBut compute_query second_byte first_fits.start (copied 0x42) (copied 0x58)
+alike = recordings_are_alike (setting 0x42) (setting 0x58) [] [] (copied 0x42) (copied 0x58) second_byte settings_alike (all-below 256 copy_four refl) tt (recorded 0x42 (omega arith) first_fits) (recorded 0x58 (omega arith) second_fits) compute_query refl
     (λ z e. true-false e) (subst (λ (ds : List Decision). All (λ d. NoneDiffers second_byte d.sources) ds) (sym nothing_decided) (All-from_recursion (λ (d : Decision). NoneDiffers second_byte d.sources) [] tt))
 
 -- ---- the clock

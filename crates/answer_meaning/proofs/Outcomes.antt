@@ -1,23 +1,76 @@
--- Where two states agree at the decisions of one, their next steps are alike.
-use Rattle.std.proofs.Common.{◌≡◌, ℕ, ℤ, zero, suc, ◌+◌, ◌*◌, ◌/◌, ◌<◌, ◌⊎◌, inl, inr, Bool, true, false, List, [], ◌∷◌, ◌++◌, length, get_or, refl, arith, ap, ap₂, sym, ◌∙◌, subst, mod-eq_of_lt, int_lt}
+-- Where two states agree at the decisions of one, their next steps are alike; and the window of a run stays where it is.
+use Rattle.std.proofs.Common.{◌≡◌, ℕ, zero, suc, ◌-◌, ◌≤◌, List, [], ◌∷◌, length, refl, arith, sym, ◌∙◌, subst, length-take, ℤ, ◌+◌, ◌*◌, ◌/◌, ◌<◌, ◌⊎◌, inl, inr, Bool, true, false, ◌++◌, get_or, ap, ap₂, mod-eq_of_lt, int_lt}
+use Rattle.std.specs.Int.{w32, to_le_bytes}
+use Rattle.isa.specs.declared.Effect.{Effect}
+use Rattle.isa.specs.declared.Effect.TheVariants.{SetRegister, Jump, Branch, Load, Store, MoveOn}
+use Rattle.isa.specs.Machine.{State, execute, effect_of, is_aligned, jumped, in_window, overwritten, low_bytes, as_word, Outcome, Retired, Called, Trapped, reg, kind_of, call_of, wrap, as_signed, bytes_at, little_endian, relative, effective_address, landed, branched, loaded, stored, Fetch, Fetched, OutsideWindow, Illegal, fetch, fetch_if, decoded, outcome_of, next, place_of}
+use Rattle.isa.specs.Calls.{buffer_of}
+use Rattle.isa.proofs.Window.{length-overwritten, holds_by, Holds}
+use Rattle.log_model.specs.declared.CallRecord.{CallRecord}
+use Rattle.log_model.specs.declared.CallRecord.TheVariants.{Read, Write}
+use Rattle.log_model.specs.Logs.{Log, steps}
+use Rattle.replay_model.specs.Run.{Moment, start, advance}
+use Rattle.replay_model.proofs.Offsets.{moment_later}
+use Rattle.answer_meaning.specs.StepLaws.{IsAnswered, IsDone, is_load}
+use Rattle.answer_meaning.specs.RunLaws.{IsRun, moment_at}
+use Rattle.record_model.proofs.Sound.{Leaves, leaves_is, on_landed, on_branched, on_loaded, on_stored, read_room, length-room, bytes_length}
+use Rattle.answer_meaning.proofs.Steps.{Does, Plain, Calls, does, state_given}
+use Rattle.answer_meaning.proofs.Runs.{done_at}
 use Rattle.std.specs.Prelude.{◌==◌, not, ◌&&◌, nat_lt, nat_le}
-use Rattle.lists.proofs.Tests.{true-false}
 use Rattle.isa.specs.declared.Instr.{Instr}
-use Rattle.isa.specs.declared.Instr.TheVariants.{Lui, Auipc, Jal, Jalr, Beq, Bne, Blt, Bge, Bltu, Bgeu, Lb, Lh, Lw, Lbu, Lhu, Sb, Sh, Sw, Addi, Slti, Sltiu, Xori, Ori, Andi, Slli, Srli, Srai, Add, Sub, Sll, Slt, Sltu, Xor, Srl, Sra, Or, And, Mul, Mulh, Mulhsu, Mulhu, Div, Divu, Rem, Remu, Fence, Ecall, Ebreak}
+use Rattle.isa.specs.declared.Instr.TheVariants.{Jal, Jalr, Beq, Bne, Blt, Bge, Bltu, Bgeu, Lb, Lh, Lw, Lbu, Lhu, Sb, Sh, Sw, Ecall, Ebreak}
 use Rattle.isa.specs.Words.{instruction_of}
-use Rattle.isa.specs.Machine.{as_word, State, Outcome, Retired, Called, Trapped, reg, kind_of, call_of, wrap, as_signed, in_window, bytes_at, little_endian, relative, effective_address, effect_of, execute, landed, is_aligned, jumped, branched, loaded, stored, Fetch, Fetched, OutsideWindow, Illegal, fetch, fetch_if, decoded, outcome_of, next, place_of}
-use Rattle.isa.proofs.Window.{holds_by, Holds}
 use Rattle.flow_model.specs.declared.Loc.{Loc}
 use Rattle.flow_model.specs.declared.Loc.TheVariants.{Mem}
 use Rattle.flow_model.specs.declared.Rule.{Rule}
-use Rattle.flow_model.specs.declared.Rule.TheVariants.{Copy, Keep, Compute, Index}
+use Rattle.flow_model.specs.declared.Rule.TheVariants.{Index}
 use Rattle.flow_model.specs.Flow.{lanes, all_lanes}
-use Rattle.flow_meaning.specs.Content.{content, byte_in, AgreeAt, IsSound}
-use Rattle.flow_meaning.specs.StepLaws.{is_load}
-use Rattle.flow_meaning.proofs.Window.{bytes_length, byte_of_window}
-use Rattle.flow_meaning.proofs.Operands.{word_agrees, words_agree, address_agrees}
+use Rattle.record_model.specs.States.{IsSound}
+use Rattle.answer_meaning.specs.Content.{content, byte_in, AgreeAt}
+use Rattle.answer_meaning.proofs.Lanes.{byte_of_window}
+use Rattle.answer_meaning.proofs.Targets.{word_agrees, words_agree, address_agrees}
 use Rattle.decision_find.specs.Decides.{base_of_load, used, asked, decides}
 use Rattle.decision_find.specs.Decisions.{fetched_from, instr_of, decides_fetched, decisions}
+
+-- one state has the window of another
+pub record SameWindow (s t : State) : Type 0 where
+  pub base : t.base ≡ s.base
+  pub size : length t.memory ≡ length s.memory
+
+put_length : (base : ℕ) (mem : List ℕ) (a : ℕ) (bs : List ℕ) (n : ℕ) → Holds base (length mem) a n → length bs ≤ n → length (overwritten mem (a - base) bs) ≡ length mem
+put_length base mem a bs n h g = let x = h.above in let y = h.below in length-overwritten mem (a - base) bs (omega arith)
+
+effect_keeps : (s : State) (e : Effect) → Leaves (execute s e) (SameWindow s)
+effect_keeps s (SetRegister d v) = record { base = refl; size = refl }
+effect_keeps s (Jump d target) = on_landed (is_aligned target) (jumped s d target) (SameWindow s) (record { base = refl; size = refl })
+effect_keeps s (Branch taken target) = on_branched s taken target (SameWindow s) (λ p. record { base = refl; size = refl })
+effect_keeps s (Load d a n is_signed) = on_loaded s (in_window s a n) d a n is_signed (SameWindow s) (λ h. record { base = refl; size = refl })
+effect_keeps s (Store a n v) = on_stored s (in_window s a n) a n v (SameWindow s)
+    (λ h. record { base = refl; size = put_length s.base s.memory a (low_bytes n v) n (holds_by s a n h) (omega (arith, length-take n (to_le_bytes w32 v))) })
+effect_keeps s MoveOn = record { base = refl; size = refl }
+effect_keeps s other = tt
+
+call_keeps : (s : State) (inputs : ℕ) (left : List CallRecord) → IsAnswered s inputs left → SameWindow s (state_given s left)
+call_keeps s inputs (Read at args result bytes ∷ rs) a = record { base = refl; size = length-room s (buffer_of args) bytes (read_room s inputs at args result bytes a.0 a.1) }
+call_keeps s inputs (Write at args result bytes ∷ rs) a = record { base = refl; size = refl }
+call_keeps s inputs left a = record { base = refl; size = refl }
+
+step_keeps : (inputs : ℕ) (m : Moment) → IsDone inputs m → SameWindow m.state (advance m).state
+step_keeps inputs m d = by (does inputs m d)
+  where
+    by : Does inputs m → SameWindow m.state (advance m).state
+    by (Plain t x e st a) = subst (SameWindow m.state) (sym a) (leaves_is (execute m.state (effect_of m.state x.instr)) t (SameWindow m.state) x.executes (effect_keeps m.state (effect_of m.state x.instr)))
+    by (Calls call e g st a) = subst (SameWindow m.state) (sym a) (call_keeps m.state inputs m.left g)
+
+pub window_at : (log : Log) (s : State) (t : ℕ) → IsRun log s → t ≤ steps log → SameWindow s (moment_at s log t).state
+window_at log s zero run h = record { base = refl; size = refl }
+window_at log s (suc t) run h =
+    let before = window_at log s t run (omega arith) in
+    let step = step_keeps log.inputs (moment_at s log t) (done_at log s t run (omega arith)) in
+    subst (λ (m : Moment). SameWindow s m.state) (sym (moment_later t (start s log)))
+    (record { base = step.base ∙ before.base; size = step.size ∙ before.size })
+
+-- ---- outcomes
 
 -- what two steps have in common. Under the rule index one may trap at a load and the other not
 abbrev pub AlikeOutcomes : Rule → State → State → Outcome → Outcome → Type 0
@@ -26,10 +79,7 @@ AlikeOutcomes rule s t (Called c) (Called d) = (c.kind ≡ d.kind) × (reg s 17 
 AlikeOutcomes rule s t (Trapped j) (Trapped k) = j ≡ k
 AlikeOutcomes rule s t (Retired x) (Trapped k) = rule ≡ Index
 AlikeOutcomes rule s t (Trapped k) (Retired x) = rule ≡ Index
-AlikeOutcomes rule s t (Retired x) (Called c) = ⊥
-AlikeOutcomes rule s t (Called c) (Retired x) = ⊥
-AlikeOutcomes rule s t (Trapped k) (Called c) = ⊥
-AlikeOutcomes rule s t (Called c) (Trapped k) = ⊥
+AlikeOutcomes rule s t x y = ⊥
 
 same_list : (xs ys : List ℕ) → length xs ≡ length ys → ((i : ℕ) → i < length xs → get_or xs i 0 ≡ get_or ys i 0) → xs ≡ ys
 same_list [] [] e h = refl
@@ -44,8 +94,7 @@ split_agree s t (x ∷ xs) ys h = let rest = split_agree s t xs ys h.1 in ((h.0,
 landed_alike : (rule : Rule) (s t : State) (b c : Bool) (x y : State) → b ≡ c → x.pc ≡ y.pc → AlikeOutcomes rule s t (landed b x) (landed c y)
 landed_alike rule s t true true x y e h = h
 landed_alike rule s t false false x y e h = refl
-landed_alike rule s t true false x y e h = true-false e
-landed_alike rule s t false true x y e h = true-false (sym e)
+landed_alike rule s t b c x y e h = cc
 
 module _ {s t : State} (ss : IsSound s) (st : IsSound t) (pc : s.pc ≡ t.pc) (base : s.base ≡ t.base) (size : length s.memory ≡ length t.memory) (rule : Rule) where
   same_window : (a b n : ℕ) → a ≡ b → in_window s a n ≡ in_window t b n
@@ -110,75 +159,41 @@ module _ {s t : State} (ss : IsSound s) (st : IsSound t) (pc : s.pc ≡ t.pc) (b
   branched_alike : (x y : Bool) (p q : ℕ) → x ≡ y → p ≡ q → AlikeOutcomes rule s t (branched s x p) (branched t y q)
   branched_alike true true p q e f = landed_alike rule s t (is_aligned p) (is_aligned q) (record s { pc = p }) (record t { pc = q }) (ap is_aligned f) f
   branched_alike false false p q e f = stepped_on
-  branched_alike true false p q e f = true-false e
-  branched_alike false true p q e f = true-false (sym e)
+  branched_alike x y p q e f = cc
 
   branches : (f : ℕ → ℕ → Bool) (a b : ℕ) (imm : ℤ) → AgreeAt s t (all_lanes a b 0) → AlikeOutcomes rule s t (branched s (f (reg s a) (reg s b)) (relative s imm)) (branched t (f (reg t a) (reg t b)) (relative t imm))
   branches f a b imm h = let both = words_agree ss st a b 0 h in branched_alike (f (reg s a) (reg s b)) (f (reg t a) (reg t b)) (relative s imm) (relative t imm) (ap₂ f both.0 both.1) (same_relative imm)
 
   load_address : (r : Rule) (a : ℕ) (imm : ℤ) → AgreeAt s t (base_of_load r a) → (effective_address s a imm ≡ effective_address t a imm) ⊎ (r ≡ Index)
-  load_address Copy a imm h = inl (address_agrees ss st a imm h)
-  load_address Keep a imm h = inl (address_agrees ss st a imm h)
-  load_address Compute a imm h = inl (address_agrees ss st a imm h)
   load_address Index a imm h = inr refl
+  load_address other a imm h = inl (address_agrees ss st a imm h)
 
   loaded_alike : (b c : Bool) (d x y n : ℕ) (g : Bool) → (b ≡ c) ⊎ (rule ≡ Index) → AlikeOutcomes rule s t (loaded s b d x n g) (loaded t c d y n g)
   loaded_alike true true d x y n g e = stepped_on
   loaded_alike false false d x y n g e = refl
-  loaded_alike true false d x y n g (inl e) = true-false e
   loaded_alike true false d x y n g (inr e) = e
-  loaded_alike false true d x y n g (inl e) = true-false (sym e)
   loaded_alike false true d x y n g (inr e) = e
+  loaded_alike b c d x y n g (inl e) = cc
 
   loads : (d a : ℕ) (imm : ℤ) (n : ℕ) (g : Bool) → (effective_address s a imm ≡ effective_address t a imm) ⊎ (rule ≡ Index)
       → AlikeOutcomes rule s t (loaded s (in_window s (effective_address s a imm) n) d (effective_address s a imm) n g) (loaded t (in_window t (effective_address t a imm) n) d (effective_address t a imm) n g)
-  loads d a imm n g (inl e) = loaded_alike (in_window s (effective_address s a imm) n) (in_window t (effective_address t a imm) n) d (effective_address s a imm) (effective_address t a imm) n g (inl (same_window (effective_address s a imm) (effective_address t a imm) n e))
-  loads d a imm n g (inr e) = loaded_alike (in_window s (effective_address s a imm) n) (in_window t (effective_address t a imm) n) d (effective_address s a imm) (effective_address t a imm) n g (inr e)
+  loads d a imm n g (inl e) = loaded_alike _ _ d _ _ n g (inl (same_window _ _ n e))
+  loads d a imm n g (inr e) = loaded_alike _ _ d _ _ n g (inr e)
 
   stored_alike : (b c : Bool) (x y n v w : ℕ) → b ≡ c → AlikeOutcomes rule s t (stored s b x n v) (stored t c y n w)
   stored_alike true true x y n v w e = stepped_on
   stored_alike false false x y n v w e = refl
-  stored_alike true false x y n v w e = true-false e
-  stored_alike false true x y n v w e = true-false (sym e)
+  stored_alike b c x y n v w e = cc
 
   stores : (a b : ℕ) (imm : ℤ) (n : ℕ) → AgreeAt s t (lanes a)
       → AlikeOutcomes rule s t (stored s (in_window s (effective_address s a imm) n) (effective_address s a imm) n (reg s b)) (stored t (in_window t (effective_address t a imm) n) (effective_address t a imm) n (reg t b))
-  stores a b imm n h = stored_alike (in_window s (effective_address s a imm) n) (in_window t (effective_address t a imm) n) (effective_address s a imm) (effective_address t a imm) n (reg s b) (reg t b) (same_window (effective_address s a imm) (effective_address t a imm) n (address_agrees ss st a imm h))
+  stores a b imm n h = stored_alike _ _ _ _ n (reg s b) (reg t b) (same_window (effective_address s a imm) (effective_address t a imm) n (address_agrees ss st a imm h))
 
   called : AgreeAt s t (asked (kind_of (reg s 17))) → AlikeOutcomes rule s t (Called (call_of s)) (Called (call_of t))
   called h = let both = split_agree s t (used (kind_of (reg s 17))) (lanes 17) h in let number = word_agrees ss st 17 both.1 in (ap kind_of number, number, both.0)
 
   -- each instruction
   alike : (i : Instr) → AgreeAt s t (decides rule (kind_of (reg s 17)) i) → AlikeOutcomes rule s t (execute s (effect_of s i)) (execute t (effect_of t i))
-  alike (Lui d imm) h = stepped_on
-  alike (Auipc d imm) h = stepped_on
-  alike (Addi d a imm) h = stepped_on
-  alike (Slti d a imm) h = stepped_on
-  alike (Sltiu d a imm) h = stepped_on
-  alike (Xori d a imm) h = stepped_on
-  alike (Ori d a imm) h = stepped_on
-  alike (Andi d a imm) h = stepped_on
-  alike (Slli d a k) h = stepped_on
-  alike (Srli d a k) h = stepped_on
-  alike (Srai d a k) h = stepped_on
-  alike (Add d a b) h = stepped_on
-  alike (Sub d a b) h = stepped_on
-  alike (Sll d a b) h = stepped_on
-  alike (Slt d a b) h = stepped_on
-  alike (Sltu d a b) h = stepped_on
-  alike (Xor d a b) h = stepped_on
-  alike (Srl d a b) h = stepped_on
-  alike (Sra d a b) h = stepped_on
-  alike (Or d a b) h = stepped_on
-  alike (And d a b) h = stepped_on
-  alike (Mul d a b) h = stepped_on
-  alike (Mulh d a b) h = stepped_on
-  alike (Mulhsu d a b) h = stepped_on
-  alike (Mulhu d a b) h = stepped_on
-  alike (Div d a b) h = stepped_on
-  alike (Divu d a b) h = stepped_on
-  alike (Rem d a b) h = stepped_on
-  alike (Remu d a b) h = stepped_on
   alike (Jal d imm) h = jumps d (relative s imm) (relative t imm) (same_relative imm)
   alike (Jalr d a imm) h = jumps d (effective_address s a imm / 2 * 2) (effective_address t a imm / 2 * 2) (ap (λ (x : ℕ). x / 2 * 2) (address_agrees ss st a imm h))
   alike (Beq a b imm) h = branches (λ v w. v == w) a b imm h
@@ -195,9 +210,9 @@ module _ {s t : State} (ss : IsSound s) (st : IsSound t) (pc : s.pc ≡ t.pc) (b
   alike (Sb a b imm) h = stores a b imm 1 h
   alike (Sh a b imm) h = stores a b imm 2 h
   alike (Sw a b imm) h = stores a b imm 4 h
-  alike (Fence kept) h = stepped_on
   alike Ecall h = called h
   alike Ebreak h = refl
+  alike other h = stepped_on
 
   -- the places of two steps of one instruction are the same, but of loads by the rule index
   abbrev pub SamePlaces : Instr → Type 0
@@ -208,43 +223,6 @@ module _ {s t : State} (ss : IsSound s) (st : IsSound t) (pc : s.pc ≡ t.pc) (b
   or_load (inr e) = inr (refl, e)
 
   pub places : (i : Instr) → AgreeAt s t (decides rule (kind_of (reg s 17)) i) → SamePlaces i
-  places (Lui d imm) h = inl refl
-  places (Auipc d imm) h = inl refl
-  places (Addi d a imm) h = inl refl
-  places (Slti d a imm) h = inl refl
-  places (Sltiu d a imm) h = inl refl
-  places (Xori d a imm) h = inl refl
-  places (Ori d a imm) h = inl refl
-  places (Andi d a imm) h = inl refl
-  places (Slli d a k) h = inl refl
-  places (Srli d a k) h = inl refl
-  places (Srai d a k) h = inl refl
-  places (Add d a b) h = inl refl
-  places (Sub d a b) h = inl refl
-  places (Sll d a b) h = inl refl
-  places (Slt d a b) h = inl refl
-  places (Sltu d a b) h = inl refl
-  places (Xor d a b) h = inl refl
-  places (Srl d a b) h = inl refl
-  places (Sra d a b) h = inl refl
-  places (Or d a b) h = inl refl
-  places (And d a b) h = inl refl
-  places (Mul d a b) h = inl refl
-  places (Mulh d a b) h = inl refl
-  places (Mulhsu d a b) h = inl refl
-  places (Mulhu d a b) h = inl refl
-  places (Div d a b) h = inl refl
-  places (Divu d a b) h = inl refl
-  places (Rem d a b) h = inl refl
-  places (Remu d a b) h = inl refl
-  places (Jal d imm) h = inl refl
-  places (Jalr d a imm) h = inl refl
-  places (Beq a b imm) h = inl refl
-  places (Bne a b imm) h = inl refl
-  places (Blt a b imm) h = inl refl
-  places (Bge a b imm) h = inl refl
-  places (Bltu a b imm) h = inl refl
-  places (Bgeu a b imm) h = inl refl
   places (Lb d a imm) h = or_load (load_address rule a imm h)
   places (Lh d a imm) h = or_load (load_address rule a imm h)
   places (Lw d a imm) h = or_load (load_address rule a imm h)
@@ -253,9 +231,7 @@ module _ {s t : State} (ss : IsSound s) (st : IsSound t) (pc : s.pc ≡ t.pc) (b
   places (Sb a b imm) h = inl (address_agrees ss st a imm h)
   places (Sh a b imm) h = inl (address_agrees ss st a imm h)
   places (Sw a b imm) h = inl (address_agrees ss st a imm h)
-  places (Fence kept) h = inl refl
-  places Ecall h = inl refl
-  places Ebreak h = inl refl
+  places other h = inl refl
 
   pub same_fetched : AgreeAt s t (decisions rule s) → fetch s ≡ fetch t
   same_fetched h = same_fetch (split_agree s t (decides_fetched rule (kind_of (reg s 17)) (instr_of (fetch s))) (fetched_from s.pc) h).1

@@ -1,5 +1,5 @@
 -- The answers of two recordings over inputs that differ at some bytes.
-use Rattle.std.proofs.Common.{◌≡◌, ℕ, ℤ, zero, suc, ◌+◌, ◌<◌, ◌≤◌, ◌⊎◌, inl, inr, Bool, true, false, List, [], ◌∷◌, ◌++◌, length, take, drop, get_or, pos, negsuc, refl, arith, ap, ap₂, sym, ◌∙◌, subst, length-take, length-drop, get_or-take, get_or-drop}
+use Rattle.std.proofs.Common.{◌≡◌, ℕ, ℤ, zero, suc, ◌+◌, ◌<◌, ◌≤◌, ◌⊎◌, inl, inr, Bool, List, [], ◌∷◌, ◌++◌, length, take, drop, get_or, pos, negsuc, refl, arith, ap, ap₂, sym, ◌∙◌, subst, length-take, length-drop, get_or-take, get_or-drop}
 use Rattle.std.specs.Prelude.{◌==◌, nat_le, not, ◌&&◌, min, if◌then◌else◌}
 use Rattle.std.specs.List.{AllByRecursion}
 use Rattle.std.proofs.lemmas.Bool.{cases_lt}
@@ -17,24 +17,21 @@ use Rattle.flow_model.specs.declared.SourceByte.{SourceByte}
 use Rattle.replay_model.specs.Run.{Moment, start, after_outcome}
 use Rattle.replay_model.specs.Fits.{Fits}
 use Rattle.replay_model.specs.Comparison.{IsLawful, arguments, arguments_of, allowed, bytes_compared}
-use Rattle.replay_model.specs.Comparison.{result as result_compared}
 use Rattle.replay_model.proofs.Agreement.{first_agrees, rest_agrees}
 use Rattle.replay_model.proofs.Offsets.{moment_later}
 use Rattle.replay_model.proofs.Track.{on_track_at, advance_plain}
 use Rattle.record_model.specs.Recorded.{Setting, input_of, part_of, ReadsNext, AllReadNext, clock_values, EndsWithin}
-use Rattle.flow_meaning.specs.RunLaws.{IsRun, moment_at}
-use Rattle.flow_meaning.proofs.Beginning.{fits_makes_run}
-use Rattle.flow_meaning.proofs.Done.{done_at}
-use Rattle.flow_meaning.proofs.Steps.{Does, Plain, Calls, does}
+use Rattle.answer_meaning.specs.RunLaws.{IsRun, moment_at}
+use Rattle.answer_meaning.proofs.Runs.{fits_makes_run, done_at}
+use Rattle.answer_meaning.proofs.Steps.{Does, Plain, Calls, does}
 use Rattle.answer_meaning.specs.Environments.{BytesAlike, SameAnswers}
 use Rattle.answer_meaning.specs.DecisionLaws.{AreRuns}
 use Rattle.answer_meaning.specs.Recordings.{AreSettingsAlike, AreAnswersAlike, RecordingsAreAlike}
-use Rattle.answer_meaning.proofs.Windows.{SameWindow, window_at}
-use Rattle.answer_meaning.proofs.Alike.{left_after}
-use Rattle.answer_meaning.proofs.Together.{moved_by}
-use Rattle.answer_meaning.proofs.Both.{begins_alike, no_influence}
+use Rattle.answer_meaning.proofs.Outcomes.{SameWindow, window_at}
+use Rattle.answer_meaning.proofs.Alike.{left_after, read_arguments, write_arguments, kept_length, kept_if}
+use Rattle.answer_meaning.proofs.Together.{moved_by, begins_alike, no_influence}
 use Rattle.decision_find.proofs.Answered.{IsCallAt, call_at_time, none_left}
-use Rattle.answer_meaning.proofs.Answered.{read_arguments, write_arguments}
+use Rattle.replay_model.specs.Comparison.{result as result_compared}
 
 -- ---- each record of a run was lawful, in a state with the window of the beginning
 
@@ -106,15 +103,8 @@ part_bytes k o i xs ys e = by (cases_lt i k)
 abbrev AsMuch : List CallRecord → List CallRecord → Type 0
 AsMuch before others = (c : ℕ) → length (received c before) ≡ length (received c others)
 
-abbrev kept_if : Bool → List ℕ → List ℕ
-kept_if b xs = if b then xs else []
-
 as_much_after : (before others : List CallRecord) (r q : CallRecord) → AsMuch before others → ((c : ℕ) → length (received_by c r) ≡ length (received_by c q)) → AsMuch (before ++ r ∷ []) (others ++ q ∷ [])
 as_much_after before others r q h g c = length-received-push c before r ∙ ap₂ (λ (x y : ℕ). x + y) (h c) (g c) ∙ sym (length-received-push c others q)
-
-kept_as_much : (b : Bool) (xs ys : List ℕ) → length xs ≡ length ys → length (kept_if b xs) ≡ length (kept_if b ys)
-kept_as_much true xs ys e = e
-kept_as_much false xs ys e = refl
 
 -- ---- writes
 
@@ -162,14 +152,12 @@ module _ (differs : SourceByte → Bool) (x y : Setting) (alike : AreSettingsAli
         bytes_are = λ i d. ap (λ (xs : List ℕ). get_or xs i 0) h.1 ∙ part_bytes k o i (input_of x.inputs c) (input_of y.inputs c) (alike.bytes c (o + i) d) ∙ sym (ap (λ (xs : List ℕ). get_or xs i 0) second);
         long = ap length h.1 ∙ lengths ∙ sym (ap length second);
       }
-  reads_same before others at at1 args args1 result result1 bytes bytes1 (negsuc n) (pos m) much e f h g = cc
-  reads_same before others at at1 args args1 result result1 bytes bytes1 (pos n) (negsuc m) much e f h g = cc
+  reads_same before others at at1 args args1 result result1 bytes bytes1 refused refused1 much e f h g = cc
 
   writes_same : (refused refused1 result result1 : ℤ) (n m : ℕ) → refused ≡ refused1 → n ≡ m → WriteIs refused result n → WriteIs refused1 result1 m → result ≡ result1
   writes_same (negsuc i) (negsuc j) result result1 n m e f h g = h ∙ e ∙ sym g
   writes_same (pos i) (pos j) result result1 n m e f h g = h ∙ ap pos f ∙ sym g
-  writes_same (negsuc i) (pos j) result result1 n m e f h g = cc
-  writes_same (pos i) (negsuc j) result result1 n m e f h g = cc
+  writes_same refused refused1 result result1 n m e f h g = cc
 
   allowed_read : (state : State) (inputs at : ℕ) (args : List ℕ) (result : ℤ) (bytes : List ℕ) → IsLawful state inputs (Read at args result bytes) → result ≡ allowed (refusal_of state inputs (arguments_of state)) result 0
   allowed_read state inputs at args result bytes lawful =
@@ -197,7 +185,7 @@ module _ (differs : SourceByte → Bool) (x y : Setting) (alike : AreSettingsAli
         (same.result_is, same.bytes_are),
         answers_from rs qs (before ++ Read at args result bytes ∷ []) (others ++ Read at1 args1 result1 bytes1 ∷ []) la.1 lb.1 na.1 nb.1 clock
             (as_much_after before others (Read at args result bytes) (Read at1 args1 result1 bytes1) much
-            (λ c. kept_as_much (channel_of args == c) bytes bytes1 same.long ∙ ap (λ (xs : List ℕ). length (kept_if (channel_of xs == c) bytes1)) asks.1)),
+            (λ c. kept_length (channel_of args == c) bytes bytes1 same.long ∙ ap (λ (xs : List ℕ). length (kept_if (channel_of xs == c) bytes1)) asks.1)),
       )
   answers_from (Write at args result bytes ∷ rs) (Write at1 args1 result1 bytes1 ∷ qs) before others la lb na nb clock much = λ asks.
       let one = la.0 in
@@ -211,7 +199,7 @@ module _ (differs : SourceByte → Bool) (x y : Setting) (alike : AreSettingsAli
         same,
         answers_from rs qs (before ++ Write at args result bytes ∷ []) (others ++ Write at1 args1 result1 bytes1 ∷ []) la.1 lb.1 na.1 nb.1 clock
             (as_much_after before others (Write at args result bytes) (Write at1 args1 result1 bytes1) much
-            (λ c. kept_as_much (channel_of args == c) [] [] refl ∙ ap (λ (xs : List ℕ). length (kept_if (channel_of xs == c) [])) asks.1)),
+            (λ c. kept_length (channel_of args == c) [] [] refl ∙ ap (λ (xs : List ℕ). length (kept_if (channel_of xs == c) [])) asks.1)),
       )
   answers_from (Clock at value ∷ rs) (Clock at1 value1 ∷ qs) before others la lb na nb clock much = λ asks. (
     clock.0,
@@ -223,18 +211,7 @@ module _ (differs : SourceByte → Bool) (x y : Setting) (alike : AreSettingsAli
     answers_from rs qs (before ++ Other at number ∷ []) (others ++ Other at1 number1 ∷ []) la.1 lb.1 na.1 nb.1 clock
         (as_much_after before others (Other at number) (Other at1 number1) much (λ c. refl)),
   )
-  answers_from (Read at args result bytes ∷ rs) (Write at1 args1 result1 bytes1 ∷ qs) before others la lb na nb clock much = λ asks. absurd asks
-  answers_from (Read at args result bytes ∷ rs) (Clock at1 value1 ∷ qs) before others la lb na nb clock much = λ asks. absurd asks
-  answers_from (Read at args result bytes ∷ rs) (Other at1 number1 ∷ qs) before others la lb na nb clock much = λ asks. absurd asks
-  answers_from (Write at args result bytes ∷ rs) (Read at1 args1 result1 bytes1 ∷ qs) before others la lb na nb clock much = λ asks. absurd asks
-  answers_from (Write at args result bytes ∷ rs) (Clock at1 value1 ∷ qs) before others la lb na nb clock much = λ asks. absurd asks
-  answers_from (Write at args result bytes ∷ rs) (Other at1 number1 ∷ qs) before others la lb na nb clock much = λ asks. absurd asks
-  answers_from (Clock at value ∷ rs) (Read at1 args1 result1 bytes1 ∷ qs) before others la lb na nb clock much = λ asks. absurd asks
-  answers_from (Clock at value ∷ rs) (Write at1 args1 result1 bytes1 ∷ qs) before others la lb na nb clock much = λ asks. absurd asks
-  answers_from (Clock at value ∷ rs) (Other at1 number1 ∷ qs) before others la lb na nb clock much = λ asks. absurd asks
-  answers_from (Other at number ∷ rs) (Read at1 args1 result1 bytes1 ∷ qs) before others la lb na nb clock much = λ asks. absurd asks
-  answers_from (Other at number ∷ rs) (Write at1 args1 result1 bytes1 ∷ qs) before others la lb na nb clock much = λ asks. absurd asks
-  answers_from (Other at number ∷ rs) (Clock at1 value1 ∷ qs) before others la lb na nb clock much = λ asks. absurd asks
+  answers_from left rest before others la lb na nb clock much = λ asks. absurd asks
 
 -- ---- two recordings
 

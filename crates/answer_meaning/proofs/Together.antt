@@ -1,45 +1,99 @@
--- Two runs, step by step.
-use Rattle.std.proofs.Common.{◌≡◌, ℕ, zero, suc, ◌+◌, ◌^◌, ◌<◌, ◌≤◌, ◌⊎◌, inl, inr, Bool, true, false, cond, List, [], ◌∷◌, drop, length, get_or, Option, Some, None, refl, arith, ap, ap₂, sym, ◌∙◌, subst}
-use Rattle.std.specs.Prelude.{if◌then◌else◌}
-use Rattle.std.proofs.lemmas.Bool.{cases_lt}
-use Rattle.lists.proofs.Tests.{true-false}
-use Rattle.lists.proofs.Lists.{all-weaken}
-use Rattle.isa.specs.declared.Instr.{Instr}
-use Rattle.isa.specs.declared.Instr.TheVariants.{Ecall}
-use Rattle.isa.specs.Machine.{State, Outcome, Retired, Called, next, Fetched, wrap, place_of}
-use Rattle.log_model.specs.declared.CallRecord.{CallRecord}
-use Rattle.log_model.specs.declared.CallRecord.TheVariants.{Read, Write, Clock, Other}
-use Rattle.log_model.specs.Logs.{Log, steps}
+-- Two runs, step by step, and the laws of decisions.
+use Rattle.std.proofs.Common.{◌≡◌, ℕ, zero, suc, ◌+◌, ◌<◌, ◌≤◌, Bool, false, cond, List, [], ◌∷◌, map, refl, arith, sym, subst, ◌⊎◌, inl, inr, true, drop, length, get_or, Some, None, ap, ap₂, ◌∙◌, ◌++◌, append-nil}
+use Rattle.std.specs.Prelude.{All, if◌then◌else◌}
+use Rattle.std.specs.List.{filter, AllByRecursion}
+use Rattle.std.proofs.lemmas.List.Elements.{recursion_from_All, All-from_recursion}
+use Rattle.lists.proofs.Lists.{all-parts, all-weaken}
+use Rattle.isa.specs.Machine.{State, Outcome, Retired, Called, next, Fetched, wrap, place_of, Trapped}
+use Rattle.log_model.specs.declared.RunEnd.{RunEnd}
+use Rattle.log_model.specs.declared.RunEnd.TheVariants.{Exit, Trap, Limit}
+use Rattle.log_model.specs.Logs.{Log, steps_by, end_at, steps}
 use Rattle.flow_model.specs.declared.Loc.{Loc}
-use Rattle.flow_model.specs.declared.Loc.TheVariants.{Reg, Mem}
-use Rattle.flow_model.specs.declared.Rule.{Rule}
-use Rattle.flow_model.specs.declared.Rule.TheVariants.{Copy, Keep, Compute, Index}
 use Rattle.flow_model.specs.declared.SourceByte.{SourceByte}
 use Rattle.flow_model.specs.declared.StepSeen.{StepSeen}
+use Rattle.flow_model.specs.Origins.{Policy, origins, introduced, byte_at}
+use Rattle.replay_model.specs.Run.{Moment, start, advance, moment_after, trace, after_outcome, after_call, step_of}
+use Rattle.replay_model.proofs.Track.{on_track_at, advance_plain}
+use Rattle.answer_meaning.specs.RunLaws.{IsRun, moment_at, under, byte_received, byte_at_sink, AlikeAt, AlikeElsewhere}
+use Rattle.decision_find.specs.Decisions.{decisions, moments_seen, Decision, decision, is_some_byte, decided_at, decided_from, decided}
+use Rattle.answer_meaning.specs.DecisionLaws.{NoneDiffers, IsUndecided, LengthsAreSame, EndsAreSame, StepsAreSame, ContentsAreSame, PathIsSame, ReceivedIsSame, RowsAreSame, AreRuns, NoInfluence}
+use Rattle.std.proofs.lemmas.Bool.{cases_lt}
+use Rattle.isa.specs.declared.Instr.{Instr}
+use Rattle.isa.specs.declared.Instr.TheVariants.{Ecall}
+use Rattle.log_model.specs.declared.CallRecord.{CallRecord}
+use Rattle.log_model.specs.declared.CallRecord.TheVariants.{Read}
+use Rattle.flow_model.specs.declared.Loc.TheVariants.{Mem}
+use Rattle.flow_model.specs.declared.Rule.{Rule}
+use Rattle.flow_model.specs.declared.Rule.TheVariants.{Compute, Index}
 use Rattle.flow_model.specs.declared.CallSeen.{CallSeen}
-use Rattle.flow_model.specs.Flow.{from, distance}
-use Rattle.flow_model.specs.Origins.{Policy, origins, introduced, byte_at, after_step}
-use Rattle.replay_model.specs.Run.{Moment, start, advance, after_outcome, after_call, step_of, trace}
+use Rattle.flow_model.specs.Flow.{distance}
 use Rattle.replay_model.proofs.Offsets.{moment_later}
-use Rattle.replay_model.proofs.Track.{advance_plain}
-use Rattle.flow_meaning.specs.Content.{content, AgreeAt, IsSound}
-use Rattle.flow_meaning.specs.StepLaws.{DeterminedBy, SameStep, receives, bytes_given, answer_by, is_load, on_path}
-use Rattle.flow_meaning.specs.RunLaws.{IsRun, moment_at, under}
-use Rattle.flow_meaning.proofs.Never.{none_is, some_is}
-use Rattle.flow_meaning.proofs.Window.{byte_beyond}
-use Rattle.flow_meaning.proofs.Sets.{union_over-all}
-use Rattle.flow_meaning.proofs.After.{Receives, receives_one, flows, arrives}
-use Rattle.flow_meaning.proofs.Steps.{Does, Plain, Calls, does, instruction_step, same_call, received_is_there}
-use Rattle.flow_meaning.proofs.Calls.{state_given}
-use Rattle.flow_meaning.proofs.Done.{on_track, done_at, sound_at}
-use Rattle.flow_meaning.proofs.Runs.{step_there}
-use Rattle.decision_find.specs.Decisions.{decisions, moments_seen}
-use Rattle.answer_meaning.specs.DecisionLaws.{IsUndecided}
-use Rattle.answer_meaning.proofs.Windows.{window_at}
-use Rattle.answer_meaning.proofs.Outcomes.{AlikeOutcomes, next_alike, same_fetched, places_alike}
-use Rattle.answer_meaning.proofs.Alike.{AreAlike, both_answered, done_after, left_after}
-use Rattle.answer_meaning.proofs.Listed.{Clear, undecided, steps_seen}
-use Rattle.decision_find.proofs.Answered.{call_at_time}
+use Rattle.record_model.specs.States.{IsSound}
+use Rattle.answer_meaning.specs.Content.{content, AgreeAt}
+use Rattle.answer_meaning.specs.StepLaws.{DeterminedBy, SameStep, bytes_given, answer_by, is_load, on_path, IsDoneBy}
+use Rattle.answer_meaning.proofs.Steps.{none_is, some_is, Does, Plain, Calls, does, instruction_step, received_is_there, state_given, compute_determines}
+use Rattle.answer_meaning.proofs.Targets.{word_agrees}
+use Rattle.answer_meaning.proofs.Runs.{content_after, ReceivesAlike, alike_next, on_track, done_at, sound_at, fits_makes_run, determined_rows}
+use Rattle.answer_meaning.proofs.Outcomes.{window_at, AlikeOutcomes, next_alike, same_fetched, places_alike}
+use Rattle.answer_meaning.proofs.Alike.{IsExitAt, AreAlike, both_answered, done_after, left_after, not_exit, exits_at}
+use Rattle.decision_find.proofs.Answered.{call_at_time, IsCallAt, traps_at, none_left}
+use Rattle.isa.specs.declared.Call.{Call}
+use Rattle.isa.specs.declared.CallKind.{CallKind}
+use Rattle.record_model.specs.Recorded.{EndsWithin}
+use Rattle.decision_find.specs.Decides.{used}
+use Rattle.std.proofs.lemmas.Option.{same_Some}
+use Rattle.elf_model.specs.Image.{image}
+use Rattle.log_model.specs.Moved.{received}
+use Rattle.report_model.specs.Query.{has_source}
+use Rattle.report_model.specs.Rows.{Row, rows}
+use Rattle.replay_model.specs.Fits.{start_in_image}
+use Rattle.decision_find.specs.Text.{deciding_query}
+use Rattle.isa.specs.declared.CallKind.TheVariants as kind
+
+pub seen_within : (end : RunEnd) → moments_seen end ≤ end_at end + 1
+seen_within (Exit at code) = omega arith
+seen_within other = omega arith
+
+pub steps_seen : (end : RunEnd) → steps_by end ≤ moments_seen end
+steps_seen (Exit at code) = omega arith
+steps_seen other = omega arith
+
+module _ (differs : SourceByte → Bool) where
+  -- no source byte among these differs, by recursion
+  abbrev pub Clear : List SourceByte → Type 0
+  Clear bs = AllByRecursion (λ x. differs x ≡ false) bs
+
+  -- no location that decides at a moment comes from what differs
+  abbrev pub Undecided : Policy → List StepSeen → ℕ → State → Type 0
+  Undecided policy trace t s = AllByRecursion (λ l. Clear (origins policy trace t l)) (decisions policy.rule s)
+
+  abbrev Passes : Decision → Type 0
+  Passes d = NoneDiffers differs d.sources
+
+  module _ (policy : Policy) (trace : List StepSeen) where
+    each_listed : (m : Moment) (ls : List Loc) → AllByRecursion Passes (filter (λ d. is_some_byte d.sources) (map (decision policy trace m) ls)) → AllByRecursion (λ l. Clear (origins policy trace m.time l)) ls
+    each_listed m [] h = tt
+    each_listed m (l ∷ ls) h = by (each_listed m ls) (origins policy trace m.time l) refl h
+      where
+        rest : List Decision
+        rest = filter (λ d. is_some_byte d.sources) (map (decision policy trace m) ls)
+
+        by : (AllByRecursion Passes rest → AllByRecursion (λ l. Clear (origins policy trace m.time l)) ls) → (bs : List SourceByte) → origins policy trace m.time l ≡ bs
+            → AllByRecursion Passes (cond (is_some_byte bs) (decision policy trace m l ∷ rest) rest) → Clear (origins policy trace m.time l) × AllByRecursion (λ l. Clear (origins policy trace m.time l)) ls
+        by ih [] e h = (subst Clear (sym e) tt, ih h)
+        by ih (b ∷ bs) e h = (recursion_from_All (λ x. differs x ≡ false) (origins policy trace m.time l) h.0, ih h.1)
+
+    listed_from : (n k : ℕ) (m : Moment) → k < n → AllByRecursion Passes (decided_from policy trace n m) → Undecided policy trace (moment_after k m).time (moment_after k m).state
+    listed_from zero k m g h = absurd (omega arith)
+    listed_from (suc n) zero m g h = each_listed m (decisions policy.rule m.state) (all-parts Passes (decided_at policy trace m) (decided_from policy trace n (advance m)) h).0
+    listed_from (suc n) (suc k) m g h = listed_from n k (advance m) (omega arith) (all-parts Passes (decided_at policy trace m) (decided_from policy trace n (advance m)) h).1
+
+  pub undecided : (policy : Policy) (s : State) (log : Log) → IsRun log s → All Passes (decided policy s log) → (k : ℕ) → k < moments_seen log.end → Undecided policy (trace s log) k (moment_at s log k).state
+  undecided policy s log run h k g =
+      let within = seen_within log.end in
+      let time = (on_track_at log s k run.form run.agrees (omega arith)).time in
+      subst (λ (t : ℕ). Undecided policy (trace s log) t (moment_at s log k).state) time
+      (listed_from policy (trace s log) (moments_seen log.end) k (start s log) g (recursion_from_All Passes (decided policy s log) h))
 
 -- ---- steps on one path
 
@@ -50,25 +104,11 @@ on_same Index j k i p q e (inr f) =
     ap (λ (x : ℕ). on_path Index (record { number = x; instr = i; place = p; call = None })) e
     ∙ ap (λ (b : Bool). record { number = k; instr = i; place = if b then 0 else p; call = None }) f.0
     ∙ sym (ap (λ (b : Bool). record { number = k; instr = i; place = if b then 0 else q; call = None }) f.0)
-on_same Copy j k i p q e (inr f) = absurd (other f.1)
-  where
-    other : Copy ≡ Index → ⊥
-    other e = cc
-on_same Keep j k i p q e (inr f) = absurd (other f.1)
-  where
-    other : Keep ≡ Index → ⊥
-    other e = cc
-on_same Compute j k i p q e (inr f) = absurd (other f.1)
-  where
-    other : Compute ≡ Index → ⊥
-    other e = cc
+on_same other j k i p q e (inr f) = let index = f.1 in cc
 
 given_pc : (s : State) (left : List CallRecord) → (state_given s left).pc ≡ wrap (s.pc + 4)
-given_pc s [] = refl
 given_pc s (Read at args result bytes ∷ rs) = refl
-given_pc s (Write at args result bytes ∷ rs) = refl
-given_pc s (Clock at value ∷ rs) = refl
-given_pc s (Other at number ∷ rs) = refl
+given_pc s left = refl
 
 pub record Moved (m n : Moment) (left : List CallRecord) : Type 0 where
   pub done : n.done ≡ done_after m.done left
@@ -209,11 +249,6 @@ module _ (rule : Rule) (law : DeterminedBy rule) (introduces differs : SourceByt
                 (some_is (sym (ap (λ (z : StepSeen). z.call) se) ∙ k)) answered.alike.given;
           }
 
-  -- ---- contents after a step
-
-  origins_later : (t : ℕ) (l : Loc) → t < steps a → origins_at (suc t) l ≡ after_step policy (Some (step_of (first_at t))) (origins_at t) l
-  origins_later t l h = ap (λ (o : Option StepSeen). after_step policy o (origins_at t) l) (step_there s a t h)
-
   introduced_same : (x : SourceByte) → Clear differs (introduced policy x) → differs x ≡ false
   introduced_same x h = by (introduces x) refl h
     where
@@ -221,57 +256,13 @@ module _ (rule : Rule) (law : DeterminedBy rule) (introduces differs : SourceByt
       by true e h = h.0
       by false e h = u.chosen x e
 
-  content_received : (t : ℕ) (l : Loc) → t < steps a → t < steps b → Stepped t → Receives (step_of (first_at t)) l → Clear differs (origins_at (suc t) l) → content (advance (first_at t)).state l ≡ content (advance (second_at t)).state l
-  content_received t (Reg r i) h g step there clear = true-false (sym there.is_there)
-  content_received t (Mem q) h g step there clear = by (cases_lt q (2 ^ 32))
-    where
-      m : Moment
-      m = first_at t
-
-      n : Moment
-      n = second_at t
-
-      one : origins_at (suc t) (Mem q) ≡ introduced policy (byte_at there.call (Mem q))
-      one = origins_later t (Mem q) h ∙ arrives policy (step_of m) (origins_at t) (Mem q) there
-
-      beyond : (log : Log) → IsRun log s → t < steps log → 2 ^ 32 ≤ q → content (advance (moment_at s log t)).state (Mem q) ≡ 0
-      beyond log run f x =
-          let sound = sound_at log s (suc t) run (omega arith) in
-          let y = sound.ends in
-          ap (λ (z : Moment). content z.state (Mem q)) (sym (moment_later t (start s log))) ∙ byte_beyond (moment_at s log (suc t)).state.base (moment_at s log (suc t)).state.memory q (omega arith)
-
-      by : (q < 2 ^ 32) ⊎ (2 ^ 32 ≤ q) → content (advance m).state (Mem q) ≡ content (advance n).state (Mem q)
-      by (inl x) =
-          let called : (step_of n).call ≡ Some there.call = sym (same_call rule (step_of m) (step_of n) step.same.step) ∙ there.is_call in
-          let in_first = received_is_there a.inputs m there.call q (sound_at a s t u.first (omega arith)) (done_at a s t u.first h) x there.is_call there.is_there in
-          let in_second = received_is_there b.inputs n there.call q (sound_at b s t u.second (omega arith)) (done_at b s t u.second g) x called there.is_there in
-          in_first.content_is
-          ∙ step.given there.call there.is_call (distance there.call.place q) in_first.inside (introduced_same (byte_at there.call (Mem q)) (subst (Clear differs) one clear))
-          ∙ sym in_second.content_is
-      by (inr x) = beyond a u.first h x ∙ sym (beyond b u.second g x)
-
-  content_flows : (t : ℕ) (l : Loc) → t < steps a → t < steps b → Together t (first_at t) (second_at t) → Stepped t → receives (step_of (first_at t)) l ≡ false → Clear differs (origins_at (suc t) l) → content (advance (first_at t)).state l ≡ content (advance (second_at t)).state l
-  content_flows t l h g both step e clear =
-      let m = first_at t in
-      let n = second_at t in
-      let whole = origins_later t l h ∙ flows policy (step_of m) (origins_at t) l e in
-      let each = union_over-all (λ x. differs x ≡ false) (origins_at t) (from rule (step_of m) l) (subst (Clear differs) whole clear) in
-      let agree : AgreeAt m.state n.state (from rule (step_of m) l) = all-weaken (λ k. Clear differs (origins_at t k)) (λ k. content m.state k ≡ content n.state k) both.alike (from rule (step_of m) l) each in
-      law a.inputs b.inputs m n l (sound_at a s t u.first (omega arith)) (sound_at b s t u.second (omega arith)) (done_at a s t u.first h) (done_at b s t u.second g) step.same e agree
-
-  content_next : (t : ℕ) (l : Loc) → t < steps a → t < steps b → Together t (first_at t) (second_at t) → Stepped t → Clear differs (origins_at (suc t) l) → content (advance (first_at t)).state l ≡ content (advance (second_at t)).state l
-  content_next t l h g both step clear = by (receives (step_of (first_at t)) l) refl
-    where
-      by : (c : Bool) → receives (step_of (first_at t)) l ≡ c → content (advance (first_at t)).state l ≡ content (advance (second_at t)).state l
-      by true e = content_received t l h g step (receives_one (step_of (first_at t)) l e) clear
-      by false e = content_flows t l h g both step e clear
+  received_alike : (t : ℕ) → t < steps a → t < steps b → Stepped t → ReceivesAlike rule a b s introduces (λ x. differs x ≡ false) t
+  received_alike t h g step call q x y low there clear =
+      let first = received_is_there a.inputs (first_at t) call q (sound_at a s t u.first (omega arith)) (done_at a s t u.first h) low x there in
+      let second = received_is_there b.inputs (second_at t) call q (sound_at b s t u.second (omega arith)) (done_at b s t u.second g) low y there in
+      content_after s a t (Mem q) ∙ first.content_is ∙ step.given call x (distance call.place q) first.inside (introduced_same (byte_at call (Mem q)) clear) ∙ sym second.content_is ∙ sym (content_after s b t (Mem q))
 
   -- ---- all steps
-
-  together_next : (t : ℕ) → t < steps a → t < steps b → Together t (first_at t) (second_at t) → Together (suc t) (advance (first_at t)) (advance (second_at t))
-  together_next t h g both =
-      let step = stepped t h g both in
-      record { pc = step.pc; alike = λ l clear. content_next t l h g both step clear; records = step.records }
 
   pub together_at : (t : ℕ) → t ≤ steps a → t ≤ steps b → Together t (first_at t) (second_at t)
   together_at zero h g = record {
@@ -280,9 +271,239 @@ module _ (rule : Rule) (law : DeterminedBy rule) (introduces differs : SourceByt
     records = record { received_as_much = λ c. refl; written_as_much = λ c. refl; bytes = λ c o e. refl; answers = u.answers };
   }
   together_at (suc t) h g =
-      subst (λ (m : Moment). Together (suc t) m (second_at (suc t))) (sym (moment_later t (start s a)))
-      (subst (λ (n : Moment). Together (suc t) (advance (first_at t)) n) (sym (moment_later t (start s b)))
-      (together_next t (omega arith) (omega arith) (together_at t (omega arith) (omega arith))))
+      let before = together_at t (omega arith) (omega arith) in
+      let step = stepped t (omega arith) (omega arith) before in
+      record {
+        pc = ap (λ (m : Moment). m.state.pc) (moment_later t (start s a)) ∙ step.pc ∙ sym (ap (λ (m : Moment). m.state.pc) (moment_later t (start s b)));
+        alike = λ l clear. alike_next rule a b s introduces (λ x. differs x ≡ false) law u.first u.second t l (omega arith) (omega arith) step.same (received_alike t (omega arith) (omega arith) step) before.alike clear;
+        records = in_moments (first_at (suc t)) (advance (first_at t)) (second_at (suc t)) (advance (second_at t)) (moment_later t (start s a)) (moment_later t (start s b)) step.records;
+      }
 
   pub same_steps : (t : ℕ) → t < steps a → t < steps b → SameStep rule (first_at t) (second_at t)
   same_steps t h g = (stepped t h g (together_at t (omega arith) (omega arith))).same
+
+-- a call of a run that is the exit ends it
+exit_ends : (log : Log) (s : State) (t : ℕ) → IsRun log s → t < steps log → (call : Call) → next (moment_at s log t).state ≡ Called call → call.kind ≡ kind.Exit → (steps log ≡ suc t) × (end_at log.end ≡ t)
+exit_ends log s t run h call e k = by (moment_at s log t).left (call_at_time log s t run.form run.agrees h call e)
+  where
+    by : (left : List CallRecord) → IsCallAt log t (moment_at s log t).state call left → (steps log ≡ suc t) × (end_at log.end ≡ t)
+    by [] x = (x.1, x.2)
+    by (r ∷ rs) x = not_exit r (sym x.3 ∙ k)
+
+-- two outcomes are of one kind
+abbrev SameKind : Outcome → Outcome → Type 0
+SameKind (Retired x) (Retired y) = Unit {0}
+SameKind (Called c) (Called d) = c.kind ≡ d.kind
+SameKind (Trapped j) (Trapped k) = j ≡ k
+SameKind o p = ⊥
+
+same_kind : (x y : State) (o p : Outcome) → AlikeOutcomes Compute x y o p → SameKind o p
+same_kind x y (Retired u) (Retired v) h = tt
+same_kind x y (Called c) (Called d) h = h.0
+same_kind x y (Trapped j) (Trapped k) h = h
+same_kind x y (Retired u) (Trapped k) h = cc
+same_kind x y (Trapped k) (Retired u) h = cc
+same_kind x y o p h = absurd h
+
+kind_turned : (o p : Outcome) → SameKind o p → SameKind p o
+kind_turned (Retired x) (Retired y) h = tt
+kind_turned (Called c) (Called d) h = sym h
+kind_turned (Trapped j) (Trapped k) h = sym h
+kind_turned o p h = absurd h
+
+-- the first of two runs whose outcomes are of one kind doesn't end by itself before the second
+module _ (s : State) (p q : Log) (rp : IsRun p s) (rq : IsRun q s) (same : (t : ℕ) → t ≤ steps p → t < steps q → t < moments_seen p.end → SameKind (next (moment_at s p t).state) (next (moment_at s q t).state)) where
+  known : (t : ℕ) (o : Outcome) → next (moment_at s p t).state ≡ o → t ≤ steps p → t < steps q → t < moments_seen p.end → SameKind o (next (moment_at s q t).state)
+  known t o e h g k = subst (λ (x : Outcome). SameKind x (next (moment_at s q t).state)) e (same t h g k)
+
+  exits_too : (at code : ℕ) → p.end ≡ Exit at code → at < steps q → (steps q ≡ suc at) × (end_at q.end ≡ at)
+  exits_too at code e h =
+      let all : steps p ≡ at + 1 = ap steps_by e in
+      let seen : moments_seen p.end ≡ at + 1 = ap moments_seen e in
+      by (next (moment_at s q at).state) refl (known at (Called exit.call) exit.calls (omega arith) h (omega arith))
+    where
+      exit : IsExitAt (moment_at s p at).state code
+      exit = exits_at p s at code rp e
+
+      by : (o : Outcome) → next (moment_at s q at).state ≡ o → SameKind (Called exit.call) o → (steps q ≡ suc at) × (end_at q.end ≡ at)
+      by (Called d) f k = exit_ends q s at rq h d f (sym k ∙ exit.is_exit)
+      by o f k = absurd k
+
+  not_longer : (n : ℕ) (end : RunEnd) → p.end ≡ end → EndsWithin n end → steps q ≤ n → steps p < steps q → ⊥
+  not_longer n (Exit at code) e x y h =
+      let all : steps p ≡ at + 1 = ap steps_by e in
+      omega (arith, (exits_too at code e (omega arith)).0)
+  not_longer n (Trap at k pc) e x y h =
+      let all : steps p ≡ at = ap steps_by e in
+      let seen : moments_seen p.end ≡ at + 1 = ap moments_seen e in
+      by (next (moment_at s q at).state) (known at (Trapped k) (traps_at p s at k pc rp.form rp.agrees e).traps (omega arith) (omega arith) (omega arith)) (done_at q s at rq (omega arith))
+    where
+      by : (o : Outcome) → SameKind (Trapped k) o → IsDoneBy (moment_at s q at).state q.inputs (moment_at s q at).left o → ⊥
+      by (Trapped j) z d = d
+      by o z d = z
+  not_longer n (Limit at) e x y h = let all : steps p ≡ at = ap steps_by e in omega arith
+
+-- the steps of a run that ends within n steps
+bounded : (n : ℕ) (end : RunEnd) → EndsWithin n end → steps_by end ≤ n
+bounded n (Exit at code) h = omega arith
+bounded n other h = omega arith
+
+module _ (introduces differs : SourceByte → Bool) (s : State) (a b : Log) (u : IsUndecided Compute introduces differs s a b) where
+  outcomes : (t : ℕ) → t ≤ steps a → t ≤ steps b → t < moments_seen a.end → AlikeOutcomes Compute (moment_at s a t).state (moment_at s b t).state (next (moment_at s a t).state) (next (moment_at s b t).state)
+  outcomes t h g k = outcomes_alike Compute compute_determines introduces differs s a b u t h g k (together_at Compute compute_determines introduces differs s a b u t h g)
+
+  outcomes_are : (t : ℕ) (o p : Outcome) → next (moment_at s a t).state ≡ o → next (moment_at s b t).state ≡ p → t ≤ steps a → t ≤ steps b → t < moments_seen a.end → AlikeOutcomes Compute (moment_at s a t).state (moment_at s b t).state o p
+  outcomes_are t o p e f h g k =
+      subst (λ (x : Outcome). AlikeOutcomes Compute (moment_at s a t).state (moment_at s b t).state o x) f
+      (subst (λ (x : Outcome). AlikeOutcomes Compute (moment_at s a t).state (moment_at s b t).state x (next (moment_at s b t).state)) e (outcomes t h g k))
+
+  of_one_kind : (t : ℕ) → t ≤ steps a → t ≤ steps b → t < moments_seen a.end → SameKind (next (moment_at s a t).state) (next (moment_at s b t).state)
+  of_one_kind t h g k = same_kind (moment_at s a t).state (moment_at s b t).state _ _ (outcomes t h g k)
+
+  forwards : (t : ℕ) → t ≤ steps a → t < steps b → t < moments_seen a.end → SameKind (next (moment_at s a t).state) (next (moment_at s b t).state)
+  forwards t h g k = of_one_kind t h (omega arith) k
+
+  backwards : (t : ℕ) → t ≤ steps b → t < steps a → t < moments_seen b.end → SameKind (next (moment_at s b t).state) (next (moment_at s a t).state)
+  backwards t h g k = kind_turned _ _ (of_one_kind t (omega arith) h (let z = steps_seen a.end in omega arith))
+
+  as_long : (n : ℕ) → EndsWithin n a.end → EndsWithin n b.end → steps a ≡ steps b
+  as_long n x y = by (cases_lt (steps a) (steps b)) (cases_lt (steps b) (steps a))
+    where
+      by : (steps a < steps b) ⊎ (steps b ≤ steps a) → (steps b < steps a) ⊎ (steps a ≤ steps b) → steps a ≡ steps b
+      by (inl h) g = absurd (not_longer s a b u.first u.second forwards n a.end refl x (bounded n b.end y) h)
+      by (inr h) (inl g) = absurd (not_longer s b a u.second u.first backwards n b.end refl y (bounded n a.end x) g)
+      by (inr h) (inr g) = omega arith
+
+  -- ---- ends
+
+  one_code : (at code code1 : ℕ) → a.end ≡ Exit at code → b.end ≡ Exit at code1 → code ≡ code1
+  one_code at code code1 e f =
+      let all : steps a ≡ at + 1 = ap steps_by e in
+      let others : steps b ≡ at + 1 = ap steps_by f in
+      let seen : moments_seen a.end ≡ at + 1 = ap moments_seen e in
+      let first = exits_at a s at code u.first e in
+      let second = exits_at b s at code1 u.second f in
+      let alike = outcomes_are at (Called first.call) (Called second.call) first.calls second.calls (omega arith) (omega arith) (omega arith) in
+      let agree = subst (λ (k : CallKind). AgreeAt (moment_at s a at).state (moment_at s b at).state (used k)) first.is_exit alike.2 in
+      first.code_is ∙ word_agrees (sound_at a s at u.first (omega arith)) (sound_at b s at u.second (omega arith)) 10 agree ∙ sym second.code_is
+
+  one_trap : (at k pc k1 pc1 : ℕ) → a.end ≡ Trap at k pc → b.end ≡ Trap at k1 pc1 → Trap at k pc ≡ Trap at k1 pc1
+  one_trap at k pc k1 pc1 e f =
+      let all : steps a ≡ at = ap steps_by e in
+      let others : steps b ≡ at = ap steps_by f in
+      let seen : moments_seen a.end ≡ at + 1 = ap moments_seen e in
+      let first = traps_at a s at k pc u.first.form u.first.agrees e in
+      let second = traps_at b s at k1 pc1 u.second.form u.second.agrees f in
+      let kinds = outcomes_are at (Trapped k) (Trapped k1) first.traps second.traps (omega arith) (omega arith) (omega arith) in
+      ap₂ (Trap at) kinds (first.pc_is ∙ (together_at Compute compute_determines introduces differs s a b u at (omega arith) (omega arith)).pc ∙ sym second.pc_is)
+
+  one_end : (n : ℕ) (e f : RunEnd) → a.end ≡ e → b.end ≡ f → EndsWithin n e → EndsWithin n f → steps a ≡ steps b → e ≡ f
+  one_end n (Exit at code) (Exit at1 code1) e f x y h =
+      let same : at ≡ at1 = omega (arith, ap steps_by e, ap steps_by f) in
+      ap₂ Exit same (one_code at code code1 e (f ∙ ap (λ (t : ℕ). Exit t code1) (sym same)))
+  one_end n (Trap at k pc) (Trap at1 k1 pc1) e f x y h =
+      let same : at ≡ at1 = omega (arith, ap steps_by e, ap steps_by f) in
+      one_trap at k pc k1 pc1 e (f ∙ ap (λ (t : ℕ). Trap t k1 pc1) (sym same)) ∙ ap (λ (t : ℕ). Trap t k1 pc1) same
+  one_end n (Limit at) (Limit at1) e f x y h = ap Limit (omega (arith, ap steps_by e, ap steps_by f))
+  one_end n (Exit at code) other e f x y h =
+      let all : steps a ≡ at + 1 = ap steps_by e in
+      absurd (omega (arith, ap steps_by f, ap end_at f, (exits_too s a b u.first u.second forwards at code e (omega arith)).1))
+  one_end n other (Exit at code) e f x y h =
+      let all : steps b ≡ at + 1 = ap steps_by f in
+      absurd (omega (arith, ap steps_by e, ap end_at e, (exits_too s b a u.second u.first backwards at code f (omega arith)).1))
+  one_end n first second e f x y h = absurd (omega (arith, ap steps_by e, ap steps_by f))
+
+pub lengths_are_same : LengthsAreSame
+lengths_are_same introduces differs s a b u n x y = as_long introduces differs s a b u n x y
+
+pub ends_are_same : EndsAreSame
+ends_are_same introduces differs s a b u n x y = one_end introduces differs s a b u n a.end b.end refl refl x y (as_long introduces differs s a b u n x y)
+
+-- ---- the laws
+
+pub steps_are_same : (rule : Rule) → DeterminedBy rule → StepsAreSame rule
+steps_are_same rule law introduces differs s a b u k h g = same_steps rule law introduces differs s a b u k h g
+
+pub contents_are_same : (rule : Rule) → DeterminedBy rule → ContentsAreSame rule
+contents_are_same rule law introduces differs s a b u t l h g clear =
+    (together_at rule law introduces differs s a b u t h g).alike l (recursion_from_All (λ x. differs x ≡ false) (origins (under rule introduces) (trace s a) t l) clear)
+
+pub path_is_same : (rule : Rule) → DeterminedBy rule → PathIsSame rule
+path_is_same rule law introduces differs s a b u e = record { as_long = e; each = λ k h. same_steps rule law introduces differs s a b u k h (omega arith) }
+
+-- ---- all records are done at the end
+
+done_at_end : (log : Log) (s : State) → IsRun log s → (moment_at s log (end_at log.end)).done ≡ log.records
+done_at_end log s run =
+    let m = moment_at s log (end_at log.end) in
+    let there = on_track_at log s (end_at log.end) run.form run.agrees (omega arith) in
+    let time = there.time in
+    sym (append-nil m.done) ∙ ap (λ (left : List CallRecord). m.done ++ left) (sym (none_left log m there.on (omega arith))) ∙ there.on.all
+
+done_by : (log : Log) (s : State) (end : RunEnd) → IsRun log s → log.end ≡ end → (moment_at s log (steps_by end)).done ≡ log.records
+done_by log s (Trap at k pc) run e = ap (λ (t : RunEnd). (moment_at s log (end_at t)).done) (sym e) ∙ done_at_end log s run
+done_by log s (Limit at) run e = ap (λ (t : RunEnd). (moment_at s log (end_at t)).done) (sym e) ∙ done_at_end log s run
+done_by log s (Exit at code) run e =
+    let m = moment_at s log at in
+    let exit = exits_at log s at code run e in
+    let there = on_track_at log s at run.form run.agrees (let last : end_at log.end ≡ at = ap end_at e in omega arith) in
+    let time = there.time in
+    let none : m.left ≡ [] = none_left log m there.on (let last : end_at log.end ≡ at = ap end_at e in omega arith) in
+    let later : at + 1 ≡ suc at = omega arith in
+    ap (λ (t : ℕ). (moment_at s log t).done) later
+    ∙ ap (λ (x : Moment). x.done) (moment_later at (start s log))
+    ∙ ap (λ (x : Moment). x.done) (ap (after_outcome m) exit.calls)
+    ∙ (moved_by m m.left refl).done
+    ∙ ap (done_after m.done) none
+    ∙ ap (λ (t : RunEnd). (moment_at s log (end_at t)).done) (sym e) ∙ done_at_end log s run
+
+all_done : (log : Log) (s : State) → IsRun log s → (moment_at s log (steps log)).done ≡ log.records
+all_done log s run = done_by log s log.end run refl
+
+pub received_is_same : (rule : Rule) → DeterminedBy rule → ReceivedIsSame rule
+received_is_same rule law introduces differs s a b u e x h =
+    let both = together_at rule law introduces differs s a b u (steps a) (omega arith) (omega arith) in
+    ap (λ (rs : List CallRecord). get_or (received x.channel rs) x.offset 0) (sym (all_done a s u.first))
+    ∙ both.records.bytes x.channel x.offset h
+    ∙ ap (λ (t : ℕ). get_or (received x.channel (moment_at s b t).done) x.offset 0) e
+    ∙ ap (λ (rs : List CallRecord). get_or (received x.channel rs) x.offset 0) (all_done b s u.second)
+
+-- ---- rows
+
+pub rows_are_same : (rule : Rule) → DeterminedBy rule → RowsAreSame rule
+rows_are_same rule law q differs s a b is u e =
+    let same = received_is_same rule law (has_source q) differs s a b u e in
+    let path = path_is_same rule law (has_source q) differs s a b u e in
+    let elsewhere : AlikeElsewhere (has_source q) a b = λ x h. same x (u.chosen x h) in
+    let all = determined_rows rule law a b s u.first u.second path q is elsewhere in
+    All-from_recursion Q (rows q (trace s a)) (all-weaken P Q (λ r h clear. h (alike same r.sources clear)) (rows q (trace s a)) (recursion_from_All P (rows q (trace s a)) all))
+  where
+    P : Row → Type 0
+    P r = AlikeAt a b r.sources → byte_at_sink s a r.sink ≡ byte_at_sink s b r.sink
+
+    Q : Row → Type 0
+    Q r = NoneDiffers differs r.sources → byte_at_sink s a r.sink ≡ byte_at_sink s b r.sink
+
+    alike : ((x : SourceByte) → differs x ≡ false → byte_received a x ≡ byte_received b x) → (bs : List SourceByte) → NoneDiffers differs bs → AlikeAt a b bs
+    alike same bs h = All-from_recursion (λ x. byte_received a x ≡ byte_received b x) bs
+        (all-weaken (λ x. differs x ≡ false) (λ x. byte_received a x ≡ byte_received b x) same bs (recursion_from_All (λ x. differs x ≡ false) bs h))
+
+-- ---- two runs of one program
+
+pub begins_alike : (program : List ℕ) (a b : Log) (runs : AreRuns program a b) → runs.fits_too.start ≡ runs.fits.start
+begins_alike program a b runs =
+    same_Some runs.fits_too.start runs.fits.start (sym runs.fits_too.begins ∙ ap (λ (n : ℕ). start_in_image (image program) n) (sym runs.pages) ∙ runs.fits.begins)
+
+pub no_influence : NoInfluence
+no_influence program a b runs q differs is chosen none answers n x y =
+    let s = runs.fits.start in
+    let p = deciding_query q in
+    let second : IsRun b s = subst (IsRun b) (begins_alike program a b runs) (fits_makes_run program b runs.bytes runs.second runs.fits_too) in
+    let listed : All (λ d. NoneDiffers differs d.sources) (decided (under Compute (has_source p)) s a) = subst (λ (r : Rule). All (λ d. NoneDiffers differs d.sources) (decided (under r (has_source p)) s a)) is none in
+    let u : IsUndecided Compute (has_source p) differs s a b = record { first = fits_makes_run program a runs.bytes runs.first runs.fits; second = second; chosen = chosen; none = listed; answers = answers } in
+    let long = lengths_are_same (has_source p) differs s a b u n x y in
+    record {
+      path = path_is_same Compute compute_determines (has_source p) differs s a b u long;
+      end = ends_are_same (has_source p) differs s a b u n x y;
+      rows_are = rows_are_same Compute compute_determines p differs s a b is u long;
+    }

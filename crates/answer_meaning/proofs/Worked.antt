@@ -1,507 +1,450 @@
--- Examples: a run without decisions, and one for each kind of decision without which the laws would be false.
-use Rattle.std.proofs.Common.{◌≡◌, ℕ, suc, ◌+◌, ◌^◌, ◌<◌, Bool, true, List, [], ◌∷◌, ◌++◌, length, take, pos, refl, arith, inl, inr, replicate}
-use Rattle.std.specs.Prelude.{nat_lt, ◌<ℤ◌, Some}
+-- Examples: why the laws have the premises that they have; and of each kind of decision that it is needed: were it not listed, the
+-- laws would be false. The premise that nothing is listed is false of the table as it stands; it holds of a table without that kind.
+use Rattle.std.proofs.Common.{◌≡◌, ℕ, suc, ◌+◌, ◌^◌, ◌<◌, ◌≤◌, Bool, true, List, [], ◌∷◌, ◌++◌, map, length, take, get_or, pos, Option, Some, None, refl, arith, ap, sym, subst, inl, inr, replicate}
+use Rattle.std.specs.Prelude.{nat_lt, ◌<ℤ◌, All}
 use Rattle.std.specs.List.{flat_map, list_all, AllByRecursion}
 use Rattle.std.proofs.lemmas.Int.{ints}
+use Rattle.std.proofs.lemmas.List.Elements.{All-from_recursion}
 use Rattle.std.specs.Int.{w32, to_le_bytes}
 use Rattle.lists.proofs.Numbers.{get_or-below, all-below}
+use Rattle.lists.proofs.Tests.{true-false}
+use Rattle.isa.specs.declared.CallKind.TheVariants as kind
 use Rattle.isa.specs.declared.Instr.{Instr}
-use Rattle.isa.specs.declared.Instr.TheVariants.{Ecall, Lbu, Beq, Jalr, Auipc, Sb, Addi, Add}
-use Rattle.isa.specs.Machine.{State}
+use Rattle.isa.specs.declared.Instr.TheVariants.{Ecall, Lbu, Beq, Jalr, Auipc, Sb, Addi, Add, Sltu}
+use Rattle.isa.specs.Machine.{State, reg, execute, effect_of, moved_on_with, Retired}
 use Rattle.isa.specs.Encodings.{encoding}
 use Rattle.log_model.specs.declared.CallRecord.{CallRecord}
 use Rattle.log_model.specs.declared.CallRecord.TheVariants.{Read, Write, Other}
 use Rattle.log_model.specs.declared.RunEnd.{RunEnd}
 use Rattle.log_model.specs.declared.RunEnd.TheVariants.{Exit, Trap}
-use Rattle.log_model.specs.Logs.{Log, IsLog, IsTransfer, steps}
+use Rattle.log_model.specs.Logs.{Log, IsLog, IsTransfer, IsRecord, IsBytes, IsEnd, Rise, least_after, steps, end_at}
+use Rattle.flow_model.specs.declared.CallSeen.{CallSeen}
 use Rattle.flow_model.specs.declared.Loc.{Loc}
 use Rattle.flow_model.specs.declared.Loc.TheVariants.{Reg, Mem}
-use Rattle.flow_model.specs.declared.Rule.TheVariants.{Compute, Index}
+use Rattle.flow_model.specs.declared.Rule.TheVariants.{Copy, Compute, Index}
 use Rattle.flow_model.specs.declared.SourceByte.{SourceByte}
+use Rattle.flow_model.specs.declared.StepSeen.{StepSeen}
+use Rattle.flow_model.specs.Flow.{flow, from, origins_by}
 use Rattle.flow_model.specs.Origins.{origins}
-use Rattle.replay_model.specs.Run.{trace}
-use Rattle.flow_meaning.specs.Content.{IsSound}
-use Rattle.flow_meaning.specs.RunLaws.{IsRun, under}
+use Rattle.replay_model.specs.Run.{step_of, trace, simple_call}
+use Rattle.replay_model.specs.Comparison.{call_event, divergence}
+use Rattle.record_model.specs.States.{IsSound}
+use Rattle.answer_meaning.specs.Content.{content}
+use Rattle.answer_meaning.specs.StepLaws.{SameStep}
+use Rattle.answer_meaning.specs.RunLaws.{IsRun, SamePath, content_at, moment_at, byte_received, byte_written, under}
 use Rattle.decision_find.specs.Decisions.{Decision, decided}
+use Rattle.answer_meaning.specs.Environments.{SameAnswers}
+use Rattle.answer_meaning.specs.DecisionLaws.{NoneDiffers, IsUndecided, StepsAreSame, LengthsAreSame, EndsAreSame}
 
 -- ---- guests that read a byte or two, and write one or two
 
 -- the code from 0 on, and these bytes from 64 on; x10, x11, x12 and x17 are those of a read of n bytes to a place
-abbrev pub beginning_with : List Instr → ℕ → ℕ → List ℕ → State
+abbrev beginning_with : List Instr → ℕ → ℕ → List ℕ → State
 beginning_with code place n bytes = record {
   pc = 0;
-  registers = 0 ∷ 0 ∷ 0 ∷ 0 ∷ 0 ∷ 0 ∷ 0 ∷ 0 ∷ 0 ∷ 0 ∷ 0 ∷ place ∷ n ∷ 0 ∷ 0 ∷ 0 ∷ 0 ∷ 63 ∷ replicate 14 0;
+  registers = replicate 11 0 ++ place ∷ n ∷ 0 ∷ 0 ∷ 0 ∷ 0 ∷ 63 ∷ replicate 14 0;
   base = 0;
   memory = take 64 (flat_map (λ i. to_le_bytes w32 (encoding i)) code ++ replicate 64 0) ++ bytes;
 }
 
-abbrev pub read_of : ℕ → List ℕ → CallRecord
-read_of place xs = Read 0 (0 ∷ place ∷ length xs ∷ []) (pos (length xs)) xs
+-- the bytes xs are read to a place first; then come these records, and the end
+abbrev log_with : ℕ → List ℕ → List CallRecord → RunEnd → Log
+log_with place xs rest end = record {
+  pages = 1;
+  inputs = 1;
+  digest = replicate 32 0;
+  records = Read 0 (0 ∷ place ∷ length xs ∷ []) (pos (length xs)) xs ∷ rest;
+  end = end;
+}
 
-abbrev pub write_of : ℕ → ℕ → List ℕ → CallRecord
-write_of at channel ys = Write at (channel ∷ 60 ∷ length ys ∷ []) (pos (length ys)) ys
-
-abbrev pub log_with : List CallRecord → RunEnd → Log
-log_with records end = record { pages = 1; inputs = 1; digest = replicate 32 0; records = records; end = end }
-
--- the bytes xs are read to a place first, and ys are written on a channel after n steps; then the exit, with this code
-abbrev pub log_of : ℕ → ℕ → ℕ → ℕ → List ℕ → List ℕ → Log
-log_of place n channel code xs ys = log_with (read_of place xs ∷ write_of n channel ys ∷ []) (Exit (suc (suc n)) code)
+-- after n steps ys are written on a channel, from their place; then comes the exit, with this code
+abbrev log_of : ℕ → ℕ → ℕ → ℕ → ℕ → List ℕ → List ℕ → Log
+log_of place n channel from code xs ys = log_with place xs (Write n (channel ∷ from ∷ length ys ∷ []) (pos (length ys)) ys ∷ []) (Exit (suc (suc n)) code)
 
 abbrev pub byte_in : ℕ → SourceByte
 byte_in i = record { channel = 0; offset = i }
 
-pub a_transfer : (channel place : ℕ) (xs : List ℕ) → channel < 2 ^ 32 → place < 2 ^ 32 → length xs < 2 ^ 31 → AllByRecursion (λ v. v < 256) xs → IsTransfer (channel ∷ place ∷ length xs ∷ []) (pos (length xs)) xs
+abbrev pub all : SourceByte → Bool
+all b = true
+
+pub a_transfer : (channel place : ℕ) (xs : List ℕ) → channel < 2 ^ 32 → place < 2 ^ 32 → length xs < 2 ^ 31 → IsBytes xs → IsTransfer (channel ∷ place ∷ length xs ∷ []) (pos (length xs)) xs
 a_transfer channel place xs h g k b = record { three = refl; words = (h, (g, (omega arith, tt))); fits = fits; whole = refl; are_bytes = b }
   where
     fits : pos (length xs) <ℤ pos (2 ^ 31)
     fits = omega (arith, ints)
 
-pub is_log : (place n channel code : ℕ) (xs ys : List ℕ) → 0 < n → n < 100 → place < 100 → channel < 16 → code < 16 → length xs < 3 → length ys < 3 → AllByRecursion (λ v. v < 256) xs → AllByRecursion (λ v. v < 256) ys → IsLog (log_of place n channel code xs ys)
-is_log place n channel code xs ys low high p c d lx ly bx by = record {
-  pages = (omega arith, omega arith);
-  inputs = omega arith;
-  digest = refl;
-  digest_bytes = all-below 256 (replicate 32 0) refl;
-  records = ((omega arith, a_transfer 0 place xs (omega arith) (omega arith) (omega arith) bx, inr (omega (arith, ints), omega (arith, ints))), ((omega arith, a_transfer channel 60 ys (omega arith) (omega arith) (omega arith) by, inr refl), tt));
-  end = (omega arith, omega arith);
-  rise = (omega arith, (omega arith, tt));
-  ends_after = omega arith;
+abbrev are_small : List ℕ → Bool
+are_small ns = list_all (λ v. nat_lt v 256) ns
+
+is_log : (place : ℕ) (xs : List ℕ) (rest : List CallRecord) (end : RunEnd) → are_small (place ∷ length xs ∷ xs) ≡ true → AllByRecursion IsRecord rest → IsEnd end → Rise 1 rest → least_after 1 rest ≤ end_at end → IsLog (log_with place xs rest end)
+is_log place xs rest end small form ends rise after =
+    let few = all-below 256 (place ∷ length xs ∷ xs) small in
+    record {
+      pages = (omega arith, omega arith);
+      inputs = omega arith;
+      digest = refl;
+      digest_bytes = all-below 256 (replicate 32 0) refl;
+      records = ((omega arith, a_transfer 0 place xs (omega arith) (omega arith) (omega arith) few.1.1, inr (omega (arith, ints), omega (arith, ints))), form);
+      end = ends;
+      rise = (omega arith, rise);
+      ends_after = after;
+    }
+
+is_sound : (s : State) → length s.registers ≡ 32 → reg s 0 ≡ 0 → list_all (λ v. nat_lt v (2 ^ 32)) s.registers ≡ true → list_all (λ v. nat_lt v (2 ^ 8)) s.memory ≡ true → s.base + length s.memory ≤ 2 ^ 32 → IsSound s
+is_sound s count first words bytes ends = record {
+  count = count;
+  first = first;
+  words = get_or-below (2 ^ 32) s.registers (omega arith) (all-below (2 ^ 32) s.registers words);
+  bytes = get_or-below (2 ^ 8) s.memory (omega arith) (all-below (2 ^ 8) s.memory bytes);
+  ends = ends;
 }
 
-pub is_sound : (code : List Instr) (place n : ℕ) (bytes : List ℕ) → (list_all (λ v. nat_lt v (2 ^ 32)) (beginning_with code place n bytes).registers ≡ true) → length (beginning_with code place n bytes).registers ≡ 32
-    → (list_all (λ v. nat_lt v (2 ^ 8)) (beginning_with code place n bytes).memory ≡ true) → length (beginning_with code place n bytes).memory < 100 → IsSound (beginning_with code place n bytes)
-is_sound code place n bytes r c m l = record {
-  count = c;
-  first = refl;
-  words = get_or-below (2 ^ 32) (beginning_with code place n bytes).registers (omega arith) (all-below (2 ^ 32) (beginning_with code place n bytes).registers r);
-  bytes = get_or-below (2 ^ 8) (beginning_with code place n bytes).memory (omega arith) (all-below (2 ^ 8) (beginning_with code place n bytes).memory m);
-  ends = omega arith;
+-- a run that reads and writes
+wrote : (s : State) (place n channel from code : ℕ) (xs ys : List ℕ) → IsSound s → are_small (place ∷ length xs ∷ xs) ≡ true → are_small (n ∷ channel ∷ from ∷ code ∷ length ys ∷ ys) ≡ true → divergence s (log_of place (suc n) channel from code xs ys) ≡ None → IsRun (log_of place (suc n) channel from code xs ys) s
+wrote s place n channel from code xs ys sound small few agrees =
+    let few = all-below 256 (n ∷ channel ∷ from ∷ code ∷ length ys ∷ ys) few in
+    record {
+      form = is_log place xs (Write (suc n) (channel ∷ from ∷ length ys ∷ []) (pos (length ys)) ys ∷ []) (Exit (suc (suc (suc n))) code) small ((omega arith, a_transfer channel from ys (omega arith) (omega arith) (omega arith) few.1.1.1.1.1, inr refl), tt) (omega arith, omega arith) (omega arith, tt) (omega arith);
+      sound = sound;
+      agrees = agrees;
+    }
+
+-- stores the lowest byte of x6 at 60 and writes it, and exits
+abbrev write_and_exit : List Instr
+write_and_exit = Sb 11 6 (pos 0) ∷ Addi 17 0 (pos 64) ∷ Ecall ∷ Addi 17 0 (pos 93) ∷ Ecall ∷ []
+
+-- one decision, of the instruction i at this time and pc, by the first byte that was read
+abbrev one_at : ℕ → ℕ → Instr → Loc → List Decision
+one_at t pc i l = record { time = t; pc = pc; instr = Some i; loc = l; sources = byte_in 0 ∷ [] } ∷ []
+
+-- ---- where nothing is listed, the laws say that two runs are the same
+
+abbrev NothingListed : State → Log → Type 0
+NothingListed s a = decided (under Compute all) s a ≡ []
+
+abbrev Same : ℕ → ℕ → Type 0
+Same j k = j ≡ k
+
+undecided : {s : State} {a b : Log} → IsRun a s × IsRun b s → SameAnswers all [] a.records b.records → NothingListed s a → IsUndecided Compute all all s a b
+undecided runs answers e = record {
+  first = runs.0;
+  second = runs.1;
+  chosen = λ x f. true-false f;
+  none = subst (λ (ds : List Decision). All (λ d. NoneDiffers all d.sources) ds) (sym e) (All-from_recursion (λ (d : Decision). NoneDiffers all d.sources) [] tt);
+  answers = answers;
 }
 
-abbrev pub all : SourceByte → Bool
-all b = true
+same_step : {s : State} {a b : Log} → IsRun a s × IsRun b s → SameAnswers all [] a.records b.records → (k : ℕ) → k < steps a → k < steps b → NothingListed s a → StepsAreSame Compute → SameStep Compute (moment_at s a k) (moment_at s b k)
+same_step {s = s} {a = a} {b = b} runs answers k h g e law = law all all s a b (undecided runs answers e) k h g
+
+abbrev call_in : Option CallSeen → CallSeen
+call_in (Some call) = call
+call_in None = simple_call kind.Exit
+
+abbrev number_in : Instr → ℕ
+number_in (Addi d a (pos n)) = n
+number_in other = 0
+
+abbrev code_in : RunEnd → ℕ
+code_in (Exit at code) = code
+code_in other = 0
 
 -- ---- a run without decisions
 
 -- reads two bytes, doubles the first, and writes both
-abbrev pub doubling : List Instr
-doubling = Ecall ∷ Lbu 5 11 (pos 0) ∷ Add 5 5 5 ∷ Sb 11 5 (pos 0) ∷ Addi 17 0 (pos 64) ∷ Ecall ∷ Addi 17 0 (pos 93) ∷ Ecall ∷ []
-
-abbrev pub doubling_start : State
-doubling_start = beginning_with doubling 60 2 []
+abbrev pub doubling : State
+doubling = beginning_with (Ecall ∷ Lbu 5 11 (pos 0) ∷ Add 5 5 5 ∷ Sb 11 5 (pos 0) ∷ Addi 17 0 (pos 64) ∷ Ecall ∷ Addi 17 0 (pos 93) ∷ Ecall ∷ []) 60 2 []
 
 abbrev pub doubled : ℕ → ℕ → Log
-doubled x y = log_of 60 5 2 2 (x ∷ y ∷ []) ((x + x) ∷ (y ∷ []))
+doubled x y = log_of 60 5 2 60 2 (x ∷ y ∷ []) ((x + x) ∷ (y ∷ []))
 
-pub doubling_sound : IsSound doubling_start
-doubling_sound = is_sound doubling 60 2 [] refl refl refl (omega arith)
+pub doubling_runs : IsRun (doubled 3 7) doubling × IsRun (doubled 100 7) doubling
+doubling_runs =
+    let sound = is_sound doubling refl refl refl refl (omega arith) in
+    (wrote doubling 60 4 2 60 2 (3 ∷ 7 ∷ []) (6 ∷ 7 ∷ []) sound refl refl refl, wrote doubling 60 4 2 60 2 (100 ∷ 7 ∷ []) (200 ∷ 7 ∷ []) sound refl refl refl)
 
-pub first_doubled : IsRun (doubled 3 7) doubling_start
-first_doubled = record { form = is_log 60 5 2 2 (3 ∷ 7 ∷ []) (6 ∷ 7 ∷ []) (omega arith) (omega arith) (omega arith) (omega arith) (omega arith) (omega arith) (omega arith) (all-below 256 (3 ∷ 7 ∷ []) refl) (all-below 256 (6 ∷ 7 ∷ []) refl); sound = doubling_sound; agrees = refl }
-
-pub second_doubled : IsRun (doubled 100 7) doubling_start
-second_doubled = record { form = is_log 60 5 2 2 (100 ∷ 7 ∷ []) (200 ∷ 7 ∷ []) (omega arith) (omega arith) (omega arith) (omega arith) (omega arith) (omega arith) (omega arith) (all-below 256 (100 ∷ 7 ∷ []) refl) (all-below 256 (200 ∷ 7 ∷ []) refl); sound = doubling_sound; agrees = refl }
-
-pub nothing_decided : decided (under Compute all) doubling_start (doubled 3 7) ≡ []
+nothing_decided : decided (under Compute all) doubling (doubled 3 7) ≡ []
 nothing_decided = refl
 
--- stores the lowest byte of x6 at 60 and writes it, and exits
-abbrev pub write_and_exit : List Instr
-write_and_exit = Sb 11 6 (pos 0) ∷ Addi 17 0 (pos 64) ∷ Ecall ∷ Addi 17 0 (pos 93) ∷ Ecall ∷ []
+-- ---- a branch, by its first and by its second operand, and a jump by a register
 
--- one decision, of the instruction i at this time and pc, by the first byte that was read
-abbrev pub one_at : ℕ → ℕ → Instr → Loc → List Decision
-one_at t pc i l = record { time = t; pc = pc; instr = Some i; loc = l; sources = byte_in 0 ∷ [] } ∷ []
+-- goes on at 12 or at 36, as this instruction says, and writes the pc
+abbrev going : Instr → State
+going i = beginning_with ((Ecall ∷ Lbu 5 11 (pos 0) ∷ i ∷ []) ++ Auipc 6 (pos 0) ∷ write_and_exit ++ Auipc 6 (pos 0) ∷ write_and_exit) 60 1 []
 
--- ---- a branch
+abbrev gone : ℕ → ℕ → Log
+gone x y = log_of 60 6 1 60 1 (x ∷ []) (y ∷ [])
 
--- goes on at 36 if the byte is 0 and at 12 if not; writes the pc
-abbrev pub branching : List Instr
-branching = (Ecall ∷ Lbu 5 11 (pos 0) ∷ Beq 5 0 (pos 28) ∷ []) ++ Auipc 6 (pos 0) ∷ write_and_exit ++ Auipc 6 (pos 0) ∷ write_and_exit
+abbrev branching : State
+branching = going (Beq 5 0 (pos 28))
 
-abbrev pub branching_start : State
-branching_start = beginning_with branching 60 1 []
+branching_runs : IsRun (gone 1 12) branching × IsRun (gone 0 36) branching
+branching_runs =
+    let sound = is_sound branching refl refl refl refl (omega arith) in
+    (wrote branching 60 5 1 60 1 (1 ∷ []) (12 ∷ []) sound refl refl refl, wrote branching 60 5 1 60 1 (0 ∷ []) (36 ∷ []) sound refl refl refl)
 
-pub branching_sound : IsSound branching_start
-branching_sound = is_sound branching 60 1 [] refl refl refl (omega arith)
+branching_decides : (decided (under Compute all) branching (gone 1 12) ≡ one_at 2 8 (Beq 5 0 (pos 28)) (Reg 5 0)) × (origins (under Compute all) (trace branching (gone 1 12)) 6 (Mem 60) ≡ [])
+branching_decides = (refl, refl)
 
-abbrev pub first_branching : Log
-first_branching = log_of 60 6 1 1 (1 ∷ []) (12 ∷ [])
+branching_needed : NothingListed branching (gone 1 12) → StepsAreSame Compute → ⊥
+branching_needed e law = let z : Same 12 36 = (same_step branching_runs (λ asks. ((refl, λ i e. true-false e), λ asks. (refl, tt))) 3 (omega arith) (omega arith) e law).pc in absurd (omega arith)
 
-pub first_branching_runs : IsRun first_branching branching_start
-first_branching_runs = record { form = is_log 60 6 1 1 (1 ∷ []) (12 ∷ []) (omega arith) (omega arith) (omega arith) (omega arith) (omega arith) (omega arith) (omega arith) (all-below 256 (1 ∷ []) refl) (all-below 256 (12 ∷ []) refl); sound = branching_sound; agrees = refl }
+-- the traces are one, the output byte has no origin by index either, and it is another byte: the pcs at which AUIPC stands differ
+other_pcs : (trace branching (gone 1 12) ≡ trace branching (gone 0 36)) × (origins (under Index all) (trace branching (gone 1 12)) 6 (Mem 60) ≡ []) × (byte_written (gone 1 12) (record { channel = 1; offset = 0 }) ≡ 12)
+    × (byte_written (gone 0 36) (record { channel = 1; offset = 0 }) ≡ 36) × ((moment_at branching (gone 1 12) 3).state.pc ≡ 12) × ((moment_at branching (gone 0 36) 3).state.pc ≡ 36)
+other_pcs = (refl, refl, refl, refl, refl, refl)
 
-abbrev pub second_branching : Log
-second_branching = log_of 60 6 1 1 (0 ∷ []) (36 ∷ [])
+abbrev comparing : State
+comparing = going (Beq 0 5 (pos 28))
 
-pub second_branching_runs : IsRun second_branching branching_start
-second_branching_runs = record { form = is_log 60 6 1 1 (0 ∷ []) (36 ∷ []) (omega arith) (omega arith) (omega arith) (omega arith) (omega arith) (omega arith) (omega arith) (all-below 256 (0 ∷ []) refl) (all-below 256 (36 ∷ []) refl); sound = branching_sound; agrees = refl }
+comparing_runs : IsRun (gone 1 12) comparing × IsRun (gone 0 36) comparing
+comparing_runs =
+    let sound = is_sound comparing refl refl refl refl (omega arith) in
+    (wrote comparing 60 5 1 60 1 (1 ∷ []) (12 ∷ []) sound refl refl refl, wrote comparing 60 5 1 60 1 (0 ∷ []) (36 ∷ []) sound refl refl refl)
 
-pub branching_decides : decided (under Compute all) branching_start first_branching ≡ one_at 2 8 (Beq 5 0 (pos 28)) (Reg 5 0)
-branching_decides = refl
+comparing_decides : (decided (under Compute all) comparing (gone 1 12) ≡ one_at 2 8 (Beq 0 5 (pos 28)) (Reg 5 0)) × (origins (under Compute all) (trace comparing (gone 1 12)) 6 (Mem 60) ≡ [])
+comparing_decides = (refl, refl)
 
-pub branching_no_origin : origins (under Compute all) (trace branching_start first_branching) 6 (Mem 60) ≡ []
-branching_no_origin = refl
+comparing_needed : NothingListed comparing (gone 1 12) → StepsAreSame Compute → ⊥
+comparing_needed e law = let z : Same 12 36 = (same_step comparing_runs (λ asks. ((refl, λ i e. true-false e), λ asks. (refl, tt))) 3 (omega arith) (omega arith) e law).pc in absurd (omega arith)
 
--- ---- a branch by its second operand
+abbrev jumping : State
+jumping = going (Jalr 0 5 (pos 0))
 
--- the same with the operands the other way round
-abbrev pub comparing : List Instr
-comparing = (Ecall ∷ Lbu 5 11 (pos 0) ∷ Beq 0 5 (pos 28) ∷ []) ++ Auipc 6 (pos 0) ∷ write_and_exit ++ Auipc 6 (pos 0) ∷ write_and_exit
+jumping_runs : IsRun (gone 12 12) jumping × IsRun (gone 36 36) jumping
+jumping_runs =
+    let sound = is_sound jumping refl refl refl refl (omega arith) in
+    (wrote jumping 60 5 1 60 1 (12 ∷ []) (12 ∷ []) sound refl refl refl, wrote jumping 60 5 1 60 1 (36 ∷ []) (36 ∷ []) sound refl refl refl)
 
-abbrev pub comparing_start : State
-comparing_start = beginning_with comparing 60 1 []
+jumping_decides : (decided (under Compute all) jumping (gone 12 12) ≡ one_at 2 8 (Jalr 0 5 (pos 0)) (Reg 5 0)) × (origins (under Compute all) (trace jumping (gone 12 12)) 6 (Mem 60) ≡ [])
+jumping_decides = (refl, refl)
 
-pub comparing_sound : IsSound comparing_start
-comparing_sound = is_sound comparing 60 1 [] refl refl refl (omega arith)
+jumping_needed : NothingListed jumping (gone 12 12) → StepsAreSame Compute → ⊥
+jumping_needed e law = let z : Same 12 36 = (same_step jumping_runs (λ asks. ((refl, λ i e. true-false e), λ asks. (refl, tt))) 3 (omega arith) (omega arith) e law).pc in absurd (omega arith)
 
-abbrev pub first_comparing : Log
-first_comparing = log_of 60 6 1 1 (1 ∷ []) (12 ∷ [])
-
-pub first_comparing_runs : IsRun first_comparing comparing_start
-first_comparing_runs = record { form = is_log 60 6 1 1 (1 ∷ []) (12 ∷ []) (omega arith) (omega arith) (omega arith) (omega arith) (omega arith) (omega arith) (omega arith) (all-below 256 (1 ∷ []) refl) (all-below 256 (12 ∷ []) refl); sound = comparing_sound; agrees = refl }
-
-abbrev pub second_comparing : Log
-second_comparing = log_of 60 6 1 1 (0 ∷ []) (36 ∷ [])
-
-pub second_comparing_runs : IsRun second_comparing comparing_start
-second_comparing_runs = record { form = is_log 60 6 1 1 (0 ∷ []) (36 ∷ []) (omega arith) (omega arith) (omega arith) (omega arith) (omega arith) (omega arith) (omega arith) (all-below 256 (0 ∷ []) refl) (all-below 256 (36 ∷ []) refl); sound = comparing_sound; agrees = refl }
-
-pub comparing_decides : decided (under Compute all) comparing_start first_comparing ≡ one_at 2 8 (Beq 0 5 (pos 28)) (Reg 5 0)
-comparing_decides = refl
-
-pub comparing_no_origin : origins (under Compute all) (trace comparing_start first_comparing) 6 (Mem 60) ≡ []
-comparing_no_origin = refl
-
--- ---- a jump by a register
-
--- goes on at the address that the byte is; writes the pc
-abbrev pub jumping : List Instr
-jumping = (Ecall ∷ Lbu 5 11 (pos 0) ∷ Jalr 0 5 (pos 0) ∷ []) ++ Auipc 6 (pos 0) ∷ write_and_exit ++ Auipc 6 (pos 0) ∷ write_and_exit
-
-abbrev pub jumping_start : State
-jumping_start = beginning_with jumping 60 1 []
-
-pub jumping_sound : IsSound jumping_start
-jumping_sound = is_sound jumping 60 1 [] refl refl refl (omega arith)
-
-abbrev pub first_jumping : Log
-first_jumping = log_of 60 6 1 1 (12 ∷ []) (12 ∷ [])
-
-pub first_jumping_runs : IsRun first_jumping jumping_start
-first_jumping_runs = record { form = is_log 60 6 1 1 (12 ∷ []) (12 ∷ []) (omega arith) (omega arith) (omega arith) (omega arith) (omega arith) (omega arith) (omega arith) (all-below 256 (12 ∷ []) refl) (all-below 256 (12 ∷ []) refl); sound = jumping_sound; agrees = refl }
-
-abbrev pub second_jumping : Log
-second_jumping = log_of 60 6 1 1 (36 ∷ []) (36 ∷ [])
-
-pub second_jumping_runs : IsRun second_jumping jumping_start
-second_jumping_runs = record { form = is_log 60 6 1 1 (36 ∷ []) (36 ∷ []) (omega arith) (omega arith) (omega arith) (omega arith) (omega arith) (omega arith) (omega arith) (all-below 256 (36 ∷ []) refl) (all-below 256 (36 ∷ []) refl); sound = jumping_sound; agrees = refl }
-
-pub jumping_decides : decided (under Compute all) jumping_start first_jumping ≡ one_at 2 8 (Jalr 0 5 (pos 0)) (Reg 5 0)
-jumping_decides = refl
-
-pub jumping_no_origin : origins (under Compute all) (trace jumping_start first_jumping) 6 (Mem 60) ≡ []
-jumping_no_origin = refl
-
--- ---- the address of a load
+-- ---- the address of a load: index lists the byte, compute doesn't
 
 -- writes the byte of a table at 64 that the byte chooses
-abbrev pub loading : List Instr
-loading = Ecall ∷ Lbu 5 11 (pos 0) ∷ Lbu 6 5 (pos 64) ∷ write_and_exit
+abbrev loading : State
+loading = beginning_with (Ecall ∷ Lbu 5 11 (pos 0) ∷ Lbu 6 5 (pos 64) ∷ write_and_exit) 60 1 (7 ∷ 9 ∷ [])
 
-abbrev pub loading_start : State
-loading_start = beginning_with loading 60 1 (7 ∷ 9 ∷ [])
+abbrev chosen : ℕ → ℕ → Log
+chosen x y = log_of 60 5 1 60 1 (x ∷ []) (y ∷ [])
 
-pub loading_sound : IsSound loading_start
-loading_sound = is_sound loading 60 1 (7 ∷ 9 ∷ []) refl refl refl (omega arith)
+loading_sound : IsSound loading
+loading_sound = is_sound loading refl refl refl refl (omega arith)
 
-abbrev pub first_loading : Log
-first_loading = log_of 60 5 1 1 (0 ∷ []) (7 ∷ [])
+loading_runs : IsRun (chosen 0 7) loading × IsRun (chosen 1 9) loading
+loading_runs = (wrote loading 60 4 1 60 1 (0 ∷ []) (7 ∷ []) loading_sound refl refl refl, wrote loading 60 4 1 60 1 (1 ∷ []) (9 ∷ []) loading_sound refl refl refl)
 
-pub first_loading_runs : IsRun first_loading loading_start
-first_loading_runs = record { form = is_log 60 5 1 1 (0 ∷ []) (7 ∷ []) (omega arith) (omega arith) (omega arith) (omega arith) (omega arith) (omega arith) (omega arith) (all-below 256 (0 ∷ []) refl) (all-below 256 (7 ∷ []) refl); sound = loading_sound; agrees = refl }
+loading_decides : (decided (under Compute all) loading (chosen 0 7) ≡ one_at 2 8 (Lbu 6 5 (pos 64)) (Reg 5 0)) × (origins (under Compute all) (trace loading (chosen 0 7)) 5 (Mem 60) ≡ [])
+loading_decides = (refl, refl)
 
-abbrev pub second_loading : Log
-second_loading = log_of 60 5 1 1 (1 ∷ []) (9 ∷ [])
+loading_needed : NothingListed loading (chosen 0 7) → StepsAreSame Compute → ⊥
+loading_needed e law = let z : Same 64 65 = ap (λ (x : StepSeen). x.place) (same_step loading_runs (λ asks. ((refl, λ i e. true-false e), λ asks. (refl, tt))) 2 (omega arith) (omega arith) e law).step in absurd (omega arith)
 
-pub second_loading_runs : IsRun second_loading loading_start
-second_loading_runs = record { form = is_log 60 5 1 1 (1 ∷ []) (9 ∷ []) (omega arith) (omega arith) (omega arith) (omega arith) (omega arith) (omega arith) (omega arith) (all-below 256 (1 ∷ []) refl) (all-below 256 (9 ∷ []) refl); sound = loading_sound; agrees = refl }
+-- by the rule index it isn't listed, the runs take one path, and the byte is an origin
+one_path : SamePath Index loading (chosen 0 7) (chosen 1 9)
+one_path = record { as_long = refl; each = each }
+  where
+    each : (k : ℕ) → k < 8 → SameStep Index (moment_at loading (chosen 0 7) k) (moment_at loading (chosen 1 9) k)
+    each (suc (suc (suc (suc (suc (suc (suc (suc k)))))))) h = absurd (omega arith)
+    each k h = record { pc = refl; step = refl; answer = refl }
 
-pub loading_decides : decided (under Compute all) loading_start first_loading ≡ one_at 2 8 (Lbu 6 5 (pos 64)) (Reg 5 0)
-loading_decides = refl
+by_index : (decided (under Index all) loading (chosen 0 7) ≡ []) × (origins (under Index all) (trace loading (chosen 0 7)) 5 (Mem 60) ≡ byte_in 0 ∷ [])
+by_index = (refl, refl)
 
-pub loading_no_origin : origins (under Compute all) (trace loading_start first_loading) 5 (Mem 60) ≡ []
-loading_no_origin = refl
-
--- ---- the address of a store
+-- ---- the address of a store: index doesn't list the byte
 
 -- stores 1 at 64 or 65, as the byte says, and writes the byte at 64
-abbrev pub storing : List Instr
-storing = Ecall ∷ Lbu 5 11 (pos 0) ∷ Sb 5 12 (pos 64) ∷ Lbu 6 0 (pos 64) ∷ write_and_exit
+abbrev storing : State
+storing = beginning_with (Ecall ∷ Lbu 5 11 (pos 0) ∷ Sb 5 12 (pos 64) ∷ Lbu 6 0 (pos 64) ∷ write_and_exit) 60 1 (0 ∷ 0 ∷ [])
 
-abbrev pub storing_start : State
-storing_start = beginning_with storing 60 1 (0 ∷ 0 ∷ [])
+storing_runs : IsRun (gone 1 0) storing × IsRun (gone 0 1) storing
+storing_runs =
+    let sound = is_sound storing refl refl refl refl (omega arith) in
+    (wrote storing 60 5 1 60 1 (1 ∷ []) (0 ∷ []) sound refl refl refl, wrote storing 60 5 1 60 1 (0 ∷ []) (1 ∷ []) sound refl refl refl)
 
-pub storing_sound : IsSound storing_start
-storing_sound = is_sound storing 60 1 (0 ∷ 0 ∷ []) refl refl refl (omega arith)
+storing_decides : (decided (under Compute all) storing (gone 1 0) ≡ one_at 2 8 (Sb 5 12 (pos 64)) (Reg 5 0)) × (origins (under Compute all) (trace storing (gone 1 0)) 6 (Mem 60) ≡ [])
+storing_decides = (refl, refl)
 
-abbrev pub first_storing : Log
-first_storing = log_of 60 6 1 1 (1 ∷ []) (0 ∷ [])
+storing_needed : NothingListed storing (gone 1 0) → StepsAreSame Compute → ⊥
+storing_needed e law = let z : Same 65 64 = ap (λ (x : StepSeen). x.place) (same_step storing_runs (λ asks. ((refl, λ i e. true-false e), λ asks. (refl, tt))) 2 (omega arith) (omega arith) e law).step in absurd (omega arith)
 
-pub first_storing_runs : IsRun first_storing storing_start
-first_storing_runs = record { form = is_log 60 6 1 1 (1 ∷ []) (0 ∷ []) (omega arith) (omega arith) (omega arith) (omega arith) (omega arith) (omega arith) (omega arith) (all-below 256 (1 ∷ []) refl) (all-below 256 (0 ∷ []) refl); sound = storing_sound; agrees = refl }
+-- the steps are one but for the place of the store; where it goes past 64 the output byte has no origin
+other_places : (map (λ (x : StepSeen). record x { place = 0 }) (trace storing (gone 0 1)) ≡ map (λ (x : StepSeen). record x { place = 0 }) (trace storing (gone 1 0)))
+    × (origins (under Index all) (trace storing (gone 0 1)) 6 (Mem 60) ≡ byte_in 0 ∷ []) × (origins (under Index all) (trace storing (gone 1 0)) 6 (Mem 60) ≡ [])
+other_places = (refl, refl, refl)
 
-abbrev pub second_storing : Log
-second_storing = log_of 60 6 1 1 (0 ∷ []) (1 ∷ [])
-
-pub second_storing_runs : IsRun second_storing storing_start
-second_storing_runs = record { form = is_log 60 6 1 1 (0 ∷ []) (1 ∷ []) (omega arith) (omega arith) (omega arith) (omega arith) (omega arith) (omega arith) (omega arith) (all-below 256 (0 ∷ []) refl) (all-below 256 (1 ∷ []) refl); sound = storing_sound; agrees = refl }
-
-pub storing_decides : decided (under Compute all) storing_start first_storing ≡ one_at 2 8 (Sb 5 12 (pos 64)) (Reg 5 0)
-storing_decides = refl
-
-pub storing_no_origin : origins (under Compute all) (trace storing_start first_storing) 6 (Mem 60) ≡ []
-storing_no_origin = refl
-
--- ---- how much a call asks for
+-- ---- a call: how much it asks for, where it goes, which it is, and from where it writes
 
 -- writes as many zeros as the byte says
-abbrev pub asking : List Instr
-asking = Ecall ∷ Lbu 12 11 (pos 0) ∷ Sb 11 0 (pos 0) ∷ Addi 17 0 (pos 64) ∷ Ecall ∷ Addi 17 0 (pos 93) ∷ Ecall ∷ []
+abbrev asking : State
+asking = beginning_with (Ecall ∷ Lbu 12 11 (pos 0) ∷ Sb 11 0 (pos 0) ∷ Addi 17 0 (pos 64) ∷ Ecall ∷ Addi 17 0 (pos 93) ∷ Ecall ∷ []) 60 1 []
 
-abbrev pub asking_start : State
-asking_start = beginning_with asking 60 1 []
+abbrev asked : ℕ → List ℕ → Log
+asked x ys = log_of 60 4 1 60 x (x ∷ []) ys
 
-pub asking_sound : IsSound asking_start
-asking_sound = is_sound asking 60 1 [] refl refl refl (omega arith)
+asking_runs : IsRun (asked 1 (0 ∷ [])) asking × IsRun (asked 2 (0 ∷ 0 ∷ [])) asking
+asking_runs =
+    let sound = is_sound asking refl refl refl refl (omega arith) in
+    (wrote asking 60 3 1 60 1 (1 ∷ []) (0 ∷ []) sound refl refl refl, wrote asking 60 3 1 60 2 (2 ∷ []) (0 ∷ 0 ∷ []) sound refl refl refl)
 
-abbrev pub first_asking : Log
-first_asking = log_of 60 4 1 1 (1 ∷ []) (0 ∷ [])
+asking_decides : (decided (under Compute all) asking (asked 1 (0 ∷ [])) ≡ one_at 4 16 Ecall (Reg 12 0)) × (origins (under Compute all) (trace asking (asked 1 (0 ∷ []))) 4 (Mem 60) ≡ [])
+asking_decides = (refl, refl)
 
-pub first_asking_runs : IsRun first_asking asking_start
-first_asking_runs = record { form = is_log 60 4 1 1 (1 ∷ []) (0 ∷ []) (omega arith) (omega arith) (omega arith) (omega arith) (omega arith) (omega arith) (omega arith) (all-below 256 (1 ∷ []) refl) (all-below 256 (0 ∷ []) refl); sound = asking_sound; agrees = refl }
-
-abbrev pub second_asking : Log
-second_asking = log_of 60 4 1 2 (2 ∷ []) (0 ∷ 0 ∷ [])
-
-pub second_asking_runs : IsRun second_asking asking_start
-second_asking_runs = record { form = is_log 60 4 1 2 (2 ∷ []) (0 ∷ 0 ∷ []) (omega arith) (omega arith) (omega arith) (omega arith) (omega arith) (omega arith) (omega arith) (all-below 256 (2 ∷ []) refl) (all-below 256 (0 ∷ 0 ∷ []) refl); sound = asking_sound; agrees = refl }
-
-pub asking_decides : decided (under Compute all) asking_start first_asking ≡ one_at 4 16 Ecall (Reg 12 0)
-asking_decides = refl
-
-pub asking_no_origin : origins (under Compute all) (trace asking_start first_asking) 4 (Mem 60) ≡ []
-asking_no_origin = refl
-
--- ---- where a call goes
+asking_needed : NothingListed asking (asked 1 (0 ∷ [])) → StepsAreSame Compute → ⊥
+asking_needed e law =
+    let z : Same 1 2 = ap (λ (x : StepSeen). (call_in x.call).length) (same_step asking_runs (λ asks. ((refl, λ i e. true-false e), λ asks. let z : Same 1 2 = ap (λ (xs : List ℕ). get_or xs 2 0) asks.1 in absurd (omega arith))) 4 (omega arith) (omega arith) e law).step in
+    absurd (omega arith)
 
 -- writes a zero on the channel that the byte says
-abbrev pub channel : List Instr
-channel = Ecall ∷ Lbu 10 11 (pos 0) ∷ Sb 11 0 (pos 0) ∷ Addi 17 0 (pos 64) ∷ Ecall ∷ Addi 17 0 (pos 93) ∷ Ecall ∷ []
+abbrev sorting : State
+sorting = beginning_with (Ecall ∷ Lbu 10 11 (pos 0) ∷ Sb 11 0 (pos 0) ∷ Addi 17 0 (pos 64) ∷ Ecall ∷ Addi 17 0 (pos 93) ∷ Ecall ∷ []) 60 1 []
 
-abbrev pub channel_start : State
-channel_start = beginning_with channel 60 1 []
+abbrev sorted : ℕ → Log
+sorted x = log_of 60 4 x 60 1 (x ∷ []) (0 ∷ [])
 
-pub channel_sound : IsSound channel_start
-channel_sound = is_sound channel 60 1 [] refl refl refl (omega arith)
+sorting_runs : IsRun (sorted 2) sorting × IsRun (sorted 3) sorting
+sorting_runs =
+    let sound = is_sound sorting refl refl refl refl (omega arith) in
+    (wrote sorting 60 3 2 60 1 (2 ∷ []) (0 ∷ []) sound refl refl refl, wrote sorting 60 3 3 60 1 (3 ∷ []) (0 ∷ []) sound refl refl refl)
 
-abbrev pub first_channel : Log
-first_channel = log_of 60 4 2 1 (2 ∷ []) (0 ∷ [])
+sorting_decides : (decided (under Compute all) sorting (sorted 2) ≡ one_at 4 16 Ecall (Reg 10 0)) × (origins (under Compute all) (trace sorting (sorted 2)) 4 (Mem 60) ≡ [])
+sorting_decides = (refl, refl)
 
-pub first_channel_runs : IsRun first_channel channel_start
-first_channel_runs = record { form = is_log 60 4 2 1 (2 ∷ []) (0 ∷ []) (omega arith) (omega arith) (omega arith) (omega arith) (omega arith) (omega arith) (omega arith) (all-below 256 (2 ∷ []) refl) (all-below 256 (0 ∷ []) refl); sound = channel_sound; agrees = refl }
+sorting_needed : NothingListed sorting (sorted 2) → StepsAreSame Compute → ⊥
+sorting_needed e law =
+    let z : Same 2 3 = ap (λ (x : StepSeen). (call_in x.call).channel) (same_step sorting_runs (λ asks. ((refl, λ i e. true-false e), λ asks. let z : Same 2 3 = ap (λ (xs : List ℕ). get_or xs 0 0) asks.1 in absurd (omega arith))) 4 (omega arith) (omega arith) e law).step in
+    absurd (omega arith)
 
-abbrev pub second_channel : Log
-second_channel = log_of 60 4 3 1 (3 ∷ []) (0 ∷ [])
+-- makes the call of the byte's number; 5 is no call's
+abbrev calling : State
+calling = beginning_with (Ecall ∷ Lbu 17 11 (pos 0) ∷ Sb 11 0 (pos 0) ∷ Ecall ∷ Addi 17 0 (pos 93) ∷ Ecall ∷ []) 60 1 []
 
-pub second_channel_runs : IsRun second_channel channel_start
-second_channel_runs = record { form = is_log 60 4 3 1 (3 ∷ []) (0 ∷ []) (omega arith) (omega arith) (omega arith) (omega arith) (omega arith) (omega arith) (omega arith) (all-below 256 (3 ∷ []) refl) (all-below 256 (0 ∷ []) refl); sound = channel_sound; agrees = refl }
+abbrev called : Log
+called = log_of 60 3 1 60 1 (64 ∷ []) (0 ∷ [])
 
-pub channel_decides : decided (under Compute all) channel_start first_channel ≡ one_at 4 16 Ecall (Reg 10 0)
-channel_decides = refl
+abbrev not_called : Log
+not_called = log_with 60 (5 ∷ []) (Other 3 5 ∷ []) (Exit 5 4294967258)
 
-pub channel_no_origin : origins (under Compute all) (trace channel_start first_channel) 4 (Mem 60) ≡ []
-channel_no_origin = refl
+calling_runs : IsRun called calling × IsRun not_called calling
+calling_runs =
+    let sound = is_sound calling refl refl refl refl (omega arith) in (
+      wrote calling 60 2 1 60 1 (64 ∷ []) (0 ∷ []) sound refl refl refl,
+      record { form = is_log 60 (5 ∷ []) (Other 3 5 ∷ []) (Exit 5 4294967258) refl ((omega arith, omega arith), tt) (omega arith, omega arith) (omega arith, tt) (omega arith); sound = sound; agrees = refl },
+    )
 
--- ---- which call
+calling_decides : (decided (under Compute all) calling called ≡ one_at 3 12 Ecall (Reg 17 0)) × (origins (under Compute all) (trace calling called) 3 (Mem 60) ≡ [])
+calling_decides = (refl, refl)
 
--- makes the call of the byte's number
-abbrev pub calling : List Instr
-calling = Ecall ∷ Lbu 17 11 (pos 0) ∷ Sb 11 0 (pos 0) ∷ Ecall ∷ Addi 17 0 (pos 93) ∷ Ecall ∷ []
-
-abbrev pub calling_start : State
-calling_start = beginning_with calling 60 1 []
-
-pub calling_sound : IsSound calling_start
-calling_sound = is_sound calling 60 1 [] refl refl refl (omega arith)
-
-abbrev pub first_calling : Log
-first_calling = log_of 60 3 1 1 (64 ∷ []) (0 ∷ [])
-
-pub first_calling_runs : IsRun first_calling calling_start
-first_calling_runs = record { form = is_log 60 3 1 1 (64 ∷ []) (0 ∷ []) (omega arith) (omega arith) (omega arith) (omega arith) (omega arith) (omega arith) (omega arith) (all-below 256 (64 ∷ []) refl) (all-below 256 (0 ∷ []) refl); sound = calling_sound; agrees = refl }
-
--- 5 is no call's number
-abbrev pub second_calling : Log
-second_calling = log_with (read_of 60 (5 ∷ []) ∷ Other 3 5 ∷ []) (Exit 5 4294967258)
-
-pub second_calling_runs : IsRun second_calling calling_start
-second_calling_runs = record {
-  form = record {
-    pages = (omega arith, omega arith);
-    inputs = omega arith;
-    digest = refl;
-    digest_bytes = all-below 256 (replicate 32 0) refl;
-    records = ((omega arith, a_transfer 0 60 (5 ∷ []) (omega arith) (omega arith) (omega arith) (omega arith, tt), inr (omega (arith, ints), omega (arith, ints))), ((omega arith, omega arith), tt));
-    end = (omega arith, omega arith);
-    rise = (omega arith, (omega arith, tt));
-    ends_after = omega arith;
-  };
-  sound = calling_sound;
-  agrees = refl;
-}
-
-pub calling_decides : decided (under Compute all) calling_start first_calling ≡ one_at 3 12 Ecall (Reg 17 0)
-calling_decides = refl
-
-pub calling_no_origin : origins (under Compute all) (trace calling_start first_calling) 3 (Mem 60) ≡ []
-calling_no_origin = refl
-
--- ---- from where a call writes
+calling_needed : NothingListed calling called → StepsAreSame Compute → ⊥
+calling_needed e law = let z : Same 2 4 = ap (λ (x : StepSeen). call_event (call_in x.call).kind) (same_step calling_runs (λ asks. ((refl, λ i e. true-false e), λ asks. absurd asks)) 3 (omega arith) (omega arith) e law).step in absurd (omega arith)
 
 -- writes the byte at the address that the byte is
-abbrev pub sending : List Instr
-sending = Ecall ∷ Lbu 11 11 (pos 0) ∷ Addi 17 0 (pos 64) ∷ Ecall ∷ Addi 17 0 (pos 93) ∷ Ecall ∷ []
+abbrev sending : State
+sending = beginning_with (Ecall ∷ Lbu 11 11 (pos 0) ∷ Addi 17 0 (pos 64) ∷ Ecall ∷ Addi 17 0 (pos 93) ∷ Ecall ∷ []) 60 1 (7 ∷ 9 ∷ [])
 
-abbrev pub sending_start : State
-sending_start = beginning_with sending 60 1 (7 ∷ 9 ∷ [])
+abbrev sent : ℕ → ℕ → Log
+sent x y = log_of 60 3 1 x 1 (x ∷ []) (y ∷ [])
 
-abbrev pub sent : ℕ → ℕ → Log
-sent x y = log_with (read_of 60 (x ∷ []) ∷ Write 3 (1 ∷ x ∷ 1 ∷ []) (pos 1) (y ∷ []) ∷ []) (Exit 5 1)
+sending_runs : IsRun (sent 64 7) sending × IsRun (sent 65 9) sending
+sending_runs =
+    let sound = is_sound sending refl refl refl refl (omega arith) in
+    (wrote sending 60 2 1 64 1 (64 ∷ []) (7 ∷ []) sound refl refl refl, wrote sending 60 2 1 65 1 (65 ∷ []) (9 ∷ []) sound refl refl refl)
 
-pub sending_sound : IsSound sending_start
-sending_sound = is_sound sending 60 1 (7 ∷ 9 ∷ []) refl refl refl (omega arith)
+sending_decides : (decided (under Compute all) sending (sent 64 7) ≡ one_at 3 12 Ecall (Reg 11 0)) × (origins (under Compute all) (trace sending (sent 64 7)) 3 (Mem 64) ≡ [])
+sending_decides = (refl, refl)
 
-pub sent_log : (x y : ℕ) → x < 256 → y < 256 → IsLog (sent x y)
-sent_log x y h g = record {
-  pages = (omega arith, omega arith);
-  inputs = omega arith;
-  digest = refl;
-  digest_bytes = all-below 256 (replicate 32 0) refl;
-  records = ((omega arith, a_transfer 0 60 (x ∷ []) (omega arith) (omega arith) (omega arith) (h, tt), inr (omega (arith, ints), omega (arith, ints))), ((omega arith, a_transfer 1 x (y ∷ []) (omega arith) (omega arith) (omega arith) (g, tt), inr refl), tt));
-  end = (omega arith, omega arith);
-  rise = (omega arith, (omega arith, tt));
-  ends_after = omega arith;
-}
-
-pub sends_seven : IsRun (sent 64 7) sending_start
-sends_seven = record { form = sent_log 64 7 (omega arith) (omega arith); sound = sending_sound; agrees = refl }
-
-pub sends_nine : IsRun (sent 65 9) sending_start
-sends_nine = record { form = sent_log 65 9 (omega arith) (omega arith); sound = sending_sound; agrees = refl }
-
-pub sending_decides : decided (under Compute all) sending_start (sent 64 7) ≡ one_at 3 12 Ecall (Reg 11 0)
-sending_decides = refl
-
-pub sending_no_origin : origins (under Compute all) (trace sending_start (sent 64 7)) 3 (Mem 64) ≡ []
-sending_no_origin = refl
+sending_needed : NothingListed sending (sent 64 7) → StepsAreSame Compute → ⊥
+sending_needed e law =
+    let z : Same 64 65 = ap (λ (x : StepSeen). (call_in x.call).place) (same_step sending_runs (λ asks. ((refl, λ i e. true-false e), λ asks. let z : Same 64 65 = ap (λ (xs : List ℕ). get_or xs 1 0) asks.1 in absurd (omega arith))) 3 (omega arith) (omega arith) e law).step in
+    absurd (omega arith)
 
 -- ---- an instruction
 
 -- reads the byte into the immediate of the next instruction, and writes that
-abbrev pub patching : List Instr
-patching = Ecall ∷ Addi 6 0 (pos 0) ∷ Addi 11 0 (pos 60) ∷ write_and_exit
+abbrev patching : State
+patching = beginning_with (Ecall ∷ Addi 6 0 (pos 0) ∷ Addi 11 0 (pos 60) ∷ write_and_exit) 7 1 []
 
-abbrev pub patching_start : State
-patching_start = beginning_with patching 7 1 []
+abbrev patched : ℕ → ℕ → Log
+patched x y = log_of 7 5 1 60 1 (x ∷ []) (y ∷ [])
 
-pub patching_sound : IsSound patching_start
-patching_sound = is_sound patching 7 1 [] refl refl refl (omega arith)
+patching_runs : IsRun (patched 1 16) patching × IsRun (patched 2 32) patching
+patching_runs =
+    let sound = is_sound patching refl refl refl refl (omega arith) in
+    (wrote patching 7 4 1 60 1 (1 ∷ []) (16 ∷ []) sound refl refl refl, wrote patching 7 4 1 60 1 (2 ∷ []) (32 ∷ []) sound refl refl refl)
 
-abbrev pub first_patching : Log
-first_patching = log_of 7 5 1 1 (1 ∷ []) (16 ∷ [])
+patching_decides : (decided (under Compute all) patching (patched 1 16) ≡ one_at 1 4 (Addi 6 0 (pos 16)) (Mem 7)) × (origins (under Compute all) (trace patching (patched 1 16)) 5 (Mem 60) ≡ [])
+patching_decides = (refl, refl)
 
-pub first_patching_runs : IsRun first_patching patching_start
-first_patching_runs = record { form = is_log 7 5 1 1 (1 ∷ []) (16 ∷ []) (omega arith) (omega arith) (omega arith) (omega arith) (omega arith) (omega arith) (omega arith) (all-below 256 (1 ∷ []) refl) (all-below 256 (16 ∷ []) refl); sound = patching_sound; agrees = refl }
+patching_needed : NothingListed patching (patched 1 16) → StepsAreSame Compute → ⊥
+patching_needed e law = let z : Same 16 32 = ap (λ (x : StepSeen). number_in x.instr) (same_step patching_runs (λ asks. ((refl, λ i e. true-false e), λ asks. (refl, tt))) 1 (omega arith) (omega arith) e law).step in absurd (omega arith)
 
-abbrev pub second_patching : Log
-second_patching = log_of 7 5 1 1 (2 ∷ []) (32 ∷ [])
-
-pub second_patching_runs : IsRun second_patching patching_start
-second_patching_runs = record { form = is_log 7 5 1 1 (2 ∷ []) (32 ∷ []) (omega arith) (omega arith) (omega arith) (omega arith) (omega arith) (omega arith) (omega arith) (all-below 256 (2 ∷ []) refl) (all-below 256 (32 ∷ []) refl); sound = patching_sound; agrees = refl }
-
-pub patching_decides : decided (under Compute all) patching_start first_patching ≡ one_at 1 4 (Addi 6 0 (pos 16)) (Mem 7)
-patching_decides = refl
-
-pub patching_no_origin : origins (under Compute all) (trace patching_start first_patching) 5 (Mem 60) ≡ []
-patching_no_origin = refl
-
--- ---- the exit's code
+-- ---- the end
 
 -- exits with the byte
-abbrev pub exiting : List Instr
-exiting = Ecall ∷ Lbu 10 11 (pos 0) ∷ Addi 17 0 (pos 93) ∷ Ecall ∷ []
+abbrev exiting : State
+exiting = beginning_with (Ecall ∷ Lbu 10 11 (pos 0) ∷ Addi 17 0 (pos 93) ∷ Ecall ∷ []) 60 1 []
 
-abbrev pub exiting_start : State
-exiting_start = beginning_with exiting 60 1 []
+abbrev exited : ℕ → Log
+exited x = log_with 60 (x ∷ []) [] (Exit 3 x)
 
-abbrev pub exited : ℕ → Log
-exited x = log_with (read_of 60 (x ∷ []) ∷ []) (Exit 3 x)
+exiting_runs : IsRun (exited 3) exiting × IsRun (exited 4) exiting
+exiting_runs =
+    let sound = is_sound exiting refl refl refl refl (omega arith) in (
+      record { form = is_log 60 (3 ∷ []) [] (Exit 3 3) refl tt (omega arith, omega arith) tt (omega arith); sound = sound; agrees = refl },
+      record { form = is_log 60 (4 ∷ []) [] (Exit 3 4) refl tt (omega arith, omega arith) tt (omega arith); sound = sound; agrees = refl },
+    )
 
-pub exiting_sound : IsSound exiting_start
-exiting_sound = is_sound exiting 60 1 [] refl refl refl (omega arith)
-
-pub exiting_log : (x : ℕ) → x < 256 → IsLog (exited x)
-exiting_log x h = record {
-  pages = (omega arith, omega arith);
-  inputs = omega arith;
-  digest = refl;
-  digest_bytes = all-below 256 (replicate 32 0) refl;
-  records = ((omega arith, a_transfer 0 60 (x ∷ []) (omega arith) (omega arith) (omega arith) (h, tt), inr (omega (arith, ints), omega (arith, ints))), tt);
-  end = (omega arith, omega arith);
-  rise = (omega arith, tt);
-  ends_after = omega arith;
-}
-
-pub exits_by_three : IsRun (exited 3) exiting_start
-exits_by_three = record { form = exiting_log 3 (omega arith); sound = exiting_sound; agrees = refl }
-
-pub exits_by_four : IsRun (exited 4) exiting_start
-exits_by_four = record { form = exiting_log 4 (omega arith); sound = exiting_sound; agrees = refl }
-
-pub code_decides : decided (under Compute all) exiting_start (exited 3) ≡ one_at 3 12 Ecall (Reg 10 0)
+code_decides : decided (under Compute all) exiting (exited 3) ≡ one_at 3 12 Ecall (Reg 10 0)
 code_decides = refl
 
--- ---- by the rule index a load isn't listed, and may trap in one run alone
+code_needed : NothingListed exiting (exited 3) → EndsAreSame → ⊥
+code_needed e law = let z : Same 3 4 = ap code_in (law all all exiting (exited 3) (exited 4) (undecided exiting_runs (λ asks. ((refl, λ i e. true-false e), tt)) e) 9 (omega arith) (omega arith)) in absurd (omega arith)
 
-abbrev pub trapped : Log
-trapped = log_with (read_of 60 (200 ∷ []) ∷ []) (Trap 2 5 8)
+-- by the rule index a load isn't listed, and may trap in one run alone. A trap is a moment that is seen: what its address came
+-- from is listed
+abbrev trapped : Log
+trapped = log_with 60 (200 ∷ []) [] (Trap 2 5 8)
 
-pub trapped_log : IsLog trapped
-trapped_log = record {
-  pages = (omega arith, omega arith);
-  inputs = omega arith;
-  digest = refl;
-  digest_bytes = all-below 256 (replicate 32 0) refl;
-  records = ((omega arith, a_transfer 0 60 (200 ∷ []) (omega arith) (omega arith) (omega arith) (omega arith, tt), inr (omega (arith, ints), omega (arith, ints))), tt);
-  end = (omega arith, inr (inl refl), omega arith);
-  rise = (omega arith, tt);
-  ends_after = omega arith;
-}
+trapping_runs : IsRun trapped loading × IsRun (chosen 0 7) loading
+trapping_runs = (record { form = is_log 60 (200 ∷ []) [] (Trap 2 5 8) refl tt (omega arith, inr (inl refl), omega arith) tt (omega arith); sound = loading_sound; agrees = refl }, loading_runs.0)
 
-pub load_traps : IsRun trapped loading_start
-load_traps = record { form = trapped_log; sound = loading_sound; agrees = refl }
-
-pub nothing_by_index : decided (under Index all) loading_start first_loading ≡ []
-nothing_by_index = refl
-
-pub eight_steps : steps first_loading ≡ 8
-eight_steps = refl
-
-pub two_steps : steps trapped ≡ 2
-two_steps = refl
-
--- a trap is a moment that is seen: what its address came from is listed
-pub trap_decides : decided (under Compute all) loading_start trapped ≡ one_at 2 8 (Lbu 6 5 (pos 64)) (Reg 5 0)
+trap_decides : decided (under Compute all) loading trapped ≡ one_at 2 8 (Lbu 6 5 (pos 64)) (Reg 5 0)
 trap_decides = refl
+
+trap_needed : NothingListed loading trapped → LengthsAreSame → ⊥
+trap_needed e law = let z : Same 2 8 = law all all loading trapped (chosen 0 7) (undecided trapping_runs (λ asks. ((refl, λ i e. true-false e), tt)) e) 9 (omega arith) (omega arith) in absurd (omega arith)
+
+-- ---- a byte that is read
+
+-- it is the content of its place, and no content one address space further on
+where_read : (origins (under Copy all) (trace branching (gone 1 12)) 1 (Mem 60) ≡ byte_in 0 ∷ []) × (content_at branching (gone 1 12) 1 (Mem 60) ≡ byte_received (gone 1 12) (byte_in 0))
+    × (origins (under Copy all) (trace branching (gone 1 12)) 1 (Mem 4294967356) ≡ byte_in 0 ∷ []) × (content_at branching (gone 1 12) 1 (Mem 4294967356) ≡ 0)
+where_read = (refl, refl, refl, refl)
+
+-- nothing flows there, and the bytes differ
+nothing_flows : (from Compute (step_of (moment_at branching (gone 1 12) 0)) (Mem 60) ≡ []) × (content_at branching (gone 1 12) 1 (Mem 60) ≡ 1) × (content_at branching (gone 0 36) 1 (Mem 60) ≡ 0)
+nothing_flows = (refl, refl, refl)
+
+-- a call's result comes from nowhere
+from_nowhere : (from Copy (step_of (moment_at branching (gone 1 12) 0)) (Reg 10 0) ≡ []) × (content_at branching (gone 1 12) 0 (Reg 10 0) ≡ 0) × (content_at branching (gone 1 12) 1 (Reg 10 0) ≡ 1)
+from_nowhere = (refl, refl, refl)
+
+-- ---- states that no run reaches
+
+-- with another value than 0 in x0 a move through x0 is none
+abbrev odd_state : State
+odd_state = record { pc = 0; registers = 5 ∷ 0 ∷ 1 ∷ []; base = 0; memory = [] }
+
+no_move : (origins_by (flow Copy (Add 1 2 0) 0) (Reg 1 0) ≡ Reg 2 0 ∷ []) × (content odd_state (Reg 2 0) ≡ 1) × (execute odd_state (effect_of odd_state (Add 1 2 0)) ≡ Retired (moved_on_with odd_state 1 6))
+no_move = (refl, refl, refl)
+
+-- words past 2 ^ 32 have the lanes of smaller ones, and compare otherwise
+abbrev state_with : ℕ → State
+state_with v = record { pc = 0; registers = 0 ∷ v ∷ 7 ∷ []; base = 0; memory = [] }
+
+past_words : (content (state_with 1) (Reg 1 0) ≡ content (state_with 4294967297) (Reg 1 0)) × (execute (state_with 1) (effect_of (state_with 1) (Sltu 2 1 2)) ≡ Retired (moved_on_with (state_with 1) 2 1))
+    × (execute (state_with 4294967297) (effect_of (state_with 4294967297) (Sltu 2 1 2)) ≡ Retired (moved_on_with (state_with 4294967297) 2 0))
+past_words = (refl, refl, refl)

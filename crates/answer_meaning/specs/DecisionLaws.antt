@@ -12,8 +12,8 @@ use Rattle.report_model.specs.Rows.{rows}
 use Rattle.replay_model.specs.Run.{trace}
 use Rattle.replay_model.specs.Fits.{Fits}
 use Rattle.record_model.specs.Recorded.{EndsWithin}
-use Rattle.flow_meaning.specs.StepLaws.{SameStep}
-use Rattle.flow_meaning.specs.RunLaws.{IsRun, SamePath, moment_at, content_at, byte_at_sink, byte_received, under}
+use Rattle.answer_meaning.specs.StepLaws.{SameStep}
+use Rattle.answer_meaning.specs.RunLaws.{IsRun, SamePath, moment_at, content_at, byte_at_sink, byte_received, under}
 use Rattle.decision_find.specs.Decides.{deciding_rule}
 use Rattle.decision_find.specs.Decisions.{decided}
 use Rattle.decision_find.specs.Text.{deciding_query, decided_by}

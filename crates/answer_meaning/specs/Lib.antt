@@ -1,3 +1,8 @@
+pub mod Content
+pub mod StepLaws
+pub mod RunLaws
+pub mod MovedLaws
+pub mod FewerLaws
 pub mod RangeMeaning
 pub mod PathMeaning
 pub mod Environments

@@ -10,8 +10,8 @@ use Rattle.flow_model.specs.declared.SinkPoint.{SinkPoint}
 use Rattle.flow_model.specs.Ranges.{IsLocation}
 use Rattle.report_model.specs.Query.{Query, AreLocated}
 use Rattle.replay_model.specs.Run.{trace}
-use Rattle.flow_meaning.specs.StepLaws.{OnlyMoves}
-use Rattle.flow_meaning.specs.RunLaws.{IsRun, content_at, byte_received}
+use Rattle.answer_meaning.specs.StepLaws.{OnlyMoves}
+use Rattle.answer_meaning.specs.RunLaws.{IsRun, content_at, byte_received}
 use Rattle.path_find.specs.declared.Arrival.{Arrival}
 use Rattle.path_find.specs.Paths.{IsPath}
 use Rattle.path_find.specs.FirstPair.{PathTo, path_to}

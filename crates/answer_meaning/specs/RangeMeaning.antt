@@ -6,8 +6,8 @@ use Rattle.log_model.specs.Logs.{Log}
 use Rattle.report_model.specs.Query.{Query, AreLocated}
 use Rattle.report_model.specs.Rows.{Row, rows}
 use Rattle.replay_model.specs.Run.{trace}
-use Rattle.flow_meaning.specs.StepLaws.{OnlyMoves}
-use Rattle.flow_meaning.specs.RunLaws.{IsRun, IsCopied, byte_at_sink}
+use Rattle.answer_meaning.specs.StepLaws.{OnlyMoves}
+use Rattle.answer_meaning.specs.RunLaws.{IsRun, IsCopied, byte_at_sink}
 use Rattle.source_ranges.specs.declared.SourceRange.{SourceRange}
 use Rattle.source_ranges.specs.Ranges.{ranges_of}
 use Rattle.range_report.specs.declared.RunKind.TheVariants.{Same, Changed}

@@ -22,9 +22,8 @@ use Rattle.replay_model.specs.Comparison.{arguments_of, CallOf, kept_event, call
 use Rattle.replay_model.specs.Fits.{start_in_image}
 use Rattle.sha2.specs.Sha256.{sha256, digest_bytes}
 use Rattle.sha2.proofs.Facts256.{length-sha256}
-use Rattle.flow_meaning.proofs.Bytes.{AreBytes}
-use Rattle.flow_meaning.proofs.Window.{window_bytes}
-use Rattle.flow_meaning.proofs.Beginning.{begins}
+use Rattle.record_model.proofs.Sound.{AreBytes, window_bytes}
+use Rattle.record_model.proofs.Beginning.{begins}
 use Rattle.record_model.specs.Recorded.{Setting, CanRecord, Recording, AllReadNext, EndsWithin, clock_values, clock_values_of, part_of, input_of}
 use Rattle.record_model.specs.Calls.{bytes_of}
 use Rattle.record_model.proofs.Calls.{Moves, next_record, next_here, part_few, read_form, write_form}

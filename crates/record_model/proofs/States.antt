@@ -14,12 +14,9 @@ use Rattle.log_model.specs.declared.CallRecord.TheVariants.{Read, Write, Clock, 
 use Rattle.log_model.specs.Logs.{IsRecord, IsTrapKind}
 use Rattle.replay_model.specs.Run.{state_after}
 use Rattle.replay_model.specs.Comparison.{IsLawful}
-use Rattle.flow_meaning.specs.Content.{IsSound}
-use Rattle.flow_meaning.proofs.Leaves.{leaves_is}
-use Rattle.flow_meaning.proofs.Decoded.{fetched_in_range}
-use Rattle.flow_meaning.proofs.Sound.{stays_sound}
-use Rattle.flow_meaning.proofs.Calls.{read_room, call_sound, length-room}
-use Rattle.flow_meaning.proofs.Steps.{retires}
+use Rattle.record_model.specs.States.{IsSound}
+use Rattle.record_model.proofs.Values.{fetched_in_range}
+use Rattle.record_model.proofs.Sound.{leaves_is, retires, stays_sound, read_room, call_sound, length-room}
 
 -- a sound state, whose pc is a word, and whose window has at most 4096 pages
 pub record IsReached (s : State) : Type 0 where
@@ -110,7 +107,7 @@ reached_next s t e h =
     }
 
 pub reached_call : (s : State) (inputs : ℕ) (r : CallRecord) → IsRecord r → IsLawful s inputs r → IsReached s → IsReached (state_after s r)
-reached_call s inputs r form lawful h = record { sound = call_sound s inputs (r ∷ []) h.sound (form, lawful); pc = pc r; size = size r form lawful }
+reached_call s inputs r form lawful h = record { sound = call_sound s inputs r h.sound form lawful; pc = pc r; size = size r form lawful }
   where
     pc : (r : CallRecord) → (state_after s r).pc < 2 ^ 32
     pc (Read at args result bytes) = wrap-lt (s.pc + 4)
@@ -119,7 +116,7 @@ reached_call s inputs r form lawful h = record { sound = call_sound s inputs (r 
     pc (Other at number) = wrap-lt (s.pc + 4)
 
     size : (r : CallRecord) → IsRecord r → IsLawful s inputs r → length (state_after s r).memory ≤ 2 ^ 24
-    size (Read at args result bytes) form lawful = let same = length-room s (buffer_of args) bytes (read_room s inputs at args result bytes (form, lawful)) in let few = h.size in omega arith
+    size (Read at args result bytes) form lawful = let same = length-room s (buffer_of args) bytes (read_room s inputs at args result bytes form lawful) in let few = h.size in omega arith
     size (Write at args result bytes) form lawful = h.size
     size (Clock at value) form lawful = h.size
     size (Other at number) form lawful = h.size

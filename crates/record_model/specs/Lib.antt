@@ -1,3 +1,4 @@
 pub mod Recorded
+pub mod States
 pub mod Calls
 pub mod Counts

@@ -1,4 +1,4 @@
-use Rattle.answer_meaning.proofs.Unchanged.{copied_are_unchanged, moves_are_unchanged}
+use Rattle.answer_meaning.proofs.Ranges.{copied_are_unchanged, moves_are_unchanged}
 use Rattle.answer_meaning.proofs.laws.copied_runs_are_unchanged.Goals as goal
 
 pub returns-clause-rows : goal.returns-clause-rows

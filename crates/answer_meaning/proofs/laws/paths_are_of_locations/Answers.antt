@@ -1,4 +1,4 @@
-use Rattle.answer_meaning.proofs.Fitting.{steps_fit, path_is_of_locations}
+use Rattle.answer_meaning.proofs.Paths.{steps_fit, path_is_of_locations}
 use Rattle.answer_meaning.proofs.laws.paths_are_of_locations.Goals as goal
 
 pub returns : goal.returns

@@ -1,5 +1,4 @@
-use Rattle.answer_meaning.proofs.Held.{path_holds_byte}
-use Rattle.answer_meaning.proofs.Told.{told_path_holds_byte}
+use Rattle.answer_meaning.proofs.Paths.{path_holds_byte, told_path_holds_byte}
 use Rattle.answer_meaning.proofs.laws.paths_hold_the_byte.Goals as goal
 
 pub returns : goal.returns

@@ -1,5 +1,5 @@
-use Rattle.answer_meaning.proofs.Recordings as recordings
+use Rattle.answer_meaning.proofs.Recordings.{recordings_are_alike}
 use Rattle.answer_meaning.proofs.laws.recordings_are_alike.Goals as goal
 
 pub returns : goal.returns
-returns c = recordings.recordings_are_alike
+returns c = recordings_are_alike

@@ -1,4 +1,4 @@
-use Rattle.answer_meaning.proofs.Moved.{lines_moved, same_is_same}
+use Rattle.answer_meaning.proofs.Ranges.{lines_moved, same_is_same}
 use Rattle.answer_meaning.proofs.laws.same_bytes_are_same.Goals as goal
 
 pub returns-clause-moved : goal.returns-clause-moved

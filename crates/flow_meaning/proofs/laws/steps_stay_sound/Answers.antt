@@ -1,5 +1,0 @@
-use Rattle.flow_meaning.proofs.Steps.{sound_after}
-use Rattle.flow_meaning.proofs.laws.steps_stay_sound.Goals as goal
-
-pub returns : goal.returns
-returns c = sound_after
